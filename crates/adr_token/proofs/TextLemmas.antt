@@ -1,0 +1,52 @@
+-- What was read of a text, and what is left of it.
+use Rattle.std.proofs.Common.{◌≡◌, ℕ, zero, suc, ◌<◌, List, [], ◌∷◌, ◌++◌, Bool, true, false, Option, Some, None, refl, ap, append_assoc, arith}
+use Rattle.std.specs.Str.{IsUtf8, is_utf8}
+use Rattle.std.proofs.lemmas.Str.{IsUtf8-from_is_utf8}
+use Rattle.std.specs.Prelude.{slice_index}
+use Rattle.std.specs.List.{list_all}
+use Rattle.std.proofs.lemmas.Bool.{and_parts}
+use Rattle.std.proofs.lemmas.Bool.Decides.{nat_tests}
+use Rattle.std.proofs.lemmas.Str.{IsUtf8-from_ascii}
+use Rattle.adr_token.specs.Words.{is_letter, is_name_byte, is_name}
+use Rattle.adr_token.specs.Texts.{after_byte}
+
+-- a front put before the text that is read behind it
+abbrev pub onto : List ℕ → Option (List ℕ × List ℕ) → Option (List ℕ × List ℕ)
+onto front None = None
+onto front (Some t) = Some (front ++ t.0, t.1)
+
+pub onto_push : (front : List ℕ) (b : ℕ) (t : Option (List ℕ × List ℕ)) → onto (front ++ b ∷ []) t ≡ onto front (after_byte b t)
+onto_push front b None = refl
+onto_push front b (Some t) = ap (λ (xs : List ℕ). Some (xs, t.1)) (append_assoc front (b ∷ []) t.0)
+
+-- a test that doesn't hold fails
+fails : (b : Bool) → (b ≡ true → ⊥) → b ≡ false
+fails true h = absurd (h refl)
+fails false h = refl
+
+pub not_utf8 : (bs : List ℕ) → (IsUtf8 bs → ⊥) → is_utf8 bs ≡ false
+not_utf8 bs h = fails (is_utf8 bs) (λ e. h (IsUtf8-from_is_utf8 bs e))
+
+pub nothing : {X : Type 0} (o : Option X) → ((x : X) × (o ≡ Some x) → ⊥) → o ≡ None
+nothing None h = refl
+nothing (Some x) h = absurd (h (x, refl))
+
+-- names are ASCII
+name_byte_ascii : (b : ℕ) → is_name_byte b ≡ true → b < 128
+name_byte_ascii b h = grind (arith, nat_tests)
+
+letter_ascii : (b : ℕ) → is_letter b ≡ true → b < 128
+letter_ascii b h = grind (arith, nat_tests)
+
+names_ascii : (bs : List ℕ) → list_all is_name_byte bs ≡ true → (i : ℕ) → slice_index bs i < 128
+names_ascii [] h i = omega arith
+names_ascii (b ∷ bs) h zero = name_byte_ascii b (and_parts _ _ h).0
+names_ascii (b ∷ bs) h (suc i) = names_ascii bs (and_parts _ _ h).1 i
+
+name_ascii : (word : List ℕ) → is_name word ≡ true → (i : ℕ) → slice_index word i < 128
+name_ascii [] h i = omega arith
+name_ascii (b ∷ bs) h zero = letter_ascii b (and_parts _ _ (and_parts _ _ h).0).0
+name_ascii (b ∷ bs) h (suc i) = names_ascii bs (and_parts _ _ h).1 i
+
+pub name_utf8 : (word : List ℕ) → is_name word ≡ true → IsUtf8 word
+name_utf8 word h = IsUtf8-from_ascii word (name_ascii word h)

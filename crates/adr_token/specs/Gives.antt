@@ -1,0 +1,28 @@
+-- Reading from the front of a line: a value and the bytes after it, or nothing where the line doesn't begin so.
+use Rattle.std.specs.Prelude.{◌≡◌, ℕ, List, Option, Some, None, Result, Ok, Err}
+use Rattle.adr_token.specs.declared.stop.Stop.{Stop}
+use Rattle.adr_token.specs.declared.stop.Stop.TheVariants.{Bad, NoMemory}
+
+-- what stands at the front of some bytes, and what follows it
+abbrev pub Reading : Type 0 → Type 0
+Reading Y = Option (Y × List ℕ)
+
+infixl 10 ◌>>=◌
+abbrev pub ◌>>=◌ : {A B : Type 0} → Option A → (A → Option B) → Option B
+(Some x) >>= f = f x
+None >>= f = None
+
+-- what a stopped reader says of the reading: that there is none, unless memory ran out
+abbrev pub Stops : {Y : Type 0} → Stop → Option Y → Type 0
+Stops NoMemory reading = Unit {0}
+Stops Bad reading = reading ≡ None
+
+-- What a reader returned and left is the reading, unless memory ran out.
+abbrev pub Gives : {Y : Type 0} → Result Y Stop → List ℕ → Reading Y → Type 0
+Gives (Ok y) rest reading = reading ≡ Some (y, rest)
+Gives (Err stop) rest reading = Stops stop reading
+
+-- What a function returned is the answer, unless memory ran out.
+abbrev pub Answers : {Y : Type 0} → Result Y Stop → Option Y → Type 0
+Answers (Ok y) answer = answer ≡ Some y
+Answers (Err stop) answer = Stops stop answer

@@ -1,0 +1,84 @@
+//! Identifiers.
+
+ghost use Rattle.std.specs.Prelude.{◌≡◌, ℕ, List};
+ghost use Rattle.uuid.specs.Text.{parsed};
+ghost use Rattle.adr_token.specs.Gives.{Gives};
+ghost use Rattle.adr_token.specs.Identifiers.{spelled_back, full_identifier, short_identifier, identifier_of, identifier_at};
+
+use crate::numbers::number_of;
+use crate::stop::Stop;
+use crate::texts::utf8;
+use crate::words::Line;
+use uuid::Uuid;
+
+fn parsed(text: &str) -> Option<Uuid>
+    ensures { result ≡ parsed text.now }
+{
+    match Uuid::parse_str(text) {
+        Ok(id) => Some(id),
+        Err(_) => None,
+    }
+}
+
+fn spelled_back(text: &[u8], id: Uuid) -> Option<Uuid>
+    ensures { result ≡ spelled_back text.now id }
+{
+    let mut buffer = Uuid::encode_buffer();
+    if id.hyphenated().encode_lower(&mut buffer).as_bytes() == text {
+        Some(id)
+    } else {
+        None
+    }
+}
+
+fn full_identifier(text: &[u8]) -> Option<Uuid>
+    ensures { result ≡ full_identifier text.now }
+{
+    match utf8(text) {
+        Some(read) => match parsed(read) {
+            Some(id) => spelled_back(text, id),
+            None => None,
+        },
+        None => None,
+    }
+}
+
+fn short_identifier(figures: &[u8]) -> Option<Uuid>
+    ensures { result ≡ short_identifier figures.now }
+{
+    match number_of(true, 0xffff_ffff, figures) {
+        Some(number) => Some(Uuid::from_u128(u128::from(number))),
+        None => None,
+    }
+}
+
+/// The identifier that a word names.
+pub fn identifier_of(word: &[u8]) -> Option<Uuid>
+    ensures { result ≡ identifier_of word.now }
+{
+    match word.split_first() {
+        None => None,
+        Some((first, rest)) => {
+            if *first != b'#' {
+                None
+            } else if rest.len() == 36 {
+                full_identifier(rest)
+            } else {
+                short_identifier(rest)
+            }
+        }
+    }
+}
+
+impl Line<'_> {
+    #[tactic(auto, unfolding(crate::specs::Identifiers::identifier_at))]
+    pub fn identifier(&mut self) -> Result<Uuid, Stop>
+        ensures { Gives result self.new (identifier_at self.old) }
+    {
+        let word = self.word()?;
+        match identifier_of(word) {
+            Some(id) => Ok(id),
+            None => Err(Stop::Bad),
+        }
+    }
+}

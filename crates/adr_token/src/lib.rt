@@ -1,0 +1,18 @@
+//! The tokens of the schedule language and of answers: names, numbers, identifiers and texts,
+//! each with its reader, its writer and the law that joins them. It stands on the small types of
+//! `adr_schema`, and knows nothing of lines, events or answers.
+#![tactic(auto)]
+
+mod identifiers;
+mod numbers;
+mod stop;
+mod texts;
+mod words;
+mod writing;
+
+pub use identifiers::identifier_of;
+pub use numbers::number_of;
+pub use stop::Stop;
+pub use texts::{texts_read_back, utf8};
+pub use words::{Line, is_digit, is_letter, without_spaces};
+pub use writing::{push, push_identifier, push_number, push_text};

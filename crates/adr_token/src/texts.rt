@@ -1,0 +1,164 @@
+//! Texts in quotes.
+
+ghost use Rattle.std.specs.Prelude.{◌≡◌, ◌+◌, ◌*◌, ◌<◌, ℕ, List, IfSome, MatchOption, true, false, IfOk, IfErr, Some, None};
+ghost use Rattle.std.specs.Str.{IsUtf8, is_utf8};
+ghost use Rattle.adr_token.specs.Gives.{Gives, Stops};
+ghost use Rattle.adr_token.specs.Spelling.{ReadsBack, WasSpelled};
+ghost use Rattle.adr_token.specs.Texts.{is_control, IsHalfSmall, IsMoveSmall, move, quoted, opened, ends_word, text_at};
+
+use crate::numbers::figure;
+use crate::stop::Stop;
+use crate::words::Line;
+use adr_schema::Text;
+use std::alloc::Global;
+
+/// Where the reader stands in a text.
+#[derive(Clone, Copy, Debug)]
+pub enum Place {
+    Plain,
+    Escaped,
+    Half(u8),
+}
+
+/// What a byte does there.
+#[derive(Clone, Copy, Debug)]
+pub enum Move {
+    Close,
+    Go(Place),
+    Byte(u8),
+    Stray,
+}
+
+fn is_control(byte: u8) -> bool
+    ensures { result ≡ is_control byte }
+{
+    byte < 32 || byte == 127
+}
+
+fn move_at(place: Place, byte: u8) -> Move
+    requires { IsHalfSmall place }
+    ensures value { result ≡ move place byte }
+    ensures small { IsMoveSmall result }
+{
+    match place {
+        Place::Plain => {
+            if byte == b'"' {
+                Move::Close
+            } else if byte == b'\\' {
+                Move::Go(Place::Escaped)
+            } else if is_control(byte) {
+                Move::Stray
+            } else {
+                Move::Byte(byte)
+            }
+        }
+        Place::Escaped => {
+            if byte == b'"' || byte == b'\\' {
+                Move::Byte(byte)
+            } else {
+                match figure(true, byte) {
+                    Some(high) => Move::Go(Place::Half(high)),
+                    None => Move::Stray,
+                }
+            }
+        }
+        Place::Half(high) => match figure(true, byte) {
+            Some(low) => {
+                let byte = high * 16 + low;
+                if is_control(byte) {
+                    Move::Byte(byte)
+                } else {
+                    Move::Stray
+                }
+            }
+            None => Move::Stray,
+        },
+    }
+}
+
+#[tactic(auto, using(crate::proofs::TextLemmas::onto_push))]
+/// The text up to the closing quote, and what follows.
+fn quoted(alloc: Global, bytes: &[u8]) -> Result<(Vec<u8>, &[u8]), Stop>
+    ensures text { IfOk result (λ x. quoted Place.Plain bytes.now ≡ Some (x.0.items, x.1.now)) }
+    ensures stop { IfErr result (λ stop. Stops stop (quoted Place.Plain bytes.now)) }
+{
+    let mut text = Vec::new(alloc);
+    let mut place = Place::Plain;
+    for (index, byte) in bytes.iter().enumerate() {
+        match move_at(place, *byte) {
+            Move::Close => return Ok((text, bytes.split_at(index + 1).1)),
+            Move::Go(next) => place = next,
+            Move::Byte(byte) => {
+                text.push(byte)?;
+                place = Place::Plain;
+            }
+            Move::Stray => return Err(Stop::Bad),
+        }
+    }
+    Err(Stop::Bad)
+}
+
+fn opened(bytes: &[u8]) -> Option<&[u8]>
+    ensures { MatchOption result (opened bytes.now ≡ None) (λ rest. opened bytes.now ≡ Some rest.now) }
+{
+    match bytes.split_first() {
+        Some((first, rest)) if *first == b'"' => Some(rest),
+        _ => None,
+    }
+}
+
+fn ends_word(bytes: &[u8]) -> bool
+    ensures { result ≡ ends_word bytes.now }
+{
+    match bytes.first() {
+        None => true,
+        Some(first) => *first == b' ',
+    }
+}
+
+/// The bytes as text, where they are UTF-8.
+pub fn utf8(bytes: &[u8]) -> Option<&str>
+    ensures { MatchOption result (is_utf8 bytes.now ≡ false) (λ text. (text.now ≡ bytes.now) × (is_utf8 bytes.now ≡ true)) }
+{
+    match std::str::from_utf8(bytes) {
+        Ok(text) => Some(text),
+        Err(_) => None,
+    }
+}
+
+/// Bytes as a text of its own, where they are UTF-8.
+fn text_of(bytes: Vec<u8>) -> Option<Text>
+    ensures { MatchOption result (is_utf8 bytes.items ≡ false) (λ text. (text ≡ bytes.items) × (is_utf8 bytes.items ≡ true)) }
+{
+    match std::str::from_utf8(bytes.as_slice()) {
+        Ok(_) => Some(Text::of(bytes)),
+        Err(_) => None,
+    }
+}
+
+impl Line<'_> {
+    /// A text in quotes.
+    #[tactic(auto, unfolding(crate::specs::Texts::text_at))]
+    pub fn text(&mut self, alloc: Global) -> Result<Text, Stop>
+        ensures { Gives result self.new (text_at self.old) }
+    {
+        let Some(inside) = opened(self.rest()) else {
+            return Err(Stop::Bad);
+        };
+        let (text, rest) = quoted(alloc, inside)?;
+        if !ends_word(rest) {
+            return Err(Stop::Bad);
+        }
+        self.go_on(rest);
+        match text_of(text) {
+            Some(text) => Ok(text),
+            None => Err(Stop::Bad),
+        }
+    }
+}
+
+/// What is spelled in quotes is read again.
+pub fn texts_read_back()
+    ensures again { ReadsBack }
+    ensures only { WasSpelled }
+{}
