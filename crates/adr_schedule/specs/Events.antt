@@ -15,25 +15,11 @@ use Rattle.adr_token.specs.declared.stop.Stop.TheVariants.{Bad, NoMemory}
 use Rattle.adr_schedule.specs.declared.event.ParseRefusal.{ParseRefusal}
 use Rattle.adr_schedule.specs.declared.event.ParseRefusal.TheVariants as refusals
 use Rattle.adr_token.specs.Gives.{Reading, ◌>>=◌}
-use Rattle.adr_token.specs.Words.{unspaced, word_at, name_at, is_letter}
+use Rattle.adr_token.specs.Words.{unspaced, ended, said, prefix_at, word_at, name_at, is_letter}
 use Rattle.adr_token.specs.Numbers.{number_at}
 use Rattle.adr_token.specs.Identifiers.{identifier_at}
 use Rattle.adr_token.specs.Texts.{text_at}
 use Rattle.adr_schedule.specs.Lines.{lines_of}
-
--- nothing but spaces is left
-abbrev pub ended : {Y : Type 0} → List ℕ → Y → Option Y
-ended rest y = if length (unspaced rest) == 0 then Some y else None
-
--- a word that stands in a line as it is
-unfoldable pub said : List ℕ → List ℕ → Reading (Unit {0})
-said what bytes = do
-  word ← word_at bytes
-  if bytes_eq word.0 what then Some (tt, word.1) else None
-
--- some bytes at the front
-abbrev pub prefix_at : List ℕ → List ℕ → Reading (Unit {0})
-prefix_at front bytes = if bytes_eq (take (length front) bytes) front then Some (tt, drop (length front) bytes) else None
 
 unfoldable pub controller_line : List ℕ → Option Event
 controller_line bytes = do

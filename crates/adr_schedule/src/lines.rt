@@ -6,7 +6,7 @@ ghost use Rattle.std.specs.Str.{bytes_eq};
 ghost use Rattle.adr_token.specs.Gives.{Gives, Answers};
 ghost use Rattle.adr_token.specs.Words.{unspaced};
 ghost use Rattle.adr_schedule.specs.Lines.{is_line_feed, lines_of};
-ghost use Rattle.adr_schedule.specs.Events.{ended, said, prefix_at, controller_line, time_line, show_line, add_line, event_of, is_passed, is_fixed, is_plain_name, is_account, is_taken, by_verb, IsAllowed};
+ghost use Rattle.adr_schedule.specs.Events.{controller_line, time_line, show_line, add_line, event_of, is_passed, is_fixed, is_plain_name, is_account, is_taken, by_verb, IsAllowed};
 ghost use Rattle.adr_token.specs.Words.{is_letter};
 
 use crate::event::Event;
@@ -40,109 +40,72 @@ pub fn first_line(bytes: &[u8]) -> (&[u8], &[u8])
     (bytes.split_at(len).0, bytes.split_at(len + 1).1)
 }
 
-impl Line<'_> {
-    /// Nothing but spaces is left.
-    fn is_ended(&mut self) -> bool
-        ensures { IsTrue result ↔ (length (unspaced self.old) ≡ 0) }
-    {
-        self.skip_spaces();
-        self.rest().len() == 0
+#[tactic(auto, unfolding(crate::specs::Events::controller_line))]
+fn controller(line: &mut Line<'_>, alloc: Global) -> Result<Event, Stop>
+    ensures answer { Answers result (controller_line line.old) }
+    ensures allowed { IfOk result IsAllowed }
+{
+    let name = line.name(alloc)?;
+    let dsa = line.identifier()?;
+    let inv = line.identifier()?;
+    if line.is_ended() {
+        Ok(Event::Controller { name, dsa, inv })
+    } else {
+        Err(Stop::Bad)
     }
+}
 
-    #[tactic(auto, unfolding(crate::specs::Events::said))]
-    fn said(&mut self, what: &[u8]) -> Result<(), Stop>
-        ensures { Gives result self.new (said what.now self.old) }
-    {
-        if self.word()? == what {
-            Ok(())
-        } else {
-            Err(Stop::Bad)
-        }
+#[tactic(auto, unfolding(crate::specs::Events::time_line))]
+fn time(line: &mut Line<'_>) -> Result<Event, Stop>
+    ensures answer { Answers result (time_line line.old) }
+    ensures allowed { IfOk result IsAllowed }
+{
+    let now = line.number()?;
+    if line.is_ended() {
+        Ok(Event::Time { now })
+    } else {
+        Err(Stop::Bad)
     }
+}
 
-    fn prefix(&mut self, front: &[u8]) -> Result<(), Stop>
-        ensures { Gives result self.new (prefix_at front.now self.old) }
-    {
-        let rest = self.rest();
-        if rest.len() < front.len() {
-            return Err(Stop::Bad);
-        }
-        let (start, rest) = rest.split_at(front.len());
-        self.go_on(rest);
-        if start == front {
-            Ok(())
-        } else {
-            Err(Stop::Bad)
-        }
+#[tactic(auto, unfolding(crate::specs::Events::show_line))]
+fn show(line: &mut Line<'_>, alloc: Global) -> Result<Event, Stop>
+    ensures answer { Answers result (show_line line.old) }
+    ensures allowed { IfOk result IsAllowed }
+{
+    let name = line.name(alloc)?;
+    if line.is_ended() {
+        Ok(Event::Show { name })
+    } else {
+        Err(Stop::Bad)
     }
+}
 
-    #[tactic(auto, unfolding(crate::specs::Events::controller_line))]
-    fn controller(&mut self, alloc: Global) -> Result<Event, Stop>
-        ensures answer { Answers result (controller_line self.old) }
-        ensures allowed { IfOk result IsAllowed }
-    {
-        let name = self.name(alloc)?;
-        let dsa = self.identifier()?;
-        let inv = self.identifier()?;
-        if self.is_ended() {
-            Ok(Event::Controller { name, dsa, inv })
-        } else {
-            Err(Stop::Bad)
-        }
+#[tactic(auto, unfolding(crate::specs::Events::add_line))]
+fn add(line: &mut Line<'_>, alloc: Global) -> Result<Event, Stop>
+    ensures answer { Answers result (add_line line.old) }
+    ensures allowed { IfOk result IsAllowed }
+{
+    let name = line.name(alloc)?;
+    let guid = line.identifier()?;
+    line.said(b"user")?;
+    let parent = line.identifier()?;
+    line.skip_spaces();
+    let text = line.text(alloc)?;
+    line.skip_spaces();
+    line.prefix(b"sAMAccountName=")?;
+    let account = line.text(alloc)?;
+    if !line.is_ended() || !is_taken(guid, parent, text.items(), account.items()) {
+        return Err(Stop::Bad);
     }
-
-    #[tactic(auto, unfolding(crate::specs::Events::time_line))]
-    fn time(&mut self) -> Result<Event, Stop>
-        ensures answer { Answers result (time_line self.old) }
-        ensures allowed { IfOk result IsAllowed }
-    {
-        let now = self.number()?;
-        if self.is_ended() {
-            Ok(Event::Time { now })
-        } else {
-            Err(Stop::Bad)
-        }
-    }
-
-    #[tactic(auto, unfolding(crate::specs::Events::show_line))]
-    fn show(&mut self, alloc: Global) -> Result<Event, Stop>
-        ensures answer { Answers result (show_line self.old) }
-        ensures allowed { IfOk result IsAllowed }
-    {
-        let name = self.name(alloc)?;
-        if self.is_ended() {
-            Ok(Event::Show { name })
-        } else {
-            Err(Stop::Bad)
-        }
-    }
-
-    #[tactic(auto, unfolding(crate::specs::Events::add_line))]
-    fn add(&mut self, alloc: Global) -> Result<Event, Stop>
-        ensures answer { Answers result (add_line self.old) }
-        ensures allowed { IfOk result IsAllowed }
-    {
-        let name = self.name(alloc)?;
-        let guid = self.identifier()?;
-        self.said(b"user")?;
-        let parent = self.identifier()?;
-        self.skip_spaces();
-        let text = self.text(alloc)?;
-        self.skip_spaces();
-        self.prefix(b"sAMAccountName=")?;
-        let account = self.text(alloc)?;
-        if !self.is_ended() || !is_taken(guid, parent, text.items(), account.items()) {
-            return Err(Stop::Bad);
-        }
-        Ok(Event::Add {
-            name,
-            guid,
-            class: 5,
-            parent,
-            text,
-            account,
-        })
-    }
+    Ok(Event::Add {
+        name,
+        guid,
+        class: 5,
+        parent,
+        text,
+        account,
+    })
 }
 
 fn is_fixed(id: Uuid) -> bool
@@ -181,13 +144,13 @@ fn by_verb(alloc: Global, verb: &[u8], rest: &mut Line<'_>) -> Result<Event, Sto
     ensures allowed { IfOk result IsAllowed }
 {
     if verb == b"controller".as_slice() {
-        rest.controller(alloc)
+        controller(rest, alloc)
     } else if verb == b"time".as_slice() {
-        rest.time()
+        time(rest)
     } else if verb == b"add".as_slice() {
-        rest.add(alloc)
+        add(rest, alloc)
     } else if verb == b"show".as_slice() {
-        rest.show(alloc)
+        show(rest, alloc)
     } else {
         Err(Stop::Bad)
     }

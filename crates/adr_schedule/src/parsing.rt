@@ -7,8 +7,8 @@ ghost use Rattle.adr_schedule.specs.declared.parsing.Seen.{Seen};
 
 use crate::event::{Cause, Event, ParseRefusal, ScheduleFault};
 use crate::lines::{event_of, first_line, is_passed};
-use adr_token::Stop;
 use adr_schema::Text;
+use adr_token::Stop;
 use std::alloc::Global;
 
 /// What earlier lines said: the controller that was made, and whether an object was added.
