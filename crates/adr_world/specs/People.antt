@@ -1,5 +1,5 @@
 -- What a controller's people stand for: the rows that they were added with, one after the other.
-use Rattle.std.specs.Prelude.{◌≡◌, ◌≤◌, ℕ, List, [], ◌∷◌, ◌++◌, Bool, true, false, ◌&&◌, ◌||◌, not, length, fold, Option, Some, if◌then◌else◌, codes}
+use Rattle.std.specs.Prelude.{◌≡◌, ◌≤◌, ℕ, List, [], ◌∷◌, ◌++◌, Bool, true, false, ◌&&◌, ◌||◌, not, length, nat_le, fold, Option, Some, if◌then◌else◌, codes}
 use Rattle.std.specs.List.{list_any, list_all, find}
 use Rattle.std.specs.Option.{option_map}
 use Rattle.std.specs.Str.{bytes_eq}
@@ -11,7 +11,10 @@ use Rattle.adr_event.specs.declared.directory.Entry.{Entry}
 use Rattle.adr_model.specs.Update.{Identifier, Update, same_identifier}
 use Rattle.adr_model.specs.Place.{root, lost_and_found, is_fixed}
 use Rattle.adr_model.specs.Store.{State, empty_state}
-use Rattle.adr_model.specs.Write.{new_rows, new_object, first_stamp, written}
+use Rattle.adr_event.specs.declared.refusal.Table.TheVariants.{Objects}
+use Rattle.adr_event.specs.declared.refusal.WriteRefusal.{WriteRefusal}
+use Rattle.adr_event.specs.declared.refusal.WriteRefusal.TheVariants.{GuidThere, NameTaken, Full}
+use Rattle.adr_model.specs.Write.{object_limit, first_refusal, where_true, new_rows, new_object, first_stamp, written}
 use Rattle.adr_world.specs.declared.people.Person.{Person}
 
 -- the rows that a person was added with
@@ -52,6 +55,20 @@ lost_name = folded (codes "LostAndFound")
 -- whose name folds to this
 abbrev pub named_alike : List Person → List ℕ → Option Identifier
 named_alike people name = option_map (λ p. p.guid) (find (λ p. bytes_eq p.folded name) people)
+
+-- the object under the root that keeps a folded name
+abbrev pub name_kept : List Person → List ℕ → Option Identifier
+name_kept people name = if bytes_eq name lost_name then Some lost_and_found else named_alike people name
+
+-- why one more person of a GUID and a folded name is refused, first in order
+abbrev pub people_refusal : List Person → Identifier → List ℕ → Option WriteRefusal
+people_refusal people guid name =
+    first_refusal (
+    where_true (is_fixed guid || has_guid people guid) (GuidThere guid)
+    ∷ option_map NameTaken (name_kept people name)
+    ∷ where_true (nat_le object_limit (length people)) (Full Objects object_limit)
+    ∷ []
+    )
 
 -- a person that may stand by itself: it isn't a fixed object, and doesn't take the name of one
 abbrev pub is_proper : Person → Bool

@@ -3,4 +3,4 @@
 
 mod people;
 
-pub use people::Person;
+pub use people::{Person, directory_of, refusal_of};
