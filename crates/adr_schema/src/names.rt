@@ -1,6 +1,6 @@
 //! The names of classes and attributes, and the names that objects may have.
 
-ghost use Rattle.std.specs.Prelude.{◌≡◌, ◌<◌, ◌≤◌, length};
+ghost use Rattle.std.specs.Prelude.{◌≡◌, ◌<◌, ◌≤◌, ◌↔◌, List, length, ℕ};
 ghost use Rattle.std.specs.Option.{option_copied, option_map};
 ghost use Rattle.std.specs.Result.{result_err};
 ghost use Rattle.adr_schema.specs.Names.{attribute_name, attribute_number, class_name, class_number, first_place, is_wrong_byte, name_fault};
@@ -78,3 +78,10 @@ fn is_wrong_byte(bytes: &[u8], place: usize) -> bool
     let byte = bytes[place];
     byte < 0x20 || byte == 0x7f || (byte == b' ' && (place == 0 || place + 1 == bytes.len()))
 }
+
+/// A name is read back as the number that it was written for, and a number is written as the name
+/// that it was read from.
+pub fn names_are_told_apart()
+    ensures classes { (number : ℕ) (name : List ℕ) → (class_name number ≡ Some name) ↔ (class_number name ≡ Some number) }
+    ensures attributes { (number : ℕ) (name : List ℕ) → (attribute_name number ≡ Some name) ↔ (attribute_number name ≡ Some number) }
+{}
