@@ -1,11 +1,14 @@
 //! The people that a controller holds.
 
 ghost use Rattle.std.specs.Prelude.{◌≡◌, ◌∷◌, ◌<◌, ◌^◌, [], ℕ, List, length, IfOk, OnOk, map};
+ghost use Rattle.std.specs.Str.{bytes_eq};
 ghost use Rattle.std.specs.BTreeMap.{insert_entry};
 ghost use Rattle.adr_stamp.specs.Order.{identifier_order};
 ghost use Rattle.adr_schema.specs.declared.content.Value.TheVariants.{Text as text_value};
 ghost use Rattle.adr_event.specs.declared.directory.Entry.{Entry as Shown};
-ghost use Rattle.adr_world.specs.People.{person_entry, shown_people, has_guid, named_alike, name_kept, people_refusal};
+ghost use Rattle.adr_model.specs.Update.{same_identifier};
+ghost use Rattle.adr_model.specs.Place.{is_fixed};
+ghost use Rattle.adr_world.specs.People.{lost_name, person_entry, shown_people, has_guid, named_alike, name_kept, people_refusal};
 
 use adr_event::{Directory, Entry, EntryLinks, EntryValues, Table, WriteRefusal};
 use adr_schema::{NoMemory, Text, Value, Values};
@@ -61,15 +64,28 @@ impl Person {
     }
 }
 
+fn is_same(a: Uuid, b: Uuid) -> bool
+    ensures { result ≡ same_identifier a b }
+{
+    a == b
+}
+
 fn has_guid(people: &[Person], guid: Uuid) -> bool
     ensures { result ≡ has_guid people.now guid }
 {
-    people.iter().any(|person| person.guid == guid)
+    people.iter().any(|person| is_same(person.guid, guid))
+}
+
+/// Whether it is the root's GUID or that of LostAndFound.
+fn is_fixed(guid: Uuid) -> bool
+    ensures { result ≡ is_fixed guid }
+{
+    is_same(guid, Uuid::from_u128(1)) || is_same(guid, Uuid::from_u128(2))
 }
 
 /// The person whose name folds to this.
 fn named_alike(people: &[Person], name: &[u8]) -> Option<Uuid>
-    ensures { result ≡ named_alike people.now name }
+    ensures { result ≡ named_alike people.now name.now }
 {
     for person in people {
         if person.folded.items() == name {
@@ -79,11 +95,18 @@ fn named_alike(people: &[Person], name: &[u8]) -> Option<Uuid>
     None
 }
 
+/// Whether it is the folded name of LostAndFound.
+fn is_lost_name(name: &[u8]) -> bool
+    ensures { result ≡ bytes_eq name.now lost_name }
+{
+    name == b"lostandfound".as_slice()
+}
+
 /// The object under the root that keeps a folded name.
 fn name_kept(people: &[Person], name: &[u8]) -> Option<Uuid>
-    ensures { result ≡ name_kept people.now name }
+    ensures { result ≡ name_kept people.now name.now }
 {
-    if name == b"lostandfound".as_slice() {
+    if is_lost_name(name) {
         return Some(Uuid::from_u128(2));
     }
     named_alike(people, name)
@@ -92,9 +115,9 @@ fn name_kept(people: &[Person], name: &[u8]) -> Option<Uuid>
 /// Why one more person is refused, first in order.
 pub fn refusal_of(people: &[Person], guid: Uuid, name: &[u8]) -> Option<WriteRefusal>
     requires { length people.now < 2 ^ 63 }
-    ensures { result ≡ people_refusal people.now guid name }
+    ensures { result ≡ people_refusal people.now guid name.now }
 {
-    if guid == Uuid::from_u128(1) || guid == Uuid::from_u128(2) || has_guid(people, guid) {
+    if is_fixed(guid) || has_guid(people, guid) {
         return Some(WriteRefusal::GuidThere { guid });
     }
     if let Some(holder) = name_kept(people, name) {
