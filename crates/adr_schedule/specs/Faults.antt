@@ -1,5 +1,5 @@
 -- What a refusal says of the reading that it comes from.
-use Rattle.std.specs.Prelude.{◌≡◌, ℕ, List, Result, Ok, Err}
+use Rattle.std.specs.Prelude.{◌≡◌, List, Result, Err}
 use Rattle.adr_token.specs.declared.stop.Stop.{Stop}
 use Rattle.adr_token.specs.declared.stop.Stop.TheVariants as stops
 use Rattle.adr_event.specs.declared.event.Event.{Event}
