@@ -4,7 +4,7 @@ ghost use Rattle.std.specs.Prelude.{◌≡◌, ◌+◌, ◌*◌, ◌<◌, ℕ, L
 ghost use Rattle.std.specs.Str.{IsUtf8, is_utf8};
 ghost use Rattle.adr_token.specs.Gives.{Gives, Stops};
 ghost use Rattle.adr_token.specs.Spelling.{ReadsBack, WasSpelled};
-ghost use Rattle.adr_token.specs.Texts.{is_control, IsHalfSmall, IsMoveSmall, move, quoted, opened, ends_word, text_at};
+ghost use Rattle.adr_token.specs.Texts.{is_control, IsHalfSmall, IsMoveSmall, move, quoted, opened, ends_word, is_text, text_at};
 
 use crate::numbers::figure;
 use crate::stop::Stop;
@@ -126,10 +126,13 @@ pub fn utf8(bytes: &[u8]) -> Option<&str>
     }
 }
 
-/// Bytes as a text of its own, where they are UTF-8.
+/// Bytes as a text of its own, where the language has room for it.
 fn text_of(bytes: Vec<u8>) -> Option<Text>
-    ensures { MatchOption result (is_utf8 bytes.items ≡ false) (λ text. (text ≡ bytes.items) × (is_utf8 bytes.items ≡ true)) }
+    ensures { MatchOption result (is_text bytes.items ≡ false) (λ text. (text ≡ bytes.items) × (is_text bytes.items ≡ true)) }
 {
+    if bytes.len() > 65_535 {
+        return None;
+    }
     match std::str::from_utf8(bytes.as_slice()) {
         Ok(_) => Some(Text::of(bytes)),
         Err(_) => None,
