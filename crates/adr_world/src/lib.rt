@@ -1,6 +1,8 @@
 //! The run of a schedule: what each event does to the controllers, and what is answered.
 #![tactic(auto)]
 
+mod answers;
 mod people;
+mod world;
 
-pub use people::{Person, directory_of, refusal_of};
+pub use world::World;
