@@ -7,6 +7,7 @@ mod identifiers;
 mod numbers;
 mod stop;
 mod texts;
+mod values;
 mod words;
 mod writing;
 
@@ -14,5 +15,6 @@ pub use identifiers::identifier_of;
 pub use numbers::number_of;
 pub use stop::Stop;
 pub use texts::{texts_read_back, utf8};
+pub use values::{push_attribute, push_class, push_value};
 pub use words::{Line, is_digit, is_letter, without_spaces};
 pub use writing::{push, push_identifier, push_number, push_text};

@@ -23,6 +23,13 @@ fn figure(half: u8) -> u8
     if half < 10 { 48 + half } else { 87 + half }
 }
 
+/// Adds a byte in two figures.
+pub fn push_two_figures(out: &mut Vec<u8>, byte: u8) -> Result<(), AllocError>
+    ensures { OnOk result (out.new.items ≡ out.old.items ++ two_figures byte) }
+{
+    push(out, &[figure(byte / 16), figure(byte % 16)])
+}
+
 /// Adds a byte of a text in quotes.
 fn push_escaped(out: &mut Vec<u8>, byte: u8) -> Result<(), AllocError>
     ensures { OnOk result (out.new.items ≡ out.old.items ++ escaped byte) }
@@ -30,7 +37,8 @@ fn push_escaped(out: &mut Vec<u8>, byte: u8) -> Result<(), AllocError>
     if byte == b'"' || byte == b'\\' {
         push(out, &[b'\\', byte])
     } else if byte < 32 || byte == 127 {
-        push(out, &[b'\\', figure(byte / 16), figure(byte % 16)])
+        push(out, b"\\")?;
+        push_two_figures(out, byte)
     } else {
         push(out, &[byte])
     }
