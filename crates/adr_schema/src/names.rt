@@ -3,7 +3,8 @@
 ghost use Rattle.std.specs.Prelude.{◌≡◌, ◌<◌, ◌≤◌, ◌↔◌, List, length, ℕ};
 ghost use Rattle.std.specs.Option.{option_copied, option_map};
 ghost use Rattle.std.specs.Result.{result_err};
-ghost use Rattle.adr_schema.specs.Names.{attribute_name, attribute_number, class_name, class_number, first_place, is_wrong_byte, name_fault};
+ghost use Rattle.adr_schema.specs.Names.{attribute_name, attribute_number, class_name, class_number, is_wrong_byte, name_fault};
+ghost use Rattle.adr_schema.specs.Places.{first_place};
 
 use crate::refusal::SchemaRefusal;
 use crate::table::newest_table;
