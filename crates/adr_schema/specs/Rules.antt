@@ -1,15 +1,15 @@
 -- What a schema refuses: of each call the refusals in order, of which the first that holds is answered.
 use Rattle.std.specs.Prelude.{ℕ, List, [], ◌∷◌, length, map, Bool, true, false, not, ◌&&◌, ◌||◌, ◌==◌, Option, None, Some, is_none}
 use Rattle.std.specs.Bool.{then_some}
-use Rattle.std.specs.Option.{option_map, option_map_or, option_or}
-use Rattle.std.specs.List.{find, list_any}
+use Rattle.std.specs.Option.{option_map, option_or}
+use Rattle.std.specs.List.{find}
 use Rattle.adr_schema.specs.declared.content.Value.{Value as Item}
 use Rattle.adr_schema.specs.declared.refusal.SchemaRefusal.{SchemaRefusal}
 use Rattle.adr_schema.specs.declared.refusal.SchemaRefusal.TheVariants.{UnknownClass, UnknownAttribute, NotAllowed, MissingMust, BadValue, IsLink, NotLink}
 use Rattle.adr_schema.specs.declared.table.Kind.{Kind}
-use Rattle.adr_schema.specs.declared.table.Kind.TheVariants.{Reserved, Plain, Forward, Back}
+use Rattle.adr_schema.specs.declared.table.Kind.TheVariants.{Plain}
 use Rattle.adr_schema.specs.Assignments.{Given, given}
-use Rattle.adr_schema.specs.Table.{Table, class_at, attribute_at}
+use Rattle.adr_schema.specs.Table.{Table, class_at, is_forward, is_link, is_must, is_of, is_reserved, kind_at, must_of}
 use Rattle.adr_schema.specs.Values.{bad_place}
 
 -- the first refusal that holds
@@ -17,60 +17,12 @@ abbrev pub first_refusal : List (Option SchemaRefusal) → Option SchemaRefusal
 first_refusal [] = None
 first_refusal (r ∷ rs) = option_or r (first_refusal rs)
 
--- what the table says of a class; a class that it does not have has no attributes and stands nowhere
-
-abbrev pub must_of : Table → ℕ → List ℕ
-must_of t class = option_map_or (λ c. c.must) (class_at t class) []
-
-abbrev pub may_of : Table → ℕ → List ℕ
-may_of t class = option_map_or (λ c. c.may) (class_at t class) []
-
-abbrev pub superiors_of : Table → ℕ → List ℕ
-superiors_of t class = option_map_or (λ c. c.superiors) (class_at t class) []
-
-abbrev pub has : List ℕ → ℕ → Bool
-has ns n = list_any (λ m. m == n) ns
-
--- whether an object of the class may stand under one of the class `parent`
-abbrev pub is_superior : Table → ℕ → ℕ → Bool
-is_superior t class parent = has (superiors_of t class) parent
-
--- what the table says of an attribute
-
-abbrev pub kind_at : Table → ℕ → Option Kind
-kind_at t attr = option_map (λ a. a.kind) (attribute_at t attr)
-
-abbrev pub is_reserved : Option Kind → Bool
-is_reserved (Some Reserved) = true
-is_reserved _ = false
-
-abbrev pub is_forward : Option Kind → Bool
-is_forward (Some (Forward back)) = true
-is_forward _ = false
-
-abbrev pub is_back : Option Kind → Bool
-is_back (Some (Back forward)) = true
-is_back _ = false
-
-abbrev pub is_link : Option Kind → Bool
-is_link kind = is_forward kind || is_back kind
-
--- whether objects of the class, where it is known, have the attribute
-abbrev pub is_of : Table → Option ℕ → ℕ → Bool
-is_of t None attr = true
-is_of t (Some class) attr = has (must_of t class) attr || has (may_of t class) attr
-
--- whether objects of the class, where it is known, must have the attribute
-abbrev pub is_must : Table → Option ℕ → ℕ → Bool
-is_must t None attr = false
-is_must t (Some class) attr = has (must_of t class) attr
-
+-- the first place of a bad value of an attribute
 abbrev pub bad_place_of : Option Kind → List Item → Option ℕ
 bad_place_of (Some (Plain syntax most)) values = bad_place syntax most values
 bad_place_of _ values = None
 
--- the refusals
-
+-- a class
 abbrev pub class_refusal : Table → ℕ → Option SchemaRefusal
 class_refusal t class = then_some (is_none (class_at t class)) UnknownClass
 
@@ -104,6 +56,7 @@ add_refusal t class gs = first_refusal
     ∷ option_map MissingMust (find (λ attr. is_none (given attr gs)) (must_of t class))
     ∷ [])
 
+-- whether no value is given in place of those that there are
 abbrev pub is_emptied : Option (List Item) → Bool
 is_emptied (Some []) = true
 is_emptied _ = false

@@ -5,7 +5,8 @@ ghost use Rattle.std.specs.List.{find};
 ghost use Rattle.std.specs.Option.{option_copied, option_map};
 ghost use Rattle.std.specs.Result.{result_err};
 ghost use Rattle.adr_schema.specs.Assignments.{given};
-ghost use Rattle.adr_schema.specs.Rules.{add_refusal, added_refusal, attribute_refusal, class_refusal, first_refusal, has, is_emptied, is_must, is_of, is_superior, kind_at, link_refusal, may_of, modify_refusal, must_of, not_link_refusal, row_refusal, superiors_of, values_refusal};
+ghost use Rattle.adr_schema.specs.Rules.{add_refusal, added_refusal, class_refusal, first_refusal, is_emptied, link_refusal, modify_refusal, not_link_refusal, row_refusal, values_refusal};
+ghost use Rattle.adr_schema.specs.Table.{is_must, is_of, is_superior, kind_at, may_of, must_of, superiors_of};
 ghost use Rattle.adr_schema.specs.Schemas.{schema_table};
 ghost use Rattle.adr_schema.specs.View.{table_of};
 
@@ -176,6 +177,80 @@ impl Schema {
         Ok(())
     }
 
+    /// Tests the class and the values of an object that is added.
+    #[tactic(auto, unfolding(crate::specs::Rules::add_refusal))]
+    pub fn check_add(&self, class: u16, values: &Assignments) -> Result<(), SchemaRefusal>
+        ensures { result_err result ≡ add_refusal self.now class values.now }
+    {
+        self.check_class(class)?;
+        self.check_added(class, values)?;
+        match self.first_missing(class, values) {
+            Some(attr) => Err(SchemaRefusal::MissingMust { attr }),
+            None => Ok(()),
+        }
+    }
+
+    fn check_added(&self, class: u16, values: &Assignments) -> Result<(), SchemaRefusal>
+        ensures { result_err result ≡ first_refusal (map (added_refusal self.now class) values.now) }
+    {
+        'attributes: for (attr, values) in values.entries() {
+            self.check_filled(class, *attr, values.items())?;
+        }
+        Ok(())
+    }
+
+    fn check_filled(&self, class: u16, attr: u16, values: &[Value]) -> Result<(), SchemaRefusal>
+        ensures { result_err result ≡ added_refusal self.now class (attr, values.now) }
+    {
+        self.check_each(Some(class), attr, values)?;
+        if values.is_empty() {
+            return Err(SchemaRefusal::BadValue { attr, place: 0 });
+        }
+        Ok(())
+    }
+
+    /// The first attribute that objects of a class must have and that is not given.
+    fn first_missing(&self, class: u16, values: &Assignments) -> Option<u16>
+        ensures { result ≡ find (λ attr. is_none (given attr values.now)) (must_of self.now class) }
+    {
+        self.must(class)
+            .iter()
+            .copied()
+            .find(|attr| values.get(*attr).is_none())
+    }
+
+    /// Tests the values that take the place of those that an object of a class has; an empty list
+    /// leaves an attribute without values.
+    #[tactic(auto, unfolding(crate::specs::Rules::modify_refusal))]
+    pub fn check_modify(&self, class: u16, values: &Assignments) -> Result<(), SchemaRefusal>
+        ensures { result_err result ≡ modify_refusal self.now class values.now }
+    {
+        self.check_modified(class, values)?;
+        match self.first_emptied(class, values) {
+            Some(attr) => Err(SchemaRefusal::MissingMust { attr }),
+            None => Ok(()),
+        }
+    }
+
+    fn check_modified(&self, class: u16, values: &Assignments) -> Result<(), SchemaRefusal>
+        ensures { result_err result ≡ first_refusal (map (λ g. values_refusal self.now (Some class) g.0 g.1) values.now) }
+    {
+        'attributes: for (attr, values) in values.entries() {
+            self.check_each(Some(class), *attr, values.items())?;
+        }
+        Ok(())
+    }
+
+    /// The first attribute that objects of a class must have and that is given no value.
+    fn first_emptied(&self, class: u16, values: &Assignments) -> Option<u16>
+        ensures { result ≡ find (λ attr. is_emptied (given attr values.now)) (must_of self.now class) }
+    {
+        self.must(class)
+            .iter()
+            .copied()
+            .find(|attr| is_emptied(values.get(*attr)))
+    }
+
     /// Tests what a link row says of its attribute, whatever the class of its ends.
     pub fn check_link_row(&self, attr: u16) -> Result<(), SchemaRefusal>
         ensures { result_err result ≡ not_link_refusal self.now attr }
@@ -199,5 +274,14 @@ impl Schema {
             return Err(SchemaRefusal::NotAllowed { attr });
         }
         Ok(())
+    }
+}
+
+fn is_emptied(values: Option<&[Value]>) -> bool
+    ensures { result ≡ is_emptied (option_copied values.entry) }
+{
+    match values {
+        Some(values) => values.is_empty(),
+        None => false,
     }
 }
