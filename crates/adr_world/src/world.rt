@@ -25,7 +25,7 @@ fn account_of(alloc: Global, values: &Assignments) -> Result<Text, NoMemory>
     requires { (value : List ℕ) × (values.now ≡ account value) }
     ensures { IfOk result (λ text. values.now ≡ account text) }
 {
-    match None::<(u16, &[Value])> {
+    match values.next(None) {
         Some((_, [Value::Text(text)])) => text.copy(alloc),
         _ => unreachable!(),
     }
