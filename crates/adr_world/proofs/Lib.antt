@@ -1,2 +1,4 @@
 pub mod Adding
 pub mod Visible
+pub mod AsAdded
+pub mod Shown

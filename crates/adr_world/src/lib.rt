@@ -4,5 +4,7 @@
 mod laws;
 mod people;
 
-pub use laws::{all_people_are_visible, one_more_person, people_are_counted};
+pub use laws::{
+    all_people_are_visible, one_more_person, people_are_counted, people_are_held, people_are_shown,
+};
 pub use people::Person;
