@@ -33,7 +33,7 @@ none_clashes : (q p : Person) (ps : List Person) → list_any (clashes q) ps ≡
 none_clashes q p [] none apart = or_from _ _ apart refl
 none_clashes q p (r ∷ ps) none apart = let t = or_parts (clashes q r) (list_any (clashes q) ps) none in or_from _ _ t.0 (none_clashes q p ps t.1 apart)
 
-three_parts : (a b c : Bool) → (a && b && c) ≡ true → (a ≡ true) × ((b ≡ true) × (c ≡ true))
+pub three_parts : (a b c : Bool) → (a && b && c) ≡ true → (a ≡ true) × ((b ≡ true) × (c ≡ true))
 three_parts true true c h = (refl, (refl, h))
 three_parts true false c h = cc
 three_parts false b c h = cc

@@ -1,4 +1,5 @@
 pub mod Adding
 pub mod Visible
-pub mod Pending
+pub mod AsAdded
+pub mod Shown
 pub mod StepLemmas

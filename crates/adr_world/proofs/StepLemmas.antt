@@ -1,5 +1,5 @@
 -- What a controller's people make of an `add` and of a `show`.
-use Rattle.std.proofs.Common.{◌≡◌, ℕ, ◌+◌, ◌≤◌, ◌<◌, List, [], ◌∷◌, ◌++◌, Bool, true, false, cond, length, zero-add, Option, Some, None, Result, Ok, Err, map, refl, sym, ap, ◌∙◌, subst, arith, length-append}
+use Rattle.std.proofs.Common.{◌≡◌, ℕ, ◌+◌, ◌≤◌, ◌<◌, List, [], ◌∷◌, ◌++◌, Bool, true, false, cond, length, zero-add, Option, Some, None, map, refl, sym, ap, ◌∙◌, subst, arith, length-append}
 use Rattle.std.specs.Prelude.{codes, nat_le, ◌&&◌, ◌||◌, if◌then◌else◌}
 use Rattle.std.specs.Option.{option_map}
 use Rattle.std.specs.Str.{bytes_eq}
@@ -16,17 +16,19 @@ use Rattle.adr_event.specs.declared.directory.Entry.{Entry}
 use Rattle.adr_event.specs.declared.refusal.WriteRefusal.{WriteRefusal}
 use Rattle.adr_event.specs.declared.refusal.WriteRefusal.TheVariants.{GuidThere, NameTaken, Full}
 use Rattle.adr_event.specs.declared.refusal.Table.TheVariants.{Objects}
-use Rattle.adr_model.specs.Update.{Identifier, Update}
-use Rattle.adr_model.specs.Place.{root, lost_and_found, is_fixed}
-use Rattle.adr_model.specs.Vector.{visible}
+use Rattle.adr_model.specs.Update.{Identifier}
+use Rattle.adr_model.specs.Place.{root, lost_and_found, is_fixed, nodes_of}
 use Rattle.adr_model.specs.Directory.{directory}
 use Rattle.adr_model.specs.Store.{State, updates_of, empty_state}
-use Rattle.adr_model.specs.Write.{object_limit, first_refusal, where_true, add_refusal, unless, new_rows, new_object, first_stamp, add, written}
+use Rattle.adr_model.specs.Write.{object_limit, first_refusal, where_true, add_refusal, unless, holds_guid, new_rows, new_object, first_stamp, add, written}
+use Rattle.adr_model.specs.Live.{objects_of, live_rows}
+use Rattle.adr_model.specs.Shown.{name_holder}
 use Rattle.adr_model.specs.World.{World, Replica, answer, refused, after_write, at_replica, with_replica, shown, step}
 use Rattle.adr_world.specs.declared.people.Person.{Person}
 use Rattle.adr_world.specs.People.{person_rows, state_of, issued_by, shown_people, has_guid, named_alike, name_kept, people_refusal, lost_name, is_proper, are_proper}
 use Rattle.adr_world.proofs.Adding.{usn_after, issued_after_more, state_after_more, still_proper}
-use Rattle.adr_world.proofs.Pending.{refusal_is, shown_is}
+use Rattle.adr_world.proofs.Shown.{guids_held, count_held, names_held, people_shown}
+use Rattle.adr_world.proofs.Visible.{all_is_visible}
 
 -- the world of one controller
 abbrev pub world_with : ℕ → List ℕ → Identifier → Identifier → List Person → World
@@ -36,6 +38,20 @@ world_with time name dsa inv people =
 -- a name is its own
 own_name : (name : List ℕ) → bytes_eq name name ≡ true
 own_name name = (bytes_eq-Decides name name).1 refl
+
+-- an `add` is refused as its people say
+refusal_is : (dsa inv : Identifier) (people : List Person) (guid text : List ℕ) → are_proper people ≡ true
+    → add_refusal (updates_of (state_of dsa inv people).rows) guid root text ≡ people_refusal people guid (folded text)
+refusal_is dsa inv people guid text proper =
+    let there : holds_guid (updates_of (state_of dsa inv people).rows) guid ≡ has_guid people guid = guids_held dsa inv people proper guid in
+    let kept : name_holder (nodes_of (live_rows (updates_of (state_of dsa inv people).rows))) root text ≡ name_kept people (folded text) = names_held dsa inv people proper text in
+    let count : length (objects_of (updates_of (state_of dsa inv people).rows)) ≡ length people = count_held dsa inv people proper in
+    λ i. first_refusal (
+    where_true (is_fixed guid || there i) (GuidThere guid)
+    ∷ option_map NameTaken (kept i)
+    ∷ where_true (nat_le object_limit (count i)) (Full Objects object_limit)
+    ∷ []
+    )
 
 -- what is made of an `add` once its refusal, if any, is known
 on_add : (time : ℕ) (name dsa inv : List ℕ) (people : List Person) (guid text : List ℕ) (values : List Given) (o : Option WriteRefusal)
@@ -85,7 +101,7 @@ told_show time name dsa inv people proper =
     let w : World = world_with time name dsa inv people in
     let r : Replica = record { name = name; state = state_of dsa inv people } in
     ap (λ (b : Bool). at_replica w (cond b (Some r) None) (λ (q : Replica). (w, answer (codes "show") q.name (Shown (shown w q.state))))) (own_name name)
-    ∙ ap (λ (es : List Entry). (w, answer (codes "show") name (Shown es))) (shown_is dsa inv people proper)
+    ∙ ap (λ (es : List Entry). (w, answer (codes "show") name (Shown es))) (ap directory (all_is_visible people (empty_state dsa inv) (updates_of (state_of dsa inv people).rows) refl) ∙ people_shown dsa inv people proper)
 
 pub show_step : (time : ℕ) (name dsa inv : List ℕ) (people items : List Person) (entries : List Entry) (made : Answer)
     → are_proper people ≡ true → made ≡ answer (codes "show") name (Shown entries) → entries ≡ map (λ (e : List ℕ × Entry). e.1) (shown_people items) → items ≡ people

@@ -1,5 +1,5 @@
 -- What the code's world stands for.
-use Rattle.std.specs.Prelude.{◌≡◌, ℕ, List, [], ◌∷◌, Bool, true, ◌&&◌, nat_le, length, map, Option, Some, None}
+use Rattle.std.specs.Prelude.{ℕ, List, [], ◌∷◌, Bool, true, ◌&&◌, nat_le, length, map, Option, Some, None}
 use Rattle.adr_schedule.specs.Seen.{Seen}
 use Rattle.adr_model.specs.Update.{Update}
 use Rattle.adr_model.specs.Write.{object_limit}

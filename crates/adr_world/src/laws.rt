@@ -1,11 +1,19 @@
 //! What is proved of people who are added to one controller, one after the other.
 
-ghost use Rattle.std.specs.Prelude.{◌≡◌, List, [], ◌∷◌, ◌++◌, length, true, false, None};
+ghost use Rattle.std.specs.Prelude.{◌≡◌, ℕ, List, [], ◌∷◌, ◌++◌, length, map, true, false, Some, None, if◌then◌else◌};
+ghost use Rattle.std.specs.Str.{bytes_eq};
+ghost use Rattle.adr_schema.specs.Folding.{folded};
+ghost use Rattle.adr_event.specs.declared.directory.Entry.{Entry};
 ghost use Rattle.adr_model.specs.Update.{Identifier};
+ghost use Rattle.adr_model.specs.Live.{objects_of, live_rows};
+ghost use Rattle.adr_model.specs.Place.{root, lost_and_found, nodes_of};
+ghost use Rattle.adr_model.specs.Shown.{name_holder};
+ghost use Rattle.adr_model.specs.Directory.{directory};
+ghost use Rattle.adr_model.specs.Write.{holds_guid};
 ghost use Rattle.adr_model.specs.Vector.{visible};
 ghost use Rattle.adr_model.specs.Store.{updates_of};
 ghost use Rattle.adr_world.specs.declared.people.Person.{Person};
-ghost use Rattle.adr_world.specs.People.{person_rows, with_person, state_of, issued_by, has_guid, named_alike, is_proper, are_proper};
+ghost use Rattle.adr_world.specs.People.{person_rows, with_person, state_of, issued_by, shown_people, has_guid, lost_name, named_alike, is_proper, are_proper};
 
 /// A controller's USN counts its people, and its identifiers stay.
 #[tactic(none)]
@@ -28,4 +36,19 @@ pub fn one_more_person()
 #[tactic(none)]
 pub fn all_people_are_visible()
     ensures { (dsa inv : Identifier) (people : List Person) → visible (issued_by dsa inv people) (state_of dsa inv people).vector (updates_of (state_of dsa inv people).rows) ≡ issued_by dsa inv people }
+{}
+
+/// A controller holds its people and no others: their GUIDs, how many they are, and who has a name.
+#[tactic(none)]
+pub fn people_are_held()
+    ensures guids { (dsa inv : Identifier) (people : List Person) → are_proper people ≡ true → (guid : Identifier) → holds_guid (updates_of (state_of dsa inv people).rows) guid ≡ has_guid people guid }
+    ensures count { (dsa inv : Identifier) (people : List Person) → are_proper people ≡ true → length (objects_of (updates_of (state_of dsa inv people).rows)) ≡ length people }
+    ensures names { (dsa inv : Identifier) (people : List Person) → are_proper people ≡ true → (text : List ℕ) → name_holder (nodes_of (live_rows (updates_of (state_of dsa inv people).rows))) root text ≡ (if bytes_eq (folded text) lost_name then Some lost_and_found else named_alike people (folded text)) }
+{}
+
+/// The directory of what was issued, and of what is visible, is the people by GUID.
+#[tactic(none)]
+pub fn people_are_shown()
+    ensures issued { (dsa inv : Identifier) (people : List Person) → are_proper people ≡ true → directory (issued_by dsa inv people) ≡ map (λ (e : Identifier × Entry). e.1) (shown_people people) }
+    ensures visible { (dsa inv : Identifier) (people : List Person) → are_proper people ≡ true → directory (visible (issued_by dsa inv people) (state_of dsa inv people).vector (updates_of (state_of dsa inv people).rows)) ≡ map (λ (e : Identifier × Entry). e.1) (shown_people people) }
 {}

@@ -1,4 +1,4 @@
-use Rattle.std.proofs.Common.{◌≡◌, refl, sym, ◌∙◌, ap, ℕ, List}
+use Rattle.std.proofs.Common.{◌≡◌, refl, ◌∙◌, ap}
 use Rattle.std.specs.Prelude.{codes}
 use Rattle.std.specs.Str.{bytes_eq, chars}
 use Rattle.caseless.proofs.Computing.{caseless}
