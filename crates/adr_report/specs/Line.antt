@@ -1,5 +1,5 @@
 -- How an answer is written: its line, and the lines of a report behind it.
-use Rattle.std.specs.Prelude.{ℕ, List, [], ◌∷◌, ◌++◌, length, flat_map, map, codes}
+use Rattle.std.specs.Prelude.{ℕ, List, Bool, true, false, if◌then◌else◌, [], ◌∷◌, ◌++◌, length, flat_map, map, codes}
 use Rattle.std.specs.Fmt.{decimal}
 use Rattle.adr_schema.specs.declared.content.Value.{Value as Item}
 use Rattle.adr_event.specs.declared.answer.Answer.{Answer}
@@ -29,8 +29,9 @@ links_text l = attribute_text l.0 (map identifier_token l.1)
 -- the line of an entry
 unfoldable pub entry_line : Entry → List ℕ
 entry_line e =
-    codes "  " ++ identifier_token e.guid ++ codes " " ++ class_token e.class ++ codes " parent=" ++ identifier_token e.parent
-    ++ codes " name=" ++ text_token e.name ++ flat_map values_text e.values ++ flat_map links_text e.links ++ codes "\n"
+    (codes "  " ++ identifier_token e.guid ++ codes " " ++ class_token e.class)
+    ++ (codes " parent=" ++ identifier_token e.parent ++ codes " name=" ++ text_token e.name)
+    ++ flat_map values_text e.values ++ flat_map links_text e.links ++ codes "\n"
 
 unfoldable pub plain_text : Plainly → List ℕ
 plain_text (Id id) = identifier_token id
@@ -65,13 +66,13 @@ named (b ∷ bs) = codes " " ++ b ∷ bs
 unfoldable pub said : Answer → List ℕ
 said a = a.verb ++ named a.name ++ codes ": " ++ result_text a.outcome ++ codes "\n" ++ report_lines a.outcome
 
--- an answer as it is written; a silent one has no bytes
-abbrev pub unless_silent : Outcome → List ℕ → List ℕ
-unless_silent Silent bytes = []
-unless_silent Ok bytes = bytes
-unless_silent (Usn usn) bytes = bytes
-unless_silent (Show entries) bytes = bytes
-unless_silent (Refused number label fields) bytes = bytes
+abbrev pub is_silent : Outcome → Bool
+is_silent Silent = true
+is_silent Ok = false
+is_silent (Usn usn) = false
+is_silent (Show entries) = false
+is_silent (Refused number label fields) = false
 
+-- an answer as it is written; a silent one has no bytes
 unfoldable pub line : Answer → List ℕ
-line a = unless_silent a.outcome (said a)
+line a = if is_silent a.outcome then [] else said a
