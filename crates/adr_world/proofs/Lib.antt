@@ -3,3 +3,4 @@ pub mod Visible
 pub mod AsAdded
 pub mod Shown
 pub mod StepLemmas
+pub mod Names

@@ -162,7 +162,7 @@ impl World {
     ghost use Rattle.adr_model.specs.Place.{root};
     ghost use Rattle.adr_model.specs.World.{empty_world, step};
     ghost use Rattle.adr_schedule.specs.Commands.{IsAllowed};
-    ghost use Rattle.adr_schedule.specs.Seen.{cause_after};
+    ghost use Rattle.adr_schedule.specs.Seen.{cause_after, seen_after};
     ghost use Rattle.adr_world.specs.Held.{seen_in};
 
     /// A world without controllers, at time 0.
@@ -236,8 +236,8 @@ impl World {
         }
     }
 
-    /// Does what the event says, and gives the answer. After an error nothing has changed.
-    pub fn step(&mut self, alloc: Global, event: &Event) -> Result<Answer, NoMemory>
+    /// What the event does, by its kind.
+    fn do_event(&mut self, alloc: Global, event: &Event) -> Result<Answer, NoMemory>
         requires follows { cause_after (seen_in self.old) event.now ≡ None }
         requires allowed { IsAllowed event.now }
         ensures stepped { IfOk result (λ made. step self.old event.now ≡ (self.new, made)) }
@@ -256,5 +256,16 @@ impl World {
             } => self.add(alloc, name, *guid, text, values),
             Event::Show { name } => self.show(alloc, name),
         }
+    }
+
+    /// Does what the event says, and gives the answer. After an error nothing has changed.
+    pub fn step(&mut self, alloc: Global, event: &Event) -> Result<Answer, NoMemory>
+        requires follows { cause_after (seen_in self.old) event.now ≡ None }
+        requires allowed { IsAllowed event.now }
+        ensures stepped { IfOk result (λ made. step self.old event.now ≡ (self.new, made)) }
+        ensures seen { OnOk result (seen_in self.new ≡ seen_after (seen_in self.old) event.now) }
+        ensures err { OnErr result (self.new ≡ self.old) }
+    {
+        self.do_event(alloc, event)
     }
 }
