@@ -156,7 +156,7 @@ pub distinct_sorted : (bs : List Added) → Distinct bs → Distinct (sorted bs)
 distinct_sorted bs d = distinct_folded bs [] tt (λ b m x n e. n) d
 
 -- a table that takes each new user as the sorted list does is the table of the sorted list
-pub tables_agree : {X : Type 0} (table : List Added → X) (step : X → Added → X) → ((acc : List Added) (b : Added) → IsNew acc b → step (table acc) b ≡ table (insert_added acc b))
+tables_agree : {X : Type 0} (table : List Added → X) (step : X → Added → X) → ((acc : List Added) (b : Added) → IsNew acc b → step (table acc) b ≡ table (insert_added acc b))
     → (bs acc : List Added) → ((b : Added) → Member b bs → IsNew acc b) → Distinct bs → fold step (table acc) bs ≡ table (fold insert_added acc bs)
 tables_agree table step one [] acc new d = refl
 tables_agree {X} table step one (b ∷ bs) acc new d =

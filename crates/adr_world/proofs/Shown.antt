@@ -14,7 +14,7 @@ use Rattle.adr_model.proofs.Added.{Added, guid_of, rows_of, entry_of_added, sort
 use Rattle.adr_model.proofs.AddedRows.{rows_of_sorted, entries_of_sorted}
 use Rattle.adr_model.proofs.AddedShown.{IsPlain, identifier_itself, plain_sorted, directory_of_added, named_in_sorted, holder_of_added, holds_sorted, count_of_added}
 use Rattle.adr_world.specs.declared.people.Person.{Person}
-use Rattle.adr_world.specs.People.{state_of, issued_by, shown_people, has_guid, lost_name, named_alike, are_proper}
+use Rattle.adr_world.specs.People.{state_of, issued_by, shown_people, has_guid, lost_name, name_kept, are_proper}
 use Rattle.adr_world.proofs.AsAdded.{added_from, issued_as_added, held_as_added, shown_as_added, guids_as_added, count_as_added, distinct_people, plain_people, root_is_fixed, named_as_added}
 
 module _ (dsa inv : Identifier) (people : List Person) (proper : are_proper people ≡ true) where
@@ -36,7 +36,7 @@ module _ (dsa inv : Identifier) (people : List Person) (proper : are_proper peop
       ∙ (count_of_added root (sorted added) (distinct_sorted added (distinct_people people (empty_state dsa inv) proper))
       ∙ (length_sorted added ∙ count_as_added people (empty_state dsa inv)))
 
-  pub names_held : (text : List ℕ) → name_holder (nodes_of (live_rows held)) root text ≡ (if bytes_eq (folded text) lost_name then Some lost_and_found else named_alike people (folded text))
+  pub names_held : (text : List ℕ) → name_holder (nodes_of (live_rows held)) root text ≡ name_kept people (folded text)
   names_held text =
       ap (λ us. name_holder (nodes_of (live_rows us)) root text) held_rows
       ∙ (holder_of_added root (sorted added) text root_is_fixed (plain_sorted root added plain) (distinct_sorted added (distinct_people people (empty_state dsa inv) proper))

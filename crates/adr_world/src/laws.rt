@@ -1,19 +1,18 @@
 //! What is proved of people who are added to one controller, one after the other.
 
-ghost use Rattle.std.specs.Prelude.{◌≡◌, ℕ, List, [], ◌∷◌, ◌++◌, length, map, true, false, Some, None, if◌then◌else◌};
-ghost use Rattle.std.specs.Str.{bytes_eq};
+ghost use Rattle.std.specs.Prelude.{◌≡◌, ℕ, List, [], ◌∷◌, ◌++◌, length, map, true, false, None};
 ghost use Rattle.adr_schema.specs.Folding.{folded};
 ghost use Rattle.adr_event.specs.declared.directory.Entry.{Entry};
 ghost use Rattle.adr_model.specs.Update.{Identifier};
 ghost use Rattle.adr_model.specs.Live.{objects_of, live_rows};
-ghost use Rattle.adr_model.specs.Place.{root, lost_and_found, nodes_of};
+ghost use Rattle.adr_model.specs.Place.{root, nodes_of};
 ghost use Rattle.adr_model.specs.Shown.{name_holder};
 ghost use Rattle.adr_model.specs.Directory.{directory};
 ghost use Rattle.adr_model.specs.Write.{holds_guid};
 ghost use Rattle.adr_model.specs.Vector.{visible};
 ghost use Rattle.adr_model.specs.Store.{updates_of};
 ghost use Rattle.adr_world.specs.declared.people.Person.{Person};
-ghost use Rattle.adr_world.specs.People.{person_rows, with_person, state_of, issued_by, shown_people, has_guid, lost_name, named_alike, is_proper, are_proper};
+ghost use Rattle.adr_world.specs.People.{person_rows, with_person, state_of, issued_by, shown_people, has_guid, named_alike, name_kept, is_proper, are_proper};
 
 /// A controller's USN counts its people, and its identifiers stay.
 #[tactic(none)]
@@ -43,7 +42,7 @@ pub fn all_people_are_visible()
 pub fn people_are_held()
     ensures guids { (dsa inv : Identifier) (people : List Person) → are_proper people ≡ true → (guid : Identifier) → holds_guid (updates_of (state_of dsa inv people).rows) guid ≡ has_guid people guid }
     ensures count { (dsa inv : Identifier) (people : List Person) → are_proper people ≡ true → length (objects_of (updates_of (state_of dsa inv people).rows)) ≡ length people }
-    ensures names { (dsa inv : Identifier) (people : List Person) → are_proper people ≡ true → (text : List ℕ) → name_holder (nodes_of (live_rows (updates_of (state_of dsa inv people).rows))) root text ≡ (if bytes_eq (folded text) lost_name then Some lost_and_found else named_alike people (folded text)) }
+    ensures names { (dsa inv : Identifier) (people : List Person) → are_proper people ≡ true → (text : List ℕ) → name_holder (nodes_of (live_rows (updates_of (state_of dsa inv people).rows))) root text ≡ name_kept people (folded text) }
 {}
 
 /// The directory of what was issued, and of what is visible, is the people by GUID.
