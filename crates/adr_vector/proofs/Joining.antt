@@ -1,7 +1,5 @@
 -- What raising and joining do to the numbers, and that two lists read as one are joined.
 use Rattle.std.proofs.Common.{◌≡◌, ℕ, ◌≤◌, ◌<◌, ◌+◌, Bool, true, false, cond, leb, max, List, [], ◌∷◌, length, refl, sym, ap, subst, ◌∙◌, arith}
-use Rattle.std.specs.List.{AllByRecursion, fold}
-use Rattle.std.specs.List.Sorted.{IsStrictlySortedBy}
 use Rattle.std.specs.Ordering.{is_eq, match_ordering}
 use Rattle.std.specs.BTreeMap.{insert_entry}
 use Rattle.std.specs.declared.cmp.Ordering.{Ordering}
@@ -11,7 +9,7 @@ use Rattle.std.proofs.lemmas.Map.Lookups.{exact_bytes}
 use Rattle.adr_stamp.specs.Order.{identifier_order}
 use Rattle.adr_vector.specs.Vector.{Cursors, at, covers, raised, joined}
 use Rattle.adr_vector.specs.Merging.{merged_with, merged}
-use Rattle.adr_vector.proofs.Cursors.{IsRising, FromOne, IsBelow, turned, below_all, at_rest, same_from_test, test_itself, head_below, tail_rising, cons_rising, nil_rising, at-insert_entry, rising-insert_entry, from_one-insert_entry, same_cursors}
+use Rattle.adr_vector.proofs.Cursors.{IsRising, FromOne, IsBelow, turned, below_all, at_rest, same_from_test, test_itself, head_below, tail_rising, cons_rising, at-insert_entry, rising-insert_entry, from_one-insert_entry, same_cursors}
 
 -- ---- raising
 

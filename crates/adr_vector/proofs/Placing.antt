@@ -3,9 +3,9 @@ use Rattle.std.proofs.Common.{◌≡◌, ℕ, zero, suc, ◌≤◌, ◌<◌, ◌
 use Rattle.std.proofs.lemmas.Bool.{cases_lt, le-leb, lt-leb}
 use Rattle.std.specs.Prelude.{find}
 use Rattle.std.specs.List.{insert}
-use Rattle.std.specs.List.Sorted.{IsStrictlySortedBy, IsSearchInRange, IsBinarySearchResult, IsNonDecreasingBy, IsSortedBy}
+use Rattle.std.specs.List.Sorted.{IsSearchInRange, IsBinarySearchResult, IsNonDecreasingBy, IsSortedBy}
 use Rattle.std.specs.Map.{keys_of}
-use Rattle.std.specs.Ordering.{is_eq, is_lt, match_ordering, ordering_index}
+use Rattle.std.specs.Ordering.{is_lt, ordering_index}
 use Rattle.std.specs.BTreeMap.{insert_entry}
 use Rattle.std.specs.declared.cmp.Ordering.TheVariants.{Less, Equal, Greater}
 use Rattle.std.proofs.lemmas.Cmp.{nat_list_cmp_total}
@@ -19,7 +19,7 @@ use Rattle.std.proofs.lemmas.Map.Lookups.{exact_bytes}
 use Rattle.adr_stamp.specs.Order.{identifier_order}
 use Rattle.adr_vector.specs.Vector.{Cursors, at, raised, most_cursors, IsVector}
 use Rattle.adr_vector.specs.Place.{identifier_at, AreLessBefore, IsAt, IsGapFor, BeginAbove}
-use Rattle.adr_vector.proofs.Cursors.{IsRising, FromOne, IsBelow, turned, turned_back, itself, below_all, at_below, head_below, tail_rising, rising-insert_entry, from_one-insert_entry}
+use Rattle.adr_vector.proofs.Cursors.{IsRising, FromOne, turned, turned_back, itself, below_all, at_below, head_below, tail_rising, rising-insert_entry, from_one-insert_entry}
 
 -- ---- one place further
 

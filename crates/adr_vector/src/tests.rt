@@ -51,8 +51,8 @@ fn a_joined_vector_has_seen_both(rt: HostRuntime) -> Result<(), Fail> {
 #[test]
 fn a_vector_has_at_most_ten_thousand_cursors(rt: HostRuntime) -> Result<(), Fail> {
     let mut seen = Vector::new(rt.alloc());
-    for number in 0..10_000 {
-        seen.raise(id(number), 1)?;
+    for number in 0..10_000u64 {
+        seen.raise(id(u128::from(number)), 1)?;
     }
     let full = Err(VectorRefusal::Full { limit: 10_000 });
     assert_eq!(rt; seen.raise(id(10_000), 1), full);

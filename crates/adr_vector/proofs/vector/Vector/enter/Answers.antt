@@ -1,4 +1,4 @@
-use Rattle.std.proofs.Common.{◌≡◌, ℕ, ◌≤◌, ◌<◌, ◌+◌, length, true, arith, ap, subst}
+use Rattle.std.proofs.Common.{length, true, arith, ap, subst}
 use Rattle.adr_vector.specs.Vector.{most_cursors, raised}
 use Rattle.adr_vector.proofs.Cursors.{IsRising}
 use Rattle.adr_vector.proofs.Placing.{written_between, raised_between, raised_seen, length_between}

@@ -1,4 +1,4 @@
-use Rattle.std.proofs.Common.{◌≡◌, List, ℕ, ◌≤◌, ◌<◌, length, arith, ap, subst, ◌∙◌}
+use Rattle.std.proofs.Common.{◌≡◌, ◌≤◌, length, arith, ap, subst, ◌∙◌}
 use Rattle.adr_vector.specs.Vector.{Cursors, at, most_cursors, joined, IsVector}
 use Rattle.adr_vector.specs.Merging.{merged}
 use Rattle.adr_vector.proofs.Cursors.{IsRising}

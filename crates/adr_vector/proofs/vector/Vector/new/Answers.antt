@@ -1,5 +1,4 @@
-use Rattle.std.proofs.Common.{arith, length}
-use Rattle.adr_vector.specs.Vector.{IsVector}
+use Rattle.std.proofs.Common.{arith}
 use Rattle.adr_vector.proofs.Cursors.{nil_rising}
 use Rattle.adr_vector.proofs.vector.Vector.new.Goals as goal
 
