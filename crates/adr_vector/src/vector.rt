@@ -70,6 +70,14 @@ impl Vector {
         }
     }
 
+    /// The vector of these cursors.
+    pub fn of(cursors: Vec<(Uuid, u64)>) -> Vector
+        requires { IsVector cursors.items }
+        ensures { result ≡ cursors.items }
+    {
+        Vector { cursors }
+    }
+
     /// The identifiers with their numbers, rising by identifier.
     pub fn cursors(&self) -> &[(Uuid, u64)]
         ensures all { result.now ≡ self.now }
