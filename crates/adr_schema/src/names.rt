@@ -1,10 +1,11 @@
 //! The names of classes and attributes, and the names that objects may have.
 
-ghost use Rattle.std.specs.Prelude.{◌≡◌, ◌<◌, ◌≤◌, ◌↔◌, List, length, ℕ};
+ghost use Rattle.std.specs.Prelude.{◌≡◌, ◌<◌, ◌≤◌, length};
 ghost use Rattle.std.specs.Option.{option_copied, option_map};
 ghost use Rattle.std.specs.Result.{result_err};
 ghost use Rattle.adr_schema.specs.Names.{attribute_name, attribute_number, class_name, class_number, is_wrong_byte, name_fault};
 ghost use Rattle.adr_schema.specs.Places.{first_place};
+ghost use Rattle.adr_schema.specs.Rules.{name_refusal};
 ghost use Rattle.adr_schema.specs.Schemas.{newest};
 ghost use Rattle.adr_schema.specs.Table.{kind_at};
 
@@ -54,7 +55,7 @@ pub fn attribute_kind(number: u16) -> Option<Kind>
 /// Whether an object may have the name.
 #[tactic(auto, unfolding(crate::specs::Names::name_fault))]
 pub fn check_name(text: &str) -> Result<(), SchemaRefusal>
-    ensures { result_err result ≡ option_map SchemaRefusal.BadName (name_fault text.now) }
+    ensures { result_err result ≡ name_refusal text.now }
 {
     let bytes = text.as_bytes();
     if bytes.is_empty() {
@@ -89,10 +90,3 @@ fn is_wrong_byte(bytes: &[u8], place: usize) -> bool
     let byte = bytes[place];
     byte < 0x20 || byte == 0x7f || (byte == b' ' && (place == 0 || place + 1 == bytes.len()))
 }
-
-/// A name is read back as the number that it was written for, and a number is written as the name
-/// that it was read from.
-pub fn names_are_told_apart()
-    ensures classes { (number : ℕ) (name : List ℕ) → (class_name number ≡ Some name) ↔ (class_number name ≡ Some number) }
-    ensures attributes { (number : ℕ) (name : List ℕ) → (attribute_name number ≡ Some name) ↔ (attribute_number name ≡ Some number) }
-{}

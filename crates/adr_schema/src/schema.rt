@@ -1,6 +1,6 @@
 //! A schema: what objects of a class may contain, and where they may stand.
 
-ghost use Rattle.std.specs.Prelude.{◌≡◌, IsSome, is_none, IfOk, IsTrue, ◌↔◌, MatchResult, None, map};
+ghost use Rattle.std.specs.Prelude.{◌≡◌, is_none, map, Some};
 ghost use Rattle.std.specs.List.{find};
 ghost use Rattle.std.specs.Option.{option_copied, option_map};
 ghost use Rattle.std.specs.Result.{result_err};
