@@ -12,7 +12,7 @@ ghost use Rattle.adr_schema.specs.Table.{kind_at};
 use crate::refusal::SchemaRefusal;
 use crate::table::{Kind, newest_table};
 
-/// The name of a class, of whichever schema has it.
+/// The name of a class, in any of the schemas.
 pub fn class_name(number: u16) -> Option<&'static str>
     ensures { option_copied result ≡ class_name number }
 {
@@ -20,7 +20,7 @@ pub fn class_name(number: u16) -> Option<&'static str>
     Some(class.name)
 }
 
-/// The number of a class.
+/// The number of a class, by its name as it is spelled.
 pub fn class_number(name: &[u8]) -> Option<u16>
     ensures { result ≡ class_number name.now }
 {
@@ -28,7 +28,7 @@ pub fn class_number(name: &[u8]) -> Option<u16>
     Some(class.number)
 }
 
-/// The name of an attribute, of whichever schema has it.
+/// The name of an attribute, in any of the schemas.
 pub fn attribute_name(number: u16) -> Option<&'static str>
     ensures { option_copied result ≡ attribute_name number }
 {
@@ -36,7 +36,7 @@ pub fn attribute_name(number: u16) -> Option<&'static str>
     Some(attribute.name)
 }
 
-/// The number of an attribute.
+/// The number of an attribute, by its name as it is spelled.
 pub fn attribute_number(name: &[u8]) -> Option<u16>
     ensures { result ≡ attribute_number name.now }
 {
@@ -44,15 +44,14 @@ pub fn attribute_number(name: &[u8]) -> Option<u16>
     Some(attribute.number)
 }
 
-/// What an attribute holds, of whichever schema has it.
+/// What an attribute holds, in any of the schemas.
 pub fn attribute_kind(number: u16) -> Option<Kind>
     ensures { result ≡ kind_at newest number }
 {
-    let attribute = newest_table().attribute(number)?;
-    Some(attribute.kind)
+    newest_table().kind(number)
 }
 
-/// Whether an object may have the name.
+/// Tests that an object may have a name. The rule is this project's own.
 #[tactic(auto, unfolding(crate::specs::Names::name_fault))]
 pub fn check_name(text: &str) -> Result<(), SchemaRefusal>
     ensures { result_err result ≡ name_refusal text.now }
