@@ -1,0 +1,32 @@
+//! What the definitions of this crate imply: each function's contract is a law, and its body is empty.
+
+ghost use Rattle.std.specs.Prelude.{◌≡◌, ◌↔◌, IfSome, List, None, Some, ℕ};
+ghost use Rattle.adr_schema.specs.declared.content.Value.{Value as Item};
+ghost use Rattle.adr_schema.specs.declared.table.Syntax.{Syntax};
+ghost use Rattle.adr_schema.specs.Allowed.{AreAllowed, MayBeAdded, MayBeModified};
+ghost use Rattle.adr_schema.specs.Assignments.{Given};
+ghost use Rattle.adr_schema.specs.Names.{attribute_name, attribute_number, class_name, class_number};
+ghost use Rattle.adr_schema.specs.Orderly.{IsOrderly};
+ghost use Rattle.adr_schema.specs.Rules.{add_refusal, modify_refusal};
+ghost use Rattle.adr_schema.specs.Schemas.{schema_table};
+ghost use Rattle.adr_schema.specs.Table.{Table};
+ghost use Rattle.adr_schema.specs.Values.{bad_place};
+
+/// A name is read back as the number that it was written for, and a number is written as the name
+/// that it was read from.
+pub fn names_are_told_apart()
+    ensures classes { (number : ℕ) (name : List ℕ) → (class_name number ≡ Some name) ↔ (class_number name ≡ Some number) }
+    ensures attributes { (number : ℕ) (name : List ℕ) → (attribute_name number ≡ Some name) ↔ (attribute_number name ≡ Some number) }
+{}
+
+/// Nothing is refused exactly where the schema allows it.
+pub fn refusals_are_exact()
+    ensures values { (syntax : Syntax) (most : ℕ) (values : List Item) → (bad_place syntax most values ≡ None) ↔ AreAllowed syntax most values }
+    ensures added { (t : Table) (class : ℕ) (gs : List Given) → (add_refusal t class gs ≡ None) ↔ MayBeAdded t class gs }
+    ensures modified { (t : Table) (class : ℕ) (gs : List Given) → (modify_refusal t class gs ≡ None) ↔ MayBeModified t class gs }
+{}
+
+/// Each schema's table is in order, and its links are paired.
+pub fn schemas_are_orderly()
+    ensures { (number : ℕ) → IfSome (schema_table number) IsOrderly }
+{}
