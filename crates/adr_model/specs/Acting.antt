@@ -1,19 +1,19 @@
 -- Controllers that act one after the other: each call hands on the controller that it leaves.
-use Rattle.std.specs.Prelude.{ℕ, ◌-◌, List, [], ◌∷◌, Bool, Option, Some, None, is_some, Result, Ok, Err, length, map, codes}
+use Rattle.std.specs.Prelude.{ℕ, List, [], Bool, Option, Some, None, is_some, Result, Ok, Err, length}
 use Rattle.std.specs.List.{flat_map}
 use Rattle.adr_vector.specs.declared.mark.Mark.{Mark}
 use Rattle.adr_event.specs.declared.refusal.ServeRefusal.{ServeRefusal}
 use Rattle.adr_event.specs.declared.refusal.TakeRefusal.{TakeRefusal}
 use Rattle.adr_event.specs.declared.directory.Entry.{Entry}
-use Rattle.adr_model.specs.Update.{Identifier, Update}
+use Rattle.adr_model.specs.Update.{Identifier}
 use Rattle.adr_model.specs.Place.{identifier, root}
 use Rattle.adr_model.specs.Directory.{directory}
-use Rattle.adr_model.specs.Store.{State, Store, updates_of, empty_state}
+use Rattle.adr_model.specs.Store.{State, updates_of, empty_state}
 use Rattle.adr_model.specs.Change.{Item, Change, after}
-use Rattle.adr_model.specs.Serve.{Request, Reply, ask, serve}
+use Rattle.adr_model.specs.Serve.{Reply, ask, serve}
 use Rattle.adr_model.specs.Write.{Write, AddObject, write}
 use Rattle.adr_model.specs.Take.{take}
-use Rattle.adr_model.specs.Collect.{collect, woken}
+use Rattle.adr_model.specs.Collect.{woken}
 
 -- two new controllers, and a third
 abbrev pub first : State

@@ -7,7 +7,7 @@ use Rattle.adr_stamp.specs.declared.Oid.{Oid}
 use Rattle.adr_stamp.specs.declared.Unit.{Unit as Named}
 use Rattle.adr_vector.specs.Vector.{Cursors, joined, raised}
 use Rattle.adr_model.specs.Update.{Identifier, Key, RowOf, LinkOf, Update, same_object, deleted_attr}
-use Rattle.adr_model.specs.Store.{Held, Kept, Mode, Normal, Store, State, with_row, is_row_of}
+use Rattle.adr_model.specs.Store.{Held, Kept, Mode, Normal, State, with_row, is_row_of}
 
 -- rows of one object, or a link row
 pub record Item : Type 0 where

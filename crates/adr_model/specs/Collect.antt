@@ -1,5 +1,5 @@
 -- Collecting tombstones, images and how a controller is made of one, and quarantine.
-use Rattle.std.specs.Prelude.{ℕ, ◌+◌, List, [], ◌∷◌, Bool, true, false, ◌&&◌, ◌||◌, nat_le, nat_lt, length, map, filter, fold, Option, Some, None, Result, Ok, Err, if◌then◌else◌}
+use Rattle.std.specs.Prelude.{ℕ, ◌+◌, List, [], Bool, ◌&&◌, ◌||◌, nat_le, nat_lt, length, map, fold, Option, Some, None, Result, Ok, Err, if◌then◌else◌}
 use Rattle.std.specs.List.{list_any, filter_map}
 use Rattle.std.specs.Bool.{then_some}
 use Rattle.std.specs.Option.{option_or}
@@ -10,9 +10,9 @@ use Rattle.adr_event.specs.declared.refusal.CollectRefusal.{CollectRefusal}
 use Rattle.adr_event.specs.declared.refusal.CollectRefusal.TheVariants.{Quarantined as IsQuarantined, UsnLimit}
 use Rattle.adr_event.specs.declared.refusal.AdoptRefusal.{AdoptRefusal}
 use Rattle.adr_event.specs.declared.refusal.AdoptRefusal.TheVariants.{IdentifierUsed, Full}
-use Rattle.adr_model.specs.Update.{Identifier, Key, RowOf, LinkOf, Update, inv_of, usn_of, same_identifier, ends, deleted_attr}
+use Rattle.adr_model.specs.Update.{Identifier, Update, inv_of, usn_of, same_identifier, ends}
 use Rattle.adr_model.specs.Visible.{covers_update, covers_birth}
-use Rattle.adr_model.specs.Store.{Held, Kept, Mode, Normal, Quarantined, Store, State}
+use Rattle.adr_model.specs.Store.{Held, Kept, Normal, Quarantined, Store, State}
 use Rattle.adr_model.specs.Change.{Change, killed_by}
 use Rattle.adr_model.specs.Serve.{is_quarantined}
 use Rattle.adr_model.specs.Write.{usn_limit}

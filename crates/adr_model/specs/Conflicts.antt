@@ -1,5 +1,5 @@
 -- Conflicts of two controllers: one name twice, a lost parent, a loop, and links that are written on both sides.
-use Rattle.std.specs.Prelude.{true, pos, ℕ, List, [], ◌∷◌, Option, Some, None, Ok, codes}
+use Rattle.std.specs.Prelude.{true, pos, ℕ, List, [], ◌∷◌, Some, Ok, codes}
 use Rattle.adr_schema.specs.declared.content.Value.{Value as Datum}
 use Rattle.adr_schema.specs.declared.content.Value.TheVariants.{Text, Number}
 use Rattle.adr_event.specs.declared.directory.Entry.{Entry}
@@ -84,10 +84,10 @@ stripped_by_death =
 abbrev pub stripped_by_death_told : List Pulled × List Entry
 stripped_by_death_told = (
   Some ((mark 0 0 0, mark 3 3 3, 3, 7, true), Ok (3, 3))
-  ∷ Some ((mark 0 0 0, mark 4 4 4, 2, 6, true), Ok (2, 2))
-  ∷ Some ((mark 3 3 3, mark 4 4 4, 1, 1, true), Ok (1, 4))
-  ∷ Some ((mark 0 0 0, mark 4 4 4, 2, 6, true), Ok (2, 2))
-  ∷ [],
+      ∷ Some ((mark 0 0 0, mark 4 4 4, 2, 6, true), Ok (2, 2))
+      ∷ Some ((mark 3 3 3, mark 4 4 4, 1, 1, true), Ok (1, 4))
+      ∷ Some ((mark 0 0 0, mark 4 4 4, 2, 6, true), Ok (2, 2))
+      ∷ [],
   record { guid = identifier 16; class = 6; parent = root; name = codes "g"; values = (19, Number (pos 2) ∷ []) ∷ []; links = [] } ∷ [],
 )
 
@@ -100,7 +100,7 @@ born_twice =
 abbrev pub born_twice_told : List Pulled × List Entry
 born_twice_told = (
   Some ((mark 0 0 0, mark 1 1 1, 1, 2, true), Ok (1, 2))
-  ∷ Some ((mark 1 1 1, mark 2 2 2, 1, 1, true), Ok (1, 3))
-  ∷ [],
+      ∷ Some ((mark 1 1 1, mark 2 2 2, 1, 1, true), Ok (1, 3))
+      ∷ [],
   container 16 (codes "later") ∷ [],
 )

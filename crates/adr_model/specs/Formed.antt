@@ -1,5 +1,5 @@
 -- Well-formed stores and states.
-use Rattle.std.specs.Prelude.{◌≡◌, ◌⊎◌, ◌≤◌, ◌<◌, ℕ, List, [], ◌∷◌, length, map, true, false, Bool, ◌==◌, nat_lt, Option, Some, None, IsSome}
+use Rattle.std.specs.Prelude.{◌≡◌, ◌⊎◌, ◌≤◌, ◌<◌, ℕ, List, ◌∷◌, length, map, true, None, IsSome}
 use Rattle.std.specs.List.Sorted.{IsStrictlySortedBy}
 use Rattle.adr_stamp.specs.declared.Oid.{Oid}
 use Rattle.adr_stamp.specs.declared.LinkKey.{LinkKey}
@@ -9,12 +9,12 @@ use Rattle.adr_schema.specs.Table.{Table, has, class_at, must_of, kind_at, is_fo
 use Rattle.adr_schema.specs.Allowed.{IsAllowed}
 use Rattle.adr_schema.specs.Names.{name_fault}
 use Rattle.adr_schema.specs.Numbered.{numbered}
-use Rattle.adr_vector.specs.Vector.{IsVector, at, at_most, most_cursors}
+use Rattle.adr_vector.specs.Vector.{IsVector, at, at_most}
 use Rattle.adr_model.specs.Member.{Member, Each}
-use Rattle.adr_model.specs.Update.{Identifier, Update, Key, RowOf, LinkOf, Said, Holds, IsPresent, key_order, unit_of, ends, class_attr, name_attr, deleted_attr}
+use Rattle.adr_model.specs.Update.{Identifier, Update, RowOf, LinkOf, Said, Holds, key_order, unit_of, ends, class_attr, name_attr, deleted_attr}
 use Rattle.adr_model.specs.Live.{objects_of}
 use Rattle.adr_model.specs.Reflects.{CoversBirth, HoldsObject, IsTombstoned}
-use Rattle.adr_model.specs.Store.{Held, Kept, Store, State, updates_of}
+use Rattle.adr_model.specs.Store.{Kept, Store, State, updates_of}
 use Rattle.adr_model.specs.Serve.{last_local}
 use Rattle.adr_model.specs.History.{IsOrdered}
 use Rattle.adr_model.specs.Write.{object_limit, link_limit, links_in}

@@ -1,5 +1,5 @@
 -- Restores, a database that was put back, and collected objects.
-use Rattle.std.specs.Prelude.{true, false, ℕ, List, [], ◌∷◌, length, Bool, Option, Some, None, Result, Ok, Err, codes}
+use Rattle.std.specs.Prelude.{true, ℕ, List, [], ◌∷◌, length, Option, Some, None, Result, Ok, Err, codes}
 use Rattle.adr_schema.specs.declared.content.Value.TheVariants.{Text}
 use Rattle.adr_event.specs.declared.directory.Entry.{Entry}
 use Rattle.adr_event.specs.declared.refusal.WriteRefusal.{WriteRefusal}
@@ -8,14 +8,13 @@ use Rattle.adr_event.specs.declared.refusal.ServeRefusal.{ServeRefusal}
 use Rattle.adr_event.specs.declared.refusal.ServeRefusal.TheVariants.{RolledBack, TooOld}
 use Rattle.adr_event.specs.declared.refusal.CollectRefusal.{CollectRefusal}
 use Rattle.adr_event.specs.declared.refusal.AdoptRefusal.{AdoptRefusal}
-use Rattle.adr_event.specs.declared.refusal.AdoptRefusal.TheVariants.{IdentifierUsed}
 use Rattle.adr_model.specs.Place.{identifier, root}
 use Rattle.adr_model.specs.Store.{State, Store}
 use Rattle.adr_model.specs.Change.{Change, after}
-use Rattle.adr_model.specs.Serve.{Reply, ask, serve}
+use Rattle.adr_model.specs.Serve.{ask, serve}
 use Rattle.adr_model.specs.Write.{AddObject, Modify, Delete, write}
 use Rattle.adr_model.specs.Collect.{collect, backup, adopt, quarantine}
-use Rattle.adr_model.specs.Acting.{first, second, third, writes, adds, made, told, Told, Pulled, pulls, shows, from_image, mark, container}
+use Rattle.adr_model.specs.Acting.{first, second, third, writes, adds, made, Pulled, pulls, shows, from_image, mark, container}
 
 abbrev pub refusal_in : {A E : Type 0} → Result A E → Option E
 refusal_in (Ok x) = None

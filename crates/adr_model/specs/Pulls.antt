@@ -1,13 +1,12 @@
 -- Pulls: equal stamps, replies that are cut, repeated, reordered and older than a restore.
-use Rattle.std.specs.Prelude.{true, false, ℕ, List, [], ◌∷◌, ◌++◌, Some, None, Ok, Err, codes}
+use Rattle.std.specs.Prelude.{true, false, ℕ, List, [], ◌∷◌, Some, Ok, Err, codes}
 use Rattle.adr_schema.specs.declared.content.Value.TheVariants.{Text}
 use Rattle.adr_event.specs.declared.directory.Entry.{Entry}
 use Rattle.adr_event.specs.declared.refusal.TakeRefusal.TheVariants.{Stale, VectorBehind}
 use Rattle.adr_model.specs.Place.{identifier, root}
-use Rattle.adr_model.specs.Store.{State}
 use Rattle.adr_model.specs.Serve.{Reply, ask, serve}
 use Rattle.adr_model.specs.Write.{AddObject, Modify}
-use Rattle.adr_model.specs.Acting.{first, second, third, writes, adds, Got, Pulled, replies, delivers, pulls, shows, from_image, mark, container}
+use Rattle.adr_model.specs.Acting.{first, second, third, writes, adds, Got, Pulled, replies, delivers, pulls, shows, from_image, mark}
 
 abbrev pub ann_with_mail : List ℕ → Entry
 ann_with_mail mail =
@@ -33,9 +32,9 @@ equal_stamps =
 abbrev pub equal_stamps_told : List Pulled × List Entry × List Entry
 equal_stamps_told = (
   Some ((mark 0 0 0, mark 1 1 1, 1, 3, true), Ok (1, 1))
-  ∷ Some ((mark 1 1 1, mark 2 2 2, 1, 1, true), Ok (0, 2))
-  ∷ Some ((mark 0 0 0, mark 2 2 2, 1, 1, true), Ok (1, 3))
-  ∷ [],
+      ∷ Some ((mark 1 1 1, mark 2 2 2, 1, 1, true), Ok (0, 2))
+      ∷ Some ((mark 0 0 0, mark 2 2 2, 1, 1, true), Ok (1, 3))
+      ∷ [],
   ann_with_mail (codes "b") ∷ [],
   ann_with_mail (codes "b") ∷ [],
 )

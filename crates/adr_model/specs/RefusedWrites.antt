@@ -1,12 +1,12 @@
 -- Refused writes, and the refusals of requests and replies.
-use Rattle.std.specs.Prelude.{true, false, ℕ, List, [], ◌∷◌, map, Bool, Option, Some, None, Result, Ok, Err, codes}
-use Rattle.adr_schema.specs.declared.content.Value.TheVariants.{Text, Number}
+use Rattle.std.specs.Prelude.{List, [], ◌∷◌, map, Option, Some, None, codes}
+use Rattle.adr_schema.specs.declared.content.Value.TheVariants.{Text}
 use Rattle.adr_event.specs.declared.refusal.WriteRefusal.{WriteRefusal}
 use Rattle.adr_event.specs.declared.refusal.WriteRefusal.TheVariants as refused
 use Rattle.adr_model.specs.Place.{identifier, root}
 use Rattle.adr_model.specs.Store.{State}
 use Rattle.adr_model.specs.Write.{Write, AddObject, Modify, Rename, Delete, AddLink, RemoveLink, write}
-use Rattle.adr_model.specs.Acting.{first, writes, shows}
+use Rattle.adr_model.specs.Acting.{first, writes}
 use Rattle.adr_model.specs.Lifetimes.{refusal_in}
 
 -- a controller with a unit and a user in it

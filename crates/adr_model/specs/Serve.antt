@@ -1,6 +1,6 @@
 -- Requests for changes and their replies (after MS-DRSR GetNCChanges; what is left out and how marks move is this project's own).
-use Rattle.std.specs.Prelude.{ℕ, zero, suc, ◌+◌, ◌-◌, List, [], ◌∷◌, Bool, true, false, not, ◌&&◌, ◌||◌, ◌==◌, nat_le, nat_lt, max, length, map, filter, fold, Option, Some, None, Result, Ok, Err, is_some, if◌then◌else◌}
-use Rattle.std.specs.Ordering.{is_eq, nat_cmp}
+use Rattle.std.specs.Prelude.{ℕ, ◌+◌, ◌-◌, List, [], ◌∷◌, Bool, true, false, not, ◌&&◌, ◌||◌, ◌==◌, nat_le, nat_lt, max, length, map, filter, fold, Option, Some, None, Result, Ok, Err, if◌then◌else◌}
+use Rattle.std.specs.Ordering.{nat_cmp}
 use Rattle.std.specs.BTreeMap.{insert_entry}
 use Rattle.std.specs.BTreeSet.{insert_key}
 use Rattle.std.specs.Bool.{then_some}
@@ -10,15 +10,14 @@ use Rattle.adr_stamp.specs.declared.Unit.{Unit as Named}
 use Rattle.adr_stamp.specs.declared.Unit.TheVariants.{Object, Link}
 use Rattle.adr_schema.specs.declared.content.Value.{Value as Datum}
 use Rattle.adr_schema.specs.declared.content.Value.TheVariants.{Text, Number, Flag, Octets, Ref}
-use Rattle.adr_schema.specs.declared.content.Content.{Content}
 use Rattle.adr_schema.specs.declared.content.Content.TheVariants.{Class, Name, Dead, Values}
 use Rattle.adr_vector.specs.Vector.{Cursors, at, first_gap}
 use Rattle.adr_vector.specs.declared.mark.Mark.{Mark}
 use Rattle.adr_event.specs.declared.refusal.ServeRefusal.{ServeRefusal}
 use Rattle.adr_event.specs.declared.refusal.ServeRefusal.TheVariants.{Quarantined as IsQuarantined, WrongController, BadMark, RolledBack, SchemaMismatch, TooOld}
-use Rattle.adr_model.specs.Update.{Identifier, Key, RowOf, LinkOf, Update, Said, Holds, IsPresent, same_identifier, unit_of, same_unit}
+use Rattle.adr_model.specs.Update.{Identifier, Update, Said, Holds, IsPresent, same_identifier, unit_of, same_unit}
 use Rattle.adr_model.specs.Visible.{covers_update}
-use Rattle.adr_model.specs.Store.{Held, Kept, Mode, Normal, Quarantined, Store, State, updates_of, kept_of, mark_of, no_mark}
+use Rattle.adr_model.specs.Store.{Held, Mode, Normal, Quarantined, State, updates_of, kept_of, no_mark}
 use Rattle.adr_model.specs.Change.{Item}
 
 pub record Request : Type 0 where

@@ -1,14 +1,11 @@
 -- Taking a reply: the first refusal, or the change that it makes.
-use Rattle.std.specs.Prelude.{ℕ, ◌+◌, List, [], ◌∷◌, ◌++◌, Bool, true, false, not, ◌&&◌, ◌||◌, ◌==◌, nat_le, nat_lt, max, length, map, filter, fold, Option, Some, None, is_none, is_some, unwrap_or, Result, Ok, Err, if◌then◌else◌}
-use Rattle.std.specs.List.{list_any, list_all, find, filter_map}
+use Rattle.std.specs.Prelude.{ℕ, ◌+◌, List, [], ◌∷◌, ◌++◌, Bool, true, false, not, ◌&&◌, ◌||◌, ◌==◌, nat_le, nat_lt, max, length, map, filter, fold, Option, Some, None, unwrap_or, Result, Ok, Err, if◌then◌else◌}
+use Rattle.std.specs.List.{list_any, find}
 use Rattle.std.specs.Bool.{then_some}
 use Rattle.std.specs.Option.{option_map, option_map_or, option_and_then, option_or}
-use Rattle.adr_stamp.specs.Order.{identifier_order}
 use Rattle.adr_stamp.specs.declared.Oid.{Oid}
-use Rattle.adr_stamp.specs.declared.LinkKey.{LinkKey}
 use Rattle.adr_stamp.specs.declared.Unit.{Unit as Named}
 use Rattle.adr_stamp.specs.declared.Unit.TheVariants.{Object, Link}
-use Rattle.adr_schema.specs.declared.content.Content.{Content}
 use Rattle.adr_schema.specs.declared.content.Content.TheVariants.{Class, Name, Dead, Values}
 use Rattle.adr_schema.specs.declared.refusal.SchemaRefusal.{SchemaRefusal}
 use Rattle.adr_schema.specs.Table.{Table as Schema, must_of}
@@ -22,10 +19,10 @@ use Rattle.adr_event.specs.declared.refusal.ItemFault.{ItemFault}
 use Rattle.adr_event.specs.declared.refusal.ItemFault.TheVariants.{Schema as BreaksSchema, WrongBirth}
 use Rattle.adr_event.specs.declared.refusal.TakeRefusal.{TakeRefusal}
 use Rattle.adr_event.specs.declared.refusal.TakeRefusal.TheVariants.{Quarantined, NotMine, Stale, VectorBehind, SchemaMismatch, RolledBack, BadItem, Incomplete, UsnLimit, Full}
-use Rattle.adr_model.specs.Update.{Identifier, Key, RowOf, LinkOf, Said, Holds, IsPresent, Update, same_identifier, same_key, is_older, class_attr, name_attr, deleted_attr}
+use Rattle.adr_model.specs.Update.{Key, RowOf, LinkOf, Said, Holds, IsPresent, Update, same_identifier, is_older, class_attr, name_attr, deleted_attr}
 use Rattle.adr_model.specs.Live.{objects_of}
 use Rattle.adr_model.specs.Visible.{covers_birth}
-use Rattle.adr_model.specs.Store.{Held, Kept, Mode, Normal, State, updates_of, row_held, holds_object, holds_dead, kept_of, mark_of}
+use Rattle.adr_model.specs.Store.{Held, Normal, State, updates_of, row_held, holds_object, holds_dead, kept_of, mark_of}
 use Rattle.adr_model.specs.Change.{Item, Written, Change, held_of, rows_after, after}
 use Rattle.adr_model.specs.Serve.{Reply, is_quarantined}
 use Rattle.adr_model.specs.Write.{object_limit, link_limit, usn_limit, links_in}

@@ -1,12 +1,11 @@
 -- Originating writes: the first refusal, or the rows that a client's write makes.
-use Rattle.std.specs.Prelude.{ℕ, ◌+◌, List, [], ◌∷◌, ◌++◌, Bool, true, false, not, ◌&&◌, ◌||◌, ◌==◌, Option, Some, None, is_none, is_some, unwrap_or, Result, Ok, Err, map, filter, length, nat_le, nat_lt, if◌then◌else◌}
-use Rattle.std.specs.List.{list_any, find, filter_map}
-use Rattle.std.specs.Option.{option_map, option_map_or, option_and_then}
+use Rattle.std.specs.Prelude.{ℕ, ◌+◌, List, [], ◌∷◌, Bool, true, false, not, ◌&&◌, ◌||◌, ◌==◌, Option, Some, None, is_none, is_some, Result, Ok, Err, map, filter, length, nat_lt, if◌then◌else◌}
+use Rattle.std.specs.List.{list_any, find}
+use Rattle.std.specs.Option.{option_map, option_map_or}
 use Rattle.adr_stamp.specs.declared.Oid.{Oid}
 use Rattle.adr_stamp.specs.declared.LinkStamp.{LinkStamp}
 use Rattle.adr_stamp.specs.declared.LinkKey.{LinkKey}
 use Rattle.adr_stamp.specs.declared.Unit.TheVariants.{Object, Link as OneLink}
-use Rattle.adr_schema.specs.declared.content.Value.{Value as Datum}
 use Rattle.adr_schema.specs.declared.content.Content.{Content}
 use Rattle.adr_schema.specs.declared.content.Content.TheVariants.{Class, Name, Dead, Values}
 use Rattle.adr_schema.specs.declared.refusal.SchemaRefusal.{SchemaRefusal}
@@ -21,12 +20,12 @@ use Rattle.adr_event.specs.declared.refusal.Table.TheVariants.{Objects, Links, C
 use Rattle.adr_event.specs.declared.refusal.WriteRefusal.{WriteRefusal}
 use Rattle.adr_event.specs.declared.refusal.WriteRefusal.TheVariants as refusal
 use Rattle.adr_event.specs.declared.refusal.WriteRefusal.TheVariants.{Quarantined, Fixed, NoObject, Deleted, GuidThere, NoParent, BadSuperior, NameTaken, WouldLoop, HasChildren, LinkThere, LinkNotThere, VersionLimit, UsnLimit, Full}
-use Rattle.adr_model.specs.Update.{Identifier, Key, RowOf, LinkOf, Said, Holds, IsPresent, Update, same_identifier, same_object, class_attr, name_attr, deleted_attr}
+use Rattle.adr_model.specs.Update.{Identifier, Key, RowOf, LinkOf, Said, Holds, IsPresent, Update, same_identifier, class_attr, name_attr, deleted_attr}
 use Rattle.adr_model.specs.Live.{objects_of, live_rows}
 use Rattle.adr_model.specs.Place.{Node, root, lost_and_found, is_fixed, nodes_of, node_at, upward, place}
 use Rattle.adr_model.specs.Shown.{is_lost_name, is_named, name_holder}
-use Rattle.adr_model.specs.Store.{Held, Mode, State, updates_of, row_held}
-use Rattle.adr_model.specs.Change.{Item, Written, Change, only_writes}
+use Rattle.adr_model.specs.Store.{Held, State, updates_of, row_held}
+use Rattle.adr_model.specs.Change.{Item, Change, only_writes}
 use Rattle.adr_model.specs.Serve.{is_quarantined}
 
 -- how many objects and link rows a controller holds at most, and the greatest USN and version
