@@ -1,31 +1,29 @@
 -- Of the refusals of an `add` only three can come to a user under the root whom the schema allows.
-use Rattle.std.proofs.Common.{◌≡◌, ◌⊎◌, inl, inr, ℕ, ◌+◌, ◌≤◌, List, [], ◌∷◌, Bool, true, false, cond, not, length, fold, Option, Some, None, option_map, refl, sym, ap, ◌∙◌, arith, le-leb}
-use Rattle.std.specs.Prelude.{nat_le, nat_lt, ◌&&◌, ◌||◌, is_some}
+use Rattle.std.proofs.Common.{◌≡◌, ◌⊎◌, inl, inr, ℕ, ◌+◌, ◌≤◌, List, [], ◌∷◌, Bool, true, false, cond, not, length, fold, Option, Some, None, option_map, refl, ap, ◌∙◌, arith, le-leb}
+use Rattle.std.specs.Prelude.{nat_le, nat_lt, ◌||◌, is_some}
 use Rattle.std.specs.Ordering.{match_ordering, is_eq}
 use Rattle.std.specs.declared.cmp.Ordering.{Ordering}
 use Rattle.std.specs.declared.cmp.Ordering.TheVariants.{Less, Equal, Greater}
 use Rattle.std.proofs.lemmas.Bool.Decides.{nat_tests}
 use Rattle.std.proofs.lemmas.Cmp.{tied_itself, nat_list_cmp_total}
 use Rattle.adr_stamp.specs.Order.{identifier_order}
-use Rattle.adr_schema.specs.Assignments.{Given}
 use Rattle.adr_schema.specs.Folding.{folded}
 use Rattle.adr_schema.specs.Names.{name_fault}
 use Rattle.adr_schema.specs.Numbered.{numbered}
 use Rattle.adr_schema.specs.Rules.{add_refusal as schema_add_refusal, name_refusal as schema_name_refusal}
 use Rattle.adr_schema.specs.Schemas.{schema_1}
 use Rattle.adr_schema.specs.Values.{bad_place}
-use Rattle.adr_schema.specs.declared.refusal.SchemaRefusal.{SchemaRefusal}
 use Rattle.adr_schema.specs.declared.refusal.SchemaRefusal.TheVariants.{BadName}
 use Rattle.adr_schedule.specs.Commands.{account}
 use Rattle.adr_vector.specs.Vector.{Cursors, raised, most_cursors}
 use Rattle.adr_event.specs.declared.refusal.WriteRefusal.{WriteRefusal}
-use Rattle.adr_event.specs.declared.refusal.WriteRefusal.TheVariants.{Quarantined, GuidThere, NameTaken, Full, UsnLimit, NoParent, BadSuperior}
+use Rattle.adr_event.specs.declared.refusal.WriteRefusal.TheVariants.{Quarantined, GuidThere, NameTaken, Full, UsnLimit, NoParent}
 use Rattle.adr_event.specs.declared.refusal.Table.TheVariants.{Objects, Cursors as CursorTable}
 use Rattle.adr_model.specs.Update.{Identifier, Update}
-use Rattle.adr_model.specs.Place.{Node, root, is_fixed, node_at, nodes_of}
-use Rattle.adr_model.specs.Live.{objects_of, live_rows}
+use Rattle.adr_model.specs.Place.{Node, root, is_fixed, node_at}
+use Rattle.adr_model.specs.Live.{objects_of}
 use Rattle.adr_model.specs.Shown.{name_holder}
-use Rattle.adr_model.specs.Store.{Mode, Normal, State, updates_of, empty_state}
+use Rattle.adr_model.specs.Store.{Normal, State, updates_of, empty_state}
 use Rattle.adr_model.specs.Serve.{is_quarantined}
 use Rattle.adr_model.specs.Write.{object_limit, usn_limit, first_refusal, where_true, of_schema, holds_guid, nodes_held, parent_refusal, superior_refusal, usn_refusal, full_refusal, cursor_refusal, add_refusal}
 use Rattle.adr_world.specs.declared.people.Person.{Person}

@@ -18,17 +18,15 @@ use Rattle.adr_event.specs.declared.refusal.WriteRefusal.{WriteRefusal}
 use Rattle.adr_event.specs.declared.refusal.WriteRefusal.TheVariants.{GuidThere, NameTaken, Full}
 use Rattle.adr_event.specs.declared.refusal.Table.TheVariants.{Objects}
 use Rattle.adr_model.specs.Update.{Identifier}
-use Rattle.adr_model.specs.Place.{root, lost_and_found, is_fixed, nodes_of}
+use Rattle.adr_model.specs.Place.{root, lost_and_found, is_fixed}
 use Rattle.adr_model.specs.Directory.{directory}
 use Rattle.adr_model.specs.Store.{State, updates_of, empty_state}
 use Rattle.adr_model.specs.Change.{Change, after}
 use Rattle.adr_model.specs.Write.{AddObject, object_limit, first_refusal, where_true, unless, new_rows, new_object, first_stamp, of_object, own_change, write}
-use Rattle.adr_model.specs.Live.{objects_of, live_rows}
-use Rattle.adr_model.specs.Shown.{name_holder}
 use Rattle.adr_model.specs.Refused.{write_refused}
 use Rattle.adr_model.specs.World.{World, Replica, answer, after_write, at_replica, with_replica, shown, step}
 use Rattle.adr_world.specs.declared.people.Person.{Person}
-use Rattle.adr_world.specs.People.{person_rows, person_change, state_of, issued_by, shown_people, has_guid, named_alike, name_kept, people_refusal, lost_name, is_proper, are_proper}
+use Rattle.adr_world.specs.People.{person_change, state_of, issued_by, shown_people, has_guid, named_alike, name_kept, people_refusal, lost_name, is_proper, are_proper}
 use Rattle.adr_schema.specs.Names.{name_fault}
 use Rattle.adr_world.proofs.Allowed.{refusal_is}
 use Rattle.adr_world.proofs.Adding.{usn_after, issued_after_more, state_after_more, still_proper}

@@ -97,7 +97,13 @@ fn plain(alloc: Global, number: u8, label: &str) -> Result<Outcome, NoMemory>
     })
 }
 
-fn with_field(alloc: Global, number: u8, label: &str, name: &str, value: Plainly) -> Result<Outcome, NoMemory>
+fn with_field(
+    alloc: Global,
+    number: u8,
+    label: &str,
+    name: &str,
+    value: Plainly,
+) -> Result<Outcome, NoMemory>
     ensures { IfOk result (λ outcome. outcome ≡ Outcome.Refused number label.now (field name.now value ∷ [])) }
 {
     Ok(Outcome::Refused {

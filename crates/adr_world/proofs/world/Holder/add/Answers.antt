@@ -6,7 +6,7 @@ use Rattle.adr_schema.specs.Folding.{folded}
 use Rattle.adr_model.specs.Write.{object_limit}
 use Rattle.adr_world.specs.declared.people.Person.{Person}
 use Rattle.adr_world.specs.People.{are_proper}
-use Rattle.adr_world.proofs.StepLemmas.{AreSound, IsAllowedUser, allowed_as, refuse_step, make_step, kept_sound}
+use Rattle.adr_world.proofs.StepLemmas.{AreSound, allowed_as, refuse_step, make_step, kept_sound}
 use Rattle.adr_world.proofs.world.Holder.add.Goals as goal
 
 -- two facts of one result
