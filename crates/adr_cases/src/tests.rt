@@ -1,20 +1,11 @@
-//! Tables of cases. Expected bytes are worked out by hand.
+//! Transcripts and tables of cases. Expected bytes are worked out by hand.
 
-ghost use Rattle.std.specs.Prelude.{◌<◌};
+ghost use Rattle.std.specs.Prelude.{◌<◌, ◌≤◌, length, IfSome};
 
 use adr_cmd::run;
 use adr_io::{MemSink, MemSource};
 use std::alloc::Global;
 use std::test::Fail;
-
-/// A text, the status that it ends with, and what it writes.
-#[derive(Clone, Copy, Debug)]
-struct Case {
-    shows: &'static str,
-    text: &'static [u8],
-    status: u8,
-    written: &'static str,
-}
 
 /// Which calls of a source and of a sink fail: the one after so many.
 #[derive(Clone, Copy, Debug)]
@@ -69,110 +60,60 @@ const PEOPLE_WRITTEN: [&str; 4] = [
     "show A: 2\n  #10 user parent=#1 name=\"Ann\" sAMAccountName=\"ann\"\n  #11 user parent=#1 name=\"Bo\" sAMAccountName=\"bo\"\n",
 ];
 
+/// Where the answers of a transcript begin: behind its line of dashes.
+fn dashes(transcript: &[u8]) -> Option<usize>
+    ensures { IfSome result (λ place. place ≤ length transcript.now) }
+{
+    for place in 0..transcript.len() {
+        if transcript[place..].starts_with(DASHES) {
+            return Some(place);
+        }
+    }
+    None
+}
+
+/// The transcript of the schedule in front of the dashes, which is read in pieces.
+fn transcribed(alloc: Global, transcript: &[u8], piece: usize) -> Result<Vec<u8>, Fail>
+    requires { 0 < piece }
+{
+    let place = dashes(transcript).ok_or("no line of dashes")?;
+    let (status, written) = outcome(alloc, &["replay"], &transcript[..place], piece, NEVER)?;
+    let mut told = Vec::from_slice(alloc, &transcript[..place])?;
+    told.extend_from_slice(DASHES)?;
+    told.extend_from_slice(b"status ")?;
+    told.extend_from_slice(status.to_string(alloc)?.as_bytes())?;
+    told.extend_from_slice(b"\n")?;
+    told.extend_from_slice(written.as_slice())?;
+    Ok(told)
+}
+
+const DASHES: &[u8] = b"\n----\n";
+
+/// Schedules, each with a line of dashes behind it, the status, and what is written.
+const TRANSCRIPTS: [&[u8]; 15] = [
+    b"; a comment and an empty line write nothing\n\n----\nstatus 0\n",
+    b"; a name in other letters is taken\ncontroller A #a0 #a1\ntime 1000\nadd A #10 user #1 \"Ann\" sAMAccountName=\"ann\"\nadd A #11 user #1 \"ANN\" sAMAccountName=\"x\"\n----\nstatus 0\ncontroller A: ok\nadd A: ok usn=1\nadd A: refused 13 NameTaken holder=#10\n",
+    b"; names that are equal only after folding\ncontroller A #a0 #a1\nadd A #10 user #1 \"stra\xc3\x9fe\" sAMAccountName=\"s\"\nadd A #11 user #1 \"STRASSE\" sAMAccountName=\"t\"\nshow A\n----\nstatus 0\ncontroller A: ok\nadd A: ok usn=1\nadd A: refused 13 NameTaken holder=#10\nshow A: 1\n  #10 user parent=#1 name=\"stra\xc3\x9fe\" sAMAccountName=\"s\"\n",
+    b"; a GUID that is there, before its name is looked at\ncontroller A #a0 #a1\nadd A #10 user #1 \"Ann\" sAMAccountName=\"ann\"\nadd A #10 user #1 \"Ann\" sAMAccountName=\"ann\"\n----\nstatus 0\ncontroller A: ok\nadd A: ok usn=1\nadd A: refused 17 GuidThere guid=#10\n",
+    b"; the GUIDs of the root and of LostAndFound\ncontroller A #a0 #a1\nadd A #1 user #1 \"Ann\" sAMAccountName=\"ann\"\nadd A #2 user #1 \"Ann\" sAMAccountName=\"ann\"\n----\nstatus 0\ncontroller A: ok\nadd A: refused 17 GuidThere guid=#1\nadd A: refused 17 GuidThere guid=#2\n",
+    b"; the name of LostAndFound\ncontroller A #a0 #a1\nadd A #10 user #1 \"lostANDfound\" sAMAccountName=\"ann\"\n----\nstatus 0\ncontroller A: ok\nadd A: refused 13 NameTaken holder=#2\n",
+    b"; a comment begins with its line\ncontroller A #a0 #a1\n ; no comment, its first byte is a space\n----\nstatus 3\nline 3: no command\n",
+    b"; identifiers in both forms, entries by GUID, texts with their escapes\n  controller   A #000000a0-0000-0000-0000-000000000000 #a1  \n;\n\nadd A #0000000f-0000-0000-0000-000000000000 user #1 \"b\" sAMAccountName=\"a\\\"\\\\\\0a\"\nadd A #00000000-0000-0000-0000-000000000010 user #00000000-0000-0000-0000-000000000001 \"a\" sAMAccountName=\"\\7f\"\nshow A\n----\nstatus 0\ncontroller A: ok\nadd A: ok usn=1\nadd A: ok usn=2\nshow A: 2\n  #10 user parent=#1 name=\"a\" sAMAccountName=\"\\7f\"\n  #0000000f-0000-0000-0000-000000000000 user parent=#1 name=\"b\" sAMAccountName=\"a\\\"\\\\\\0a\"\n",
+    b"; a controller that was never made\nshow A\n----\nstatus 3\nline 2: unknown name\n",
+    b"; nothing is run of a text that has a fault\ncontroller A #a0 #a1\nadd A #10 user #1 \"Ann\" sAMAccountName=\"ann\"\nshow B\n----\nstatus 3\nline 4: unknown name\n",
+    b"; a bad byte\ncontroller A #a0 #a1\nshow \xff\n----\nstatus 3\nline 3: not UTF-8\n",
+    b"; a bad byte in a comment\n; \xff\n----\nstatus 0\n",
+    b"; a second controller\ncontroller A #a0 #a1\ncontroller B #b0 #b1\n----\nstatus 3\nline 3: no command\n",
+    b"; a name that breaks the rule of names\ncontroller A #a0 #a1\nadd A #10 user #1 \" Ann\" sAMAccountName=\"ann\"\n----\nstatus 3\nline 3: no command\n",
+    b"; a value of 21 bytes\ncontroller A #a0 #a1\nadd A #10 user #1 \"Ann\" sAMAccountName=\"123456789012345678901\"\n----\nstatus 3\nline 3: no command\n",
+];
+
 #[test]
-fn answers_of_texts(rt: HostRuntime) -> Result<(), Fail> {
-    let cases = [
-        Case {
-            shows: "an empty text writes nothing",
-            text: b"",
-            status: 0,
-            written: "",
-        },
-        Case {
-            shows: "a name in other letters is taken",
-            text: b"controller A #a0 #a1\ntime 1000\nadd A #10 user #1 \"Ann\" sAMAccountName=\"ann\"\nadd A #11 user #1 \"ANN\" sAMAccountName=\"x\"\n",
-            status: 0,
-            written: "controller A: ok\nadd A: ok usn=1\nadd A: refused 13 NameTaken holder=#10\n",
-        },
-        Case {
-            shows: "names that are equal only after folding",
-            text: "controller A #a0 #a1\nadd A #10 user #1 \"straße\" sAMAccountName=\"s\"\nadd A #11 user #1 \"STRASSE\" sAMAccountName=\"t\"\nshow A\n".as_bytes(),
-            status: 0,
-            written: "controller A: ok\nadd A: ok usn=1\nadd A: refused 13 NameTaken holder=#10\nshow A: 1\n  #10 user parent=#1 name=\"straße\" sAMAccountName=\"s\"\n",
-        },
-        Case {
-            shows: "a GUID that is there, before its name is looked at",
-            text: b"controller A #a0 #a1\nadd A #10 user #1 \"Ann\" sAMAccountName=\"ann\"\nadd A #10 user #1 \"Ann\" sAMAccountName=\"ann\"\n",
-            status: 0,
-            written: "controller A: ok\nadd A: ok usn=1\nadd A: refused 17 GuidThere guid=#10\n",
-        },
-        Case {
-            shows: "the GUIDs of the root and of LostAndFound",
-            text: b"controller A #a0 #a1\nadd A #1 user #1 \"Ann\" sAMAccountName=\"ann\"\nadd A #2 user #1 \"Ann\" sAMAccountName=\"ann\"\n",
-            status: 0,
-            written: "controller A: ok\nadd A: refused 17 GuidThere guid=#1\nadd A: refused 17 GuidThere guid=#2\n",
-        },
-        Case {
-            shows: "the name of LostAndFound",
-            text: b"controller A #a0 #a1\nadd A #10 user #1 \"lostANDfound\" sAMAccountName=\"ann\"\n",
-            status: 0,
-            written: "controller A: ok\nadd A: refused 13 NameTaken holder=#2\n",
-        },
-        Case {
-            shows: "a comment begins with its line",
-            text: b"controller A #a0 #a1\n ; no comment, its first byte is a space\n",
-            status: 3,
-            written: "line 2: no command\n",
-        },
-        Case {
-            shows: "identifiers in both forms, entries by GUID, texts with their escapes",
-            text: b"  controller   A #000000a0-0000-0000-0000-000000000000 #a1  \n;\n\nadd A #0000000f-0000-0000-0000-000000000000 user #1 \"b\" sAMAccountName=\"a\\\"\\\\\\0a\"\nadd A #00000000-0000-0000-0000-000000000010 user #00000000-0000-0000-0000-000000000001 \"a\" sAMAccountName=\"\\7f\"\nshow A",
-            status: 0,
-            written: "controller A: ok\nadd A: ok usn=1\nadd A: ok usn=2\nshow A: 2\n  #10 user parent=#1 name=\"a\" sAMAccountName=\"\\7f\"\n  #0000000f-0000-0000-0000-000000000000 user parent=#1 name=\"b\" sAMAccountName=\"a\\\"\\\\\\0a\"\n",
-        },
-        Case {
-            shows: "a controller that was never made",
-            text: b"show A",
-            status: 3,
-            written: "line 1: unknown name\n",
-        },
-        Case {
-            shows: "nothing is run of a text that has a fault",
-            text: b"controller A #a0 #a1\nadd A #10 user #1 \"Ann\" sAMAccountName=\"ann\"\nshow B\n",
-            status: 3,
-            written: "line 3: unknown name\n",
-        },
-        Case {
-            shows: "a bad byte",
-            text: b"controller A #a0 #a1\nshow \xff\n",
-            status: 3,
-            written: "line 2: not UTF-8\n",
-        },
-        Case {
-            shows: "a bad byte in a comment",
-            text: b"; \xff\n",
-            status: 0,
-            written: "",
-        },
-        Case {
-            shows: "a second controller",
-            text: b"controller A #a0 #a1\ncontroller B #b0 #b1\n",
-            status: 3,
-            written: "line 2: no command\n",
-        },
-        Case {
-            shows: "a name that breaks the rule of names",
-            text: b"controller A #a0 #a1\nadd A #10 user #1 \" Ann\" sAMAccountName=\"ann\"\n",
-            status: 3,
-            written: "line 2: no command\n",
-        },
-        Case {
-            shows: "a value of 21 bytes",
-            text: b"controller A #a0 #a1\nadd A #10 user #1 \"Ann\" sAMAccountName=\"123456789012345678901\"\n",
-            status: 3,
-            written: "line 2: no command\n",
-        },
-    ];
-    for case in &cases {
+fn transcripts(rt: HostRuntime) -> Result<(), Fail> {
+    for transcript in TRANSCRIPTS {
         for piece in [1, 7, 4096] {
-            let (status, written) = outcome(rt.alloc(), &["replay"], case.text, piece, NEVER)?;
-            assert_eq!(rt; status, case.status, "{}", case.shows);
-            assert_eq!(rt;
-                written.as_slice(),
-                case.written.as_bytes(),
-                "{}",
-                case.shows
-            );
+            let told = transcribed(rt.alloc(), transcript, piece)?;
+            assert_eq!(rt; told.as_slice(), transcript);
         }
     }
     Ok(())
@@ -229,8 +170,7 @@ fn a_read_that_fails_at_each_turn(rt: HostRuntime) -> Result<(), Fail> {
 #[test]
 fn a_write_that_fails_at_each_turn(rt: HostRuntime) -> Result<(), Fail> {
     let mut due = Vec::new(rt.alloc());
-    let mut calls = 0;
-    for answer in &PEOPLE_WRITTEN {
+    for calls in 0..4u32 {
         let failing = Failing {
             read: None,
             write: Some(calls),
@@ -238,8 +178,7 @@ fn a_write_that_fails_at_each_turn(rt: HostRuntime) -> Result<(), Fail> {
         let (status, written) = outcome(rt.alloc(), &["replay"], PEOPLE, 7, failing)?;
         assert_eq!(rt; status, 5, "after {calls}");
         assert_eq!(rt; written.as_slice(), due.as_slice(), "after {calls}");
-        due.extend_from_slice(answer.as_bytes())?;
-        calls += 1;
+        due.extend_from_slice(PEOPLE_WRITTEN[calls as usize].as_bytes())?;
     }
     let (status, written) = outcome(rt.alloc(), &["replay"], PEOPLE, 7, NEVER)?;
     assert_eq!(rt; status, 0);
