@@ -1,3 +1,5 @@
 pub mod NumberLemmas
 pub mod TextLemmas
-pub mod SpellingLaws
+pub mod QuoteLaws
+pub mod WordLaws
+pub mod DigitLaws

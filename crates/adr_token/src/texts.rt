@@ -3,7 +3,6 @@
 ghost use Rattle.std.specs.Prelude.{◌≡◌, ◌+◌, ◌*◌, ◌<◌, ℕ, List, IfSome, MatchOption, true, false, IfOk, IfErr, Some, None};
 ghost use Rattle.std.specs.Str.{IsUtf8, is_utf8};
 ghost use Rattle.adr_token.specs.Gives.{Gives, Stops};
-ghost use Rattle.adr_token.specs.Spelling.{ReadsBack, WasSpelled};
 ghost use Rattle.adr_token.specs.Texts.{is_control, IsHalfSmall, IsMoveSmall, move, quoted, opened, ends_word, is_text, text_at};
 
 use crate::numbers::figure;
@@ -159,9 +158,3 @@ impl Line<'_> {
         }
     }
 }
-
-/// What is spelled in quotes is read again.
-pub fn texts_read_back()
-    ensures again { ReadsBack }
-    ensures only { WasSpelled }
-{}
