@@ -1,16 +1,16 @@
 -- The figures of a number are read as that number, and no others are.
-use Rattle.std.proofs.Common.{◌≡◌, ℕ, zero, suc, ◌+◌, ◌-◌, ◌*◌, ◌/◌, ◌%◌, ◌^◌, ◌<◌, ◌≤◌, Bool, true, false, not, cond, List, [], ◌∷◌, ◌++◌, length, Option, Some, None, ◌⊎◌, inl, inr, refl, sym, ap, subst, ◌∙◌, arith}
+use Rattle.std.proofs.Common.{◌≡◌, ℕ, zero, suc, ◌+◌, ◌-◌, ◌*◌, ◌/◌, ◌%◌, ◌^◌, ◌<◌, ◌≤◌, Bool, true, false, not, cond, List, [], ◌∷◌, ◌++◌, length, Some, None, ◌⊎◌, inl, inr, refl, sym, ap, subst, ◌∙◌, arith}
 use Rattle.std.specs.Prelude.{◌==◌, nat_le}
 use Rattle.std.specs.Fmt.{digit_glyph, digits_onto, digits, decimal}
 use Rattle.std.proofs.Math.Nat.{pow-suc, pow-zero, pow-le-pow_right, mul-le-mul_right}
-use Rattle.std.proofs.lemmas.Bool.{eq-eqb, ne_eqb, eqb-true, eqb-false, le-leb, leb-true, cases_lt, and_from}
+use Rattle.std.proofs.lemmas.Bool.{ne_eqb, eqb-true, eqb-false, le-leb, leb-true, cases_lt, and_from}
 use Rattle.std.proofs.lemmas.Bool.Decides.{nat_tests}
 use Rattle.std.proofs.lemmas.List.{append-nil}
 use Rattle.adr_token.specs.Gives.{◌>>=◌}
 use Rattle.adr_token.specs.Numbers.{base, figure, figures_from, at_most, is_short, number_of, number_at}
-use Rattle.adr_token.specs.Words.{is_space, word_at}
+use Rattle.adr_token.specs.Words.{word_at}
 use Rattle.adr_token.specs.Laws.{NumbersAreReadAgain, NumbersWereSpelled}
-use Rattle.adr_token.proofs.WordLaws.{bind_some, if_some, is_spaceless, word_again, word_was}
+use Rattle.adr_token.proofs.WordLaws.{bind_some, if_some, is_graphic, are_graphic, graphic_word, word_again, word_was}
 
 glyph_read : (hex : Bool) (d : ℕ) → d < base hex → figure hex (digit_glyph false d) ≡ Some d
 glyph_read true d h = grind (arith, nat_tests)
@@ -161,16 +161,16 @@ grows hex m n (b ∷ bs) h =
     let step = longer hex m s.0 (10 ^ length bs) in
     rw (pow-suc 10 (length bs)) (omega arith)
 
-few_by : (hex : Bool) (m n : ℕ) (word : List ℕ) → 0 < m → figures_from hex m word ≡ Some n → n < 2 ^ 64 → (length word < 64) ⊎ (64 ≤ length word) → length word < 64
-few_by hex m n word z h small (inl l) = l
-few_by hex m n word z h small (inr l) =
-    let p : 10 ^ 64 ≤ 10 ^ length word = pow-le-pow_right {n = 10} (omega arith) l in
+few_by : (hex : Bool) (k m n : ℕ) (word : List ℕ) → 0 < m → figures_from hex m word ≡ Some n → n < 10 ^ k → (length word < k) ⊎ (k ≤ length word) → length word < k
+few_by hex k m n word z h small (inl l) = l
+few_by hex k m n word z h small (inr l) =
+    let p : 10 ^ k ≤ 10 ^ length word = pow-le-pow_right {n = 10} (omega arith) l in
     let g : m * 10 ^ length word ≤ n = grows hex m n word h in
     let q : 1 * 10 ^ length word ≤ m * 10 ^ length word = mul-le-mul_right (10 ^ length word) z in
     absurd (omega arith)
 
-few : (hex : Bool) (m n : ℕ) (word : List ℕ) → 0 < m → figures_from hex m word ≡ Some n → n < 2 ^ 64 → length word < 64
-few hex m n word z h small = few_by hex m n word z h small (cases_lt (length word) 64)
+few : (hex : Bool) (k m n : ℕ) (word : List ℕ) → 0 < m → figures_from hex m word ≡ Some n → n < 10 ^ k → length word < k
+few hex k m n word z h small = few_by hex k m n word z h small (cases_lt (length word) k)
 
 one_digit : (hex : Bool) (d : ℕ) → d < base hex → digits (base hex) false d ≡ digit_glyph false d ∷ []
 unfolding digits
@@ -189,7 +189,7 @@ no_zero hex b d e h = grind (arith, nat_tests)
 several_were : (hex : Bool) (d n : ℕ) (word : List ℕ) → 0 < d → d < base hex → figures_from hex d word ≡ Some n → n < 2 ^ 64 → digits (base hex) false n ≡ digit_glyph false d ∷ word
 unfolding digits
 several_were hex d n word z h read small =
-    let l = few hex d n word z read small in
+    let l = few hex 64 d n word z read (omega arith) in
     let j = 64 - length word in
     let e : (64 - length word) + length word ≡ 64 = omega arith in
     subst (λ (k : ℕ). digits_onto k (base hex) false n [] ≡ digit_glyph false d ∷ word) e
@@ -220,29 +220,43 @@ number_was hex limit n word h small = by (is_short word) refl h
         let below : n ≤ limit = subst (λ (m : ℕ). m ≤ limit) t.1 (leb-true s.0 limit t.0) in
         (word_was_short hex n word e (s.1 ∙ ap Some t.1) (omega arith), below)
 
--- figures are no spaces
-figure_word : (hex : Bool) (b d : ℕ) → figure hex b ≡ Some d → not (is_space b) ≡ true
-figure_word true b d h = grind (arith, nat_tests)
-figure_word false b d h = grind (arith, nat_tests)
+-- a short number has few figures
+pub length_short : (hex : Bool) (k n : ℕ) (word : List ℕ) → is_short word ≡ true → figures_from hex 0 word ≡ Some n → n < 10 ^ k → length word ≤ k + 1
+length_short hex k n [] short read small = omega arith
+length_short hex k n (b ∷ []) short read small = omega arith
+length_short hex k n (b ∷ c ∷ bs) short read small =
+    let s = bind_some (figure hex b) (λ d. figures_from hex (0 * base hex + d) (c ∷ bs)) n read in
+    let was = figure_was hex b s.0 s.1 in
+    let from : figures_from hex s.0 (c ∷ bs) ≡ Some n = subst (λ (m : ℕ). figures_from hex m (c ∷ bs) ≡ Some n) (zero_times hex s.0) s.2 in
+    let l = few hex k s.0 n (c ∷ bs) (no_zero hex b s.0 was.0 short) from small in
+    omega arith
 
-figures_word : (hex : Bool) (m n : ℕ) (word : List ℕ) → figures_from hex m word ≡ Some n → is_spaceless word ≡ true
-figures_word hex m n [] h = refl
-figures_word hex m n (b ∷ bs) h =
+pub length-digits-le : (hex : Bool) (k n : ℕ) → n < 2 ^ 64 → n < 10 ^ k → length (digits (base hex) false n) ≤ k + 1
+length-digits-le hex k n h small = length_short hex k n (digits (base hex) false n) (digits_short_at hex n h (cases_lt 0 n)) (digits_read hex n h) small
+
+-- figures are seen
+figure_graphic : (hex : Bool) (b d : ℕ) → figure hex b ≡ Some d → is_graphic b ≡ true
+figure_graphic true b d h = grind (arith, nat_tests)
+figure_graphic false b d h = grind (arith, nat_tests)
+
+figures_graphic : (hex : Bool) (m n : ℕ) (word : List ℕ) → figures_from hex m word ≡ Some n → are_graphic word ≡ true
+figures_graphic hex m n [] h = refl
+figures_graphic hex m n (b ∷ bs) h =
     let s = bind_some (figure hex b) (λ d. figures_from hex (m * base hex + d) bs) n h in
-    and_from _ _ (figure_word hex b s.0 s.1) (figures_word hex (m * base hex + s.0) n bs s.2)
+    and_from _ _ (figure_graphic hex b s.0 s.1) (figures_graphic hex (m * base hex + s.0) n bs s.2)
 
 short_some : (word : List ℕ) → is_short word ≡ true → 0 < length word
 short_some [] h = absurd (cc)
 short_some (b ∷ bs) h = omega arith
 
-pub digits_word : (hex : Bool) (n : ℕ) → n < 2 ^ 64 → (is_spaceless (digits (base hex) false n) ≡ true) × (0 < length (digits (base hex) false n))
-digits_word hex n h = let w = digits (base hex) false n in (figures_word hex 0 n w (digits_read hex n h), short_some w (digits_short_at hex n h (cases_lt 0 n)))
+pub digits_graphic : (hex : Bool) (n : ℕ) → n < 2 ^ 64 → (are_graphic (digits (base hex) false n) ≡ true) × (0 < length (digits (base hex) false n))
+digits_graphic hex n h = let w = digits (base hex) false n in (figures_graphic hex 0 n w (digits_read hex n h), short_some w (digits_short_at hex n h (cases_lt 0 n)))
 
 pub numbers_again : NumbersAreReadAgain
 unfolding number_at
 numbers_again n rest h e =
-    let w = digits_word false n h in
-    rw (word_again (decimal n) rest w.0 w.1 e, number_again false 18446744073709551615 n (omega arith) h) refl
+    let w = digits_graphic false n h in
+    rw (word_again (decimal n) rest (graphic_word (decimal n) w.0) w.1 e, number_again false 18446744073709551615 n (omega arith) h) refl
 
 pub numbers_spelled : NumbersWereSpelled
 unfolding number_at

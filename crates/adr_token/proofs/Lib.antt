@@ -3,3 +3,6 @@ pub mod TextLemmas
 pub mod QuoteLaws
 pub mod WordLaws
 pub mod DigitLaws
+pub mod ByteLaws
+pub mod IdentifierLaws
+pub mod TextLaws

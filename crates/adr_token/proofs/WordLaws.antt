@@ -1,5 +1,5 @@
 -- A word is read again, and what is read was a word.
-use Rattle.std.proofs.Common.{◌≡◌, ℕ, ◌+◌, ◌<◌, suc, Bool, true, false, not, ◌&&◌, cond, List, [], ◌∷◌, ◌++◌, length, take, drop, Option, Some, None, refl, sym, ap, subst, ◌∙◌, arith, add-one}
+use Rattle.std.proofs.Common.{◌≡◌, ℕ, ◌+◌, ◌<◌, suc, Bool, true, false, not, ◌&&◌, cond, List, [], ◌∷◌, ◌++◌, length, take, drop, Option, Some, None, refl, sym, ap, ◌∙◌, arith}
 use Rattle.std.specs.Prelude.{◌==◌, nat_le}
 use Rattle.std.specs.List.{position_or_len, list_all}
 use Rattle.std.proofs.Math.Seq.{take-append_seam, drop-append_seam}
@@ -72,29 +72,45 @@ pub word_was : (bytes word rest : List ℕ) → word_at bytes ≡ Some (word, re
 word_was bytes word rest h =
     cut_was (unspaced bytes) word rest (position_or_len is_space (unspaced bytes)) (length (unspaced bytes) == 0) h (rest_ends (unspaced bytes))
 
+-- bytes that are seen: no spaces, no control bytes
+abbrev pub is_graphic : ℕ → Bool
+is_graphic b = nat_le 33 b && nat_le b 126
+
+abbrev pub are_graphic : List ℕ → Bool
+are_graphic bs = list_all is_graphic bs
+
+graphic_no_space : (b : ℕ) → is_graphic b ≡ true → not (is_space b) ≡ true
+graphic_no_space b h = grind (arith, nat_tests)
+
+pub graphic_word : (bs : List ℕ) → are_graphic bs ≡ true → is_spaceless bs ≡ true
+graphic_word [] h = refl
+graphic_word (b ∷ bs) h =
+    let p = and_parts (is_graphic b) (are_graphic bs) h in
+    and_from _ _ (graphic_no_space b p.0) (graphic_word bs p.1)
+
 -- names
-name_byte_word : (b : ℕ) → is_name_byte b ≡ true → not (is_space b) ≡ true
-name_byte_word b h = grind (arith, nat_tests)
+name_byte_graphic : (b : ℕ) → is_name_byte b ≡ true → is_graphic b ≡ true
+name_byte_graphic b h = grind (arith, nat_tests)
 
-letter_word : (b : ℕ) → is_letter b ≡ true → not (is_space b) ≡ true
-letter_word b h = grind (arith, nat_tests)
+letter_graphic : (b : ℕ) → is_letter b ≡ true → is_graphic b ≡ true
+letter_graphic b h = grind (arith, nat_tests)
 
-name_bytes_word : (bs : List ℕ) → list_all is_name_byte bs ≡ true → is_spaceless bs ≡ true
-name_bytes_word [] h = refl
-name_bytes_word (b ∷ bs) h =
+name_bytes_graphic : (bs : List ℕ) → list_all is_name_byte bs ≡ true → are_graphic bs ≡ true
+name_bytes_graphic [] h = refl
+name_bytes_graphic (b ∷ bs) h =
     let p = and_parts (is_name_byte b) (list_all is_name_byte bs) h in
-    and_from _ _ (name_byte_word b p.0) (name_bytes_word bs p.1)
+    and_from _ _ (name_byte_graphic b p.0) (name_bytes_graphic bs p.1)
 
-pub name_word : (name : List ℕ) → is_name name ≡ true → (is_spaceless name ≡ true) × (0 < length name)
-name_word [] h = absurd (cc)
-name_word (b ∷ bs) h =
+pub name_graphic : (name : List ℕ) → is_name name ≡ true → (are_graphic name ≡ true) × (0 < length name)
+name_graphic [] h = absurd (cc)
+name_graphic (b ∷ bs) h =
     let p = and_parts _ _ h in
     let q = and_parts _ _ p.0 in
-    (and_from _ _ (letter_word b q.0) (name_bytes_word bs p.1), omega arith)
+    (and_from _ _ (letter_graphic b q.0) (name_bytes_graphic bs p.1), omega arith)
 
 pub names_again : NamesAreReadAgain
 unfolding name_at
-names_again name rest h e = let w = name_word name h in rw (word_again name rest w.0 w.1 e, h) refl
+names_again name rest h e = let w = name_graphic name h in rw (word_again name rest (graphic_word name w.0) w.1 e, h) refl
 
 pub names_spelled : NamesWereSpelled
 unfolding name_at
