@@ -1,7 +1,7 @@
 -- The names of classes and attributes, and what is wrong with the name of an object.
 use Rattle.std.specs.Prelude.{ℕ, ◌+◌, List, length, slice_index, Bool, ◌==◌, ◌&&◌, ◌||◌, nat_lt, if◌then◌else◌, Option, Some}
 use Rattle.std.specs.Option.{option_map}
-use Rattle.std.specs.List.{find, range_with_len}
+use Rattle.adr_schema.specs.Places.{first_place}
 use Rattle.adr_schema.specs.Table.{class_at, class_named, attribute_at, attribute_named}
 use Rattle.adr_schema.specs.Schemas.{newest}
 
@@ -16,10 +16,6 @@ attribute_name number = option_map (λ a. a.name) (attribute_at newest number)
 
 abbrev pub attribute_number : List ℕ → Option ℕ
 attribute_number name = option_map (λ a. a.number) (attribute_named newest name)
-
--- the least place below n at which p holds
-abbrev pub first_place : (ℕ → Bool) → ℕ → Option ℕ
-first_place p n = find p (range_with_len 0 n)
 
 -- a space at the front or the end
 abbrev pub is_outer_space : List ℕ → ℕ → Bool

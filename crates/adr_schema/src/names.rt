@@ -3,10 +3,13 @@
 ghost use Rattle.std.specs.Prelude.{◌≡◌, ◌<◌, ◌≤◌, ◌↔◌, List, length, ℕ};
 ghost use Rattle.std.specs.Option.{option_copied, option_map};
 ghost use Rattle.std.specs.Result.{result_err};
-ghost use Rattle.adr_schema.specs.Names.{attribute_name, attribute_number, class_name, class_number, first_place, is_wrong_byte, name_fault};
+ghost use Rattle.adr_schema.specs.Names.{attribute_name, attribute_number, class_name, class_number, is_wrong_byte, name_fault};
+ghost use Rattle.adr_schema.specs.Places.{first_place};
+ghost use Rattle.adr_schema.specs.Schemas.{newest};
+ghost use Rattle.adr_schema.specs.Table.{kind_at};
 
 use crate::refusal::SchemaRefusal;
-use crate::table::newest_table;
+use crate::table::{Kind, newest_table};
 
 /// The name of a class, of whichever schema has it.
 pub fn class_name(number: u16) -> Option<&'static str>
@@ -38,6 +41,14 @@ pub fn attribute_number(name: &[u8]) -> Option<u16>
 {
     let attribute = newest_table().attribute_named(name)?;
     Some(attribute.number)
+}
+
+/// What an attribute holds, of whichever schema has it.
+pub fn attribute_kind(number: u16) -> Option<Kind>
+    ensures { result ≡ kind_at newest number }
+{
+    let attribute = newest_table().attribute(number)?;
+    Some(attribute.kind)
 }
 
 /// Whether an object may have the name.

@@ -3,7 +3,7 @@
 ghost use Rattle.std.specs.Prelude.{◌≡◌};
 ghost use Rattle.std.specs.Option.{option_copied, option_map};
 ghost use Rattle.adr_schema.specs.Table.{attribute_at, attribute_named, class_at, class_named};
-ghost use Rattle.adr_schema.specs.Schemas.{newest, schema_1};
+ghost use Rattle.adr_schema.specs.Schemas.{newest, schema_1, schema_table};
 ghost use Rattle.adr_schema.specs.View.{attribute_of, class_of, table_of};
 
 /// What a value of an attribute is, and its range; of texts and octets in bytes.
@@ -81,11 +81,20 @@ static SCHEMA_1: TableData = TableData {
     ],
 };
 
-/// Schema 1.
-pub fn table_1() -> &'static TableData
+fn table_1() -> &'static TableData
     ensures { table_of result.now ≡ schema_1 }
 {
     &SCHEMA_1
+}
+
+/// The table of a schema's number.
+pub fn table_numbered(number: u32) -> Option<&'static TableData>
+    ensures { option_map table_of (option_copied result) ≡ schema_table number }
+{
+    match number {
+        1 => Some(table_1()),
+        _ => None,
+    }
 }
 
 /// The schema that names are read and written by.
