@@ -1,2 +1,5 @@
 pub mod LineLemmas
 pub mod EventLemmas
+pub mod PlainBytes
+pub mod EventLaws
+pub mod PrintLaws

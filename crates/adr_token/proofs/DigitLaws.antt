@@ -6,7 +6,7 @@ use Rattle.std.proofs.Math.Nat.{pow-suc, pow-zero, pow-le-pow_right, mul-le-mul_
 use Rattle.std.proofs.lemmas.Bool.{ne_eqb, eqb-true, eqb-false, le-leb, leb-true, cases_lt, and_from}
 use Rattle.std.proofs.lemmas.Bool.Decides.{nat_tests}
 use Rattle.std.proofs.lemmas.List.{append-nil}
-use Rattle.adr_token.specs.Gives.{◌>>=◌}
+use Rattle.adr_token.specs.Gives.{Reading, ◌>>=◌}
 use Rattle.adr_token.specs.Numbers.{base, figure, figures_from, at_most, is_short, number_of, number_at}
 use Rattle.adr_token.specs.Words.{word_at}
 use Rattle.adr_token.specs.Laws.{NumbersAreReadAgain, NumbersWereSpelled}
@@ -258,14 +258,23 @@ numbers_again n rest h e =
     let w = digits_graphic false n h in
     rw (word_again (decimal n) rest (graphic_word (decimal n) w.0) w.1 e, number_again false 18446744073709551615 n (omega arith) h) refl
 
+at_number : (m n : ℕ) (rest left : List ℕ) → ◌≡◌ {A = Reading ℕ} (Some (m, left)) (Some (n, rest)) → (m ≡ n) × (left ≡ rest)
+at_number m n rest left h =
+    let both : (m, left) ≡ (n, rest) = cc in
+    (ap (λ (x : ℕ × List ℕ). x.0) both, ap (λ (x : ℕ × List ℕ). x.1) both)
+
+small_number : (m n : ℕ) → m ≤ 18446744073709551615 → m ≡ n → n < 2 ^ 64
+small_number m n h e = omega arith
+
+limit_small : 18446744073709551615 < 2 ^ 64
+limit_small = omega arith
+
 pub numbers_spelled : NumbersWereSpelled
 unfolding number_at
 numbers_spelled bytes n rest h =
     let s = bind_some (word_at bytes) (λ word. number_of false 18446744073709551615 word.0 >>= λ m. Some (m, word.1)) (n, rest) h in
     let t = bind_some (number_of false 18446744073709551615 s.0.0) (λ m. Some (m, s.0.1)) (n, rest) s.2 in
-    let both : (t.0, s.0.1) ≡ (n, rest) = cc in
-    let value : t.0 ≡ n = ap (λ (x : ℕ × List ℕ). x.0) both in
-    let left : s.0.1 ≡ rest = ap (λ (x : ℕ × List ℕ). x.1) both in
-    let was = number_was false 18446744073709551615 t.0 s.0.0 t.1 (omega arith) in
-    let word : s.0.0 ≡ decimal n = was.0 ∙ ap decimal value in
-    (omega arith, word_was bytes (decimal n) rest (s.1 ∙ ap Some (λ i. (word i, left i))))
+    let e = at_number t.0 n rest s.0.1 t.2 in
+    let was = number_was false 18446744073709551615 t.0 s.0.0 t.1 limit_small in
+    let word : s.0.0 ≡ decimal n = was.0 ∙ ap decimal e.0 in
+    (small_number t.0 n was.1 e.0, word_was bytes (decimal n) rest (s.1 ∙ ap Some (λ i. (word i, e.1 i))))

@@ -10,7 +10,7 @@ use Rattle.adr_token.specs.Laws.{TextsAreReadAgain, TextsWereSpelled}
 use Rattle.adr_token.proofs.QuoteLaws.{reads_back, was_spelled}
 use Rattle.adr_token.proofs.WordLaws.{bind_some, if_some}
 
-token_is : (text rest : List ℕ) → text_token text ++ rest ≡ 34 ∷ (flat_map escaped text ++ 34 ∷ rest)
+pub token_is : (text rest : List ℕ) → text_token text ++ rest ≡ 34 ∷ (flat_map escaped text ++ 34 ∷ rest)
 unfolding text_token
 token_is text rest = ap (λ (bs : List ℕ). 34 ∷ bs) (append_assoc (flat_map escaped text) (34 ∷ []) rest)
 

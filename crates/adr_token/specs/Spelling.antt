@@ -48,3 +48,12 @@ class_token number = name_or_number (class_name number) number
 
 unfoldable pub attribute_token : ℕ → List ℕ
 attribute_token number = name_or_number (attribute_name number) number
+
+-- values with commas between them
+abbrev pub values_token : List Item → List ℕ
+values_token [] = []
+values_token (value ∷ values) = value_token value ++ flat_map (λ v. codes "," ++ value_token v) values
+
+-- an attribute with its values
+unfoldable pub set_token : ℕ → List Item → List ℕ
+set_token attr values = attribute_token attr ++ codes "=" ++ values_token values

@@ -17,6 +17,6 @@ pub use laws::{identifiers_read_back, names_read_back, numbers_read_back, texts_
 pub use numbers::number_of;
 pub use stop::Stop;
 pub use texts::utf8;
-pub use values::{push_attribute, push_class, push_value};
+pub use values::{push_attribute, push_class, push_set, push_value};
 pub use words::{Line, is_digit, is_letter, without_spaces};
 pub use writing::{push, push_identifier, push_number, push_text};
