@@ -14,3 +14,6 @@ pub use adr_event::Event;
 pub use fault::{Cause, ParseRefusal, ScheduleFault};
 pub use parsing::parse;
 pub use printing::{events_are_read_again, print};
+
+#[cfg(test)]
+mod tests;
