@@ -5,10 +5,11 @@ use Rattle.std.specs.Option.{option_map, option_or}
 use Rattle.std.specs.List.{find}
 use Rattle.adr_schema.specs.declared.content.Value.{Value as Item}
 use Rattle.adr_schema.specs.declared.refusal.SchemaRefusal.{SchemaRefusal}
-use Rattle.adr_schema.specs.declared.refusal.SchemaRefusal.TheVariants.{UnknownClass, UnknownAttribute, NotAllowed, MissingMust, BadValue, IsLink, NotLink}
+use Rattle.adr_schema.specs.declared.refusal.SchemaRefusal.TheVariants.{UnknownClass, UnknownAttribute, NotAllowed, MissingMust, BadName, BadValue, IsLink, NotLink}
 use Rattle.adr_schema.specs.declared.table.Kind.{Kind}
 use Rattle.adr_schema.specs.declared.table.Kind.TheVariants.{Plain}
 use Rattle.adr_schema.specs.Assignments.{Given, given}
+use Rattle.adr_schema.specs.Names.{name_fault}
 use Rattle.adr_schema.specs.Table.{Table, class_at, is_forward, is_link, is_must, is_of, is_reserved, kind_at, must_of}
 use Rattle.adr_schema.specs.Values.{bad_place}
 
@@ -21,6 +22,10 @@ first_refusal (r ∷ rs) = option_or r (first_refusal rs)
 abbrev pub bad_place_of : Option Kind → List Item → Option ℕ
 bad_place_of (Some (Plain syntax most)) values = bad_place syntax most values
 bad_place_of _ values = None
+
+-- the name of an object
+abbrev pub name_refusal : List ℕ → Option SchemaRefusal
+name_refusal bytes = option_map BadName (name_fault bytes)
 
 -- a class
 abbrev pub class_refusal : Table → ℕ → Option SchemaRefusal

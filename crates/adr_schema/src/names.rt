@@ -1,17 +1,18 @@
 //! The names of classes and attributes, and the names that objects may have.
 
-ghost use Rattle.std.specs.Prelude.{◌≡◌, ◌<◌, ◌≤◌, ◌↔◌, List, length, ℕ};
+ghost use Rattle.std.specs.Prelude.{◌≡◌, ◌<◌, ◌≤◌, length};
 ghost use Rattle.std.specs.Option.{option_copied, option_map};
 ghost use Rattle.std.specs.Result.{result_err};
 ghost use Rattle.adr_schema.specs.Names.{attribute_name, attribute_number, class_name, class_number, is_wrong_byte, name_fault};
 ghost use Rattle.adr_schema.specs.Places.{first_place};
+ghost use Rattle.adr_schema.specs.Rules.{name_refusal};
 ghost use Rattle.adr_schema.specs.Schemas.{newest};
 ghost use Rattle.adr_schema.specs.Table.{kind_at};
 
 use crate::refusal::SchemaRefusal;
 use crate::table::{Kind, newest_table};
 
-/// The name of a class, of whichever schema has it.
+/// The name of a class, in any of the schemas.
 pub fn class_name(number: u16) -> Option<&'static str>
     ensures { option_copied result ≡ class_name number }
 {
@@ -19,7 +20,7 @@ pub fn class_name(number: u16) -> Option<&'static str>
     Some(class.name)
 }
 
-/// The number of a class.
+/// The number of a class, by its name as it is spelled.
 pub fn class_number(name: &[u8]) -> Option<u16>
     ensures { result ≡ class_number name.now }
 {
@@ -27,7 +28,7 @@ pub fn class_number(name: &[u8]) -> Option<u16>
     Some(class.number)
 }
 
-/// The name of an attribute, of whichever schema has it.
+/// The name of an attribute, in any of the schemas.
 pub fn attribute_name(number: u16) -> Option<&'static str>
     ensures { option_copied result ≡ attribute_name number }
 {
@@ -35,7 +36,7 @@ pub fn attribute_name(number: u16) -> Option<&'static str>
     Some(attribute.name)
 }
 
-/// The number of an attribute.
+/// The number of an attribute, by its name as it is spelled.
 pub fn attribute_number(name: &[u8]) -> Option<u16>
     ensures { result ≡ attribute_number name.now }
 {
@@ -43,18 +44,17 @@ pub fn attribute_number(name: &[u8]) -> Option<u16>
     Some(attribute.number)
 }
 
-/// What an attribute holds, of whichever schema has it.
+/// What an attribute holds, in any of the schemas.
 pub fn attribute_kind(number: u16) -> Option<Kind>
     ensures { result ≡ kind_at newest number }
 {
-    let attribute = newest_table().attribute(number)?;
-    Some(attribute.kind)
+    newest_table().kind(number)
 }
 
-/// Whether an object may have the name.
+/// Tests that an object may have a name. The rule is this project's own.
 #[tactic(auto, unfolding(crate::specs::Names::name_fault))]
 pub fn check_name(text: &str) -> Result<(), SchemaRefusal>
-    ensures { result_err result ≡ option_map SchemaRefusal.BadName (name_fault text.now) }
+    ensures { result_err result ≡ name_refusal text.now }
 {
     let bytes = text.as_bytes();
     if bytes.is_empty() {
@@ -89,10 +89,3 @@ fn is_wrong_byte(bytes: &[u8], place: usize) -> bool
     let byte = bytes[place];
     byte < 0x20 || byte == 0x7f || (byte == b' ' && (place == 0 || place + 1 == bytes.len()))
 }
-
-/// A name is read back as the number that it was written for, and a number is written as the name
-/// that it was read from.
-pub fn names_are_told_apart()
-    ensures classes { (number : ℕ) (name : List ℕ) → (class_name number ≡ Some name) ↔ (class_number name ≡ Some number) }
-    ensures attributes { (number : ℕ) (name : List ℕ) → (attribute_name number ≡ Some name) ↔ (attribute_number name ≡ Some number) }
-{}

@@ -1,6 +1,6 @@
 //! A schema: what objects of a class may contain, and where they may stand.
 
-ghost use Rattle.std.specs.Prelude.{◌≡◌, IsSome, is_none, IfOk, IsTrue, ◌↔◌, MatchResult, None, map};
+ghost use Rattle.std.specs.Prelude.{◌≡◌, is_none, map, Some};
 ghost use Rattle.std.specs.List.{find};
 ghost use Rattle.std.specs.Option.{option_copied, option_map};
 ghost use Rattle.std.specs.Result.{result_err};
@@ -17,7 +17,14 @@ use crate::table::{Kind, Syntax, TableData, table_numbered};
 use crate::values::bad_place;
 use std::marker::Model;
 
-/// One of the schemas that there are.
+/// The class that the root counts as, where it is asked what may stand under it.
+pub const ROOT_CLASS: u16 = 1;
+
+/// The class that LostAndFound counts as, where it is asked what may stand under it.
+pub const LOST_AND_FOUND_CLASS: u16 = 2;
+
+/// One of the schemas that there are, which are this project's own. A class that a schema does not
+/// have has no attributes and stands nowhere.
 #[derive(Clone, Copy, Debug, PartialEq, Eq)]
 pub struct Schema {
     number: u32,
@@ -65,8 +72,7 @@ impl Schema {
     fn kind(&self, attr: u16) -> Option<Kind>
         ensures { result ≡ kind_at self.now attr }
     {
-        let attribute = self.table().attribute(attr)?;
-        Some(attribute.kind)
+        self.table().kind(attr)
     }
 
     /// The attributes that objects of a class must have, rising.
@@ -97,8 +103,7 @@ impl Schema {
         }
     }
 
-    /// Whether an object of a class may stand under one of the class `parent`. The root counts as
-    /// class 1.
+    /// Whether an object of a class may stand under one of the class `parent`.
     pub fn superior(&self, class: u16, parent: u16) -> bool
         ensures { result ≡ is_superior self.now class parent }
     {
@@ -134,8 +139,8 @@ impl Schema {
         }
     }
 
-    /// Tests the values of one attribute, whatever must be there.
-    fn check_each(
+    /// Tests a list of values for an attribute, which may be empty.
+    fn check_list(
         &self,
         class: Option<u16>,
         attr: u16,
@@ -170,7 +175,7 @@ impl Schema {
     ) -> Result<(), SchemaRefusal>
         ensures { result_err result ≡ row_refusal self.now class attr values.now }
     {
-        self.check_each(class, attr, values)?;
+        self.check_list(class, attr, values)?;
         if values.is_empty() && self.is_must(class, attr) {
             return Err(SchemaRefusal::BadValue { attr, place: 0 });
         }
@@ -194,15 +199,21 @@ impl Schema {
         ensures { result_err result ≡ first_refusal (map (added_refusal self.now class) values.now) }
     {
         'attributes: for (attr, values) in values.entries() {
-            self.check_filled(class, *attr, values.items())?;
+            self.check_filled_list(class, *attr, values.items())?;
         }
         Ok(())
     }
 
-    fn check_filled(&self, class: u16, attr: u16, values: &[Value]) -> Result<(), SchemaRefusal>
+    /// Tests a list of values for an attribute, which may not be empty.
+    fn check_filled_list(
+        &self,
+        class: u16,
+        attr: u16,
+        values: &[Value],
+    ) -> Result<(), SchemaRefusal>
         ensures { result_err result ≡ added_refusal self.now class (attr, values.now) }
     {
-        self.check_each(Some(class), attr, values)?;
+        self.check_list(Some(class), attr, values)?;
         if values.is_empty() {
             return Err(SchemaRefusal::BadValue { attr, place: 0 });
         }
@@ -236,7 +247,7 @@ impl Schema {
         ensures { result_err result ≡ first_refusal (map (λ g. values_refusal self.now (Some class) g.0 g.1) values.now) }
     {
         'attributes: for (attr, values) in values.entries() {
-            self.check_each(Some(class), *attr, values.items())?;
+            self.check_list(Some(class), *attr, values.items())?;
         }
         Ok(())
     }

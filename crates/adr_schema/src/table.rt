@@ -1,10 +1,14 @@
-//! The tables of the schemas, and the look-ups in them.
+//! The tables of the schemas, and the look-ups in them. A further schema is a further table, with its
+//! arm in `table_numbered`.
 
 ghost use Rattle.std.specs.Prelude.{◌≡◌};
 ghost use Rattle.std.specs.Option.{option_copied, option_map};
-ghost use Rattle.adr_schema.specs.Table.{attribute_at, attribute_named, class_at, class_named};
+ghost use Rattle.adr_schema.specs.Table.{attribute_at, attribute_named, class_at, class_named, kind_at};
 ghost use Rattle.adr_schema.specs.Schemas.{newest, schema_1, schema_table};
 ghost use Rattle.adr_schema.specs.View.{attribute_of, class_of, table_of};
+
+use Kind::{Back, Forward, Plain, Reserved};
+use Syntax::{Flag, Number, Octets, Ref, Text};
 
 /// What a value of an attribute is, and its range; of texts and octets in bytes.
 #[derive(Clone, Copy, Debug, PartialEq, Eq)]
@@ -60,24 +64,24 @@ static SCHEMA_1: TableData = TableData {
         ClassEntry { number: 7, name: "computer", must: &[10], may: &[12, 16, 17, 20], superiors: &[1, 3, 4] },
     ],
     attributes: &[
-        AttributeEntry { number: 1, name: "class", kind: Kind::Reserved },
-        AttributeEntry { number: 2, name: "name", kind: Kind::Reserved },
-        AttributeEntry { number: 3, name: "deleted", kind: Kind::Reserved },
-        AttributeEntry { number: 10, name: "sAMAccountName", kind: Kind::Plain { syntax: Syntax::Text { least: 1, greatest: 20 }, most: 1 } },
-        AttributeEntry { number: 11, name: "displayName", kind: Kind::Plain { syntax: Syntax::Text { least: 1, greatest: 256 }, most: 1 } },
-        AttributeEntry { number: 12, name: "description", kind: Kind::Plain { syntax: Syntax::Text { least: 1, greatest: 256 }, most: 8 } },
-        AttributeEntry { number: 13, name: "mail", kind: Kind::Plain { syntax: Syntax::Text { least: 1, greatest: 256 }, most: 1 } },
-        AttributeEntry { number: 14, name: "telephoneNumber", kind: Kind::Plain { syntax: Syntax::Text { least: 1, greatest: 64 }, most: 8 } },
-        AttributeEntry { number: 15, name: "employeeNumber", kind: Kind::Plain { syntax: Syntax::Number { least: 0, greatest: 999_999_999 }, most: 1 } },
-        AttributeEntry { number: 16, name: "disabled", kind: Kind::Plain { syntax: Syntax::Flag, most: 1 } },
-        AttributeEntry { number: 17, name: "thumbprint", kind: Kind::Plain { syntax: Syntax::Octets { least: 1, greatest: 64 }, most: 4 } },
-        AttributeEntry { number: 18, name: "seeAlso", kind: Kind::Plain { syntax: Syntax::Ref, most: 8 } },
-        AttributeEntry { number: 19, name: "groupType", kind: Kind::Plain { syntax: Syntax::Number { least: -2_147_483_648, greatest: 2_147_483_647 }, most: 1 } },
-        AttributeEntry { number: 20, name: "location", kind: Kind::Plain { syntax: Syntax::Text { least: 1, greatest: 128 }, most: 1 } },
-        AttributeEntry { number: 30, name: "member", kind: Kind::Forward { back: 31 } },
-        AttributeEntry { number: 31, name: "memberOf", kind: Kind::Back { forward: 30 } },
-        AttributeEntry { number: 32, name: "manager", kind: Kind::Forward { back: 33 } },
-        AttributeEntry { number: 33, name: "directReports", kind: Kind::Back { forward: 32 } },
+        AttributeEntry { number: 1, name: "class", kind: Reserved },
+        AttributeEntry { number: 2, name: "name", kind: Reserved },
+        AttributeEntry { number: 3, name: "deleted", kind: Reserved },
+        AttributeEntry { number: 10, name: "sAMAccountName", kind: Plain { syntax: Text { least: 1, greatest: 20 }, most: 1 } },
+        AttributeEntry { number: 11, name: "displayName", kind: Plain { syntax: Text { least: 1, greatest: 256 }, most: 1 } },
+        AttributeEntry { number: 12, name: "description", kind: Plain { syntax: Text { least: 1, greatest: 256 }, most: 8 } },
+        AttributeEntry { number: 13, name: "mail", kind: Plain { syntax: Text { least: 1, greatest: 256 }, most: 1 } },
+        AttributeEntry { number: 14, name: "telephoneNumber", kind: Plain { syntax: Text { least: 1, greatest: 64 }, most: 8 } },
+        AttributeEntry { number: 15, name: "employeeNumber", kind: Plain { syntax: Number { least: 0, greatest: 999_999_999 }, most: 1 } },
+        AttributeEntry { number: 16, name: "disabled", kind: Plain { syntax: Flag, most: 1 } },
+        AttributeEntry { number: 17, name: "thumbprint", kind: Plain { syntax: Octets { least: 1, greatest: 64 }, most: 4 } },
+        AttributeEntry { number: 18, name: "seeAlso", kind: Plain { syntax: Ref, most: 8 } },
+        AttributeEntry { number: 19, name: "groupType", kind: Plain { syntax: Number { least: -2_147_483_648, greatest: 2_147_483_647 }, most: 1 } },
+        AttributeEntry { number: 20, name: "location", kind: Plain { syntax: Text { least: 1, greatest: 128 }, most: 1 } },
+        AttributeEntry { number: 30, name: "member", kind: Forward { back: 31 } },
+        AttributeEntry { number: 31, name: "memberOf", kind: Back { forward: 30 } },
+        AttributeEntry { number: 32, name: "manager", kind: Forward { back: 33 } },
+        AttributeEntry { number: 33, name: "directReports", kind: Back { forward: 32 } },
     ],
 };
 
@@ -105,6 +109,14 @@ pub fn newest_table() -> &'static TableData
 }
 
 impl TableData {
+    /// What an attribute holds.
+    pub fn kind(&self, attr: u16) -> Option<Kind>
+        ensures { result ≡ kind_at (table_of self.now) attr }
+    {
+        let attribute = self.attribute(attr)?;
+        Some(attribute.kind)
+    }
+
     pub fn class(&self, number: u16) -> Option<&'static ClassEntry>
         ensures { option_map class_of (option_copied result) ≡ class_at (table_of self.now) number }
     {

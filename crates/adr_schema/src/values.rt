@@ -39,19 +39,16 @@ fn fits(syntax: Syntax, value: &Value) -> bool
     ensures { result ≡ fits syntax value.now }
 {
     match (syntax, value) {
-        (Syntax::Text { least, greatest }, Value::Text(text)) => is_within(
-            text.items().len(),
-            least,
-            greatest,
-        ),
-        (Syntax::Number { least, greatest }, Value::Number(number)) => least <= *number
-            && *number <= greatest,
+        (Syntax::Text { least, greatest }, Value::Text(text)) => {
+            is_within(text.items().len(), least, greatest)
+        }
+        (Syntax::Number { least, greatest }, Value::Number(number)) => {
+            least <= *number && *number <= greatest
+        }
         (Syntax::Flag, Value::Flag(_)) => true,
-        (Syntax::Octets { least, greatest }, Value::Octets(octets)) => is_within(
-            octets.items().len(),
-            least,
-            greatest,
-        ),
+        (Syntax::Octets { least, greatest }, Value::Octets(octets)) => {
+            is_within(octets.items().len(), least, greatest)
+        }
         (Syntax::Ref, Value::Ref(_)) => true,
         _ => false,
     }

@@ -5,7 +5,7 @@ use Rattle.std.proofs.lemmas.Slice.Eq.{bytes_eq-Decides}
 use Rattle.adr_schema.specs.Table.{Class, Attribute}
 use Rattle.adr_schema.specs.Schemas.{newest, schema_1}
 use Rattle.adr_schema.proofs.Apart.{found_by_other}
-use Rattle.adr_schema.proofs.names.names_are_told_apart.Goals as goal
+use Rattle.adr_schema.proofs.laws.names_are_told_apart.Goals as goal
 
 pub returns-clause-classes : goal.returns-clause-classes
 unfolding schema_1
