@@ -5,6 +5,7 @@ use Rattle.std.specs.Fmt.{decimal}
 use Rattle.std.specs.Str.{bytes_eq}
 use Rattle.std.proofs.lemmas.List.{append-nil}
 use Rattle.adr_schema.specs.Schemas.{schema_1}
+use Rattle.adr_schema.specs.declared.content.Value.TheVariants.{Text}
 use Rattle.adr_event.specs.declared.event.Event.{Event}
 use Rattle.adr_event.specs.declared.event.Event.TheVariants.{Controller, Time, Add, Show}
 use Rattle.adr_token.specs.Gives.{◌>>=◌}
@@ -19,7 +20,7 @@ use Rattle.adr_token.proofs.DigitLaws.{numbers_again, numbers_spelled}
 use Rattle.adr_token.proofs.IdentifierLaws.{identifiers_again, identifiers_spelled}
 use Rattle.adr_token.proofs.TextLaws.{texts_again, texts_spelled, token_is}
 use Rattle.adr_schedule.specs.Commands.{account, add_line, by_verb, controller_line, event_of, is_taken, show_line, time_line}
-use Rattle.adr_schedule.specs.Printed.{account_set, line_of, spaced}
+use Rattle.adr_schedule.specs.Printed.{set_tokens, line_of, spaced}
 
 -- the parts of an event have spellings
 abbrev pub Spells : Event → Type 0
@@ -30,6 +31,9 @@ Spells (Add name guid class parent text values) =
     × ((value : List ℕ) × (values ≡ account value) × (is_text value ≡ true) × (is_taken parent text value ≡ true))
 Spells (Show name) = is_name name ≡ true
 
+same_event : (x e : Event) → x ≡ e → Spells x → Spells e
+same_event x e p h = subst Spells p h
+
 -- what a line said
 controller_was : (bytes : List ℕ) (e : Event) → controller_line bytes ≡ Some e → Spells e
 unfolding controller_line
@@ -38,21 +42,21 @@ controller_was bytes e h =
     let t = bind_some (identifier_at s.0.1) (λ dsa. identifier_at dsa.1 >>= λ inv. ended inv.1 (Controller s.0.0 dsa.0 inv.0)) e s.2 in
     let u = bind_some (identifier_at t.0.1) (λ inv. ended inv.1 (Controller s.0.0 t.0.0 inv.0)) e t.2 in
     let v = if_some (length (unspaced u.0.1) == 0) (Controller s.0.0 t.0.0 u.0.0) e u.2 in
-    subst Spells v.1 ((names_spelled bytes s.0.0 s.0.1 s.1).0, (identifiers_spelled s.0.1 t.0.0 t.0.1 t.1).0, (identifiers_spelled t.0.1 u.0.0 u.0.1 u.1).0)
+    same_event (Controller s.0.0 t.0.0 u.0.0) e v.1 ((names_spelled bytes s.0.0 s.0.1 s.1).0, (identifiers_spelled s.0.1 t.0.0 t.0.1 t.1).0, (identifiers_spelled t.0.1 u.0.0 u.0.1 u.1).0)
 
 time_was : (bytes : List ℕ) (e : Event) → time_line bytes ≡ Some e → Spells e
 unfolding time_line
 time_was bytes e h =
     let s = bind_some (number_at bytes) (λ now. ended now.1 (Time now.0)) e h in
     let v = if_some (length (unspaced s.0.1) == 0) (Time s.0.0) e s.2 in
-    subst Spells v.1 (numbers_spelled bytes s.0.0 s.0.1 s.1).0
+    same_event (Time s.0.0) e v.1 (numbers_spelled bytes s.0.0 s.0.1 s.1).0
 
 show_was : (bytes : List ℕ) (e : Event) → show_line bytes ≡ Some e → Spells e
 unfolding show_line
 show_was bytes e h =
     let s = bind_some (name_at bytes) (λ name. ended name.1 (Show name.0)) e h in
     let v = if_some (length (unspaced s.0.1) == 0) (Show s.0.0) e s.2 in
-    subst Spells v.1 (names_spelled bytes s.0.0 s.0.1 s.1).0
+    same_event (Show s.0.0) e v.1 (names_spelled bytes s.0.0 s.0.1 s.1).0
 
 -- the steps of an `add` line, from its end
 abbrev Token : Type 0
@@ -96,7 +100,7 @@ add_was bytes e h =
     let d = bind_some (ended v.0.1 (add_of n.0 g.0 p.0 t.0 v.0)) (λ add. if is_taken p.0.0 t.0.0 v.0.0 then Some add else None) e v.2 in
     let taken = if_some (is_taken p.0.0 t.0.0 v.0.0) d.0 e d.2 in
     let last = if_some (length (unspaced v.0.1) == 0) (add_of n.0 g.0 p.0 t.0 v.0) d.0 d.1 in
-    subst Spells (last.1 ∙ taken.1) (
+    same_event (add_of n.0 g.0 p.0 t.0 v.0) e (last.1 ∙ taken.1) (
       (names_spelled bytes n.0.0 n.0.1 n.1).0,
       (identifiers_spelled n.0.1 g.0.0 g.0.1 g.1).0,
       refl,
@@ -163,28 +167,28 @@ show_again : (name : List ℕ) → Spells (Show name) → show_line (spaced (nam
 unfolding show_line
 show_again name h = rw (name_field name [] h refl) refl
 
-pub account_is : (value : List ℕ) → account_set (account value) ≡ codes "sAMAccountName=" ++ (text_token value ++ [])
+pub account_is : (value : List ℕ) → set_token 10 (Text value ∷ []) ≡ codes "sAMAccountName=" ++ (text_token value ++ [])
 unfolding set_token attribute_token value_token schema_1
 account_is value = refl
 
 value_read : (value : List ℕ) → is_text value ≡ true → text_at (text_token value) ≡ Some (value, [])
 value_read value h = ap text_at (sym (append-nil (text_token value))) ∙ texts_again value [] h refl
 
-set_field : (value : List ℕ) → prefix_at (codes "sAMAccountName=") (unspaced ((codes " " ++ account_set (account value)) ++ [])) ≡ Some (tt, text_token value)
+set_field : (value : List ℕ) → prefix_at (codes "sAMAccountName=") (unspaced ((codes " " ++ set_token 10 (Text value ∷ [])) ++ [])) ≡ Some (tt, text_token value)
 set_field value =
     rw (account_is value, append-nil (text_token value), append-nil (codes "sAMAccountName=" ++ text_token value)) refl
 
 add_again : (name guid parent text value : List ℕ) → is_name name ≡ true → IsIdentifier guid → IsIdentifier parent → is_text text ≡ true → is_text value ≡ true → is_taken parent text value ≡ true
-    → add_line (spaced (name ∷ identifier_token guid ∷ class_token 5 ∷ identifier_token parent ∷ text_token text ∷ account_set (account value) ∷ []))
+    → add_line (spaced (name ∷ identifier_token guid ∷ class_token 5 ∷ identifier_token parent ∷ text_token text ∷ set_tokens (account value)))
     ≡ Some (Add name guid 5 parent text (account value))
 unfolding add_line
 add_again name guid parent text value n g p t v taken =
     rw (
-      name_field name (spaced (identifier_token guid ∷ class_token 5 ∷ identifier_token parent ∷ text_token text ∷ account_set (account value) ∷ [])) n refl,
-      identifier_field guid (spaced (class_token 5 ∷ identifier_token parent ∷ text_token text ∷ account_set (account value) ∷ [])) g refl,
-      user_field (spaced (identifier_token parent ∷ text_token text ∷ account_set (account value) ∷ [])) refl,
-      identifier_field parent (spaced (text_token text ∷ account_set (account value) ∷ [])) p refl,
-      text_field text (spaced (account_set (account value) ∷ [])) t refl,
+      name_field name (spaced (identifier_token guid ∷ class_token 5 ∷ identifier_token parent ∷ text_token text ∷ set_tokens (account value))) n refl,
+      identifier_field guid (spaced (class_token 5 ∷ identifier_token parent ∷ text_token text ∷ set_tokens (account value))) g refl,
+      user_field (spaced (identifier_token parent ∷ text_token text ∷ set_tokens (account value))) refl,
+      identifier_field parent (spaced (text_token text ∷ set_tokens (account value))) p refl,
+      text_field text (spaced (set_tokens (account value))) t refl,
       set_field value,
       value_read value v,
       taken,
@@ -200,6 +204,6 @@ event_again (Controller name dsa inv) h =
     rw (verb_again (codes "controller") name (identifier_token dsa ∷ identifier_token inv ∷ []) refl (omega arith)) (controller_again name dsa inv h)
 event_again (Time now) h = rw (verb_again (codes "time") (decimal now) [] refl (omega arith)) (time_again now h)
 event_again (Add name guid class parent text values) h =
-    rw (h.2, h.5.1, verb_again (codes "add") name (identifier_token guid ∷ class_token 5 ∷ identifier_token parent ∷ text_token text ∷ account_set (account h.5.0) ∷ []) refl (omega arith))
+    rw (h.2, h.5.1, verb_again (codes "add") name (identifier_token guid ∷ class_token 5 ∷ identifier_token parent ∷ text_token text ∷ set_tokens (account h.5.0)) refl (omega arith))
     (add_again name guid parent text h.5.0 h.0 h.1 h.3 h.4 h.5.2 h.5.3)
 event_again (Show name) h = rw (verb_again (codes "show") name [] refl (omega arith)) (show_again name h)

@@ -3,3 +3,4 @@ pub mod EventLemmas
 pub mod PlainBytes
 pub mod EventLaws
 pub mod PrintLaws
+pub mod SetLemmas

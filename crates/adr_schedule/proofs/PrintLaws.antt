@@ -6,11 +6,12 @@ use Rattle.std.specs.Str.{is_utf8}
 use Rattle.std.proofs.lemmas.Bool.{and_parts, le-ltb, ne_eqb, not-true}
 use Rattle.std.proofs.lemmas.Str.{is_utf8-from_IsUtf8}
 use Rattle.adr_schema.specs.Schemas.{schema_1}
+use Rattle.adr_schema.specs.declared.content.Value.TheVariants.{Text}
 use Rattle.adr_event.specs.declared.event.Event.{Event}
 use Rattle.adr_event.specs.declared.event.Event.TheVariants.{Controller, Time, Add, Show}
 use Rattle.adr_token.specs.Words.{is_name}
 use Rattle.adr_token.specs.Texts.{is_text}
-use Rattle.adr_token.specs.Spelling.{class_token, identifier_token, text_token}
+use Rattle.adr_token.specs.Spelling.{class_token, identifier_token, set_token, text_token}
 use Rattle.adr_token.proofs.WordLaws.{are_graphic, name_graphic}
 use Rattle.adr_token.proofs.DigitLaws.{digits_graphic}
 use Rattle.adr_token.proofs.IdentifierLaws.{token_graphic}
@@ -21,7 +22,7 @@ use Rattle.adr_schedule.specs.Lines.{is_line_feed, lines_of}
 use Rattle.adr_schedule.specs.Commands.{account, event_of, is_passed}
 use Rattle.adr_schedule.specs.Seen.{Seen, nothing_seen, cause_after, seen_after}
 use Rattle.adr_schedule.specs.Events.{before, events_from, events_of, followed, line_after, on_line, unless}
-use Rattle.adr_schedule.specs.Printed.{account_set, EventsAreReadAgain, line_of, printed, spaced}
+use Rattle.adr_schedule.specs.Printed.{set_tokens, EventsAreReadAgain, line_of, printed, spaced}
 use Rattle.adr_schedule.proofs.EventLaws.{Spells, account_is, event_again, event_was}
 use Rattle.adr_schedule.proofs.PlainBytes.{IsPlain, field_plain, graphic_plain, is_feedless, nothing_plain, plain_append, text_plain}
 
@@ -36,7 +37,7 @@ class_plain : IsPlain (class_token 5)
 unfolding class_token schema_1
 class_plain = graphic_plain (codes "user") refl
 
-account_plain : (value : List ℕ) → is_text value ≡ true → IsPlain (account_set (account value))
+account_plain : (value : List ℕ) → is_text value ≡ true → IsPlain (set_token 10 (Text value ∷ []))
 account_plain value h =
     subst IsPlain (sym (account_is value))
     (plain_append (codes "sAMAccountName=") (text_token value ++ []) (graphic_plain (codes "sAMAccountName=") refl) (plain_append (text_token value) [] (text_plain value h) nothing_plain))
@@ -53,13 +54,13 @@ line_plain (Time now) h =
     verb_plain (codes "time") (spaced (decimal now ∷ [])) refl (field_plain (decimal now) [] (graphic_plain (decimal now) (digits_graphic false now h).0) nothing_plain)
 line_plain (Add name guid class parent text values) h =
     rw (h.2, h.5.1)
-    (verb_plain (codes "add") (spaced (name ∷ identifier_token guid ∷ class_token 5 ∷ identifier_token parent ∷ text_token text ∷ account_set (account h.5.0) ∷ [])) refl
-    (name_plain name (spaced (identifier_token guid ∷ class_token 5 ∷ identifier_token parent ∷ text_token text ∷ account_set (account h.5.0) ∷ [])) h.0
-    (identifier_plain guid (spaced (class_token 5 ∷ identifier_token parent ∷ text_token text ∷ account_set (account h.5.0) ∷ []))
-    (field_plain (class_token 5) (spaced (identifier_token parent ∷ text_token text ∷ account_set (account h.5.0) ∷ [])) class_plain
-    (identifier_plain parent (spaced (text_token text ∷ account_set (account h.5.0) ∷ []))
-    (field_plain (text_token text) (spaced (account_set (account h.5.0) ∷ [])) (text_plain text h.4)
-    (field_plain (account_set (account h.5.0)) [] (account_plain h.5.0 h.5.2) nothing_plain)))))))
+    (verb_plain (codes "add") (spaced (name ∷ identifier_token guid ∷ class_token 5 ∷ identifier_token parent ∷ text_token text ∷ set_tokens (account h.5.0))) refl
+    (name_plain name (spaced (identifier_token guid ∷ class_token 5 ∷ identifier_token parent ∷ text_token text ∷ set_tokens (account h.5.0))) h.0
+    (identifier_plain guid (spaced (class_token 5 ∷ identifier_token parent ∷ text_token text ∷ set_tokens (account h.5.0)))
+    (field_plain (class_token 5) (spaced (identifier_token parent ∷ text_token text ∷ set_tokens (account h.5.0))) class_plain
+    (identifier_plain parent (spaced (text_token text ∷ set_tokens (account h.5.0)))
+    (field_plain (text_token text) (spaced (set_tokens (account h.5.0))) (text_plain text h.4)
+    (field_plain (set_token 10 (Text h.5.0 ∷ [])) [] (account_plain h.5.0 h.5.2) nothing_plain)))))))
 line_plain (Show name) h = verb_plain (codes "show") (spaced (name ∷ [])) refl (name_plain name [] h nothing_plain)
 
 -- it isn't passed over
@@ -72,7 +73,7 @@ line_says : (e : Event) → is_passed (line_of e) ≡ false
 unfolding line_of
 line_says (Controller name dsa inv) = letter_first 99 (codes "ontroller" ++ spaced (name ∷ identifier_token dsa ∷ identifier_token inv ∷ [])) refl refl
 line_says (Time now) = letter_first 116 (codes "ime" ++ spaced (decimal now ∷ [])) refl refl
-line_says (Add name guid class parent text values) = letter_first 97 (codes "dd" ++ spaced (name ∷ identifier_token guid ∷ class_token class ∷ identifier_token parent ∷ text_token text ∷ account_set values ∷ [])) refl refl
+line_says (Add name guid class parent text values) = letter_first 97 (codes "dd" ++ spaced (name ∷ identifier_token guid ∷ class_token class ∷ identifier_token parent ∷ text_token text ∷ set_tokens values)) refl refl
 line_says (Show name) = letter_first 115 (codes "how" ++ spaced (name ∷ [])) refl refl
 
 line_told : (seen : Seen) (e : Event) → Spells e → cause_after seen e ≡ None → line_after seen (line_of e) ≡ Ok (Some e)

@@ -1,7 +1,7 @@
 -- The text of some events: one space between tokens, and a line feed after every line.
-use Rattle.std.specs.Prelude.{◌≡◌, ◌≤◌, ℕ, List, [], ◌∷◌, ◌++◌, length, flat_map, unwrap_or, codes, Ok}
+use Rattle.std.specs.Prelude.{◌≡◌, ◌≤◌, ℕ, List, [], ◌∷◌, ◌++◌, length, map, flat_map, codes, Ok}
 use Rattle.std.specs.Fmt.{decimal}
-use Rattle.adr_schema.specs.Assignments.{Given, given}
+use Rattle.adr_schema.specs.Assignments.{Given}
 use Rattle.adr_event.specs.declared.event.Event.{Event}
 use Rattle.adr_event.specs.declared.event.Event.TheVariants.{Controller, Time, Add, Show}
 use Rattle.adr_token.specs.Spelling.{class_token, identifier_token, set_token, text_token}
@@ -11,16 +11,15 @@ use Rattle.adr_schedule.specs.Events.{events_of}
 abbrev pub spaced : List (List ℕ) → List ℕ
 spaced tokens = flat_map (λ token. codes " " ++ token) tokens
 
--- sAMAccountName with its values: no other attribute is given so far
-abbrev pub account_set : List Given → List ℕ
-account_set values = set_token 10 (unwrap_or (given 10 values) [])
+-- each attribute with its values
+abbrev pub set_tokens : List Given → List (List ℕ)
+set_tokens values = map (λ given. set_token given.0 given.1) values
 
 unfoldable pub line_of : Event → List ℕ
 line_of (Controller name dsa inv) = codes "controller" ++ spaced (name ∷ identifier_token dsa ∷ identifier_token inv ∷ [])
 line_of (Time now) = codes "time" ++ spaced (decimal now ∷ [])
 line_of (Add name guid class parent text values) =
-    codes "add"
-    ++ spaced (name ∷ identifier_token guid ∷ class_token class ∷ identifier_token parent ∷ text_token text ∷ account_set values ∷ [])
+    codes "add" ++ spaced (name ∷ identifier_token guid ∷ class_token class ∷ identifier_token parent ∷ text_token text ∷ set_tokens values)
 line_of (Show name) = codes "show" ++ spaced (name ∷ [])
 
 abbrev pub printed : List Event → List ℕ

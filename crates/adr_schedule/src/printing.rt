@@ -1,13 +1,12 @@
 //! The text of some events.
 
-ghost use Rattle.std.specs.Prelude.{◌≡◌, ◌++◌, ◌∷◌, [], ℕ, List, IfOk, OnOk, codes, flat_map, take, unwrap_or};
+ghost use Rattle.std.specs.Prelude.{◌≡◌, ◌++◌, ◌∷◌, [], ℕ, List, IfOk, OnOk, codes, flat_map, take};
 ghost use Rattle.std.specs.Fmt.{decimal};
-ghost use Rattle.adr_schema.specs.Assignments.{given};
-ghost use Rattle.adr_token.specs.Spelling.{class_token, identifier_token, text_token};
-ghost use Rattle.adr_schedule.specs.Printed.{EventsAreReadAgain, account_set, line_of, printed, spaced};
+ghost use Rattle.adr_token.specs.Spelling.{class_token, identifier_token, set_token, text_token};
+ghost use Rattle.adr_schedule.specs.Printed.{EventsAreReadAgain, line_of, printed, set_tokens, spaced};
 
 use adr_event::Event;
-use adr_schema::{Assignments, NoMemory, Text};
+use adr_schema::{Assignments, NoMemory, Text, Value};
 use adr_token::{push, push_class, push_identifier, push_number, push_set, push_text};
 use std::alloc::Global;
 use uuid::Uuid;
@@ -26,14 +25,27 @@ fn push_spaced_identifier(alloc: Global, out: &mut Vec<u8>, id: Uuid) -> Result<
     push_identifier(alloc, out, id)
 }
 
-fn push_account(alloc: Global, out: &mut Vec<u8>, values: &Assignments) -> Result<(), NoMemory>
-    ensures { OnOk result (out.new.items ≡ out.old.items ++ (codes " " ++ account_set values.now)) }
+fn push_spaced_set(
+    alloc: Global,
+    out: &mut Vec<u8>,
+    attr: u16,
+    values: &[Value],
+) -> Result<(), NoMemory>
+    ensures { OnOk result (out.new.items ≡ out.old.items ++ (codes " " ++ set_token attr values.now)) }
 {
     push(out, b" ")?;
-    match values.get(10) {
-        Some(list) => push_set(alloc, out, 10, list),
-        None => push_set(alloc, out, 10, &[]),
+    push_set(alloc, out, attr, values)
+}
+
+fn push_sets(alloc: Global, out: &mut Vec<u8>, values: &Assignments) -> Result<(), NoMemory>
+    ensures { OnOk result (out.new.items ≡ out.old.items ++ spaced (set_tokens values.now)) }
+{
+    let mut above = None;
+    'attributes: while let Some((attr, list)) = values.next(above) {
+        push_spaced_set(alloc, out, attr, list)?;
+        above = Some(attr);
     }
+    Ok(())
 }
 
 fn push_controller(
@@ -96,7 +108,7 @@ fn push_line(alloc: Global, out: &mut Vec<u8>, event: &Event) -> Result<(), NoMe
             push(out, b"add")?;
             push_name(out, name)?;
             push_object(alloc, out, *guid, *class, *parent, text)?;
-            push_account(alloc, out, values)
+            push_sets(alloc, out, values)
         }
         Event::Show { name } => {
             push(out, b"show")?;
