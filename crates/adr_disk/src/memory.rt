@@ -1,0 +1,28 @@
+//! A disk in memory, for which a crash or a failure can be planned.
+
+/// What a crash does with the writes that no sync has followed. The interrupted one is among them.
+#[derive(Clone, Copy, Debug, PartialEq, Eq)]
+pub enum Crash {
+    /// All are there.
+    Kept,
+    /// None is.
+    Lost,
+    /// Of each the first half, rounded down, is as written, and the rest holds 0xC3.
+    Torn,
+}
+
+/// What becomes of the call that a plan meets.
+#[derive(Clone, Copy, Debug, PartialEq, Eq)]
+pub enum Mishap {
+    /// It fails, and changes nothing.
+    Failure,
+    /// The disk crashes within it.
+    Crash(Crash),
+}
+
+/// So many writes and syncs pass, and the next meets a mishap.
+#[derive(Clone, Copy, Debug, PartialEq, Eq)]
+pub struct Plan {
+    pub calls: u32,
+    pub mishap: Mishap,
+}
