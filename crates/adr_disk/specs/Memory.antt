@@ -55,9 +55,12 @@ abbrev pub IsImageOfOne : List Surface → List ℕ → Type 0
 IsImageOfOne [] bytes = ⊥
 IsImageOfOne (s ∷ ss) bytes = IsImage s bytes ⊎ IsImageOfOne ss bytes
 
--- a write of which the first half, rounded down, is as written, and the rest holds 0xC3
+-- the first half, rounded down, and 0xC3 in place of the rest
+abbrev pub torn_half : List ℕ → List ℕ
+torn_half bytes = take (length bytes / 2) bytes ++ replicate (length bytes - length bytes / 2) 0xC3
+
 abbrev pub torn_write : Write → Write
-torn_write w = record { at = w.at; bytes = take (length w.bytes / 2) w.bytes ++ replicate (length w.bytes - length w.bytes / 2) 0xC3 }
+torn_write w = record { at = w.at; bytes = torn_half w.bytes }
 
 -- what a crash leaves
 abbrev pub left_by : HowToCrash → Surface → List ℕ

@@ -3,7 +3,8 @@
 
 ghost use Rattle.std.specs.Prelude.{◌≡◌, ℕ, ◌+◌, ◌-◌, ◌/◌, ◌≤◌, ◌<◌, ◌^◌, ◌⊎◌, List, ◌++◌, length, take, drop, map, min, All, OnOk, OnErr, IfOk, vec_len, vec_capacity};
 ghost use Rattle.adr_disk.specs.Disk.{put as put_over, IsSpare};
-ghost use Rattle.adr_disk.specs.Memory.{Held, Write, over, read_of, torn_write, all_synced, after_write, after_end, HoldsAs};
+ghost use Rattle.adr_disk.specs.Memory.{Held, Write, over, read_of, torn_half, torn_write, all_synced, after_write, after_end, HoldsAs};
+ghost use Rattle.adr_disk.specs.Platter.{IsInRange, write_of};
 
 use crate::Crash;
 use std::alloc::{AllocError, Global};
@@ -59,5 +60,43 @@ fn put(bytes: &mut Vec<u8>, at: usize, new: &[u8])
     } else {
         bytes.truncate(at);
         bytes.extend_from_slice(new).unwrap();
+    }
+}
+
+/// Writes the first half of the bytes over what is there, and fills the rest of the range.
+fn put_torn(bytes: &mut Vec<u8>, at: usize, new: &[u8])
+    requires fits { at + length new.now < 2 ^ 64 }
+    requires room { length (put_over bytes.old.items at new.now) ≤ vec_capacity bytes.old }
+    ensures items { bytes.new.items ≡ put_over bytes.old.items at (torn_half new.now) }
+    ensures capacity { vec_capacity bytes.old ≤ vec_capacity bytes.new }
+{
+    let half = new.len() / 2;
+    put(bytes, at, &new[..half]);
+    'rest: for place in half..new.len() {
+        put(bytes, at + place, &[FILLER]);
+    }
+}
+
+/// Applies the writes to what they are written over, as a sync does and a crash that keeps them.
+fn keep(safe: &mut Vec<u8>, entries: &[Entry], log: &[u8])
+    requires in_range { All (IsInRange (length log.now)) entries.now }
+    requires room { length (over safe.old.items (map (write_of log.now) entries.now)) ≤ vec_capacity safe.old }
+    ensures items { safe.new.items ≡ over safe.old.items (map (write_of log.now) entries.now) }
+    ensures capacity { vec_capacity safe.old ≤ vec_capacity safe.new }
+{
+    'writes: for entry in entries {
+        put(safe, entry.at, &log[entry.from..entry.from + entry.len]);
+    }
+}
+
+/// Applies a torn form of the writes.
+fn tear(safe: &mut Vec<u8>, entries: &[Entry], log: &[u8])
+    requires in_range { All (IsInRange (length log.now)) entries.now }
+    requires room { length (over safe.old.items (map (write_of log.now) entries.now)) ≤ vec_capacity safe.old }
+    ensures items { safe.new.items ≡ over safe.old.items (map torn_write (map (write_of log.now) entries.now)) }
+    ensures capacity { vec_capacity safe.old ≤ vec_capacity safe.new }
+{
+    'writes: for entry in entries {
+        put_torn(safe, entry.at, &log[entry.from..entry.from + entry.len]);
     }
 }
