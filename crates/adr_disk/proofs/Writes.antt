@@ -69,12 +69,14 @@ module _ (log s now : List ℕ) (es : List Entry) (i : ℕ) (d : Entry) (lt : i 
   tear_fits is =
       let whole = over s (map (write_of log) (take i es)) in
       let whole_fits : length (put whole (get_or es i d).at (part log (get_or es i d))) ≤ length (over s (map (write_of log) es)) = kept_fits log s es i d lt in
-      omega (arith,
+      omega (
+        arith,
         ap length is,
         length-over_torn (map (write_of log) (take i es)) s s refl,
         length-put now (get_or es i d).at (part log (get_or es i d)),
         length-put whole (get_or es i d).at (part log (get_or es i d)),
-        whole_fits)
+        whole_fits,
+      )
 
 -- a torn write as far as a place behind its half
 abbrev pub filled : ℕ → ℕ → List ℕ → List ℕ

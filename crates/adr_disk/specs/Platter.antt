@@ -60,3 +60,7 @@ pub record IsWhole (a : Inside) : Type 0 where
   pub bytes : a.bytes.items ≡ over a.safe.items (surface_of a).written
   -- what was synced finds room for the unsynced writes
   pub room : length a.bytes.items ≤ vec_capacity a.safe
+
+-- the last write ended so
+abbrev pub EndsLast : HowToCrash → List Entry → List Entry → Type 0
+EndsLast how old new = (front : List Entry) × (last : Entry) × (old ≡ front ++ last ∷ []) × (new ≡ front ++ (record last { end = Some how }) ∷ [])

@@ -6,5 +6,5 @@ use Rattle.adr_disk.proofs.platter.keep.Given as goal
 abbrev pub invariant-writes : goal.invariant-writes
 invariant-writes l = record {
   items : l.safe.items ≡ over l.fn.safe.items (map (write_of l.log) (take l.entry-index l.entries));
-  capacity : vec_capacity l.fn.safe ≤ vec_capacity l.safe
+  capacity : vec_capacity l.fn.safe ≤ vec_capacity l.safe;
 }

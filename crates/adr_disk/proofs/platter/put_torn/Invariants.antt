@@ -6,5 +6,5 @@ use Rattle.adr_disk.proofs.platter.put_torn.Given as goal
 abbrev pub invariant-rest : goal.invariant-rest
 invariant-rest l = record {
   items : l.bytes.items ≡ put l.fn.bytes.items l.at (filled l.half l.place l.new);
-  capacity : vec_capacity l.fn.bytes ≤ vec_capacity l.bytes
+  capacity : vec_capacity l.fn.bytes ≤ vec_capacity l.bytes;
 }
