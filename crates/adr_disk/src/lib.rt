@@ -9,4 +9,4 @@ mod platter;
 
 pub use disk::Disk;
 pub use file::FileDisk;
-pub use memory::Crash;
+pub use memory::{Crash, MemDisk};
