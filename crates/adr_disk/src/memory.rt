@@ -288,3 +288,70 @@ impl MemDisk {
         }
     }
 }
+
+impl Disk for MemDisk {
+    ghost use Rattle.std.specs.Prelude.{◌⊎◌, Some, drop, length};
+    ghost use Rattle.std.proofs.Common.{inl};
+    ghost use Rattle.adr_disk.specs.Memory.{read_of, IsImage, IsImageOfOne, spare_calls_of, Does};
+    ghost use Rattle.adr_disk.specs.Laws.{MayLeave-over, only_present};
+
+    ghost faults = { λ d. d.faults };
+
+    ghost content = { λ d. Some (read_of d.held.surface) };
+
+    ghost may_leave = { λ d bytes. IsImage d.held.surface bytes };
+
+    ghost moment = { λ d. length d.held.past };
+
+    ghost left_since = { λ d t bytes. IsImage d.held.surface bytes ⊎ IsImageOfOne (drop t d.held.past) bytes };
+
+    ghost spare_calls = { spare_calls_of };
+
+    ghost spare_bytes = { λ d. d.held.room_bytes };
+
+    ghost gives = { Does };
+
+    ghost honest = { λ d. MayLeave-over d.held.surface.written d.held.surface.synced };
+
+    ghost counts_now = { λ d t bytes le now. inl now };
+
+    ghost only_now = { λ d bytes left. only_present d.held.surface d.held.past bytes left };
+
+    /// Changes nothing.
+    fn attach(&mut self, _name: &str) -> Result<(), Fault> {
+        self.look()
+    }
+
+    fn len(&mut self) -> Result<u64, Fault> {
+        self.look()?;
+        Ok(self.platter.bytes().len() as u64)
+    }
+
+    fn read(&mut self, at: u64, into: &mut [u8]) -> Result<usize, Fault> {
+        self.look()?;
+        let bytes = self.platter.bytes();
+        let rest = &bytes[bytes.len().min(at as usize)..];
+        let count = rest.len().min(into.len());
+        into[..count].copy_from_slice(&rest[..count]);
+        Ok(count)
+    }
+
+    fn write_at(&mut self, at: u64, bytes: &[u8]) -> Result<(), Fault> {
+        self.write(at as usize, bytes)
+    }
+
+    fn sync(&mut self) -> Result<(), Fault> {
+        self.sync_all()
+    }
+
+    fn reserve(&mut self, calls: u32, bytes: u64) -> Result<(), Fault> {
+        self.look()?;
+        if !self.failures.has_room(calls) {
+            return Err(Fault::NoMemory);
+        }
+        match self.platter.make_room(calls as usize, bytes as usize) {
+            Ok(()) => Ok(()),
+            Err(_) => Err(Fault::NoMemory),
+        }
+    }
+}
