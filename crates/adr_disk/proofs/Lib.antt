@@ -1,3 +1,4 @@
+pub mod Moments
 mod Writes
 mod Steps
 mod Outcomes

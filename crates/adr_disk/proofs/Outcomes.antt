@@ -6,7 +6,7 @@ use Rattle.std.proofs.lemmas.Bool.{cases_lt}
 use Rattle.adr_io.specs.declared.Fault.{Fault}
 use Rattle.adr_io.specs.declared.Fault.TheVariants.{Failed, NoMemory}
 use Rattle.adr_disk.specs.Disk.{put, Torn as TornBy, After, Only, Elapses, Writes, Syncs, ended}
-use Rattle.adr_disk.specs.Memory.{Write, Surface, Held, Deck, over, read_of, MayLeave, IsImage, IsImageOfOne, torn_half, torn_write, left_by, all_synced, with_write, after_write, after_end, HoldsAs, IsAs, meets, failed, Does}
+use Rattle.adr_disk.specs.Memory.{Write, Surface, Held, DiskState, over, read_of, MayLeave, IsImage, IsImageOfOne, torn_half, torn_write, left_by, all_synced, with_write, after_write, after_end, SameBytes, SameState, meets, failed, Does}
 use Rattle.adr_disk.specs.declared.memory.Crash.{Crash as HowToCrash}
 use Rattle.adr_disk.specs.declared.memory.Crash.TheVariants.{Kept, Lost, Torn}
 use Rattle.adr_disk.specs.declared.memory.Mishap.{Mishap}
@@ -41,8 +41,8 @@ IsImage-left_by Torn s = MayLeave-torn s.written s.synced
 pub IsImage-after_end : (how : HowToCrash) (h : Held) (bytes : List ℕ) → IsImage (after_end how h).surface bytes → IsImage h.surface bytes
 IsImage-after_end how h bytes left = ⊎_elim
     (λ (some : 0 < length h.surface.written).
-      let is : bytes ≡ left_by how h.surface = subst (λ (g : Held). IsImage g.surface bytes) (after_end_some how h some) left in
-      subst (IsImage h.surface) (sym is) (IsImage-left_by how h.surface))
+    let is : bytes ≡ left_by how h.surface = subst (λ (g : Held). IsImage g.surface bytes) (after_end_some how h some) left in
+    subst (IsImage h.surface) (sym is) (IsImage-left_by how h.surface))
     (λ (none : length h.surface.written ≤ 0). subst (λ (g : Held). IsImage g.surface bytes) (after_end_none how h (omega arith)) left)
     (cases_lt 0 (length h.surface.written))
 
@@ -69,7 +69,7 @@ module _ (outcomes : List ℕ → Type 0) where
   Goes-stays : (s : Surface) (past : List Surface) → Elapses (length past) (length past) (Had s past) (Had s past) outcomes
   Goes-stays s past = record { later = omega arith; nothing_else = λ t bytes le had. inl had; keeps = λ t bytes le had. had }
 
-  pub Goes-holds : (h g : Held) → HoldsAs h g → Goes h g outcomes
+  pub Goes-holds : (h g : Held) → SameBytes h g → Goes h g outcomes
   Goes-holds h g same =
       subst (λ (s : Surface). Elapses (length h.past) (length g.past) (Had h.surface h.past) (Had s g.past) outcomes) (sym same.surface)
       (subst (λ (past : List Surface). Elapses (length h.past) (length past) (Had h.surface h.past) (Had h.surface past) outcomes) (sym same.past) (Goes-stays h.surface h.past))
@@ -94,26 +94,26 @@ module _ (outcomes : List ℕ → Type 0) where
   pub Goes-end : (how : HowToCrash) (h : Held) → ((bytes : List ℕ) → IsImage h.surface bytes → outcomes bytes) → Goes h (after_end how h) outcomes
   Goes-end how h here = ⊎_elim
       (λ (some : 0 < length h.surface.written).
-        subst (λ (g : Held). Goes h g outcomes) (sym (after_end_some how h some))
-        (Goes-on h.surface (all_synced (left_by how h.surface)) h.past (λ bytes is. here bytes (subst (IsImage h.surface) (sym is) (IsImage-left_by how h.surface)))))
+      subst (λ (g : Held). Goes h g outcomes) (sym (after_end_some how h some))
+      (Goes-on h.surface (all_synced (left_by how h.surface)) h.past (λ bytes is. here bytes (subst (IsImage h.surface) (sym is) (IsImage-left_by how h.surface)))))
       (λ (none : length h.surface.written ≤ 0). subst (λ (g : Held). Goes h g outcomes) (sym (after_end_none how h (omega arith))) (Goes-stays h.surface h.past))
       (cases_lt 0 (length h.surface.written))
 
 -- what a write has done: nothing, all of it, or all of it and then a crash
 pub data Wrote (w : Write) (h new : Held) : Type 0 where
-  Nothing : HoldsAs h new → Wrote w h new
-  Done : HoldsAs (after_write w h) new → Wrote w h new
-  Cut : (how : HowToCrash) → HoldsAs (after_end how (after_write w h)) new → Wrote w h new
+  Nothing : SameBytes h new → Wrote w h new
+  Done : SameBytes (after_write w h) new → Wrote w h new
+  Cut : (how : HowToCrash) → SameBytes (after_end how (after_write w h)) new → Wrote w h new
 
 abbrev write_of : ℕ → List ℕ → Write
 write_of at bytes = record { at = at; bytes = bytes }
 
-wrote_failed : (at : ℕ) (bytes : List ℕ) (old new : Deck) (met : Option Mishap) → IsSomeAnd met (λ mishap. IsAs (failed mishap (Writes at bytes) old) new) → Wrote (write_of at bytes) old.held new.held
+wrote_failed : (at : ℕ) (bytes : List ℕ) (old new : DiskState) (met : Option Mishap) → IsSomeAnd met (λ mishap. SameState (failed mishap (Writes at bytes) old) new) → Wrote (write_of at bytes) old.held new.held
 wrote_failed at bytes old new None is = absurd is
 wrote_failed at bytes old new (Some Failure) is = Nothing is.held
 wrote_failed at bytes old new (Some (Crash how)) is = Cut how is.held
 
-pub wrote : (at : ℕ) (bytes : List ℕ) (old new : Deck) (end : Option Fault) → Does old (Writes at bytes) end new → Wrote (write_of at bytes) old.held new.held
+pub wrote : (at : ℕ) (bytes : List ℕ) (old new : DiskState) (end : Option Fault) → Does old (Writes at bytes) end new → Wrote (write_of at bytes) old.held new.held
 wrote at bytes old new None does = Done does.1.held
 wrote at bytes old new (Some Failed) does = wrote_failed at bytes old new (meets old (Writes at bytes)) does
 wrote at bytes old new (Some NoMemory) does = Nothing does.held
@@ -121,7 +121,7 @@ wrote at bytes old new (Some NoMemory) does = Nothing does.held
 abbrev Outcomes : Write → Held → List ℕ → Type 0
 Outcomes w h = After (TornBy w.at (length w.bytes)) (IsImage h.surface)
 
-image_as : (h g : Held) → HoldsAs h g → (bytes : List ℕ) → IsImage g.surface bytes → IsImage h.surface bytes
+image_as : (h g : Held) → SameBytes h g → (bytes : List ℕ) → IsImage g.surface bytes → IsImage h.surface bytes
 image_as h g same bytes = subst (λ (s : Surface). IsImage s bytes) same.surface
 
 stays_whole : (w : Write) (h : Held) (bytes : List ℕ) → IsImage h.surface bytes → Outcomes w h bytes
@@ -144,15 +144,15 @@ write_time w h new (Cut how same) = Goes-then (Outcomes w h) h (after_end how (a
 
 -- what a sync has done: nothing, or an end of the unsynced writes
 pub data Synced (h new : Held) : Type 0 where
-  Idle : HoldsAs h new → Synced h new
-  Ended : (how : HowToCrash) → HoldsAs (after_end how h) new → Synced h new
+  Idle : SameBytes h new → Synced h new
+  Ended : (how : HowToCrash) → SameBytes (after_end how h) new → Synced h new
 
-synced_failed : (old new : Deck) (met : Option Mishap) → IsSomeAnd met (λ mishap. IsAs (failed mishap Syncs old) new) → Synced old.held new.held
+synced_failed : (old new : DiskState) (met : Option Mishap) → IsSomeAnd met (λ mishap. SameState (failed mishap Syncs old) new) → Synced old.held new.held
 synced_failed old new None is = absurd is
 synced_failed old new (Some Failure) is = Idle is.held
 synced_failed old new (Some (Crash how)) is = Ended how is.held
 
-pub synced : (old new : Deck) (end : Option Fault) → Does old Syncs end new → Synced old.held new.held
+pub synced : (old new : DiskState) (end : Option Fault) → Does old Syncs end new → Synced old.held new.held
 synced old new None does = Ended Kept does.1.held
 synced old new (Some Failed) does = synced_failed old new (meets old Syncs) does
 synced old new (Some NoMemory) does = Idle does.held
@@ -172,14 +172,14 @@ IsImage-kept h bytes left = ⊎_elim
     (λ (none : length h.surface.written ≤ 0). nothing_written h.surface.written h.surface.synced bytes (omega arith) (subst (λ (g : Held). IsImage g.surface bytes) (after_end_none Kept h (omega arith)) left))
     (cases_lt 0 (length h.surface.written))
   where
-  nothing_written : (ws : List Write) (s bytes : List ℕ) → length ws ≡ 0 → MayLeave s ws bytes → bytes ≡ over s ws
-  nothing_written [] s bytes none left = left
-  nothing_written (w ∷ ws) s bytes none left = absurd (omega arith)
+    nothing_written : (ws : List Write) (s bytes : List ℕ) → length ws ≡ 0 → MayLeave s ws bytes → bytes ≡ over s ws
+    nothing_written [] s bytes none left = left
+    nothing_written (w ∷ ws) s bytes none left = absurd (omega arith)
 
-pub write_written : {T : Type 0} (at : ℕ) (bytes : List ℕ) (old new : Deck) (r : Result T Fault) → Does old (Writes at bytes) (ended r) new → OnOk r (Some (read_of new.held.surface) ≡ Some (put (read_of old.held.surface) at bytes))
+pub write_written : {T : Type 0} (at : ℕ) (bytes : List ℕ) (old new : DiskState) (r : Result T Fault) → Does old (Writes at bytes) (ended r) new → OnOk r (Some (read_of new.held.surface) ≡ Some (put (read_of old.held.surface) at bytes))
 write_written at bytes old new (Ok x) does = ap (λ (s : Surface). Some (read_of s)) does.1.held.surface ∙ ap Some (over-append old.held.surface.written (write_of at bytes ∷ []) old.held.surface.synced)
 write_written at bytes old new (Err e) does = tt
 
-pub sync_durable : {T : Type 0} (old new : Deck) (r : Result T Fault) → Does old Syncs (ended r) new → OnOk r (Only (read_of old.held.surface) (IsImage new.held.surface))
+pub sync_durable : {T : Type 0} (old new : DiskState) (r : Result T Fault) → Does old Syncs (ended r) new → OnOk r (Only (read_of old.held.surface) (IsImage new.held.surface))
 sync_durable old new (Ok x) does = λ bytes left. IsImage-kept old.held bytes (image_as (after_end Kept old.held) new.held does.1.held bytes left)
 sync_durable old new (Err e) does = tt

@@ -27,7 +27,7 @@ pub record Held : Type 0 where
   pub room_bytes : ℕ
 
 -- a disk in memory
-pub record Deck : Type 0 where
+pub record DiskState : Type 0 where
   pub held : Held
   pub plan : Option Plan
   pub stopped : Bool
@@ -82,12 +82,12 @@ abbrev pub after_end : HowToCrash → Held → Held
 after_end how h = if length h.surface.written == 0 then h else record h { surface = all_synced (left_by how h.surface); past = h.past ++ h.surface ∷ [] }
 
 -- the same but for the room
-pub record HoldsAs (h new : Held) : Type 0 where
+pub record SameBytes (h new : Held) : Type 0 where
   pub surface : new.surface ≡ h.surface
   pub past : new.past ≡ h.past
 
-pub record IsAs (d new : Deck) : Type 0 where
-  pub held : HoldsAs d.held new.held
+pub record SameState (d new : DiskState) : Type 0 where
+  pub held : SameBytes d.held new.held
   pub plan : new.plan ≡ d.plan
   pub stopped : new.stopped ≡ d.stopped
   pub faults : new.faults ≡ d.faults
@@ -99,7 +99,7 @@ planned None call = None
 planned (Some plan) call = if plan.calls == 0 then Some plan.mishap else None
 
 -- what becomes of a call: nothing but what it is for, or a mishap
-abbrev pub meets : Deck → Call → Option Mishap
+abbrev pub meets : DiskState → Call → Option Mishap
 meets d call = if d.stopped then Some Failure else planned d.plan call
 
 -- the plan after a call that passed
@@ -108,7 +108,7 @@ one_less None = None
 one_less (Some plan) = Some (record plan { calls = plan.calls - 1 })
 
 -- after a call that passed
-abbrev pub passed : Call → Deck → Deck
+abbrev pub passed : Call → DiskState → DiskState
 passed (Writes at bytes) d = record d { held = after_write (record { at = at; bytes = bytes }) d.held; plan = one_less d.plan }
 passed Syncs d = record d { held = after_end Kept d.held; plan = one_less d.plan }
 passed Looks d = d
@@ -120,20 +120,20 @@ begun Syncs h = h
 begun Looks h = h
 
 -- after a crash now, which drops the plan
-abbrev pub crashed : HowToCrash → Deck → Deck
+abbrev pub crashed : HowToCrash → DiskState → DiskState
 crashed how d = record d { held = after_end how d.held; plan = None; stopped = true }
 
 -- after a call that met a mishap. While it is stopped, a plan stays.
-abbrev pub failed : Mishap → Call → Deck → Deck
+abbrev pub failed : Mishap → Call → DiskState → DiskState
 failed Failure call d = record d { plan = if d.stopped then d.plan else None; faults = d.faults + 1 }
 failed (Crash how) call d = record (crashed how (record d { held = begun call d.held })) { faults = d.faults + 1 }
 
 -- what a call does: it passes, or fails as planned, or memory is wanting and nothing changes
-abbrev pub Does : Deck → Call → Option Fault → Deck → Type 0
-Does old call None new = (meets old call ≡ None) × IsAs (passed call old) new
-Does old call (Some Failed) new = IsSomeAnd (meets old call) (λ mishap. IsAs (failed mishap call old) new)
-Does old call (Some NoMemory) new = IsAs old new
+abbrev pub Does : DiskState → Call → Option Fault → DiskState → Type 0
+Does old call None new = (meets old call ≡ None) × SameState (passed call old) new
+Does old call (Some Failed) new = IsSomeAnd (meets old call) (λ mishap. SameState (failed mishap call old) new)
+Does old call (Some NoMemory) new = SameState old new
 
 -- how many calls are sure to find memory, and to find their fault counted
-abbrev pub spare_calls_of : Deck → ℕ
+abbrev pub spare_calls_of : DiskState → ℕ
 spare_calls_of d = min d.held.room_calls (2 ^ 64 - 1 - d.faults)

@@ -6,7 +6,11 @@ mod disk;
 mod file;
 mod memory;
 mod platter;
+#[cfg(test)]
+mod tests;
+mod through;
 
 pub use disk::Disk;
 pub use file::FileDisk;
 pub use memory::{Crash, MemDisk};
+pub use through::write_through;

@@ -47,15 +47,15 @@ pub struct MemDisk {
 }
 
 impl Model for MemDisk {
-    ghost use Rattle.adr_disk.specs.Memory.{Deck};
+    ghost use Rattle.adr_disk.specs.Memory.{DiskState};
 
-    ghost Value = { Deck };
+    ghost Value = { DiskState };
 
     ghost view = { λ m. record { held = m.platter; plan = m.plan; stopped = m.stopped; faults = m.failures } };
 }
 
 impl MemDisk {
-    ghost use Rattle.adr_disk.specs.Memory.{Held, Deck, all_synced, read_of, crashed, IsAs, Does, HoldsAs, planned, one_less, spare_calls_of};
+    ghost use Rattle.adr_disk.specs.Memory.{Held, DiskState, all_synced, read_of, crashed, SameState, Does, SameBytes, planned, one_less, spare_calls_of};
 
     /// An empty disk.
     pub fn new(alloc: Global) -> MemDisk
@@ -120,7 +120,7 @@ impl MemDisk {
 
     /// Crashes now, and drops a plan.
     pub fn crash(&mut self, how: Crash)
-        ensures crashed { IsAs (crashed how self.old) self.new }
+        ensures crashed { SameState (crashed how self.old) self.new }
         ensures spare { IsSpare (spare_calls_of self.old) self.old.held.room_bytes (spare_calls_of self.new) self.new.held.room_bytes }
     {
         self.platter.end(how);
@@ -145,7 +145,7 @@ impl MemDisk {
 
 /// The calls, without what a disk in general promises of them.
 impl MemDisk {
-    ghost use Rattle.adr_disk.specs.Memory.{Deck, read_of, meets, one_less, passed, failed, IsAs, Does, HoldsAs, spare_calls_of};
+    ghost use Rattle.adr_disk.specs.Memory.{DiskState, read_of, meets, one_less, passed, failed, SameState, Does, SameBytes, spare_calls_of};
 
     /// What becomes of the next write or sync.
     fn mishap(&self) -> Option<Mishap>
@@ -202,7 +202,7 @@ impl MemDisk {
         requires within { at ≤ length (read_of self.old.held.surface) }
         requires calls { 0 < self.old.held.room_calls }
         requires room { length bytes.now ≤ self.old.held.room_bytes }
-        ensures passed { IsAs (passed (Writes at bytes.now) self.old) self.new }
+        ensures passed { SameState (passed (Writes at bytes.now) self.old) self.new }
         ensures spare { IsSpare (spare_calls_of self.old) self.old.held.room_bytes (spare_calls_of self.new + 1) (self.new.held.room_bytes + length bytes.now) }
     {
         self.platter.write(at, bytes);
@@ -215,7 +215,7 @@ impl MemDisk {
         requires within { at ≤ length (read_of self.old.held.surface) }
         requires calls { 0 < self.old.held.room_calls }
         requires room { length bytes.now ≤ self.old.held.room_bytes }
-        ensures failed { result ≡ Fault.Failed → IsAs (failed (Mishap.Crash how) (Writes at bytes.now) self.old) self.new }
+        ensures failed { result ≡ Fault.Failed → SameState (failed (Mishap.Crash how) (Writes at bytes.now) self.old) self.new }
         ensures no_memory { result ≡ Fault.NoMemory → self.new ≡ self.old }
         ensures limit { result ≡ Fault.NoMemory → self.old.faults ≡ 2 ^ 64 - 1 }
         ensures spare { IsSpare (spare_calls_of self.old) self.old.held.room_bytes (spare_calls_of self.new + 1) (self.new.held.room_bytes + length bytes.now) }
@@ -250,7 +250,7 @@ impl MemDisk {
 
     /// A sync that passes.
     fn pass_sync(&mut self)
-        ensures passed { IsAs (passed Syncs self.old) self.new }
+        ensures passed { SameState (passed Syncs self.old) self.new }
         ensures spare { IsSpare (spare_calls_of self.old) self.old.held.room_bytes (spare_calls_of self.new) self.new.held.room_bytes }
     {
         self.platter.end(Crash::Kept);
@@ -260,7 +260,7 @@ impl MemDisk {
     /// A sync within which it crashes.
     fn crash_in_sync(&mut self, how: Crash) -> Fault
         requires { self.old.stopped ≡ false }
-        ensures failed { result ≡ Fault.Failed → IsAs (failed (Mishap.Crash how) Syncs self.old) self.new }
+        ensures failed { result ≡ Fault.Failed → SameState (failed (Mishap.Crash how) Syncs self.old) self.new }
         ensures no_memory { result ≡ Fault.NoMemory → self.new ≡ self.old }
         ensures limit { result ≡ Fault.NoMemory → self.old.faults ≡ 2 ^ 64 - 1 }
         ensures spare { IsSpare (spare_calls_of self.old) self.old.held.room_bytes (spare_calls_of self.new + 1) self.new.held.room_bytes }

@@ -3,7 +3,7 @@
 
 ghost use Rattle.std.specs.Prelude.{◌≡◌, ℕ, ◌+◌, ◌-◌, ◌/◌, ◌≤◌, ◌<◌, ◌^◌, ◌⊎◌, List, [], ◌∷◌, ◌++◌, length, take, drop, map, min, All, OnOk, OnErr, IfOk, vec_len, vec_capacity};
 ghost use Rattle.adr_disk.specs.Disk.{put as put_over, IsSpare};
-ghost use Rattle.adr_disk.specs.Memory.{Held, Write, over, read_of, left_by, torn_half, torn_write, all_synced, after_write, after_end, HoldsAs};
+ghost use Rattle.adr_disk.specs.Memory.{Held, Write, over, read_of, left_by, torn_half, torn_write, all_synced, after_write, after_end, SameBytes};
 ghost use Rattle.adr_disk.specs.Platter.{IsInRange, EndsLast, write_of};
 
 use crate::Crash;
@@ -170,7 +170,7 @@ impl Platter {
     }
 
     pub fn make_room(&mut self, calls: usize, bytes: usize) -> Result<(), AllocError>
-        ensures same { HoldsAs self.old self.new }
+        ensures same { SameBytes self.old self.new }
         ensures ok { OnOk result (IsSpare calls bytes self.new.room_calls self.new.room_bytes) }
         ensures room { IsSpare self.old.room_calls self.old.room_bytes self.new.room_calls self.new.room_bytes }
         ensures full { OnErr result ((self.old.room_calls < calls) ⊎ (self.old.room_bytes < bytes)) }
@@ -187,7 +187,7 @@ impl Platter {
         requires within { at ≤ length (read_of self.old.surface) }
         requires calls { 0 < self.old.room_calls }
         requires bytes { length new.now ≤ self.old.room_bytes }
-        ensures written { HoldsAs (after_write (record { at = at; bytes = new.now }) self.old) self.new }
+        ensures written { SameBytes (after_write (record { at = at; bytes = new.now }) self.old) self.new }
         ensures room { IsSpare self.old.room_calls self.old.room_bytes (self.new.room_calls + 1) (self.new.room_bytes + length new.now) }
     {
         let entry = Entry {
@@ -203,7 +203,7 @@ impl Platter {
 
     /// A sync, which keeps the unsynced writes, or a crash.
     pub fn end(&mut self, how: Crash)
-        ensures ended { HoldsAs (after_end how self.old) self.new }
+        ensures ended { SameBytes (after_end how self.old) self.new }
         ensures room { IsSpare self.old.room_calls self.old.room_bytes self.new.room_calls self.new.room_bytes }
     {
         let count = self.entries.len();
