@@ -1,9 +1,9 @@
 -- One write more, and its end.
 use Rattle.std.proofs.lemmas.Bool.Decides.{nat_tests}
-use Rattle.std.proofs.Common.{if◌then◌else◌, ◌==◌, ◌≡◌, ℕ, ◌+◌, ◌-◌, ◌≤◌, ◌<◌, ◌^◌, List, [], ◌∷◌, ◌++◌, length, take, drop, map, All, Option, Some, None, refl, sym, ◌∙◌, ap, subst, arith, append_assoc, length-append, length-drop}
-use Rattle.std.proofs.lemmas.List.{append-nil, map_push, map-append, take-append-le, drop-append-le, take_all, drop_at, drop_all, take_rest}
+use Rattle.std.proofs.Common.{if◌then◌else◌, ◌==◌, ◌≡◌, ℕ, ◌+◌, ◌-◌, ◌≤◌, ◌<◌, ◌^◌, List, [], ◌∷◌, ◌++◌, length, take, drop, map, All, Option, Some, None, refl, sym, ◌∙◌, ap, arith, append_assoc, length-append, length-drop}
+use Rattle.std.proofs.lemmas.List.{append-nil, map_push, take-append-le, drop-append-le, take_all, drop_at, take_rest}
 use Rattle.std.proofs.lemmas.List.Elements.{All-head, All-tail, All-drop, All-same, All-push, All-pop, All-weaker}
-use Rattle.adr_disk.specs.Memory.{Write, Surface, Held, over, read_of, left_by, all_synced, with_write, after_end}
+use Rattle.adr_disk.specs.Memory.{Write, Surface, Held, read_of, left_by, all_synced, with_write, after_end}
 use Rattle.adr_disk.specs.Platter.{Step, write_of, step_of, after_step, before_ending, final, passed_by, IsInRange, EndsLast}
 use Rattle.adr_disk.specs.declared.memory.Crash.{Crash as HowToCrash}
 use Rattle.adr_disk.specs.declared.memory.Crash.TheVariants.{Kept, Lost, Torn}

@@ -1,7 +1,7 @@
 -- Why a disk in memory is honest, and what its moments are.
-use Rattle.std.specs.Prelude.{◌≡◌, ℕ, ◌⊎◌, List, [], ◌∷◌, ◌++◌, length, drop, refl}
+use Rattle.std.specs.Prelude.{ℕ, ◌⊎◌, List, [], ◌∷◌, length, drop, refl}
 use Rattle.std.proofs.Common.{inl, inr}
-use Rattle.adr_disk.specs.Memory.{Write, Surface, over, read_of, MayLeave, IsImage, IsImageOfOne}
+use Rattle.adr_disk.specs.Memory.{Write, Surface, over, MayLeave, IsImage, IsImageOfOne}
 use Rattle.adr_disk.specs.Disk.{put}
 use Rattle.adr_disk.specs.Bytes.{Torn-put}
 

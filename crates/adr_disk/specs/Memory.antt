@@ -1,5 +1,5 @@
 -- What a disk in memory holds, what a crash may leave of it, and what its calls, its plan and its crashes do.
-use Rattle.std.specs.Prelude.{◌≡◌, ◌==◌, ℕ, ◌+◌, ◌-◌, ◌/◌, ◌^◌, ◌⊎◌, Bool, true, false, if◌then◌else◌, min, List, [], ◌∷◌, ◌++◌, length, take, drop, map, replicate, Option, Some, None, IsSomeAnd}
+use Rattle.std.specs.Prelude.{◌≡◌, ◌==◌, ℕ, ◌+◌, ◌-◌, ◌/◌, ◌^◌, ◌⊎◌, Bool, true, if◌then◌else◌, min, List, [], ◌∷◌, ◌++◌, length, take, map, replicate, Option, Some, None, IsSomeAnd}
 use Rattle.adr_io.specs.declared.Fault.{Fault}
 use Rattle.adr_io.specs.declared.Fault.TheVariants.{Failed, NoMemory}
 use Rattle.adr_disk.specs.Disk.{put, Torn as TornBy, Call, Writes, Syncs, Looks}

@@ -167,8 +167,8 @@ impl MemDisk {
         ensures limit { result ≡ Fault.NoMemory → self.old.faults ≡ 2 ^ 64 - 1 }
     {
         let fault = self.failures.fail();
-        if fault == Fault::Failed && !self.stopped {
-            self.plan = None;
+        if fault == Fault::Failed {
+            self.plan = if self.stopped { self.plan } else { None };
         }
         fault
     }

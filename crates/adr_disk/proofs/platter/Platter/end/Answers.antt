@@ -1,7 +1,7 @@
-use Rattle.std.proofs.Common.{◌≡◌, ◌<◌, ◌++◌, ◌∷◌, [], List, ℕ, length, map, drop, sym, ◌∙◌, ap, arith, length-drop}
+use Rattle.std.proofs.Common.{◌<◌, ◌++◌, ◌∷◌, [], List, length, map, drop, sym, ◌∙◌, ap, arith, length-drop}
 use Rattle.std.proofs.lemmas.List.{drop_all, length-map}
 use Rattle.adr_disk.specs.declared.platter.Entry.{Entry}
-use Rattle.adr_disk.specs.Memory.{Write, Surface, Held, all_synced, over, read_of, left_by}
+use Rattle.adr_disk.specs.Memory.{Write, Held, all_synced, over, left_by}
 use Rattle.adr_disk.specs.Platter.{surface_of, write_of}
 use Rattle.adr_disk.proofs.Steps.{rest_is, length-left_by, length-ends, in_range-ends, final-ends, passed_by-ends, after_end_some}
 use Rattle.adr_disk.proofs.platter.Platter.end.Goals as goal

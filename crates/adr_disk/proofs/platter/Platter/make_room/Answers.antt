@@ -1,4 +1,4 @@
-use Rattle.std.proofs.Common.{ℕ, length, ap, arith, inr}
+use Rattle.std.proofs.Common.{length, ap, arith, inr}
 use Rattle.std.proofs.lemmas.Result.{on_err_weaker}
 use Rattle.adr_disk.specs.Memory.{Held}
 use Rattle.adr_disk.specs.Platter.{surface_of}

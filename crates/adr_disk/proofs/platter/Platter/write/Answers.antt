@@ -1,6 +1,6 @@
-use Rattle.std.proofs.Common.{◌≡◌, ◌++◌, ◌∷◌, [], List, ℕ, length, sym, ◌∙◌, ap, arith}
+use Rattle.std.proofs.Common.{◌++◌, ◌∷◌, [], List, ℕ, length, sym, ◌∙◌, ap, arith}
 use Rattle.adr_disk.specs.Disk.{put}
-use Rattle.adr_disk.specs.Memory.{Write, Surface, Held, all_synced, with_write, over, read_of}
+use Rattle.adr_disk.specs.Memory.{Write, Held, all_synced, with_write, over, read_of}
 use Rattle.adr_disk.specs.Platter.{surface_of}
 use Rattle.adr_disk.specs.Bytes.{length-put}
 use Rattle.adr_disk.proofs.Writes.{over-append}
