@@ -1,6 +1,6 @@
 //! A count of failed calls.
 
-ghost use Rattle.std.specs.Prelude.{◌≡◌, ◌↔◌, ℕ, ◌+◌, ◌-◌, ◌^◌};
+ghost use Rattle.std.specs.Prelude.{◌≡◌, ◌↔◌, ℕ, ◌+◌, ◌-◌, ◌^◌, ◌≤◌, IsTrue};
 
 use crate::Fault;
 use std::marker::Model;
@@ -22,6 +22,13 @@ impl Failures {
         ensures { result ≡ 0 }
     {
         Failures { count: 0 }
+    }
+
+    /// Whether so many more can be counted.
+    pub fn has_room(&self, calls: u32) -> bool
+        ensures { IsTrue result ↔ (calls ≤ 2 ^ 64 - 1 - self.now) }
+    {
+        u64::from(calls) <= u64::MAX - self.count
     }
 
     /// Counts a failure. One that can't be counted is told as want of memory.

@@ -3,3 +3,4 @@ pub mod Lines
 pub mod Commands
 pub mod Seen
 pub mod Events
+pub mod Printed

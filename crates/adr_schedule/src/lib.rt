@@ -7,8 +7,13 @@ mod commands;
 mod fault;
 mod lines;
 mod parsing;
+mod printing;
 mod seen;
 
 pub use adr_event::Event;
 pub use fault::{Cause, ParseRefusal, ScheduleFault};
 pub use parsing::parse;
+pub use printing::{events_are_read_again, print};
+
+#[cfg(test)]
+mod tests;

@@ -17,11 +17,11 @@ use Rattle.adr_schema.proofs.Exact.{allowed_from_none, none_from_allowed}
 use Rattle.adr_schema.proofs.Firsts.{false_from_refuted, true_from_not, none_from_each}
 
 -- neither of two is there
-neither : {X : Type 0} (a b : Option X) → option_or a b ≡ None → (a ≡ None) × (b ≡ None)
+pub neither : {X : Type 0} (a b : Option X) → option_or a b ≡ None → (a ≡ None) × (b ≡ None)
 neither None b h = (refl, h)
 neither (Some x) b h = cc
 
-not_then : {X : Type 0} (b : Bool) (x : X) → then_some b x ≡ None → b ≡ false
+pub not_then : {X : Type 0} (b : Bool) (x : X) → then_some b x ≡ None → b ≡ false
 not_then true x h = cc
 not_then false x h = refl
 
@@ -68,7 +68,7 @@ module _ (p : ℕ → Bool) where
 
 module _ (t : Table) (class : ℕ) where
   -- one attribute
-  allowed_attribute : (attr : ℕ) (values : List Item) → values_refusal t (Some class) attr values ≡ None → IsAllowed t class attr values
+  pub allowed_attribute : (attr : ℕ) (values : List Item) → values_refusal t (Some class) attr values ≡ None → IsAllowed t class attr values
   allowed_attribute attr values none =
       let parts = neither (attribute_refusal t (Some class) attr) (option_or (option_map (BadValue attr) (bad_place_of (kind_at t attr) values)) None) none in
       let bad = (neither (option_map (BadValue attr) (bad_place_of (kind_at t attr) values)) None parts.1).0 in
@@ -90,7 +90,7 @@ module _ (t : Table) (class : ℕ) where
         right = allowed_from_none syntax most values bad;
       }
 
-  attribute_allowed : (attr : ℕ) (values : List Item) → IsAllowed t class attr values → values_refusal t (Some class) attr values ≡ None
+  pub attribute_allowed : (attr : ℕ) (values : List Item) → IsAllowed t class attr values → values_refusal t (Some class) attr values ≡ None
   attribute_allowed attr values allowed = by_kind (kind_at t attr) allowed.plain (is_of t (Some class) attr) allowed.of_class
     where
       by_kind : (kind : Option Kind) → kind ≡ Some (Plain allowed.syntax allowed.most) → (of : Bool) → of ≡ true
@@ -105,10 +105,10 @@ module _ (t : Table) (class : ℕ) where
           ≡ None
       by_kind kind e of f = rw (e, f, none_from_allowed allowed.syntax allowed.most values allowed.right) refl
 
-  filled : (values : List Item) → (length values == 0) ≡ false → values ≢ []
+  pub filled : (values : List Item) → (length values == 0) ≡ false → values ≢ []
   filled values e none = false≢true (sym e ∙ ap (λ vs. length vs == 0) none)
 
-  not_empty : (values : List Item) → values ≢ [] → (length values == 0) ≡ false
+  pub not_empty : (values : List Item) → values ≢ [] → (length values == 0) ≡ false
   not_empty [] some = absurd (some refl)
   not_empty (v ∷ vs) some = false_from_refuted (length (v ∷ vs) == 0) (λ e. let none : suc (length vs) ≡ 0 = eqb-true (suc (length vs)) 0 e in absurd (omega arith))
 

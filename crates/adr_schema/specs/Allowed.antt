@@ -22,6 +22,11 @@ pub record IsAllowed (t : Table) (class attr : ℕ) (values : List Item) : Type 
   pub of_class : is_of t (Some class) attr ≡ true
   pub right : AreAllowed syntax most values
 
+-- an attribute with its values may be held by an object of a class
+pub record MayBeHeld (t : Table) (class attr : ℕ) (values : List Item) : Type 0 where
+  pub allowed : IsAllowed t class attr values
+  pub filled : has (must_of t class) attr ≡ true → values ≢ []
+
 -- an object of a class may be added with these values
 pub record MayBeAdded (t : Table) (class : ℕ) (gs : List Given) : Type 0 where
   pub known : IsSome (class_at t class)

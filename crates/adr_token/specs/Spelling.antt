@@ -1,13 +1,12 @@
 -- How tokens are spelled.
-use Rattle.std.specs.Prelude.{◌≡◌, ℕ, List, [], ◌∷◌, ◌++◌, ◌/◌, ◌%◌, ◌||◌, ◌==◌, Bool, true, false, nat_lt, if◌then◌else◌, flat_map, Option, Some, None, codes}
+use Rattle.std.specs.Prelude.{ℕ, List, [], ◌∷◌, ◌++◌, ◌/◌, ◌%◌, ◌||◌, ◌==◌, Bool, true, false, nat_lt, if◌then◌else◌, flat_map, Option, Some, None, codes}
 use Rattle.std.specs.Fmt.{decimal, digits, signed_decimal}
 use Rattle.std.specs.Int.{w128, from_be_bytes}
 use Rattle.uuid.specs.Text.{hex_digit, hyphenated_text, lower}
 use Rattle.adr_schema.specs.declared.content.Value.{Value as Item}
 use Rattle.adr_schema.specs.declared.content.Value.TheVariants.{Text, Number, Flag, Octets, Ref}
 use Rattle.adr_schema.specs.Names.{class_name, attribute_name}
-use Rattle.adr_token.specs.declared.texts.Place.TheVariants.{Plain}
-use Rattle.adr_token.specs.Texts.{is_control, quoted}
+use Rattle.adr_token.specs.Texts.{is_control}
 
 -- the two figures of a byte
 abbrev pub two_figures : ℕ → List ℕ
@@ -16,14 +15,6 @@ two_figures b = hex_digit lower (b / 16) ∷ hex_digit lower (b % 16) ∷ []
 -- a byte of a text in quotes
 abbrev pub escaped : ℕ → List ℕ
 escaped b = if (b == 34) || (b == 92) then 92 ∷ b ∷ [] else if is_control b then 92 ∷ two_figures b else b ∷ []
-
--- what is spelled in quotes is read again, whatever follows
-abbrev pub ReadsBack : Type 0
-ReadsBack = (text rest : List ℕ) → quoted Plain (flat_map escaped text ++ 34 ∷ rest) ≡ Some (text, rest)
-
--- what is read in quotes was spelled so, and no other bytes give that text
-abbrev pub WasSpelled : Type 0
-WasSpelled = (bytes text rest : List ℕ) → quoted Plain bytes ≡ Some (text, rest) → bytes ≡ flat_map escaped text ++ 34 ∷ rest
 
 unfoldable pub text_token : List ℕ → List ℕ
 text_token text = codes "\"" ++ flat_map escaped text ++ codes "\""
@@ -57,3 +48,12 @@ class_token number = name_or_number (class_name number) number
 
 unfoldable pub attribute_token : ℕ → List ℕ
 attribute_token number = name_or_number (attribute_name number) number
+
+-- values with commas between them
+abbrev pub values_token : List Item → List ℕ
+values_token [] = []
+values_token (value ∷ values) = value_token value ++ flat_map (λ v. codes "," ++ value_token v) values
+
+-- an attribute with its values
+unfoldable pub set_token : ℕ → List Item → List ℕ
+set_token attr values = attribute_token attr ++ codes "=" ++ values_token values

@@ -1,10 +1,9 @@
 //! Writers of values, classes and attributes.
 
-ghost use Rattle.std.specs.Prelude.{◌≡◌, ◌++◌, ◌<◌, ℕ, List, OnOk, flat_map, take, codes, None, Some};
-ghost use Rattle.std.specs.Fmt.{decimal, signed_decimal};
+ghost use Rattle.std.specs.Prelude.{◌≡◌, ◌++◌, ◌<◌, ℕ, List, OnOk, flat_map, codes};
+ghost use Rattle.std.specs.Fmt.{signed_decimal};
 ghost use Rattle.std.specs.Option.{option_copied};
-ghost use Rattle.adr_schema.specs.Names.{class_name, attribute_name};
-ghost use Rattle.adr_token.specs.Spelling.{two_figures, flag_text, value_token, name_or_number, class_token, attribute_token};
+ghost use Rattle.adr_token.specs.Spelling.{two_figures, flag_text, value_token, name_or_number, class_token, attribute_token, values_token, set_token};
 
 use crate::writing::{push, push_identifier, push_number, push_text, push_two_figures};
 use adr_schema::{Value, attribute_name, class_name};
@@ -88,4 +87,42 @@ pub fn push_attribute(alloc: Global, out: &mut Vec<u8>, attr: u16) -> Result<(),
     ensures { OnOk result (out.new.items ≡ out.old.items ++ attribute_token attr) }
 {
     push_name_or_number(alloc, out, attribute_name(attr), attr)
+}
+
+/// Adds each value behind a comma.
+fn push_more_values(alloc: Global, out: &mut Vec<u8>, values: &[Value]) -> Result<(), AllocError>
+    ensures { OnOk result (out.new.items ≡ out.old.items ++ flat_map (λ v. codes "," ++ value_token v) values.now) }
+{
+    for value in values {
+        push(out, b",")?;
+        push_value(alloc, out, value)?;
+    }
+    Ok(())
+}
+
+fn push_values(alloc: Global, out: &mut Vec<u8>, values: &[Value]) -> Result<(), AllocError>
+    ensures { OnOk result (out.new.items ≡ out.old.items ++ values_token values.now) }
+{
+    match values.split_first() {
+        None => Ok(()),
+        Some((first, rest)) => {
+            push_value(alloc, out, first)?;
+            push_more_values(alloc, out, rest)
+        }
+    }
+}
+
+/// Adds an attribute, `=` and its values with commas between them.
+#[tactic(auto, unfolding(crate::specs::Spelling::set_token))]
+pub fn push_set(
+    alloc: Global,
+    out: &mut Vec<u8>,
+    attr: u16,
+    values: &[Value],
+) -> Result<(), AllocError>
+    ensures { OnOk result (out.new.items ≡ out.old.items ++ set_token attr values.now) }
+{
+    push_attribute(alloc, out, attr)?;
+    push(out, b"=")?;
+    push_values(alloc, out, values)
 }

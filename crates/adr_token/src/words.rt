@@ -86,7 +86,8 @@ fn own_text(alloc: Global, word: &[u8]) -> Result<Text, Stop>
     Ok(Text::of(bytes))
 }
 
-/// What is left of a line.
+/// What is left of a line. A reader takes a token from its front; after an error it isn't said what
+/// is left.
 #[derive(Debug, Drop)]
 pub struct Line<'a> {
     rest: &'a [u8],
@@ -141,7 +142,7 @@ impl<'a> Line<'a> {
         Ok(word)
     }
 
-    /// A name.
+    /// A name: a letter, and then at most 31 letters, digits or `_`.
     #[tactic(auto, unfolding(crate::specs::Words::name_at))]
     pub fn name(&mut self, alloc: Global) -> Result<Text, Stop>
         ensures reading { Gives result self.new (name_at self.old) }
@@ -164,8 +165,8 @@ impl Line<'_> {
         self.rest().len() == 0
     }
 
-    #[tactic(auto, unfolding(crate::specs::Words::said))]
     /// A word that stands as it is.
+    #[tactic(auto, unfolding(crate::specs::Words::said))]
     pub fn said(&mut self, what: &[u8]) -> Result<(), Stop>
         ensures { Gives result self.new (said what.now self.old) }
     {
@@ -176,7 +177,7 @@ impl Line<'_> {
         }
     }
 
-    /// Some bytes at the front.
+    /// These bytes at the very front.
     pub fn prefix(&mut self, front: &[u8]) -> Result<(), Stop>
         ensures { Gives result self.new (prefix_at front.now self.old) }
     {

@@ -8,7 +8,7 @@ use Rattle.adr_token.specs.declared.texts.Place.TheVariants.{Plain, Escaped, Hal
 use Rattle.adr_token.specs.declared.texts.Move.TheVariants.{Close, Go, Byte, Stray}
 use Rattle.adr_token.specs.Numbers.{figure}
 use Rattle.adr_token.specs.Texts.{is_control, quoted, after_byte, follow, half_move, whole_move, IsHalfSmall}
-use Rattle.adr_token.specs.Spelling.{two_figures, escaped, ReadsBack, WasSpelled}
+use Rattle.adr_token.specs.Spelling.{two_figures, escaped}
 
 figure_again : (d : ℕ) → d < 16 → figure true (hex_digit lower d) ≡ Some d
 figure_again d h = grind (arith, nat_tests)
@@ -40,7 +40,7 @@ one b bs false true k p r s = escaped_byte b bs (rw (p, r) refl)
 one b bs false false true p r s = control_byte b bs s
 one b bs false false false p r s = plain_byte b bs p r s
 
-pub reads_back : ReadsBack
+pub reads_back : (text rest : List ℕ) → quoted Plain (flat_map escaped text ++ 34 ∷ rest) ≡ Some (text, rest)
 reads_back [] rest = refl
 reads_back (b ∷ bs) rest =
     ap (quoted Plain) (append_assoc (escaped b) (flat_map escaped bs) (34 ∷ rest))
@@ -125,6 +125,6 @@ was Plain (b ∷ bs) text rest small = λ h. plain_was b bs text rest (b == 34) 
 was Escaped (b ∷ bs) text rest small = λ h. escaped_was b bs text rest ((b == 34) || (b == 92)) (figure true b) refl refl h (λ high lt. was (Half high) bs text rest lt) (λ more. was Plain bs more rest tt)
 was (Half high) (b ∷ bs) text rest small = λ h. half_was high b bs text rest (figure true b) small refl h (λ more. was Plain bs more rest tt)
 
-pub was_spelled : WasSpelled
+pub was_spelled : (bytes text rest : List ℕ) → quoted Plain bytes ≡ Some (text, rest) → bytes ≡ flat_map escaped text ++ 34 ∷ rest
 unfolding behind
 was_spelled bytes text rest = was Plain bytes text rest tt
