@@ -1,9 +1,9 @@
 -- What the top call answers.
-use Rattle.std.proofs.Common.{◌≡◌, ◌⊎◌, inl, inr, ℕ, ◌+◌, ◌<◌, true, cond, List, length, take, Option, Some, None, Result, Ok, Err, refl, ap, ◌∙◌, subst, arith, take_all}
+use Rattle.std.proofs.Common.{◌≡◌, ◌⊎◌, inl, inr, ℕ, ◌+◌, ◌<◌, ◌≤◌, Bool, true, false, cond, List, [], length, take, drop, Option, Some, None, Result, Ok, Err, refl, sym, ap, ◌∙◌, subst, arith, take_all}
 use Rattle.std.specs.Prelude.{IfSome, OnOk, OnErr, nat_lt}
 use Rattle.std.proofs.lemmas.Bool.{cases_lt}
 use Rattle.std.proofs.lemmas.Bool.Decides.{nat_tests}
-use Rattle.std.proofs.lemmas.List.{length-take}
+use Rattle.std.proofs.lemmas.List.{length-take, drop_all}
 use Rattle.adr_io.specs.Told.{Adds, AddsFront}
 use Rattle.adr_io.specs.declared.Fault.{Fault}
 use Rattle.adr_io.specs.declared.Fault.TheVariants.{Failed, NoMemory}
@@ -61,3 +61,17 @@ pub told_front : (left before after : Option (List ℕ)) (bytes : List ℕ) (r s
     → (status ≡ 0) ⊎ (status ≡ 3) → OnErr written (AddsFront before after (outcome bytes).1) → (r ≡ 5) ⊎ (r ≡ 8) → IfSome left (λ text. AddsFront before after (outcome text).1)
 told_front left before after bytes r status written read is plain err h =
     at_text (λ x. AddsFront before after x.1) left bytes read (a_fault r status written is plain h err)
+
+-- a text that is a schedule isn't too long
+not_long : (b : Bool) (text : List ℕ) → nat_lt 16777216 (length text) ≡ b → (outcome_of (cond b (bad 0 TooLong) (events_from nothing_seen 1 (lines_of text)))).0 ≡ 0 → length text ≤ 16777217
+not_long true text long zero = absurd (omega arith)
+not_long false text short zero = grind (arith, nat_tests)
+
+short_text : (text : List ℕ) → (outcome text).0 ≡ 0 → length text ≤ 16777217
+unfolding outcome events_of
+short_text text zero = not_long (nat_lt 16777216 (length text)) text refl zero
+
+-- with 0 the source is at its end
+pub told_end : (left after : Option (List ℕ)) (r : ℕ) → IfSome left (λ text. r ≡ (outcome text).0) → IfSome left (λ text. after ≡ Some (drop 16777217 text)) → r ≡ 0 → IfSome left (λ text. after ≡ Some [])
+told_end None after r status rest zero = tt
+told_end (Some text) after r status rest zero = rest ∙ ap Some (drop_all 16777217 text (short_text text (sym status ∙ zero)))

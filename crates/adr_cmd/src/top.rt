@@ -94,6 +94,7 @@ fn replay<S: Source, K: Sink>(alloc: Global, source: &mut S, sink: &mut K) -> u8
     ensures written { (result ≡ 0) ⊎ (result ≡ 3) → IfSome (S.left source.old) (λ text. Adds (K.written sink.old) (K.written sink.new) (outcome text).1) }
     ensures front { (result ≡ 5) ⊎ (result ≡ 8) → IfSome (S.left source.old) (λ text. AddsFront (K.written sink.old) (K.written sink.new) (outcome text).1) }
     ensures read { (result ≡ 0) ⊎ ((result ≡ 3) ⊎ (result ≡ 5)) → IfSome (S.left source.old) (λ text. S.left source.new ≡ Some (drop 16777217 text)) }
+    ensures ended { result ≡ 0 → IfSome (S.left source.old) (λ text. S.left source.new ≡ Some []) }
     ensures read_fault { result ≡ 4 → S.faults source.old < S.faults source.new }
     ensures unwritten { result ≡ 4 → sink.new ≡ sink.old }
     ensures write_fault { result ≡ 5 → K.faults sink.old < K.faults sink.new }
@@ -137,9 +138,10 @@ pub fn run<S: Source, K: Sink>(alloc: Global, words: &[String], source: &mut S, 
     ensures usage_front { is_replay (map string_bytes words.now) ≡ false → (result ≡ 5) ⊎ (result ≡ 8) → AddsFront (K.written sink.old) (K.written sink.new) usage_line }
     ensures usage_unread { is_replay (map string_bytes words.now) ≡ false → source.new ≡ source.old }
 
-    // With 0 or 3 what was written is what the text gives, and so is the status.
+    // With 0 or 3 what was written is what the text gives, and so is the status. With 0 the source is at its end.
     ensures status { (result ≡ 0) ⊎ (result ≡ 3) → IfSome (S.left source.old) (λ text. result ≡ (outcome text).0) }
     ensures written { (result ≡ 0) ⊎ (result ≡ 3) → IfSome (S.left source.old) (λ text. Adds (K.written sink.old) (K.written sink.new) (outcome text).1) }
+    ensures ended { result ≡ 0 → IfSome (S.left source.old) (λ text. S.left source.new ≡ Some []) }
 
     // With a fault it is a front of that, and of the source no more was read than a text may have, and one byte.
     ensures front { is_replay (map string_bytes words.now) ≡ true → (result ≡ 5) ⊎ (result ≡ 8) → IfSome (S.left source.old) (λ text. AddsFront (K.written sink.old) (K.written sink.new) (outcome text).1) }

@@ -1,5 +1,5 @@
 -- How an answer is written: its line, and the lines of a report behind it.
-use Rattle.std.specs.Prelude.{ℕ, List, Bool, true, false, if◌then◌else◌, [], ◌∷◌, ◌++◌, length, flat_map, map, codes}
+use Rattle.std.specs.Prelude.{ℕ, List, Bool, true, false, if◌then◌else◌, [], ◌∷◌, ◌++◌, length, flat_map, codes}
 use Rattle.std.specs.Fmt.{decimal}
 use Rattle.adr_schema.specs.declared.content.Value.{Value as Item}
 use Rattle.adr_event.specs.declared.answer.Answer.{Answer}
@@ -9,22 +9,20 @@ use Rattle.adr_event.specs.declared.answer.Plainly.TheVariants.{Id, Number, Word
 use Rattle.adr_event.specs.declared.answer.Outcome.{Outcome}
 use Rattle.adr_event.specs.declared.answer.Outcome.TheVariants.{Silent, Ok, Usn, Show, Refused}
 use Rattle.adr_event.specs.declared.directory.Entry.{Entry}
-use Rattle.adr_token.specs.Spelling.{identifier_token, text_token, value_token, class_token, attribute_token}
+use Rattle.adr_token.specs.Spelling.{identifier_token, text_token, class_token, attribute_token, set_token}
 
--- words with commas between them
+-- an attribute with its values, behind a space
+unfoldable pub values_text : ℕ × List Item → List ℕ
+values_text v = codes " " ++ set_token v.0 v.1
+
+-- identifiers with commas between them
 abbrev pub listed : List (List ℕ) → List ℕ
 listed [] = []
-listed (w ∷ ws) = w ++ flat_map (λ (v : List ℕ). codes "," ++ v) ws
+listed (id ∷ ids) = identifier_token id ++ flat_map (λ (i : List ℕ). codes "," ++ identifier_token i) ids
 
--- an attribute with what it has, behind a space
-abbrev pub attribute_text : ℕ → List (List ℕ) → List ℕ
-attribute_text attr words = codes " " ++ attribute_token attr ++ codes "=" ++ listed words
-
-unfoldable pub values_text : ℕ × List Item → List ℕ
-values_text v = attribute_text v.0 (map value_token v.1)
-
+-- a link attribute with the objects at its other ends, behind a space
 unfoldable pub links_text : ℕ × List (List ℕ) → List ℕ
-links_text l = attribute_text l.0 (map identifier_token l.1)
+links_text l = codes " " ++ attribute_token l.0 ++ codes "=" ++ listed l.1
 
 -- the line of an entry
 unfoldable pub entry_line : Entry → List ℕ

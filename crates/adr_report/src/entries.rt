@@ -1,12 +1,12 @@
 //! The lines of entries.
 
-ghost use Rattle.std.specs.Prelude.{◌≡◌, ◌++◌, ◌∷◌, [], ℕ, List, OnOk, flat_map, map, codes};
-ghost use Rattle.adr_token.specs.Spelling.{identifier_token, text_token, class_token, attribute_token, value_token};
+ghost use Rattle.std.specs.Prelude.{◌≡◌, ◌++◌, ◌∷◌, [], ℕ, List, OnOk, flat_map, codes};
+ghost use Rattle.adr_token.specs.Spelling.{identifier_token, text_token, class_token, attribute_token};
 ghost use Rattle.adr_report.specs.Line.{listed, values_text, links_text, entry_line};
 
 use adr_event::{Entry, Guids};
-use adr_schema::{NoMemory, Value, Values};
-use adr_token::{push, push_attribute, push_class, push_identifier, push_text, push_value};
+use adr_schema::{NoMemory, Values};
+use adr_token::{push, push_attribute, push_class, push_identifier, push_set, push_text};
 use std::alloc::Global;
 use uuid::Uuid;
 
@@ -18,41 +18,13 @@ fn push_attribute_sign(alloc: Global, out: &mut Vec<u8>, attr: u16) -> Result<()
     push(out, b"=")
 }
 
-fn push_further_value(alloc: Global, out: &mut Vec<u8>, value: &Value) -> Result<(), NoMemory>
-    ensures { OnOk result (out.new.items ≡ out.old.items ++ (codes "," ++ value_token value.now)) }
-{
-    push(out, b",")?;
-    push_value(alloc, out, value)
-}
-
-fn push_further_values(alloc: Global, out: &mut Vec<u8>, values: &[Value]) -> Result<(), NoMemory>
-    ensures { OnOk result (out.new.items ≡ out.old.items ++ flat_map (λ (v : List ℕ). codes "," ++ v) (map value_token values.now)) }
-{
-    for value in values {
-        push_further_value(alloc, out, value)?;
-    }
-    Ok(())
-}
-
-fn push_listed_values(alloc: Global, out: &mut Vec<u8>, values: &[Value]) -> Result<(), NoMemory>
-    ensures { OnOk result (out.new.items ≡ out.old.items ++ listed (map value_token values.now)) }
-{
-    match values.split_first() {
-        None => Ok(()),
-        Some((first, rest)) => {
-            push_value(alloc, out, first)?;
-            push_further_values(alloc, out, rest)
-        }
-    }
-}
-
 /// Adds an attribute with its values.
 #[tactic(auto, unfolding(crate::specs::Line::values_text))]
 fn push_values(alloc: Global, out: &mut Vec<u8>, attr: u16, values: &Values) -> Result<(), NoMemory>
     ensures { OnOk result (out.new.items ≡ out.old.items ++ values_text (attr, values.now)) }
 {
-    push_attribute_sign(alloc, out, attr)?;
-    push_listed_values(alloc, out, values.items())
+    push(out, b" ")?;
+    push_set(alloc, out, attr, values.items())
 }
 
 fn push_all_values(alloc: Global, out: &mut Vec<u8>, list: &[(u16, Values)]) -> Result<(), NoMemory>
@@ -72,7 +44,7 @@ fn push_further_guid(alloc: Global, out: &mut Vec<u8>, guid: Uuid) -> Result<(),
 }
 
 fn push_further_guids(alloc: Global, out: &mut Vec<u8>, guids: &[Uuid]) -> Result<(), NoMemory>
-    ensures { OnOk result (out.new.items ≡ out.old.items ++ flat_map (λ (v : List ℕ). codes "," ++ v) (map identifier_token guids.now)) }
+    ensures { OnOk result (out.new.items ≡ out.old.items ++ flat_map (λ (i : List ℕ). codes "," ++ identifier_token i) guids.now) }
 {
     for guid in guids {
         push_further_guid(alloc, out, *guid)?;
@@ -81,7 +53,7 @@ fn push_further_guids(alloc: Global, out: &mut Vec<u8>, guids: &[Uuid]) -> Resul
 }
 
 fn push_listed_guids(alloc: Global, out: &mut Vec<u8>, guids: &[Uuid]) -> Result<(), NoMemory>
-    ensures { OnOk result (out.new.items ≡ out.old.items ++ listed (map identifier_token guids.now)) }
+    ensures { OnOk result (out.new.items ≡ out.old.items ++ listed guids.now) }
 {
     match guids.split_first() {
         None => Ok(()),
