@@ -1,5 +1,5 @@
 -- What is claimed of every run, as named facts.
-use Rattle.std.specs.Prelude.{◌≡◌, ◌≢◌, ◌⊎◌, ◌≤◌, ℕ, ◌+◌, List, [], ◌∷◌, length, map, filter, max, nat_lt, Bool, true, false, Option, Some, None}
+use Rattle.std.specs.Prelude.{◌≡◌, ◌≢◌, ◌⊎◌, ◌≤◌, ℕ, List, [], length, filter, max, nat_lt, Bool, true, false, None}
 use Rattle.adr_stamp.specs.declared.Oid.{Oid}
 use Rattle.adr_vector.specs.Vector.{Cursors, at, at_most}
 use Rattle.adr_event.specs.declared.event.Event.{Event}
@@ -14,10 +14,10 @@ use Rattle.adr_model.specs.Visible.{covers_update, covers_birth, visible}
 use Rattle.adr_model.specs.Directory.{directory}
 use Rattle.adr_model.specs.Store.{State, Store, updates_of, kept_of, mark_of}
 use Rattle.adr_model.specs.Serve.{Request, last_local, units_of}
-use Rattle.adr_model.specs.Reflects.{Numbers, AtMost, knowledge_of, Reflects}
+use Rattle.adr_model.specs.Reflects.{knowledge_of, Reflects}
 use Rattle.adr_model.specs.Collect.{deaths_to_collect}
-use Rattle.adr_model.specs.Replica.{Replica, Standing, Up}
-use Rattle.adr_model.specs.World.{World, Name, empty_world, replica_at, step}
+use Rattle.adr_model.specs.Replica.{Replica, Up}
+use Rattle.adr_model.specs.World.{World, Name, empty_world, step}
 use Rattle.adr_model.specs.Cycles.{cycle, reply_limit}
 use Rattle.adr_model.specs.Sound.{IsSoundWorld}
 

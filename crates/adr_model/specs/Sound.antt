@@ -1,5 +1,5 @@
 -- The sound world: what holds in every run in which no database was put back without a fresh identifier.
-use Rattle.std.specs.Prelude.{◌≡◌, ◌≢◌, ◌⊎◌, ◌≤◌, ◌<◌, ℕ, List, map, true, Option, Some, None, IsSome, IfSome}
+use Rattle.std.specs.Prelude.{◌≡◌, ◌≢◌, ◌⊎◌, ◌≤◌, ℕ, List, true, Some, None, IsSome, IfSome}
 use Rattle.adr_schema.specs.Table.{Table, class_at}
 use Rattle.adr_schema.specs.Numbered.{numbered}
 use Rattle.adr_schema.specs.declared.content.Content.TheVariants.{Class}
@@ -10,13 +10,13 @@ use Rattle.adr_model.specs.Member.{Member, Each}
 use Rattle.adr_model.specs.Update.{Identifier, Update, RowOf, Holds, ends, inv_of, usn_of, unit_of, class_attr}
 use Rattle.adr_model.specs.Place.{identifier}
 use Rattle.adr_model.specs.Reflects.{Numbers, Covers, Knowledge, knowledge_of, Reflects}
-use Rattle.adr_model.specs.Store.{Held, Kept, Mode, Normal, Store, State, updates_of}
+use Rattle.adr_model.specs.Store.{Held, Kept, Normal, Store, State, updates_of}
 use Rattle.adr_model.specs.Change.{Item, after}
 use Rattle.adr_model.specs.History.{History, no_history, last_usn, rows_at, IsCut, IsKept, IsOrdered, IsBelow, WatermarkHolds}
 use Rattle.adr_model.specs.Serve.{Request, Reply}
 use Rattle.adr_model.specs.Take.{is_birth}
 use Rattle.adr_model.specs.Formed.{AreFormedRows, IsFormedStore, IsFormed, IsClosed}
-use Rattle.adr_model.specs.Replica.{Call, ToWrite, ToTake, ToCollect, ToQuarantine, change_of, Pending, Standing, Up, Replica, Scene, history_of}
+use Rattle.adr_model.specs.Replica.{Call, ToWrite, ToTake, ToCollect, ToQuarantine, change_of, Pending, Up, Replica, Scene, history_of}
 use Rattle.adr_model.specs.World.{World, Name}
 
 -- the last USN of an incarnation, 0 for an identifier that wasn't used

@@ -1,7 +1,7 @@
 -- Runs in which a disk stops or fails within a call.
-use Rattle.std.specs.Prelude.{ℕ, List, [], ◌∷◌, ◌++◌, codes}
+use Rattle.std.specs.Prelude.{ℕ, List, [], ◌∷◌, codes}
 use Rattle.adr_disk.specs.declared.memory.Crash.{Crash}
-use Rattle.adr_disk.specs.declared.memory.Crash.TheVariants.{Kept, Lost, Torn}
+use Rattle.adr_disk.specs.declared.memory.Crash.TheVariants.{Kept, Lost}
 use Rattle.adr_event.specs.declared.event.Event.{Event}
 use Rattle.adr_event.specs.declared.event.Event.TheVariants.{Controller, Add, StopAfter, Fail, Stop, Start, Show}
 use Rattle.adr_event.specs.declared.answer.Answer.{Answer}
@@ -127,6 +127,27 @@ failing_last_sync_told =
     answer (codes "controller") (codes "A") outcomes.Ok
     ∷ answer (codes "fail") (codes "A") outcomes.Ok
     ∷ answer (codes "add") (codes "A") outcomes.Disk
+    ∷ answer (codes "start") (codes "A") outcomes.Ok
+    ∷ answer (codes "show") (codes "A") (outcomes.Show one_object)
+    ∷ []
+
+-- what a call leaves of a plan is met by a later one
+abbrev pub met_later : List Event
+met_later =
+    new_a
+    ∷ StopAfter (codes "A") 5 Kept
+    ∷ add_container (codes "A") 16 (codes "x")
+    ∷ add_container (codes "A") 17 (codes "y")
+    ∷ Start (codes "A")
+    ∷ Show (codes "A")
+    ∷ []
+
+abbrev pub met_later_told : List Answer
+met_later_told =
+    answer (codes "controller") (codes "A") outcomes.Ok
+    ∷ answer (codes "stop") (codes "A") outcomes.Ok
+    ∷ answer (codes "add") (codes "A") (outcomes.Usn 1)
+    ∷ answer (codes "add") (codes "A") outcomes.Stopped
     ∷ answer (codes "start") (codes "A") outcomes.Ok
     ∷ answer (codes "show") (codes "A") (outcomes.Show one_object)
     ∷ []

@@ -6,9 +6,8 @@ use Rattle.adr_event.specs.declared.event.Event.{Event}
 use Rattle.adr_event.specs.declared.event.Event.TheVariants as events
 use Rattle.adr_event.specs.declared.answer.Answer.{Answer}
 use Rattle.adr_event.specs.declared.answer.Plainly.TheVariants.{Id, Number, Mark as OneMark}
-use Rattle.adr_event.specs.declared.answer.Outcome.{Outcome}
 use Rattle.adr_event.specs.declared.answer.Outcome.TheVariants as outcomes
-use Rattle.adr_model.specs.Place.{identifier, root}
+use Rattle.adr_model.specs.Place.{identifier}
 use Rattle.adr_model.specs.Refused.{field, quarantined, rolled_back}
 use Rattle.adr_model.specs.World.{answer}
 use Rattle.adr_model.specs.Acting.{mark, container}

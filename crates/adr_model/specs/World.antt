@@ -1,9 +1,8 @@
 -- A run: the time, the scene, the controllers and what is bound to names, and what each event does and is answered.
-use Rattle.std.specs.Prelude.{ℕ, List, [], ◌∷◌, ◌++◌, ◌+◌, Bool, true, false, Option, Some, None, is_some, Result, Ok, Err, map, fold, length, if◌then◌else◌, codes}
+use Rattle.std.specs.Prelude.{ℕ, List, [], ◌∷◌, ◌++◌, Bool, true, false, Option, Some, None, is_some, Result, Ok, Err, map, fold, length, if◌then◌else◌, codes}
 use Rattle.std.specs.List.{find, flat_map}
-use Rattle.std.specs.Option.{option_map, option_map_or}
+use Rattle.std.specs.Option.{option_map}
 use Rattle.std.specs.Str.{bytes_eq}
-use Rattle.adr_disk.specs.declared.memory.Crash.{Crash}
 use Rattle.adr_event.specs.declared.event.Event.{Event}
 use Rattle.adr_event.specs.declared.event.Event.TheVariants as events
 use Rattle.adr_event.specs.declared.answer.Answer.{Answer}
@@ -27,7 +26,7 @@ use Rattle.adr_model.specs.Write.{Write, AddObject, Modify, Rename, Delete, AddL
 use Rattle.adr_model.specs.Take.{take}
 use Rattle.adr_model.specs.Collect.{collect, backup, adopt, quarantine}
 use Rattle.adr_model.specs.Refused.{write_refused, serve_refused, take_refused, collect_refused, adopt_refused, quarantined}
-use Rattle.adr_model.specs.Replica.{Call, ToWrite, ToTake, ToCollect, ToQuarantine, Pending, Standing, Up, Down, Failed, Fault, Stops, Fails, Plan, Replica, on_new_disk, Scene, begun, Move, Settle, moved, Went, went, moves_of_commit, moves_of_start, standing_after, plan_after, outcome_after}
+use Rattle.adr_model.specs.Replica.{ToWrite, ToTake, ToCollect, ToQuarantine, Pending, Standing, Up, Down, Failed, Stops, Fails, Plan, Replica, on_new_disk, Scene, begun, Move, Settle, moved, went, moves_of_commit, moves_of_start, standing_after, plan_after, outcome_after}
 
 abbrev pub Name : Type 0
 Name = List ℕ

@@ -20,3 +20,7 @@ returns-clause-device c = refl
 pub returns-clause-sync : goal.returns-clause-sync
 unfolding caseless uuid_on_literals chars encode schema_1 name_fault bad_place add_refusal modify_refusal link_refusal row_refusal
 returns-clause-sync c = refl
+
+pub returns-clause-later : goal.returns-clause-later
+unfolding caseless uuid_on_literals chars encode schema_1 name_fault bad_place add_refusal modify_refusal link_refusal row_refusal
+returns-clause-later c = refl
