@@ -52,12 +52,23 @@ value_of place kind =
 unfoldable pub value_at : Reading Item
 value_at rest = u8_at rest >>= λ kind. value_of rest.place kind.0 kind.1
 
+abbrev pub kind_of : Item → ℕ
+kind_of (Text t) = 1
+kind_of (Number n) = 2
+kind_of (Flag b) = 3
+kind_of (Octets o) = 4
+kind_of (Ref guid) = 5
+
+-- what stands behind the kind
+abbrev pub told : Item → List ℕ
+told (Text t) = text t
+told (Number n) = i64 n
+told (Flag b) = flag b
+told (Octets o) = octets o
+told (Ref guid) = id guid
+
 abbrev pub value : Item → List ℕ
-value (Text t) = u8 1 ++ text t
-value (Number n) = u8 2 ++ i64 n
-value (Flag b) = u8 3 ++ flag b
-value (Octets o) = u8 4 ++ octets o
-value (Ref guid) = u8 5 ++ id guid
+value v = u8 (kind_of v) ++ told v
 
 -- values come in any order, so all have one key
 abbrev pub one_key : Item → Unit {0}

@@ -2,3 +2,4 @@ pub mod Reading
 pub mod Fields
 pub mod Composites
 pub mod Spelling
+pub mod Ranges

@@ -7,12 +7,14 @@
 #![tactic(auto)]
 
 mod composites;
+mod laws;
 mod lists;
 mod reader;
 mod refusal;
 mod writer;
 mod writing;
 
+pub use laws::{composites_have_one_spelling, fields_have_one_spelling};
 pub use reader::Reader;
 pub use refusal::WireRefusal;
 pub use writer::Writer;

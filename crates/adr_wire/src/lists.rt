@@ -111,9 +111,9 @@ impl Reader<'_> {
         let mut cursors = Vec::new(alloc);
         let mut last = None;
         for _ in 0..count {
-            let cursor = self.read_cursor_above(last)?;
-            last = Some(cursor.0);
-            cursors.push(cursor)?;
+            let (inv, usn) = self.read_cursor_above(last)?;
+            last = Some(inv);
+            cursors.push((inv, usn))?;
         }
         Ok(cursors)
     }
