@@ -1,10 +1,9 @@
 -- The laws of readings made of readings: each follows from the laws of its parts.
-use Rattle.std.proofs.Common.{◌≡◌, ℕ, zero, suc, ◌+◌, ◌<◌, ◌≤◌, Bool, true, false, cond, ltb, List, [], ◌∷◌, ◌++◌, length, get_or, take, drop, Option, Some, None, Result, Ok, Err, refl, sym, ap, subst, ◌∙◌, append_assoc, arith, inl, inr}
+use Rattle.std.proofs.Common.{◌≡◌, ℕ, zero, suc, ◌+◌, ◌<◌, ◌≤◌, Bool, true, false, cond, ltb, List, [], ◌∷◌, ◌++◌, length, take, drop, Option, Some, None, Result, Ok, Err, refl, sym, ap, subst, ◌∙◌, append_assoc, arith, inl, inr}
 use Rattle.std.specs.List.{flat_map}
-use Rattle.std.specs.declared.cmp.Ordering.{Ordering}
 use Rattle.std.proofs.lemmas.Bool.{cases_lt, ltb-false, le-ltb}
 use Rattle.std.proofs.lemmas.List.{take_at, drop_at, take-append-drop, length-append, length-take, get_or-append-add, get_or_past, get_or_append_left}
-use Rattle.adr_wire.specs.Reading.{Rest, Read, Reading, ◌>>=◌, bytes_at, as_at, where_at, then_at, elements_at, is_above, above_at}
+use Rattle.adr_wire.specs.Reading.{Rest, Read, Reading, ◌>>=◌, bytes_at, as_at, where_at, then_at, elements_at}
 use Rattle.adr_wire.specs.Spelling.{AreBytes, behind, Was, IsSpelling}
 use Rattle.adr_wire.specs.Ranges.{InTurn}
 
@@ -58,14 +57,14 @@ as_they_are bytes = bytes
 pub bytes_spelled : (n : ℕ) → IsSpelling (HasLength n) as_they_are (bytes_at n)
 bytes_spelled n = record {
   again = λ place x bytes h.
-    let long : ltb (length (x ++ bytes)) n ≡ false = le-ltb (length (x ++ bytes)) n (omega (arith, length-append x bytes)) in
-    rw (long, take_at x bytes n h, drop_at x bytes n h) (ap (λ (k : ℕ). Ok (x, from (place + k) bytes)) (sym h));
+      let long : ltb (length (x ++ bytes)) n ≡ false = le-ltb (length (x ++ bytes)) n (omega (arith, length-append x bytes)) in
+      rw (long, take_at x bytes n h, drop_at x bytes n h) (ap (λ (k : ℕ). Ok (x, from (place + k) bytes)) (sym h));
   only = λ place bytes x rest fits e.
-    let g = guard_ok (ltb (length bytes) n) place (take n bytes, from (place + n) (drop n bytes)) (x, rest) e in
-    let long : n ≤ length bytes = ltb-false (length bytes) n g.0 in
-    let len : length (take n bytes) ≡ n = omega (arith, length-take n bytes) in
-    subst (λ (p : List ℕ × Rest). Was (HasLength n) as_they_are place bytes p.0 p.1) g.1
-    (record { in_range = len; spelled_so = sym (take-append-drop n bytes); moved = ap (λ (k : ℕ). place + k) (sym len) });
+      let g = guard_ok (ltb (length bytes) n) place (take n bytes, from (place + n) (drop n bytes)) (x, rest) e in
+      let long : n ≤ length bytes = ltb-false (length bytes) n g.0 in
+      let len : length (take n bytes) ≡ n = omega (arith, length-take n bytes) in
+      subst (λ (p : List ℕ × Rest). Was (HasLength n) as_they_are place bytes p.0 p.1) g.1
+      (record { in_range = len; spelled_so = sym (take-append-drop n bytes); moved = ap (λ (k : ℕ). place + k) (sym len) });
 }
 
 -- ---- what is read, as another value
@@ -76,24 +75,24 @@ pub made : {A B : Type 0} (P : A → Type 0) (s : A → List ℕ) (a : Reading A
     → IsSpelling Q t (as_at f a)
 made {A} {B} P s a law f Q t out into = record {
   again = λ place y bytes q.
-    let o = out y q in
-    let x = o.0 in
-    let read : a (from place (s x ++ bytes)) ≡ Ok (x, behind place (s x) bytes) = law.again place x bytes o.2 in
-    ap (λ (spelled : List ℕ). as_at f a (from place (spelled ++ bytes))) o.3
-    ∙ ap (λ (r : Read A). r >>= λ z. Ok (f z.0, z.1)) read
-    ∙ ap (λ (spelled : List ℕ). Ok (f x, behind place spelled bytes)) (sym o.3)
-    ∙ ap (λ (z : B). Ok (z, behind place (t y) bytes)) (sym o.1);
+      let o = out y q in
+      let x = o.0 in
+      let read : a (from place (s x ++ bytes)) ≡ Ok (x, behind place (s x) bytes) = law.again place x bytes o.2 in
+      ap (λ (spelled : List ℕ). as_at f a (from place (spelled ++ bytes))) o.3
+      ∙ ap (λ (r : Read A). r >>= λ z. Ok (f z.0, z.1)) read
+      ∙ ap (λ (spelled : List ℕ). Ok (f x, behind place spelled bytes)) (sym o.3)
+      ∙ ap (λ (z : B). Ok (z, behind place (t y) bytes)) (sym o.1);
   only = λ place bytes y rest fits e.
-    let b = bind_ok (a (from place bytes)) (λ z. Ok (f z.0, z.1)) (y, rest) e in
-    let x = b.0.0 in
-    let was = law.only place bytes x b.0.1 fits b.1 in
-    let i = into x was.in_range (spelled_bytes P s place bytes x b.0.1 was fits) in
-    let here : Was Q t place bytes (f x) b.0.1 = record {
-      in_range = i.0;
-      spelled_so = was.spelled_so ∙ ap (λ (spelled : List ℕ). spelled ++ b.0.1.bytes) (sym i.1);
-      moved = was.moved ∙ ap (λ (spelled : List ℕ). place + length spelled) (sym i.1);
-    } in
-    subst (λ (p : B × Rest). Was Q t place bytes p.0 p.1) (ok_is (f x, b.0.1) (y, rest) b.2) here;
+      let b = bind_ok (a (from place bytes)) (λ z. Ok (f z.0, z.1)) (y, rest) e in
+      let x = b.0.0 in
+      let was = law.only place bytes x b.0.1 fits b.1 in
+      let i = into x was.in_range (spelled_bytes P s place bytes x b.0.1 was fits) in
+      let here : Was Q t place bytes (f x) b.0.1 = record {
+        in_range = i.0;
+        spelled_so = was.spelled_so ∙ ap (λ (spelled : List ℕ). spelled ++ b.0.1.bytes) (sym i.1);
+        moved = was.moved ∙ ap (λ (spelled : List ℕ). place + length spelled) (sym i.1);
+      } in
+      subst (λ (p : B × Rest). Was Q t place bytes p.0 p.1) (ok_is (f x, b.0.1) (y, rest) b.2) here;
 }
 
 -- the same range, said otherwise
@@ -108,14 +107,14 @@ in_range_too P s a law Q to back = record {
 pub passed : {A : Type 0} (P : A → Type 0) (s : A → List ℕ) (a : Reading A) → IsSpelling P s a → (test : A → Bool) → IsSpelling (λ x. P x × (test x ≡ true)) s (where_at test a)
 passed {A} P s a law test = record {
   again = λ place x bytes q.
-    ap (λ (r : Read A). r >>= λ z. cond (test z.0) (Ok z) (Err place)) (law.again place x bytes q.0)
-    ∙ ap (λ (b : Bool). cond b (Ok (x, behind place (s x) bytes)) (Err place)) q.1;
+      ap (λ (r : Read A). r >>= λ z. cond (test z.0) (Ok z) (Err place)) (law.again place x bytes q.0)
+      ∙ ap (λ (b : Bool). cond b (Ok (x, behind place (s x) bytes)) (Err place)) q.1;
   only = λ place bytes x rest fits e.
-    let b = bind_ok (a (from place bytes)) (λ z. cond (test z.0) (Ok z) (Err place)) (x, rest) e in
-    let g = passed_ok (test b.0.0) place b.0 (x, rest) b.2 in
-    let was = law.only place bytes b.0.0 b.0.1 fits b.1 in
-    subst (λ (p : A × Rest). Was (λ z. P z × (test z ≡ true)) s place bytes p.0 p.1) g.1
-    (record { in_range = (was.in_range, g.0); spelled_so = was.spelled_so; moved = was.moved });
+      let b = bind_ok (a (from place bytes)) (λ z. cond (test z.0) (Ok z) (Err place)) (x, rest) e in
+      let g = passed_ok (test b.0.0) place b.0 (x, rest) b.2 in
+      let was = law.only place bytes b.0.0 b.0.1 fits b.1 in
+      subst (λ (p : A × Rest). Was (λ z. P z × (test z ≡ true)) s place bytes p.0 p.1) g.1
+      (record { in_range = (was.in_range, g.0); spelled_so = was.spelled_so; moved = was.moved });
 }
 
 -- ---- one behind the other
@@ -128,27 +127,27 @@ pub both : {A B : Type 0} (P : A → Type 0) (s : A → List ℕ) (a : Reading A
     → IsSpelling (λ p. P p.0 × Q p.0 p.1) (λ p. s p.0 ++ t p.0 p.1) (then_at a b)
 both {A} {B} P s a law Q t b laws = record {
   again = λ place p bytes q.
-    let x = p.0 in
-    let y = p.1 in
-    ap (λ (all : List ℕ). then_at a b (from place all)) (append_assoc (s x) (t x y) bytes)
-    ∙ ap (λ (r : Read A). r >>= λ u. b u.0 u.1 >>= λ v. Ok ((u.0, v.0), v.1)) (law.again place x (t x y ++ bytes) q.0)
-    ∙ ap (λ (r : Read B). r >>= λ v. Ok ((x, v.0), v.1)) ((laws x q.0).again (place + length (s x)) y bytes q.1)
-    ∙ ap (λ (n : ℕ). Ok ((x, y), from n bytes)) (further place (s x) (t x y));
+      let x = p.0 in
+      let y = p.1 in
+      ap (λ (all : List ℕ). then_at a b (from place all)) (append_assoc (s x) (t x y) bytes)
+      ∙ ap (λ (r : Read A). r >>= λ u. b u.0 u.1 >>= λ v. Ok ((u.0, v.0), v.1)) (law.again place x (t x y ++ bytes) q.0)
+      ∙ ap (λ (r : Read B). r >>= λ v. Ok ((x, v.0), v.1)) ((laws x q.0).again (place + length (s x)) y bytes q.1)
+      ∙ ap (λ (n : ℕ). Ok ((x, y), from n bytes)) (further place (s x) (t x y));
   only = λ place bytes p rest fits e.
-    let first = bind_ok (a (from place bytes)) (λ u. b u.0 u.1 >>= λ v. Ok ((u.0, v.0), v.1)) (p, rest) e in
-    let x = first.0.0 in
-    let mid = first.0.1 in
-    let second = bind_ok (b x mid) (λ v. Ok ((x, v.0), v.1)) (p, rest) first.2 in
-    let y = second.0.0 in
-    let end = second.0.1 in
-    let was = law.only place bytes x mid fits first.1 in
-    let then = (laws x was.in_range).only mid.place mid.bytes y end (rest_bytes P s place bytes x mid was fits) second.1 in
-    let here : Was (λ z. P z.0 × Q z.0 z.1) (λ z. s z.0 ++ t z.0 z.1) place bytes (x, y) end = record {
-      in_range = (was.in_range, then.in_range);
-      spelled_so = was.spelled_so ∙ ap (λ (w : List ℕ). s x ++ w) then.spelled_so ∙ sym (append_assoc (s x) (t x y) end.bytes);
-      moved = then.moved ∙ ap (λ (n : ℕ). n + length (t x y)) was.moved ∙ further place (s x) (t x y);
-    } in
-    subst (λ (z : (A × B) × Rest). Was (λ z. P z.0 × Q z.0 z.1) (λ z. s z.0 ++ t z.0 z.1) place bytes z.0 z.1) (ok_is ((x, y), end) (p, rest) second.2) here;
+      let first = bind_ok (a (from place bytes)) (λ u. b u.0 u.1 >>= λ v. Ok ((u.0, v.0), v.1)) (p, rest) e in
+      let x = first.0.0 in
+      let mid = first.0.1 in
+      let second = bind_ok (b x mid) (λ v. Ok ((x, v.0), v.1)) (p, rest) first.2 in
+      let y = second.0.0 in
+      let end = second.0.1 in
+      let was = law.only place bytes x mid fits first.1 in
+      let then = (laws x was.in_range).only mid.place mid.bytes y end (rest_bytes P s place bytes x mid was fits) second.1 in
+      let here : Was (λ z. P z.0 × Q z.0 z.1) (λ z. s z.0 ++ t z.0 z.1) place bytes (x, y) end = record {
+        in_range = (was.in_range, then.in_range);
+        spelled_so = was.spelled_so ∙ ap (λ (w : List ℕ). s x ++ w) then.spelled_so ∙ sym (append_assoc (s x) (t x y) end.bytes);
+        moved = then.moved ∙ ap (λ (n : ℕ). n + length (t x y)) was.moved ∙ further place (s x) (t x y);
+      } in
+      subst (λ (z : (A × B) × Rest). Was (λ z. P z.0 × Q z.0 z.1) (λ z. s z.0 ++ t z.0 z.1) place bytes z.0 z.1) (ok_is ((x, y), end) (p, rest) second.2) here;
 }
 
 -- where the whole is read behind its first part, and says what that part was
@@ -157,23 +156,23 @@ pub followed : {A E : Type 0} (P : A → Type 0) (s : A → List ℕ) (a : Readi
     → IsSpelling (λ e. P (head e) × R e) (λ e. s (head e) ++ t e) (λ rest. a rest >>= λ x. b rest.place x.0 x.1)
 followed {A} {E} P s a law head R t b laws = record {
   again = λ place e bytes q.
-    let x = head e in
-    ap (λ (all : List ℕ). a (from place all) >>= λ u. b place u.0 u.1) (append_assoc (s x) (t e) bytes)
-    ∙ ap (λ (r : Read A). r >>= λ u. b place u.0 u.1) (law.again place x (t e ++ bytes) q.0)
-    ∙ (laws place x q.0).again (place + length (s x)) e bytes (q.1, refl)
-    ∙ ap (λ (n : ℕ). Ok (e, from n bytes)) (further place (s x) (t e));
+      let x = head e in
+      ap (λ (all : List ℕ). a (from place all) >>= λ u. b place u.0 u.1) (append_assoc (s x) (t e) bytes)
+      ∙ ap (λ (r : Read A). r >>= λ u. b place u.0 u.1) (law.again place x (t e ++ bytes) q.0)
+      ∙ (laws place x q.0).again (place + length (s x)) e bytes (q.1, refl)
+      ∙ ap (λ (n : ℕ). Ok (e, from n bytes)) (further place (s x) (t e));
   only = λ place bytes e rest fits h.
-    let first = bind_ok (a (from place bytes)) (λ u. b place u.0 u.1) (e, rest) h in
-    let x = first.0.0 in
-    let mid = first.0.1 in
-    let was = law.only place bytes x mid fits first.1 in
-    let then = (laws place x was.in_range).only mid.place mid.bytes e rest (rest_bytes P s place bytes x mid was fits) first.2 in
-    let same : x ≡ head e = sym then.in_range.1 in
-    record {
-      in_range = (subst P same was.in_range, then.in_range.0);
-      spelled_so = was.spelled_so ∙ ap (λ (w : List ℕ). s x ++ w) then.spelled_so ∙ sym (append_assoc (s x) (t e) rest.bytes) ∙ ap (λ (z : A). (s z ++ t e) ++ rest.bytes) same;
-      moved = then.moved ∙ ap (λ (n : ℕ). n + length (t e)) was.moved ∙ further place (s x) (t e) ∙ ap (λ (z : A). place + length (s z ++ t e)) same;
-    };
+      let first = bind_ok (a (from place bytes)) (λ u. b place u.0 u.1) (e, rest) h in
+      let x = first.0.0 in
+      let mid = first.0.1 in
+      let was = law.only place bytes x mid fits first.1 in
+      let then = (laws place x was.in_range).only mid.place mid.bytes e rest (rest_bytes P s place bytes x mid was fits) first.2 in
+      let same : x ≡ head e = sym then.in_range.1 in
+      record {
+        in_range = (subst P same was.in_range, then.in_range.0);
+        spelled_so = was.spelled_so ∙ ap (λ (w : List ℕ). s x ++ w) then.spelled_so ∙ sym (append_assoc (s x) (t e) rest.bytes) ∙ ap (λ (z : A). (s z ++ t e) ++ rest.bytes) same;
+        moved = then.moved ∙ ap (λ (n : ℕ). n + length (t e)) was.moved ∙ further place (s x) (t e) ∙ ap (λ (z : A). place + length (s z ++ t e)) same;
+      };
 }
 
 -- ---- a choice, and nothing
@@ -188,14 +187,14 @@ never P s place none = record { again = λ at x bytes p. absurd (none x p); only
 pub nothing : {A : Type 0} (P : A → Type 0) (s : A → List ℕ) (x : A) → P x → s x ≡ [] → ((y : A) → P y → y ≡ x) → IsSpelling P s (λ rest. Ok (x, rest))
 nothing {A} P s x p e only_one = record {
   again = λ place y bytes q.
-    let same = only_one y q in
-    ap (λ (spelled : List ℕ). done (x, from place (spelled ++ bytes))) (ap s same ∙ e)
-    ∙ ap (λ (n : ℕ). done (x, from n bytes)) (let none : place ≡ place + length (s y) = (let len = ap length (ap s same ∙ e) in omega arith) in none)
-    ∙ ap (λ (z : A). done (z, behind place (s y) bytes)) (sym same);
+      let same = only_one y q in
+      ap (λ (spelled : List ℕ). done (x, from place (spelled ++ bytes))) (ap s same ∙ e)
+      ∙ ap (λ (n : ℕ). done (x, from n bytes)) (let none : place ≡ place + length (s y) = (let len = ap length (ap s same ∙ e) in omega arith) in none)
+      ∙ ap (λ (z : A). done (z, behind place (s y) bytes)) (sym same);
   only = λ place bytes y rest fits h.
-    let len : length (s x) ≡ 0 = ap length e in
-    let here : Was P s place bytes x (from place bytes) = record { in_range = p; spelled_so = ap (λ (spelled : List ℕ). spelled ++ bytes) (sym e); moved = omega arith } in
-    subst (λ (z : A × Rest). Was P s place bytes z.0 z.1) (ok_is (x, from place bytes) (y, rest) h) here;
+      let len : length (s x) ≡ 0 = ap length e in
+      let here : Was P s place bytes x (from place bytes) = record { in_range = p; spelled_so = ap (λ (spelled : List ℕ). spelled ++ bytes) (sym e); moved = omega arith } in
+      subst (λ (z : A × Rest). Was P s place bytes z.0 z.1) (ok_is (x, from place bytes) (y, rest) h) here;
 }
 
 -- two in a row, of which neither speaks of the other

@@ -1,21 +1,16 @@
 -- Each composite is spelled in one way.
-use Rattle.std.proofs.Common.{◌≡◌, ℕ, ◌<◌, ◌≤◌, ◌^◌, Bool, true, false, cond, leb, eqb, List, [], ◌∷◌, ◌++◌, length, Option, Some, None, Ok, refl, sym, ap, subst, ◌∙◌, arith}
-use Rattle.std.specs.Prelude.{ℤ, ⊤}
+use Rattle.std.proofs.Common.{◌≡◌, ℕ, ◌≤◌, Bool, true, false, leb, eqb, List, [], ◌∷◌, ◌++◌, length, Option, Some, None, Ok, refl, sym, ap, subst, arith}
+use Rattle.std.specs.Prelude.{ℤ}
 use Rattle.std.specs.List.{flat_map, AllByRecursion}
 use Rattle.std.specs.Ordering.{nat_cmp}
 use Rattle.std.proofs.lemmas.Bool.{eqb-true, leb-true, le-leb}
-use Rattle.adr_stamp.specs.declared.Oid.{Oid}
-use Rattle.adr_stamp.specs.declared.Stamp.{Stamp}
-use Rattle.adr_stamp.specs.declared.LinkStamp.{LinkStamp}
-use Rattle.adr_stamp.specs.declared.LinkKey.{LinkKey}
 use Rattle.adr_schema.specs.declared.content.Value.{Value as Item}
 use Rattle.adr_schema.specs.declared.content.Value.TheVariants.{Text, Number, Flag, Octets, Ref}
 use Rattle.adr_schema.specs.declared.content.Content.{Content}
 use Rattle.adr_schema.specs.declared.content.Content.TheVariants.{Class, Name, Dead, Values}
-use Rattle.adr_vector.specs.declared.mark.Mark.{Mark}
-use Rattle.adr_wire.specs.Reading.{Rest, Reading, ◌>>=◌, as_at, where_at, then_at, elements_at, is_above}
+use Rattle.adr_wire.specs.Reading.{as_at, where_at, then_at, is_above}
 use Rattle.adr_wire.specs.Fields.{u8_at, u16_at, u64_at, i64_at, id_at, flag_at, usn_at, usn0_at, version_at, octets_at, text_at, u8, u16, u32, u64, i64, id, flag, octets, text}
-use Rattle.adr_wire.specs.Composites.{mark_at, mark, oid_at, oid, stamp_at, stamp, value_of, value_at, kind_of, told, value, one_key, values_at, content_at, content, Row, row_of, row_above, row_at, row, rows_at, object_at, object, link_key_at, link_key, link_stamp_at, link_stamp, LinkItem, link_at, link}
+use Rattle.adr_wire.specs.Composites.{mark_at, mark, oid_at, oid, stamp_at, stamp, value_of, value_at, kind_of, told, value, one_key, values_at, content_at, content, Row, row_of, row_above, row_at, row, rows_at, object_at, object, link_key_at, link_key, link_stamp_at, link_stamp, link_at, link}
 use Rattle.adr_wire.specs.Spelling.{IsSpelling}
 use Rattle.adr_wire.specs.Ranges.{IsU8, IsU16, IsU64, IsI64, IsId, IsFlag, IsUsn, IsUsn0, IsVersion, IsOctets, IsText, IsMark, IsOid, IsStamp, IsValue, IsContent, IsRow, InTurn, IsRowAbove, RowsRise, IsObject, IsLink}
 use Rattle.adr_wire.proofs.Combining.{made, in_range_too, passed, both, pair, followed, either, never, nothing, elements_spelled, counted}

@@ -1,19 +1,18 @@
 -- Each field and each composite is spelled in one way.
-use Rattle.std.proofs.Common.{◌≡◌, ℕ, zero, suc, ◌+◌, ◌<◌, ◌≤◌, ◌^◌, Bool, true, false, cond, ltb, leb, eqb, ◌&&◌, List, [], ◌∷◌, ◌++◌, length, get_or, take, drop, Option, Some, None, Result, Ok, Err, refl, sym, ap, subst, ◌∙◌, arith}
-use Rattle.std.specs.Prelude.{ℤ, FitsSigned, ⊤}
-use Rattle.std.specs.List.{flat_map, AllByRecursion}
+use Rattle.std.proofs.Common.{◌≡◌, ℕ, zero, suc, ◌<◌, ◌^◌, Bool, true, false, cond, ltb, leb, eqb, ◌&&◌, List, [], ◌∷◌, ◌++◌, length, Ok, Err, refl, sym, ap, ◌∙◌, arith}
+use Rattle.std.specs.Prelude.{⊤}
 use Rattle.std.specs.Int.{Width, w16, w32, w64, byte_len, from_be_bytes, to_be_bytes, cast_signed, cast_unsigned}
 use Rattle.std.specs.Str.{is_utf8}
-use Rattle.std.proofs.lemmas.Bool.{ltb-true, ltb-false, le-ltb, lt-ltb, leb-true, leb-false, le-leb, lt-leb, eqb-true}
-use Rattle.std.proofs.lemmas.List.{take_at, drop_at, take-append-drop, length-append, length-take}
+use Rattle.std.proofs.lemmas.Bool.{ltb-true, le-ltb, lt-ltb, leb-true, le-leb}
+use Rattle.std.proofs.lemmas.List.{length-append}
 use Rattle.std.proofs.lemmas.Nat.{be_bytes_2, be_bytes_4, be_bytes_8, from_be_bytes-to_be_bytes_2, from_be_bytes-to_be_bytes_4, from_be_bytes-to_be_bytes_8}
 use Rattle.std.proofs.lemmas.Int.{to_z-of_z, of_z-to_z}
 use Rattle.std.proofs.Math.Facts.{Fits-of_z, sfits_to_z}
-use Rattle.adr_wire.specs.Reading.{Rest, Read, Reading, ◌>>=◌, bytes_at, as_at, where_at, then_at}
+use Rattle.adr_wire.specs.Reading.{Rest, Read, bytes_at, where_at}
 use Rattle.adr_wire.specs.Fields.{byte_of, u8_at, number_at, u16_at, u32_at, u64_at, i64_at, id_at, flag_at, is_usn, is_usn0, is_version, usn_at, usn0_at, version_at, octets_at, text_at, u8, u16, u32, u64, i64, id, flag, octets, text}
-use Rattle.adr_wire.specs.Spelling.{AreBytes, behind, Was, IsSpelling}
+use Rattle.adr_wire.specs.Spelling.{AreBytes, IsSpelling}
 use Rattle.adr_wire.specs.Ranges.{IsU8, IsU16, IsU32, IsU64, IsI64, IsId, IsFlag, IsUsn, IsUsn0, IsVersion, IsOctets, IsText}
-use Rattle.adr_wire.proofs.Combining.{from, HasLength, as_they_are, bytes_spelled, made, in_range_too, passed, both, followed, either, never, guard_ok, rest_bytes}
+use Rattle.adr_wire.proofs.Combining.{from, HasLength, as_they_are, bytes_spelled, made, in_range_too, passed, followed}
 
 -- ---- numbers
 
@@ -135,12 +134,12 @@ flag_spelled =
 so_many : (place n : ℕ) → IsSpelling (λ bytes. ⊤ × (length bytes ≡ n)) as_they_are (λ rest. cond (ltb (length rest.bytes) n) (Err place) (bytes_at n rest))
 so_many place n = record {
   again = λ at x bytes q.
-    let long : ltb (length (x ++ bytes)) n ≡ false = (let h = q.1 in le-ltb (length (x ++ bytes)) n (omega (arith, length-append x bytes))) in
-    ap (λ (b : Bool). cond b (Err place) (bytes_at n (from at (x ++ bytes)))) long ∙ (bytes_spelled n).again at x bytes q.1;
+      let long : ltb (length (x ++ bytes)) n ≡ false = (let h = q.1 in le-ltb (length (x ++ bytes)) n (omega (arith, length-append x bytes))) in
+      ap (λ (b : Bool). cond b (Err place) (bytes_at n (from at (x ++ bytes)))) long ∙ (bytes_spelled n).again at x bytes q.1;
   only = λ at bytes x rest fits e.
-    let long = enough (ltb (length bytes) n) (bytes_at n (from at bytes)) (x, rest) e in
-    let was = (bytes_spelled n).only at bytes x rest fits long in
-    record { in_range = (tt, was.in_range); spelled_so = was.spelled_so; moved = was.moved };
+      let long = enough (ltb (length bytes) n) (bytes_at n (from at bytes)) (x, rest) e in
+      let was = (bytes_spelled n).only at bytes x rest fits long in
+      record { in_range = (tt, was.in_range); spelled_so = was.spelled_so; moved = was.moved };
 }
   where
     enough : (b : Bool) (r : Read (List ℕ)) (y : List ℕ × Rest) → cond b (Err place) r ≡ Ok y → r ≡ Ok y

@@ -1,11 +1,9 @@
 -- Reading elements one after the other, as a loop does.
-use Rattle.std.proofs.Common.{◌≡◌, ℕ, zero, suc, ◌-◌, ◌+◌, ◌≤◌, ◌<◌, List, [], ◌∷◌, ◌++◌, Option, Some, None, Result, Ok, Err, refl, sym, ap, ◌∙◌, append_assoc, arith}
+use Rattle.std.proofs.Common.{◌≡◌, ℕ, zero, suc, ◌-◌, ◌+◌, ◌≤◌, ◌<◌, List, [], ◌∷◌, ◌++◌, Option, Some, Ok, Err, refl, sym, ap, ◌∙◌, append_assoc, arith}
 use Rattle.std.proofs.lemmas.List.{append-nil}
-use Rattle.std.proofs.lemmas.Result.{err_from_is_err_and}
-use Rattle.std.specs.Result.{IsErrAnd}
 use Rattle.adr_wire.specs.declared.refusal.WireRefusal.{WireRefusal}
 use Rattle.adr_wire.specs.declared.refusal.WireRefusal.TheVariants as refusals
-use Rattle.adr_wire.specs.Reading.{Rest, Read, Reading, ◌>>=◌, Refuses, Names, GivesAs, elements_at}
+use Rattle.adr_wire.specs.Reading.{Rest, Read, Reading, ◌>>=◌, Refuses, Names, elements_at}
 
 -- what was read before, and what is still read
 abbrev pub with_front : {E : Type 0} → List E → Read (List E) → Read (List E)

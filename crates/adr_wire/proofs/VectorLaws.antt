@@ -1,7 +1,6 @@
 -- Vectors are spelled in one way, and what is read is a vector.
-use Rattle.std.proofs.Common.{◌≡◌, ℕ, ◌<◌, ◌≤◌, ◌^◌, Bool, true, false, cond, leb, ltb, ◌&&◌, List, [], ◌∷◌, ◌++◌, length, Option, Some, None, Result, Ok, Err, IfSome, refl, sym, ap, subst, ◌∙◌, arith}
-use Rattle.std.specs.Prelude.{⊤}
-use Rattle.std.specs.List.{flat_map, AllByRecursion}
+use Rattle.std.proofs.Common.{◌≡◌, ℕ, ◌≤◌, ◌^◌, Bool, true, false, cond, leb, ltb, ◌&&◌, List, [], ◌∷◌, length, Option, Some, None, Ok, Err, IfSome, refl, ap, subst, arith}
+use Rattle.std.specs.List.{AllByRecursion}
 use Rattle.std.specs.Ordering.{is_lt}
 use Rattle.std.specs.declared.cmp.Ordering.{Ordering}
 use Rattle.std.specs.declared.cmp.Ordering.TheVariants.{Less, Equal, Greater}
@@ -9,7 +8,7 @@ use Rattle.std.proofs.lemmas.Bool.{leb-true, le-leb}
 use Rattle.adr_stamp.specs.Order.{identifier_order}
 use Rattle.adr_vector.specs.Vector.{Cursors, IsVector, most_cursors}
 use Rattle.adr_vector.proofs.Cursors.{IsRising, FromOne, IsBelow, below_all, head_below, tail_rising, cons_rising, nil_rising}
-use Rattle.adr_wire.specs.Reading.{Rest, Read, Reading, ◌>>=◌, as_at, where_at, then_at, elements_at, is_above}
+use Rattle.adr_wire.specs.Reading.{Rest, as_at, where_at, is_above}
 use Rattle.adr_wire.specs.Fields.{u32_at, u64_at, id_at, usn_at, is_usn, u32, u64, id}
 use Rattle.adr_wire.specs.Composites.{cursor_above, cursors_at, vector_at, cursor, vector}
 use Rattle.adr_wire.specs.Spelling.{IsSpelling}
@@ -60,6 +59,7 @@ next_read last rest after c h =
     two : (a b : Bool) → (a && b) ≡ true → a ≡ true
     two true b e = refl
     two false b e = absurd (cc)
+
     first : (n : ℕ) → is_usn n ≡ true → 1 ≤ n
     first n e = leb-true 1 n (two (leb 1 n) (ltb n (2 ^ 63)) e)
 

@@ -1,8 +1,7 @@
 -- The composites: marks, names, stamps, values, contents, rows, and the lists of them.
-use Rattle.std.specs.Prelude.{◌≡◌, ℕ, zero, suc, ◌<◌, ◌≤◌, ◌^◌, ◌+◌, List, [], ◌∷◌, ◌++◌, length, Bool, true, false, nat_lt, nat_le, ◌&&◌, if◌then◌else◌, ◌==◌, Option, None, Some, Result, Ok, Err, ⊤, All}
+use Rattle.std.specs.Prelude.{ℕ, ◌<◌, ◌^◌, List, [], ◌++◌, length, Bool, nat_le, if◌then◌else◌, ◌==◌, Option, None, Ok, Err, ⊤, All}
 use Rattle.std.specs.List.{flat_map}
 use Rattle.std.specs.Ordering.{nat_cmp}
-use Rattle.adr_stamp.specs.declared.Birth.{Birth}
 use Rattle.adr_stamp.specs.declared.Oid.{Oid}
 use Rattle.adr_stamp.specs.declared.Stamp.{Stamp}
 use Rattle.adr_stamp.specs.declared.LinkStamp.{LinkStamp}
@@ -14,7 +13,7 @@ use Rattle.adr_schema.specs.declared.content.Content.{Content}
 use Rattle.adr_schema.specs.declared.content.Content.TheVariants.{Class, Name, Dead, Values}
 use Rattle.adr_vector.specs.declared.mark.Mark.{Mark}
 use Rattle.adr_vector.specs.Vector.{Cursors, most_cursors}
-use Rattle.adr_wire.specs.Reading.{Rest, Read, Reading, ◌>>=◌, as_at, where_at, then_at, elements_at, above_at}
+use Rattle.adr_wire.specs.Reading.{Reading, ◌>>=◌, as_at, where_at, then_at, elements_at, above_at}
 use Rattle.adr_wire.specs.Fields.{u8_at, u16_at, u32_at, u64_at, i64_at, id_at, flag_at, usn_at, usn0_at, version_at, text_at, octets_at, u8, u16, u32, u64, i64, id, flag, text, octets}
 
 -- ---- marks, names and stamps

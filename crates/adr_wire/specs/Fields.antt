@@ -1,8 +1,8 @@
 -- The fields: how each value is spelled in bytes, and how it is read.
-use Rattle.std.specs.Prelude.{◌≡◌, ℕ, ◌<◌, ◌≤◌, ◌^◌, ◌+◌, List, [], ◌∷◌, ◌++◌, length, take, drop, Bool, true, false, nat_lt, nat_le, ◌&&◌, if◌then◌else◌, ◌==◌, Result, Ok, Err, ℤ}
+use Rattle.std.specs.Prelude.{ℕ, ◌^◌, List, [], ◌∷◌, ◌++◌, length, Bool, nat_lt, nat_le, ◌&&◌, if◌then◌else◌, ◌==◌, Err, ℤ}
 use Rattle.std.specs.Int.{Width, w16, w32, w64, byte_len, from_be_bytes, to_be_bytes, cast_signed, cast_unsigned}
 use Rattle.std.specs.Str.{is_utf8}
-use Rattle.adr_wire.specs.Reading.{Rest, Read, Reading, ◌>>=◌, bytes_at, as_at, where_at}
+use Rattle.adr_wire.specs.Reading.{Reading, ◌>>=◌, bytes_at, as_at, where_at}
 
 -- ---- numbers, the high byte first
 

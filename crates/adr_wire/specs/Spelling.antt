@@ -1,6 +1,6 @@
 -- That a value and its bytes determine each other.
-use Rattle.std.specs.Prelude.{◌≡◌, ℕ, ◌<◌, ◌≤◌, ◌+◌, List, ◌++◌, length, slice_index, Result, Ok, Err}
-use Rattle.adr_wire.specs.Reading.{Rest, Read, Reading}
+use Rattle.std.specs.Prelude.{◌≡◌, ℕ, ◌<◌, ◌+◌, List, ◌++◌, length, slice_index, Ok}
+use Rattle.adr_wire.specs.Reading.{Rest, Reading}
 
 -- these are bytes
 abbrev pub AreBytes : List ℕ → Type 0

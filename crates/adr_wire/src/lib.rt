@@ -21,3 +21,6 @@ pub use writer::Writer;
 
 /// Memory ran out.
 pub type NoMemory = std::alloc::AllocError;
+
+#[cfg(test)]
+mod tests;

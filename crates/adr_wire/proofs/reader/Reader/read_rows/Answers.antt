@@ -2,7 +2,7 @@ use Rattle.std.proofs.Common.{None}
 use Rattle.std.proofs.lemmas.Result.{err_from_is_err_and}
 use Rattle.adr_wire.specs.Reading.{elements_at}
 use Rattle.adr_wire.specs.Composites.{row_above, rows_at}
-use Rattle.adr_wire.proofs.Loops.{goes_on, ends, names_refuses}
+use Rattle.adr_wire.proofs.Loops.{goes_on, ends}
 use Rattle.adr_wire.proofs.reader.Reader.read_rows.Goals as goal
 
 pub returns-in_err-row : goal.returns-in_err-row

@@ -1,4 +1,4 @@
-use Rattle.std.proofs.Common.{◌≡◌, ◌-◌, Option, None}
+use Rattle.std.proofs.Common.{◌≡◌, ◌-◌, None}
 use Rattle.adr_wire.specs.Composites.{row_above}
 use Rattle.adr_wire.specs.Reading.{elements_at}
 use Rattle.adr_wire.proofs.Loops.{with_front}

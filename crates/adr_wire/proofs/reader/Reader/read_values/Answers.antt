@@ -2,7 +2,7 @@ use Rattle.std.proofs.Common.{None, Some, ap, ◌∙◌, ◌++◌, ◌∷◌, []
 use Rattle.std.proofs.lemmas.Result.{err_from_is_err_and}
 use Rattle.adr_wire.specs.Reading.{elements_at}
 use Rattle.adr_wire.specs.Composites.{value_at, one_key, values_at}
-use Rattle.adr_wire.proofs.Loops.{with_front, any_last, goes_on, ends, names_refuses}
+use Rattle.adr_wire.proofs.Loops.{with_front, any_last, goes_on, ends}
 use Rattle.adr_wire.proofs.reader.Reader.read_values.Goals as goal
 
 pub returns-in_err-value : goal.returns-in_err-value

@@ -1,5 +1,5 @@
-use Rattle.std.proofs.Common.{◌≡◌, ◌-◌, Option, None}
-use Rattle.adr_wire.specs.Composites.{value_at, one_key, values_at}
+use Rattle.std.proofs.Common.{◌≡◌, ◌-◌, None}
+use Rattle.adr_wire.specs.Composites.{value_at, one_key}
 use Rattle.adr_wire.specs.Reading.{elements_at}
 use Rattle.adr_wire.proofs.Loops.{with_front}
 use Rattle.adr_wire.proofs.reader.Reader.read_values.Given as goal
