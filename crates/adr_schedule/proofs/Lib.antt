@@ -1,2 +1,6 @@
 pub mod LineLemmas
 pub mod EventLemmas
+pub mod PlainBytes
+pub mod EventLaws
+pub mod PrintLaws
+pub mod SetLemmas

@@ -1,2 +1,6 @@
+pub mod Faults
 pub mod Lines
+pub mod Commands
+pub mod Seen
 pub mod Events
+pub mod Printed

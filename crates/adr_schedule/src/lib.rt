@@ -1,9 +1,19 @@
-//! Schedules: the events that the lines of a text stand for.
+//! Schedules: the events that the lines of a text stand for, and the text of some events. It stands
+//! on the tokens of `adr_token` and the events of `adr_event`, and knows nothing of what an event
+//! does.
 #![tactic(auto)]
 
-mod event;
+mod commands;
+mod fault;
 mod lines;
 mod parsing;
+mod printing;
+mod seen;
 
-pub use event::{Cause, Event, ParseRefusal, ScheduleFault};
+pub use adr_event::Event;
+pub use fault::{Cause, ParseRefusal, ScheduleFault};
 pub use parsing::parse;
+pub use printing::{events_are_read_again, print};
+
+#[cfg(test)]
+mod tests;

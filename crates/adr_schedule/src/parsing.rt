@@ -1,75 +1,37 @@
 //! The events of a text.
 
-ghost use Rattle.std.specs.Prelude.{◌≡◌, ℕ, List, Result, Ok, Err, IfOk, IfErr, OnOk, MatchResult, [], ◌++◌, length};
+ghost use Rattle.std.specs.Prelude.{◌≡◌, ℕ, List, Ok, Err, IfOk, IfErr, OnOk, ◌++◌, length};
 ghost use Rattle.std.specs.Option.{option_to_list};
-ghost use Rattle.adr_schedule.specs.Events.{events_of, events_from, may_follow, seen_after, nothing_seen, Tells, Parses, FollowsTo};
-ghost use Rattle.adr_schedule.specs.declared.parsing.Seen.{Seen};
+ghost use Rattle.adr_schedule.specs.Faults.{RefusesLine, Refuses};
+ghost use Rattle.adr_schedule.specs.Seen.{nothing_seen, IsFollowing};
+ghost use Rattle.adr_schedule.specs.Events.{line_after, seen_with, events_of};
 
-use crate::event::{Cause, Event, ParseRefusal, ScheduleFault};
-use crate::lines::{event_of, first_line, is_passed};
-use adr_token::Stop;
-use adr_schema::Text;
+use crate::commands::{event_of, is_passed};
+use crate::fault::{Cause, LineRefusal, ParseRefusal, ScheduleFault};
+use crate::lines::first_line;
+use crate::seen::Seen;
+use adr_event::Event;
+use adr_token::utf8;
 use std::alloc::Global;
 
-/// What earlier lines said: the controller that was made, and whether an object was added.
-#[derive(Debug, Drop)]
-pub struct Seen {
-    pub controller: Text,
-    pub added: bool,
-}
-
-/// Nothing was said yet.
-fn nothing_seen(alloc: Global) -> Seen
-    ensures { result ≡ nothing_seen }
-{
-    Seen {
-        controller: Text::empty(alloc),
-        added: false,
-    }
-}
-
-/// Whether the event may follow what was said before.
-fn may_follow(seen: &Seen, event: &Event) -> bool
-    ensures { result ≡ may_follow seen.now event.now }
-{
-    match event {
-        Event::Controller { .. } => seen.controller.items().len() == 0,
-        Event::Time { .. } => true,
-        Event::Add { name, .. } => seen.controller.items() == name.items() && !seen.added,
-        Event::Show { name } => seen.controller.items() == name.items(),
-    }
-}
-
-/// Notes what was said.
-fn note(alloc: Global, seen: &mut Seen, event: &Event) -> Result<(), Stop>
-    ensures seen { OnOk result (seen.new ≡ seen_after seen.old event.now) }
-    ensures memory { IfErr result (λ stop. stop ≡ Stop.NoMemory) }
-{
-    match event {
-        Event::Controller { name, .. } => {
-            let name = name.copy(alloc)?;
-            seen.controller = name;
-        }
-        Event::Time { .. } => {}
-        Event::Add { .. } => seen.added = true,
-        Event::Show { .. } => {}
-    }
-    Ok(())
-}
-
 /// What one line says, after the earlier ones.
-fn tell(alloc: Global, seen: &mut Seen, line: &[u8]) -> Result<Option<Event>, Stop>
-    ensures tells { Tells seen.old line.now result seen.new }
-    ensures follows { IfOk result (λ told. FollowsTo seen.old (option_to_list told) seen.new) }
+fn line_after(alloc: Global, seen: &mut Seen, line: &[u8]) -> Result<Option<Event>, LineRefusal>
+    ensures says { IfOk result (λ told. line_after seen.old line.now ≡ Ok told) }
+    ensures seen { IfOk result (λ told. seen.new ≡ seen_with seen.old told) }
+    ensures follows { IfOk result (λ told. IsFollowing seen.old (option_to_list told)) }
+    ensures refused { IfErr result (λ refusal. RefusesLine refusal (line_after seen.old line.now)) }
 {
     if is_passed(line) {
         return Ok(None);
     }
-    let event = event_of(alloc, line)?;
-    if !may_follow(seen, &event) {
-        return Err(Stop::Bad);
+    if utf8(line).is_none() {
+        return Err(LineRefusal::Bad(Cause::NotUtf8));
     }
-    note(alloc, seen, &event)?;
+    let event = event_of(alloc, line)?;
+    if let Some(cause) = seen.cause_after(&event) {
+        return Err(LineRefusal::Bad(cause));
+    }
+    seen.note(alloc, &event)?;
     Ok(Some(event))
 }
 
@@ -88,10 +50,11 @@ fn keep(events: &mut Vec<Event>, told: Option<Event>) -> Result<(), ParseRefusal
 }
 
 /// The events of a text, or its first bad line.
+#[tactic(auto, unfolding(crate::specs::Events::events_of))]
 pub fn parse(alloc: Global, text: &[u8]) -> Result<Vec<Event>, ParseRefusal>
-    ensures ok { IfOk result (λ events. Parses (Ok events.items) (events_of text.now)) }
-    ensures follows { IfOk result (λ events. (last : Seen) × FollowsTo nothing_seen events.items last) }
-    ensures err { IfErr result (λ refusal. Parses (Err refusal) (events_of text.now)) }
+    ensures ok { IfOk result (λ events. events_of text.now ≡ Ok events.items) }
+    ensures follows { IfOk result (λ events. IsFollowing nothing_seen events.items) }
+    ensures bad { IfErr result (λ refusal. Refuses refusal (events_of text.now)) }
 {
     if text.len() > 16_777_216 {
         return Err(ParseRefusal::Bad(ScheduleFault {
@@ -100,20 +63,20 @@ pub fn parse(alloc: Global, text: &[u8]) -> Result<Vec<Event>, ParseRefusal>
         }));
     }
     let mut events = Vec::new(alloc);
-    let mut seen = nothing_seen(alloc);
+    let mut seen = Seen::nothing(alloc);
     let mut rest = text;
     let mut number = 1u32;
     'lines: while rest.len() > 0 {
         let (line, after) = first_line(rest);
-        let told = match tell(alloc, &mut seen, line) {
+        let told = match line_after(alloc, &mut seen, line) {
             Ok(told) => told,
-            Err(Stop::Bad) => {
+            Err(LineRefusal::Bad(cause)) => {
                 return Err(ParseRefusal::Bad(ScheduleFault {
                     line: number,
-                    cause: Cause::NoCommand,
+                    cause,
                 }));
             }
-            Err(Stop::NoMemory) => return Err(ParseRefusal::NoMemory),
+            Err(LineRefusal::NoMemory) => return Err(ParseRefusal::NoMemory),
         };
         keep(&mut events, told)?;
         rest = after;

@@ -1,14 +1,14 @@
 -- What was read of a text, and what is left of it.
-use Rattle.std.proofs.Common.{◌≡◌, ℕ, zero, suc, ◌<◌, List, [], ◌∷◌, ◌++◌, Bool, true, false, Option, Some, None, refl, ap, append_assoc, arith}
+use Rattle.std.proofs.Common.{◌≡◌, ℕ, zero, suc, ◌<◌, ◌≤◌, ◌&&◌, length, List, [], ◌∷◌, ◌++◌, Bool, true, false, Option, Some, None, refl, ap, append_assoc, arith}
 use Rattle.std.specs.Str.{IsUtf8, is_utf8}
 use Rattle.std.proofs.lemmas.Str.{IsUtf8-from_is_utf8}
-use Rattle.std.specs.Prelude.{slice_index}
+use Rattle.std.specs.Prelude.{slice_index, nat_le}
 use Rattle.std.specs.List.{list_all}
 use Rattle.std.proofs.lemmas.Bool.{and_parts}
 use Rattle.std.proofs.lemmas.Bool.Decides.{nat_tests}
 use Rattle.std.proofs.lemmas.Str.{IsUtf8-from_ascii}
 use Rattle.adr_token.specs.Words.{is_letter, is_name_byte, is_name}
-use Rattle.adr_token.specs.Texts.{after_byte}
+use Rattle.adr_token.specs.Texts.{after_byte, is_text}
 
 -- a front put before the text that is read behind it
 abbrev pub onto : List ℕ → Option (List ℕ × List ℕ) → Option (List ℕ × List ℕ)
@@ -26,6 +26,17 @@ fails false h = refl
 
 pub not_utf8 : (bs : List ℕ) → (IsUtf8 bs → ⊥) → is_utf8 bs ≡ false
 not_utf8 bs h = fails (is_utf8 bs) (λ e. h (IsUtf8-from_is_utf8 bs e))
+
+-- a text that the language has room for
+pub fits : (bs : List ℕ) → length bs ≤ 65535 → is_utf8 bs ≡ true → is_text bs ≡ true
+fits bs small u = rw u (grind (arith, nat_tests))
+
+neither : (b : Bool) → (b && false) ≡ false
+neither true = refl
+neither false = refl
+
+pub unfit : (bs : List ℕ) → is_utf8 bs ≡ false → is_text bs ≡ false
+unfit bs u = rw u (neither (nat_le (length bs) 65535))
 
 pub nothing : {X : Type 0} (o : Option X) → ((x : X) × (o ≡ Some x) → ⊥) → o ≡ None
 nothing None h = refl

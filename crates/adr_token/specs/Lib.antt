@@ -4,3 +4,4 @@ pub mod Numbers
 pub mod Identifiers
 pub mod Texts
 pub mod Spelling
+pub mod Laws

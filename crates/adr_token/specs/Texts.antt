@@ -1,5 +1,5 @@
 -- Texts in quotes. A quote and a backslash stand behind a backslash, and so do the two figures of a control byte.
-use Rattle.std.specs.Prelude.{ℕ, List, [], ◌∷◌, ◌+◌, ◌*◌, Bool, true, ◌&&◌, ◌||◌, ◌==◌, nat_lt, ◌<◌, if◌then◌else◌, Option, Some, None}
+use Rattle.std.specs.Prelude.{ℕ, List, [], ◌∷◌, ◌+◌, ◌*◌, Bool, true, ◌&&◌, ◌||◌, ◌==◌, nat_lt, nat_le, ◌<◌, if◌then◌else◌, length, Option, Some, None}
 use Rattle.std.specs.Str.{is_utf8}
 use Rattle.adr_token.specs.declared.texts.Place.{Place}
 use Rattle.adr_token.specs.declared.texts.Place.TheVariants.{Plain, Escaped, Half}
@@ -57,11 +57,15 @@ abbrev pub ends_word : List ℕ → Bool
 ends_word [] = true
 ends_word (b ∷ bs) = is_space b
 
+-- a text that the language has room for
+abbrev pub is_text : List ℕ → Bool
+is_text text = nat_le (length text) 65535 && is_utf8 text
+
 unfoldable pub text_at : List ℕ → Reading (List ℕ)
 text_at bytes = do
   inside ← opened bytes
   text ← quoted Plain inside
-  if ends_word text.1 && is_utf8 text.0 then Some text else None
+  if ends_word text.1 && is_text text.0 then Some text else None
 
 -- the figure that is held is one
 abbrev pub IsHalfSmall : Place → Type 0

@@ -1,5 +1,6 @@
 -- The words of a line, and their forms.
-use Rattle.std.specs.Prelude.{ℕ, List, [], ◌∷◌, Bool, false, not, ◌&&◌, ◌||◌, ◌==◌, nat_le, if◌then◌else◌, length, take, drop, Some, None}
+use Rattle.std.specs.Prelude.{ℕ, List, [], ◌∷◌, Bool, false, not, ◌&&◌, ◌||◌, ◌==◌, nat_le, if◌then◌else◌, length, take, drop, Option, Some, None}
+use Rattle.std.specs.Str.{bytes_eq}
 use Rattle.std.specs.List.{position_or_len, list_all}
 use Rattle.adr_token.specs.Gives.{Reading, ◌>>=◌}
 
@@ -35,3 +36,17 @@ unfoldable pub name_at : List ℕ → Reading (List ℕ)
 name_at bytes = do
   word ← word_at bytes
   if is_name word.0 then Some word else None
+
+-- nothing but spaces is left
+abbrev pub ended : {Y : Type 0} → List ℕ → Y → Option Y
+ended rest y = if length (unspaced rest) == 0 then Some y else None
+
+-- a word that stands in a line as it is
+unfoldable pub said : List ℕ → List ℕ → Reading (Unit {0})
+said what bytes = do
+  word ← word_at bytes
+  if bytes_eq word.0 what then Some (tt, word.1) else None
+
+-- some bytes at the front
+abbrev pub prefix_at : List ℕ → List ℕ → Reading (Unit {0})
+prefix_at front bytes = if bytes_eq (take (length front) bytes) front then Some (tt, drop (length front) bytes) else None

@@ -52,7 +52,8 @@ fn short_identifier(figures: &[u8]) -> Option<Uuid>
     }
 }
 
-/// The identifier that a word names.
+/// The identifier that a word names: `#`, and then either 1 to 8 lower-case hexadecimal digits without
+/// a leading zero, or the 36-byte text of RFC 9562 in lower case.
 pub fn identifier_of(word: &[u8]) -> Option<Uuid>
     ensures { result ≡ identifier_of word.now }
 {
@@ -71,6 +72,7 @@ pub fn identifier_of(word: &[u8]) -> Option<Uuid>
 }
 
 impl Line<'_> {
+    /// An identifier.
     #[tactic(auto, unfolding(crate::specs::Identifiers::identifier_at))]
     pub fn identifier(&mut self) -> Result<Uuid, Stop>
         ensures { Gives result self.new (identifier_at self.old) }

@@ -4,15 +4,22 @@
 #![tactic(auto)]
 
 mod identifiers;
+mod laws;
 mod numbers;
 mod stop;
 mod texts;
+mod values;
 mod words;
 mod writing;
 
 pub use identifiers::identifier_of;
+pub use laws::{identifiers_read_back, names_read_back, numbers_read_back, texts_read_back};
 pub use numbers::number_of;
 pub use stop::Stop;
-pub use texts::{texts_read_back, utf8};
+pub use texts::utf8;
+pub use values::{push_attribute, push_class, push_set, push_value};
 pub use words::{Line, is_digit, is_letter, without_spaces};
 pub use writing::{push, push_identifier, push_number, push_text};
+
+#[cfg(test)]
+mod tests;

@@ -38,7 +38,7 @@ fn base(hex: bool) -> u128
     if hex { 16 } else { 10 }
 }
 
-/// A number up to a limit, in its one form.
+/// A number up to a limit, without leading zeros, in decimal or in lower-case hexadecimal.
 #[tactic(auto, using(crate::proofs::NumberLemmas::too_large))]
 pub fn number_of(hex: bool, limit: u64, word: &[u8]) -> Option<u64>
     ensures value { result ≡ number_of hex limit word.now }
@@ -66,6 +66,7 @@ pub fn number_of(hex: bool, limit: u64, word: &[u8]) -> Option<u64>
 }
 
 impl Line<'_> {
+    /// A decimal number of 64 bits.
     #[tactic(auto, unfolding(crate::specs::Numbers::number_at))]
     pub fn number(&mut self) -> Result<u64, Stop>
         ensures { Gives result self.new (number_at self.old) }

@@ -5,9 +5,10 @@ ghost use Rattle.adr_token.specs.declared.stop.Stop.TheVariants.{NoMemory};
 
 use std::alloc::{AllocError, AllocFailed};
 
+/// Why a token wasn't read.
 #[derive(Clone, Copy, Debug, PartialEq, Eq)]
 pub enum Stop {
-    /// The line has another form.
+    /// No such token stands there.
     Bad,
     NoMemory,
 }

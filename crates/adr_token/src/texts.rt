@@ -3,8 +3,8 @@
 ghost use Rattle.std.specs.Prelude.{◌≡◌, ◌+◌, ◌*◌, ◌<◌, ℕ, List, IfSome, MatchOption, true, false, IfOk, IfErr, Some, None};
 ghost use Rattle.std.specs.Str.{IsUtf8, is_utf8};
 ghost use Rattle.adr_token.specs.Gives.{Gives, Stops};
-ghost use Rattle.adr_token.specs.Spelling.{ReadsBack, WasSpelled};
-ghost use Rattle.adr_token.specs.Texts.{is_control, IsHalfSmall, IsMoveSmall, move, quoted, opened, ends_word, text_at};
+ghost use Rattle.adr_token.specs.Numbers.{figure};
+ghost use Rattle.adr_token.specs.Texts.{plain_move, escaped_move, whole_move, is_control, IsHalfSmall, IsMoveSmall, move, quoted, opened, ends_word, is_text, text_at};
 
 use crate::numbers::figure;
 use crate::stop::Stop;
@@ -35,49 +35,65 @@ fn is_control(byte: u8) -> bool
     byte < 32 || byte == 127
 }
 
+fn plain_move(byte: u8) -> Move
+    ensures value { result ≡ plain_move byte }
+    ensures small { IsMoveSmall result }
+{
+    if byte == b'"' {
+        Move::Close
+    } else if byte == b'\\' {
+        Move::Go(Place::Escaped)
+    } else if is_control(byte) {
+        Move::Stray
+    } else {
+        Move::Byte(byte)
+    }
+}
+
+fn escaped_move(byte: u8) -> Move
+    ensures value { result ≡ escaped_move byte }
+    ensures small { IsMoveSmall result }
+{
+    if byte == b'"' || byte == b'\\' {
+        return Move::Byte(byte);
+    }
+    match figure(true, byte) {
+        Some(high) => Move::Go(Place::Half(high)),
+        None => Move::Stray,
+    }
+}
+
+/// What the second figure of a byte does.
+fn half_move(high: u8, byte: u8) -> Move
+    requires { high < 16 }
+    ensures value { result ≡ whole_move high (figure true byte) }
+    ensures small { IsMoveSmall result }
+{
+    let Some(low) = figure(true, byte) else {
+        return Move::Stray;
+    };
+    let whole = high * 16 + low;
+    if is_control(whole) {
+        Move::Byte(whole)
+    } else {
+        Move::Stray
+    }
+}
+
 fn move_at(place: Place, byte: u8) -> Move
     requires { IsHalfSmall place }
     ensures value { result ≡ move place byte }
     ensures small { IsMoveSmall result }
 {
     match place {
-        Place::Plain => {
-            if byte == b'"' {
-                Move::Close
-            } else if byte == b'\\' {
-                Move::Go(Place::Escaped)
-            } else if is_control(byte) {
-                Move::Stray
-            } else {
-                Move::Byte(byte)
-            }
-        }
-        Place::Escaped => {
-            if byte == b'"' || byte == b'\\' {
-                Move::Byte(byte)
-            } else {
-                match figure(true, byte) {
-                    Some(high) => Move::Go(Place::Half(high)),
-                    None => Move::Stray,
-                }
-            }
-        }
-        Place::Half(high) => match figure(true, byte) {
-            Some(low) => {
-                let byte = high * 16 + low;
-                if is_control(byte) {
-                    Move::Byte(byte)
-                } else {
-                    Move::Stray
-                }
-            }
-            None => Move::Stray,
-        },
+        Place::Plain => plain_move(byte),
+        Place::Escaped => escaped_move(byte),
+        Place::Half(high) => half_move(high, byte),
     }
 }
 
-#[tactic(auto, using(crate::proofs::TextLemmas::onto_push))]
 /// The text up to the closing quote, and what follows.
+#[tactic(auto, using(crate::proofs::TextLemmas::onto_push))]
 fn quoted(alloc: Global, bytes: &[u8]) -> Result<(Vec<u8>, &[u8]), Stop>
     ensures text { IfOk result (λ x. quoted Place.Plain bytes.now ≡ Some (x.0.items, x.1.now)) }
     ensures stop { IfErr result (λ stop. Stops stop (quoted Place.Plain bytes.now)) }
@@ -126,10 +142,13 @@ pub fn utf8(bytes: &[u8]) -> Option<&str>
     }
 }
 
-/// Bytes as a text of its own, where they are UTF-8.
+/// Bytes as a text of its own, where the language has room for it.
 fn text_of(bytes: Vec<u8>) -> Option<Text>
-    ensures { MatchOption result (is_utf8 bytes.items ≡ false) (λ text. (text ≡ bytes.items) × (is_utf8 bytes.items ≡ true)) }
+    ensures { MatchOption result (is_text bytes.items ≡ false) (λ text. (text ≡ bytes.items) × (is_text bytes.items ≡ true)) }
 {
+    if bytes.len() > 65_535 {
+        return None;
+    }
     match std::str::from_utf8(bytes.as_slice()) {
         Ok(_) => Some(Text::of(bytes)),
         Err(_) => None,
@@ -156,9 +175,3 @@ impl Line<'_> {
         }
     }
 }
-
-/// What is spelled in quotes is read again.
-pub fn texts_read_back()
-    ensures again { ReadsBack }
-    ensures only { WasSpelled }
-{}

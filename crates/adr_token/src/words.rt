@@ -1,9 +1,9 @@
 //! The words of a line.
 
-ghost use Rattle.std.specs.Prelude.{◌≡◌, ◌≤◌, ◌<◌, ℕ, List, length, IsTrue, not, IfOk, IfErr, Some, None};
+ghost use Rattle.std.specs.Prelude.{◌↔◌, ◌≡◌, ◌≤◌, ◌<◌, ℕ, List, length, IsTrue, not, IfOk, IfErr, Some, None};
 ghost use Rattle.std.specs.List.{position_or_len, list_all};
 ghost use Rattle.adr_token.specs.Gives.{Gives};
-ghost use Rattle.adr_token.specs.Words.{is_space, unspaced, word_at, is_letter, is_digit, is_name_byte, is_name, name_at};
+ghost use Rattle.adr_token.specs.Words.{is_space, unspaced, word_at, is_letter, is_digit, is_name_byte, is_name, name_at, said, prefix_at};
 
 use crate::stop::Stop;
 use adr_schema::Text;
@@ -86,7 +86,8 @@ fn own_text(alloc: Global, word: &[u8]) -> Result<Text, Stop>
     Ok(Text::of(bytes))
 }
 
-/// What is left of a line.
+/// What is left of a line. A reader takes a token from its front; after an error it isn't said what
+/// is left.
 #[derive(Debug, Drop)]
 pub struct Line<'a> {
     rest: &'a [u8],
@@ -141,7 +142,7 @@ impl<'a> Line<'a> {
         Ok(word)
     }
 
-    /// A name.
+    /// A name: a letter, and then at most 31 letters, digits or `_`.
     #[tactic(auto, unfolding(crate::specs::Words::name_at))]
     pub fn name(&mut self, alloc: Global) -> Result<Text, Stop>
         ensures reading { Gives result self.new (name_at self.old) }
@@ -152,5 +153,44 @@ impl<'a> Line<'a> {
             return Err(Stop::Bad);
         }
         own_text(alloc, word)
+    }
+}
+
+impl Line<'_> {
+    /// Whether nothing but spaces is left.
+    pub fn is_ended(&mut self) -> bool
+        ensures { IsTrue result ↔ (length (unspaced self.old) ≡ 0) }
+    {
+        self.skip_spaces();
+        self.rest().len() == 0
+    }
+
+    /// A word that stands as it is.
+    #[tactic(auto, unfolding(crate::specs::Words::said))]
+    pub fn said(&mut self, what: &[u8]) -> Result<(), Stop>
+        ensures { Gives result self.new (said what.now self.old) }
+    {
+        if self.word()? == what {
+            Ok(())
+        } else {
+            Err(Stop::Bad)
+        }
+    }
+
+    /// These bytes at the very front.
+    pub fn prefix(&mut self, front: &[u8]) -> Result<(), Stop>
+        ensures { Gives result self.new (prefix_at front.now self.old) }
+    {
+        let rest = self.rest();
+        if rest.len() < front.len() {
+            return Err(Stop::Bad);
+        }
+        let (start, rest) = rest.split_at(front.len());
+        self.go_on(rest);
+        if start == front {
+            Ok(())
+        } else {
+            Err(Stop::Bad)
+        }
     }
 }

@@ -23,6 +23,13 @@ fn figure(half: u8) -> u8
     if half < 10 { 48 + half } else { 87 + half }
 }
 
+/// Adds a byte in two lower-case hexadecimal figures.
+pub fn push_two_figures(out: &mut Vec<u8>, byte: u8) -> Result<(), AllocError>
+    ensures { OnOk result (out.new.items ≡ out.old.items ++ two_figures byte) }
+{
+    push(out, &[figure(byte / 16), figure(byte % 16)])
+}
+
 /// Adds a byte of a text in quotes.
 fn push_escaped(out: &mut Vec<u8>, byte: u8) -> Result<(), AllocError>
     ensures { OnOk result (out.new.items ≡ out.old.items ++ escaped byte) }
@@ -30,7 +37,8 @@ fn push_escaped(out: &mut Vec<u8>, byte: u8) -> Result<(), AllocError>
     if byte == b'"' || byte == b'\\' {
         push(out, &[b'\\', byte])
     } else if byte < 32 || byte == 127 {
-        push(out, &[b'\\', figure(byte / 16), figure(byte % 16)])
+        push(out, b"\\")?;
+        push_two_figures(out, byte)
     } else {
         push(out, &[byte])
     }
@@ -81,7 +89,7 @@ fn push_identifier_text(alloc: Global, out: &mut Vec<u8>, id: Uuid) -> Result<()
     }
 }
 
-/// Adds an identifier.
+/// Adds an identifier: its short form below 2^32, else its full form.
 #[tactic(auto, unfolding(crate::specs::Spelling::identifier_token))]
 pub fn push_identifier(alloc: Global, out: &mut Vec<u8>, id: Uuid) -> Result<(), AllocError>
     ensures { OnOk result (out.new.items ≡ out.old.items ++ identifier_token id) }
@@ -90,7 +98,7 @@ pub fn push_identifier(alloc: Global, out: &mut Vec<u8>, id: Uuid) -> Result<(),
     push_identifier_text(alloc, out, id)
 }
 
-/// Adds a number.
+/// Adds a number in decimal.
 pub fn push_number(alloc: Global, out: &mut Vec<u8>, number: u64) -> Result<(), AllocError>
     ensures { OnOk result (out.new.items ≡ out.old.items ++ decimal number) }
 {

@@ -1,0 +1,63 @@
+-- What the top call answers.
+use Rattle.std.proofs.Common.{◌≡◌, ◌⊎◌, inl, inr, ℕ, ◌+◌, ◌<◌, true, cond, List, length, take, Option, Some, None, Result, Ok, Err, refl, ap, ◌∙◌, subst, arith, take_all}
+use Rattle.std.specs.Prelude.{IfSome, OnOk, OnErr, nat_lt}
+use Rattle.std.proofs.lemmas.Bool.{cases_lt}
+use Rattle.std.proofs.lemmas.Bool.Decides.{nat_tests}
+use Rattle.std.proofs.lemmas.List.{length-take}
+use Rattle.adr_io.specs.Told.{Adds, AddsFront}
+use Rattle.adr_io.specs.declared.Fault.{Fault}
+use Rattle.adr_io.specs.declared.Fault.TheVariants.{Failed, NoMemory}
+use Rattle.adr_schedule.specs.declared.fault.Cause.TheVariants.{TooLong}
+use Rattle.adr_schedule.specs.Lines.{lines_of}
+use Rattle.adr_schedule.specs.Seen.{nothing_seen}
+use Rattle.adr_schedule.specs.Events.{events_of, events_from, bad}
+use Rattle.adr_cmd.specs.Outcome.{outcome, outcome_of, ended}
+
+is_lt : (m n : ℕ) → m < n → nat_lt m n ≡ true
+is_lt m n h = grind (arith, nat_tests)
+
+-- one byte more than the limit is enough to tell that a text is too long
+cut : {X : Type 0} (limit : ℕ) (text : List ℕ) (x : X) (f : List ℕ → X)
+    → cond (nat_lt limit (length (take (limit + 1) text))) x (f (take (limit + 1) text)) ≡ cond (nat_lt limit (length text)) x (f text)
+cut limit text x f =
+    elim (cases_lt limit (length text)) [
+      | inl h ↦ let size : length (take (limit + 1) text) ≡ limit + 1 = omega (arith, length-take (limit + 1) text) in
+          rw (is_lt limit (length text) h, is_lt limit (length (take (limit + 1) text)) (omega arith)) refl
+      | inr h ↦ let all : take (limit + 1) text ≡ text = take_all (limit + 1) text (omega arith) in rw all refl
+    ]
+
+-- the first bytes tell as much as all do
+outcome_front : (text : List ℕ) → outcome (take 16777217 text) ≡ outcome text
+unfolding outcome events_of
+outcome_front text = ap outcome_of (cut 16777216 text (bad 0 TooLong) (λ t. events_from nothing_seen 1 (lines_of t)))
+
+-- what the bytes that were read give is what the text gives
+at_text : (P : ℕ × List ℕ → Type 0) (left : Option (List ℕ)) (bytes : List ℕ) → IfSome left (λ text. bytes ≡ take 16777217 text) → P (outcome bytes) → IfSome left (λ text. P (outcome text))
+at_text P None bytes read p = tt
+at_text P (Some text) bytes read p = subst P (ap outcome read ∙ outcome_front text) p
+
+-- a status that is no fault's is the one that was handed in, and the writes succeeded
+no_fault : {P Q : Type 0} (r status : ℕ) (written : Result (Unit {0}) Fault) → r ≡ ended status written → (r ≡ 0) ⊎ (r ≡ 3) → OnOk written P → (r ≡ status → P → Q) → Q
+no_fault r status (Ok done) is h p f = f is p
+no_fault r status (Err Failed) is h p f = absurd (elim h [ inl e ↦ omega arith | inr e ↦ omega arith ])
+no_fault r status (Err NoMemory) is h p f = absurd (elim h [ inl e ↦ omega arith | inr e ↦ omega arith ])
+
+-- a fault's status comes from a write
+a_fault : {P : Type 0} (r status : ℕ) (written : Result (Unit {0}) Fault) → r ≡ ended status written → (status ≡ 0) ⊎ (status ≡ 3) → (r ≡ 5) ⊎ (r ≡ 8) → OnErr written P → P
+a_fault r status (Ok done) is plain h p = absurd (elim h [ inl e ↦ elim plain [ inl z ↦ omega arith | inr z ↦ omega arith ] | inr e ↦ elim plain [ inl z ↦ omega arith | inr z ↦ omega arith ] ])
+a_fault r status (Err fault) is plain h p = p
+
+pub told_status : (left : Option (List ℕ)) (bytes : List ℕ) (r status : ℕ) (written : Result (Unit {0}) Fault) → IfSome left (λ text. bytes ≡ take 16777217 text) → r ≡ ended status written
+    → OnOk written (status ≡ (outcome bytes).0) → (r ≡ 0) ⊎ (r ≡ 3) → IfSome left (λ text. r ≡ (outcome text).0)
+told_status left bytes r status written read is ok h =
+    no_fault r status written is h ok (λ same s. at_text (λ x. r ≡ x.0) left bytes read (same ∙ s))
+
+pub told_written : (left before after : Option (List ℕ)) (bytes : List ℕ) (r status : ℕ) (written : Result (Unit {0}) Fault) → IfSome left (λ text. bytes ≡ take 16777217 text) → r ≡ ended status written
+    → OnOk written (Adds before after (outcome bytes).1) → (r ≡ 0) ⊎ (r ≡ 3) → IfSome left (λ text. Adds before after (outcome text).1)
+told_written left before after bytes r status written read is ok h =
+    no_fault r status written is h ok (λ same a. at_text (λ x. Adds before after x.1) left bytes read a)
+
+pub told_front : (left before after : Option (List ℕ)) (bytes : List ℕ) (r status : ℕ) (written : Result (Unit {0}) Fault) → IfSome left (λ text. bytes ≡ take 16777217 text) → r ≡ ended status written
+    → (status ≡ 0) ⊎ (status ≡ 3) → OnErr written (AddsFront before after (outcome bytes).1) → (r ≡ 5) ⊎ (r ≡ 8) → IfSome left (λ text. AddsFront before after (outcome text).1)
+told_front left before after bytes r status written read is plain err h =
+    at_text (λ x. AddsFront before after x.1) left bytes read (a_fault r status written is plain h err)

@@ -1,0 +1,34 @@
+use Rattle.std.proofs.Common.{arith, ap, Ok}
+use Rattle.adr_cmd.proofs.ReadLemmas.{read_more, read_most, left_most, read_ended, left_ended}
+use Rattle.adr_cmd.proofs.reading.read_all.Goals as goal
+
+pub returns-then-room-eq0-clause-read : goal.returns-then-room-eq0-clause-read
+returns-then-room-eq0-clause-read g c = read_most (g.S.Source.left c.args.source.now) (g.S.Source.left c.turns.source) c.turns.bytes.items 16777217 c.turns.invariant.told (omega arith)
+
+pub returns-then-room-eq0-clause-left : goal.returns-then-room-eq0-clause-left
+returns-then-room-eq0-clause-left g c = left_most (g.S.Source.left c.args.source.now) (g.S.Source.left c.turns.source) c.turns.bytes.items 16777217 c.turns.invariant.told (omega arith)
+
+pub returns-then-count-eq0-clause-read : goal.returns-then-count-eq0-clause-read
+returns-then-count-eq0-clause-read g c =
+    read_ended (g.S.Source.left c.args.source.now) (g.S.Source.left c.turns.source) (g.S.Source.left c.read_some.new.source) c.turns.bytes.items c.read_some.new.bytes.items c.in_ok-count.count 16777217
+    c.turns.invariant.told c.in_ok-count.ensures.read c.in_ok-count.ensures.count.1 (c.in_ok-count.ensures.end (ap Ok c.if-count-eq0.true)) c.turns.invariant.most
+
+pub returns-then-count-eq0-clause-left : goal.returns-then-count-eq0-clause-left
+returns-then-count-eq0-clause-left g c =
+    left_ended (g.S.Source.left c.args.source.now) (g.S.Source.left c.turns.source) (g.S.Source.left c.read_some.new.source) c.turns.bytes.items c.read_some.new.bytes.items c.in_ok-count.count 16777217
+    c.turns.invariant.told c.in_ok-count.ensures.read c.in_ok-count.ensures.count.1 (c.in_ok-count.ensures.end (ap Ok c.if-count-eq0.true)) c.turns.invariant.most
+
+pub turns-preserved : goal.turns-preserved
+turns-preserved g c = record {
+  told = read_more (g.S.Source.left c.args.source.now) (g.S.Source.left c.turns.source) (g.S.Source.left c.read_some.new.source) c.turns.bytes.items c.read_some.new.bytes.items c.in_ok-count.count
+      c.turns.invariant.told c.in_ok-count.ensures.read c.in_ok-count.ensures.count.1;
+  turns = omega (arith, c.in_ok-count.ensures.count);
+  most = omega (arith, c.in_ok-count.ensures.count);
+  faults = omega (arith, c.turns.invariant.faults, c.read_some.ensures.never_falls);
+}
+
+pub returns-clause-read : goal.returns-clause-read
+returns-clause-read g c = read_most (g.S.Source.left c.args.source.now) (g.S.Source.left c.turns.source) c.turns.bytes.items 16777217 c.turns.invariant.told (omega arith)
+
+pub returns-clause-left : goal.returns-clause-left
+returns-clause-left g c = left_most (g.S.Source.left c.args.source.now) (g.S.Source.left c.turns.source) c.turns.bytes.items 16777217 c.turns.invariant.told (omega arith)

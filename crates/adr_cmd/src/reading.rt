@@ -1,0 +1,50 @@
+//! Reading a source to its end.
+
+ghost use Rattle.std.specs.Prelude.{◌≡◌, ◌<◌, ◌≤◌, ℕ, List, length, take, drop, [], ◌++◌, ◌+◌, Some, Ok, IfOk, IfSome, OnOk, IsErrOf};
+
+use adr_io::{Fault, Source};
+use std::alloc::Global;
+
+/// The most bytes that are read: one more than a text may have.
+const MOST: usize = 16_777_217;
+
+/// Reads some bytes, at most so many; at the end none.
+fn read_some<S: Source>(source: &mut S, bytes: &mut Vec<u8>, room: usize) -> Result<usize, Fault>
+    requires { 0 < room }
+    ensures read { IfOk result (λ n. IfSome (S.left source.old) (λ before.
+        (n ≤ length before) × (S.left source.new ≡ Some (drop n before)) × (bytes.new.items ≡ bytes.old.items ++ take n before))) }
+    ensures count { IfOk result (λ n. (n ≤ room) × (length bytes.new.items ≡ length bytes.old.items + n)) }
+    ensures end { result ≡ Ok 0 → IfSome (S.left source.old) (λ before. before ≡ []) }
+    ensures never_falls { S.faults source.old ≤ S.faults source.new }
+    ensures failed { IsErrOf result Fault.Failed → S.faults source.old < S.faults source.new }
+{
+    let mut buffer = [0u8; 4096];
+    let size = room.min(4096);
+    let (front, _) = buffer.split_at_mut(size);
+    let count = source.read(front)?;
+    match bytes.extend_from_slice(&front[..count]) {
+        Ok(()) => Ok(count),
+        Err(_) => Err(Fault::NoMemory),
+    }
+}
+
+/// Reads to the end, or until there are more bytes than a text may have.
+pub fn read_all<S: Source>(alloc: Global, source: &mut S) -> Result<Vec<u8>, Fault>
+    ensures read { IfOk result (λ bytes. IfSome (S.left source.old) (λ text. bytes.items ≡ take 16777217 text)) }
+    ensures left { IfOk result (λ bytes. IfSome (S.left source.old) (λ text. S.left source.new ≡ Some (drop 16777217 text))) }
+    ensures never_falls { S.faults source.old ≤ S.faults source.new }
+    ensures failed { IsErrOf result Fault.Failed → S.faults source.old < S.faults source.new }
+{
+    let mut bytes = Vec::new(alloc);
+    'turns: for turn in 0..MOST {
+        let room = MOST - bytes.len();
+        if room == 0 {
+            return Ok(bytes);
+        }
+        let count = read_some(source, &mut bytes, room)?;
+        if count == 0 {
+            return Ok(bytes);
+        }
+    }
+    Ok(bytes)
+}

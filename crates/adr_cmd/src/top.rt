@@ -1,0 +1,164 @@
+//! The top call.
+
+ghost use Rattle.std.specs.Prelude.{◌≡◌, ◌⊎◌, ◌<◌, ◌≤◌, ◌++◌, ◌∷◌, ℕ, List, [], map, string_bytes, true, false, OnOk, OnErr, IfOk, IfErr, IfSome, IsErrOf, drop, Some, codes};
+ghost use Rattle.std.specs.Fmt.{decimal};
+ghost use Rattle.adr_io.specs.Told.{Adds, AddsFront};
+ghost use Rattle.adr_cmd.specs.Outcome.{outcome, cause_text, fault_line, is_replay, usage_line, ended};
+
+use crate::playing::play;
+use crate::reading::read_all;
+use adr_io::{Fault, Sink, Source};
+use adr_schedule::{Cause, ParseRefusal, ScheduleFault, parse};
+use adr_token::{push, push_number};
+use std::alloc::{AllocError, Global};
+
+/// Whether the words are the one command that there is.
+fn is_replay(words: &[String]) -> bool
+    ensures { result ≡ is_replay (map string_bytes words.now) }
+{
+    match words {
+        [word] => word.as_bytes() == b"replay".as_slice(),
+        _ => false,
+    }
+}
+
+fn cause_text(cause: Cause) -> &'static str
+    ensures { result.now ≡ cause_text cause }
+{
+    match cause {
+        Cause::NotUtf8 => "not UTF-8",
+        Cause::NoCommand => "no command",
+        Cause::UnknownName => "unknown name",
+        Cause::TooLong => "too long",
+    }
+}
+
+/// The line of a fault.
+#[tactic(auto, unfolding(crate::specs::Outcome::fault_line))]
+fn fault_line(alloc: Global, fault: ScheduleFault) -> Result<Vec<u8>, AllocError>
+    ensures { IfOk result (λ out. out.items ≡ fault_line fault) }
+{
+    let mut out = Vec::new(alloc);
+    push(&mut out, b"line ")?;
+    push_number(alloc, &mut out, u64::from(fault.line))?;
+    push(&mut out, b": ")?;
+    push(&mut out, cause_text(fault.cause).as_bytes())?;
+    push(&mut out, b"\n")?;
+    Ok(out)
+}
+
+/// The status after a write: this one, or that of the fault.
+fn ended(status: u8, written: Result<(), Fault>) -> u8
+    ensures { result ≡ ended status written }
+{
+    match written {
+        Ok(()) => status,
+        Err(Fault::Failed) => 5,
+        Err(Fault::NoMemory) => 8,
+    }
+}
+
+/// Writes the line of a fault.
+fn tell_fault<K: Sink>(alloc: Global, fault: ScheduleFault, sink: &mut K) -> Result<(), Fault>
+    ensures ok { OnOk result (Adds (K.written sink.old) (K.written sink.new) (fault_line fault)) }
+    ensures front { OnErr result (AddsFront (K.written sink.old) (K.written sink.new) (fault_line fault)) }
+    ensures never_falls { K.faults sink.old ≤ K.faults sink.new }
+    ensures failed { IsErrOf result Fault.Failed → K.faults sink.old < K.faults sink.new }
+{
+    match fault_line(alloc, fault) {
+        Ok(bytes) => sink.write(bytes.as_slice()),
+        Err(_) => Err(Fault::NoMemory),
+    }
+}
+
+/// Runs a text, or tells its fault: the status but for a write that fails, and how the writes went.
+#[tactic(auto, unfolding(crate::specs::Outcome::outcome))]
+fn perform<K: Sink>(alloc: Global, text: &[u8], sink: &mut K) -> (u8, Result<(), Fault>)
+    ensures status { OnOk result.1 (result.0 ≡ (outcome text.now).0) }
+    ensures ok { OnOk result.1 (Adds (K.written sink.old) (K.written sink.new) (outcome text.now).1) }
+    ensures front { OnErr result.1 (AddsFront (K.written sink.old) (K.written sink.new) (outcome text.now).1) }
+    ensures statuses { (result.0 ≡ 0) ⊎ (result.0 ≡ 3) }
+    ensures never_falls { K.faults sink.old ≤ K.faults sink.new }
+    ensures failed { IsErrOf result.1 Fault.Failed → K.faults sink.old < K.faults sink.new }
+{
+    match parse(alloc, text) {
+        Ok(events) => (0, play(alloc, events.as_slice(), sink)),
+        Err(ParseRefusal::Bad(fault)) => (3, tell_fault(alloc, fault, sink)),
+        Err(ParseRefusal::NoMemory) => (0, Err(Fault::NoMemory)),
+    }
+}
+
+/// Reads a text, and writes what it gives.
+fn replay<S: Source, K: Sink>(alloc: Global, source: &mut S, sink: &mut K) -> u8
+    ensures status { (result ≡ 0) ⊎ (result ≡ 3) → IfSome (S.left source.old) (λ text. result ≡ (outcome text).0) }
+    ensures written { (result ≡ 0) ⊎ (result ≡ 3) → IfSome (S.left source.old) (λ text. Adds (K.written sink.old) (K.written sink.new) (outcome text).1) }
+    ensures front { (result ≡ 5) ⊎ (result ≡ 8) → IfSome (S.left source.old) (λ text. AddsFront (K.written sink.old) (K.written sink.new) (outcome text).1) }
+    ensures read { (result ≡ 0) ⊎ ((result ≡ 3) ⊎ (result ≡ 5)) → IfSome (S.left source.old) (λ text. S.left source.new ≡ Some (drop 16777217 text)) }
+    ensures read_fault { result ≡ 4 → S.faults source.old < S.faults source.new }
+    ensures unwritten { result ≡ 4 → sink.new ≡ sink.old }
+    ensures write_fault { result ≡ 5 → K.faults sink.old < K.faults sink.new }
+    ensures statuses { (result ≡ 0) ⊎ ((result ≡ 3) ⊎ ((result ≡ 4) ⊎ ((result ≡ 5) ⊎ (result ≡ 8)))) }
+    ensures source_faults { S.faults source.old ≤ S.faults source.new }
+    ensures sink_faults { K.faults sink.old ≤ K.faults sink.new }
+{
+    let text = match read_all(alloc, source) {
+        Ok(text) => text,
+        Err(Fault::Failed) => return 4,
+        Err(Fault::NoMemory) => return 8,
+    };
+    let (status, written) = perform(alloc, text.as_slice(), sink);
+    ended(status, written)
+}
+
+/// Writes the usage line.
+#[tactic(auto, unfolding(crate::specs::Outcome::usage_line))]
+fn usage<K: Sink>(sink: &mut K) -> u8
+    ensures statuses { (result ≡ 2) ⊎ ((result ≡ 5) ⊎ (result ≡ 8)) }
+    ensures added { result ≡ 2 → Adds (K.written sink.old) (K.written sink.new) usage_line }
+    ensures front { (result ≡ 5) ⊎ (result ≡ 8) → AddsFront (K.written sink.old) (K.written sink.new) usage_line }
+    ensures failed { result ≡ 5 → K.faults sink.old < K.faults sink.new }
+    ensures sink_faults { K.faults sink.old ≤ K.faults sink.new }
+{
+    match sink.write(USAGE.as_bytes()) {
+        Ok(()) => 2,
+        Err(Fault::Failed) => 5,
+        Err(Fault::NoMemory) => 8,
+    }
+}
+
+/// Runs the program's words, without its name, over a source and a sink, and answers the status: 0
+/// done, 2 wrong words, 3 a text that is no schedule, 4 a read that failed, 5 a write that failed, 8
+/// want of memory.
+pub fn run<S: Source, K: Sink>(alloc: Global, words: &[String], source: &mut S, sink: &mut K) -> u8
+    // Wrong words get the usage line, and no other words do.
+    ensures usage { result ≡ 2 → is_replay (map string_bytes words.now) ≡ false }
+    ensures usage_only { is_replay (map string_bytes words.now) ≡ false → (result ≡ 2) ⊎ ((result ≡ 5) ⊎ (result ≡ 8)) }
+    ensures usage_line { result ≡ 2 → Adds (K.written sink.old) (K.written sink.new) usage_line }
+    ensures usage_front { is_replay (map string_bytes words.now) ≡ false → (result ≡ 5) ⊎ (result ≡ 8) → AddsFront (K.written sink.old) (K.written sink.new) usage_line }
+    ensures usage_unread { is_replay (map string_bytes words.now) ≡ false → source.new ≡ source.old }
+
+    // With 0 or 3 what was written is what the text gives, and so is the status.
+    ensures status { (result ≡ 0) ⊎ (result ≡ 3) → IfSome (S.left source.old) (λ text. result ≡ (outcome text).0) }
+    ensures written { (result ≡ 0) ⊎ (result ≡ 3) → IfSome (S.left source.old) (λ text. Adds (K.written sink.old) (K.written sink.new) (outcome text).1) }
+
+    // With a fault it is a front of that, and of the source no more was read than a text may have, and one byte.
+    ensures front { is_replay (map string_bytes words.now) ≡ true → (result ≡ 5) ⊎ (result ≡ 8) → IfSome (S.left source.old) (λ text. AddsFront (K.written sink.old) (K.written sink.new) (outcome text).1) }
+    ensures read { (result ≡ 0) ⊎ (result ≡ 3) → IfSome (S.left source.old) (λ text. S.left source.new ≡ Some (drop 16777217 text)) }
+
+    // A fault has its cause.
+    ensures read_fault { result ≡ 4 → S.faults source.old < S.faults source.new }
+    ensures unwritten { result ≡ 4 → sink.new ≡ sink.old }
+    ensures write_fault { result ≡ 5 → K.faults sink.old < K.faults sink.new }
+    ensures statuses { (result ≡ 0) ⊎ ((result ≡ 2) ⊎ ((result ≡ 3) ⊎ ((result ≡ 4) ⊎ ((result ≡ 5) ⊎ (result ≡ 8))))) }
+    ensures source_faults { S.faults source.old ≤ S.faults source.new }
+    ensures sink_faults { K.faults sink.old ≤ K.faults sink.new }
+{
+    if is_replay(words) {
+        replay(alloc, source, sink)
+    } else {
+        usage(sink)
+    }
+}
+
+const USAGE: &str =
+    "usage: adrep replay | exercise N | create NAME | install NAME | restore NAME DSA | backup NAME | show NAME | export NAME | serve NAME PORT COUNT | pull NAME PORT | send PORT\n";

@@ -1,0 +1,4 @@
+pub mod Moments
+mod Writes
+mod Steps
+mod Outcomes

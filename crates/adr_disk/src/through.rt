@@ -1,0 +1,31 @@
+//! A write with the sync behind it.
+
+ghost use Rattle.std.specs.Prelude.{◌≡◌, ◌⊎◌, ℕ, ◌+◌, ◌≤◌, ◌<◌, List, Option, Some, IsSome, ◌↔◌, IfSome, OnOk, IsErrOf, length};
+ghost use Rattle.std.specs.Option.{ForSome};
+ghost use Rattle.adr_disk.specs.Disk.{put, Torn, Among, Only, Counts, IsSpare, LeavesOnly};
+
+use crate::Disk;
+use adr_io::Fault;
+
+/// Writes and syncs, on a disk all of which is synced. A crash at any moment leaves what a torn write may leave, and
+/// after an `Ok` what was to be written.
+pub fn write_through<D: Disk>(disk: &mut D, at: u64, bytes: &[u8]) -> Result<(), Fault>
+    requires within { ForSome (D.content disk.old) (λ there. at ≤ length there) }
+    requires synced { ForSome (D.content disk.old) (λ there. Only there (D.may_leave disk.old)) }
+
+    ensures written { OnOk result (IfSome (D.content disk.old) (λ there. D.content disk.new ≡ Some (put there at bytes.now))) }
+    ensures durable { OnOk result (IfSome (D.content disk.old) (λ there. Only (put there at bytes.now) (D.may_leave disk.new))) }
+    ensures told { IsSome (D.content disk.new) ↔ IsSome (D.content disk.old) }
+
+    // Whatever it answers, what a crash leaves now and might have left since.
+    ensures left { IfSome (D.content disk.old) (λ there. Among (Torn at (length bytes.now) there) (D.may_leave disk.new)) }
+    ensures any_moment { IfSome (D.content disk.old) (λ there. LeavesOnly D.moment D.left_since disk.old disk.new
+        (Torn at (length bytes.now) there)) }
+
+    ensures cause { Counts (D.faults disk.old) (D.faults disk.new) result }
+    ensures no_memory_only { IsErrOf result Fault.NoMemory → (D.spare_calls disk.old < 2) ⊎ (D.spare_bytes disk.old < length bytes.now) }
+    ensures spare { IsSpare (D.spare_calls disk.old) (D.spare_bytes disk.old) (D.spare_calls disk.new + 2) (D.spare_bytes disk.new + length bytes.now) }
+{
+    disk.write_at(at, bytes)?;
+    disk.sync()
+}

@@ -1,0 +1,191 @@
+//! What a controller shows.
+
+ghost use Rattle.std.specs.Prelude.{◌≡◌, IfOk};
+
+use adr_schema::{NoMemory, Text, Values};
+use std::alloc::Global;
+use std::marker::Model;
+use uuid::Uuid;
+
+/// GUIDs of objects. In an entry they rise.
+#[derive(Debug, Drop)]
+pub struct Guids {
+    list: Vec<Uuid>,
+}
+
+impl Model for Guids {
+    ghost use Rattle.std.specs.Prelude.{List, ℕ};
+
+    ghost Value = { List (List ℕ) };
+
+    ghost view = { λ g. g.list.items };
+}
+
+impl Guids {
+    pub fn of(items: Vec<Uuid>) -> Guids
+        ensures { result ≡ items.items }
+    {
+        Guids { list: items }
+    }
+
+    pub fn items(&self) -> &[Uuid]
+        ensures { result.now ≡ self.now }
+    {
+        self.list.as_slice()
+    }
+
+    /// An equal list.
+    pub fn copy(&self, alloc: Global) -> Result<Guids, NoMemory>
+        ensures { IfOk result (λ copy. copy ≡ self.now) }
+    {
+        Ok(Guids {
+            list: Vec::from_slice(alloc, self.list.as_slice())?,
+        })
+    }
+}
+
+/// Attributes with their values. In an entry the attributes rise and each has a value.
+#[derive(Debug, Drop)]
+pub struct EntryValues {
+    list: Vec<(u16, Values)>,
+}
+
+impl Model for EntryValues {
+    ghost use Rattle.std.specs.Prelude.{List, ℕ};
+    ghost use Rattle.adr_schema.specs.declared.content.Value.{Value as Item};
+
+    ghost Value = { List (ℕ × List Item) };
+
+    ghost view = { λ v. v.list.items };
+}
+
+impl EntryValues {
+    pub fn of(items: Vec<(u16, Values)>) -> EntryValues
+        ensures { result ≡ items.items }
+    {
+        EntryValues { list: items }
+    }
+
+    pub fn items(&self) -> &[(u16, Values)]
+        ensures { result.now ≡ self.now }
+    {
+        self.list.as_slice()
+    }
+
+    /// An equal list.
+    pub fn copy(&self, alloc: Global) -> Result<EntryValues, NoMemory>
+        ensures { IfOk result (λ copy. copy ≡ self.now) }
+    {
+        let mut list = Vec::new(alloc);
+        for (attr, values) in self.list.as_slice() {
+            list.push((*attr, values.copy(alloc)?))?;
+        }
+        Ok(EntryValues { list })
+    }
+}
+
+/// Link attributes, forward and back, with the GUIDs at their other ends. In an entry both rise.
+#[derive(Debug, Drop)]
+pub struct EntryLinks {
+    list: Vec<(u16, Guids)>,
+}
+
+impl Model for EntryLinks {
+    ghost use Rattle.std.specs.Prelude.{List, ℕ};
+
+    ghost Value = { List (ℕ × List (List ℕ)) };
+
+    ghost view = { λ v. v.list.items };
+}
+
+impl EntryLinks {
+    pub fn of(items: Vec<(u16, Guids)>) -> EntryLinks
+        ensures { result ≡ items.items }
+    {
+        EntryLinks { list: items }
+    }
+
+    pub fn items(&self) -> &[(u16, Guids)]
+        ensures { result.now ≡ self.now }
+    {
+        self.list.as_slice()
+    }
+
+    /// An equal list.
+    pub fn copy(&self, alloc: Global) -> Result<EntryLinks, NoMemory>
+        ensures { IfOk result (λ copy. copy ≡ self.now) }
+    {
+        let mut list = Vec::new(alloc);
+        for (attr, guids) in self.list.as_slice() {
+            list.push((*attr, guids.copy(alloc)?))?;
+        }
+        Ok(EntryLinks { list })
+    }
+}
+
+/// A live object as it is shown: under its parent, by its shown name.
+#[derive(Debug, Drop)]
+pub struct Entry {
+    pub guid: Uuid,
+    pub class: u16,
+    pub parent: Uuid,
+    pub name: Text,
+    pub values: EntryValues,
+    pub links: EntryLinks,
+}
+
+impl Entry {
+    /// An equal entry.
+    pub fn copy(&self, alloc: Global) -> Result<Entry, NoMemory>
+        ensures { IfOk result (λ copy. copy ≡ self.now) }
+    {
+        Ok(Entry {
+            guid: self.guid,
+            class: self.class,
+            parent: self.parent,
+            name: self.name.copy(alloc)?,
+            values: self.values.copy(alloc)?,
+            links: self.links.copy(alloc)?,
+        })
+    }
+}
+
+/// The entries that a controller shows, rising by GUID.
+#[derive(Debug, Drop)]
+pub struct Directory {
+    list: Vec<Entry>,
+}
+
+impl Model for Directory {
+    ghost use Rattle.std.specs.Prelude.{List};
+    ghost use Rattle.adr_event.specs.declared.directory.Entry.{Entry};
+
+    ghost Value = { List Entry };
+
+    ghost view = { λ d. d.list.items };
+}
+
+impl Directory {
+    pub fn of(entries: Vec<Entry>) -> Directory
+        ensures { result ≡ entries.items }
+    {
+        Directory { list: entries }
+    }
+
+    pub fn entries(&self) -> &[Entry]
+        ensures { result.now ≡ self.now }
+    {
+        self.list.as_slice()
+    }
+
+    /// An equal directory.
+    pub fn copy(&self, alloc: Global) -> Result<Directory, NoMemory>
+        ensures { IfOk result (λ copy. copy ≡ self.now) }
+    {
+        let mut list = Vec::new(alloc);
+        for entry in self.list.as_slice() {
+            list.push(entry.copy(alloc)?)?;
+        }
+        Ok(Directory { list })
+    }
+}

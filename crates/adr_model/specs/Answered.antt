@@ -1,0 +1,60 @@
+-- Small runs, written out as events with the answers that they get.
+use Rattle.std.specs.Prelude.{ℕ, List, [], ◌∷◌, codes}
+use Rattle.adr_schema.specs.declared.content.Value.TheVariants.{Text}
+use Rattle.adr_event.specs.declared.event.Event.{Event}
+use Rattle.adr_event.specs.declared.event.Event.TheVariants.{Controller, Time, Add, Show}
+use Rattle.adr_event.specs.declared.answer.Answer.{Answer}
+use Rattle.adr_event.specs.declared.answer.Plainly.TheVariants.{Id}
+use Rattle.adr_event.specs.declared.answer.Outcome.TheVariants as outcomes
+use Rattle.adr_event.specs.declared.directory.Entry.{Entry}
+use Rattle.adr_model.specs.Place.{identifier, root, lost_and_found}
+use Rattle.adr_model.specs.World.{answer, field}
+
+abbrev pub add_user : ℕ → List ℕ → List ℕ → Event
+add_user guid name account = Add (codes "A") (identifier guid) 5 root name ((10, Text account ∷ []) ∷ [])
+
+abbrev pub a_user : ℕ → List ℕ → List ℕ → Entry
+a_user guid name account =
+    record { guid = identifier guid; class = 5; parent = root; name = name; values = (10, Text account ∷ []) ∷ []; links = [] }
+
+-- one controller, one person, and the directory
+abbrev pub first_person : List Event
+first_person =
+    Controller (codes "A") (identifier 160) (identifier 161)
+    ∷ Time 1000
+    ∷ add_user 16 (codes "Ann") (codes "ann")
+    ∷ Show (codes "A")
+    ∷ []
+
+abbrev pub first_person_answers : List Answer
+first_person_answers =
+    answer (codes "controller") (codes "A") outcomes.Ok
+    ∷ answer (codes "time") [] outcomes.Silent
+    ∷ answer (codes "add") (codes "A") (outcomes.Usn 1)
+    ∷ answer (codes "show") (codes "A") (outcomes.Show (a_user 16 (codes "Ann") (codes "ann") ∷ []))
+    ∷ []
+
+-- adds that are refused, and one between them that is not; the directory goes by GUID
+abbrev pub refused_adds : List Event
+refused_adds =
+    Controller (codes "A") (identifier 160) (identifier 161)
+    ∷ add_user 17 (codes "Ann") (codes "ann")
+    ∷ add_user 18 (codes "ANN") (codes "x")
+    ∷ add_user 17 (codes "Bo") (codes "bo")
+    ∷ add_user 1 (codes "Bo") (codes "bo")
+    ∷ add_user 18 (codes "LostAndFound") (codes "x")
+    ∷ add_user 16 (codes "Bo") (codes "bo")
+    ∷ Show (codes "A")
+    ∷ []
+
+abbrev pub refused_adds_answers : List Answer
+refused_adds_answers =
+    answer (codes "controller") (codes "A") outcomes.Ok
+    ∷ answer (codes "add") (codes "A") (outcomes.Usn 1)
+    ∷ answer (codes "add") (codes "A") (outcomes.Refused 13 (codes "NameTaken") (field (codes "holder") (Id (identifier 17)) ∷ []))
+    ∷ answer (codes "add") (codes "A") (outcomes.Refused 17 (codes "GuidThere") (field (codes "guid") (Id (identifier 17)) ∷ []))
+    ∷ answer (codes "add") (codes "A") (outcomes.Refused 17 (codes "GuidThere") (field (codes "guid") (Id root) ∷ []))
+    ∷ answer (codes "add") (codes "A") (outcomes.Refused 13 (codes "NameTaken") (field (codes "holder") (Id lost_and_found) ∷ []))
+    ∷ answer (codes "add") (codes "A") (outcomes.Usn 2)
+    ∷ answer (codes "show") (codes "A") (outcomes.Show (a_user 16 (codes "Bo") (codes "bo") ∷ a_user 17 (codes "Ann") (codes "ann") ∷ []))
+    ∷ []

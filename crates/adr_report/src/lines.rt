@@ -1,0 +1,144 @@
+//! The lines of answers.
+
+ghost use Rattle.std.specs.Prelude.{◌≡◌, ◌++◌, ◌∷◌, [], ℕ, List, length, OnOk, IfOk, flat_map, codes};
+ghost use Rattle.std.specs.Fmt.{decimal};
+ghost use Rattle.adr_report.specs.Line.{plain_text, field_text, result_text, report_lines, named, said, is_silent, line};
+
+use crate::entries::push_entries;
+use adr_event::{Answer, Field, Outcome, Plainly};
+use adr_schema::NoMemory;
+use adr_token::{push, push_identifier, push_number};
+use std::alloc::Global;
+
+#[tactic(auto, unfolding(crate::specs::Line::plain_text))]
+fn push_plainly(alloc: Global, out: &mut Vec<u8>, value: &Plainly) -> Result<(), NoMemory>
+    ensures { OnOk result (out.new.items ≡ out.old.items ++ plain_text value.now) }
+{
+    match value {
+        Plainly::Id(id) => push_identifier(alloc, out, *id),
+        Plainly::Number(number) => push_number(alloc, out, *number),
+        Plainly::Word(word) => push(out, word.items()),
+    }
+}
+
+#[tactic(auto, unfolding(crate::specs::Line::field_text))]
+fn push_field(alloc: Global, out: &mut Vec<u8>, field: &Field) -> Result<(), NoMemory>
+    ensures { OnOk result (out.new.items ≡ out.old.items ++ field_text field.now) }
+{
+    push(out, b" ")?;
+    push(out, field.name.items())?;
+    push(out, b"=")?;
+    push_plainly(alloc, out, &field.value)
+}
+
+fn push_fields(alloc: Global, out: &mut Vec<u8>, fields: &[Field]) -> Result<(), NoMemory>
+    ensures { OnOk result (out.new.items ≡ out.old.items ++ flat_map field_text fields.now) }
+{
+    for field in fields {
+        push_field(alloc, out, field)?;
+    }
+    Ok(())
+}
+
+fn push_usn(alloc: Global, out: &mut Vec<u8>, usn: u64) -> Result<(), NoMemory>
+    ensures { OnOk result (out.new.items ≡ out.old.items ++ (codes "ok usn=" ++ decimal usn)) }
+{
+    push(out, b"ok usn=")?;
+    push_number(alloc, out, usn)
+}
+
+fn push_refused(
+    alloc: Global,
+    out: &mut Vec<u8>,
+    number: u8,
+    label: &[u8],
+    fields: &[Field],
+) -> Result<(), NoMemory>
+    ensures { OnOk result (out.new.items ≡ out.old.items ++ (codes "refused " ++ decimal number ++ codes " " ++ label.now ++ flat_map field_text fields.now)) }
+{
+    push(out, b"refused ")?;
+    push_number(alloc, out, u64::from(number))?;
+    push(out, b" ")?;
+    push(out, label)?;
+    push_fields(alloc, out, fields)
+}
+
+/// Adds what stands behind the colon.
+#[tactic(auto, unfolding(crate::specs::Line::result_text))]
+fn push_result(alloc: Global, out: &mut Vec<u8>, outcome: &Outcome) -> Result<(), NoMemory>
+    ensures { OnOk result (out.new.items ≡ out.old.items ++ result_text outcome.now) }
+{
+    match outcome {
+        Outcome::Silent => Ok(()),
+        Outcome::Ok => push(out, b"ok"),
+        Outcome::Usn(usn) => push_usn(alloc, out, *usn),
+        Outcome::Show(directory) => push_number(alloc, out, directory.entries().len() as u64),
+        Outcome::Refused {
+            number,
+            label,
+            fields,
+        } => push_refused(alloc, out, *number, label.items(), fields.items()),
+    }
+}
+
+/// Adds the lines behind an answer's line.
+#[tactic(auto, unfolding(crate::specs::Line::report_lines))]
+fn push_report(alloc: Global, out: &mut Vec<u8>, outcome: &Outcome) -> Result<(), NoMemory>
+    ensures { OnOk result (out.new.items ≡ out.old.items ++ report_lines outcome.now) }
+{
+    match outcome {
+        Outcome::Show(directory) => push_entries(alloc, out, directory.entries()),
+        Outcome::Silent => Ok(()),
+        Outcome::Ok => Ok(()),
+        Outcome::Usn(_) => Ok(()),
+        Outcome::Refused { .. } => Ok(()),
+    }
+}
+
+fn push_named(out: &mut Vec<u8>, name: &[u8]) -> Result<(), NoMemory>
+    ensures { OnOk result (out.new.items ≡ out.old.items ++ named name.now) }
+{
+    if name.len() == 0 {
+        return Ok(());
+    }
+    push(out, b" ")?;
+    push(out, name)
+}
+
+#[tactic(auto, unfolding(crate::specs::Line::said))]
+fn push_said(alloc: Global, out: &mut Vec<u8>, answer: &Answer) -> Result<(), NoMemory>
+    ensures { OnOk result (out.new.items ≡ out.old.items ++ said answer.now) }
+{
+    push(out, answer.verb.items())?;
+    push_named(out, answer.name.items())?;
+    push(out, b": ")?;
+    push_result(alloc, out, &answer.outcome)?;
+    push(out, b"\n")?;
+    push_report(alloc, out, &answer.outcome)
+}
+
+/// Whether an answer is one that is never written.
+fn is_silent(outcome: &Outcome) -> bool
+    ensures { result ≡ is_silent outcome.now }
+{
+    match outcome {
+        Outcome::Silent => true,
+        Outcome::Ok => false,
+        Outcome::Usn(_) => false,
+        Outcome::Show(_) => false,
+        Outcome::Refused { .. } => false,
+    }
+}
+
+/// An answer's line, with a line feed, and the lines of its report. The controller's name is left
+/// out where it is empty; a silent answer has no bytes.
+#[tactic(auto, unfolding(crate::specs::Line::line))]
+pub fn line(alloc: Global, answer: &Answer) -> Result<Vec<u8>, NoMemory>
+    ensures { IfOk result (λ bytes. bytes.items ≡ line answer.now) }
+{
+    let mut out = Vec::new(alloc);
+    if !is_silent(&answer.outcome) {
+        push_said(alloc, &mut out, answer)?;
+    }
+    Ok(out)
+}

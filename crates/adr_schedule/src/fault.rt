@@ -1,0 +1,50 @@
+//! Why a text is no schedule.
+
+ghost use Rattle.std.specs.Prelude.{◌≡◌};
+ghost use Rattle.adr_token.specs.declared.stop.Stop.{Stop as Stopped};
+ghost use Rattle.adr_schedule.specs.Faults.{line_refusal};
+
+use adr_token::Stop;
+
+/// What is wrong with a line.
+#[derive(Clone, Copy, Debug, PartialEq, Eq)]
+pub enum Cause {
+    NotUtf8,
+    /// The line is outside the grammar.
+    NoCommand,
+    /// The line uses a name that no earlier line bound.
+    UnknownName,
+    /// The text is longer than 16 MiB.
+    TooLong,
+}
+
+/// The first bad line of a text, from 1; 0 stands for the text as a whole.
+#[derive(Clone, Copy, Debug, PartialEq, Eq)]
+pub struct ScheduleFault {
+    pub line: u32,
+    pub cause: Cause,
+}
+
+#[derive(Clone, Copy, Debug, PartialEq, Eq)]
+pub enum ParseRefusal {
+    Bad(ScheduleFault),
+    NoMemory,
+}
+
+/// Why one line was refused.
+#[derive(Clone, Copy, Debug, PartialEq, Eq)]
+pub enum LineRefusal {
+    Bad(Cause),
+    NoMemory,
+}
+
+impl From<Stop> for LineRefusal {
+    ghost from_gives = { λ stop refusal. refusal ≡ line_refusal stop };
+
+    fn from(stop: Stop) -> LineRefusal {
+        match stop {
+            Stop::Bad => LineRefusal::Bad(Cause::NoCommand),
+            Stop::NoMemory => LineRefusal::NoMemory,
+        }
+    }
+}

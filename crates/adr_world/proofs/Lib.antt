@@ -1,0 +1,6 @@
+pub mod Adding
+pub mod Visible
+pub mod AsAdded
+pub mod Shown
+pub mod StepLemmas
+pub mod Names

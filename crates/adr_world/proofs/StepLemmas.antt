@@ -1,0 +1,169 @@
+-- What a controller's people make of an `add` and of a `show`.
+use Rattle.std.proofs.Common.{◌≡◌, ℕ, ◌+◌, ◌≤◌, ◌<◌, List, [], ◌∷◌, ◌++◌, Bool, true, false, cond, length, zero-add, Option, Some, None, map, refl, sym, ap, ◌∙◌, subst, arith, length-append}
+use Rattle.std.specs.Prelude.{codes, nat_le, ◌&&◌, ◌||◌, if◌then◌else◌}
+use Rattle.std.specs.Option.{option_map}
+use Rattle.std.specs.Str.{bytes_eq}
+use Rattle.std.proofs.lemmas.Bool.{or_parts}
+use Rattle.std.proofs.lemmas.Bool.Decides.{nat_tests}
+use Rattle.std.proofs.lemmas.Slice.Eq.{bytes_eq-Decides}
+use Rattle.adr_schema.specs.Folding.{folded}
+use Rattle.adr_schema.specs.Assignments.{Given}
+use Rattle.adr_schedule.specs.Commands.{account}
+use Rattle.adr_event.specs.declared.event.Event.TheVariants.{Add, Show}
+use Rattle.adr_event.specs.declared.answer.Answer.{Answer}
+use Rattle.adr_event.specs.declared.answer.Outcome.TheVariants.{Usn, Show as Shown}
+use Rattle.adr_event.specs.declared.directory.Entry.{Entry}
+use Rattle.adr_event.specs.declared.refusal.WriteRefusal.{WriteRefusal}
+use Rattle.adr_event.specs.declared.refusal.WriteRefusal.TheVariants.{GuidThere, NameTaken, Full}
+use Rattle.adr_event.specs.declared.refusal.Table.TheVariants.{Objects}
+use Rattle.adr_model.specs.Update.{Identifier}
+use Rattle.adr_model.specs.Place.{root, lost_and_found, is_fixed, nodes_of}
+use Rattle.adr_model.specs.Directory.{directory}
+use Rattle.adr_model.specs.Store.{State, updates_of, empty_state}
+use Rattle.adr_model.specs.Write.{object_limit, first_refusal, where_true, add_refusal, unless, holds_guid, new_rows, new_object, first_stamp, add, written}
+use Rattle.adr_model.specs.Live.{objects_of, live_rows}
+use Rattle.adr_model.specs.Shown.{name_holder}
+use Rattle.adr_model.specs.World.{World, Replica, answer, refused, after_write, at_replica, with_replica, shown, step}
+use Rattle.adr_world.specs.declared.people.Person.{Person}
+use Rattle.adr_world.specs.People.{person_rows, state_of, issued_by, shown_people, has_guid, named_alike, name_kept, people_refusal, lost_name, is_proper, are_proper}
+use Rattle.adr_world.proofs.Adding.{usn_after, issued_after_more, state_after_more, still_proper}
+use Rattle.adr_world.proofs.Shown.{guids_held, count_held, names_held, people_shown}
+use Rattle.adr_world.proofs.Visible.{all_is_visible}
+
+-- the world of one controller
+abbrev pub world_with : ℕ → List ℕ → Identifier → Identifier → List Person → World
+world_with time name dsa inv people =
+    record { time = time; issued = issued_by dsa inv people; replicas = record { name = name; state = state_of dsa inv people } ∷ [] }
+
+-- a name is its own
+own_name : (name : List ℕ) → bytes_eq name name ≡ true
+own_name name = (bytes_eq-Decides name name).1 refl
+
+-- an `add` is refused as its people say
+refusal_is : (dsa inv : Identifier) (people : List Person) (guid text : List ℕ) → are_proper people ≡ true
+    → add_refusal (updates_of (state_of dsa inv people).rows) guid root text ≡ people_refusal people guid (folded text)
+refusal_is dsa inv people guid text proper =
+    let there : holds_guid (updates_of (state_of dsa inv people).rows) guid ≡ has_guid people guid = guids_held dsa inv people proper guid in
+    let kept : name_holder (nodes_of (live_rows (updates_of (state_of dsa inv people).rows))) root text ≡ name_kept people (folded text) = names_held dsa inv people proper text in
+    let count : length (objects_of (updates_of (state_of dsa inv people).rows)) ≡ length people = count_held dsa inv people proper in
+    λ i. first_refusal (
+    where_true (is_fixed guid || there i) (GuidThere guid)
+    ∷ option_map NameTaken (kept i)
+    ∷ where_true (nat_le object_limit (count i)) (Full Objects object_limit)
+    ∷ []
+    )
+
+-- what is made of an `add` once its refusal, if any, is known
+on_add : (time : ℕ) (name dsa inv : List ℕ) (people : List Person) (guid text : List ℕ) (values : List Given) (o : Option WriteRefusal)
+    → are_proper people ≡ true → people_refusal people guid (folded text) ≡ o
+    → step (world_with time name dsa inv people) (Add name guid 5 root text values)
+    ≡ after_write (world_with time name dsa inv people) (record { name = name; state = state_of dsa inv people }) (codes "add")
+    (unless o (new_rows (new_object (state_of dsa inv people) guid) (first_stamp (state_of dsa inv people) time) 5 root text values))
+on_add time name dsa inv people guid text values o proper is =
+    let w : World = world_with time name dsa inv people in
+    let r : Replica = record { name = name; state = state_of dsa inv people } in
+    ap (λ (b : Bool). at_replica w (cond b (Some r) None) (λ (q : Replica). after_write w q (codes "add") (add q.state guid 5 root text values time))) (own_name name)
+    ∙ ap (λ (o : Option WriteRefusal). after_write w r (codes "add")
+    (unless o (new_rows (new_object (state_of dsa inv people) guid) (first_stamp (state_of dsa inv people) time) 5 root text values)))
+    (refusal_is dsa inv people guid text proper ∙ is)
+
+pub refused_add : (time : ℕ) (name dsa inv : List ℕ) (people : List Person) (guid text : List ℕ) (values : List Given) (r : WriteRefusal)
+    → are_proper people ≡ true → people_refusal people guid (folded text) ≡ Some r
+    → step (world_with time name dsa inv people) (Add name guid 5 root text values) ≡ (world_with time name dsa inv people, answer (codes "add") name (refused r))
+refused_add time name dsa inv people guid text values r proper is = on_add time name dsa inv people guid text values (Some r) proper is
+
+-- one more person: what is issued, and the controller
+pub made_add : (time : ℕ) (name dsa inv : List ℕ) (people : List Person) (guid text folding value : List ℕ)
+    → are_proper people ≡ true → people_refusal people guid (folded text) ≡ None
+    → step (world_with time name dsa inv people) (Add name guid 5 root text (account value))
+    ≡ (world_with time name dsa inv (people ++ record { guid = guid; time = time; text = text; folded = folding; account = value } ∷ []), answer (codes "add") name (Usn (length people + 1)))
+made_add time name dsa inv people guid text folding value proper is =
+    let p : Person = record { guid = guid; time = time; text = text; folded = folding; account = value } in
+    let s : State = state_of dsa inv people in
+    let counted : s.usn ≡ length people = usn_after people (empty_state dsa inv) ∙ zero-add (length people) in
+    let renamed : with_replica (record { name = name; state = s } ∷ []) (record { name = name; state = written s (person_rows s p) }) ≡ record { name = name; state = written s (person_rows s p) } ∷ [] =
+    ap (λ (b : Bool). (let q : Replica = cond b (record { name = name; state = written s (person_rows s p) }) (record { name = name; state = s }) in q) ∷ []) (own_name name) in
+    on_add time name dsa inv people guid text (account value) None proper is
+    ∙ λ i. (
+      record {
+        time = time;
+        issued = sym (issued_after_more people p (empty_state dsa inv)) i;
+        replicas = (renamed ∙ ap (λ (t : State). (let q : Replica = record { name = name; state = t } in q) ∷ []) (sym (state_after_more people p (empty_state dsa inv)))) i;
+      },
+      answer (codes "add") name (Usn (ap (λ (n : ℕ). n + 1) counted i)),
+    )
+
+pub told_show : (time : ℕ) (name dsa inv : List ℕ) (people : List Person)
+    → are_proper people ≡ true
+    → step (world_with time name dsa inv people) (Show name)
+    ≡ (world_with time name dsa inv people, answer (codes "show") name (Shown (map (λ (e : List ℕ × Entry). e.1) (shown_people people))))
+told_show time name dsa inv people proper =
+    let w : World = world_with time name dsa inv people in
+    let r : Replica = record { name = name; state = state_of dsa inv people } in
+    ap (λ (b : Bool). at_replica w (cond b (Some r) None) (λ (q : Replica). (w, answer (codes "show") q.name (Shown (shown w q.state))))) (own_name name)
+    ∙ ap (λ (es : List Entry). (w, answer (codes "show") name (Shown es))) (ap directory (all_is_visible people (empty_state dsa inv) (updates_of (state_of dsa inv people).rows) refl) ∙ people_shown dsa inv people proper)
+
+pub show_step : (time : ℕ) (name dsa inv : List ℕ) (people items : List Person) (entries : List Entry) (made : Answer)
+    → are_proper people ≡ true → made ≡ answer (codes "show") name (Shown entries) → entries ≡ map (λ (e : List ℕ × Entry). e.1) (shown_people items) → items ≡ people
+    → step (world_with time name dsa inv people) (Show name) ≡ (world_with time name dsa inv people, made)
+show_step time name dsa inv people items entries made proper said listed same =
+    let w : World = world_with time name dsa inv people in
+    told_show time name dsa inv people proper
+    ∙ ap (λ (a : Answer). (w, a)) (sym (said ∙ ap (λ (es : List Entry). answer (codes "show") name (Shown es)) (listed ∙ ap (λ (ps : List Person). map (λ (e : List ℕ × Entry). e.1) (shown_people ps)) same)))
+
+pub refuse_step : (time : ℕ) (name dsa inv : List ℕ) (people : List Person) (guid text folding : List ℕ) (values : List Given) (r : WriteRefusal) (made : Answer)
+    → are_proper people ≡ true → folding ≡ folded text → Some r ≡ people_refusal people guid folding → made ≡ answer (codes "add") name (refused r)
+    → step (world_with time name dsa inv people) (Add name guid 5 root text values) ≡ (world_with time name dsa inv people, made)
+refuse_step time name dsa inv people guid text folding values r made proper fold is said =
+    let w : World = world_with time name dsa inv people in
+    refused_add time name dsa inv people guid text values r proper (sym (is ∙ ap (people_refusal people guid) fold))
+    ∙ ap (λ (a : Answer). (w, a)) (sym said)
+
+-- a controller's fields, one after the other
+same_world : (time : ℕ) (name name' dsa dsa' inv inv' : List ℕ) (people people' : List Person) → name' ≡ name → dsa' ≡ dsa → inv' ≡ inv → people' ≡ people
+    → world_with time name dsa inv people ≡ world_with time name' dsa' inv' people'
+same_world time name name' dsa dsa' inv inv' people people' n d v p = λ i. world_with time (sym n i) (sym d i) (sym v i) (sym p i)
+
+pub make_step : (time : ℕ) (name name' dsa dsa' inv inv' : List ℕ) (people people' : List Person) (guid text folding : List ℕ) (values : List Given) (p : Person) (made : Answer)
+    → are_proper people ≡ true → folding ≡ folded text → None ≡ people_refusal people guid folding
+    → p ≡ record { guid = guid; time = time; text = text; folded = folding; account = p.account } → values ≡ account p.account
+    → name' ≡ name → dsa' ≡ dsa → inv' ≡ inv → people' ≡ people ++ p ∷ []
+    → made ≡ answer (codes "add") name (Usn (length people + 1))
+    → step (world_with time name dsa inv people) (Add name guid 5 root text values) ≡ (world_with time name' dsa' inv' people', made)
+make_step time name name' dsa dsa' inv inv' people people' guid text folding values p made proper fold is person given n d v grown said =
+    ap (λ (vs : List Given). step (world_with time name dsa inv people) (Add name guid 5 root text vs)) given
+    ∙ (made_add time name dsa inv people guid text folding p.account proper (sym (is ∙ ap (people_refusal people guid) fold))
+    ∙ λ i. (same_world time name name' dsa dsa' inv inv' (people ++ record { guid = guid; time = time; text = text; folded = folding; account = p.account } ∷ []) people' n d v (grown ∙ ap (λ (q : Person). people ++ q ∷ []) person) i, sym said i))
+
+-- nothing refuses: the parts
+unrefused : (a b : Bool) (x z : WriteRefusal) (held : Option Identifier) → None ≡ first_refusal (where_true a x ∷ option_map NameTaken held ∷ where_true b z ∷ []) → (a ≡ false) × ((held ≡ None) × (b ≡ false))
+unrefused true b x z held h = absurd (cc)
+unrefused false b x z (Some g) h = absurd (cc)
+unrefused false true x z None h = absurd (cc)
+unrefused false false x z None h = (refl, (refl, refl))
+
+unkept : (b : Bool) (o : Option Identifier) → (if b then Some lost_and_found else o) ≡ None → (b ≡ false) × (o ≡ None)
+unkept true o h = absurd (cc)
+unkept false o h = (refl, h)
+
+bound_of : (m n : ℕ) → nat_le m n ≡ false → n < m
+bound_of m n h = grind (arith, nat_tests)
+
+within : (m n : ℕ) → m ≤ n → nat_le m n ≡ true
+within m n h = grind (arith, nat_tests)
+
+pub kept_sound : (people people' : List Person) (guid text folding : List ℕ) (time : ℕ) (p : Person)
+    → are_proper people ≡ true → folding ≡ folded text → None ≡ people_refusal people guid folding
+    → p ≡ record { guid = guid; time = time; text = text; folded = folding; account = p.account } → people' ≡ people ++ p ∷ []
+    → (are_proper people' && nat_le (length people') object_limit) ≡ true
+kept_sound people people' guid text folding time p proper fold is person grown =
+    let q : Person = record { guid = guid; time = time; text = text; folded = folding; account = p.account } in
+    let parts = unrefused (is_fixed guid || has_guid people guid) (nat_le object_limit (length people)) (GuidThere guid) (Full Objects object_limit) (name_kept people folding) is in
+    let there = or_parts (is_fixed guid) (has_guid people guid) parts.0 in
+    let kept = unkept (bytes_eq folding lost_name) (named_alike people folding) parts.1.0 in
+    let alone : is_proper q ≡ true = rw ((bytes_eq-Decides folding (folded text)).1 fold, there.0, kept.0) refl in
+    let all : are_proper (people ++ q ∷ []) ≡ true = still_proper people q proper alone there.1 kept.1 in
+    let few : length people < object_limit = bound_of object_limit (length people) parts.1.1 in
+    let size : length (people ++ q ∷ []) ≤ object_limit = simp length-append (omega arith) in
+    subst (λ (ps : List Person). (are_proper ps && nat_le (length ps) object_limit) ≡ true) (sym (grown ∙ ap (λ (r : Person). people ++ r ∷ []) person))
+    (rw (all, within _ _ size) refl)
