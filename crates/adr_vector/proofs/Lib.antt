@@ -1,0 +1,5 @@
+pub mod Cursors
+pub mod Joining
+pub mod Placing
+pub mod Comparing
+pub mod Refusals

@@ -1,0 +1,25 @@
+-- When a call answers that a vector is full, exit by exit: n is how many cursors there would be.
+use Rattle.std.proofs.Common.{◌≡◌, ℕ, ◌≤◌, ◌<◌, ◌↔◌, Result, Ok, Err, arith, refl}
+use Rattle.std.specs.Prelude.{IsErrOf}
+use Rattle.std.specs.Result.{IsErrAnd}
+use Rattle.std.proofs.lemmas.Result.{err_from_is_err_and}
+use Rattle.adr_vector.specs.declared.vector.VectorRefusal.{VectorRefusal}
+use Rattle.adr_vector.specs.declared.vector.VectorRefusal.TheVariants.{Full, NoMemory}
+
+abbrev pub Answer : Type 0
+Answer = Result (Unit {0}) VectorRefusal
+
+abbrev pub IsFullWhen : Answer → ℕ → ℕ → Type 0
+IsFullWhen r most n = IsErrOf r (Full most) ↔ (most < n)
+
+pub done : (most n : ℕ) → n ≤ most → IsFullWhen (Ok tt) most n
+done most n le = (λ h. absurd (cc), λ lt. absurd (omega arith))
+
+pub full : (most n : ℕ) → most < n → IsFullWhen (Err (Full most)) most n
+full most n lt = (λ h. lt, λ k. refl)
+
+-- where memory ran out there was room
+pub wanting : (r : Answer) (most n : ℕ) → IsErrAnd r (λ e. e ≡ NoMemory) → n ≤ most → IsFullWhen r most n
+wanting r most n h le =
+    let p = err_from_is_err_and r h in
+    (λ k. absurd (let a = p.1 in let b = p.2 in cc), λ lt. absurd (omega arith))

@@ -1,0 +1,19 @@
+//! Version vectors, and high watermarks.
+//!
+//! A vector keeps, for each incarnation of a controller's database, up to which of its writes everything has been
+//! seen. A mark keeps how far one has read the changes of one partner. This crate stands on `adr_stamp` for the order
+//! of identifiers, and knows nothing of the updates that are counted, nor of the controllers.
+#![tactic(auto)]
+
+mod mark;
+mod merging;
+mod vector;
+
+pub use mark::Mark;
+pub use vector::{Vector, VectorRefusal, vectors_are_their_numbers};
+
+/// Memory ran out.
+pub type NoMemory = std::alloc::AllocError;
+
+#[cfg(test)]
+mod tests;

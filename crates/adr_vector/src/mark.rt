@@ -1,0 +1,13 @@
+//! High watermarks.
+
+/// How far the changes of one incarnation of a partner have been read (after MS-DRSR, USN_VECTOR). All three are
+/// update sequence numbers of the partner. How they move is this project's own profile.
+#[derive(Clone, Copy, Debug, Default, PartialEq, Eq)]
+pub struct Mark {
+    /// Up to here every changed object has been read (usnHighObjUpdate).
+    pub obj: u64,
+    /// Up to here every change of a property has been read (usnHighPropUpdate).
+    pub prop: u64,
+    /// Where the partner stood when it last answered. This field has no like in USN_VECTOR.
+    pub seen: u64,
+}

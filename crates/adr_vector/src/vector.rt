@@ -1,0 +1,262 @@
+//! Version vectors.
+
+ghost use Rattle.std.specs.Prelude.{◌≡◌, ◌≢◌, ◌<◌, ◌≤◌, ◌↔◌, ℕ, List, [], length, max, IsTrue, IsNone, IfOk, IfErr, IfSome, OnOk, OnErr, IsErrOf, true, slice_get};
+ghost use Rattle.std.specs.declared.cmp.Ordering.TheVariants.{Less};
+ghost use Rattle.adr_stamp.specs.Order.{identifier_order};
+ghost use Rattle.adr_vector.specs.declared.vector.VectorRefusal.TheVariants.{NoMemory as no_memory};
+ghost use Rattle.adr_vector.specs.Vector.{Cursors, IsVector, at, covers, at_most, first_gap, raised, joined, next_above, most_cursors};
+ghost use Rattle.adr_vector.specs.Place.{IsAt, IsGapFor, BeginAbove};
+
+use crate::NoMemory;
+use crate::merging::{count, merge};
+use std::alloc::{AllocError, AllocFailed, Global};
+use std::marker::Model;
+use thiserror::Error;
+use uuid::Uuid;
+
+/// How many cursors a vector has at most.
+const LIMIT: u32 = 10_000;
+
+/// Why a vector stays as it was.
+#[derive(Clone, Copy, Debug, PartialEq, Eq, Error)]
+pub enum VectorRefusal {
+    /// There would be more cursors than a vector has.
+    #[error("a vector has at most {limit} cursors")]
+    Full { limit: u32 },
+    #[error("memory ran out")]
+    NoMemory,
+}
+
+impl From<AllocError> for VectorRefusal {
+    ghost from_gives = { λ _ e. e ≡ no_memory };
+
+    fn from(_: AllocError) -> VectorRefusal {
+        VectorRefusal::NoMemory
+    }
+}
+
+impl<T: Drop> From<AllocFailed<T>> for VectorRefusal {
+    ghost from_gives = { λ _ e. e ≡ no_memory };
+
+    fn from(_: AllocFailed<T>) -> VectorRefusal {
+        VectorRefusal::NoMemory
+    }
+}
+
+/// What has been seen: for each invocation identifier the update sequence number up to which all was seen (MS-DRSR,
+/// UPTODATE_VECTOR_V1_EXT). A contract sees a vector as the list of its cursors, rising by identifier.
+#[derive(Debug, Drop)]
+pub struct Vector {
+    cursors: Vec<(Uuid, u64)>,
+}
+
+impl Model for Vector {
+    ghost use Rattle.adr_vector.specs.Vector.{Cursors, IsVector};
+
+    ghost Value = { Cursors };
+
+    ghost view = { λ v. v.cursors.items };
+
+    ghost invariant = { λ v. IsVector v.cursors.items };
+}
+
+impl Vector {
+    /// The vector of one who has seen nothing.
+    pub fn new(alloc: Global) -> Vector
+        ensures { result ≡ [] }
+    {
+        Vector {
+            cursors: Vec::new(alloc),
+        }
+    }
+
+    /// The vector of these cursors.
+    pub fn of(cursors: Vec<(Uuid, u64)>) -> Vector
+        requires { IsVector cursors.items }
+        ensures { result ≡ cursors.items }
+    {
+        Vector { cursors }
+    }
+
+    /// The identifiers with their numbers, rising by identifier.
+    pub fn cursors(&self) -> &[(Uuid, u64)]
+        ensures all { result.now ≡ self.now }
+        ensures vector { IsVector self.now }
+    {
+        &self.cursors
+    }
+
+    pub fn len(&self) -> usize
+        ensures { result ≡ length self.now }
+    {
+        self.cursors.len()
+    }
+
+    pub fn is_empty(&self) -> bool
+        ensures { IsTrue result ↔ (self.now ≡ []) }
+    {
+        self.cursors.is_empty()
+    }
+
+    /// The number at an identifier, 0 where it has no cursor.
+    pub fn at(&self, inv: Uuid) -> u64
+        ensures { result ≡ at self.now inv }
+    {
+        match self.search(inv) {
+            Ok(place) => self.cursors[place].1,
+            Err(_) => 0,
+        }
+    }
+
+    /// Whether the write of this number has been seen.
+    pub fn covers(&self, inv: Uuid, usn: u64) -> bool
+        ensures { result ≡ covers self.now inv usn }
+    {
+        usn <= self.at(inv)
+    }
+
+    /// Whether the other has seen all that this one has.
+    pub fn at_most(&self, other: &Vector) -> bool
+        ensures value { result ≡ at_most self.now other.now }
+        ensures everywhere { IsTrue result ↔ ((inv : List ℕ) → at self.now inv ≤ at other.now inv) }
+    {
+        self.search_gap(other).is_none()
+    }
+
+    /// The least identifier at which this vector is above the other, with the number of the other there and its own.
+    pub fn first_gap(&self, other: &Vector) -> Option<(Uuid, u64, u64)>
+        ensures value { result ≡ first_gap self.now other.now }
+        ensures none { IsNone result ↔ (at_most self.now other.now ≡ true) }
+        ensures theirs { IfSome result (λ gap. gap.1 ≡ at other.now gap.0) }
+        ensures own { IfSome result (λ gap. gap.2 ≡ at self.now gap.0) }
+        ensures above { IfSome result (λ gap. gap.1 < gap.2) }
+        ensures least { IfSome result (λ gap. (inv : List ℕ) → identifier_order inv gap.0 ≡ Less → at self.now inv ≤ at other.now inv) }
+    {
+        self.search_gap(other)
+    }
+
+    /// Takes over what the other has seen.
+    pub fn join(&mut self, other: &Vector) -> Result<(), VectorRefusal>
+        ensures ok { OnOk result (self.new ≡ joined self.old other.now) }
+        ensures everywhere { OnOk result ((inv : List ℕ) → at self.new inv ≡ max (at self.old inv) (at other.now inv)) }
+        ensures full { IsErrOf result (VectorRefusal.Full most_cursors) ↔ (most_cursors < length (joined self.old other.now)) }
+        ensures err { OnErr result (self.new ≡ self.old) }
+    {
+        if count(&self.cursors, &other.cursors) > LIMIT as usize {
+            return Err(VectorRefusal::Full { limit: LIMIT });
+        }
+        let alloc = *self.cursors.allocator();
+        self.cursors = merge(alloc, &self.cursors, &other.cursors)?;
+        Ok(())
+    }
+
+    /// Brings the number at one identifier up to this one. A number that is 0, or that has been seen, changes nothing.
+    pub fn raise(&mut self, inv: Uuid, usn: u64) -> Result<(), VectorRefusal>
+        ensures ok { OnOk result (self.new ≡ raised self.old inv usn) }
+        ensures here { OnOk result (at self.new inv ≡ max (at self.old inv) usn) }
+        ensures elsewhere { OnOk result ((other : List ℕ) → other ≢ inv → at self.new other ≡ at self.old other) }
+        ensures full { IsErrOf result (VectorRefusal.Full most_cursors) ↔ (most_cursors < length (raised self.old inv usn)) }
+        ensures err { OnErr result (self.new ≡ self.old) }
+    {
+        match self.search(inv) {
+            Ok(place) => {
+                self.raise_at(place, inv, usn);
+                Ok(())
+            }
+            Err(place) => self.enter(place, inv, usn),
+        }
+    }
+
+    /// The cursor of the least identifier above this one, or of the least of all.
+    pub fn next(&self, above: Option<Uuid>) -> Option<(Uuid, u64)>
+        ensures { result ≡ next_above self.now above }
+    {
+        match above {
+            None => self.cursor_at(0),
+            Some(inv) => self.cursor_at(self.place_above(inv)),
+        }
+    }
+
+    /// An equal vector.
+    pub fn copy(&self, alloc: Global) -> Result<Vector, NoMemory>
+        ensures { IfOk result (λ copy. copy ≡ self.now) }
+    {
+        Ok(Vector {
+            cursors: Vec::from_slice(alloc, &self.cursors)?,
+        })
+    }
+}
+
+impl Vector {
+    /// Where the identifier stands, or where it would.
+    fn search(&self, inv: Uuid) -> Result<usize, usize>
+        ensures found { IfOk result (IsAt self.now inv) }
+        ensures gap { IfErr result (IsGapFor self.now inv) }
+        ensures vector { IsVector self.now }
+    {
+        self.cursors.binary_search_by_key(&inv, |cursor| cursor.0)
+    }
+
+    /// Where the cursors above the identifier begin.
+    fn place_above(&self, inv: Uuid) -> usize
+        ensures { BeginAbove self.now inv result }
+    {
+        match self.search(inv) {
+            Ok(place) => place + 1,
+            Err(place) => place,
+        }
+    }
+
+    fn search_gap(&self, other: &Vector) -> Option<(Uuid, u64, u64)>
+        ensures gap { result ≡ first_gap self.now other.now }
+        ensures vector { IsVector self.now }
+    {
+        for (inv, usn) in &self.cursors {
+            if !other.covers(*inv, *usn) {
+                return Some((*inv, other.at(*inv), *usn));
+            }
+        }
+        None
+    }
+
+    fn cursor_at(&self, place: usize) -> Option<(Uuid, u64)>
+        ensures { result ≡ slice_get self.now place }
+    {
+        self.cursors.get(place).copied()
+    }
+
+    /// Brings up the number of a cursor that is there.
+    fn raise_at(&mut self, place: usize, inv: Uuid, usn: u64)
+        requires { IsAt self.old inv place }
+        ensures raised { self.new ≡ raised self.old inv usn }
+        ensures few { length self.new ≤ most_cursors }
+    {
+        if self.cursors[place].1 < usn {
+            self.cursors[place] = (inv, usn);
+        }
+    }
+
+    /// Puts a cursor where its identifier would stand.
+    fn enter(&mut self, place: usize, inv: Uuid, usn: u64) -> Result<(), VectorRefusal>
+        requires { IsGapFor self.old inv place }
+        ensures ok { OnOk result (self.new ≡ raised self.old inv usn) }
+        ensures full { IsErrOf result (VectorRefusal.Full most_cursors) ↔ (most_cursors < length (raised self.old inv usn)) }
+        ensures err { OnErr result (self.new ≡ self.old) }
+    {
+        let is_nothing = usn == 0;
+        let is_full = self.cursors.len() >= LIMIT as usize;
+        if is_nothing {
+            return Ok(());
+        }
+        if is_full {
+            return Err(VectorRefusal::Full { limit: LIMIT });
+        }
+        self.cursors.insert(place, (inv, usn))?;
+        Ok(())
+    }
+}
+
+/// Two vectors with the same number at every identifier are one vector.
+pub fn vectors_are_their_numbers()
+    ensures { (v w : Cursors) → IsVector v → IsVector w → ((inv : List ℕ) → at v inv ≡ at w inv) → v ≡ w }
+{}
