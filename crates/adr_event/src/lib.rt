@@ -11,4 +11,6 @@ mod refusal;
 pub use answer::{Answer, Field, Fields, Outcome, Plainly};
 pub use directory::{Directory, Entry, EntryLinks, EntryValues, Guids};
 pub use event::Event;
-pub use refusal::{Table, WriteRefusal};
+pub use refusal::{
+    AdoptRefusal, CollectRefusal, ItemFault, ServeRefusal, Table, TakeRefusal, WriteRefusal,
+};

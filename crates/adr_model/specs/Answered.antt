@@ -8,7 +8,8 @@ use Rattle.adr_event.specs.declared.answer.Plainly.TheVariants.{Id}
 use Rattle.adr_event.specs.declared.answer.Outcome.TheVariants as outcomes
 use Rattle.adr_event.specs.declared.directory.Entry.{Entry}
 use Rattle.adr_model.specs.Place.{identifier, root, lost_and_found}
-use Rattle.adr_model.specs.World.{answer, field}
+use Rattle.adr_model.specs.Refused.{field}
+use Rattle.adr_model.specs.World.{answer}
 
 abbrev pub add_user : ℕ → List ℕ → List ℕ → Event
 add_user guid name account = Add (codes "A") (identifier guid) 5 root name ((10, Text account ∷ []) ∷ [])

@@ -1,25 +1,21 @@
 -- A run: the time, what was issued and the controllers, and what each event does and is answered.
-use Rattle.std.specs.Prelude.{ℕ, List, [], ◌∷◌, ◌++◌, ◌+◌, Option, Some, None, Result, Ok, Err, map, if◌then◌else◌, codes}
+use Rattle.std.specs.Prelude.{ℕ, List, [], ◌∷◌, ◌++◌, Option, Some, None, Result, Ok, Err, map, if◌then◌else◌, codes}
 use Rattle.std.specs.List.{find}
 use Rattle.std.specs.Str.{bytes_eq}
 use Rattle.adr_event.specs.declared.event.Event.{Event}
 use Rattle.adr_event.specs.declared.event.Event.TheVariants.{Controller, Time, Add, Show}
 use Rattle.adr_event.specs.declared.answer.Answer.{Answer}
-use Rattle.adr_event.specs.declared.answer.Field.{Field}
-use Rattle.adr_event.specs.declared.answer.Plainly.{Plainly}
-use Rattle.adr_event.specs.declared.answer.Plainly.TheVariants.{Id, Number, Word}
 use Rattle.adr_event.specs.declared.answer.Outcome.{Outcome}
 use Rattle.adr_event.specs.declared.answer.Outcome.TheVariants as outcomes
 use Rattle.adr_event.specs.declared.directory.Entry.{Entry}
-use Rattle.adr_event.specs.declared.refusal.Table.{Table}
-use Rattle.adr_event.specs.declared.refusal.Table.TheVariants.{Objects}
 use Rattle.adr_event.specs.declared.refusal.WriteRefusal.{WriteRefusal}
-use Rattle.adr_event.specs.declared.refusal.WriteRefusal.TheVariants.{GuidThere, NameTaken, Full, NoMemory}
 use Rattle.adr_model.specs.Update.{Update}
-use Rattle.adr_model.specs.Vector.{visible}
+use Rattle.adr_model.specs.Visible.{visible}
 use Rattle.adr_model.specs.Directory.{directory}
 use Rattle.adr_model.specs.Store.{State, updates_of, empty_state}
-use Rattle.adr_model.specs.Write.{add, written}
+use Rattle.adr_model.specs.Change.{Change, after, updates_written}
+use Rattle.adr_model.specs.Write.{write, AddObject}
+use Rattle.adr_model.specs.Refused.{write_refused}
 
 -- a controller by its name
 pub record Replica : Type 0 where
@@ -44,35 +40,21 @@ with_replica rs r = map (λ q. if bytes_eq q.name r.name then r else q) rs
 
 -- what a controller shows: the directory of the issued updates that its vector covers or that it holds
 abbrev pub shown : World → State → List Entry
-shown w s = directory (visible w.issued s.vector (updates_of s.rows))
+shown w s = directory (visible w.issued s.store.vector (updates_of s.store.rows))
 
 abbrev pub answer : List ℕ → List ℕ → Outcome → Answer
 answer verb name outcome = record { verb = verb; name = name; outcome = outcome }
 
-abbrev pub field : List ℕ → Plainly → Field
-field name value = record { name = name; value = value }
-
-abbrev pub table_name : Table → List ℕ
-table_name Objects = codes "Objects"
-
--- a refusal as it is answered: its number, its name and its fields
-abbrev pub refused : WriteRefusal → Outcome
-refused (GuidThere guid) = outcomes.Refused 17 (codes "GuidThere") (field (codes "guid") (Id guid) ∷ [])
-refused (NameTaken holder) = outcomes.Refused 13 (codes "NameTaken") (field (codes "holder") (Id holder) ∷ [])
-refused (Full table limit) =
-    outcomes.Refused 22 (codes "Full") (field (codes "table") (Word (table_name table)) ∷ field (codes "limit") (Number limit) ∷ [])
-refused NoMemory = outcomes.Silent
-
 -- what a controller's write gives: the world with the updates issued, or the refusal
-abbrev pub after_write : World → Replica → List ℕ → Result (List Update) WriteRefusal → World × Answer
-after_write w r verb (Err refusal) = (w, answer verb r.name (refused refusal))
-after_write w r verb (Ok rows) = (
+abbrev pub after_write : World → Replica → List ℕ → Result Change WriteRefusal → World × Answer
+after_write w r verb (Err refusal) = (w, answer verb r.name (write_refused refusal))
+after_write w r verb (Ok change) = (
   record {
     time = w.time;
-    issued = w.issued ++ rows;
-    replicas = with_replica w.replicas (record { name = r.name; state = written r.state rows });
+    issued = w.issued ++ updates_written change;
+    replicas = with_replica w.replicas (record { name = r.name; state = after r.state change });
   },
-  answer verb r.name (outcomes.Usn (r.state.usn + 1)),
+  answer verb r.name (outcomes.Usn change.usn),
 )
 
 -- an event at a controller that was made; no other one comes
@@ -88,7 +70,7 @@ step w (Controller name dsa inv) = (
 )
 step w (Time now) = (record { time = now; issued = w.issued; replicas = w.replicas }, answer (codes "time") [] outcomes.Silent)
 step w (Add name guid class parent text values) =
-    at_replica w (replica_at w name) (λ r. after_write w r (codes "add") (add r.state guid class parent text values w.time))
+    at_replica w (replica_at w name) (λ r. after_write w r (codes "add") (write r.state (AddObject guid class parent text values) w.time))
 step w (Show name) =
     at_replica w (replica_at w name) (λ r. (w, answer (codes "show") r.name (outcomes.Show (shown w r.state))))
 

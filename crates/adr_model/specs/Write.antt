@@ -1,35 +1,56 @@
 -- Originating writes: the first refusal, or the rows that a client's write makes.
-use Rattle.std.specs.Prelude.{ℕ, List, [], ◌∷◌, ◌+◌, Bool, false, ◌||◌, Option, Some, None, Result, Ok, Err, map, length, nat_le, if◌then◌else◌}
-use Rattle.std.specs.List.{list_any}
-use Rattle.std.specs.Option.{option_map}
-use Rattle.std.specs.BTreeMap.{insert_entry}
-use Rattle.adr_stamp.specs.Order.{identifier_order}
+use Rattle.std.specs.Prelude.{ℕ, ◌+◌, List, [], ◌∷◌, Bool, true, false, not, ◌&&◌, ◌||◌, ◌==◌, Option, Some, None, is_none, is_some, Result, Ok, Err, map, filter, length, nat_lt, if◌then◌else◌}
+use Rattle.std.specs.List.{list_any, find}
+use Rattle.std.specs.Option.{option_map, option_map_or}
 use Rattle.adr_stamp.specs.declared.Oid.{Oid}
 use Rattle.adr_stamp.specs.declared.LinkStamp.{LinkStamp}
-use Rattle.adr_schema.specs.declared.content.Value.{Value as Item}
+use Rattle.adr_stamp.specs.declared.LinkKey.{LinkKey}
+use Rattle.adr_stamp.specs.declared.Unit.TheVariants.{Object, Link as OneLink}
 use Rattle.adr_schema.specs.declared.content.Content.{Content}
-use Rattle.adr_schema.specs.declared.content.Content.TheVariants.{Class, Name, Values}
-use Rattle.adr_event.specs.declared.refusal.Table.TheVariants.{Objects}
+use Rattle.adr_schema.specs.declared.content.Content.TheVariants.{Class, Name, Dead, Values}
+use Rattle.adr_schema.specs.declared.refusal.SchemaRefusal.{SchemaRefusal}
+use Rattle.adr_schema.specs.declared.refusal.SchemaRefusal.TheVariants as schema
+use Rattle.adr_schema.specs.Assignments.{Given}
+use Rattle.adr_schema.specs.Table.{Table as Schema, is_superior}
+use Rattle.adr_schema.specs.Numbered.{numbered}
+use Rattle.adr_schema.specs.Rules.{add_refusal as schema_add_refusal, modify_refusal as schema_modify_refusal, link_refusal as schema_link_refusal, name_refusal as schema_name_refusal}
+use Rattle.adr_vector.specs.Vector.{raised, most_cursors}
+use Rattle.adr_event.specs.declared.refusal.Table.{Table}
+use Rattle.adr_event.specs.declared.refusal.Table.TheVariants.{Objects, Links, Cursors}
 use Rattle.adr_event.specs.declared.refusal.WriteRefusal.{WriteRefusal}
-use Rattle.adr_event.specs.declared.refusal.WriteRefusal.TheVariants.{GuidThere, NameTaken, Full}
-use Rattle.adr_model.specs.Update.{Identifier, Key, RowOf, LinkOf, Holds, Update, same_identifier, class_attr, name_attr}
+use Rattle.adr_event.specs.declared.refusal.WriteRefusal.TheVariants as refusal
+use Rattle.adr_event.specs.declared.refusal.WriteRefusal.TheVariants.{Quarantined, Fixed, NoObject, Deleted, GuidThere, NoParent, BadSuperior, NameTaken, WouldLoop, HasChildren, LinkThere, LinkNotThere, VersionLimit, UsnLimit, Full}
+use Rattle.adr_model.specs.Update.{Identifier, Key, RowOf, LinkOf, Said, Holds, IsPresent, Update, same_identifier, class_attr, name_attr, deleted_attr}
 use Rattle.adr_model.specs.Live.{objects_of, live_rows}
-use Rattle.adr_model.specs.Place.{is_fixed, nodes_of}
-use Rattle.adr_model.specs.Shown.{name_holder}
-use Rattle.adr_model.specs.Store.{Held, State, updates_of, rows_after}
+use Rattle.adr_model.specs.Place.{Node, root, lost_and_found, is_fixed, nodes_of, node_at, upward, place}
+use Rattle.adr_model.specs.Shown.{is_lost_name, is_named, name_holder}
+use Rattle.adr_model.specs.Store.{Held, State, updates_of, row_held}
+use Rattle.adr_model.specs.Change.{Item, Change, only_writes}
+use Rattle.adr_model.specs.Serve.{is_quarantined}
 
--- the most objects that a controller holds
+-- how many objects and link rows a controller holds at most, and the greatest USN and version
 abbrev pub object_limit : ℕ
 object_limit = 200000
 
--- whether the key is that of a row of an object of this GUID
-abbrev pub is_of_guid : Identifier → Key → Bool
-is_of_guid guid (RowOf o attr) = same_identifier o.guid guid
-is_of_guid guid (LinkOf l) = false
+abbrev pub link_limit : ℕ
+link_limit = 1000000
 
--- whether an object of the GUID is held, live or dead
-abbrev pub holds_guid : List Update → Identifier → Bool
-holds_guid held guid = list_any (λ u. is_of_guid guid u.key) held
+abbrev pub usn_limit : ℕ
+usn_limit = 9223372036854775807
+
+abbrev pub version_limit : ℕ
+version_limit = 4294967295
+
+-- what a client writes
+pub data Write : Type 0 where
+  AddObject : (guid : Identifier) (class : ℕ) (parent : Identifier) (text : List ℕ) (values : List Given) → Write
+  Modify : (guid : Identifier) (values : List Given) → Write
+  Rename : (guid parent : Identifier) (text : List ℕ) → Write
+  Delete : (guid : Identifier) → Write
+  AddLink : (from : Identifier) (attr : ℕ) (to : Identifier) → Write
+  RemoveLink : (from : Identifier) (attr : ℕ) (to : Identifier) → Write
+
+-- ---- refusals
 
 -- the first refusal of several
 abbrev pub first_refusal : List (Option WriteRefusal) → Option WriteRefusal
@@ -40,51 +61,286 @@ first_refusal (Some r ∷ rs) = Some r
 abbrev pub where_true : Bool → WriteRefusal → Option WriteRefusal
 where_true b refusal = if b then Some refusal else None
 
+-- what the schema refuses, as a refusal of a write
+abbrev pub of_schema : SchemaRefusal → WriteRefusal
+of_schema schema.UnknownClass = refusal.UnknownClass
+of_schema (schema.UnknownAttribute attr) = refusal.UnknownAttribute attr
+of_schema (schema.NotAllowed attr) = refusal.NotAllowed attr
+of_schema (schema.MissingMust attr) = refusal.MissingMust attr
+of_schema (schema.BadValue attr at) = refusal.BadValue attr at
+of_schema (schema.IsLink attr) = refusal.IsLink attr
+of_schema (schema.NotLink attr) = refusal.NotLink attr
+of_schema (schema.BadName at) = refusal.BadName at
+
+-- whether the key is that of a row of an object of this GUID
+abbrev pub is_of_guid : Identifier → Key → Bool
+is_of_guid guid (RowOf o attr) = same_identifier o.guid guid
+is_of_guid guid (LinkOf l) = false
+
+-- whether an object of the GUID is held, live or dead
+abbrev pub holds_guid : List Update → Identifier → Bool
+holds_guid held guid = list_any (λ u. is_of_guid guid u.key) held
+
+-- the live objects of a controller
+abbrev pub nodes_held : List Update → List Node
+nodes_held held = nodes_of (live_rows held)
+
+-- an object that isn't live can't be written
+abbrev pub object_refusal : List Update → List Node → Identifier → Option WriteRefusal
+object_refusal held nodes guid =
+    first_refusal (where_true (not (holds_guid held guid)) (NoObject guid) ∷ where_true (is_none (node_at nodes guid)) (Deleted guid) ∷ [])
+
+abbrev pub fixed_refusal : Identifier → Option WriteRefusal
+fixed_refusal guid = where_true (is_fixed guid) (Fixed guid)
+
+-- the class that a parent counts as: 1 for the root and 2 for LostAndFound
+abbrev pub class_of_place : List Node → Identifier → ℕ
+class_of_place nodes parent =
+    if same_identifier parent root then 1
+    else if same_identifier parent lost_and_found then 2
+    else option_map_or (λ n. n.class) (node_at nodes parent) 0
+
+abbrev pub parent_refusal : List Node → Identifier → Option WriteRefusal
+parent_refusal nodes parent = where_true (not (is_fixed parent || is_some (node_at nodes parent))) (NoParent parent)
+
+abbrev pub superior_refusal : Schema → List Node → ℕ → Identifier → Option WriteRefusal
+superior_refusal table nodes class parent = where_true (not (is_superior table class (class_of_place nodes parent))) BadSuperior
+
+-- whether a place has another object, or LostAndFound, of a name that folds alike
+abbrev pub is_taken : List Node → Identifier → Identifier → List ℕ → Bool
+is_taken nodes guid parent text =
+    is_lost_name parent text || list_any (λ m. not (same_identifier m.object.guid guid) && is_named nodes parent text m) nodes
+
+abbrev pub name_refusal : List Node → Identifier → Identifier → List ℕ → Option WriteRefusal
+name_refusal nodes guid parent text = if is_taken nodes guid parent text then option_map NameTaken (name_holder nodes parent text) else None
+
+-- whether the object is met on the way up from the new parent
+abbrev pub loop_refusal : List Node → Identifier → Identifier → Option WriteRefusal
+loop_refusal nodes guid parent =
+    where_true (list_any (λ m. same_identifier m.object.guid guid) (upward nodes (length nodes) parent)) WouldLoop
+
+-- the least object that is placed under this one
+abbrev pub child_refusal : List Node → Identifier → Option WriteRefusal
+child_refusal nodes guid = option_map (λ m. HasChildren m.object.guid) (find (λ m. same_identifier (place nodes m) guid) nodes)
+
+abbrev pub version_of : Option Held → ℕ
+version_of h = option_map_or (λ r. r.update.stamp.stamp.version) h 0
+
+abbrev pub version_refusal : List Held → Key → ℕ → Option WriteRefusal
+version_refusal rows key attr = where_true (version_of (row_held rows key) == version_limit) (VersionLimit attr)
+
+abbrev pub usn_refusal : ℕ → Option WriteRefusal
+usn_refusal usn = where_true (nat_lt usn_limit usn) UsnLimit
+
+abbrev pub full_refusal : Table → ℕ → ℕ → Option WriteRefusal
+full_refusal table limit count = where_true (nat_lt limit count) (Full table limit)
+
+-- the own cursor may be a new one
+abbrev pub cursor_refusal : State → Option WriteRefusal
+cursor_refusal s = full_refusal Cursors most_cursors (length (raised s.store.vector s.inv (s.store.usn + 1)))
+
 -- why an `add` is refused, first in order
-abbrev pub add_refusal : List Update → Identifier → Identifier → List ℕ → Option WriteRefusal
-add_refusal held guid parent text =
+abbrev pub add_refusal : State → Identifier → ℕ → Identifier → List ℕ → List Given → Option WriteRefusal
+add_refusal s guid class parent text values =
+    let held = updates_of s.store.rows in
+    let nodes = nodes_held held in
     first_refusal (
-    where_true (is_fixed guid || holds_guid held guid) (GuidThere guid)
-    ∷ option_map NameTaken (name_holder (nodes_of (live_rows held)) parent text)
-    ∷ where_true (nat_le object_limit (length (objects_of held))) (Full Objects object_limit)
+    where_true (is_quarantined s.mode) Quarantined
+    ∷ where_true (is_fixed guid || holds_guid held guid) (GuidThere guid)
+    ∷ option_map of_schema (schema_add_refusal (numbered s.store.schema) class values)
+    ∷ option_map of_schema (schema_name_refusal text)
+    ∷ parent_refusal nodes parent
+    ∷ superior_refusal (numbered s.store.schema) nodes class parent
+    ∷ option_map NameTaken (name_holder nodes parent text)
+    ∷ usn_refusal (s.store.usn + 1)
+    ∷ full_refusal Objects object_limit (length (objects_of held) + 1)
+    ∷ cursor_refusal s
     ∷ []
     )
 
+-- the class of a live object
+abbrev pub class_of : List Node → Identifier → ℕ
+class_of nodes guid = option_map_or (λ n. n.class) (node_at nodes guid) 0
+
+-- the live object of a GUID; a write of a GUID that has none is refused
+abbrev pub object_of : List Node → Identifier → Oid
+object_of nodes guid = option_map_or (λ n. n.object) (node_at nodes guid) (record { guid = guid; birth = record { inv = root; usn = 0 } })
+
+abbrev pub modify_refusal : State → Identifier → List Given → Option WriteRefusal
+modify_refusal s guid values =
+    let held = updates_of s.store.rows in
+    let nodes = nodes_held held in
+    first_refusal (
+    where_true (is_quarantined s.mode) Quarantined
+    ∷ fixed_refusal guid
+    ∷ object_refusal held nodes guid
+    ∷ option_map of_schema (schema_modify_refusal (numbered s.store.schema) (class_of nodes guid) values)
+    ∷ first_refusal (map (λ (g : Given). version_refusal s.store.rows (RowOf (object_of nodes guid) g.0) g.0) values)
+    ∷ usn_refusal (s.store.usn + 1)
+    ∷ []
+    )
+
+abbrev pub rename_refusal : State → Identifier → Identifier → List ℕ → Option WriteRefusal
+rename_refusal s guid parent text =
+    let held = updates_of s.store.rows in
+    let nodes = nodes_held held in
+    first_refusal (
+    where_true (is_quarantined s.mode) Quarantined
+    ∷ fixed_refusal guid
+    ∷ object_refusal held nodes guid
+    ∷ option_map of_schema (schema_name_refusal text)
+    ∷ parent_refusal nodes parent
+    ∷ loop_refusal nodes guid parent
+    ∷ superior_refusal (numbered s.store.schema) nodes (class_of nodes guid) parent
+    ∷ name_refusal nodes guid parent text
+    ∷ version_refusal s.store.rows (RowOf (object_of nodes guid) name_attr) name_attr
+    ∷ usn_refusal (s.store.usn + 1)
+    ∷ []
+    )
+
+abbrev pub delete_refusal : State → Identifier → Option WriteRefusal
+delete_refusal s guid =
+    let held = updates_of s.store.rows in
+    let nodes = nodes_held held in
+    first_refusal (
+    where_true (is_quarantined s.mode) Quarantined
+    ∷ fixed_refusal guid
+    ∷ object_refusal held nodes guid
+    ∷ child_refusal nodes guid
+    ∷ usn_refusal (s.store.usn + 1)
+    ∷ []
+    )
+
+abbrev pub link_of : List Node → Identifier → ℕ → Identifier → LinkKey
+link_of nodes from attr to = record { from = object_of nodes from; attr = attr; to = object_of nodes to }
+
+-- whether a link row says that the link is there
+abbrev pub says_present : Said → Bool
+says_present (IsPresent present) = present
+says_present (Holds content) = false
+
+abbrev pub is_linked : List Held → LinkKey → Bool
+is_linked rows link = option_map_or (λ h. says_present h.update.said) (row_held rows (LinkOf link)) false
+
+abbrev pub is_link_row : Key → Bool
+is_link_row (LinkOf l) = true
+is_link_row (RowOf o a) = false
+
+-- how many link rows there are
+abbrev pub links_in : List Held → ℕ
+links_in rows = length (filter (λ h. is_link_row h.update.key) rows)
+
+-- what `link` and `unlink` are both refused by; `wrong` comes where the link is already so
+abbrev pub any_link_refusal : State → Identifier → ℕ → Identifier → (Bool → Option WriteRefusal) → Option WriteRefusal
+any_link_refusal s from attr to wrong =
+    let held = updates_of s.store.rows in
+    let nodes = nodes_held held in
+    first_refusal (
+    where_true (is_quarantined s.mode) Quarantined
+    ∷ fixed_refusal from
+    ∷ fixed_refusal to
+    ∷ object_refusal held nodes from
+    ∷ option_map of_schema (schema_link_refusal (numbered s.store.schema) (class_of nodes from) attr)
+    ∷ object_refusal held nodes to
+    ∷ wrong (is_linked s.store.rows (link_of nodes from attr to))
+    ∷ version_refusal s.store.rows (LinkOf (link_of nodes from attr to)) attr
+    ∷ usn_refusal (s.store.usn + 1)
+    ∷ []
+    )
+
+-- a link row more, where none is held
+abbrev pub more_links : State → Identifier → ℕ → Identifier → ℕ
+more_links s from attr to =
+    let nodes = nodes_held (updates_of s.store.rows) in
+    if is_some (row_held s.store.rows (LinkOf (link_of nodes from attr to))) then 0 else 1
+
+abbrev pub link_refusal : State → Identifier → ℕ → Identifier → Option WriteRefusal
+link_refusal s from attr to =
+    first_refusal (
+    any_link_refusal s from attr to (λ linked. where_true linked LinkThere)
+    ∷ full_refusal Links link_limit (links_in s.store.rows + more_links s from attr to)
+    ∷ []
+    )
+
+abbrev pub unlink_refusal : State → Identifier → ℕ → Identifier → Option WriteRefusal
+unlink_refusal s from attr to = any_link_refusal s from attr to (λ linked. where_true (not linked) LinkNotThere)
+
+-- why a write is refused, first in order
+abbrev pub write_refusal : State → Write → Option WriteRefusal
+write_refusal s (AddObject guid class parent text values) = add_refusal s guid class parent text values
+write_refusal s (Modify guid values) = modify_refusal s guid values
+write_refusal s (Rename guid parent text) = rename_refusal s guid parent text
+write_refusal s (Delete guid) = delete_refusal s guid
+write_refusal s (AddLink from attr to) = link_refusal s from attr to
+write_refusal s (RemoveLink from attr to) = unlink_refusal s from attr to
+
+-- ---- rows
+
 -- the stamp of a row that is written for the first time
 abbrev pub first_stamp : State → ℕ → LinkStamp
-first_stamp s now = record { created = 0; stamp = record { version = 1; time = now; inv = s.inv; usn = s.usn + 1 } }
+first_stamp s now = record { created = 0; stamp = record { version = 1; time = now; inv = s.inv; usn = s.store.usn + 1 } }
+
+-- a link is created at the time of its first row
+abbrev pub first_created : Key → ℕ → ℕ
+first_created (RowOf o attr) now = 0
+first_created (LinkOf l) now = now
+
+-- the stamp of a row that is written: one version more than the held one, which keeps its moment of creation
+abbrev pub next_stamp : State → Key → ℕ → LinkStamp
+next_stamp s key now =
+    let held = row_held s.store.rows key in
+    record {
+      created = option_map_or (λ h. h.update.stamp.created) held (first_created key now);
+      stamp = record { version = version_of held + 1; time = now; inv = s.inv; usn = s.store.usn + 1 };
+    }
 
 -- a new object of a controller
 abbrev pub new_object : State → Identifier → Oid
-new_object s guid = record { guid = guid; birth = record { inv = s.inv; usn = s.usn + 1 } }
+new_object s guid = record { guid = guid; birth = record { inv = s.inv; usn = s.store.usn + 1 } }
 
 abbrev pub row : Oid → LinkStamp → ℕ → Content → Update
 row o stamp attr content = record { key = RowOf o attr; stamp = stamp; said = Holds content }
 
 -- the rows of a new object: its class, its name and each attribute that is given, all with one stamp
-abbrev pub new_rows : Oid → LinkStamp → ℕ → Identifier → List ℕ → List (ℕ × List Item) → List Update
+abbrev pub new_rows : Oid → LinkStamp → ℕ → Identifier → List ℕ → List Given → List Update
 new_rows o stamp class parent text values =
     row o stamp class_attr (Class class)
     ∷ row o stamp name_attr (Name text parent)
-    ∷ map (λ (g : ℕ × List Item). row o stamp g.0 (Values g.1)) values
+    ∷ map (λ (g : Given). row o stamp g.0 (Values g.1)) values
+
+-- a row of an object, one version on
+abbrev pub next_row : State → ℕ → Oid → ℕ → Content → Update
+next_row s now o attr content = row o (next_stamp s (RowOf o attr) now) attr content
+
+abbrev pub of_object : Oid → List Update → Item
+of_object o rows = record { unit = Object o; rows = rows }
+
+-- a link row, one version on
+abbrev pub of_link : State → ℕ → LinkKey → Bool → Item
+of_link s now link present =
+    record { unit = OneLink link; rows = record { key = LinkOf link; stamp = next_stamp s (LinkOf link) now; said = IsPresent present } ∷ [] }
+
+-- the rows that a write writes
+abbrev pub rows_written : State → Write → ℕ → Item
+rows_written s (AddObject guid class parent text values) now =
+    of_object (new_object s guid) (new_rows (new_object s guid) (first_stamp s now) class parent text values)
+rows_written s (Modify guid values) now =
+    let o = object_of (nodes_held (updates_of s.store.rows)) guid in of_object o (map (λ (g : Given). next_row s now o g.0 (Values g.1)) values)
+rows_written s (Rename guid parent text) now =
+    let o = object_of (nodes_held (updates_of s.store.rows)) guid in of_object o (next_row s now o name_attr (Name text parent) ∷ [])
+rows_written s (Delete guid) now =
+    let o = object_of (nodes_held (updates_of s.store.rows)) guid in of_object o (next_row s now o deleted_attr Dead ∷ [])
+rows_written s (AddLink from attr to) now = of_link s now (link_of (nodes_held (updates_of s.store.rows)) from attr to) true
+rows_written s (RemoveLink from attr to) now = of_link s now (link_of (nodes_held (updates_of s.store.rows)) from attr to) false
+
+-- the change of a write: one item under the next USN
+abbrev pub own_change : State → Item → Change
+own_change s item = only_writes (s.store.usn + 1) (record { local = s.store.usn + 1; item = item } ∷ [])
 
 abbrev pub unless : {A : Type 0} → Option WriteRefusal → A → Result A WriteRefusal
-unless (Some refusal) rows = Err refusal
-unless None rows = Ok rows
+unless (Some refusal) change = Err refusal
+unless None change = Ok change
 
--- a client adds an object: the first refusal, or the rows that are written
-abbrev pub add : State → Identifier → ℕ → Identifier → List ℕ → List (ℕ × List Item) → ℕ → Result (List Update) WriteRefusal
-add s guid class parent text values now =
-    unless (add_refusal (updates_of s.rows) guid parent text)
-    (new_rows (new_object s guid) (first_stamp s now) class parent text values)
-
--- a controller after a write of its own: its next USN, which its own cursor covers, and the rows
-abbrev pub written : State → List Update → State
-written s rows =
-    record {
-      dsa = s.dsa;
-      inv = s.inv;
-      usn = s.usn + 1;
-      rows = rows_after (map (λ (u : Update). let h : Held = record { update = u; local = s.usn + 1 } in h) rows) s.rows;
-      vector = insert_entry identifier_order s.vector s.inv (s.usn + 1);
-    }
+-- a client writes: the first refusal, or the change
+abbrev pub write : State → Write → ℕ → Result Change WriteRefusal
+write s w now = unless (write_refusal s w) (own_change s (rows_written s w now))

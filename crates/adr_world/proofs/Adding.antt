@@ -8,9 +8,9 @@ use Rattle.adr_model.specs.Store.{State}
 use Rattle.adr_world.specs.declared.people.Person.{Person}
 use Rattle.adr_world.specs.People.{person_rows, with_person, issued_from, has_guid, named_alike, is_proper, clashes, are_proper}
 
-pub usn_after : (ps : List Person) (s : State) → (fold with_person s ps).usn ≡ s.usn + length ps
+pub usn_after : (ps : List Person) (s : State) → (fold with_person s ps).store.usn ≡ s.store.usn + length ps
 usn_after [] s = omega arith
-usn_after (p ∷ ps) s = let e : (fold with_person (with_person s p) ps).usn ≡ (s.usn + 1) + length ps = usn_after ps (with_person s p) in omega (arith, e)
+usn_after (p ∷ ps) s = let e : (fold with_person (with_person s p) ps).store.usn ≡ (s.store.usn + 1) + length ps = usn_after ps (with_person s p) in omega (arith, e)
 
 pub inv_after : (ps : List Person) (s : State) → (fold with_person s ps).inv ≡ s.inv
 inv_after [] s = refl

@@ -39,10 +39,10 @@ updates_with_three rows h i j =
     updates_with_row (with_row (with_row rows h) i) j
     ∙ ap (λ us. with_update us j.update) (updates_with_row (with_row rows h) i ∙ ap (λ us. with_update us i.update) (updates_with_row rows h))
 
-pub held_as_added : (ps : List Person) (s : State) → updates_of (fold with_person s ps).rows ≡ fold (put_rows root) (updates_of s.rows) (added_from s ps)
+pub held_as_added : (ps : List Person) (s : State) → updates_of (fold with_person s ps).store.rows ≡ fold (put_rows root) (updates_of s.store.rows) (added_from s ps)
 held_as_added [] s = refl
 held_as_added (p ∷ ps) s =
-    held_as_added ps (with_person s p) ∙ ap (λ us. fold (put_rows root) us (added_from (with_person s p) ps)) (updates_with_three s.rows _ _ _)
+    held_as_added ps (with_person s p) ∙ ap (λ us. fold (put_rows root) us (added_from (with_person s p) ps)) (updates_with_three s.store.rows _ _ _)
 
 pub shown_as_added : (ps : List Person) (s : State) (t : List (Identifier × Entry))
     → fold (λ (u : List (Identifier × Entry)) (p : Person). insert_entry identifier_order u p.guid (person_entry p)) t ps

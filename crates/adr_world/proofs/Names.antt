@@ -5,8 +5,8 @@ use Rattle.std.proofs.lemmas.Slice.Eq.{bytes_eq-Decides}
 use Rattle.adr_event.specs.declared.event.Event.{Event}
 use Rattle.adr_event.specs.declared.event.Event.TheVariants.{Controller, Time, Add, Show}
 use Rattle.adr_event.specs.declared.refusal.WriteRefusal.{WriteRefusal}
-use Rattle.adr_model.specs.Update.{Update}
-use Rattle.adr_model.specs.Write.{add}
+use Rattle.adr_model.specs.Change.{Change}
+use Rattle.adr_model.specs.Write.{AddObject, write}
 use Rattle.adr_model.specs.World.{World, Replica, replica_at, with_replica, after_write, at_replica, step}
 use Rattle.adr_schedule.specs.Seen.{Seen, seen_after}
 use Rattle.adr_world.specs.Held.{seen_in}
@@ -29,12 +29,12 @@ unfolding names_of
 names_stay [] r = refl
 names_stay (q ∷ rs) r = λ i. same_name q r (bytes_eq q.name r.name) refl i ∷ names_stay rs r i
 
-after_add : (w : World) (r : Replica) (verb : List ℕ) (o : Result (List Update) WriteRefusal) → seen_in (after_write w r verb o).0 ≡ seen_in w
+after_add : (w : World) (r : Replica) (verb : List ℕ) (o : Result Change WriteRefusal) → seen_in (after_write w r verb o).0 ≡ seen_in w
 unfolding names_of
 after_add w r verb (Err e) = refl
 after_add w r verb (Ok rows) = ap (λ (names : List (List ℕ)). let s : Seen = record { controllers = names } in s) (names_stay w.replicas _)
 
-at_add : (w : World) (o : Option Replica) (verb : List ℕ) (f : Replica → Result (List Update) WriteRefusal) → seen_in (at_replica w o (λ r. after_write w r verb (f r))).0 ≡ seen_in w
+at_add : (w : World) (o : Option Replica) (verb : List ℕ) (f : Replica → Result Change WriteRefusal) → seen_in (at_replica w o (λ r. after_write w r verb (f r))).0 ≡ seen_in w
 at_add w None verb f = refl
 at_add w (Some r) verb f = after_add w r verb (f r)
 
@@ -46,5 +46,5 @@ pub seen_step : (w : World) (e : Event) → seen_in (step w e).0 ≡ seen_after 
 unfolding names_of
 seen_step w (Controller name dsa inv) = ap (λ (names : List (List ℕ)). let s : Seen = record { controllers = names } in s) (names_after_one w.replicas _)
 seen_step w (Time now) = refl
-seen_step w (Add name guid class parent text values) = at_add w (replica_at w name) _ (λ r. add r.state guid class parent text values w.time)
+seen_step w (Add name guid class parent text values) = at_add w (replica_at w name) _ (λ r. write r.state (AddObject guid class parent text values) w.time)
 seen_step w (Show name) = at_show w (replica_at w name) _

@@ -22,7 +22,7 @@ module _ (dsa inv : Identifier) (people : List Person) (proper : are_proper peop
   added = added_from (empty_state dsa inv) people
 
   abbrev held : List Update
-  held = updates_of (state_of dsa inv people).rows
+  held = updates_of (state_of dsa inv people).store.rows
 
   held_rows : held ≡ flat_map (rows_of root) (sorted added)
   held_rows = held_as_added people (empty_state dsa inv) ∙ rows_of_sorted root added (distinct_people people (empty_state dsa inv) proper)

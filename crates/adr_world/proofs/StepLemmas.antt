@@ -8,6 +8,7 @@ use Rattle.std.proofs.lemmas.Bool.Decides.{nat_tests}
 use Rattle.std.proofs.lemmas.Slice.Eq.{bytes_eq-Decides}
 use Rattle.adr_schema.specs.Folding.{folded}
 use Rattle.adr_schema.specs.Assignments.{Given}
+use Rattle.adr_schema.specs.declared.content.Value.TheVariants.{Text}
 use Rattle.adr_schedule.specs.Commands.{account}
 use Rattle.adr_event.specs.declared.event.Event.TheVariants.{Add, Show}
 use Rattle.adr_event.specs.declared.answer.Answer.{Answer}
@@ -17,17 +18,19 @@ use Rattle.adr_event.specs.declared.refusal.WriteRefusal.{WriteRefusal}
 use Rattle.adr_event.specs.declared.refusal.WriteRefusal.TheVariants.{GuidThere, NameTaken, Full}
 use Rattle.adr_event.specs.declared.refusal.Table.TheVariants.{Objects}
 use Rattle.adr_model.specs.Update.{Identifier}
-use Rattle.adr_model.specs.Place.{root, lost_and_found, is_fixed, nodes_of}
+use Rattle.adr_model.specs.Place.{root, lost_and_found, is_fixed}
 use Rattle.adr_model.specs.Directory.{directory}
 use Rattle.adr_model.specs.Store.{State, updates_of, empty_state}
-use Rattle.adr_model.specs.Write.{object_limit, first_refusal, where_true, add_refusal, unless, holds_guid, new_rows, new_object, first_stamp, add, written}
-use Rattle.adr_model.specs.Live.{objects_of, live_rows}
-use Rattle.adr_model.specs.Shown.{name_holder}
-use Rattle.adr_model.specs.World.{World, Replica, answer, refused, after_write, at_replica, with_replica, shown, step}
+use Rattle.adr_model.specs.Change.{Change, after}
+use Rattle.adr_model.specs.Write.{AddObject, object_limit, first_refusal, where_true, unless, new_rows, new_object, first_stamp, of_object, own_change, write}
+use Rattle.adr_model.specs.Refused.{write_refused}
+use Rattle.adr_model.specs.World.{World, Replica, answer, after_write, at_replica, with_replica, shown, step}
 use Rattle.adr_world.specs.declared.people.Person.{Person}
-use Rattle.adr_world.specs.People.{person_rows, state_of, issued_by, shown_people, has_guid, named_alike, name_kept, people_refusal, lost_name, is_proper, are_proper}
+use Rattle.adr_world.specs.People.{person_change, state_of, issued_by, shown_people, has_guid, named_alike, name_kept, people_refusal, lost_name, is_proper, are_proper}
+use Rattle.adr_schema.specs.Names.{name_fault}
+use Rattle.adr_world.proofs.Allowed.{refusal_is}
 use Rattle.adr_world.proofs.Adding.{usn_after, issued_after_more, state_after_more, still_proper}
-use Rattle.adr_world.proofs.Shown.{guids_held, count_held, names_held, people_shown}
+use Rattle.adr_world.proofs.Shown.{people_shown}
 use Rattle.adr_world.proofs.Visible.{all_is_visible}
 
 -- the world of one controller
@@ -39,51 +42,51 @@ world_with time name dsa inv people =
 own_name : (name : List ℕ) → bytes_eq name name ≡ true
 own_name name = (bytes_eq-Decides name name).1 refl
 
--- an `add` is refused as its people say
-refusal_is : (dsa inv : Identifier) (people : List Person) (guid text : List ℕ) → are_proper people ≡ true
-    → add_refusal (updates_of (state_of dsa inv people).rows) guid root text ≡ people_refusal people guid (folded text)
-refusal_is dsa inv people guid text proper =
-    let there : holds_guid (updates_of (state_of dsa inv people).rows) guid ≡ has_guid people guid = guids_held dsa inv people proper guid in
-    let kept : name_holder (nodes_of (live_rows (updates_of (state_of dsa inv people).rows))) root text ≡ name_kept people (folded text) = names_held dsa inv people proper text in
-    let count : length (objects_of (updates_of (state_of dsa inv people).rows)) ≡ length people = count_held dsa inv people proper in
-    λ i. first_refusal (
-    where_true (is_fixed guid || there i) (GuidThere guid)
-    ∷ option_map NameTaken (kept i)
-    ∷ where_true (nat_le object_limit (count i)) (Full Objects object_limit)
-    ∷ []
-    )
+-- a person whom the schema allows
+pub record IsAllowedUser (text value : List ℕ) : Type 0 where
+  pub named : name_fault text ≡ None
+  pub least : 1 ≤ length value
+  pub most : length value ≤ 20
+
+-- the people are proper and few enough
+pub record AreSound (people : List Person) : Type 0 where
+  pub proper : are_proper people ≡ true
+  pub few : nat_le (length people) object_limit ≡ true
+
+abbrev added_change : State → Identifier → ℕ → List ℕ → List Given → Change
+added_change s guid time text values = own_change s (of_object (new_object s guid) (new_rows (new_object s guid) (first_stamp s time) 5 root text values))
 
 -- what is made of an `add` once its refusal, if any, is known
-on_add : (time : ℕ) (name dsa inv : List ℕ) (people : List Person) (guid text : List ℕ) (values : List Given) (o : Option WriteRefusal)
-    → are_proper people ≡ true → people_refusal people guid (folded text) ≡ o
-    → step (world_with time name dsa inv people) (Add name guid 5 root text values)
+on_add : (time : ℕ) (name dsa inv : List ℕ) (people : List Person) (guid text value : List ℕ) (o : Option WriteRefusal)
+    → AreSound people → IsAllowedUser text value → people_refusal people guid (folded text) ≡ o
+    → step (world_with time name dsa inv people) (Add name guid 5 root text (account value))
     ≡ after_write (world_with time name dsa inv people) (record { name = name; state = state_of dsa inv people }) (codes "add")
-    (unless o (new_rows (new_object (state_of dsa inv people) guid) (first_stamp (state_of dsa inv people) time) 5 root text values))
-on_add time name dsa inv people guid text values o proper is =
+    (unless o (added_change (state_of dsa inv people) guid time text (account value)))
+on_add time name dsa inv people guid text value o sound allowed is =
     let w : World = world_with time name dsa inv people in
     let r : Replica = record { name = name; state = state_of dsa inv people } in
-    ap (λ (b : Bool). at_replica w (cond b (Some r) None) (λ (q : Replica). after_write w q (codes "add") (add q.state guid 5 root text values time))) (own_name name)
-    ∙ ap (λ (o : Option WriteRefusal). after_write w r (codes "add")
-    (unless o (new_rows (new_object (state_of dsa inv people) guid) (first_stamp (state_of dsa inv people) time) 5 root text values)))
-    (refusal_is dsa inv people guid text proper ∙ is)
+    ap (λ (b : Bool). at_replica w (cond b (Some r) None) (λ (q : Replica). after_write w q (codes "add") (write q.state (AddObject guid 5 root text (account value)) time))) (own_name name)
+    ∙ ap (λ (o : Option WriteRefusal). after_write w r (codes "add") (unless o (added_change (state_of dsa inv people) guid time text (account value))))
+    (refusal_is dsa inv people sound.proper sound.few guid text value allowed.named allowed.least allowed.most ∙ is)
 
-pub refused_add : (time : ℕ) (name dsa inv : List ℕ) (people : List Person) (guid text : List ℕ) (values : List Given) (r : WriteRefusal)
-    → are_proper people ≡ true → people_refusal people guid (folded text) ≡ Some r
-    → step (world_with time name dsa inv people) (Add name guid 5 root text values) ≡ (world_with time name dsa inv people, answer (codes "add") name (refused r))
-refused_add time name dsa inv people guid text values r proper is = on_add time name dsa inv people guid text values (Some r) proper is
+pub refused_add : (time : ℕ) (name dsa inv : List ℕ) (people : List Person) (guid text value : List ℕ) (r : WriteRefusal)
+    → AreSound people → IsAllowedUser text value → people_refusal people guid (folded text) ≡ Some r
+    → step (world_with time name dsa inv people) (Add name guid 5 root text (account value)) ≡ (world_with time name dsa inv people, answer (codes "add") name (write_refused r))
+refused_add time name dsa inv people guid text value r sound allowed is = on_add time name dsa inv people guid text value (Some r) sound allowed is
 
 -- one more person: what is issued, and the controller
 pub made_add : (time : ℕ) (name dsa inv : List ℕ) (people : List Person) (guid text folding value : List ℕ)
-    → are_proper people ≡ true → people_refusal people guid (folded text) ≡ None
+    → AreSound people → IsAllowedUser text value → people_refusal people guid (folded text) ≡ None
     → step (world_with time name dsa inv people) (Add name guid 5 root text (account value))
     ≡ (world_with time name dsa inv (people ++ record { guid = guid; time = time; text = text; folded = folding; account = value } ∷ []), answer (codes "add") name (Usn (length people + 1)))
-made_add time name dsa inv people guid text folding value proper is =
+made_add time name dsa inv people guid text folding value sound allowed is =
     let p : Person = record { guid = guid; time = time; text = text; folded = folding; account = value } in
     let s : State = state_of dsa inv people in
-    let counted : s.usn ≡ length people = usn_after people (empty_state dsa inv) ∙ zero-add (length people) in
-    let renamed : with_replica (record { name = name; state = s } ∷ []) (record { name = name; state = written s (person_rows s p) }) ≡ record { name = name; state = written s (person_rows s p) } ∷ [] =
-    ap (λ (b : Bool). (let q : Replica = cond b (record { name = name; state = written s (person_rows s p) }) (record { name = name; state = s }) in q) ∷ []) (own_name name) in
-    on_add time name dsa inv people guid text (account value) None proper is
+    let t : State = after s (person_change s p) in
+    let counted : s.store.usn ≡ length people = usn_after people (empty_state dsa inv) ∙ zero-add (length people) in
+    let renamed : with_replica (record { name = name; state = s } ∷ []) (record { name = name; state = t }) ≡ record { name = name; state = t } ∷ [] =
+    ap (λ (b : Bool). (let q : Replica = cond b (record { name = name; state = t }) (record { name = name; state = s }) in q) ∷ []) (own_name name) in
+    on_add time name dsa inv people guid text value None sound allowed is
     ∙ λ i. (
       record {
         time = time;
@@ -101,7 +104,7 @@ told_show time name dsa inv people proper =
     let w : World = world_with time name dsa inv people in
     let r : Replica = record { name = name; state = state_of dsa inv people } in
     ap (λ (b : Bool). at_replica w (cond b (Some r) None) (λ (q : Replica). (w, answer (codes "show") q.name (Shown (shown w q.state))))) (own_name name)
-    ∙ ap (λ (es : List Entry). (w, answer (codes "show") name (Shown es))) (ap directory (all_is_visible people (empty_state dsa inv) (updates_of (state_of dsa inv people).rows) refl) ∙ people_shown dsa inv people proper)
+    ∙ ap (λ (es : List Entry). (w, answer (codes "show") name (Shown es))) (ap directory (all_is_visible people (empty_state dsa inv) (updates_of (state_of dsa inv people).store.rows) refl) ∙ people_shown dsa inv people proper)
 
 pub show_step : (time : ℕ) (name dsa inv : List ℕ) (people items : List Person) (entries : List Entry) (made : Answer)
     → are_proper people ≡ true → made ≡ answer (codes "show") name (Shown entries) → entries ≡ map (λ (e : List ℕ × Entry). e.1) (shown_people items) → items ≡ people
@@ -112,12 +115,14 @@ show_step time name dsa inv people items entries made proper said listed same =
     ∙ ap (λ (a : Answer). (w, a)) (sym (said ∙ ap (λ (es : List Entry). answer (codes "show") name (Shown es)) (listed ∙ ap (λ (ps : List Person). map (λ (e : List ℕ × Entry). e.1) (shown_people ps)) same)))
 
 pub refuse_step : (time : ℕ) (name dsa inv : List ℕ) (people : List Person) (guid text folding : List ℕ) (values : List Given) (r : WriteRefusal) (made : Answer)
-    → are_proper people ≡ true → folding ≡ folded text → Some r ≡ people_refusal people guid folding → made ≡ answer (codes "add") name (refused r)
+    → AreSound people → (value : List ℕ) → values ≡ account value → IsAllowedUser text value
+    → folding ≡ folded text → Some r ≡ people_refusal people guid folding → made ≡ answer (codes "add") name (write_refused r)
     → step (world_with time name dsa inv people) (Add name guid 5 root text values) ≡ (world_with time name dsa inv people, made)
-refuse_step time name dsa inv people guid text folding values r made proper fold is said =
+refuse_step time name dsa inv people guid text folding values r made sound value given allowed fold is said =
     let w : World = world_with time name dsa inv people in
-    refused_add time name dsa inv people guid text values r proper (sym (is ∙ ap (people_refusal people guid) fold))
-    ∙ ap (λ (a : Answer). (w, a)) (sym said)
+    ap (λ (vs : List Given). step w (Add name guid 5 root text vs)) given
+    ∙ (refused_add time name dsa inv people guid text value r sound allowed (sym (is ∙ ap (people_refusal people guid) fold))
+    ∙ ap (λ (a : Answer). (w, a)) (sym said))
 
 -- a controller's fields, one after the other
 same_world : (time : ℕ) (name name' dsa dsa' inv inv' : List ℕ) (people people' : List Person) → name' ≡ name → dsa' ≡ dsa → inv' ≡ inv → people' ≡ people
@@ -125,14 +130,14 @@ same_world : (time : ℕ) (name name' dsa dsa' inv inv' : List ℕ) (people peop
 same_world time name name' dsa dsa' inv inv' people people' n d v p = λ i. world_with time (sym n i) (sym d i) (sym v i) (sym p i)
 
 pub make_step : (time : ℕ) (name name' dsa dsa' inv inv' : List ℕ) (people people' : List Person) (guid text folding : List ℕ) (values : List Given) (p : Person) (made : Answer)
-    → are_proper people ≡ true → folding ≡ folded text → None ≡ people_refusal people guid folding
+    → AreSound people → IsAllowedUser text p.account → folding ≡ folded text → None ≡ people_refusal people guid folding
     → p ≡ record { guid = guid; time = time; text = text; folded = folding; account = p.account } → values ≡ account p.account
     → name' ≡ name → dsa' ≡ dsa → inv' ≡ inv → people' ≡ people ++ p ∷ []
     → made ≡ answer (codes "add") name (Usn (length people + 1))
     → step (world_with time name dsa inv people) (Add name guid 5 root text values) ≡ (world_with time name' dsa' inv' people', made)
-make_step time name name' dsa dsa' inv inv' people people' guid text folding values p made proper fold is person given n d v grown said =
+make_step time name name' dsa dsa' inv inv' people people' guid text folding values p made sound allowed fold is person given n d v grown said =
     ap (λ (vs : List Given). step (world_with time name dsa inv people) (Add name guid 5 root text vs)) given
-    ∙ (made_add time name dsa inv people guid text folding p.account proper (sym (is ∙ ap (people_refusal people guid) fold))
+    ∙ (made_add time name dsa inv people guid text folding p.account sound allowed (sym (is ∙ ap (people_refusal people guid) fold))
     ∙ λ i. (same_world time name name' dsa dsa' inv inv' (people ++ record { guid = guid; time = time; text = text; folded = folding; account = p.account } ∷ []) people' n d v (grown ∙ ap (λ (q : Person). people ++ q ∷ []) person) i, sym said i))
 
 -- nothing refuses: the parts
@@ -167,3 +172,15 @@ kept_sound people people' guid text folding time p proper fold is person grown =
     let size : length (people ++ q ∷ []) ≤ object_limit = simp length-append (omega arith) in
     subst (λ (ps : List Person). (are_proper ps && nat_le (length ps) object_limit) ≡ true) (sym (grown ∙ ap (λ (r : Person). people ++ r ∷ []) person))
     (rw (all, within _ _ size) refl)
+
+-- the one account that values give
+account_said : List Given → List ℕ
+account_said ((attr, Text value ∷ []) ∷ []) = value
+account_said _ = []
+
+pub same_account : (a b : List ℕ) → account a ≡ account b → a ≡ b
+unfolding account_said
+same_account a b e = ap account_said e
+
+pub allowed_as : (text a b : List ℕ) → account a ≡ account b → IsAllowedUser text a → IsAllowedUser text b
+allowed_as text a b e allowed = subst (λ v. IsAllowedUser text v) (same_account a b e) allowed

@@ -1,5 +1,5 @@
 -- What a controller's people stand for: the rows that they were added with, one after the other.
-use Rattle.std.specs.Prelude.{ℕ, List, [], ◌∷◌, ◌++◌, Bool, true, ◌&&◌, ◌||◌, not, length, nat_le, fold, Option, Some, if◌then◌else◌, codes}
+use Rattle.std.specs.Prelude.{◌≡◌, ◌≤◌, ℕ, List, [], ◌∷◌, ◌++◌, Bool, true, ◌&&◌, ◌||◌, not, length, nat_le, fold, Option, Some, if◌then◌else◌, codes}
 use Rattle.std.specs.List.{list_any, find}
 use Rattle.std.specs.Option.{option_map}
 use Rattle.std.specs.Str.{bytes_eq}
@@ -8,21 +8,27 @@ use Rattle.adr_stamp.specs.Order.{identifier_order}
 use Rattle.adr_schema.specs.declared.content.Value.TheVariants.{Text}
 use Rattle.adr_schema.specs.Folding.{folded}
 use Rattle.adr_event.specs.declared.directory.Entry.{Entry}
+use Rattle.adr_schema.specs.Assignments.{Given}
+use Rattle.adr_schedule.specs.Commands.{account}
 use Rattle.adr_model.specs.Update.{Identifier, Update, same_identifier}
 use Rattle.adr_model.specs.Place.{root, lost_and_found, is_fixed}
 use Rattle.adr_model.specs.Store.{State, empty_state}
 use Rattle.adr_event.specs.declared.refusal.Table.TheVariants.{Objects}
 use Rattle.adr_event.specs.declared.refusal.WriteRefusal.{WriteRefusal}
 use Rattle.adr_event.specs.declared.refusal.WriteRefusal.TheVariants.{GuidThere, NameTaken, Full}
-use Rattle.adr_model.specs.Write.{object_limit, first_refusal, where_true, new_rows, new_object, first_stamp, written}
+use Rattle.adr_model.specs.Change.{Change, after}
+use Rattle.adr_model.specs.Write.{object_limit, first_refusal, where_true, new_rows, new_object, first_stamp, of_object, own_change}
 use Rattle.adr_world.specs.declared.people.Person.{Person}
 
 -- the rows that a person was added with
 abbrev pub person_rows : State → Person → List Update
 person_rows s p = new_rows (new_object s p.guid) (first_stamp s p.time) 5 root p.text ((10, Text p.account ∷ []) ∷ [])
 
+abbrev pub person_change : State → Person → Change
+person_change s p = own_change s (of_object (new_object s p.guid) (person_rows s p))
+
 abbrev pub with_person : State → Person → State
-with_person s p = written s (person_rows s p)
+with_person s p = after s (person_change s p)
 
 -- the controller after these people were added
 abbrev pub state_of : Identifier → Identifier → List Person → State
@@ -81,3 +87,7 @@ clashes p q = same_identifier p.guid q.guid || bytes_eq p.folded q.folded
 abbrev pub are_proper : List Person → Bool
 are_proper [] = true
 are_proper (p ∷ ps) = is_proper p && not (list_any (clashes p) ps) && are_proper ps
+
+-- one account name, of a length that the schema allows
+abbrev pub IsOneAccount : List Given → Type 0
+IsOneAccount values = (value : List ℕ) × (values ≡ account value) × (1 ≤ length value) × (length value ≤ 20)

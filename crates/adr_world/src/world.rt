@@ -1,7 +1,9 @@
 //! The controllers of a run, and what an event does.
 
 ghost use Rattle.std.specs.Prelude.{◌≡◌, ◌++◌, ◌∷◌, ◌+◌, [], ℕ, List, length, codes, true, IfOk, OnOk, OnErr, None, Some};
+ghost use Rattle.adr_schema.specs.Names.{name_fault};
 ghost use Rattle.adr_schedule.specs.Commands.{account};
+ghost use Rattle.adr_world.specs.People.{IsOneAccount};
 
 use crate::answers::{answer, refused, silent};
 use crate::people::{Person, directory_of, refusal_of};
@@ -22,7 +24,7 @@ pub struct Holder {
 
 /// The one account name that the values give.
 fn account_of(alloc: Global, values: &Assignments) -> Result<Text, NoMemory>
-    requires { (value : List ℕ) × (values.now ≡ account value) }
+    requires { IsOneAccount values.now }
     ensures { IfOk result (λ text. values.now ≡ account text) }
 {
     match values.next(None) {
@@ -40,7 +42,7 @@ fn person_of(
     folded: Text,
     values: &Assignments,
 ) -> Result<Person, NoMemory>
-    requires { (value : List ℕ) × (values.now ≡ account value) }
+    requires { IsOneAccount values.now }
     ensures person { IfOk result (λ person. person ≡ record { guid = guid; time = now; text = text.now; folded = folded; account = person.account }) }
     ensures account { IfOk result (λ person. values.now ≡ account person.account) }
 {
@@ -56,7 +58,8 @@ fn person_of(
 impl Holder {
     ghost use Rattle.adr_event.specs.declared.event.Event.TheVariants.{Add, Show};
     ghost use Rattle.adr_model.specs.Place.{root};
-    ghost use Rattle.adr_model.specs.World.{answer, refused, step};
+    ghost use Rattle.adr_model.specs.World.{answer, step};
+    ghost use Rattle.adr_model.specs.Refused.{write_refused};
     ghost use Rattle.adr_world.specs.People.{people_refusal};
     ghost use Rattle.adr_world.specs.Held.{world_of, is_sound};
 
@@ -98,7 +101,7 @@ impl Holder {
 
     /// Answers that an `add` is refused.
     fn refuse(&self, alloc: Global, refusal: WriteRefusal) -> Result<Answer, NoMemory>
-        ensures { IfOk result (λ made. made ≡ answer (codes "add") self.now.name (refused refusal)) }
+        ensures { IfOk result (λ made. made ≡ answer (codes "add") self.now.name (write_refused refusal)) }
     {
         answer(alloc, "add", &self.name, refused(alloc, refusal)?)
     }
@@ -113,7 +116,8 @@ impl Holder {
         values: &Assignments,
     ) -> Result<Answer, NoMemory>
         requires sound { is_sound (Some self.old) ≡ true }
-        requires given { (value : List ℕ) × (values.now ≡ account value) }
+        requires well_named { name_fault text.now ≡ None }
+        requires given { IsOneAccount values.now }
         ensures stepped { IfOk result (λ made. step (world_of now (Some self.old)) (Add self.old.name guid 5 root text.now values.now) ≡ (world_of now (Some self.new), made)) }
         ensures err { OnErr result (world_of now (Some self.new) ≡ world_of now (Some self.old)) }
         ensures kept { is_sound (Some self.new) ≡ true }
@@ -215,7 +219,8 @@ impl World {
         values: &Assignments,
     ) -> Result<Answer, NoMemory>
         requires bound { cause_after (seen_in self.old) (Show name.now) ≡ None }
-        requires given { (value : List ℕ) × (values.now ≡ account value) }
+        requires well_named { name_fault text.now ≡ None }
+        requires given { IsOneAccount values.now }
         ensures stepped { IfOk result (λ made. step self.old (Add name.now guid 5 root text.now values.now) ≡ (self.new, made)) }
         ensures err { OnErr result (self.new ≡ self.old) }
     {

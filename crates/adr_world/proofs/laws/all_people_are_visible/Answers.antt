@@ -5,4 +5,4 @@ use Rattle.adr_world.proofs.Visible.{all_is_visible}
 use Rattle.adr_world.proofs.laws.all_people_are_visible.Goals as goal
 
 pub returns : goal.returns
-returns c = λ dsa inv people. all_is_visible people (empty_state dsa inv) (updates_of (state_of dsa inv people).rows) refl
+returns c = λ dsa inv people. all_is_visible people (empty_state dsa inv) (updates_of (state_of dsa inv people).store.rows) refl

@@ -11,4 +11,4 @@ returns-clause-issued c = people_shown
 
 pub returns-clause-visible : goal.returns-clause-visible
 returns-clause-visible c = λ dsa inv people proper.
-    ap directory (all_is_visible people (empty_state dsa inv) (updates_of (state_of dsa inv people).rows) refl) ∙ people_shown dsa inv people proper
+    ap directory (all_is_visible people (empty_state dsa inv) (updates_of (state_of dsa inv people).store.rows) refl) ∙ people_shown dsa inv people proper

@@ -1,0 +1,89 @@
+-- What one commit changes, and what it makes of rows and of a controller. This one function of rows serves every call, the local logs and the journal.
+use Rattle.std.specs.Prelude.{ℕ, List, [], map, fold, filter, Bool, false, not, ◌||◌, ◌==◌, nat_lt, Option, Some, None, if◌then◌else◌}
+use Rattle.std.specs.List.{flat_map}
+use Rattle.std.specs.BTreeMap.{insert_entry}
+use Rattle.adr_stamp.specs.Order.{identifier_order}
+use Rattle.adr_stamp.specs.declared.Oid.{Oid}
+use Rattle.adr_stamp.specs.declared.Unit.{Unit as Named}
+use Rattle.adr_vector.specs.Vector.{Cursors, joined, raised}
+use Rattle.adr_model.specs.Update.{Identifier, Key, RowOf, LinkOf, Update, same_object, deleted_attr}
+use Rattle.adr_model.specs.Store.{Held, Kept, Mode, Normal, State, with_row, is_row_of}
+
+-- rows of one object, or a link row
+pub record Item : Type 0 where
+  pub unit : Named
+  pub rows : List Update
+
+-- rows of one unit, which are written under one local USN
+pub record Written : Type 0 where
+  pub local : ℕ
+  pub item : Item
+
+-- what one commit changes: the USN after, the mode, the mark of a partner, what is joined into the two vectors, which
+-- objects are removed and which rows are written
+pub record Change : Type 0 where
+  pub usn : ℕ
+  pub mode : Mode
+  pub mark : Option (Identifier × Kept)
+  pub joined : Cursors
+  pub purged : Cursors
+  pub removed : List Oid
+  pub writes : List Written
+
+-- the rows that are written, in order
+abbrev pub held_of : List Written → List Held
+held_of writes = flat_map (λ (w : Written). map (λ (u : Update). let h : Held = record { update = u; local = w.local } in h) w.item.rows) writes
+
+-- the updates that a change writes
+abbrev pub updates_written : Change → List Update
+updates_written c = flat_map (λ (w : Written). w.item.rows) c.writes
+
+-- whether a row goes when the object dies: it is none of the reserved rows, or a link that ends there
+abbrev pub goes_with : Oid → Key → Bool
+goes_with o (RowOf p attr) = if same_object p o then nat_lt deleted_attr attr else false
+goes_with o (LinkOf l) = same_object l.from o || same_object l.to o
+
+-- the object that a row of this key kills
+abbrev pub killed_by : Key → Option Oid
+killed_by (RowOf o attr) = if attr == deleted_attr then Some o else None
+killed_by (LinkOf l) = None
+
+abbrev pub stripped : Option Oid → List Held → List Held
+stripped None rows = rows
+stripped (Some o) rows = filter (λ h. not (goes_with o h.update.key)) rows
+
+-- a row is put: it takes the place of the row of its key, and a death takes its object's other rows and links
+abbrev pub put : List Held → Held → List Held
+put rows h = stripped (killed_by h.update.key) (with_row rows h)
+
+abbrev pub without_object : List Held → Oid → List Held
+without_object rows o = filter (λ h. not (is_row_of o h.update.key)) rows
+
+-- rows after others were written, one after the other, and then objects removed
+abbrev pub rows_after : List Oid → List Held → List Held → List Held
+rows_after removed writes rows = fold without_object (fold put rows writes) removed
+
+abbrev pub with_mark : Option (Identifier × Kept) → List (Identifier × Kept) → List (Identifier × Kept)
+with_mark None marks = marks
+with_mark (Some m) marks = insert_entry identifier_order marks m.0 m.1
+
+-- a controller after a change; its own cursor is its USN
+abbrev pub after : State → Change → State
+after s c =
+    record {
+      dsa = s.dsa;
+      inv = s.inv;
+      mode = c.mode;
+      store = record {
+        schema = s.store.schema;
+        usn = c.usn;
+        rows = rows_after c.removed (held_of c.writes) s.store.rows;
+        vector = raised (joined s.store.vector c.joined) s.inv c.usn;
+        purged = joined s.store.purged c.purged;
+        marks = with_mark c.mark s.store.marks;
+      };
+    }
+
+-- a change of these writes alone
+abbrev pub only_writes : ℕ → List Written → Change
+only_writes usn writes = record { usn = usn; mode = Normal; mark = None; joined = []; purged = []; removed = []; writes = writes }

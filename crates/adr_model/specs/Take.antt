@@ -1,0 +1,251 @@
+-- Taking a reply: the first refusal, or the change that it makes.
+use Rattle.std.specs.Prelude.{ℕ, ◌+◌, List, [], ◌∷◌, ◌++◌, Bool, true, false, not, ◌&&◌, ◌||◌, ◌==◌, nat_le, nat_lt, max, length, map, filter, fold, Option, Some, None, unwrap_or, Result, Ok, Err, if◌then◌else◌}
+use Rattle.std.specs.List.{list_any, find}
+use Rattle.std.specs.Bool.{then_some}
+use Rattle.std.specs.Option.{option_map, option_map_or, option_and_then, option_or}
+use Rattle.adr_stamp.specs.declared.Oid.{Oid}
+use Rattle.adr_stamp.specs.declared.Unit.{Unit as Named}
+use Rattle.adr_stamp.specs.declared.Unit.TheVariants.{Object, Link}
+use Rattle.adr_schema.specs.declared.content.Content.TheVariants.{Class, Name, Dead, Values}
+use Rattle.adr_schema.specs.declared.refusal.SchemaRefusal.{SchemaRefusal}
+use Rattle.adr_schema.specs.Table.{Table as Schema, must_of}
+use Rattle.adr_schema.specs.Numbered.{numbered}
+use Rattle.adr_schema.specs.Rules.{class_refusal, name_refusal, row_refusal, not_link_refusal}
+use Rattle.adr_vector.specs.Vector.{Cursors, at, first_gap, most_cursors}
+use Rattle.adr_vector.specs.declared.mark.Mark.{Mark}
+use Rattle.adr_event.specs.declared.refusal.Table.{Table}
+use Rattle.adr_event.specs.declared.refusal.Table.TheVariants.{Objects, Links, Cursors as CursorTable, Marks}
+use Rattle.adr_event.specs.declared.refusal.ItemFault.{ItemFault}
+use Rattle.adr_event.specs.declared.refusal.ItemFault.TheVariants.{Schema as BreaksSchema, WrongBirth}
+use Rattle.adr_event.specs.declared.refusal.TakeRefusal.{TakeRefusal}
+use Rattle.adr_event.specs.declared.refusal.TakeRefusal.TheVariants.{Quarantined, NotMine, Stale, VectorBehind, SchemaMismatch, RolledBack, BadItem, Incomplete, UsnLimit, Full}
+use Rattle.adr_model.specs.Update.{Key, RowOf, LinkOf, Said, Holds, IsPresent, Update, same_identifier, is_older, class_attr, name_attr, deleted_attr}
+use Rattle.adr_model.specs.Live.{objects_of}
+use Rattle.adr_model.specs.Visible.{covers_birth}
+use Rattle.adr_model.specs.Store.{Held, Normal, State, updates_of, row_held, holds_object, holds_dead, kept_of, mark_of}
+use Rattle.adr_model.specs.Change.{Item, Written, Change, held_of, rows_after, after}
+use Rattle.adr_model.specs.Serve.{Reply, is_quarantined}
+use Rattle.adr_model.specs.Write.{object_limit, link_limit, usn_limit, links_in}
+
+-- ---- which rows of an item are written
+
+-- whether a row is above the one of its key, or there is none
+abbrev pub is_above : List Held → Update → Bool
+is_above rows u = option_map_or (λ h. is_older h.update u) (row_held rows u.key) true
+
+abbrev pub is_of_attr : ℕ → Key → Bool
+is_of_attr attr (RowOf o a) = a == attr
+is_of_attr attr (LinkOf l) = false
+
+-- a class, name or deleted row
+abbrev pub is_reserved_row : Key → Bool
+is_reserved_row (RowOf o a) = nat_le a deleted_attr
+is_reserved_row (LinkOf l) = false
+
+abbrev pub has_row : ℕ → List Update → Bool
+has_row attr rows = list_any (λ u. is_of_attr attr u.key) rows
+
+-- an object that dies keeps only its class, name and deleted rows
+abbrev pub left_by_death : List Update → List Update
+left_by_death rows = if has_row deleted_attr rows then filter (λ u. is_reserved_row u.key) rows else rows
+
+-- an object that was held and was collected, or never comes
+abbrev pub is_gone : Cursors → List Held → Oid → Bool
+is_gone vector rows o = not (holds_object rows o) && covers_birth vector o
+
+-- an end of a link that is dead or gone
+abbrev pub is_lost_end : Cursors → List Held → Oid → Bool
+is_lost_end vector rows o = holds_dead rows o || is_gone vector rows o
+
+-- what stands of an object before its item
+abbrev pub by_standing : {A : Type 0} → Cursors → List Held → Oid → A → A → A → A → A
+by_standing vector rows o dead held gone new =
+    if holds_dead rows o then dead else if holds_object rows o then held else if covers_birth vector o then gone else new
+
+-- the rows of an item that are written
+abbrev pub rows_taken : Cursors → List Held → Item → List Update
+rows_taken vector rows item = by item.unit
+  where
+    by : Named → List Update
+    by (Object o) =
+        by_standing vector rows o
+        (filter (λ u. is_of_attr deleted_attr u.key && is_above rows u) item.rows)
+        (left_by_death (filter (λ u. not (is_of_attr class_attr u.key) && is_above rows u) item.rows))
+        []
+        (left_by_death item.rows)
+    by (Link l) = if is_lost_end vector rows l.from || is_lost_end vector rows l.to then [] else filter (is_above rows) item.rows
+
+-- ---- which rows of an item are looked at, and what is wrong with one
+
+-- the rows that aren't left out
+abbrev pub rows_tested : Cursors → List Held → Item → List Update
+rows_tested vector rows item = by item.unit
+  where
+    by : Named → List Update
+    by (Object o) = by_standing vector rows o [] item.rows [] (left_by_death item.rows)
+    by (Link l) = if is_lost_end vector rows l.from || is_lost_end vector rows l.to then [] else item.rows
+
+-- whether a class row carries the birth of its object
+abbrev pub is_birth : Oid → Update → Bool
+is_birth o u = (u.stamp.stamp.version == 1) && same_identifier u.stamp.stamp.inv o.birth.inv && (u.stamp.stamp.usn == o.birth.usn)
+
+abbrev pub broken : Option SchemaRefusal → Option ItemFault
+broken r = option_map BreaksSchema r
+
+-- what is wrong with a row of an object of this class, if the class is known
+abbrev pub row_fault : Schema → Option ℕ → Update → Option ItemFault
+row_fault table class u = by u.key u.said
+  where
+    by : Key → Said → Option ItemFault
+    by (RowOf o attr) (Holds (Class c)) = option_or (then_some (not (is_birth o u)) WrongBirth) (broken (class_refusal table c))
+    by (RowOf o attr) (Holds (Name text parent)) = broken (name_refusal text)
+    by (RowOf o attr) (Holds Dead) = None
+    by (RowOf o attr) (Holds (Values vs)) = broken (row_refusal table class attr vs)
+    by (RowOf o attr) (IsPresent b) = None
+    by (LinkOf l) said = broken (not_link_refusal table l.attr)
+
+-- the class that a class row gives
+abbrev pub class_said : Said → Option ℕ
+class_said (Holds (Class c)) = Some c
+class_said (Holds (Name text parent)) = None
+class_said (Holds Dead) = None
+class_said (Holds (Values vs)) = None
+class_said (IsPresent b) = None
+
+abbrev pub class_among : List Update → Option ℕ
+class_among rows = option_and_then (λ u. class_said u.said) (find (λ u. is_of_attr class_attr u.key) rows)
+
+-- the class of an item's object: that of the held object, or the one that comes
+abbrev pub class_of_item : List Held → Item → Option ℕ
+class_of_item rows item = by item.unit
+  where
+    by : Named → Option ℕ
+    by (Object o) = option_or (option_and_then (λ h. class_said h.update.said) (row_held rows (RowOf o class_attr))) (class_among item.rows)
+    by (Link l) = None
+
+abbrev pub first_fault : List (Option ItemFault) → Option ItemFault
+first_fault [] = None
+first_fault (r ∷ rs) = option_or r (first_fault rs)
+
+abbrev pub item_fault : Schema → Cursors → List Held → Item → Option ItemFault
+item_fault table vector rows item = first_fault (map (row_fault table (class_of_item rows item)) (rows_tested vector rows item))
+
+-- whether a new object lacks its class or its name, or is alive and lacks what it must have
+abbrev pub lacks : Schema → List Update → Bool
+lacks table rows =
+    not (has_row class_attr rows) || not (has_row name_attr rows)
+    || (not (has_row deleted_attr rows) && list_any (λ attr. not (has_row attr rows)) (must_of table (unwrap_or (class_among rows) 0)))
+
+abbrev pub incomplete : Schema → Cursors → List Held → Item → Option TakeRefusal
+incomplete table vector rows item = by item.unit
+  where
+    by : Named → Option TakeRefusal
+    by (Object o) = by_standing vector rows o None None None (then_some (lacks table item.rows) (Incomplete o))
+    by (Link l) = None
+
+abbrev pub item_refusal : Schema → Cursors → List Held → ℕ → Item → Option TakeRefusal
+item_refusal table vector rows at item = option_or (option_map (BadItem at) (item_fault table vector rows item)) (incomplete table vector rows item)
+
+-- ---- the items, one after the other
+
+-- how far a reply has been taken: the rows, the USN and the writes so far, the first refusal, and the most objects and links on the way
+pub record Taking : Type 0 where
+  pub rows : List Held
+  pub usn : ℕ
+  pub writes : List Written
+  pub refusal : Option TakeRefusal
+  pub place : ℕ
+  pub objects : ℕ
+  pub links : ℕ
+
+abbrev pub begin : State → Taking
+begin s = record { rows = s.store.rows; usn = s.store.usn; writes = []; refusal = None; place = 0; objects = 0; links = 0 }
+
+-- the rows of an item under the next USN, where there are any
+abbrev pub writes_of : ℕ → Item → List Update → List Written
+writes_of usn item [] = []
+writes_of usn item (u ∷ us) = record { local = usn + 1; item = record { unit = item.unit; rows = u ∷ us } } ∷ []
+
+-- an item is judged against what the items before it left, with the vector of the start
+abbrev pub take_item : Schema → Cursors → Taking → Item → Taking
+take_item table vector t item =
+    let writes = writes_of t.usn item (rows_taken vector t.rows item) in
+    let rows = rows_after [] (held_of writes) t.rows in
+    record {
+      rows = rows;
+      usn = t.usn + length writes;
+      writes = t.writes ++ writes;
+      refusal = option_or t.refusal (item_refusal table vector t.rows t.place item);
+      place = t.place + 1;
+      objects = max t.objects (length (objects_of (updates_of rows)));
+      links = max t.links (links_in rows);
+    }
+
+abbrev pub take_items : State → List Item → Taking
+take_items s items = fold (take_item (numbered s.store.schema) s.store.vector) (begin s) items
+
+-- ---- the whole
+
+-- the change of a taken reply; the last one brings the source's vector
+abbrev pub taken_change : Reply → Taking → Change
+taken_change r t =
+    record {
+      usn = t.usn;
+      mode = Normal;
+      mark = Some (r.source, record { inv = r.inv; mark = r.to });
+      joined = unwrap_or r.last [];
+      purged = [];
+      removed = [];
+      writes = t.writes;
+    }
+
+abbrev pub first_of_take : List (Option TakeRefusal) → Option TakeRefusal
+first_of_take [] = None
+first_of_take (r ∷ rs) = option_or r (first_of_take rs)
+
+-- how many partners' marks a controller keeps at most
+abbrev pub mark_limit : ℕ
+mark_limit = 10000
+
+abbrev pub passes : Table → ℕ → ℕ → Option TakeRefusal
+passes table limit count = then_some (nat_lt limit count) (Full table limit)
+
+abbrev pub same_mark : Mark → Mark → Bool
+same_mark m n = (m.obj == n.obj) && (m.prop == n.prop) && (m.seen == n.seen)
+
+abbrev pub kept_mark : State → Reply → Mark
+kept_mark s r = mark_of (kept_of s.store r.source) r.inv
+
+-- how much of this incarnation the source has seen
+abbrev pub shown_by_last : State → Reply → ℕ
+shown_by_last s r = option_map_or (λ v. at v s.inv) r.last 0
+
+-- why a reply is refused, first in order
+abbrev pub refusal_of : State → Reply → Taking → State → Option TakeRefusal
+refusal_of s r t taken =
+    first_of_take (
+    then_some (is_quarantined s.mode) Quarantined
+    ∷ then_some (not (same_identifier r.dest s.dsa)) (NotMine r.dest)
+    ∷ then_some (not (same_mark r.from (kept_mark s r))) (Stale (kept_mark s r) r.from)
+    ∷ option_map (λ gap. VectorBehind gap.0 gap.1 gap.2) (first_gap r.asked s.store.vector)
+    ∷ then_some (not (r.schema == s.store.schema)) (SchemaMismatch s.store.schema r.schema)
+    ∷ then_some (nat_lt s.store.usn (shown_by_last s r)) (RolledBack s.inv s.store.usn (shown_by_last s r))
+    ∷ t.refusal
+    ∷ then_some (nat_lt usn_limit t.usn) UsnLimit
+    ∷ passes Objects object_limit t.objects
+    ∷ passes Links link_limit t.links
+    ∷ passes CursorTable most_cursors (length taken.store.vector)
+    ∷ passes Marks mark_limit (length taken.store.marks)
+    ∷ []
+    )
+
+abbrev pub taken : Option TakeRefusal → Change → Result Change TakeRefusal
+taken (Some refusal) change = Err refusal
+taken None change = Ok change
+
+-- what a reply does to a controller: the first refusal, or the change
+abbrev pub take : State → Reply → Result Change TakeRefusal
+take s r =
+    let t = take_items s r.items in
+    let change = taken_change r t in
+    taken (refusal_of s r t (after s change)) change
