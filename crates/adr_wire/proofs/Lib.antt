@@ -1,0 +1,5 @@
+pub mod Loops
+pub mod Combining
+pub mod FieldLaws
+pub mod CompositeLaws
+pub mod VectorLaws

@@ -1,0 +1,7 @@
+use Rattle.std.proofs.Common.{◌≡◌, ◌++◌, take}
+use Rattle.std.specs.List.{flat_map}
+use Rattle.adr_wire.specs.Composites.{value}
+use Rattle.adr_wire.proofs.writer.Writer.write_values.Given as goal
+
+abbrev pub invariant-loop-value : goal.invariant-loop-value
+invariant-loop-value l = l.self ≡ l.fn.self ++ flat_map value (take l.value-index l.values)

@@ -1,0 +1,5 @@
+pub mod Reading
+pub mod Fields
+pub mod Composites
+pub mod Spelling
+pub mod Ranges

@@ -1,0 +1,26 @@
+//! Fields and composites as bytes.
+//!
+//! This crate decides how numbers, identifiers, texts, values, rows, links, marks and vectors are spelled in images,
+//! packets and journal records: each in one way. Whatever is read is the value whose spelling stands there, and all
+//! else is refused at the first place that is wrong. It stands on `adr_stamp`, `adr_schema` and `adr_vector` for the
+//! values, and knows nothing of messages, images or journals, nor of what a schema allows.
+#![tactic(auto)]
+
+mod composites;
+mod laws;
+mod lists;
+mod reader;
+mod refusal;
+mod writer;
+mod writing;
+
+pub use laws::{composites_have_one_spelling, fields_have_one_spelling};
+pub use reader::Reader;
+pub use refusal::WireRefusal;
+pub use writer::Writer;
+
+/// Memory ran out.
+pub type NoMemory = std::alloc::AllocError;
+
+#[cfg(test)]
+mod tests;

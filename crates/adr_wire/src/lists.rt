@@ -1,0 +1,120 @@
+//! Lists are read element by element: memory is taken for what has been read, not for what a count promises.
+
+ghost use Rattle.std.specs.Prelude.{◌≡◌};
+ghost use Rattle.std.specs.Ordering.{nat_cmp};
+ghost use Rattle.adr_stamp.specs.Order.{identifier_order};
+ghost use Rattle.adr_wire.specs.Reading.{Gives, GivesAs, Tells, is_above};
+ghost use Rattle.adr_wire.specs.Composites.{values_at, row_above, rows_at, cursor_above, cursors_at};
+
+use crate::reader::Reader;
+use crate::refusal::WireRefusal;
+use adr_schema::{Content, Value};
+use adr_stamp::Stamp;
+use std::alloc::Global;
+use uuid::Uuid;
+
+/// Whether an attribute comes behind the last one.
+fn rises(last: Option<u16>, attr: u16) -> bool
+    ensures { result ≡ is_above nat_cmp last attr }
+{
+    match last {
+        None => true,
+        Some(last) => last.cmp(&attr).is_lt(),
+    }
+}
+
+/// Whether an identifier comes behind the last one.
+fn id_rises(last: Option<Uuid>, inv: Uuid) -> bool
+    ensures { result ≡ is_above identifier_order last inv }
+{
+    match last {
+        None => true,
+        Some(last) => last.cmp(&inv).is_lt(),
+    }
+}
+
+impl Reader<'_> {
+    /// So many values.
+    #[tactic(auto, unfolding(crate::specs::Composites::values_at))]
+    pub fn read_values(&mut self, alloc: Global, count: u8) -> Result<Vec<Value>, WireRefusal>
+        ensures { GivesAs (λ values. values.items) result self.new (values_at count self.old) }
+    {
+        let mut values = Vec::new(alloc);
+        for _ in 0..count {
+            let value = self.read_value(alloc)?;
+            values.push(value)?;
+        }
+        Ok(values)
+    }
+
+    /// A row whose attribute comes behind the last one.
+    #[tactic(auto, unfolding(crate::specs::Composites::row_above, crate::specs::Composites::row_of))]
+    pub fn read_row_above(
+        &mut self,
+        alloc: Global,
+        last: Option<u16>,
+    ) -> Result<(u16, Stamp, Content), WireRefusal>
+        ensures { Gives result self.new (row_above last self.old) }
+    {
+        let place = self.place();
+        let attr = self.read_u16()?;
+        if !rises(last, attr) {
+            return Err(WireRefusal::Malformed { place });
+        }
+        let stamp = self.read_stamp()?;
+        let content = self.read_content(alloc, attr)?;
+        Ok((attr, stamp, content))
+    }
+
+    /// So many rows, rising by attribute.
+    #[tactic(auto, unfolding(crate::specs::Composites::rows_at))]
+    pub fn read_rows(
+        &mut self,
+        alloc: Global,
+        count: u16,
+    ) -> Result<Vec<(u16, Stamp, Content)>, WireRefusal>
+        ensures { GivesAs (λ rows. rows.items) result self.new (rows_at count None self.old) }
+    {
+        let mut rows = Vec::new(alloc);
+        let mut last = None;
+        for _ in 0..count {
+            let row = self.read_row_above(alloc, last)?;
+            last = Some(row.0);
+            rows.push(row)?;
+        }
+        Ok(rows)
+    }
+
+    /// A cursor whose identifier comes behind the last one.
+    #[tactic(auto, unfolding(crate::specs::Composites::cursor_above))]
+    fn read_cursor_above(&mut self, last: Option<Uuid>) -> Result<(Uuid, u64), WireRefusal>
+        ensures { Tells result self.new (cursor_above last self.old) }
+    {
+        let place = self.place();
+        let inv = self.read_id()?;
+        if !id_rises(last, inv) {
+            return Err(WireRefusal::Malformed { place });
+        }
+        let usn = self.read_usn()?;
+        Ok((inv, usn))
+    }
+
+    /// So many cursors, rising by identifier.
+    #[tactic(auto, unfolding(crate::specs::Composites::cursors_at))]
+    pub fn read_cursors(
+        &mut self,
+        alloc: Global,
+        count: u32,
+    ) -> Result<Vec<(Uuid, u64)>, WireRefusal>
+        ensures { GivesAs (λ cursors. cursors.items) result self.new (cursors_at count None self.old) }
+    {
+        let mut cursors = Vec::new(alloc);
+        let mut last = None;
+        for _ in 0..count {
+            let (inv, usn) = self.read_cursor_above(last)?;
+            last = Some(inv);
+            cursors.push((inv, usn))?;
+        }
+        Ok(cursors)
+    }
+}
