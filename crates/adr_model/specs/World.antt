@@ -91,19 +91,22 @@ answer verb name outcome = record { verb = verb; name = name; outcome = outcome 
 abbrev pub Gone : Type 0
 Gone = World × Outcome
 
--- a call of a controller that was made
-abbrev pub of_replica : World → Option Replica → (Replica → Gone) → Gone
-of_replica w None act = (w, outcomes.Absent)
-of_replica w (Some r) act = act r
+abbrev pub stays : World → Outcome → Gone
+stays w outcome = (w, outcome)
 
-abbrev pub where_up : World → Standing → Gone → Gone
-where_up w Up gone = gone
-where_up w Down gone = (w, outcomes.Down)
-where_up w Failed gone = (w, outcomes.Failed)
+-- a call of a controller that was made, or what is answered otherwise
+abbrev pub of_made : {A : Type 0} → (Outcome → A) → Option Replica → (Replica → A) → A
+of_made other None act = other outcomes.Absent
+of_made other (Some r) act = act r
+
+abbrev pub where_up : {A : Type 0} → (Outcome → A) → Standing → A → A
+where_up other Up gone = gone
+where_up other Down gone = other outcomes.Down
+where_up other Failed gone = other outcomes.Failed
 
 -- a call of a controller that is up
-abbrev pub of_controller : World → Name → (Replica → Gone) → Gone
-of_controller w name act = of_replica w (replica_at w name) (λ r. where_up w r.standing (act r))
+abbrev pub of_controller : {A : Type 0} → World → Name → (Outcome → A) → (Replica → A) → A
+of_controller w name other act = of_made other (replica_at w name) (λ r. where_up other r.standing (act r))
 
 -- a change is committed by four device calls
 abbrev pub commit : World → Replica → Pending → Outcome → Gone
@@ -123,7 +126,7 @@ after_write w r what (Err refusal) = (w, write_refused refusal)
 after_write w r what (Ok change) = commit w r (record { call = ToWrite what w.time; change = change }) (outcomes.Usn change.usn)
 
 abbrev pub writes : World → Name → Write → Gone
-writes w name what = of_controller w name (λ r. after_write w r what (write r.safe what w.time))
+writes w name what = of_controller w name (stays w) (λ r. after_write w r what (write r.safe what w.time))
 
 abbrev pub after_collect : World → Replica → ℕ → Result Change CollectRefusal → Gone
 after_collect w r lifetime (Err refusal) = (w, collect_refused refusal)
@@ -138,23 +141,14 @@ Sent A = World × Outcome × Option A
 abbrev pub not_sent : {A : Type 0} → Gone → Sent A
 not_sent g = (g.0, g.1, None)
 
-abbrev pub sending : {A : Type 0} → World → Option Replica → (Replica → Sent A) → Sent A
-sending w None act = (w, outcomes.Absent, None)
-sending w (Some r) act = act r
-
-abbrev pub where_up_sending : {A : Type 0} → World → Standing → Sent A → Sent A
-where_up_sending w Up sent = sent
-where_up_sending w Down sent = (w, outcomes.Down, None)
-where_up_sending w Failed sent = (w, outcomes.Failed, None)
-
-abbrev pub of_sender : {A : Type 0} → World → Name → (Replica → Sent A) → Sent A
-of_sender w name act = sending w (replica_at w name) (λ r. where_up_sending w r.standing (act r))
+abbrev pub nothing : {A : Type 0} → World → Outcome → Sent A
+nothing w outcome = (w, outcome, None)
 
 -- a controller asks another one; both have to be made
 abbrev pub asks : World → Name → Name → ℕ → Sent Request
 asks w name partner max =
-    sending w (replica_at w name) (λ r. sending w (replica_at w partner) (λ p.
-    where_up_sending w r.standing (w, outcomes.Ok, Some (ask r.safe p.safe.dsa max))))
+    of_made (nothing w) (replica_at w name) (λ r. of_made (nothing w) (replica_at w partner) (λ p.
+    where_up (nothing w) r.standing (w, outcomes.Ok, Some (ask r.safe p.safe.dsa max))))
 
 abbrev pub rows_in : Reply → ℕ
 rows_in r = length (flat_map (λ (i : Item). i.rows) r.items)
@@ -162,15 +156,15 @@ rows_in r = length (flat_map (λ (i : Item). i.rows) r.items)
 abbrev pub after_serve : World → Replica → Result Reply ServeRefusal → Sent Reply
 after_serve w r (Ok reply) = (w, outcomes.Served reply.from reply.to (length reply.items) (rows_in reply) (is_some reply.last), Some reply)
 after_serve w r (Err (serves.RolledBack inv mine shown)) = not_sent (quarantines w r (serve_refused (serves.RolledBack inv mine shown)))
-after_serve w r (Err refusal) = (w, serve_refused refusal, None)
+after_serve w r (Err refusal) = nothing w (serve_refused refusal)
 
 abbrev pub served : World → Replica → Option Request → Sent Reply
-served w r None = (w, outcomes.Absent, None)
+served w r None = nothing w outcomes.Absent
 served w r (Some q) = after_serve w r (serve r.safe q)
 
 -- a controller answers a request
 abbrev pub serves_request : World → Name → Option Request → Sent Reply
-serves_request w name q = of_sender w name (λ r. served w r q)
+serves_request w name q = of_controller w name (nothing w) (λ r. served w r q)
 
 abbrev pub after_take : World → Replica → Reply → Result Change TakeRefusal → Gone
 after_take w r reply (Ok change) =
@@ -184,12 +178,12 @@ delivered w r (Some reply) = after_take w r reply (take r.safe reply)
 
 -- a controller takes a reply
 abbrev pub delivers : World → Name → Option Reply → Gone
-delivers w name reply = of_controller w name (λ r. delivered w r reply)
+delivers w name reply = of_controller w name (stays w) (λ r. delivered w r reply)
 
 -- ---- images, snapshots and disks
 
 abbrev pub backed_up : World → Option Store → Sent Store
-backed_up w None = (w, quarantined, None)
+backed_up w None = nothing w quarantined
 backed_up w (Some image) = (w, outcomes.Ok, Some image)
 
 -- a controller of its name gets a new disk with a state of a fresh identifier
@@ -255,27 +249,27 @@ step w (events.Deliver name reply) = told (codes "deliver") name (delivers w nam
 step w (events.Pull name source max) = (w, answer (codes "pull") name outcomes.Silent)
 step w (events.Cycle name source max) = (w, answer (codes "cycle") name outcomes.Silent)
 step w (events.Collect name lifetime) =
-    told (codes "collect") name (of_controller w name (λ r. after_collect w r lifetime (collect r.safe w.time lifetime)))
+    told (codes "collect") name (of_controller w name (stays w) (λ r. after_collect w r lifetime (collect r.safe w.time lifetime)))
 step w (events.Backup name bind) =
-    let t = of_sender w name (λ r. backed_up w (backup r.safe)) in told (codes "backup") name (record t.0 { images = bound w.images bind t.2 }, t.1)
+    let t = of_controller w name (nothing w) (λ r. backed_up w (backup r.safe)) in told (codes "backup") name (record t.0 { images = bound w.images bind t.2 }, t.1)
 step w (events.Restore name image inv) =
     let v = gives w [] (inv ∷ []) in
     told (codes "restore") name
-    (of_replica v (replica_at v name) (λ r. of_image v (bound_at v.images image) (λ i. adopts v (with_replica v.replicas) name (adopt i r.safe.dsa inv))))
+    (of_made (stays v) (replica_at v name) (λ r. of_image v (bound_at v.images image) (λ i. adopts v (with_replica v.replicas) name (adopt i r.safe.dsa inv))))
 step w (events.Install name dsa image inv) =
     let v = gives w (dsa ∷ []) (inv ∷ []) in
     told (codes "install") name (of_image v (bound_at v.images image) (λ i. adopts v (λ r. v.replicas ++ r ∷ []) name (adopt i dsa inv)))
 step w (events.Snapshot name bind) =
-    let t = sending w (replica_at w name) (λ r. (w, outcomes.Ok, Some r.read)) in told (codes "snapshot") name (record t.0 { snapshots = bound w.snapshots bind t.2 }, t.1)
+    let t = of_made (nothing w) (replica_at w name) (λ r. (w, outcomes.Ok, Some r.read)) in told (codes "snapshot") name (record t.0 { snapshots = bound w.snapshots bind t.2 }, t.1)
 step w (events.Rollback name snapshot) =
-    told (codes "rollback") name (of_replica w (replica_at w name) (λ r. put_back w name (bound_at w.snapshots snapshot)))
+    told (codes "rollback") name (of_made (stays w) (replica_at w name) (λ r. put_back w name (bound_at w.snapshots snapshot)))
 step w (events.StopAfter name calls how) =
-    told (codes "stop") name (of_replica w (replica_at w name) (λ r. with_plan w r (record { calls = calls; fault = Stops how })))
+    told (codes "stop") name (of_made (stays w) (replica_at w name) (λ r. with_plan w r (record { calls = calls; fault = Stops how })))
 step w (events.Fail name calls) =
-    told (codes "fail") name (of_replica w (replica_at w name) (λ r. with_plan w r (record { calls = calls; fault = Fails })))
-step w (events.Stop name) = told (codes "stop") name (of_replica w (replica_at w name) (λ r. stops w r))
-step w (events.Start name) = told (codes "start") name (of_replica w (replica_at w name) (λ r. starts w r r.standing))
-step w (events.Show name) = told (codes "show") name (of_controller w name (λ r. (w, outcomes.Show (shown w r.safe))))
+    told (codes "fail") name (of_made (stays w) (replica_at w name) (λ r. with_plan w r (record { calls = calls; fault = Fails })))
+step w (events.Stop name) = told (codes "stop") name (of_made (stays w) (replica_at w name) (λ r. stops w r))
+step w (events.Start name) = told (codes "start") name (of_made (stays w) (replica_at w name) (λ r. starts w r r.standing))
+step w (events.Show name) = told (codes "show") name (of_controller w name (stays w) (λ r. (w, outcomes.Show (shown w r.safe))))
 
 -- an answer, and those to the events that follow
 abbrev pub followed : World × Answer → (World → List Answer) → List Answer
