@@ -73,7 +73,11 @@ fn push_from_to(alloc: Global, out: &mut Vec<u8>, from: Mark, to: Mark) -> Resul
 fn left_text(last: bool) -> &'static [u8]
     ensures { result.now ≡ left_text last }
 {
-    if last { b" last".as_slice() } else { b" more".as_slice() }
+    if last {
+        b" last".as_slice()
+    } else {
+        b" more".as_slice()
+    }
 }
 
 fn push_counts(

@@ -8,7 +8,9 @@ ghost use Rattle.adr_schedule.specs.Printed.{EventsAreReadAgain, crash_word, lin
 use adr_disk::Crash;
 use adr_event::Event;
 use adr_schema::{Assignments, NoMemory, Text, Value};
-use adr_token::{push, push_attribute, push_class, push_identifier, push_number, push_set, push_text};
+use adr_token::{
+    push, push_attribute, push_class, push_identifier, push_number, push_set, push_text,
+};
 use std::alloc::Global;
 use uuid::Uuid;
 
@@ -171,7 +173,12 @@ fn push_line(alloc: Global, out: &mut Vec<u8>, event: &Event) -> Result<(), NoMe
             push_spaced_identifier(alloc, out, *guid)?;
             push_sets(alloc, out, values)
         }
-        Event::Rename { name, guid, parent, text } => {
+        Event::Rename {
+            name,
+            guid,
+            parent,
+            text,
+        } => {
             push(out, b"rename")?;
             push_name(out, name)?;
             push_spaced_identifier(alloc, out, *guid)?;
@@ -183,28 +190,47 @@ fn push_line(alloc: Global, out: &mut Vec<u8>, event: &Event) -> Result<(), NoMe
             push_name(out, name)?;
             push_spaced_identifier(alloc, out, *guid)
         }
-        Event::Link { name, from, attr, to } => {
+        Event::Link {
+            name,
+            from,
+            attr,
+            to,
+        } => {
             push(out, b"link")?;
             push_name(out, name)?;
             push_spaced_identifier(alloc, out, *from)?;
             push_spaced_attribute(alloc, out, *attr)?;
             push_spaced_identifier(alloc, out, *to)
         }
-        Event::Unlink { name, from, attr, to } => {
+        Event::Unlink {
+            name,
+            from,
+            attr,
+            to,
+        } => {
             push(out, b"unlink")?;
             push_name(out, name)?;
             push_spaced_identifier(alloc, out, *from)?;
             push_spaced_attribute(alloc, out, *attr)?;
             push_spaced_identifier(alloc, out, *to)
         }
-        Event::Ask { name, partner, max, bound } => {
+        Event::Ask {
+            name,
+            partner,
+            max,
+            bound,
+        } => {
             push(out, b"ask")?;
             push_name(out, name)?;
             push_name(out, partner)?;
             push_spaced_number(alloc, out, u64::from(*max))?;
             push_bound(out, bound)
         }
-        Event::Serve { name, request, bound } => {
+        Event::Serve {
+            name,
+            request,
+            bound,
+        } => {
             push(out, b"serve")?;
             push_name(out, name)?;
             push_name(out, request)?;
@@ -243,7 +269,12 @@ fn push_line(alloc: Global, out: &mut Vec<u8>, event: &Event) -> Result<(), NoMe
             push_name(out, image)?;
             push_spaced_identifier(alloc, out, *inv)
         }
-        Event::Install { name, dsa, image, inv } => {
+        Event::Install {
+            name,
+            dsa,
+            image,
+            inv,
+        } => {
             push(out, b"install")?;
             push_name(out, name)?;
             push_spaced_identifier(alloc, out, *dsa)?;
