@@ -1,3 +1,6 @@
 pub mod Lists
 pub mod Orders
 pub mod Knows
+pub mod Winners
+pub mod Standing
+pub mod Shows

@@ -1,6 +1,6 @@
 -- Lists that rise in an order: what is filtered of them rises, and their members alone tell them apart.
-use Rattle.std.proofs.Common.{◌≡◌, ◌⊎◌, inl, inr, ⊎_elim, List, [], ◌∷◌, Bool, true, false, cond, ◌&&◌, Option, Some, None, refl, sym, ap, ◌∙◌, subst, map, filter, fold, filter_map}
-use Rattle.std.specs.List.{list_all, cons_option}
+use Rattle.std.proofs.Common.{◌≡◌, ◌⊎◌, inl, inr, ⊎_elim, List, [], ◌∷◌, Bool, true, false, cond, ◌&&◌, ◌||◌, Option, Some, None, refl, sym, ap, ◌∙◌, subst, map, filter, fold, filter_map}
+use Rattle.std.specs.List.{list_any, list_all, cons_option}
 use Rattle.std.specs.Ordering.{match_ordering}
 use Rattle.std.specs.declared.cmp.Ordering.{Ordering}
 use Rattle.std.specs.declared.cmp.Ordering.TheVariants.{Less, Equal, Greater}
@@ -35,6 +35,19 @@ module _ {A : Type 0} where
   same_filter test other (x ∷ xs) same =
       ap (λ b. cond b (x ∷ filter test xs) (filter test xs)) (same x (inl refl))
       ∙ ap (λ ys. cond (other x) (x ∷ ys) ys) (same_filter test other xs (λ y m. same y (inr m)))
+
+  pub same_any : (test other : A → Bool) (xs : List A) → Each (λ x. test x ≡ other x) xs → list_any test xs ≡ list_any other xs
+  same_any test other [] same = refl
+  same_any test other (x ∷ xs) same =
+      ap (λ b. b || list_any test xs) (same x (inl refl)) ∙ ap (λ b. other x || b) (same_any test other xs (λ y m. same y (inr m)))
+
+  pub some_passes : (test : A → Bool) (xs : List A) → list_any test xs ≡ true → (x : A) × Member x xs × (test x ≡ true)
+  some_passes test [] any = cc
+  some_passes test (y ∷ ys) any = by (test y) refl any (some_passes test ys)
+    where
+      by : (b : Bool) → test y ≡ b → (b || list_any test ys) ≡ true → (list_any test ys ≡ true → (x : A) × Member x ys × (test x ≡ true)) → (x : A) × Member x (y ∷ ys) × (test x ≡ true)
+      by true is any rest = (y, inl refl, is)
+      by false is any rest = let t = rest any in (t.0, inr t.1, t.2)
 
   pub all_pass : (test : A → Bool) (xs : List A) → Each (λ x. test x ≡ true) xs → list_all test xs ≡ true
   all_pass test [] pass = refl
@@ -81,6 +94,19 @@ module _ {A : Type 0} (R : A → A → Ordering) where
       by : (b : Bool) → Rises R (filter test xs) → Rises R (cond b (x ∷ filter test xs) (filter test xs))
       by true rest = ((λ y m. r.0 y (of_filter test xs y m).0), rest)
       by false rest = rest
+
+module _ {K A : Type 0} (R : K → K → Ordering) (h : K → Option A) (key : A → K) (back : (k : K) (x : A) → h k ≡ Some x → key x ≡ k) where
+  -- what is found at keys that rise, each with its key
+  pub filter_map_rises : (ks : List K) → Rises R ks → Rises (λ x y. R (key x) (key y)) (filter_map h ks)
+  filter_map_rises [] r = r
+  filter_map_rises (k ∷ ks) r = by (h k) refl (filter_map_rises ks r.1)
+    where
+      by : (o : Option A) → h k ≡ o → Rises (λ x y. R (key x) (key y)) (filter_map h ks) → Rises (λ x y. R (key x) (key y)) (cons_option o (filter_map h ks))
+      by None is rest = rest
+      by (Some x) is rest = ((λ y m. let t = of_filter_map h ks y m in by_keys k t.0 (key x) (key y) (back k x is) (back t.0 y t.2) (r.0 t.0 t.1)), rest)
+        where
+          by_keys : (a b c d : K) → c ≡ a → d ≡ b → R a b ≡ Less → R c d ≡ Less
+          by_keys a b c d p q e = ap (λ i. R i d) p ∙ ap (λ i. R a i) q ∙ e
 
 module _ {A : Type 0} (R : A → A → Ordering) (one_way : (x y : A) → R x y ≡ Less → R y x ≡ Less → ⊥) where
   same_head : (x y : A) (xs ys : List A) → Rises R (x ∷ xs) → Rises R (y ∷ ys) → Member x (y ∷ ys) → Member y (x ∷ xs) → x ≡ y

@@ -29,3 +29,11 @@ pub record Grows (issued : List Update) (before after : Knowledge) : Type 0 wher
 -- what was taken stays taken
 abbrev pub Keeps : List Update → Knowledge → Knowledge → Type 0
 Keeps issued before after = (u : Update) → Reflects issued before u → Reflects issued after u
+
+-- updates with which what is held can be compared: what is held is among them, they were issued, those that are covered are
+-- among them, and the store has taken each
+pub record IsInView (issued : List Update) (k : Knowledge) (view : List Update) : Type 0 where
+  pub held : Each (λ u. Member u view) k.rows
+  pub within : Each (λ u. Member u issued) view
+  pub covered : Each (λ u. Covers k.vector u → Member u view) issued
+  pub taken : Each (λ u. Reflects issued k u) view
