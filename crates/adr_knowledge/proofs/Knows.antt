@@ -1,10 +1,10 @@
 -- What a store reflects goes up along stamps, and stays along steps.
-use Rattle.std.proofs.Common.{◌≡◌, ◌⊎◌, inl, inr, ⊎_elim, ℕ, ◌≤◌, List, sym, ◌∙◌, subst, arith}
+use Rattle.std.proofs.Common.{◌≡◌, ◌⊎◌, inl, inr, ⊎_elim, ℕ, ◌≤◌, List, sym, ap, ◌∙◌, subst, arith}
 use Rattle.adr_stamp.specs.declared.Oid.{Oid}
 use Rattle.adr_model.specs.Member.{Member, Each}
-use Rattle.adr_model.specs.Update.{Update, RowOf, ends, inv_of, usn_of, deleted_attr}
-use Rattle.adr_model.specs.Reflects.{Numbers, Covers, AtMost, Supersedes, IsDeathOf, IsDeath, Knowledge, HoldsAtLeast, HoldsObject, IsTombstoned, IsPurged, Reflects}
-use Rattle.adr_knowledge.specs.Known.{IsOutlived, Grows, Keeps}
+use Rattle.adr_model.specs.Update.{Update, RowOf, ends, inv_of, usn_of, class_attr, deleted_attr}
+use Rattle.adr_model.specs.Reflects.{Numbers, Covers, CoversBirth, AtMost, Supersedes, IsDeathOf, IsDeath, Knowledge, HoldsAtLeast, HoldsObject, IsTombstoned, IsPurged, Reflects}
+use Rattle.adr_knowledge.specs.Grows.{IsOutlived, Grows, Keeps}
 use Rattle.adr_knowledge.proofs.Orders.{supersedes_trans, supersedes_self}
 
 pub covers_up : (V W : Numbers) (u : Update) → AtMost V W → Covers V u → Covers W u
@@ -107,3 +107,11 @@ pub more_issued : (issued more : List Update) (k : Knowledge) (u : Update) → E
 more_issued issued more k u up (inl h) = inl h
 more_issued issued more k u up (inr (o, m, inl t)) = inr (o, m, inl t)
 more_issued issued more k u up (inr (o, m, inr g)) = inr (o, m, inr (more_issued_purged issued more k o up g))
+
+-- an object whose birth is covered and which isn't held was collected
+pub covered_absent : (issued : List Update) (k : Knowledge) (b : Update) (o : Oid) → Each (λ u. Covers k.vector u → Reflects issued k u) issued
+    → Member b issued → b.key ≡ RowOf o class_attr → inv_of b ≡ o.birth.inv → usn_of b ≡ o.birth.usn → CoversBirth k.vector o → (HoldsObject k.rows o → ⊥) → IsPurged issued k o
+covered_absent issued k b o taken m is inv usn c lacks = absent_is_purged issued k b o class_attr is (taken b m covered) lacks
+  where
+    covered : Covers k.vector b
+    covered = let same : k.vector (inv_of b) ≡ k.vector o.birth.inv = ap k.vector inv in omega (arith, c, same, usn)

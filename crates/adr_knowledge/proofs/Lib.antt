@@ -4,3 +4,4 @@ pub mod Knows
 pub mod Winners
 pub mod Standing
 pub mod Shows
+pub mod View

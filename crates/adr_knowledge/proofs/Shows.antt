@@ -14,11 +14,12 @@ use Rattle.adr_model.specs.Live.{standing, yields_to, unyielding, live, is_among
 use Rattle.adr_model.specs.Directory.{directory, entries_of}
 use Rattle.adr_model.proofs.Keys.{exact_keys}
 use Rattle.adr_knowledge.specs.Known.{HasOneContent, IsInView}
+use Rattle.adr_knowledge.specs.Stands.{Stands}
 use Rattle.adr_knowledge.proofs.Orders.{keys_total, objects_tell, not_older_trans}
 use Rattle.adr_knowledge.proofs.Lists.{Rises, of_filter, in_filter, same_filter, same_any, some_passes, each_passes, filter_rises, same_members_one_list, not_both_ways}
 use Rattle.adr_knowledge.proofs.Knows.{covers_up, end_of_row, death_reflected, standing_is_held}
 use Rattle.adr_knowledge.proofs.Winners.{Won, is_won, winner_is, of_winners, in_winners, by_key, winners_rise}
-use Rattle.adr_knowledge.proofs.Standing.{Stands, of_standing, in_standing, standing_rises}
+use Rattle.adr_knowledge.proofs.Standing.{of_standing, in_standing, standing_rises}
 
 module _ (issued : List Update) (k : Knowledge) (view : List Update) (one : HasOneContent issued) (within : AtMost k.purged k.vector) (v : IsInView issued k view) where
   stands_in_view : (o : Oid) → Stands k.rows o → Stands view o
@@ -45,7 +46,7 @@ module _ (issued : List Update) (k : Knowledge) (view : List Update) (one : HasO
       by (inr (p, m, inl t)) = absurd (dead (subst (λ x. IsTombstoned k.rows x) (end_of_row s.birth o class_attr p s.is_birth m) t.0))
       by (inr (p, m, inr g)) = absurd (gone (subst (λ x. IsPurged issued k x) (end_of_row s.birth o class_attr p s.is_birth m) g))
 
-  standing_same : standing k.rows ≡ standing view
+  pub standing_same : standing k.rows ≡ standing view
   standing_same =
       same_members_one_list object_order (not_both_ways object_order objects_total exact_objects) (standing k.rows) (standing view) (standing_rises k.rows) (standing_rises view)
       (λ o m. in_standing view o (stands_in_view o (of_standing k.rows o m)))
@@ -58,7 +59,7 @@ module _ (issued : List Update) (k : Knowledge) (view : List Update) (one : HasO
       ends_stand : Each (λ o. HoldsObject k.rows o × (IsTombstoned k.rows o → ⊥)) (ends u.key)
       ends_stand o n = let s = stand o (subst (λ x. Member o (ends x)) is n) in ((s.birth, class_attr, s.born, s.is_birth), λ t. s.alive t.0 t.1 t.2)
 
-  winner_same : (key : Key) → Each (λ o. Stands k.rows o) (ends key) → winner k.rows key ≡ winner view key
+  pub winner_same : (key : Key) → Each (λ o. Stands k.rows o) (ends key) → winner k.rows key ≡ winner view key
   winner_same key stand = by (winner k.rows key) refl (winner view key) refl
     where
       none_held : winner k.rows key ≡ None → (w : Update) → Member w view → w.key ≡ key → ⊥
@@ -86,7 +87,7 @@ module _ (issued : List Update) (k : Knowledge) (view : List Update) (one : HasO
   yields_same : (o p : Oid) → Member o (standing view) → Member p (standing view) → yields_to k.rows o p ≡ yields_to view o p
   yields_same o p m n = let e = birth_won o m in let f = birth_won p n in rw (e, f) refl
 
-  live_same : live k.rows ≡ live view
+  pub live_same : live k.rows ≡ live view
   live_same = ap (unyielding k.rows) standing_same ∙ same_filter _ _ (standing view) unyielding_same
     where
       unyielding_same : Each (λ o. not (list_any (λ p. same_identifier o.guid p.guid && yields_to k.rows o p) (standing view)) ≡ not (list_any (λ p. same_identifier o.guid p.guid && yields_to view o p) (standing view))) (standing view)

@@ -12,14 +12,9 @@ use Rattle.adr_model.specs.Update.{Key, RowOf, LinkOf, Update, class_attr, delet
 use Rattle.adr_model.specs.Reflects.{IsDeathOf}
 use Rattle.adr_model.specs.Live.{born, objects_of, standing}
 use Rattle.adr_model.proofs.Members.{none_passes, each_fails}
+use Rattle.adr_knowledge.specs.Stands.{Stands}
 use Rattle.adr_knowledge.proofs.Orders.{keys_tell, same_where_equal}
 use Rattle.adr_knowledge.proofs.Lists.{Rises, of_filter, in_filter, of_filter_map, in_filter_map, filter_rises, sorted_rises, of_sorted, in_sorted}
-
-pub record Stands (us : List Update) (o : Oid) : Type 0 where
-  pub birth : Update
-  pub born : Member birth us
-  pub is_birth : birth.key ≡ RowOf o class_attr
-  pub alive : Each (λ d. IsDeathOf o d → ⊥) us
 
 birth_key : (k : Key) (o : Oid) → born k ≡ Some o → k ≡ RowOf o class_attr
 birth_key (RowOf p attr) o e = by (attr == class_attr) refl e
