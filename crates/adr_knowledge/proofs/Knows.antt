@@ -1,11 +1,11 @@
 -- What a store reflects goes up along stamps, and stays along steps.
-use Rattle.std.proofs.Common.{◌≡◌, ◌⊎◌, inl, inr, ⊎_elim, ℕ, ◌≤◌, List, sym, ap, ◌∙◌, subst, arith}
+use Rattle.std.proofs.Common.{◌≡◌, ◌⊎◌, inl, inr, ⊎_elim, ℕ, ◌≤◌, List, ap, ◌∙◌, subst, arith}
 use Rattle.adr_stamp.specs.declared.Oid.{Oid}
 use Rattle.adr_model.specs.Member.{Member, Each}
 use Rattle.adr_model.specs.Update.{Update, RowOf, ends, inv_of, usn_of, class_attr, deleted_attr}
 use Rattle.adr_model.specs.Reflects.{Numbers, Covers, CoversBirth, AtMost, Supersedes, IsDeathOf, IsDeath, Knowledge, HoldsAtLeast, HoldsObject, IsTombstoned, IsPurged, Reflects}
 use Rattle.adr_knowledge.specs.Grows.{IsOutlived, Grows, Keeps}
-use Rattle.adr_knowledge.proofs.Orders.{supersedes_trans, supersedes_self}
+use Rattle.adr_knowledge.proofs.Comparing.{supersedes_trans, supersedes_self}
 
 pub covers_up : (V W : Numbers) (u : Update) → AtMost V W → Covers V u → Covers W u
 covers_up V W u up c = let step : V (inv_of u) ≤ W (inv_of u) = up (inv_of u) in omega (arith, c, step)

@@ -1,5 +1,5 @@
 pub mod Lists
-pub mod Orders
+pub mod Comparing
 pub mod Knows
 pub mod Winners
 pub mod Standing

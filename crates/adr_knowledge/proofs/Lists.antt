@@ -1,5 +1,5 @@
 -- Lists that rise in an order: what is filtered of them rises, and their members alone tell them apart.
-use Rattle.std.proofs.Common.{◌≡◌, ◌⊎◌, inl, inr, ⊎_elim, List, [], ◌∷◌, Bool, true, false, cond, ◌&&◌, ◌||◌, Option, Some, None, refl, sym, ap, ◌∙◌, subst, map, filter, fold, filter_map}
+use Rattle.std.proofs.Common.{◌≡◌, ◌⊎◌, inl, inr, ⊎_elim, List, [], ◌∷◌, Bool, true, false, cond, ◌&&◌, ◌||◌, Option, Some, None, refl, sym, ap, ◌∙◌, subst, filter, fold, filter_map}
 use Rattle.std.specs.List.{list_any, list_all, cons_option}
 use Rattle.std.specs.Ordering.{match_ordering}
 use Rattle.std.specs.declared.cmp.Ordering.{Ordering}
@@ -9,6 +9,7 @@ use Rattle.std.specs.Cmp.{IsTotalOrder}
 use Rattle.std.proofs.lemmas.Cmp.{tied_itself}
 use Rattle.std.proofs.lemmas.Map.Lookups.{CmpEqualImpliesEq}
 use Rattle.adr_model.specs.Member.{Member, Each}
+use Rattle.adr_knowledge.specs.Rises.{Rises}
 
 module _ {A : Type 0} where
   pub in_filter : (test : A → Bool) (xs : List A) (x : A) → Member x xs → test x ≡ true → Member x (filter test xs)
@@ -80,11 +81,6 @@ module _ {A B : Type 0} where
       by None is n rest = let t = rest n in (t.0, inr t.1, t.2)
       by (Some w) is (inl e) rest = (z, inl refl, is ∙ ap Some (sym e))
       by (Some w) is (inr n) rest = let t = rest n in (t.0, inr t.1, t.2)
-
--- each member is below those that follow it
-abbrev pub Rises : {A : Type 0} → (A → A → Ordering) → List A → Type 0
-Rises R [] = Unit {0}
-Rises R (x ∷ xs) = Each (λ y. R x y ≡ Less) xs × Rises R xs
 
 module _ {A : Type 0} (R : A → A → Ordering) where
   pub filter_rises : (test : A → Bool) (xs : List A) → Rises R xs → Rises R (filter test xs)

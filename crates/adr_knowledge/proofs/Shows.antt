@@ -1,5 +1,5 @@
 -- A store's rows and what is in its view have the same standing and live objects, the same winners, and so the same directory.
-use Rattle.std.proofs.Common.{◌≡◌, ◌⊎◌, inl, inr, List, [], ◌∷◌, Bool, true, false, ◌&&◌, not, Option, Some, None, refl, sym, ap, ◌∙◌, subst, filter}
+use Rattle.std.proofs.Common.{◌≡◌, ◌⊎◌, inl, inr, List, Bool, true, false, ◌&&◌, not, Option, Some, None, refl, sym, ap, ◌∙◌, subst, filter}
 use Rattle.std.specs.List.{list_any, list_all}
 use Rattle.std.specs.declared.cmp.Ordering.TheVariants.{Less}
 use Rattle.adr_stamp.specs.declared.Oid.{Oid}
@@ -7,16 +7,16 @@ use Rattle.adr_stamp.specs.Order.{object_order}
 use Rattle.adr_stamp.specs.contracts.OidOrd.TheImpl.Laws.{total-law as objects_total}
 use Rattle.adr_stamp.proofs.Exact.{exact_objects}
 use Rattle.adr_model.specs.Member.{Member, Each}
-use Rattle.adr_model.specs.Update.{Key, RowOf, Update, class_attr, deleted_attr, ends, same_identifier, same_object, is_older, key_order}
-use Rattle.adr_model.specs.Reflects.{AtMost, Supersedes, IsDeathOf, Knowledge, HoldsAtLeast, HoldsObject, IsTombstoned, IsPurged, Reflects}
+use Rattle.adr_model.specs.Update.{Key, RowOf, Update, class_attr, ends, same_identifier, same_object, is_older, key_order}
+use Rattle.adr_model.specs.Reflects.{AtMost, IsDeathOf, Knowledge, HoldsAtLeast, HoldsObject, IsTombstoned, IsPurged, Reflects}
 use Rattle.adr_model.specs.Winner.{winner, winners}
 use Rattle.adr_model.specs.Live.{standing, yields_to, unyielding, live, is_among, live_rows}
 use Rattle.adr_model.specs.Directory.{directory, entries_of}
 use Rattle.adr_model.proofs.Keys.{exact_keys}
 use Rattle.adr_knowledge.specs.Known.{HasOneContent, IsInView}
 use Rattle.adr_knowledge.specs.Stands.{Stands}
-use Rattle.adr_knowledge.proofs.Orders.{keys_total, objects_tell, not_older_trans}
-use Rattle.adr_knowledge.proofs.Lists.{Rises, of_filter, in_filter, same_filter, same_any, some_passes, each_passes, filter_rises, same_members_one_list, not_both_ways}
+use Rattle.adr_knowledge.proofs.Comparing.{keys_total, objects_tell, not_older_trans}
+use Rattle.adr_knowledge.proofs.Lists.{of_filter, in_filter, same_filter, same_any, some_passes, each_passes, filter_rises, same_members_one_list, not_both_ways}
 use Rattle.adr_knowledge.proofs.Knows.{covers_up, end_of_row, death_reflected, standing_is_held}
 use Rattle.adr_knowledge.proofs.Winners.{Won, is_won, winner_is, of_winners, in_winners, by_key, winners_rise}
 use Rattle.adr_knowledge.proofs.Standing.{of_standing, in_standing, standing_rises}

@@ -1,20 +1,20 @@
 -- Which objects stand: those with a birth and no death.
-use Rattle.std.proofs.Common.{◌≡◌, ◌⊎◌, inl, inr, List, [], Bool, true, false, Option, Some, None, refl, sym, ap, ◌∙◌, subst, not, ◌==◌, fold, filter_map, if◌then◌else◌}
+use Rattle.std.proofs.Common.{◌≡◌, ◌⊎◌, inl, inr, List, [], Bool, true, false, Some, None, refl, ap, ◌∙◌, not, ◌==◌, filter_map, if◌then◌else◌}
 use Rattle.std.specs.List.{list_any}
 use Rattle.std.proofs.lemmas.Bool.{eqb-true}
 use Rattle.adr_stamp.specs.declared.Oid.{Oid}
-use Rattle.adr_stamp.specs.declared.LinkKey.{LinkKey}
 use Rattle.adr_stamp.specs.Order.{object_order}
 use Rattle.adr_stamp.specs.contracts.OidOrd.TheImpl.Laws.{total-law as objects_total}
 use Rattle.adr_stamp.proofs.Exact.{exact_objects}
 use Rattle.adr_model.specs.Member.{Member, Each}
-use Rattle.adr_model.specs.Update.{Key, RowOf, LinkOf, Update, class_attr, deleted_attr, same_key, is_death_of}
+use Rattle.adr_model.specs.Update.{Key, RowOf, LinkOf, Update, class_attr, deleted_attr, is_death_of}
 use Rattle.adr_model.specs.Reflects.{IsDeathOf}
 use Rattle.adr_model.specs.Live.{born, objects_of, standing}
 use Rattle.adr_model.proofs.Members.{none_passes, each_fails}
 use Rattle.adr_knowledge.specs.Stands.{Stands}
-use Rattle.adr_knowledge.proofs.Orders.{keys_tell, same_where_equal}
-use Rattle.adr_knowledge.proofs.Lists.{Rises, of_filter, in_filter, of_filter_map, in_filter_map, filter_rises, sorted_rises, of_sorted, in_sorted}
+use Rattle.adr_knowledge.specs.Rises.{Rises}
+use Rattle.adr_knowledge.proofs.Comparing.{keys_tell, same_where_equal}
+use Rattle.adr_knowledge.proofs.Lists.{of_filter, in_filter, of_filter_map, in_filter_map, filter_rises, sorted_rises, of_sorted, in_sorted}
 
 birth_key : (k : Key) (o : Oid) → born k ≡ Some o → k ≡ RowOf o class_attr
 birth_key (RowOf p attr) o e = by (attr == class_attr) refl e

@@ -1,18 +1,17 @@
 -- What is visible to a store with sound knowledge is in its view.
-use Rattle.std.proofs.Common.{◌≡◌, ◌⊎◌, inl, inr, ⊎_elim, ℕ, ◌≤◌, ◌<◌, List, Bool, true, false, ◌&&◌, ◌||◌, refl, sym, ap, ◌∙◌, subst, arith, filter, nat_le}
-use Rattle.std.specs.List.{list_any}
+use Rattle.std.proofs.Common.{◌≡◌, ◌⊎◌, inl, inr, ⊎_elim, ◌≤◌, ◌<◌, List, Bool, true, false, ◌&&◌, ◌||◌, refl, sym, ap, ◌∙◌, subst, arith, nat_le}
 use Rattle.std.proofs.lemmas.Bool.{and_from, or_left, or_right}
 use Rattle.std.proofs.lemmas.Bool.Decides.{leb_tells}
 use Rattle.adr_vector.specs.Vector.{Cursors, at}
 use Rattle.adr_model.specs.Member.{Member, Each}
 use Rattle.adr_model.specs.Update.{Identifier, Update, inv_of, usn_of, at_least}
-use Rattle.adr_model.specs.Reflects.{Numbers, Covers, Supersedes, Knowledge, knowledge_of, Reflects}
+use Rattle.adr_model.specs.Reflects.{Covers, Supersedes, knowledge_of, Reflects}
 use Rattle.adr_model.specs.Store.{Store, updates_of}
 use Rattle.adr_model.specs.Visible.{covers_update, is_held, visible}
 use Rattle.adr_model.specs.Directory.{directory}
 use Rattle.adr_model.proofs.Members.{one_passes}
 use Rattle.adr_knowledge.specs.Known.{HasOneContent, IsSoundKnowledge, IsInView}
-use Rattle.adr_knowledge.proofs.Orders.{supersedes_self, supersedes_where_at_least, at_least_where_supersedes}
+use Rattle.adr_knowledge.proofs.Comparing.{supersedes_self, supersedes_where_at_least, at_least_where_supersedes}
 use Rattle.adr_knowledge.proofs.Lists.{of_filter, in_filter, same_filter, some_passes}
 use Rattle.adr_knowledge.proofs.Winners.{one_of_stamp}
 use Rattle.adr_knowledge.proofs.Shows.{directory_same}

@@ -2,13 +2,14 @@
 use Rattle.std.proofs.Common.{◌≡◌, inl, inr, ⊎_elim, List, [], ◌∷◌, Bool, true, false, cond, Option, Some, None, refl, sym, ap, ◌∙◌, subst, map}
 use Rattle.std.specs.declared.cmp.Ordering.{Ordering}
 use Rattle.adr_model.specs.Member.{Member, Each}
-use Rattle.adr_model.specs.Update.{Key, Update, inv_of, usn_of, same_key, key_order, is_older}
+use Rattle.adr_model.specs.Update.{Key, Update, same_key, key_order, is_older}
 use Rattle.adr_model.specs.Winner.{or_younger, younger, winner, winners, keys_of}
 use Rattle.adr_model.proofs.Keys.{exact_keys}
 use Rattle.adr_model.proofs.Members.{member_mapped}
 use Rattle.adr_knowledge.specs.Known.{HasOneContent}
-use Rattle.adr_knowledge.proofs.Orders.{keys_total, keys_tell, same_where_equal, not_older_trans, not_older_self, older_one_way, neither_older}
-use Rattle.adr_knowledge.proofs.Lists.{Rises, of_filter_map, in_filter_map, filter_map_rises, sorted_rises, in_sorted}
+use Rattle.adr_knowledge.specs.Rises.{Rises}
+use Rattle.adr_knowledge.proofs.Comparing.{keys_total, keys_tell, same_where_equal, not_older_trans, not_older_self, older_one_way, neither_older}
+use Rattle.adr_knowledge.proofs.Lists.{of_filter_map, in_filter_map, filter_map_rises, sorted_rises, in_sorted}
 
 abbrev pub Won : List Update → Key → Option Update → Type 0
 Won us key None = Each (λ v. v.key ≡ key → ⊥) us
@@ -49,6 +50,13 @@ won (u ∷ us) key = by (same_key u.key key) refl (won us key)
 
 pub is_won : (us : List Update) (key : Key) (o : Option Update) → winner us key ≡ o → Won us key o
 is_won us key o e = subst (λ p. Won us key p) e (won us key)
+
+pub none_won : (us : List Update) (key : Key) → Each (λ v. v.key ≡ key → ⊥) us → winner us key ≡ None
+none_won us key none = by (winner us key) refl
+  where
+    by : (o : Option Update) → winner us key ≡ o → o ≡ None
+    by None e = refl
+    by (Some w) e = let t = is_won us key (Some w) e in absurd (none w t.0 t.1)
 
 -- of one key and one stamp there is one update
 pub one_of_stamp : (issued : List Update) (u v : Update) → HasOneContent issued → Member u issued → Member v issued → u.key ≡ v.key → is_older u v ≡ false → is_older v u ≡ false → u ≡ v

@@ -1,3 +1,4 @@
+pub mod Rises
 pub mod Known
 pub mod Grows
 pub mod Stands

@@ -1,5 +1,5 @@
 -- The orders of keys and of stamps: total, and equal only for the same.
-use Rattle.std.proofs.Common.{◌≡◌, ℕ, Bool, true, false, refl, sym, ap, ◌∙◌, subst, not, ◌&&◌}
+use Rattle.std.proofs.Common.{◌≡◌, ◌⊎◌, inl, inr, ℕ, Bool, true, false, refl, sym, ap, ◌∙◌, subst, not, ◌&&◌}
 use Rattle.std.proofs.lemmas.Bool.{and_from}
 use Rattle.std.specs.Cmp.{IsTotalOrder}
 use Rattle.std.specs.Ordering.{ordering_reverse, ordering_then, is_eq, is_lt, is_gt, nat_cmp}
@@ -7,7 +7,6 @@ use Rattle.std.specs.declared.cmp.Ordering.{Ordering}
 use Rattle.std.specs.declared.cmp.Ordering.TheVariants.{Less, Equal, Greater}
 use Rattle.std.proofs.lemmas.Cmp.{tied_itself, upto, nat_cmp_total, on_total, then_total}
 use Rattle.adr_stamp.specs.declared.Oid.{Oid}
-use Rattle.adr_stamp.specs.declared.LinkStamp.{LinkStamp}
 use Rattle.adr_stamp.specs.Order.{object_order, link_stamp_order}
 use Rattle.adr_stamp.specs.contracts.OidOrd.TheImpl.Laws.{total-law as objects_total}
 use Rattle.adr_stamp.specs.contracts.LinkKeyOrd.TheImpl.Laws.{total-law as links_total}
@@ -100,6 +99,13 @@ supersedes_trans u v w p q = record { key = p.key ∙ q.key; stamp = not_older_t
 
 pub supersedes_self : (u : Update) → Supersedes u u
 supersedes_self u = record { key = refl; stamp = not_older_self u }
+
+pub supersedes_either : (u v : Update) → u.key ≡ v.key → Supersedes u v ⊎ Supersedes v u
+supersedes_either u v e = by (is_older u v) refl
+  where
+    by : (b : Bool) → is_older u v ≡ b → Supersedes u v ⊎ Supersedes v u
+    by true older = inr (record { key = sym e; stamp = older_one_way u v older })
+    by false newer = inl (record { key = e; stamp = newer })
 
 -- the test of an update that another one supersedes
 pub supersedes_where_at_least : (u v : Update) → at_least u v ≡ true → Supersedes u v
