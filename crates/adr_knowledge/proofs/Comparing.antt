@@ -1,13 +1,13 @@
 -- The orders of keys and of stamps: total, and equal only for the same.
-use Rattle.std.proofs.Common.{◌≡◌, ◌⊎◌, inl, inr, ℕ, Bool, true, false, refl, sym, ap, ◌∙◌, subst, not, ◌&&◌}
+use Rattle.std.proofs.Common.{◌≡◌, ◌<◌, ◌⊎◌, inl, inr, ℕ, Bool, true, false, refl, sym, ap, ◌∙◌, subst, not, ◌&&◌}
 use Rattle.std.proofs.lemmas.Bool.{and_from}
-use Rattle.std.specs.Cmp.{IsTotalOrder}
+use Rattle.std.specs.Cmp.{IsTotalOrder, nat_cmp_is}
 use Rattle.std.specs.Ordering.{ordering_reverse, ordering_then, is_eq, is_lt, is_gt, nat_cmp}
 use Rattle.std.specs.declared.cmp.Ordering.{Ordering}
 use Rattle.std.specs.declared.cmp.Ordering.TheVariants.{Less, Equal, Greater}
 use Rattle.std.proofs.lemmas.Cmp.{tied_itself, upto, nat_cmp_total, on_total, then_total}
 use Rattle.adr_stamp.specs.declared.Oid.{Oid}
-use Rattle.adr_stamp.specs.Order.{object_order, link_stamp_order}
+use Rattle.adr_stamp.specs.Order.{identifier_order, object_order, stamp_order, link_stamp_order}
 use Rattle.adr_stamp.specs.contracts.OidOrd.TheImpl.Laws.{total-law as objects_total}
 use Rattle.adr_stamp.specs.contracts.LinkKeyOrd.TheImpl.Laws.{total-law as links_total}
 use Rattle.adr_stamp.specs.contracts.LinkStampOrd.TheImpl.Laws.{total-law as link_stamps_total}
@@ -93,6 +93,21 @@ neither_older u v p q = exact_link_stamps u.stamp v.stamp (by (link_stamp_order 
     by Less e f = cc
     by Equal e f = refl
     by Greater e f = cc
+
+-- of stamps that were created at one moment, the one of the greater version is the younger
+pub older_by_version : (u v : Update) → u.stamp.created ≡ v.stamp.created → u.stamp.stamp.version < v.stamp.stamp.version → is_older u v ≡ true
+older_by_version u v same less =
+    ap (λ o. is_lt (ordering_then o (stamp_order u.stamp.stamp v.stamp.stamp))) (level u.stamp.created v.stamp.created same)
+    ∙ ap (λ o. is_lt (ordering_then o rest)) (below u.stamp.stamp.version v.stamp.stamp.version less)
+  where
+    rest : Ordering
+    rest = ordering_then (nat_cmp u.stamp.stamp.time v.stamp.stamp.time) (ordering_then (identifier_order u.stamp.stamp.inv v.stamp.stamp.inv) (nat_cmp u.stamp.stamp.usn v.stamp.stamp.usn))
+
+    level : (m n : ℕ) → m ≡ n → nat_cmp m n ≡ Equal
+    level m n e = subst (λ x. nat_cmp m x ≡ Equal) e (tied_itself nat_cmp_total m)
+
+    below : (m n : ℕ) → m < n → nat_cmp m n ≡ Less
+    below m n l = sym (nat_cmp_is m n Less l)
 
 pub supersedes_trans : (u v w : Update) → Supersedes u v → Supersedes v w → Supersedes u w
 supersedes_trans u v w p q = record { key = p.key ∙ q.key; stamp = not_older_trans u v w p.stamp q.stamp }

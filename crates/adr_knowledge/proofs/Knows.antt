@@ -1,8 +1,13 @@
 -- What a store reflects goes up along stamps, and stays along steps.
-use Rattle.std.proofs.Common.{◌≡◌, ◌⊎◌, inl, inr, ⊎_elim, ℕ, ◌≤◌, List, ap, ◌∙◌, subst, arith}
+use Rattle.std.proofs.Common.{◌≡◌, ◌⊎◌, inl, inr, ⊎_elim, ℕ, ◌≤◌, List, ap, ◌∙◌, subst, arith, Bool, true, false, ◌&&◌, ◌==◌, refl}
+use Rattle.std.proofs.lemmas.Bool.{eqb-true}
+use Rattle.std.proofs.lemmas.Map.Lookups.{exact_bytes}
 use Rattle.adr_stamp.specs.declared.Oid.{Oid}
+use Rattle.adr_stamp.specs.Order.{identifier_order}
+use Rattle.adr_model.specs.Take.{is_birth}
+use Rattle.adr_model.proofs.Keys.{equal_order}
 use Rattle.adr_model.specs.Member.{Member, Each}
-use Rattle.adr_model.specs.Update.{Update, RowOf, ends, inv_of, usn_of, class_attr, deleted_attr}
+use Rattle.adr_model.specs.Update.{Update, RowOf, ends, inv_of, usn_of, same_identifier, class_attr, deleted_attr}
 use Rattle.adr_model.specs.Reflects.{Numbers, Covers, CoversBirth, AtMost, Supersedes, IsDeathOf, IsDeath, Knowledge, HoldsAtLeast, HoldsObject, IsTombstoned, IsPurged, Reflects}
 use Rattle.adr_knowledge.specs.Grows.{IsOutlived, Grows, Keeps}
 use Rattle.adr_knowledge.proofs.Comparing.{supersedes_trans, supersedes_self}
@@ -108,10 +113,20 @@ more_issued issued more k u up (inl h) = inl h
 more_issued issued more k u up (inr (o, m, inl t)) = inr (o, m, inl t)
 more_issued issued more k u up (inr (o, m, inr g)) = inr (o, m, inr (more_issued_purged issued more k o up g))
 
+-- a birth that carries its object's own write is covered where the object's birth is
+birth_covered : (k : Knowledge) (b : Update) (o : Oid) → is_birth o b ≡ true → CoversBirth k.vector o → Covers k.vector b
+birth_covered k b o is c = let p = three (b.stamp.stamp.version == 1) (same_identifier (inv_of b) o.birth.inv) (usn_of b == o.birth.usn) is in
+    let same : k.vector (inv_of b) ≡ k.vector o.birth.inv = ap k.vector (exact_bytes (inv_of b) o.birth.inv (equal_order (identifier_order (inv_of b) o.birth.inv) p.0)) in
+    let usn : usn_of b ≡ o.birth.usn = eqb-true (usn_of b) o.birth.usn p.1 in
+    omega (arith, c, same, usn)
+  where
+    three : (x y z : Bool) → (x && y && z) ≡ true → (y ≡ true) × (z ≡ true)
+    three true true true e = (refl, refl)
+    three true true false e = cc
+    three true false z e = cc
+    three false y z e = cc
+
 -- an object whose birth is covered and which isn't held was collected
 pub covered_absent : (issued : List Update) (k : Knowledge) (b : Update) (o : Oid) → Each (λ u. Covers k.vector u → Reflects issued k u) issued
-    → Member b issued → b.key ≡ RowOf o class_attr → inv_of b ≡ o.birth.inv → usn_of b ≡ o.birth.usn → CoversBirth k.vector o → (HoldsObject k.rows o → ⊥) → IsPurged issued k o
-covered_absent issued k b o taken m is inv usn c lacks = absent_is_purged issued k b o class_attr is (taken b m covered) lacks
-  where
-    covered : Covers k.vector b
-    covered = let same : k.vector (inv_of b) ≡ k.vector o.birth.inv = ap k.vector inv in omega (arith, c, same, usn)
+    → Member b issued → b.key ≡ RowOf o class_attr → is_birth o b ≡ true → CoversBirth k.vector o → (HoldsObject k.rows o → ⊥) → IsPurged issued k o
+covered_absent issued k b o taken m is own c lacks = absent_is_purged issued k b o class_attr is (taken b m (birth_covered k b o own c)) lacks

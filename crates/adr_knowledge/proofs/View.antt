@@ -1,5 +1,5 @@
 -- What is visible to a store with sound knowledge is in its view.
-use Rattle.std.proofs.Common.{◌≡◌, ◌⊎◌, inl, inr, ⊎_elim, ◌≤◌, ◌<◌, List, Bool, true, false, ◌&&◌, ◌||◌, refl, sym, ap, ◌∙◌, subst, arith, nat_le}
+use Rattle.std.proofs.Common.{◌≡◌, ◌⊎◌, ◌↔◌, inl, inr, ⊎_elim, ◌≤◌, ◌<◌, List, Bool, true, false, ◌&&◌, ◌||◌, refl, sym, ap, ◌∙◌, subst, arith, nat_le}
 use Rattle.std.proofs.lemmas.Bool.{and_from, or_left, or_right}
 use Rattle.std.proofs.lemmas.Bool.Decides.{leb_tells}
 use Rattle.adr_vector.specs.Vector.{Cursors, at}
@@ -8,9 +8,11 @@ use Rattle.adr_model.specs.Update.{Identifier, Update, inv_of, usn_of, at_least}
 use Rattle.adr_model.specs.Reflects.{Covers, Supersedes, knowledge_of, Reflects}
 use Rattle.adr_model.specs.Store.{Store, updates_of}
 use Rattle.adr_model.specs.Visible.{covers_update, is_held, visible}
+use Rattle.adr_model.specs.Formed.{IsFormedStore}
+use Rattle.adr_vector.proofs.Comparing.{everywhere_from_at_most}
 use Rattle.adr_model.specs.Directory.{directory}
 use Rattle.adr_model.proofs.Members.{one_passes}
-use Rattle.adr_knowledge.specs.Known.{HasOneContent, IsSoundKnowledge, IsInView}
+use Rattle.adr_knowledge.specs.Known.{HasOneContent, CoverTheSame, IsSoundKnowledge, IsInView}
 use Rattle.adr_knowledge.proofs.Comparing.{supersedes_self, supersedes_where_at_least, at_least_where_supersedes}
 use Rattle.adr_knowledge.proofs.Lists.{of_filter, in_filter, same_filter, some_passes}
 use Rattle.adr_knowledge.proofs.Winners.{one_of_stamp}
@@ -94,14 +96,49 @@ visible_by_vector issued s u one k covered m = by (covers_update s.vector u) ref
     by false e true f = let yes : covers_update s.vector u ≡ true = known f in cc
     by false e false f = refl
 
-same_coverage : (v w : Cursors) (u : Update) → ((i : Identifier) → at v i ≡ at w i) → covers_update v u ≡ covers_update w u
-same_coverage v w u same = ap (λ n. nat_le (usn_of u) n) (same (inv_of u))
+same_coverage : (v w : Cursors) (u : Update) → Covers (at v) u ↔ Covers (at w) u → covers_update v u ≡ covers_update w u
+same_coverage v w u same = by (covers_update v u) refl (covers_update w u) refl
+  where
+    to : covers_update v u ≡ true → covers_update w u ≡ true
+    to e = tested_where_covered w u (same.0 (covered_where_tested v u e))
+
+    back : covers_update w u ≡ true → covers_update v u ≡ true
+    back e = tested_where_covered v u (same.1 (covered_where_tested w u e))
+
+    by : (a : Bool) → covers_update v u ≡ a → (b : Bool) → covers_update w u ≡ b → a ≡ b
+    by true e b f = sym (to e) ∙ f
+    by false e true f = sym e ∙ back f
+    by false e false f = refl
 
 pub equal_coverage : (issued : List Update) (s t : Store) → HasOneContent issued → IsSoundKnowledge issued (knowledge_of s) → IsSoundKnowledge issued (knowledge_of t)
     → Each (λ h. Covers (at s.vector) h) (updates_of s.rows) → Each (λ h. Covers (at t.vector) h) (updates_of t.rows)
-    → ((i : Identifier) → at s.vector i ≡ at t.vector i) → directory (updates_of s.rows) ≡ directory (updates_of t.rows)
+    → CoverTheSame issued (at s.vector) (at t.vector) → directory (updates_of s.rows) ≡ directory (updates_of t.rows)
 equal_coverage issued s t one k l covered others same =
     held_shows_visible issued s one k ∙ (ap directory (same_filter _ _ issued agree) ∙ sym (held_shows_visible issued t one l))
   where
     agree : Each (λ u. (covers_update s.vector u || is_held (updates_of s.rows) u) ≡ (covers_update t.vector u || is_held (updates_of t.rows) u)) issued
-    agree u m = visible_by_vector issued s u one k covered m ∙ (same_coverage s.vector t.vector u same ∙ sym (visible_by_vector issued t u one l others m))
+    agree u m = visible_by_vector issued s u one k covered m ∙ (same_coverage s.vector t.vector u (same u m) ∙ sym (visible_by_vector issued t u one l others m))
+
+pub equal_vectors : (issued : List Update) (s t : Store) → ((i : Identifier) → at s.vector i ≡ at t.vector i) → CoverTheSame issued (at s.vector) (at t.vector)
+equal_vectors issued s t same u m = (λ c. up s t c (same (inv_of u)), λ c. up t s c (sym (same (inv_of u))))
+  where
+    up : (a b : Store) → Covers (at a.vector) u → at a.vector (inv_of u) ≡ at b.vector (inv_of u) → Covers (at b.vector) u
+    up a b c e = omega (arith, c, e)
+
+-- membership alone, without what is known of the store
+pub visible_where : (issued : List Update) (vector : Cursors) (rows : List Update) (u : Update) → Member u issued
+    → Covers (at vector) u ⊎ ((h : Update) × Member h rows × Supersedes h u × Supersedes u h) → Member u (visible issued vector rows)
+visible_where issued vector rows u m (inl c) = covered_is_visible issued vector rows u m c
+visible_where issued vector rows u m (inr (h, n, s, t)) =
+    in_filter (λ (x : Update). covers_update vector x || is_held rows x) issued u m (or_right _ _ found)
+  where
+    found : is_held rows u ≡ true
+    found = one_passes (λ (x : Update). at_least x u && at_least u x) rows h n (and_from _ _ (at_least_where_supersedes h u s) (at_least_where_supersedes u h t))
+
+pub visible_only : (issued : List Update) (vector : Cursors) (rows : List Update) (u : Update) → Member u (visible issued vector rows)
+    → Member u issued × (Covers (at vector) u ⊎ ((h : Update) × Member h rows × Supersedes h u × Supersedes u h))
+visible_only issued vector rows u m = let t = of_visible issued vector rows u m in (t.0, ⊎_elim (λ c. inl c) (λ h. inr (of_held rows u h)) t.1)
+
+pub formed_is_sound : (issued : List Update) (s : Store) → IsFormedStore s → Each (λ u. Member u issued) (updates_of s.rows)
+    → Each (λ u. Covers (at s.vector) u → Reflects issued (knowledge_of s) u) issued → IsSoundKnowledge issued (knowledge_of s)
+formed_is_sound issued s is known covered = record { known = known; covered = covered; purged = everywhere_from_at_most s.purged s.vector is.purged_within }

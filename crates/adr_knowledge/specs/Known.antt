@@ -1,12 +1,16 @@
 -- What holds of a store that took its updates by replication, and the updates that it can be compared with.
-use Rattle.std.specs.Prelude.{◌≡◌, List}
+use Rattle.std.specs.Prelude.{◌≡◌, ◌↔◌, List}
 use Rattle.adr_model.specs.Member.{Member, Each}
 use Rattle.adr_model.specs.Update.{Update, inv_of, usn_of}
-use Rattle.adr_model.specs.Reflects.{Covers, AtMost, Knowledge, Reflects}
+use Rattle.adr_model.specs.Reflects.{Numbers, Covers, AtMost, Knowledge, Reflects}
 
 -- of one key and one write there is one update
 abbrev pub HasOneContent : List Update → Type 0
 HasOneContent issued = Each (λ u. Each (λ v. u.key ≡ v.key → inv_of u ≡ inv_of v → usn_of u ≡ usn_of v → u ≡ v) issued) issued
+
+-- of what was issued the two cover the same
+abbrev pub CoverTheSame : List Update → Numbers → Numbers → Type 0
+CoverTheSame issued V W = Each (λ u. Covers V u ↔ Covers W u) issued
 
 -- what is held was issued, what is covered was taken, and nothing was collected beyond the vector
 pub record IsSoundKnowledge (issued : List Update) (k : Knowledge) : Type 0 where

@@ -1,10 +1,11 @@
 //! What a store reflects, and what is kept of it.
 
-ghost use Rattle.std.specs.Prelude.{◌≡◌, ◌⊎◌, ℕ, List};
+ghost use Rattle.std.specs.Prelude.{◌≡◌, ◌⊎◌, ℕ, List, true};
 ghost use Rattle.adr_stamp.specs.declared.Oid.{Oid};
 ghost use Rattle.adr_model.specs.Member.{Member, Each};
-ghost use Rattle.adr_model.specs.Update.{Update, RowOf, class_attr, ends, inv_of, usn_of};
+ghost use Rattle.adr_model.specs.Update.{Update, RowOf, class_attr, ends};
 ghost use Rattle.adr_model.specs.Reflects.{AtMost, Covers, CoversBirth, HoldsAtLeast, HoldsObject, IsDeath, IsDeathOf, IsPurged, IsTombstoned, Knowledge, Reflects, Supersedes};
+ghost use Rattle.adr_model.specs.Take.{is_birth};
 ghost use Rattle.adr_knowledge.specs.Grows.{Grows, Keeps};
 
 /// A death that was taken leaves its object dead or collected, and then stands for every update of
@@ -21,7 +22,7 @@ pub fn absent_objects_were_collected()
     ensures taken { (issued : List Update) (k : Knowledge) (u : Update) (o : Oid) (attr : ℕ) → u.key ≡ RowOf o attr → Reflects issued k u
         → (HoldsObject k.rows o → ⊥) → IsPurged issued k o }
     ensures covered { (issued : List Update) (k : Knowledge) (b : Update) (o : Oid) → Each (λ u. Covers k.vector u → Reflects issued k u) issued
-        → Member b issued → b.key ≡ RowOf o class_attr → inv_of b ≡ o.birth.inv → usn_of b ≡ o.birth.usn
+        → Member b issued → b.key ≡ RowOf o class_attr → is_birth o b ≡ true
         → CoversBirth k.vector o → (HoldsObject k.rows o → ⊥) → IsPurged issued k o }
 {}
 

@@ -1,6 +1,6 @@
 //! The orders of keys and of stamps.
 
-ghost use Rattle.std.specs.Prelude.{◌≡◌, ◌⊎◌, ◌↔◌, List, true, false};
+ghost use Rattle.std.specs.Prelude.{◌≡◌, ◌⊎◌, ◌↔◌, ◌<◌, List, true, false};
 ghost use Rattle.std.specs.Cmp.{IsTotalOrder};
 ghost use Rattle.std.proofs.lemmas.Map.Lookups.{CmpEqualImpliesEq};
 ghost use Rattle.adr_model.specs.Member.{Member};
@@ -14,11 +14,13 @@ pub fn keys_are_ordered()
     ensures exact { CmpEqualImpliesEq key_order }
 {}
 
-/// Of updates of one key, one supersedes the other, and both do where they are one.
+/// Of updates of one key, one supersedes the other, the next version every earlier one, and both
+/// each other only where they are one.
 pub fn stamps_decide()
     ensures itself { (u : Update) → Supersedes u u }
     ensures onward { (u v w : Update) → Supersedes u v → Supersedes v w → Supersedes u w }
     ensures either { (u v : Update) → u.key ≡ v.key → Supersedes u v ⊎ Supersedes v u }
+    ensures next { (u v : Update) → u.key ≡ v.key → u.stamp.created ≡ v.stamp.created → u.stamp.stamp.version < v.stamp.stamp.version → Supersedes v u × (is_older u v ≡ true) }
     ensures one { (issued : List Update) → HasOneContent issued → (u v : Update) → Member u issued → Member v issued → Supersedes u v → Supersedes v u → u ≡ v }
 {}
 

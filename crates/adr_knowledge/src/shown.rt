@@ -1,17 +1,18 @@
 //! What a store shows.
 
-ghost use Rattle.std.specs.Prelude.{◌≡◌, ◌↔◌, List, Some, None, false};
+ghost use Rattle.std.specs.Prelude.{◌≡◌, ◌⊎◌, ◌↔◌, List, Some, None, false};
 ghost use Rattle.adr_stamp.specs.declared.Oid.{Oid};
-ghost use Rattle.adr_vector.specs.Vector.{at};
+ghost use Rattle.adr_vector.specs.Vector.{Cursors, at};
 ghost use Rattle.adr_model.specs.Member.{Member, Each};
 ghost use Rattle.adr_model.specs.Update.{Identifier, Key, Update, ends, is_older};
 ghost use Rattle.adr_model.specs.Winner.{winner, winners};
 ghost use Rattle.adr_model.specs.Live.{live, live_rows, standing};
 ghost use Rattle.adr_model.specs.Visible.{visible};
 ghost use Rattle.adr_model.specs.Directory.{directory};
-ghost use Rattle.adr_model.specs.Reflects.{AtMost, Covers, Knowledge, knowledge_of};
+ghost use Rattle.adr_model.specs.Reflects.{AtMost, Covers, Knowledge, Reflects, Supersedes, knowledge_of};
+ghost use Rattle.adr_model.specs.Formed.{IsFormedStore};
 ghost use Rattle.adr_model.specs.Store.{Store, updates_of};
-ghost use Rattle.adr_knowledge.specs.Known.{HasOneContent, IsInView, IsSoundKnowledge};
+ghost use Rattle.adr_knowledge.specs.Known.{CoverTheSame, HasOneContent, IsInView, IsSoundKnowledge};
 ghost use Rattle.adr_knowledge.specs.Stands.{Stands};
 
 /// The winner at a key is one of the updates of that key, and none of them is younger. An object
@@ -38,9 +39,14 @@ pub fn views_agree()
         → directory k.rows ≡ directory view }
 {}
 
-/// What is visible to a store of sound knowledge lies between what it holds and what was issued.
+/// What is visible was issued, and is covered or held. For a store of sound knowledge it lies between
+/// what is held and what was issued. A well-formed store collects nothing beyond its vector.
 pub fn visible_updates_are_in_view()
-    ensures { (issued : List Update) (s : Store) → IsSoundKnowledge issued (knowledge_of s)
+    ensures members { (issued : List Update) (vector : Cursors) (held : List Update) (u : Update) → Member u (visible issued vector held)
+        ↔ (Member u issued × (Covers (at vector) u ⊎ ((h : Update) × Member h held × Supersedes h u × Supersedes u h))) }
+    ensures formed { (issued : List Update) (s : Store) → IsFormedStore s → Each (λ u. Member u issued) (updates_of s.rows)
+        → Each (λ u. Covers (at s.vector) u → Reflects issued (knowledge_of s) u) issued → IsSoundKnowledge issued (knowledge_of s) }
+    ensures view { (issued : List Update) (s : Store) → IsSoundKnowledge issued (knowledge_of s)
         → IsInView issued (knowledge_of s) (visible issued s.vector (updates_of s.rows)) }
 {}
 
@@ -50,9 +56,11 @@ pub fn what_is_held_shows_what_is_visible()
         → directory (updates_of s.rows) ≡ directory (visible issued s.vector (updates_of s.rows)) }
 {}
 
-/// Stores that cover the same, and hold nothing beyond, show the same.
+/// Stores that cover the same of what was issued, and hold nothing beyond, show the same. Those with
+/// equal vectors cover the same.
 pub fn equal_coverage_shows_equal_directories()
-    ensures { (issued : List Update) (s t : Store) → HasOneContent issued → IsSoundKnowledge issued (knowledge_of s) → IsSoundKnowledge issued (knowledge_of t)
+    ensures vectors { (issued : List Update) (s t : Store) → ((i : Identifier) → at s.vector i ≡ at t.vector i) → CoverTheSame issued (at s.vector) (at t.vector) }
+    ensures directories { (issued : List Update) (s t : Store) → HasOneContent issued → IsSoundKnowledge issued (knowledge_of s) → IsSoundKnowledge issued (knowledge_of t)
         → Each (λ u. Covers (at s.vector) u) (updates_of s.rows) → Each (λ u. Covers (at t.vector) u) (updates_of t.rows)
-        → ((i : Identifier) → at s.vector i ≡ at t.vector i) → directory (updates_of s.rows) ≡ directory (updates_of t.rows) }
+        → CoverTheSame issued (at s.vector) (at t.vector) → directory (updates_of s.rows) ≡ directory (updates_of t.rows) }
 {}
