@@ -12,7 +12,7 @@ use Rattle.adr_model.specs.Formed.{IsFormedStore}
 use Rattle.adr_vector.proofs.Comparing.{everywhere_from_at_most}
 use Rattle.adr_model.specs.Directory.{directory}
 use Rattle.adr_model.proofs.Members.{one_passes}
-use Rattle.adr_knowledge.specs.Known.{HasOneContent, CoverTheSame, IsSoundKnowledge, IsInView}
+use Rattle.adr_knowledge.specs.Known.{HasOneContent, CoverAlike, IsSoundKnowledge, IsInView}
 use Rattle.adr_knowledge.proofs.Comparing.{supersedes_self, supersedes_where_at_least, at_least_where_supersedes}
 use Rattle.adr_knowledge.proofs.Lists.{of_filter, in_filter, same_filter, some_passes}
 use Rattle.adr_knowledge.proofs.Winners.{one_of_stamp}
@@ -112,14 +112,14 @@ same_coverage v w u same = by (covers_update v u) refl (covers_update w u) refl
 
 pub equal_coverage : (issued : List Update) (s t : Store) → HasOneContent issued → IsSoundKnowledge issued (knowledge_of s) → IsSoundKnowledge issued (knowledge_of t)
     → Each (λ h. Covers (at s.vector) h) (updates_of s.rows) → Each (λ h. Covers (at t.vector) h) (updates_of t.rows)
-    → CoverTheSame issued (at s.vector) (at t.vector) → directory (updates_of s.rows) ≡ directory (updates_of t.rows)
+    → CoverAlike issued (at s.vector) (at t.vector) → directory (updates_of s.rows) ≡ directory (updates_of t.rows)
 equal_coverage issued s t one k l covered others same =
     held_shows_visible issued s one k ∙ (ap directory (same_filter _ _ issued agree) ∙ sym (held_shows_visible issued t one l))
   where
     agree : Each (λ u. (covers_update s.vector u || is_held (updates_of s.rows) u) ≡ (covers_update t.vector u || is_held (updates_of t.rows) u)) issued
     agree u m = visible_by_vector issued s u one k covered m ∙ (same_coverage s.vector t.vector u (same u m) ∙ sym (visible_by_vector issued t u one l others m))
 
-pub equal_vectors : (issued : List Update) (s t : Store) → ((i : Identifier) → at s.vector i ≡ at t.vector i) → CoverTheSame issued (at s.vector) (at t.vector)
+pub equal_vectors : (issued : List Update) (s t : Store) → ((i : Identifier) → at s.vector i ≡ at t.vector i) → CoverAlike issued (at s.vector) (at t.vector)
 equal_vectors issued s t same u m = (λ c. up s t c (same (inv_of u)), λ c. up t s c (sym (same (inv_of u))))
   where
     up : (a b : Store) → Covers (at a.vector) u → at a.vector (inv_of u) ≡ at b.vector (inv_of u) → Covers (at b.vector) u

@@ -9,8 +9,8 @@ abbrev pub HasOneContent : List Update → Type 0
 HasOneContent issued = Each (λ u. Each (λ v. u.key ≡ v.key → inv_of u ≡ inv_of v → usn_of u ≡ usn_of v → u ≡ v) issued) issued
 
 -- of what was issued the two cover the same
-abbrev pub CoverTheSame : List Update → Numbers → Numbers → Type 0
-CoverTheSame issued V W = Each (λ u. Covers V u ↔ Covers W u) issued
+abbrev pub CoverAlike : List Update → Numbers → Numbers → Type 0
+CoverAlike issued V W = Each (λ u. Covers V u ↔ Covers W u) issued
 
 -- what is held was issued, what is covered was taken, and nothing was collected beyond the vector
 pub record IsSoundKnowledge (issued : List Update) (k : Knowledge) : Type 0 where

@@ -12,7 +12,7 @@ ghost use Rattle.adr_model.specs.Directory.{directory};
 ghost use Rattle.adr_model.specs.Reflects.{AtMost, Covers, Knowledge, Reflects, Supersedes, knowledge_of};
 ghost use Rattle.adr_model.specs.Formed.{IsFormedStore};
 ghost use Rattle.adr_model.specs.Store.{Store, updates_of};
-ghost use Rattle.adr_knowledge.specs.Known.{CoverTheSame, HasOneContent, IsInView, IsSoundKnowledge};
+ghost use Rattle.adr_knowledge.specs.Known.{CoverAlike, HasOneContent, IsInView, IsSoundKnowledge};
 ghost use Rattle.adr_knowledge.specs.Stands.{Stands};
 
 /// The winner at a key is one of the updates of that key, and none of them is younger. An object
@@ -59,8 +59,8 @@ pub fn what_is_held_shows_what_is_visible()
 /// Stores that cover the same of what was issued, and hold nothing beyond, show the same. Those with
 /// equal vectors cover the same.
 pub fn equal_coverage_shows_equal_directories()
-    ensures vectors { (issued : List Update) (s t : Store) → ((i : Identifier) → at s.vector i ≡ at t.vector i) → CoverTheSame issued (at s.vector) (at t.vector) }
+    ensures vectors { (issued : List Update) (s t : Store) → ((i : Identifier) → at s.vector i ≡ at t.vector i) → CoverAlike issued (at s.vector) (at t.vector) }
     ensures directories { (issued : List Update) (s t : Store) → HasOneContent issued → IsSoundKnowledge issued (knowledge_of s) → IsSoundKnowledge issued (knowledge_of t)
         → Each (λ u. Covers (at s.vector) u) (updates_of s.rows) → Each (λ u. Covers (at t.vector) u) (updates_of t.rows)
-        → CoverTheSame issued (at s.vector) (at t.vector) → directory (updates_of s.rows) ≡ directory (updates_of t.rows) }
+        → CoverAlike issued (at s.vector) (at t.vector) → directory (updates_of s.rows) ≡ directory (updates_of t.rows) }
 {}
