@@ -5,7 +5,12 @@
 //! know which worlds are sound.
 #![tactic(auto)]
 
-ghost use Rattle.adr_model.specs.Convergence.{EqualCoverageShowsEqual, OwnIsVisible, ShowsWhatIsVisible};
+ghost use Rattle.adr_model.specs.Convergence.{BeginsSound, EqualCoverageShowsEqual, OwnIsVisible, ShowsWhatIsVisible};
+
+/// The world before the first event is sound.
+pub fn the_empty_world_is_sound()
+    ensures { BeginsSound }
+{}
 
 /// In a sound world, what a controller holds shows what is visible to it: the directory of its rows is
 /// that of the issued updates that it covers or holds. All that was issued under its present
