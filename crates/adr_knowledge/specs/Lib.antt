@@ -1,0 +1,4 @@
+pub mod Rises
+pub mod Known
+pub mod Grows
+pub mod Stands
