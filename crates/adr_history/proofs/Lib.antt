@@ -1,0 +1,8 @@
+mod Filters
+mod Rows
+mod Units
+mod Bounds
+mod Past
+mod PastUnits
+mod Marks
+mod Extended
