@@ -4,6 +4,7 @@ ghost use Rattle.std.specs.Prelude.{◌≡◌, IfOk};
 
 use crate::directory::Directory;
 use adr_schema::{NoMemory, Text};
+use adr_vector::Mark;
 use std::alloc::Global;
 use std::marker::Model;
 use uuid::Uuid;
@@ -15,6 +16,10 @@ pub enum Plainly {
     Id(Uuid),
     /// A number.
     Number(u64),
+    /// A high watermark.
+    Mark(Mark),
+    /// An attribute, by its number.
+    Attr(u16),
     /// A word that is written as it is.
     Word(Text),
 }
@@ -27,6 +32,8 @@ impl Plainly {
         match self {
             Plainly::Id(id) => Ok(Plainly::Id(*id)),
             Plainly::Number(number) => Ok(Plainly::Number(*number)),
+            Plainly::Mark(mark) => Ok(Plainly::Mark(*mark)),
+            Plainly::Attr(attr) => Ok(Plainly::Attr(*attr)),
             Plainly::Word(word) => Ok(Plainly::Word(word.copy(alloc)?)),
         }
     }
@@ -99,8 +106,38 @@ pub enum Outcome {
     Ok,
     /// An originating write was made; its changes have this USN.
     Usn(u64),
+    /// A reply was made, from a mark to a mark; `last` says that nothing is left to send.
+    Served {
+        from: Mark,
+        to: Mark,
+        items: u32,
+        rows: u32,
+        last: bool,
+    },
+    /// A reply was taken: of its items so many were written, and the USN is this one.
+    Took {
+        items: u32,
+        wrote: u32,
+        usn: u64,
+    },
+    /// So many tombstones were collected.
+    Removed(u32),
     /// The directory that was asked for.
     Show(Directory),
+    /// A cycle took its most replies, and none of them was the last.
+    More,
+    /// The controller that was to be started is up.
+    Up,
+    /// The controller is stopped.
+    Down,
+    /// The controller met a device fault, and was not started since.
+    Failed,
+    /// A device call failed.
+    Disk,
+    /// The disk stopped within the call.
+    Stopped,
+    /// What a name stands for was never made.
+    Absent,
     /// The call was refused, and changed nothing.
     Refused {
         number: u8,
@@ -118,7 +155,33 @@ impl Outcome {
             Outcome::Silent => Ok(Outcome::Silent),
             Outcome::Ok => Ok(Outcome::Ok),
             Outcome::Usn(usn) => Ok(Outcome::Usn(*usn)),
+            Outcome::Served {
+                from,
+                to,
+                items,
+                rows,
+                last,
+            } => Ok(Outcome::Served {
+                from: *from,
+                to: *to,
+                items: *items,
+                rows: *rows,
+                last: *last,
+            }),
+            Outcome::Took { items, wrote, usn } => Ok(Outcome::Took {
+                items: *items,
+                wrote: *wrote,
+                usn: *usn,
+            }),
+            Outcome::Removed(removed) => Ok(Outcome::Removed(*removed)),
             Outcome::Show(directory) => Ok(Outcome::Show(directory.copy(alloc)?)),
+            Outcome::More => Ok(Outcome::More),
+            Outcome::Up => Ok(Outcome::Up),
+            Outcome::Down => Ok(Outcome::Down),
+            Outcome::Failed => Ok(Outcome::Failed),
+            Outcome::Disk => Ok(Outcome::Disk),
+            Outcome::Stopped => Ok(Outcome::Stopped),
+            Outcome::Absent => Ok(Outcome::Absent),
             Outcome::Refused {
                 number,
                 label,

@@ -12,7 +12,7 @@ use Rattle.adr_schema.specs.declared.content.Content.TheVariants.{Class, Name, V
 use Rattle.adr_event.specs.declared.directory.Entry.{Entry}
 use Rattle.adr_model.specs.Update.{Identifier, Update, class_attr, name_attr}
 use Rattle.adr_model.specs.Write.{row}
-use Rattle.adr_model.proofs.Members.{Member}
+use Rattle.adr_model.specs.Member.{Member}
 
 pub record Added : Type 0 where
   pub object : Oid

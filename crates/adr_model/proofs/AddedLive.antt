@@ -16,7 +16,8 @@ use Rattle.adr_stamp.proofs.Exact.{exact_objects}
 use Rattle.adr_model.specs.Update.{Identifier, Key, RowOf, Update, same_key, same_object, same_identifier, class_attr, name_attr, deleted_attr, is_death_of, ends}
 use Rattle.adr_model.specs.Winner.{winner, winners}
 use Rattle.adr_model.specs.Live.{born, objects_of, standing, yields_to, unyielding, live, is_among, live_rows}
-use Rattle.adr_model.proofs.Members.{Member, none_passes, one_passes, filter_all, filter_map_keys, mapped_member, member_mapped, flat_member, member_flat}
+use Rattle.adr_model.specs.Member.{Member}
+use Rattle.adr_model.proofs.Members.{none_passes, one_passes, filter_all, filter_map_keys, mapped_member, member_mapped, flat_member, member_flat}
 use Rattle.adr_model.proofs.Keys.{equal_order, keys_of_updates, winner_found}
 use Rattle.adr_model.proofs.Added.{Added, class_row, rows_of, sorted, sorted_member, Distinct, Apart, apart_from_distinct}
 use Rattle.adr_model.proofs.AddedRows.{updates_of_sorted, objects_of_sorted}

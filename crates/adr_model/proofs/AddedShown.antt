@@ -20,7 +20,8 @@ use Rattle.adr_model.specs.Shown.{alike, is_lost_name, is_named, gives_way, conf
 use Rattle.adr_model.specs.Directory.{values_at, link_ends, links_at, gathered, entry_of, entries_of, directory}
 use Rattle.adr_model.specs.Live.{objects_of, live_rows}
 use Rattle.adr_model.specs.Write.{holds_guid}
-use Rattle.adr_model.proofs.Members.{Member, none_passes, found, not_found, found_in_both, any_in_both, mapped_member, member_flat}
+use Rattle.adr_model.specs.Member.{Member}
+use Rattle.adr_model.proofs.Members.{none_passes, found, not_found, found_in_both, any_in_both, mapped_member, member_flat}
 use Rattle.adr_model.proofs.Added.{Added, guid_of, name_row, rows_of, entry_of_added, sorted, sorted_member, member_sorted, length_sorted, Distinct, Apart, distinct_sorted}
 use Rattle.adr_model.proofs.AddedLive.{same_objects, object_itself, row_itself, one_row, objects_of_added, live_rows_added}
 

@@ -11,7 +11,7 @@ use Rattle.adr_stamp.proofs.Exact.{exact_objects, exact_links}
 use Rattle.adr_model.specs.Update.{RowOf, LinkOf, Update, key_order, same_key, is_older}
 use Rattle.adr_model.specs.Winner.{or_younger, winner, keys_of}
 use Rattle.adr_model.specs.Store.{Held, updates_of, with_row}
-use Rattle.adr_model.proofs.Members.{Member}
+use Rattle.adr_model.specs.Member.{Member}
 
 pub equal_order : (o : Ordering) → is_eq o ≡ true → o ≡ Equal
 equal_order Less e = cc

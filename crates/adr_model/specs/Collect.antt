@@ -10,6 +10,7 @@ use Rattle.adr_event.specs.declared.refusal.CollectRefusal.{CollectRefusal}
 use Rattle.adr_event.specs.declared.refusal.CollectRefusal.TheVariants.{Quarantined as IsQuarantined, UsnLimit}
 use Rattle.adr_event.specs.declared.refusal.AdoptRefusal.{AdoptRefusal}
 use Rattle.adr_event.specs.declared.refusal.AdoptRefusal.TheVariants.{IdentifierUsed, Full}
+use Rattle.adr_model.specs.Refusing.{unless}
 use Rattle.adr_model.specs.Update.{Identifier, Update, inv_of, usn_of, same_identifier, ends}
 use Rattle.adr_model.specs.Visible.{covers_update, covers_birth}
 use Rattle.adr_model.specs.Store.{Held, Kept, Normal, Quarantined, Store, State}
@@ -50,15 +51,11 @@ collection s deaths =
       writes = [];
     }
 
-abbrev pub collected : Option CollectRefusal → Change → Result Change CollectRefusal
-collected (Some refusal) change = Err refusal
-collected None change = Ok change
-
 -- a controller collects its tombstones: the first refusal, or the change
 abbrev pub collect : State → ℕ → ℕ → Result Change CollectRefusal
 collect s now lifetime =
     let change = collection s (deaths_to_collect s now lifetime) in
-    collected (option_or (then_some (is_quarantined s.mode) IsQuarantined) (then_some (nat_lt usn_limit change.usn) UsnLimit)) change
+    unless (option_or (then_some (is_quarantined s.mode) IsQuarantined) (then_some (nat_lt usn_limit change.usn) UsnLimit)) change
 
 -- the image of a controller, if it isn't quarantined
 abbrev pub backup : State → Option Store
@@ -82,15 +79,11 @@ woken s dsa inv =
       store = record { schema = s.schema; usn = s.usn; rows = s.rows; vector = raised s.vector inv s.usn; purged = s.purged; marks = s.marks };
     }
 
-abbrev pub adopted : Option AdoptRefusal → State → Result State AdoptRefusal
-adopted (Some refusal) s = Err refusal
-adopted None s = Ok s
-
 -- a controller is made of an image under a fresh identifier
 abbrev pub adopt : Store → Identifier → Identifier → Result State AdoptRefusal
 adopt image dsa inv =
     let s = woken image dsa inv in
-    adopted (option_or (then_some (names_inv image inv) IdentifierUsed) (then_some (nat_lt most_cursors (length s.store.vector)) (Full CursorTable most_cursors))) s
+    unless (option_or (then_some (names_inv image inv) IdentifierUsed) (then_some (nat_lt most_cursors (length s.store.vector)) (Full CursorTable most_cursors))) s
 
 -- a controller that showed that it was put back stops; only a restore ends it
 abbrev pub quarantine : State → Change

@@ -14,7 +14,7 @@ use Rattle.adr_model.specs.Member.{Member, Each}
 use Rattle.adr_model.specs.Update.{Identifier, Update, RowOf, LinkOf, Said, Holds, key_order, unit_of, ends, class_attr, name_attr, deleted_attr}
 use Rattle.adr_model.specs.Live.{objects_of}
 use Rattle.adr_model.specs.Reflects.{CoversBirth, HoldsObject, IsTombstoned}
-use Rattle.adr_model.specs.Store.{Kept, Store, State, updates_of}
+use Rattle.adr_model.specs.Store.{Held, Kept, Store, State, updates_of}
 use Rattle.adr_model.specs.Serve.{last_local}
 use Rattle.adr_model.specs.History.{IsOrdered}
 use Rattle.adr_model.specs.Write.{object_limit, link_limit, links_in}
@@ -59,6 +59,18 @@ pub record IsWithinLimits (s : Store) : Type 0 where
   pub links : links_in s.rows ≤ link_limit
   pub marks : length s.marks ≤ mark_limit
 
+-- rows are whole and keep to a schema
+pub record AreFormedRows (table : Table) (rows : List Update) : Type 0 where
+  pub named : (o : Oid) → HoldsObject rows o → IsNamed rows o
+  pub births : (o : Oid) → Each (λ r. r.key ≡ RowOf o class_attr → is_birth o r ≡ true) rows
+  pub objects : (o : Oid) → HoldsObject rows o → IsObjectFormed table rows o
+  pub links : (l : LinkKey) → Each (λ r. r.key ≡ LinkOf l → IsLinkFormed table rows l) rows
+
+-- no two units share their last local USN
+abbrev pub AreAlone : List Held → Type 0
+AreAlone rows =
+    Each (λ h. Each (λ g. last_local rows (unit_of h.update.key) ≡ last_local rows (unit_of g.update.key) → unit_of h.update.key ≡ unit_of g.update.key) rows) rows
+
 pub record IsFormedStore (s : Store) : Type 0 where
   pub vector : IsVector s.vector
   pub purged : IsVector s.purged
@@ -66,12 +78,8 @@ pub record IsFormedStore (s : Store) : Type 0 where
   pub marks : Each (λ (k : Identifier × Kept). IsOrdered k.1.mark) s.marks
   pub rising : IsStrictlySortedBy key_order (map (λ h. h.update.key) s.rows)
   pub locals : Each (λ h. (1 ≤ h.local) × (h.local ≤ s.usn)) s.rows
-  -- no two units share their last local USN
-  pub alone : Each (λ h. Each (λ g. last_local s.rows (unit_of h.update.key) ≡ last_local s.rows (unit_of g.update.key) → unit_of h.update.key ≡ unit_of g.update.key) s.rows) s.rows
-  pub named : (o : Oid) → HoldsObject (updates_of s.rows) o → IsNamed (updates_of s.rows) o
-  pub births : (o : Oid) → Each (λ r. r.key ≡ RowOf o class_attr → is_birth o r ≡ true) (updates_of s.rows)
-  pub objects : (o : Oid) → HoldsObject (updates_of s.rows) o → IsObjectFormed (numbered s.schema) (updates_of s.rows) o
-  pub links : (l : LinkKey) → Each (λ r. r.key ≡ LinkOf l → IsLinkFormed (numbered s.schema) (updates_of s.rows) l) (updates_of s.rows)
+  pub alone : AreAlone s.rows
+  pub rows : AreFormedRows (numbered s.schema) (updates_of s.rows)
   pub limits : IsWithinLimits s
 
 -- a state is formed where its own cursor is its USN, too

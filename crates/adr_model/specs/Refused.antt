@@ -2,13 +2,25 @@
 use Rattle.std.specs.Prelude.{ℕ, List, [], ◌∷◌, codes}
 use Rattle.adr_event.specs.declared.answer.Field.{Field}
 use Rattle.adr_event.specs.declared.answer.Plainly.{Plainly}
-use Rattle.adr_event.specs.declared.answer.Plainly.TheVariants.{Id, Number, Word}
+use Rattle.adr_event.specs.declared.answer.Plainly.TheVariants.{Id, Number, Mark as OneMark, Attr, Word}
 use Rattle.adr_event.specs.declared.answer.Outcome.{Outcome}
 use Rattle.adr_event.specs.declared.answer.Outcome.TheVariants as outcomes
 use Rattle.adr_event.specs.declared.refusal.Table.{Table}
 use Rattle.adr_event.specs.declared.refusal.Table.TheVariants as tables
 use Rattle.adr_event.specs.declared.refusal.WriteRefusal.{WriteRefusal}
 use Rattle.adr_event.specs.declared.refusal.WriteRefusal.TheVariants as writes
+use Rattle.adr_schema.specs.declared.refusal.SchemaRefusal.{SchemaRefusal}
+use Rattle.adr_schema.specs.declared.refusal.SchemaRefusal.TheVariants as schema
+use Rattle.adr_event.specs.declared.refusal.ItemFault.{ItemFault}
+use Rattle.adr_event.specs.declared.refusal.ItemFault.TheVariants as faults
+use Rattle.adr_event.specs.declared.refusal.ServeRefusal.{ServeRefusal}
+use Rattle.adr_event.specs.declared.refusal.ServeRefusal.TheVariants as serves
+use Rattle.adr_event.specs.declared.refusal.TakeRefusal.{TakeRefusal}
+use Rattle.adr_event.specs.declared.refusal.TakeRefusal.TheVariants as takes
+use Rattle.adr_event.specs.declared.refusal.CollectRefusal.{CollectRefusal}
+use Rattle.adr_event.specs.declared.refusal.CollectRefusal.TheVariants as collects
+use Rattle.adr_event.specs.declared.refusal.AdoptRefusal.{AdoptRefusal}
+use Rattle.adr_event.specs.declared.refusal.AdoptRefusal.TheVariants as adopts
 
 abbrev pub field : List ℕ → Plainly → Field
 field name value = record { name = name; value = value }
@@ -21,10 +33,33 @@ table_name tables.Marks = codes "Marks"
 table_name tables.Log = codes "Log"
 
 abbrev pub attr_field : ℕ → Field
-attr_field attr = field (codes "attr") (Number attr)
+attr_field attr = field (codes "attr") (Attr attr)
 
 abbrev pub full_fields : Table → ℕ → List Field
 full_fields table limit = field (codes "table") (Word (table_name table)) ∷ field (codes "limit") (Number limit) ∷ []
+
+abbrev pub number_field : List ℕ → ℕ → Field
+number_field name n = field name (Number n)
+
+abbrev pub id_field : List ℕ → List ℕ → Field
+id_field name id = field name (Id id)
+
+-- the refusals that several calls share
+
+abbrev pub quarantined : Outcome
+quarantined = outcomes.Refused 23 (codes "Quarantined") []
+
+abbrev pub usn_limited : Outcome
+usn_limited = outcomes.Refused 21 (codes "UsnLimit") []
+
+abbrev pub full : Table → ℕ → Outcome
+full table limit = outcomes.Refused 22 (codes "Full") (full_fields table limit)
+
+abbrev pub schemas_differ : ℕ → ℕ → Outcome
+schemas_differ mine theirs = outcomes.Refused 31 (codes "SchemaMismatch") (number_field (codes "mine") mine ∷ number_field (codes "theirs") theirs ∷ [])
+
+abbrev pub rolled_back : List ℕ → ℕ → ℕ → Outcome
+rolled_back inv mine shown = outcomes.Refused 33 (codes "RolledBack") (id_field (codes "inv") inv ∷ number_field (codes "mine") mine ∷ number_field (codes "shown") shown ∷ [])
 
 -- a refused write
 abbrev pub write_refused : WriteRefusal → Outcome
@@ -48,7 +83,58 @@ write_refused (writes.GuidThere guid) = outcomes.Refused 17 (codes "GuidThere") 
 write_refused writes.LinkThere = outcomes.Refused 18 (codes "LinkThere") []
 write_refused writes.LinkNotThere = outcomes.Refused 19 (codes "LinkNotThere") []
 write_refused (writes.VersionLimit attr) = outcomes.Refused 20 (codes "VersionLimit") (attr_field attr ∷ [])
-write_refused writes.UsnLimit = outcomes.Refused 21 (codes "UsnLimit") []
-write_refused (writes.Full table limit) = outcomes.Refused 22 (codes "Full") (full_fields table limit)
-write_refused writes.Quarantined = outcomes.Refused 23 (codes "Quarantined") []
+write_refused writes.UsnLimit = usn_limited
+write_refused (writes.Full table limit) = full table limit
+write_refused writes.Quarantined = quarantined
 write_refused writes.NoMemory = outcomes.Silent
+
+-- a refused request
+abbrev pub serve_refused : ServeRefusal → Outcome
+serve_refused serves.Quarantined = quarantined
+serve_refused (serves.WrongController mine asked) = outcomes.Refused 30 (codes "WrongController") (id_field (codes "mine") mine ∷ id_field (codes "asked") asked ∷ [])
+serve_refused (serves.BadMark prop obj seen) = outcomes.Refused 34 (codes "BadMark") (number_field (codes "prop") prop ∷ number_field (codes "obj") obj ∷ number_field (codes "seen") seen ∷ [])
+serve_refused (serves.RolledBack inv mine shown) = rolled_back inv mine shown
+serve_refused (serves.SchemaMismatch mine theirs) = schemas_differ mine theirs
+serve_refused (serves.TooOld inv purged has) = outcomes.Refused 32 (codes "TooOld") (id_field (codes "inv") inv ∷ number_field (codes "purged") purged ∷ number_field (codes "has") has ∷ [])
+serve_refused (serves.Full table limit) = full table limit
+
+-- the name of what is wrong with a row
+abbrev pub schema_name : SchemaRefusal → List ℕ
+schema_name schema.UnknownClass = codes "UnknownClass"
+schema_name (schema.UnknownAttribute attr) = codes "UnknownAttribute"
+schema_name (schema.NotAllowed attr) = codes "NotAllowed"
+schema_name (schema.MissingMust attr) = codes "MissingMust"
+schema_name (schema.BadValue attr at) = codes "BadValue"
+schema_name (schema.IsLink attr) = codes "IsLink"
+schema_name (schema.NotLink attr) = codes "NotLink"
+schema_name (schema.BadName at) = codes "BadName"
+
+abbrev pub fault_name : ItemFault → List ℕ
+fault_name (faults.Schema refusal) = schema_name refusal
+fault_name faults.WrongBirth = codes "WrongBirth"
+
+-- a refused reply
+abbrev pub take_refused : TakeRefusal → Outcome
+take_refused takes.Quarantined = quarantined
+take_refused (takes.NotMine dest) = outcomes.Refused 40 (codes "NotMine") (id_field (codes "dest") dest ∷ [])
+take_refused (takes.Stale mark from) = outcomes.Refused 41 (codes "Stale") (field (codes "mark") (OneMark mark) ∷ field (codes "from") (OneMark from) ∷ [])
+take_refused (takes.VectorBehind inv has needs) = outcomes.Refused 42 (codes "VectorBehind") (id_field (codes "inv") inv ∷ number_field (codes "has") has ∷ number_field (codes "needs") needs ∷ [])
+take_refused (takes.SchemaMismatch mine theirs) = schemas_differ mine theirs
+take_refused (takes.RolledBack inv mine shown) = rolled_back inv mine shown
+take_refused (takes.BadItem at cause) = outcomes.Refused 44 (codes "BadItem") (number_field (codes "place") at ∷ field (codes "cause") (Word (fault_name cause)) ∷ [])
+take_refused (takes.Incomplete object) = outcomes.Refused 43 (codes "Incomplete") (id_field (codes "object") object.guid ∷ [])
+take_refused takes.UsnLimit = usn_limited
+take_refused (takes.Full table limit) = full table limit
+take_refused takes.NoMemory = outcomes.Silent
+
+-- a refused collection
+abbrev pub collect_refused : CollectRefusal → Outcome
+collect_refused collects.Quarantined = quarantined
+collect_refused collects.UsnLimit = usn_limited
+collect_refused collects.NoMemory = outcomes.Silent
+
+-- a refused image
+abbrev pub adopt_refused : AdoptRefusal → Outcome
+adopt_refused adopts.IdentifierUsed = outcomes.Refused 50 (codes "IdentifierUsed") []
+adopt_refused (adopts.Full table limit) = full table limit
+adopt_refused adopts.NoMemory = outcomes.Silent

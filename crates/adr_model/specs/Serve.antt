@@ -15,6 +15,7 @@ use Rattle.adr_vector.specs.Vector.{Cursors, at, first_gap}
 use Rattle.adr_vector.specs.declared.mark.Mark.{Mark}
 use Rattle.adr_event.specs.declared.refusal.ServeRefusal.{ServeRefusal}
 use Rattle.adr_event.specs.declared.refusal.ServeRefusal.TheVariants.{Quarantined as IsQuarantined, WrongController, BadMark, RolledBack, SchemaMismatch, TooOld}
+use Rattle.adr_model.specs.Refusing.{first_of, unless}
 use Rattle.adr_model.specs.Update.{Identifier, Update, Said, Holds, IsPresent, same_identifier, unit_of, same_unit}
 use Rattle.adr_model.specs.Visible.{covers_update}
 use Rattle.adr_model.specs.Store.{Held, Mode, Normal, Quarantined, State, updates_of, kept_of, no_mark}
@@ -154,10 +155,6 @@ abbrev pub is_quarantined : Mode → Bool
 is_quarantined Normal = false
 is_quarantined Quarantined = true
 
-abbrev pub first_of_serve : List (Option ServeRefusal) → Option ServeRefusal
-first_of_serve [] = None
-first_of_serve (r ∷ rs) = option_or r (first_of_serve rs)
-
 -- how much of this incarnation a request shows that its controller has seen
 abbrev pub shown_by : State → Request → ℕ
 shown_by s q = max (at q.vector s.inv) (begins_at s q).seen
@@ -165,7 +162,7 @@ shown_by s q = max (at q.vector s.inv) (begins_at s q).seen
 -- why a request is refused, first in order
 abbrev pub serve_refusal : State → Request → Option ServeRefusal
 serve_refusal s q =
-    first_of_serve (
+    first_of (
     then_some (is_quarantined s.mode) IsQuarantined
     ∷ then_some (not (same_identifier q.source s.dsa)) (WrongController s.dsa q.source)
     ∷ then_some (not (nat_le q.mark.prop q.mark.obj && nat_le q.mark.obj q.mark.seen)) (BadMark q.mark.prop q.mark.obj q.mark.seen)
@@ -175,10 +172,6 @@ serve_refusal s q =
     ∷ []
     )
 
-abbrev pub replied : Option ServeRefusal → Reply → Result Reply ServeRefusal
-replied (Some refusal) reply = Err refusal
-replied None reply = Ok reply
-
 -- what a request is answered: the first refusal, or the reply
 abbrev pub serve : State → Request → Result Reply ServeRefusal
-serve s q = replied (serve_refusal s q) (reply_to s q)
+serve s q = unless (serve_refusal s q) (reply_to s q)

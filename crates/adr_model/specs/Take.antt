@@ -19,6 +19,7 @@ use Rattle.adr_event.specs.declared.refusal.ItemFault.{ItemFault}
 use Rattle.adr_event.specs.declared.refusal.ItemFault.TheVariants.{Schema as BreaksSchema, WrongBirth}
 use Rattle.adr_event.specs.declared.refusal.TakeRefusal.{TakeRefusal}
 use Rattle.adr_event.specs.declared.refusal.TakeRefusal.TheVariants.{Quarantined, NotMine, Stale, VectorBehind, SchemaMismatch, RolledBack, BadItem, Incomplete, UsnLimit, Full}
+use Rattle.adr_model.specs.Refusing.{first_of, unless}
 use Rattle.adr_model.specs.Update.{Key, RowOf, LinkOf, Said, Holds, IsPresent, Update, same_identifier, is_older, class_attr, name_attr, deleted_attr}
 use Rattle.adr_model.specs.Live.{objects_of}
 use Rattle.adr_model.specs.Visible.{covers_birth}
@@ -123,12 +124,8 @@ class_of_item rows item = by item.unit
     by (Object o) = option_or (option_and_then (λ h. class_said h.update.said) (row_held rows (RowOf o class_attr))) (class_among item.rows)
     by (Link l) = None
 
-abbrev pub first_fault : List (Option ItemFault) → Option ItemFault
-first_fault [] = None
-first_fault (r ∷ rs) = option_or r (first_fault rs)
-
 abbrev pub item_fault : Schema → Cursors → List Held → Item → Option ItemFault
-item_fault table vector rows item = first_fault (map (row_fault table (class_of_item rows item)) (rows_tested vector rows item))
+item_fault table vector rows item = first_of (map (row_fault table (class_of_item rows item)) (rows_tested vector rows item))
 
 -- whether a new object lacks its class or its name, or is alive and lacks what it must have
 abbrev pub lacks : Schema → List Update → Bool
@@ -199,10 +196,6 @@ taken_change r t =
       writes = t.writes;
     }
 
-abbrev pub first_of_take : List (Option TakeRefusal) → Option TakeRefusal
-first_of_take [] = None
-first_of_take (r ∷ rs) = option_or r (first_of_take rs)
-
 -- how many partners' marks a controller keeps at most
 abbrev pub mark_limit : ℕ
 mark_limit = 10000
@@ -223,7 +216,7 @@ shown_by_last s r = option_map_or (λ v. at v s.inv) r.last 0
 -- why a reply is refused, first in order
 abbrev pub refusal_of : State → Reply → Taking → State → Option TakeRefusal
 refusal_of s r t taken =
-    first_of_take (
+    first_of (
     then_some (is_quarantined s.mode) Quarantined
     ∷ then_some (not (same_identifier r.dest s.dsa)) (NotMine r.dest)
     ∷ then_some (not (same_mark r.from (kept_mark s r))) (Stale (kept_mark s r) r.from)
@@ -239,13 +232,9 @@ refusal_of s r t taken =
     ∷ []
     )
 
-abbrev pub taken : Option TakeRefusal → Change → Result Change TakeRefusal
-taken (Some refusal) change = Err refusal
-taken None change = Ok change
-
 -- what a reply does to a controller: the first refusal, or the change
 abbrev pub take : State → Reply → Result Change TakeRefusal
 take s r =
     let t = take_items s r.items in
     let change = taken_change r t in
-    taken (refusal_of s r t (after s change)) change
+    unless (refusal_of s r t (after s change)) change

@@ -1,78 +1,275 @@
--- A run: the time, what was issued and the controllers, and what each event does and is answered.
-use Rattle.std.specs.Prelude.{ℕ, List, [], ◌∷◌, ◌++◌, Option, Some, None, Result, Ok, Err, map, if◌then◌else◌, codes}
-use Rattle.std.specs.List.{find}
+-- A run: the time, the scene, the controllers and what is bound to names, and what each event does and is answered.
+use Rattle.std.specs.Prelude.{ℕ, List, [], ◌∷◌, ◌++◌, Bool, true, false, Option, Some, None, is_some, Result, Ok, Err, map, fold, length, if◌then◌else◌, codes}
+use Rattle.std.specs.List.{find, flat_map}
+use Rattle.std.specs.Option.{option_map}
 use Rattle.std.specs.Str.{bytes_eq}
 use Rattle.adr_event.specs.declared.event.Event.{Event}
-use Rattle.adr_event.specs.declared.event.Event.TheVariants.{Controller, Time, Add, Show}
+use Rattle.adr_event.specs.declared.event.Event.TheVariants as events
 use Rattle.adr_event.specs.declared.answer.Answer.{Answer}
 use Rattle.adr_event.specs.declared.answer.Outcome.{Outcome}
 use Rattle.adr_event.specs.declared.answer.Outcome.TheVariants as outcomes
 use Rattle.adr_event.specs.declared.directory.Entry.{Entry}
 use Rattle.adr_event.specs.declared.refusal.WriteRefusal.{WriteRefusal}
-use Rattle.adr_model.specs.Update.{Update}
+use Rattle.adr_event.specs.declared.refusal.ServeRefusal.{ServeRefusal}
+use Rattle.adr_event.specs.declared.refusal.ServeRefusal.TheVariants as serves
+use Rattle.adr_event.specs.declared.refusal.TakeRefusal.{TakeRefusal}
+use Rattle.adr_event.specs.declared.refusal.TakeRefusal.TheVariants as takes
+use Rattle.adr_event.specs.declared.refusal.CollectRefusal.{CollectRefusal}
+use Rattle.adr_event.specs.declared.refusal.AdoptRefusal.{AdoptRefusal}
+use Rattle.adr_model.specs.Update.{Identifier}
 use Rattle.adr_model.specs.Visible.{visible}
 use Rattle.adr_model.specs.Directory.{directory}
-use Rattle.adr_model.specs.Store.{State, updates_of, empty_state}
-use Rattle.adr_model.specs.Change.{Change, after, updates_written}
-use Rattle.adr_model.specs.Write.{write, AddObject}
-use Rattle.adr_model.specs.Refused.{write_refused}
+use Rattle.adr_model.specs.Store.{State, Store, updates_of, empty_state}
+use Rattle.adr_model.specs.Change.{Change, Item}
+use Rattle.adr_model.specs.Serve.{Request, Reply, ask, serve}
+use Rattle.adr_model.specs.Write.{Write, AddObject, Modify, Rename, Delete, AddLink, RemoveLink, write}
+use Rattle.adr_model.specs.Take.{take}
+use Rattle.adr_model.specs.Collect.{collect, backup, adopt, quarantine}
+use Rattle.adr_model.specs.Refused.{write_refused, serve_refused, take_refused, collect_refused, adopt_refused, quarantined}
+use Rattle.adr_model.specs.Replica.{ToWrite, ToTake, ToCollect, ToQuarantine, Pending, Standing, Up, Down, Failed, Stops, Fails, Plan, Replica, on_new_disk, Scene, begun, Move, Settle, moved, went, moves_of_commit, moves_of_start, standing_after, plan_after, outcome_after}
 
--- a controller by its name
-pub record Replica : Type 0 where
-  pub name : List ℕ
-  pub state : State
+abbrev pub Name : Type 0
+Name = List ℕ
 
--- where a run stands: the time, all that client writes made so far, in order, and the controllers
+-- what lines gave, whether or not they were answered ok
+pub record Given : Type 0 where
+  pub dsas : List Identifier
+  pub invs : List Identifier
+
+-- where a run stands
 pub record World : Type 0 where
   pub time : ℕ
-  pub issued : List Update
+  pub clean : Bool  -- no database was put back without a fresh identifier
+  pub scene : Scene
   pub replicas : List Replica
+  pub requests : List (Name × Request)
+  pub replies : List (Name × Reply)
+  pub images : List (Name × Store)
+  pub snapshots : List (Name × State)
+  pub given : Given
 
 abbrev pub empty_world : World
-empty_world = record { time = 0; issued = []; replicas = [] }
+empty_world =
+    record {
+      time = 0;
+      clean = true;
+      scene = record { issued = []; histories = [] };
+      replicas = [];
+      requests = [];
+      replies = [];
+      images = [];
+      snapshots = [];
+      given = record { dsas = []; invs = [] };
+    }
 
-abbrev pub replica_at : World → List ℕ → Option Replica
+-- what is bound to a name
+abbrev pub bound_at : {A : Type 0} → List (Name × A) → Name → Option A
+bound_at {A = A} xs name = option_map (λ (x : Name × A). x.1) (find (λ (x : Name × A). bytes_eq x.0 name) xs)
+
+abbrev pub bound : {A : Type 0} → List (Name × A) → Name → Option A → List (Name × A)
+bound xs name None = xs
+bound xs name (Some x) = xs ++ (name, x) ∷ []
+
+abbrev pub replica_at : World → Name → Option Replica
 replica_at w name = find (λ r. bytes_eq r.name name) w.replicas
 
 -- a controller in place of the one of its name
 abbrev pub with_replica : List Replica → Replica → List Replica
 with_replica rs r = map (λ q. if bytes_eq q.name r.name then r else q) rs
 
--- what a controller shows: the directory of the issued updates that its vector covers or that it holds
+-- what a controller shows: the directory of the issued updates that its vector covers or that it holds; after a database
+-- was put back, of those that it holds
 abbrev pub shown : World → State → List Entry
-shown w s = directory (visible w.issued s.store.vector (updates_of s.store.rows))
+shown w s = directory (if w.clean then visible w.scene.issued s.store.vector (updates_of s.store.rows) else updates_of s.store.rows)
 
-abbrev pub answer : List ℕ → List ℕ → Outcome → Answer
+abbrev pub answer : List ℕ → Name → Outcome → Answer
 answer verb name outcome = record { verb = verb; name = name; outcome = outcome }
 
--- what a controller's write gives: the world with the updates issued, or the refusal
-abbrev pub after_write : World → Replica → List ℕ → Result Change WriteRefusal → World × Answer
-after_write w r verb (Err refusal) = (w, answer verb r.name (write_refused refusal))
-after_write w r verb (Ok change) = (
-  record {
-    time = w.time;
-    issued = w.issued ++ updates_written change;
-    replicas = with_replica w.replicas (record { name = r.name; state = after r.state change });
-  },
-  answer verb r.name (outcomes.Usn change.usn),
-)
+-- ---- calls of a controller
 
--- an event at a controller that was made; no other one comes
-abbrev pub at_replica : World → Option Replica → (Replica → World × Answer) → World × Answer
-at_replica w None act = (w, answer [] [] outcomes.Silent)
-at_replica w (Some r) act = act r
+-- what comes of a call: the world, and how it went
+abbrev pub Gone : Type 0
+Gone = World × Outcome
 
--- what an event does, and what is answered
+abbrev pub stays : World → Outcome → Gone
+stays w outcome = (w, outcome)
+
+-- a call of a controller that was made, or what is answered otherwise
+abbrev pub of_made : {A : Type 0} → (Outcome → A) → Option Replica → (Replica → A) → A
+of_made other None act = other outcomes.Absent
+of_made other (Some r) act = act r
+
+abbrev pub where_up : {A : Type 0} → (Outcome → A) → Standing → A → A
+where_up other Up gone = gone
+where_up other Down gone = other outcomes.Down
+where_up other Failed gone = other outcomes.Failed
+
+-- a call of a controller that is up
+abbrev pub of_controller : {A : Type 0} → World → Name → (Outcome → A) → (Replica → A) → A
+of_controller w name other act = of_made other (replica_at w name) (λ r. where_up other r.standing (act r))
+
+-- a change is committed by four device calls
+abbrev pub commit : World → Replica → Pending → Outcome → Gone
+commit w r p outcome =
+    let g = went r.plan 4 in
+    let m = fold moved (w.scene, r) (moves_of_commit p g) in (
+      record w { scene = m.0; replicas = with_replica w.replicas (record m.1 { standing = standing_after Failed g; plan = plan_after g }) },
+      outcome_after g outcome,
+    )
+
+-- a controller that showed that it was put back is quarantined before it refuses
+abbrev pub quarantines : World → Replica → Outcome → Gone
+quarantines w r refused = commit w r (record { call = ToQuarantine; change = quarantine r.safe }) refused
+
+abbrev pub after_write : World → Replica → Write → Result Change WriteRefusal → Gone
+after_write w r what (Err refusal) = (w, write_refused refusal)
+after_write w r what (Ok change) = commit w r (record { call = ToWrite what w.time; change = change }) (outcomes.Usn change.usn)
+
+abbrev pub writes : World → Name → Write → Gone
+writes w name what = of_controller w name (stays w) (λ r. after_write w r what (write r.safe what w.time))
+
+abbrev pub after_collect : World → Replica → ℕ → Result Change CollectRefusal → Gone
+after_collect w r lifetime (Err refusal) = (w, collect_refused refusal)
+after_collect w r lifetime (Ok change) = commit w r (record { call = ToCollect w.time lifetime; change = change }) (outcomes.Removed (length change.removed))
+
+-- ---- messages
+
+-- what comes of a call that makes a message
+abbrev pub Sent : Type 0 → Type 0
+Sent A = World × Outcome × Option A
+
+abbrev pub not_sent : {A : Type 0} → Gone → Sent A
+not_sent g = (g.0, g.1, None)
+
+abbrev pub nothing : {A : Type 0} → World → Outcome → Sent A
+nothing w outcome = (w, outcome, None)
+
+-- a controller asks another one; both have to be made
+abbrev pub asks : World → Name → Name → ℕ → Sent Request
+asks w name partner max =
+    of_made (nothing w) (replica_at w name) (λ r. of_made (nothing w) (replica_at w partner) (λ p.
+    where_up (nothing w) r.standing (w, outcomes.Ok, Some (ask r.safe p.safe.dsa max))))
+
+abbrev pub rows_in : Reply → ℕ
+rows_in r = length (flat_map (λ (i : Item). i.rows) r.items)
+
+abbrev pub after_serve : World → Replica → Result Reply ServeRefusal → Sent Reply
+after_serve w r (Ok reply) = (w, outcomes.Served reply.from reply.to (length reply.items) (rows_in reply) (is_some reply.last), Some reply)
+after_serve w r (Err (serves.RolledBack inv mine shown)) = not_sent (quarantines w r (serve_refused (serves.RolledBack inv mine shown)))
+after_serve w r (Err refusal) = nothing w (serve_refused refusal)
+
+abbrev pub served : World → Replica → Option Request → Sent Reply
+served w r None = nothing w outcomes.Absent
+served w r (Some q) = after_serve w r (serve r.safe q)
+
+-- a controller answers a request
+abbrev pub serves_request : World → Name → Option Request → Sent Reply
+serves_request w name q = of_controller w name (nothing w) (λ r. served w r q)
+
+abbrev pub after_take : World → Replica → Reply → Result Change TakeRefusal → Gone
+after_take w r reply (Ok change) =
+    commit w r (record { call = ToTake reply; change = change }) (outcomes.Took (length reply.items) (length change.writes) change.usn)
+after_take w r reply (Err (takes.RolledBack inv mine shown)) = quarantines w r (take_refused (takes.RolledBack inv mine shown))
+after_take w r reply (Err refusal) = (w, take_refused refusal)
+
+abbrev pub delivered : World → Replica → Option Reply → Gone
+delivered w r None = (w, outcomes.Absent)
+delivered w r (Some reply) = after_take w r reply (take r.safe reply)
+
+-- a controller takes a reply
+abbrev pub delivers : World → Name → Option Reply → Gone
+delivers w name reply = of_controller w name (stays w) (λ r. delivered w r reply)
+
+-- ---- images, snapshots and disks
+
+abbrev pub backed_up : World → Option Store → Sent Store
+backed_up w None = nothing w quarantined
+backed_up w (Some image) = (w, outcomes.Ok, Some image)
+
+-- a controller of its name gets a new disk with a state of a fresh identifier
+abbrev pub adopts : World → (Replica → List Replica) → Name → Result State AdoptRefusal → Gone
+adopts w placed name (Err refusal) = (w, adopt_refused refusal)
+adopts w placed name (Ok s) = (record w { scene = begun w.scene s; replicas = placed (on_new_disk name s) }, outcomes.Ok)
+
+abbrev pub of_image : World → Option Store → (Store → Gone) → Gone
+of_image w None act = (w, outcomes.Absent)
+of_image w (Some image) act = act image
+
+-- a snapshot is put back: from here on nothing is said of what controllers have in view
+abbrev pub put_back : World → Name → Option State → Gone
+put_back w name None = (w, outcomes.Absent)
+put_back w name (Some s) = (record w { clean = false; replicas = with_replica w.replicas (on_new_disk name s) }, outcomes.Ok)
+
+abbrev pub with_plan : World → Replica → Plan → Gone
+with_plan w r plan = (record w { replicas = with_replica w.replicas (record r { plan = Some plan }) }, outcomes.Ok)
+
+-- what moves leave of a controller
+abbrev pub after_moves : World → Replica → List Move → Standing → Option Plan → Outcome → Gone
+after_moves w r moves standing plan outcome =
+    let m = fold moved (w.scene, r) moves in
+    (record w { scene = m.0; replicas = with_replica w.replicas (record m.1 { standing = standing; plan = plan }) }, outcome)
+
+abbrev pub stops : World → Replica → Gone
+stops w r = after_moves w r (Settle ∷ []) Down None outcomes.Ok
+
+abbrev pub started : World → Replica → Gone
+started w r = let g = went r.plan 1 in after_moves w r (moves_of_start g) (standing_after r.standing g) (plan_after g) (outcome_after g outcomes.Ok)
+
+abbrev pub starts : World → Replica → Standing → Gone
+starts w r Up = (w, outcomes.Up)
+starts w r Down = started w r
+starts w r Failed = started w r
+
+-- ---- events
+
+abbrev pub told : List ℕ → Name → Gone → World × Answer
+told verb name g = (g.0, answer verb name g.1)
+
+abbrev pub gives : World → List Identifier → List Identifier → World
+gives w dsas invs = record w { given = record { dsas = w.given.dsas ++ dsas; invs = w.given.invs ++ invs } }
+
+-- what an event does, and what is answered. Lines of pulls are several events
 abbrev pub step : World → Event → World × Answer
-step w (Controller name dsa inv) = (
-  record { time = w.time; issued = w.issued; replicas = w.replicas ++ record { name = name; state = empty_state dsa inv } ∷ [] },
-  answer (codes "controller") name outcomes.Ok,
-)
-step w (Time now) = (record { time = now; issued = w.issued; replicas = w.replicas }, answer (codes "time") [] outcomes.Silent)
-step w (Add name guid class parent text values) =
-    at_replica w (replica_at w name) (λ r. after_write w r (codes "add") (write r.state (AddObject guid class parent text values) w.time))
-step w (Show name) =
-    at_replica w (replica_at w name) (λ r. (w, answer (codes "show") r.name (outcomes.Show (shown w r.state))))
+step w (events.Controller name dsa inv) =
+    let v = gives w (dsa ∷ []) (inv ∷ []) in
+    told (codes "controller") name
+    (record v { scene = begun v.scene (empty_state dsa inv); replicas = v.replicas ++ on_new_disk name (empty_state dsa inv) ∷ [] }, outcomes.Ok)
+step w (events.Time now) = (record w { time = now }, answer (codes "time") [] outcomes.Silent)
+step w (events.Add name guid class parent text values) = told (codes "add") name (writes w name (AddObject guid class parent text values))
+step w (events.Modify name guid values) = told (codes "modify") name (writes w name (Modify guid values))
+step w (events.Rename name guid parent text) = told (codes "rename") name (writes w name (Rename guid parent text))
+step w (events.Delete name guid) = told (codes "delete") name (writes w name (Delete guid))
+step w (events.Link name from attr to) = told (codes "link") name (writes w name (AddLink from attr to))
+step w (events.Unlink name from attr to) = told (codes "unlink") name (writes w name (RemoveLink from attr to))
+step w (events.Ask name partner max bind) =
+    let t = asks w name partner max in told (codes "ask") name (record t.0 { requests = bound w.requests bind t.2 }, t.1)
+step w (events.Serve name request bind) =
+    let t = serves_request w name (bound_at w.requests request) in told (codes "serve") name (record t.0 { replies = bound w.replies bind t.2 }, t.1)
+step w (events.Deliver name reply) = told (codes "deliver") name (delivers w name (bound_at w.replies reply))
+step w (events.Pull name source max) = (w, answer (codes "pull") name outcomes.Silent)
+step w (events.Cycle name source max) = (w, answer (codes "cycle") name outcomes.Silent)
+step w (events.Collect name lifetime) =
+    told (codes "collect") name (of_controller w name (stays w) (λ r. after_collect w r lifetime (collect r.safe w.time lifetime)))
+step w (events.Backup name bind) =
+    let t = of_controller w name (nothing w) (λ r. backed_up w (backup r.safe)) in told (codes "backup") name (record t.0 { images = bound w.images bind t.2 }, t.1)
+step w (events.Restore name image inv) =
+    let v = gives w [] (inv ∷ []) in
+    told (codes "restore") name
+    (of_made (stays v) (replica_at v name) (λ r. of_image v (bound_at v.images image) (λ i. adopts v (with_replica v.replicas) name (adopt i r.safe.dsa inv))))
+step w (events.Install name dsa image inv) =
+    let v = gives w (dsa ∷ []) (inv ∷ []) in
+    told (codes "install") name (of_image v (bound_at v.images image) (λ i. adopts v (λ r. v.replicas ++ r ∷ []) name (adopt i dsa inv)))
+step w (events.Snapshot name bind) =
+    let t = of_made (nothing w) (replica_at w name) (λ r. (w, outcomes.Ok, Some r.read)) in told (codes "snapshot") name (record t.0 { snapshots = bound w.snapshots bind t.2 }, t.1)
+step w (events.Rollback name snapshot) =
+    told (codes "rollback") name (of_made (stays w) (replica_at w name) (λ r. put_back w name (bound_at w.snapshots snapshot)))
+step w (events.StopAfter name calls how) =
+    told (codes "stop") name (of_made (stays w) (replica_at w name) (λ r. with_plan w r (record { calls = calls; fault = Stops how })))
+step w (events.Fail name calls) =
+    told (codes "fail") name (of_made (stays w) (replica_at w name) (λ r. with_plan w r (record { calls = calls; fault = Fails })))
+step w (events.Stop name) = told (codes "stop") name (of_made (stays w) (replica_at w name) (λ r. stops w r))
+step w (events.Start name) = told (codes "start") name (of_made (stays w) (replica_at w name) (λ r. starts w r r.standing))
+step w (events.Show name) = told (codes "show") name (of_controller w name (stays w) (λ r. (w, outcomes.Show (shown w r.safe))))
 
 -- an answer, and those to the events that follow
 abbrev pub followed : World × Answer → (World → List Answer) → List Answer

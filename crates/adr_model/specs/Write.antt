@@ -20,6 +20,7 @@ use Rattle.adr_event.specs.declared.refusal.Table.TheVariants.{Objects, Links, C
 use Rattle.adr_event.specs.declared.refusal.WriteRefusal.{WriteRefusal}
 use Rattle.adr_event.specs.declared.refusal.WriteRefusal.TheVariants as refusal
 use Rattle.adr_event.specs.declared.refusal.WriteRefusal.TheVariants.{Quarantined, Fixed, NoObject, Deleted, GuidThere, NoParent, BadSuperior, NameTaken, WouldLoop, HasChildren, LinkThere, LinkNotThere, VersionLimit, UsnLimit, Full}
+use Rattle.adr_model.specs.Refusing.{first_of, unless}
 use Rattle.adr_model.specs.Update.{Identifier, Key, RowOf, LinkOf, Said, Holds, IsPresent, Update, same_identifier, class_attr, name_attr, deleted_attr}
 use Rattle.adr_model.specs.Live.{objects_of, live_rows}
 use Rattle.adr_model.specs.Place.{Node, root, lost_and_found, is_fixed, nodes_of, node_at, upward, place}
@@ -52,12 +53,6 @@ pub data Write : Type 0 where
 
 -- ---- refusals
 
--- the first refusal of several
-abbrev pub first_refusal : List (Option WriteRefusal) → Option WriteRefusal
-first_refusal [] = None
-first_refusal (None ∷ rs) = first_refusal rs
-first_refusal (Some r ∷ rs) = Some r
-
 abbrev pub where_true : Bool → WriteRefusal → Option WriteRefusal
 where_true b refusal = if b then Some refusal else None
 
@@ -88,7 +83,7 @@ nodes_held held = nodes_of (live_rows held)
 -- an object that isn't live can't be written
 abbrev pub object_refusal : List Update → List Node → Identifier → Option WriteRefusal
 object_refusal held nodes guid =
-    first_refusal (where_true (not (holds_guid held guid)) (NoObject guid) ∷ where_true (is_none (node_at nodes guid)) (Deleted guid) ∷ [])
+    first_of (where_true (not (holds_guid held guid)) (NoObject guid) ∷ where_true (is_none (node_at nodes guid)) (Deleted guid) ∷ [])
 
 abbrev pub fixed_refusal : Identifier → Option WriteRefusal
 fixed_refusal guid = where_true (is_fixed guid) (Fixed guid)
@@ -144,7 +139,7 @@ abbrev pub add_refusal : State → Identifier → ℕ → Identifier → List �
 add_refusal s guid class parent text values =
     let held = updates_of s.store.rows in
     let nodes = nodes_held held in
-    first_refusal (
+    first_of (
     where_true (is_quarantined s.mode) Quarantined
     ∷ where_true (is_fixed guid || holds_guid held guid) (GuidThere guid)
     ∷ option_map of_schema (schema_add_refusal (numbered s.store.schema) class values)
@@ -170,12 +165,12 @@ abbrev pub modify_refusal : State → Identifier → List Given → Option Write
 modify_refusal s guid values =
     let held = updates_of s.store.rows in
     let nodes = nodes_held held in
-    first_refusal (
+    first_of (
     where_true (is_quarantined s.mode) Quarantined
     ∷ fixed_refusal guid
     ∷ object_refusal held nodes guid
     ∷ option_map of_schema (schema_modify_refusal (numbered s.store.schema) (class_of nodes guid) values)
-    ∷ first_refusal (map (λ (g : Given). version_refusal s.store.rows (RowOf (object_of nodes guid) g.0) g.0) values)
+    ∷ first_of (map (λ (g : Given). version_refusal s.store.rows (RowOf (object_of nodes guid) g.0) g.0) values)
     ∷ usn_refusal (s.store.usn + 1)
     ∷ []
     )
@@ -184,7 +179,7 @@ abbrev pub rename_refusal : State → Identifier → Identifier → List ℕ →
 rename_refusal s guid parent text =
     let held = updates_of s.store.rows in
     let nodes = nodes_held held in
-    first_refusal (
+    first_of (
     where_true (is_quarantined s.mode) Quarantined
     ∷ fixed_refusal guid
     ∷ object_refusal held nodes guid
@@ -202,7 +197,7 @@ abbrev pub delete_refusal : State → Identifier → Option WriteRefusal
 delete_refusal s guid =
     let held = updates_of s.store.rows in
     let nodes = nodes_held held in
-    first_refusal (
+    first_of (
     where_true (is_quarantined s.mode) Quarantined
     ∷ fixed_refusal guid
     ∷ object_refusal held nodes guid
@@ -235,7 +230,7 @@ abbrev pub any_link_refusal : State → Identifier → ℕ → Identifier → (B
 any_link_refusal s from attr to wrong =
     let held = updates_of s.store.rows in
     let nodes = nodes_held held in
-    first_refusal (
+    first_of (
     where_true (is_quarantined s.mode) Quarantined
     ∷ fixed_refusal from
     ∷ fixed_refusal to
@@ -256,7 +251,7 @@ more_links s from attr to =
 
 abbrev pub link_refusal : State → Identifier → ℕ → Identifier → Option WriteRefusal
 link_refusal s from attr to =
-    first_refusal (
+    first_of (
     any_link_refusal s from attr to (λ linked. where_true linked LinkThere)
     ∷ full_refusal Links link_limit (links_in s.store.rows + more_links s from attr to)
     ∷ []
@@ -336,10 +331,6 @@ rows_written s (RemoveLink from attr to) now = of_link s now (link_of (nodes_hel
 -- the change of a write: one item under the next USN
 abbrev pub own_change : State → Item → Change
 own_change s item = only_writes (s.store.usn + 1) (record { local = s.store.usn + 1; item = item } ∷ [])
-
-abbrev pub unless : {A : Type 0} → Option WriteRefusal → A → Result A WriteRefusal
-unless (Some refusal) change = Err refusal
-unless None change = Ok change
 
 -- a client writes: the first refusal, or the change
 abbrev pub write : State → Write → ℕ → Result Change WriteRefusal

@@ -5,8 +5,9 @@ use Rattle.std.specs.List.{list_any, find}
 use Rattle.std.specs.Str.{bytes_eq}
 use Rattle.adr_model.specs.Update.{same_identifier}
 use Rattle.adr_model.specs.Store.{State}
+use Rattle.adr_model.specs.Change.{Change}
 use Rattle.adr_world.specs.declared.people.Person.{Person}
-use Rattle.adr_world.specs.People.{person_rows, with_person, issued_from, has_guid, named_alike, is_proper, clashes, are_proper}
+use Rattle.adr_world.specs.People.{person_rows, person_change, changes_onto, with_person, issued_from, has_guid, named_alike, is_proper, clashes, are_proper}
 
 pub usn_after : (ps : List Person) (s : State) → (fold with_person s ps).store.usn ≡ s.store.usn + length ps
 usn_after [] s = omega arith
@@ -27,6 +28,11 @@ state_after_more (q ∷ ps) p s = state_after_more ps p (with_person s q)
 pub issued_after_more : (ps : List Person) (p : Person) (s : State) → issued_from s (ps ++ p ∷ []) ≡ issued_from s ps ++ person_rows (fold with_person s ps) p
 issued_after_more [] p s = refl
 issued_after_more (q ∷ ps) p s = ap (λ us. person_rows s q ++ us) (issued_after_more ps p (with_person s q))
+
+-- the newest change is that of the last person
+pub changes_after_more : (ps : List Person) (p : Person) (cs : List Change) (s : State) → changes_onto cs s (ps ++ p ∷ []) ≡ person_change (fold with_person s ps) p ∷ changes_onto cs s ps
+changes_after_more [] p cs s = refl
+changes_after_more (q ∷ ps) p cs s = changes_after_more ps p (person_change s q ∷ cs) (with_person s q)
 
 -- one that clashes with none of those before
 none_clashes : (q p : Person) (ps : List Person) → list_any (clashes q) ps ≡ false → clashes q p ≡ false → list_any (clashes q) (ps ++ p ∷ []) ≡ false

@@ -25,7 +25,8 @@ use Rattle.adr_model.specs.Live.{objects_of}
 use Rattle.adr_model.specs.Shown.{name_holder}
 use Rattle.adr_model.specs.Store.{Normal, State, updates_of, empty_state}
 use Rattle.adr_model.specs.Serve.{is_quarantined}
-use Rattle.adr_model.specs.Write.{object_limit, usn_limit, first_refusal, where_true, of_schema, holds_guid, nodes_held, parent_refusal, superior_refusal, usn_refusal, full_refusal, cursor_refusal, add_refusal}
+use Rattle.adr_model.specs.Refusing.{first_of}
+use Rattle.adr_model.specs.Write.{object_limit, usn_limit, where_true, of_schema, holds_guid, nodes_held, parent_refusal, superior_refusal, usn_refusal, full_refusal, cursor_refusal, add_refusal}
 use Rattle.adr_world.specs.declared.people.Person.{Person}
 use Rattle.adr_world.specs.People.{with_person, state_of, has_guid, name_kept, people_refusal, are_proper}
 use Rattle.adr_world.proofs.Adding.{usn_after}
@@ -86,7 +87,7 @@ far_from n le = grind (arith, nat_tests)
 one_more : (n : ℕ) → nat_lt object_limit (n + 1) ≡ nat_le object_limit n
 one_more n = grind (arith, nat_tests)
 
-three_left : (a b c : Option WriteRefusal) → first_refusal (None ∷ a ∷ None ∷ None ∷ None ∷ None ∷ b ∷ None ∷ c ∷ None ∷ []) ≡ first_refusal (a ∷ b ∷ c ∷ [])
+three_left : (a b c : Option WriteRefusal) → first_of (None ∷ a ∷ None ∷ None ∷ None ∷ None ∷ b ∷ None ∷ c ∷ None ∷ []) ≡ first_of (a ∷ b ∷ c ∷ [])
 three_left None None None = refl
 three_left None None (Some z) = refl
 three_left None (Some y) c = refl
@@ -130,7 +131,7 @@ module _ (dsa inv : Identifier) (people : List Person) (proper : are_proper peop
       let usn : usn_refusal (s.store.usn + 1) ≡ None = ap (λ n. usn_refusal (n + 1)) usn_is ∙ ap (λ (b : Bool). where_true b UsnLimit) (far_from (length people) few) in
       let full : full_refusal Objects object_limit (length (objects_of held) + 1) ≡ where_true (nat_le object_limit (length people)) (Full Objects object_limit) =
       ap (λ n. full_refusal Objects object_limit (n + 1)) count ∙ ap (λ (b : Bool). where_true b (Full Objects object_limit)) (one_more (length people)) in
-      (λ i. first_refusal (
+      (λ i. first_of (
       where_true (normal i) Quarantined
       ∷ where_true (is_fixed guid || there i) (GuidThere guid)
       ∷ allowed i

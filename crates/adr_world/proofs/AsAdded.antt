@@ -14,7 +14,8 @@ use Rattle.adr_model.specs.Place.{root, lost_and_found, is_fixed}
 use Rattle.adr_model.specs.Shown.{alike}
 use Rattle.adr_model.specs.Store.{Held, State, updates_of, with_row}
 use Rattle.adr_model.specs.Write.{new_object, first_stamp}
-use Rattle.adr_model.proofs.Members.{Member, each_fails}
+use Rattle.adr_model.specs.Member.{Member}
+use Rattle.adr_model.proofs.Members.{each_fails}
 use Rattle.adr_model.proofs.Keys.{with_update, updates_with_row}
 use Rattle.adr_model.proofs.Added.{Added, guid_of, rows_of, entry_of_added, Distinct, apart_from_distinct}
 use Rattle.adr_model.proofs.AddedRows.{put_rows}

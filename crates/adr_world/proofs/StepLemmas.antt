@@ -3,6 +3,9 @@ use Rattle.std.proofs.Common.{◌≡◌, ℕ, ◌+◌, ◌≤◌, ◌<◌, List,
 use Rattle.std.specs.Prelude.{codes, nat_le, ◌&&◌, ◌||◌, if◌then◌else◌}
 use Rattle.std.specs.Option.{option_map}
 use Rattle.std.specs.Str.{bytes_eq}
+use Rattle.std.specs.BTreeMap.{insert_entry}
+use Rattle.std.proofs.lemmas.Cmp.{tied_itself, nat_list_cmp_total}
+use Rattle.adr_stamp.specs.Order.{identifier_order}
 use Rattle.std.proofs.lemmas.Bool.{or_parts}
 use Rattle.std.proofs.lemmas.Bool.Decides.{nat_tests}
 use Rattle.std.proofs.lemmas.Slice.Eq.{bytes_eq-Decides}
@@ -17,26 +20,39 @@ use Rattle.adr_event.specs.declared.directory.Entry.{Entry}
 use Rattle.adr_event.specs.declared.refusal.WriteRefusal.{WriteRefusal}
 use Rattle.adr_event.specs.declared.refusal.WriteRefusal.TheVariants.{GuidThere, NameTaken, Full}
 use Rattle.adr_event.specs.declared.refusal.Table.TheVariants.{Objects}
-use Rattle.adr_model.specs.Update.{Identifier}
+use Rattle.adr_model.specs.Update.{Identifier, Update}
 use Rattle.adr_model.specs.Place.{root, lost_and_found, is_fixed}
 use Rattle.adr_model.specs.Directory.{directory}
 use Rattle.adr_model.specs.Store.{State, updates_of, empty_state}
 use Rattle.adr_model.specs.Change.{Change, after}
-use Rattle.adr_model.specs.Write.{AddObject, object_limit, first_refusal, where_true, unless, new_rows, new_object, first_stamp, of_object, own_change, write}
+use Rattle.adr_model.specs.Refusing.{first_of, unless}
+use Rattle.adr_model.specs.History.{History, no_history}
+use Rattle.adr_model.specs.Replica.{Replica, Scene, Standing, Up, Pending, ToWrite, Went, Passed, on_new_disk, history_of, with_change}
+use Rattle.adr_model.specs.Write.{AddObject, object_limit, where_true, new_rows, new_object, first_stamp, of_object, own_change, write}
 use Rattle.adr_model.specs.Refused.{write_refused}
-use Rattle.adr_model.specs.World.{World, Replica, answer, after_write, at_replica, with_replica, shown, step}
+use Rattle.adr_model.specs.World.{World, Gone, answer, after_write, of_made, stays, where_up, told, with_replica, shown, step}
 use Rattle.adr_world.specs.declared.people.Person.{Person}
-use Rattle.adr_world.specs.People.{person_change, state_of, issued_by, shown_people, has_guid, named_alike, name_kept, people_refusal, lost_name, is_proper, are_proper}
+use Rattle.adr_world.specs.People.{person_change, changes_onto, state_of, issued_by, history_by, shown_people, has_guid, named_alike, name_kept, people_refusal, lost_name, is_proper, are_proper}
 use Rattle.adr_schema.specs.Names.{name_fault}
 use Rattle.adr_world.proofs.Allowed.{refusal_is}
-use Rattle.adr_world.proofs.Adding.{usn_after, issued_after_more, state_after_more, still_proper}
+use Rattle.adr_world.proofs.Adding.{usn_after, inv_after, issued_after_more, state_after_more, changes_after_more, still_proper}
 use Rattle.adr_world.proofs.Shown.{people_shown}
 use Rattle.adr_world.proofs.Visible.{all_is_visible}
 
 -- the world of one controller
 abbrev pub world_with : ℕ → List ℕ → Identifier → Identifier → List Person → World
 world_with time name dsa inv people =
-    record { time = time; issued = issued_by dsa inv people; replicas = record { name = name; state = state_of dsa inv people } ∷ [] }
+    record {
+      time = time;
+      clean = true;
+      scene = record { issued = issued_by dsa inv people; histories = (inv, history_by dsa inv people) ∷ [] };
+      replicas = on_new_disk name (state_of dsa inv people) ∷ [];
+      requests = [];
+      replies = [];
+      images = [];
+      snapshots = [];
+      given = record { dsas = dsa ∷ []; invs = inv ∷ [] };
+    }
 
 -- a name is its own
 own_name : (name : List ℕ) → bytes_eq name name ≡ true
@@ -60,13 +76,13 @@ added_change s guid time text values = own_change s (of_object (new_object s gui
 on_add : (time : ℕ) (name dsa inv : List ℕ) (people : List Person) (guid text value : List ℕ) (o : Option WriteRefusal)
     → AreSound people → IsAllowedUser text value → people_refusal people guid (folded text) ≡ o
     → step (world_with time name dsa inv people) (Add name guid 5 root text (account value))
-    ≡ after_write (world_with time name dsa inv people) (record { name = name; state = state_of dsa inv people }) (codes "add")
-    (unless o (added_change (state_of dsa inv people) guid time text (account value)))
+    ≡ told (codes "add") name (after_write (world_with time name dsa inv people) (on_new_disk name (state_of dsa inv people)) (AddObject guid 5 root text (account value))
+    (unless o (added_change (state_of dsa inv people) guid time text (account value))))
 on_add time name dsa inv people guid text value o sound allowed is =
     let w : World = world_with time name dsa inv people in
-    let r : Replica = record { name = name; state = state_of dsa inv people } in
-    ap (λ (b : Bool). at_replica w (cond b (Some r) None) (λ (q : Replica). after_write w q (codes "add") (write q.state (AddObject guid 5 root text (account value)) time))) (own_name name)
-    ∙ ap (λ (o : Option WriteRefusal). after_write w r (codes "add") (unless o (added_change (state_of dsa inv people) guid time text (account value))))
+    let r : Replica = on_new_disk name (state_of dsa inv people) in
+    ap (λ (b : Bool). told (codes "add") name (of_made (stays w) (cond b (Some r) None) (λ (q : Replica). where_up (stays w) q.standing (after_write w q (AddObject guid 5 root text (account value)) (write q.safe (AddObject guid 5 root text (account value)) time))))) (own_name name)
+    ∙ ap (λ (o : Option WriteRefusal). told (codes "add") name (after_write w r (AddObject guid 5 root text (account value)) (unless o (added_change (state_of dsa inv people) guid time text (account value)))))
     (refusal_is dsa inv people sound.proper sound.few guid text value allowed.named allowed.least allowed.most ∙ is)
 
 pub refused_add : (time : ℕ) (name dsa inv : List ℕ) (people : List Person) (guid text value : List ℕ) (r : WriteRefusal)
@@ -74,7 +90,15 @@ pub refused_add : (time : ℕ) (name dsa inv : List ℕ) (people : List Person) 
     → step (world_with time name dsa inv people) (Add name guid 5 root text (account value)) ≡ (world_with time name dsa inv people, answer (codes "add") name (write_refused r))
 refused_add time name dsa inv people guid text value r sound allowed is = on_add time name dsa inv people guid text value (Some r) sound allowed is
 
--- one more person: what is issued, and the controller
+-- a change comes into the one log that there is
+abbrev one_log : List Update → Identifier → History → Scene
+one_log issued inv h = record { issued = issued; histories = (inv, h) ∷ [] }
+
+logged : (issued : List Update) (inv : Identifier) (h : History) (c : Change)
+    → insert_entry identifier_order ((inv, h) ∷ []) inv (with_change (history_of (one_log issued inv h) inv) c) ≡ (inv, with_change h c) ∷ []
+logged issued inv h c = rw (tied_itself nat_list_cmp_total inv) refl
+
+-- one more person: what is issued, the log and the controller
 pub made_add : (time : ℕ) (name dsa inv : List ℕ) (people : List Person) (guid text folding value : List ℕ)
     → AreSound people → IsAllowedUser text value → people_refusal people guid (folded text) ≡ None
     → step (world_with time name dsa inv people) (Add name guid 5 root text (account value))
@@ -84,14 +108,25 @@ made_add time name dsa inv people guid text folding value sound allowed is =
     let s : State = state_of dsa inv people in
     let t : State = after s (person_change s p) in
     let counted : s.store.usn ≡ length people = usn_after people (empty_state dsa inv) ∙ zero-add (length people) in
-    let renamed : with_replica (record { name = name; state = s } ∷ []) (record { name = name; state = t }) ≡ record { name = name; state = t } ∷ [] =
-    ap (λ (b : Bool). (let q : Replica = cond b (record { name = name; state = t }) (record { name = name; state = s }) in q) ∷ []) (own_name name) in
+    let renamed : with_replica (on_new_disk name s ∷ []) (on_new_disk name t) ≡ on_new_disk name t ∷ [] =
+    ap (λ (b : Bool). (let q : Replica = cond b (on_new_disk name t) (on_new_disk name s) in q) ∷ []) (own_name name) in
+    let h : History = history_by dsa inv people in
+    let log : insert_entry identifier_order ((inv, h) ∷ []) s.inv (with_change (history_of (one_log (issued_by dsa inv people) inv h) s.inv) (person_change s p)) ≡ (inv, history_by dsa inv (people ++ p ∷ [])) ∷ [] =
+    ap (λ (i : Identifier). insert_entry identifier_order ((inv, h) ∷ []) i (with_change (history_of (one_log (issued_by dsa inv people) inv h) i) (person_change s p))) (inv_after people (empty_state dsa inv))
+    ∙ (logged (issued_by dsa inv people) inv h (person_change s p)
+    ∙ ap (λ (cs : List Change). (let g : History = record { start_usn = 0; start_rows = []; changes = cs } in (inv, g)) ∷ []) (sym (changes_after_more people p [] (empty_state dsa inv)))) in
     on_add time name dsa inv people guid text value None sound allowed is
     ∙ λ i. (
       record {
         time = time;
-        issued = sym (issued_after_more people p (empty_state dsa inv)) i;
-        replicas = (renamed ∙ ap (λ (t : State). (let q : Replica = record { name = name; state = t } in q) ∷ []) (sym (state_after_more people p (empty_state dsa inv)))) i;
+        clean = true;
+        scene = record { issued = sym (issued_after_more people p (empty_state dsa inv)) i; histories = log i };
+        replicas = (renamed ∙ ap (λ (u : State). on_new_disk name u ∷ []) (sym (state_after_more people p (empty_state dsa inv)))) i;
+        requests = [];
+        replies = [];
+        images = [];
+        snapshots = [];
+        given = record { dsas = dsa ∷ []; invs = inv ∷ [] };
       },
       answer (codes "add") name (Usn (ap (λ (n : ℕ). n + 1) counted i)),
     )
@@ -102,8 +137,8 @@ pub told_show : (time : ℕ) (name dsa inv : List ℕ) (people : List Person)
     ≡ (world_with time name dsa inv people, answer (codes "show") name (Shown (map (λ (e : List ℕ × Entry). e.1) (shown_people people))))
 told_show time name dsa inv people proper =
     let w : World = world_with time name dsa inv people in
-    let r : Replica = record { name = name; state = state_of dsa inv people } in
-    ap (λ (b : Bool). at_replica w (cond b (Some r) None) (λ (q : Replica). (w, answer (codes "show") q.name (Shown (shown w q.state))))) (own_name name)
+    let r : Replica = on_new_disk name (state_of dsa inv people) in
+    ap (λ (b : Bool). told (codes "show") name (of_made (stays w) (cond b (Some r) None) (λ (q : Replica). where_up (stays w) q.standing (let g : Gone = (w, Shown (shown w q.safe)) in g)))) (own_name name)
     ∙ ap (λ (es : List Entry). (w, answer (codes "show") name (Shown es))) (ap directory (all_is_visible people (empty_state dsa inv) (updates_of (state_of dsa inv people).store.rows) refl) ∙ people_shown dsa inv people proper)
 
 pub show_step : (time : ℕ) (name dsa inv : List ℕ) (people items : List Person) (entries : List Entry) (made : Answer)
@@ -141,7 +176,7 @@ make_step time name name' dsa dsa' inv inv' people people' guid text folding val
     ∙ λ i. (same_world time name name' dsa dsa' inv inv' (people ++ record { guid = guid; time = time; text = text; folded = folding; account = p.account } ∷ []) people' n d v (grown ∙ ap (λ (q : Person). people ++ q ∷ []) person) i, sym said i))
 
 -- nothing refuses: the parts
-unrefused : (a b : Bool) (x z : WriteRefusal) (held : Option Identifier) → None ≡ first_refusal (where_true a x ∷ option_map NameTaken held ∷ where_true b z ∷ []) → (a ≡ false) × ((held ≡ None) × (b ≡ false))
+unrefused : (a b : Bool) (x z : WriteRefusal) (held : Option Identifier) → None ≡ first_of (where_true a x ∷ option_map NameTaken held ∷ where_true b z ∷ []) → (a ≡ false) × ((held ≡ None) × (b ≡ false))
 unrefused true b x z held h = absurd (cc)
 unrefused false b x z (Some g) h = absurd (cc)
 unrefused false true x z None h = absurd (cc)

@@ -17,7 +17,9 @@ use Rattle.adr_event.specs.declared.refusal.Table.TheVariants.{Objects}
 use Rattle.adr_event.specs.declared.refusal.WriteRefusal.{WriteRefusal}
 use Rattle.adr_event.specs.declared.refusal.WriteRefusal.TheVariants.{GuidThere, NameTaken, Full}
 use Rattle.adr_model.specs.Change.{Change, after}
-use Rattle.adr_model.specs.Write.{object_limit, first_refusal, where_true, new_rows, new_object, first_stamp, of_object, own_change}
+use Rattle.adr_model.specs.History.{History}
+use Rattle.adr_model.specs.Refusing.{first_of}
+use Rattle.adr_model.specs.Write.{object_limit, where_true, new_rows, new_object, first_stamp, of_object, own_change}
 use Rattle.adr_world.specs.declared.people.Person.{Person}
 
 -- the rows that a person was added with
@@ -33,6 +35,14 @@ with_person s p = after s (person_change s p)
 -- the controller after these people were added
 abbrev pub state_of : Identifier → Identifier → List Person → State
 state_of dsa inv people = fold with_person (empty_state dsa inv) people
+
+-- the changes that they made, the newest first
+abbrev pub changes_onto : List Change → State → List Person → List Change
+changes_onto cs s [] = cs
+changes_onto cs s (p ∷ ps) = changes_onto (person_change s p ∷ cs) (with_person s p) ps
+
+abbrev pub history_by : Identifier → Identifier → List Person → History
+history_by dsa inv people = record { start_usn = 0; start_rows = []; changes = changes_onto [] (empty_state dsa inv) people }
 
 -- what adding them issued
 abbrev pub issued_from : State → List Person → List Update
@@ -69,7 +79,7 @@ name_kept people name = if bytes_eq name lost_name then Some lost_and_found else
 -- why one more person of a GUID and a folded name is refused, first in order
 abbrev pub people_refusal : List Person → Identifier → List ℕ → Option WriteRefusal
 people_refusal people guid name =
-    first_refusal (
+    first_of (
     where_true (is_fixed guid || has_guid people guid) (GuidThere guid)
     ∷ option_map NameTaken (name_kept people name)
     ∷ where_true (nat_le object_limit (length people)) (Full Objects object_limit)

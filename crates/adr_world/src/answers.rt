@@ -82,7 +82,7 @@ fn attr_and_place(alloc: Global, attr: u16, place: u32) -> Result<Fields, NoMemo
     ensures { IfOk result (λ fields. fields ≡ attr_field attr ∷ field (codes "place") (Plainly.Number place) ∷ []) }
 {
     let mut fields = Vec::new(alloc);
-    fields.push(field(alloc, "attr", Plainly::Number(attr as u64))?)?;
+    fields.push(field(alloc, "attr", Plainly::Attr(attr))?)?;
     fields.push(field(alloc, "place", Plainly::Number(place as u64))?)?;
     Ok(Fields::of(fields))
 }
@@ -116,7 +116,7 @@ fn with_field(
 fn of_attr(alloc: Global, number: u8, label: &str, attr: u16) -> Result<Outcome, NoMemory>
     ensures { IfOk result (λ outcome. outcome ≡ Outcome.Refused number label.now (attr_field attr ∷ [])) }
 {
-    with_field(alloc, number, label, "attr", Plainly::Number(attr as u64))
+    with_field(alloc, number, label, "attr", Plainly::Attr(attr))
 }
 
 fn of_id(alloc: Global, number: u8, label: &str, name: &str, id: Uuid) -> Result<Outcome, NoMemory>

@@ -260,6 +260,7 @@ impl World {
                 values,
             } => self.add(alloc, name, *guid, text, values),
             Event::Show { name } => self.show(alloc, name),
+            _ => unreachable!(),
         }
     }
 

@@ -1,0 +1,160 @@
+-- A controller with its disk: what a start would find, what a crash that loses the unsynced would leave, and the moves between the two.
+use Rattle.std.specs.Prelude.{ℕ, ◌-◌, List, [], ◌∷◌, ◌++◌, nat_le, ◌==◌, Option, Some, None, unwrap_or, Result, Ok, Err, if◌then◌else◌}
+use Rattle.std.specs.Map.{lookup}
+use Rattle.std.specs.BTreeMap.{is_at, insert_entry}
+use Rattle.adr_stamp.specs.Order.{identifier_order}
+use Rattle.adr_disk.specs.declared.memory.Crash.{Crash}
+use Rattle.adr_disk.specs.declared.memory.Crash.TheVariants.{Kept as KeptAll, Lost, Torn}
+use Rattle.adr_event.specs.declared.answer.Outcome.{Outcome}
+use Rattle.adr_event.specs.declared.answer.Outcome.TheVariants as outcomes
+use Rattle.adr_model.specs.Update.{Identifier, Update}
+use Rattle.adr_model.specs.Store.{State}
+use Rattle.adr_model.specs.Change.{Change, after, updates_written}
+use Rattle.adr_model.specs.History.{History, no_history}
+use Rattle.adr_model.specs.Serve.{Reply}
+use Rattle.adr_model.specs.Write.{Write, write}
+use Rattle.adr_model.specs.Take.{take}
+use Rattle.adr_model.specs.Collect.{collect, quarantine}
+
+-- a call that changes a controller, with its arguments
+pub data Call : Type 0 where
+  ToWrite : (what : Write) (now : ℕ) → Call
+  ToTake : (reply : Reply) → Call
+  ToCollect : (now lifetime : ℕ) → Call
+  ToQuarantine : Call
+
+abbrev pub change_in : {E : Type 0} → Result Change E → Option Change
+change_in (Ok c) = Some c
+change_in (Err e) = None
+
+-- the change that a call makes, where it isn't refused
+abbrev pub change_of : State → Call → Option Change
+change_of s (ToWrite w now) = change_in (write s w now)
+change_of s (ToTake reply) = change_in (take s reply)
+change_of s (ToCollect now lifetime) = change_in (collect s now lifetime)
+change_of s ToQuarantine = Some (quarantine s)
+
+-- what a change issues: the updates of a client's write
+abbrev pub issued_by : Call → Change → List Update
+issued_by (ToWrite w now) c = updates_written c
+issued_by (ToTake reply) c = []
+issued_by (ToCollect now lifetime) c = []
+issued_by ToQuarantine c = []
+
+-- a call with its change, which is on the disk and isn't synced
+pub record Pending : Type 0 where
+  pub call : Call
+  pub change : Change
+
+pub data Standing : Type 0 where
+  Up : Standing
+  Down : Standing
+  Failed : Standing
+
+pub data Fault : Type 0 where
+  Stops : (how : Crash) → Fault
+  Fails : Fault
+
+-- the device call behind so many further ones meets a fault
+pub record Plan : Type 0 where
+  pub calls : ℕ
+  pub fault : Fault
+
+-- a controller by its name; where it is up, both states are one and no call is kept
+pub record Replica : Type 0 where
+  pub name : List ℕ
+  pub read : State  -- what a start would find
+  pub safe : State  -- what a crash would leave that loses the unsynced
+  pub kept : Option Pending
+  pub standing : Standing
+  pub plan : Option Plan
+
+-- a controller on a new disk
+abbrev pub on_new_disk : List ℕ → State → Replica
+on_new_disk name s = record { name = name; read = s; safe = s; kept = None; standing = Up; plan = None }
+
+-- what all controllers are compared with: what clients wrote, in the order in which it became safe, and the log of each incarnation
+pub record Scene : Type 0 where
+  pub issued : List Update
+  pub histories : List (Identifier × History)
+
+abbrev pub history_of : Scene → Identifier → History
+history_of sc inv = unwrap_or (lookup (is_at (identifier_order inv)) sc.histories) no_history
+
+-- an incarnation begins with what its state has
+abbrev pub begun : Scene → State → Scene
+begun sc s =
+    record {
+      issued = sc.issued;
+      histories = insert_entry identifier_order sc.histories s.inv (record { start_usn = s.store.usn; start_rows = s.store.rows; changes = [] });
+    }
+
+abbrev pub with_change : History → Change → History
+with_change h c = record { start_usn = h.start_usn; start_rows = h.start_rows; changes = c ∷ h.changes }
+
+-- a change of an incarnation becomes safe
+abbrev pub recorded : Scene → Identifier → Pending → Scene
+recorded sc inv p =
+    record {
+      issued = sc.issued ++ issued_by p.call p.change;
+      histories = insert_entry identifier_order sc.histories inv (with_change (history_of sc inv) p.change);
+    }
+
+-- ---- moves
+
+pub data Move : Type 0 where
+  Begin : (pending : Pending) → Move
+  Settle : Move
+  Forget : Move
+
+abbrev settled : Option Pending → Scene → Identifier → Scene
+settled None sc inv = sc
+settled (Some p) sc inv = recorded sc inv p
+
+-- a change begins: a start would find it. It settles: it is safe. Or it is forgotten
+abbrev pub moved : Scene × Replica → Move → Scene × Replica
+moved t (Begin p) = (t.0, record t.1 { read = after t.1.safe p.change; kept = Some p })
+moved t Settle = (settled t.1.kept t.0 t.1.safe.inv, record t.1 { safe = t.1.read; kept = None })
+moved t Forget = (t.0, record t.1 { read = t.1.safe; kept = None })
+
+-- ---- device calls
+
+-- how device calls go: all pass, and a plan may wait on, or the one at a place meets a fault
+pub data Went : Type 0 where
+  Passed : (left : Option Plan) → Went
+  Met : (place : ℕ) (fault : Fault) → Went
+
+abbrev pub went : Option Plan → ℕ → Went
+went None calls = Passed None
+went (Some p) calls = if nat_le calls p.calls then Passed (Some (record { calls = p.calls - calls; fault = p.fault })) else Met p.calls p.fault
+
+-- the calls of a commit: the body, a sync, the gate, a sync. The gate is found by a start; the last sync makes it safe
+abbrev pub moves_of_commit : Pending → Went → List Move
+moves_of_commit p (Passed left) = Begin p ∷ Settle ∷ []
+moves_of_commit p (Met place Fails) = if place == 3 then Begin p ∷ [] else []
+moves_of_commit p (Met place (Stops Lost)) = if place == 3 then Begin p ∷ Forget ∷ [] else []
+moves_of_commit p (Met place (Stops KeptAll)) = if nat_le 2 place then Begin p ∷ Settle ∷ [] else []
+moves_of_commit p (Met place (Stops Torn)) = if nat_le 2 place then Begin p ∷ Settle ∷ [] else []
+
+-- a start is one sync
+abbrev pub moves_of_start : Went → List Move
+moves_of_start (Passed left) = Settle ∷ []
+moves_of_start (Met place Fails) = []
+moves_of_start (Met place (Stops Lost)) = Forget ∷ []
+moves_of_start (Met place (Stops KeptAll)) = Settle ∷ []
+moves_of_start (Met place (Stops Torn)) = Settle ∷ []
+
+-- a fault of a start leaves the controller as it stood
+abbrev pub standing_after : Standing → Went → Standing
+standing_after faulty (Passed left) = Up
+standing_after faulty (Met place (Stops how)) = Down
+standing_after faulty (Met place Fails) = faulty
+
+abbrev pub plan_after : Went → Option Plan
+plan_after (Passed left) = left
+plan_after (Met place fault) = None
+
+abbrev pub outcome_after : Went → Outcome → Outcome
+outcome_after (Passed left) outcome = outcome
+outcome_after (Met place (Stops how)) outcome = outcomes.Stopped
+outcome_after (Met place Fails) outcome = outcomes.Disk

@@ -1,0 +1,162 @@
+-- The sound world: what holds in every run in which no database was put back without a fresh identifier.
+use Rattle.std.specs.Prelude.{◌≡◌, ◌≢◌, ◌⊎◌, ◌≤◌, ℕ, List, true, Some, None, IsSome, IfSome}
+use Rattle.adr_schema.specs.Table.{Table, class_at}
+use Rattle.adr_schema.specs.Numbered.{numbered}
+use Rattle.adr_schema.specs.declared.content.Content.TheVariants.{Class}
+use Rattle.adr_stamp.specs.declared.Oid.{Oid}
+use Rattle.adr_vector.specs.Vector.{Cursors, at}
+use Rattle.adr_vector.specs.declared.mark.Mark.{Mark}
+use Rattle.adr_model.specs.Member.{Member, Each}
+use Rattle.adr_model.specs.Update.{Identifier, Update, RowOf, Holds, ends, inv_of, usn_of, unit_of, class_attr}
+use Rattle.adr_model.specs.Place.{identifier}
+use Rattle.adr_model.specs.Reflects.{Numbers, Covers, Knowledge, knowledge_of, Reflects}
+use Rattle.adr_model.specs.Store.{Held, Kept, Normal, Store, State, updates_of}
+use Rattle.adr_model.specs.Change.{Item, after}
+use Rattle.adr_model.specs.History.{History, no_history, last_usn, rows_at, IsCut, IsKept, IsOrdered, IsBelow, WatermarkHolds}
+use Rattle.adr_model.specs.Serve.{Request, Reply}
+use Rattle.adr_model.specs.Take.{is_birth}
+use Rattle.adr_model.specs.Formed.{AreFormedRows, IsFormedStore, IsFormed, IsClosed}
+use Rattle.adr_model.specs.Replica.{Call, ToWrite, ToTake, ToCollect, ToQuarantine, change_of, Pending, Up, Replica, Scene, history_of}
+use Rattle.adr_model.specs.World.{World, Name}
+
+-- the last USN of an incarnation, 0 for an identifier that wasn't used
+abbrev pub last_of : Scene → Identifier → ℕ
+last_of sc inv = last_usn (history_of sc inv)
+
+abbrev pub IsBounded : Scene → Numbers → Type 0
+IsBounded sc V = (i : Identifier) → V i ≤ last_of sc i
+
+abbrev pub IsBirthOf : Oid → Update → Type 0
+IsBirthOf o u = (u.key ≡ RowOf o class_attr) × (is_birth o u ≡ true)
+
+-- what was issued and the logs: that an identifier's USNs were used once, and each object that is named was born
+pub record IsSoundScene (sc : Scene) : Type 0 where
+  pub one_content : Each (λ u. Each (λ v. u.key ≡ v.key → inv_of u ≡ inv_of v → usn_of u ≡ usn_of v → u ≡ v) sc.issued) sc.issued
+  pub once : Each (λ u. (1 ≤ usn_of u) × (usn_of u ≤ last_of sc (inv_of u))) sc.issued
+  pub born : Each (λ u. Each (λ o. (b : Update) × Member b sc.issued × IsBirthOf o b) (ends u.key)) sc.issued
+  pub births : Each (λ u. (o : Oid) → u.key ≡ RowOf o class_attr → is_birth o u ≡ true) sc.issued
+  pub kept : (i : Identifier) → IsKept (history_of sc i)
+  pub logged : (i : Identifier) (usn : ℕ) → Each (λ h. Member h.update sc.issued) (rows_at (history_of sc i) usn)
+
+-- a mark of an incarnation tells the truth, of a moment between two changes
+pub record IsSoundMark (sc : Scene) (k : Knowledge) (inv : Identifier) (m : Mark) : Type 0 where
+  pub ordered : IsOrdered m
+  pub seen : m.seen ≤ last_of sc inv
+  pub cut : IsCut (history_of sc inv) m.seen
+  pub watermark : WatermarkHolds sc.issued k (history_of sc inv) m
+
+abbrev pub AreClassesKnown : Table → List Update → Type 0
+AreClassesKnown table rows = Each (λ u. (class : ℕ) → u.said ≡ Holds (Class class) → IsSome (class_at table class)) rows
+
+-- a store has taken each issued update that its vector covers
+pub record IsSoundStore (sc : Scene) (s : Store) : Type 0 where
+  pub known : Each (λ u. Member u sc.issued) (updates_of s.rows)
+  pub bounded : IsBounded sc (at s.vector)
+  pub covered : Each (λ u. Covers (at s.vector) u → Reflects sc.issued (knowledge_of s) u) sc.issued
+  pub formed : IsFormedStore s
+  pub closed : IsClosed s
+  pub classes : AreClassesKnown (numbered s.schema) (updates_of s.rows)
+  pub marks : Each (λ (k : Identifier × Kept). IsSoundMark sc (knowledge_of s) k.1.inv k.1.mark) s.marks
+
+-- a controller's state is what its log says
+pub record IsSoundState (sc : Scene) (s : State) : Type 0 where
+  pub store : IsSoundStore sc s.store
+  pub formed : IsFormed s
+  pub last : s.store.usn ≡ last_of sc s.inv
+  pub rows : s.store.rows ≡ rows_at (history_of sc s.inv) s.store.usn
+
+pub record IsSoundRequest (sc : Scene) (q : Request) : Type 0 where
+  pub bounded : IsBounded sc (at q.vector)
+  pub ordered : IsOrdered q.mark
+  pub seen : q.mark.seen ≤ last_of sc q.inv
+
+abbrev pub IsSent : Reply → Update → Type 0
+IsSent r u = (i : Item) × Member i r.items × Member u i.rows
+
+-- what a reply leaves out below its end is covered by the request, or lies below its beginning
+abbrev pub CoversItsGround : Reply → History → Type 0
+CoversItsGround r h =
+    Each (λ x. IsBelow (rows_at h r.to.seen) r.to x → Covers (at r.asked) x.update ⊎ (IsSent r x.update ⊎ IsBelow (rows_at h r.to.seen) r.from x)) (rows_at h r.to.seen)
+
+-- with its rows, the carried vector and the request's vector as purged, the source had taken all that the carried vector covers
+abbrev pub CarriesAll : List Update → Reply → History → Cursors → Type 0
+CarriesAll issued r h carried =
+    Each (λ u. Covers (at carried) u → Reflects issued (record { rows = updates_of (rows_at h r.to.seen); vector = at carried; purged = at r.asked }) u) issued
+
+pub record IsSoundLast (sc : Scene) (r : Reply) (carried : Cursors) : Type 0 where
+  pub obj : r.to.obj ≡ r.to.seen
+  pub prop : r.to.prop ≡ r.to.seen
+  pub bounded : IsBounded sc (at carried)
+  pub carries : CarriesAll sc.issued r (history_of sc r.inv) carried
+
+-- an item is the whole unseen part of its unit
+pub record IsExact (rows : List Held) (r : Reply) (i : Item) : Type 0 where
+  pub from : Each (λ u. (h : Held) × Member h rows × (h.update ≡ u) × (unit_of u.key ≡ i.unit)) i.rows
+  pub whole : Each (λ h. unit_of h.update.key ≡ i.unit → Member h.update i.rows ⊎ (Covers (at r.asked) h.update ⊎ (h.local ≤ r.from.prop))) rows
+
+pub record IsSoundReply (sc : Scene) (r : Reply) : Type 0 where
+  pub to_ordered : IsOrdered r.to
+  pub to_seen : r.to.seen ≤ last_of sc r.inv
+  pub to_cut : IsCut (history_of sc r.inv) r.to.seen
+  pub from_ordered : IsOrdered r.from
+  pub forward : r.from.seen ≤ r.to.seen
+  pub asked : IsBounded sc (at r.asked)
+  pub known : (u : Update) → IsSent r u → Member u sc.issued
+  pub ground : CoversItsGround r (history_of sc r.inv)
+  pub last : IfSome r.last (IsSoundLast sc r)
+  pub exact : Each (IsExact (rows_at (history_of sc r.inv) r.to.seen) r) r.items
+  pub once : Each (λ i. Each (λ j. i.unit ≡ j.unit → i ≡ j) r.items) r.items
+  pub formed : AreFormedRows (numbered r.schema) (updates_of (rows_at (history_of sc r.inv) r.to.seen))
+  pub classes : AreClassesKnown (numbered r.schema) (updates_of (rows_at (history_of sc r.inv) r.to.seen))
+
+abbrev pub IsSoundCall : Scene → Call → Type 0
+IsSoundCall sc (ToWrite w now) = Unit {0}
+IsSoundCall sc (ToTake reply) = IsSoundReply sc reply
+IsSoundCall sc (ToCollect now lifetime) = Unit {0}
+IsSoundCall sc ToQuarantine = Unit {0}
+
+-- a change that isn't safe is that of the kept call, and the controller isn't up
+pub record IsPending (sc : Scene) (r : Replica) (p : Pending) : Type 0 where
+  pub kept : r.kept ≡ Some p
+  pub call : IsSoundCall sc p.call
+  pub made : change_of r.safe p.call ≡ Some p.change
+  pub read : r.read ≡ after r.safe p.change
+  pub not_up : r.standing ≢ Up
+
+abbrev pub IsSettled : Replica → Type 0
+IsSettled r = (r.kept ≡ None) × (r.read ≡ r.safe)
+
+pub record IsSoundReplica (sc : Scene) (r : Replica) : Type 0 where
+  pub safe : IsSoundState sc r.safe
+  pub read : IsSettled r ⊎ ((p : Pending) × IsPending sc r p)
+
+-- an identifier that a line gave, or the zero that stands for none
+abbrev pub IsGiven : World → Identifier → Type 0
+IsGiven w inv = Member inv w.given.invs ⊎ (inv ≡ identifier 0)
+
+abbrev pub AreMarksGiven : World → Store → Type 0
+AreMarksGiven w s = Each (λ (k : Identifier × Kept). IsGiven w k.1.inv) s.marks
+
+-- names and identifiers are no one else's, and were given by lines
+pub record AreIdentifiersSound (w : World) : Type 0 where
+  pub names : Each (λ r. Each (λ q. r.name ≡ q.name → r ≡ q) w.replicas) w.replicas
+  pub dsas : Each (λ r. Each (λ q. r.safe.dsa ≡ q.safe.dsa → r ≡ q) w.replicas) w.replicas
+  pub invs : Each (λ r. Each (λ q. r.safe.inv ≡ q.safe.inv → r ≡ q) w.replicas) w.replicas
+  pub dsas_given : Each (λ r. Member r.safe.dsa w.given.dsas) w.replicas
+  pub invs_given : Each (λ r. Member r.safe.inv w.given.invs) w.replicas
+  pub unused : (i : Identifier) → (Member i w.given.invs → ⊥) → history_of w.scene i ≡ no_history
+  pub marks : Each (λ r. AreMarksGiven w r.safe.store) w.replicas
+  pub image_marks : Each (λ (i : Name × Store). AreMarksGiven w i.1) w.images
+  pub requests : Each (λ (q : Name × Request). IsGiven w q.1.inv) w.requests
+  pub replies : Each (λ (r : Name × Reply). Member r.1.inv w.given.invs) w.replies
+
+-- nothing is asked of a snapshot: only a rollback looks at one, and the world isn't clean after it
+pub record IsSoundWorld (w : World) : Type 0 where
+  pub clean : w.clean ≡ true
+  pub scene : IsSoundScene w.scene
+  pub replicas : Each (IsSoundReplica w.scene) w.replicas
+  pub images : Each (λ (i : Name × Store). IsSoundStore w.scene i.1) w.images
+  pub requests : Each (λ (q : Name × Request). IsSoundRequest w.scene q.1) w.requests
+  pub replies : Each (λ (r : Name × Reply). IsSoundReply w.scene r.1) w.replies
+  pub identifiers : AreIdentifiersSound w
+  pub normal : Each (λ r. r.safe.mode ≡ Normal) w.replicas
