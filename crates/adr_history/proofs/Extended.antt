@@ -1,12 +1,13 @@
 -- A log with one more change.
-use Rattle.std.proofs.Common.{◌≡◌, ◌⊎◌, inl, inr, ⊎_elim, ℕ, ◌≤◌, ◌<◌, List, [], ◌∷◌, Bool, true, false, refl, sym, ◌∙◌, subst, ap, ap₂, arith, nat_le}
+use Rattle.std.proofs.Common.{◌≡◌, inl, inr, ⊎_elim, ℕ, ◌≤◌, ◌<◌, List, [], ◌∙◌, subst, ap, ap₂, arith, nat_le}
 use Rattle.std.proofs.lemmas.Bool.Decides.{leb_tells}
 use Rattle.adr_model.specs.Member.{Member, Each}
 use Rattle.adr_model.specs.Store.{Held}
 use Rattle.adr_model.specs.Change.{Change, Written, held_of, rows_after}
 use Rattle.adr_stamp.specs.declared.Oid.{Oid}
 use Rattle.adr_model.specs.History.{History, last_usn, where_made, rows_at, IsCut, Follows, IsKept}
-use Rattle.adr_history.specs.Logs.{first_log, with_change}
+use Rattle.adr_model.specs.Replica.{with_change}
+use Rattle.adr_history.specs.Logs.{first_log}
 use Rattle.adr_history.proofs.Bounds.{made, rows_when_all_is_read}
 use Rattle.adr_history.proofs.Past.{Tells, after_change}
 

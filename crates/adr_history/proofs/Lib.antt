@@ -6,3 +6,8 @@ mod Past
 mod PastUnits
 mod Marks
 mod Extended
+mod Frames
+mod Replies
+mod Tables
+mod Begun
+mod Recorded

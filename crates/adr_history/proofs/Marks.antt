@@ -1,9 +1,9 @@
 -- What a mark says of a log moves on with the log.
-use Rattle.std.proofs.Common.{◌≡◌, ◌⊎◌, inl, inr, ℕ, ◌≤◌, List, refl, arith}
+use Rattle.std.proofs.Common.{inl, inr, ℕ, ◌≤◌, List, refl, arith}
 use Rattle.adr_vector.specs.declared.mark.Mark.{Mark}
 use Rattle.adr_model.specs.Member.{Member}
 use Rattle.adr_model.specs.Update.{Update}
-use Rattle.adr_model.specs.Reflects.{Knowledge, Reflects}
+use Rattle.adr_model.specs.Reflects.{Knowledge}
 use Rattle.adr_model.specs.Store.{Held, no_mark}
 use Rattle.adr_model.specs.History.{History, rows_at, IsCut, IsKept, IsOrdered, IsBelow, WatermarkHolds}
 use Rattle.adr_history.specs.Logs.{at_moment}

@@ -1,12 +1,12 @@
 -- Rows at or before a cut stood already when the cut was made.
-use Rattle.std.proofs.Common.{◌≡◌, ◌⊎◌, inl, inr, ⊎_elim, ℕ, ◌≤◌, ◌<◌, List, [], ◌∷◌, Bool, true, false, refl, sym, ◌∙◌, subst, ap, arith, nat_le, if◌then◌else◌}
+use Rattle.std.proofs.Common.{◌≡◌, ◌⊎◌, inl, inr, ⊎_elim, ℕ, ◌≤◌, ◌<◌, List, [], ◌∷◌, true, false, refl, sym, ◌∙◌, subst, arith, nat_le}
 use Rattle.std.proofs.lemmas.Bool.Decides.{leb_tells}
 use Rattle.adr_model.specs.Member.{Member, Each}
 use Rattle.adr_model.specs.Store.{Held}
 use Rattle.adr_model.specs.Change.{Change, held_of, rows_after}
 use Rattle.adr_model.specs.History.{History, where_made, after_changes, rows_at, IsCut, Rises, IsKept}
 use Rattle.adr_history.proofs.Units.{change_from}
-use Rattle.adr_history.proofs.Bounds.{newest, rises_within, same_within, start_at, start_taken, start_from}
+use Rattle.adr_history.proofs.Bounds.{rises_within, same_within, start_at, start_taken, start_from}
 
 abbrev pub CutsEach : List Change → ℕ → Type 0
 CutsEach cs m = Each (λ (c : Change). (c.usn ≤ m) ⊎ Each (λ (x : Held). m < x.local) (held_of c.writes)) cs

@@ -5,19 +5,18 @@ use Rattle.std.specs.Ordering.{is_eq}
 use Rattle.std.proofs.lemmas.Bool.{eqb-true}
 use Rattle.std.proofs.lemmas.Cmp.{tied_itself}
 use Rattle.adr_stamp.specs.declared.Oid.{Oid}
-use Rattle.adr_stamp.specs.declared.LinkKey.{LinkKey}
 use Rattle.adr_stamp.specs.declared.Unit.{Unit as Named}
 use Rattle.adr_stamp.specs.declared.Unit.TheVariants.{Object, Link}
 use Rattle.adr_stamp.specs.Order.{unit_order, object_order}
 use Rattle.adr_stamp.proofs.Exact.{exact_objects}
 use Rattle.adr_stamp.proofs.Units.{units_total, exact_units}
 use Rattle.adr_model.specs.Member.{Member, Each}
-use Rattle.adr_model.specs.Update.{Key, RowOf, LinkOf, unit_of, same_object, same_unit, deleted_attr}
+use Rattle.adr_model.specs.Update.{Key, RowOf, LinkOf, unit_of, same_object, deleted_attr}
 use Rattle.adr_model.specs.Store.{Held, with_row, is_row_of}
 use Rattle.adr_model.specs.Change.{goes_with, killed_by, stripped, put, without_object, rows_after}
 use Rattle.adr_model.specs.History.{SameUnit}
 use Rattle.adr_model.proofs.Keys.{equal_order}
-use Rattle.adr_history.specs.Units.{IsWrittenIn, IsUnitGone, IsAccountedFor}
+use Rattle.adr_history.specs.Units.{IsUnitGone, IsAccountedFor}
 use Rattle.adr_history.proofs.Filters.{kept_member, member_kept}
 use Rattle.adr_history.proofs.Rows.{written_itself, written_from, written_keeps}
 

@@ -1,18 +1,15 @@
--- Logs that begin, that have one more change, and units none of whose rows is behind a USN.
-use Rattle.std.specs.Prelude.{◌≤◌, ℕ, List, [], ◌∷◌}
+-- Logs that begin, units with no row behind a USN, and marks of a later moment.
+use Rattle.std.specs.Prelude.{◌≤◌, ℕ, List, []}
 use Rattle.adr_vector.specs.declared.mark.Mark.{Mark}
 use Rattle.adr_model.specs.Member.{Each}
 use Rattle.adr_model.specs.Store.{Held}
-use Rattle.adr_model.specs.Change.{Change}
 use Rattle.adr_model.specs.History.{History, SameUnit}
 
 -- the log of an incarnation that has made no change yet
 abbrev pub first_log : ℕ → List Held → History
 first_log usn rows = record { start_usn = usn; start_rows = rows; changes = [] }
 
-abbrev pub with_change : History → Change → History
-with_change h c = record { start_usn = h.start_usn; start_rows = h.start_rows; changes = c ∷ h.changes }
-
+-- no row of the unit is behind the USN
 abbrev pub IsUnitWithin : List Held → Held → ℕ → Type 0
 IsUnitWithin rows x usn = Each (λ y. SameUnit y x → y.local ≤ usn) rows
 

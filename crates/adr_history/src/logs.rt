@@ -9,8 +9,9 @@ ghost use Rattle.adr_model.specs.Reflects.{Knowledge};
 ghost use Rattle.adr_model.specs.Store.{Held, no_mark};
 ghost use Rattle.adr_model.specs.Change.{Change, held_of, rows_after};
 ghost use Rattle.adr_model.specs.History.{History, last_usn, rows_at, IsCut, Follows, IsKept, IsOrdered, SameUnit, IsBelow, WatermarkHolds};
+ghost use Rattle.adr_model.specs.Replica.{with_change};
 ghost use Rattle.adr_history.specs.Units.{IsAccountedFor};
-ghost use Rattle.adr_history.specs.Logs.{first_log, with_change, IsUnitWithin, at_moment};
+ghost use Rattle.adr_history.specs.Logs.{first_log, IsUnitWithin, at_moment};
 
 /// What a change leaves of rows: a row behind it was written by it or stood before it, and a row
 /// that stood before it still stands, or a row of its unit was written in its place, or its whole
