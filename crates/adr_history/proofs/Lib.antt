@@ -11,3 +11,4 @@ mod Replies
 mod Tables
 mod Begun
 mod Recorded
+mod Moved

@@ -12,5 +12,6 @@ pub use logs::{
     changes_account_for_rows, later_rows_keep_a_cut, logs_are_bounded, logs_go_on, marks_move_on,
 };
 pub use scenes::{
-    a_change_is_recorded, an_incarnation_begins, later_is_an_order, what_is_sound_stays_sound,
+    a_change_is_recorded, a_reply_moves_its_mark, an_incarnation_begins, later_is_an_order,
+    what_is_sound_stays_sound,
 };

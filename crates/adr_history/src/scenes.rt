@@ -12,6 +12,7 @@ ghost use Rattle.adr_model.specs.Replica.{Pending, issued_by, Replica, Scene, hi
 ghost use Rattle.adr_model.specs.Sound.{last_of, IsBounded, IsSoundScene, IsSoundMark, IsSoundStore, IsSoundState, IsSoundRequest, IsSoundReply, IsSoundReplica};
 ghost use Rattle.adr_history.specs.Logs.{first_log};
 ghost use Rattle.adr_history.specs.Later.{IsLater, AreIssuedBy, MayIssue};
+ghost use Rattle.adr_history.specs.Moved.{MayTake, HasTaken};
 
 /// Being later is an order.
 #[tactic(none)]
@@ -53,4 +54,11 @@ pub fn what_is_sound_stays_sound()
     ensures request { (s t : Scene) → IsLater s t → (q : Request) → IsSoundRequest s q → IsSoundRequest t q }
     ensures reply { (s t : Scene) → IsLater s t → (r : Reply) → IsSoundReply s r → IsSoundReply t r }
     ensures replica { (s t : Scene) → IsLater s t → (r : Replica) → history_of t r.safe.inv ≡ history_of s r.safe.inv → IsSoundReplica s r → IsSoundReplica t r }
+{}
+
+/// The end of a reply is a mark that tells the truth of whoever took it: what was sent is
+/// reflected, and what the reply left out was covered by the request or lay below its beginning.
+#[tactic(none)]
+pub fn a_reply_moves_its_mark()
+    ensures { (s : Scene) (r : Reply) (k k' : Knowledge) → IsSoundScene s → IsSoundReply s r → MayTake s k r → HasTaken s k k' r → IsSoundMark s k' r.inv r.to }
 {}
