@@ -12,3 +12,6 @@ mod Tables
 mod Begun
 mod Recorded
 mod Moved
+mod Locals
+mod Candidates
+mod Ground
