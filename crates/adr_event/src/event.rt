@@ -160,10 +160,15 @@ impl Event {
                 dsa: *dsa,
                 inv: *inv,
             }),
-            Event::Time { now } => Ok(Event::Time {
-                now: *now,
-            }),
-            Event::Add { name, guid, class, parent, text, values } => Ok(Event::Add {
+            Event::Time { now } => Ok(Event::Time { now: *now }),
+            Event::Add {
+                name,
+                guid,
+                class,
+                parent,
+                text,
+                values,
+            } => Ok(Event::Add {
                 name: name.copy(alloc)?,
                 guid: *guid,
                 class: *class,
@@ -176,7 +181,12 @@ impl Event {
                 guid: *guid,
                 values: values.copy(alloc)?,
             }),
-            Event::Rename { name, guid, parent, text } => Ok(Event::Rename {
+            Event::Rename {
+                name,
+                guid,
+                parent,
+                text,
+            } => Ok(Event::Rename {
                 name: name.copy(alloc)?,
                 guid: *guid,
                 parent: *parent,
@@ -186,25 +196,44 @@ impl Event {
                 name: name.copy(alloc)?,
                 guid: *guid,
             }),
-            Event::Link { name, from, attr, to } => Ok(Event::Link {
+            Event::Link {
+                name,
+                from,
+                attr,
+                to,
+            } => Ok(Event::Link {
                 name: name.copy(alloc)?,
                 from: *from,
                 attr: *attr,
                 to: *to,
             }),
-            Event::Unlink { name, from, attr, to } => Ok(Event::Unlink {
+            Event::Unlink {
+                name,
+                from,
+                attr,
+                to,
+            } => Ok(Event::Unlink {
                 name: name.copy(alloc)?,
                 from: *from,
                 attr: *attr,
                 to: *to,
             }),
-            Event::Ask { name, partner, max, bound } => Ok(Event::Ask {
+            Event::Ask {
+                name,
+                partner,
+                max,
+                bound,
+            } => Ok(Event::Ask {
                 name: name.copy(alloc)?,
                 partner: partner.copy(alloc)?,
                 max: *max,
                 bound: bound.copy(alloc)?,
             }),
-            Event::Serve { name, request, bound } => Ok(Event::Serve {
+            Event::Serve {
+                name,
+                request,
+                bound,
+            } => Ok(Event::Serve {
                 name: name.copy(alloc)?,
                 request: request.copy(alloc)?,
                 bound: bound.copy(alloc)?,
@@ -236,7 +265,12 @@ impl Event {
                 image: image.copy(alloc)?,
                 inv: *inv,
             }),
-            Event::Install { name, dsa, image, inv } => Ok(Event::Install {
+            Event::Install {
+                name,
+                dsa,
+                image,
+                inv,
+            } => Ok(Event::Install {
                 name: name.copy(alloc)?,
                 dsa: *dsa,
                 image: image.copy(alloc)?,

@@ -1,5 +1,5 @@
 -- Collecting tombstones, images and how a controller is made of one, and quarantine.
-use Rattle.std.specs.Prelude.{ℕ, ◌+◌, List, [], Bool, ◌&&◌, ◌||◌, nat_le, nat_lt, length, map, fold, Option, Some, None, Result, Ok, Err, if◌then◌else◌}
+use Rattle.std.specs.Prelude.{ℕ, ◌+◌, List, [], Bool, ◌&&◌, ◌||◌, nat_le, nat_lt, length, map, fold, Option, Some, None, Result, if◌then◌else◌}
 use Rattle.std.specs.List.{list_any, filter_map}
 use Rattle.std.specs.Bool.{then_some}
 use Rattle.std.specs.Option.{option_or}

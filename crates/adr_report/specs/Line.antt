@@ -2,12 +2,13 @@
 use Rattle.std.specs.Prelude.{ℕ, List, Bool, true, false, if◌then◌else◌, [], ◌∷◌, ◌++◌, length, flat_map, codes}
 use Rattle.std.specs.Fmt.{decimal}
 use Rattle.adr_schema.specs.declared.content.Value.{Value as Item}
+use Rattle.adr_vector.specs.declared.mark.Mark.{Mark}
 use Rattle.adr_event.specs.declared.answer.Answer.{Answer}
 use Rattle.adr_event.specs.declared.answer.Field.{Field}
 use Rattle.adr_event.specs.declared.answer.Plainly.{Plainly}
-use Rattle.adr_event.specs.declared.answer.Plainly.TheVariants.{Id, Number, Word}
+use Rattle.adr_event.specs.declared.answer.Plainly.TheVariants.{Id, Number, Mark as OneMark, Attr, Word}
 use Rattle.adr_event.specs.declared.answer.Outcome.{Outcome}
-use Rattle.adr_event.specs.declared.answer.Outcome.TheVariants.{Silent, Ok, Usn, Show, Refused}
+use Rattle.adr_event.specs.declared.answer.Outcome.TheVariants.{Silent, Ok, Usn, Served, Took, Removed, Show, More, Up, Down, Failed, Disk, Stopped, Absent, Refused}
 use Rattle.adr_event.specs.declared.directory.Entry.{Entry}
 use Rattle.adr_token.specs.Spelling.{identifier_token, text_token, class_token, attribute_token, set_token}
 
@@ -31,29 +32,55 @@ entry_line e =
     ++ (codes " parent=" ++ identifier_token e.parent ++ codes " name=" ++ text_token e.name)
     ++ flat_map values_text e.values ++ flat_map links_text e.links ++ codes "\n"
 
+-- a high watermark
+unfoldable pub mark_text : Mark → List ℕ
+mark_text m = decimal m.obj ++ codes "/" ++ decimal m.prop ++ codes "/" ++ decimal m.seen
+
 unfoldable pub plain_text : Plainly → List ℕ
 plain_text (Id id) = identifier_token id
 plain_text (Number number) = decimal number
+plain_text (OneMark mark) = mark_text mark
+plain_text (Attr attr) = attribute_token attr
 plain_text (Word word) = word
 
 unfoldable pub field_text : Field → List ℕ
 field_text f = codes " " ++ f.name ++ codes "=" ++ plain_text f.value
+
+-- where a reply begins and ends
+abbrev pub from_to : Mark → Mark → List ℕ
+from_to from to = codes "ok from=" ++ mark_text from ++ codes " to=" ++ mark_text to
+
+-- whether anything is left to send
+abbrev pub left_text : Bool → List ℕ
+left_text true = codes " last"
+left_text false = codes " more"
+
+-- what a reply has
+abbrev pub counts_text : ℕ → ℕ → Bool → List ℕ
+counts_text items rows last = codes " items=" ++ decimal items ++ codes " rows=" ++ decimal rows ++ left_text last
 
 -- what stands behind the colon of an answer's line
 unfoldable pub result_text : Outcome → List ℕ
 result_text Silent = []
 result_text Ok = codes "ok"
 result_text (Usn usn) = codes "ok usn=" ++ decimal usn
+result_text (Served from to items rows last) = from_to from to ++ counts_text items rows last
+result_text (Took items wrote usn) = codes "ok items=" ++ decimal items ++ codes " wrote=" ++ decimal wrote ++ codes " usn=" ++ decimal usn
+result_text (Removed removed) = codes "ok removed=" ++ decimal removed
 result_text (Show entries) = decimal (length entries)
+result_text More = codes "more"
+result_text Up = codes "up"
+result_text Down = codes "down"
+result_text Failed = codes "failed"
+result_text Disk = codes "disk"
+result_text Stopped = codes "stopped"
+result_text Absent = codes "absent"
 result_text (Refused number label fields) = codes "refused " ++ decimal number ++ codes " " ++ label ++ flat_map field_text fields
 
 -- the lines behind an answer's line
 unfoldable pub report_lines : Outcome → List ℕ
-report_lines Silent = []
-report_lines Ok = []
-report_lines (Usn usn) = []
 report_lines (Show entries) = flat_map entry_line entries
-report_lines (Refused number label fields) = []
+report_lines _ = []
 
 -- a name behind a space, where there is one
 abbrev pub named : List ℕ → List ℕ
@@ -66,10 +93,7 @@ said a = a.verb ++ named a.name ++ codes ": " ++ result_text a.outcome ++ codes 
 
 abbrev pub is_silent : Outcome → Bool
 is_silent Silent = true
-is_silent Ok = false
-is_silent (Usn usn) = false
-is_silent (Show entries) = false
-is_silent (Refused number label fields) = false
+is_silent _ = false
 
 -- an answer as it is written; a silent one has no bytes
 unfoldable pub line : Answer → List ℕ

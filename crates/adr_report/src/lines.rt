@@ -2,13 +2,25 @@
 
 ghost use Rattle.std.specs.Prelude.{◌≡◌, ◌++◌, ◌∷◌, [], ℕ, List, length, OnOk, IfOk, flat_map, codes};
 ghost use Rattle.std.specs.Fmt.{decimal};
-ghost use Rattle.adr_report.specs.Line.{plain_text, field_text, result_text, report_lines, named, said, is_silent, line};
+ghost use Rattle.adr_report.specs.Line.{plain_text, mark_text, from_to, left_text, counts_text, field_text, result_text, report_lines, named, said, is_silent, line};
 
 use crate::entries::push_entries;
 use adr_event::{Answer, Field, Outcome, Plainly};
 use adr_schema::NoMemory;
-use adr_token::{push, push_identifier, push_number};
+use adr_token::{push, push_attribute, push_identifier, push_number};
+use adr_vector::Mark;
 use std::alloc::Global;
+
+#[tactic(auto, unfolding(crate::specs::Line::mark_text))]
+fn push_mark(alloc: Global, out: &mut Vec<u8>, mark: Mark) -> Result<(), NoMemory>
+    ensures { OnOk result (out.new.items ≡ out.old.items ++ mark_text mark) }
+{
+    push_number(alloc, out, mark.obj)?;
+    push(out, b"/")?;
+    push_number(alloc, out, mark.prop)?;
+    push(out, b"/")?;
+    push_number(alloc, out, mark.seen)
+}
 
 #[tactic(auto, unfolding(crate::specs::Line::plain_text))]
 fn push_plainly(alloc: Global, out: &mut Vec<u8>, value: &Plainly) -> Result<(), NoMemory>
@@ -17,6 +29,8 @@ fn push_plainly(alloc: Global, out: &mut Vec<u8>, value: &Plainly) -> Result<(),
     match value {
         Plainly::Id(id) => push_identifier(alloc, out, *id),
         Plainly::Number(number) => push_number(alloc, out, *number),
+        Plainly::Mark(mark) => push_mark(alloc, out, *mark),
+        Plainly::Attr(attr) => push_attribute(alloc, out, *attr),
         Plainly::Word(word) => push(out, word.items()),
     }
 }
@@ -47,6 +61,80 @@ fn push_usn(alloc: Global, out: &mut Vec<u8>, usn: u64) -> Result<(), NoMemory>
     push_number(alloc, out, usn)
 }
 
+fn push_from_to(alloc: Global, out: &mut Vec<u8>, from: Mark, to: Mark) -> Result<(), NoMemory>
+    ensures { OnOk result (out.new.items ≡ out.old.items ++ from_to from to) }
+{
+    push(out, b"ok from=")?;
+    push_mark(alloc, out, from)?;
+    push(out, b" to=")?;
+    push_mark(alloc, out, to)
+}
+
+fn left_text(last: bool) -> &'static [u8]
+    ensures { result.now ≡ left_text last }
+{
+    if last {
+        b" last".as_slice()
+    } else {
+        b" more".as_slice()
+    }
+}
+
+fn push_counts(
+    alloc: Global,
+    out: &mut Vec<u8>,
+    items: u32,
+    rows: u32,
+    last: bool,
+) -> Result<(), NoMemory>
+    ensures { OnOk result (out.new.items ≡ out.old.items ++ counts_text items rows last) }
+{
+    push(out, b" items=")?;
+    push_number(alloc, out, u64::from(items))?;
+    push(out, b" rows=")?;
+    push_number(alloc, out, u64::from(rows))?;
+    push(out, left_text(last))
+}
+
+fn push_took(
+    alloc: Global,
+    out: &mut Vec<u8>,
+    items: u32,
+    wrote: u32,
+    usn: u64,
+) -> Result<(), NoMemory>
+    ensures { OnOk result (out.new.items ≡ out.old.items ++ (codes "ok items=" ++ decimal items ++ codes " wrote=" ++ decimal wrote ++ codes " usn=" ++ decimal usn)) }
+{
+    push(out, b"ok items=")?;
+    push_number(alloc, out, u64::from(items))?;
+    push(out, b" wrote=")?;
+    push_number(alloc, out, u64::from(wrote))?;
+    push(out, b" usn=")?;
+    push_number(alloc, out, usn)
+}
+
+fn push_removed(alloc: Global, out: &mut Vec<u8>, removed: u32) -> Result<(), NoMemory>
+    ensures { OnOk result (out.new.items ≡ out.old.items ++ (codes "ok removed=" ++ decimal removed)) }
+{
+    push(out, b"ok removed=")?;
+    push_number(alloc, out, u64::from(removed))
+}
+
+fn push_served(
+    alloc: Global,
+    out: &mut Vec<u8>,
+    from: Mark,
+    to: Mark,
+    items: u32,
+    rows: u32,
+    last: bool,
+) -> Result<(), NoMemory>
+    ensures { OnOk result (out.new.items ≡ out.old.items ++ (from_to from to ++ counts_text items rows last)) }
+{
+    push_from_to(alloc, out, from, to)?;
+    push_counts(alloc, out, items, rows, last)
+}
+
 fn push_refused(
     alloc: Global,
     out: &mut Vec<u8>,
@@ -72,7 +160,23 @@ fn push_result(alloc: Global, out: &mut Vec<u8>, outcome: &Outcome) -> Result<()
         Outcome::Silent => Ok(()),
         Outcome::Ok => push(out, b"ok"),
         Outcome::Usn(usn) => push_usn(alloc, out, *usn),
+        Outcome::Served {
+            from,
+            to,
+            items,
+            rows,
+            last,
+        } => push_served(alloc, out, *from, *to, *items, *rows, *last),
+        Outcome::Took { items, wrote, usn } => push_took(alloc, out, *items, *wrote, *usn),
+        Outcome::Removed(removed) => push_removed(alloc, out, *removed),
         Outcome::Show(directory) => push_number(alloc, out, directory.entries().len() as u64),
+        Outcome::More => push(out, b"more"),
+        Outcome::Up => push(out, b"up"),
+        Outcome::Down => push(out, b"down"),
+        Outcome::Failed => push(out, b"failed"),
+        Outcome::Disk => push(out, b"disk"),
+        Outcome::Stopped => push(out, b"stopped"),
+        Outcome::Absent => push(out, b"absent"),
         Outcome::Refused {
             number,
             label,
@@ -91,6 +195,16 @@ fn push_report(alloc: Global, out: &mut Vec<u8>, outcome: &Outcome) -> Result<()
         Outcome::Silent => Ok(()),
         Outcome::Ok => Ok(()),
         Outcome::Usn(_) => Ok(()),
+        Outcome::Served { .. } => Ok(()),
+        Outcome::Took { .. } => Ok(()),
+        Outcome::Removed(_) => Ok(()),
+        Outcome::More => Ok(()),
+        Outcome::Up => Ok(()),
+        Outcome::Down => Ok(()),
+        Outcome::Failed => Ok(()),
+        Outcome::Disk => Ok(()),
+        Outcome::Stopped => Ok(()),
+        Outcome::Absent => Ok(()),
         Outcome::Refused { .. } => Ok(()),
     }
 }
@@ -126,6 +240,16 @@ fn is_silent(outcome: &Outcome) -> bool
         Outcome::Ok => false,
         Outcome::Usn(_) => false,
         Outcome::Show(_) => false,
+        Outcome::Served { .. } => false,
+        Outcome::Took { .. } => false,
+        Outcome::Removed(_) => false,
+        Outcome::More => false,
+        Outcome::Up => false,
+        Outcome::Down => false,
+        Outcome::Failed => false,
+        Outcome::Disk => false,
+        Outcome::Stopped => false,
+        Outcome::Absent => false,
         Outcome::Refused { .. } => false,
     }
 }

@@ -30,6 +30,7 @@ Spells (Add name guid class parent text values) =
     (is_name name ≡ true) × IsIdentifier guid × (class ≡ 5) × IsIdentifier parent × (is_text text ≡ true)
     × ((value : List ℕ) × (values ≡ account value) × (is_text value ≡ true) × (is_taken parent text value ≡ true))
 Spells (Show name) = is_name name ≡ true
+Spells _ = ⊥
 
 same_event : (x e : Event) → x ≡ e → Spells x → Spells e
 same_event x e p h = subst Spells p h
@@ -207,3 +208,4 @@ event_again (Add name guid class parent text values) h =
     rw (h.2, h.5.1, verb_again (codes "add") name (identifier_token guid ∷ class_token 5 ∷ identifier_token parent ∷ text_token text ∷ set_tokens (account h.5.0)) refl (omega arith))
     (add_again name guid parent text h.5.0 h.0 h.1 h.3 h.4 h.5.2 h.5.3)
 event_again (Show name) h = rw (verb_again (codes "show") name [] refl (omega arith)) (show_again name h)
+event_again e h = absurd h

@@ -62,6 +62,7 @@ line_plain (Add name guid class parent text values) h =
     (field_plain (text_token text) (spaced (set_tokens (account h.5.0))) (text_plain text h.4)
     (field_plain (set_token 10 (Text h.5.0 ∷ [])) [] (account_plain h.5.0 h.5.2) nothing_plain)))))))
 line_plain (Show name) h = verb_plain (codes "show") (spaced (name ∷ [])) refl (name_plain name [] h nothing_plain)
+line_plain e h = absurd h
 
 -- it isn't passed over
 letter_first : (b : ℕ) (bs : List ℕ) → (b == 59) ≡ false → (b == 32) ≡ false → is_passed (b ∷ bs) ≡ false
@@ -69,17 +70,18 @@ letter_first b bs semicolon space =
     let some : (length (b ∷ bs) == 0) ≡ false = ne_eqb _ 0 (λ z. omega arith) in
     rw (semicolon, space, some) refl
 
-line_says : (e : Event) → is_passed (line_of e) ≡ false
+line_says : (e : Event) → Spells e → is_passed (line_of e) ≡ false
 unfolding line_of
-line_says (Controller name dsa inv) = letter_first 99 (codes "ontroller" ++ spaced (name ∷ identifier_token dsa ∷ identifier_token inv ∷ [])) refl refl
-line_says (Time now) = letter_first 116 (codes "ime" ++ spaced (decimal now ∷ [])) refl refl
-line_says (Add name guid class parent text values) = letter_first 97 (codes "dd" ++ spaced (name ∷ identifier_token guid ∷ class_token class ∷ identifier_token parent ∷ text_token text ∷ set_tokens values)) refl refl
-line_says (Show name) = letter_first 115 (codes "how" ++ spaced (name ∷ [])) refl refl
+line_says (Controller name dsa inv) h = letter_first 99 (codes "ontroller" ++ spaced (name ∷ identifier_token dsa ∷ identifier_token inv ∷ [])) refl refl
+line_says (Time now) h = letter_first 116 (codes "ime" ++ spaced (decimal now ∷ [])) refl refl
+line_says (Add name guid class parent text values) h = letter_first 97 (codes "dd" ++ spaced (name ∷ identifier_token guid ∷ class_token class ∷ identifier_token parent ∷ text_token text ∷ set_tokens values)) refl refl
+line_says (Show name) h = letter_first 115 (codes "how" ++ spaced (name ∷ [])) refl refl
+line_says e h = absurd h
 
 line_told : (seen : Seen) (e : Event) → Spells e → cause_after seen e ≡ None → line_after seen (line_of e) ≡ Ok (Some e)
 line_told seen e h c =
     let utf8 : is_utf8 (line_of e) ≡ true = is_utf8-from_IsUtf8 (line_of e) (line_plain e h).utf8 in
-    rw (line_says e, utf8, event_again e h, c) refl
+    rw (line_says e h, utf8, event_again e h, c) refl
 
 -- the lines of the printed form
 first_line : (bs rest : List ℕ) → is_feedless bs ≡ true → lines_of ((bs ++ codes "\n") ++ rest) ≡ bs ∷ lines_of rest

@@ -88,3 +88,4 @@ IsAllowed (Controller name dsa inv) = 0 < length name
 IsAllowed (Time now) = Unit {0}
 IsAllowed (Add name guid class parent text values) = IsUserAdd name class parent text values
 IsAllowed (Show name) = 0 < length name
+IsAllowed _ = ⊥

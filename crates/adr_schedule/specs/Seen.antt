@@ -34,12 +34,11 @@ cause_after seen (Controller name dsa inv) = unless_any seen.controllers
 cause_after seen (Time now) = None
 cause_after seen (Add name guid class parent text values) = unless_bound (is_bound seen.controllers name)
 cause_after seen (Show name) = unless_bound (is_bound seen.controllers name)
+cause_after seen _ = Some NoCommand
 
 abbrev pub seen_after : Seen → Event → Seen
 seen_after seen (Controller name dsa inv) = record { controllers = seen.controllers ++ name ∷ [] }
-seen_after seen (Time now) = seen
-seen_after seen (Add name guid class parent text values) = seen
-seen_after seen (Show name) = seen
+seen_after seen _ = seen
 
 -- each event may follow those before it
 abbrev pub IsFollowing : Seen → List Event → Type 0

@@ -26,13 +26,13 @@ use Rattle.adr_model.specs.Directory.{directory}
 use Rattle.adr_model.specs.Store.{State, updates_of, empty_state}
 use Rattle.adr_model.specs.Change.{Change, after}
 use Rattle.adr_model.specs.Refusing.{first_of, unless}
-use Rattle.adr_model.specs.History.{History, no_history}
-use Rattle.adr_model.specs.Replica.{Replica, Scene, Standing, Up, Pending, ToWrite, Went, Passed, on_new_disk, history_of, with_change}
+use Rattle.adr_model.specs.History.{History}
+use Rattle.adr_model.specs.Replica.{Replica, Scene, on_new_disk, history_of, with_change}
 use Rattle.adr_model.specs.Write.{AddObject, object_limit, where_true, new_rows, new_object, first_stamp, of_object, own_change, write}
 use Rattle.adr_model.specs.Refused.{write_refused}
 use Rattle.adr_model.specs.World.{World, Gone, answer, after_write, of_made, stays, where_up, told, with_replica, shown, step}
 use Rattle.adr_world.specs.declared.people.Person.{Person}
-use Rattle.adr_world.specs.People.{person_change, changes_onto, state_of, issued_by, history_by, shown_people, has_guid, named_alike, name_kept, people_refusal, lost_name, is_proper, are_proper}
+use Rattle.adr_world.specs.People.{person_change, state_of, issued_by, history_by, shown_people, has_guid, named_alike, name_kept, people_refusal, lost_name, is_proper, are_proper}
 use Rattle.adr_schema.specs.Names.{name_fault}
 use Rattle.adr_world.proofs.Allowed.{refusal_is}
 use Rattle.adr_world.proofs.Adding.{usn_after, inv_after, issued_after_more, state_after_more, changes_after_more, still_proper}
