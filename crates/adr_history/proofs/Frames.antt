@@ -1,0 +1,75 @@
+-- What was sound stays sound when the scene grows: what is reflected, vectors, marks and stores.
+use Rattle.std.proofs.Common.{◌≡◌, inl, inr, ⊎_elim, ◌≤◌, List, refl, sym, ◌∙◌, subst, ap, arith}
+use Rattle.adr_vector.specs.Vector.{at}
+use Rattle.adr_vector.specs.declared.mark.Mark.{Mark}
+use Rattle.adr_model.specs.Member.{Member}
+use Rattle.adr_model.specs.Update.{Identifier, Update, inv_of}
+use Rattle.adr_model.specs.Reflects.{Numbers, Covers, Knowledge, knowledge_of, Reflects}
+use Rattle.adr_model.specs.Store.{Held, Store, State}
+use Rattle.adr_model.specs.History.{last_usn, rows_at, IsBelow}
+use Rattle.adr_model.specs.Serve.{Request}
+use Rattle.adr_model.specs.Replica.{Scene, history_of}
+use Rattle.adr_model.specs.Sound.{last_of, IsBounded, IsSoundMark, IsSoundStore, IsSoundState, IsSoundRequest}
+use Rattle.adr_history.specs.Later.{IsLater}
+
+pub later_itself : (s : Scene) → IsLater s s
+later_itself s = record { kept = λ u m. m; newer = λ u m. inl m; rising = λ i. omega arith; stable = λ i usn le. refl; cuts = λ i usn le cut. cut }
+
+pub later_on : (s t v : Scene) → IsLater s t → IsLater t v → IsLater s v
+later_on s t v l k = record {
+  kept = λ u m. k.kept u (l.kept u m);
+  newer = λ u m. ⊎_elim (λ old. l.newer u old) (λ new. inr (omega (arith, new, l.rising (inv_of u)))) (k.newer u m);
+  rising = λ i. omega (arith, l.rising i, k.rising i);
+  stable = λ i usn le. k.stable i usn (omega (arith, le, l.rising i)) ∙ l.stable i usn le;
+  cuts = λ i usn le cut. k.cuts i usn (omega (arith, le, l.rising i)) (l.cuts i usn le cut);
+}
+
+pub more_issued : (s t : Scene) → IsLater s t → (k : Knowledge) (u : Update) → Reflects s.issued k u → Reflects t.issued k u
+more_issued s t l k u (inl h) = inl h
+more_issued s t l k u (inr (o, m, inl b)) = inr (o, m, inl b)
+more_issued s t l k u (inr (o, m, inr g)) = inr (o, m, inr (record { absent = g.absent; birth = g.birth; death = g.death; is_issued = l.kept g.death g.is_issued; is_death = g.is_death; is_covered = g.is_covered }))
+
+-- a bounded vector covers no update that is issued later
+pub covered_before : (s t : Scene) → IsLater s t → (V : Numbers) → IsBounded s V → (u : Update) → Member u t.issued → Covers V u → Member u s.issued
+covered_before s t l V b u m c = ⊎_elim (λ old. old) (λ new. absurd (omega (arith, new, c, b (inv_of u)))) (l.newer u m)
+
+pub bounded_later : (s t : Scene) → IsLater s t → (V : Numbers) → IsBounded s V → IsBounded t V
+bounded_later s t l V b i = omega (arith, b i, l.rising i)
+
+pub mark_later : (s t : Scene) → IsLater s t → (k : Knowledge) (i : Identifier) (m : Mark) → IsSoundMark s k i m → IsSoundMark t k i m
+mark_later s t l k i m is = record {
+  ordered = is.ordered;
+  seen = omega (arith, is.seen, l.rising i);
+  cut = l.cuts i m.seen is.seen is.cut;
+  watermark = λ x mem below. more_issued s t l k x.update
+      (is.watermark x (subst (λ (rows : List Held). Member x rows) same mem) (subst (λ (rows : List Held). IsBelow rows m x) same below));
+}
+  where
+    same : rows_at (history_of t i) m.seen ≡ rows_at (history_of s i) m.seen
+    same = l.stable i m.seen is.seen
+
+pub store_later : (s t : Scene) → IsLater s t → (d : Store) → IsSoundStore s d → IsSoundStore t d
+store_later s t l d is = record {
+  known = λ u m. l.kept u (is.known u m);
+  bounded = bounded_later s t l (at d.vector) is.bounded;
+  covered = λ u m c. more_issued s t l (knowledge_of d) u (is.covered u (covered_before s t l (at d.vector) is.bounded u m c) c);
+  formed = is.formed;
+  closed = is.closed;
+  classes = is.classes;
+  marks = λ k m. mark_later s t l (knowledge_of d) k.1.inv k.1.mark (is.marks k m);
+}
+
+-- a state whose own log is the same
+pub state_later : (s t : Scene) → IsLater s t → (d : State) → history_of t d.inv ≡ history_of s d.inv → IsSoundState s d → IsSoundState t d
+state_later s t l d same is = record {
+  store = store_later s t l d.store is.store;
+  formed = is.formed;
+  last = is.last ∙ sym last;
+  rows = is.rows ∙ sym (l.stable d.inv d.store.usn (subst (λ n. d.store.usn ≤ n) is.last (omega arith)));
+}
+  where
+    last : last_of t d.inv ≡ last_of s d.inv
+    last = ap last_usn same
+
+pub request_later : (s t : Scene) → IsLater s t → (q : Request) → IsSoundRequest s q → IsSoundRequest t q
+request_later s t l q is = record { bounded = bounded_later s t l (at q.vector) is.bounded; ordered = is.ordered; seen = omega (arith, is.seen, l.rising q.inv) }

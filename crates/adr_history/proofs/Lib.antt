@@ -1,0 +1,17 @@
+mod Filters
+mod Rows
+mod Units
+mod Bounds
+mod Past
+mod PastUnits
+mod Marks
+mod Extended
+mod Frames
+mod Replies
+mod Tables
+mod Begun
+mod Recorded
+mod Moved
+mod Locals
+mod Candidates
+mod Ground

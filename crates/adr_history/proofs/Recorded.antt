@@ -1,0 +1,96 @@
+-- A scene with a change that becomes safe.
+use Rattle.std.proofs.Common.{◌≡◌, ◌⊎◌, inl, inr, ⊎_elim, ℕ, ◌≤◌, ◌<◌, List, [], ◌∷◌, ◌++◌, refl, sym, ◌∙◌, subst, ap, arith}
+use Rattle.std.proofs.lemmas.Bool.Decides.{leb_tells}
+use Rattle.adr_stamp.specs.declared.Oid.{Oid}
+use Rattle.adr_model.specs.Member.{Member, Each}
+use Rattle.adr_model.specs.Update.{Identifier, Update, ends, inv_of, usn_of}
+use Rattle.adr_model.specs.Store.{Held}
+use Rattle.adr_model.specs.Change.{held_of}
+use Rattle.adr_model.specs.History.{History, no_history, last_usn, where_made, rows_at, IsCut, IsKept, Follows}
+use Rattle.adr_model.specs.Replica.{Pending, issued_by, Scene, history_of, with_change, recorded}
+use Rattle.adr_model.specs.Sound.{last_of, IsBirthOf, IsSoundScene}
+use Rattle.adr_history.specs.Later.{IsLater, AreIssuedBy, MayIssue}
+use Rattle.adr_history.proofs.Units.{change_from}
+use Rattle.adr_history.proofs.Past.{Tells}
+use Rattle.adr_history.proofs.Extended.{log_goes_on, past_rows_stay, past_cuts_stay}
+use Rattle.adr_history.proofs.Tables.{each_entry, entry_itself}
+
+in_left : (xs ys : List Update) (u : Update) → Member u xs → Member u (xs ++ ys)
+in_left [] ys u m = absurd m
+in_left (x ∷ xs) ys u (inl e) = inl e
+in_left (x ∷ xs) ys u (inr i) = inr (in_left xs ys u i)
+
+in_either : (xs ys : List Update) (u : Update) → Member u (xs ++ ys) → Member u xs ⊎ Member u ys
+in_either [] ys u m = inr m
+in_either (x ∷ xs) ys u (inl e) = inl (inl e)
+in_either (x ∷ xs) ys u (inr i) = ⊎_elim (λ l. inl (inr l)) (λ r. inr r) (in_either xs ys u i)
+
+module _ (s : Scene) (inv : Identifier) (p : Pending) (next : Follows (last_of s inv) p.change) (own : AreIssuedBy s inv p.change (issued_by p.call p.change)) where
+  abbrev issues : List Update
+  issues = issued_by p.call p.change
+
+  abbrev log : History
+  log = with_change (history_of s inv) p.change
+
+  each_log : (P : Identifier → History → Type 0) → P inv log → ((j : Identifier) → P j (history_of s j)) → (j : Identifier) → P j (history_of (recorded s inv p) j)
+  each_log P here others = each_entry s.histories no_history inv log P here others
+
+  pub recorded_later : IsLater s (recorded s inv p)
+  recorded_later = record {
+    kept = λ u m. in_left s.issued issues u m;
+    newer = λ u m. ⊎_elim (λ old. inl old) (λ new. inr (subst (λ j. last_of s j < usn_of u) (sym (own u new).0) (own u new).1)) (in_either s.issued issues u m);
+    rising = each_log (λ j h. last_of s j ≤ last_usn h) next.rises (λ j. omega arith);
+    stable = λ j usn le. each_log (λ i h. usn ≤ last_of s i → rows_at h usn ≡ rows_at (history_of s i) usn) (λ l. past_rows_stay (history_of s inv) p.change usn next l) (λ i l. refl) j le;
+    cuts = λ j usn le cut. each_log (λ i h. usn ≤ last_of s i → IsCut (history_of s i) usn → IsCut h usn) (λ l c. past_cuts_stay (history_of s inv) p.change usn next l c) (λ i l c. c) j le cut;
+  }
+
+  module _ (may : MayIssue s p.change issues) (is : IsSoundScene s) where
+    abbrev Alike : Update → Update → Type 0
+    Alike u v = u.key ≡ v.key → inv_of u ≡ inv_of v → usn_of u ≡ usn_of v → u ≡ v
+
+    -- an update that was issued lies at or before the last USN, and a new one behind it
+    apart : (u v : Update) → Member u s.issued → Member v issues → inv_of u ≡ inv_of v → usn_of u ≡ usn_of v → ⊥
+    apart u v m n i e = omega (arith, le, (own v n).1, e)
+      where
+        le : usn_of u ≤ last_of s inv
+        le = subst (λ j. usn_of u ≤ last_of s j) (i ∙ (own v n).0) (is.once u m).1
+
+    alike : (u v : Update) → Member u s.issued ⊎ Member u issues → Member v s.issued ⊎ Member v issues → Alike u v
+    alike u v (inl m) (inl n) k i e = is.one_content u m v n k i e
+    alike u v (inl m) (inr n) k i e = absurd (apart u v m n i e)
+    alike u v (inr m) (inl n) k i e = absurd (apart v u n m (sym i) (sym e))
+    alike u v (inr m) (inr n) k i e = may.alone u m v n k e
+
+    last_now : last_of (recorded s inv p) inv ≡ p.change.usn
+    last_now = ap last_usn (entry_itself s.histories no_history inv log)
+
+    once : (u : Update) → Member u s.issued ⊎ Member u issues → (1 ≤ usn_of u) × (usn_of u ≤ last_of (recorded s inv p) (inv_of u))
+    once u (inl m) = ((is.once u m).0, omega (arith, (is.once u m).1, recorded_later.rising (inv_of u)))
+    once u (inr m) = (omega (arith, (own u m).1), subst (λ j. usn_of u ≤ last_of (recorded s inv p) j) (sym (own u m).0) (subst (λ n. usn_of u ≤ n) (sym last_now) (own u m).2))
+
+    born : (u : Update) → Member u s.issued ⊎ Member u issues → (o : Oid) → Member o (ends u.key) → (b : Update) × Member b (s.issued ++ issues) × IsBirthOf o b
+    born u (inl m) o e = let t = is.born u m o e in (t.0, in_left s.issued issues t.0 t.1, t.2)
+    born u (inr m) o e = may.born u m o e
+
+    logged : (usn : ℕ) (x : Held) → Member x (rows_at log usn) → Member x.update (s.issued ++ issues)
+    logged usn x m = by (leb_tells p.change.usn usn)
+      where
+        rows : List Held
+        rows = rows_at (history_of s inv) usn
+
+        old : Member x rows → Member x.update (s.issued ++ issues)
+        old i = in_left s.issued issues x.update (is.logged inv usn x i)
+
+        by : Tells p.change.usn usn → Member x.update (s.issued ++ issues)
+        by (inr skip) = old (subst (λ b. Member x (where_made b p.change rows)) skip.0 m)
+        by (inl taken) = ⊎_elim (λ w. may.logged x w) old (change_from p.change.removed (held_of p.change.writes) rows x (subst (λ b. Member x (where_made b p.change rows)) taken.0 m))
+
+    pub recorded_sound : IsSoundScene (recorded s inv p)
+    recorded_sound = record {
+      one_content = λ u m v n. alike u v (in_either s.issued issues u m) (in_either s.issued issues v n);
+      once = λ u m. once u (in_either s.issued issues u m);
+      born = λ u m. born u (in_either s.issued issues u m);
+      births = λ u m. ⊎_elim (λ old. is.births u old) (λ new. may.births u new) (in_either s.issued issues u m);
+      kept = each_log (λ j h. IsKept h) (log_goes_on (history_of s inv) p.change (is.kept inv) next) is.kept;
+      logged = λ j usn. each_log (λ i h. Each (λ (x : Held). Member x.update (s.issued ++ issues)) (rows_at h usn)) (logged usn) (λ i x m. in_left s.issued issues x.update (is.logged i usn x m)) j;
+    }

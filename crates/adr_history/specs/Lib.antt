@@ -1,0 +1,4 @@
+pub mod Units
+pub mod Logs
+pub mod Later
+pub mod Moved

@@ -1,0 +1,17 @@
+//! What a reply leaves out, wherever it is cut.
+
+ghost use Rattle.std.specs.Prelude.{◌≡◌};
+ghost use Rattle.adr_model.specs.Store.{State};
+ghost use Rattle.adr_model.specs.History.{rows_at};
+ghost use Rattle.adr_model.specs.Serve.{Request, reply_to};
+ghost use Rattle.adr_model.specs.Formed.{AreAlone};
+ghost use Rattle.adr_model.specs.Replica.{Scene, history_of};
+ghost use Rattle.adr_model.specs.Sound.{CoversItsGround};
+
+/// A row that the end of a reply leaves out is covered by the request, or is sent, or was left out
+/// by the mark at which the reply begins. So it is where the state's rows are those of its log, and
+/// no two units share their last local USN.
+#[tactic(none)]
+pub fn replies_cover_their_ground()
+    ensures { (sc : Scene) (s : State) (q : Request) → s.store.rows ≡ rows_at (history_of sc s.inv) s.store.usn → AreAlone s.store.rows → CoversItsGround (reply_to s q) (history_of sc s.inv) }
+{}
