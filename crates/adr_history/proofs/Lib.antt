@@ -15,3 +15,4 @@ mod Moved
 mod Locals
 mod Candidates
 mod Ground
+mod Served
