@@ -16,3 +16,4 @@ mod Locals
 mod Candidates
 mod Ground
 mod Served
+mod Granted

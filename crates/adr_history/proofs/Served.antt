@@ -74,6 +74,14 @@ in_front_of [] ys c m = absurd m
 in_front_of (x ∷ xs) ys c (inl e) = inl e
 in_front_of (x ∷ xs) ys c (inr m) = inr (in_front_of xs ys c m)
 
+-- where a reply begins
+pub begins : (sc : Scene) (s : State) (q : Request) → IsSoundState sc s → IsSoundRequest sc q → IsOrdered (begins_at s q) × ((begins_at s q).seen ≤ s.store.usn)
+begins sc s q state request = by (same_identifier q.inv s.inv) refl
+  where
+    by : (b : Bool) → same_identifier q.inv s.inv ≡ b → IsOrdered (if b then q.mark else no_mark) × ((if b then q.mark else no_mark).seen ≤ s.store.usn)
+    by true is = (request.ordered, omega (arith, subst (λ i. q.mark.seen ≤ last_of sc i) (exact_bytes q.inv s.inv (equal_order (identifier_order q.inv s.inv) is)) request.seen, state.last))
+    by false is = (record { prop = omega arith; obj = omega arith }, omega arith)
+
 module _ (sc : Scene) (s : State) (q : Request) (scene : IsSoundScene sc) (state : IsSoundState sc s) (request : IsSoundRequest sc q) (purged : at_most s.store.purged q.vector ≡ true) where
   abbrev rows : List Held
   rows = s.store.rows
@@ -90,12 +98,8 @@ module _ (sc : Scene) (s : State) (q : Request) (scene : IsSoundScene sc) (state
   abbrev reply : Bool → Reply
   reply last = reply_of s q from sent last
 
-  begins : IsOrdered from × (from.seen ≤ s.store.usn)
-  begins = by (same_identifier q.inv s.inv) refl
-    where
-      by : (b : Bool) → same_identifier q.inv s.inv ≡ b → IsOrdered (if b then q.mark else no_mark) × ((if b then q.mark else no_mark).seen ≤ s.store.usn)
-      by true is = (request.ordered, omega (arith, subst (λ i. q.mark.seen ≤ last_of sc i) (exact_bytes q.inv s.inv (equal_order (identifier_order q.inv s.inv) is)) request.seen, state.last))
-      by false is = (record { prop = omega arith; obj = omega arith }, omega arith)
+  began : IsOrdered from × (from.seen ≤ s.store.usn)
+  began = begins sc s q state request
 
   -- an item that is sent is of a row that may be sent
   sent_from : (c : ℕ × Item) → Member c sent → (x : Held) × Member x unseen × (c ≡ entry_of rows unseen (unit_of x.update.key))
@@ -108,9 +112,9 @@ module _ (sc : Scene) (s : State) (q : Request) (scene : IsSoundScene sc) (state
   to_ordered : (b : Bool) → IsOrdered (reply b).to
   to_ordered true = record { prop = omega arith; obj = omega arith }
   to_ordered false = ⊎_elim
-      (λ e. record { prop = omega (arith, begins.0.prop, e); obj = omega (arith, begins.0.obj, begins.1, e) })
+      (λ e. record { prop = omega (arith, began.0.prop, e); obj = omega (arith, began.0.obj, began.1, e) })
       (λ z. let x = sent_from z.0 z.1 in let k : z.0.0 ≡ last_local rows (unit_of x.0.update.key) = ap (λ (c : ℕ × Item). c.0) x.2 in
-      record { prop = omega (arith, begins.0.prop, above x.0 x.1, z.2, k); obj = omega (arith, within x.0, z.2, k) })
+      record { prop = omega (arith, began.0.prop, above x.0 x.1, z.2, k); obj = omega (arith, within x.0, z.2, k) })
       (read_to_item from.obj sent)
     where
       within : (x : Held) → last_local rows (unit_of x.update.key) ≤ s.store.usn
@@ -192,8 +196,8 @@ module _ (sc : Scene) (s : State) (q : Request) (scene : IsSoundScene sc) (state
     to_ordered = to_ordered b;
     to_seen = omega (arith, seen b);
     to_cut = cut_when_all_is_read (history_of sc s.inv) (reply b).to.seen (scene.kept s.inv) (omega (arith, seen b));
-    from_ordered = begins.0;
-    forward = omega (arith, begins.1, state.last, seen b);
+    from_ordered = began.0;
+    forward = omega (arith, began.1, state.last, seen b);
     asked = request.bounded;
     known = λ u t. known u t.0 t.1 t.2;
     ground = ground;

@@ -17,4 +17,6 @@ pub use scenes::{
     a_change_is_recorded, a_reply_moves_its_mark, an_incarnation_begins, later_is_an_order,
     what_is_sound_stays_sound,
 };
-pub use serving::{replies_cover_their_ground, served_replies_are_sound};
+pub use serving::{
+    replies_cover_their_ground, served_replies_are_sound, sound_requests_show_no_rollback,
+};
