@@ -84,15 +84,15 @@ abbrev pub Rises : List (ℕ × Item) → Type 0
 Rises [] = Unit {0}
 Rises (x ∷ xs) = Each (λ (y : ℕ × Item). x.0 < y.0) xs × Rises xs
 
-entry_from : (t : List (ℕ × Item)) (n : ℕ) (i : Item) (e : ℕ × Item) → Member e (insert_entry nat_cmp t n i) → (e.0 ≡ n) ⊎ Member e t
-entry_from [] n i e (inl s) = inl (ap (λ (x : ℕ × Item). x.0) s)
+entry_from : (t : List (ℕ × Item)) (n : ℕ) (i : Item) (e : ℕ × Item) → Member e (insert_entry nat_cmp t n i) → (e ≡ (n, i)) ⊎ Member e t
+entry_from [] n i e (inl s) = inl s
 entry_from [] n i e (inr m) = absurd m
 entry_from (x ∷ xs) n i e m = by (nat_cmp n x.0) refl m (entry_from xs n i e)
   where
-    by : (o : Ordering) → nat_cmp n x.0 ≡ o → Member e (match_ordering o ((n, i) ∷ x ∷ xs) ((x.0, i) ∷ xs) (x ∷ insert_entry nat_cmp xs n i)) → (Member e (insert_entry nat_cmp xs n i) → (e.0 ≡ n) ⊎ Member e xs) → (e.0 ≡ n) ⊎ Member e (x ∷ xs)
-    by Less is (inl s) rest = inl (ap (λ (y : ℕ × Item). y.0) s)
+    by : (o : Ordering) → nat_cmp n x.0 ≡ o → Member e (match_ordering o ((n, i) ∷ x ∷ xs) ((x.0, i) ∷ xs) (x ∷ insert_entry nat_cmp xs n i)) → (Member e (insert_entry nat_cmp xs n i) → (e ≡ (n, i)) ⊎ Member e xs) → (e ≡ (n, i)) ⊎ Member e (x ∷ xs)
+    by Less is (inl s) rest = inl s
     by Less is (inr k) rest = inr k
-    by Equal is (inl s) rest = inl (ap (λ (y : ℕ × Item). y.0) s ∙ sym (exact_unsigned n x.0 is))
+    by Equal is (inl s) rest = inl (s ∙ ap (λ (k : ℕ). (k, i)) (sym (exact_unsigned n x.0 is)))
     by Equal is (inr k) rest = inr (inr k)
     by Greater is (inl s) rest = inr (inl s)
     by Greater is (inr k) rest = ⊎_elim (λ s. inl s) (λ j. inr (inr j)) (rest k)
@@ -129,7 +129,7 @@ rises_inserted (x ∷ xs) n i r = by (nat_cmp n x.0) (ranked n x.0 (nat_cmp n x.
         above y (inl e) = subst (λ (z : ℕ × Item). n < z.0) (sym e) lt
         above y (inr m) = omega (arith, lt, r.0 y m)
     by Equal eq rest = (r.0, r.1)
-    by Greater gt rest = ((λ y m. ⊎_elim (λ e. omega (arith, e, gt)) (λ j. r.0 y j) (entry_from xs n i y m)), rest)
+    by Greater gt rest = ((λ y m. ⊎_elim (λ e. omega (arith, ap (λ (z : ℕ × Item). z.0) e, gt)) (λ j. r.0 y j) (entry_from xs n i y m)), rest)
 
 -- ---- candidates
 
@@ -165,6 +165,16 @@ module _ (all rows : List Held) where
     where
       one : (v : Named) → Member v (units_of rows) → last_local all (unit_of x.update.key) ≡ last_local all v → unit_of x.update.key ≡ v
       one v i e = let t = unit_of_row rows v i in alone x t.0 m t.1 (e ∙ ap (last_local all) t.2) ∙ sym t.2
+
+  gathered_from : (us : List Named) (t : List (ℕ × Item)) (e : ℕ × Item) → Member e (fold with_unit t us) → Member e t ⊎ ((u : Named) × Member u us × (e ≡ entry_of u))
+  gathered_from [] t e m = inl m
+  gathered_from (u ∷ us) t e m = ⊎_elim
+      (λ i. ⊎_elim (λ s. inr (u, inl refl, s)) (λ j. inl j) (entry_from t (last_local all u) (item_of rows u) e i))
+      (λ v. inr (v.0, inr v.1, v.2)) (gathered_from us (with_unit t u) e m)
+
+  -- what a candidate is of
+  pub candidate_from : (e : ℕ × Item) → Member e (by_last_local all rows) → (x : Held) × Member x rows × (e ≡ entry_of (unit_of x.update.key))
+  candidate_from e m = ⊎_elim (λ i. absurd i) (λ u. let x = unit_of_row rows u.0 u.1 in (x.0, x.1, u.2 ∙ ap entry_of x.2)) (gathered_from (units_of rows) [] e m)
 
   pub row_in_item : (x : Held) → Member x rows → Member x.update (item_of rows (unit_of x.update.key)).rows
   row_in_item x m = updated (filter (λ (h : Held). same_unit (unit_of h.update.key) (unit_of x.update.key)) rows) x

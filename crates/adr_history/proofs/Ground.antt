@@ -2,7 +2,7 @@
 use Rattle.std.proofs.Common.{◌≡◌, ◌⊎◌, inl, inr, ⊎_elim, ℕ, ◌≤◌, ◌<◌, ◌-◌, List, [], ◌∷◌, ◌++◌, Bool, true, false, refl, sym, ◌∙◌, subst, ap, arith, fold, map, length, length-append, ◌==◌, ◌&&◌, ◌||◌, not, if◌then◌else◌}
 use Rattle.std.proofs.lemmas.Bool.{eqb-true}
 use Rattle.std.proofs.lemmas.Bool.Decides.{leb_tells}
-use Rattle.std.specs.Prelude.{nat_lt, nat_le}
+use Rattle.std.specs.Prelude.{nat_lt}
 use Rattle.std.specs.Cmp.Derive.{both_true}
 use Rattle.std.proofs.lemmas.Bool.Decides.{nat_tests}
 use Rattle.adr_vector.specs.Vector.{Cursors, at}
@@ -18,11 +18,14 @@ use Rattle.adr_model.specs.Serve.{Request, Reply, last_local, is_above_mark, is_
 use Rattle.adr_model.specs.Formed.{AreAlone}
 use Rattle.adr_model.specs.Sound.{IsSent, CoversItsGround}
 use Rattle.adr_history.proofs.Filters.{kept_member, member_kept}
+use Rattle.adr_history.proofs.Past.{Tells}
 use Rattle.adr_history.proofs.Locals.{within_last, last_within}
 use Rattle.adr_history.proofs.Candidates.{Rises, entry_of, candidates_rise, candidate_there, row_in_item}
 
--- what two tests tell
-lt_tells : (a b : ℕ) → ((nat_lt a b ≡ true) × (a < b)) ⊎ ((nat_lt a b ≡ false) × (b ≤ a))
+abbrev pub LessTells : ℕ → ℕ → Type 0
+LessTells a b = ((nat_lt a b ≡ true) × (a < b)) ⊎ ((nat_lt a b ≡ false) × (b ≤ a))
+
+pub lt_tells : (a b : ℕ) → LessTells a b
 lt_tells a b = by (nat_lt a b) refl
   where
     by : (t : Bool) → nat_lt a b ≡ t → ((t ≡ true) × (a < b)) ⊎ ((t ≡ false) × (b ≤ a))
@@ -36,10 +39,7 @@ unseen_or_not rows from asked x m = by (lt_tells from.obj (last_local rows (unit
     Goal : Type 0
     Goal = Covers (at asked) x.update ⊎ (IsBelow rows from x ⊎ Member x (sendable rows from asked))
 
-    by : ((nat_lt from.obj (last_local rows (unit_of x.update.key)) ≡ true) × (from.obj < last_local rows (unit_of x.update.key))) ⊎ ((nat_lt from.obj (last_local rows (unit_of x.update.key)) ≡ false) × (last_local rows (unit_of x.update.key) ≤ from.obj))
-        → ((nat_lt from.prop x.local ≡ true) × (from.prop < x.local)) ⊎ ((nat_lt from.prop x.local ≡ false) × (x.local ≤ from.prop))
-        → ((nat_le (usn_of x.update) (at asked (inv_of x.update)) ≡ true) × (usn_of x.update ≤ at asked (inv_of x.update))) ⊎ ((nat_le (usn_of x.update) (at asked (inv_of x.update)) ≡ false) × (at asked (inv_of x.update) < usn_of x.update))
-        → Goal
+    by : LessTells from.obj (last_local rows (unit_of x.update.key)) → LessTells from.prop x.local → Tells (usn_of x.update) (at asked (inv_of x.update)) → Goal
     by (inr low) p c = inr (inl (inr (λ y n same. omega (arith, low.1, within_last rows (unit_of x.update.key) y n same))))
     by (inl high) (inr low) c = inr (inl (inl low.1))
     by (inl high) (inl up) (inl covered) = inl covered.1
@@ -47,7 +47,7 @@ unseen_or_not rows from asked x m = by (lt_tells from.obj (last_local rows (unit
 
 -- ---- the items that are sent
 
-first_front : (most bytes : ℕ) (cs : List (ℕ × Item)) → (rest : List (ℕ × Item)) × (first_items most bytes cs ++ rest ≡ cs)
+pub first_front : (most bytes : ℕ) (cs : List (ℕ × Item)) → (rest : List (ℕ × Item)) × (first_items most bytes cs ++ rest ≡ cs)
 first_front most bytes [] = ([], refl)
 first_front most bytes (c ∷ cs) = by ((most == 0) || (bytes == 0)) (first_front (most - 1) (bytes - item_length c.1) cs)
   where
@@ -65,7 +65,7 @@ nothing_left xs rest ys e h = empty rest (omega (arith, length-append xs rest, e
     empty [] l = refl
     empty (z ∷ zs) l = absurd (omega (arith, l))
 
-of_either : (xs ys : List (ℕ × Item)) (c : ℕ × Item) → Member c (xs ++ ys) → Member c xs ⊎ Member c ys
+pub of_either : (xs ys : List (ℕ × Item)) (c : ℕ × Item) → Member c (xs ++ ys) → Member c xs ⊎ Member c ys
 of_either [] ys c m = inr m
 of_either (x ∷ xs) ys c (inl e) = inl (inl e)
 of_either (x ∷ xs) ys c (inr m) = ⊎_elim (λ l. inl (inr l)) (λ r. inr r) (of_either xs ys c m)
@@ -78,7 +78,7 @@ in_front (y ∷ ys) rest z up (inl e) c (inr i) le = absurd (omega (arith, up.0 
 in_front (y ∷ ys) rest z up (inr m) c (inr i) le = inr (in_front ys rest z up.1 m c i le)
 
 -- the mark of a cut reply is where it began, or at an item that it sends
-read_to_item : (n : ℕ) (sent : List (ℕ × Item)) → (fold (λ (k : ℕ) (c : ℕ × Item). c.0) n sent ≡ n) ⊎ ((z : ℕ × Item) × Member z sent × (fold (λ (k : ℕ) (c : ℕ × Item). c.0) n sent ≡ z.0))
+pub read_to_item : (n : ℕ) (sent : List (ℕ × Item)) → (fold (λ (k : ℕ) (c : ℕ × Item). c.0) n sent ≡ n) ⊎ ((z : ℕ × Item) × Member z sent × (fold (λ (k : ℕ) (c : ℕ × Item). c.0) n sent ≡ z.0))
 read_to_item n [] = inl refl
 read_to_item n (c ∷ cs) = ⊎_elim (λ e. inr (c, inl refl, e)) (λ t. inr (t.0, inr t.1, t.2)) (read_to_item c.0 cs)
 

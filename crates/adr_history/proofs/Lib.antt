@@ -15,3 +15,5 @@ mod Moved
 mod Locals
 mod Candidates
 mod Ground
+mod Served
+mod Granted

@@ -1,12 +1,13 @@
 //! What a reply leaves out, wherever it is cut.
 
-ghost use Rattle.std.specs.Prelude.{◌≡◌};
+ghost use Rattle.std.specs.Prelude.{◌≡◌, ◌≤◌, true, Ok};
+ghost use Rattle.adr_vector.specs.Vector.{at_most};
 ghost use Rattle.adr_model.specs.Store.{State};
 ghost use Rattle.adr_model.specs.History.{rows_at};
-ghost use Rattle.adr_model.specs.Serve.{Request, reply_to};
+ghost use Rattle.adr_model.specs.Serve.{Request, Reply, shown_by, reply_to, serve};
 ghost use Rattle.adr_model.specs.Formed.{AreAlone};
 ghost use Rattle.adr_model.specs.Replica.{Scene, history_of};
-ghost use Rattle.adr_model.specs.Sound.{CoversItsGround};
+ghost use Rattle.adr_model.specs.Sound.{IsSoundScene, IsSoundState, IsSoundRequest, IsSoundReply, CoversItsGround};
 
 /// A row that the end of a reply leaves out is covered by the request, or is sent, or was left out
 /// by the mark at which the reply begins. So it is where the state's rows are those of its log, and
@@ -14,4 +15,18 @@ ghost use Rattle.adr_model.specs.Sound.{CoversItsGround};
 #[tactic(none)]
 pub fn replies_cover_their_ground()
     ensures { (sc : Scene) (s : State) (q : Request) → s.store.rows ≡ rows_at (history_of sc s.inv) s.store.usn → AreAlone s.store.rows → CoversItsGround (reply_to s q) (history_of sc s.inv) }
+{}
+
+/// What a sound state answers to a sound request is a sound reply.
+#[tactic(none)]
+pub fn served_replies_are_sound()
+    ensures served { (sc : Scene) (s : State) (q : Request) (r : Reply) → IsSoundScene sc → IsSoundState sc s → IsSoundRequest sc q → serve s q ≡ Ok r → IsSoundReply sc r }
+    ensures covered { (sc : Scene) (s : State) (q : Request) → IsSoundScene sc → IsSoundState sc s → IsSoundRequest sc q → at_most s.store.purged q.vector ≡ true → IsSoundReply sc (reply_to s q) }
+{}
+
+/// A sound request shows no more of an incarnation than its controller has done, so that none is
+/// refused for a rollback.
+#[tactic(none)]
+pub fn sound_requests_show_no_rollback()
+    ensures { (sc : Scene) (s : State) (q : Request) → IsSoundState sc s → IsSoundRequest sc q → shown_by s q ≤ s.store.usn }
 {}
