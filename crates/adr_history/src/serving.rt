@@ -1,4 +1,4 @@
-//! What a reply leaves out, wherever it is cut.
+//! Serving: what a reply leaves out, wherever it is cut, and that it is sound.
 
 ghost use Rattle.std.specs.Prelude.{◌≡◌, ◌≤◌, true, Ok};
 ghost use Rattle.adr_vector.specs.Vector.{at_most};
@@ -24,8 +24,8 @@ pub fn served_replies_are_sound()
     ensures covered { (sc : Scene) (s : State) (q : Request) → IsSoundScene sc → IsSoundState sc s → IsSoundRequest sc q → at_most s.store.purged q.vector ≡ true → IsSoundReply sc (reply_to s q) }
 {}
 
-/// A sound request shows no more of an incarnation than its controller has done, so that none is
-/// refused for a rollback.
+/// A sound request shows no more of an incarnation than its controller has done; one is refused for
+/// a rollback only where it shows more.
 #[tactic(none)]
 pub fn sound_requests_show_no_rollback()
     ensures { (sc : Scene) (s : State) (q : Request) → IsSoundState sc s → IsSoundRequest sc q → shown_by s q ≤ s.store.usn }
