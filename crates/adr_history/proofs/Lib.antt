@@ -17,3 +17,4 @@ mod Candidates
 mod Ground
 mod Served
 mod Granted
+mod Asked

@@ -1,9 +1,9 @@
 //! Laws of the local logs of controllers, and of the scenes in which they stand. A log is a list of
 //! changes, the newest first; a mark speaks of what stood at a USN between two of them. The laws say
 //! what later rows keep of earlier ones, and that what was true of a scene stays true as it grows.
-//! They stand on the definitions of the model alone, and of all kinds of call they know serving: what
-//! a sound state answers is a sound reply. The functions here have no code, and their contracts are
-//! the laws.
+//! They stand on the definitions of the model alone, and of all kinds of call they know asking and
+//! serving: what a sound state answers is a sound reply. The functions here have no code, and their
+//! contracts are the laws.
 #![tactic(auto)]
 
 mod logs;
@@ -18,5 +18,6 @@ pub use scenes::{
     what_is_sound_stays_sound,
 };
 pub use serving::{
-    replies_cover_their_ground, served_replies_are_sound, sound_requests_show_no_rollback,
+    asked_requests_are_sound, replies_cover_their_ground, served_replies_are_sound,
+    sound_requests_show_no_rollback,
 };

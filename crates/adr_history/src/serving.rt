@@ -1,13 +1,15 @@
-//! Serving: what a reply leaves out, wherever it is cut, and that it is sound.
+//! Asking and serving: what is asked is sound, what a reply leaves out, wherever it is cut, and that it is sound.
 
-ghost use Rattle.std.specs.Prelude.{◌≡◌, ◌≤◌, true, Ok};
+ghost use Rattle.std.specs.Prelude.{◌≡◌, ◌≢◌, ◌≤◌, ℕ, true, Ok, Err};
+ghost use Rattle.adr_event.specs.declared.refusal.ServeRefusal.TheVariants.{RolledBack};
 ghost use Rattle.adr_vector.specs.Vector.{at_most};
+ghost use Rattle.adr_model.specs.Update.{Identifier};
 ghost use Rattle.adr_model.specs.Store.{State};
 ghost use Rattle.adr_model.specs.History.{rows_at};
-ghost use Rattle.adr_model.specs.Serve.{Request, Reply, shown_by, reply_to, serve};
+ghost use Rattle.adr_model.specs.Serve.{Request, Reply, ask, shown_by, reply_to, serve};
 ghost use Rattle.adr_model.specs.Formed.{AreAlone};
 ghost use Rattle.adr_model.specs.Replica.{Scene, history_of};
-ghost use Rattle.adr_model.specs.Sound.{IsSoundScene, IsSoundState, IsSoundRequest, IsSoundReply, CoversItsGround};
+ghost use Rattle.adr_model.specs.Sound.{IsSoundScene, IsSoundStore, IsSoundState, IsSoundRequest, IsSoundReply, CoversItsGround};
 
 /// A row that the end of a reply leaves out is covered by the request, or is sent, or was left out
 /// by the mark at which the reply begins. So it is where the state's rows are those of its log, and
@@ -17,6 +19,12 @@ pub fn replies_cover_their_ground()
     ensures { (sc : Scene) (s : State) (q : Request) → s.store.rows ≡ rows_at (history_of sc s.inv) s.store.usn → AreAlone s.store.rows → CoversItsGround (reply_to s q) (history_of sc s.inv) }
 {}
 
+/// What a sound store asks is a sound request, whoever the partner is.
+#[tactic(none)]
+pub fn asked_requests_are_sound()
+    ensures { (sc : Scene) (s : State) (partner : Identifier) (max : ℕ) → IsSoundStore sc s.store → IsSoundRequest sc (ask s partner max) }
+{}
+
 /// What a sound state answers to a sound request is a sound reply.
 #[tactic(none)]
 pub fn served_replies_are_sound()
@@ -24,9 +32,10 @@ pub fn served_replies_are_sound()
     ensures covered { (sc : Scene) (s : State) (q : Request) → IsSoundScene sc → IsSoundState sc s → IsSoundRequest sc q → at_most s.store.purged q.vector ≡ true → IsSoundReply sc (reply_to s q) }
 {}
 
-/// A sound request shows no more of an incarnation than its controller has done; one is refused for
-/// a rollback only where it shows more.
+/// A sound request shows no more of an incarnation than its controller has done, and so none is
+/// refused for a rollback.
 #[tactic(none)]
 pub fn sound_requests_show_no_rollback()
-    ensures { (sc : Scene) (s : State) (q : Request) → IsSoundState sc s → IsSoundRequest sc q → shown_by s q ≤ s.store.usn }
+    ensures shown { (sc : Scene) (s : State) (q : Request) → IsSoundState sc s → IsSoundRequest sc q → shown_by s q ≤ s.store.usn }
+    ensures refused { (sc : Scene) (s : State) (q : Request) (inv : Identifier) (mine shown : ℕ) → IsSoundState sc s → IsSoundRequest sc q → serve s q ≢ Err (RolledBack inv mine shown) }
 {}
