@@ -18,3 +18,5 @@ mod Ground
 mod Served
 mod Granted
 mod Asked
+mod Woken
+mod Empty

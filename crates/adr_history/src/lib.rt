@@ -1,8 +1,9 @@
 //! Laws of the local logs of controllers, and of the scenes in which they stand. A log is a list of
 //! changes, the newest first; a mark speaks of what stood at a USN between two of them. The laws say
 //! what later rows keep of earlier ones, and that what was true of a scene stays true as it grows.
-//! They stand on the definitions of the model alone, and of all kinds of call they know asking and
-//! serving: what a sound state answers is a sound reply. The functions here have no code, and their
+//! They stand on the definitions of the model alone, and of all kinds of call they know asking,
+//! serving and adopting: what a sound state asks and answers is sound, and so is who is made of a
+//! sound image. The functions here have no code, and their
 //! contracts are the laws.
 #![tactic(auto)]
 
@@ -14,8 +15,8 @@ pub use logs::{
     changes_account_for_rows, later_rows_keep_a_cut, logs_are_bounded, logs_go_on, marks_move_on,
 };
 pub use scenes::{
-    a_change_is_recorded, a_reply_moves_its_mark, an_incarnation_begins, later_is_an_order,
-    what_is_sound_stays_sound,
+    a_change_is_recorded, a_reply_moves_its_mark, adopted_images_are_sound, an_incarnation_begins,
+    later_is_an_order, new_controllers_are_sound, what_is_sound_stays_sound,
 };
 pub use serving::{
     asked_requests_are_sound, replies_cover_their_ground, served_replies_are_sound,

@@ -1,12 +1,13 @@
 //! How scenes grow, and that what was sound of one stays so.
 
-ghost use Rattle.std.specs.Prelude.{◌≡◌, ◌≢◌, ◌≤◌, ℕ, List};
+ghost use Rattle.std.specs.Prelude.{◌≡◌, ◌≢◌, ◌≤◌, ℕ, List, Ok};
 ghost use Rattle.adr_model.specs.Member.{Member, Each};
 ghost use Rattle.adr_model.specs.Update.{Identifier, Update};
 ghost use Rattle.adr_vector.specs.declared.mark.Mark.{Mark};
 ghost use Rattle.adr_model.specs.Reflects.{Numbers, Covers, Knowledge, Reflects};
-ghost use Rattle.adr_model.specs.Store.{Store, State};
+ghost use Rattle.adr_model.specs.Store.{Store, State, empty_state};
 ghost use Rattle.adr_model.specs.History.{no_history, Follows};
+ghost use Rattle.adr_model.specs.Collect.{adopt};
 ghost use Rattle.adr_model.specs.Serve.{Request, Reply};
 ghost use Rattle.adr_model.specs.Replica.{Pending, issued_by, Replica, Scene, history_of, with_change, begun, recorded};
 ghost use Rattle.adr_model.specs.Sound.{last_of, IsBounded, IsSoundScene, IsSoundMark, IsSoundStore, IsSoundState, IsSoundRequest, IsSoundReply, IsSoundReplica};
@@ -29,6 +30,22 @@ pub fn an_incarnation_begins()
     ensures sound { (s : Scene) (d : State) → history_of s d.inv ≡ no_history → Each (λ x. (1 ≤ x.local) × (x.local ≤ d.store.usn)) d.store.rows → Each (λ x. Member x.update s.issued) d.store.rows → IsSoundScene s → IsSoundScene (begun s d) }
     ensures own { (s : Scene) (d : State) → history_of (begun s d) d.inv ≡ first_log d.store.usn d.store.rows }
     ensures others { (s : Scene) (d : State) (i : Identifier) → i ≢ d.inv → history_of (begun s d) i ≡ history_of s i }
+{}
+
+/// A controller that is made of a sound image, under an identifier that was never used, is sound, and
+/// so is the scene in which its incarnation begins.
+#[tactic(none)]
+pub fn adopted_images_are_sound()
+    ensures { (sc : Scene) (image : Store) (dsa inv : Identifier) (s : State) → IsSoundScene sc → IsSoundStore sc image → history_of sc inv ≡ no_history → adopt image dsa inv ≡ Ok s
+        → IsLater sc (begun sc s) × (IsSoundScene (begun sc s) × IsSoundState (begun sc s) s) }
+{}
+
+/// A new controller under an identifier that was never used is sound, and so is the scene in which
+/// its incarnation begins.
+#[tactic(none)]
+pub fn new_controllers_are_sound()
+    ensures { (sc : Scene) (dsa inv : Identifier) → IsSoundScene sc → history_of sc inv ≡ no_history
+        → IsLater sc (begun sc (empty_state dsa inv)) × (IsSoundScene (begun sc (empty_state dsa inv)) × IsSoundState (begun sc (empty_state dsa inv)) (empty_state dsa inv)) }
 {}
 
 /// A change becomes safe with what it issues: the scene is later, and stays sound where the change

@@ -1,0 +1,222 @@
+-- A controller that is made of an image under a fresh identifier.
+use Rattle.std.proofs.Common.{◌≡◌, inl, inr, ⊎_elim, ℕ, ◌≤◌, List, [], ◌∷◌, Bool, true, false, cond, Option, Some, None, Ok, refl, sym, ◌∙◌, subst, ap, arith, max, length, ◌||◌, nat_le, if◌then◌else◌}
+use Rattle.std.specs.Prelude.{nat_lt}
+use Rattle.std.specs.List.{list_any}
+use Rattle.std.specs.Bool.{then_some}
+use Rattle.std.specs.Option.{option_or}
+use Rattle.std.specs.Ordering.{is_eq}
+use Rattle.std.proofs.lemmas.Bool.Decides.{nat_tests}
+use Rattle.std.proofs.lemmas.Map.Lookups.{exact_bytes}
+use Rattle.adr_stamp.specs.Order.{identifier_order}
+use Rattle.adr_stamp.specs.declared.Oid.{Oid}
+use Rattle.adr_vector.specs.Vector.{at, raised, most_cursors}
+use Rattle.adr_vector.proofs.Comparing.{everywhere_from_at_most, at_most_from_everywhere}
+use Rattle.adr_vector.proofs.Joining.{at-raised, raised_here, rising-raised, from_one-raised}
+use Rattle.adr_event.specs.declared.refusal.AdoptRefusal.{AdoptRefusal}
+use Rattle.adr_event.specs.declared.refusal.AdoptRefusal.TheVariants.{IdentifierUsed, Full}
+use Rattle.adr_event.specs.declared.refusal.Table.TheVariants.{Cursors as CursorTable}
+use Rattle.adr_model.specs.Member.{Member, Each}
+use Rattle.adr_model.specs.Refusing.{unless}
+use Rattle.adr_model.specs.Update.{Identifier, Update, inv_of, ends, same_identifier}
+use Rattle.adr_model.specs.Reflects.{Numbers, AtMost, Covers, Reflects, knowledge_of}
+use Rattle.adr_model.specs.Store.{Held, Kept, Store, State, updates_of}
+use Rattle.adr_model.specs.History.{History, no_history, last_usn, rows_at}
+use Rattle.adr_model.specs.Formed.{IsFormedStore, IsClosed}
+use Rattle.adr_model.specs.Collect.{names_inv, woken, adopt}
+use Rattle.adr_model.specs.Replica.{Scene, history_of, begun}
+use Rattle.adr_model.specs.Sound.{last_of, IsBounded, IsSoundMark, IsSoundScene, IsSoundStore, IsSoundState}
+use Rattle.adr_model.proofs.Keys.{equal_order}
+use Rattle.adr_history.specs.Logs.{first_log}
+use Rattle.adr_history.specs.Later.{IsLater}
+use Rattle.adr_history.proofs.Begun.{begun_later, begun_sound}
+use Rattle.adr_history.proofs.Frames.{mark_later}
+use Rattle.adr_history.proofs.Tables.{entry_itself}
+
+-- a vector that is further on loses nothing
+vector_up : (issued : List Update) (rows : List Update) (V W P : Numbers) → AtMost V W → (u : Update)
+    → Reflects issued (record { rows = rows; vector = V; purged = P }) u → Reflects issued (record { rows = rows; vector = W; purged = P }) u
+vector_up issued rows V W P up u (inl h) = inl h
+vector_up issued rows V W P up u (inr (o, m, inl b)) = inr (o, m, inl (b.0, λ d. omega (arith, b.1 d, up (inv_of u))))
+vector_up issued rows V W P up u (inr (o, m, inr g)) = inr (o, m, inr (record { absent = g.absent; birth = g.birth; death = g.death; is_issued = g.is_issued; is_death = g.is_death; is_covered = g.is_covered }))
+
+none_of : {A : Type 0} (test : A → Bool) (xs : List A) → list_any test xs ≡ false → Each (λ x. test x ≡ false) xs
+none_of test [] none x m = absurd m
+none_of test (y ∷ ys) none x m = by (test y) refl none m (λ rest n. none_of test ys rest x n)
+  where
+    by : (b : Bool) → test y ≡ b → (b || list_any test ys) ≡ false → Member x (y ∷ ys) → (list_any test ys ≡ false → Member x ys → test x ≡ false) → test x ≡ false
+    by true is none m rest = absurd (cc)
+    by false is none (inl e) rest = ap test e ∙ is
+    by false is none (inr n) rest = rest none n
+
+neither : (a b : Bool) → (a || b) ≡ false → (a ≡ false) × (b ≡ false)
+neither false b h = (refl, h)
+neither true b h = absurd (cc)
+
+row_of : (hs : List Held) (u : Update) → Member u (updates_of hs) → (h : Held) × Member h hs × (h.update ≡ u)
+row_of [] u m = absurd m
+row_of (h ∷ hs) u (inl e) = (h, inl refl, sym e)
+row_of (h ∷ hs) u (inr m) = let t = row_of hs u m in (t.0, inr t.1, t.2)
+
+abbrev is_of : Identifier → Oid → Bool
+is_of inv o = same_identifier o.birth.inv inv
+
+abbrev row_names : Identifier → Held → Bool
+row_names inv h = same_identifier (inv_of h.update) inv || list_any (is_of inv) (ends h.update.key)
+
+third : (a b c d : Bool) → (a || b || c || d) ≡ false → c ≡ false
+third a b c d h = (neither (a || b) c (neither (a || b || c) d h).0).1
+
+rows_none : (image : Store) (inv : Identifier) → names_inv image inv ≡ false → list_any (row_names inv) image.rows ≡ false
+rows_none image inv none =
+    third (list_any (λ (c : Identifier × ℕ). same_identifier c.0 inv) image.vector) (list_any (λ (c : Identifier × ℕ). same_identifier c.0 inv) image.purged)
+    (list_any (row_names inv) image.rows) (list_any (λ (k : Identifier × Kept). same_identifier k.1.inv inv) image.marks) none
+
+-- no end of a row was born under an identifier that the image doesn't name
+unborn : (image : Store) (inv : Identifier) → names_inv image inv ≡ false → (u : Update) → Member u (updates_of image.rows) → (o : Oid) → Member o (ends u.key) → same_identifier o.birth.inv inv ≡ false
+unborn image inv none u m o n = none_of (is_of inv) (ends u.key) ends_none o n
+  where
+    t : (h : Held) × Member h image.rows × (h.update ≡ u)
+    t = row_of image.rows u m
+
+    row_none : (same_identifier (inv_of t.0.update) inv || list_any (is_of inv) (ends t.0.update.key)) ≡ false
+    row_none = none_of (row_names inv) image.rows (rows_none image inv none) t.0 t.1
+
+    ends_none : list_any (is_of inv) (ends u.key) ≡ false
+    ends_none = subst (λ (v : Update). list_any (is_of inv) (ends v.key) ≡ false) t.2 (neither (same_identifier (inv_of t.0.update) inv) (list_any (is_of inv) (ends t.0.update.key)) row_none).1
+
+module _ (sc : Scene) (image : Store) (dsa inv : Identifier) (scene : IsSoundScene sc) (sound : IsSoundStore sc image) (fresh : history_of sc inv ≡ no_history)
+    (unnamed : names_inv image inv ≡ false) (few : length (raised image.vector inv image.usn) ≤ most_cursors) where
+  abbrev d : State
+  d = woken image dsa inv
+
+  abbrev next : Scene
+  next = begun sc d
+
+  abbrev V : Numbers
+  V = at image.vector
+
+  abbrev W : Numbers
+  W = at d.store.vector
+
+  later : IsLater sc next
+  later = begun_later sc d fresh sound.formed.locals
+
+  unused : last_of sc inv ≡ 0
+  unused = ap last_usn fresh
+
+  log : history_of next inv ≡ first_log image.usn image.rows
+  log = entry_itself sc.histories no_history inv (first_log image.usn image.rows)
+
+  last : last_of next inv ≡ image.usn
+  last = ap last_usn log
+
+  up : AtMost V W
+  up i = omega (arith, at-raised image.vector inv image.usn i)
+
+  -- at another identifier nothing was raised
+  W_is : (i : Identifier) → W i ≡ max (V i) (cond (is_eq (identifier_order i inv)) image.usn 0)
+  W_is i = at-raised image.vector inv image.usn i
+
+  same : (i : Identifier) → is_eq (identifier_order i inv) ≡ true → i ≡ inv
+  same i is = exact_bytes i inv (equal_order (identifier_order i inv) is)
+
+  elsewhere : (i : Identifier) → is_eq (identifier_order i inv) ≡ false → W i ≡ V i
+  elsewhere i is = W_is i ∙ ap (λ b. max (V i) (cond b image.usn 0)) is ∙ omega arith
+
+  bounded : IsBounded next W
+  bounded i = by (is_eq (identifier_order i inv)) refl
+    where
+      by : (b : Bool) → is_eq (identifier_order i inv) ≡ b → W i ≤ last_of next i
+      by true is = let e : W i ≡ max (V i) image.usn = W_is i ∙ ap (λ b. max (V i) (cond b image.usn 0)) is in
+          omega (arith, e, sound.bounded i, later.rising i, last, ap (last_of next) (same i is))
+      by false is = omega (arith, elsewhere i is, sound.bounded i, later.rising i)
+
+  covered : Each (λ u. Covers W u → Reflects next.issued (knowledge_of d.store) u) next.issued
+  covered u m c = by (is_eq (identifier_order (inv_of u) inv)) refl
+    where
+      by : (b : Bool) → is_eq (identifier_order (inv_of u) inv) ≡ b → Reflects next.issued (knowledge_of d.store) u
+      by true is = absurd (omega (arith, (scene.once u m).0, (scene.once u m).1, unused, ap (last_of sc) (same (inv_of u) is)))
+      by false is = vector_up sc.issued (updates_of image.rows) V W (at image.purged) up u (sound.covered u m (omega (arith, c, elsewhere (inv_of u) is)))
+
+  closed : IsClosed d.store
+  closed l r m e o n = ⊎_elim (λ held. inl held) (λ not_born. inr (λ born. not_born (omega (arith, born, elsewhere o.birth.inv (unborn image inv unnamed r m o (subst (λ k. Member o (ends k)) (sym e) n)))))) (sound.closed l r m e o n)
+
+  formed : IsFormedStore d.store
+  formed = record {
+    vector = record { rising = rising-raised image.vector inv image.usn sound.formed.vector.rising; from_one = from_one-raised image.vector inv image.usn sound.formed.vector.from_one; few = few };
+    purged = sound.formed.purged;
+    purged_within = at_most_from_everywhere image.purged d.store.vector sound.formed.purged.rising (λ i. omega (arith, everywhere_from_at_most image.purged image.vector sound.formed.purged_within i, up i));
+    marks = sound.formed.marks;
+    rising = sound.formed.rising;
+    locals = sound.formed.locals;
+    alone = sound.formed.alone;
+    rows = sound.formed.rows;
+    limits = record { objects = sound.formed.limits.objects; links = sound.formed.limits.links; marks = sound.formed.limits.marks };
+  }
+
+  raised_mark : (i : Identifier) (k : Kept) → IsSoundMark sc (knowledge_of image) k.inv k.mark → IsSoundMark next (knowledge_of d.store) k.inv k.mark
+  raised_mark i k is = mark_later sc next later (knowledge_of d.store) k.inv k.mark (record {
+    ordered = is.ordered;
+    seen = is.seen;
+    cut = is.cut;
+    watermark = λ x m below. vector_up sc.issued (updates_of image.rows) V W (at image.purged) up x.update (is.watermark x m below);
+  })
+
+  woken_store : IsSoundStore next d.store
+  woken_store = record {
+    known = sound.known;
+    bounded = bounded;
+    covered = covered;
+    formed = formed;
+    closed = closed;
+    classes = sound.classes;
+    marks = λ k m. raised_mark k.0 k.1 (sound.marks k m);
+  }
+
+  pub woken_state : IsSoundState next d
+  woken_state = record {
+    store = woken_store;
+    formed = record { store = formed; own = omega (arith, raised_here image.vector inv image.usn, sound.bounded inv, unused) };
+    last = sym last;
+    rows = sym (ap (λ (h : History). rows_at h image.usn) log ∙ by (nat_le image.usn image.usn) (all_read image.usn));
+  }
+    where
+      all_read : (n : ℕ) → nat_le n n ≡ true
+      all_read n = grind (arith, nat_tests)
+
+      by : (b : Bool) → b ≡ true → (if b then image.rows else []) ≡ image.rows
+      by true is = refl
+      by false is = absurd (cc)
+
+adopted : (a b : Option AdoptRefusal) (d s : State) → unless (option_or a b) d ≡ Ok s → (a ≡ None) × ((b ≡ None) × (d ≡ s))
+adopted None None d s e = (refl, (refl, cc))
+adopted None (Some x) d s e = absurd (cc)
+adopted (Some x) b d s e = absurd (cc)
+
+unmet : (b : Bool) (x : AdoptRefusal) → then_some b x ≡ None → b ≡ false
+unmet false x e = refl
+unmet true x e = absurd (cc)
+
+within : (a b : ℕ) → nat_lt a b ≡ false → b ≤ a
+within a b h = grind (arith, nat_tests)
+
+pub adopted_is_sound : (sc : Scene) (image : Store) (dsa inv : Identifier) (s : State) → IsSoundScene sc → IsSoundStore sc image → history_of sc inv ≡ no_history → adopt image dsa inv ≡ Ok s
+    → IsLater sc (begun sc s) × (IsSoundScene (begun sc s) × IsSoundState (begun sc s) s)
+adopted_is_sound sc image dsa inv s scene sound fresh e = subst (λ (z : State). IsLater sc (begun sc z) × (IsSoundScene (begun sc z) × IsSoundState (begun sc z) z)) t.1.1 (
+  begun_later sc d fresh sound.formed.locals,
+  (begun_sound sc d fresh sound.formed.locals known scene, woken_state sc image dsa inv scene sound fresh (unmet _ IdentifierUsed t.0) (within most_cursors (length d.store.vector) (unmet _ (Full CursorTable most_cursors) t.1.0))),
+)
+  where
+    d : State
+    d = woken image dsa inv
+
+    t : (then_some (names_inv image inv) IdentifierUsed ≡ None) × ((then_some (nat_lt most_cursors (length d.store.vector)) (Full CursorTable most_cursors) ≡ None) × (d ≡ s))
+    t = adopted (then_some (names_inv image inv) IdentifierUsed) (then_some (nat_lt most_cursors (length d.store.vector)) (Full CursorTable most_cursors)) d s e
+
+    of_row : (hs : List Held) (x : Held) → Member x hs → Member x.update (updates_of hs)
+    of_row [] x m = absurd m
+    of_row (h ∷ hs) x (inl is) = inl (ap (λ (z : Held). z.update) is)
+    of_row (h ∷ hs) x (inr m) = inr (of_row hs x m)
+
+    known : Each (λ (x : Held). Member x.update sc.issued) image.rows
+    known x m = sound.known x.update (of_row image.rows x m)
