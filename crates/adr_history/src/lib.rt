@@ -2,9 +2,8 @@
 //! changes, the newest first; a mark speaks of what stood at a USN between two of them. The laws say
 //! what later rows keep of earlier ones, and that what was true of a scene stays true as it grows.
 //! They stand on the definitions of the model alone, and of all kinds of call they know asking,
-//! serving and adopting: what a sound state asks and answers is sound, and so is who is made of a
-//! sound image. The functions here have no code, and their
-//! contracts are the laws.
+//! serving and adopting: what a sound state asks and answers is sound, and so is a controller that is
+//! made of a sound image. The functions here have no code, and their contracts are the laws.
 #![tactic(auto)]
 
 mod logs;
