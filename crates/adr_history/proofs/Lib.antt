@@ -20,3 +20,4 @@ mod Granted
 mod Asked
 mod Woken
 mod Empty
+mod Settling

@@ -7,12 +7,14 @@
 #![tactic(auto)]
 
 mod logs;
+mod moves;
 mod scenes;
 mod serving;
 
 pub use logs::{
     changes_account_for_rows, later_rows_keep_a_cut, logs_are_bounded, logs_go_on, marks_move_on,
 };
+pub use moves::moves_keep_what_is_sound;
 pub use scenes::{
     a_change_is_recorded, a_reply_moves_its_mark, adopted_images_are_sound, an_incarnation_begins,
     later_is_an_order, new_controllers_are_sound, what_is_sound_stays_sound,
