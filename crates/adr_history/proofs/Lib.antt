@@ -21,3 +21,4 @@ mod Asked
 mod Woken
 mod Empty
 mod Settling
+mod Written

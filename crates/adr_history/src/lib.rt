@@ -2,14 +2,16 @@
 //! changes, the newest first; a mark speaks of what stood at a USN between two of them. The laws say
 //! what later rows keep of earlier ones, and that what was true of a scene stays true as it grows.
 //! They stand on the definitions of the model alone, and of all kinds of call they know asking,
-//! serving and adopting: what a sound state asks and answers is sound, and so is a controller that is
-//! made of a sound image. The functions here have no code, and their contracts are the laws.
+//! serving, adopting and writing: what a sound state asks and answers is sound, and so is a controller
+//! that is made of a sound image; a client's write issues its controller's own. The functions here have
+//! no code, and their contracts are the laws.
 #![tactic(auto)]
 
 mod logs;
 mod moves;
 mod scenes;
 mod serving;
+mod writing;
 
 pub use logs::{
     changes_account_for_rows, later_rows_keep_a_cut, logs_are_bounded, logs_go_on, marks_move_on,
@@ -23,3 +25,4 @@ pub use serving::{
     asked_requests_are_sound, replies_cover_their_ground, served_replies_are_sound,
     sound_requests_show_no_rollback,
 };
+pub use writing::writes_issue_their_own;
