@@ -12,9 +12,10 @@ use Rattle.adr_stamp.specs.Order.{unit_order}
 use Rattle.adr_stamp.proofs.Units.{exact_units}
 use Rattle.adr_model.specs.Member.{Member, Each}
 use Rattle.adr_model.specs.Update.{unit_of, same_unit}
-use Rattle.adr_model.specs.Store.{Held, updates_of}
+use Rattle.adr_model.specs.Store.{Held}
 use Rattle.adr_model.specs.Change.{Item}
 use Rattle.adr_model.specs.Serve.{last_local, units_of, item_of, by_last_local}
+use Rattle.adr_history.proofs.Rows.{updated}
 use Rattle.adr_history.proofs.Filters.{kept_member}
 use Rattle.adr_history.proofs.Locals.{unit_itself}
 
@@ -179,8 +180,3 @@ module _ (all rows : List Held) where
   pub row_in_item : (x : Held) → Member x rows → Member x.update (item_of rows (unit_of x.update.key)).rows
   row_in_item x m = updated (filter (λ (h : Held). same_unit (unit_of h.update.key) (unit_of x.update.key)) rows) x
       (kept_member (λ (h : Held). same_unit (unit_of h.update.key) (unit_of x.update.key)) rows x m (unit_itself (unit_of x.update.key) (unit_of x.update.key) refl))
-    where
-      updated : (hs : List Held) (y : Held) → Member y hs → Member y.update (updates_of hs)
-      updated [] y j = absurd j
-      updated (h ∷ hs) y (inl e) = inl (ap (λ (z : Held). z.update) e)
-      updated (h ∷ hs) y (inr j) = inr (updated hs y j)

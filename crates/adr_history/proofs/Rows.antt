@@ -1,12 +1,22 @@
--- The members of rows with one more.
+-- The members of rows with one more, and rows as updates.
 use Rattle.std.proofs.Common.{◌≡◌, ◌⊎◌, inl, inr, List, [], ◌∷◌, refl, sym, ap, ◌∙◌}
 use Rattle.std.specs.Ordering.{match_ordering}
 use Rattle.std.specs.declared.cmp.Ordering.{Ordering}
 use Rattle.std.specs.declared.cmp.Ordering.TheVariants.{Less, Equal, Greater}
 use Rattle.adr_model.specs.Member.{Member}
-use Rattle.adr_model.specs.Update.{key_order}
-use Rattle.adr_model.specs.Store.{Held, with_row}
+use Rattle.adr_model.specs.Update.{Update, key_order}
+use Rattle.adr_model.specs.Store.{Held, with_row, updates_of}
 use Rattle.adr_model.proofs.Keys.{exact_keys}
+
+pub updated : (hs : List Held) (x : Held) → Member x hs → Member x.update (updates_of hs)
+updated [] x m = absurd m
+updated (h ∷ hs) x (inl e) = inl (ap (λ (z : Held). z.update) e)
+updated (h ∷ hs) x (inr m) = inr (updated hs x m)
+
+pub updated_from : (hs : List Held) (u : Update) → Member u (updates_of hs) → (x : Held) × Member x hs × (x.update ≡ u)
+updated_from [] u m = absurd m
+updated_from (h ∷ hs) u (inl e) = (h, inl refl, sym e)
+updated_from (h ∷ hs) u (inr m) = let t = updated_from hs u m in (t.0, inr t.1, t.2)
 
 pub written_itself : (rows : List Held) (h : Held) → Member h (with_row rows h)
 written_itself [] h = inl refl

@@ -22,6 +22,7 @@ use Rattle.adr_model.specs.Serve.{Request, Reply, last_local, is_above_mark, is_
 use Rattle.adr_model.specs.Replica.{Scene, history_of}
 use Rattle.adr_model.specs.Sound.{last_of, IsSoundScene, IsSoundState, IsSoundRequest, IsExact, IsSoundLast, IsSoundReply, CoversItsGround, AreClassesKnown}
 use Rattle.adr_model.proofs.Keys.{equal_order}
+use Rattle.adr_history.proofs.Rows.{updated, updated_from}
 use Rattle.adr_history.proofs.Filters.{kept_member, member_kept}
 use Rattle.adr_history.proofs.Past.{Tells}
 use Rattle.adr_history.proofs.Locals.{last_within, unit_itself, units_of_test}
@@ -53,16 +54,6 @@ purged_up issued rows V P Q up u (inr (o, m, inr g)) = inr (
     is_covered = omega (arith, g.is_covered, up (inv_of g.death));
   }),
 )
-
-updated : (hs : List Held) (x : Held) → Member x hs → Member x.update (updates_of hs)
-updated [] x m = absurd m
-updated (h ∷ hs) x (inl e) = inl (ap (λ (z : Held). z.update) e)
-updated (h ∷ hs) x (inr m) = inr (updated hs x m)
-
-updated_from : (hs : List Held) (u : Update) → Member u (updates_of hs) → (x : Held) × Member x hs × (x.update ≡ u)
-updated_from [] u m = absurd m
-updated_from (h ∷ hs) u (inl e) = (h, inl refl, sym e)
-updated_from (h ∷ hs) u (inr m) = let t = updated_from hs u m in (t.0, inr t.1, t.2)
 
 item_from : (cs : List (ℕ × Item)) (i : Item) → Member i (map (λ (c : ℕ × Item). c.1) cs) → (c : ℕ × Item) × Member c cs × (i ≡ c.1)
 item_from [] i m = absurd m

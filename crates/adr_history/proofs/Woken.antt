@@ -1,5 +1,5 @@
 -- A controller that is made of an image under a fresh identifier.
-use Rattle.std.proofs.Common.{◌≡◌, inl, inr, ⊎_elim, ℕ, ◌≤◌, List, [], ◌∷◌, Bool, true, false, cond, Option, Some, None, Ok, refl, sym, ◌∙◌, subst, ap, arith, max, length, ◌||◌, nat_le, if◌then◌else◌}
+use Rattle.std.proofs.Common.{◌≡◌, inl, inr, ⊎_elim, ℕ, ◌≤◌, List, [], Bool, true, false, cond, Option, Some, None, Ok, refl, sym, ◌∙◌, subst, ap, arith, max, length, ◌||◌, nat_le, if◌then◌else◌}
 use Rattle.std.specs.Prelude.{nat_lt}
 use Rattle.std.specs.List.{list_any}
 use Rattle.std.specs.Bool.{then_some}
@@ -28,6 +28,8 @@ use Rattle.adr_model.specs.Sound.{last_of, IsBounded, IsSoundMark, IsSoundScene,
 use Rattle.adr_model.proofs.Keys.{equal_order}
 use Rattle.adr_history.specs.Logs.{first_log}
 use Rattle.adr_history.specs.Later.{IsLater}
+use Rattle.adr_model.proofs.Members.{each_fails}
+use Rattle.adr_history.proofs.Rows.{updated, updated_from}
 use Rattle.adr_history.proofs.Begun.{begun_later, begun_sound}
 use Rattle.adr_history.proofs.Frames.{mark_later}
 use Rattle.adr_history.proofs.Tables.{entry_itself}
@@ -39,23 +41,9 @@ vector_up issued rows V W P up u (inl h) = inl h
 vector_up issued rows V W P up u (inr (o, m, inl b)) = inr (o, m, inl (b.0, λ d. omega (arith, b.1 d, up (inv_of u))))
 vector_up issued rows V W P up u (inr (o, m, inr g)) = inr (o, m, inr (record { absent = g.absent; birth = g.birth; death = g.death; is_issued = g.is_issued; is_death = g.is_death; is_covered = g.is_covered }))
 
-none_of : {A : Type 0} (test : A → Bool) (xs : List A) → list_any test xs ≡ false → Each (λ x. test x ≡ false) xs
-none_of test [] none x m = absurd m
-none_of test (y ∷ ys) none x m = by (test y) refl none m (λ rest n. none_of test ys rest x n)
-  where
-    by : (b : Bool) → test y ≡ b → (b || list_any test ys) ≡ false → Member x (y ∷ ys) → (list_any test ys ≡ false → Member x ys → test x ≡ false) → test x ≡ false
-    by true is none m rest = absurd (cc)
-    by false is none (inl e) rest = ap test e ∙ is
-    by false is none (inr n) rest = rest none n
-
 neither : (a b : Bool) → (a || b) ≡ false → (a ≡ false) × (b ≡ false)
 neither false b h = (refl, h)
 neither true b h = absurd (cc)
-
-row_of : (hs : List Held) (u : Update) → Member u (updates_of hs) → (h : Held) × Member h hs × (h.update ≡ u)
-row_of [] u m = absurd m
-row_of (h ∷ hs) u (inl e) = (h, inl refl, sym e)
-row_of (h ∷ hs) u (inr m) = let t = row_of hs u m in (t.0, inr t.1, t.2)
 
 abbrev is_of : Identifier → Oid → Bool
 is_of inv o = same_identifier o.birth.inv inv
@@ -73,13 +61,13 @@ rows_none image inv none =
 
 -- no end of a row was born under an identifier that the image doesn't name
 unborn : (image : Store) (inv : Identifier) → names_inv image inv ≡ false → (u : Update) → Member u (updates_of image.rows) → (o : Oid) → Member o (ends u.key) → same_identifier o.birth.inv inv ≡ false
-unborn image inv none u m o n = none_of (is_of inv) (ends u.key) ends_none o n
+unborn image inv none u m o n = each_fails (is_of inv) (ends u.key) ends_none o n
   where
     t : (h : Held) × Member h image.rows × (h.update ≡ u)
-    t = row_of image.rows u m
+    t = updated_from image.rows u m
 
     row_none : (same_identifier (inv_of t.0.update) inv || list_any (is_of inv) (ends t.0.update.key)) ≡ false
-    row_none = none_of (row_names inv) image.rows (rows_none image inv none) t.0 t.1
+    row_none = each_fails (row_names inv) image.rows (rows_none image inv none) t.0 t.1
 
     ends_none : list_any (is_of inv) (ends u.key) ≡ false
     ends_none = subst (λ (v : Update). list_any (is_of inv) (ends v.key) ≡ false) t.2 (neither (same_identifier (inv_of t.0.update) inv) (list_any (is_of inv) (ends t.0.update.key)) row_none).1
@@ -213,10 +201,5 @@ adopted_is_sound sc image dsa inv s scene sound fresh e = subst (λ (z : State).
     t : (then_some (names_inv image inv) IdentifierUsed ≡ None) × ((then_some (nat_lt most_cursors (length d.store.vector)) (Full CursorTable most_cursors) ≡ None) × (d ≡ s))
     t = adopted (then_some (names_inv image inv) IdentifierUsed) (then_some (nat_lt most_cursors (length d.store.vector)) (Full CursorTable most_cursors)) d s e
 
-    of_row : (hs : List Held) (x : Held) → Member x hs → Member x.update (updates_of hs)
-    of_row [] x m = absurd m
-    of_row (h ∷ hs) x (inl is) = inl (ap (λ (z : Held). z.update) is)
-    of_row (h ∷ hs) x (inr m) = inr (of_row hs x m)
-
     known : Each (λ (x : Held). Member x.update sc.issued) image.rows
-    known x m = sound.known x.update (of_row image.rows x m)
+    known x m = sound.known x.update (updated image.rows x m)
