@@ -16,7 +16,7 @@ use Rattle.adr_model.specs.Store.{Held}
 use Rattle.adr_model.specs.Change.{Item}
 use Rattle.adr_model.specs.Serve.{last_local, units_of, item_of, by_last_local}
 use Rattle.adr_history.proofs.Rows.{updated}
-use Rattle.adr_history.proofs.Filters.{kept_member}
+use Rattle.adr_model.proofs.Members.{in_filter}
 use Rattle.adr_history.proofs.Locals.{unit_itself}
 
 -- ---- units
@@ -73,10 +73,10 @@ mapped_from [] u m = absurd m
 mapped_from (y ∷ ys) u (inl e) = (y, inl refl, e)
 mapped_from (y ∷ ys) u (inr m) = let t = mapped_from ys u m in (t.0, inr t.1, t.2)
 
-unit_there : (rows : List Held) (x : Held) → Member x rows → Member (unit_of x.update.key) (units_of rows)
+pub unit_there : (rows : List Held) (x : Held) → Member x rows → Member (unit_of x.update.key) (units_of rows)
 unit_there rows x m = units_gathered [] (map (λ (h : Held). unit_of h.update.key) rows) (unit_of x.update.key) (inl (mapped rows x m))
 
-unit_of_row : (rows : List Held) (u : Named) → Member u (units_of rows) → (x : Held) × Member x rows × (u ≡ unit_of x.update.key)
+pub unit_of_row : (rows : List Held) (u : Named) → Member u (units_of rows) → (x : Held) × Member x rows × (u ≡ unit_of x.update.key)
 unit_of_row rows u m = ⊎_elim (λ i. mapped_from rows u i) (λ i. absurd i) (units_gathered_from [] (map (λ (h : Held). unit_of h.update.key) rows) u m)
 
 -- ---- entries by numbers
@@ -179,4 +179,4 @@ module _ (all rows : List Held) where
 
   pub row_in_item : (x : Held) → Member x rows → Member x.update (item_of rows (unit_of x.update.key)).rows
   row_in_item x m = updated (filter (λ (h : Held). same_unit (unit_of h.update.key) (unit_of x.update.key)) rows) x
-      (kept_member (λ (h : Held). same_unit (unit_of h.update.key) (unit_of x.update.key)) rows x m (unit_itself (unit_of x.update.key) (unit_of x.update.key) refl))
+      (in_filter (λ (h : Held). same_unit (unit_of h.update.key) (unit_of x.update.key)) rows x m (unit_itself (unit_of x.update.key) (unit_of x.update.key) refl))

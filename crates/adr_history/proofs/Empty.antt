@@ -21,7 +21,7 @@ empty_is_formed = record {
   rising = tt;
   locals = λ h m. absurd m;
   alone = λ h m. absurd m;
-  rows = record { named = λ o h. absurd (h.2); births = λ o r m. absurd m; objects = λ o h. absurd (h.2); links = λ l r m. absurd m };
+  rows = record { none = λ o r m. absurd m; named = λ o h. absurd (h.2); births = λ o r m. absurd m; objects = λ o h. absurd (h.2); links = λ l r m. absurd m };
   limits = record { objects = omega arith; links = omega arith; marks = omega arith };
 }
 

@@ -10,6 +10,7 @@ use Rattle.adr_model.specs.History.{last_usn, rows_at, IsBelow}
 use Rattle.adr_model.specs.Serve.{Request}
 use Rattle.adr_model.specs.Replica.{Scene, history_of}
 use Rattle.adr_model.specs.Sound.{last_of, IsBounded, IsSoundMark, IsSoundStore, IsSoundState, IsSoundRequest}
+use Rattle.adr_knowledge.proofs.Knows.{more_issued as known_to_more}
 use Rattle.adr_history.specs.Later.{IsLater}
 
 pub later_itself : (s : Scene) → IsLater s s
@@ -25,9 +26,7 @@ later_on s t v l k = record {
 }
 
 pub more_issued : (s t : Scene) → IsLater s t → (k : Knowledge) (u : Update) → Reflects s.issued k u → Reflects t.issued k u
-more_issued s t l k u (inl h) = inl h
-more_issued s t l k u (inr (o, m, inl b)) = inr (o, m, inl b)
-more_issued s t l k u (inr (o, m, inr g)) = inr (o, m, inr (record { absent = g.absent; birth = g.birth; death = g.death; is_issued = l.kept g.death g.is_issued; is_death = g.is_death; is_covered = g.is_covered }))
+more_issued s t l k u h = known_to_more s.issued t.issued k u l.kept h
 
 -- a bounded vector covers no update that is issued later
 pub covered_before : (s t : Scene) → IsLater s t → (V : Numbers) → IsBounded s V → (u : Update) → Member u t.issued → Covers V u → Member u s.issued

@@ -17,7 +17,7 @@ use Rattle.adr_model.specs.Replica.{Scene, history_of}
 use Rattle.adr_model.specs.Serve.{Request, Reply, last_local, is_above_mark, is_unseen, sendable, candidates, item_length, byte_limit, first_items, reply_of, begins_at, reply_to}
 use Rattle.adr_model.specs.Formed.{AreAlone}
 use Rattle.adr_model.specs.Sound.{IsSent, CoversItsGround}
-use Rattle.adr_history.proofs.Filters.{kept_member, member_kept}
+use Rattle.adr_model.proofs.Members.{in_filter, of_filter}
 use Rattle.adr_history.proofs.Past.{Tells}
 use Rattle.adr_history.proofs.Locals.{within_last, last_within}
 use Rattle.adr_history.proofs.Candidates.{Rises, entry_of, candidates_rise, candidate_there, row_in_item}
@@ -43,7 +43,7 @@ unseen_or_not rows from asked x m = by (lt_tells from.obj (last_local rows (unit
     by (inr low) p c = inr (inl (inr (λ y n same. omega (arith, low.1, within_last rows (unit_of x.update.key) y n same))))
     by (inl high) (inr low) c = inr (inl (inl low.1))
     by (inl high) (inl up) (inl covered) = inl covered.1
-    by (inl high) (inl up) (inr new) = inr (inr (kept_member (λ (h : Held). is_above_mark from rows h && is_unseen from asked h) rows x m (both_true high.0 (both_true up.0 (ap not new.0)))))
+    by (inl high) (inl up) (inr new) = inr (inr (in_filter (λ (h : Held). is_above_mark from rows h && is_unseen from asked h) rows x m (both_true high.0 (both_true up.0 (ap not new.0)))))
 
 -- ---- the items that are sent
 
@@ -106,7 +106,7 @@ module _ (s : State) (q : Request) (alone : AreAlone s.store.rows) where
   Answered x r = Covers (at q.vector) x.update ⊎ (IsSent r x.update ⊎ IsBelow rows from x)
 
   alone_among : (x y : Held) → Member x (sendable rows from q.vector) → Member y (sendable rows from q.vector) → last_local rows (unit_of x.update.key) ≡ last_local rows (unit_of y.update.key) → unit_of x.update.key ≡ unit_of y.update.key
-  alone_among x y m n e = alone x (member_kept _ rows x m).0 y (member_kept _ rows y n).0 e
+  alone_among x y m n e = alone x (of_filter _ rows x m).0 y (of_filter _ rows y n).0 e
 
   -- a row whose candidate is one of all the candidates
   of_candidate : (x : Held) → Member x (sendable rows from q.vector) → (last : Bool) → (length sent == length all) ≡ last → IsBelow rows (reply_of s q from sent last).to x → Answered x (reply_of s q from sent last)

@@ -1,24 +1,24 @@
-mod Filters
-mod Rows
-mod Units
-mod Bounds
-mod Past
-mod PastUnits
-mod Marks
-mod Extended
-mod Frames
-mod Replies
-mod Tables
-mod Begun
-mod Recorded
-mod Moved
-mod Locals
-mod Candidates
-mod Ground
-mod Served
-mod Granted
-mod Asked
-mod Woken
-mod Empty
-mod Settling
-mod Written
+pub mod Rows
+pub mod Units
+pub mod Bounds
+pub mod Past
+pub mod PastUnits
+pub mod Marks
+pub mod Extended
+pub mod Frames
+pub mod Replies
+pub mod Tables
+pub mod Begun
+pub mod Recorded
+pub mod Leaving
+pub mod Moved
+pub mod Locals
+pub mod Candidates
+pub mod Ground
+pub mod Served
+pub mod Granted
+pub mod Asked
+pub mod Woken
+pub mod Empty
+pub mod Settling
+pub mod Written

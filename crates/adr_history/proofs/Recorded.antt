@@ -1,5 +1,5 @@
 -- A scene with a change that becomes safe.
-use Rattle.std.proofs.Common.{◌≡◌, ◌⊎◌, inl, inr, ⊎_elim, ℕ, ◌≤◌, ◌<◌, List, [], ◌∷◌, ◌++◌, refl, sym, ◌∙◌, subst, ap, arith}
+use Rattle.std.proofs.Common.{◌≡◌, ◌⊎◌, inl, inr, ⊎_elim, ℕ, ◌≤◌, ◌<◌, List, ◌++◌, refl, sym, ◌∙◌, subst, ap, arith}
 use Rattle.std.proofs.lemmas.Bool.Decides.{leb_tells}
 use Rattle.adr_stamp.specs.declared.Oid.{Oid}
 use Rattle.adr_model.specs.Member.{Member, Each}
@@ -9,21 +9,12 @@ use Rattle.adr_model.specs.Change.{held_of}
 use Rattle.adr_model.specs.History.{History, no_history, last_usn, where_made, rows_at, IsCut, IsKept, Follows}
 use Rattle.adr_model.specs.Replica.{Pending, issued_by, Scene, history_of, with_change, recorded}
 use Rattle.adr_model.specs.Sound.{last_of, IsBirthOf, IsSoundScene}
+use Rattle.adr_model.proofs.Members.{member_left, member_of_either}
 use Rattle.adr_history.specs.Later.{IsLater, AreIssuedBy, MayIssue}
 use Rattle.adr_history.proofs.Units.{change_from}
 use Rattle.adr_history.proofs.Past.{Tells}
 use Rattle.adr_history.proofs.Extended.{log_goes_on, past_rows_stay, past_cuts_stay}
 use Rattle.adr_history.proofs.Tables.{each_entry, entry_itself}
-
-in_left : (xs ys : List Update) (u : Update) → Member u xs → Member u (xs ++ ys)
-in_left [] ys u m = absurd m
-in_left (x ∷ xs) ys u (inl e) = inl e
-in_left (x ∷ xs) ys u (inr i) = inr (in_left xs ys u i)
-
-in_either : (xs ys : List Update) (u : Update) → Member u (xs ++ ys) → Member u xs ⊎ Member u ys
-in_either [] ys u m = inr m
-in_either (x ∷ xs) ys u (inl e) = inl (inl e)
-in_either (x ∷ xs) ys u (inr i) = ⊎_elim (λ l. inl (inr l)) (λ r. inr r) (in_either xs ys u i)
 
 module _ (s : Scene) (inv : Identifier) (p : Pending) (next : Follows (last_of s inv) p.change) (own : AreIssuedBy s inv p.change (issued_by p.call p.change)) where
   abbrev issues : List Update
@@ -37,8 +28,8 @@ module _ (s : Scene) (inv : Identifier) (p : Pending) (next : Follows (last_of s
 
   pub recorded_later : IsLater s (recorded s inv p)
   recorded_later = record {
-    kept = λ u m. in_left s.issued issues u m;
-    newer = λ u m. ⊎_elim (λ old. inl old) (λ new. inr (subst (λ j. last_of s j < usn_of u) (sym (own u new).0) (own u new).1)) (in_either s.issued issues u m);
+    kept = λ u m. member_left s.issued issues u m;
+    newer = λ u m. ⊎_elim (λ old. inl old) (λ new. inr (subst (λ j. last_of s j < usn_of u) (sym (own u new).0) (own u new).1)) (member_of_either s.issued issues u m);
     rising = each_log (λ j h. last_of s j ≤ last_usn h) next.rises (λ j. omega arith);
     stable = λ j usn le. each_log (λ i h. usn ≤ last_of s i → rows_at h usn ≡ rows_at (history_of s i) usn) (λ l. past_rows_stay (history_of s inv) p.change usn next l) (λ i l. refl) j le;
     cuts = λ j usn le cut. each_log (λ i h. usn ≤ last_of s i → IsCut (history_of s i) usn → IsCut h usn) (λ l c. past_cuts_stay (history_of s inv) p.change usn next l c) (λ i l c. c) j le cut;
@@ -69,7 +60,7 @@ module _ (s : Scene) (inv : Identifier) (p : Pending) (next : Follows (last_of s
     once u (inr m) = (omega (arith, (own u m).1), subst (λ j. usn_of u ≤ last_of (recorded s inv p) j) (sym (own u m).0) (subst (λ n. usn_of u ≤ n) (sym last_now) (own u m).2))
 
     born : (u : Update) → Member u s.issued ⊎ Member u issues → (o : Oid) → Member o (ends u.key) → (b : Update) × Member b (s.issued ++ issues) × IsBirthOf o b
-    born u (inl m) o e = let t = is.born u m o e in (t.0, in_left s.issued issues t.0 t.1, t.2)
+    born u (inl m) o e = let t = is.born u m o e in (t.0, member_left s.issued issues t.0 t.1, t.2)
     born u (inr m) o e = may.born u m o e
 
     logged : (usn : ℕ) (x : Held) → Member x (rows_at log usn) → Member x.update (s.issued ++ issues)
@@ -79,7 +70,7 @@ module _ (s : Scene) (inv : Identifier) (p : Pending) (next : Follows (last_of s
         rows = rows_at (history_of s inv) usn
 
         old : Member x rows → Member x.update (s.issued ++ issues)
-        old i = in_left s.issued issues x.update (is.logged inv usn x i)
+        old i = member_left s.issued issues x.update (is.logged inv usn x i)
 
         by : Tells p.change.usn usn → Member x.update (s.issued ++ issues)
         by (inr skip) = old (subst (λ b. Member x (where_made b p.change rows)) skip.0 m)
@@ -87,10 +78,10 @@ module _ (s : Scene) (inv : Identifier) (p : Pending) (next : Follows (last_of s
 
     pub recorded_sound : IsSoundScene (recorded s inv p)
     recorded_sound = record {
-      one_content = λ u m v n. alike u v (in_either s.issued issues u m) (in_either s.issued issues v n);
-      once = λ u m. once u (in_either s.issued issues u m);
-      born = λ u m. born u (in_either s.issued issues u m);
-      births = λ u m. ⊎_elim (λ old. is.births u old) (λ new. may.births u new) (in_either s.issued issues u m);
+      one_content = λ u m v n. alike u v (member_of_either s.issued issues u m) (member_of_either s.issued issues v n);
+      once = λ u m. once u (member_of_either s.issued issues u m);
+      born = λ u m. born u (member_of_either s.issued issues u m);
+      births = λ u m. ⊎_elim (λ old. is.births u old) (λ new. may.births u new) (member_of_either s.issued issues u m);
       kept = each_log (λ j h. IsKept h) (log_goes_on (history_of s inv) p.change (is.kept inv) next) is.kept;
-      logged = λ j usn. each_log (λ i h. Each (λ (x : Held). Member x.update (s.issued ++ issues)) (rows_at h usn)) (logged usn) (λ i x m. in_left s.issued issues x.update (is.logged i usn x m)) j;
+      logged = λ j usn. each_log (λ i h. Each (λ (x : Held). Member x.update (s.issued ++ issues)) (rows_at h usn)) (logged usn) (λ i x m. member_left s.issued issues x.update (is.logged i usn x m)) j;
     }

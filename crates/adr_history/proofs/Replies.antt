@@ -6,7 +6,7 @@ use Rattle.adr_vector.specs.Vector.{Cursors, at}
 use Rattle.adr_model.specs.Member.{Member}
 use Rattle.adr_model.specs.Reflects.{Knowledge, Reflects}
 use Rattle.adr_model.specs.Store.{Held, updates_of}
-use Rattle.adr_model.specs.Formed.{AreFormedRows}
+use Rattle.adr_model.specs.Formed.{AreRising, AreFormedRows}
 use Rattle.adr_model.specs.History.{rows_at, IsBelow}
 use Rattle.adr_model.specs.Serve.{Reply}
 use Rattle.adr_model.specs.Replica.{Call, ToWrite, ToTake, ToCollect, ToQuarantine, Pending, Replica, Scene, history_of}
@@ -26,6 +26,7 @@ last_later : (s t : Scene) → IsLater s t → (r : Reply) → r.to.seen ≤ las
 last_later s t l r seen carried is = record {
   obj = is.obj;
   prop = is.prop;
+  vector = is.vector;
   bounded = bounded_later s t l (at carried) is.bounded;
   carries = λ u m c. subst (λ (rows : List Held). Reflects t.issued (source rows) u) (sym (l.stable r.inv r.to.seen seen))
       (more_issued s t l (source (rows_at (history_of s r.inv) r.to.seen)) u (is.carries u (covered_before s t l (at carried) is.bounded u m c) c));
@@ -51,6 +52,7 @@ reply_later s t l r is = record {
   last = if_some r.last (IsSoundLast s r) (IsSoundLast t r) (last_later s t l r is.to_seen) is.last;
   exact = λ i m. subst (λ (rows : List Held). IsExact rows r i) same (is.exact i m);
   once = is.once;
+  rising = subst AreRising same is.rising;
   formed = subst (λ (rows : List Held). AreFormedRows (numbered r.schema) (updates_of rows)) same is.formed;
   classes = subst (λ (rows : List Held). AreClassesKnown (numbered r.schema) (updates_of rows)) same is.classes;
 }
@@ -59,10 +61,10 @@ reply_later s t l r is = record {
     same = sym (l.stable r.inv r.to.seen is.to_seen)
 
 call_later : (s t : Scene) → IsLater s t → (c : Call) → IsSoundCall s c → IsSoundCall t c
-call_later s t l (ToWrite w now) is = tt
+call_later s t l (ToWrite w now) is = is
 call_later s t l (ToTake r) is = reply_later s t l r is
 call_later s t l (ToCollect now lifetime) is = tt
-call_later s t l ToQuarantine is = tt
+call_later s t l ToQuarantine is = is
 
 -- a controller whose own log is the same
 pub replica_later : (s t : Scene) → IsLater s t → (r : Replica) → history_of t r.safe.inv ≡ history_of s r.safe.inv → IsSoundReplica s r → IsSoundReplica t r

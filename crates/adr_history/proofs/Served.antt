@@ -1,5 +1,5 @@
 -- A reply that a sound state gives to a sound request is sound.
-use Rattle.std.proofs.Common.{◌≡◌, ◌⊎◌, inl, inr, ⊎_elim, ℕ, ◌≤◌, ◌<◌, List, [], ◌∷◌, ◌++◌, Bool, true, false, refl, sym, ◌∙◌, subst, ap, arith, map, filter, length, ◌==◌, ◌&&◌, not, if◌then◌else◌}
+use Rattle.std.proofs.Common.{◌≡◌, ◌⊎◌, inl, inr, ⊎_elim, ℕ, ◌≤◌, ◌<◌, List, [], ◌∷◌, Bool, true, false, refl, sym, ◌∙◌, subst, ap, arith, map, filter, length, ◌==◌, ◌&&◌, not, if◌then◌else◌}
 use Rattle.std.specs.Bool.{then_some}
 use Rattle.std.specs.Cmp.Derive.{both_true}
 use Rattle.std.proofs.lemmas.Bool.Decides.{leb_tells, nat_tests}
@@ -13,21 +13,23 @@ use Rattle.adr_vector.specs.declared.mark.Mark.{Mark}
 use Rattle.adr_vector.proofs.Comparing.{everywhere_from_at_most}
 use Rattle.adr_model.specs.Member.{Member}
 use Rattle.adr_model.specs.Update.{Update, inv_of, usn_of, unit_of, same_unit, same_identifier}
-use Rattle.adr_model.specs.Reflects.{Numbers, AtMost, Covers, Reflects}
+use Rattle.adr_model.specs.Reflects.{Covers, Knowledge, knowledge_of, Reflects}
 use Rattle.adr_model.specs.Store.{Held, State, updates_of, no_mark}
 use Rattle.adr_model.specs.Change.{Item}
-use Rattle.adr_model.specs.Formed.{AreFormedRows}
+use Rattle.adr_model.specs.Formed.{AreRising, AreFormedRows}
 use Rattle.adr_model.specs.History.{IsOrdered, rows_at}
 use Rattle.adr_model.specs.Serve.{Request, Reply, last_local, is_above_mark, is_unseen, sendable, item_of, candidates, byte_limit, first_items, reply_of, begins_at, reply_to}
 use Rattle.adr_model.specs.Replica.{Scene, history_of}
 use Rattle.adr_model.specs.Sound.{last_of, IsSoundScene, IsSoundState, IsSoundRequest, IsExact, IsSoundLast, IsSoundReply, CoversItsGround, AreClassesKnown}
 use Rattle.adr_model.proofs.Keys.{equal_order}
+use Rattle.adr_knowledge.specs.Grows.{Grows}
+use Rattle.adr_knowledge.proofs.Knows.{grows_keeps, more_covered}
 use Rattle.adr_history.proofs.Rows.{updated, updated_from}
-use Rattle.adr_history.proofs.Filters.{kept_member, member_kept}
+use Rattle.adr_model.proofs.Members.{in_filter, of_filter, member_left}
 use Rattle.adr_history.proofs.Past.{Tells}
 use Rattle.adr_history.proofs.Locals.{last_within, unit_itself, units_of_test}
 use Rattle.adr_history.proofs.Bounds.{cut_when_all_is_read}
-use Rattle.adr_history.proofs.Candidates.{entry_of, candidate_from}
+use Rattle.adr_history.proofs.Candidates.{entry_of, candidate_from, row_in_item}
 use Rattle.adr_history.proofs.Ground.{LessTells, lt_tells, first_front, read_to_item, ground_of_log}
 
 both : (a b : Bool) → (a && b) ≡ true → (a ≡ true) × (b ≡ true)
@@ -37,33 +39,10 @@ both false b h = absurd (cc)
 lt_from : (a b : ℕ) → nat_lt a b ≡ true → a < b
 lt_from a b h = grind (arith, nat_tests)
 
--- a purged vector that is further on loses nothing
-purged_up : (issued : List Update) (rows : List Update) (V P Q : Numbers) → AtMost P Q → (u : Update)
-    → Reflects issued (record { rows = rows; vector = V; purged = P }) u → Reflects issued (record { rows = rows; vector = V; purged = Q }) u
-purged_up issued rows V P Q up u (inl h) = inl h
-purged_up issued rows V P Q up u (inr (o, m, inl b)) = inr (o, m, inl b)
-purged_up issued rows V P Q up u (inr (o, m, inr g)) = inr (
-  o,
-  m,
-  inr (record {
-    absent = g.absent;
-    birth = omega (arith, g.birth, up o.birth.inv);
-    death = g.death;
-    is_issued = g.is_issued;
-    is_death = g.is_death;
-    is_covered = omega (arith, g.is_covered, up (inv_of g.death));
-  }),
-)
-
 item_from : (cs : List (ℕ × Item)) (i : Item) → Member i (map (λ (c : ℕ × Item). c.1) cs) → (c : ℕ × Item) × Member c cs × (i ≡ c.1)
 item_from [] i m = absurd m
 item_from (c ∷ cs) i (inl e) = (c, inl refl, e)
 item_from (c ∷ cs) i (inr m) = let t = item_from cs i m in (t.0, inr t.1, t.2)
-
-in_front_of : (xs ys : List (ℕ × Item)) (c : ℕ × Item) → Member c xs → Member c (xs ++ ys)
-in_front_of [] ys c m = absurd m
-in_front_of (x ∷ xs) ys c (inl e) = inl e
-in_front_of (x ∷ xs) ys c (inr m) = inr (in_front_of xs ys c m)
 
 -- where a reply begins
 pub begins : (sc : Scene) (s : State) (q : Request) → IsSoundState sc s → IsSoundRequest sc q → IsOrdered (begins_at s q) × ((begins_at s q).seen ≤ s.store.usn)
@@ -95,10 +74,10 @@ module _ (sc : Scene) (s : State) (q : Request) (scene : IsSoundScene sc) (state
   -- an item that is sent is of a row that may be sent
   sent_from : (c : ℕ × Item) → Member c sent → (x : Held) × Member x unseen × (c ≡ entry_of rows unseen (unit_of x.update.key))
   sent_from c m = let front = first_front q.max byte_limit (candidates rows from q.vector) in
-      candidate_from rows unseen c (subst (λ (cs : List (ℕ × Item)). Member c cs) front.1 (in_front_of sent front.0 c m))
+      candidate_from rows unseen c (subst (λ (cs : List (ℕ × Item)). Member c cs) front.1 (member_left sent front.0 c m))
 
   above : (x : Held) → Member x unseen → from.obj < last_local rows (unit_of x.update.key)
-  above x m = lt_from from.obj (last_local rows (unit_of x.update.key)) (both _ _ (member_kept (λ (h : Held). is_above_mark from rows h && is_unseen from q.vector h) rows x m).1).0
+  above x m = lt_from from.obj (last_local rows (unit_of x.update.key)) (both _ _ (of_filter (λ (h : Held). is_above_mark from rows h && is_unseen from q.vector h) rows x m).1).0
 
   to_ordered : (b : Bool) → IsOrdered (reply b).to
   to_ordered true = record { prop = omega arith; obj = omega arith }
@@ -112,15 +91,15 @@ module _ (sc : Scene) (s : State) (q : Request) (scene : IsSoundScene sc) (state
       within x = last_within rows (unit_of x.update.key) s.store.usn (λ y m e. (state.store.formed.locals y m).1)
 
   in_rows : (x : Held) → Member x unseen → Member x rows
-  in_rows x m = (member_kept (λ (h : Held). is_above_mark from rows h && is_unseen from q.vector h) rows x m).0
+  in_rows x m = (of_filter (λ (h : Held). is_above_mark from rows h && is_unseen from q.vector h) rows x m).0
 
   -- what an item that is sent is
-  item_is : (i : Item) → Member i (map (λ (c : ℕ × Item). c.1) sent) → (x : Held) × Member x unseen × (i ≡ item_of unseen (unit_of x.update.key))
+  pub item_is : (i : Item) → Member i (map (λ (c : ℕ × Item). c.1) sent) → (x : Held) × Member x unseen × (i ≡ item_of unseen (unit_of x.update.key))
   item_is i m = let c = item_from sent i m in let x = sent_from c.0 c.1 in (x.0, x.1, c.2 ∙ ap (λ (d : ℕ × Item). d.1) x.2)
 
-  row_is : (unit : Named) (u : Update) → Member u (item_of unseen unit).rows → (h : Held) × Member h unseen × (h.update ≡ u) × (unit_of h.update.key ≡ unit)
+  pub row_is : (unit : Named) (u : Update) → Member u (item_of unseen unit).rows → (h : Held) × Member h unseen × (h.update ≡ u) × (unit_of h.update.key ≡ unit)
   row_is unit u m = let h = updated_from (filter (λ (y : Held). same_unit (unit_of y.update.key) unit) unseen) u m in
-      let k = member_kept (λ (y : Held). same_unit (unit_of y.update.key) unit) unseen h.0 h.1 in
+      let k = of_filter (λ (y : Held). same_unit (unit_of y.update.key) unit) unseen h.0 h.1 in
       (h.0, k.0, h.2, units_of_test (unit_of h.0.update.key) unit k.1)
 
   known : (u : Update) (i : Item) → Member i (map (λ (c : ℕ × Item). c.1) sent) → Member u i.rows → Member u sc.issued
@@ -133,18 +112,19 @@ module _ (sc : Scene) (s : State) (q : Request) (scene : IsSoundScene sc) (state
   sent_too x h m n e = by (lt_tells from.prop h.local) (leb_tells (usn_of h.update) (at q.vector (inv_of h.update)))
     where
       high : nat_lt from.obj (last_local rows (unit_of h.update.key)) ≡ true
-      high = subst (λ (unit : Named). nat_lt from.obj (last_local rows unit) ≡ true) (sym e) (both _ _ (member_kept (λ (y : Held). is_above_mark from rows y && is_unseen from q.vector y) rows x m).1).0
+      high = subst (λ (unit : Named). nat_lt from.obj (last_local rows unit) ≡ true) (sym e) (both _ _ (of_filter (λ (y : Held). is_above_mark from rows y && is_unseen from q.vector y) rows x m).1).0
 
       by : LessTells from.prop h.local → Tells (usn_of h.update) (at q.vector (inv_of h.update)) → Member h.update (item_of unseen (unit_of x.update.key)).rows ⊎ (Covers (at q.vector) h.update ⊎ (h.local ≤ from.prop))
       by (inr low) c = inr (inr low.1)
       by (inl up) (inl covered) = inr (inl covered.1)
       by (inl up) (inr new) = inl (updated (filter (λ (y : Held). same_unit (unit_of y.update.key) (unit_of x.update.key)) unseen) h
-          (kept_member (λ (y : Held). same_unit (unit_of y.update.key) (unit_of x.update.key)) unseen h
-          (kept_member (λ (y : Held). is_above_mark from rows y && is_unseen from q.vector y) rows h n (both_true high (both_true up.0 (ap not new.0))))
+          (in_filter (λ (y : Held). same_unit (unit_of y.update.key) (unit_of x.update.key)) unseen h
+          (in_filter (λ (y : Held). is_above_mark from rows y && is_unseen from q.vector y) rows h n (both_true high (both_true up.0 (ap not new.0))))
           (unit_itself (unit_of h.update.key) (unit_of x.update.key) e)))
 
   exact : (b : Bool) (i : Item) → Member i (map (λ (c : ℕ × Item). c.1) sent) → IsExact rows (reply b) i
   exact b i m = record {
+    some = (x.update, subst (λ (j : Item). Member x.update j.rows) (sym is) (row_in_item rows unseen x there));
     from = λ u n. let h = row_is (unit_of x.update.key) u (subst (λ (j : Item). Member u j.rows) is n) in (h.0, in_rows h.0 h.1, h.2, subst (λ (v : Update). unit_of v.key ≡ i.unit) h.2 (h.3 ∙ sym unit));
     whole = λ h n e. ⊎_elim (λ t. inl (subst (λ (j : Item). Member h.update j.rows) (sym is) t)) (λ o. inr o) (sent_too x h there n (e ∙ unit));
   }
@@ -172,14 +152,21 @@ module _ (sc : Scene) (s : State) (q : Request) (scene : IsSoundScene sc) (state
   seen true = state.last
   seen false = state.last
 
+  abbrev asked_for : Knowledge
+  asked_for = record { rows = updates_of rows; vector = at s.store.vector; purged = at q.vector }
+
+  further : Grows sc.issued (knowledge_of s.store) asked_for
+  further = more_covered sc.issued (updates_of rows) (at s.store.vector) (at s.store.vector) (at s.store.purged) (at q.vector) (λ i. omega arith) (everywhere_from_at_most s.store.purged q.vector purged)
+
   last : (b : Bool) → IfSome (then_some b s.store.vector) (IsSoundLast sc (reply b))
   last false = tt
   last true = record {
     obj = refl;
     prop = refl;
+    vector = state.store.formed.vector;
     bounded = state.store.bounded;
     carries = λ u m c. subst (λ (rs : List Held). Reflects sc.issued (record { rows = updates_of rs; vector = at s.store.vector; purged = at q.vector }) u) state.rows
-        (purged_up sc.issued (updates_of rows) (at s.store.vector) (at s.store.purged) (at q.vector) (everywhere_from_at_most s.store.purged q.vector purged) u (state.store.covered u m c));
+        (grows_keeps sc.issued (knowledge_of s.store) asked_for further u (state.store.covered u m c));
   }
 
   sound : (b : Bool) → CoversItsGround (reply b) (history_of sc s.inv) → IsSoundReply sc (reply b)
@@ -195,6 +182,7 @@ module _ (sc : Scene) (s : State) (q : Request) (scene : IsSoundScene sc) (state
     last = last b;
     exact = λ i m. subst (λ (rs : List Held). IsExact rs (reply b) i) (moment b) (exact b i m);
     once = λ i m j n e. by_unit i m ∙ (ap (item_of unseen) e ∙ sym (by_unit j n));
+    rising = subst AreRising (moment b) state.store.formed.rising;
     formed = subst (λ (rs : List Held). AreFormedRows (numbered s.store.schema) (updates_of rs)) (moment b) state.store.formed.rows;
     classes = subst (λ (rs : List Held). AreClassesKnown (numbered s.store.schema) (updates_of rs)) (moment b) state.store.classes;
   }

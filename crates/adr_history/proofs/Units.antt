@@ -17,7 +17,7 @@ use Rattle.adr_model.specs.Change.{goes_with, killed_by, stripped, put, without_
 use Rattle.adr_model.specs.History.{SameUnit}
 use Rattle.adr_model.proofs.Keys.{equal_order}
 use Rattle.adr_history.specs.Units.{IsUnitGone, IsAccountedFor}
-use Rattle.adr_history.proofs.Filters.{kept_member, member_kept}
+use Rattle.adr_model.proofs.Members.{in_filter, of_filter}
 use Rattle.adr_history.proofs.Rows.{written_itself, written_from, written_keeps}
 
 same_objects : (o p : Oid) → same_object o p ≡ true → o ≡ p
@@ -43,7 +43,7 @@ of_object o (LinkOf l) h = inr h
 
 -- filtering out what a test of the unit meets takes whole units
 unit_filtered : (test : Held → Bool) (rows : List Held) (x : Held) → ((y : Held) → SameUnit y x → test y ≡ true) → IsUnitGone x (filter (λ h. not (test h)) rows)
-unit_filtered test rows x all y m s = let t = member_kept (λ h. not (test h)) rows y m in let p : test y ≡ true = all y s in let n : not (test y) ≡ true = t.1 in let q : not true ≡ true = sym (ap not p) ∙ n in cc
+unit_filtered test rows x all y m s = let t = of_filter (λ h. not (test h)) rows y m in let p : test y ≡ true = all y s in let n : not (test y) ≡ true = t.1 in let q : not true ≡ true = sym (ap not p) ∙ n in cc
 
 abbrev Fares : Held → Key → List Held → Type 0
 Fares x k rows = Member x rows ⊎ ((unit_of k ≡ unit_of x.update.key) ⊎ IsUnitGone x rows)
@@ -58,7 +58,7 @@ stripped_fares (RowOf o a) rows x m = by (a == deleted_attr)
     by true = on (goes_with o x.update.key) refl
       where
         on : (b : Bool) → goes_with o x.update.key ≡ b → Fares x (RowOf o a) (stripped (Some o) rows)
-        on false is = inl (kept_member (λ h. not (goes_with o h.update.key)) rows x m (ap not is))
+        on false is = inl (in_filter (λ h. not (goes_with o h.update.key)) rows x m (ap not is))
         on true is = ⊎_elim (λ e. inr (inl e)) (λ l. inr (inr (unit_filtered (λ h. goes_with o h.update.key) rows x (λ y s. goes_by_unit o y.update.key (ap (is_link_at o) s ∙ l))))) (of_object o x.update.key is)
 
 not_by_itself : (o : Oid) (a : ℕ) → (a == deleted_attr) ≡ true → goes_with o (RowOf o a) ≡ false
@@ -74,7 +74,7 @@ stripped_itself (RowOf o a) rows h e m = by (a == deleted_attr) refl
   where
     by : (b : Bool) → (a == deleted_attr) ≡ b → Member h (stripped (if b then Some o else None) rows)
     by false is = m
-    by true is = kept_member (λ x. not (goes_with o x.update.key)) rows h m (ap (λ k. not (goes_with o k)) e ∙ ap not (not_by_itself o a is))
+    by true is = in_filter (λ x. not (goes_with o x.update.key)) rows h m (ap (λ k. not (goes_with o k)) e ∙ ap not (not_by_itself o a is))
 
 stripped_from : (k : Key) (rows : List Held) (x : Held) → Member x (stripped (killed_by k) rows) → Member x rows
 stripped_from (LinkOf l) rows x m = m
@@ -82,7 +82,7 @@ stripped_from (RowOf o a) rows x m = by (a == deleted_attr) m
   where
     by : (b : Bool) → Member x (stripped (if b then Some o else None) rows) → Member x rows
     by false n = n
-    by true n = (member_kept (λ h. not (goes_with o h.update.key)) rows x n).0
+    by true n = (of_filter (λ h. not (goes_with o h.update.key)) rows x n).0
 
 put_itself : (rows : List Held) (h : Held) → Member h (put rows h)
 put_itself rows h = stripped_itself h.update.key (with_row rows h) h refl (written_itself rows h)
@@ -142,13 +142,13 @@ without_fares : (rows : List Held) (o : Oid) (x : Held) → Member x rows → Me
 without_fares rows o x m = by (is_row_of o x.update.key) refl
   where
     by : (b : Bool) → is_row_of o x.update.key ≡ b → Member x (without_object rows o) ⊎ IsUnitGone x (without_object rows o)
-    by false is = inl (kept_member (λ h. not (is_row_of o h.update.key)) rows x m (ap not is))
+    by false is = inl (in_filter (λ h. not (is_row_of o h.update.key)) rows x m (ap not is))
     by true is = inr (unit_filtered (λ h. is_row_of o h.update.key) rows x (λ y s. row_by_unit o y.update.key ∙ ap (is_object o) s ∙ sym (row_by_unit o x.update.key) ∙ is))
 
 without_accounts : (writes rows : List Held) (o : Oid) (x : Held) → IsAccountedFor writes x rows → IsAccountedFor writes x (without_object rows o)
 without_accounts writes rows o x (inl m) = ⊎_elim (λ i. inl i) (λ g. inr (inr g)) (without_fares rows o x m)
 without_accounts writes rows o x (inr (inl (v, n, s, m))) = ⊎_elim (λ i. inr (inl (v, n, s, i))) (λ g. inr (inr (λ y i t. g y i (t ∙ sym s)))) (without_fares rows o v m)
-without_accounts writes rows o x (inr (inr g)) = inr (inr (λ y i t. g y (member_kept (λ h. not (is_row_of o h.update.key)) rows y i).0 t))
+without_accounts writes rows o x (inr (inr g)) = inr (inr (λ y i t. g y (of_filter (λ h. not (is_row_of o h.update.key)) rows y i).0 t))
 
 removals_account : (writes : List Held) (os : List Oid) (rows : List Held) (x : Held) → IsAccountedFor writes x rows → IsAccountedFor writes x (fold without_object rows os)
 removals_account writes [] rows x a = a
@@ -156,7 +156,7 @@ removals_account writes (o ∷ os) rows x a = removals_account writes os (withou
 
 removals_from : (os : List Oid) (rows : List Held) (x : Held) → Member x (fold without_object rows os) → Member x rows
 removals_from [] rows x m = m
-removals_from (o ∷ os) rows x m = (member_kept (λ h. not (is_row_of o h.update.key)) rows x (removals_from os (without_object rows o) x m)).0
+removals_from (o ∷ os) rows x m = (of_filter (λ h. not (is_row_of o h.update.key)) rows x (removals_from os (without_object rows o) x m)).0
 
 -- ---- a change
 

@@ -1,5 +1,5 @@
 -- A controller that is made of an image under a fresh identifier.
-use Rattle.std.proofs.Common.{◌≡◌, inl, inr, ⊎_elim, ℕ, ◌≤◌, List, [], Bool, true, false, cond, Option, Some, None, Ok, refl, sym, ◌∙◌, subst, ap, arith, max, length, ◌||◌, nat_le, if◌then◌else◌}
+use Rattle.std.proofs.Common.{◌≡◌, inl, inr, ⊎_elim, ℕ, ◌≤◌, [], Bool, true, false, cond, Option, Some, None, Ok, refl, sym, ◌∙◌, subst, ap, arith, max, length, ◌||◌, nat_le, if◌then◌else◌}
 use Rattle.std.specs.Prelude.{nat_lt}
 use Rattle.std.specs.List.{list_any}
 use Rattle.std.specs.Bool.{then_some}
@@ -29,17 +29,12 @@ use Rattle.adr_model.proofs.Keys.{equal_order}
 use Rattle.adr_history.specs.Logs.{first_log}
 use Rattle.adr_history.specs.Later.{IsLater}
 use Rattle.adr_model.proofs.Members.{each_fails}
+use Rattle.adr_knowledge.specs.Grows.{Keeps}
+use Rattle.adr_knowledge.proofs.Knows.{grows_keeps, more_covered}
 use Rattle.adr_history.proofs.Rows.{updated, updated_from}
 use Rattle.adr_history.proofs.Begun.{begun_later, begun_sound}
 use Rattle.adr_history.proofs.Frames.{mark_later}
 use Rattle.adr_history.proofs.Tables.{entry_itself}
-
--- a vector that is further on loses nothing
-vector_up : (issued : List Update) (rows : List Update) (V W P : Numbers) → AtMost V W → (u : Update)
-    → Reflects issued (record { rows = rows; vector = V; purged = P }) u → Reflects issued (record { rows = rows; vector = W; purged = P }) u
-vector_up issued rows V W P up u (inl h) = inl h
-vector_up issued rows V W P up u (inr (o, m, inl b)) = inr (o, m, inl (b.0, λ d. omega (arith, b.1 d, up (inv_of u))))
-vector_up issued rows V W P up u (inr (o, m, inr g)) = inr (o, m, inr (record { absent = g.absent; birth = g.birth; death = g.death; is_issued = g.is_issued; is_death = g.is_death; is_covered = g.is_covered }))
 
 neither : (a b : Bool) → (a || b) ≡ false → (a ≡ false) × (b ≡ false)
 neither false b h = (refl, h)
@@ -101,6 +96,9 @@ module _ (sc : Scene) (image : Store) (dsa inv : Identifier) (scene : IsSoundSce
   up : AtMost V W
   up i = omega (arith, at-raised image.vector inv image.usn i)
 
+  kept : Keeps sc.issued (knowledge_of image) (knowledge_of d.store)
+  kept = grows_keeps sc.issued (knowledge_of image) (knowledge_of d.store) (more_covered sc.issued (updates_of image.rows) V W (at image.purged) (at image.purged) up (λ i. omega arith))
+
   -- at another identifier nothing was raised
   W_is : (i : Identifier) → W i ≡ max (V i) (cond (is_eq (identifier_order i inv)) image.usn 0)
   W_is i = at-raised image.vector inv image.usn i
@@ -124,7 +122,7 @@ module _ (sc : Scene) (image : Store) (dsa inv : Identifier) (scene : IsSoundSce
     where
       by : (b : Bool) → is_eq (identifier_order (inv_of u) inv) ≡ b → Reflects next.issued (knowledge_of d.store) u
       by true is = absurd (omega (arith, (scene.once u m).0, (scene.once u m).1, unused, ap (last_of sc) (same (inv_of u) is)))
-      by false is = vector_up sc.issued (updates_of image.rows) V W (at image.purged) up u (sound.covered u m (omega (arith, c, elsewhere (inv_of u) is)))
+      by false is = kept u (sound.covered u m (omega (arith, c, elsewhere (inv_of u) is)))
 
   closed : IsClosed d.store
   closed l r m e o n = ⊎_elim (λ held. inl held) (λ not_born. inr (λ born. not_born (omega (arith, born, elsewhere o.birth.inv (unborn image inv unnamed r m o (subst (λ k. Member o (ends k)) (sym e) n)))))) (sound.closed l r m e o n)
@@ -147,7 +145,7 @@ module _ (sc : Scene) (image : Store) (dsa inv : Identifier) (scene : IsSoundSce
     ordered = is.ordered;
     seen = is.seen;
     cut = is.cut;
-    watermark = λ x m below. vector_up sc.issued (updates_of image.rows) V W (at image.purged) up x.update (is.watermark x m below);
+    watermark = λ x m below. kept x.update (is.watermark x m below);
   })
 
   woken_store : IsSoundStore next d.store

@@ -18,8 +18,9 @@ pub use logs::{
 };
 pub use moves::moves_keep_what_is_sound;
 pub use scenes::{
-    a_change_is_recorded, a_reply_moves_its_mark, adopted_images_are_sound, an_incarnation_begins,
-    later_is_an_order, new_controllers_are_sound, what_is_sound_stays_sound,
+    a_change_is_recorded, a_change_leaves_a_sound_state, a_reply_moves_its_mark,
+    adopted_images_are_sound, an_incarnation_begins, later_is_an_order, new_controllers_are_sound,
+    what_is_sound_stays_sound,
 };
 pub use serving::{
     asked_requests_are_sound, replies_cover_their_ground, served_replies_are_sound,

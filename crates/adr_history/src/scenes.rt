@@ -6,6 +6,7 @@ ghost use Rattle.adr_model.specs.Update.{Identifier, Update};
 ghost use Rattle.adr_vector.specs.declared.mark.Mark.{Mark};
 ghost use Rattle.adr_model.specs.Reflects.{Numbers, Covers, Knowledge, Reflects};
 ghost use Rattle.adr_model.specs.Store.{Store, State, empty_state};
+ghost use Rattle.adr_model.specs.Change.{after};
 ghost use Rattle.adr_model.specs.History.{no_history, Follows};
 ghost use Rattle.adr_model.specs.Collect.{adopt};
 ghost use Rattle.adr_model.specs.Serve.{Request, Reply};
@@ -14,6 +15,7 @@ ghost use Rattle.adr_model.specs.Sound.{last_of, IsBounded, IsSoundScene, IsSoun
 ghost use Rattle.adr_history.specs.Logs.{first_log};
 ghost use Rattle.adr_history.specs.Later.{IsLater, AreIssuedBy, MayIssue};
 ghost use Rattle.adr_history.specs.Moved.{MayTake, HasTaken};
+ghost use Rattle.adr_history.specs.Settling.{Leaves};
 
 /// Being later is an order.
 #[tactic(none)]
@@ -56,6 +58,14 @@ pub fn a_change_is_recorded()
     ensures sound { (s : Scene) (inv : Identifier) (p : Pending) → Follows (last_of s inv) p.change → AreIssuedBy s inv p.change (issued_by p.call p.change) → MayIssue s p.change (issued_by p.call p.change) → IsSoundScene s → IsSoundScene (recorded s inv p) }
     ensures own { (s : Scene) (inv : Identifier) (p : Pending) → history_of (recorded s inv p) inv ≡ with_change (history_of s inv) p.change }
     ensures others { (s : Scene) (inv : Identifier) (p : Pending) (i : Identifier) → i ≢ inv → history_of (recorded s inv p) i ≡ history_of s i }
+{}
+
+/// A sound state whose change follows in its log, issues its incarnation's own and leaves what a
+/// sound state needs is sound behind the change, in the scene in which that is safe.
+#[tactic(none)]
+pub fn a_change_leaves_a_sound_state()
+    ensures { (sc : Scene) (s : State) (p : Pending) → IsSoundScene sc → IsSoundState sc s → Follows (last_of sc s.inv) p.change → AreIssuedBy sc s.inv p.change (issued_by p.call p.change) → Leaves sc s p
+        → IsSoundState (recorded sc s.inv p) (after s p.change) }
 {}
 
 /// What was sound of a scene is sound of a later one. Of a controller it is so while its own log

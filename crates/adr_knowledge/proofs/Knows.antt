@@ -87,6 +87,23 @@ grows_keeps issued before after g u (inr (o, m, inr p)) = inr (o, m, inr (g.purg
 pub grows_self : (issued : List Update) (k : Knowledge) → Grows issued k k
 grows_self issued k = record { row = λ r m. inl (r, m, supersedes_self r); tombstone = λ o t. inl t; purge = λ o p. p; vector = λ i. omega arith }
 
+-- the same rows under vectors that are further on
+pub more_covered : (issued rows : List Update) (V W P Q : Numbers) → AtMost V W → AtMost P Q
+    → Grows issued (record { rows = rows; vector = V; purged = P }) (record { rows = rows; vector = W; purged = Q })
+more_covered issued rows V W P Q vector purged = record {
+  row = λ r m. inl (r, m, supersedes_self r);
+  tombstone = λ o t. inl t;
+  purge = λ o g. record {
+    absent = g.absent;
+    birth = omega (arith, g.birth, purged o.birth.inv);
+    death = g.death;
+    is_issued = g.is_issued;
+    is_death = g.is_death;
+    is_covered = omega (arith, g.is_covered, purged (inv_of g.death));
+  };
+  vector = vector;
+}
+
 pub grows_trans : (issued : List Update) (a b c : Knowledge) → Grows issued a b → Grows issued b c → Grows issued a c
 grows_trans issued a b c g h = record { row = row; tombstone = tombstone; purge = λ o p. h.purge o (g.purge o p); vector = λ i. omega (arith, g.vector i, h.vector i) }
   where

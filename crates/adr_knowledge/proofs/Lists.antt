@@ -9,27 +9,10 @@ use Rattle.std.specs.Cmp.{IsTotalOrder}
 use Rattle.std.proofs.lemmas.Cmp.{tied_itself}
 use Rattle.std.proofs.lemmas.Map.Lookups.{CmpEqualImpliesEq}
 use Rattle.adr_model.specs.Member.{Member, Each}
+use Rattle.adr_model.proofs.Members.{of_filter}
 use Rattle.adr_knowledge.specs.Rises.{Rises}
 
 module _ {A : Type 0} where
-  pub in_filter : (test : A → Bool) (xs : List A) (x : A) → Member x xs → test x ≡ true → Member x (filter test xs)
-  in_filter test [] x m p = m
-  in_filter test (y ∷ ys) x (inl e) p = subst (λ b. Member x (cond b (y ∷ filter test ys) (filter test ys))) (sym p ∙ ap test e) (inl e)
-  in_filter test (y ∷ ys) x (inr m) p = by (test y) (in_filter test ys x m p)
-    where
-      by : (b : Bool) → Member x (filter test ys) → Member x (cond b (y ∷ filter test ys) (filter test ys))
-      by true rest = inr rest
-      by false rest = rest
-
-  pub of_filter : (test : A → Bool) (xs : List A) (x : A) → Member x (filter test xs) → Member x xs × (test x ≡ true)
-  of_filter test [] x m = absurd m
-  of_filter test (y ∷ ys) x m = by (test y) refl m (of_filter test ys x)
-    where
-      by : (b : Bool) → test y ≡ b → Member x (cond b (y ∷ filter test ys) (filter test ys)) → (Member x (filter test ys) → Member x ys × (test x ≡ true)) → Member x (y ∷ ys) × (test x ≡ true)
-      by true is (inl e) rest = (inl e, ap test e ∙ is)
-      by true is (inr n) rest = let t = rest n in (inr t.0, t.1)
-      by false is n rest = let t = rest n in (inr t.0, t.1)
-
   -- tests that agree at each member
   pub same_filter : (test other : A → Bool) (xs : List A) → Each (λ x. test x ≡ other x) xs → filter test xs ≡ filter other xs
   same_filter test other [] same = refl

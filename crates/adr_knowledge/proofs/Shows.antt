@@ -16,7 +16,8 @@ use Rattle.adr_model.proofs.Keys.{exact_keys}
 use Rattle.adr_knowledge.specs.Known.{HasOneContent, IsInView}
 use Rattle.adr_knowledge.specs.Stands.{Stands}
 use Rattle.adr_knowledge.proofs.Comparing.{keys_total, objects_tell, not_older_trans}
-use Rattle.adr_knowledge.proofs.Lists.{of_filter, in_filter, same_filter, same_any, some_passes, each_passes, filter_rises, same_members_one_list, not_both_ways}
+use Rattle.adr_model.proofs.Members.{of_filter, in_filter}
+use Rattle.adr_knowledge.proofs.Lists.{same_filter, same_any, some_passes, each_passes, filter_rises, same_members_one_list, not_both_ways}
 use Rattle.adr_knowledge.proofs.Knows.{covers_up, end_of_row, death_reflected, standing_is_held}
 use Rattle.adr_knowledge.proofs.Winners.{Won, is_won, winner_is, of_winners, in_winners, by_key, winners_rise}
 use Rattle.adr_knowledge.proofs.Standing.{of_standing, in_standing, standing_rises}

@@ -91,6 +91,24 @@ module _ {A : Type 0} where
       by true is = let t = passing test xs is in sym (one_passes test ys t.0 (to t.0 t.1) t.2)
       by false is = sym (none_passes test ys (λ y m. each_fails test xs is y (back y m)))
 
+  pub in_filter : (test : A → Bool) (xs : List A) (x : A) → Member x xs → test x ≡ true → Member x (filter test xs)
+  in_filter test [] x m p = m
+  in_filter test (y ∷ ys) x (inl e) p = subst (λ b. Member x (cond b (y ∷ filter test ys) (filter test ys))) (sym p ∙ ap test e) (inl e)
+  in_filter test (y ∷ ys) x (inr m) p = by (test y) (in_filter test ys x m p)
+    where
+      by : (b : Bool) → Member x (filter test ys) → Member x (cond b (y ∷ filter test ys) (filter test ys))
+      by true rest = inr rest
+      by false rest = rest
+
+  pub of_filter : (test : A → Bool) (xs : List A) (x : A) → Member x (filter test xs) → Member x xs × (test x ≡ true)
+  of_filter test [] x m = absurd m
+  of_filter test (y ∷ ys) x m = by (test y) refl m (of_filter test ys x)
+    where
+      by : (b : Bool) → test y ≡ b → Member x (cond b (y ∷ filter test ys) (filter test ys)) → (Member x (filter test ys) → Member x ys × (test x ≡ true)) → Member x (y ∷ ys) × (test x ≡ true)
+      by true is (inl e) rest = (inl e, ap test e ∙ is)
+      by true is (inr n) rest = let t = rest n in (inr t.0, t.1)
+      by false is n rest = let t = rest n in (inr t.0, t.1)
+
 module _ {A B : Type 0} where
   pub mapped_member : (f : A → B) (xs : List A) (y : B) → Member y (map f xs) → (x : A) × Member x xs × (y ≡ f x)
   mapped_member f [] y m = absurd m

@@ -1,5 +1,5 @@
 -- What is claimed of every run, as named facts.
-use Rattle.std.specs.Prelude.{◌≡◌, ◌≢◌, ◌⊎◌, ◌≤◌, ℕ, List, [], length, filter, max, nat_lt, Bool, true, false, None}
+use Rattle.std.specs.Prelude.{◌≡◌, ◌≢◌, ◌⊎◌, ◌≤◌, ℕ, List, [], ◌∷◌, length, filter, max, nat_lt, Bool, true, false, None}
 use Rattle.adr_stamp.specs.declared.Oid.{Oid}
 use Rattle.adr_vector.specs.Vector.{Cursors, at, at_most}
 use Rattle.adr_event.specs.declared.event.Event.{Event}
@@ -14,11 +14,12 @@ use Rattle.adr_model.specs.Visible.{covers_update, covers_birth, visible}
 use Rattle.adr_model.specs.Directory.{directory}
 use Rattle.adr_model.specs.Store.{State, Store, updates_of, kept_of, mark_of}
 use Rattle.adr_model.specs.Serve.{Request, last_local, units_of}
+use Rattle.adr_model.specs.Write.{IsWellGiven, AddObject, Modify}
 use Rattle.adr_model.specs.Reflects.{knowledge_of, Reflects}
 use Rattle.adr_model.specs.Collect.{deaths_to_collect}
 use Rattle.adr_model.specs.Replica.{Replica, Up}
 use Rattle.adr_model.specs.World.{World, Name, empty_world, step}
-use Rattle.adr_model.specs.Cycles.{cycle, reply_limit}
+use Rattle.adr_model.specs.Cycles.{happens, cycle, reply_limit}
 use Rattle.adr_model.specs.Sound.{IsSoundWorld}
 
 -- ---- soundness is kept
@@ -32,12 +33,15 @@ IsNewDsa w dsa = Member dsa w.given.dsas → ⊥
 abbrev pub IsNewInv : World → Identifier → Type 0
 IsNewInv w inv = Member inv w.given.invs → ⊥
 
--- an event that a line may give: names and identifiers that are new are so, and no database is put back
+-- an event that a line may give: names and identifiers that are new are so, no database is put back, and values are given in
+-- order
 abbrev pub MayHappen : World → Event → Type 0
 MayHappen w (events.Controller name dsa inv) = IsNewName w name × (IsNewDsa w dsa × IsNewInv w inv)
 MayHappen w (events.Install name dsa image inv) = IsNewName w name × (IsNewDsa w dsa × IsNewInv w inv)
 MayHappen w (events.Restore name image inv) = IsNewInv w inv
 MayHappen w (events.Rollback name snapshot) = ⊥
+MayHappen w (events.Add name guid class parent text values) = IsWellGiven (AddObject guid class parent text values)
+MayHappen w (events.Modify name guid values) = IsWellGiven (Modify guid values)
 MayHappen w e = Unit {0}
 
 abbrev pub BeginsSound : Type 0
@@ -45,6 +49,23 @@ BeginsSound = IsSoundWorld empty_world
 
 abbrev pub StaysSound : Type 0
 StaysSound = (w : World) (e : Event) → IsSoundWorld w → MayHappen w e → IsSoundWorld (step w e).0
+
+-- a line may also be a pull or a cycle of pulls
+abbrev pub LinesStaySound : Type 0
+LinesStaySound = (w : World) (e : Event) → IsSoundWorld w → MayHappen w e → IsSoundWorld (happens w e).0
+
+abbrev pub after_lines : World → List Event → World
+after_lines w [] = w
+after_lines w (e ∷ es) = after_lines (happens w e).0 es
+
+-- each line may be given where it is
+abbrev pub MayAllHappen : World → List Event → Type 0
+MayAllHappen w [] = Unit {0}
+MayAllHappen w (e ∷ es) = MayHappen w e × MayAllHappen (happens w e).0 es
+
+-- every run without a rollback is in a sound world after each of its lines
+abbrev pub RunsAreSound : Type 0
+RunsAreSound = (es : List Event) → MayAllHappen empty_world es → IsSoundWorld (after_lines empty_world es)
 
 -- ---- what is shown
 

@@ -59,12 +59,17 @@ pub record IsWithinLimits (s : Store) : Type 0 where
   pub links : links_in s.rows ≤ link_limit
   pub marks : length s.marks ≤ mark_limit
 
--- rows are whole and keep to a schema
+-- rows are whole and keep to a schema; no attribute has the number 0
 pub record AreFormedRows (table : Table) (rows : List Update) : Type 0 where
+  pub none : (o : Oid) → Each (λ r. r.key ≡ RowOf o 0 → ⊥) rows
   pub named : (o : Oid) → HoldsObject rows o → IsNamed rows o
   pub births : (o : Oid) → Each (λ r. r.key ≡ RowOf o class_attr → is_birth o r ≡ true) rows
   pub objects : (o : Oid) → HoldsObject rows o → IsObjectFormed table rows o
   pub links : (l : LinkKey) → Each (λ r. r.key ≡ LinkOf l → IsLinkFormed table rows l) rows
+
+-- rows in order of their keys, of each key one
+abbrev pub AreRising : List Held → Type 0
+AreRising rows = IsStrictlySortedBy key_order (map (λ h. h.update.key) rows)
 
 -- no two units share their last local USN
 abbrev pub AreAlone : List Held → Type 0
@@ -76,7 +81,7 @@ pub record IsFormedStore (s : Store) : Type 0 where
   pub purged : IsVector s.purged
   pub purged_within : at_most s.purged s.vector ≡ true
   pub marks : Each (λ (k : Identifier × Kept). IsOrdered k.1.mark) s.marks
-  pub rising : IsStrictlySortedBy key_order (map (λ h. h.update.key) s.rows)
+  pub rising : AreRising s.rows
   pub locals : Each (λ h. (1 ≤ h.local) × (h.local ≤ s.usn)) s.rows
   pub alone : AreAlone s.rows
   pub rows : AreFormedRows (numbered s.schema) (updates_of s.rows)

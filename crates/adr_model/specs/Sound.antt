@@ -4,7 +4,7 @@ use Rattle.adr_schema.specs.Table.{Table, class_at}
 use Rattle.adr_schema.specs.Numbered.{numbered}
 use Rattle.adr_schema.specs.declared.content.Content.TheVariants.{Class}
 use Rattle.adr_stamp.specs.declared.Oid.{Oid}
-use Rattle.adr_vector.specs.Vector.{Cursors, at}
+use Rattle.adr_vector.specs.Vector.{Cursors, IsVector, at}
 use Rattle.adr_vector.specs.declared.mark.Mark.{Mark}
 use Rattle.adr_model.specs.Member.{Member, Each}
 use Rattle.adr_model.specs.Update.{Identifier, Update, RowOf, Holds, ends, inv_of, usn_of, unit_of, class_attr}
@@ -14,8 +14,9 @@ use Rattle.adr_model.specs.Store.{Held, Kept, Normal, Store, State, updates_of}
 use Rattle.adr_model.specs.Change.{Item, after}
 use Rattle.adr_model.specs.History.{History, no_history, last_usn, rows_at, IsCut, IsKept, IsOrdered, IsBelow, WatermarkHolds}
 use Rattle.adr_model.specs.Serve.{Request, Reply}
+use Rattle.adr_model.specs.Write.{IsWellGiven}
 use Rattle.adr_model.specs.Take.{is_birth}
-use Rattle.adr_model.specs.Formed.{AreFormedRows, IsFormedStore, IsFormed, IsClosed}
+use Rattle.adr_model.specs.Formed.{AreRising, AreFormedRows, IsFormedStore, IsFormed, IsClosed}
 use Rattle.adr_model.specs.Replica.{Call, ToWrite, ToTake, ToCollect, ToQuarantine, change_of, Pending, Up, Replica, Scene, history_of}
 use Rattle.adr_model.specs.World.{World, Name}
 
@@ -86,11 +87,13 @@ CarriesAll issued r h carried =
 pub record IsSoundLast (sc : Scene) (r : Reply) (carried : Cursors) : Type 0 where
   pub obj : r.to.obj ≡ r.to.seen
   pub prop : r.to.prop ≡ r.to.seen
+  pub vector : IsVector carried
   pub bounded : IsBounded sc (at carried)
   pub carries : CarriesAll sc.issued r (history_of sc r.inv) carried
 
--- an item is the whole unseen part of its unit
+-- an item has a row, and is the whole unseen part of its unit
 pub record IsExact (rows : List Held) (r : Reply) (i : Item) : Type 0 where
+  pub some : (u : Update) × Member u i.rows
   pub from : Each (λ u. (h : Held) × Member h rows × (h.update ≡ u) × (unit_of u.key ≡ i.unit)) i.rows
   pub whole : Each (λ h. unit_of h.update.key ≡ i.unit → Member h.update i.rows ⊎ (Covers (at r.asked) h.update ⊎ (h.local ≤ r.from.prop))) rows
 
@@ -106,14 +109,16 @@ pub record IsSoundReply (sc : Scene) (r : Reply) : Type 0 where
   pub last : IfSome r.last (IsSoundLast sc r)
   pub exact : Each (IsExact (rows_at (history_of sc r.inv) r.to.seen) r) r.items
   pub once : Each (λ i. Each (λ j. i.unit ≡ j.unit → i ≡ j) r.items) r.items
+  pub rising : AreRising (rows_at (history_of sc r.inv) r.to.seen)
   pub formed : AreFormedRows (numbered r.schema) (updates_of (rows_at (history_of sc r.inv) r.to.seen))
   pub classes : AreClassesKnown (numbered r.schema) (updates_of (rows_at (history_of sc r.inv) r.to.seen))
 
+-- no controller shows that it was put back, and so none is quarantined
 abbrev pub IsSoundCall : Scene → Call → Type 0
-IsSoundCall sc (ToWrite w now) = Unit {0}
+IsSoundCall sc (ToWrite w now) = IsWellGiven w
 IsSoundCall sc (ToTake reply) = IsSoundReply sc reply
 IsSoundCall sc (ToCollect now lifetime) = Unit {0}
-IsSoundCall sc ToQuarantine = Unit {0}
+IsSoundCall sc ToQuarantine = ⊥
 
 -- a change that isn't safe is that of the kept call, and the controller isn't up
 pub record IsPending (sc : Scene) (r : Replica) (p : Pending) : Type 0 where
@@ -145,7 +150,7 @@ pub record AreIdentifiersSound (w : World) : Type 0 where
   pub dsas_given : Each (λ r. Member r.safe.dsa w.given.dsas) w.replicas
   pub invs_given : Each (λ r. Member r.safe.inv w.given.invs) w.replicas
   pub unused : (i : Identifier) → (Member i w.given.invs → ⊥) → history_of w.scene i ≡ no_history
-  pub marks : Each (λ r. AreMarksGiven w r.safe.store) w.replicas
+  pub marks : Each (λ r. AreMarksGiven w r.safe.store × AreMarksGiven w r.read.store) w.replicas
   pub image_marks : Each (λ (i : Name × Store). AreMarksGiven w i.1) w.images
   pub requests : Each (λ (q : Name × Request). IsGiven w q.1.inv) w.requests
   pub replies : Each (λ (r : Name × Reply). Member r.1.inv w.given.invs) w.replies

@@ -1,7 +1,9 @@
 -- Originating writes: the first refusal, or the rows that a client's write makes.
-use Rattle.std.specs.Prelude.{ℕ, ◌+◌, List, [], ◌∷◌, Bool, true, false, not, ◌&&◌, ◌||◌, ◌==◌, Option, Some, None, is_none, is_some, Result, map, filter, length, nat_lt, if◌then◌else◌}
+use Rattle.std.specs.Prelude.{◌≢◌, ℕ, ◌+◌, List, [], ◌∷◌, Bool, true, false, not, ◌&&◌, ◌||◌, ◌==◌, Option, Some, None, is_none, is_some, Result, map, filter, length, nat_lt, if◌then◌else◌}
 use Rattle.std.specs.List.{list_any, find}
+use Rattle.std.specs.List.Sorted.{IsStrictlySortedBy}
 use Rattle.std.specs.Option.{option_map, option_map_or}
+use Rattle.std.specs.Ordering.{nat_cmp}
 use Rattle.adr_stamp.specs.declared.Oid.{Oid}
 use Rattle.adr_stamp.specs.declared.LinkStamp.{LinkStamp}
 use Rattle.adr_stamp.specs.declared.LinkKey.{LinkKey}
@@ -10,7 +12,7 @@ use Rattle.adr_schema.specs.declared.content.Content.{Content}
 use Rattle.adr_schema.specs.declared.content.Content.TheVariants.{Class, Name, Dead, Values}
 use Rattle.adr_schema.specs.declared.refusal.SchemaRefusal.{SchemaRefusal}
 use Rattle.adr_schema.specs.declared.refusal.SchemaRefusal.TheVariants as schema
-use Rattle.adr_schema.specs.Assignments.{Given}
+use Rattle.adr_schema.specs.Assignments.{Given, attributes}
 use Rattle.adr_schema.specs.Table.{Table as Schema, is_superior}
 use Rattle.adr_schema.specs.Numbered.{numbered}
 use Rattle.adr_schema.specs.Rules.{add_refusal as schema_add_refusal, modify_refusal as schema_modify_refusal, link_refusal as schema_link_refusal, name_refusal as schema_name_refusal}
@@ -50,6 +52,19 @@ pub data Write : Type 0 where
   Delete : (guid : Identifier) → Write
   AddLink : (from : Identifier) (attr : ℕ) (to : Identifier) → Write
   RemoveLink : (from : Identifier) (attr : ℕ) (to : Identifier) → Write
+
+-- values by attribute, rising
+abbrev pub AreInOrder : List Given → Type 0
+AreInOrder values = IsStrictlySortedBy nat_cmp (attributes values)
+
+-- a write that a client can send: each attribute is given once, and a modification gives some
+abbrev pub IsWellGiven : Write → Type 0
+IsWellGiven (AddObject guid class parent text values) = AreInOrder values
+IsWellGiven (Modify guid values) = AreInOrder values × (values ≢ [])
+IsWellGiven (Rename guid parent text) = Unit {0}
+IsWellGiven (Delete guid) = Unit {0}
+IsWellGiven (AddLink from attr to) = Unit {0}
+IsWellGiven (RemoveLink from attr to) = Unit {0}
 
 -- ---- refusals
 
