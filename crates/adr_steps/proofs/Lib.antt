@@ -1,0 +1,13 @@
+pub mod Rows
+pub mod Putting
+pub mod Locals
+pub mod Rising
+pub mod Order
+pub mod FormedRows
+pub mod FormedMust
+pub mod FormedOnce
+pub mod FormedSame
+pub mod FormedObject
+pub mod FormedOther
+pub mod Formed
+pub mod Links

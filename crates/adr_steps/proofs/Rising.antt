@@ -1,0 +1,100 @@
+-- Rows in order of their keys stay so where one is put.
+use Rattle.std.proofs.Common.{◌≡◌, inl, inr, List, [], ◌∷◌, Bool, true, false, cond, refl, sym, ap, ◌∙◌, subst, filter, map, Option, Some, None, not}
+use Rattle.std.specs.List.{AllByRecursion}
+use Rattle.std.specs.List.Sorted.{IsStrictlySortedBy}
+use Rattle.std.specs.Ordering.{match_ordering, ordering_reverse}
+use Rattle.std.specs.declared.cmp.Ordering.{Ordering}
+use Rattle.std.specs.declared.cmp.Ordering.TheVariants.{Less, Equal, Greater}
+use Rattle.std.proofs.lemmas.Cmp.{tied_itself}
+use Rattle.std.proofs.lemmas.List.Kept.{IsStrictlySortedBy-filter}
+use Rattle.std.proofs.lemmas.Map.Keys.{sorted_head, sorted_tail}
+use Rattle.adr_stamp.specs.declared.Oid.{Oid}
+use Rattle.adr_model.specs.Member.{Member}
+use Rattle.adr_model.specs.Update.{Key, key_order}
+use Rattle.adr_model.specs.Store.{Held, with_row}
+use Rattle.adr_model.specs.Change.{goes_with, killed_by, stripped, put}
+use Rattle.adr_model.specs.Formed.{AreRising}
+use Rattle.adr_model.proofs.Keys.{exact_keys}
+use Rattle.adr_knowledge.proofs.Comparing.{keys_total}
+
+-- a key below those of all these rows
+abbrev IsBelow : Key → List Held → Type 0
+IsBelow k rows = AllByRecursion (λ l. key_order k l ≡ Less) (map (λ (h : Held). h.update.key) rows)
+
+head_below : (x : Held) (xs : List Held) → AreRising (x ∷ xs) → IsBelow x.update.key xs
+head_below x xs r = sorted_head key_order x.update.key (map (λ (h : Held). h.update.key) xs) r
+
+tail_rising : (x : Held) (xs : List Held) → AreRising (x ∷ xs) → AreRising xs
+tail_rising x xs r = sorted_tail key_order x.update.key (map (λ (h : Held). h.update.key) xs) r
+
+none_rising : AreRising []
+unfolding IsStrictlySortedBy
+none_rising = tt
+
+one_more : (x : Held) (xs : List Held) → IsBelow x.update.key xs → AreRising xs → AreRising (x ∷ xs)
+unfolding IsStrictlySortedBy
+one_more x xs b r = (b, r)
+
+below_all : (k l : Key) (xs : List Held) → key_order k l ≡ Less → IsBelow l xs → IsBelow k xs
+below_all k l [] less b = tt
+below_all k l (x ∷ xs) less b = (keys_total.trans k l x.update.key less b.0, below_all k l xs less b.1)
+
+below_same : (k l : Key) (xs : List Held) → k ≡ l → IsBelow l xs → IsBelow k xs
+below_same k l xs e b = subst (λ m. IsBelow m xs) (sym e) b
+
+below_member : (k : Key) (xs : List Held) (x : Held) → IsBelow k xs → Member x xs → key_order k x.update.key ≡ Less
+below_member k [] x b m = absurd m
+below_member k (y ∷ ys) x b (inl e) = ap (λ (z : Held). key_order k z.update.key) e ∙ b.0
+below_member k (y ∷ ys) x b (inr m) = below_member k ys x b.1 m
+
+-- ---- of each key one
+
+apart : (k l : Key) → key_order k l ≡ Less → k ≡ l → ⊥
+apart k l less e = let tie : key_order k l ≡ Equal = ap (key_order k) (sym e) ∙ tied_itself keys_total k in cc
+
+pub one_of_rising : (rows : List Held) → AreRising rows → (x : Held) → Member x rows → (y : Held) → Member y rows → x.update.key ≡ y.update.key → x ≡ y
+one_of_rising [] r x m y n e = absurd m
+one_of_rising (z ∷ zs) r x (inl p) y (inl q) e = p ∙ sym q
+one_of_rising (z ∷ zs) r x (inl p) y (inr n) e = absurd (apart z.update.key y.update.key (below_member z.update.key zs y (head_below z zs r) n) (ap (λ (h : Held). h.update.key) (sym p) ∙ e))
+one_of_rising (z ∷ zs) r x (inr m) y (inl q) e = absurd (apart z.update.key x.update.key (below_member z.update.key zs x (head_below z zs r) m) (ap (λ (h : Held). h.update.key) (sym q) ∙ sym e))
+one_of_rising (z ∷ zs) r x (inr m) y (inr n) e = one_of_rising zs (tail_rising z zs r) x m y n e
+
+-- ---- a row more
+
+below_with_row : (k : Key) (xs : List Held) (h : Held) → key_order k h.update.key ≡ Less → IsBelow k xs → IsBelow k (with_row xs h)
+below_with_row k [] h less b = (less, tt)
+below_with_row k (x ∷ xs) h less b = by (key_order h.update.key x.update.key) (below_with_row k xs h less b.1)
+  where
+    by : (o : Ordering) → IsBelow k (with_row xs h) → IsBelow k (match_ordering o (h ∷ x ∷ xs) (h ∷ xs) (x ∷ with_row xs h))
+    by Less rest = (less, b)
+    by Equal rest = (less, b.1)
+    by Greater rest = (b.0, rest)
+
+with_row_rises : (xs : List Held) (h : Held) → AreRising xs → AreRising (with_row xs h)
+with_row_rises [] h r = one_more h [] tt none_rising
+with_row_rises (x ∷ xs) h r = by (key_order h.update.key x.update.key) refl (with_row_rises xs h (tail_rising x xs r))
+  where
+    by : (o : Ordering) → key_order h.update.key x.update.key ≡ o → AreRising (with_row xs h) → AreRising (match_ordering o (h ∷ x ∷ xs) (h ∷ xs) (x ∷ with_row xs h))
+    by Less is rest = one_more h (x ∷ xs) (is, below_all h.update.key x.update.key xs is (head_below x xs r)) r
+    by Equal is rest = one_more h xs (below_same h.update.key x.update.key xs (exact_keys h.update.key x.update.key is) (head_below x xs r)) (tail_rising x xs r)
+    by Greater is rest = one_more x (with_row xs h) (below_with_row x.update.key xs h (keys_total.antisymm x.update.key h.update.key ∙ ap ordering_reverse is) (head_below x xs r)) rest
+
+-- ---- rows fewer
+
+keys_filtered : (test : Key → Bool) (xs : List Held) → map (λ (h : Held). h.update.key) (filter (λ h. test h.update.key) xs) ≡ filter test (map (λ (h : Held). h.update.key) xs)
+keys_filtered test [] = refl
+keys_filtered test (x ∷ xs) = by (test x.update.key) (keys_filtered test xs)
+  where
+    by : (b : Bool) → map (λ (h : Held). h.update.key) (filter (λ h. test h.update.key) xs) ≡ filter test (map (λ (h : Held). h.update.key) xs)
+        → map (λ (h : Held). h.update.key) (cond b (x ∷ filter (λ h. test h.update.key) xs) (filter (λ h. test h.update.key) xs))
+        ≡ cond b (x.update.key ∷ filter test (map (λ (h : Held). h.update.key) xs)) (filter test (map (λ (h : Held). h.update.key) xs))
+    by true rest = ap (λ ks. x.update.key ∷ ks) rest
+    by false rest = rest
+
+stripped_rises : (o : Option Oid) (rows : List Held) → AreRising rows → AreRising (stripped o rows)
+stripped_rises None rows r = r
+stripped_rises (Some o) rows r = subst (IsStrictlySortedBy key_order) (sym (keys_filtered (λ k. not (goes_with o k)) rows))
+    (IsStrictlySortedBy-filter key_order (λ k. not (goes_with o k)) (map (λ (h : Held). h.update.key) rows) r)
+
+pub put_rises : (rows : List Held) (h : Held) → AreRising rows → AreRising (put rows h)
+put_rises rows h r = stripped_rises (killed_by h.update.key) (with_row rows h) (with_row_rises rows h r)
