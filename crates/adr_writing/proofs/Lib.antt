@@ -1,0 +1,17 @@
+pub mod Counting
+pub mod Limits
+pub mod Raised
+pub mod Writes
+pub mod Issues
+pub mod Rooms
+pub mod Forms
+pub mod Left
+pub mod Refusals
+pub mod Nodes
+pub mod Stamps
+pub mod Values
+pub mod Saids
+pub mod Linked
+pub mod Changed
+pub mod Coming
+pub mod Sound
