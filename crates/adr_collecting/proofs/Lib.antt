@@ -1,0 +1,10 @@
+pub mod Deaths
+pub mod Covering
+pub mod Fewer
+pub mod Removing
+pub mod Forms
+pub mod Sizes
+pub mod Shrinking
+pub mod Taken
+pub mod Vectors
+pub mod Leaving
