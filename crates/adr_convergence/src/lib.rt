@@ -1,27 +1,20 @@
-//! What is proved of every sound world: that its controllers show what is visible to them.
+//! What is proved of every run, over the definitions alone: that every event keeps a world sound, what
+//! controllers of a sound world show, which refusals don't come, and that a cycle ends.
 //!
-//! Stands on the definitions of `adr_model` and on the laws of one store's knowledge in
-//! `adr_knowledge`. Its functions have no code: each contract is a law of the definitions. It doesn't
-//! know which worlds are sound.
+//! Stands on the definitions of `adr_model` and on the laws of knowledge (`adr_knowledge`), of local
+//! logs (`adr_history`), and of what each kind of call leaves (`adr_taking`, `adr_writing`,
+//! `adr_collecting`). Its functions have no code: each contract is a statement of the definitions'
+//! `Convergence`.
 #![tactic(auto)]
 
-ghost use Rattle.adr_model.specs.Convergence.{BeginsSound, EqualCoverageShowsEqual, OwnIsVisible, ShowsWhatIsVisible};
+mod cycles;
+mod refused;
+mod showing;
+mod soundness;
 
-/// The world before the first event is sound.
-pub fn the_empty_world_is_sound()
-    ensures { BeginsSound }
-{}
-
-/// In a sound world, what a controller holds shows what is visible to it: the directory of its rows is
-/// that of the issued updates that it covers or holds. All that was issued under its present
-/// identifier is among these.
-pub fn controllers_show_what_is_visible()
-    ensures shown { ShowsWhatIsVisible }
-    ensures own { OwnIsVisible }
-{}
-
-/// In a sound world, controllers that cover the same of what was issued, and hold nothing beyond, show
-/// the same.
-pub fn equal_coverage_shows_equal()
-    ensures { EqualCoverageShowsEqual }
-{}
+pub use cycles::cycles_end;
+pub use refused::{coverage_stays, no_damage_is_found, no_one_is_too_old};
+pub use showing::{
+    acknowledged_writes_are_issued, controllers_show_what_is_visible, equal_coverage_shows_equal,
+};
+pub use soundness::{every_event_keeps_worlds_sound, the_empty_world_is_sound};

@@ -1,0 +1,95 @@
+-- A call that a sound controller makes may settle.
+use Rattle.std.specs.Bool.{then_some}
+use Rattle.std.specs.Option.{option_or}
+use Rattle.std.specs.Prelude.{nat_lt}
+use Rattle.adr_event.specs.declared.refusal.CollectRefusal.TheVariants.{Quarantined as IsQuarantined, UsnLimit}
+use Rattle.adr_model.specs.Serve.{is_quarantined}
+use Rattle.adr_model.specs.Write.{usn_limit}
+use Rattle.std.proofs.Common.{◌≡◌, ◌++◌, List, [], Option, Some, None, Result, Ok, Err, refl, sym, subst}
+use Rattle.adr_model.specs.Member.{Member, Each}
+use Rattle.adr_model.specs.Refusing.{unless}
+use Rattle.adr_model.specs.Store.{Normal, State}
+use Rattle.adr_model.specs.Change.{Change, Written, held_of, after}
+use Rattle.adr_model.specs.History.{Follows}
+use Rattle.adr_model.specs.Take.{take_items, taken_change, refusal_of, take}
+use Rattle.adr_model.specs.Write.{rows_written, own_change, write_refusal, write}
+use Rattle.adr_model.specs.Collect.{deaths_to_collect, collection, collect}
+use Rattle.adr_model.specs.Replica.{Call, ToWrite, ToTake, ToCollect, ToQuarantine, change_in, change_of, Pending, issued_by, Replica, Scene}
+use Rattle.adr_model.specs.Sound.{last_of, IsSoundScene, IsSoundState, IsSoundCall}
+use Rattle.adr_history.specs.Later.{AreIssuedBy, MayIssue}
+use Rattle.adr_history.specs.Settling.{Leaves, MaySettle}
+use Rattle.adr_history.proofs.Leaving.{sound_state_is_left}
+use Rattle.adr_history.proofs.Written.{write_may_follow}
+use Rattle.adr_collecting.proofs.Leaving.{collection_leaves}
+use Rattle.adr_writing.proofs.Sound.{write_leaves_sound}
+use Rattle.adr_taking.proofs.TakenLeaves.{taken_leaves}
+
+-- what is asked of a call before it settles
+pub record Settles (sc : Scene) (s : State) (p : Pending) : Type 0 where
+  pub follows : Follows (last_of sc s.inv) p.change
+  pub issued : AreIssuedBy sc s.inv p.change (issued_by p.call p.change)
+  pub content : MayIssue sc p.change (issued_by p.call p.change)
+  pub leaves : Leaves sc s p
+  pub normal : p.change.mode ≡ Normal
+
+pub in_change : {E : Type 0} (r : Result Change E) (c : Change) → change_in r ≡ Some c → r ≡ Ok c
+in_change (Ok d) c e = cc
+in_change (Err x) c e = absurd (cc)
+
+pub answered : {A E : Type 0} (o : Option E) (x y : A) → unless o x ≡ Ok y → x ≡ y
+answered None x y e = cc
+answered (Some z) x y e = absurd (cc)
+
+-- a change of no writes that issues nothing
+issues_nothing : (sc : Scene) (c : Change) → c.writes ≡ [] → MayIssue sc c []
+issues_nothing sc c none = record {
+  alone = λ u m. absurd m;
+  born = λ u m. absurd m;
+  births = λ u m. absurd m;
+  logged = subst (λ (ws : List Written). Each (λ h. Member h.update (sc.issued ++ [])) (held_of ws)) (sym none) (λ h m. absurd m);
+}
+
+module _ (sc : Scene) (s : State) (scene : IsSoundScene sc) (state : IsSoundState sc s) where
+  settles : (call : Call) (c : Change) → IsSoundCall sc call → change_of s call ≡ Some c → Settles sc s (record { call = call; change = c })
+  settles (ToWrite w now) c is made = record { follows = (write_may_follow sc s w now state.last c ok).0; issued = (write_may_follow sc s w now state.last c ok).1; content = left.0; leaves = left.1; normal = subst (λ (d : Change). d.mode ≡ Normal) change refl }
+    where
+      ok : write s w now ≡ Ok c
+      ok = in_change (write s w now) c made
+
+      change : own_change s (rows_written s w now) ≡ c
+      change = answered (write_refusal s w) (own_change s (rows_written s w now)) c ok
+
+      left : MayIssue sc c (issued_by (ToWrite w now) c) × Leaves sc s (record { call = ToWrite w now; change = c })
+      left = write_leaves_sound sc s w now c scene state is ok
+  settles (ToTake r) c is made = record { follows = left.0; issued = λ u m. absurd m; content = left.1.0; leaves = left.1.1; normal = subst (λ (d : Change). d.mode ≡ Normal) change refl }
+    where
+      ok : take s r ≡ Ok c
+      ok = in_change (take s r) c made
+
+      change : taken_change r (take_items s r.items) ≡ c
+      change = answered (refusal_of s r (take_items s r.items) (after s (taken_change r (take_items s r.items)))) (taken_change r (take_items s r.items)) c ok
+
+      left : Follows (last_of sc s.inv) c × (MayIssue sc c [] × Leaves sc s (record { call = ToTake r; change = c }))
+      left = taken_leaves sc s r c scene state is ok
+  settles (ToCollect now lifetime) c is made = record { follows = left.0; issued = λ u m. absurd m; content = issues_nothing sc c (subst (λ (d : Change). d.writes ≡ []) change refl); leaves = left.1; normal = subst (λ (d : Change). d.mode ≡ Normal) change refl }
+    where
+      ok : collect s now lifetime ≡ Ok c
+      ok = in_change (collect s now lifetime) c made
+
+      change : collection s (deaths_to_collect s now lifetime) ≡ c
+      change = answered (option_or (then_some (is_quarantined s.mode) IsQuarantined) (then_some (nat_lt usn_limit (collection s (deaths_to_collect s now lifetime)).usn) UsnLimit)) (collection s (deaths_to_collect s now lifetime)) c ok
+
+      left : Follows (last_of sc s.inv) c × Leaves sc s (record { call = ToCollect now lifetime; change = c })
+      left = collection_leaves sc s now lifetime c scene state ok
+  settles ToQuarantine c is made = absurd is
+
+  pub call_settles : (p : Pending) → IsSoundCall sc p.call → change_of s p.call ≡ Some p.change → Settles sc s p
+  call_settles p is made = settles p.call p.change is made
+
+  pub may_settle : (r : Replica) (p : Pending) → r.safe ≡ s → Settles sc s p → MaySettle sc r p
+  may_settle r p same is = subst (λ (d : State). MaySettle sc (record r { safe = d }) p) (sym same) (record {
+    follows = is.follows;
+    issued = is.issued;
+    content = is.content;
+    state = sound_state_is_left sc s p scene state is.follows is.issued is.leaves;
+  })

@@ -1,0 +1,130 @@
+-- Controllers that come, and that are restored, in a sound world.
+use Rattle.std.proofs.Common.{◌≡◌, ◌≢◌, inl, inr, List, [], ◌∷◌, ◌++◌, Result, Ok, Err, refl, sym, ap, ◌∙◌, subst}
+use Rattle.std.specs.Bool.{then_some}
+use Rattle.std.specs.Option.{option_or}
+use Rattle.std.specs.Prelude.{length, nat_lt}
+use Rattle.adr_vector.specs.Vector.{most_cursors}
+use Rattle.adr_event.specs.declared.refusal.AdoptRefusal.{AdoptRefusal}
+use Rattle.adr_event.specs.declared.refusal.AdoptRefusal.TheVariants.{IdentifierUsed, Full}
+use Rattle.adr_event.specs.declared.refusal.Table.TheVariants.{Cursors as CursorTable}
+use Rattle.adr_model.specs.Member.{Member, Each}
+use Rattle.adr_model.specs.Update.{Identifier}
+use Rattle.adr_model.specs.Store.{Normal, Store, State, empty_state}
+use Rattle.adr_model.specs.History.{no_history}
+use Rattle.adr_model.specs.Collect.{names_inv, woken, adopt}
+use Rattle.adr_model.specs.Replica.{Replica, on_new_disk, history_of, begun}
+use Rattle.adr_model.specs.World.{Name, World, with_replica, gives, adopts}
+use Rattle.adr_model.specs.Sound.{IsSoundScene, IsSoundStore, IsSoundState, IsGiven, AreMarksGiven, IsSoundWorld}
+use Rattle.adr_model.specs.Convergence.{IsNewName, IsNewDsa, IsNewInv}
+use Rattle.adr_model.proofs.Members.{member_left, member_right}
+use Rattle.adr_history.specs.Later.{IsLater}
+use Rattle.adr_history.specs.Logs.{first_log}
+use Rattle.adr_history.proofs.Empty.{new_is_sound}
+use Rattle.adr_history.proofs.Woken.{adopted_is_sound}
+use Rattle.adr_history.proofs.Tables.{entry_other}
+use Rattle.adr_convergence.proofs.Calls.{answered}
+use Rattle.adr_convergence.proofs.Replacing.{MayStand, OnlyLog, replaced, added}
+
+-- what was given is so when more is given
+still_given : (w : World) (dsas invs : List Identifier) (i : Identifier) → IsGiven w i → IsGiven (gives w dsas invs) i
+still_given w dsas invs i (inl m) = inl (member_left w.given.invs invs i m)
+still_given w dsas invs i (inr e) = inr e
+
+pub given_sound : (w : World) (dsas invs : List Identifier) → IsSoundWorld w → IsSoundWorld (gives w dsas invs)
+given_sound w dsas invs sound = record {
+  clean = sound.clean;
+  scene = sound.scene;
+  replicas = sound.replicas;
+  images = sound.images;
+  requests = sound.requests;
+  replies = sound.replies;
+  identifiers = record {
+    names = sound.identifiers.names;
+    dsas = sound.identifiers.dsas;
+    invs = sound.identifiers.invs;
+    dsas_given = λ r m. member_left w.given.dsas dsas r.safe.dsa (sound.identifiers.dsas_given r m);
+    invs_given = λ r m. member_left w.given.invs invs r.safe.inv (sound.identifiers.invs_given r m);
+    unused = λ i not_given. sound.identifiers.unused i (λ m. not_given (member_left w.given.invs invs i m));
+    marks = λ r m. (marks r.safe.store (sound.identifiers.marks r m).0, marks r.read.store (sound.identifiers.marks r m).1);
+    image_marks = λ i m. marks i.1 (sound.identifiers.image_marks i m);
+    requests = λ q m. still_given w dsas invs q.1.inv (sound.identifiers.requests q m);
+    replies = λ r m. member_left w.given.invs invs r.1.inv (sound.identifiers.replies r m);
+  };
+  normal = sound.normal;
+}
+  where
+    marks : (s : Store) → AreMarksGiven w s → AreMarksGiven (gives w dsas invs) s
+    marks s all k m = still_given w dsas invs k.1.inv (all k m)
+
+module _ (w : World) (sound : IsSoundWorld w) (inv : Identifier) (new_inv : IsNewInv w inv) where
+  abbrev given_more : List Identifier → World
+  given_more dsas = gives w dsas (inv ∷ [])
+
+  fresh : history_of w.scene inv ≡ no_history
+  fresh = sound.identifiers.unused inv new_inv
+
+  apart : Each (λ q. q.safe.inv ≢ inv) w.replicas
+  apart q m e = new_inv (subst (λ (i : Identifier). Member i w.given.invs) e (sound.identifiers.invs_given q m))
+
+  only : (s : State) → s.inv ≡ inv → OnlyLog w.scene (begun w.scene s) s.inv
+  only s is i other = entry_other w.scene.histories no_history s.inv i (first_log s.store.usn s.store.rows) other
+
+  -- a controller on a new disk, which stands in a scene in which its incarnation begins
+  stands : (dsas : List Identifier) (name : Name) (s : State) → s.inv ≡ inv → s.mode ≡ Normal → Member s.dsa (w.given.dsas ++ dsas) → AreMarksGiven (given_more dsas) s.store
+      → IsLater w.scene (begun w.scene s) × (IsSoundScene (begun w.scene s) × IsSoundState (begun w.scene s) s) → MayStand (given_more dsas) (begun w.scene s) (on_new_disk name s)
+  stands dsas name s is normal dsa marks begins = record {
+    later = begins.0;
+    scene = begins.1.0;
+    given = subst (λ (i : Identifier). Member i (w.given.invs ++ inv ∷ [])) (sym is) (member_right w.given.invs (inv ∷ []) inv (inl refl));
+    dsa_given = dsa;
+    sound = record { safe = begins.1.1; read = inl (refl, refl) };
+    marks = (marks, marks);
+    normal = normal;
+  }
+
+  -- ---- a controller that comes
+
+  module _ (name : Name) (dsa : Identifier) (new_name : IsNewName w name) (new_dsa : IsNewDsa w dsa) where
+    comes : (s : State) → s.inv ≡ inv → s.dsa ≡ dsa → s.mode ≡ Normal → AreMarksGiven (given_more (dsa ∷ [])) s.store
+        → IsLater w.scene (begun w.scene s) × (IsSoundScene (begun w.scene s) × IsSoundState (begun w.scene s) s)
+        → IsSoundWorld (record (given_more (dsa ∷ [])) { scene = begun w.scene s; replicas = w.replicas ++ on_new_disk name s ∷ [] })
+    comes s is same normal marks begins = added (given_more (dsa ∷ [])) (begun w.scene s) (on_new_disk name s) (given_sound w (dsa ∷ []) (inv ∷ []) sound)
+        (stands (dsa ∷ []) name s is normal (subst (λ (d : Identifier). Member d (w.given.dsas ++ dsa ∷ [])) (sym same) (member_right w.given.dsas (dsa ∷ []) dsa (inl refl))) marks begins)
+        new_name
+        (λ q m e. new_dsa (subst (λ (d : Identifier). Member d w.given.dsas) (e ∙ same) (sound.identifiers.dsas_given q m)))
+        (λ q m e. apart q m (e ∙ is)) (only s is)
+
+    pub new_comes : IsSoundWorld (record (given_more (dsa ∷ [])) { scene = begun w.scene (empty_state dsa inv); replicas = w.replicas ++ on_new_disk name (empty_state dsa inv) ∷ [] })
+    new_comes = comes (empty_state dsa inv) refl refl refl (λ k m. absurd m) (new_is_sound w.scene dsa inv sound.scene fresh)
+
+  -- ---- a controller that is made of an image
+
+  -- what is adopted
+  woken_is : (image : Store) (dsa : Identifier) (s : State) → adopt image dsa inv ≡ Ok s → woken image dsa inv ≡ s
+  woken_is image dsa s e = answered (option_or (then_some (names_inv image inv) IdentifierUsed) (then_some (nat_lt most_cursors (length (woken image dsa inv).store.vector)) (Full CursorTable most_cursors))) (woken image dsa inv) s e
+
+  image_marks : (dsas : List Identifier) (image : Store) (dsa : Identifier) (s : State) → woken image dsa inv ≡ s → AreMarksGiven w image → AreMarksGiven (given_more dsas) s.store
+  image_marks dsas image dsa s is given k m = still_given w dsas (inv ∷ []) k.1.inv (given k (subst (λ (d : State). Member k d.store.marks) (sym is) m))
+
+  module _ (name : Name) (image : Store) (sound_image : IsSoundStore w.scene image) (given_image : AreMarksGiven w image) where
+    pub installed : (dsa : Identifier) → IsNewName w name → IsNewDsa w dsa
+        → IsSoundWorld (adopts (given_more (dsa ∷ [])) (λ r. w.replicas ++ r ∷ []) name (adopt image dsa inv)).0
+    installed dsa new_name new_dsa = by (adopt image dsa inv) refl
+      where
+        by : (t : Result State AdoptRefusal) → adopt image dsa inv ≡ t → IsSoundWorld (adopts (given_more (dsa ∷ [])) (λ r. w.replicas ++ r ∷ []) name t).0
+        by (Err x) e = given_sound w (dsa ∷ []) (inv ∷ []) sound
+        by (Ok s) e = let is = woken_is image dsa s e in
+            comes name dsa new_name new_dsa s (ap (λ (d : State). d.inv) (sym is)) (ap (λ (d : State). d.dsa) (sym is)) (ap (λ (d : State). d.mode) (sym is))
+            (image_marks (dsa ∷ []) image dsa s is given_image) (adopted_is_sound w.scene image dsa inv s sound.scene sound_image fresh e)
+
+    pub restored : (r : Replica) → Member r w.replicas → r.name ≡ name → IsSoundWorld (adopts (given_more []) (with_replica w.replicas) name (adopt image r.safe.dsa inv)).0
+    restored r there called = by (adopt image r.safe.dsa inv) refl
+      where
+        by : (t : Result State AdoptRefusal) → adopt image r.safe.dsa inv ≡ t → IsSoundWorld (adopts (given_more []) (with_replica w.replicas) name t).0
+        by (Err x) e = given_sound w [] (inv ∷ []) sound
+        by (Ok s) e = let is = woken_is image r.safe.dsa s e in let dsa : s.dsa ≡ r.safe.dsa = ap (λ (d : State). d.dsa) (sym is) in
+            replaced (given_more []) (begun w.scene s) r (on_new_disk name s) (given_sound w [] (inv ∷ []) sound) there
+            (stands [] name s (ap (λ (d : State). d.inv) (sym is)) (ap (λ (d : State). d.mode) (sym is))
+            (subst (λ (d : Identifier). Member d (w.given.dsas ++ [])) (sym dsa) (member_left w.given.dsas [] r.safe.dsa (sound.identifiers.dsas_given r there)))
+            (image_marks [] image r.safe.dsa s is given_image) (adopted_is_sound w.scene image r.safe.dsa inv s sound.scene sound_image fresh e))
+            (sym called) dsa (inr (λ q m same. apart q m (same ∙ ap (λ (d : State). d.inv) (sym is)))) (only s (ap (λ (d : State). d.inv) (sym is)))

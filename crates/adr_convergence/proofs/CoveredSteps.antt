@@ -1,0 +1,199 @@
+-- What was collected stays covered by each event.
+use Rattle.std.proofs.Common.{◌≡◌, ◌⊎◌, inl, inr, ℕ, List, [], ◌∷◌, ◌++◌, Bool, true, false, Option, Some, None, Result, Ok, Err, refl, sym, ap, ◌∙◌, subst, fold, length, if◌then◌else◌}
+use Rattle.std.specs.Bool.{then_some}
+use Rattle.std.specs.Option.{option_or}
+use Rattle.std.specs.Prelude.{nat_lt}
+use Rattle.adr_vector.specs.Vector.{most_cursors}
+use Rattle.adr_event.specs.declared.answer.Outcome.{Outcome}
+use Rattle.adr_event.specs.declared.answer.Outcome.TheVariants as outcomes
+use Rattle.adr_event.specs.declared.event.Event.TheVariants as events
+use Rattle.adr_event.specs.declared.refusal.Table.TheVariants.{Cursors as CursorTable}
+use Rattle.adr_event.specs.declared.refusal.WriteRefusal.{WriteRefusal}
+use Rattle.adr_event.specs.declared.refusal.ServeRefusal.{ServeRefusal}
+use Rattle.adr_event.specs.declared.refusal.ServeRefusal.TheVariants as serves
+use Rattle.adr_event.specs.declared.refusal.TakeRefusal.{TakeRefusal}
+use Rattle.adr_event.specs.declared.refusal.TakeRefusal.TheVariants as takes
+use Rattle.adr_event.specs.declared.refusal.CollectRefusal.{CollectRefusal}
+use Rattle.adr_event.specs.declared.refusal.CollectRefusal.TheVariants.{Quarantined as IsQuarantined, UsnLimit}
+use Rattle.adr_event.specs.declared.refusal.AdoptRefusal.{AdoptRefusal}
+use Rattle.adr_event.specs.declared.refusal.AdoptRefusal.TheVariants.{IdentifierUsed, Full}
+use Rattle.adr_model.specs.Member.{Member}
+use Rattle.adr_model.specs.Update.{Identifier}
+use Rattle.adr_model.specs.Store.{Store, State, empty_state}
+use Rattle.adr_model.specs.Change.{Change, after}
+use Rattle.adr_model.specs.Serve.{Request, Reply, is_quarantined, ask, serve}
+use Rattle.adr_model.specs.Write.{Write, usn_limit, rows_written, own_change, write_refusal, write}
+use Rattle.adr_model.specs.Take.{take_items, taken_change, refusal_of, take}
+use Rattle.adr_model.specs.Collect.{collection, deaths_to_collect, collect, backup, names_inv, woken, adopt, quarantine}
+use Rattle.adr_model.specs.Refused.{serve_refused, take_refused, quarantined}
+use Rattle.adr_model.specs.Replica.{Pending, ToWrite, ToTake, ToCollect, ToQuarantine, Standing, Up, Down, Failed, Plan, Replica, on_new_disk, Scene, begun, Settle, moved, went, moves_of_commit, moves_of_start, standing_after, plan_after}
+use Rattle.adr_model.specs.World.{Name, World, Gone, Sent, stays, nothing, bound, bound_at, replica_at, with_replica, of_made, of_controller, commit, quarantines, after_write, writes, after_collect, asks, after_serve, served, serves_request, after_take, delivered, delivers, backed_up, adopts, of_image, with_plan, stops, starts, gives, shown, step}
+use Rattle.adr_model.specs.Convergence.{IsStoreOf, IsPurgedCovered, KeepsCovered}
+use Rattle.adr_model.proofs.Members.{member_of_either}
+use Rattle.adr_convergence.proofs.Calls.{answered}
+use Rattle.adr_convergence.proofs.Found.{bound_member}
+use Rattle.adr_convergence.proofs.Reached.{made_case, up_case, reached_case}
+use Rattle.adr_convergence.proofs.Binding.{Makes}
+use Rattle.adr_convergence.proofs.Covered.{IsGrown, IsCovered, MayCome, nothing_collected, nothing_covered, deaths_covered, raised_grows, as_it_was, purged_covered, comes_itself, changed_comes, both_come, placed, joining, requested, imaged}
+use Rattle.adr_convergence.proofs.CoveredMoves.{settling, starting, committing}
+
+none_is_made : {A : Type 0} (w : World) (P : A → Type 0) (x : Outcome) → Makes w P (nothing w x)
+none_is_made w P x = (refl, λ y e. absurd (cc))
+
+one_is_made : {A : Type 0} (w : World) (P : A → Type 0) (o : Outcome) (x : A) → P x → Makes w P (w, o, Some x)
+one_is_made w P o x p = (refl, λ y e. let s : x ≡ y = cc in subst P s p)
+
+-- ---- calls
+
+module _ (w : World) (covered : IsPurgedCovered w) where
+  unpurged : (c d : Change) → c ≡ d → c.purged ≡ [] → IsCovered w d.purged
+  unpurged c d e none = subst (λ (f : Change). IsCovered w f.purged) e (subst (IsCovered w) (sym none) (nothing_covered w))
+
+  module _ (r : Replica) (there : Member r w.replicas) where
+    moved_world : (m : Scene × Replica) (standing : Standing) (plan : Option Plan) → MayCome w m.1.safe.store × MayCome w m.1.read.store
+        → IsPurgedCovered (record w { scene = m.0; replicas = with_replica w.replicas (record m.1 { standing = standing; plan = plan }) })
+    moved_world m standing plan comes = placed w covered m.0 (record m.1 { standing = standing; plan = plan }) comes
+
+    committed : (p : Pending) (outcome : Outcome) → IsCovered w p.change.purged → IsPurgedCovered (commit w r p outcome).0
+    committed p outcome purged = moved_world (fold moved (w.scene, r) (moves_of_commit p (went r.plan 4))) (standing_after Failed (went r.plan 4)) (plan_after (went r.plan 4))
+        (committing (MayCome w) w.scene r (both_come w covered r there) p (changed_comes w covered r.safe p.change (inl (r, there, inl refl)) purged) (went r.plan 4))
+
+    quarantining : (outcome : Outcome) → IsPurgedCovered (quarantines w r outcome).0
+    quarantining outcome = committed (record { call = ToQuarantine; change = quarantine r.safe }) outcome (nothing_covered w)
+
+    wrote : (what : Write) (t : Result Change WriteRefusal) → write r.safe what w.time ≡ t → IsPurgedCovered (after_write w r what t).0
+    wrote what (Err x) e = covered
+    wrote what (Ok c) e = committed (record { call = ToWrite what w.time; change = c }) (outcomes.Usn c.usn)
+        (unpurged (own_change r.safe (rows_written r.safe what w.time)) c (answered (write_refusal r.safe what) (own_change r.safe (rows_written r.safe what w.time)) c e) refl)
+
+    took : (reply : Reply) (t : Result Change TakeRefusal) → take r.safe reply ≡ t → IsPurgedCovered (after_take w r reply t).0
+    took reply (Ok c) e = committed (record { call = ToTake reply; change = c }) (outcomes.Took (length reply.items) (length c.writes) c.usn)
+        (unpurged (taken_change reply (take_items r.safe reply.items)) c (answered (refusal_of r.safe reply (take_items r.safe reply.items) (after r.safe (taken_change reply (take_items r.safe reply.items)))) (taken_change reply (take_items r.safe reply.items)) c e) refl)
+    took reply (Err (takes.RolledBack inv mine shown)) e = quarantining (take_refused (takes.RolledBack inv mine shown))
+    took reply (Err _) e = covered
+
+    took_bound : (o : Option Reply) → IsPurgedCovered (delivered w r o).0
+    took_bound None = covered
+    took_bound (Some reply) = took reply (take r.safe reply) refl
+
+    answered_with : (t : Result Reply ServeRefusal) → IsPurgedCovered (after_serve w r t).0
+    answered_with (Ok reply) = covered
+    answered_with (Err (serves.RolledBack inv mine shown)) = quarantining (serve_refused (serves.RolledBack inv mine shown))
+    answered_with (Err _) = covered
+
+    served_bound : (o : Option Request) → IsPurgedCovered (served w r o).0
+    served_bound None = covered
+    served_bound (Some q) = answered_with (serve r.safe q)
+
+    collected : (lifetime : ℕ) → IsCovered w (collection r.safe (deaths_to_collect r.safe w.time lifetime)).purged → (t : Result Change CollectRefusal) → collect r.safe w.time lifetime ≡ t
+        → IsPurgedCovered (after_collect w r lifetime t).0
+    collected lifetime purged (Err x) e = covered
+    collected lifetime purged (Ok c) e = committed (record { call = ToCollect w.time lifetime; change = c }) (outcomes.Removed (length c.removed))
+        (subst (λ (d : Change). IsCovered w d.purged)
+        (answered (option_or (then_some (is_quarantined r.safe.mode) IsQuarantined) (then_some (nat_lt usn_limit (collection r.safe (deaths_to_collect r.safe w.time lifetime)).usn) UsnLimit)) (collection r.safe (deaths_to_collect r.safe w.time lifetime)) c e) purged)
+
+    started_from : (standing : Standing) → IsPurgedCovered (starts w r standing).0
+    started_from Up = covered
+    started_from Down = moved_world (fold moved (w.scene, r) (moves_of_start (went r.plan 1))) (standing_after r.standing (went r.plan 1)) (plan_after (went r.plan 1)) (starting (MayCome w) w.scene r (both_come w covered r there) (went r.plan 1))
+    started_from Failed = moved_world (fold moved (w.scene, r) (moves_of_start (went r.plan 1))) (standing_after r.standing (went r.plan 1)) (plan_after (went r.plan 1)) (starting (MayCome w) w.scene r (both_come w covered r there) (went r.plan 1))
+
+    imaged_from : (b : Bool) → Makes w (MayCome w) (backed_up w (if b then None else Some r.safe.store))
+    imaged_from true = none_is_made w (MayCome w) quarantined
+    imaged_from false = one_is_made w (MayCome w) outcomes.Ok r.safe.store (comes_itself w covered r.safe.store (inl (r, there, inl refl)))
+
+  -- a state that is made of an image
+  woken_comes : (image : Store) (dsa inv : Identifier) (s : State) → IsStoreOf w image → adopt image dsa inv ≡ Ok s → MayCome w s.store
+  woken_comes image dsa inv s of e = subst (λ (t : State). MayCome w t.store)
+      (answered (option_or (then_some (names_inv image inv) IdentifierUsed) (then_some (nat_lt most_cursors (length (woken image dsa inv).store.vector)) (Full CursorTable most_cursors))) (woken image dsa inv) s e)
+      (record { grown = raised_grows w image inv image.usn of; covered = purged_covered w covered image of })
+
+  restored : (name : Name) (dsa inv : Identifier) (image : Store) → IsStoreOf w image → (t : Result State AdoptRefusal) → adopt image dsa inv ≡ t → IsPurgedCovered (adopts w (with_replica w.replicas) name t).0
+  restored name dsa inv image of (Err x) e = covered
+  restored name dsa inv image of (Ok s) e = let new = woken_comes image dsa inv s of e in placed w covered (begun w.scene s) (on_new_disk name s) (new, new)
+
+  installed : (name : Name) (dsa inv : Identifier) (image : Store) → IsStoreOf w image → (t : Result State AdoptRefusal) → adopt image dsa inv ≡ t → IsPurgedCovered (adopts w (λ r. w.replicas ++ r ∷ []) name t).0
+  installed name dsa inv image of (Err x) e = covered
+  installed name dsa inv image of (Ok s) e = let new = woken_comes image dsa inv s of e in joining w covered (begun w.scene s) (on_new_disk name s) (new, new)
+
+  of_bound : (image : Name) (act : Store → Gone) → ((i : Store) → IsStoreOf w i → IsPurgedCovered (act i).0) → IsPurgedCovered (of_image w (bound_at w.images image) act).0
+  of_bound image act acts = by (bound_at w.images image) refl
+    where
+      by : (o : Option Store) → bound_at w.images image ≡ o → IsPurgedCovered (of_image w o act).0
+      by None is = covered
+      by (Some i) is = acts i (bound_member (IsStoreOf w) w.images image i (λ x m. inr (x, m, refl)) is)
+
+  asked : (name partner : Name) (max : ℕ) → Makes w (λ (q : Request). IsGrown w q.vector) (asks w name partner max)
+  asked name partner max =
+      made_case (Makes w (λ (q : Request). IsGrown w q.vector)) w name (nothing w) none _ (λ r is. made_case (Makes w (λ (q : Request). IsGrown w q.vector)) w partner (nothing w) none _ (λ p at. up_case (Makes w (λ (q : Request). IsGrown w q.vector)) w name (nothing w) none r.standing _ (λ up.
+      one_is_made w (λ (q : Request). IsGrown w q.vector) outcomes.Ok (ask r.safe p.safe.dsa max) (as_it_was w r.safe.store (inl (r, is.there, inl refl))))))
+    where
+      none : (x : Outcome) → Makes w (λ (q : Request). IsGrown w q.vector) (nothing w x)
+      none x = none_is_made w (λ (q : Request). IsGrown w q.vector) x
+
+  pub given_more : (dsas invs : List Identifier) → IsPurgedCovered (gives w dsas invs)
+  given_more dsas invs = record { stores = covered.stores; requests = covered.requests }
+
+  -- calls by name
+  abbrev OfWorld : Gone → Type 0
+  OfWorld g = IsPurgedCovered g.0
+
+  pub writes_covered : (name : Name) (what : Write) → IsPurgedCovered (writes w name what).0
+  writes_covered name what = reached_case OfWorld w name (stays w) (λ x. covered) (λ r. after_write w r what (write r.safe what w.time)) (λ r is up. wrote r is.there what (write r.safe what w.time) refl)
+
+  pub serves_covered : (name : Name) (o : Option Request) → IsPurgedCovered (serves_request w name o).0
+  serves_covered name o = reached_case (λ (t : Sent Reply). IsPurgedCovered t.0) w name (nothing w) (λ x. covered) (λ r. served w r o) (λ r is up. served_bound r is.there o)
+
+  pub delivers_covered : (name : Name) (o : Option Reply) → IsPurgedCovered (delivers w name o).0
+  delivers_covered name o = reached_case OfWorld w name (stays w) (λ x. covered) (λ r. delivered w r o) (λ r is up. took_bound r is.there o)
+
+  pub collects_covered : (name : Name) (lifetime : ℕ) → KeepsCovered w (events.Collect name lifetime) → IsPurgedCovered (of_controller w name (stays w) (λ r. after_collect w r lifetime (collect r.safe w.time lifetime))).0
+  collects_covered name lifetime keeps = reached_case OfWorld w name (stays w) (λ x. covered) (λ r. after_collect w r lifetime (collect r.safe w.time lifetime)) (λ r is up.
+      collected r is.there lifetime (deaths_covered w (deaths_to_collect r.safe w.time lifetime) (keeps.0 r is.there is.name) (keeps.1 r is.there is.name)) (collect r.safe w.time lifetime) refl)
+
+  backups_covered : (name : Name) → Makes w (MayCome w) (of_controller w name (nothing w) (λ r. backed_up w (backup r.safe)))
+  backups_covered name = reached_case (Makes w (MayCome w)) w name (nothing w) (none_is_made w (MayCome w)) (λ r. backed_up w (backup r.safe)) (λ r is up. imaged_from r is.there (is_quarantined r.safe.mode))
+
+  pub plans_covered : (name : Name) (plan : Plan) → IsPurgedCovered (of_made (stays w) (replica_at w name) (λ r. with_plan w r plan)).0
+  plans_covered name plan = made_case OfWorld w name (stays w) (λ x. covered) (λ r. with_plan w r plan) (λ r is. placed w covered w.scene (record r { plan = Some plan }) (both_come w covered r is.there))
+
+  pub stops_covered : (name : Name) → IsPurgedCovered (of_made (stays w) (replica_at w name) (λ r. stops w r)).0
+  stops_covered name = made_case OfWorld w name (stays w) (λ x. covered) (λ r. stops w r) (λ r is. moved_world r is.there (moved (w.scene, r) Settle) Down None (settling (MayCome w) w.scene r (both_come w covered r is.there)))
+
+  pub starts_covered : (name : Name) → IsPurgedCovered (of_made (stays w) (replica_at w name) (λ r. starts w r r.standing)).0
+  starts_covered name = made_case OfWorld w name (stays w) (λ x. covered) (λ r. starts w r r.standing) (λ r is. started_from r is.there r.standing)
+
+  pub restores_covered : (name image : Name) (inv : Identifier) → IsPurgedCovered (of_made (stays w) (replica_at w name) (λ r. of_image w (bound_at w.images image) (λ i. adopts w (with_replica w.replicas) name (adopt i r.safe.dsa inv)))).0
+  restores_covered name image inv = made_case OfWorld w name (stays w) (λ x. covered) (λ r. of_image w (bound_at w.images image) (λ i. adopts w (with_replica w.replicas) name (adopt i r.safe.dsa inv)))
+      (λ r is. of_bound image (λ i. adopts w (with_replica w.replicas) name (adopt i r.safe.dsa inv)) (λ i of. restored name r.safe.dsa inv i of (adopt i r.safe.dsa inv) refl))
+
+  pub installs_covered : (name image : Name) (dsa inv : Identifier) → IsPurgedCovered (of_image w (bound_at w.images image) (λ i. adopts w (λ r. w.replicas ++ r ∷ []) name (adopt i dsa inv))).0
+  installs_covered name image dsa inv = of_bound image (λ i. adopts w (λ r. w.replicas ++ r ∷ []) name (adopt i dsa inv)) (λ i of. installed name dsa inv i of (adopt i dsa inv) refl)
+
+  pub shows_covered : (name : Name) → IsPurgedCovered (step w (events.Show name)).0
+  shows_covered name = reached_case OfWorld w name (stays w) (λ x. covered) (λ r. (w, outcomes.Show (shown w r.safe))) (λ r is up. covered)
+
+  -- a new controller, while nothing was collected
+  pub comes_covered : (name : Name) (dsa inv : Identifier) → ((s : Store) → IsStoreOf w s → s.purged ≡ []) → IsPurgedCovered (step w (events.Controller name dsa inv)).0
+  comes_covered name dsa inv none = nothing_collected (step w (events.Controller name dsa inv)).0 each
+    where
+      of : (q : Replica) → Member q (w.replicas ++ on_new_disk name (empty_state dsa inv) ∷ []) → (q.safe.store.purged ≡ []) × (q.read.store.purged ≡ [])
+      of q m = by (member_of_either w.replicas (on_new_disk name (empty_state dsa inv) ∷ []) q m)
+        where
+          by : Member q w.replicas ⊎ Member q (on_new_disk name (empty_state dsa inv) ∷ []) → (q.safe.store.purged ≡ []) × (q.read.store.purged ≡ [])
+          by (inl n) = (none q.safe.store (inl (q, n, inl refl)), none q.read.store (inl (q, n, inr refl)))
+          by (inr (inl e)) = (ap (λ (p : Replica). p.safe.store.purged) e, ap (λ (p : Replica). p.read.store.purged) e)
+          by (inr (inr n)) = absurd n
+
+      each : (s : Store) → IsStoreOf (step w (events.Controller name dsa inv)).0 s → s.purged ≡ []
+      each s (inl (q, m, inl e)) = ap (λ (t : Store). t.purged) e ∙ (of q m).0
+      each s (inl (q, m, inr e)) = ap (λ (t : Store). t.purged) e ∙ (of q m).1
+      each s (inr (i, m, e)) = none s (inr (i, m, e))
+
+  -- with what is bound
+  pub binds_request : (name partner bind : Name) (max : ℕ) → IsPurgedCovered (step w (events.Ask name partner max bind)).0
+  binds_request name partner bind max = subst (λ (v : World). IsPurgedCovered (record v { requests = bound w.requests bind (asks w name partner max).2 })) (sym (asked name partner max).0)
+      (requested w covered bind (asks w name partner max).2 (asked name partner max).1)
+
+  pub binds_image : (name bind : Name) → IsPurgedCovered (step w (events.Backup name bind)).0
+  binds_image name bind = subst (λ (v : World). IsPurgedCovered (record v { images = bound w.images bind (of_controller w name (nothing w) (λ r. backed_up w (backup r.safe))).2 })) (sym (backups_covered name).0)
+      (imaged w covered bind (of_controller w name (nothing w) (λ r. backed_up w (backup r.safe))).2 (backups_covered name).1)
