@@ -1,8 +1,9 @@
 -- A write that was answered by its USN was issued, under the identifier of its controller.
-use Rattle.std.proofs.Common.{◌≡◌, ◌≢◌, inl, ℕ, List, [], ◌∷◌, Bool, cond, Result, Ok, Err, refl, sym, ap, ◌∙◌, subst, fold, map}
+use Rattle.std.proofs.Common.{◌≡◌, ◌≢◌, inl, ℕ, List, [], ◌∷◌, Bool, cond, Some, Result, Ok, Err, refl, sym, ap, ◌∙◌, subst, fold, map}
 use Rattle.adr_schema.specs.Assignments.{Given}
 use Rattle.adr_schema.specs.declared.content.Content.TheVariants.{Values}
 use Rattle.adr_event.specs.declared.answer.Answer.{Answer}
+use Rattle.adr_event.specs.declared.event.Event.{Event}
 use Rattle.adr_event.specs.declared.answer.Outcome.{Outcome}
 use Rattle.adr_event.specs.declared.answer.Outcome.TheVariants as outcomes
 use Rattle.adr_event.specs.declared.refusal.WriteRefusal.{WriteRefusal}
@@ -11,14 +12,14 @@ use Rattle.adr_event.specs.declared.refusal.ServeRefusal.TheVariants as serves
 use Rattle.adr_event.specs.declared.refusal.TakeRefusal.{TakeRefusal}
 use Rattle.adr_event.specs.declared.refusal.TakeRefusal.TheVariants as takes
 use Rattle.adr_model.specs.Member.{Member}
-use Rattle.adr_model.specs.Update.{Update, inv_of, usn_of}
+use Rattle.adr_model.specs.Update.{Update}
 use Rattle.adr_model.specs.Store.{State, updates_of}
 use Rattle.adr_model.specs.Change.{Change, updates_written}
 use Rattle.adr_model.specs.Write.{Write, AddObject, Modify, Rename, Delete, AddLink, RemoveLink, IsWellGiven, next_row, object_of, nodes_held, rows_written, own_change, write_refusal, write}
 use Rattle.adr_model.specs.Refused.{write_refused, serve_refused, take_refused}
 use Rattle.adr_model.specs.Replica.{Pending, ToWrite, Up, Failed, Stops, Fails, Replica, moved, Went, Passed, Met, went, moves_of_commit, standing_after, plan_after, outcome_after}
 use Rattle.adr_model.specs.World.{Name, World, Gone, stays, with_replica, commit, after_write, writes}
-use Rattle.adr_model.specs.Convergence.{AcknowledgedIsIssued}
+use Rattle.adr_model.specs.Convergence.{write_of, IsAcknowledged, AcknowledgedIsIssued}
 use Rattle.adr_model.proofs.Members.{member_left, member_right}
 use Rattle.adr_history.proofs.Written.{written_is_own}
 use Rattle.adr_convergence.proofs.Calls.{answered}
@@ -28,12 +29,8 @@ use Rattle.adr_convergence.proofs.RefusalsPlain.{event_case}
 use Rattle.adr_convergence.proofs.RefusalsReached.{plain_reached}
 use Rattle.adr_convergence.proofs.RefusalsSpared.{serves_so, takes_so}
 
--- the USN is that of an update that was issued, under the identifier of the controller of that name
-abbrev IsIssuedIn : World → Name → ℕ → Type 0
-IsIssuedIn w name usn = (u : Update) × Member u w.scene.issued × (usn_of u ≡ usn) × ((r : Replica) × Member r w.replicas × (r.name ≡ name) × (r.safe.inv ≡ inv_of u))
-
-abbrev IsTrueOf : Name → Gone → Type 0
-IsTrueOf name g = (usn : ℕ) → g.1 ≡ outcomes.Usn usn → IsIssuedIn g.0 name usn
+abbrev IsTrueOf : World → Event → Gone → Type 0
+IsTrueOf w e g = (usn : ℕ) → g.1 ≡ outcomes.Usn usn → IsAcknowledged w e usn g.0
 
 plain_is_not : (o : Outcome) → IsPlain o → (usn : ℕ) → o ≢ outcomes.Usn usn
 plain_is_not o plain usn e = let same : is_plain o ≡ is_plain (outcomes.Usn usn) = ap is_plain e in absurd (cc)
@@ -51,12 +48,12 @@ a_row s (Delete guid) now is = (_, inl refl)
 a_row s (AddLink from attr to) now is = (_, inl refl)
 a_row s (RemoveLink from attr to) now is = (_, inl refl)
 
-module _ (w : World) (r : Replica) (there : Member r w.replicas) where
+module _ (w : World) (e : Event) (r : Replica) (there : Member r w.replicas) where
   -- what a controller is in whose place comes one of its name
   in_its_place : (new : Replica) → new.name ≡ r.name → Member new (with_replica w.replicas new)
   in_its_place new same = subst (λ (b : Bool). Member (cond b new r) (with_replica w.replicas new)) (same_name_tests r.name new.name (sym same)) (still_there w.replicas new r there)
 
-  module _ (what : Write) (is : IsWellGiven what) where
+  module _ (what : Write) (is : IsWellGiven what) (writes : write_of e ≡ Some (r.name, what)) where
     abbrev change : Change
     change = own_change r.safe (rows_written r.safe what w.time)
 
@@ -73,31 +70,34 @@ module _ (w : World) (r : Replica) (there : Member r w.replicas) where
       outcome_after g (outcomes.Usn change.usn),
     )
 
-    first : (u : Update) × Member u (rows_written r.safe what w.time).rows
-    first = a_row r.safe what w.time is
-
-    was_issued : (g : Went) → IsTrueOf r.name (gone g)
-    was_issued (Passed left) usn e = (
-      first.0,
-      member_right w.scene.issued (updates_written change) first.0 (member_left (rows_written r.safe what w.time).rows [] first.0 first.1),
-      (written_is_own r.safe what w.time first.0 first.1).1 ∙ same,
-      (
+    was_issued : (g : Went) → IsTrueOf w e (gone g)
+    was_issued (Passed left) usn h = record {
+      writer = r;
+      what = what;
+      there = there;
+      writes = writes;
+      row = a_row r.safe what w.time is;
+      issued = λ u m. (
+        member_right w.scene.issued (updates_written change) u (member_left (rows_written r.safe what w.time).rows [] u m),
+        ((written_is_own r.safe what w.time u m).0, (written_is_own r.safe what w.time u m).1 ∙ same),
+      );
+      stays = (
         record (fold moved (w.scene, r) (moves_of_commit pending (Passed left))).1 { standing = Up; plan = left },
         in_its_place (record (fold moved (w.scene, r) (moves_of_commit pending (Passed left))).1 { standing = Up; plan = left }) refl,
         refl,
-        sym (written_is_own r.safe what w.time first.0 first.1).0,
-      ),
-    )
+        refl,
+      );
+    }
       where
         same : change.usn ≡ usn
         same = cc
-    was_issued (Met place (Stops how)) usn e = absurd (cc)
-    was_issued (Met place Fails) usn e = absurd (cc)
+    was_issued (Met place (Stops how)) usn h = absurd (cc)
+    was_issued (Met place Fails) usn h = absurd (cc)
 
-  wrote : (what : Write) → IsWellGiven what → (t : Result Change WriteRefusal) → write r.safe what w.time ≡ t → IsTrueOf r.name (after_write w r what t)
-  wrote what is (Err x) e = λ usn same. absurd (plain_is_not (write_refused x) (write_refused_plainly x) usn same)
-  wrote what is (Ok c) e = subst (λ (d : Change). IsTrueOf r.name (commit w r (record { call = ToWrite what w.time; change = d }) (outcomes.Usn d.usn)))
-      (answered (write_refusal r.safe what) (own_change r.safe (rows_written r.safe what w.time)) c e) (was_issued what is (went r.plan 4))
+  wrote : (what : Write) → IsWellGiven what → write_of e ≡ Some (r.name, what) → (t : Result Change WriteRefusal) → write r.safe what w.time ≡ t → IsTrueOf w e (after_write w r what t)
+  wrote what is writes (Err x) h = λ usn same. absurd (plain_is_not (write_refused x) (write_refused_plainly x) usn same)
+  wrote what is writes (Ok c) h = subst (λ (d : Change). IsTrueOf w e (commit w r (record { call = ToWrite what w.time; change = d }) (outcomes.Usn d.usn)))
+      (answered (write_refusal r.safe what) (own_change r.safe (rows_written r.safe what w.time)) c h) (was_issued what is writes (went r.plan 4))
 
 -- ---- other refusals are plain
 
@@ -109,17 +109,17 @@ taken_otherwise : (x : TakeRefusal) (usn : ℕ) → take_refused x ≢ outcomes.
 taken_otherwise takes.Quarantined usn e = absurd (cc)
 taken_otherwise _ usn e = absurd (cc)
 
-module _ (w : World) where
-  wrote_by_name : (name : Name) (what : Write) → IsWellGiven what → IsTrueOf name (writes w name what)
-  wrote_by_name name what is = plain_reached (IsTrueOf name) w name (stays w) (λ o plain usn same. absurd (plain_is_not o plain usn same)) (λ r. after_write w r what (write r.safe what w.time)) (λ r called up.
-      subst (λ (n : Name). IsTrueOf n (after_write w r what (write r.safe what w.time))) called.name (wrote w r called.there what is (write r.safe what w.time) refl))
+module _ (w : World) (e : Event) where
+  wrote_by_name : (name : Name) (what : Write) → IsWellGiven what → write_of e ≡ Some (name, what) → IsTrueOf w e (writes w name what)
+  wrote_by_name name what is wrote_it = plain_reached (IsTrueOf w e) w name (stays w) (λ o plain usn same. absurd (plain_is_not o plain usn same)) (λ r. after_write w r what (write r.safe what w.time)) (λ r called up.
+      wrote w e r called.there what is (wrote_it ∙ ap (λ (n : Name). Some (n, what)) (sym called.name)) (write r.safe what w.time) refl)
 
 -- an answer that is no USN says nothing
-abbrev IsTrue : World × Answer → Type 0
-IsTrue t = (usn : ℕ) → t.1.outcome ≡ outcomes.Usn usn → IsIssuedIn t.0 t.1.name usn
+abbrev IsTrue : World → Event → World × Answer → Type 0
+IsTrue w e t = (usn : ℕ) → t.1.outcome ≡ outcomes.Usn usn → IsAcknowledged w e usn t.0
 
 pub acknowledged_is_issued : AcknowledgedIsIssued
-acknowledged_is_issued w e usn sound may = event_case IsTrue w (λ t plain usn is. absurd (plain_is_not t.1.outcome plain usn is)) (λ verb name what is. wrote_by_name w name what is)
-    (λ name request bind usn is. absurd (serves_so (λ (o : Outcome). (n : ℕ) → o ≢ outcomes.Usn n) plain_is_not w (λ r there bound q named x refused. served_otherwise x) name request usn is))
-    (λ name reply usn is. absurd (takes_so (λ (o : Outcome). (n : ℕ) → o ≢ outcomes.Usn n) plain_is_not w (λ r there bound p named x refused. taken_otherwise x) name reply usn is))
+acknowledged_is_issued w e usn sound may = event_case (IsTrue w) w (λ f t plain n is. absurd (plain_is_not t.1.outcome plain n is)) (λ f verb name what is wrote_it. wrote_by_name w f name what is wrote_it)
+    (λ name request bind n is. absurd (serves_so (λ (o : Outcome). (m : ℕ) → o ≢ outcomes.Usn m) plain_is_not w (λ r there bound q named x refused. served_otherwise x) name request n is))
+    (λ name reply n is. absurd (takes_so (λ (o : Outcome). (m : ℕ) → o ≢ outcomes.Usn m) plain_is_not w (λ r there bound p named x refused. taken_otherwise x) name reply n is))
     e may usn

@@ -25,4 +25,6 @@ pub mod RefusalsServed
 pub mod RefusalsSpared
 pub mod RefusalsNone
 pub mod Acknowledged
+pub mod Issuing
+pub mod Converging
 pub mod RefusalsReached

@@ -1,5 +1,5 @@
 -- All events but writes and messages that come answer plainly.
-use Rattle.std.proofs.Common.{ℕ, List, [], ◌∷◌, ◌++◌, Bool, true, false, Option, Some, None, Result, Ok, Err, refl, length, if◌then◌else◌, codes}
+use Rattle.std.proofs.Common.{◌≡◌, ℕ, List, [], ◌∷◌, ◌++◌, Bool, true, false, Option, Some, None, Result, Ok, Err, refl, length, if◌then◌else◌, codes}
 use Rattle.adr_event.specs.declared.answer.Answer.{Answer}
 use Rattle.adr_event.specs.declared.answer.Outcome.TheVariants as outcomes
 use Rattle.adr_event.specs.declared.event.Event.{Event}
@@ -14,7 +14,7 @@ use Rattle.adr_model.specs.Write.{Write, IsWellGiven, AddObject, Modify, Rename,
 use Rattle.adr_model.specs.Collect.{collect, backup, adopt}
 use Rattle.adr_model.specs.Replica.{Standing, Up, Down, Failed, Plan, Stops, Fails, Replica, went}
 use Rattle.adr_model.specs.World.{Name, World, Gone, Sent, stays, nothing, bound_at, replica_at, with_replica, of_made, of_controller, writes, after_collect, asks, backed_up, adopts, of_image, with_plan, stops, starts, shown, told, gives, step}
-use Rattle.adr_model.specs.Convergence.{MayHappen}
+use Rattle.adr_model.specs.Convergence.{write_of, MayHappen}
 use Rattle.adr_convergence.proofs.RefusalsReached.{plain_made, plain_up, plain_reached}
 use Rattle.adr_convergence.proofs.Refusals.{IsPlain, collect_refused_plainly, adopt_refused_plainly, after_calls}
 
@@ -82,32 +82,32 @@ module _ (w : World) where
   taken_back name = plain_made SendsPlainly w name (nothing w) (λ o plain. plain) (λ r. (w, outcomes.Ok, Some r.read)) (λ r is. refl)
 
 -- what holds of plain answers, of writes and of messages that come holds of every event that may happen
-pub event_case : (Q : World × Answer → Type 0) (w : World) → ((t : World × Answer) → IsPlain t.1.outcome → Q t)
-    → ((verb : List ℕ) (name : Name) (what : Write) → IsWellGiven what → Q (told verb name (writes w name what)))
-    → ((name request bind : Name) → Q (step w (events.Serve name request bind)))
-    → ((name reply : Name) → Q (step w (events.Deliver name reply)))
-    → (e : Event) → MayHappen w e → Q (step w e)
-event_case Q w plain wrote served took (events.Controller name dsa inv) may = plain (step w (events.Controller name dsa inv)) refl
-event_case Q w plain wrote served took (events.Time now) may = plain (step w (events.Time now)) refl
-event_case Q w plain wrote served took (events.Add name guid class parent text values) may = wrote (codes "add") name (AddObject guid class parent text values) may
-event_case Q w plain wrote served took (events.Modify name guid values) may = wrote (codes "modify") name (Modify guid values) may
-event_case Q w plain wrote served took (events.Rename name guid parent text) may = wrote (codes "rename") name (Rename guid parent text) may
-event_case Q w plain wrote served took (events.Delete name guid) may = wrote (codes "delete") name (Delete guid) may
-event_case Q w plain wrote served took (events.Link name from attr to) may = wrote (codes "link") name (AddLink from attr to) may
-event_case Q w plain wrote served took (events.Unlink name from attr to) may = wrote (codes "unlink") name (RemoveLink from attr to) may
-event_case Q w plain wrote served took (events.Ask name partner max bind) may = plain (step w (events.Ask name partner max bind)) (asked w name partner max)
+pub event_case : (Q : Event → World × Answer → Type 0) (w : World) → ((e : Event) (t : World × Answer) → IsPlain t.1.outcome → Q e t)
+    → ((e : Event) (verb : List ℕ) (name : Name) (what : Write) → IsWellGiven what → write_of e ≡ Some (name, what) → Q e (told verb name (writes w name what)))
+    → ((name request bind : Name) → Q (events.Serve name request bind) (step w (events.Serve name request bind)))
+    → ((name reply : Name) → Q (events.Deliver name reply) (step w (events.Deliver name reply)))
+    → (e : Event) → MayHappen w e → Q e (step w e)
+event_case Q w plain wrote served took (events.Controller name dsa inv) may = plain (events.Controller name dsa inv) (step w (events.Controller name dsa inv)) refl
+event_case Q w plain wrote served took (events.Time now) may = plain (events.Time now) (step w (events.Time now)) refl
+event_case Q w plain wrote served took (events.Add name guid class parent text values) may = wrote (events.Add name guid class parent text values) (codes "add") name (AddObject guid class parent text values) may refl
+event_case Q w plain wrote served took (events.Modify name guid values) may = wrote (events.Modify name guid values) (codes "modify") name (Modify guid values) may refl
+event_case Q w plain wrote served took (events.Rename name guid parent text) may = wrote (events.Rename name guid parent text) (codes "rename") name (Rename guid parent text) may refl
+event_case Q w plain wrote served took (events.Delete name guid) may = wrote (events.Delete name guid) (codes "delete") name (Delete guid) may refl
+event_case Q w plain wrote served took (events.Link name from attr to) may = wrote (events.Link name from attr to) (codes "link") name (AddLink from attr to) may refl
+event_case Q w plain wrote served took (events.Unlink name from attr to) may = wrote (events.Unlink name from attr to) (codes "unlink") name (RemoveLink from attr to) may refl
+event_case Q w plain wrote served took (events.Ask name partner max bind) may = plain (events.Ask name partner max bind) (step w (events.Ask name partner max bind)) (asked w name partner max)
 event_case Q w plain wrote served took (events.Serve name request bind) may = served name request bind
 event_case Q w plain wrote served took (events.Deliver name reply) may = took name reply
-event_case Q w plain wrote served took (events.Pull name source max) may = plain (step w (events.Pull name source max)) refl
-event_case Q w plain wrote served took (events.Cycle name source max) may = plain (step w (events.Cycle name source max)) refl
-event_case Q w plain wrote served took (events.Collect name lifetime) may = plain (step w (events.Collect name lifetime)) (collects w name lifetime)
-event_case Q w plain wrote served took (events.Backup name bind) may = plain (step w (events.Backup name bind)) (backs_up w name)
-event_case Q w plain wrote served took (events.Restore name image inv) may = plain (step w (events.Restore name image inv)) (restores (gives w [] (inv ∷ [])) name image inv)
-event_case Q w plain wrote served took (events.Install name dsa image inv) may = plain (step w (events.Install name dsa image inv)) (installs (gives w (dsa ∷ []) (inv ∷ [])) name image dsa inv)
-event_case Q w plain wrote served took (events.Snapshot name bind) may = plain (step w (events.Snapshot name bind)) (taken_back w name)
+event_case Q w plain wrote served took (events.Pull name source max) may = plain (events.Pull name source max) (step w (events.Pull name source max)) refl
+event_case Q w plain wrote served took (events.Cycle name source max) may = plain (events.Cycle name source max) (step w (events.Cycle name source max)) refl
+event_case Q w plain wrote served took (events.Collect name lifetime) may = plain (events.Collect name lifetime) (step w (events.Collect name lifetime)) (collects w name lifetime)
+event_case Q w plain wrote served took (events.Backup name bind) may = plain (events.Backup name bind) (step w (events.Backup name bind)) (backs_up w name)
+event_case Q w plain wrote served took (events.Restore name image inv) may = plain (events.Restore name image inv) (step w (events.Restore name image inv)) (restores (gives w [] (inv ∷ [])) name image inv)
+event_case Q w plain wrote served took (events.Install name dsa image inv) may = plain (events.Install name dsa image inv) (step w (events.Install name dsa image inv)) (installs (gives w (dsa ∷ []) (inv ∷ [])) name image dsa inv)
+event_case Q w plain wrote served took (events.Snapshot name bind) may = plain (events.Snapshot name bind) (step w (events.Snapshot name bind)) (taken_back w name)
 event_case Q w plain wrote served took (events.Rollback name snapshot) may = absurd may
-event_case Q w plain wrote served took (events.StopAfter name calls how) may = plain (step w (events.StopAfter name calls how)) (plans w name (record { calls = calls; fault = Stops how }))
-event_case Q w plain wrote served took (events.Fail name calls) may = plain (step w (events.Fail name calls)) (plans w name (record { calls = calls; fault = Fails }))
-event_case Q w plain wrote served took (events.Stop name) may = plain (step w (events.Stop name)) (stopped w name)
-event_case Q w plain wrote served took (events.Start name) may = plain (step w (events.Start name)) (started w name)
-event_case Q w plain wrote served took (events.Show name) may = plain (step w (events.Show name)) (shows w name)
+event_case Q w plain wrote served took (events.StopAfter name calls how) may = plain (events.StopAfter name calls how) (step w (events.StopAfter name calls how)) (plans w name (record { calls = calls; fault = Stops how }))
+event_case Q w plain wrote served took (events.Fail name calls) may = plain (events.Fail name calls) (step w (events.Fail name calls)) (plans w name (record { calls = calls; fault = Fails }))
+event_case Q w plain wrote served took (events.Stop name) may = plain (events.Stop name) (step w (events.Stop name)) (stopped w name)
+event_case Q w plain wrote served took (events.Start name) may = plain (events.Start name) (step w (events.Start name)) (started w name)
+event_case Q w plain wrote served took (events.Show name) may = plain (events.Show name) (step w (events.Show name)) (shows w name)

@@ -69,4 +69,4 @@ module _ (P : Outcome → Type 0) (plain : (o : Outcome) → IsPlain o → P o) 
       → ((r : Replica) → Member r w.replicas → (name : Name) (q : Request) → bound_at w.requests name ≡ Some q → (x : ServeRefusal) → serve r.safe q ≡ Err x → P (serve_refused x))
       → ((r : Replica) → Member r w.replicas → (name : Name) (p : Reply) → bound_at w.replies name ≡ Some p → (x : TakeRefusal) → take r.safe p ≡ Err x → P (take_refused x))
       → (e : Event) → MayHappen w e → P (step w e).1.outcome
-  spared made serving taking e may = event_case (λ (t : World × Answer). P t.1.outcome) w (λ t is. plain t.1.outcome is) (λ verb name what is. writes_so made name what) (λ name request bind. serves_so serving name request) (λ name reply. takes_so taking name reply) e may
+  spared made serving taking e may = event_case (λ (f : Event) (t : World × Answer). P t.1.outcome) w (λ f t is. plain t.1.outcome is) (λ f verb name what is wrote_it. writes_so made name what) (λ name request bind. serves_so serving name request) (λ name reply. takes_so taking name reply) e may

@@ -1,6 +1,6 @@
 //! What controllers of a sound world show, and what of it is their own.
 
-ghost use Rattle.adr_model.specs.Convergence.{AcknowledgedIsIssued, EqualCoverageShowsEqual, OwnIsVisible, ShowsWhatIsVisible};
+ghost use Rattle.adr_model.specs.Convergence.{AcknowledgedIsIssued, AcknowledgedStaysInView, EqualCoverageShowsEqual, IssuedStays, OwnIsVisible, RunsConverge, ShowsWhatIsVisible};
 
 /// In a sound world, what a controller holds shows what is visible to it: the directory of its rows is
 /// that of the issued updates that it covers or holds. All that was issued under its present
@@ -10,14 +10,24 @@ pub fn controllers_show_what_is_visible()
     ensures own { OwnIsVisible }
 {}
 
-/// A write that was answered by its USN was issued, under the identifier of the controller that stands
-/// then.
+/// A write that was answered by its USN was issued, each row of it, under the identifier of the
+/// controller that wrote it and this USN; it has a row. What was issued stays so, whatever comes.
 pub fn acknowledged_writes_are_issued()
-    ensures { AcknowledgedIsIssued }
+    ensures issued { AcknowledgedIsIssued }
+    ensures stays { IssuedStays }
 {}
 
 /// In a sound world, controllers that cover the same of what was issued, and hold nothing beyond, show
 /// the same.
 pub fn equal_coverage_shows_equal()
     ensures { EqualCoverageShowsEqual }
+{}
+
+/// After every run in which no database is put back, whatever messages it loses, repeats or reorders,
+/// and whatever stops, faults and restores it has: each controller shows what is visible to it, and
+/// controllers that cover the same show the same (*shown*). What was acknowledged on the way is visible
+/// to its end to whoever has the identifier under which it was issued (*acknowledged*).
+pub fn every_run_converges()
+    ensures shown { RunsConverge }
+    ensures acknowledged { AcknowledgedStaysInView }
 {}

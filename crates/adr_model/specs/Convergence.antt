@@ -1,5 +1,5 @@
 -- What is claimed of every run, as named facts.
-use Rattle.std.specs.Prelude.{◌≡◌, ◌≢◌, ◌⊎◌, ◌≤◌, ℕ, List, [], ◌∷◌, length, filter, max, nat_lt, Bool, true, false, None}
+use Rattle.std.specs.Prelude.{◌≡◌, ◌≢◌, ◌⊎◌, ◌≤◌, ℕ, List, [], ◌∷◌, ◌++◌, length, filter, max, nat_lt, Bool, true, false, Option, Some, None}
 use Rattle.adr_stamp.specs.declared.Oid.{Oid}
 use Rattle.adr_vector.specs.Vector.{Cursors, at, at_most}
 use Rattle.adr_event.specs.declared.event.Event.{Event}
@@ -14,7 +14,7 @@ use Rattle.adr_model.specs.Visible.{covers_update, covers_birth, visible}
 use Rattle.adr_model.specs.Directory.{directory}
 use Rattle.adr_model.specs.Store.{State, Store, updates_of, kept_of, mark_of}
 use Rattle.adr_model.specs.Serve.{Request, last_local, units_of}
-use Rattle.adr_model.specs.Write.{IsWellGiven, AddObject, Modify}
+use Rattle.adr_model.specs.Write.{Write, AddObject, Modify, Rename, Delete, AddLink, RemoveLink, IsWellGiven, rows_written}
 use Rattle.adr_model.specs.Reflects.{knowledge_of, Reflects}
 use Rattle.adr_model.specs.Collect.{deaths_to_collect}
 use Rattle.adr_model.specs.Replica.{Replica, Up}
@@ -79,12 +79,35 @@ in_view w r = visible w.scene.issued r.safe.store.vector (held_by r)
 abbrev pub ShowsWhatIsVisible : Type 0
 ShowsWhatIsVisible = (w : World) → IsSoundWorld w → Each (λ r. directory (held_by r) ≡ directory (in_view w r)) w.replicas
 
--- a write that was answered by its USN was issued, under the identifier of its controller
+-- the controller that a client writes at, and what it writes
+abbrev pub write_of : Event → Option (Name × Write)
+write_of (events.Add name guid class parent text values) = Some (name, AddObject guid class parent text values)
+write_of (events.Modify name guid values) = Some (name, Modify guid values)
+write_of (events.Rename name guid parent text) = Some (name, Rename guid parent text)
+write_of (events.Delete name guid) = Some (name, Delete guid)
+write_of (events.Link name from attr to) = Some (name, AddLink from attr to)
+write_of (events.Unlink name from attr to) = Some (name, RemoveLink from attr to)
+write_of _ = None
+
+-- an event was a client's write, and in the world behind it all its rows are issued, under the identifier of its controller
+-- and this USN. There is a row, and the controller still has that identifier
+pub record IsAcknowledged (w : World) (e : Event) (usn : ℕ) (behind : World) : Type 0 where
+  pub writer : Replica
+  pub what : Write
+  pub there : Member writer w.replicas
+  pub writes : write_of e ≡ Some (writer.name, what)
+  pub row : (u : Update) × Member u (rows_written writer.safe what w.time).rows
+  pub issued : Each (λ u. Member u behind.scene.issued × ((inv_of u ≡ writer.safe.inv) × (usn_of u ≡ usn))) (rows_written writer.safe what w.time).rows
+  pub stays : (r : Replica) × Member r behind.replicas × (r.name ≡ writer.name) × (r.safe.inv ≡ writer.safe.inv)
+
+-- a write that was answered by its USN was issued, each row of it
 abbrev pub AcknowledgedIsIssued : Type 0
 AcknowledgedIsIssued =
-    (w : World) (e : Event) (usn : ℕ) → IsSoundWorld w → MayHappen w e → (step w e).1.outcome ≡ outcomes.Usn usn
-    → (u : Update) × Member u (step w e).0.scene.issued × (usn_of u ≡ usn)
-    × ((r : Replica) × Member r (step w e).0.replicas × (r.name ≡ (step w e).1.name) × (r.safe.inv ≡ inv_of u))
+    (w : World) (e : Event) (usn : ℕ) → IsSoundWorld w → MayHappen w e → (step w e).1.outcome ≡ outcomes.Usn usn → IsAcknowledged w e usn (step w e).0
+
+-- what was issued stays so, whatever comes
+abbrev pub IssuedStays : Type 0
+IssuedStays = (w : World) (e : Event) → Each (λ u. Member u (happens w e).0.scene.issued) w.scene.issued
 
 -- all that was issued under its present identifier is in a controller's view
 abbrev pub OwnIsVisible : Type 0
@@ -101,6 +124,22 @@ CoverTheSame w r q = Each (λ u. covers_update r.safe.store.vector u ≡ covers_
 abbrev pub EqualCoverageShowsEqual : Type 0
 EqualCoverageShowsEqual =
     (w : World) → IsSoundWorld w → Each (λ r. Each (λ q. HoldsNothingBeyond r → HoldsNothingBeyond q → CoverTheSame w r q → directory (held_by r) ≡ directory (held_by q)) w.replicas) w.replicas
+
+-- ---- the same of every run
+
+-- after every run each controller shows what it has in view, and controllers that cover the same show the same
+abbrev pub RunsConverge : Type 0
+RunsConverge =
+    (es : List Event) → MayAllHappen empty_world es
+    → Each (λ r. directory (held_by r) ≡ directory (in_view (after_lines empty_world es) r)) (after_lines empty_world es).replicas
+    × Each (λ r. Each (λ q. HoldsNothingBeyond r → HoldsNothingBeyond q → CoverTheSame (after_lines empty_world es) r q → directory (held_by r) ≡ directory (held_by q)) (after_lines empty_world es).replicas) (after_lines empty_world es).replicas
+
+-- an acknowledged write of a run is, to its end, in the view of whoever has the identifier under which it was issued
+abbrev pub AcknowledgedStaysInView : Type 0
+AcknowledgedStaysInView =
+    (before after : List Event) (e : Event) (usn : ℕ) → MayAllHappen empty_world (before ++ e ∷ after) → (step (after_lines empty_world before) e).1.outcome ≡ outcomes.Usn usn
+    → (a : IsAcknowledged (after_lines empty_world before) e usn (step (after_lines empty_world before) e).0)
+    × Each (λ r. r.safe.inv ≡ a.writer.safe.inv → Each (λ u. Member u (in_view (after_lines empty_world (before ++ e ∷ after)) r)) (rows_written a.writer.safe a.what (after_lines empty_world before).time).rows) (after_lines empty_world (before ++ e ∷ after)).replicas
 
 -- ---- refusals that don't come
 
