@@ -10,6 +10,7 @@ use Rattle.adr_model.specs.Member.{Each}
 use Rattle.adr_model.specs.Update.{Identifier, Update, inv_of, usn_of}
 use Rattle.adr_model.specs.Reflects.{Numbers, Covers, CoversBirth, AtMost}
 use Rattle.adr_model.specs.Collect.{covering}
+use Rattle.adr_knowledge.proofs.Raised.{raised_up}
 
 -- with a birth and a death covered
 abbrev further : Cursors → Oid × Update → Cursors
@@ -17,9 +18,6 @@ further v d = raised (raised v d.0.birth.inv d.0.birth.usn) (inv_of d.1) (usn_of
 
 abbrev CoversBoth : Numbers → Oid × Update → Type 0
 CoversBoth V d = CoversBirth V d.0 × Covers V d.1
-
-pub raised_up : (v : Cursors) (inv : Identifier) (usn : ℕ) → AtMost (at v) (at (raised v inv usn))
-raised_up v inv usn i = omega (arith, at-raised v inv usn i)
 
 raised_within : (v : Cursors) (inv : Identifier) (usn : ℕ) (V : Numbers) → AtMost (at v) V → usn ≤ V inv → AtMost (at (raised v inv usn)) V
 raised_within v inv usn V below le i = by (is_eq (identifier_order i inv)) refl (at-raised v inv usn i)

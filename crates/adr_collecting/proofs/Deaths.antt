@@ -1,31 +1,19 @@
 -- Which deaths a state collects: they are held, and the vector covers them and the births of their objects.
-use Rattle.std.proofs.Common.{◌≡◌, ◌+◌, ℕ, Bool, true, false, ◌&&◌, ◌==◌, Option, Some, None, refl, subst, if◌then◌else◌}
+use Rattle.std.proofs.Common.{◌≡◌, ◌+◌, ℕ, Bool, true, false, ◌&&◌, Option, Some, None, refl, subst}
 use Rattle.std.specs.Prelude.{nat_le}
 use Rattle.std.specs.Bool.{then_some}
-use Rattle.std.proofs.lemmas.Bool.{eqb-true, leb-true}
+use Rattle.std.proofs.lemmas.Bool.{and_parts, leb-true}
 use Rattle.adr_stamp.specs.declared.Oid.{Oid}
 use Rattle.adr_vector.specs.Vector.{Cursors, at}
 use Rattle.adr_model.specs.Member.{Member, Each}
-use Rattle.adr_model.specs.Update.{Key, RowOf, LinkOf, Update, inv_of, usn_of, deleted_attr}
+use Rattle.adr_model.specs.Update.{RowOf, Update, inv_of, usn_of, deleted_attr}
 use Rattle.adr_model.specs.Visible.{covers_update, covers_birth}
 use Rattle.adr_model.specs.Store.{Held, State}
 use Rattle.adr_model.specs.Change.{killed_by}
 use Rattle.adr_model.specs.Collect.{collected_by, deaths_to_collect}
 use Rattle.adr_knowledge.proofs.Lists.{of_filter_map}
+use Rattle.adr_steps.proofs.Rows.{is_killed}
 use Rattle.adr_collecting.specs.Collectable.{IsCollectable}
-
-is_killed : (k : Key) (o : Oid) → killed_by k ≡ Some o → k ≡ RowOf o deleted_attr
-is_killed (LinkOf l) o e = cc
-is_killed (RowOf p a) o e = by (a == deleted_attr) refl e
-  where
-    by : (b : Bool) → (a == deleted_attr) ≡ b → (if b then Some p else None) ≡ Some o → RowOf p a ≡ RowOf o deleted_attr
-    by true is e = let n : a ≡ deleted_attr = eqb-true a deleted_attr is in cc
-    by false is e = cc
-
-first_two : (x y z : Bool) → (x && y && z) ≡ true → (x ≡ true) × (y ≡ true)
-first_two true true z e = (refl, refl)
-first_two true false z e = cc
-first_two false y z e = cc
 
 -- what a test of an object comes to, where it gives one
 passed : (b : Bool) (o p : Oid) → then_some b o ≡ Some p → (b ≡ true) × (o ≡ p)
@@ -68,7 +56,7 @@ module _ (s : State) (now lifetime : ℕ) where
       })
         where
           covered : (covers_birth vector o ≡ true) × (covers_update vector h.update ≡ true)
-          covered = first_two (covers_birth vector o) (covers_update vector h.update) (nat_le (h.update.stamp.stamp.time + lifetime) now) t.1
+          covered = and_parts (covers_birth vector o) (covers_update vector h.update) (and_parts (covers_birth vector o && covers_update vector h.update) (nat_le (h.update.stamp.stamp.time + lifetime) now) t.1).0
 
       by : (k : Option Oid) → collected_by vector now lifetime h.update ≡ k → with_death h.update k ≡ Some dead → IsCollectable s.store.rows (at vector) dead
       by None is e = absurd (cc)

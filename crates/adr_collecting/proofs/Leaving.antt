@@ -1,50 +1,35 @@
 -- A collection leaves a sound state.
-use Rattle.std.proofs.Common.{◌≡◌, inl, inr, ⊎_elim, ℕ, ◌≤◌, List, [], Bool, true, false, ◌&&◌, ◌==◌, map, Ok, refl, sym, ap, ◌∙◌, subst, arith}
-use Rattle.std.proofs.lemmas.Bool.{eqb-true}
-use Rattle.std.proofs.lemmas.Map.Lookups.{exact_bytes}
+use Rattle.std.proofs.Common.{◌≡◌, inl, inr, ⊎_elim, ℕ, ◌≤◌, List, [], map, Ok, sym, subst, arith}
 use Rattle.adr_stamp.specs.declared.Oid.{Oid}
 use Rattle.adr_stamp.specs.declared.LinkKey.{LinkKey}
-use Rattle.adr_stamp.specs.Order.{identifier_order}
 use Rattle.adr_schema.specs.Numbered.{numbered}
 use Rattle.adr_vector.specs.Vector.{IsVector, at}
 use Rattle.adr_vector.proofs.Cursors.{nil_rising}
 use Rattle.adr_vector.proofs.Comparing.{at_most_from_everywhere}
 use Rattle.adr_model.specs.Member.{Member, Each}
-use Rattle.adr_model.specs.Update.{Update, LinkOf, inv_of, usn_of, ends, same_identifier}
+use Rattle.adr_model.specs.Update.{Update, LinkOf, ends}
 use Rattle.adr_model.specs.Reflects.{Numbers, AtMost, Covers, CoversBirth, HoldsObject, IsTombstoned, knowledge_of}
 use Rattle.adr_model.specs.Store.{Held, State, updates_of}
-use Rattle.adr_model.specs.Take.{is_birth}
 use Rattle.adr_model.specs.Change.{Change, after}
 use Rattle.adr_model.specs.Formed.{IsLinkFormed, IsFormedStore, IsClosed}
 use Rattle.adr_model.specs.History.{Follows}
 use Rattle.adr_model.specs.Collect.{deaths_to_collect, collection, collect}
 use Rattle.adr_model.specs.Replica.{Scene, ToCollect}
-use Rattle.adr_model.specs.Sound.{last_of, IsBirthOf, IsSoundScene, IsSoundState}
-use Rattle.adr_model.proofs.Keys.{equal_order}
+use Rattle.adr_model.specs.Sound.{last_of, IsSoundScene, IsSoundState}
 use Rattle.adr_model.proofs.Members.{member_left}
 use Rattle.adr_knowledge.specs.Grows.{Grows, Keeps}
 use Rattle.adr_knowledge.proofs.Knows.{grows_keeps}
+use Rattle.adr_knowledge.proofs.Raised.{raised_up, raised_is_vector, raised_replaces}
+use Rattle.adr_history.proofs.Frames.{born_before}
 use Rattle.adr_history.specs.Settling.{Leaves}
 use Rattle.adr_collecting.specs.Collectable.{IsCollectable}
 use Rattle.adr_collecting.proofs.Deaths.{all_collectable}
-use Rattle.adr_collecting.proofs.Covering.{raised_up}
-use Rattle.adr_collecting.proofs.Vectors.{covered_before, raised_is_vector, purged_up, purged_within, purged_covers, purged_is_vector}
+use Rattle.adr_collecting.proofs.Vectors.{purged_up, purged_within, purged_covers, purged_is_vector}
 use Rattle.adr_collecting.proofs.Removing.{row_of_tells, stood_before, update_stood, update_stands, stay_rising, stay_alone}
 use Rattle.adr_collecting.proofs.Forms.{stay_formed, classes_stay_known}
 use Rattle.adr_collecting.proofs.Sizes.{objects_fewer, links_fewer}
 use Rattle.adr_collecting.proofs.Shrinking.{removal_grows, removed_is_dead}
 use Rattle.adr_collecting.proofs.Taken.{collect_is_collection, usn_of_collection, collection_follows}
-
--- the write that made a birth is its object's
-birth_is : (o : Oid) (b : Update) → is_birth o b ≡ true → (inv_of b ≡ o.birth.inv) × (usn_of b ≡ o.birth.usn)
-birth_is o b e = let p = last_two (b.stamp.stamp.version == 1) (same_identifier (inv_of b) o.birth.inv) (usn_of b == o.birth.usn) e in
-    (exact_bytes (inv_of b) o.birth.inv (equal_order (identifier_order (inv_of b) o.birth.inv) p.0), eqb-true (usn_of b) o.birth.usn p.1)
-  where
-    last_two : (x y z : Bool) → (x && y && z) ≡ true → (y ≡ true) × (z ≡ true)
-    last_two true true true e = (refl, refl)
-    last_two true true false e = cc
-    last_two true false z e = cc
-    last_two false y z e = cc
 
 module _ (sc : Scene) (s : State) (now lifetime : ℕ) (scene : IsSoundScene sc) (state : IsSoundState sc s) where
   abbrev dead : List (Oid × Update)
@@ -126,23 +111,10 @@ module _ (sc : Scene) (s : State) (now lifetime : ℕ) (scene : IsSoundScene sc)
   stays_held : (o : Oid) → (IsTombstoned (updates_of rows) o → ⊥) → HoldsObject (updates_of rows) o → HoldsObject (updates_of d.store.rows) o
   stays_held o alive (r, attr, m, is) = (r, attr, update_stands os rows r m (λ p n row. alive (subst (IsTombstoned (updates_of rows)) (sym (row_of_tells o p attr r.key is row)) (is_dead p n))), is)
 
-  -- an object that was issued is born where it was
-  born_before : (r : Update) → Member r sc.issued → (o : Oid) → Member o (ends r.key) → CoversBirth W o → CoversBirth V o
-  born_before r m o n born = covered_before s.store.vector s.inv c.usn o.birth.inv o.birth.usn born within
-    where
-      b : (u : Update) × Member u sc.issued × IsBirthOf o u
-      b = scene.born r m o n
-
-      is : (inv_of b.0 ≡ o.birth.inv) × (usn_of b.0 ≡ o.birth.usn)
-      is = birth_is o b.0 b.2.1
-
-      within : o.birth.inv ≡ s.inv → o.birth.usn ≤ V s.inv
-      within e = omega (arith, (scene.once b.0 b.1).1, is.1, own, state.last, ap (last_of sc) (is.0 ∙ e))
-
   closed : IsClosed d.store
   closed l r m is o n = ⊎_elim
       (λ h. inl (stays_held o (not_dead l (state.store.formed.rows.links l r (before) is) o n) h))
-      (λ unborn. inr (λ born. unborn (born_before r (state.store.known r before) o (subst (λ k. Member o (ends k)) (sym is) n) born)))
+      (λ unborn. inr (λ born. unborn (born_before sc s c.usn scene state r (state.store.known r before) o (subst (λ k. Member o (ends k)) (sym is) n) born)))
       (state.store.closed l r before is o n)
     where
       before : Member r (updates_of rows)
@@ -152,7 +124,7 @@ module _ (sc : Scene) (s : State) (now lifetime : ℕ) (scene : IsSoundScene sc)
 
   formed : IsFormedStore d.store
   formed = record {
-    vector = raised_is_vector s.store.vector s.inv c.usn own_is_there state.store.formed.vector;
+    vector = raised_is_vector s.store.vector s.inv c.usn state.store.formed.vector (omega (arith, raised_replaces s.store.vector s.inv c.usn own_is_there state.store.formed.vector, state.store.formed.vector.few));
     purged = is_purged;
     purged_within = at_most_from_everywhere d.store.purged d.store.vector is_purged.rising (λ i. omega (arith, q_within i, up i));
     marks = state.store.formed.marks;
@@ -162,7 +134,7 @@ module _ (sc : Scene) (s : State) (now lifetime : ℕ) (scene : IsSoundScene sc)
     rows = stay_formed os rows (numbered s.store.schema) state.store.formed.rows;
     limits = record {
       objects = omega (arith, objects_fewer os rows, state.store.formed.limits.objects);
-      links = omega (arith, links_fewer os rows, state.store.formed.limits.links);
+      links = omega (arith, links_fewer os rows state.store.formed.rising, state.store.formed.limits.links);
       marks = state.store.formed.limits.marks;
     };
   }

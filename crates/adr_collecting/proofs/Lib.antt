@@ -1,6 +1,5 @@
 pub mod Deaths
 pub mod Covering
-pub mod Fewer
 pub mod Removing
 pub mod Forms
 pub mod Sizes

@@ -1,10 +1,11 @@
 -- Which rows stand after objects were removed: those of no such object. Each unit that stands is whole.
-use Rattle.std.proofs.Common.{◌≡◌, ◌⊎◌, inl, inr, ⊎_elim, ℕ, List, [], ◌∷◌, Bool, true, false, refl, sym, ap, ◌∙◌, subst, fold, filter, map, not, cond}
+use Rattle.std.proofs.Common.{◌≡◌, ◌⊎◌, inl, inr, ⊎_elim, ℕ, List, [], ◌∷◌, Bool, true, false, refl, sym, ap, ◌∙◌, subst, fold, map, not}
 use Rattle.std.specs.List.Sorted.{IsStrictlySortedBy}
+use Rattle.std.proofs.lemmas.Bool.{not-true}
 use Rattle.std.proofs.lemmas.List.Kept.{IsStrictlySortedBy-filter}
 use Rattle.adr_stamp.specs.declared.Oid.{Oid}
 use Rattle.adr_model.specs.Member.{Member, Each}
-use Rattle.adr_model.specs.Update.{Key, RowOf, LinkOf, Update, key_order, unit_of, same_object}
+use Rattle.adr_model.specs.Update.{Key, RowOf, Update, key_order, unit_of}
 use Rattle.adr_model.specs.Reflects.{HoldsObject}
 use Rattle.adr_model.specs.Store.{Held, updates_of, is_row_of}
 use Rattle.adr_model.specs.Serve.{last_local}
@@ -12,7 +13,9 @@ use Rattle.adr_model.specs.Change.{without_object}
 use Rattle.adr_model.specs.Formed.{AreRising, AreAlone}
 use Rattle.adr_model.proofs.Members.{in_filter, of_filter}
 use Rattle.adr_knowledge.proofs.Comparing.{objects_tell, objects_same}
-use Rattle.adr_history.proofs.Rows.{updated, updated_from}
+use Rattle.adr_history.proofs.Units.{removals_from}
+use Rattle.adr_steps.proofs.Rows.{updated, held_as, row_by_unit}
+use Rattle.adr_steps.proofs.Rising.{keys_filtered}
 use Rattle.adr_steps.proofs.Locals.{same_last}
 
 abbrev pub without : List Oid → List Held → List Held
@@ -26,31 +29,15 @@ row_of_itself o attr k is = ap (is_row_of o) is ∙ objects_same o o refl
 pub row_of_tells : (o p : Oid) (attr : ℕ) (k : Key) → k ≡ RowOf o attr → is_row_of p k ≡ true → o ≡ p
 row_of_tells o p attr k is row = objects_tell o p (ap (is_row_of p) (sym is) ∙ row)
 
-pub row_is_of : (o : Oid) (k : Key) → is_row_of o k ≡ true → (attr : ℕ) × (k ≡ RowOf o attr)
-row_is_of o (RowOf p attr) row = (attr, ap (λ q. RowOf q attr) (objects_tell p o row))
-row_is_of o (LinkOf l) row = absurd (cc)
-
--- that of its unit
-row_by_unit : (o : Oid) (k l : Key) → unit_of k ≡ unit_of l → is_row_of o k ≡ is_row_of o l
-row_by_unit o (RowOf p a) (RowOf q b) e = let same : p ≡ q = cc in ap (λ z. same_object z o) same
-row_by_unit o (RowOf p a) (LinkOf l) e = absurd (cc)
-row_by_unit o (LinkOf l) (RowOf q b) e = absurd (cc)
-row_by_unit o (LinkOf l) (LinkOf k) e = refl
-
-not_true : (b : Bool) → not b ≡ true → b ≡ false
-not_true true e = cc
-not_true false e = refl
-
 -- ---- which rows stand
 
 pub stood_before : (os : List Oid) (rows : List Held) (x : Held) → Member x (without os rows) → Member x rows
-stood_before [] rows x m = m
-stood_before (o ∷ os) rows x m = (of_filter (λ h. not (is_row_of o h.update.key)) rows x (stood_before os (without_object rows o) x m)).0
+stood_before = removals_from
 
 pub of_none : (os : List Oid) (rows : List Held) (x : Held) → Member x (without os rows) → Each (λ o. is_row_of o x.update.key ≡ false) os
 of_none [] rows x m o n = absurd n
 of_none (p ∷ os) rows x m o (inl e) = subst (λ q. is_row_of q x.update.key ≡ false) (sym e)
-    (not_true (is_row_of p x.update.key) (of_filter (λ h. not (is_row_of p h.update.key)) rows x (stood_before os (without_object rows p) x m)).1)
+    (not-true (is_row_of p x.update.key) (of_filter (λ h. not (is_row_of p h.update.key)) rows x (stood_before os (without_object rows p) x m)).1)
 of_none (p ∷ os) rows x m o (inr n) = of_none os (without_object rows p) x m o n
 
 pub stands_or_goes : (os : List Oid) (rows : List Held) (x : Held) → Member x rows → Member x (without os rows) ⊎ ((o : Oid) × Member o os × (is_row_of o x.update.key ≡ true))
@@ -68,32 +55,22 @@ stands os rows x m none = ⊎_elim (λ n. n) (λ t. absurd (none t.0 t.1 t.2)) (
 -- ---- as updates
 
 pub update_stood : (os : List Oid) (rows : List Held) (u : Update) → Member u (updates_of (without os rows)) → Member u (updates_of rows)
-update_stood os rows u m = let t = updated_from (without os rows) u m in subst (λ v. Member v (updates_of rows)) t.2 (updated rows t.0 (stood_before os rows t.0 t.1))
+update_stood os rows u m = let t = held_as (without os rows) u m in subst (λ v. Member v (updates_of rows)) (sym t.2) (updated rows t.0 (stood_before os rows t.0 t.1))
 
 pub update_stands : (os : List Oid) (rows : List Held) (u : Update) → Member u (updates_of rows) → Each (λ o. is_row_of o u.key ≡ true → ⊥) os → Member u (updates_of (without os rows))
-update_stands os rows u m none = let t = updated_from rows u m in
-    subst (λ v. Member v (updates_of (without os rows))) t.2
-    (updated (without os rows) t.0 (stands os rows t.0 t.1 (λ o n row. none o n (subst (λ (v : Update). is_row_of o v.key ≡ true) t.2 row))))
+update_stands os rows u m none = let t = held_as rows u m in
+    subst (λ v. Member v (updates_of (without os rows))) (sym t.2)
+    (updated (without os rows) t.0 (stands os rows t.0 t.1 (λ o n row. none o n (subst (λ (v : Update). is_row_of o v.key ≡ true) (sym t.2) row))))
 
 -- an object that is removed isn't held
 pub removed_is_absent : (os : List Oid) (rows : List Held) (o : Oid) → Member o os → HoldsObject (updates_of (without os rows)) o → ⊥
 removed_is_absent os rows o m (r, attr, n, is) =
-    let t = updated_from (without os rows) r n in
-    let goes : is_row_of o t.0.update.key ≡ true = ap (λ (v : Update). is_row_of o v.key) t.2 ∙ row_of_itself o attr r.key is in
+    let t = held_as (without os rows) r n in
+    let goes : is_row_of o t.0.update.key ≡ true = ap (λ (v : Update). is_row_of o v.key) (sym t.2) ∙ row_of_itself o attr r.key is in
     let stays : is_row_of o t.0.update.key ≡ false = of_none os rows t.0 t.1 o m in
     cc
 
 -- ---- order
-
-keys_filtered : (test : Key → Bool) (xs : List Held) → map (λ (h : Held). h.update.key) (filter (λ h. test h.update.key) xs) ≡ filter test (map (λ (h : Held). h.update.key) xs)
-keys_filtered test [] = refl
-keys_filtered test (x ∷ xs) = by (test x.update.key) (keys_filtered test xs)
-  where
-    by : (b : Bool) → map (λ (h : Held). h.update.key) (filter (λ h. test h.update.key) xs) ≡ filter test (map (λ (h : Held). h.update.key) xs)
-        → map (λ (h : Held). h.update.key) (cond b (x ∷ filter (λ h. test h.update.key) xs) (filter (λ h. test h.update.key) xs))
-        ≡ cond b (x.update.key ∷ filter test (map (λ (h : Held). h.update.key) xs)) (filter test (map (λ (h : Held). h.update.key) xs))
-    by true rest = ap (λ ks. x.update.key ∷ ks) rest
-    by false rest = rest
 
 pub stay_rising : (os : List Oid) (rows : List Held) → AreRising rows → AreRising (without os rows)
 stay_rising [] rows r = r

@@ -8,9 +8,9 @@ use Rattle.adr_model.specs.Store.{Held, updates_of, is_row_of}
 use Rattle.adr_model.proofs.Members.{mapped_member}
 use Rattle.adr_knowledge.specs.Grows.{IsOutlived, Grows}
 use Rattle.adr_knowledge.proofs.Comparing.{supersedes_self}
-use Rattle.adr_history.proofs.Rows.{updated, updated_from}
+use Rattle.adr_steps.proofs.Rows.{updated, held_as, row_is_of}
 use Rattle.adr_collecting.specs.Collectable.{IsCollectable}
-use Rattle.adr_collecting.proofs.Removing.{without, row_of_tells, row_is_of, stands_or_goes, update_stood, removed_is_absent}
+use Rattle.adr_collecting.proofs.Removing.{without, row_of_tells, stands_or_goes, update_stood, removed_is_absent}
 
 module _ (issued : List Update) (rows : List Held) (V W P Q : Numbers) (dead : List (Oid × Update))
     (known : Each (λ u. Member u issued) (updates_of rows)) (collectable : Each (IsCollectable rows V) dead)
@@ -43,9 +43,9 @@ module _ (issued : List Update) (rows : List Held) (V W P Q : Numbers) (dead : L
 
   -- a row stands, or is of an object that is removed
   stands_or_purged : (r : Update) → Member r k.rows → Member r l.rows ⊎ ((o : Oid) × Member o os × (is_row_of o r.key ≡ true))
-  stands_or_purged r m = let t = updated_from rows r m in
-      ⊎_elim (λ n. inl (subst (λ u. Member u l.rows) t.2 (updated (without os rows) t.0 n)))
-      (λ g. inr (g.0, g.1, ap (λ (u : Update). is_row_of g.0 u.key) (sym t.2) ∙ g.2))
+  stands_or_purged r m = let t = held_as rows r m in
+      ⊎_elim (λ n. inl (subst (λ u. Member u l.rows) (sym t.2) (updated (without os rows) t.0 n)))
+      (λ g. inr (g.0, g.1, ap (λ (u : Update). is_row_of g.0 u.key) t.2 ∙ g.2))
       (stands_or_goes os rows t.0 t.1)
 
   row : Each (λ r. HoldsAtLeast l.rows r ⊎ IsOutlived issued l r) k.rows

@@ -1,36 +1,29 @@
 -- A collection takes a USN where it removes anything, and so follows in its log.
-use Rattle.std.proofs.Common.{◌≡◌, ◌⊎◌, inl, inr, ⊎_elim, ℕ, suc, ◌+◌, true, List, [], ◌∷◌, length, Ok, Option, Some, None, refl, ap, arith, if◌then◌else◌}
+use Rattle.std.proofs.Common.{◌≡◌, ◌⊎◌, inl, inr, ⊎_elim, ℕ, suc, ◌+◌, List, [], ◌∷◌, length, Ok, refl, ap, arith, if◌then◌else◌}
 use Rattle.std.specs.Prelude.{nat_lt}
 use Rattle.std.specs.Bool.{then_some}
 use Rattle.std.specs.Option.{option_or}
-use Rattle.std.proofs.lemmas.Bool.Decides.{nat_tests}
+use Rattle.std.proofs.lemmas.Bool.{lt-ltb}
 use Rattle.adr_event.specs.declared.refusal.CollectRefusal.TheVariants.{Quarantined as IsQuarantined, UsnLimit}
 use Rattle.adr_stamp.specs.declared.Oid.{Oid}
 use Rattle.adr_model.specs.Member.{Member}
-use Rattle.adr_model.specs.Refusing.{unless}
 use Rattle.adr_model.specs.Update.{Update}
 use Rattle.adr_model.specs.Store.{State}
 use Rattle.adr_model.specs.Serve.{is_quarantined}
 use Rattle.adr_model.specs.Change.{Change}
 use Rattle.adr_model.specs.Write.{usn_limit}
 use Rattle.adr_model.specs.History.{Follows}
+use Rattle.adr_knowledge.proofs.Refusing.{answered}
 use Rattle.adr_model.specs.Collect.{deaths_to_collect, collection, collect}
-
-answered : {A E : Type 0} (o : Option E) (x y : A) → unless o x ≡ Ok y → x ≡ y
-answered None x y e = cc
-answered (Some z) x y e = absurd (cc)
 
 pub collect_is_collection : (s : State) (now lifetime : ℕ) (c : Change) → collect s now lifetime ≡ Ok c → collection s (deaths_to_collect s now lifetime) ≡ c
 collect_is_collection s now lifetime c e =
-    answered (option_or (then_some (is_quarantined s.mode) IsQuarantined) (then_some (nat_lt usn_limit (collection s (deaths_to_collect s now lifetime)).usn) UsnLimit)) (collection s (deaths_to_collect s now lifetime)) c e
-
-one_more : (n : ℕ) → nat_lt 0 (suc n) ≡ true
-one_more n = grind (arith, nat_tests)
+    (answered (option_or (then_some (is_quarantined s.mode) IsQuarantined) (then_some (nat_lt usn_limit (collection s (deaths_to_collect s now lifetime)).usn) UsnLimit)) (collection s (deaths_to_collect s now lifetime)) c e).1
 
 -- nothing is removed and no USN is taken, or something is and one is
 pub usn_of_collection : (s : State) (ds : List (Oid × Update)) → ((ds ≡ []) × ((collection s ds).usn ≡ s.store.usn)) ⊎ (((d : Oid × Update) × Member d ds) × ((collection s ds).usn ≡ s.store.usn + 1))
 usn_of_collection s [] = inl (refl, omega arith)
-usn_of_collection s (d ∷ ds) = inr ((d, inl refl), ap (λ b. s.store.usn + (if b then 1 else 0)) (one_more (length ds)))
+usn_of_collection s (d ∷ ds) = inr ((d, inl refl), ap (λ b. s.store.usn + (if b then 1 else 0)) (lt-ltb 0 (suc (length ds)) (omega arith)))
 
 pub collection_follows : (last : ℕ) (s : State) (ds : List (Oid × Update)) → s.store.usn ≡ last → Follows last (collection s ds)
 collection_follows last s ds same = record {

@@ -22,11 +22,11 @@ use Rattle.adr_model.specs.World.{Name, World, Gone, stays, with_replica, commit
 use Rattle.adr_model.specs.Convergence.{write_of, IsAcknowledged, AcknowledgedIsIssued}
 use Rattle.adr_model.proofs.Members.{member_left, member_right}
 use Rattle.adr_history.proofs.Written.{written_is_own}
-use Rattle.adr_convergence.proofs.Calls.{answered}
+use Rattle.adr_knowledge.proofs.Refusing.{answered}
 use Rattle.adr_convergence.proofs.Found.{same_name_tests, still_there}
 use Rattle.adr_convergence.proofs.Refusals.{is_plain, IsPlain, write_refused_plainly}
 use Rattle.adr_convergence.proofs.RefusalsPlain.{event_case}
-use Rattle.adr_convergence.proofs.RefusalsReached.{plain_reached}
+use Rattle.adr_convergence.proofs.Reached.{plain_reached}
 use Rattle.adr_convergence.proofs.RefusalsSpared.{serves_so, takes_so}
 
 abbrev IsTrueOf : World → Event → Gone → Type 0
@@ -97,7 +97,7 @@ module _ (w : World) (e : Event) (r : Replica) (there : Member r w.replicas) whe
   wrote : (what : Write) → IsWellGiven what → write_of e ≡ Some (r.name, what) → (t : Result Change WriteRefusal) → write r.safe what w.time ≡ t → IsTrueOf w e (after_write w r what t)
   wrote what is writes (Err x) h = λ usn same. absurd (plain_is_not (write_refused x) (write_refused_plainly x) usn same)
   wrote what is writes (Ok c) h = subst (λ (d : Change). IsTrueOf w e (commit w r (record { call = ToWrite what w.time; change = d }) (outcomes.Usn d.usn)))
-      (answered (write_refusal r.safe what) (own_change r.safe (rows_written r.safe what w.time)) c h) (was_issued what is writes (went r.plan 4))
+      (answered (write_refusal r.safe what) (own_change r.safe (rows_written r.safe what w.time)) c h).1 (was_issued what is writes (went r.plan 4))
 
 -- ---- other refusals are plain
 

@@ -23,7 +23,7 @@ use Rattle.adr_model.specs.Replica.{Pending, ToWrite, ToTake, ToCollect, change_
 use Rattle.adr_model.specs.World.{World, with_replica, commit, after_write, after_collect, after_take, after_moves}
 use Rattle.adr_model.specs.Sound.{IsSoundCall, IsSettled, IsSoundReplica, IsSoundReply, IsGiven, IsSoundWorld}
 use Rattle.adr_taking.proofs.Refused.{no_rollback as reply_shows_no_rollback}
-use Rattle.adr_convergence.proofs.Calls.{answered}
+use Rattle.adr_knowledge.proofs.Refusing.{answered}
 use Rattle.adr_convergence.proofs.Replacing.{MayStand, replaced}
 use Rattle.adr_convergence.proofs.Moving.{HasMoved, stays_so, settles_so, start_moves, commit_moves}
 
@@ -76,7 +76,7 @@ module _ (w : World) (sound : IsSoundWorld w) (r : Replica) (there : Member r w.
         by : (t : Result Change WriteRefusal) → write r.safe what w.time ≡ t → IsSoundWorld (after_write w r what t).0
         by (Err x) e = sound
         by (Ok c) e = commit_sound (record { call = ToWrite what w.time; change = c }) (outcomes.Usn c.usn) is (ap change_in e)
-            (subst (λ (d : Change). IfSome d.mark (λ m. IsGiven w m.1.inv)) (answered (write_refusal r.safe what) (own_change r.safe (rows_written r.safe what w.time)) c e) tt)
+            (subst (λ (d : Change). IfSome d.mark (λ m. IsGiven w m.1.inv)) (answered (write_refusal r.safe what) (own_change r.safe (rows_written r.safe what w.time)) c e).1 tt)
 
     pub collect_sound : (lifetime : ℕ) → IsSoundWorld (after_collect w r lifetime (collect r.safe w.time lifetime)).0
     collect_sound lifetime = by (collect r.safe w.time lifetime) refl
@@ -84,7 +84,7 @@ module _ (w : World) (sound : IsSoundWorld w) (r : Replica) (there : Member r w.
         by : (t : Result Change CollectRefusal) → collect r.safe w.time lifetime ≡ t → IsSoundWorld (after_collect w r lifetime t).0
         by (Err x) e = sound
         by (Ok c) e = commit_sound (record { call = ToCollect w.time lifetime; change = c }) (outcomes.Removed (length c.removed)) tt (ap change_in e)
-            (subst (λ (d : Change). IfSome d.mark (λ m. IsGiven w m.1.inv)) (answered (option_or (then_some (is_quarantined r.safe.mode) IsQuarantined) (then_some (nat_lt usn_limit (collection r.safe (deaths_to_collect r.safe w.time lifetime)).usn) UsnLimit)) (collection r.safe (deaths_to_collect r.safe w.time lifetime)) c e) tt)
+            (subst (λ (d : Change). IfSome d.mark (λ m. IsGiven w m.1.inv)) (answered (option_or (then_some (is_quarantined r.safe.mode) IsQuarantined) (then_some (nat_lt usn_limit (collection r.safe (deaths_to_collect r.safe w.time lifetime)).usn) UsnLimit)) (collection r.safe (deaths_to_collect r.safe w.time lifetime)) c e).1 tt)
 
     other_refusal : (reply : Reply) (x : TakeRefusal) → ((inv : Identifier) (mine shown : ℕ) → x ≢ takes.RolledBack inv mine shown) → (after_take w r reply (Err x)).0 ≡ w
     other_refusal reply (takes.RolledBack inv mine shown) other = absurd (other inv mine shown refl)
@@ -96,4 +96,4 @@ module _ (w : World) (sound : IsSoundWorld w) (r : Replica) (there : Member r w.
         by : (t : Result Change TakeRefusal) → take r.safe reply ≡ t → IsSoundWorld (after_take w r reply t).0
         by (Err x) e = subst IsSoundWorld (sym (other_refusal reply x (λ inv mine shown s. reply_shows_no_rollback w.scene r.safe reply inv mine shown sound.scene (sound.replicas r there).safe is (e ∙ ap Err s)))) sound
         by (Ok c) e = commit_sound (record { call = ToTake reply; change = c }) (outcomes.Took (length reply.items) (length c.writes) c.usn) is (ap change_in e)
-            (subst (λ (d : Change). IfSome d.mark (λ m. IsGiven w m.1.inv)) (answered (refusal_of r.safe reply (take_items r.safe reply.items) (after r.safe (taken_change reply (take_items r.safe reply.items)))) (taken_change reply (take_items r.safe reply.items)) c e) given)
+            (subst (λ (d : Change). IfSome d.mark (λ m. IsGiven w m.1.inv)) (answered (refusal_of r.safe reply (take_items r.safe reply.items) (after r.safe (taken_change reply (take_items r.safe reply.items)))) (taken_change reply (take_items r.safe reply.items)) c e).1 given)

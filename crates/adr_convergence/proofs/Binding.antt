@@ -1,6 +1,5 @@
 -- Messages and images that a sound world makes are sound, and may be bound to names.
-use Rattle.std.proofs.Common.{◌≡◌, ◌≢◌, inl, inr, ℕ, List, [], ◌∷◌, Bool, true, false, cond, Option, Some, None, unwrap_or, Result, Ok, Err, refl, sym, ap, ◌∙◌, subst, if◌then◌else◌}
-use Rattle.std.specs.Map.{lookup}
+use Rattle.std.proofs.Common.{◌≡◌, ◌≢◌, inr, ℕ, List, Bool, true, false, Option, Some, None, Result, Ok, Err, refl, sym, ap, ◌∙◌, subst, if◌then◌else◌}
 use Rattle.std.specs.BTreeMap.{is_at}
 use Rattle.adr_stamp.specs.Order.{identifier_order}
 use Rattle.adr_event.specs.declared.answer.Outcome.{Outcome}
@@ -8,7 +7,7 @@ use Rattle.adr_event.specs.declared.answer.Outcome.TheVariants as outcomes
 use Rattle.adr_model.specs.Refused.{quarantined}
 use Rattle.adr_event.specs.declared.refusal.ServeRefusal.{ServeRefusal}
 use Rattle.adr_event.specs.declared.refusal.ServeRefusal.TheVariants as serves
-use Rattle.adr_model.specs.Member.{Member, Each}
+use Rattle.adr_model.specs.Member.{Member}
 use Rattle.adr_model.specs.Update.{Identifier}
 use Rattle.adr_model.specs.Place.{identifier}
 use Rattle.adr_model.specs.Store.{Kept, Store, State, no_mark, kept_of}
@@ -17,9 +16,10 @@ use Rattle.adr_model.specs.Collect.{backup}
 use Rattle.adr_model.specs.Replica.{Replica}
 use Rattle.adr_model.specs.World.{Name, World, Sent, bound, nothing, of_controller, asks, after_serve, served, serves_request, backed_up}
 use Rattle.adr_model.specs.Sound.{IsSoundRequest, IsSoundReply, IsSoundStore, IsGiven, AreMarksGiven, IsSoundWorld}
+use Rattle.adr_history.proofs.Tables.{each_found}
 use Rattle.adr_history.proofs.Asked.{asked_is_sound}
 use Rattle.adr_history.proofs.Granted.{served_is_sound, no_rollback}
-use Rattle.adr_convergence.proofs.Calls.{answered}
+use Rattle.adr_knowledge.proofs.Refusing.{answered}
 use Rattle.adr_convergence.proofs.Found.{each_bound}
 use Rattle.adr_convergence.proofs.Reached.{made_case, up_case, reached_case}
 
@@ -27,20 +27,11 @@ use Rattle.adr_convergence.proofs.Reached.{made_case, up_case, reached_case}
 abbrev pub Makes : {A : Type 0} → World → (A → Type 0) → Sent A → Type 0
 Makes w P t = (t.0 ≡ w) × ((x : _) → t.2 ≡ Some x → P x)
 
-made_nothing : {A : Type 0} (w : World) (P : A → Type 0) (x : Outcome) → Makes w P (nothing w x)
+pub made_nothing : {A : Type 0} (w : World) (P : A → Type 0) (x : Outcome) → Makes w P (nothing w x)
 made_nothing w P x = (refl, λ y e. absurd (cc))
 
-only_made : {A : Type 0} (P : A → Type 0) (x : A) → P x → (y : A) → Some x ≡ Some y → P y
+pub only_made : {A : Type 0} (P : A → Type 0) (x : A) → P x → (y : A) → Some x ≡ Some y → P y
 only_made P x p y e = let s : x ≡ y = cc in subst P s p
-
--- a fact of each entry and of the one that stands for none is one of what is found
-each_found : {X : Type 0} (P : X → Type 0) (test : Identifier → Bool) (es : List (Identifier × X)) (none : X) → P none → Each (λ (e : Identifier × X). P e.1) es → P (unwrap_or (lookup test es) none)
-each_found P test [] none there all = there
-each_found {X = X} P test (e ∷ es) none there all = by (test e.0) (each_found P test es none there (λ f m. all f (inr m)))
-  where
-    by : (b : Bool) → P (unwrap_or (lookup test es) none) → P (unwrap_or (cond b (Some e.1) (lookup test es)) none)
-    by true rest = all e (inl refl)
-    by false rest = rest
 
 -- what a partner is kept under is given, or nothing is kept
 kept_given : (w : World) (s : Store) (partner : Identifier) → AreMarksGiven w s → IsGiven w (kept_of s partner).inv
@@ -73,7 +64,7 @@ module _ (w : World) (sound : IsSoundWorld w) where
     serve_sound q is = by (serve r.safe q) refl
       where
         own : serve_refusal r.safe q ≡ serve_refusal r.safe q → (reply : Reply) → serve r.safe q ≡ Ok reply → reply.inv ≡ r.safe.inv
-        own same reply e = ap (λ (p : Reply). p.inv) (sym (answered (serve_refusal r.safe q) (reply_to r.safe q) reply e))
+        own same reply e = ap (λ (p : Reply). p.inv) (sym (answered (serve_refusal r.safe q) (reply_to r.safe q) reply e).1)
 
         by : (t : Result Reply ServeRefusal) → serve r.safe q ≡ t → Makes w IsReply (after_serve w r t)
         by (Ok reply) e = (

@@ -5,9 +5,8 @@ use Rattle.std.specs.Prelude.{nat_lt}
 use Rattle.adr_event.specs.declared.refusal.CollectRefusal.TheVariants.{Quarantined as IsQuarantined, UsnLimit}
 use Rattle.adr_model.specs.Serve.{is_quarantined}
 use Rattle.adr_model.specs.Write.{usn_limit}
-use Rattle.std.proofs.Common.{◌≡◌, ◌++◌, List, [], Option, Some, None, Result, Ok, Err, refl, sym, subst}
+use Rattle.std.proofs.Common.{◌≡◌, ◌++◌, List, [], Some, Result, Ok, Err, refl, sym, subst}
 use Rattle.adr_model.specs.Member.{Member, Each}
-use Rattle.adr_model.specs.Refusing.{unless}
 use Rattle.adr_model.specs.Store.{Normal, State}
 use Rattle.adr_model.specs.Change.{Change, Written, held_of, after}
 use Rattle.adr_model.specs.History.{Follows}
@@ -16,6 +15,7 @@ use Rattle.adr_model.specs.Write.{rows_written, own_change, write_refusal, write
 use Rattle.adr_model.specs.Collect.{deaths_to_collect, collection, collect}
 use Rattle.adr_model.specs.Replica.{Call, ToWrite, ToTake, ToCollect, ToQuarantine, change_in, change_of, Pending, issued_by, Replica, Scene}
 use Rattle.adr_model.specs.Sound.{last_of, IsSoundScene, IsSoundState, IsSoundCall}
+use Rattle.adr_knowledge.proofs.Refusing.{answered}
 use Rattle.adr_history.specs.Later.{AreIssuedBy, MayIssue}
 use Rattle.adr_history.specs.Settling.{Leaves, MaySettle}
 use Rattle.adr_history.proofs.Leaving.{sound_state_is_left}
@@ -36,10 +36,6 @@ pub in_change : {E : Type 0} (r : Result Change E) (c : Change) → change_in r 
 in_change (Ok d) c e = cc
 in_change (Err x) c e = absurd (cc)
 
-pub answered : {A E : Type 0} (o : Option E) (x y : A) → unless o x ≡ Ok y → x ≡ y
-answered None x y e = cc
-answered (Some z) x y e = absurd (cc)
-
 -- a change of no writes that issues nothing
 issues_nothing : (sc : Scene) (c : Change) → c.writes ≡ [] → MayIssue sc c []
 issues_nothing sc c none = record {
@@ -57,7 +53,7 @@ module _ (sc : Scene) (s : State) (scene : IsSoundScene sc) (state : IsSoundStat
       ok = in_change (write s w now) c made
 
       change : own_change s (rows_written s w now) ≡ c
-      change = answered (write_refusal s w) (own_change s (rows_written s w now)) c ok
+      change = (answered (write_refusal s w) (own_change s (rows_written s w now)) c ok).1
 
       left : MayIssue sc c (issued_by (ToWrite w now) c) × Leaves sc s (record { call = ToWrite w now; change = c })
       left = write_leaves_sound sc s w now c scene state is ok
@@ -67,7 +63,7 @@ module _ (sc : Scene) (s : State) (scene : IsSoundScene sc) (state : IsSoundStat
       ok = in_change (take s r) c made
 
       change : taken_change r (take_items s r.items) ≡ c
-      change = answered (refusal_of s r (take_items s r.items) (after s (taken_change r (take_items s r.items)))) (taken_change r (take_items s r.items)) c ok
+      change = (answered (refusal_of s r (take_items s r.items) (after s (taken_change r (take_items s r.items)))) (taken_change r (take_items s r.items)) c ok).1
 
       left : Follows (last_of sc s.inv) c × (MayIssue sc c [] × Leaves sc s (record { call = ToTake r; change = c }))
       left = taken_leaves sc s r c scene state is ok
@@ -77,7 +73,7 @@ module _ (sc : Scene) (s : State) (scene : IsSoundScene sc) (state : IsSoundStat
       ok = in_change (collect s now lifetime) c made
 
       change : collection s (deaths_to_collect s now lifetime) ≡ c
-      change = answered (option_or (then_some (is_quarantined s.mode) IsQuarantined) (then_some (nat_lt usn_limit (collection s (deaths_to_collect s now lifetime)).usn) UsnLimit)) (collection s (deaths_to_collect s now lifetime)) c ok
+      change = (answered (option_or (then_some (is_quarantined s.mode) IsQuarantined) (then_some (nat_lt usn_limit (collection s (deaths_to_collect s now lifetime)).usn) UsnLimit)) (collection s (deaths_to_collect s now lifetime)) c ok).1
 
       left : Follows (last_of sc s.inv) c × Leaves sc s (record { call = ToCollect now lifetime; change = c })
       left = collection_leaves sc s now lifetime c scene state ok

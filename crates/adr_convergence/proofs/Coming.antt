@@ -22,7 +22,7 @@ use Rattle.adr_history.specs.Logs.{first_log}
 use Rattle.adr_history.proofs.Empty.{new_is_sound}
 use Rattle.adr_history.proofs.Woken.{adopted_is_sound}
 use Rattle.adr_history.proofs.Tables.{entry_other}
-use Rattle.adr_convergence.proofs.Calls.{answered}
+use Rattle.adr_knowledge.proofs.Refusing.{answered}
 use Rattle.adr_convergence.proofs.Replacing.{MayStand, OnlyLog, replaced, added}
 
 -- what was given is so when more is given
@@ -101,7 +101,7 @@ module _ (w : World) (sound : IsSoundWorld w) (inv : Identifier) (new_inv : IsNe
 
   -- what is adopted
   woken_is : (image : Store) (dsa : Identifier) (s : State) → adopt image dsa inv ≡ Ok s → woken image dsa inv ≡ s
-  woken_is image dsa s e = answered (option_or (then_some (names_inv image inv) IdentifierUsed) (then_some (nat_lt most_cursors (length (woken image dsa inv).store.vector)) (Full CursorTable most_cursors))) (woken image dsa inv) s e
+  woken_is image dsa s e = (answered (option_or (then_some (names_inv image inv) IdentifierUsed) (then_some (nat_lt most_cursors (length (woken image dsa inv).store.vector)) (Full CursorTable most_cursors))) (woken image dsa inv) s e).1
 
   image_marks : (dsas : List Identifier) (image : Store) (dsa : Identifier) (s : State) → woken image dsa inv ≡ s → AreMarksGiven w image → AreMarksGiven (given_more dsas) s.store
   image_marks dsas image dsa s is given k m = still_given w dsas (inv ∷ []) k.1.inv (given k (subst (λ (d : State). Member k d.store.marks) (sym is) m))

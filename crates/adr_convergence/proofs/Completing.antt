@@ -20,7 +20,8 @@ use Rattle.adr_model.specs.World.{Name, World, answer, replica_at}
 use Rattle.adr_model.specs.Cycles.{Pulled, and_then, pull, pulls, reply_limit}
 use Rattle.adr_model.specs.Sound.{IsSoundState, IsSoundWorld}
 use Rattle.adr_model.specs.Convergence.{is_delivery, units_beyond, IsRefused, IsCompleted, AreUnlimited, CycleEnds}
-use Rattle.adr_model.proofs.Members.{found, member_right, mapped_member}
+use Rattle.adr_model.proofs.Members.{found, member_right}
+use Rattle.adr_steps.proofs.Rows.{held_as}
 use Rattle.adr_convergence.proofs.Found.{replica_found, same_name, same_name_tests}
 use Rattle.adr_convergence.proofs.Pulling.{IsLimit}
 use Rattle.adr_convergence.proofs.Cycling.{Goes, IsLike, reply, change, next, behind, taking, told, took, taken_or_not, next_found, server, server_found, behind_sound, left, idle, brings, server_like, goes_on, keeps, kept, nearer_end, ended, one_of}
@@ -68,7 +69,7 @@ module _ (w v : World) (dest source : Name) (d s : Replica) (goes : Goes w v des
     all_read prop seen x m = subst (λ is. Reflects is (knowledge_of n.safe.store) x) (goes_on w v dest source d s goes most ok).issued (subst (λ (y : Update). Reflects u.scene.issued (knowledge_of n.safe.store) y) (sym h.2) reflected)
       where
         h : (y : Held) × Member y s.safe.store.rows × (x ≡ y.update)
-        h = mapped_member (λ (y : Held). y.update) s.safe.store.rows x m
+        h = held_as s.safe.store.rows x m
 
         z_safe : IsSoundState u.scene z.safe
         z_safe = (world.replicas z serves.0).safe
@@ -191,7 +192,7 @@ completes w dest source most le (suc fuel) v d s goes few = by (λ x e f is more
     by rest (inl ok) = subst (λ (p : Pulled). Goal w dest d.safe s.safe (and_then p go)) (sym (took w v dest source d s goes most ok)) (was rest ok r.last refl)
     by rest (inr (x, e, limit)) = subst (λ (p : Pulled). Goal w dest d.safe s.safe (and_then p go)) (sym e) (λ none. absurd (refused_is_limited w v dest source d s goes most x limit none))
 
-found_by_name : (w : World) (r : Replica) → IsSoundWorld w → Member r w.replicas → replica_at w r.name ≡ Some r
+pub found_by_name : (w : World) (r : Replica) → IsSoundWorld w → Member r w.replicas → replica_at w r.name ≡ Some r
 found_by_name w r sound m = found (λ (x : Replica). bytes_eq x.name r.name) w.replicas r m (same_name_tests r.name r.name refl) (λ x n is. sound.identifiers.names x n r m (same_name x.name r.name is))
 
 pub cycle_ends : CycleEnds

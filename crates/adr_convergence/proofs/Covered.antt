@@ -15,7 +15,8 @@ use Rattle.adr_model.specs.World.{Name, World, bound, with_replica}
 use Rattle.adr_model.specs.Convergence.{IsStoreOf, CoversDeaths, IsPurgedCovered}
 use Rattle.adr_model.proofs.Members.{member_of_either}
 use Rattle.adr_convergence.proofs.Found.{each_bound, in_place}
-use Rattle.adr_convergence.proofs.CoveredVectors.{covered_by_more, covered_raised, covered_joined, within_raised, within_joined}
+use Rattle.adr_knowledge.proofs.Raised.{raised_up}
+use Rattle.adr_convergence.proofs.CoveredVectors.{covered_by_more, covered_raised, covered_joined, within_joined}
 
 -- the vector has all that one of the stores has seen
 pub record IsGrown (w : World) (v : Cursors) : Type 0 where
@@ -84,7 +85,7 @@ module _ (w : World) where
 
   -- a vector that is raised
   pub raised_grows : (s : Store) (inv : Identifier) (usn : ℕ) → IsStoreOf w s → IsGrown w (raised s.vector inv usn)
-  raised_grows s inv usn m = record { origin = s; of = m; grows = within_raised s.vector inv usn }
+  raised_grows s inv usn m = record { origin = s; of = m; grows = raised_up s.vector inv usn }
 
   pub as_it_was : (s : Store) → IsStoreOf w s → IsGrown w s.vector
   as_it_was s m = record { origin = s; of = m; grows = λ q. le_refl (at s.vector q) }
@@ -104,7 +105,7 @@ module _ (w : World) where
     }
       where
         within_both : AtMost (at s.store.vector) (at (raised (joined s.store.vector c.joined) s.inv c.usn))
-        within_both q = le_trans (within_joined c.joined s.store.vector q) (within_raised (joined s.store.vector c.joined) s.inv c.usn q)
+        within_both q = le_trans (within_joined c.joined s.store.vector q) (raised_up (joined s.store.vector c.joined) s.inv c.usn q)
 
     -- ---- whole worlds
 

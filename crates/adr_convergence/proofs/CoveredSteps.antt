@@ -30,18 +30,12 @@ use Rattle.adr_model.specs.Replica.{Pending, ToWrite, ToTake, ToCollect, ToQuara
 use Rattle.adr_model.specs.World.{Name, World, Gone, Sent, stays, nothing, bound, bound_at, replica_at, with_replica, of_made, of_controller, commit, quarantines, after_write, writes, after_collect, asks, after_serve, served, serves_request, after_take, delivered, delivers, backed_up, adopts, of_image, with_plan, stops, starts, gives, shown, step}
 use Rattle.adr_model.specs.Convergence.{IsStoreOf, IsPurgedCovered, KeepsCovered}
 use Rattle.adr_model.proofs.Members.{member_of_either}
-use Rattle.adr_convergence.proofs.Calls.{answered}
+use Rattle.adr_knowledge.proofs.Refusing.{answered}
 use Rattle.adr_convergence.proofs.Found.{bound_member}
 use Rattle.adr_convergence.proofs.Reached.{made_case, up_case, reached_case}
-use Rattle.adr_convergence.proofs.Binding.{Makes}
+use Rattle.adr_convergence.proofs.Binding.{Makes, made_nothing, only_made}
 use Rattle.adr_convergence.proofs.Covered.{IsGrown, IsCovered, MayCome, nothing_collected, nothing_covered, deaths_covered, raised_grows, as_it_was, purged_covered, comes_itself, changed_comes, both_come, placed, joining, requested, imaged}
 use Rattle.adr_convergence.proofs.CoveredMoves.{settling, starting, committing}
-
-none_is_made : {A : Type 0} (w : World) (P : A → Type 0) (x : Outcome) → Makes w P (nothing w x)
-none_is_made w P x = (refl, λ y e. absurd (cc))
-
-one_is_made : {A : Type 0} (w : World) (P : A → Type 0) (o : Outcome) (x : A) → P x → Makes w P (w, o, Some x)
-one_is_made w P o x p = (refl, λ y e. let s : x ≡ y = cc in subst P s p)
 
 -- ---- calls
 
@@ -64,11 +58,11 @@ module _ (w : World) (covered : IsPurgedCovered w) where
     wrote : (what : Write) (t : Result Change WriteRefusal) → write r.safe what w.time ≡ t → IsPurgedCovered (after_write w r what t).0
     wrote what (Err x) e = covered
     wrote what (Ok c) e = committed (record { call = ToWrite what w.time; change = c }) (outcomes.Usn c.usn)
-        (unpurged (own_change r.safe (rows_written r.safe what w.time)) c (answered (write_refusal r.safe what) (own_change r.safe (rows_written r.safe what w.time)) c e) refl)
+        (unpurged (own_change r.safe (rows_written r.safe what w.time)) c (answered (write_refusal r.safe what) (own_change r.safe (rows_written r.safe what w.time)) c e).1 refl)
 
     took : (reply : Reply) (t : Result Change TakeRefusal) → take r.safe reply ≡ t → IsPurgedCovered (after_take w r reply t).0
     took reply (Ok c) e = committed (record { call = ToTake reply; change = c }) (outcomes.Took (length reply.items) (length c.writes) c.usn)
-        (unpurged (taken_change reply (take_items r.safe reply.items)) c (answered (refusal_of r.safe reply (take_items r.safe reply.items) (after r.safe (taken_change reply (take_items r.safe reply.items)))) (taken_change reply (take_items r.safe reply.items)) c e) refl)
+        (unpurged (taken_change reply (take_items r.safe reply.items)) c (answered (refusal_of r.safe reply (take_items r.safe reply.items) (after r.safe (taken_change reply (take_items r.safe reply.items)))) (taken_change reply (take_items r.safe reply.items)) c e).1 refl)
     took reply (Err (takes.RolledBack inv mine shown)) e = quarantining (take_refused (takes.RolledBack inv mine shown))
     took reply (Err _) e = covered
 
@@ -90,7 +84,7 @@ module _ (w : World) (covered : IsPurgedCovered w) where
     collected lifetime purged (Err x) e = covered
     collected lifetime purged (Ok c) e = committed (record { call = ToCollect w.time lifetime; change = c }) (outcomes.Removed (length c.removed))
         (subst (λ (d : Change). IsCovered w d.purged)
-        (answered (option_or (then_some (is_quarantined r.safe.mode) IsQuarantined) (then_some (nat_lt usn_limit (collection r.safe (deaths_to_collect r.safe w.time lifetime)).usn) UsnLimit)) (collection r.safe (deaths_to_collect r.safe w.time lifetime)) c e) purged)
+        (answered (option_or (then_some (is_quarantined r.safe.mode) IsQuarantined) (then_some (nat_lt usn_limit (collection r.safe (deaths_to_collect r.safe w.time lifetime)).usn) UsnLimit)) (collection r.safe (deaths_to_collect r.safe w.time lifetime)) c e).1 purged)
 
     started_from : (standing : Standing) → IsPurgedCovered (starts w r standing).0
     started_from Up = covered
@@ -98,13 +92,13 @@ module _ (w : World) (covered : IsPurgedCovered w) where
     started_from Failed = moved_world (fold moved (w.scene, r) (moves_of_start (went r.plan 1))) (standing_after r.standing (went r.plan 1)) (plan_after (went r.plan 1)) (starting (MayCome w) w.scene r (both_come w covered r there) (went r.plan 1))
 
     imaged_from : (b : Bool) → Makes w (MayCome w) (backed_up w (if b then None else Some r.safe.store))
-    imaged_from true = none_is_made w (MayCome w) quarantined
-    imaged_from false = one_is_made w (MayCome w) outcomes.Ok r.safe.store (comes_itself w covered r.safe.store (inl (r, there, inl refl)))
+    imaged_from true = made_nothing w (MayCome w) quarantined
+    imaged_from false = (refl, only_made (MayCome w) r.safe.store (comes_itself w covered r.safe.store (inl (r, there, inl refl))))
 
   -- a state that is made of an image
   woken_comes : (image : Store) (dsa inv : Identifier) (s : State) → IsStoreOf w image → adopt image dsa inv ≡ Ok s → MayCome w s.store
   woken_comes image dsa inv s of e = subst (λ (t : State). MayCome w t.store)
-      (answered (option_or (then_some (names_inv image inv) IdentifierUsed) (then_some (nat_lt most_cursors (length (woken image dsa inv).store.vector)) (Full CursorTable most_cursors))) (woken image dsa inv) s e)
+      (answered (option_or (then_some (names_inv image inv) IdentifierUsed) (then_some (nat_lt most_cursors (length (woken image dsa inv).store.vector)) (Full CursorTable most_cursors))) (woken image dsa inv) s e).1
       (record { grown = raised_grows w image inv image.usn of; covered = purged_covered w covered image of })
 
   restored : (name : Name) (dsa inv : Identifier) (image : Store) → IsStoreOf w image → (t : Result State AdoptRefusal) → adopt image dsa inv ≡ t → IsPurgedCovered (adopts w (with_replica w.replicas) name t).0
@@ -125,10 +119,10 @@ module _ (w : World) (covered : IsPurgedCovered w) where
   asked : (name partner : Name) (max : ℕ) → Makes w (λ (q : Request). IsGrown w q.vector) (asks w name partner max)
   asked name partner max =
       made_case (Makes w (λ (q : Request). IsGrown w q.vector)) w name (nothing w) none _ (λ r is. made_case (Makes w (λ (q : Request). IsGrown w q.vector)) w partner (nothing w) none _ (λ p at. up_case (Makes w (λ (q : Request). IsGrown w q.vector)) w name (nothing w) none r.standing _ (λ up.
-      one_is_made w (λ (q : Request). IsGrown w q.vector) outcomes.Ok (ask r.safe p.safe.dsa max) (as_it_was w r.safe.store (inl (r, is.there, inl refl))))))
+      (refl, only_made (λ (q : Request). IsGrown w q.vector) (ask r.safe p.safe.dsa max) (as_it_was w r.safe.store (inl (r, is.there, inl refl)))))))
     where
       none : (x : Outcome) → Makes w (λ (q : Request). IsGrown w q.vector) (nothing w x)
-      none x = none_is_made w (λ (q : Request). IsGrown w q.vector) x
+      none x = made_nothing w (λ (q : Request). IsGrown w q.vector) x
 
   pub given_more : (dsas invs : List Identifier) → IsPurgedCovered (gives w dsas invs)
   given_more dsas invs = record { stores = covered.stores; requests = covered.requests }
@@ -151,7 +145,7 @@ module _ (w : World) (covered : IsPurgedCovered w) where
       collected r is.there lifetime (deaths_covered w (deaths_to_collect r.safe w.time lifetime) (keeps.0 r is.there is.name) (keeps.1 r is.there is.name)) (collect r.safe w.time lifetime) refl)
 
   backups_covered : (name : Name) → Makes w (MayCome w) (of_controller w name (nothing w) (λ r. backed_up w (backup r.safe)))
-  backups_covered name = reached_case (Makes w (MayCome w)) w name (nothing w) (none_is_made w (MayCome w)) (λ r. backed_up w (backup r.safe)) (λ r is up. imaged_from r is.there (is_quarantined r.safe.mode))
+  backups_covered name = reached_case (Makes w (MayCome w)) w name (nothing w) (made_nothing w (MayCome w)) (λ r. backed_up w (backup r.safe)) (λ r is up. imaged_from r is.there (is_quarantined r.safe.mode))
 
   pub plans_covered : (name : Name) (plan : Plan) → IsPurgedCovered (of_made (stays w) (replica_at w name) (λ r. with_plan w r plan)).0
   plans_covered name plan = made_case OfWorld w name (stays w) (λ x. covered) (λ r. with_plan w r plan) (λ r is. placed w covered w.scene (record r { plan = Some plan }) (both_come w covered r is.there))

@@ -8,8 +8,8 @@ use Rattle.std.proofs.lemmas.Bool.{leb-true, le-leb, and_parts, and_from}
 use Rattle.std.proofs.lemmas.Map.Lookups.{exact_bytes}
 use Rattle.adr_stamp.specs.Order.{identifier_order}
 use Rattle.adr_vector.specs.Vector.{Cursors, at, covers, at_most, raised, joined}
-use Rattle.adr_vector.proofs.Joining.{at-raised}
 use Rattle.adr_model.specs.Reflects.{AtMost}
+use Rattle.adr_knowledge.proofs.Raised.{raised_up}
 
 covers_more : (v w : Cursors) (inv : List ℕ) (usn : ℕ) → AtMost (at v) (at w) → covers v inv usn ≡ true → covers w inv usn ≡ true
 covers_more v w inv usn more c = le-leb usn (at w inv) (let le = leb-true usn (at v inv) c in let m = more inv in omega arith)
@@ -43,9 +43,6 @@ pub covered_joined : (u v w : Cursors) → at_most v w ≡ true → at_most u w 
 covered_joined [] v w v_is u_is = v_is
 covered_joined (x ∷ xs) v w v_is u_is = let t = and_parts (covers w x.0 x.1) (at_most xs w) u_is in covered_joined xs (raised v x.0 x.1) w (covered_raised v w x.0 x.1 v_is t.0) t.1
 
-pub within_raised : (v : Cursors) (inv : List ℕ) (usn : ℕ) → AtMost (at v) (at (raised v inv usn))
-within_raised v inv usn q = let is = at-raised v inv usn q in omega arith
-
 pub within_joined : (u v : Cursors) → AtMost (at v) (at (joined v u))
 within_joined [] v q = omega arith
-within_joined (x ∷ xs) v q = let first = within_raised v x.0 x.1 q in let rest = within_joined xs (raised v x.0 x.1) q in omega arith
+within_joined (x ∷ xs) v q = let first = raised_up v x.0 x.1 q in let rest = within_joined xs (raised v x.0 x.1) q in omega arith

@@ -1,5 +1,5 @@
 -- One pull of a cycle: what it answers, what it leaves, and that the cycle may go on.
-use Rattle.std.proofs.Common.{◌≡◌, ◌⊎◌, inl, inr, ⊎_elim, ℕ, ◌≤◌, ◌+◌, List, [], ◌∷◌, ◌++◌, Bool, true, false, cond, Option, Some, None, is_none, is_some, unwrap_or, Ok, Err, refl, sym, ap, ◌∙◌, subst, arith, fold, length, ◌==◌}
+use Rattle.std.proofs.Common.{◌≡◌, ◌⊎◌, inl, inr, ⊎_elim, ℕ, ◌≤◌, ◌+◌, List, [], ◌∷◌, Bool, true, false, cond, Option, Some, None, is_none, is_some, unwrap_or, Ok, Err, refl, sym, ap, ◌∙◌, subst, arith, fold, length, ◌==◌, append-nil}
 use Rattle.std.specs.List.{find}
 use Rattle.std.specs.Option.{option_map}
 use Rattle.std.specs.Prelude.{codes}
@@ -255,14 +255,10 @@ module _ (w v : World) (dest source : Name) (d s : Replica) (goes : Goes w v des
     further : AtMost (at d.safe.store.vector) (at next.safe.store.vector)
     further i = omega (arith, at-raised (joined d.safe.store.vector (unwrap_or reply.last [])) d.safe.inv change.usn i, at-joined (unwrap_or reply.last []) d.safe.store.vector i left.1.joined.rising)
 
-    nothing_more : {A : Type 0} (xs : List A) → xs ++ [] ≡ xs
-    nothing_more [] = refl
-    nothing_more (x ∷ xs) = ap (λ ys. x ∷ ys) (nothing_more xs)
-
     pub goes_on : Goes w behind dest source next server
     goes_on = record {
       sound = behind_sound;
-      issued = nothing_more v.scene.issued ∙ goes.issued;
+      issued = append-nil v.scene.issued ∙ goes.issued;
       d_found = next_found;
       s_found = server_found;
       d_up = refl;

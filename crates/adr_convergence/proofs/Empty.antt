@@ -1,18 +1,10 @@
 -- The empty world is sound.
-use Rattle.std.proofs.Common.{ℕ, [], Bool, true, false, cond, refl, nat_le}
+use Rattle.std.proofs.Common.{subst, refl}
 use Rattle.adr_model.specs.Member.{Member}
-use Rattle.adr_model.specs.Store.{Held}
-use Rattle.adr_model.specs.History.{no_history, rows_at}
 use Rattle.adr_model.specs.World.{empty_world}
 use Rattle.adr_model.specs.Sound.{IsSoundScene, AreIdentifiersSound}
 use Rattle.adr_model.specs.Convergence.{BeginsSound}
-
-no_rows : (usn : ℕ) (h : Held) → Member h (rows_at no_history usn) → ⊥
-no_rows usn h m = by (nat_le 0 usn) m
-  where
-    by : (b : Bool) → Member h (cond b [] []) → ⊥
-    by true n = n
-    by false n = n
+use Rattle.adr_history.proofs.Begun.{nothing_stood}
 
 scene_is_sound : IsSoundScene empty_world.scene
 scene_is_sound = record {
@@ -21,7 +13,7 @@ scene_is_sound = record {
   born = λ u m. absurd m;
   births = λ u m. absurd m;
   kept = λ i. record { start = λ x m. absurd m; changes = tt };
-  logged = λ i usn h m. absurd (no_rows usn h m);
+  logged = λ i usn h m. absurd (subst (Member h) (nothing_stood usn) m);
 }
 
 identifiers_are_sound : AreIdentifiersSound empty_world

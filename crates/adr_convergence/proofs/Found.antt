@@ -8,20 +8,13 @@ use Rattle.adr_model.specs.Member.{Member, Each}
 use Rattle.adr_model.specs.Replica.{Replica}
 use Rattle.adr_model.specs.World.{Name, World, bound_at, bound, replica_at, with_replica}
 use Rattle.adr_model.proofs.Members.{mapped_member, member_mapped, member_of_either}
+use Rattle.adr_knowledge.proofs.Lists.{found_member}
 
 pub same_name : (a b : Name) → bytes_eq a b ≡ true → a ≡ b
 same_name a b h = (bytes_eq-Decides a b).0 h
 
 pub same_name_tests : (a b : Name) → a ≡ b → bytes_eq a b ≡ true
 same_name_tests a b e = (bytes_eq-Decides a b).1 e
-
-found_member : {A : Type 0} (test : A → Bool) (xs : List A) (x : A) → find test xs ≡ Some x → Member x xs × (test x ≡ true)
-found_member test [] x h = absurd (cc)
-found_member {A = A} test (y ∷ ys) x h = by (test y) refl h (found_member test ys x)
-  where
-    by : (b : Bool) → test y ≡ b → cond b (Some y) (find test ys) ≡ Some x → (find test ys ≡ Some x → Member x ys × (test x ≡ true)) → Member x (y ∷ ys) × (test x ≡ true)
-    by true is e rest = let s : y ≡ x = cc in (inl (sym s), ap test (sym s) ∙ is)
-    by false is e rest = let t = rest e in (inr t.0, t.1)
 
 -- the controller of a name
 pub replica_found : (w : World) (name : Name) (r : Replica) → replica_at w name ≡ Some r → Member r w.replicas × (r.name ≡ name)

@@ -27,4 +27,3 @@ pub mod RefusalsNone
 pub mod Acknowledged
 pub mod Issuing
 pub mod Converging
-pub mod RefusalsReached

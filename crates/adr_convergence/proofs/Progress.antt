@@ -2,6 +2,7 @@
 use Rattle.std.proofs.Common.{◌≡◌, inl, inr, ℕ, ◌≤◌, ◌<◌, ◌+◌, List, [], ◌∷◌, ◌++◌, Bool, true, false, cond, None, refl, sym, ◌∙◌, subst, ap, arith, fold, filter, length, length-append, ◌==◌, ◌||◌, ◌&&◌, ◌-◌, if◌then◌else◌}
 use Rattle.std.specs.Prelude.{nat_lt}
 use Rattle.std.proofs.lemmas.Bool.Decides.{nat_tests}
+use Rattle.std.proofs.lemmas.Bool.{and_parts, ltb-true, le-ltb, lt-ltb}
 use Rattle.adr_stamp.specs.declared.Unit.{Unit as Named}
 use Rattle.adr_vector.specs.declared.mark.Mark.{Mark}
 use Rattle.adr_model.specs.Member.{Member}
@@ -93,11 +94,7 @@ module _ (s : State) (q : Request) (most : 1 ≤ q.max) where
   -- a candidate is of a row whose unit lies beyond the mark
   beyond_from : (c : ℕ × Item) → Member c all → (x : Held) × Member x rows × (c.0 ≡ last_local rows (unit_of x.update.key)) × (nat_lt from.obj (last_local rows (unit_of x.update.key)) ≡ true)
   beyond_from c m = let t = candidate_from rows unseen c m in let k = of_filter (λ (h : Held). is_above_mark from rows h && is_unseen from q.vector h) rows t.0 t.1 in
-      (t.0, k.0, ap (λ (d : ℕ × Item). d.0) t.2, both _ _ k.1)
-    where
-      both : (a b : Bool) → (a && b) ≡ true → a ≡ true
-      both true b h = refl
-      both false b h = absurd (cc)
+      (t.0, k.0, ap (λ (d : ℕ × Item). d.0) t.2, (and_parts _ _ k.1).0)
 
   -- what stands of a cut reply
   record Progress : Type 0 where
@@ -145,31 +142,19 @@ module _ (s : State) (q : Request) (most : 1 ≤ q.max) where
       r unit = nat_lt from.obj (last_local rows unit)
 
       forward : from.obj < to
-      forward = omega (arith, less from.obj (last_local rows (unit_of x.0.update.key)) x.3, x.2, z.2)
-        where
-          less : (a b : ℕ) → nat_lt a b ≡ true → a < b
-          less a b h = grind (arith, nat_tests)
+      forward = omega (arith, ltb-true from.obj (last_local rows (unit_of x.0.update.key)) x.3, x.2, z.2)
 
       more : (unit : Named) → nat_lt to (last_local rows unit) ≡ true → nat_lt from.obj (last_local rows unit) ≡ true
-      more unit h = onward from.obj to (last_local rows unit) forward h
-        where
-          onward : (a b c : ℕ) → a < b → nat_lt b c ≡ true → nat_lt a c ≡ true
-          onward a b c lt h = grind (arith, nat_tests)
+      more unit h = lt-ltb from.obj (last_local rows unit) (omega (arith, forward, ltb-true to (last_local rows unit) h))
 
       above : nat_lt from.obj (last_local rows (unit_of x.0.update.key)) ≡ true
       above = x.3
 
       not_beyond : nat_lt to (last_local rows (unit_of x.0.update.key)) ≡ false
-      not_beyond = at_it to (last_local rows (unit_of x.0.update.key)) (z.2 ∙ x.2)
-        where
-          at_it : (a b : ℕ) → a ≡ b → nat_lt a b ≡ false
-          at_it a b e = grind (arith, nat_tests)
+      not_beyond = le-ltb to (last_local rows (unit_of x.0.update.key)) (omega (arith, z.2, x.2))
 
       still : nat_lt to (last_local rows (unit_of y.0.update.key)) ≡ true
-      still = onward to (last_local rows (unit_of y.0.update.key)) (omega (arith, z.2, y.2, front_below sent (d ∷ ds) z.0 d up z.1 (inl refl)))
-        where
-          onward : (a b : ℕ) → a < b → nat_lt a b ≡ true
-          onward a b lt = grind (arith, nat_tests)
+      still = lt-ltb to (last_local rows (unit_of y.0.update.key)) (omega (arith, z.2, y.2, front_below sent (d ∷ ds) z.0 d up z.1 (inl refl)))
 
   -- a reply that isn't the last
   pub progress : (reply_to s q).last ≡ None → (from.obj < (reply_to s q).to.obj) × (beyond rows (reply_to s q).to.obj + 1 ≤ beyond rows from.obj) × (1 ≤ beyond rows (reply_to s q).to.obj)

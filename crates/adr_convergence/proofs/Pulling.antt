@@ -2,26 +2,23 @@
 use Rattle.std.proofs.Common.{◌≡◌, ◌⊎◌, inl, inr, ℕ, ◌≤◌, ◌+◌, List, [], ◌∷◌, Bool, true, false, Option, Some, None, Ok, Err, refl, sym, ap, ◌∙◌, subst, arith, not, ◌&&◌, ◌==◌, nat_le, if◌then◌else◌}
 use Rattle.std.specs.Bool.{then_some}
 use Rattle.std.specs.Option.{option_map, option_map_or}
-use Rattle.std.specs.BTreeMap.{insert_entry}
-use Rattle.std.specs.Ordering.{is_eq, match_ordering}
-use Rattle.std.specs.declared.cmp.Ordering.{Ordering}
-use Rattle.std.specs.declared.cmp.Ordering.TheVariants.{Less, Equal, Greater}
 use Rattle.std.proofs.lemmas.Map.Lookups.{exact_bytes}
-use Rattle.std.specs.Prelude.{nat_lt, is_some, length}
+use Rattle.std.specs.Prelude.{nat_lt, length}
+use Rattle.std.proofs.lemmas.Bool.{and_parts, not-true, le-ltb, eq-eqb}
 use Rattle.std.proofs.lemmas.Bool.Decides.{nat_tests}
-use Rattle.std.proofs.lemmas.Cmp.{nat_list_cmp_total, tied_itself}
 use Rattle.adr_stamp.specs.Order.{identifier_order}
-use Rattle.adr_vector.specs.Vector.{Cursors, at, at_most, first_gap, most_cursors}
+use Rattle.adr_vector.specs.Vector.{at, at_most, first_gap, most_cursors}
 use Rattle.adr_vector.specs.declared.mark.Mark.{Mark}
-use Rattle.adr_vector.proofs.Comparing.{at_most_from_everywhere, gap-is-not_at_most}
+use Rattle.adr_vector.proofs.Cursors.{test_itself}
+use Rattle.adr_vector.proofs.Comparing.{at_most_from_everywhere}
 use Rattle.adr_event.specs.declared.refusal.ServeRefusal.TheVariants as serves
 use Rattle.adr_event.specs.declared.refusal.Table.{Table}
 use Rattle.adr_event.specs.declared.refusal.Table.TheVariants.{Objects, Links, Marks, Cursors as CursorTable}
 use Rattle.adr_event.specs.declared.refusal.TakeRefusal.{TakeRefusal}
 use Rattle.adr_event.specs.declared.refusal.TakeRefusal.TheVariants as takes
-use Rattle.adr_model.specs.Member.{Member, Each}
+use Rattle.adr_model.specs.Member.{Member}
 use Rattle.adr_model.specs.Refusing.{first_of, unless}
-use Rattle.adr_model.specs.Update.{Identifier, Update, unit_of, same_identifier}
+use Rattle.adr_model.specs.Update.{Update, unit_of, same_identifier}
 use Rattle.adr_model.specs.Reflects.{Covers}
 use Rattle.adr_model.specs.Visible.{covers_update}
 use Rattle.adr_model.specs.Place.{identifier}
@@ -34,46 +31,22 @@ use Rattle.adr_model.specs.Replica.{Scene}
 use Rattle.adr_model.specs.Convergence.{units_beyond}
 use Rattle.adr_model.specs.Sound.{IsSoundScene, IsSoundState, IsSoundRequest, IsSoundReply, IsSent}
 use Rattle.adr_model.proofs.Members.{of_filter}
+use Rattle.adr_knowledge.proofs.Refusing.{none_comes, unmet, where_it_is, all_is, tested_is, all_covered}
 use Rattle.adr_knowledge.proofs.View.{tested_where_covered}
-use Rattle.adr_history.proofs.Rows.{updated}
+use Rattle.adr_steps.proofs.Rows.{updated}
 use Rattle.adr_history.proofs.Asked.{asked_is_sound}
 use Rattle.adr_history.proofs.Granted.{served_is_sound, shown_within}
 use Rattle.adr_history.proofs.Served.{item_is, row_is}
-use Rattle.adr_history.proofs.Tables.{entry_itself}
+use Rattle.adr_history.proofs.Tables.{entry_there, entry_itself}
 use Rattle.adr_taking.proofs.Granted.{kept_is_sound}
 use Rattle.adr_taking.proofs.Refused.{items_are_whole}
 use Rattle.adr_convergence.proofs.Progress.{beyond, progress}
 
-skip : {A : Type 0} (o : Option A) (os : List (Option A)) → o ≡ None → first_of (o ∷ os) ≡ first_of os
-skip o os e = ap (λ p. first_of (p ∷ os)) e
-
-unmet : {A : Type 0} (b : Bool) (x : A) → b ≡ false → then_some b x ≡ None
-unmet b x e = ap (λ c. then_some c x) e
-
-no_gap : {B : Type 0} (f : List ℕ × ℕ × ℕ → B) (v w : Cursors) → at_most v w ≡ true → option_map f (first_gap v w) ≡ None
-no_gap f v w all = by (first_gap v w) refl
-  where
-    by : (o : Option (List ℕ × ℕ × ℕ)) → first_gap v w ≡ o → option_map f o ≡ None
-    by None is = refl
-    by (Some g) is = let t : is_some (first_gap v w) ≡ true = ap is_some is in let n : is_some (first_gap v w) ≡ false = gap-is-not_at_most v w ∙ ap not all in absurd (cc)
-
 normal : (m : Mode) → m ≡ Normal → is_quarantined m ≡ false
 normal m e = ap is_quarantined e
 
-itself : (i : Identifier) → same_identifier i i ≡ true
-itself i = ap is_eq (tied_itself nat_list_cmp_total i)
-
-not_itself : (i : Identifier) → not (same_identifier i i) ≡ false
-not_itself i = ap not (itself i)
-
-not_above : (a b : ℕ) → b ≤ a → nat_lt a b ≡ false
-not_above a b le = grind (arith, nat_tests)
-
 in_order : (a b c : ℕ) → a ≤ b → b ≤ c → not (nat_le a b && nat_le b c) ≡ false
 in_order a b c le next = grind (arith, nat_tests)
-
-differ_not : (a b : ℕ) → a ≡ b → not (a == b) ≡ false
-differ_not a b e = grind (arith, nat_tests)
 
 same_mark_itself : (m : Mark) → not (same_mark m m) ≡ false
 same_mark_itself m = grind (arith, nat_tests)
@@ -81,28 +54,6 @@ same_mark_itself m = grind (arith, nat_tests)
 -- a refusal that says that a limit is met
 abbrev pub IsLimit : TakeRefusal → Type 0
 IsLimit x = (x ≡ takes.UsnLimit) ⊎ ((table : Table) × (limit : ℕ) × (x ≡ takes.Full table limit))
-
-abbrev AreLimits : List (Option TakeRefusal) → Type 0
-AreLimits os = Each (λ o. (x : TakeRefusal) → o ≡ Some x → IsLimit x) os
-
-first_is_limit : (os : List (Option TakeRefusal)) → AreLimits os → (x : TakeRefusal) → first_of os ≡ Some x → IsLimit x
-first_is_limit [] all x e = absurd (cc)
-first_is_limit (None ∷ os) all x e = first_is_limit os (λ o m. all o (inr m)) x e
-first_is_limit (Some y ∷ os) all x e = all (Some y) (inl refl) x e
-
-met : (b : Bool) (y x : TakeRefusal) → then_some b y ≡ Some x → y ≡ x
-met true y x e = cc
-met false y x e = absurd (cc)
-
--- what was put into a table stands there
-entry_there : {X : Type 0} (es : List (Identifier × X)) (i : Identifier) (v : X) → Member (i, v) (insert_entry identifier_order es i v)
-entry_there [] i v = inl refl
-entry_there {X = X} (x ∷ xs) i v = by (identifier_order i x.0) refl (entry_there xs i v)
-  where
-    by : (o : Ordering) → identifier_order i x.0 ≡ o → Member (i, v) (insert_entry identifier_order xs i v) → Member (i, v) (match_ordering o ((i, v) ∷ x ∷ xs) ((x.0, v) ∷ xs) (x ∷ insert_entry identifier_order xs i v))
-    by Less is rest = inl refl
-    by Equal is rest = inl (ap (λ (j : Identifier). (j, v)) (exact_bytes i x.0 is))
-    by Greater is rest = inr rest
 
 module _ (sc : Scene) (d s : State) (most : ℕ) (scene : IsSoundScene sc) (dest : IsSoundState sc d) (source : IsSoundState sc s) (d_normal : d.mode ≡ Normal) (s_normal : s.mode ≡ Normal)
     (schema : d.store.schema ≡ s.store.schema) (purged : at_most s.store.purged d.store.vector ≡ true) where
@@ -120,12 +71,12 @@ module _ (sc : Scene) (d s : State) (most : ℕ) (scene : IsSoundScene sc) (dest
     where
       none : serve_refusal s q ≡ None
       none =
-          skip (then_some (is_quarantined s.mode) serves.Quarantined) _ (unmet _ _ (normal s.mode s_normal))
-          ∙ (skip (then_some (not (same_identifier q.source s.dsa)) (serves.WrongController s.dsa q.source)) _ (unmet _ _ (not_itself s.dsa))
-          ∙ (skip (then_some (not (nat_le q.mark.prop q.mark.obj && nat_le q.mark.obj q.mark.seen)) (serves.BadMark q.mark.prop q.mark.obj q.mark.seen)) _ (unmet _ _ (in_order q.mark.prop q.mark.obj q.mark.seen request_sound.ordered.prop request_sound.ordered.obj))
-          ∙ (skip (then_some (nat_lt s.store.usn (shown_by s q)) (serves.RolledBack s.inv s.store.usn (shown_by s q))) _ (unmet _ _ (not_above s.store.usn (shown_by s q) (shown_within sc s q source request_sound)))
-          ∙ (skip (then_some (not (q.schema == s.store.schema)) (serves.SchemaMismatch s.store.schema q.schema)) _ (unmet _ _ (differ_not q.schema s.store.schema schema))
-          ∙ skip (option_map (λ gap. serves.TooOld gap.0 gap.2 gap.1) (first_gap s.store.purged q.vector)) [] (no_gap (λ gap. serves.TooOld gap.0 gap.2 gap.1) s.store.purged q.vector purged)))))
+          none_comes (then_some (is_quarantined s.mode) serves.Quarantined) _ (unmet _ _ (normal s.mode s_normal))
+          ∙ (none_comes (then_some (not (same_identifier q.source s.dsa)) (serves.WrongController s.dsa q.source)) _ (unmet _ _ (ap not (test_itself s.dsa)))
+          ∙ (none_comes (then_some (not (nat_le q.mark.prop q.mark.obj && nat_le q.mark.obj q.mark.seen)) (serves.BadMark q.mark.prop q.mark.obj q.mark.seen)) _ (unmet _ _ (in_order q.mark.prop q.mark.obj q.mark.seen request_sound.ordered.prop request_sound.ordered.obj))
+          ∙ (none_comes (then_some (nat_lt s.store.usn (shown_by s q)) (serves.RolledBack s.inv s.store.usn (shown_by s q))) _ (unmet _ _ (le-ltb s.store.usn (shown_by s q) (shown_within sc s q source request_sound)))
+          ∙ (none_comes (then_some (not (q.schema == s.store.schema)) (serves.SchemaMismatch s.store.schema q.schema)) _ (unmet _ _ (ap not (eq-eqb q.schema s.store.schema schema)))
+          ∙ none_comes (option_map (λ gap. serves.TooOld gap.0 gap.2 gap.1) (first_gap s.store.purged q.vector)) [] (all_covered (λ gap. serves.TooOld gap.0 gap.2 gap.1) s.store.purged q.vector purged)))))
 
   pub reply_sound : IsSoundReply sc r
   reply_sound = served_is_sound sc s q r scene source request_sound serves_it
@@ -162,21 +113,28 @@ module _ (sc : Scene) (d s : State) (most : ℕ) (scene : IsSoundScene sc) (dest
 
   refusal_is : refusal_of d r t (after d c) ≡ first_of limits
   refusal_is =
-      skip (then_some (is_quarantined d.mode) takes.Quarantined) _ (unmet _ _ (normal d.mode d_normal))
-      ∙ (skip (then_some (not (same_identifier r.dest d.dsa)) (takes.NotMine r.dest)) _ (unmet _ _ (not_itself d.dsa))
-      ∙ (skip (then_some (not (same_mark r.from (kept_mark d r))) (takes.Stale (kept_mark d r) r.from)) _ (unmet _ _ (same_mark_itself r.from))
-      ∙ (skip (option_map (λ gap. takes.VectorBehind gap.0 gap.1 gap.2) (first_gap r.asked d.store.vector)) _ (no_gap (λ gap. takes.VectorBehind gap.0 gap.1 gap.2) r.asked d.store.vector at_most_itself)
-      ∙ (skip (then_some (not (r.schema == d.store.schema)) (takes.SchemaMismatch d.store.schema r.schema)) _ (unmet _ _ (differ_not r.schema d.store.schema (sym schema)))
-      ∙ (skip (then_some (nat_lt d.store.usn (shown_by_last d r)) (takes.RolledBack d.inv d.store.usn (shown_by_last d r))) _ (unmet _ _ (not_above d.store.usn (shown_by_last d r) shown_within_usn))
-      ∙ skip t.refusal limits whole)))))
+      none_comes (then_some (is_quarantined d.mode) takes.Quarantined) _ (unmet _ _ (normal d.mode d_normal))
+      ∙ (none_comes (then_some (not (same_identifier r.dest d.dsa)) (takes.NotMine r.dest)) _ (unmet _ _ (ap not (test_itself d.dsa)))
+      ∙ (none_comes (then_some (not (same_mark r.from (kept_mark d r))) (takes.Stale (kept_mark d r) r.from)) _ (unmet _ _ (same_mark_itself r.from))
+      ∙ (none_comes (option_map (λ gap. takes.VectorBehind gap.0 gap.1 gap.2) (first_gap r.asked d.store.vector)) _ (all_covered (λ gap. takes.VectorBehind gap.0 gap.1 gap.2) r.asked d.store.vector at_most_itself)
+      ∙ (none_comes (then_some (not (r.schema == d.store.schema)) (takes.SchemaMismatch d.store.schema r.schema)) _ (unmet _ _ (ap not (eq-eqb r.schema d.store.schema (sym schema))))
+      ∙ (none_comes (then_some (nat_lt d.store.usn (shown_by_last d r)) (takes.RolledBack d.inv d.store.usn (shown_by_last d r))) _ (unmet _ _ (le-ltb d.store.usn (shown_by_last d r) shown_within_usn))
+      ∙ none_comes t.refusal limits whole)))))
 
-  are_limits : AreLimits limits
-  are_limits o (inl is) x e = inl (sym (met (nat_lt usn_limit t.usn) takes.UsnLimit x (sym is ∙ e)))
-  are_limits o (inr (inl is)) x e = inr (Objects, object_limit, sym (met (nat_lt object_limit t.objects) (takes.Full Objects object_limit) x (sym is ∙ e)))
-  are_limits o (inr (inr (inl is))) x e = inr (Links, link_limit, sym (met (nat_lt link_limit t.links) (takes.Full Links link_limit) x (sym is ∙ e)))
-  are_limits o (inr (inr (inr (inl is)))) x e = inr (CursorTable, most_cursors, sym (met (nat_lt most_cursors (length (after d c).store.vector)) (takes.Full CursorTable most_cursors) x (sym is ∙ e)))
-  are_limits o (inr (inr (inr (inr (inl is))))) x e = inr (Marks, mark_limit, sym (met (nat_lt mark_limit (length (after d c).store.marks)) (takes.Full Marks mark_limit) x (sym is ∙ e)))
-  are_limits o (inr (inr (inr (inr (inr none))))) x e = absurd none
+  limit_is : (x : TakeRefusal) → first_of limits ≡ Some x → IsLimit x
+  limit_is x = where_it_is IsLimit (first_of limits) x (all_is IsLimit limits (
+    tested_is IsLimit _ takes.UsnLimit (inl refl),
+    (
+      tested_is IsLimit _ (takes.Full Objects object_limit) (inr (Objects, object_limit, refl)),
+      (
+        tested_is IsLimit _ (takes.Full Links link_limit) (inr (Links, link_limit, refl)),
+        (
+          tested_is IsLimit _ (takes.Full CursorTable most_cursors) (inr (CursorTable, most_cursors, refl)),
+          (tested_is IsLimit _ (takes.Full Marks mark_limit) (inr (Marks, mark_limit, refl)), tt),
+        ),
+      ),
+    ),
+  ))
 
   -- the reply is taken, or a limit is met
   pub taken_or_limited : (take d r ≡ Ok c) ⊎ ((x : TakeRefusal) × (take d r ≡ Err x) × IsLimit x)
@@ -184,7 +142,7 @@ module _ (sc : Scene) (d s : State) (most : ℕ) (scene : IsSoundScene sc) (dest
     where
       by : (o : Option TakeRefusal) → first_of limits ≡ o → (take d r ≡ Ok c) ⊎ ((x : TakeRefusal) × (take d r ≡ Err x) × IsLimit x)
       by None e = inl (ap (λ p. unless p c) (refusal_is ∙ e))
-      by (Some x) e = inr (x, ap (λ p. unless p c) (refusal_is ∙ e), first_is_limit limits are_limits x e)
+      by (Some x) e = inr (x, ap (λ p. unless p c) (refusal_is ∙ e), limit_is x e)
 
   -- ---- what was sent
 
@@ -195,16 +153,8 @@ module _ (sc : Scene) (d s : State) (most : ℕ) (scene : IsSoundScene sc) (dest
       is : (x : Held) → i ≡ item_of (sendable s.store.rows (begins_at s q) q.vector) (unit_of x.update.key) → i ≡ item_of (sendable s.store.rows (begins_at s q) q.vector) i.unit
       is x e = e ∙ ap (item_of (sendable s.store.rows (begins_at s q) q.vector)) (sym (ap (λ (j : Item). j.unit) e))
 
-      last : (a b : Bool) → (a && b) ≡ true → b ≡ true
-      last true b h = h
-      last false b h = absurd (cc)
-
-      negated : (b : Bool) → not b ≡ true → b ≡ false
-      negated true h = absurd (cc)
-      negated false h = refl
-
       uncovered : (x : Held) → (is_above_mark (begins_at s q) s.store.rows x && is_unseen (begins_at s q) q.vector x) ≡ true → covers_update d.store.vector x.update ≡ false
-      uncovered x h = negated (covers_update d.store.vector x.update) (last (nat_lt (begins_at s q).prop x.local) (not (covers_update d.store.vector x.update)) (last (is_above_mark (begins_at s q) s.store.rows x) (is_unseen (begins_at s q) q.vector x) h))
+      uncovered x h = not-true (covers_update d.store.vector x.update) (and_parts (nat_lt (begins_at s q).prop x.local) (not (covers_update d.store.vector x.update)) (and_parts (is_above_mark (begins_at s q) s.store.rows x) (is_unseen (begins_at s q) q.vector x) h).1).1
 
   pub sent_is_held : (u : Update) → IsSent r u → Member u (updates_of s.store.rows)
   sent_is_held u m = let h = sent_row u m in subst (λ v. Member v (updates_of s.store.rows)) h.2 (updated s.store.rows h.0 h.1)
@@ -216,10 +166,10 @@ module _ (sc : Scene) (d s : State) (most : ℕ) (scene : IsSoundScene sc) (dest
 
   pub kept_is : mark_of (kept_of (after d c).store s.dsa) s.inv ≡ r.to
   kept_is = ap (λ k. mark_of k s.inv) (entry_itself d.store.marks (record { inv = identifier 0; mark = no_mark }) s.dsa (record { inv = s.inv; mark = r.to }))
-      ∙ ap (λ b. if b then r.to else no_mark) (itself s.inv)
+      ∙ ap (λ b. if b then r.to else no_mark) (test_itself s.inv)
 
   pub kept_there : Member (s.dsa, record { inv = s.inv; mark = r.to }) (after d c).store.marks
-  kept_there = entry_there d.store.marks s.dsa (record { inv = s.inv; mark = r.to })
+  kept_there = entry_there identifier_order exact_bytes d.store.marks s.dsa (record { inv = s.inv; mark = r.to })
 
   -- a reply that isn't the last brings nearer to the end
   pub nearer : 1 ≤ most → r.last ≡ None → (units_beyond (after d c) s + 1 ≤ units_beyond d s) × (1 ≤ units_beyond (after d c) s)

@@ -15,7 +15,7 @@ use Rattle.adr_model.specs.Collect.{collect, backup, adopt}
 use Rattle.adr_model.specs.Replica.{Standing, Up, Down, Failed, Plan, Stops, Fails, Replica, went}
 use Rattle.adr_model.specs.World.{Name, World, Gone, Sent, stays, nothing, bound_at, replica_at, with_replica, of_made, of_controller, writes, after_collect, asks, backed_up, adopts, of_image, with_plan, stops, starts, shown, told, gives, step}
 use Rattle.adr_model.specs.Convergence.{write_of, MayHappen}
-use Rattle.adr_convergence.proofs.RefusalsReached.{plain_made, plain_up, plain_reached}
+use Rattle.adr_convergence.proofs.Reached.{plain_made, plain_up, plain_reached}
 use Rattle.adr_convergence.proofs.Refusals.{IsPlain, collect_refused_plainly, adopt_refused_plainly, after_calls}
 
 abbrev AnswersPlainly : Gone → Type 0

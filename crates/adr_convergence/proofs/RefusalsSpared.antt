@@ -20,7 +20,7 @@ use Rattle.adr_model.specs.World.{Name, World, Gone, Sent, stays, nothing, bound
 use Rattle.adr_model.specs.Convergence.{MayHappen}
 use Rattle.adr_convergence.proofs.Refusals.{IsPlain, write_refused_plainly, after_calls}
 use Rattle.adr_convergence.proofs.RefusalsPlain.{event_case}
-use Rattle.adr_convergence.proofs.RefusalsReached.{plain_reached}
+use Rattle.adr_convergence.proofs.Reached.{plain_reached}
 
 module _ (P : Outcome → Type 0) (plain : (o : Outcome) → IsPlain o → P o) (w : World) where
   after_all : (r : Replica) (o : Outcome) → P o → P (outcome_after (went r.plan 4) o)

@@ -1,30 +1,24 @@
 -- A scene in which an incarnation begins.
-use Rattle.std.proofs.Common.{◌≡◌, inl, inr, ℕ, ◌≤◌, List, [], ◌∷◌, Bool, true, false, refl, sym, ◌∙◌, subst, ap, arith, nat_le, if◌then◌else◌}
+use Rattle.std.proofs.Common.{◌≡◌, inl, inr, ℕ, ◌≤◌, List, [], Bool, true, false, refl, sym, ◌∙◌, subst, ap, arith, nat_le, if◌then◌else◌}
 use Rattle.adr_model.specs.Member.{Member, Each}
 use Rattle.adr_model.specs.Update.{inv_of}
 use Rattle.adr_model.specs.Store.{Held, State}
 use Rattle.adr_model.specs.History.{History, no_history, last_usn, rows_at, IsCut, IsKept}
 use Rattle.adr_model.specs.Replica.{Scene, history_of, begun}
 use Rattle.adr_model.specs.Sound.{last_of, IsSoundScene}
+use Rattle.adr_knowledge.proofs.Lists.{no_members}
 use Rattle.adr_history.specs.Logs.{first_log}
 use Rattle.adr_history.specs.Later.{IsLater}
-use Rattle.adr_history.proofs.Bounds.{start_from}
+use Rattle.adr_history.proofs.Bounds.{IsIn, start_from}
 use Rattle.adr_history.proofs.Extended.{log_begins}
 use Rattle.adr_history.proofs.Tables.{each_entry}
 
-no_members : (rows : List Held) → ((x : Held) → Member x rows → ⊥) → rows ≡ []
-no_members [] none = refl
-no_members (x ∷ xs) none = absurd (none x (inl refl))
-
-nothing_stood : (usn : ℕ) → rows_at no_history usn ≡ []
+pub nothing_stood : (usn : ℕ) → rows_at no_history usn ≡ []
 nothing_stood usn = by (nat_le 0 usn)
   where
     by : (b : Bool) → (let none : List Held = [] in if b then none else none) ≡ []
     by true = refl
     by false = refl
-
-abbrev IsIn : ℕ → Held → Type 0
-IsIn usn x = (1 ≤ x.local) × (x.local ≤ usn)
 
 nothing_stands_at_0 : (n : ℕ) (rows : List Held) (usn : ℕ) → Each (IsIn n) rows → usn ≤ 0 → rows_at (first_log n rows) usn ≡ []
 nothing_stands_at_0 n rows usn all le = no_members (rows_at (first_log n rows) usn) none

@@ -59,7 +59,7 @@ cut_when_all_is_read h usn kept le = record { start = inl (omega (arith, bound.0
     bound : (h.start_usn ≤ last_usn h) × Each (λ (c : Change). c.usn ≤ last_usn h) h.changes
     bound = rises_within h.start_usn h.changes kept.changes
 
-abbrev IsIn : ℕ → Held → Type 0
+abbrev pub IsIn : ℕ → Held → Type 0
 IsIn usn x = (1 ≤ x.local) × (x.local ≤ usn)
 
 local_within : (start : List Held) (n : ℕ) (cs : List Change) (usn : ℕ) → Rises n cs → Each (IsIn usn) start → Each (IsIn usn) (after_changes start cs usn)

@@ -1,16 +1,18 @@
 -- What was sound stays sound when the scene grows: what is reflected, vectors, marks and stores.
-use Rattle.std.proofs.Common.{◌≡◌, inl, inr, ⊎_elim, ◌≤◌, List, refl, sym, ◌∙◌, subst, ap, arith}
-use Rattle.adr_vector.specs.Vector.{at}
+use Rattle.std.proofs.Common.{◌≡◌, inl, inr, ⊎_elim, ℕ, ◌≤◌, List, refl, sym, ◌∙◌, subst, ap, arith}
+use Rattle.adr_stamp.specs.declared.Oid.{Oid}
+use Rattle.adr_vector.specs.Vector.{at, raised}
 use Rattle.adr_vector.specs.declared.mark.Mark.{Mark}
 use Rattle.adr_model.specs.Member.{Member}
-use Rattle.adr_model.specs.Update.{Identifier, Update, inv_of}
-use Rattle.adr_model.specs.Reflects.{Numbers, Covers, Knowledge, knowledge_of, Reflects}
+use Rattle.adr_model.specs.Update.{Identifier, Update, inv_of, usn_of, ends}
+use Rattle.adr_model.specs.Reflects.{Numbers, Covers, CoversBirth, Knowledge, knowledge_of, Reflects}
 use Rattle.adr_model.specs.Store.{Held, Store, State}
 use Rattle.adr_model.specs.History.{last_usn, rows_at, IsBelow}
 use Rattle.adr_model.specs.Serve.{Request}
 use Rattle.adr_model.specs.Replica.{Scene, history_of}
-use Rattle.adr_model.specs.Sound.{last_of, IsBounded, IsSoundMark, IsSoundStore, IsSoundState, IsSoundRequest}
-use Rattle.adr_knowledge.proofs.Knows.{more_issued as known_to_more}
+use Rattle.adr_model.specs.Sound.{last_of, IsBirthOf, IsSoundScene, IsBounded, IsSoundMark, IsSoundStore, IsSoundState, IsSoundRequest}
+use Rattle.adr_knowledge.proofs.Knows.{birth_is, more_issued as known_to_more}
+use Rattle.adr_knowledge.proofs.Raised.{covered_before as raised_covers}
 use Rattle.adr_history.specs.Later.{IsLater}
 
 pub later_itself : (s : Scene) → IsLater s s
@@ -31,6 +33,20 @@ more_issued s t l k u h = known_to_more s.issued t.issued k u l.kept h
 -- a bounded vector covers no update that is issued later
 pub covered_before : (s t : Scene) → IsLater s t → (V : Numbers) → IsBounded s V → (u : Update) → Member u t.issued → Covers V u → Member u s.issued
 covered_before s t l V b u m c = ⊎_elim (λ old. old) (λ new. absurd (omega (arith, new, c, b (inv_of u)))) (l.newer u m)
+
+-- an object that was issued is born where it was: a vector that is raised at the own identifier covers no further birth
+pub born_before : (sc : Scene) (s : State) (usn : ℕ) → IsSoundScene sc → IsSoundState sc s → (r : Update) → Member r sc.issued → (o : Oid) → Member o (ends r.key)
+    → CoversBirth (at (raised s.store.vector s.inv usn)) o → CoversBirth (at s.store.vector) o
+born_before sc s usn scene state r m o n born = raised_covers s.store.vector s.inv usn o.birth.inv o.birth.usn born within
+  where
+    b : (u : Update) × Member u sc.issued × IsBirthOf o u
+    b = scene.born r m o n
+
+    is : (inv_of b.0 ≡ o.birth.inv) × (usn_of b.0 ≡ o.birth.usn)
+    is = birth_is o b.0 b.2.1
+
+    within : o.birth.inv ≡ s.inv → o.birth.usn ≤ at s.store.vector s.inv
+    within e = omega (arith, (scene.once b.0 b.1).1, is.1, state.formed.own, state.last, ap (last_of sc) (is.0 ∙ e))
 
 pub bounded_later : (s t : Scene) → IsLater s t → (V : Numbers) → IsBounded s V → IsBounded t V
 bounded_later s t l V b i = omega (arith, b i, l.rising i)

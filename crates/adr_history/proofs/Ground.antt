@@ -1,5 +1,5 @@
 -- A reply covers its ground, wherever it is cut.
-use Rattle.std.proofs.Common.{◌≡◌, ◌⊎◌, inl, inr, ⊎_elim, ℕ, ◌≤◌, ◌<◌, ◌-◌, List, [], ◌∷◌, ◌++◌, Bool, true, false, refl, sym, ◌∙◌, subst, ap, arith, fold, map, length, length-append, ◌==◌, ◌&&◌, ◌||◌, not, if◌then◌else◌}
+use Rattle.std.proofs.Common.{◌≡◌, ◌⊎◌, inl, inr, ⊎_elim, ℕ, ◌≤◌, ◌<◌, ◌-◌, List, [], ◌∷◌, ◌++◌, Bool, true, false, refl, sym, ◌∙◌, subst, ap, arith, fold, length, length-append, ◌==◌, ◌&&◌, ◌||◌, not, if◌then◌else◌}
 use Rattle.std.proofs.lemmas.Bool.{eqb-true}
 use Rattle.std.proofs.lemmas.Bool.Decides.{leb_tells}
 use Rattle.std.specs.Prelude.{nat_lt}
@@ -17,9 +17,9 @@ use Rattle.adr_model.specs.Replica.{Scene, history_of}
 use Rattle.adr_model.specs.Serve.{Request, Reply, last_local, is_above_mark, is_unseen, sendable, candidates, item_length, byte_limit, first_items, reply_of, begins_at, reply_to}
 use Rattle.adr_model.specs.Formed.{AreAlone}
 use Rattle.adr_model.specs.Sound.{IsSent, CoversItsGround}
-use Rattle.adr_model.proofs.Members.{in_filter, of_filter}
+use Rattle.adr_model.proofs.Members.{in_filter, of_filter, member_mapped, member_of_either}
 use Rattle.adr_history.proofs.Past.{Tells}
-use Rattle.adr_history.proofs.Locals.{within_last, last_within}
+use Rattle.adr_steps.proofs.Locals.{within_last, last_within}
 use Rattle.adr_history.proofs.Candidates.{Rises, entry_of, candidates_rise, candidate_there, row_in_item}
 
 abbrev pub LessTells : ℕ → ℕ → Type 0
@@ -40,7 +40,7 @@ unseen_or_not rows from asked x m = by (lt_tells from.obj (last_local rows (unit
     Goal = Covers (at asked) x.update ⊎ (IsBelow rows from x ⊎ Member x (sendable rows from asked))
 
     by : LessTells from.obj (last_local rows (unit_of x.update.key)) → LessTells from.prop x.local → Tells (usn_of x.update) (at asked (inv_of x.update)) → Goal
-    by (inr low) p c = inr (inl (inr (λ y n same. omega (arith, low.1, within_last rows (unit_of x.update.key) y n same))))
+    by (inr low) p c = inr (inl (inr (λ y n same. omega (arith, low.1, within_last (unit_of x.update.key) rows y n same))))
     by (inl high) (inr low) c = inr (inl (inl low.1))
     by (inl high) (inl up) (inl covered) = inl covered.1
     by (inl high) (inl up) (inr new) = inr (inr (in_filter (λ (h : Held). is_above_mark from rows h && is_unseen from asked h) rows x m (both_true high.0 (both_true up.0 (ap not new.0)))))
@@ -65,11 +65,6 @@ nothing_left xs rest ys e h = empty rest (omega (arith, length-append xs rest, e
     empty [] l = refl
     empty (z ∷ zs) l = absurd (omega (arith, l))
 
-pub of_either : (xs ys : List (ℕ × Item)) (c : ℕ × Item) → Member c (xs ++ ys) → Member c xs ⊎ Member c ys
-of_either [] ys c m = inr m
-of_either (x ∷ xs) ys c (inl e) = inl (inl e)
-of_either (x ∷ xs) ys c (inr m) = ⊎_elim (λ l. inl (inr l)) (λ r. inr r) (of_either xs ys c m)
-
 -- in a rising list, what isn't behind a member of a front is in the front
 in_front : (sent rest : List (ℕ × Item)) (z : ℕ × Item) → Rises (sent ++ rest) → Member z sent → (c : ℕ × Item) → Member c (sent ++ rest) → c.0 ≤ z.0 → Member c sent
 in_front [] rest z up m c i le = absurd m
@@ -81,11 +76,6 @@ in_front (y ∷ ys) rest z up (inr m) c (inr i) le = inr (in_front ys rest z up.
 pub read_to_item : (n : ℕ) (sent : List (ℕ × Item)) → (fold (λ (k : ℕ) (c : ℕ × Item). c.0) n sent ≡ n) ⊎ ((z : ℕ × Item) × Member z sent × (fold (λ (k : ℕ) (c : ℕ × Item). c.0) n sent ≡ z.0))
 read_to_item n [] = inl refl
 read_to_item n (c ∷ cs) = ⊎_elim (λ e. inr (c, inl refl, e)) (λ t. inr (t.0, inr t.1, t.2)) (read_to_item c.0 cs)
-
-item_sent : (sent : List (ℕ × Item)) (c : ℕ × Item) → Member c sent → Member c.1 (map (λ (x : ℕ × Item). x.1) sent)
-item_sent [] c m = absurd m
-item_sent (x ∷ xs) c (inl e) = inl (ap (λ (y : ℕ × Item). y.1) e)
-item_sent (x ∷ xs) c (inr m) = inr (item_sent xs c m)
 
 -- ---- the ground
 
@@ -125,14 +115,14 @@ module _ (s : State) (q : Request) (alone : AreAlone s.store.rows) where
       up = subst Rises (sym front.1) (candidates_rise rows (sendable rows from q.vector))
 
       has_sent : (b : Bool) → Member c sent → Answered x (reply_of s q from sent b)
-      has_sent b i = inr (inl (c.1, item_sent sent c i, row_in_item rows (sendable rows from q.vector) x m))
+      has_sent b i = inr (inl (c.1, member_mapped (λ (d : ℕ × Item). d.1) sent c i, row_in_item rows (sendable rows from q.vector) x m))
 
       by : (b : Bool) → (length sent == length all) ≡ b → IsBelow rows (reply_of s q from sent b).to x → Answered x (reply_of s q from sent b)
-      by true e below = has_sent true (⊎_elim (λ i. i) (λ i. absurd (subst (λ (cs : List (ℕ × Item)). Member c cs) (nothing_left sent front.0 all front.1 e) i)) (of_either sent front.0 c there))
+      by true e below = has_sent true (⊎_elim (λ i. i) (λ i. absurd (subst (λ (cs : List (ℕ × Item)). Member c cs) (nothing_left sent front.0 all front.1 e) i)) (member_of_either sent front.0 c there))
       by false e (inl p) = inr (inr (inl p))
       by false e (inr unit) = ⊎_elim
           (λ began. inr (inr (inr (λ y i same. omega (arith, unit y i same, began)))))
-          (λ z. has_sent false (in_front sent front.0 z.0 up z.1 c there (omega (arith, last_within rows (unit_of x.update.key) _ unit, z.2))))
+          (λ z. has_sent false (in_front sent front.0 z.0 up z.1 c there (omega (arith, last_within (unit_of x.update.key) rows _ unit, z.2))))
           (read_to_item from.obj sent)
 
   pub ground : (x : Held) → Member x rows → IsBelow rows (reply_to s q).to x → Answered x (reply_to s q)

@@ -1,15 +1,12 @@
 -- A change that leaves what a sound state needs leaves a sound state.
-use Rattle.std.proofs.Common.{◌≡◌, ◌⊎◌, inl, inr, ⊎_elim, ◌≤◌, List, [], ◌∷◌, Bool, true, false, cond, Option, Some, None, refl, sym, ◌∙◌, subst, ap, arith, max}
+use Rattle.std.proofs.Common.{◌≡◌, ◌⊎◌, inl, inr, ⊎_elim, ◌≤◌, List, Bool, true, false, cond, Option, Some, None, refl, sym, ◌∙◌, subst, ap, arith, max}
 use Rattle.std.specs.Option.{IfSome}
-use Rattle.std.specs.Ordering.{match_ordering, is_eq}
-use Rattle.std.specs.declared.cmp.Ordering.{Ordering}
-use Rattle.std.specs.declared.cmp.Ordering.TheVariants.{Less, Equal, Greater}
-use Rattle.std.specs.BTreeMap.{insert_entry}
+use Rattle.std.specs.Ordering.{is_eq}
 use Rattle.std.proofs.lemmas.Bool.Decides.{leb_tells}
-use Rattle.std.proofs.lemmas.Cmp.{nat_list_cmp_total, tied_itself}
 use Rattle.std.proofs.lemmas.Map.Lookups.{exact_bytes}
 use Rattle.adr_stamp.specs.Order.{identifier_order}
 use Rattle.adr_vector.specs.Vector.{at, joined}
+use Rattle.adr_vector.proofs.Cursors.{test_itself, same_from_test}
 use Rattle.adr_vector.proofs.Joining.{at-raised, at-joined}
 use Rattle.adr_model.specs.Member.{Member, Each}
 use Rattle.adr_model.specs.Update.{Identifier, Update, inv_of, usn_of}
@@ -19,7 +16,6 @@ use Rattle.adr_model.specs.Change.{held_of, rows_after, with_mark, after}
 use Rattle.adr_model.specs.History.{History, no_history, last_usn, rows_at, Follows}
 use Rattle.adr_model.specs.Replica.{Pending, issued_by, Scene, history_of, with_change, recorded}
 use Rattle.adr_model.specs.Sound.{last_of, IsBounded, IsSoundScene, IsSoundMark, IsSoundState}
-use Rattle.adr_model.proofs.Keys.{equal_order}
 use Rattle.adr_model.proofs.Members.{member_of_either}
 use Rattle.adr_history.specs.Later.{IsLater, AreIssuedBy}
 use Rattle.adr_history.specs.Settling.{Leaves}
@@ -27,26 +23,12 @@ use Rattle.adr_history.proofs.Past.{Tells}
 use Rattle.adr_history.proofs.Extended.{rows_now}
 use Rattle.adr_history.proofs.Frames.{more_issued, mark_later}
 use Rattle.adr_history.proofs.Recorded.{recorded_later}
-use Rattle.adr_history.proofs.Tables.{entry_itself}
-
--- what stands in a table after an entry is put in
-entry_from : {X : Type 0} (es : List (Identifier × X)) (i : Identifier) (v : X) (e : Identifier × X) → Member e (insert_entry identifier_order es i v) → (e.1 ≡ v) ⊎ Member e es
-entry_from [] i v e (inl is) = inl (ap (λ t. t.1) is)
-entry_from [] i v e (inr m) = absurd m
-entry_from {X = X} (x ∷ xs) i v e m = by (identifier_order i x.0) m (entry_from xs i v e)
-  where
-    by : (o : Ordering) → Member e (match_ordering o ((i, v) ∷ x ∷ xs) ((x.0, v) ∷ xs) (x ∷ insert_entry identifier_order xs i v)) → (Member e (insert_entry identifier_order xs i v) → (e.1 ≡ v) ⊎ Member e xs) → (e.1 ≡ v) ⊎ Member e (x ∷ xs)
-    by Less (inl is) rest = inl (ap (λ t. t.1) is)
-    by Less (inr n) rest = inr n
-    by Equal (inl is) rest = inl (ap (λ t. t.1) is)
-    by Equal (inr n) rest = inr (inr n)
-    by Greater (inl is) rest = inr (inl is)
-    by Greater (inr n) rest = ⊎_elim (λ is. inl is) (λ j. inr (inr j)) (rest n)
+use Rattle.adr_history.proofs.Tables.{entry_from, entry_itself}
 
 -- a fact of what is kept, and of a mark that comes, is one of all that is kept then
 pub each_mark : (P : Kept → Type 0) (o : Option (Identifier × Kept)) (marks : List (Identifier × Kept)) → IfSome o (λ m. P m.1) → Each (λ m. P m.1) marks → Each (λ m. P m.1) (with_mark o marks)
 each_mark P None marks new old m n = old m n
-each_mark P (Some x) marks new old m n = ⊎_elim (λ is. subst P (sym is) new) (λ j. old m j) (entry_from marks x.0 x.1 m n)
+each_mark P (Some x) marks new old m n = ⊎_elim (λ is. subst (λ (t : Identifier × Kept). P t.1) (sym is) new) (λ j. old m j) (entry_from identifier_order exact_bytes marks x.0 x.1 m n)
 
 module _ (sc : Scene) (s : State) (p : Pending) (scene : IsSoundScene sc) (state : IsSoundState sc s)
     (follows : Follows (last_of sc s.inv) p.change) (own : AreIssuedBy sc s.inv p.change (issued_by p.call p.change)) (leaves : Leaves sc s p) where
@@ -77,9 +59,6 @@ module _ (sc : Scene) (s : State) (p : Pending) (scene : IsSoundScene sc) (state
   W_is : (i : Identifier) → W i ≡ max (max (V i) (J i)) (cond (is_eq (identifier_order i s.inv)) p.change.usn 0)
   W_is i = at-raised (joined s.store.vector p.change.joined) s.inv p.change.usn i ∙ ap (λ n. max n (cond (is_eq (identifier_order i s.inv)) p.change.usn 0)) (at-joined p.change.joined s.store.vector i leaves.joined.rising)
 
-  same : (i : Identifier) → is_eq (identifier_order i s.inv) ≡ true → i ≡ s.inv
-  same i is = exact_bytes i s.inv (equal_order (identifier_order i s.inv) is)
-
   here : (i : Identifier) → is_eq (identifier_order i s.inv) ≡ true → W i ≡ max (max (V i) (J i)) p.change.usn
   here i is = W_is i ∙ ap (λ b. max (max (V i) (J i)) (cond b p.change.usn 0)) is
 
@@ -90,7 +69,7 @@ module _ (sc : Scene) (s : State) (p : Pending) (scene : IsSoundScene sc) (state
   bounded i = by (is_eq (identifier_order i s.inv)) refl
     where
       by : (b : Bool) → is_eq (identifier_order i s.inv) ≡ b → W i ≤ last_of next i
-      by true is = omega (arith, here i is, state.store.bounded i, leaves.bounded i, later.rising i, last, ap (last_of next) (same i is))
+      by true is = omega (arith, here i is, state.store.bounded i, leaves.bounded i, later.rising i, last, ap (last_of next) (same_from_test i s.inv is))
       by false is = omega (arith, elsewhere i is, state.store.bounded i, leaves.bounded i, later.rising i)
 
   -- what the vector covered was taken, and what was joined in is taken now
@@ -107,7 +86,7 @@ module _ (sc : Scene) (s : State) (p : Pending) (scene : IsSoundScene sc) (state
       either (inr above) e = inr (omega (arith, above.1, c, e))
 
       by : Member u sc.issued → (b : Bool) → is_eq (identifier_order (inv_of u) s.inv) ≡ b → Covers V u ⊎ Covers J u
-      by old true is = inl (omega (arith, (scene.once u old).1, ap (last_of sc) (same (inv_of u) is), ap V (same (inv_of u) is), state.last, state.formed.own))
+      by old true is = inl (omega (arith, (scene.once u old).1, ap (last_of sc) (same_from_test (inv_of u) s.inv is), ap V (same_from_test (inv_of u) s.inv is), state.last, state.formed.own))
       by old false is = either (leb_tells (usn_of u) (V (inv_of u))) (elsewhere (inv_of u) is)
 
   mark_is : (k : Kept) → IsSoundMark sc (knowledge_of s.store) k.inv k.mark → IsSoundMark next (knowledge_of d.store) k.inv k.mark
@@ -144,8 +123,5 @@ module _ (sc : Scene) (s : State) (p : Pending) (scene : IsSoundScene sc) (state
     rows = rows;
   }
     where
-      tied : is_eq (identifier_order s.inv s.inv) ≡ true
-      tied = ap is_eq (tied_itself nat_list_cmp_total s.inv)
-
       own_is : W s.inv ≡ p.change.usn
-      own_is = omega (arith, here s.inv tied, state.formed.own, leaves.bounded s.inv, state.last, follows.rises)
+      own_is = omega (arith, here s.inv (test_itself s.inv), state.formed.own, leaves.bounded s.inv, state.last, follows.rises)

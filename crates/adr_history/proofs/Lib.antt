@@ -1,4 +1,3 @@
-pub mod Rows
 pub mod Units
 pub mod Bounds
 pub mod Past
@@ -12,7 +11,6 @@ pub mod Begun
 pub mod Recorded
 pub mod Leaving
 pub mod Moved
-pub mod Locals
 pub mod Candidates
 pub mod Ground
 pub mod Served

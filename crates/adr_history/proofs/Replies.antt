@@ -1,6 +1,6 @@
 -- A reply, and a controller's kept call, stay sound when the scene grows.
-use Rattle.std.proofs.Common.{◌≡◌, inl, inr, ⊎_elim, ◌≤◌, List, Option, Some, None, sym, subst, arith}
-use Rattle.std.specs.Option.{IfSome}
+use Rattle.std.proofs.Common.{◌≡◌, inl, inr, ⊎_elim, ◌≤◌, List, sym, subst, arith}
+use Rattle.std.proofs.lemmas.Option.{IfSome_then}
 use Rattle.adr_schema.specs.Numbered.{numbered}
 use Rattle.adr_vector.specs.Vector.{Cursors, at}
 use Rattle.adr_model.specs.Member.{Member}
@@ -35,10 +35,6 @@ last_later s t l r seen carried is = record {
     source : List Held → Knowledge
     source rows = record { rows = updates_of rows; vector = at carried; purged = at r.asked }
 
-if_some : {A : Type 0} (o : Option A) (P Q : A → Type 0) → ((x : A) → P x → Q x) → IfSome o P → IfSome o Q
-if_some None P Q f h = h
-if_some (Some x) P Q f h = f x h
-
 pub reply_later : (s t : Scene) → IsLater s t → (r : Reply) → IsSoundReply s r → IsSoundReply t r
 reply_later s t l r is = record {
   to_ordered = is.to_ordered;
@@ -49,7 +45,7 @@ reply_later s t l r is = record {
   asked = bounded_later s t l (at r.asked) is.asked;
   known = λ u m. l.kept u (is.known u m);
   ground = ground_later s t l r is.to_seen is.ground;
-  last = if_some r.last (IsSoundLast s r) (IsSoundLast t r) (last_later s t l r is.to_seen) is.last;
+  last = IfSome_then r.last is.last (last_later s t l r is.to_seen);
   exact = λ i m. subst (λ (rows : List Held). IsExact rows r i) same (is.exact i m);
   once = is.once;
   rising = subst AreRising same is.rising;

@@ -1,15 +1,15 @@
 -- A reply that a sound state gives to a sound request is sound.
-use Rattle.std.proofs.Common.{◌≡◌, ◌⊎◌, inl, inr, ⊎_elim, ℕ, ◌≤◌, ◌<◌, List, [], ◌∷◌, Bool, true, false, refl, sym, ◌∙◌, subst, ap, arith, map, filter, length, ◌==◌, ◌&&◌, not, if◌then◌else◌}
+use Rattle.std.proofs.Common.{◌≡◌, ◌⊎◌, inl, inr, ⊎_elim, ℕ, ◌≤◌, ◌<◌, List, Bool, true, false, refl, sym, ◌∙◌, subst, ap, arith, map, filter, length, ◌==◌, ◌&&◌, not, if◌then◌else◌}
 use Rattle.std.specs.Bool.{then_some}
 use Rattle.std.specs.Cmp.Derive.{both_true}
-use Rattle.std.proofs.lemmas.Bool.Decides.{leb_tells, nat_tests}
+use Rattle.std.proofs.lemmas.Bool.{and_parts, ltb-true}
+use Rattle.std.proofs.lemmas.Bool.Decides.{leb_tells}
 use Rattle.std.specs.Prelude.{nat_lt, IfSome}
-use Rattle.std.proofs.lemmas.Map.Lookups.{exact_bytes}
 use Rattle.adr_stamp.specs.declared.Unit.{Unit as Named}
-use Rattle.adr_stamp.specs.Order.{identifier_order}
 use Rattle.adr_schema.specs.Numbered.{numbered}
 use Rattle.adr_vector.specs.Vector.{at, at_most}
 use Rattle.adr_vector.specs.declared.mark.Mark.{Mark}
+use Rattle.adr_vector.proofs.Cursors.{same_from_test}
 use Rattle.adr_vector.proofs.Comparing.{everywhere_from_at_most}
 use Rattle.adr_model.specs.Member.{Member}
 use Rattle.adr_model.specs.Update.{Update, inv_of, usn_of, unit_of, same_unit, same_identifier}
@@ -21,35 +21,22 @@ use Rattle.adr_model.specs.History.{IsOrdered, rows_at}
 use Rattle.adr_model.specs.Serve.{Request, Reply, last_local, is_above_mark, is_unseen, sendable, item_of, candidates, byte_limit, first_items, reply_of, begins_at, reply_to}
 use Rattle.adr_model.specs.Replica.{Scene, history_of}
 use Rattle.adr_model.specs.Sound.{last_of, IsSoundScene, IsSoundState, IsSoundRequest, IsExact, IsSoundLast, IsSoundReply, CoversItsGround, AreClassesKnown}
-use Rattle.adr_model.proofs.Keys.{equal_order}
 use Rattle.adr_knowledge.specs.Grows.{Grows}
 use Rattle.adr_knowledge.proofs.Knows.{grows_keeps, more_covered}
-use Rattle.adr_history.proofs.Rows.{updated, updated_from}
-use Rattle.adr_model.proofs.Members.{in_filter, of_filter, member_left}
+use Rattle.adr_steps.proofs.Rows.{updated, held_as}
+use Rattle.adr_model.proofs.Members.{in_filter, of_filter, member_left, mapped_member}
 use Rattle.adr_history.proofs.Past.{Tells}
-use Rattle.adr_history.proofs.Locals.{last_within, unit_itself, units_of_test}
+use Rattle.adr_steps.proofs.Locals.{last_within, units_same, units_tell}
 use Rattle.adr_history.proofs.Bounds.{cut_when_all_is_read}
 use Rattle.adr_history.proofs.Candidates.{entry_of, candidate_from, row_in_item}
 use Rattle.adr_history.proofs.Ground.{LessTells, lt_tells, first_front, read_to_item, ground_of_log}
-
-both : (a b : Bool) → (a && b) ≡ true → (a ≡ true) × (b ≡ true)
-both true b h = (refl, h)
-both false b h = absurd (cc)
-
-lt_from : (a b : ℕ) → nat_lt a b ≡ true → a < b
-lt_from a b h = grind (arith, nat_tests)
-
-item_from : (cs : List (ℕ × Item)) (i : Item) → Member i (map (λ (c : ℕ × Item). c.1) cs) → (c : ℕ × Item) × Member c cs × (i ≡ c.1)
-item_from [] i m = absurd m
-item_from (c ∷ cs) i (inl e) = (c, inl refl, e)
-item_from (c ∷ cs) i (inr m) = let t = item_from cs i m in (t.0, inr t.1, t.2)
 
 -- where a reply begins
 pub begins : (sc : Scene) (s : State) (q : Request) → IsSoundState sc s → IsSoundRequest sc q → IsOrdered (begins_at s q) × ((begins_at s q).seen ≤ s.store.usn)
 begins sc s q state request = by (same_identifier q.inv s.inv) refl
   where
     by : (b : Bool) → same_identifier q.inv s.inv ≡ b → IsOrdered (if b then q.mark else no_mark) × ((if b then q.mark else no_mark).seen ≤ s.store.usn)
-    by true is = (request.ordered, omega (arith, subst (λ i. q.mark.seen ≤ last_of sc i) (exact_bytes q.inv s.inv (equal_order (identifier_order q.inv s.inv) is)) request.seen, state.last))
+    by true is = (request.ordered, omega (arith, subst (λ i. q.mark.seen ≤ last_of sc i) (same_from_test q.inv s.inv is) request.seen, state.last))
     by false is = (record { prop = omega arith; obj = omega arith }, omega arith)
 
 module _ (sc : Scene) (s : State) (q : Request) (scene : IsSoundScene sc) (state : IsSoundState sc s) (request : IsSoundRequest sc q) (purged : at_most s.store.purged q.vector ≡ true) where
@@ -77,7 +64,7 @@ module _ (sc : Scene) (s : State) (q : Request) (scene : IsSoundScene sc) (state
       candidate_from rows unseen c (subst (λ (cs : List (ℕ × Item)). Member c cs) front.1 (member_left sent front.0 c m))
 
   above : (x : Held) → Member x unseen → from.obj < last_local rows (unit_of x.update.key)
-  above x m = lt_from from.obj (last_local rows (unit_of x.update.key)) (both _ _ (of_filter (λ (h : Held). is_above_mark from rows h && is_unseen from q.vector h) rows x m).1).0
+  above x m = ltb-true from.obj (last_local rows (unit_of x.update.key)) (and_parts _ _ (of_filter (λ (h : Held). is_above_mark from rows h && is_unseen from q.vector h) rows x m).1).0
 
   to_ordered : (b : Bool) → IsOrdered (reply b).to
   to_ordered true = record { prop = omega arith; obj = omega arith }
@@ -88,19 +75,19 @@ module _ (sc : Scene) (s : State) (q : Request) (scene : IsSoundScene sc) (state
       (read_to_item from.obj sent)
     where
       within : (x : Held) → last_local rows (unit_of x.update.key) ≤ s.store.usn
-      within x = last_within rows (unit_of x.update.key) s.store.usn (λ y m e. (state.store.formed.locals y m).1)
+      within x = last_within (unit_of x.update.key) rows s.store.usn (λ y m e. (state.store.formed.locals y m).1)
 
   in_rows : (x : Held) → Member x unseen → Member x rows
   in_rows x m = (of_filter (λ (h : Held). is_above_mark from rows h && is_unseen from q.vector h) rows x m).0
 
   -- what an item that is sent is
   pub item_is : (i : Item) → Member i (map (λ (c : ℕ × Item). c.1) sent) → (x : Held) × Member x unseen × (i ≡ item_of unseen (unit_of x.update.key))
-  item_is i m = let c = item_from sent i m in let x = sent_from c.0 c.1 in (x.0, x.1, c.2 ∙ ap (λ (d : ℕ × Item). d.1) x.2)
+  item_is i m = let c = mapped_member (λ (c : ℕ × Item). c.1) sent i m in let x = sent_from c.0 c.1 in (x.0, x.1, c.2 ∙ ap (λ (d : ℕ × Item). d.1) x.2)
 
   pub row_is : (unit : Named) (u : Update) → Member u (item_of unseen unit).rows → (h : Held) × Member h unseen × (h.update ≡ u) × (unit_of h.update.key ≡ unit)
-  row_is unit u m = let h = updated_from (filter (λ (y : Held). same_unit (unit_of y.update.key) unit) unseen) u m in
+  row_is unit u m = let h = held_as (filter (λ (y : Held). same_unit (unit_of y.update.key) unit) unseen) u m in
       let k = of_filter (λ (y : Held). same_unit (unit_of y.update.key) unit) unseen h.0 h.1 in
-      (h.0, k.0, h.2, units_of_test (unit_of h.0.update.key) unit k.1)
+      (h.0, k.0, sym h.2, units_tell (unit_of h.0.update.key) unit k.1)
 
   known : (u : Update) (i : Item) → Member i (map (λ (c : ℕ × Item). c.1) sent) → Member u i.rows → Member u sc.issued
   known u i m n = let x = item_is i m in let h = row_is (unit_of x.0.update.key) u (subst (λ (j : Item). Member u j.rows) x.2 n) in
@@ -112,7 +99,7 @@ module _ (sc : Scene) (s : State) (q : Request) (scene : IsSoundScene sc) (state
   sent_too x h m n e = by (lt_tells from.prop h.local) (leb_tells (usn_of h.update) (at q.vector (inv_of h.update)))
     where
       high : nat_lt from.obj (last_local rows (unit_of h.update.key)) ≡ true
-      high = subst (λ (unit : Named). nat_lt from.obj (last_local rows unit) ≡ true) (sym e) (both _ _ (of_filter (λ (y : Held). is_above_mark from rows y && is_unseen from q.vector y) rows x m).1).0
+      high = subst (λ (unit : Named). nat_lt from.obj (last_local rows unit) ≡ true) (sym e) (and_parts _ _ (of_filter (λ (y : Held). is_above_mark from rows y && is_unseen from q.vector y) rows x m).1).0
 
       by : LessTells from.prop h.local → Tells (usn_of h.update) (at q.vector (inv_of h.update)) → Member h.update (item_of unseen (unit_of x.update.key)).rows ⊎ (Covers (at q.vector) h.update ⊎ (h.local ≤ from.prop))
       by (inr low) c = inr (inr low.1)
@@ -120,7 +107,7 @@ module _ (sc : Scene) (s : State) (q : Request) (scene : IsSoundScene sc) (state
       by (inl up) (inr new) = inl (updated (filter (λ (y : Held). same_unit (unit_of y.update.key) (unit_of x.update.key)) unseen) h
           (in_filter (λ (y : Held). same_unit (unit_of y.update.key) (unit_of x.update.key)) unseen h
           (in_filter (λ (y : Held). is_above_mark from rows y && is_unseen from q.vector y) rows h n (both_true high (both_true up.0 (ap not new.0))))
-          (unit_itself (unit_of h.update.key) (unit_of x.update.key) e)))
+          (units_same (unit_of h.update.key) (unit_of x.update.key) e)))
 
   exact : (b : Bool) (i : Item) → Member i (map (λ (c : ℕ × Item). c.1) sent) → IsExact rows (reply b) i
   exact b i m = record {

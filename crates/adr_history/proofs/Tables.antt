@@ -1,21 +1,63 @@
--- What stands at an identifier after an entry is put in.
-use Rattle.std.proofs.Common.{◌≡◌, List, [], ◌∷◌, Bool, true, false, cond, Option, Some, None, unwrap_or, refl, sym, ap, ◌∙◌, subst}
+-- What stands in a table, and at an identifier, after an entry is put in.
+use Rattle.std.proofs.Common.{◌≡◌, ◌⊎◌, inl, inr, ⊎_elim, List, [], ◌∷◌, Bool, true, false, cond, Option, Some, None, unwrap_or, refl, sym, ap, ◌∙◌, subst}
 use Rattle.std.specs.Map.{lookup}
 use Rattle.std.specs.BTreeMap.{is_at, insert_entry}
 use Rattle.std.specs.Ordering.{match_ordering, is_eq}
 use Rattle.std.specs.declared.cmp.Ordering.{Ordering}
 use Rattle.std.specs.declared.cmp.Ordering.TheVariants.{Less, Equal, Greater}
-use Rattle.std.proofs.lemmas.Cmp.{nat_list_cmp_total, tied_itself}
-use Rattle.std.proofs.lemmas.Map.Lookups.{exact_bytes}
+use Rattle.std.proofs.lemmas.Map.Lookups.{CmpEqualImpliesEq, exact_bytes}
 use Rattle.adr_stamp.specs.Order.{identifier_order}
+use Rattle.adr_vector.proofs.Cursors.{test_itself, same_from_test}
+use Rattle.adr_model.specs.Member.{Member, Each}
 use Rattle.adr_model.specs.Update.{Identifier}
-use Rattle.adr_model.proofs.Keys.{equal_order}
 
-test_itself : (i : Identifier) → is_eq (identifier_order i i) ≡ true
-test_itself i = ap is_eq (tied_itself nat_list_cmp_total i)
+-- ---- what stands in a table
 
-same_from_test : (i j : Identifier) → is_eq (identifier_order i j) ≡ true → i ≡ j
-same_from_test i j h = exact_bytes i j (equal_order (identifier_order i j) h)
+module _ {K X : Type 0} (R : K → K → Ordering) (exact : CmpEqualImpliesEq R) where
+  pub entry_from : (es : List (K × X)) (k : K) (v : X) (e : K × X) → Member e (insert_entry R es k v) → (e ≡ (k, v)) ⊎ Member e es
+  entry_from [] k v e (inl same) = inl same
+  entry_from [] k v e (inr m) = absurd m
+  entry_from (x ∷ xs) k v e m = by (R k x.0) refl m (entry_from xs k v e)
+    where
+      by : (o : Ordering) → R k x.0 ≡ o → Member e (match_ordering o ((k, v) ∷ x ∷ xs) ((x.0, v) ∷ xs) (x ∷ insert_entry R xs k v)) → (Member e (insert_entry R xs k v) → (e ≡ (k, v)) ⊎ Member e xs) → (e ≡ (k, v)) ⊎ Member e (x ∷ xs)
+      by Less is (inl same) rest = inl same
+      by Less is (inr n) rest = inr n
+      by Equal is (inl same) rest = inl (same ∙ ap (λ l. (l, v)) (sym (exact k x.0 is)))
+      by Equal is (inr n) rest = inr (inr n)
+      by Greater is (inl same) rest = inr (inl same)
+      by Greater is (inr n) rest = ⊎_elim (λ same. inl same) (λ j. inr (inr j)) (rest n)
+
+  pub entry_there : (es : List (K × X)) (k : K) (v : X) → Member (k, v) (insert_entry R es k v)
+  entry_there [] k v = inl refl
+  entry_there (x ∷ xs) k v = by (R k x.0) refl (entry_there xs k v)
+    where
+      by : (o : Ordering) → R k x.0 ≡ o → Member (k, v) (insert_entry R xs k v) → Member (k, v) (match_ordering o ((k, v) ∷ x ∷ xs) ((x.0, v) ∷ xs) (x ∷ insert_entry R xs k v))
+      by Less is rest = inl refl
+      by Equal is rest = inl (ap (λ l. (l, v)) (exact k x.0 is))
+      by Greater is rest = inr rest
+
+  pub entry_stays : (es : List (K × X)) (k : K) (v : X) (e : K × X) → Member e es → Member e (insert_entry R es k v) ⊎ (e.0 ≡ k)
+  entry_stays [] k v e m = absurd m
+  entry_stays (x ∷ xs) k v e m = by (R k x.0) refl m (entry_stays xs k v e)
+    where
+      by : (o : Ordering) → R k x.0 ≡ o → Member e (x ∷ xs) → (Member e xs → Member e (insert_entry R xs k v) ⊎ (e.0 ≡ k))
+          → Member e (match_ordering o ((k, v) ∷ x ∷ xs) ((x.0, v) ∷ xs) (x ∷ insert_entry R xs k v)) ⊎ (e.0 ≡ k)
+      by Less is n rest = inl (inr n)
+      by Equal is (inl same) rest = inr (ap (λ (y : K × X). y.0) same ∙ sym (exact k x.0 is))
+      by Equal is (inr n) rest = inl (inr n)
+      by Greater is (inl same) rest = inl (inl same)
+      by Greater is (inr n) rest = ⊎_elim (λ j. inl (inr j)) (λ same. inr same) (rest n)
+
+-- ---- what is found in one
+
+-- a fact of each entry and of what stands for none is one of what is found
+pub each_found : {K X : Type 0} (P : X → Type 0) (test : K → Bool) (es : List (K × X)) (none : X) → P none → Each (λ (e : K × X). P e.1) es → P (unwrap_or (lookup test es) none)
+each_found P test [] none there all = there
+each_found P test (e ∷ es) none there all = by (test e.0) (each_found P test es none there (λ f m. all f (inr m)))
+  where
+    by : (b : Bool) → P (unwrap_or (lookup test es) none) → P (unwrap_or (cond b (Some e.1) (lookup test es)) none)
+    by true rest = all e (inl refl)
+    by false rest = rest
 
 module _ {X : Type 0} where
   abbrev Found : Identifier → List (Identifier × X) → Option X

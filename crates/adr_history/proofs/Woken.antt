@@ -1,22 +1,21 @@
 -- A controller that is made of an image under a fresh identifier.
-use Rattle.std.proofs.Common.{◌≡◌, inl, inr, ⊎_elim, ℕ, ◌≤◌, [], Bool, true, false, cond, Option, Some, None, Ok, refl, sym, ◌∙◌, subst, ap, arith, max, length, ◌||◌, nat_le, if◌then◌else◌}
+use Rattle.std.proofs.Common.{◌≡◌, inl, inr, ⊎_elim, ℕ, ◌≤◌, [], Bool, true, false, cond, None, Ok, refl, sym, ◌∙◌, subst, ap, arith, max, length, ◌||◌, nat_le, if◌then◌else◌}
 use Rattle.std.specs.Prelude.{nat_lt}
 use Rattle.std.specs.List.{list_any}
 use Rattle.std.specs.Bool.{then_some}
 use Rattle.std.specs.Option.{option_or}
 use Rattle.std.specs.Ordering.{is_eq}
-use Rattle.std.proofs.lemmas.Bool.Decides.{nat_tests}
-use Rattle.std.proofs.lemmas.Map.Lookups.{exact_bytes}
+use Rattle.std.proofs.lemmas.Bool.{or_parts, ltb-false, le-leb}
 use Rattle.adr_stamp.specs.Order.{identifier_order}
 use Rattle.adr_stamp.specs.declared.Oid.{Oid}
+use Rattle.adr_schema.proofs.ExactCalls.{neither, not_then}
 use Rattle.adr_vector.specs.Vector.{at, raised, most_cursors}
+use Rattle.adr_vector.proofs.Cursors.{same_from_test}
 use Rattle.adr_vector.proofs.Comparing.{everywhere_from_at_most, at_most_from_everywhere}
-use Rattle.adr_vector.proofs.Joining.{at-raised, raised_here, rising-raised, from_one-raised}
-use Rattle.adr_event.specs.declared.refusal.AdoptRefusal.{AdoptRefusal}
+use Rattle.adr_vector.proofs.Joining.{at-raised, raised_here}
 use Rattle.adr_event.specs.declared.refusal.AdoptRefusal.TheVariants.{IdentifierUsed, Full}
 use Rattle.adr_event.specs.declared.refusal.Table.TheVariants.{Cursors as CursorTable}
 use Rattle.adr_model.specs.Member.{Member, Each}
-use Rattle.adr_model.specs.Refusing.{unless}
 use Rattle.adr_model.specs.Update.{Identifier, Update, inv_of, ends, same_identifier}
 use Rattle.adr_model.specs.Reflects.{Numbers, AtMost, Covers, Reflects, knowledge_of}
 use Rattle.adr_model.specs.Store.{Held, Kept, Store, State, updates_of}
@@ -25,20 +24,17 @@ use Rattle.adr_model.specs.Formed.{IsFormedStore, IsClosed}
 use Rattle.adr_model.specs.Collect.{names_inv, woken, adopt}
 use Rattle.adr_model.specs.Replica.{Scene, history_of, begun}
 use Rattle.adr_model.specs.Sound.{last_of, IsBounded, IsSoundMark, IsSoundScene, IsSoundStore, IsSoundState}
-use Rattle.adr_model.proofs.Keys.{equal_order}
 use Rattle.adr_history.specs.Logs.{first_log}
 use Rattle.adr_history.specs.Later.{IsLater}
 use Rattle.adr_model.proofs.Members.{each_fails}
 use Rattle.adr_knowledge.specs.Grows.{Keeps}
 use Rattle.adr_knowledge.proofs.Knows.{grows_keeps, more_covered}
-use Rattle.adr_history.proofs.Rows.{updated, updated_from}
+use Rattle.adr_knowledge.proofs.Refusing.{answered}
+use Rattle.adr_knowledge.proofs.Raised.{raised_up, raised_is_vector}
+use Rattle.adr_steps.proofs.Rows.{updated, held_as}
 use Rattle.adr_history.proofs.Begun.{begun_later, begun_sound}
 use Rattle.adr_history.proofs.Frames.{mark_later}
 use Rattle.adr_history.proofs.Tables.{entry_itself}
-
-neither : (a b : Bool) → (a || b) ≡ false → (a ≡ false) × (b ≡ false)
-neither false b h = (refl, h)
-neither true b h = absurd (cc)
 
 abbrev is_of : Identifier → Oid → Bool
 is_of inv o = same_identifier o.birth.inv inv
@@ -47,7 +43,7 @@ abbrev row_names : Identifier → Held → Bool
 row_names inv h = same_identifier (inv_of h.update) inv || list_any (is_of inv) (ends h.update.key)
 
 third : (a b c d : Bool) → (a || b || c || d) ≡ false → c ≡ false
-third a b c d h = (neither (a || b) c (neither (a || b || c) d h).0).1
+third a b c d h = (or_parts (a || b) c (or_parts (a || b || c) d h).0).1
 
 rows_none : (image : Store) (inv : Identifier) → names_inv image inv ≡ false → list_any (row_names inv) image.rows ≡ false
 rows_none image inv none =
@@ -58,14 +54,14 @@ rows_none image inv none =
 unborn : (image : Store) (inv : Identifier) → names_inv image inv ≡ false → (u : Update) → Member u (updates_of image.rows) → (o : Oid) → Member o (ends u.key) → same_identifier o.birth.inv inv ≡ false
 unborn image inv none u m o n = each_fails (is_of inv) (ends u.key) ends_none o n
   where
-    t : (h : Held) × Member h image.rows × (h.update ≡ u)
-    t = updated_from image.rows u m
+    t : (h : Held) × Member h image.rows × (u ≡ h.update)
+    t = held_as image.rows u m
 
     row_none : (same_identifier (inv_of t.0.update) inv || list_any (is_of inv) (ends t.0.update.key)) ≡ false
     row_none = each_fails (row_names inv) image.rows (rows_none image inv none) t.0 t.1
 
     ends_none : list_any (is_of inv) (ends u.key) ≡ false
-    ends_none = subst (λ (v : Update). list_any (is_of inv) (ends v.key) ≡ false) t.2 (neither (same_identifier (inv_of t.0.update) inv) (list_any (is_of inv) (ends t.0.update.key)) row_none).1
+    ends_none = subst (λ (v : Update). list_any (is_of inv) (ends v.key) ≡ false) (sym t.2) (or_parts (same_identifier (inv_of t.0.update) inv) (list_any (is_of inv) (ends t.0.update.key)) row_none).1
 
 module _ (sc : Scene) (image : Store) (dsa inv : Identifier) (scene : IsSoundScene sc) (sound : IsSoundStore sc image) (fresh : history_of sc inv ≡ no_history)
     (unnamed : names_inv image inv ≡ false) (few : length (raised image.vector inv image.usn) ≤ most_cursors) where
@@ -94,7 +90,7 @@ module _ (sc : Scene) (image : Store) (dsa inv : Identifier) (scene : IsSoundSce
   last = ap last_usn log
 
   up : AtMost V W
-  up i = omega (arith, at-raised image.vector inv image.usn i)
+  up = raised_up image.vector inv image.usn
 
   kept : Keeps sc.issued (knowledge_of image) (knowledge_of d.store)
   kept = grows_keeps sc.issued (knowledge_of image) (knowledge_of d.store) (more_covered sc.issued (updates_of image.rows) V W (at image.purged) (at image.purged) up (λ i. omega arith))
@@ -102,9 +98,6 @@ module _ (sc : Scene) (image : Store) (dsa inv : Identifier) (scene : IsSoundSce
   -- at another identifier nothing was raised
   W_is : (i : Identifier) → W i ≡ max (V i) (cond (is_eq (identifier_order i inv)) image.usn 0)
   W_is i = at-raised image.vector inv image.usn i
-
-  same : (i : Identifier) → is_eq (identifier_order i inv) ≡ true → i ≡ inv
-  same i is = exact_bytes i inv (equal_order (identifier_order i inv) is)
 
   elsewhere : (i : Identifier) → is_eq (identifier_order i inv) ≡ false → W i ≡ V i
   elsewhere i is = W_is i ∙ ap (λ b. max (V i) (cond b image.usn 0)) is ∙ omega arith
@@ -114,14 +107,14 @@ module _ (sc : Scene) (image : Store) (dsa inv : Identifier) (scene : IsSoundSce
     where
       by : (b : Bool) → is_eq (identifier_order i inv) ≡ b → W i ≤ last_of next i
       by true is = let e : W i ≡ max (V i) image.usn = W_is i ∙ ap (λ b. max (V i) (cond b image.usn 0)) is in
-          omega (arith, e, sound.bounded i, later.rising i, last, ap (last_of next) (same i is))
+          omega (arith, e, sound.bounded i, later.rising i, last, ap (last_of next) (same_from_test i inv is))
       by false is = omega (arith, elsewhere i is, sound.bounded i, later.rising i)
 
   covered : Each (λ u. Covers W u → Reflects next.issued (knowledge_of d.store) u) next.issued
   covered u m c = by (is_eq (identifier_order (inv_of u) inv)) refl
     where
       by : (b : Bool) → is_eq (identifier_order (inv_of u) inv) ≡ b → Reflects next.issued (knowledge_of d.store) u
-      by true is = absurd (omega (arith, (scene.once u m).0, (scene.once u m).1, unused, ap (last_of sc) (same (inv_of u) is)))
+      by true is = absurd (omega (arith, (scene.once u m).0, (scene.once u m).1, unused, ap (last_of sc) (same_from_test (inv_of u) inv is)))
       by false is = kept u (sound.covered u m (omega (arith, c, elsewhere (inv_of u) is)))
 
   closed : IsClosed d.store
@@ -129,7 +122,7 @@ module _ (sc : Scene) (image : Store) (dsa inv : Identifier) (scene : IsSoundSce
 
   formed : IsFormedStore d.store
   formed = record {
-    vector = record { rising = rising-raised image.vector inv image.usn sound.formed.vector.rising; from_one = from_one-raised image.vector inv image.usn sound.formed.vector.from_one; few = few };
+    vector = raised_is_vector image.vector inv image.usn sound.formed.vector few;
     purged = sound.formed.purged;
     purged_within = at_most_from_everywhere image.purged d.store.vector sound.formed.purged.rising (λ i. omega (arith, everywhere_from_at_most image.purged image.vector sound.formed.purged_within i, up i));
     marks = sound.formed.marks;
@@ -164,40 +157,28 @@ module _ (sc : Scene) (image : Store) (dsa inv : Identifier) (scene : IsSoundSce
     store = woken_store;
     formed = record { store = formed; own = omega (arith, raised_here image.vector inv image.usn, sound.bounded inv, unused) };
     last = sym last;
-    rows = sym (ap (λ (h : History). rows_at h image.usn) log ∙ by (nat_le image.usn image.usn) (all_read image.usn));
+    rows = sym (ap (λ (h : History). rows_at h image.usn) log ∙ by (nat_le image.usn image.usn) (le-leb image.usn image.usn (omega arith)));
   }
     where
-      all_read : (n : ℕ) → nat_le n n ≡ true
-      all_read n = grind (arith, nat_tests)
-
       by : (b : Bool) → b ≡ true → (if b then image.rows else []) ≡ image.rows
       by true is = refl
       by false is = absurd (cc)
 
-adopted : (a b : Option AdoptRefusal) (d s : State) → unless (option_or a b) d ≡ Ok s → (a ≡ None) × ((b ≡ None) × (d ≡ s))
-adopted None None d s e = (refl, (refl, cc))
-adopted None (Some x) d s e = absurd (cc)
-adopted (Some x) b d s e = absurd (cc)
-
-unmet : (b : Bool) (x : AdoptRefusal) → then_some b x ≡ None → b ≡ false
-unmet false x e = refl
-unmet true x e = absurd (cc)
-
-within : (a b : ℕ) → nat_lt a b ≡ false → b ≤ a
-within a b h = grind (arith, nat_tests)
-
 pub adopted_is_sound : (sc : Scene) (image : Store) (dsa inv : Identifier) (s : State) → IsSoundScene sc → IsSoundStore sc image → history_of sc inv ≡ no_history → adopt image dsa inv ≡ Ok s
     → IsLater sc (begun sc s) × (IsSoundScene (begun sc s) × IsSoundState (begun sc s) s)
-adopted_is_sound sc image dsa inv s scene sound fresh e = subst (λ (z : State). IsLater sc (begun sc z) × (IsSoundScene (begun sc z) × IsSoundState (begun sc z) z)) t.1.1 (
+adopted_is_sound sc image dsa inv s scene sound fresh e = subst (λ (z : State). IsLater sc (begun sc z) × (IsSoundScene (begun sc z) × IsSoundState (begun sc z) z)) t.1 (
   begun_later sc d fresh sound.formed.locals,
-  (begun_sound sc d fresh sound.formed.locals known scene, woken_state sc image dsa inv scene sound fresh (unmet _ IdentifierUsed t.0) (within most_cursors (length d.store.vector) (unmet _ (Full CursorTable most_cursors) t.1.0))),
+  (begun_sound sc d fresh sound.formed.locals known scene, woken_state sc image dsa inv scene sound fresh (not_then _ IdentifierUsed none.0) (ltb-false most_cursors (length d.store.vector) (not_then _ (Full CursorTable most_cursors) none.1))),
 )
   where
     d : State
     d = woken image dsa inv
 
-    t : (then_some (names_inv image inv) IdentifierUsed ≡ None) × ((then_some (nat_lt most_cursors (length d.store.vector)) (Full CursorTable most_cursors) ≡ None) × (d ≡ s))
-    t = adopted (then_some (names_inv image inv) IdentifierUsed) (then_some (nat_lt most_cursors (length d.store.vector)) (Full CursorTable most_cursors)) d s e
+    t : (option_or (then_some (names_inv image inv) IdentifierUsed) (then_some (nat_lt most_cursors (length d.store.vector)) (Full CursorTable most_cursors)) ≡ None) × (d ≡ s)
+    t = answered (option_or (then_some (names_inv image inv) IdentifierUsed) (then_some (nat_lt most_cursors (length d.store.vector)) (Full CursorTable most_cursors))) d s e
+
+    none : (then_some (names_inv image inv) IdentifierUsed ≡ None) × (then_some (nat_lt most_cursors (length d.store.vector)) (Full CursorTable most_cursors) ≡ None)
+    none = neither (then_some (names_inv image inv) IdentifierUsed) (then_some (nat_lt most_cursors (length d.store.vector)) (Full CursorTable most_cursors)) t.0
 
     known : Each (λ (x : Held). Member x.update sc.issued) image.rows
     known x m = sound.known x.update (updated image.rows x m)

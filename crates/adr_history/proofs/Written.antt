@@ -1,11 +1,9 @@
 -- What a client's write issues.
-use Rattle.std.proofs.Common.{◌≡◌, true, false, inl, inr, ℕ, ◌+◌, List, [], ◌∷◌, ◌++◌, Option, Some, None, Ok, refl, sym, subst, arith, map}
+use Rattle.std.proofs.Common.{◌≡◌, true, false, inl, inr, ℕ, ◌+◌, List, [], ◌∷◌, Ok, refl, sym, subst, arith, map}
 use Rattle.adr_schema.specs.Assignments.{Given}
 use Rattle.adr_schema.specs.declared.content.Content.TheVariants.{Values, Name, Dead}
 use Rattle.adr_stamp.specs.declared.Oid.{Oid}
-use Rattle.adr_event.specs.declared.refusal.WriteRefusal.{WriteRefusal}
 use Rattle.adr_model.specs.Member.{Each}
-use Rattle.adr_model.specs.Refusing.{unless}
 use Rattle.adr_model.specs.Update.{Identifier, Key, RowOf, LinkOf, Said, Holds, IsPresent, Update, inv_of, usn_of, name_attr, deleted_attr}
 use Rattle.adr_model.specs.Store.{Held, State, updates_of}
 use Rattle.adr_model.specs.Change.{Item, Change, held_of, updates_written}
@@ -13,6 +11,9 @@ use Rattle.adr_model.specs.History.{Follows}
 use Rattle.adr_model.specs.Write.{Write, AddObject, Modify, Rename, Delete, AddLink, RemoveLink, row, next_row, next_stamp, first_stamp, new_rows, new_object, object_of, link_of, nodes_held, rows_written, own_change, write_refusal, write}
 use Rattle.adr_model.specs.Replica.{Scene, ToWrite, issued_by}
 use Rattle.adr_model.specs.Sound.{last_of}
+use Rattle.adr_model.proofs.Members.{mapped_member}
+use Rattle.adr_knowledge.proofs.Lists.{alone_from}
+use Rattle.adr_knowledge.proofs.Refusing.{answered}
 use Rattle.adr_history.specs.Later.{AreIssuedBy}
 
 abbrev IsOwn : State → Update → Type 0
@@ -22,14 +23,7 @@ abbrev held_at : ℕ → Update → Held
 held_at usn u = record { update = u; local = usn }
 
 each_made : {A B : Type 0} (P : B → Type 0) (f : A → B) (xs : List A) → ((x : A) → P (f x)) → Each P (map f xs)
-each_made P f [] made y m = absurd m
-each_made P f (x ∷ xs) made y (inl e) = subst P (sym e) (made x)
-each_made P f (x ∷ xs) made y (inr m) = each_made P f xs made y m
-
-each_alone : {A : Type 0} (P : A → Type 0) (xs : List A) → Each P xs → Each P (xs ++ [])
-each_alone P [] all y m = absurd m
-each_alone P (x ∷ xs) all y (inl e) = all y (inl e)
-each_alone P (x ∷ xs) all y (inr m) = each_alone P xs (λ z n. all z (inr n)) y m
+each_made P f xs made y m = let t = mapped_member f xs y m in subst P (sym t.2) (made t.0)
 
 one_is_own : (s : State) (now : ℕ) (key : Key) (said : Said) → Each (IsOwn s) (record { key = key; stamp = next_stamp s key now; said = said } ∷ [])
 one_is_own s now key said u (inl e) = subst (IsOwn s) (sym e) (refl, refl)
@@ -52,11 +46,7 @@ written_is_own s (AddLink from attr to) now = one_is_own s now (LinkOf (link_of 
 written_is_own s (RemoveLink from attr to) now = one_is_own s now (LinkOf (link_of (nodes_held (updates_of s.store.rows)) from attr to)) (IsPresent false)
 
 own_locals : (usn : ℕ) (item : Item) → Each (λ (x : Held). x.local ≡ usn) (held_of (record { local = usn; item = item } ∷ []))
-own_locals usn item = each_alone (λ (x : Held). x.local ≡ usn) (map (held_at usn) item.rows) (each_made (λ (x : Held). x.local ≡ usn) (held_at usn) item.rows (λ u. refl))
-
-allowed : (o : Option WriteRefusal) (p c : Change) → unless o p ≡ Ok c → p ≡ c
-allowed None p c e = cc
-allowed (Some x) p c e = absurd (cc)
+own_locals usn item x m = each_made (λ (y : Held). y.local ≡ usn) (held_at usn) item.rows (λ u. refl) x (alone_from (map (held_at usn) item.rows) x m)
 
 module _ (sc : Scene) (s : State) (w : Write) (now : ℕ) (last : s.store.usn ≡ last_of sc s.inv) where
   abbrev change : Change
@@ -71,7 +61,7 @@ module _ (sc : Scene) (s : State) (w : Write) (now : ℕ) (last : s.store.usn �
   }
 
   own : AreIssuedBy sc s.inv change (updates_written change)
-  own u m = let p = each_alone (IsOwn s) (rows_written s w now).rows (written_is_own s w now) u m in (p.0, omega (arith, p.1, last), omega (arith, p.1))
+  own u m = let p = written_is_own s w now u (alone_from (rows_written s w now).rows u m) in (p.0, omega (arith, p.1, last), omega (arith, p.1))
 
   pub write_may_follow : (c : Change) → write s w now ≡ Ok c → Follows (last_of sc s.inv) c × AreIssuedBy sc s.inv c (issued_by (ToWrite w now) c)
-  write_may_follow c e = subst (λ (z : Change). Follows (last_of sc s.inv) z × AreIssuedBy sc s.inv z (issued_by (ToWrite w now) z)) (allowed (write_refusal s w) change c e) (follows, own)
+  write_may_follow c e = subst (λ (z : Change). Follows (last_of sc s.inv) z × AreIssuedBy sc s.inv z (issued_by (ToWrite w now) z)) (answered (write_refusal s w) change c e).1 (follows, own)

@@ -1,11 +1,9 @@
 -- What a store reflects goes up along stamps, and stays along steps.
-use Rattle.std.proofs.Common.{◌≡◌, ◌⊎◌, inl, inr, ⊎_elim, ℕ, ◌≤◌, List, ap, ◌∙◌, subst, arith, Bool, true, false, ◌&&◌, ◌==◌, refl}
-use Rattle.std.proofs.lemmas.Bool.{eqb-true}
-use Rattle.std.proofs.lemmas.Map.Lookups.{exact_bytes}
+use Rattle.std.proofs.Common.{◌≡◌, ◌⊎◌, inl, inr, ⊎_elim, ℕ, ◌≤◌, List, ap, ◌∙◌, subst, arith, true, ◌&&◌, ◌==◌}
+use Rattle.std.proofs.lemmas.Bool.{eqb-true, and_parts}
 use Rattle.adr_stamp.specs.declared.Oid.{Oid}
-use Rattle.adr_stamp.specs.Order.{identifier_order}
+use Rattle.adr_vector.proofs.Cursors.{same_from_test}
 use Rattle.adr_model.specs.Take.{is_birth}
-use Rattle.adr_model.proofs.Keys.{equal_order}
 use Rattle.adr_model.specs.Member.{Member, Each}
 use Rattle.adr_model.specs.Update.{Update, RowOf, ends, inv_of, usn_of, same_identifier, class_attr, deleted_attr}
 use Rattle.adr_model.specs.Reflects.{Numbers, Covers, CoversBirth, AtMost, Supersedes, IsDeathOf, IsDeath, Knowledge, HoldsAtLeast, HoldsObject, IsTombstoned, IsPurged, Reflects}
@@ -130,18 +128,14 @@ more_issued issued more k u up (inl h) = inl h
 more_issued issued more k u up (inr (o, m, inl t)) = inr (o, m, inl t)
 more_issued issued more k u up (inr (o, m, inr g)) = inr (o, m, inr (more_issued_purged issued more k o up g))
 
--- a birth that carries its object's own write is covered where the object's birth is
+-- a birth carries its object's own write
+pub birth_is : (o : Oid) (b : Update) → is_birth o b ≡ true → (inv_of b ≡ o.birth.inv) × (usn_of b ≡ o.birth.usn)
+birth_is o b is = let p = and_parts ((b.stamp.stamp.version == 1) && same_identifier (inv_of b) o.birth.inv) (usn_of b == o.birth.usn) is in
+    (same_from_test (inv_of b) o.birth.inv (and_parts (b.stamp.stamp.version == 1) (same_identifier (inv_of b) o.birth.inv) p.0).1, eqb-true (usn_of b) o.birth.usn p.1)
+
+-- so it is covered where the object's birth is
 birth_covered : (k : Knowledge) (b : Update) (o : Oid) → is_birth o b ≡ true → CoversBirth k.vector o → Covers k.vector b
-birth_covered k b o is c = let p = three (b.stamp.stamp.version == 1) (same_identifier (inv_of b) o.birth.inv) (usn_of b == o.birth.usn) is in
-    let same : k.vector (inv_of b) ≡ k.vector o.birth.inv = ap k.vector (exact_bytes (inv_of b) o.birth.inv (equal_order (identifier_order (inv_of b) o.birth.inv) p.0)) in
-    let usn : usn_of b ≡ o.birth.usn = eqb-true (usn_of b) o.birth.usn p.1 in
-    omega (arith, c, same, usn)
-  where
-    three : (x y z : Bool) → (x && y && z) ≡ true → (y ≡ true) × (z ≡ true)
-    three true true true e = (refl, refl)
-    three true true false e = cc
-    three true false z e = cc
-    three false y z e = cc
+birth_covered k b o is c = let p = birth_is o b is in omega (arith, c, ap k.vector p.0, p.1)
 
 -- an object whose birth is covered and which isn't held was collected
 pub covered_absent : (issued : List Update) (k : Knowledge) (b : Update) (o : Oid) → Each (λ u. Covers k.vector u → Reflects issued k u) issued

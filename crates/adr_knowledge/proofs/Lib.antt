@@ -1,7 +1,11 @@
 pub mod Lists
+pub mod Counting
 pub mod Comparing
 pub mod Knows
 pub mod Winners
 pub mod Standing
 pub mod Shows
 pub mod View
+pub mod Refusing
+pub mod Fewer
+pub mod Raised

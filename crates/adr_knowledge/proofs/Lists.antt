@@ -1,5 +1,5 @@
 -- Lists that rise in an order: what is filtered of them rises, and their members alone tell them apart.
-use Rattle.std.proofs.Common.{◌≡◌, ◌⊎◌, inl, inr, ⊎_elim, List, [], ◌∷◌, Bool, true, false, cond, ◌&&◌, ◌||◌, Option, Some, None, refl, sym, ap, ◌∙◌, subst, filter, fold, filter_map}
+use Rattle.std.proofs.Common.{◌≡◌, ◌⊎◌, inl, inr, ⊎_elim, List, [], ◌∷◌, Bool, true, false, cond, ◌&&◌, ◌||◌, Option, Some, None, refl, sym, ap, ◌∙◌, subst, filter, find, fold, filter_map, ◌++◌, append-nil}
 use Rattle.std.specs.List.{list_any, list_all, cons_option}
 use Rattle.std.specs.Ordering.{match_ordering}
 use Rattle.std.specs.declared.cmp.Ordering.{Ordering}
@@ -13,6 +13,13 @@ use Rattle.adr_model.proofs.Members.{of_filter}
 use Rattle.adr_knowledge.specs.Rises.{Rises}
 
 module _ {A : Type 0} where
+  pub no_members : (xs : List A) → Each (λ x. ⊥) xs → xs ≡ []
+  no_members [] none = refl
+  no_members (x ∷ xs) none = absurd (none x (inl refl))
+
+  pub alone_from : (xs : List A) (x : A) → Member x (xs ++ []) → Member x xs
+  alone_from xs x m = subst (Member x) (append-nil xs) m
+
   -- tests that agree at each member
   pub same_filter : (test other : A → Bool) (xs : List A) → Each (λ x. test x ≡ other x) xs → filter test xs ≡ filter other xs
   same_filter test other [] same = refl
@@ -32,6 +39,14 @@ module _ {A : Type 0} where
       by : (b : Bool) → test y ≡ b → (b || list_any test ys) ≡ true → (list_any test ys ≡ true → (x : A) × Member x ys × (test x ≡ true)) → (x : A) × Member x (y ∷ ys) × (test x ≡ true)
       by true is any rest = (y, inl refl, is)
       by false is any rest = let t = rest any in (t.0, inr t.1, t.2)
+
+  pub found_member : (test : A → Bool) (xs : List A) (x : A) → find test xs ≡ Some x → Member x xs × (test x ≡ true)
+  found_member test [] x e = absurd (cc)
+  found_member test (y ∷ ys) x e = by (test y) refl e (found_member test ys x)
+    where
+      by : (b : Bool) → test y ≡ b → cond b (Some y) (find test ys) ≡ Some x → (find test ys ≡ Some x → Member x ys × (test x ≡ true)) → Member x (y ∷ ys) × (test x ≡ true)
+      by true is h rest = let same : x ≡ y = cc in (inl same, ap test same ∙ is)
+      by false is h rest = let t = rest h in (inr t.0, t.1)
 
   pub all_pass : (test : A → Bool) (xs : List A) → Each (λ x. test x ≡ true) xs → list_all test xs ≡ true
   all_pass test [] pass = refl

@@ -1,7 +1,7 @@
--- Which objects stand: those with a birth and no death.
-use Rattle.std.proofs.Common.{◌≡◌, ◌⊎◌, inl, inr, List, [], Bool, true, false, Some, None, refl, ap, ◌∙◌, not, ◌==◌, filter_map, if◌then◌else◌}
+-- Which objects there are, each by its birth, and which stand: those without a death.
+use Rattle.std.proofs.Common.{◌≡◌, ◌⊎◌, inl, inr, ◌≤◌, length, List, [], Bool, true, false, Some, None, refl, ap, ◌∙◌, not, ◌==◌, filter_map, if◌then◌else◌}
 use Rattle.std.specs.List.{list_any}
-use Rattle.std.proofs.lemmas.Bool.{eqb-true}
+use Rattle.std.proofs.lemmas.Bool.{eqb-true, not-true}
 use Rattle.adr_stamp.specs.declared.Oid.{Oid}
 use Rattle.adr_stamp.specs.Order.{object_order}
 use Rattle.adr_stamp.specs.contracts.OidOrd.TheImpl.Laws.{total-law as objects_total}
@@ -15,6 +15,7 @@ use Rattle.adr_knowledge.specs.Stands.{Stands}
 use Rattle.adr_knowledge.specs.Rises.{Rises}
 use Rattle.adr_knowledge.proofs.Comparing.{keys_tell, same_where_equal}
 use Rattle.adr_knowledge.proofs.Lists.{of_filter_map, in_filter_map, filter_rises, sorted_rises, of_sorted, in_sorted}
+use Rattle.adr_knowledge.proofs.Counting.{no_longer}
 
 birth_key : (k : Key) (o : Oid) → born k ≡ Some o → k ≡ RowOf o class_attr
 birth_key (RowOf p attr) o e = by (attr == class_attr) refl e
@@ -24,17 +25,26 @@ birth_key (RowOf p attr) o e = by (attr == class_attr) refl e
     by false is e = cc
 birth_key (LinkOf l) o e = cc
 
-born_once : (us : List Update) (o : Oid) → Member o (objects_of us) → (b : Update) × Member b us × (b.key ≡ RowOf o class_attr)
+pub born_once : (us : List Update) (o : Oid) → Member o (objects_of us) → (b : Update) × Member b us × (b.key ≡ RowOf o class_attr)
 born_once us o m = by (of_sorted object_order objects_total exact_objects (filter_map (λ (u : Update). born u.key) us) [] o m)
   where
     by : Member o (filter_map (λ (u : Update). born u.key) us) ⊎ ⊥ → (b : Update) × Member b us × (b.key ≡ RowOf o class_attr)
     by (inl n) = let t = of_filter_map (λ (u : Update). born u.key) us o n in (t.0, t.1, birth_key t.0.key o t.2)
     by (inr n) = absurd n
 
-among_objects : (us : List Update) (b : Update) (o : Oid) → Member b us → b.key ≡ RowOf o class_attr → Member o (objects_of us)
+pub among_objects : (us : List Update) (b : Update) (o : Oid) → Member b us → b.key ≡ RowOf o class_attr → Member o (objects_of us)
 among_objects us b o m is =
     in_sorted object_order objects_total exact_objects (filter_map (λ (u : Update). born u.key) us) [] o
     (in_filter_map (λ (u : Update). born u.key) us b o m (ap born is))
+
+objects_rise : (us : List Update) → Rises object_order (objects_of us)
+objects_rise us = sorted_rises object_order objects_total exact_objects (filter_map (λ (u : Update). born u.key) us) [] tt
+
+-- there are no more objects than in a list that has each object of which there is a class row
+pub objects_within : (us : List Update) (os : List Oid) → Each (λ b. (o : Oid) → b.key ≡ RowOf o class_attr → Member o os) us → length (objects_of us) ≤ length os
+objects_within us os each = no_longer object_order objects_total exact_objects (objects_of us) os
+    (objects_rise us)
+    (λ o m. let b = born_once us o m in each b.0 b.1 o b.2)
 
 pub of_standing : (us : List Update) (o : Oid) → Member o (standing us) → Stands us o
 of_standing us o m = record { birth = b.0; born = b.1; is_birth = b.2; alive = alive }
@@ -45,12 +55,8 @@ of_standing us o m = record { birth = b.0; born = b.1; is_birth = b.2; alive = a
     b : (b : Update) × Member b us × (b.key ≡ RowOf o class_attr)
     b = born_once us o t.0
 
-    no_death : (c : Bool) → not c ≡ true → c ≡ false
-    no_death true e = cc
-    no_death false e = refl
-
     alive : Each (λ d. IsDeathOf o d → ⊥) us
-    alive d n is = let f : is_death_of o d ≡ false = each_fails (is_death_of o) us (no_death (list_any (is_death_of o) us) t.1) d n in
+    alive d n is = let f : is_death_of o d ≡ false = each_fails (is_death_of o) us (not-true (list_any (is_death_of o) us) t.1) d n in
         let p : is_death_of o d ≡ true = same_where_equal d.key (RowOf o deleted_attr) is in absurd (cc)
 
 pub in_standing : (us : List Update) (o : Oid) → Stands us o → Member o (standing us)
@@ -66,4 +72,4 @@ in_standing us o s = in_filter (λ (p : Oid). not (list_any (is_death_of p) us))
 pub standing_rises : (us : List Update) → Rises object_order (standing us)
 standing_rises us =
     filter_rises object_order (λ (p : Oid). not (list_any (is_death_of p) us)) (objects_of us)
-    (sorted_rises object_order objects_total exact_objects (filter_map (λ (u : Update). born u.key) us) [] tt)
+    (objects_rise us)

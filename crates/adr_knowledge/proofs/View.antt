@@ -1,7 +1,6 @@
 -- What is visible to a store with sound knowledge is in its view.
-use Rattle.std.proofs.Common.{◌≡◌, ◌⊎◌, ◌↔◌, inl, inr, ⊎_elim, ◌≤◌, ◌<◌, List, Bool, true, false, ◌&&◌, ◌||◌, refl, sym, ap, ◌∙◌, subst, arith, nat_le}
-use Rattle.std.proofs.lemmas.Bool.{and_from, or_left, or_right}
-use Rattle.std.proofs.lemmas.Bool.Decides.{leb_tells}
+use Rattle.std.proofs.Common.{◌≡◌, ◌⊎◌, ◌↔◌, inl, inr, ⊎_elim, List, Bool, true, false, ◌&&◌, ◌||◌, refl, sym, ap, ◌∙◌, subst, arith}
+use Rattle.std.proofs.lemmas.Bool.{and_from, and_parts, or_left, or_right, leb-true, le-leb, or_cases}
 use Rattle.adr_vector.specs.Vector.{Cursors, at}
 use Rattle.adr_model.specs.Member.{Member, Each}
 use Rattle.adr_model.specs.Update.{Identifier, Update, inv_of, usn_of, at_least}
@@ -19,43 +18,24 @@ use Rattle.adr_knowledge.proofs.Winners.{one_of_stamp}
 use Rattle.adr_knowledge.proofs.Shows.{directory_same}
 
 pub covered_where_tested : (vector : Cursors) (u : Update) → covers_update vector u ≡ true → Covers (at vector) u
-covered_where_tested vector u e = by (leb_tells (usn_of u) (at vector (inv_of u)))
-  where
-    by : ((nat_le (usn_of u) (at vector (inv_of u)) ≡ true) × (usn_of u ≤ at vector (inv_of u))) ⊎ ((nat_le (usn_of u) (at vector (inv_of u)) ≡ false) × (at vector (inv_of u) < usn_of u)) → Covers (at vector) u
-    by (inl t) = t.1
-    by (inr t) = let f : nat_le (usn_of u) (at vector (inv_of u)) ≡ false = t.0 in absurd (cc)
+covered_where_tested vector u e = leb-true (usn_of u) (at vector (inv_of u)) e
 
 pub tested_where_covered : (vector : Cursors) (u : Update) → Covers (at vector) u → covers_update vector u ≡ true
-tested_where_covered vector u c = by (leb_tells (usn_of u) (at vector (inv_of u)))
-  where
-    by : ((nat_le (usn_of u) (at vector (inv_of u)) ≡ true) × (usn_of u ≤ at vector (inv_of u))) ⊎ ((nat_le (usn_of u) (at vector (inv_of u)) ≡ false) × (at vector (inv_of u) < usn_of u)) → covers_update vector u ≡ true
-    by (inl t) = t.0
-    by (inr t) = absurd (omega (arith, c, t.1))
+tested_where_covered vector u c = le-leb (usn_of u) (at vector (inv_of u)) c
 
 -- an update that is among those held, by its key and its stamp
 pub of_held : (rows : List Update) (u : Update) → is_held rows u ≡ true → (h : Update) × Member h rows × Supersedes h u × Supersedes u h
 of_held rows u e = let t = some_passes (λ (h : Update). at_least h u && at_least u h) rows e in
-    (t.0, t.1, supersedes_where_at_least t.0 u (first (at_least t.0 u) (at_least u t.0) t.2), supersedes_where_at_least u t.0 (second (at_least t.0 u) (at_least u t.0) t.2))
-  where
-    first : (a b : Bool) → (a && b) ≡ true → a ≡ true
-    first true b e = refl
-    first false b e = cc
-
-    second : (a b : Bool) → (a && b) ≡ true → b ≡ true
-    second true b e = e
-    second false b e = cc
+    let p = and_parts (at_least t.0 u) (at_least u t.0) t.2 in
+    (t.0, t.1, supersedes_where_at_least t.0 u p.0, supersedes_where_at_least u t.0 p.1)
 
 pub held_is_held : (rows : List Update) (u : Update) → Member u rows → is_held rows u ≡ true
 held_is_held rows u m = let self : at_least u u ≡ true = at_least_where_supersedes u u (supersedes_self u) in
     one_passes (λ (h : Update). at_least h u && at_least u h) rows u m (and_from _ _ self self)
 
-either_passes : (a b : Bool) → (a || b) ≡ true → (a ≡ true) ⊎ (b ≡ true)
-either_passes true b e = inl refl
-either_passes false b e = inr e
-
 pub of_visible : (issued : List Update) (vector : Cursors) (rows : List Update) (u : Update) → Member u (visible issued vector rows) → Member u issued × (Covers (at vector) u ⊎ (is_held rows u ≡ true))
 of_visible issued vector rows u m = let t = of_filter (λ (x : Update). covers_update vector x || is_held rows x) issued u m in
-    (t.0, ⊎_elim (λ c. inl (covered_where_tested vector u c)) (λ h. inr h) (either_passes (covers_update vector u) (is_held rows u) t.1))
+    (t.0, ⊎_elim (λ c. inl (covered_where_tested vector u c)) (λ h. inr h) (or_cases (covers_update vector u) (is_held rows u) t.1))
 
 pub covered_is_visible : (issued : List Update) (vector : Cursors) (rows : List Update) (u : Update) → Member u issued → Covers (at vector) u → Member u (visible issued vector rows)
 covered_is_visible issued vector rows u m c =

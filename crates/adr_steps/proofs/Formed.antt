@@ -3,12 +3,12 @@ use Rattle.std.proofs.Common.{◌≡◌, ◌⊎◌, inl, inr, ⊎_elim, ℕ, zer
 use Rattle.std.specs.Prelude.{IsSome}
 use Rattle.adr_stamp.specs.declared.Oid.{Oid}
 use Rattle.adr_stamp.specs.declared.LinkKey.{LinkKey}
-use Rattle.adr_stamp.specs.declared.Unit.TheVariants.{Object, Link}
+use Rattle.adr_stamp.specs.declared.Unit.TheVariants.{Object}
 use Rattle.adr_schema.specs.declared.content.Content.TheVariants.{Class, Name, Dead, Values}
 use Rattle.adr_schema.specs.Table.{Table, class_at}
 use Rattle.adr_schema.specs.Numbered.{numbered}
 use Rattle.adr_model.specs.Member.{Member, Each}
-use Rattle.adr_model.specs.Update.{Update, RowOf, LinkOf, Holds, unit_of, class_attr}
+use Rattle.adr_model.specs.Update.{Update, RowOf, LinkOf, Holds, class_attr}
 use Rattle.adr_model.specs.Reflects.{Numbers, HoldsObject}
 use Rattle.adr_model.specs.Store.{Held, updates_of}
 use Rattle.adr_model.specs.Take.{is_birth}
@@ -16,15 +16,12 @@ use Rattle.adr_model.specs.Formed.{AreRising, AreFormedRows, IsNamed, IsObjectFo
 use Rattle.adr_model.specs.Sound.{AreClassesKnown}
 use Rattle.adr_steps.specs.Puts.{MayPut, ArePut, AreClosed}
 use Rattle.adr_steps.specs.Forms.{IsWellSaid, MayChange, MayCome}
-use Rattle.adr_steps.proofs.FormedRows.{row_of_unit, object_or_not, stood}
+use Rattle.adr_steps.proofs.Rows.{row_of_unit, object_of_row, no_link_row}
+use Rattle.adr_steps.proofs.FormedRows.{object_or_not, stood}
 use Rattle.adr_steps.proofs.FormedMust.{must_above}
 use Rattle.adr_steps.proofs.FormedSame.{named_same, held_same, births_same, object_same}
 use Rattle.adr_steps.proofs.FormedObject.{births_put, changed_named, changed_formed, came_named, came_formed}
 use Rattle.adr_steps.proofs.FormedOther.{other_back, other_to, link_formed, closed_put}
-
--- a row of an object is no link's
-no_link : (u : Update) (o : Oid) (l : LinkKey) → unit_of u.key ≡ Object o → u.key ≡ LinkOf l → ⊥
-no_link u o l e is = let t : Link l ≡ Object o = ap unit_of (sym is) ∙ e in cc
 
 well_said : (table : Table) (before : List Update) (o : Oid) (class : ℕ) (us : List Update) → MayChange table before o class us ⊎ MayCome table before o class us → Each (IsWellSaid table class o) us
 well_said table before o class us (inl c) = c.said
@@ -86,16 +83,13 @@ module _ (schema usn : ℕ) (before after : List Held) (V : Numbers) (o : Oid) (
         by (inr n) = births_other q n
 
     none : (q : Oid) → Each (λ r. r.key ≡ RowOf q 0 → ⊥) (updates_of after)
-    none q r m is = ⊎_elim (λ n. let same : q ≡ o = mine q r (may.of_unit r n) is in (said r n).none (is ∙ ap (λ p. RowOf p 0) same)) (λ n. old.none q r n is) (stood usn before after us put r m)
-      where
-        mine : (p : Oid) (u : Update) → unit_of u.key ≡ Object o → u.key ≡ RowOf p 0 → p ≡ o
-        mine p u e key = let t : Object p ≡ Object o = ap unit_of (sym key) ∙ e in cc
+    none q r m is = ⊎_elim (λ n. let same : q ≡ o = object_of_row r.key o q 0 (may.of_unit r n) is in (said r n).none (is ∙ ap (λ p. RowOf p 0) same)) (λ n. old.none q r n is) (stood usn before after us put r m)
 
     links : (l : LinkKey) → Each (λ r. r.key ≡ LinkOf l → IsLinkFormed table (updates_of after) l) (updates_of after)
     links l r m is = by (stood usn before after us put r m)
       where
         by : Member r us ⊎ Member r (updates_of before) → IsLinkFormed table (updates_of after) l
-        by (inl n) = absurd (no_link r o l (may.of_unit r n) is)
+        by (inl n) = absurd (no_link_row r.key o l (may.of_unit r n) is)
         by (inr n) = let f : IsLinkFormed table (updates_of before) l = old.links l r n is in link_formed usn before after us put table r l m is f.forward f.from f.to
 
   known : (c : ℕ) → c ≡ class → AreClassesKnown table (updates_of before) → IsSome (class_at table c)
@@ -135,4 +129,4 @@ classes_stay_known schema usn before after V o class us old may put case u m c s
 
 pub objects_stay_closed : (usn : ℕ) (before after : List Held) (V : Numbers) (o : Oid) (us : List Update) → AreClosed V (updates_of before)
     → MayPut (updates_of before) V (Object o) us → ArePut usn us before after → AreClosed V (updates_of after)
-objects_stay_closed usn before after V o us old may put = closed_put usn before after us put V old (λ r n l is. absurd (no_link r o l (may.of_unit r n) is))
+objects_stay_closed usn before after V o us old may put = closed_put usn before after us put V old (λ r n l is. absurd (no_link_row r.key o l (may.of_unit r n) is))

@@ -1,6 +1,6 @@
 -- An object of which rows are put that keep to the schema is well formed.
 use Rattle.std.proofs.Common.{◌≡◌, ◌⊎◌, inl, inr, ⊎_elim, ℕ, ◌<◌, List, [], ◌∷◌, true, false, refl, sym, ap, ◌∙◌, subst, arith}
-use Rattle.std.specs.Prelude.{nat_le, nat_lt, None}
+use Rattle.std.specs.Prelude.{nat_le, None}
 use Rattle.std.proofs.lemmas.Bool.Decides.{nat_tests}
 use Rattle.adr_stamp.specs.declared.Oid.{Oid}
 use Rattle.adr_schema.specs.declared.content.Value.{Value as Datum}
@@ -16,8 +16,9 @@ use Rattle.adr_model.specs.Take.{is_birth, is_reserved_row}
 use Rattle.adr_model.specs.Formed.{AreRising, HasRow, IsNamed, KeepsSchema, IsDeadFormed, IsObjectFormed}
 use Rattle.adr_steps.specs.Puts.{ArePut}
 use Rattle.adr_steps.specs.Forms.{IsWellSaid, HasKey, MayChange, MayCome}
-use Rattle.adr_steps.proofs.FormedOnce.{update_once}
-use Rattle.adr_steps.proofs.FormedRows.{Fares, death_or_none, goes_of_object, reserved_stays, value_goes, stands, stood, fares, bare}
+use Rattle.adr_steps.proofs.Rows.{reserved_stays}
+use Rattle.adr_steps.proofs.Rising.{one_update}
+use Rattle.adr_steps.proofs.FormedRows.{Fares, death_or_none, goes_of_object, value_goes, stands, stood, fares, bare}
 
 -- values that an attribute is full of
 abbrev IsFilled : Said → Type 0
@@ -42,12 +43,12 @@ module _ (table : Table) (usn : ℕ) (before after : List Held) (o : Oid) (class
   written_row attr P says (u, m, is) = (u, stands usn before after us p u m, is, says u m is)
 
   -- a row that no death takes, or one of its key
-  reserved_row : (attr : ℕ) (P : Said → Type 0) → nat_lt deleted_attr attr ≡ false → ((u : Update) → Member u us → u.key ≡ RowOf o attr → P u.said) → HasRow (updates_of before) o attr P → HasRow (updates_of after) o attr P
+  reserved_row : (attr : ℕ) (P : Said → Type 0) → is_reserved_row (RowOf o attr) ≡ true → ((u : Update) → Member u us → u.key ≡ RowOf o attr → P u.said) → HasRow (updates_of before) o attr P → HasRow (updates_of after) o attr P
   reserved_row attr P low says (r, m, is, old) = by (fares usn before after us p r m)
     where
       by : Fares us (updates_of after) r → HasRow (updates_of after) o attr P
       by (inl (u, n, same)) = written_row attr P says (u, n, same ∙ is)
-      by (inr (inl (d, q, n, death, g))) = let t : goes_with q (RowOf o attr) ≡ true = ap (goes_with q) (sym is) ∙ g in let f : goes_with q (RowOf o attr) ≡ false = reserved_stays q o attr low in cc
+      by (inr (inl (d, q, n, death, g))) = let t : goes_with q (RowOf o attr) ≡ true = ap (goes_with q) (sym is) ∙ g in let f : goes_with q (RowOf o attr) ≡ false = reserved_stays q (RowOf o attr) low in cc
       by (inr (inr n)) = (r, n, is, old)
 
   -- a row where there is no death, or one of its key
@@ -90,7 +91,7 @@ module _ (table : Table) (usn : ℕ) (before after : List Held) (o : Oid) (class
     where
       of_class : (other : ℕ) → HasRow (updates_of after) o class_attr (λ s. s ≡ Holds (Class other)) → KeepsSchema table (updates_of after) o other
       of_class other (t, n, same, tells) =
-          let one : r ≡ t = update_once after r t rising m n (is ∙ sym same) in
+          let one : r ≡ t = one_update after rising r m t n (is ∙ sym same) in
           let agree : class ≡ other = cc in
           subst (KeepsSchema table (updates_of after) o) agree keeps
 

@@ -6,23 +6,19 @@ use Rattle.std.proofs.lemmas.Bool.{or_left, or_right}
 use Rattle.std.proofs.lemmas.Bool.Decides.{nat_tests}
 use Rattle.adr_stamp.specs.declared.Oid.{Oid}
 use Rattle.adr_stamp.specs.declared.LinkKey.{LinkKey}
-use Rattle.adr_stamp.specs.declared.Unit.TheVariants.{Object}
 use Rattle.adr_model.specs.Member.{Member, Each}
-use Rattle.adr_model.specs.Update.{Key, RowOf, LinkOf, Update, unit_of, same_object, is_death_of, deleted_attr}
+use Rattle.adr_model.specs.Update.{RowOf, LinkOf, Update, same_object, is_death_of, deleted_attr}
 use Rattle.adr_model.specs.Reflects.{IsDeathOf}
 use Rattle.adr_model.specs.Store.{Held, updates_of}
 use Rattle.adr_model.specs.Change.{goes_with}
-use Rattle.adr_model.proofs.Members.{mapped_member, member_mapped, each_fails}
+use Rattle.adr_model.proofs.Members.{mapped_member, each_fails}
 use Rattle.adr_knowledge.proofs.Comparing.{keys_tell, same_where_equal, objects_tell, objects_same}
 use Rattle.adr_knowledge.proofs.Lists.{some_passes}
+use Rattle.adr_knowledge.proofs.Knows.{only_end}
 use Rattle.adr_steps.specs.Puts.{held_at, under, IsReplaced, IsStripped, ArePut}
+use Rattle.adr_steps.proofs.Rows.{updated, held_as, about}
 
 -- ---- keys
-
--- a key of an object's unit is of one of its rows
-pub row_of_unit : (k : Key) (o : Oid) → unit_of k ≡ Object o → (attr : ℕ) × (k ≡ RowOf o attr)
-row_of_unit (RowOf p a) o e = let same : p ≡ o = cc in (a, ap (λ q. RowOf q a) same)
-row_of_unit (LinkOf l) o e = absurd (cc)
 
 pub object_or_not : (p o : Oid) → (p ≡ o) ⊎ (p ≡ o → ⊥)
 object_or_not p o = by (same_object p o) refl
@@ -34,18 +30,7 @@ object_or_not p o = by (same_object p o) refl
 -- ---- what goes with an object
 
 pub goes_of_object : (o p : Oid) (attr : ℕ) → goes_with o (RowOf p attr) ≡ true → p ≡ o
-goes_of_object o p attr g = by (same_object p o) refl g
-  where
-    by : (b : Bool) → same_object p o ≡ b → (if b then nat_lt deleted_attr attr else false) ≡ true → p ≡ o
-    by true is h = objects_tell p o is
-    by false is h = cc
-
-pub reserved_stays : (o p : Oid) (attr : ℕ) → nat_lt deleted_attr attr ≡ false → goes_with o (RowOf p attr) ≡ false
-reserved_stays o p attr low = by (same_object p o)
-  where
-    by : (b : Bool) → (if b then nat_lt deleted_attr attr else false) ≡ false
-    by true = low
-    by false = refl
+goes_of_object o p attr g = sym (only_end p attr o (about o (RowOf p attr) g))
 
 pub value_goes : (o : Oid) (attr : ℕ) → deleted_attr < attr → goes_with o (RowOf o attr) ≡ true
 value_goes o attr above = ap (λ b. if b then nat_lt deleted_attr attr else false) (objects_same o o refl) ∙ grind (arith, nat_tests)
@@ -71,22 +56,22 @@ Fares us after r = ((u : Update) × Member u us × (u.key ≡ r.key)) ⊎ (((d :
 
 module _ (usn : ℕ) (before after : List Held) (us : List Update) (p : ArePut usn us before after) where
   pub stands : Each (λ u. Member u (updates_of after)) us
-  stands u m = member_mapped (λ (h : Held). h.update) after (held_at usn u) (p.written u m)
+  stands u m = updated after (held_at usn u) (p.written u m)
 
   pub stood : (r : Update) → Member r (updates_of after) → Member r us ⊎ Member r (updates_of before)
-  stood r m = let t = mapped_member (λ (h : Held). h.update) after r m in by t.0 t.2 (p.from t.0 t.1)
+  stood r m = let t = held_as after r m in by t.0 t.2 (p.from t.0 t.1)
     where
       by : (x : Held) → r ≡ x.update → Member x (under usn us) ⊎ Member x before → Member r us ⊎ Member r (updates_of before)
       by x e (inl n) = let t = mapped_member (held_at usn) us x n in inl (subst (λ (z : Update). Member z us) (sym (e ∙ ap (λ (h : Held). h.update) t.2)) t.1)
-      by x e (inr n) = inr (subst (λ (z : Update). Member z (updates_of before)) (sym e) (member_mapped (λ (h : Held). h.update) before x n))
+      by x e (inr n) = inr (subst (λ (z : Update). Member z (updates_of before)) (sym e) (updated before x n))
 
   pub fares : Each (Fares us (updates_of after)) (updates_of before)
-  fares r m = let t = mapped_member (λ (h : Held). h.update) before r m in by t.0 t.2 (p.kept t.0 t.1)
+  fares r m = let t = held_as before r m in by t.0 t.2 (p.kept t.0 t.1)
     where
       by : (x : Held) → r ≡ x.update → IsReplaced us x ⊎ (IsStripped us x ⊎ Member x after) → Fares us (updates_of after) r
       by x e (inl (u, n, same)) = inl (u, n, same ∙ sym (ap (λ (z : Update). z.key) e))
       by x e (inr (inl (d, o, n, is, g))) = inr (inl (d, o, n, is, ap (λ (z : Update). goes_with o z.key) e ∙ g))
-      by x e (inr (inr n)) = inr (inr (subst (λ (z : Update). Member z (updates_of after)) (sym e) (member_mapped (λ (h : Held). h.update) after x n)))
+      by x e (inr (inr n)) = inr (inr (subst (λ (z : Update). Member z (updates_of after)) (sym e) (updated after x n)))
 
   pub bare : (d r : Update) (o : Oid) → Member d us → IsDeathOf o d → Member r (updates_of after) → goes_with o r.key ≡ false
-  bare d r o m is n = let t = mapped_member (λ (h : Held). h.update) after r n in ap (λ (u : Update). goes_with o u.key) t.2 ∙ p.bare d m o is t.0 t.1
+  bare d r o m is n = let t = held_as after r n in ap (λ (u : Update). goes_with o u.key) t.2 ∙ p.bare d m o is t.0 t.1

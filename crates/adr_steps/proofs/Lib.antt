@@ -5,9 +5,9 @@ pub mod Rising
 pub mod Order
 pub mod FormedRows
 pub mod FormedMust
-pub mod FormedOnce
 pub mod FormedSame
 pub mod FormedObject
 pub mod FormedOther
 pub mod Formed
 pub mod Links
+pub mod Counts

@@ -6,18 +6,15 @@ use Rattle.adr_stamp.specs.declared.Unit.TheVariants.{Object, Link}
 use Rattle.adr_schema.specs.Table.{kind_at, is_forward}
 use Rattle.adr_schema.specs.Numbered.{numbered}
 use Rattle.adr_model.specs.Member.{Member, Each}
-use Rattle.adr_model.specs.Update.{Update, RowOf, LinkOf, unit_of, ends}
+use Rattle.adr_model.specs.Update.{Update, RowOf, LinkOf, ends}
 use Rattle.adr_model.specs.Reflects.{Numbers, CoversBirth, HoldsObject, IsTombstoned}
 use Rattle.adr_model.specs.Store.{Held, updates_of}
 use Rattle.adr_model.specs.Formed.{AreFormedRows, IsLinkFormed}
 use Rattle.adr_steps.specs.Puts.{MayPut, ArePut, AreClosed}
+use Rattle.adr_steps.proofs.Rows.{same_link}
 use Rattle.adr_steps.proofs.FormedRows.{stood}
 use Rattle.adr_steps.proofs.FormedSame.{named_same, held_same, births_same, object_same}
 use Rattle.adr_steps.proofs.FormedOther.{other_back, other_to, link_formed, closed_put}
-
--- a key of the link's unit is of the link
-same_link : (u : Update) (l k : LinkKey) → unit_of u.key ≡ Link l → u.key ≡ LinkOf k → k ≡ l
-same_link u l k e is = let t : Link k ≡ Link l = ap unit_of (sym is) ∙ e in cc
 
 module _ (schema usn : ℕ) (before after : List Held) (V : Numbers) (l : LinkKey) (us : List Update) (old : AreFormedRows (numbered schema) (updates_of before))
     (may : MayPut (updates_of before) V (Link l) us) (put : ArePut usn us before after)
@@ -38,7 +35,7 @@ module _ (schema usn : ℕ) (before after : List Held) (V : Numbers) (l : LinkKe
   linked k r m is = by (stood usn before after us put r m)
     where
       by : Member r us ⊎ Member r (updates_of before) → IsLinkFormed (numbered schema) (updates_of after) k
-      by (inl n) = let same : k ≡ l = same_link r l k (may.of_unit r n) is in subst (IsLinkFormed (numbered schema) (updates_of after)) (sym same) (linked_itself r m (is ∙ ap LinkOf same))
+      by (inl n) = let same : k ≡ l = same_link r.key l k (may.of_unit r n) is in subst (IsLinkFormed (numbered schema) (updates_of after)) (sym same) (linked_itself r m (is ∙ ap LinkOf same))
       by (inr n) = let f : IsLinkFormed (numbered schema) (updates_of before) k = old.links k r n is in link_formed usn before after us put (numbered schema) r k m is f.forward f.from f.to
 
   formed_links : AreFormedRows (numbered schema) (updates_of after)
@@ -61,4 +58,4 @@ pub links_stay_closed : (usn : ℕ) (before after : List Held) (V : Numbers) (l 
 links_stay_closed usn before after V l us old may put held = closed_put usn before after us put V old new
   where
     new : Each (λ r. (k : LinkKey) → r.key ≡ LinkOf k → Each (λ o. HoldsObject (updates_of before) o ⊎ (CoversBirth V o → ⊥)) (ends (LinkOf k))) us
-    new r m k is o n = held o (subst (λ (z : LinkKey). Member o (ends (LinkOf z))) (same_link r l k (may.of_unit r m) is) n)
+    new r m k is o n = held o (subst (λ (z : LinkKey). Member o (ends (LinkOf z))) (same_link r.key l k (may.of_unit r m) is) n)

@@ -1,5 +1,5 @@
 -- The last local USN of a unit bounds its rows, is reached, and is told by these alone.
-use Rattle.std.proofs.Common.{◌≡◌, inl, inr, ℕ, ◌≤◌, List, [], ◌∷◌, Bool, true, false, refl, sym, ◌∙◌, subst, ap, arith, fold, max, if◌then◌else◌}
+use Rattle.std.proofs.Common.{◌≡◌, ◌⊎◌, inl, inr, ℕ, ◌≤◌, List, [], ◌∷◌, Bool, true, false, refl, sym, ◌∙◌, subst, ap, arith, fold, max, if◌then◌else◌}
 use Rattle.std.specs.Ordering.{is_eq}
 use Rattle.std.proofs.lemmas.Cmp.{tied_itself}
 use Rattle.adr_stamp.specs.declared.Unit.{Unit as Named}
@@ -16,6 +16,13 @@ units_tell a b h = exact_units a b (equal_order (unit_order a b) h)
 
 pub units_same : (a b : Named) → a ≡ b → same_unit a b ≡ true
 units_same a b e = ap (λ c. same_unit a c) (sym e) ∙ ap is_eq (tied_itself units_total a)
+
+pub unit_or_not : (a b : Named) → (a ≡ b) ⊎ (a ≡ b → ⊥)
+unit_or_not a b = by (same_unit a b) refl
+  where
+    by : (t : Bool) → same_unit a b ≡ t → (a ≡ b) ⊎ (a ≡ b → ⊥)
+    by true is = inl (units_tell a b is)
+    by false is = inr (λ e. let t = units_same a b e in cc)
 
 module _ (unit : Named) where
   abbrev further : ℕ → Held → ℕ

@@ -5,7 +5,7 @@ use Rattle.adr_stamp.specs.declared.Oid.{Oid}
 use Rattle.adr_stamp.specs.declared.Unit.{Unit as Named}
 use Rattle.adr_stamp.specs.declared.Unit.TheVariants.{Object}
 use Rattle.adr_model.specs.Member.{Member, Each}
-use Rattle.adr_model.specs.Update.{Key, RowOf, LinkOf, Update, same_object, same_unit, unit_of, deleted_attr}
+use Rattle.adr_model.specs.Update.{Key, RowOf, LinkOf, Update, same_object, unit_of, deleted_attr}
 use Rattle.adr_model.specs.Reflects.{Numbers}
 use Rattle.adr_model.specs.Store.{Held, updates_of}
 use Rattle.adr_model.specs.Serve.{last_local}
@@ -14,11 +14,8 @@ use Rattle.adr_model.specs.Formed.{AreRising, AreAlone}
 use Rattle.adr_model.proofs.Members.{mapped_member}
 use Rattle.adr_knowledge.proofs.Comparing.{objects_tell}
 use Rattle.adr_steps.specs.Puts.{held_at, under, MayPut, IsReplaced, IsStripped, ArePut}
-use Rattle.adr_steps.proofs.Locals.{units_tell, units_same, within_last, last_within, same_last}
-use Rattle.adr_steps.proofs.Rising.{one_of_rising, put_rises}
-
-pub one_of_key : (rows : List Held) → AreRising rows → Each (λ x. Each (λ y. x.update.key ≡ y.update.key → x ≡ y) rows) rows
-one_of_key = one_of_rising
+use Rattle.adr_steps.proofs.Locals.{unit_or_not, within_last, last_within, same_last}
+use Rattle.adr_steps.proofs.Rising.{put_rises}
 
 pub puts_rise : (rows hs : List Held) → AreRising rows → AreRising (fold put rows hs)
 puts_rise rows [] r = r
@@ -27,7 +24,7 @@ puts_rise rows (h ∷ hs) r = puts_rise (put rows h) hs (put_rises rows h r)
 -- ---- last local USNs
 
 -- what goes with an object and isn't of it is a link, and goes whole
-goes_whole : (o : Oid) (k l : Key) → goes_with o k ≡ true → unit_of k ≡ unit_of l → (unit_of l ≡ Object o → ⊥) → goes_with o l ≡ true
+pub goes_whole : (o : Oid) (k l : Key) → goes_with o k ≡ true → unit_of k ≡ unit_of l → (unit_of l ≡ Object o → ⊥) → goes_with o l ≡ true
 goes_whole o (RowOf p a) (RowOf q b) g e other = by (same_object p o) refl g
   where
     by : (t : Bool) → same_object p o ≡ t → (if t then nat_lt deleted_attr a else false) ≡ true → goes_with o (RowOf q b) ≡ true
@@ -93,14 +90,11 @@ module _ (last usn : ℕ) (before after : List Held) (V : Numbers) (unit : Named
     where
       by : (vs : List Update) → us ≡ vs → Stands h
       by [] none = inr (⊎_elim (λ n. absurd (let u = mapped_member (held_at usn) us h n in subst (λ (ws : List Update). Member u.0 ws) none u.1)) (λ n. n) (are.from h m), all_stays none (unit_of h.update.key))
-      by (v ∷ vs) some = on (same_unit (unit_of h.update.key) unit) refl
+      by (v ∷ vs) some = on (unit_or_not (unit_of h.update.key) unit)
         where
-          on : (b : Bool) → same_unit (unit_of h.update.key) unit ≡ b → Stands h
-          on true is = let e = units_tell (unit_of h.update.key) unit is in inl (e, ap (last_local after) e ∙ comes_last v (subst (λ (ws : List Update). Member v ws) (sym some) (inl refl)))
-          on false is = inr (⊎_elim (λ t. absurd (other t.0)) (λ n. n) (whence h m), other_stays h m other)
-            where
-              other : unit_of h.update.key ≡ unit → ⊥
-              other e = let t = units_same (unit_of h.update.key) unit e in cc
+          on : (unit_of h.update.key ≡ unit) ⊎ (unit_of h.update.key ≡ unit → ⊥) → Stands h
+          on (inl e) = inl (e, ap (last_local after) e ∙ comes_last v (subst (λ (ws : List Update). Member v ws) (sym some) (inl refl)))
+          on (inr other) = inr (⊎_elim (λ t. absurd (other t.0)) (λ n. n) (whence h m), other_stays h m other)
 
   stay_alone : AreAlone before → AreAlone after
   stay_alone alone h m g n e = by (how_it_stands h m) (how_it_stands g n)

@@ -1,20 +1,19 @@
 -- Rows of one unit that were put stand behind it, and nothing that was taken is lost.
-use Rattle.std.proofs.Common.{◌≡◌, ◌⊎◌, inl, inr, ⊎_elim, ℕ, List, [], ◌∷◌, Bool, true, false, refl, sym, ap, ◌∙◌, subst, arith, fold, if◌then◌else◌, ◌||◌}
-use Rattle.std.specs.Prelude.{nat_lt}
+use Rattle.std.proofs.Common.{◌≡◌, ◌⊎◌, inl, inr, ⊎_elim, ℕ, List, [], ◌∷◌, true, false, refl, sym, ap, ◌∙◌, subst, arith, fold}
 use Rattle.adr_stamp.specs.declared.Oid.{Oid}
 use Rattle.adr_stamp.specs.declared.Unit.{Unit as Named}
 use Rattle.adr_model.specs.Member.{Member, Each}
-use Rattle.adr_model.specs.Update.{Key, RowOf, LinkOf, Update, ends, same_object, unit_of, deleted_attr}
+use Rattle.adr_model.specs.Update.{RowOf, Update, ends, unit_of, deleted_attr}
 use Rattle.adr_model.specs.Reflects.{Numbers, AtMost, Knowledge, IsDeath, IsDeathOf, HoldsAtLeast, HoldsObject, IsTombstoned, IsPurged}
 use Rattle.adr_model.specs.Store.{Held, updates_of}
 use Rattle.adr_model.specs.Change.{goes_with, put}
 use Rattle.adr_model.specs.Take.{is_reserved_row}
-use Rattle.adr_model.proofs.Members.{member_mapped, mapped_member}
+use Rattle.adr_model.proofs.Members.{mapped_member}
 use Rattle.adr_knowledge.specs.Grows.{IsOutlived, Grows}
-use Rattle.adr_knowledge.proofs.Comparing.{objects_tell, supersedes_self}
+use Rattle.adr_knowledge.proofs.Comparing.{supersedes_self}
 use Rattle.adr_knowledge.proofs.Knows.{only_end}
 use Rattle.adr_steps.specs.Puts.{held_at, under, MayPut, IsReplaced, IsStripped, ArePut}
-use Rattle.adr_steps.proofs.Rows.{reserved_stays, death_stays, put_itself, put_from, put_keeps, put_bare}
+use Rattle.adr_steps.proofs.Rows.{updated, held_as, about, reserved_stays, death_stays, put_itself, put_keeps, put_bare, puts_from}
 
 -- ---- rows are put one after the other
 
@@ -25,10 +24,6 @@ abbrev Bare : List Update → Type 0
 Bare us = Each (λ d. IsDeath d → Each (λ u. is_reserved_row u.key ≡ true) us) us
 
 module _ (usn : ℕ) where
-  puts_from : (us : List Update) (rows : List Held) (x : Held) → Member x (fold put rows (under usn us)) → Member x (under usn us) ⊎ Member x rows
-  puts_from [] rows x m = inr m
-  puts_from (u ∷ us) rows x m = ⊎_elim (λ l. inl (inr l)) (λ r. ⊎_elim (λ e. inl (inl e)) (λ i. inr i) (put_from rows (held_at usn u) x r)) (puts_from us (put rows (held_at usn u)) x m)
-
   puts_keep : (us : List Update) (rows : List Held) (x : Held) → Member x rows → IsReplaced us x ⊎ (IsStripped us x ⊎ Member x (fold put rows (under usn us)))
   puts_keep [] rows x m = inr (inr m)
   puts_keep (u ∷ us) rows x m = ⊎_elim (λ e. inl (u, inl refl, e))
@@ -63,45 +58,28 @@ module _ (usn : ℕ) where
   puts_bare (v ∷ us) rows bare d (inl same) o is x n = ⊎_elim
       (λ i. let t = mapped_member (held_at usn) us x i in reserved_stays o x.update.key (ap (λ (h : Held). is_reserved_row h.update.key) t.2 ∙ bare d (inl same) (o, is) t.0 (inr t.1)))
       (λ i. put_bare rows (held_at usn v) o (ap (λ (u : Update). u.key) (sym same) ∙ is) x i)
-      (puts_from us (put rows (held_at usn v)) x n)
+      (puts_from (under usn us) (put rows (held_at usn v)) x n)
 
 pub are_put : (usn : ℕ) (before : List Held) (V : Numbers) (unit : Named) (us : List Update) → MayPut (updates_of before) V unit us → ArePut usn us before (fold put before (under usn us))
 are_put usn before V unit us may = record {
   written = puts_write usn us before may.alone may.bare;
-  from = puts_from usn us before;
+  from = puts_from (under usn us) before;
   kept = puts_keep usn us before;
   bare = puts_bare usn us before may.bare;
 }
 
 -- ---- what was taken is kept
 
--- what goes with an object is about it
-about : (o : Oid) (k : Key) → goes_with o k ≡ true → Member o (ends k)
-about o (RowOf p a) g = by (same_object p o) refl g
-  where
-    by : (b : Bool) → same_object p o ≡ b → (if b then nat_lt deleted_attr a else false) ≡ true → Member o (p ∷ [])
-    by true is h = inl (sym (objects_tell p o is))
-    by false is h = cc
-about o (LinkOf l) g = by (same_object l.from o) (same_object l.to o) refl refl g
-  where
-    by : (b c : Bool) → same_object l.from o ≡ b → same_object l.to o ≡ c → (b || c) ≡ true → Member o (l.from ∷ l.to ∷ [])
-    by true c is other h = inl (sym (objects_tell l.from o is))
-    by false true is other h = inr (inl (sym (objects_tell l.to o other)))
-    by false false is other h = cc
-
 never_dies : (o : Oid) (u : Update) → goes_with o u.key ≡ true → IsDeath u → ⊥
 never_dies o u g d = let f : goes_with o u.key ≡ false = death_stays o d.0 u.key d.1 in cc
 
 module _ (usn : ℕ) (before after : List Held) (us : List Update) (are : ArePut usn us before after) where
-  updated : (hs : List Held) (x : Held) → Member x hs → Member x.update (updates_of hs)
-  updated = member_mapped (λ (h : Held). h.update)
-
   stands : (u : Update) → Member u us → Member u (updates_of after)
   stands u m = updated after (held_at usn u) (are.written u m)
 
   -- a row that no death takes stands, or another one of its key does
   stays : (r : Update) → Member r (updates_of before) → ((o : Oid) → goes_with o r.key ≡ true → ⊥) → (s : Update) × Member s (updates_of after) × (s.key ≡ r.key)
-  stays r m never = let x = mapped_member (λ (h : Held). h.update) before r m in by x.0 x.2 (are.kept x.0 x.1)
+  stays r m never = let x = held_as before r m in by x.0 x.2 (are.kept x.0 x.1)
     where
       by : (x : Held) → r ≡ x.update → IsReplaced us x ⊎ (IsStripped us x ⊎ Member x after) → (s : Update) × Member s (updates_of after) × (s.key ≡ r.key)
       by x is (inl (u, n, e)) = (u, stands u n, e ∙ ap (λ (v : Update). v.key) (sym is))
@@ -112,7 +90,7 @@ module _ (usn : ℕ) (before after : List Held) (us : List Update) (are : ArePut
   tombstones_stay o (r, m, is) = let s = stays r m (λ p g. never_dies p r g (o, is)) in (s.0, s.1, s.2 ∙ is)
 
   object_stays : (o : Oid) → HoldsObject (updates_of before) o → HoldsObject (updates_of after) o
-  object_stays o (r, attr, m, is) = let x = mapped_member (λ (h : Held). h.update) before r m in by x.0 (ap (λ (v : Update). v.key) (sym x.2) ∙ is) (are.kept x.0 x.1)
+  object_stays o (r, attr, m, is) = let x = held_as before r m in by x.0 (ap (λ (v : Update). v.key) (sym x.2) ∙ is) (are.kept x.0 x.1)
     where
       by : (x : Held) → x.update.key ≡ RowOf o attr → IsReplaced us x ⊎ (IsStripped us x ⊎ Member x after) → HoldsObject (updates_of after) o
       by x e (inl (u, n, same)) = (u, attr, stands u n, same ∙ e)
@@ -127,7 +105,7 @@ module _ (usn : ℕ) (before after : List Held) (us : List Update) (are : ArePut
     becomes = record { rows = updates_of after; vector = V; purged = P }
 
     row_grows : Each (λ r. HoldsAtLeast (updates_of after) r ⊎ IsOutlived issued becomes r) (updates_of before)
-    row_grows r m = let x = mapped_member (λ (h : Held). h.update) before r m in
+    row_grows r m = let x = held_as before r m in
         subst (λ (v : Update). HoldsAtLeast (updates_of after) v ⊎ IsOutlived issued becomes v) (sym x.2) (by x.0 (subst (λ (v : Update). Member v (updates_of before)) x.2 m) (are.kept x.0 x.1))
       where
         by : (x : Held) → Member x.update (updates_of before) → IsReplaced us x ⊎ (IsStripped us x ⊎ Member x after) → HoldsAtLeast (updates_of after) x.update ⊎ IsOutlived issued becomes x.update
@@ -137,7 +115,7 @@ module _ (usn : ℕ) (before after : List Held) (us : List Update) (are : ArePut
 
     -- an object that was collected doesn't come again
     stays_absent : (o : Oid) → IsPurged issued was o → HoldsObject (updates_of after) o → ⊥
-    stays_absent o p (r, attr, m, is) = let x = mapped_member (λ (h : Held). h.update) after r m in by x.0 (ap (λ (v : Update). v.key) (sym x.2) ∙ is) (are.from x.0 x.1)
+    stays_absent o p (r, attr, m, is) = let x = held_as after r m in by x.0 (ap (λ (v : Update). v.key) (sym x.2) ∙ is) (are.from x.0 x.1)
       where
         by : (x : Held) → x.update.key ≡ RowOf o attr → Member x (under usn us) ⊎ Member x before → ⊥
         by x e (inr n) = p.absent (x.update, attr, updated before x n, e)

@@ -1,21 +1,22 @@
 -- Rows in order of their keys stay so where one is put.
-use Rattle.std.proofs.Common.{◌≡◌, inl, inr, List, [], ◌∷◌, Bool, true, false, cond, refl, sym, ap, ◌∙◌, subst, filter, map, Option, Some, None, not}
+use Rattle.std.proofs.Common.{◌≡◌, List, [], ◌∷◌, Bool, true, false, cond, refl, sym, ap, ◌∙◌, subst, filter, map, Option, Some, None, not}
 use Rattle.std.specs.List.{AllByRecursion}
 use Rattle.std.specs.List.Sorted.{IsStrictlySortedBy}
 use Rattle.std.specs.Ordering.{match_ordering, ordering_reverse}
 use Rattle.std.specs.declared.cmp.Ordering.{Ordering}
 use Rattle.std.specs.declared.cmp.Ordering.TheVariants.{Less, Equal, Greater}
-use Rattle.std.proofs.lemmas.Cmp.{tied_itself}
 use Rattle.std.proofs.lemmas.List.Kept.{IsStrictlySortedBy-filter}
 use Rattle.std.proofs.lemmas.Map.Keys.{sorted_head, sorted_tail}
 use Rattle.adr_stamp.specs.declared.Oid.{Oid}
-use Rattle.adr_model.specs.Member.{Member}
-use Rattle.adr_model.specs.Update.{Key, key_order}
-use Rattle.adr_model.specs.Store.{Held, with_row}
+use Rattle.adr_model.specs.Member.{Each}
+use Rattle.adr_model.specs.Update.{Key, Update, key_order}
+use Rattle.adr_model.specs.Store.{Held, updates_of, with_row}
 use Rattle.adr_model.specs.Change.{goes_with, killed_by, stripped, put}
 use Rattle.adr_model.specs.Formed.{AreRising}
 use Rattle.adr_model.proofs.Keys.{exact_keys}
 use Rattle.adr_knowledge.proofs.Comparing.{keys_total}
+use Rattle.adr_knowledge.proofs.Counting.{rises_from, one_of_each}
+use Rattle.adr_steps.proofs.Rows.{held_as}
 
 -- a key below those of all these rows
 abbrev IsBelow : Key → List Held → Type 0
@@ -42,22 +43,16 @@ below_all k l (x ∷ xs) less b = (keys_total.trans k l x.update.key less b.0, b
 below_same : (k l : Key) (xs : List Held) → k ≡ l → IsBelow l xs → IsBelow k xs
 below_same k l xs e b = subst (λ m. IsBelow m xs) (sym e) b
 
-below_member : (k : Key) (xs : List Held) (x : Held) → IsBelow k xs → Member x xs → key_order k x.update.key ≡ Less
-below_member k [] x b m = absurd m
-below_member k (y ∷ ys) x b (inl e) = ap (λ (z : Held). key_order k z.update.key) e ∙ b.0
-below_member k (y ∷ ys) x b (inr m) = below_member k ys x b.1 m
-
 -- ---- of each key one
 
-apart : (k l : Key) → key_order k l ≡ Less → k ≡ l → ⊥
-apart k l less e = let tie : key_order k l ≡ Equal = ap (key_order k) (sym e) ∙ tied_itself keys_total k in cc
+pub one_of_key : (rows : List Held) → AreRising rows → Each (λ x. Each (λ y. x.update.key ≡ y.update.key → x ≡ y) rows) rows
+one_of_key rows r = one_of_each key_order keys_total (λ (h : Held). h.update.key) rows (rises_from key_order (map (λ (h : Held). h.update.key) rows) r)
 
-pub one_of_rising : (rows : List Held) → AreRising rows → (x : Held) → Member x rows → (y : Held) → Member y rows → x.update.key ≡ y.update.key → x ≡ y
-one_of_rising [] r x m y n e = absurd m
-one_of_rising (z ∷ zs) r x (inl p) y (inl q) e = p ∙ sym q
-one_of_rising (z ∷ zs) r x (inl p) y (inr n) e = absurd (apart z.update.key y.update.key (below_member z.update.key zs y (head_below z zs r) n) (ap (λ (h : Held). h.update.key) (sym p) ∙ e))
-one_of_rising (z ∷ zs) r x (inr m) y (inl q) e = absurd (apart z.update.key x.update.key (below_member z.update.key zs x (head_below z zs r) m) (ap (λ (h : Held). h.update.key) (sym q) ∙ sym e))
-one_of_rising (z ∷ zs) r x (inr m) y (inr n) e = one_of_rising zs (tail_rising z zs r) x m y n e
+pub one_update : (rows : List Held) → AreRising rows → Each (λ u. Each (λ v. u.key ≡ v.key → u ≡ v) (updates_of rows)) (updates_of rows)
+one_update rows rising u m v n e =
+    let x = held_as rows u m in
+    let y = held_as rows v n in
+    x.2 ∙ ap (λ (h : Held). h.update) (one_of_key rows rising x.0 x.1 y.0 y.1 (ap (λ (w : Update). w.key) (sym x.2) ∙ e ∙ ap (λ (w : Update). w.key) y.2)) ∙ sym y.2
 
 -- ---- a row more
 
@@ -81,7 +76,7 @@ with_row_rises (x ∷ xs) h r = by (key_order h.update.key x.update.key) refl (w
 
 -- ---- rows fewer
 
-keys_filtered : (test : Key → Bool) (xs : List Held) → map (λ (h : Held). h.update.key) (filter (λ h. test h.update.key) xs) ≡ filter test (map (λ (h : Held). h.update.key) xs)
+pub keys_filtered : (test : Key → Bool) (xs : List Held) → map (λ (h : Held). h.update.key) (filter (λ h. test h.update.key) xs) ≡ filter test (map (λ (h : Held). h.update.key) xs)
 keys_filtered test [] = refl
 keys_filtered test (x ∷ xs) = by (test x.update.key) (keys_filtered test xs)
   where

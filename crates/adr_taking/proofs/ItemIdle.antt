@@ -1,5 +1,6 @@
 -- Of an item whose rows are reflected and none of them covered nothing is written.
-use Rattle.std.proofs.Common.{◌≡◌, inl, inr, List, [], ◌∷◌, Bool, true, false, cond, refl, sym, ap, ◌∙◌, subst, filter, not, ◌&&◌, ◌||◌}
+use Rattle.std.proofs.Common.{◌≡◌, inl, inr, List, [], Bool, true, false, cond, refl, sym, ap, subst, filter, not, ◌&&◌, ◌||◌}
+use Rattle.std.proofs.lemmas.Bool.{both_ways, and_right}
 use Rattle.adr_stamp.specs.declared.Oid.{Oid}
 use Rattle.adr_stamp.specs.declared.LinkKey.{LinkKey}
 use Rattle.adr_stamp.specs.declared.Unit.{Unit as Named}
@@ -15,25 +16,19 @@ use Rattle.adr_model.specs.Take.{is_above, is_of_attr, left_by_death, is_lost_en
 use Rattle.adr_model.specs.Replica.{Scene}
 use Rattle.adr_model.specs.Sound.{IsExact}
 use Rattle.adr_knowledge.proofs.Knows.{end_of_row}
+use Rattle.adr_model.proofs.Members.{of_filter}
+use Rattle.adr_knowledge.proofs.Lists.{no_members}
 use Rattle.adr_taking.specs.OnTheWay.{IsTakeable, known_with, source_rows, AreOnTheWay}
-use Rattle.adr_taking.proofs.Tests.{at_least_is_not_above, of_link}
+use Rattle.adr_steps.proofs.Rows.{link_of_unit}
+use Rattle.adr_taking.proofs.Tests.{at_least_is_not_above}
 use Rattle.adr_taking.proofs.Standings.{each_standing, IsThere, there_where_untested}
-use Rattle.adr_steps.proofs.Order.{one_of_key}
+use Rattle.adr_steps.proofs.Rising.{one_of_key}
 use Rattle.adr_taking.proofs.OnTheWay.{purged_is_covered, new_is_lacked}
 use Rattle.adr_taking.proofs.ItemRows.{item_units, row_key, row_of_attr}
 use Rattle.adr_taking.proofs.ItemPut.{of_dead, of_held}
 
 none_left : {A : Type 0} (test : A → Bool) (xs : List A) → Each (λ x. test x ≡ false) xs → filter test xs ≡ []
-none_left test [] none = refl
-none_left test (x ∷ xs) none = ap (λ b. cond b (x ∷ filter test xs) (filter test xs)) (none x (inl refl)) ∙ none_left test xs (λ y m. none y (inr m))
-
-none_there : {A : Type 0} (xs : List A) → Each (λ x. ⊥) xs → xs ≡ []
-none_there [] none = refl
-none_there (x ∷ xs) none = absurd (none x (inl refl))
-
-later_fails : (a b : Bool) → b ≡ false → (a && b) ≡ false
-later_fails true b e = e
-later_fails false b e = refl
+none_left test xs none = no_members (filter test xs) (λ x m. let t = of_filter test xs x m in both_ways (test x) (none x t.0) t.1)
 
 module _ (sc : Scene) (s : State) (r : Reply) (may : IsTakeable sc s r) (rows : List Held) (way : AreOnTheWay sc s rows) where
   -- what is at least held isn't above
@@ -73,10 +68,10 @@ module _ (sc : Scene) (s : State) (r : Reply) (may : IsTakeable sc s r) (rows : 
 
     where_held : (IsTombstoned (updates_of rows) o → ⊥) → HoldsObject (updates_of rows) o → of_held rows xs ≡ []
     where_held alive holds = ap left_by_death (none_left (λ (u : Update). not (is_of_attr class_attr u.key) && is_above rows u) xs
-        (λ u m. later_fails (not (is_of_attr class_attr u.key)) (is_above rows u) (below holds u m (λ tombstone covers. absurd (alive tombstone)))))
+        (λ u m. and_right (not (is_of_attr class_attr u.key)) (is_above rows u) (below holds u m (λ tombstone covers. absurd (alive tombstone)))))
 
     where_new : (HoldsObject (updates_of rows) o → ⊥) → (CoversBirth (at s.store.vector) o → ⊥) → left_by_death xs ≡ []
-    where_new absent unseen = ap left_by_death (none_there xs (λ u m. let k = row_key sc s r may item exact rows way o refl u m in new_is_lacked sc s r may rows way o absent unseen u k.0 k.1 (taken u m)))
+    where_new absent unseen = ap left_by_death (no_members xs (λ u m. let k = row_key sc s r may item exact rows way o refl u m in new_is_lacked sc s r may rows way o absent unseen u k.0 k.1 (taken u m)))
 
     object_idle : rows_taken s.store.vector rows item ≡ []
     object_idle = each_standing s.store.vector rows o (of_dead rows xs) (of_held rows xs) [] (left_by_death xs) (λ us. us ≡ []) where_dead where_held (λ absent covers. refl) where_new
@@ -103,7 +98,7 @@ module _ (sc : Scene) (s : State) (r : Reply) (may : IsTakeable sc s r) (rows : 
           where
             by : Reflects sc.issued (known_with s rows) u → is_above rows u ≡ false
             by (inl h) = low u h
-            by (inr (o, e, b)) = absurd (not_buried u o (each_end o (subst (λ k. Member o (ends k)) (of_link u.key l (item_units sc s r may link exact u m)) e)) b)
+            by (inr (o, e, b)) = absurd (not_buried u o (each_end o (subst (λ k. Member o (ends k)) (link_of_unit u.key l (item_units sc s r may link exact u m)) e)) b)
 
     link_idle : rows_taken s.store.vector rows link ≡ []
     link_idle = by (is_lost_end s.store.vector rows l.from) refl (is_lost_end s.store.vector rows l.to) refl

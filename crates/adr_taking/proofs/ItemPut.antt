@@ -1,5 +1,6 @@
 -- The rows that are written of an item may be put, and keep the forms.
 use Rattle.std.proofs.Common.{◌≡◌, ◌⊎◌, inl, inr, ℕ, List, [], ◌∷◌, Bool, true, false, cond, refl, sym, ap, ◌∙◌, subst, filter, not, ◌&&◌, ◌||◌}
+use Rattle.std.proofs.lemmas.Bool.{and_parts}
 use Rattle.adr_stamp.specs.declared.Oid.{Oid}
 use Rattle.adr_stamp.specs.declared.LinkKey.{LinkKey}
 use Rattle.adr_stamp.specs.declared.Unit.{Unit as Named}
@@ -21,10 +22,11 @@ use Rattle.adr_model.proofs.Members.{of_filter}
 use Rattle.adr_steps.specs.Puts.{MayPut}
 use Rattle.adr_steps.specs.Forms.{HasKey, MayCome}
 use Rattle.adr_taking.specs.OnTheWay.{IsTakeable, source_rows, AreOnTheWay, KeepForms}
-use Rattle.adr_taking.proofs.Tests.{both, above_supersedes, of_link}
+use Rattle.adr_steps.proofs.Rows.{link_of_unit}
+use Rattle.adr_taking.proofs.Tests.{above_supersedes}
 use Rattle.adr_taking.proofs.Standings.{each_standing, IsThere, there_where_untested, deaths_are_reserved, left_from, reserved_is_left, bare_beside_death, left_or_dead}
 use Rattle.adr_taking.proofs.Source.{well_said}
-use Rattle.adr_steps.proofs.Order.{one_of_key}
+use Rattle.adr_steps.proofs.Rising.{one_of_key}
 use Rattle.adr_taking.proofs.OnTheWay.{source_one, source_formed, source_classes, comes_whole}
 use Rattle.adr_taking.proofs.ItemRows.{in_source, item_units, may_put, row_key, row_of_attr, source_holds, may_change}
 
@@ -72,7 +74,7 @@ module _ (sc : Scene) (s : State) (r : Reply) (may : IsTakeable sc s r) (rows : 
 
     -- the object is held dead: only its death
     from_dead : (u : Update) → Member u (of_dead rows xs) → Member u xs × (is_of_attr deleted_attr u.key ≡ true) × (is_above rows u ≡ true)
-    from_dead u m = let t = of_filter (λ (v : Update). is_of_attr deleted_attr v.key && is_above rows v) xs u m in let b = both (is_of_attr deleted_attr u.key) (is_above rows u) t.1 in (t.0, b.0, b.1)
+    from_dead u m = let t = of_filter (λ (v : Update). is_of_attr deleted_attr v.key && is_above rows v) xs u m in let b = and_parts (is_of_attr deleted_attr u.key) (is_above rows u) t.1 in (t.0, b.0, b.1)
 
     where_dead : IsTombstoned (updates_of rows) o → MayWrite (Object o) (of_dead rows xs)
     where_dead (d, m, is) = inr (
@@ -85,7 +87,7 @@ module _ (sc : Scene) (s : State) (r : Reply) (may : IsTakeable sc s r) (rows : 
 
     from_held : (u : Update) → Member u (of_held rows xs) → Member u xs × (is_above rows u ≡ true)
     from_held u m = let t = of_filter (λ (v : Update). not (is_of_attr class_attr v.key) && is_above rows v) xs u (left_from (above_of_held rows xs) u m) in
-        (t.0, (both (not (is_of_attr class_attr u.key)) (is_above rows u) t.1).1)
+        (t.0, (and_parts (not (is_of_attr class_attr u.key)) (is_above rows u) t.1).1)
 
     where_held : (IsTombstoned (updates_of rows) o → ⊥) → HoldsObject (updates_of rows) o → MayWrite (Object o) (of_held rows xs)
     where_held alive holds = inr (
@@ -154,7 +156,7 @@ module _ (sc : Scene) (s : State) (r : Reply) (may : IsTakeable sc s r) (rows : 
     link = record { unit = Link l; rows = xs }
 
     link_key : (u : Update) → Member u xs → u.key ≡ LinkOf l
-    link_key u m = of_link u.key l (item_units sc s r may link exact u m)
+    link_key u m = link_of_unit u.key l (item_units sc s r may link exact u m)
 
     no_death : (u : Update) → Member u xs → IsDeath u → ⊥
     no_death u m (o, e) = let f : LinkOf l ≡ RowOf o deleted_attr = sym (link_key u m) ∙ e in absurd (cc)

@@ -1,5 +1,6 @@
 -- Each row of an item is reflected once the rows that are written of it stand.
 use Rattle.std.proofs.Common.{◌≡◌, ◌⊎◌, inl, inr, List, [], Bool, true, false, cond, refl, sym, ap, ◌∙◌, subst, filter, not, ◌&&◌, ◌||◌}
+use Rattle.std.proofs.lemmas.Bool.{both_ways}
 use Rattle.std.specs.Cmp.Derive.{both_true}
 use Rattle.adr_stamp.specs.declared.Oid.{Oid}
 use Rattle.adr_stamp.specs.declared.LinkKey.{LinkKey}
@@ -19,7 +20,8 @@ use Rattle.adr_model.proofs.Members.{in_filter, of_filter}
 use Rattle.adr_knowledge.proofs.Comparing.{supersedes_self}
 use Rattle.adr_knowledge.proofs.Knows.{reflects_by_death}
 use Rattle.adr_taking.specs.OnTheWay.{IsTakeable, known_with, source_rows, AreOnTheWay}
-use Rattle.adr_taking.proofs.Tests.{not_above, of_link, true_is_not_false}
+use Rattle.adr_steps.proofs.Rows.{link_of_unit}
+use Rattle.adr_taking.proofs.Tests.{not_above}
 use Rattle.adr_taking.proofs.Standings.{each_standing, IsLost, lost_where_tested, is_death, left_from, left_or_dead}
 use Rattle.adr_taking.proofs.OnTheWay.{source_issued, gone_is_purged}
 use Rattle.adr_taking.proofs.ItemRows.{in_source, item_units, row_key, row_of_attr, same_birth}
@@ -48,7 +50,7 @@ module _ (sc : Scene) (s : State) (r : Reply) (may : IsTakeable sc s r) (rows : 
     where_dead tombstone written u m = by (is_of_attr deleted_attr u.key) refl (is_above rows u) refl
       where
         by : (d : Bool) → is_of_attr deleted_attr u.key ≡ d → (a : Bool) → is_above rows u ≡ a → Reflects sc.issued (known_with s next) u
-        by false other a above = keep u (reflects_by_death sc.issued (known_with s rows) u o (its_end u m) (inl tombstone) (λ death. absurd (true_is_not_false (is_of_attr deleted_attr u.key) (is_death u death) other)))
+        by false other a above = keep u (reflects_by_death sc.issued (known_with s rows) u o (its_end u m) (inl tombstone) (λ death. absurd (both_ways (is_of_attr deleted_attr u.key) other (is_death u death))))
         by true is false above = below u above
         by true is true above = stands u (written u (in_filter (λ (v : Update). is_of_attr deleted_attr v.key && is_above rows v) xs u m (both_true is above)))
 
@@ -86,7 +88,7 @@ module _ (sc : Scene) (s : State) (r : Reply) (may : IsTakeable sc s r) (rows : 
     link = record { unit = Link l; rows = xs }
 
     link_key : (u : Update) → Member u xs → u.key ≡ LinkOf l
-    link_key u m = of_link u.key l (item_units sc s r may link exact u m)
+    link_key u m = link_of_unit u.key l (item_units sc s r may link exact u m)
 
     where_lost : (o : Oid) → Member o (ends (LinkOf l)) → IsLost s.store.vector rows o → Each (λ u. Reflects sc.issued (known_with s next) u) xs
     where_lost o e lost u m = keep u (inr (o, end, by lost))

@@ -19,7 +19,7 @@ use Rattle.adr_model.specs.Sound.{IsExact}
 use Rattle.adr_steps.specs.Puts.{MayPut}
 use Rattle.adr_steps.specs.Forms.{IsWellSaid, MayChange}
 use Rattle.adr_taking.specs.OnTheWay.{IsTakeable, source_rows, AreOnTheWay}
-use Rattle.adr_taking.proofs.Tests.{updated, of_unit}
+use Rattle.adr_steps.proofs.Rows.{updated, row_of_unit}
 use Rattle.adr_taking.proofs.Standings.{of_attr}
 use Rattle.adr_taking.proofs.Source.{well_said}
 use Rattle.adr_taking.proofs.OnTheWay.{one_birth, source_one, source_formed, source_classes, source_issued}
@@ -50,7 +50,7 @@ module _ (sc : Scene) (s : State) (r : Reply) (may : IsTakeable sc s r) (i : Ite
 
     module _ (o : Oid) (unit : i.unit ≡ Object o) where
       pub row_key : (u : Update) → Member u i.rows → (attr : ℕ) × (u.key ≡ RowOf o attr)
-      row_key u m = of_unit o u.key (item_units u m ∙ unit)
+      row_key u m = row_of_unit u.key o (item_units u m ∙ unit)
 
       pub row_of_attr : (attr : ℕ) (u : Update) → Member u i.rows → is_of_attr attr u.key ≡ true → u.key ≡ RowOf o attr
       row_of_attr attr u m is = let k = row_key u m in let d = of_attr attr u.key is in k.1 ∙ ap (λ a. RowOf o a) (same_attr d.0 k.0 (sym k.1 ∙ d.1))

@@ -21,7 +21,7 @@ use Rattle.adr_knowledge.specs.Grows.{Grows}
 use Rattle.adr_knowledge.proofs.Knows.{grows_trans, grows_self}
 use Rattle.adr_steps.specs.Puts.{held_at, under, MayPut, ArePut, AreClosed}
 use Rattle.adr_taking.specs.OnTheWay.{IsTakeable, known_with, AreOnTheWay, IsOnTheWay, KeepForms}
-use Rattle.adr_taking.proofs.Tests.{updated, held_as}
+use Rattle.adr_steps.proofs.Rows.{updated, held_as}
 use Rattle.adr_steps.proofs.Putting.{are_put, puts_grow}
 use Rattle.adr_steps.proofs.Order.{puts_rise, puts_stay_alone}
 use Rattle.adr_steps.proofs.Formed.{objects_stay_formed, objects_stay_closed}

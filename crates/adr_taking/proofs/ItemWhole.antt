@@ -3,7 +3,7 @@ use Rattle.std.proofs.Common.{◌≡◌, ◌⊎◌, inl, inr, ℕ, List, [], Boo
 use Rattle.std.specs.List.{list_any}
 use Rattle.std.specs.Bool.{then_some}
 use Rattle.std.specs.Option.{option_and_then, option_or}
-use Rattle.std.proofs.lemmas.Bool.{eq-eqb}
+use Rattle.std.proofs.lemmas.Bool.{eq-eqb, both_ways}
 use Rattle.adr_stamp.specs.declared.Oid.{Oid}
 use Rattle.adr_stamp.specs.declared.LinkKey.{LinkKey}
 use Rattle.adr_stamp.specs.declared.Unit.{Unit as Named}
@@ -27,9 +27,10 @@ use Rattle.adr_model.specs.Sound.{IsExact}
 use Rattle.adr_model.proofs.Members.{found, none_passes, one_passes}
 use Rattle.adr_steps.specs.Forms.{HasKey, IsWellSaid, MayCome}
 use Rattle.adr_taking.specs.OnTheWay.{IsTakeable, source_rows, AreOnTheWay}
-use Rattle.adr_taking.proofs.Tests.{IsFound, row_found, updated, held_as, of_link, true_is_not_false}
+use Rattle.adr_steps.proofs.Rows.{updated, held_as, link_of_unit}
+use Rattle.adr_taking.proofs.Tests.{IsFound, row_found}
 use Rattle.adr_taking.proofs.Standings.{each_standing, attr_itself, tested_where_has, left_from}
-use Rattle.adr_taking.proofs.Source.{one_update}
+use Rattle.adr_steps.proofs.Rising.{one_update}
 use Rattle.adr_taking.proofs.OnTheWay.{source_formed}
 use Rattle.adr_taking.proofs.ItemRows.{in_source, item_units, item_one, row_key, row_of_attr, said_of_held, class_is_known}
 use Rattle.adr_taking.proofs.ItemPut.{named, may_come, some_or_none}
@@ -48,7 +49,7 @@ module _ (schema : ℕ) (before : List Update) (o : Oid) (class : ℕ) (xs : Lis
     where
       by : ((d : Update) × Member d (left_by_death xs) × IsDeathOf o d) ⊎ ((attr : ℕ) → has (must_of (numbered schema) class) attr ≡ true → HasKey (left_by_death xs) o attr)
           → list_any (λ attr. not (has_row attr xs)) (must_of (numbered schema) (unwrap_or classes 0)) ≡ false
-      by (inl death) = absurd (true_is_not_false (has_row deleted_attr xs) (has_key deleted_attr death) alive)
+      by (inl death) = absurd (both_ways (has_row deleted_attr xs) alive (has_key deleted_attr death))
       by (inr whole) = subst (λ (c : Option ℕ). list_any (λ attr. not (has_row attr xs)) (must_of (numbered schema) (unwrap_or c 0)) ≡ false) (sym is)
           (none_passes (λ attr. not (has_row attr xs)) (must_of (numbered schema) class) (λ attr m. ap not (has_key attr (whole attr (one_passes (λ n. n == attr) (must_of (numbered schema) class) attr m (eq-eqb attr attr refl))))))
 
@@ -59,8 +60,8 @@ module _ (schema : ℕ) (before : List Update) (o : Oid) (class : ℕ) (xs : Lis
           → (not c || not n || (not d && list_any (λ attr. not (has_row attr xs)) (must_of (numbered schema) (unwrap_or (class_among xs) 0)))) ≡ false
       by true e true f true dead = refl
       by true e true f false alive = must_be_there (class_among xs) is alive
-      by true e false f d dead = absurd (true_is_not_false false f refl)
-      by false e n f d dead = absurd (true_is_not_false false e refl)
+      by true e false f d dead = absurd (both_ways false refl f)
+      by false e n f d dead = absurd (both_ways false refl e)
 
 module _ (sc : Scene) (s : State) (r : Reply) (may : IsTakeable sc s r) (rows : List Held) (way : AreOnTheWay sc s rows) where
   module _ (o : Oid) (xs : List Update) (exact : IsExact (source_rows sc r) r (record { unit = Object o; rows = xs })) where
@@ -147,7 +148,7 @@ module _ (sc : Scene) (s : State) (r : Reply) (may : IsTakeable sc s r) (rows : 
       where
         sound : Each (λ u. row_fault (numbered s.store.schema) None u ≡ None) xs
         sound u m =
-            let key = of_link u.key l (item_units sc s r may link exact u m) in
+            let key = link_of_unit u.key l (item_units sc s r may link exact u m) in
             link_passes (numbered s.store.schema) l u key ((source_formed sc s r may).links l u (in_source sc s r may link exact u m) key).forward
 
         by : (b : Bool) → first_of (map (row_fault (numbered s.store.schema) None) (cond b [] xs)) ≡ None

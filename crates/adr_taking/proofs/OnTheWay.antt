@@ -1,45 +1,30 @@
 -- What is known on the way: covered updates are reflected, an absent object was collected or is new, and a new one comes whole.
-use Rattle.std.proofs.Common.{◌≡◌, ◌⊎◌, inl, inr, ℕ, ◌≤◌, List, true, refl, sym, ap, ◌∙◌, subst, arith, ◌&&◌, Bool, false, ◌==◌}
-use Rattle.std.proofs.lemmas.Bool.{eqb-true}
-use Rattle.std.proofs.lemmas.Map.Lookups.{exact_bytes}
+use Rattle.std.proofs.Common.{◌≡◌, ◌⊎◌, inl, inr, ℕ, ◌≤◌, List, sym, ap, ◌∙◌, subst, arith}
 use Rattle.adr_stamp.specs.declared.Oid.{Oid}
 use Rattle.adr_stamp.specs.declared.Unit.TheVariants.{Object}
-use Rattle.adr_stamp.specs.Order.{identifier_order}
 use Rattle.adr_schema.specs.Numbered.{numbered}
 use Rattle.adr_vector.specs.Vector.{at}
 use Rattle.adr_vector.proofs.Comparing.{everywhere_from_at_most}
 use Rattle.adr_model.specs.Member.{Member, Each}
-use Rattle.adr_model.specs.Update.{Update, RowOf, unit_of, ends, inv_of, usn_of, class_attr, same_identifier}
+use Rattle.adr_model.specs.Update.{Update, RowOf, unit_of, ends, inv_of, class_attr}
 use Rattle.adr_model.specs.Reflects.{Covers, CoversBirth, AtMost, knowledge_of, HoldsObject, IsPurged, Reflects}
 use Rattle.adr_model.specs.Store.{Held, State, updates_of}
 use Rattle.adr_model.specs.Change.{Item}
 use Rattle.adr_model.specs.Formed.{AreFormedRows}
 use Rattle.adr_model.specs.Serve.{Reply}
-use Rattle.adr_model.specs.Take.{is_birth}
 use Rattle.adr_model.specs.Replica.{Scene, history_of}
 use Rattle.adr_model.specs.Sound.{IsSoundScene, IsExact, AreClassesKnown}
-use Rattle.adr_model.proofs.Keys.{equal_order}
-use Rattle.adr_knowledge.proofs.Knows.{grows_keeps, absent_is_purged, covered_absent}
+use Rattle.adr_knowledge.proofs.Knows.{grows_keeps, absent_is_purged, birth_is, covered_absent}
 use Rattle.adr_history.proofs.Marks.{past_below}
 use Rattle.adr_taking.specs.OnTheWay.{IsTakeable, known_with, source_rows, AreOnTheWay}
-use Rattle.adr_taking.proofs.Tests.{held_as}
-use Rattle.adr_taking.proofs.Source.{one_update}
+use Rattle.adr_steps.proofs.Rows.{held_as}
+use Rattle.adr_steps.proofs.Rising.{one_update}
 
 -- both are births of the object: of one key, identifier and USN
-born_alike : (o : Oid) (b : Update) → is_birth o b ≡ true → (inv_of b ≡ o.birth.inv) × (usn_of b ≡ o.birth.usn)
-born_alike o b is = let t = three (b.stamp.stamp.version == 1) (same_identifier (inv_of b) o.birth.inv) (usn_of b == o.birth.usn) is in
-    (exact_bytes (inv_of b) o.birth.inv (equal_order (identifier_order (inv_of b) o.birth.inv) t.0), eqb-true (usn_of b) o.birth.usn t.1)
-  where
-    three : (x y z : Bool) → (x && y && z) ≡ true → (y ≡ true) × (z ≡ true)
-    three true true true e = (refl, refl)
-    three true true false e = cc
-    three true false z e = cc
-    three false y z e = cc
-
 pub one_birth : (sc : Scene) → IsSoundScene sc → (o : Oid) (b c : Update) → Member b sc.issued → Member c sc.issued → b.key ≡ RowOf o class_attr → c.key ≡ RowOf o class_attr → b ≡ c
 one_birth sc scene o b c m n e f =
-    let x = born_alike o b (scene.births b m o e) in
-    let y = born_alike o c (scene.births c n o f) in
+    let x = birth_is o b (scene.births b m o e) in
+    let y = birth_is o c (scene.births c n o f) in
     scene.one_content b m c n (e ∙ sym f) (x.0 ∙ sym y.0) (x.1 ∙ sym y.1)
 
 module _ (sc : Scene) (s : State) (r : Reply) (may : IsTakeable sc s r) where

@@ -1,15 +1,17 @@
 -- What it means that a reply is taken: no refusal is there.
-use Rattle.std.proofs.Common.{◌≡◌, ℕ, ◌≤◌, List, [], ◌∷◌, false, Option, Some, None, refl, arith, not, ◌==◌, length, Ok}
+use Rattle.std.proofs.Common.{◌≡◌, inl, inr, ℕ, ◌≤◌, [], ◌∷◌, Option, None, refl, not, ◌==◌, length, Ok}
 use Rattle.std.specs.Prelude.{nat_lt}
 use Rattle.std.specs.Bool.{then_some}
 use Rattle.std.specs.Option.{option_map}
-use Rattle.std.proofs.lemmas.Bool.Decides.{nat_tests}
+use Rattle.std.proofs.lemmas.Bool.{ltb-false}
+use Rattle.adr_schema.proofs.ExactCalls.{not_then}
 use Rattle.adr_vector.specs.Vector.{first_gap, most_cursors}
 use Rattle.adr_event.specs.declared.refusal.Table.{Table}
 use Rattle.adr_event.specs.declared.refusal.Table.TheVariants.{Objects, Links, Cursors as CursorTable, Marks}
 use Rattle.adr_event.specs.declared.refusal.TakeRefusal.{TakeRefusal}
 use Rattle.adr_event.specs.declared.refusal.TakeRefusal.TheVariants.{Quarantined, NotMine, Stale, VectorBehind, SchemaMismatch, RolledBack, UsnLimit, Full}
-use Rattle.adr_model.specs.Refusing.{first_of, unless}
+use Rattle.adr_model.specs.Member.{Each}
+use Rattle.adr_model.specs.Refusing.{first_of}
 use Rattle.adr_model.specs.Update.{same_identifier}
 use Rattle.adr_model.specs.Store.{State}
 use Rattle.adr_model.specs.Change.{Change, after}
@@ -18,31 +20,28 @@ use Rattle.adr_model.specs.Write.{object_limit, link_limit, usn_limit}
 use Rattle.adr_model.specs.Take.{Taking, same_mark, kept_mark, shown_by_last, passes, mark_limit, take_items, taken_change, refusal_of, take}
 use Rattle.adr_model.specs.Replica.{Scene}
 use Rattle.adr_model.specs.Sound.{IsSoundScene, IsSoundState, IsSoundReply}
+use Rattle.adr_knowledge.proofs.Refusing.{none_there, answered}
 use Rattle.adr_taking.specs.OnTheWay.{IsTaken}
-use Rattle.adr_taking.proofs.Granted.{takeable, unmet}
-
-nothing_first : {A : Type 0} (o : Option A) (os : List (Option A)) → first_of (o ∷ os) ≡ None → (o ≡ None) × (first_of os ≡ None)
-nothing_first None os h = (refl, h)
-nothing_first (Some x) os h = absurd (cc)
+use Rattle.adr_taking.proofs.Granted.{takeable}
 
 -- of twelve refusals none is there
-none_of_twelve : {A : Type 0} (a b c d e f g h i j k l : Option A) → first_of (a ∷ b ∷ c ∷ d ∷ e ∷ f ∷ g ∷ h ∷ i ∷ j ∷ k ∷ l ∷ []) ≡ None
+none_of_twelve : (a b c d e f g h i j k l : Option TakeRefusal) → first_of (a ∷ b ∷ c ∷ d ∷ e ∷ f ∷ g ∷ h ∷ i ∷ j ∷ k ∷ l ∷ []) ≡ None
     → (c ≡ None) × (d ≡ None) × (e ≡ None) × (i ≡ None) × (j ≡ None) × (k ≡ None) × (l ≡ None)
-none_of_twelve a b c d e f g h i j k l none =
-    let p3 = nothing_first c (d ∷ e ∷ f ∷ g ∷ h ∷ i ∷ j ∷ k ∷ l ∷ []) (nothing_first b (c ∷ d ∷ e ∷ f ∷ g ∷ h ∷ i ∷ j ∷ k ∷ l ∷ []) (nothing_first a (b ∷ c ∷ d ∷ e ∷ f ∷ g ∷ h ∷ i ∷ j ∷ k ∷ l ∷ []) none).1).1 in
-    let p4 = nothing_first d (e ∷ f ∷ g ∷ h ∷ i ∷ j ∷ k ∷ l ∷ []) p3.1 in
-    let p5 = nothing_first e (f ∷ g ∷ h ∷ i ∷ j ∷ k ∷ l ∷ []) p4.1 in
-    let p9 = nothing_first i (j ∷ k ∷ l ∷ []) (nothing_first h (i ∷ j ∷ k ∷ l ∷ []) (nothing_first g (h ∷ i ∷ j ∷ k ∷ l ∷ []) (nothing_first f (g ∷ h ∷ i ∷ j ∷ k ∷ l ∷ []) p5.1).1).1).1 in
-    let p10 = nothing_first j (k ∷ l ∷ []) p9.1 in
-    let p11 = nothing_first k (l ∷ []) p10.1 in
-    (p3.0, p4.0, p5.0, p9.0, p10.0, p11.0, (nothing_first l [] p11.1).0)
-
-granted : {E : Type 0} (o : Option E) (p c : Change) → unless o p ≡ Ok c → (o ≡ None) × (p ≡ c)
-granted None p c e = (refl, cc)
-granted (Some x) p c e = absurd (cc)
+none_of_twelve a b c d e f g h i j k l none = (
+  each c (inr (inr (inl refl))),
+  each d (inr (inr (inr (inl refl)))),
+  each e (inr (inr (inr (inr (inl refl))))),
+  each i (inr (inr (inr (inr (inr (inr (inr (inr (inl refl))))))))),
+  each j (inr (inr (inr (inr (inr (inr (inr (inr (inr (inl refl)))))))))),
+  each k (inr (inr (inr (inr (inr (inr (inr (inr (inr (inr (inl refl))))))))))),
+  each l (inr (inr (inr (inr (inr (inr (inr (inr (inr (inr (inr (inl refl)))))))))))),
+)
+  where
+    each : Each (λ (o : Option TakeRefusal). o ≡ None) (a ∷ b ∷ c ∷ d ∷ e ∷ f ∷ g ∷ h ∷ i ∷ j ∷ k ∷ l ∷ [])
+    each = none_there (a ∷ b ∷ c ∷ d ∷ e ∷ f ∷ g ∷ h ∷ i ∷ j ∷ k ∷ l ∷ []) none
 
 not_more : (table : Table) (limit count : ℕ) → passes table limit count ≡ None → count ≤ limit
-not_more table limit count h = let f : nat_lt limit count ≡ false = unmet (nat_lt limit count) (Full table limit) h in grind (arith, nat_tests)
+not_more table limit count h = ltb-false limit count (not_then (nat_lt limit count) (Full table limit) h)
 
 -- the refusals, by name
 abbrev pub stale : State → Reply → Option TakeRefusal
@@ -73,7 +72,7 @@ whole s r = taken_change r (take_items s r.items)
 
 pub is_taken : (sc : Scene) (s : State) (r : Reply) (c : Change) → IsSoundScene sc → IsSoundState sc s → IsSoundReply sc r → take s r ≡ Ok c → IsTaken sc s r c
 is_taken sc s r c scene state reply e =
-    let g = granted (refusal_of s r (take_items s r.items) (after s (whole s r))) (whole s r) c e in
+    let g = answered (refusal_of s r (take_items s r.items) (after s (whole s r))) (whole s r) c e in
     let n = no_refusal s r (take_items s r.items) (after s (whole s r)) g.0 in
     record {
       may = takeable sc s r scene state reply n.0 n.1 n.2;

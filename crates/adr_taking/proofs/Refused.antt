@@ -1,9 +1,9 @@
 -- By what a sound reply isn't refused.
-use Rattle.std.proofs.Common.{◌≡◌, ◌≢◌, inl, inr, ℕ, ◌≤◌, List, [], ◌∷◌, Bool, true, false, Option, Some, None, unwrap_or, refl, sym, ◌∙◌, subst, arith, not, length, fold, Err}
+use Rattle.std.proofs.Common.{◌≡◌, ◌≢◌, inl, inr, ℕ, ◌≤◌, List, [], ◌∷◌, Bool, true, false, Option, Some, None, refl, sym, ◌∙◌, subst, arith, not, length, fold, Err}
 use Rattle.std.specs.Prelude.{nat_lt}
 use Rattle.std.specs.Bool.{then_some}
 use Rattle.std.specs.Option.{option_map, option_map_or, option_or, IfSome}
-use Rattle.std.proofs.lemmas.Bool.Decides.{nat_tests}
+use Rattle.std.proofs.lemmas.Bool.{true≢false, le-ltb}
 use Rattle.adr_stamp.specs.declared.Oid.{Oid}
 use Rattle.adr_stamp.specs.declared.Unit.{Unit as Named}
 use Rattle.adr_stamp.specs.declared.Unit.TheVariants.{Object, Link}
@@ -17,15 +17,16 @@ use Rattle.adr_event.specs.declared.refusal.ItemFault.{ItemFault}
 use Rattle.adr_event.specs.declared.refusal.TakeRefusal.{TakeRefusal}
 use Rattle.adr_event.specs.declared.refusal.TakeRefusal.TheVariants.{Quarantined, NotMine, Stale, VectorBehind, SchemaMismatch, RolledBack, BadItem, Incomplete, UsnLimit, Full}
 use Rattle.adr_model.specs.Member.{Member, Each}
-use Rattle.adr_model.specs.Refusing.{first_of, unless}
+use Rattle.adr_model.specs.Refusing.{first_of}
 use Rattle.adr_model.specs.Update.{Identifier, Update, same_identifier}
 use Rattle.adr_model.specs.Store.{Held, State}
-use Rattle.adr_model.specs.Change.{Item, Change, after}
+use Rattle.adr_model.specs.Change.{Item, after}
 use Rattle.adr_model.specs.Serve.{Reply, is_quarantined}
 use Rattle.adr_model.specs.Write.{object_limit, link_limit, usn_limit}
 use Rattle.adr_model.specs.Take.{Taking, begin, lacks, incomplete, item_fault, item_refusal, take_item, kept_mark, shown_by_last, passes, mark_limit, take_items, taken_change, refusal_of, take}
 use Rattle.adr_model.specs.Replica.{Scene}
 use Rattle.adr_model.specs.Sound.{IsSoundScene, IsSoundState, IsSoundLast, IsSoundReply}
+use Rattle.adr_knowledge.proofs.Refusing.{unmet, where_it_is, none_is, first_is, either_is, tested_is, refused_by, mapped_is}
 use Rattle.adr_taking.specs.OnTheWay.{IsTakeable, IsOnTheWay}
 use Rattle.adr_taking.proofs.Standings.{each_standing}
 use Rattle.adr_taking.proofs.Granted.{takeable}
@@ -33,49 +34,21 @@ use Rattle.adr_taking.proofs.Passed.{stale, lags, other_schema, put_back}
 use Rattle.adr_taking.proofs.Items.{starts, on_the_way}
 use Rattle.adr_taking.proofs.ItemWhole.{item_is_sound, item_is_whole}
 
-refused_by : (o : Option TakeRefusal) (p : Change) (x : TakeRefusal) → unless o p ≡ Err x → o ≡ Some x
-refused_by None p x e = absurd (cc)
-refused_by (Some y) p x e = cc
-
 module _ (harm : TakeRefusal → Bool) where
-  -- a refusal, where it is there, is none of the harmful ones
+  -- a refusal that is none of the harmful ones
+  abbrev pub IsCalm : TakeRefusal → Type 0
+  IsCalm x = harm x ≡ false
+
   abbrev pub IsHarmless : Option TakeRefusal → Type 0
-  IsHarmless o = (x : TakeRefusal) → o ≡ Some x → harm x ≡ false
-
-  none_is_harmless : (o : Option TakeRefusal) → o ≡ None → IsHarmless o
-  none_is_harmless None e x f = absurd (cc)
-  none_is_harmless (Some y) e x f = absurd (cc)
-
-  one_is_harmless : (y : TakeRefusal) → harm y ≡ false → IsHarmless (Some y)
-  one_is_harmless y calm x e = subst (λ (o : Option TakeRefusal). harm (unwrap_or o y) ≡ false) e calm
-
-  some_is_harmless : (b : Bool) (y : TakeRefusal) → harm y ≡ false → IsHarmless (then_some b y)
-  some_is_harmless true y calm = one_is_harmless y calm
-  some_is_harmless false y calm = none_is_harmless None refl
-
-  unmet_is_harmless : (b : Bool) (y : TakeRefusal) → b ≡ false → IsHarmless (then_some b y)
-  unmet_is_harmless true y e x f = absurd (cc)
-  unmet_is_harmless false y e x f = none_is_harmless None refl x f
-
-  first_is_harmless : (o : Option TakeRefusal) (os : List (Option TakeRefusal)) → IsHarmless o → (o ≡ None → IsHarmless (first_of os)) → IsHarmless (first_of (o ∷ os))
-  first_is_harmless None os h next = next refl
-  first_is_harmless (Some y) os h next = h
-
-  either_is_harmless : (o p : Option TakeRefusal) → IsHarmless o → IsHarmless p → IsHarmless (option_or o p)
-  either_is_harmless None p h k = k
-  either_is_harmless (Some y) p h k = h
+  IsHarmless o = IfSome o IsCalm
 
   twelve_are_harmless : (a b c d e f g h i j k l : Option TakeRefusal) → IsHarmless a → IsHarmless b → IsHarmless c → IsHarmless d → IsHarmless e → IsHarmless f
       → (c ≡ None → d ≡ None → e ≡ None → IsHarmless g) → IsHarmless h → IsHarmless i → IsHarmless j → IsHarmless k → IsHarmless l
       → IsHarmless (first_of (a ∷ b ∷ c ∷ d ∷ e ∷ f ∷ g ∷ h ∷ i ∷ j ∷ k ∷ l ∷ []))
   twelve_are_harmless a b c d e f g h i j k l pa pb pc pd pe pf pg ph pi pj pk pl =
-      first_is_harmless a _ pa (λ na. first_is_harmless b _ pb (λ nb. first_is_harmless c _ pc (λ nc. first_is_harmless d _ pd (λ nd. first_is_harmless e _ pe (λ ne.
-      first_is_harmless f _ pf (λ nf. first_is_harmless g _ (pg nc nd ne) (λ ng. first_is_harmless h _ ph (λ nh. first_is_harmless i _ pi (λ ni. first_is_harmless j _ pj (λ nj.
-      first_is_harmless k _ pk (λ nk. first_is_harmless l [] pl (λ nl. none_is_harmless None refl))))))))))))
-
-  gap_is_harmless : (calm : (inv : Identifier) (has needs : ℕ) → harm (VectorBehind inv has needs) ≡ false) (gap : Option (Identifier × ℕ × ℕ)) → IsHarmless (option_map (λ g. VectorBehind g.0 g.1 g.2) gap)
-  gap_is_harmless calm None = none_is_harmless None refl
-  gap_is_harmless calm (Some g) = one_is_harmless (VectorBehind g.0 g.1 g.2) (calm g.0 g.1 g.2)
+      first_is IsCalm a _ pa (λ na. first_is IsCalm b _ pb (λ nb. first_is IsCalm c _ pc (λ nc. first_is IsCalm d _ pd (λ nd. first_is IsCalm e _ pe (λ ne.
+      first_is IsCalm f _ pf (λ nf. first_is IsCalm g _ (pg nc nd ne) (λ ng. first_is IsCalm h _ ph (λ nh. first_is IsCalm i _ pi (λ ni. first_is IsCalm j _ pj (λ nj.
+      first_is IsCalm k _ pk (λ nk. first_is IsCalm l [] pl (λ nl. tt))))))))))))
 
 -- a test that is met by refusals of items and by a rollback alone
 pub record IsOfItems (harm : TakeRefusal → Bool) : Type 0 where
@@ -93,26 +66,26 @@ module _ (harm : TakeRefusal → Bool) (sc : Scene) (s : State) (r : Reply) (may
   items_are_harmless [] t way among h = h
   items_are_harmless (i ∷ is) t way among h =
       items_are_harmless is (take_item (numbered s.store.schema) s.store.vector t i) (on_the_way sc s r may t way i (among i (inl refl))) (λ j m. among j (inr m))
-      (either_is_harmless harm t.refusal (item_refusal (numbered s.store.schema) s.store.vector t.rows t.place i) h (item t way i (among i (inl refl))))
+      (either_is (IsCalm harm) t.refusal (item_refusal (numbered s.store.schema) s.store.vector t.rows t.place i) h (item t way i (among i (inl refl))))
 
   all_are_harmless : IsHarmless harm (take_items s r.items).refusal
-  all_are_harmless = items_are_harmless r.items (begin s) (starts sc s r may) (λ i m. m) (none_is_harmless harm None refl)
+  all_are_harmless = items_are_harmless r.items (begin s) (starts sc s r may) (λ i m. m) (none_is (IsCalm harm) None refl)
 
 module _ (harm : TakeRefusal → Bool) (of_items : IsOfItems harm) (sc : Scene) (s : State) (r : Reply) (scene : IsSoundScene sc) (state : IsSoundState sc s) (reply : IsSoundReply sc r)
     (rolled : IsHarmless harm (put_back s r)) (items : IsTakeable sc s r → IsHarmless harm (take_items s r.items).refusal) where
   full_is_harmless : (table : Table) (limit count : ℕ) → IsHarmless harm (passes table limit count)
-  full_is_harmless table limit count = some_is_harmless harm (nat_lt limit count) (Full table limit) (of_items.full table limit)
+  full_is_harmless table limit count = tested_is (IsCalm harm) (nat_lt limit count) (Full table limit) (of_items.full table limit)
 
   pub not_refused : (x : TakeRefusal) → take s r ≡ Err x → harm x ≡ false
-  not_refused x e = judged (take_items s r.items) (after s (taken_change r (take_items s r.items))) items x (refused_by (refusal_of s r (take_items s r.items) (after s (taken_change r (take_items s r.items)))) (taken_change r (take_items s r.items)) x e)
+  not_refused x e = where_it_is (IsCalm harm) (refusal_of s r (take_items s r.items) (after s (taken_change r (take_items s r.items)))) x (judged (take_items s r.items) (after s (taken_change r (take_items s r.items))) items) (refused_by (refusal_of s r (take_items s r.items) (after s (taken_change r (take_items s r.items)))) (taken_change r (take_items s r.items)) x e)
     where
       judged : (t : Taking) (d : State) → (IsTakeable sc s r → IsHarmless harm t.refusal) → IsHarmless harm (refusal_of s r t d)
       judged t d found = twelve_are_harmless harm
           (then_some (is_quarantined s.mode) Quarantined) (then_some (not (same_identifier r.dest s.dsa)) (NotMine r.dest)) (stale s r) (lags s r) (other_schema s r) (put_back s r)
           t.refusal (then_some (nat_lt usn_limit t.usn) UsnLimit) (passes Objects object_limit t.objects) (passes Links link_limit t.links)
           (passes CursorTable most_cursors (length d.store.vector)) (passes Marks mark_limit (length d.store.marks))
-          (some_is_harmless harm _ Quarantined of_items.quarantined) (some_is_harmless harm _ (NotMine r.dest) (of_items.not_mine r.dest)) (some_is_harmless harm _ (Stale (kept_mark s r) r.from) (of_items.stale (kept_mark s r) r.from)) (gap_is_harmless harm of_items.behind (first_gap r.asked s.store.vector)) (some_is_harmless harm _ (SchemaMismatch s.store.schema r.schema) (of_items.schema s.store.schema r.schema)) rolled
-          (λ nc nd ne. found (takeable sc s r scene state reply nc nd ne)) (some_is_harmless harm _ UsnLimit of_items.usn)
+          (tested_is (IsCalm harm) _ Quarantined of_items.quarantined) (tested_is (IsCalm harm) _ (NotMine r.dest) (of_items.not_mine r.dest)) (tested_is (IsCalm harm) _ (Stale (kept_mark s r) r.from) (of_items.stale (kept_mark s r) r.from)) (mapped_is (λ g. VectorBehind g.0 g.1 g.2) (IsCalm harm) (λ g. of_items.behind g.0 g.1 g.2) (first_gap r.asked s.store.vector)) (tested_is (IsCalm harm) _ (SchemaMismatch s.store.schema r.schema) (of_items.schema s.store.schema r.schema)) rolled
+          (λ nc nd ne. found (takeable sc s r scene state reply nc nd ne)) (tested_is (IsCalm harm) _ UsnLimit of_items.usn)
           (full_is_harmless Objects object_limit t.objects) (full_is_harmless Links link_limit t.links) (full_is_harmless CursorTable most_cursors (length d.store.vector)) (full_is_harmless Marks mark_limit (length d.store.marks))
 
 -- ---- no item is broken, and no rollback is found
@@ -134,8 +107,8 @@ lack = record { quarantined = refl; not_mine = λ d. refl; stale = λ m f. refl;
 
 incomplete_alone : (table : Schema) (vector : Cursors) (rows : List Held) (unit : Named) (xs : List Update) → IsHarmless is_broken (incomplete table vector rows (record { unit = unit; rows = xs }))
 incomplete_alone table vector rows (Object o) xs = each_standing vector rows o None None None (then_some (lacks table xs) (Incomplete o)) (IsHarmless is_broken)
-    (λ tombstone. none_is_harmless is_broken None refl) (λ alive holds. none_is_harmless is_broken None refl) (λ absent covers. none_is_harmless is_broken None refl) (λ absent missed. some_is_harmless is_broken (lacks table xs) (Incomplete o) refl)
-incomplete_alone table vector rows (Link l) xs = none_is_harmless is_broken None refl
+    (λ tombstone. none_is (IsCalm is_broken) None refl) (λ alive holds. none_is (IsCalm is_broken) None refl) (λ absent covers. none_is (IsCalm is_broken) None refl) (λ absent missed. tested_is (IsCalm is_broken) (lacks table xs) (Incomplete o) refl)
+incomplete_alone table vector rows (Link l) xs = none_is (IsCalm is_broken) None refl
 
 faultless : (fault : Option ItemFault) (place : ℕ) → fault ≡ None → (other : Option TakeRefusal) → option_or (option_map (BadItem place) fault) other ≡ other
 faultless None place e other = refl
@@ -145,9 +118,6 @@ shown_within : (sc : Scene) (s : State) (r : Reply) → IsSoundState sc s → (l
 shown_within sc s r state None h = omega arith
 shown_within sc s r state (Some w) h = omega (arith, h.bounded s.inv, state.last)
 
-not_less : (a b : ℕ) → b ≤ a → nat_lt a b ≡ false
-not_less a b le = grind (arith, nat_tests)
-
 module _ (sc : Scene) (s : State) (r : Reply) (scene : IsSoundScene sc) (state : IsSoundState sc s) (reply : IsSoundReply sc r) where
   sound_item : (may : IsTakeable sc s r) (t : Taking) → IsOnTheWay sc s r t → (i : Item) → Member i r.items
       → item_refusal (numbered s.store.schema) s.store.vector t.rows t.place i ≡ incomplete (numbered s.store.schema) s.store.vector t.rows i
@@ -155,7 +125,7 @@ module _ (sc : Scene) (s : State) (r : Reply) (scene : IsSoundScene sc) (state :
 
   pub not_broken : (x : TakeRefusal) → take s r ≡ Err x → is_broken x ≡ false
   not_broken = not_refused is_broken breaks sc s r scene state reply
-      (unmet_is_harmless is_broken (nat_lt s.store.usn (shown_by_last s r)) (RolledBack s.inv s.store.usn (shown_by_last s r)) (not_less s.store.usn (shown_by_last s r) (shown_within sc s r state r.last reply.last)))
+      (none_is (IsCalm is_broken) (put_back s r) (unmet _ _ (le-ltb s.store.usn (shown_by_last s r) (shown_within sc s r state r.last reply.last))))
       (λ may. all_are_harmless is_broken sc s r may (λ t way i m. subst (IsHarmless is_broken) (sym (sound_item may t way i m)) (incomplete_alone (numbered s.store.schema) s.store.vector t.rows i.unit i.rows)))
 
   whole_item : (may : IsTakeable sc s r) (t : Taking) → IsOnTheWay sc s r t → (i : Item) → Member i r.items → item_refusal (numbered s.store.schema) s.store.vector t.rows t.place i ≡ None
@@ -163,20 +133,17 @@ module _ (sc : Scene) (s : State) (r : Reply) (scene : IsSoundScene sc) (state :
 
   pub not_incomplete : (x : TakeRefusal) → take s r ≡ Err x → is_incomplete x ≡ false
   not_incomplete = not_refused is_incomplete lack sc s r scene state reply
-      (some_is_harmless is_incomplete (nat_lt s.store.usn (shown_by_last s r)) (RolledBack s.inv s.store.usn (shown_by_last s r)) refl)
-      (λ may. all_are_harmless is_incomplete sc s r may (λ t way i m. none_is_harmless is_incomplete (item_refusal (numbered s.store.schema) s.store.vector t.rows t.place i) (whole_item may t way i m)))
-
-true_is_not_false : true ≡ false → ⊥
-true_is_not_false h = absurd (cc)
+      (tested_is (IsCalm is_incomplete) (nat_lt s.store.usn (shown_by_last s r)) (RolledBack s.inv s.store.usn (shown_by_last s r)) refl)
+      (λ may. all_are_harmless is_incomplete sc s r may (λ t way i m. none_is (IsCalm is_incomplete) (item_refusal (numbered s.store.schema) s.store.vector t.rows t.place i) (whole_item may t way i m)))
 
 pub no_broken_item : (sc : Scene) (s : State) (r : Reply) (place : ℕ) (cause : ItemFault) → IsSoundScene sc → IsSoundState sc s → IsSoundReply sc r → take s r ≢ Err (BadItem place cause)
-no_broken_item sc s r place cause scene state reply e = true_is_not_false (not_broken sc s r scene state reply (BadItem place cause) e)
+no_broken_item sc s r place cause scene state reply e = true≢false (not_broken sc s r scene state reply (BadItem place cause) e)
 
 pub no_rollback : (sc : Scene) (s : State) (r : Reply) (inv : Identifier) (mine shown : ℕ) → IsSoundScene sc → IsSoundState sc s → IsSoundReply sc r → take s r ≢ Err (RolledBack inv mine shown)
-no_rollback sc s r inv mine shown scene state reply e = true_is_not_false (not_broken sc s r scene state reply (RolledBack inv mine shown) e)
+no_rollback sc s r inv mine shown scene state reply e = true≢false (not_broken sc s r scene state reply (RolledBack inv mine shown) e)
 
 pub no_incomplete_item : (sc : Scene) (s : State) (r : Reply) (o : Oid) → IsSoundScene sc → IsSoundState sc s → IsSoundReply sc r → take s r ≢ Err (Incomplete o)
-no_incomplete_item sc s r o scene state reply e = true_is_not_false (not_incomplete sc s r scene state reply (Incomplete o) e)
+no_incomplete_item sc s r o scene state reply e = true≢false (not_incomplete sc s r scene state reply (Incomplete o) e)
 
 -- no item of a reply that may be taken is refused
 pub items_are_whole : (sc : Scene) (s : State) (r : Reply) → IsTakeable sc s r → (take_items s r.items).refusal ≡ None
@@ -184,8 +151,8 @@ items_are_whole sc s r may = by (take_items s r.items).refusal refl
   where
     harmless : IsHarmless (λ x. true) (take_items s r.items).refusal
     harmless = all_are_harmless (λ x. true) sc s r may
-        (λ t way i m. none_is_harmless (λ x. true) (item_refusal (numbered s.store.schema) s.store.vector t.rows t.place i) (whole_item sc s r may.scene may.state may.reply may t way i m))
+        (λ t way i m. none_is (IsCalm (λ x. true)) (item_refusal (numbered s.store.schema) s.store.vector t.rows t.place i) (whole_item sc s r may.scene may.state may.reply may t way i m))
 
     by : (o : Option TakeRefusal) → (take_items s r.items).refusal ≡ o → o ≡ None
     by None e = refl
-    by (Some x) e = absurd (true_is_not_false (harmless x e))
+    by (Some x) e = absurd (true≢false (where_it_is (IsCalm (λ x. true)) (take_items s r.items).refusal x harmless e))

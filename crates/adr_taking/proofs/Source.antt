@@ -1,5 +1,5 @@
 -- What the rows of a formed store say of an object.
-use Rattle.std.proofs.Common.{◌≡◌, inl, inr, ℕ, ◌<◌, List, [], ◌∷◌, true, sym, ap, ◌∙◌, subst}
+use Rattle.std.proofs.Common.{◌≡◌, inl, inr, ℕ, ◌<◌, List, [], ◌∷◌, true, sym, ◌∙◌, subst}
 use Rattle.adr_stamp.specs.declared.Oid.{Oid}
 use Rattle.adr_schema.specs.declared.content.Value.{Value as Datum}
 use Rattle.adr_schema.specs.declared.content.Content.TheVariants.{Class, Name, Dead, Values}
@@ -8,19 +8,8 @@ use Rattle.adr_schema.specs.Allowed.{MayBeHeld}
 use Rattle.adr_model.specs.Member.{Member, Each}
 use Rattle.adr_model.specs.Update.{Update, RowOf, Said, Holds, class_attr, name_attr, deleted_attr}
 use Rattle.adr_model.specs.Reflects.{HoldsObject}
-use Rattle.adr_model.specs.Store.{Held, updates_of}
-use Rattle.adr_model.specs.Formed.{AreRising, HasRow, IsNamed, KeepsSchema, IsObjectFormed, AreFormedRows}
+use Rattle.adr_model.specs.Formed.{HasRow, IsNamed, KeepsSchema, IsObjectFormed, AreFormedRows}
 use Rattle.adr_steps.specs.Forms.{IsWellSaid}
-use Rattle.adr_taking.proofs.Tests.{held_as}
-use Rattle.adr_steps.proofs.Order.{one_of_key}
-
--- of rows in order there is one of each key
-pub one_update : (rows : List Held) → AreRising rows → Each (λ u. Each (λ v. u.key ≡ v.key → u ≡ v) (updates_of rows)) (updates_of rows)
-one_update rows rising u m v n e =
-    let x = held_as rows u m in
-    let y = held_as rows v n in
-    let same : x.0 ≡ y.0 = one_of_key rows rising x.0 x.1 y.0 y.1 (sym (ap (λ (w : Update). w.key) x.2) ∙ (e ∙ ap (λ (w : Update). w.key) y.2)) in
-    x.2 ∙ (ap (λ (h : Held). h.update) same ∙ sym y.2)
 
 module _ (table : Table) (rows : List Update) (one : Each (λ u. Each (λ v. u.key ≡ v.key → u ≡ v) rows) rows) (formed : AreFormedRows table rows) where
   -- the row of a key says what some row of the key says

@@ -1,6 +1,6 @@
 -- What stands of an object or of a link's ends, and which rows are left by a death.
-use Rattle.std.proofs.Common.{◌≡◌, ◌⊎◌, inl, inr, List, Bool, true, false, cond, refl, sym, ap, subst, not, ◌||◌, ◌&&◌, filter}
-use Rattle.std.proofs.lemmas.Bool.{eqb-true, eq-eqb}
+use Rattle.std.proofs.Common.{◌≡◌, ◌⊎◌, inl, inr, ⊎_elim, List, Bool, true, false, cond, refl, sym, ap, subst, not, ◌||◌, ◌&&◌, filter}
+use Rattle.std.proofs.lemmas.Bool.{eqb-true, eq-eqb, both_ways, and_parts, or_parts, not-true, cases_Bool, or_cases}
 use Rattle.std.proofs.Common.{ℕ}
 use Rattle.adr_stamp.specs.declared.Oid.{Oid}
 use Rattle.adr_vector.specs.Vector.{Cursors, at}
@@ -12,7 +12,7 @@ use Rattle.adr_model.specs.Store.{Held, updates_of, holds_object, holds_dead}
 use Rattle.adr_model.specs.Take.{is_of_attr, is_reserved_row, has_row, left_by_death, is_gone, is_lost_end, by_standing}
 use Rattle.adr_model.proofs.Members.{in_filter, of_filter, one_passes, each_fails}
 use Rattle.adr_knowledge.proofs.Lists.{some_passes}
-use Rattle.adr_taking.proofs.Tests.{yes_or_no, true_is_not_false, neither, both, was_false, holds_where_tested, lacks_where_untested, dead_where_tested, alive_where_untested, covers_where_tested, misses_where_untested}
+use Rattle.adr_taking.proofs.Tests.{holds_where_tested, lacks_where_untested, dead_where_tested, alive_where_untested, covers_where_tested, misses_where_untested}
 
 -- an object is held dead, or held, or gone, or new
 module _ {A : Type 0} (vector : Cursors) (rows : List Held) (o : Oid) (dead held gone new : A) (P : A → Type 0) where
@@ -43,29 +43,28 @@ abbrev pub IsThere : Cursors → List Held → Oid → Type 0
 IsThere vector rows o = (IsTombstoned (updates_of rows) o → ⊥) × (HoldsObject (updates_of rows) o ⊎ (CoversBirth (at vector) o → ⊥))
 
 pub lost_where_tested : (vector : Cursors) (rows : List Held) (o : Oid) → is_lost_end vector rows o ≡ true → IsLost vector rows o
-lost_where_tested vector rows o h = by (yes_or_no (holds_dead rows o))
+lost_where_tested vector rows o h = by (cases_Bool (holds_dead rows o))
   where
     gone : (a b : Bool) → (a || b) ≡ true → a ≡ false → b ≡ true
-    gone true b e f = absurd (true_is_not_false true refl f)
-    gone false b e f = e
+    gone a b e f = ⊎_elim (λ t. absurd (both_ways a f t)) (λ t. t) (or_cases a b e)
 
     by : (holds_dead rows o ≡ true) ⊎ (holds_dead rows o ≡ false) → IsLost vector rows o
     by (inl is) = inl (dead_where_tested rows o is)
-    by (inr is) = let t = both (not (holds_object rows o)) (covers_birth vector o) (gone (holds_dead rows o) (is_gone vector rows o) h is) in
-        inr (lacks_where_untested rows o (was_false (holds_object rows o) t.0), covers_where_tested vector o t.1)
+    by (inr is) = let t = and_parts (not (holds_object rows o)) (covers_birth vector o) (gone (holds_dead rows o) (is_gone vector rows o) h is) in
+        inr (lacks_where_untested rows o (not-true (holds_object rows o) t.0), covers_where_tested vector o t.1)
 
 pub there_where_untested : (vector : Cursors) (rows : List Held) (o : Oid) → is_lost_end vector rows o ≡ false → IsThere vector rows o
 there_where_untested vector rows o h = (alive_where_untested rows o parts.0, by (holds_object rows o) refl parts.1)
   where
     parts : (holds_dead rows o ≡ false) × (is_gone vector rows o ≡ false)
-    parts = neither (holds_dead rows o) (is_gone vector rows o) h
+    parts = or_parts (holds_dead rows o) (is_gone vector rows o) h
 
     by : (b : Bool) → holds_object rows o ≡ b → (not b && covers_birth vector o) ≡ false → HoldsObject (updates_of rows) o ⊎ (CoversBirth (at vector) o → ⊥)
     by true is e = inl (holds_where_tested rows o is)
     by false is e = inr (misses_where_untested vector o e)
 
 pub held_or_not : (rows : List Held) (o : Oid) → HoldsObject (updates_of rows) o ⊎ (HoldsObject (updates_of rows) o → ⊥)
-held_or_not rows o = by (yes_or_no (holds_object rows o))
+held_or_not rows o = by (cases_Bool (holds_object rows o))
   where
     by : (holds_object rows o ≡ true) ⊎ (holds_object rows o ≡ false) → HoldsObject (updates_of rows) o ⊎ (HoldsObject (updates_of rows) o → ⊥)
     by (inl is) = inl (holds_where_tested rows o is)
@@ -75,7 +74,7 @@ held_or_not rows o = by (yes_or_no (holds_object rows o))
 
 pub of_attr : (attr : ℕ) (k : Key) → is_of_attr attr k ≡ true → (o : Oid) × (k ≡ RowOf o attr)
 of_attr attr (RowOf o a) h = (o, ap (λ n. RowOf o n) (eqb-true a attr h))
-of_attr attr (LinkOf l) h = absurd (true_is_not_false false h refl)
+of_attr attr (LinkOf l) h = absurd (both_ways false refl h)
 
 pub attr_itself : (o : Oid) (attr : ℕ) (k : Key) → k ≡ RowOf o attr → is_of_attr attr k ≡ true
 attr_itself o attr k e = subst (λ j. is_of_attr attr j ≡ true) (sym e) (eq-eqb attr attr refl)
@@ -117,7 +116,7 @@ bare_beside_death us d m death u n = by (has_row deleted_attr us) (tested_where_
   where
     by : (b : Bool) → b ≡ true → Member u (cond b (filter (λ (v : Update). is_reserved_row v.key) us) us) → is_reserved_row u.key ≡ true
     by true e k = (of_filter (λ (v : Update). is_reserved_row v.key) us u k).1
-    by false e k = absurd (true_is_not_false false e refl)
+    by false e k = absurd (both_ways false refl e)
 
 -- a row is left, or a death is and the row is none
 pub left_or_dead : (us : List Update) (u : Update) → Member u us → Member u (left_by_death us) ⊎ ((d : Update) × Member d (left_by_death us) × (is_of_attr deleted_attr d.key ≡ true) × (IsDeath u → ⊥))
@@ -127,4 +126,4 @@ left_or_dead us u m = by (has_row deleted_attr us) refl (is_reserved_row u.key) 
     by b has true is = inl (reserved_is_left us u m is)
     by false has false is = inl (subst (λ c. Member u (cond c (filter (λ (v : Update). is_reserved_row v.key) us) us)) (sym has) m)
     by true has false is = let t = has_where_tested deleted_attr us has in
-        inr (t.0, reserved_is_left us t.0 t.1 (deaths_are_reserved t.0 t.2), t.2, λ d. true_is_not_false (is_reserved_row u.key) (deaths_are_reserved u (is_death u d)) is)
+        inr (t.0, reserved_is_left us t.0 t.1 (deaths_are_reserved t.0 t.2), t.2, λ d. both_ways (is_reserved_row u.key) is (deaths_are_reserved u (is_death u d)))

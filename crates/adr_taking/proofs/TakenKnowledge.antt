@@ -4,10 +4,10 @@ use Rattle.std.specs.Option.{IfSome}
 use Rattle.std.specs.Ordering.{is_eq}
 use Rattle.std.specs.List.Sorted.{IsStrictlySortedBy}
 use Rattle.std.proofs.lemmas.Bool.Decides.{leb_tells}
-use Rattle.std.proofs.lemmas.Map.Lookups.{exact_bytes}
 use Rattle.adr_stamp.specs.Order.{identifier_order}
 use Rattle.adr_vector.specs.Vector.{Cursors, IsVector, at, joined}
 use Rattle.adr_vector.proofs.Joining.{at-raised, at-joined}
+use Rattle.adr_vector.proofs.Cursors.{same_from_test}
 use Rattle.adr_model.specs.Member.{Each}
 use Rattle.adr_model.specs.Update.{Identifier, Update, inv_of, usn_of}
 use Rattle.adr_model.specs.Reflects.{Covers, AtMost, Knowledge, knowledge_of, Reflects}
@@ -17,14 +17,13 @@ use Rattle.adr_model.specs.Serve.{Reply}
 use Rattle.adr_model.specs.Take.{Taking, take_items, taken_change}
 use Rattle.adr_model.specs.Replica.{Scene, history_of}
 use Rattle.adr_model.specs.Sound.{last_of, IsBounded, IsSoundMark, IsSoundLast, IsSent}
-use Rattle.adr_model.proofs.Keys.{equal_order}
 use Rattle.adr_knowledge.specs.Grows.{Grows}
 use Rattle.adr_knowledge.proofs.Knows.{grows_keeps, grows_trans, more_covered, carry_over}
 use Rattle.adr_history.proofs.Past.{Tells}
 use Rattle.adr_history.proofs.Moved.{mark_taken}
 use Rattle.adr_history.proofs.Bounds.{rows_are_within}
 use Rattle.adr_taking.specs.OnTheWay.{IsTakeable, known_with, source_rows}
-use Rattle.adr_taking.proofs.Tests.{held_as}
+use Rattle.adr_steps.proofs.Rows.{held_as}
 use Rattle.adr_taking.proofs.Items.{ends, items_reflected}
 
 -- what a reply joins is a vector, and bounded
@@ -107,7 +106,7 @@ module _ (sc : Scene) (s : State) (r : Reply) (may : IsTakeable sc s r) where
       by : (b : Bool) → is_eq (identifier_order (inv_of u) s.inv) ≡ b → Tells (usn_of u) (at s.store.vector (inv_of u)) → Reflects sc.issued (knowledge_of behind.store) u
       by b is (inl within) = old within.1
       by true is (inr more) =
-          let same : inv_of u ≡ s.inv = exact_bytes (inv_of u) s.inv (equal_order (identifier_order (inv_of u) s.inv) is) in
+          let same : inv_of u ≡ s.inv = same_from_test (inv_of u) s.inv is in
           old (omega (arith, (may.scene.once u m).1, ap (last_of sc) same, ap (at s.store.vector) same, may.state.last, may.state.formed.own))
       by false is (inr more) =
           let other : at behind.store.vector (inv_of u) ≡ max (max (at s.store.vector (inv_of u)) (at brought (inv_of u))) 0 = vector_is (inv_of u) ∙ ap (λ b. max (max (at s.store.vector (inv_of u)) (at brought (inv_of u))) (cond b now.usn 0)) is in

@@ -26,7 +26,7 @@ use Rattle.adr_history.specs.Settling.{Leaves}
 use Rattle.adr_history.proofs.Leaving.{each_mark}
 use Rattle.adr_history.proofs.Units.{change_from}
 use Rattle.adr_taking.specs.OnTheWay.{IsTakeable, IsTaken, IsOnTheWay}
-use Rattle.adr_taking.proofs.Tests.{held_as, updated}
+use Rattle.adr_steps.proofs.Rows.{held_as, updated}
 use Rattle.adr_taking.proofs.Standings.{held_or_not}
 use Rattle.adr_taking.proofs.OnTheWay.{source_classes, purged_within}
 use Rattle.adr_taking.proofs.ItemRows.{in_source}

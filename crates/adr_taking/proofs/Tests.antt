@@ -1,46 +1,20 @@
 -- What the tests of taking tell of rows.
-use Rattle.std.proofs.Common.{◌≡◌, ◌⊎◌, inl, inr, ℕ, List, [], ◌∷◌, Bool, true, false, cond, Option, Some, None, refl, sym, ap, ◌∙◌, subst, not, ◌||◌, ◌&&◌, arith}
+use Rattle.std.proofs.Common.{◌≡◌, ◌⊎◌, inl, inr, List, [], ◌∷◌, Bool, true, false, cond, Option, Some, None, refl, sym, ap, ◌∙◌, subst, arith}
 use Rattle.std.specs.Prelude.{is_some}
 use Rattle.std.specs.Option.{option_map_or}
-use Rattle.std.proofs.lemmas.Bool.{leb-true, leb-false}
+use Rattle.std.proofs.lemmas.Bool.{leb-true, leb-false, both_ways}
 use Rattle.adr_stamp.specs.declared.Oid.{Oid}
-use Rattle.adr_stamp.specs.declared.LinkKey.{LinkKey}
-use Rattle.adr_stamp.specs.declared.Unit.TheVariants.{Object, Link}
 use Rattle.adr_vector.specs.Vector.{Cursors, at}
 use Rattle.adr_model.specs.Member.{Member, Each}
-use Rattle.adr_model.specs.Update.{Key, RowOf, LinkOf, Update, same_key, is_older, unit_of, deleted_attr}
+use Rattle.adr_model.specs.Update.{Key, RowOf, Update, same_key, is_older, deleted_attr}
 use Rattle.adr_model.specs.Reflects.{CoversBirth, Supersedes, HoldsAtLeast, HoldsObject, IsTombstoned}
 use Rattle.adr_model.specs.Visible.{covers_birth}
 use Rattle.adr_model.specs.Store.{Held, updates_of, row_held, is_row_of, holds_object, holds_dead}
 use Rattle.adr_model.specs.Take.{is_above}
-use Rattle.adr_model.proofs.Members.{mapped_member, member_mapped, one_passes}
-use Rattle.adr_knowledge.proofs.Comparing.{keys_tell, same_where_equal, objects_tell, objects_same, older_one_way}
+use Rattle.adr_model.proofs.Members.{one_passes}
+use Rattle.adr_knowledge.proofs.Comparing.{keys_tell, same_where_equal, objects_same, older_one_way}
 use Rattle.adr_knowledge.proofs.Lists.{some_passes}
-
-pub updated : (rows : List Held) (h : Held) → Member h rows → Member h.update (updates_of rows)
-updated rows h m = member_mapped (λ (x : Held). x.update) rows h m
-
-pub held_as : (rows : List Held) (u : Update) → Member u (updates_of rows) → (h : Held) × Member h rows × (u ≡ h.update)
-held_as rows u m = mapped_member (λ (x : Held). x.update) rows u m
-
-pub yes_or_no : (b : Bool) → (b ≡ true) ⊎ (b ≡ false)
-yes_or_no true = inl refl
-yes_or_no false = inr refl
-
-pub true_is_not_false : (b : Bool) → b ≡ true → b ≡ false → ⊥
-true_is_not_false b p q = let e : true ≡ false = sym p ∙ q in absurd (cc)
-
-pub both : (a b : Bool) → (a && b) ≡ true → (a ≡ true) × (b ≡ true)
-both true b h = (refl, h)
-both false b h = absurd (cc)
-
-pub neither : (a b : Bool) → (a || b) ≡ false → (a ≡ false) × (b ≡ false)
-neither true b h = absurd (cc)
-neither false b h = (refl, h)
-
-pub was_false : (a : Bool) → not a ≡ true → a ≡ false
-was_false true h = absurd (cc)
-was_false false h = refl
+use Rattle.adr_steps.proofs.Rows.{updated, held_as, row_is_of}
 
 -- ---- the row of a key
 
@@ -57,27 +31,15 @@ row_found (x ∷ xs) key = by (same_key x.update.key key) refl (row_found xs key
     by false is (inr (none, f)) = inr (other, f)
       where
         other : Each (λ (h : Held). h.update.key ≡ key → ⊥) (x ∷ xs)
-        other h (inl e) k = true_is_not_false (same_key x.update.key key) (same_where_equal x.update.key key (ap (λ (y : Held). y.update.key) (sym e) ∙ k)) is
+        other h (inl e) k = both_ways (same_key x.update.key key) is (same_where_equal x.update.key key (ap (λ (y : Held). y.update.key) (sym e) ∙ k))
         other h (inr m) k = none h m k
 
 -- ---- objects
 
-pub row_of : (o : Oid) (k : Key) → is_row_of o k ≡ true → (attr : ℕ) × (k ≡ RowOf o attr)
-row_of o (RowOf p a) h = (a, ap (λ q. RowOf q a) (objects_tell p o h))
-row_of o (LinkOf l) h = absurd (cc)
-
-pub of_unit : (o : Oid) (k : Key) → unit_of k ≡ Object o → (attr : ℕ) × (k ≡ RowOf o attr)
-of_unit o (RowOf p a) h = let e : p ≡ o = cc in (a, ap (λ q. RowOf q a) e)
-of_unit o (LinkOf l) h = absurd (cc)
-
-pub of_link : (k : Key) (l : LinkKey) → unit_of k ≡ Link l → k ≡ LinkOf l
-of_link (RowOf p a) l h = absurd (cc)
-of_link (LinkOf k) l h = cc
-
 pub holds_where_tested : (rows : List Held) (o : Oid) → holds_object rows o ≡ true → HoldsObject (updates_of rows) o
 holds_where_tested rows o h =
     let t = some_passes (λ (x : Held). is_row_of o x.update.key) rows h in
-    let k = row_of o t.0.update.key t.2 in
+    let k = row_is_of o t.0.update.key t.2 in
     (t.0.update, k.0, updated rows t.0 t.1, k.1)
 
 pub tested_where_holds : (rows : List Held) (o : Oid) → HoldsObject (updates_of rows) o → holds_object rows o ≡ true
@@ -87,14 +49,14 @@ tested_where_holds rows o (u, attr, m, e) =
     (subst (λ (v : Update). is_row_of o v.key ≡ true) t.2 (subst (λ k. is_row_of o k ≡ true) (sym e) (objects_same o o refl)))
 
 pub lacks_where_untested : (rows : List Held) (o : Oid) → holds_object rows o ≡ false → HoldsObject (updates_of rows) o → ⊥
-lacks_where_untested rows o h is = true_is_not_false (holds_object rows o) (tested_where_holds rows o is) h
+lacks_where_untested rows o h is = both_ways (holds_object rows o) h (tested_where_holds rows o is)
 
 pub dead_where_tested : (rows : List Held) (o : Oid) → holds_dead rows o ≡ true → IsTombstoned (updates_of rows) o
 dead_where_tested rows o h = by (row_found rows (RowOf o deleted_attr))
   where
     by : IsFound rows (RowOf o deleted_attr) (row_held rows (RowOf o deleted_attr)) → IsTombstoned (updates_of rows) o
     by (inl (x, m, e, f)) = (x.update, updated rows x m, e)
-    by (inr (none, f)) = absurd (true_is_not_false (holds_dead rows o) h (ap is_some f))
+    by (inr (none, f)) = absurd (both_ways (holds_dead rows o) (ap is_some f) h)
 
 pub tested_where_dead : (rows : List Held) (o : Oid) → IsTombstoned (updates_of rows) o → holds_dead rows o ≡ true
 tested_where_dead rows o (u, m, is) = by (row_found rows (RowOf o deleted_attr))
@@ -104,7 +66,7 @@ tested_where_dead rows o (u, m, is) = by (row_found rows (RowOf o deleted_attr))
     by (inr (none, f)) = let t = held_as rows u m in absurd (none t.0 t.1 (ap (λ (v : Update). v.key) (sym t.2) ∙ is))
 
 pub alive_where_untested : (rows : List Held) (o : Oid) → holds_dead rows o ≡ false → IsTombstoned (updates_of rows) o → ⊥
-alive_where_untested rows o h is = true_is_not_false (holds_dead rows o) (tested_where_dead rows o is) h
+alive_where_untested rows o h is = both_ways (holds_dead rows o) h (tested_where_dead rows o is)
 
 pub covers_where_tested : (v : Cursors) (o : Oid) → covers_birth v o ≡ true → CoversBirth (at v) o
 covers_where_tested v o h = leb-true o.birth.usn (at v o.birth.inv) h
@@ -119,7 +81,7 @@ not_above rows u h = by (row_found rows u.key)
   where
     by : IsFound rows u.key (row_held rows u.key) → HoldsAtLeast (updates_of rows) u
     by (inl (x, m, e, f)) = (x.update, updated rows x m, record { key = e; stamp = sym (ap (λ (p : Option Held). option_map_or (λ y. is_older y.update u) p true) f) ∙ h })
-    by (inr (none, f)) = absurd (true_is_not_false (is_above rows u) (ap (λ (p : Option Held). option_map_or (λ y. is_older y.update u) p true) f) h)
+    by (inr (none, f)) = absurd (both_ways (is_above rows u) h (ap (λ (p : Option Held). option_map_or (λ y. is_older y.update u) p true) f))
 
 -- a row above is above each row of its key, of which there is one
 pub above_each : (rows : List Held) (u : Update) → Each (λ x. Each (λ y. x.update.key ≡ y.update.key → x ≡ y) rows) rows → is_above rows u ≡ true → Each (λ v. v.key ≡ u.key → is_older v u ≡ true) (updates_of rows)
@@ -139,4 +101,4 @@ at_least_is_not_above rows u one (v, m, s) = by (is_above rows u) refl
   where
     by : (b : Bool) → is_above rows u ≡ b → b ≡ false
     by false is = refl
-    by true is = absurd (true_is_not_false (is_older v u) (above_each rows u one is v m s.key) s.stamp)
+    by true is = absurd (both_ways (is_older v u) s.stamp (above_each rows u one is v m s.key))

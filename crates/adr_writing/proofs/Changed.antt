@@ -27,9 +27,10 @@ use Rattle.adr_model.proofs.Members.{mapped_member}
 use Rattle.adr_steps.specs.Puts.{MayPut}
 use Rattle.adr_steps.specs.Forms.{IsWellSaid}
 use Rattle.adr_writing.specs.MayWrites.{IsLive, MayWrite}
-use Rattle.adr_writing.proofs.Refusals.{none_there, not_mapped}
+use Rattle.adr_knowledge.proofs.Refusing.{none_there, not_mapped}
 use Rattle.adr_writing.proofs.Nodes.{object_is_live}
-use Rattle.adr_writing.proofs.Stamps.{one_update, next_is_above, one_may_be_put}
+use Rattle.adr_steps.proofs.Rising.{one_update}
+use Rattle.adr_writing.proofs.Stamps.{next_is_above, one_may_be_put}
 use Rattle.adr_writing.proofs.Values.{place_of, one_given, plain_is_above}
 use Rattle.adr_writing.proofs.Saids.{live_is_held, may_change, name_well_said, death_well_said, values_well_said}
 

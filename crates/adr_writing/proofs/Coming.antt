@@ -34,7 +34,8 @@ use Rattle.adr_model.proofs.Members.{each_fails, mapped_member, member_mapped}
 use Rattle.adr_steps.specs.Puts.{MayPut}
 use Rattle.adr_steps.specs.Forms.{IsWellSaid, HasKey, MayCome}
 use Rattle.adr_writing.specs.MayWrites.{HasRoom, MayWrite}
-use Rattle.adr_writing.proofs.Refusals.{none_there, not_so, not_mapped, not_full}
+use Rattle.adr_knowledge.proofs.Refusing.{none_there, not_mapped}
+use Rattle.adr_writing.proofs.Refusals.{not_so, not_full}
 use Rattle.adr_writing.proofs.Values.{place_of, one_given, given_member, plain_is_above}
 use Rattle.adr_writing.proofs.Saids.{class_well_said, name_well_said, values_well_said}
 

@@ -1,32 +1,26 @@
 -- Rows stay as the schema wants them behind a write, and links stay closed.
-use Rattle.std.proofs.Common.{◌≡◌, ◌⊎◌, inl, inr, ⊎_elim, ℕ, ◌+◌, List, Bool, true, false, cond, ◌&&◌, ◌==◌, refl, sym, ap, ◌∙◌, subst, max, arith}
-use Rattle.std.specs.Ordering.{is_eq}
-use Rattle.std.proofs.lemmas.Bool.{eqb-true}
-use Rattle.adr_stamp.specs.Order.{identifier_order}
-use Rattle.adr_stamp.specs.declared.Oid.{Oid}
+use Rattle.std.proofs.Common.{◌≡◌, ◌⊎◌, inl, inr, ⊎_elim, ℕ, ◌+◌, List, sym, ◌∙◌, subst}
 use Rattle.adr_stamp.specs.declared.LinkKey.{LinkKey}
 use Rattle.adr_stamp.specs.declared.Unit.{Unit as Named}
 use Rattle.adr_stamp.specs.declared.Unit.TheVariants.{Object, Link}
 use Rattle.adr_schema.specs.Numbered.{numbered}
 use Rattle.adr_schema.specs.declared.content.Content.TheVariants.{Class}
 use Rattle.adr_vector.specs.Vector.{at, raised}
-use Rattle.adr_vector.proofs.Cursors.{same_from_test}
-use Rattle.adr_vector.proofs.Joining.{at-raised}
 use Rattle.adr_model.specs.Member.{Member, Each}
-use Rattle.adr_model.specs.Update.{LinkOf, Update, Holds, IsPresent, inv_of, usn_of, same_identifier, ends}
-use Rattle.adr_model.specs.Reflects.{Numbers, CoversBirth, HoldsObject}
+use Rattle.adr_model.specs.Update.{LinkOf, Update, Holds, IsPresent, ends}
+use Rattle.adr_model.specs.Reflects.{Numbers, HoldsObject}
 use Rattle.adr_model.specs.Store.{Held, State, updates_of}
-use Rattle.adr_model.specs.Take.{is_birth}
 use Rattle.adr_model.specs.Formed.{AreRising, AreFormedRows}
 use Rattle.adr_model.specs.Replica.{Scene}
-use Rattle.adr_model.specs.Sound.{last_of, AreClassesKnown, IsSoundScene, IsSoundState}
+use Rattle.adr_model.specs.Sound.{AreClassesKnown, IsSoundScene, IsSoundState}
+use Rattle.adr_history.proofs.Frames.{born_before}
 use Rattle.adr_steps.specs.Puts.{ArePut, AreClosed}
 use Rattle.adr_steps.proofs.Putting.{objects_stay}
 use Rattle.adr_writing.specs.MayWrites.{Changes, Comes, MayWrite}
 use Rattle.adr_steps.proofs.Formed.{objects_stay_formed, classes_stay_known, objects_stay_closed}
 use Rattle.adr_steps.proofs.Links.{links_stay_formed_by_puts, links_stay_closed}
 use Rattle.adr_writing.proofs.Rooms.{whence_update}
-use Rattle.adr_writing.proofs.Writes.{no_link_row, same_link}
+use Rattle.adr_steps.proofs.Rows.{no_link_row, same_link}
 
 module _ (s : State) (us : List Update) (after : List Held) (are : ArePut (s.store.usn + 1) us s.store.rows after) where
   abbrev V : Numbers
@@ -63,30 +57,8 @@ module _ (s : State) (us : List Update) (after : List Held) (are : ArePut (s.sto
     abbrev W : Numbers
     W = at (raised s.store.vector s.inv (s.store.usn + 1))
 
-    birth_is : (o : Oid) (b : Update) → is_birth o b ≡ true → (inv_of b ≡ o.birth.inv) × (usn_of b ≡ o.birth.usn)
-    birth_is o b is = by (b.stamp.stamp.version == 1) (same_identifier (inv_of b) o.birth.inv) refl (usn_of b == o.birth.usn) refl is
-      where
-        by : (x y : Bool) → same_identifier (inv_of b) o.birth.inv ≡ y → (z : Bool) → (usn_of b == o.birth.usn) ≡ z → (x && y && z) ≡ true → (inv_of b ≡ o.birth.inv) × (usn_of b ≡ o.birth.usn)
-        by true true e true f h = (same_from_test (inv_of b) o.birth.inv e, eqb-true (usn_of b) o.birth.usn f)
-        by true true e false f h = cc
-        by true false e z f h = cc
-        by false y e z f h = cc
-
-    -- a birth that was issued is not the one under the new USN
-    born_earlier : (o : Oid) (r : Update) → Member r (updates_of s.store.rows) → Member o (ends r.key) → CoversBirth W o → CoversBirth V o
-    born_earlier o r m n covered = by (is_eq (identifier_order o.birth.inv s.inv)) refl
-      where
-        b : (b : Update) × Member b sc.issued × ((inv_of b ≡ o.birth.inv) × (usn_of b ≡ o.birth.usn))
-        b = let t = scene.born r (state.store.known r m) o n in (t.0, t.1, birth_is o t.0 t.2.1)
-
-        by : (c : Bool) → is_eq (identifier_order o.birth.inv s.inv) ≡ c → CoversBirth V o
-        by true here =
-            let same : o.birth.inv ≡ s.inv = same_from_test o.birth.inv s.inv here in
-            omega (arith, (scene.once b.0 b.1).1, b.2.1, ap (last_of sc) (b.2.0 ∙ same), state.last, state.formed.own, ap V same)
-        by false other = omega (arith, covered, at-raised s.store.vector s.inv (s.store.usn + 1) o.birth.inv ∙ ap (λ c. max (V o.birth.inv) (cond c (s.store.usn + 1) 0)) other)
-
     pub stays_closed : (unit : Named) → MayWrite s unit us → AreClosed W (updates_of after)
     stays_closed unit may r m l is o n = ⊎_elim
         (λ i. inl (objects_stay (s.store.usn + 1) s.store.rows after us o are (ends_held unit may r i l is o n)))
-        (λ i. ⊎_elim (λ h. inl h) (λ new. inr (λ c. new (born_earlier o r i (subst (λ k. Member o (ends k)) (sym is) n) c))) (closed_before unit may (λ x j k e p q. state.store.closed k x j e p q) r m l is o n))
+        (λ i. ⊎_elim (λ h. inl h) (λ new. inr (λ c. new (born_before sc s (s.store.usn + 1) scene state r (state.store.known r i) o (subst (λ k. Member o (ends k)) (sym is) n) c))) (closed_before unit may (λ x j k e p q. state.store.closed k x j e p q) r m l is o n))
         (whence_update s us after are r m)

@@ -10,7 +10,8 @@ use Rattle.adr_model.proofs.Members.{member_left, member_right, mapped_member}
 use Rattle.adr_history.specs.Later.{MayIssue}
 use Rattle.adr_steps.specs.Puts.{held_at}
 use Rattle.adr_writing.specs.MayWrites.{MayWrite}
-use Rattle.adr_writing.proofs.Writes.{alone_from, end_of_unit, ends_born, class_rows_born}
+use Rattle.adr_knowledge.proofs.Lists.{alone_from}
+use Rattle.adr_writing.proofs.Writes.{end_of_unit, ends_born, class_rows_born}
 
 pub write_may_issue : (sc : Scene) (s : State) (item : Item) → IsSoundScene sc → IsSoundState sc s → MayWrite s item.unit item.rows
     → MayIssue sc (own_change s item) (updates_written (own_change s item))

@@ -1,5 +1,5 @@
 -- What a write leaves: nothing is lost, what is written is held, and the store is formed and closed.
-use Rattle.std.proofs.Common.{◌≡◌, inl, ⊎_elim, ℕ, ◌≤◌, ◌+◌, List, [], ◌∷◌, ◌++◌, refl, sym, ap, subst, fold, arith}
+use Rattle.std.proofs.Common.{◌≡◌, inl, ⊎_elim, ℕ, ◌≤◌, ◌+◌, List, [], ◌++◌, sym, ap, subst, fold, arith, append-nil}
 use Rattle.adr_stamp.specs.declared.Unit.{Unit as Named}
 use Rattle.adr_schema.specs.Numbered.{numbered}
 use Rattle.adr_vector.specs.Vector.{IsVector, at, raised}
@@ -14,18 +14,19 @@ use Rattle.adr_model.specs.Write.{Write, own_change}
 use Rattle.adr_model.specs.Formed.{AreRising, IsFormedStore, IsClosed}
 use Rattle.adr_model.specs.Replica.{Scene, ToWrite}
 use Rattle.adr_model.specs.Sound.{AreClassesKnown, IsSoundScene, IsSoundState}
-use Rattle.adr_model.proofs.Members.{member_left, member_right, member_mapped, mapped_member}
+use Rattle.adr_model.proofs.Members.{member_left, member_right, mapped_member}
 use Rattle.adr_knowledge.proofs.Comparing.{supersedes_self}
 use Rattle.adr_knowledge.proofs.Knows.{grows_keeps, grows_trans, more_covered}
 use Rattle.adr_history.specs.Settling.{Leaves}
 use Rattle.adr_steps.specs.Puts.{held_at, under, ArePut}
+use Rattle.adr_steps.proofs.Rows.{updated}
 use Rattle.adr_steps.proofs.Putting.{are_put, puts_grow}
 use Rattle.adr_steps.proofs.Order.{puts_rise, puts_stay_alone}
 use Rattle.adr_writing.specs.MayWrites.{MayWrite}
-use Rattle.adr_writing.proofs.Raised.{raised_is_vector, raised_up}
+use Rattle.adr_knowledge.proofs.Raised.{raised_is_vector, raised_up}
 use Rattle.adr_writing.proofs.Rooms.{cursors_within, whence_update, objects_within_limit, links_within_limit}
 use Rattle.adr_writing.proofs.Forms.{rows_stay_formed, classes_stay, stays_closed}
-use Rattle.adr_writing.proofs.Writes.{alone_from}
+use Rattle.adr_knowledge.proofs.Lists.{alone_from}
 
 module _ (sc : Scene) (s : State) (unit : Named) (us : List Update) (rows : List Held)
     (scene : IsSoundScene sc) (state : IsSoundState sc s) (may : MayWrite s unit us)
@@ -62,7 +63,7 @@ module _ (sc : Scene) (s : State) (unit : Named) (us : List Update) (rows : List
   known u m = ⊎_elim (λ n. member_right sc.issued (us ++ []) u (member_left us [] u n)) (λ n. member_left sc.issued (us ++ []) u (state.store.known u n)) (whence_update s us rows are u m)
 
   written : Each (λ u. Reflects sc.issued (knowledge_of left) u) (us ++ [])
-  written u m = inl (u, member_mapped (λ (h : Held). h.update) rows (held_at (s.store.usn + 1) u) (are.written u (alone_from us u m)), supersedes_self u)
+  written u m = inl (u, updated rows (held_at (s.store.usn + 1) u) (are.written u (alone_from us u m)), supersedes_self u)
 
   locals : Each (λ h. (1 ≤ h.local) × (h.local ≤ s.store.usn + 1)) rows
   locals h m = ⊎_elim
@@ -102,16 +103,12 @@ module _ (sc : Scene) (s : State) (unit : Named) (us : List Update) (rows : List
   nothing_carried : Each (λ u. Covers (at []) u → Reflects sc.issued (knowledge_of left) u) sc.issued
   nothing_carried u m c = absurd (omega (arith, (scene.once u m).0, c))
 
-append_none : {A : Type 0} (xs : List A) → xs ++ [] ≡ xs
-append_none [] = refl
-append_none (x ∷ xs) = ap (λ ys. x ∷ ys) (append_none xs)
-
 module _ (sc : Scene) (s : State) (item : Item) (scene : IsSoundScene sc) (state : IsSoundState sc s) (may : MayWrite s item.unit item.rows) where
   abbrev stands : List Held
   stands = rows_after [] (held_of (own_change s item).writes) s.store.rows
 
   stands_is : fold put s.store.rows (under (s.store.usn + 1) item.rows) ≡ stands
-  stands_is = ap (fold put s.store.rows) (sym (append_none (under (s.store.usn + 1) item.rows)))
+  stands_is = ap (fold put s.store.rows) (sym (append-nil (under (s.store.usn + 1) item.rows)))
 
   are : ArePut (s.store.usn + 1) item.rows s.store.rows stands
   are = subst (ArePut (s.store.usn + 1) item.rows s.store.rows) stands_is (are_put (s.store.usn + 1) s.store.rows (at s.store.vector) item.unit item.rows may.put)

@@ -1,6 +1,3 @@
-pub mod Counting
-pub mod Limits
-pub mod Raised
 pub mod Writes
 pub mod Issues
 pub mod Rooms

@@ -1,6 +1,7 @@
 -- A link that is added or removed is one of live objects, under the attribute of a forward link, with room for its row.
 use Rattle.std.proofs.Common.{◌≡◌, ◌⊎◌, inl, inr, ℕ, ◌≤◌, ◌+◌, List, [], ◌∷◌, Bool, true, false, not, Option, Some, None, is_some, refl, sym, ap, ◌∙◌, subst, arith, if◌then◌else◌}
 use Rattle.std.specs.Option.{option_map, option_map_or}
+use Rattle.std.proofs.lemmas.Bool.{not-false}
 use Rattle.adr_stamp.specs.declared.Oid.{Oid}
 use Rattle.adr_stamp.specs.declared.LinkKey.{LinkKey}
 use Rattle.adr_stamp.specs.declared.Unit.TheVariants.{Object, Link}
@@ -18,27 +19,26 @@ use Rattle.adr_model.specs.Store.{Held, State, updates_of, row_held}
 use Rattle.adr_model.specs.Serve.{is_quarantined}
 use Rattle.adr_model.specs.Formed.{IsFormed}
 use Rattle.adr_model.specs.Write.{AddLink, RemoveLink, where_true, of_schema, fixed_refusal, object_refusal, version_refusal, usn_refusal, full_refusal, nodes_held, class_of, object_of, link_of, is_linked, says_present, links_in, link_limit, more_links, any_link_refusal, link_refusal, unlink_refusal, rows_written}
-use Rattle.adr_model.proofs.Members.{member_mapped}
 use Rattle.adr_knowledge.proofs.Comparing.{keys_tell}
+use Rattle.adr_steps.proofs.Rows.{updated}
 use Rattle.adr_writing.specs.MayWrites.{IsHeldAlive, HoldsLink, MayWrite}
-use Rattle.adr_writing.proofs.Refusals.{none_there, is_so, not_mapped, not_full}
-use Rattle.adr_writing.proofs.Nodes.{found_member, object_is_live}
-use Rattle.adr_writing.proofs.Stamps.{one_update, written, one_may_be_put}
+use Rattle.adr_knowledge.proofs.Refusing.{none_there, not_mapped}
+use Rattle.adr_writing.proofs.Refusals.{is_so, not_full}
+use Rattle.adr_knowledge.proofs.Lists.{found_member}
+use Rattle.adr_writing.proofs.Nodes.{object_is_live}
+use Rattle.adr_steps.proofs.Rising.{one_update}
+use Rattle.adr_writing.proofs.Stamps.{written, one_may_be_put}
 use Rattle.adr_writing.proofs.Saids.{live_is_held}
 
 -- a link that the schema doesn't refuse is a forward one
 is_forward_link : (t : Table) (class attr : ℕ) → schema_link_refusal t class attr ≡ None → is_forward (kind_at t attr) ≡ true
 unfolding schema_link_refusal
-is_forward_link t class attr none = by (is_forward (kind_at t attr)) (not_then _ _ (neither (not_link_refusal t attr) _ (neither _ _ none).1).0)
-  where
-    by : (b : Bool) → not b ≡ false → b ≡ true
-    by true e = refl
-    by false e = cc
+is_forward_link t class attr none = not-false (is_forward (kind_at t attr)) (not_then _ _ (neither (not_link_refusal t attr) _ (neither _ _ none).1).0)
 
 -- a row of the link is held
 held_link : (rows : List Held) (l : LinkKey) (h : Held) → row_held rows (LinkOf l) ≡ Some h → HoldsLink (updates_of rows) l
 held_link rows l h e = let t = found_member (λ (x : Held). same_key x.update.key (LinkOf l)) rows h e in
-    (h.update, member_mapped (λ (x : Held). x.update) rows h t.0, keys_tell h.update.key (LinkOf l) t.1)
+    (h.update, updated rows h t.0, keys_tell h.update.key (LinkOf l) t.1)
 
 module _ (s : State) (formed : IsFormed s) (from : Identifier) (attr : ℕ) (to : Identifier) where
   abbrev rows : List Update

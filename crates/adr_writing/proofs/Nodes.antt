@@ -1,5 +1,5 @@
 -- What a node that is held is: an object with a class row of its class, and without a death.
-use Rattle.std.proofs.Common.{◌≡◌, inl, inr, ℕ, zero, suc, List, [], ◌∷◌, Bool, true, false, cond, Option, Some, None, is_none, not, refl, sym, ap, ◌∙◌, subst, find, arith}
+use Rattle.std.proofs.Common.{◌≡◌, inl, inr, ℕ, zero, suc, List, [], ◌∷◌, true, false, Option, Some, None, is_none, not, refl, sym, ap, ◌∙◌, subst, arith}
 use Rattle.std.specs.List.{list_all}
 use Rattle.std.specs.Option.{option_and_then, option_map_or}
 use Rattle.adr_stamp.specs.declared.Oid.{Oid}
@@ -18,19 +18,12 @@ use Rattle.adr_event.specs.declared.refusal.WriteRefusal.TheVariants.{NoObject, 
 use Rattle.adr_model.specs.Write.{where_true, holds_guid, nodes_held, object_refusal, object_of, class_of}
 use Rattle.adr_model.proofs.Members.{of_filter}
 use Rattle.adr_knowledge.proofs.Comparing.{objects_tell}
-use Rattle.adr_knowledge.proofs.Lists.{of_filter_map, some_passes, each_passes}
+use Rattle.adr_knowledge.proofs.Lists.{found_member, of_filter_map, some_passes, each_passes}
 use Rattle.adr_knowledge.proofs.Standing.{of_standing}
 use Rattle.adr_knowledge.proofs.Winners.{is_won, of_winners}
 use Rattle.adr_writing.specs.MayWrites.{IsLive}
-use Rattle.adr_writing.proofs.Refusals.{none_there, not_so}
-
-pub found_member : {A : Type 0} (test : A → Bool) (xs : List A) (x : A) → find test xs ≡ Some x → Member x xs × (test x ≡ true)
-found_member test [] x e = absurd (cc)
-found_member {A = A} test (y ∷ ys) x e = by (test y) refl e (found_member test ys x)
-  where
-    by : (b : Bool) → test y ≡ b → cond b (Some y) (find test ys) ≡ Some x → (find test ys ≡ Some x → Member x ys × (test x ≡ true)) → Member x (y ∷ ys) × (test x ≡ true)
-    by true is h rest = let same : x ≡ y = cc in (inl same, ap test same ∙ is)
-    by false is h rest = let t = rest h in (inr t.0, t.1)
+use Rattle.adr_knowledge.proofs.Refusing.{none_there}
+use Rattle.adr_writing.proofs.Refusals.{not_so}
 
 -- ---- a node by its class row
 

@@ -11,19 +11,20 @@ use Rattle.adr_model.specs.Live.{objects_of}
 use Rattle.adr_model.specs.Store.{Held, State, updates_of}
 use Rattle.adr_model.specs.Write.{object_limit, link_limit, links_in}
 use Rattle.adr_model.specs.Formed.{AreRising, IsFormed}
-use Rattle.adr_model.proofs.Members.{member_mapped, mapped_member}
+use Rattle.adr_model.proofs.Members.{mapped_member}
 use Rattle.adr_steps.specs.Puts.{held_at, ArePut}
 use Rattle.adr_writing.specs.MayWrites.{Changes, Comes, HoldsLink, MayWrite}
-use Rattle.adr_writing.proofs.Limits.{among_objects, objects_within, links_within, one_link_more}
-use Rattle.adr_writing.proofs.Raised.{raised_replaces}
-use Rattle.adr_writing.proofs.Writes.{object_of_row, no_link_row, no_object_row, same_link}
+use Rattle.adr_knowledge.proofs.Standing.{among_objects, objects_within}
+use Rattle.adr_steps.proofs.Counts.{links_within, one_link_more}
+use Rattle.adr_knowledge.proofs.Raised.{raised_replaces}
+use Rattle.adr_steps.proofs.Rows.{updated, held_as, object_of_row, no_link_row, no_object_row, same_link}
 
 -- where a row stands, a USN was used, and so the own cursor is there
 pub few_cursors : (s : State) (r : Update) → IsFormed s → Member r (updates_of s.store.rows) → length (raised s.store.vector s.inv (s.store.usn + 1)) ≤ most_cursors
 few_cursors s r formed m =
-    let x = mapped_member (λ (h : Held). h.update) s.store.rows r m in
+    let x = held_as s.store.rows r m in
     let local = formed.store.locals x.0 x.1 in
-    omega (arith, raised_replaces s.store.vector s.inv (s.store.usn + 1) formed.store.vector.rising (omega (arith, formed.own, local.0, local.1)), formed.store.vector.few)
+    omega (arith, raised_replaces s.store.vector s.inv (s.store.usn + 1) (λ _. omega (arith, formed.own, local.0, local.1)) formed.store.vector, formed.store.vector.few)
 
 pub cursors_within : (s : State) (unit : Named) (us : List Update) → IsFormed s → MayWrite s unit us → length (raised s.store.vector s.inv (s.store.usn + 1)) ≤ most_cursors
 cursors_within s (Link l) us formed may = let h = (may.fits.ends l.from (inl refl)).0 in few_cursors s h.0 formed h.2
@@ -38,11 +39,11 @@ module _ (s : State) (us : List Update) (after : List Held) (are : ArePut (s.sto
   pub whence : (x : Held) → Member x after → Member x.update us ⊎ Member x.update (updates_of s.store.rows)
   whence x m = ⊎_elim
       (λ n. let u = mapped_member (held_at (s.store.usn + 1)) us x n in inl (subst (λ v. Member v us) (ap (λ (h : Held). h.update) (sym u.2)) u.1))
-      (λ n. inr (member_mapped (λ (h : Held). h.update) s.store.rows x n))
+      (λ n. inr (updated s.store.rows x n))
       (are.from x m)
 
   pub whence_update : (u : Update) → Member u (updates_of after) → Member u us ⊎ Member u (updates_of s.store.rows)
-  whence_update u m = let x = mapped_member (λ (h : Held). h.update) after u m in
+  whence_update u m = let x = held_as after u m in
       subst (λ v. Member v us ⊎ Member v (updates_of s.store.rows)) (sym x.2) (whence x.0 x.1)
 
   abbrev count : ℕ

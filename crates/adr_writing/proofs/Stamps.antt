@@ -10,18 +10,11 @@ use Rattle.adr_model.specs.Store.{Held, State, updates_of, row_held}
 use Rattle.adr_model.specs.Take.{is_reserved_row}
 use Rattle.adr_model.specs.Formed.{AreRising}
 use Rattle.adr_model.specs.Write.{next_stamp, version_of, first_created}
-use Rattle.adr_model.proofs.Members.{found, mapped_member}
+use Rattle.adr_model.proofs.Members.{found}
 use Rattle.adr_knowledge.proofs.Comparing.{keys_tell, same_where_equal, older_by_version, older_one_way}
 use Rattle.adr_steps.specs.Puts.{MayPut}
-use Rattle.adr_steps.proofs.Order.{one_of_key}
-
--- the updates of rows, of each key one
-pub one_update : (rows : List Held) → AreRising rows → Each (λ u. Each (λ v. u.key ≡ v.key → u ≡ v) (updates_of rows)) (updates_of rows)
-one_update rows rising u m v n e =
-    let x = mapped_member (λ (h : Held). h.update) rows u m in
-    let y = mapped_member (λ (h : Held). h.update) rows v n in
-    let same = one_of_key rows rising x.0 x.1 y.0 y.1 (ap (λ (w : Update). w.key) (sym x.2) ∙ e ∙ ap (λ (w : Update). w.key) y.2) in
-    x.2 ∙ ap (λ (h : Held). h.update) same ∙ sym y.2
+use Rattle.adr_steps.proofs.Rows.{held_as}
+use Rattle.adr_steps.proofs.Rising.{one_of_key}
 
 pub row_held_is : (rows : List Held) → AreRising rows → (key : Key) (x : Held) → Member x rows → x.update.key ≡ key → row_held rows key ≡ Some x
 row_held_is rows rising key x m e = found (λ (h : Held). same_key h.update.key key) rows x m (same_where_equal x.update.key key e)
@@ -34,7 +27,7 @@ pub next_is_above : (s : State) → AreRising s.store.rows → (now : ℕ) (key 
 next_is_above s rising now key said r m e = record { key = sym e; stamp = older_one_way r (written s now key said) (older_by_version r (written s now key said) created version) }
   where
     x : (h : Held) × Member h s.store.rows × (r ≡ h.update)
-    x = mapped_member (λ (h : Held). h.update) s.store.rows r m
+    x = held_as s.store.rows r m
 
     held : row_held s.store.rows key ≡ Some x.0
     held = row_held_is s.store.rows rising key x.0 x.1 (ap (λ (u : Update). u.key) (sym x.2) ∙ e)

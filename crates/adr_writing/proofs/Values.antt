@@ -1,9 +1,8 @@
 -- Values that are given: of each attribute one, and under attributes that aren't reserved.
-use Rattle.std.proofs.Common.{◌≡◌, inl, inr, ℕ, zero, suc, ◌<◌, List, [], ◌∷◌, Bool, true, false, Some, None, refl, sym, ap, ◌∙◌, subst, unwrap_or, ◌==◌, if◌then◌else◌, arith}
+use Rattle.std.proofs.Common.{◌≡◌, inl, inr, ℕ, zero, suc, ◌<◌, List, [], ◌∷◌, Bool, true, false, Some, None, refl, sym, ap, subst, unwrap_or, ◌==◌, if◌then◌else◌, arith}
 use Rattle.std.specs.List.{slice_get}
 use Rattle.std.specs.Ordering.{nat_cmp, is_eq}
-use Rattle.std.specs.declared.cmp.Ordering.TheVariants.{Less, Equal}
-use Rattle.std.proofs.lemmas.Cmp.{nat_cmp_total, tied_itself}
+use Rattle.std.proofs.lemmas.Cmp.{nat_cmp_total}
 use Rattle.std.proofs.lemmas.Map.Lookups.{exact_unsigned}
 use Rattle.adr_schema.specs.declared.content.Value.{Value as Datum}
 use Rattle.adr_schema.specs.declared.table.Syntax.{Syntax}
@@ -16,9 +15,7 @@ use Rattle.adr_model.specs.Member.{Member, Each}
 use Rattle.adr_model.specs.Update.{deleted_attr}
 use Rattle.adr_model.specs.Write.{AreInOrder}
 use Rattle.adr_model.proofs.Keys.{equal_order}
-use Rattle.adr_model.proofs.Members.{member_mapped}
-use Rattle.adr_knowledge.specs.Rises.{Rises}
-use Rattle.adr_writing.proofs.Limits.{rises_from}
+use Rattle.adr_knowledge.proofs.Counting.{rises_from, one_of_each}
 
 pub place_of : {A : Type 0} (xs : List A) (x : A) → Member x xs → (place : ℕ) × (slice_get xs place ≡ Some x)
 place_of [] x m = absurd m
@@ -26,18 +23,8 @@ place_of (y ∷ ys) x (inl e) = (zero, ap Some (sym e))
 place_of (y ∷ ys) x (inr m) = let t = place_of ys x m in (suc t.0, t.1)
 
 -- of each attribute one
-apart : (a b : ℕ) → nat_cmp a b ≡ Less → a ≡ b → ⊥
-apart a b less e = let tie : nat_cmp a b ≡ Equal = ap (nat_cmp a) (sym e) ∙ tied_itself nat_cmp_total a in cc
-
-one_rising : (gs : List Given) → Rises nat_cmp (attributes gs) → Each (λ g. Each (λ h. g.0 ≡ h.0 → g ≡ h) gs) gs
-one_rising [] r g m h n e = absurd m
-one_rising (f ∷ fs) r g (inl p) h (inl q) e = p ∙ sym q
-one_rising (f ∷ fs) r g (inl p) h (inr n) e = absurd (apart f.0 h.0 (r.0 h.0 (member_mapped (λ (x : Given). x.0) fs h n)) (ap (λ (x : Given). x.0) (sym p) ∙ e))
-one_rising (f ∷ fs) r g (inr m) h (inl q) e = absurd (apart f.0 g.0 (r.0 g.0 (member_mapped (λ (x : Given). x.0) fs g m)) (ap (λ (x : Given). x.0) (sym q) ∙ sym e))
-one_rising (f ∷ fs) r g (inr m) h (inr n) e = one_rising fs r.1 g m h n e
-
 pub one_given : (gs : List Given) → AreInOrder gs → Each (λ g. Each (λ h. g.0 ≡ h.0 → g ≡ h) gs) gs
-one_given gs order = one_rising gs (rises_from nat_cmp (attributes gs) order)
+one_given gs order = one_of_each nat_cmp nat_cmp_total (λ (g : Given). g.0) gs (rises_from nat_cmp (attributes gs) order)
 
 -- what an attribute is given is among the values
 pub given_member : (attr : ℕ) (gs : List Given) (vs : List Datum) → given attr gs ≡ Some vs → Member (attr, vs) gs

@@ -1,7 +1,6 @@
 -- What the rows of a write are about: objects that are held alive, or that come with them.
-use Rattle.std.proofs.Common.{◌≡◌, ◌⊎◌, inl, inr, ⊎_elim, ℕ, List, [], ◌∷◌, ◌++◌, true, sym, ap, ◌∙◌, subst}
+use Rattle.std.proofs.Common.{◌≡◌, ◌⊎◌, inl, inr, ℕ, List, [], ◌∷◌, ◌++◌, true, sym, ap, ◌∙◌, subst}
 use Rattle.adr_stamp.specs.declared.Oid.{Oid}
-use Rattle.adr_stamp.specs.declared.LinkKey.{LinkKey}
 use Rattle.adr_stamp.specs.declared.Unit.{Unit as Named}
 use Rattle.adr_stamp.specs.declared.Unit.TheVariants.{Object, Link}
 use Rattle.adr_schema.specs.Numbered.{numbered}
@@ -13,12 +12,10 @@ use Rattle.adr_model.specs.Take.{is_birth}
 use Rattle.adr_model.specs.Formed.{AreFormedRows}
 use Rattle.adr_model.specs.Replica.{Scene}
 use Rattle.adr_model.specs.Sound.{IsBirthOf, IsSoundScene, IsSoundState}
-use Rattle.adr_model.proofs.Members.{member_left, member_right, member_of_either}
+use Rattle.adr_model.proofs.Members.{member_left, member_right}
 use Rattle.adr_steps.specs.Forms.{IsWellSaid}
+use Rattle.adr_steps.proofs.Rows.{object_of_row, no_object_row}
 use Rattle.adr_writing.specs.MayWrites.{Changes, Comes, Fits, MayWrite}
-
-pub alone_from : {A : Type 0} (xs : List A) (x : A) → Member x (xs ++ []) → Member x xs
-alone_from xs x m = ⊎_elim (λ n. n) (λ n. absurd n) (member_of_either xs [] x m)
 
 abbrev pub ends_of : Named → List Oid
 ends_of (Object o) = o ∷ []
@@ -27,19 +24,6 @@ ends_of (Link l) = ends (LinkOf l)
 pub end_of_unit : (k : Key) (unit : Named) (o : Oid) → unit_of k ≡ unit → Member o (ends k) → Member o (ends_of unit)
 end_of_unit (RowOf p a) unit o e m = subst (λ u. Member o (ends_of u)) e m
 end_of_unit (LinkOf l) unit o e m = subst (λ u. Member o (ends_of u)) e m
-
--- an object's rows are of its unit
-pub object_of_row : (k : Key) (o p : Oid) (attr : ℕ) → unit_of k ≡ Object o → k ≡ RowOf p attr → p ≡ o
-object_of_row k o p attr e is = let same : Object p ≡ Object o = ap unit_of (sym is) ∙ e in cc
-
-pub no_link_row : (k : Key) (o : Oid) (l : LinkKey) → unit_of k ≡ Object o → k ≡ LinkOf l → ⊥
-no_link_row k o l e is = let same : Link l ≡ Object o = ap unit_of (sym is) ∙ e in cc
-
-pub no_object_row : (k : Key) (l : LinkKey) (o : Oid) (attr : ℕ) → unit_of k ≡ Link l → k ≡ RowOf o attr → ⊥
-no_object_row k l o attr e is = let same : Object o ≡ Link l = ap unit_of (sym is) ∙ e in cc
-
-pub same_link : (k : Key) (l j : LinkKey) → unit_of k ≡ Link l → k ≡ LinkOf j → j ≡ l
-same_link k l j e is = let same : Link j ≡ Link l = ap unit_of (sym is) ∙ e in cc
 
 -- each row of an object says what it has to
 pub well_said : (s : State) (o : Oid) (us : List Update) (f : Fits s (Object o) us) → Each (IsWellSaid (numbered s.store.schema) f.0 o) us

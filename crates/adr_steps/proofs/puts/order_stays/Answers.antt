@@ -1,4 +1,5 @@
-use Rattle.adr_steps.proofs.Order.{one_of_key, puts_rise, puts_stay_alone}
+use Rattle.adr_steps.proofs.Rising.{one_of_key}
+use Rattle.adr_steps.proofs.Order.{puts_rise, puts_stay_alone}
 use Rattle.adr_steps.proofs.puts.order_stays.Goals as goal
 
 pub returns-clause-one : goal.returns-clause-one

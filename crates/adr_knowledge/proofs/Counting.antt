@@ -1,14 +1,40 @@
--- A rising list is no longer than a list that has its members.
-use Rattle.std.proofs.Common.{◌≡◌, inl, inr, ⊎_elim, ◌≤◌, ◌+◌, List, [], ◌∷◌, refl, sym, subst, fold, length, arith}
+-- Lists that rise, as the order of a store says it, and their lengths: a rising list is no longer than a list that has its members.
+use Rattle.std.proofs.Common.{◌≡◌, inl, inr, ⊎_elim, ◌≤◌, ◌+◌, List, [], ◌∷◌, refl, sym, ap, ◌∙◌, subst, fold, map, length, arith}
+use Rattle.std.specs.List.{AllByRecursion}
+use Rattle.std.specs.List.Sorted.{IsStrictlySortedBy}
 use Rattle.std.specs.Ordering.{match_ordering}
 use Rattle.std.specs.declared.cmp.Ordering.{Ordering}
 use Rattle.std.specs.declared.cmp.Ordering.TheVariants.{Less, Equal, Greater}
 use Rattle.std.specs.BTreeSet.{insert_key}
 use Rattle.std.specs.Cmp.{IsTotalOrder}
+use Rattle.std.proofs.lemmas.Cmp.{tied_itself}
 use Rattle.std.proofs.lemmas.Map.Lookups.{CmpEqualImpliesEq}
 use Rattle.adr_model.specs.Member.{Member, Each}
+use Rattle.adr_model.proofs.Members.{member_mapped}
 use Rattle.adr_knowledge.specs.Rises.{Rises, in_order}
 use Rattle.adr_knowledge.proofs.Lists.{not_both_ways, sorted_rises, in_sorted}
+
+pub rises_from : {K : Type 0} (R : K → K → Ordering) (ks : List K) → IsStrictlySortedBy R ks → Rises R ks
+unfolding IsStrictlySortedBy
+rises_from R [] s = tt
+rises_from {K = K} R (k ∷ ks) s = (below ks s.0, rises_from R ks s.1)
+  where
+    below : (ls : List K) → AllByRecursion (λ l. R k l ≡ Less) ls → Each (λ l. R k l ≡ Less) ls
+    below [] all l m = absurd m
+    below (j ∷ js) all l (inl e) = subst (λ x. R k x ≡ Less) (sym e) all.0
+    below (j ∷ js) all l (inr m) = below js all.1 l m
+
+-- of a list that rises by something of its members, they are told apart by that
+module _ {A K : Type 0} (R : K → K → Ordering) (total : IsTotalOrder R) (f : A → K) where
+  apart : (k l : K) → R k l ≡ Less → k ≡ l → ⊥
+  apart k l less e = let tie : R k l ≡ Equal = ap (R k) (sym e) ∙ tied_itself total k in cc
+
+  pub one_of_each : (xs : List A) → Rises R (map f xs) → Each (λ x. Each (λ y. f x ≡ f y → x ≡ y) xs) xs
+  one_of_each [] r x m y n e = absurd m
+  one_of_each (z ∷ zs) r x (inl p) y (inl q) e = p ∙ sym q
+  one_of_each (z ∷ zs) r x (inl p) y (inr n) e = absurd (apart (f z) (f y) (r.0 (f y) (member_mapped f zs y n)) (ap f (sym p) ∙ e))
+  one_of_each (z ∷ zs) r x (inr m) y (inl q) e = absurd (apart (f z) (f x) (r.0 (f x) (member_mapped f zs x m)) (ap f (sym q) ∙ sym e))
+  one_of_each (z ∷ zs) r x (inr m) y (inr n) e = one_of_each zs r.1 x m y n e
 
 module _ {A : Type 0} (R : A → A → Ordering) (one_way : (x y : A) → R x y ≡ Less → R y x ≡ Less → ⊥) where
   -- what follows a head that isn't below the other list's head is in the other list's rest
