@@ -1,3 +1,5 @@
 pub mod ReadLemmas
 pub mod PlayLemmas
 pub mod TopLemmas
+pub mod Lines
+pub mod Claimed

@@ -3,6 +3,7 @@
 ghost use Rattle.std.specs.Prelude.{◌≡◌, ◌⊎◌, ◌<◌, ◌≤◌, ◌++◌, ◌∷◌, ℕ, List, [], map, string_bytes, true, false, OnOk, OnErr, IfOk, IfErr, IfSome, IsErrOf, drop, Some, codes};
 ghost use Rattle.std.specs.Fmt.{decimal};
 ghost use Rattle.adr_io.specs.Told.{Adds, AddsFront};
+ghost use Rattle.adr_cmd.specs.Headline.{IsHeadline};
 ghost use Rattle.adr_cmd.specs.Outcome.{outcome, cause_text, fault_line, is_replay, usage_line, ended};
 
 use crate::playing::play;
@@ -130,6 +131,7 @@ fn usage<K: Sink>(sink: &mut K) -> u8
 /// Runs the program's words, without its name, over a source and a sink, and answers the status: 0
 /// done, 2 wrong words, 3 a text that is no schedule, 4 a read that failed, 5 a write that failed, 8
 /// want of memory.
+#[tactic(auto, using(crate::proofs::Claimed::headline_of))]
 pub fn run<S: Source, K: Sink>(alloc: Global, words: &[String], source: &mut S, sink: &mut K) -> u8
     // Wrong words get the usage line, and no other words do.
     ensures usage { result ≡ 2 → is_replay (map string_bytes words.now) ≡ false }
@@ -142,6 +144,11 @@ pub fn run<S: Source, K: Sink>(alloc: Global, words: &[String], source: &mut S, 
     ensures status { (result ≡ 0) ⊎ (result ≡ 3) → IfSome (S.left source.old) (λ text. result ≡ (outcome text).0) }
     ensures written { (result ≡ 0) ⊎ (result ≡ 3) → IfSome (S.left source.old) (λ text. Adds (K.written sink.old) (K.written sink.new) (outcome text).1) }
     ensures ended { result ≡ 0 → IfSome (S.left source.old) (λ text. S.left source.new ≡ Some []) }
+
+    // Wherever the run of that text stands, each controller that is up shows the directory of the issued updates that it
+    // covers or holds, every acknowledged write of its present identifier among them; equal coverage shows equal
+    // directories.
+    ensures headline { (result ≡ 0) ⊎ (result ≡ 3) → IfSome (S.left source.old) IsHeadline }
 
     // With a fault it is a front of that, and of the source no more was read than a text may have, and one byte.
     ensures front { is_replay (map string_bytes words.now) ≡ true → (result ≡ 5) ⊎ (result ≡ 8) → IfSome (S.left source.old) (λ text. AddsFront (K.written sink.old) (K.written sink.new) (outcome text).1) }
