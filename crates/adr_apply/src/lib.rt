@@ -1,0 +1,20 @@
+//! Taking a reply: why it is refused, or the change that it makes.
+//!
+//! It stands on the definitions in `adr_model` and meets them, on a controller's state, and on the schema for what a
+//! row may say. It knows nothing of bytes on the way, of the disk, or of how a change is made.
+#![tactic(auto)]
+
+mod faults;
+mod item;
+mod keys;
+mod reply;
+mod rows;
+mod standing;
+mod tables;
+mod taking;
+
+pub use adr_state::NoMemory;
+pub use reply::take;
+
+#[cfg(test)]
+mod tests;

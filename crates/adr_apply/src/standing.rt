@@ -1,0 +1,71 @@
+//! What is held of an item's unit before the item.
+
+ghost use Rattle.std.specs.Prelude.{◌≡◌, ◌||◌};
+ghost use Rattle.adr_model.specs.Visible.{covers_birth};
+ghost use Rattle.adr_model.specs.Take.{by_standing, is_above, is_gone, is_lost_end};
+
+use adr_stamp::{LinkKey, Oid};
+use adr_state::{Rows, Update};
+use adr_vector::Vector;
+
+/// What stands of an object.
+#[derive(Clone, Copy, Debug)]
+pub enum Standing {
+    Dead,
+    Held,
+    /// It was held and was collected, or never comes.
+    Gone,
+    New,
+}
+
+/// What stands of an object.
+pub fn standing_of(vector: &Vector, held: &Rows, object: &Oid) -> Standing
+    ensures { result ≡ by_standing vector.now held.now object.now Standing.Dead Standing.Held Standing.Gone Standing.New }
+{
+    if held.is_dead(object) {
+        Standing::Dead
+    } else if held.holds(object) {
+        Standing::Held
+    } else if covers_birth(vector, object) {
+        Standing::Gone
+    } else {
+        Standing::New
+    }
+}
+
+fn covers_birth(vector: &Vector, object: &Oid) -> bool
+    ensures { result ≡ covers_birth vector.now object.now }
+{
+    vector.covers(object.birth.inv, object.birth.usn)
+}
+
+/// Whether an object was held and was collected, or never comes.
+fn is_gone(vector: &Vector, held: &Rows, object: &Oid) -> bool
+    ensures { result ≡ is_gone vector.now held.now object.now }
+{
+    !held.holds(object) && covers_birth(vector, object)
+}
+
+/// Whether an end of a link is dead or gone.
+fn is_lost_end(vector: &Vector, held: &Rows, object: &Oid) -> bool
+    ensures { result ≡ is_lost_end vector.now held.now object.now }
+{
+    held.is_dead(object) || is_gone(vector, held, object)
+}
+
+/// Whether one of the ends of a link is dead or gone.
+pub fn has_lost_end(vector: &Vector, held: &Rows, link: &LinkKey) -> bool
+    ensures { result ≡ (is_lost_end vector.now held.now link.now.from || is_lost_end vector.now held.now link.now.to) }
+{
+    is_lost_end(vector, held, &link.from) || is_lost_end(vector, held, &link.to)
+}
+
+/// Whether a row is above the one of its key, or there is none.
+pub fn is_above(held: &Rows, row: &Update) -> bool
+    ensures { result ≡ is_above held.now row.now }
+{
+    match held.row(row.key()) {
+        Some(own) => own.update().is_older(row),
+        None => true,
+    }
+}

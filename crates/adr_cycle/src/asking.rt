@@ -1,0 +1,28 @@
+//! What a controller asks a partner.
+
+ghost use Rattle.std.specs.Prelude.{◌≡◌, ◌≤◌, IfOk};
+ghost use Rattle.adr_model.specs.Serve.{ask};
+
+use crate::NoMemory;
+use adr_packet::Request;
+use adr_state::State;
+use std::alloc::Global;
+use uuid::Uuid;
+
+/// What the controller asks a partner: the changes behind the mark that it has of the partner, at most `max` items in
+/// one reply (MS-DRSR, DRS_MSG_GETCHGREQ).
+pub fn ask(state: &State, partner: Uuid, max: u32, alloc: Global) -> Result<Request, NoMemory>
+    requires { 1 ≤ max }
+    ensures { IfOk result (λ request. request ≡ ask state.now partner max) }
+{
+    let kept = state.marks().kept(partner);
+    Ok(Request::new(
+        state.dsa(),
+        partner,
+        kept.inv(),
+        kept.mark(),
+        state.schema().number(),
+        max,
+        state.vector().copy(alloc)?,
+    ))
+}

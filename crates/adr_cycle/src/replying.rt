@@ -1,0 +1,162 @@
+//! The reply to a request that isn't refused.
+
+ghost use Rattle.std.specs.Prelude.{◌≡◌, ℕ, fold, map, IfOk, if◌then◌else◌};
+ghost use Rattle.std.specs.Bool.{then_some};
+ghost use Rattle.adr_model.specs.Update.{same_identifier};
+ghost use Rattle.adr_model.specs.Change.{Item as Defined};
+ghost use Rattle.adr_model.specs.Serve.{begins_at, byte_limit, first_items, reply_of, reply_to};
+
+use crate::NoMemory;
+use crate::candidates::candidates;
+use adr_packet::{Reply, Request, cost_within};
+use adr_state::{Item, State};
+use adr_vector::{Mark, Vector};
+use std::alloc::Global;
+use std::collections::BTreeMap;
+use uuid::Uuid;
+
+/// The bytes of items at which a reply is cut: 4 MiB.
+const BYTE_LIMIT: u64 = 4_194_304;
+
+/// The reply to a request.
+pub fn reply_to(state: &State, request: &Request, alloc: Global) -> Result<Reply, NoMemory>
+    ensures { IfOk result (λ reply. reply ≡ reply_to state.now request.now) }
+{
+    let from = begins_at(state, request);
+    let all = candidates(state.rows().as_slice(), from, request.vector(), alloc)?;
+    let count = all.len();
+    let sent = first_items(request.max(), all, alloc)?;
+    let is_last = sent.len() == count;
+    reply_of(state, request, from, sent, is_last, alloc)
+}
+
+/// Where the reply begins: the mark of the request, if it is one of this incarnation.
+pub fn begins_at(state: &State, request: &Request) -> Mark
+    ensures { result ≡ begins_at state.now request.now }
+{
+    if is_same(request.inv(), state.inv()) {
+        request.mark()
+    } else {
+        Mark::default()
+    }
+}
+
+/// Whether the two identifiers are one.
+pub fn is_same(a: Uuid, b: Uuid) -> bool
+    ensures { result ≡ same_identifier a b }
+{
+    a == b
+}
+
+/// The first items: until there are so many, or so many bytes or more.
+pub fn first_items(
+    mut most: u32,
+    all: BTreeMap<u64, Item>,
+    alloc: Global,
+) -> Result<Vec<(u64, Item)>, NoMemory>
+    ensures { IfOk result (λ sent. sent.items ≡ first_items most byte_limit all.entries) }
+{
+    let mut bytes = BYTE_LIMIT;
+    let mut sent = Vec::new(alloc);
+    for (local, item) in all {
+        if most == 0 || bytes == 0 {
+            break;
+        }
+        most -= 1;
+        bytes -= cost_within(&item, bytes);
+        sent.push((local, item))?;
+    }
+    Ok(sent)
+}
+
+/// A reply that sends these of the candidates.
+fn reply_of(
+    state: &State,
+    request: &Request,
+    from: Mark,
+    sent: Vec<(u64, Item)>,
+    is_last: bool,
+    alloc: Global,
+) -> Result<Reply, NoMemory>
+    ensures { IfOk result (λ reply. reply ≡ reply_of state.now request.now from sent.items is_last) }
+{
+    let to = mark_after(state, from, sent.as_slice(), is_last);
+    Ok(Reply::new(
+        request.dest(),
+        state.dsa(),
+        state.inv(),
+        from,
+        to,
+        state.schema().number(),
+        request.vector().copy(alloc)?,
+        vector_if(is_last, state, alloc)?,
+        items_of(sent, alloc)?,
+    ))
+}
+
+/// How far the asker has read the controller once it has taken the reply.
+fn mark_after(state: &State, from: Mark, sent: &[(u64, Item)], is_last: bool) -> Mark
+    ensures { result ≡ (if is_last then record { obj = state.now.store.usn; prop = state.now.store.usn; seen = state.now.store.usn } else record { obj = fold (λ n (c : ℕ × Defined). c.0) from.obj sent.now; prop = from.prop; seen = state.now.store.usn }) }
+{
+    if is_last {
+        all_read(state)
+    } else {
+        read_to(state, from, sent)
+    }
+}
+
+/// The mark after all changes.
+fn all_read(state: &State) -> Mark
+    ensures { result ≡ record { obj = state.now.store.usn; prop = state.now.store.usn; seen = state.now.store.usn } }
+{
+    let usn = state.usn();
+    Mark {
+        obj: usn,
+        prop: usn,
+        seen: usn,
+    }
+}
+
+/// The mark at the last item that is sent. Only the last reply moves `prop`: until then rows of units that are still to
+/// be sent are missing.
+pub fn read_to(state: &State, from: Mark, sent: &[(u64, Item)]) -> Mark
+    ensures { result ≡ record { obj = fold (λ n (c : ℕ × Defined). c.0) from.obj sent.now; prop = from.prop; seen = state.now.store.usn } }
+{
+    Mark {
+        obj: last_sent(from.obj, sent),
+        prop: from.prop,
+        seen: state.usn(),
+    }
+}
+
+/// The update sequence number of the last item that is sent.
+fn last_sent(from: u64, sent: &[(u64, Item)]) -> u64
+    ensures { result ≡ fold (λ n (c : ℕ × Defined). c.0) from sent.now }
+{
+    match sent.last() {
+        Some((local, _)) => *local,
+        None => from,
+    }
+}
+
+/// The controller's own vector, in the last reply.
+fn vector_if(is_last: bool, state: &State, alloc: Global) -> Result<Option<Vector>, NoMemory>
+    ensures { IfOk result (λ vector. vector ≡ then_some is_last state.now.store.vector) }
+{
+    if is_last {
+        Ok(Some(state.vector().copy(alloc)?))
+    } else {
+        Ok(None)
+    }
+}
+
+/// The items alone.
+fn items_of(sent: Vec<(u64, Item)>, alloc: Global) -> Result<Vec<Item>, NoMemory>
+    ensures { IfOk result (λ items. items.items ≡ map (λ (c : ℕ × Defined). c.1) sent.items) }
+{
+    let mut items = Vec::new(alloc);
+    for (_, item) in sent {
+        items.push(item)?;
+    }
+    Ok(items)
+}

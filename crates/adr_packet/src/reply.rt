@@ -1,0 +1,164 @@
+//! What a partner answers to a request.
+
+ghost use Rattle.std.specs.Prelude.{◌≡◌, IfOk};
+ghost use Rattle.std.specs.Option.{option_copied};
+
+use crate::NoMemory;
+use adr_state::Item;
+use adr_vector::{Mark, Vector};
+use std::alloc::Global;
+use std::marker::Model;
+use uuid::Uuid;
+
+/// A reply (MS-DRSR, DRS_MSG_GETCHGREPLY): to whom it goes, from whom and from which incarnation, the marks between
+/// which it lies, the number of the source's schema, what the asker had seen, what the source has seen if nothing is
+/// left to send, and the items.
+#[derive(Debug, Drop)]
+pub struct Reply {
+    dest: Uuid,
+    source: Uuid,
+    inv: Uuid,
+    from: Mark,
+    to: Mark,
+    schema: u32,
+    asked: Vector,
+    last: Option<Vector>,
+    items: Vec<Item>,
+}
+
+impl Model for Reply {
+    ghost use Rattle.adr_model.specs.Serve.{Reply as Defined};
+
+    ghost Value = { Defined };
+
+    ghost view = { λ r. record { dest = r.dest; source = r.source; inv = r.inv; from = r.from; to = r.to; schema = r.schema; asked = r.asked; last = r.last; items = r.items.items } };
+}
+
+impl Reply {
+    pub fn new(
+        dest: Uuid,
+        source: Uuid,
+        inv: Uuid,
+        from: Mark,
+        to: Mark,
+        schema: u32,
+        asked: Vector,
+        last: Option<Vector>,
+        items: Vec<Item>,
+    ) -> Reply
+        ensures { result ≡ record { dest = dest; source = source; inv = inv; from = from; to = to; schema = schema; asked = asked; last = last; items = items.items } }
+    {
+        Reply {
+            dest,
+            source,
+            inv,
+            from,
+            to,
+            schema,
+            asked,
+            last,
+            items,
+        }
+    }
+
+    /// The controller that asked.
+    pub fn dest(&self) -> Uuid
+        ensures { result ≡ self.now.dest }
+    {
+        self.dest
+    }
+
+    /// The controller that answers.
+    pub fn source(&self) -> Uuid
+        ensures { result ≡ self.now.source }
+    {
+        self.source
+    }
+
+    /// The invocation identifier of its database.
+    pub fn inv(&self) -> Uuid
+        ensures { result ≡ self.now.inv }
+    {
+        self.inv
+    }
+
+    /// The mark from which the source looked for changes.
+    pub fn from(&self) -> Mark
+        ensures { result ≡ self.now.from }
+    {
+        self.from
+    }
+
+    /// The mark up to which the asker has then read the source.
+    pub fn to(&self) -> Mark
+        ensures { result ≡ self.now.to }
+    {
+        self.to
+    }
+
+    /// The number of the source's schema.
+    pub fn schema(&self) -> u32
+        ensures { result ≡ self.now.schema }
+    {
+        self.schema
+    }
+
+    /// What the asker had seen when it asked.
+    pub fn asked(&self) -> &Vector
+        ensures { result.now ≡ self.now.asked }
+    {
+        &self.asked
+    }
+
+    /// What the source has seen, if this is the last reply.
+    pub fn last(&self) -> Option<&Vector>
+        ensures { option_copied result ≡ self.now.last }
+    {
+        self.last.as_ref()
+    }
+
+    /// The items, rising by the last local update sequence numbers of their units.
+    pub fn items(&self) -> &[Item]
+        ensures { result.now ≡ self.now.items }
+    {
+        self.items.as_slice()
+    }
+
+    /// An equal reply.
+    pub fn copy(&self, alloc: Global) -> Result<Reply, NoMemory>
+        ensures { IfOk result (λ copy. copy ≡ self.now) }
+    {
+        Ok(Reply {
+            dest: self.dest,
+            source: self.source,
+            inv: self.inv,
+            from: self.from,
+            to: self.to,
+            schema: self.schema,
+            asked: self.asked.copy(alloc)?,
+            last: copy_last(alloc, self.last.as_ref())?,
+            items: copy_items(alloc, self.items.as_slice())?,
+        })
+    }
+}
+
+/// An equal vector, if there is one.
+fn copy_last(alloc: Global, last: Option<&Vector>) -> Result<Option<Vector>, NoMemory>
+    ensures { IfOk result (λ copy. copy ≡ option_copied last.entry) }
+{
+    match last {
+        Some(vector) => Ok(Some(vector.copy(alloc)?)),
+        None => Ok(None),
+    }
+}
+
+/// Equal items, in their order.
+fn copy_items(alloc: Global, items: &[Item]) -> Result<Vec<Item>, NoMemory>
+    ensures { IfOk result (λ copy. copy.items ≡ items.now) }
+{
+    let mut copy = Vec::new(alloc);
+    for item in items {
+        copy.push(item.copy(alloc)?)?;
+    }
+    Ok(copy)
+}

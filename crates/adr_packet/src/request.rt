@@ -1,0 +1,119 @@
+//! What a controller asks a partner.
+
+ghost use Rattle.std.specs.Prelude.{◌≡◌, IfOk};
+
+use crate::NoMemory;
+use adr_vector::{Mark, Vector};
+use std::alloc::Global;
+use std::marker::Model;
+use uuid::Uuid;
+
+/// A request for changes (MS-DRSR, DRS_MSG_GETCHGREQ): who asks, which partner, the incarnation of the partner's
+/// database that was read and how far, the number of the asker's schema, how many items a reply has at most, and what
+/// the asker has seen.
+#[derive(Debug, Drop)]
+pub struct Request {
+    dest: Uuid,
+    source: Uuid,
+    inv: Uuid,
+    mark: Mark,
+    schema: u32,
+    max: u32,
+    vector: Vector,
+}
+
+impl Model for Request {
+    ghost use Rattle.adr_model.specs.Serve.{Request as Defined};
+
+    ghost Value = { Defined };
+
+    ghost view = { λ q. record { dest = q.dest; source = q.source; inv = q.inv; mark = q.mark; schema = q.schema; max = q.max; vector = q.vector } };
+}
+
+impl Request {
+    pub fn new(
+        dest: Uuid,
+        source: Uuid,
+        inv: Uuid,
+        mark: Mark,
+        schema: u32,
+        max: u32,
+        vector: Vector,
+    ) -> Request
+        ensures { result ≡ record { dest = dest; source = source; inv = inv; mark = mark; schema = schema; max = max; vector = vector } }
+    {
+        Request {
+            dest,
+            source,
+            inv,
+            mark,
+            schema,
+            max,
+            vector,
+        }
+    }
+
+    /// The controller that asks, and to which the reply goes.
+    pub fn dest(&self) -> Uuid
+        ensures { result ≡ self.now.dest }
+    {
+        self.dest
+    }
+
+    /// The controller that is asked.
+    pub fn source(&self) -> Uuid
+        ensures { result ≡ self.now.source }
+    {
+        self.source
+    }
+
+    /// The invocation identifier of the source that was read so far.
+    pub fn inv(&self) -> Uuid
+        ensures { result ≡ self.now.inv }
+    {
+        self.inv
+    }
+
+    /// How far it was read.
+    pub fn mark(&self) -> Mark
+        ensures { result ≡ self.now.mark }
+    {
+        self.mark
+    }
+
+    /// The number of the asker's schema.
+    pub fn schema(&self) -> u32
+        ensures { result ≡ self.now.schema }
+    {
+        self.schema
+    }
+
+    /// How many items the reply has at most.
+    pub fn max(&self) -> u32
+        ensures { result ≡ self.now.max }
+    {
+        self.max
+    }
+
+    /// What the asker has seen.
+    pub fn vector(&self) -> &Vector
+        ensures { result.now ≡ self.now.vector }
+    {
+        &self.vector
+    }
+
+    /// An equal request.
+    pub fn copy(&self, alloc: Global) -> Result<Request, NoMemory>
+        ensures { IfOk result (λ copy. copy ≡ self.now) }
+    {
+        Ok(Request {
+            dest: self.dest,
+            source: self.source,
+            inv: self.inv,
+            mark: self.mark,
+            schema: self.schema,
+            max: self.max,
+            vector: self.vector.copy(alloc)?,
+        })
+    }
+}

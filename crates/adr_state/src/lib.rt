@@ -1,0 +1,26 @@
+//! A controller's state in memory: its rows, what it has seen and collected, and how far it has read
+//! each partner, and what a change makes of them.
+//!
+//! It stands on the definitions in `adr_model` and meets them, and on the types of stamps, contents
+//! and vectors. It knows nothing of why a change is made, of messages, or of the disk.
+#![tactic(auto)]
+
+mod change;
+mod item;
+mod key;
+mod marks;
+mod rows;
+mod state;
+mod update;
+
+pub use adr_vector::NoMemory;
+pub use change::{Change, Mode};
+pub use item::{Item, Written};
+pub use key::Key;
+pub use marks::{Kept, Marks};
+pub use rows::{Held, Rows};
+pub use state::{ApplyRefusal, State};
+pub use update::{Said, Update};
+
+#[cfg(test)]
+mod tests;

@@ -1,0 +1,189 @@
+//! How far each partner has been read.
+
+ghost use Rattle.std.specs.Prelude.{◌≡◌, ◌↔◌, [], length, Some, IsTrue, IfOk, OnOk, OnErr};
+ghost use Rattle.std.specs.BTreeMap.{insert_entry};
+ghost use Rattle.adr_stamp.specs.Order.{identifier_order};
+ghost use Rattle.adr_model.specs.Update.{same_identifier};
+ghost use Rattle.adr_model.specs.Store.{kept_of, mark_of, no_mark};
+ghost use Rattle.adr_model.specs.Change.{with_mark};
+ghost use Rattle.adr_state.specs.Marks.{of_marks};
+
+use crate::NoMemory;
+use adr_vector::Mark;
+use std::alloc::Global;
+use std::collections::BTreeMap;
+use std::marker::Model;
+use uuid::Uuid;
+
+/// How far an incarnation of a partner's database was read (MS-DRSR, USN_VECTOR).
+#[derive(Clone, Copy, Debug)]
+pub struct Kept {
+    inv: Uuid,
+    mark: Mark,
+}
+
+impl Model for Kept {
+    ghost use Rattle.adr_model.specs.Store.{Kept as Defined};
+
+    ghost Value = { Defined };
+
+    ghost view = { λ k. record { inv = k.inv; mark = k.mark } };
+
+    ghost inverse = { λ k. record { inv = k.inv; mark = k.mark } };
+}
+
+impl Kept {
+    pub fn new(inv: Uuid, mark: Mark) -> Kept
+        ensures { result ≡ record { inv = inv; mark = mark } }
+    {
+        Kept { inv, mark }
+    }
+
+    /// The invocation identifier that was read.
+    pub fn inv(&self) -> Uuid
+        ensures { result ≡ self.now.inv }
+    {
+        self.inv
+    }
+
+    pub fn mark(&self) -> Mark
+        ensures { result ≡ self.now.mark }
+    {
+        self.mark
+    }
+
+    /// The mark, as far as it is of this incarnation.
+    pub fn mark_of(&self, inv: Uuid) -> Mark
+        ensures { result ≡ mark_of self.now inv }
+    {
+        if is_same(self.inv, inv) {
+            self.mark
+        } else {
+            no_mark()
+        }
+    }
+}
+
+fn is_same(a: Uuid, b: Uuid) -> bool
+    ensures { result ≡ same_identifier a b }
+{
+    a == b
+}
+
+/// The mark of a partner of whom nothing was read.
+fn no_mark() -> Mark
+    ensures { result ≡ no_mark }
+{
+    Mark {
+        obj: 0,
+        prop: 0,
+        seen: 0,
+    }
+}
+
+/// What is kept of each partner, by its controller's identifier.
+#[derive(Debug, Drop)]
+pub struct Marks {
+    map: BTreeMap<Uuid, Kept>,
+}
+
+impl Model for Marks {
+    ghost use Rattle.std.specs.Prelude.{List};
+    ghost use Rattle.adr_model.specs.Update.{Identifier};
+    ghost use Rattle.adr_model.specs.Store.{Kept as Defined};
+
+    ghost Value = { List (Identifier × Defined) };
+
+    ghost view = { λ m. m.map.entries };
+
+    ghost use Rattle.adr_stamp.specs.Order.{identifier_order};
+    ghost use Rattle.std.specs.BTreeMap.{IsOrdered};
+
+    ghost invariant = { λ m. IsOrdered identifier_order m.map };
+}
+
+impl Marks {
+    /// Nothing of any partner.
+    pub fn new(alloc: Global) -> Marks
+        ensures { result ≡ [] }
+    {
+        Marks {
+            map: BTreeMap::new(alloc),
+        }
+    }
+
+    /// What is kept of a partner; of one of whom nothing was read, the mark at nothing of no incarnation.
+    pub fn kept(&self, partner: Uuid) -> Kept
+        ensures { result ≡ kept_of (of_marks self.now) partner }
+    {
+        match self.map.get(&partner) {
+            Some(kept) => *kept,
+            None => Kept {
+                inv: Uuid::from_u128(0),
+                mark: no_mark(),
+            },
+        }
+    }
+
+    /// The mark of a partner, as far as it is of this incarnation.
+    pub fn mark(&self, partner: Uuid, inv: Uuid) -> Mark
+        ensures { result ≡ mark_of (kept_of (of_marks self.now) partner) inv }
+    {
+        self.kept(partner).mark_of(inv)
+    }
+
+    /// Keeps how far an incarnation of a partner was read, in place of what was kept of the partner.
+    pub fn keep(&mut self, partner: Uuid, inv: Uuid, mark: Mark) -> Result<(), NoMemory>
+        ensures ok { OnOk result (self.new ≡ with_mark (Some (partner, record { inv = inv; mark = mark })) self.old) }
+        ensures err { OnErr result (self.new ≡ self.old) }
+    {
+        self.map.insert(partner, Kept { inv, mark })?;
+        Ok(())
+    }
+
+    /// These marks, with what is kept of one more partner, if there is one.
+    pub(crate) fn with(&self, alloc: Global, mark: Option<(Uuid, Kept)>) -> Result<Marks, NoMemory>
+        ensures { IfOk result (λ marks. marks ≡ with_mark mark self.now) }
+    {
+        let mut marks = self.copy(alloc)?;
+        match mark {
+            None => Ok(marks),
+            Some((partner, kept)) => {
+                marks.keep(partner, kept.inv(), kept.mark())?;
+                Ok(marks)
+            }
+        }
+    }
+
+    /// How many partners there are of whom something is kept.
+    pub fn len(&self) -> usize
+        ensures { result ≡ length self.now }
+    {
+        self.map.len()
+    }
+
+    pub fn is_empty(&self) -> bool
+        ensures { IsTrue result ↔ (self.now ≡ []) }
+    {
+        self.map.is_empty()
+    }
+
+    /// Equal marks.
+    pub fn copy(&self, alloc: Global) -> Result<Marks, NoMemory>
+        ensures { IfOk result (λ copy. copy ≡ self.now) }
+    {
+        let mut map = BTreeMap::new(alloc);
+        for (partner, kept) in &self.map {
+            put(&mut map, *partner, *kept)?;
+        }
+        Ok(Marks { map })
+    }
+}
+
+/// Puts what is kept of a partner into a table, over what is there.
+fn put(map: &mut BTreeMap<Uuid, Kept>, partner: Uuid, kept: Kept) -> Result<(), NoMemory>
+    ensures { OnOk result (map.new.entries ≡ insert_entry identifier_order map.old.entries partner kept) }
+{
+    map.insert(partner, kept)?;
+    Ok(())
+}

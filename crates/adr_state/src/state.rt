@@ -1,0 +1,215 @@
+//! A controller's state.
+
+ghost use Rattle.std.specs.Prelude.{◌≡◌, ◌<◌, ◌≤◌, length, IfOk, OnOk, OnErr, IsErrOf};
+ghost use Rattle.adr_schema.specs.Numbered.{numbered};
+ghost use Rattle.adr_vector.specs.Vector.{joined, most_cursors};
+ghost use Rattle.adr_model.specs.Store.{empty_state, empty_store};
+ghost use Rattle.adr_model.specs.Change.{after};
+ghost use Rattle.adr_state.specs.declared.state.ApplyRefusal.TheVariants.{NoMemory as no_memory};
+ghost use Rattle.adr_state.specs.Mode.{mode_of};
+ghost use Rattle.adr_state.specs.Refusal.{of_vector, IsOverfull};
+
+use crate::change::{Change, Mode};
+use crate::marks::Marks;
+use crate::rows::Rows;
+use adr_schema::Schema;
+use adr_vector::{Vector, VectorRefusal};
+use std::alloc::{AllocError, AllocFailed, Global};
+use std::marker::Model;
+use thiserror::Error;
+use uuid::Uuid;
+
+/// Why a change was not applied.
+#[derive(Clone, Copy, Debug, PartialEq, Eq, Error)]
+pub enum ApplyRefusal {
+    /// One of the vectors would have more cursors than a vector has.
+    #[error("a vector would have too many cursors")]
+    Full,
+    #[error("memory ran out")]
+    NoMemory,
+}
+
+impl From<AllocError> for ApplyRefusal {
+    ghost from_gives = { λ _ e. e ≡ no_memory };
+
+    fn from(_: AllocError) -> ApplyRefusal {
+        ApplyRefusal::NoMemory
+    }
+}
+
+impl<T: Drop> From<AllocFailed<T>> for ApplyRefusal {
+    ghost from_gives = { λ _ e. e ≡ no_memory };
+
+    fn from(_: AllocFailed<T>) -> ApplyRefusal {
+        ApplyRefusal::NoMemory
+    }
+}
+
+impl From<VectorRefusal> for ApplyRefusal {
+    ghost from_gives = { λ refusal e. e ≡ of_vector refusal };
+
+    fn from(refusal: VectorRefusal) -> ApplyRefusal {
+        match refusal {
+            VectorRefusal::Full { limit } if limit == CURSOR_LIMIT => ApplyRefusal::Full,
+            _ => ApplyRefusal::NoMemory,
+        }
+    }
+}
+
+/// How many cursors a vector has at most.
+const CURSOR_LIMIT: u32 = 10_000;
+
+/// A controller: its own identifier, the invocation identifier of its database, its mode, and the database.
+#[derive(Debug, Drop)]
+pub struct State {
+    dsa: Uuid,
+    inv: Uuid,
+    usn: u64,
+    mode: Mode,
+    schema: Schema,
+    rows: Rows,
+    vector: Vector,
+    purged: Vector,
+    marks: Marks,
+}
+
+impl Model for State {
+    ghost use Rattle.adr_model.specs.Store.{State as Defined};
+
+    ghost Value = { Defined };
+
+    ghost use Rattle.std.specs.Prelude.{◌≡◌};
+    ghost use Rattle.adr_schema.specs.Numbered.{numbered};
+    ghost use Rattle.adr_state.specs.Mode.{mode_of};
+
+    ghost view = { λ s. record { dsa = s.dsa; inv = s.inv; mode = mode_of s.mode; store = record { schema = s.schema.number; usn = s.usn; rows = s.rows; vector = s.vector; purged = s.purged; marks = s.marks } } };
+
+    ghost invariant = { λ s. s.schema ≡ numbered s.schema.number };
+}
+
+impl State {
+    /// A new, empty controller.
+    pub fn new(alloc: Global, dsa: Uuid, inv: Uuid, schema: Schema) -> State
+        requires { schema ≡ numbered schema.number }
+        ensures { result ≡ record (empty_state dsa inv) { store = empty_store schema.number } }
+    {
+        State {
+            dsa,
+            inv,
+            usn: 0,
+            mode: Mode::Normal,
+            schema,
+            rows: Rows::new(alloc),
+            vector: Vector::new(alloc),
+            purged: Vector::new(alloc),
+            marks: Marks::new(alloc),
+        }
+    }
+
+    /// The controller's identifier.
+    pub fn dsa(&self) -> Uuid
+        ensures { result ≡ self.now.dsa }
+    {
+        self.dsa
+    }
+
+    /// The invocation identifier of the controller's database.
+    pub fn inv(&self) -> Uuid
+        ensures { result ≡ self.now.inv }
+    {
+        self.inv
+    }
+
+    /// The last update sequence number that was used here.
+    pub fn usn(&self) -> u64
+        ensures { result ≡ self.now.store.usn }
+    {
+        self.usn
+    }
+
+    pub fn mode(&self) -> Mode
+        ensures { mode_of result ≡ self.now.mode }
+    {
+        self.mode
+    }
+
+    pub fn schema(&self) -> Schema
+        ensures number { result.number ≡ self.now.store.schema }
+        ensures table { result ≡ numbered self.now.store.schema }
+    {
+        self.schema
+    }
+
+    pub fn rows(&self) -> &Rows
+        ensures { result.now ≡ self.now.store.rows }
+    {
+        &self.rows
+    }
+
+    /// Up to where the writes of each incarnation have been seen.
+    pub fn vector(&self) -> &Vector
+        ensures { result.now ≡ self.now.store.vector }
+    {
+        &self.vector
+    }
+
+    /// What covers the births and deaths of the objects that were collected.
+    pub fn purged(&self) -> &Vector
+        ensures { result.now ≡ self.now.store.purged }
+    {
+        &self.purged
+    }
+
+    pub fn marks(&self) -> &Marks
+        ensures { result.now ≡ self.now.store.marks }
+    {
+        &self.marks
+    }
+}
+
+impl State {
+    /// Commits a change.
+    pub fn apply(&mut self, change: &Change) -> Result<(), ApplyRefusal>
+        ensures ok { OnOk result (self.new ≡ after self.old change.now) }
+
+        // Where a vector would have too many cursors it fails, and no other change is refused as full.
+        ensures room { OnOk result (¬ IsOverfull (after self.old change.now)) }
+        ensures full { IsErrOf result ApplyRefusal.Full → IsOverfull (after self.old change.now) }
+        ensures err { OnErr result (self.new ≡ self.old) }
+    {
+        let alloc = self.rows.allocator();
+        let vector = self.vector_after(alloc, change)?;
+        let purged = joined(alloc, &self.purged, change.purged())?;
+        let marks = self.marks.with(alloc, change.mark())?;
+        let rows = change.held(alloc)?;
+        self.rows.write(rows, change.removed())?;
+        self.usn = change.usn();
+        self.mode = change.mode();
+        self.vector = vector;
+        self.purged = purged;
+        self.marks = marks;
+        Ok(())
+    }
+
+    /// What will have been seen after a change.
+    fn vector_after(&self, alloc: Global, change: &Change) -> Result<Vector, ApplyRefusal>
+        ensures ok { IfOk result (λ vector. vector ≡ (after self.now change.now).store.vector) }
+        ensures few { IfOk result (λ vector. length vector ≤ most_cursors) }
+        ensures full { IsErrOf result ApplyRefusal.Full → most_cursors < length (after self.now change.now).store.vector }
+    {
+        let mut vector = joined(alloc, &self.vector, change.joined())?;
+        vector.raise(self.inv, change.usn())?;
+        Ok(vector)
+    }
+}
+
+/// The two vectors as one.
+fn joined(alloc: Global, vector: &Vector, other: &Vector) -> Result<Vector, ApplyRefusal>
+    ensures ok { IfOk result (λ both. both ≡ joined vector.now other.now) }
+    ensures few { IfOk result (λ both. length both ≤ most_cursors) }
+    ensures full { IsErrOf result ApplyRefusal.Full → most_cursors < length (joined vector.now other.now) }
+{
+    let mut both = vector.copy(alloc)?;
+    both.join(other)?;
+    Ok(both)
+}

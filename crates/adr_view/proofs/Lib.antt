@@ -1,0 +1,4 @@
+mod FormedLinks
+mod HeldRows
+mod LiveLinks
+mod Upwards

@@ -1,0 +1,2 @@
+pub mod BackLinks
+pub mod KeyOrder

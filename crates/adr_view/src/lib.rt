@@ -1,0 +1,29 @@
+//! What a controller shows of its rows: the live objects under their shown names, each with its
+//! values and its links.
+//!
+//! It stands on the rows of `adr_state` and on the entries of `adr_event`, and meets the definitions
+//! in `adr_model`. It knows nothing of how rows come to be, of vectors, or of other controllers.
+#![tactic(auto)]
+
+mod entries;
+mod identifier;
+mod key;
+mod laws;
+mod links;
+mod live;
+mod node;
+mod nodes;
+mod place;
+mod shown;
+mod values;
+mod winner;
+
+pub use adr_vector::NoMemory;
+pub use entries::directory;
+pub use laws::formed_rows_have_back_links;
+pub use links::have_back_links;
+pub use node::Node;
+pub use nodes::Nodes;
+
+#[cfg(test)]
+mod tests;
