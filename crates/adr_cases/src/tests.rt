@@ -90,7 +90,7 @@ fn transcribed(alloc: Global, transcript: &[u8], piece: usize) -> Result<Vec<u8>
 const DASHES: &[u8] = b"\n----\n";
 
 /// Schedules, each with a line of dashes behind it, the status, and what is written.
-const TRANSCRIPTS: [&[u8]; 15] = [
+const TRANSCRIPTS: [&[u8]; 25] = [
     b"; a comment and an empty line write nothing\n\n----\nstatus 0\n",
     b"; a name in other letters is taken\ncontroller A #a0 #a1\ntime 1000\nadd A #10 user #1 \"Ann\" sAMAccountName=\"ann\"\nadd A #11 user #1 \"ANN\" sAMAccountName=\"x\"\n----\nstatus 0\ncontroller A: ok\nadd A: ok usn=1\nadd A: refused 13 NameTaken holder=#10\n",
     b"; names that are equal only after folding\ncontroller A #a0 #a1\nadd A #10 user #1 \"stra\xc3\x9fe\" sAMAccountName=\"s\"\nadd A #11 user #1 \"STRASSE\" sAMAccountName=\"t\"\nshow A\n----\nstatus 0\ncontroller A: ok\nadd A: ok usn=1\nadd A: refused 13 NameTaken holder=#10\nshow A: 1\n  #10 user parent=#1 name=\"stra\xc3\x9fe\" sAMAccountName=\"s\"\n",
@@ -103,7 +103,17 @@ const TRANSCRIPTS: [&[u8]; 15] = [
     b"; nothing is run of a text that has a fault\ncontroller A #a0 #a1\nadd A #10 user #1 \"Ann\" sAMAccountName=\"ann\"\nshow B\n----\nstatus 3\nline 4: unknown name\n",
     b"; a bad byte\ncontroller A #a0 #a1\nshow \xff\n----\nstatus 3\nline 3: not UTF-8\n",
     b"; a bad byte in a comment\n; \xff\n----\nstatus 0\n",
-    b"; a second controller\ncontroller A #a0 #a1\ncontroller B #b0 #b1\n----\nstatus 3\nline 3: no command\n",
+    b"; a second controller, and the directory of each\ncontroller A #a0 #a1\ncontroller B #b0 #b1\nadd B #10 container #1 \"x\"\nshow A\nshow B\n----\nstatus 0\ncontroller A: ok\ncontroller B: ok\nadd B: ok usn=1\nshow A: 0\nshow B: 1\n  #10 container parent=#1 name=\"x\"\n",
+    b"; a name that is used, before its identifiers are looked at\ncontroller A #a0 #a1\ncontroller A #a0 #a1\n----\nstatus 3\nline 3: name used\n",
+    b"; a dsa that was given\ncontroller A #a0 #a1\ncontroller B #a0 #b1\n----\nstatus 3\nline 3: identifier used\n",
+    b"; an inv that was given\ncontroller A #a0 #a1\ncontroller B #b0 #a1\n----\nstatus 3\nline 3: identifier used\n",
+    b"; a dsa may be another's inv\ncontroller A #a0 #a1\ncontroller B #a1 #a0\n----\nstatus 0\ncontroller A: ok\ncontroller B: ok\n",
+    b"; a partner that was never made\ncontroller A #a0 #a1\npull A B 10000\n----\nstatus 3\nline 3: unknown name\n",
+    b"; a request's name is no reply's\ncontroller A #a0 #a1\nask A A 1 as q\ndeliver A q\n----\nstatus 3\nline 4: unknown name\n",
+    b"; a request's name twice, and a reply of the same name\ncontroller A #a0 #a1\nask A A 1 as q\nserve A q as q\nask A A 1 as q\n----\nstatus 3\nline 5: name used\n",
+    b"; no item at all\ncontroller A #a0 #a1\npull A A 0\n----\nstatus 3\nline 3: no command\n",
+    b"; one item too many\ncontroller A #a0 #a1\npull A A 10001\n----\nstatus 3\nline 3: no command\n",
+    b"; a container has no account name\ncontroller A #a0 #a1\nadd A #10 container #1 \"x\" sAMAccountName=\"x\"\n----\nstatus 3\nline 3: no command\n",
     b"; a name that breaks the rule of names\ncontroller A #a0 #a1\nadd A #10 user #1 \" Ann\" sAMAccountName=\"ann\"\n----\nstatus 3\nline 3: no command\n",
     b"; a value of 21 bytes\ncontroller A #a0 #a1\nadd A #10 user #1 \"Ann\" sAMAccountName=\"123456789012345678901\"\n----\nstatus 3\nline 3: no command\n",
 ];

@@ -6,20 +6,24 @@ use Rattle.adr_event.specs.declared.event.Event.{Event}
 use Rattle.adr_io.specs.declared.Fault.{Fault}
 use Rattle.adr_io.specs.declared.Fault.TheVariants.{Failed, NoMemory}
 use Rattle.adr_schedule.specs.declared.fault.Cause.{Cause}
-use Rattle.adr_schedule.specs.declared.fault.Cause.TheVariants.{NotUtf8, NoCommand, UnknownName, TooLong}
+use Rattle.adr_schedule.specs.declared.fault.Cause.TheVariants.{NotUtf8, NoCommand, UnknownName, NameUsed, IdentifierUsed, TooMany, TooLong}
 use Rattle.adr_schedule.specs.declared.fault.ScheduleFault.{ScheduleFault}
 use Rattle.adr_schedule.specs.Events.{events_of}
-use Rattle.adr_model.specs.World.{World, empty_world, answers}
+use Rattle.adr_model.specs.World.{World, empty_world}
+use Rattle.adr_model.specs.Cycles.{transcript}
 use Rattle.adr_report.specs.Line.{line}
 
 -- what events write from a world on: the lines of their answers
 abbrev pub output_from : World → List Event → List ℕ
-output_from w events = flat_map line (answers w events)
+output_from w events = flat_map line (transcript w events)
 
 abbrev pub cause_text : Cause → List ℕ
 cause_text NotUtf8 = codes "not UTF-8"
 cause_text NoCommand = codes "no command"
 cause_text UnknownName = codes "unknown name"
+cause_text NameUsed = codes "name used"
+cause_text IdentifierUsed = codes "identifier used"
+cause_text TooMany = codes "too many"
 cause_text TooLong = codes "too long"
 
 -- the line of a text's first fault

@@ -1,34 +1,44 @@
-//! Running events, each answer written as it comes.
+//! Running events, the answers to each written as they come.
 
-ghost use Rattle.std.specs.Prelude.{◌≡◌, ◌<◌, ◌≤◌, ℕ, List, [], None, OnOk, OnErr, IfOk, IsErrOf, length};
+ghost use Rattle.std.specs.Prelude.{◌≡◌, ◌<◌, ◌≤◌, ◌++◌, ℕ, List, [], OnOk, OnErr, IfOk, IsErrOf, flat_map, length};
 ghost use Rattle.adr_event.specs.declared.event.Event.{Event as Happening};
 ghost use Rattle.adr_io.specs.Told.{Adds, AddsFront};
-ghost use Rattle.adr_model.specs.World.{step, empty_world};
+ghost use Rattle.adr_model.specs.Convergence.{MayAllHappen, MayHappen};
+ghost use Rattle.adr_model.specs.Cycles.{happens};
+ghost use Rattle.adr_model.specs.World.{empty_world};
 ghost use Rattle.adr_report.specs.Line.{line};
-ghost use Rattle.adr_schedule.specs.Commands.{IsAllowed};
-ghost use Rattle.adr_schedule.specs.Seen.{cause_after, seen_after, nothing_seen, IsFollowing};
-ghost use Rattle.adr_world.specs.Held.{seen_in};
+ghost use Rattle.adr_world.specs.Built.{AreBuilt, IsBuilt};
 ghost use Rattle.adr_cmd.specs.Outcome.{output_from};
 
-use adr_event::Event;
+use adr_event::{Answer, Event};
 use adr_io::{Fault, Sink};
 use adr_report::line;
 use adr_world::World;
-use std::alloc::Global;
+use std::alloc::{AllocError, Global};
 
-/// The line of what the event is answered; want of memory is a fault.
-fn line_of(alloc: Global, world: &mut World, event: &Event) -> Result<Vec<u8>, Fault>
-    requires follows { cause_after (seen_in world.old) event.now ≡ None }
-    requires allowed { IsAllowed event.now }
-    ensures line { IfOk result (λ bytes. bytes.items ≡ line (step world.old event.now).1) }
-    ensures stepped { OnOk result (world.new ≡ (step world.old event.now).0) }
-    ensures seen { OnOk result (seen_in world.new ≡ seen_after (seen_in world.old) event.now) }
+/// The lines of answers.
+fn lines_of(alloc: Global, answers: &[Answer]) -> Result<Vec<u8>, AllocError>
+    ensures { IfOk result (λ bytes. bytes.items ≡ flat_map line answers.now) }
+{
+    let mut bytes = Vec::new(alloc);
+    for answer in answers {
+        bytes.extend_from_slice(line(alloc, answer)?.as_slice())?;
+    }
+    Ok(bytes)
+}
+
+/// The lines of what the event is answered; want of memory is a fault.
+fn lines_told(alloc: Global, world: &mut World, event: &Event) -> Result<Vec<u8>, Fault>
+    requires built { IsBuilt event.now }
+    requires may { MayHappen world.old event.now }
+    ensures lines { IfOk result (λ bytes. bytes.items ≡ flat_map line (happens world.old event.now).1) }
+    ensures stepped { OnOk result (world.new ≡ (happens world.old event.now).0) }
     ensures memory { OnErr result (result ≡ Err Fault.NoMemory) }
 {
-    let Ok(answer) = world.step(alloc, event) else {
+    let Ok(answers) = world.happen(alloc, event) else {
         return Err(Fault::NoMemory);
     };
-    match line(alloc, &answer) {
+    match lines_of(alloc, answers.as_slice()) {
         Ok(bytes) => Ok(bytes),
         Err(_) => Err(Fault::NoMemory),
     }
@@ -47,30 +57,30 @@ fn write_some<K: Sink>(sink: &mut K, bytes: &[u8]) -> Result<(), Fault>
     sink.write(bytes)
 }
 
-/// Does what the event says, and writes the answer.
+/// Does what the event says, and writes the answers.
 fn tell<K: Sink>(alloc: Global, world: &mut World, event: &Event, sink: &mut K) -> Result<(), Fault>
-    requires follows { cause_after (seen_in world.old) event.now ≡ None }
-    requires allowed { IsAllowed event.now }
-    ensures stepped { OnOk result (world.new ≡ (step world.old event.now).0) }
-    ensures seen { OnOk result (seen_in world.new ≡ seen_after (seen_in world.old) event.now) }
-    ensures told { OnOk result (Adds (K.written sink.old) (K.written sink.new) (line (step world.old event.now).1)) }
-    ensures front { OnErr result (AddsFront (K.written sink.old) (K.written sink.new) (line (step world.old event.now).1)) }
+    requires built { IsBuilt event.now }
+    requires may { MayHappen world.old event.now }
+    ensures stepped { OnOk result (world.new ≡ (happens world.old event.now).0) }
+    ensures told { OnOk result (Adds (K.written sink.old) (K.written sink.new) (flat_map line (happens world.old event.now).1)) }
+    ensures front { OnErr result (AddsFront (K.written sink.old) (K.written sink.new) (flat_map line (happens world.old event.now).1)) }
     ensures never_falls { K.faults sink.old ≤ K.faults sink.new }
     ensures failed { IsErrOf result Fault.Failed → K.faults sink.old < K.faults sink.new }
 {
-    let bytes = line_of(alloc, world, event)?;
+    let bytes = lines_told(alloc, world, event)?;
     write_some(sink, bytes.as_slice())
 }
 
-/// Runs the events from an empty world on, and writes each answer as it comes.
+/// Runs the events from an empty world on, and writes the answers to each as they come.
 pub fn play<K: Sink>(alloc: Global, events: &[Event], sink: &mut K) -> Result<(), Fault>
-    requires { IsFollowing nothing_seen events.now }
+    requires built { AreBuilt events.now }
+    requires may { MayAllHappen empty_world events.now }
     ensures ok { OnOk result (Adds (K.written sink.old) (K.written sink.new) (output_from empty_world events.now)) }
     ensures front { OnErr result (AddsFront (K.written sink.old) (K.written sink.new) (output_from empty_world events.now)) }
     ensures never_falls { K.faults sink.old ≤ K.faults sink.new }
     ensures failed { IsErrOf result Fault.Failed → K.faults sink.old < K.faults sink.new }
 {
-    let mut world = World::new();
+    let mut world = World::new(alloc);
     for event in events {
         tell(alloc, &mut world, event, sink)?;
     }

@@ -3,7 +3,7 @@
 ghost use Rattle.std.specs.Prelude.{◌≡◌, ◌⊎◌, ◌<◌, ◌≤◌, ◌++◌, ◌∷◌, ℕ, List, [], map, string_bytes, true, false, OnOk, OnErr, IfOk, IfErr, IfSome, IsErrOf, drop, Some, codes};
 ghost use Rattle.std.specs.Fmt.{decimal};
 ghost use Rattle.adr_io.specs.Told.{Adds, AddsFront};
-ghost use Rattle.adr_cmd.specs.Headline.{IsHeadline};
+ghost use Rattle.adr_headline.specs.Headline.{IsHeadline};
 ghost use Rattle.adr_cmd.specs.Outcome.{outcome, cause_text, fault_line, is_replay, usage_line, ended};
 
 use crate::playing::play;
@@ -30,6 +30,9 @@ fn cause_text(cause: Cause) -> &'static str
         Cause::NotUtf8 => "not UTF-8",
         Cause::NoCommand => "no command",
         Cause::UnknownName => "unknown name",
+        Cause::NameUsed => "name used",
+        Cause::IdentifierUsed => "identifier used",
+        Cause::TooMany => "too many",
         Cause::TooLong => "too long",
     }
 }
@@ -78,6 +81,7 @@ fn perform<K: Sink>(alloc: Global, text: &[u8], sink: &mut K) -> (u8, Result<(),
     ensures status { OnOk result.1 (result.0 ≡ (outcome text.now).0) }
     ensures ok { OnOk result.1 (Adds (K.written sink.old) (K.written sink.new) (outcome text.now).1) }
     ensures front { OnErr result.1 (AddsFront (K.written sink.old) (K.written sink.new) (outcome text.now).1) }
+    ensures headline { OnOk result.1 (IsHeadline text.now) }
     ensures statuses { (result.0 ≡ 0) ⊎ (result.0 ≡ 3) }
     ensures never_falls { K.faults sink.old ≤ K.faults sink.new }
     ensures failed { IsErrOf result.1 Fault.Failed → K.faults sink.old < K.faults sink.new }
@@ -94,6 +98,7 @@ fn replay<S: Source, K: Sink>(alloc: Global, source: &mut S, sink: &mut K) -> u8
     ensures status { (result ≡ 0) ⊎ (result ≡ 3) → IfSome (S.left source.old) (λ text. result ≡ (outcome text).0) }
     ensures written { (result ≡ 0) ⊎ (result ≡ 3) → IfSome (S.left source.old) (λ text. Adds (K.written sink.old) (K.written sink.new) (outcome text).1) }
     ensures front { (result ≡ 5) ⊎ (result ≡ 8) → IfSome (S.left source.old) (λ text. AddsFront (K.written sink.old) (K.written sink.new) (outcome text).1) }
+    ensures headline { (result ≡ 0) ⊎ (result ≡ 3) → IfSome (S.left source.old) IsHeadline }
     ensures read { (result ≡ 0) ⊎ ((result ≡ 3) ⊎ (result ≡ 5)) → IfSome (S.left source.old) (λ text. S.left source.new ≡ Some (drop 16777217 text)) }
     ensures ended { result ≡ 0 → IfSome (S.left source.old) (λ text. S.left source.new ≡ Some []) }
     ensures read_fault { result ≡ 4 → S.faults source.old < S.faults source.new }
@@ -131,7 +136,6 @@ fn usage<K: Sink>(sink: &mut K) -> u8
 /// Runs the program's words, without its name, over a source and a sink, and answers the status: 0
 /// done, 2 wrong words, 3 a text that is no schedule, 4 a read that failed, 5 a write that failed, 8
 /// want of memory.
-#[tactic(auto, using(crate::proofs::Claimed::headline_of))]
 pub fn run<S: Source, K: Sink>(alloc: Global, words: &[String], source: &mut S, sink: &mut K) -> u8
     // Wrong words get the usage line, and no other words do.
     ensures usage { result ≡ 2 → is_replay (map string_bytes words.now) ≡ false }

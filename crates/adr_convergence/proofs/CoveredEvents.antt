@@ -6,10 +6,10 @@ use Rattle.adr_event.specs.declared.event.Event.TheVariants as events
 use Rattle.adr_model.specs.Store.{State}
 use Rattle.adr_model.specs.Write.{AddObject, Modify, Rename, Delete, AddLink, RemoveLink}
 use Rattle.adr_model.specs.Replica.{Stops, Fails}
-use Rattle.adr_model.specs.World.{World, Sent, nothing, bound_at, gives, step}
+use Rattle.adr_model.specs.World.{World, Sent, nothing, bound_at, gives, shown, marks_shown, step}
 use Rattle.adr_model.specs.Convergence.{MayHappen, IsPurgedCovered, KeepsCovered, StaysCovered}
 use Rattle.adr_convergence.proofs.Reached.{made_case}
-use Rattle.adr_convergence.proofs.CoveredSteps.{given_more, writes_covered, serves_covered, delivers_covered, collects_covered, plans_covered, stops_covered, starts_covered, restores_covered, installs_covered, shows_covered, comes_covered, binds_request, binds_image}
+use Rattle.adr_convergence.proofs.CoveredSteps.{given_more, writes_covered, serves_covered, delivers_covered, collects_covered, plans_covered, stops_covered, starts_covered, restores_covered, installs_covered, reports_covered, comes_covered, binds_request, binds_image}
 
 event_covered : (w : World) (covered : IsPurgedCovered w) (e : Event) → MayHappen w e → KeepsCovered w e → IsPurgedCovered (step w e).0
 event_covered w covered (events.Controller name dsa inv) may keeps = comes_covered w covered name dsa inv keeps
@@ -37,7 +37,9 @@ event_covered w covered (events.StopAfter name calls how) may keeps = plans_cove
 event_covered w covered (events.Fail name calls) may keeps = plans_covered w covered name (record { calls = calls; fault = Fails })
 event_covered w covered (events.Stop name) may keeps = stops_covered w covered name
 event_covered w covered (events.Start name) may keeps = starts_covered w covered name
-event_covered w covered (events.Show name) may keeps = shows_covered w covered name
+event_covered w covered (events.Show name) may keeps = reports_covered w covered name (λ r. outcomes.Show (shown w r.safe))
+event_covered w covered (events.Vector name) may keeps = reports_covered w covered name (λ r. outcomes.Vector r.safe.store.vector)
+event_covered w covered (events.Marks name) may keeps = reports_covered w covered name (λ r. outcomes.Marks (marks_shown r.safe.store))
 
 -- what was collected is still covered
 pub stays_covered : StaysCovered

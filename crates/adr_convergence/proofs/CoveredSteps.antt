@@ -163,8 +163,8 @@ module _ (w : World) (covered : IsPurgedCovered w) where
   pub installs_covered : (name image : Name) (dsa inv : Identifier) → IsPurgedCovered (of_image w (bound_at w.images image) (λ i. adopts w (λ r. w.replicas ++ r ∷ []) name (adopt i dsa inv))).0
   installs_covered name image dsa inv = of_bound image (λ i. adopts w (λ r. w.replicas ++ r ∷ []) name (adopt i dsa inv)) (λ i of. installed name dsa inv i of (adopt i dsa inv) refl)
 
-  pub shows_covered : (name : Name) → IsPurgedCovered (step w (events.Show name)).0
-  shows_covered name = reached_case OfWorld w name (stays w) (λ x. covered) (λ r. (w, outcomes.Show (shown w r.safe))) (λ r is up. covered)
+  pub reports_covered : (name : Name) (what : Replica → Outcome) → IsPurgedCovered (of_controller w name (stays w) (λ r. (w, what r))).0
+  reports_covered name what = reached_case OfWorld w name (stays w) (λ x. covered) (λ r. (w, what r)) (λ r is up. covered)
 
   -- a new controller, while nothing was collected
   pub comes_covered : (name : Name) (dsa inv : Identifier) → ((s : Store) → IsStoreOf w s → s.purged ≡ []) → IsPurgedCovered (step w (events.Controller name dsa inv)).0

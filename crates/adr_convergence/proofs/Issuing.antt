@@ -19,7 +19,7 @@ use Rattle.adr_model.specs.Write.{Write, AddObject, Modify, Rename, Delete, AddL
 use Rattle.adr_model.specs.Take.{take}
 use Rattle.adr_model.specs.Collect.{collect, backup, adopt, quarantine}
 use Rattle.adr_model.specs.Replica.{Pending, ToWrite, ToTake, ToCollect, ToQuarantine, issued_by, Standing, Up, Down, Failed, Stops, Fails, Replica, Scene, Move, Begin, Settle, Forget, moved, went, moves_of_commit, moves_of_start}
-use Rattle.adr_model.specs.World.{Name, World, Gone, Sent, stays, nothing, bound_at, with_replica, commit, writes, after_write, after_collect, asks, after_serve, served, serves_request, after_take, delivered, delivers, backed_up, adopts, of_image, put_back, with_plan, stops, starts, shown, gives, step}
+use Rattle.adr_model.specs.World.{Name, World, Gone, Sent, stays, nothing, bound_at, with_replica, commit, writes, after_write, after_collect, asks, after_serve, served, serves_request, after_take, delivered, delivers, backed_up, adopts, of_image, put_back, with_plan, stops, starts, shown, marks_shown, gives, step}
 use Rattle.adr_model.specs.Cycles.{Pulled, pull_served, pull_asked, pull, and_then, pulls, reply_limit}
 use Rattle.adr_model.specs.Convergence.{IssuedStays}
 use Rattle.adr_model.proofs.Members.{member_left}
@@ -146,6 +146,8 @@ step_keeps w (events.Fail name calls) = made_case (Kept w) w name (stays w) (λ 
 step_keeps w (events.Stop name) = made_case (Kept w) w name (stays w) (λ o. same w) (λ r. stops w r) (λ r called. moves_keep (Settle ∷ []) (w.scene, r))
 step_keeps w (events.Start name) = made_case (Kept w) w name (stays w) (λ o. same w) (λ r. starts w r r.standing) (λ r called. starts_keep w r r.standing)
 step_keeps w (events.Show name) = reached_case (Kept w) w name (stays w) (λ o. same w) (λ r. (w, outcomes.Show (shown w r.safe))) (λ r called up. same w)
+step_keeps w (events.Vector name) = reached_case (Kept w) w name (stays w) (λ o. same w) (λ r. (w, outcomes.Vector r.safe.store.vector)) (λ r called up. same w)
+step_keeps w (events.Marks name) = reached_case (Kept w) w name (stays w) (λ o. same w) (λ r. (w, outcomes.Marks (marks_shown r.safe.store))) (λ r called up. same w)
 
 -- ---- pulls
 

@@ -13,7 +13,7 @@ use Rattle.adr_model.specs.Serve.{is_quarantined}
 use Rattle.adr_model.specs.Write.{Write, IsWellGiven, AddObject, Modify, Rename, Delete, AddLink, RemoveLink}
 use Rattle.adr_model.specs.Collect.{collect, backup, adopt}
 use Rattle.adr_model.specs.Replica.{Standing, Up, Down, Failed, Plan, Stops, Fails, Replica, went}
-use Rattle.adr_model.specs.World.{Name, World, Gone, Sent, stays, nothing, bound_at, replica_at, with_replica, of_made, of_controller, writes, after_collect, asks, backed_up, adopts, of_image, with_plan, stops, starts, shown, told, gives, step}
+use Rattle.adr_model.specs.World.{Name, World, Gone, Sent, stays, nothing, bound_at, replica_at, with_replica, of_made, of_controller, writes, after_collect, asks, backed_up, adopts, of_image, with_plan, stops, starts, shown, marks_shown, told, gives, step}
 use Rattle.adr_model.specs.Convergence.{write_of, MayHappen}
 use Rattle.adr_convergence.proofs.Reached.{plain_made, plain_up, plain_reached}
 use Rattle.adr_convergence.proofs.Refusals.{IsPlain, collect_refused_plainly, adopt_refused_plainly, after_calls}
@@ -78,6 +78,12 @@ module _ (w : World) where
   shows : (name : Name) → AnswersPlainly (of_controller w name (stays w) (λ r. (w, outcomes.Show (shown w r.safe))))
   shows name = plain_reached AnswersPlainly w name (stays w) (λ o plain. plain) (λ r. (w, outcomes.Show (shown w r.safe))) (λ r is up. refl)
 
+  tells_vector : (name : Name) → AnswersPlainly (of_controller w name (stays w) (λ r. (w, outcomes.Vector r.safe.store.vector)))
+  tells_vector name = plain_reached AnswersPlainly w name (stays w) (λ o plain. plain) (λ r. (w, outcomes.Vector r.safe.store.vector)) (λ r is up. refl)
+
+  tells_marks : (name : Name) → AnswersPlainly (of_controller w name (stays w) (λ r. (w, outcomes.Marks (marks_shown r.safe.store))))
+  tells_marks name = plain_reached AnswersPlainly w name (stays w) (λ o plain. plain) (λ r. (w, outcomes.Marks (marks_shown r.safe.store))) (λ r is up. refl)
+
   taken_back : (name : Name) → SendsPlainly (of_made (nothing w) (replica_at w name) (λ r. (w, outcomes.Ok, Some r.read)))
   taken_back name = plain_made SendsPlainly w name (nothing w) (λ o plain. plain) (λ r. (w, outcomes.Ok, Some r.read)) (λ r is. refl)
 
@@ -111,3 +117,5 @@ event_case Q w plain wrote served took (events.Fail name calls) may = plain (eve
 event_case Q w plain wrote served took (events.Stop name) may = plain (events.Stop name) (step w (events.Stop name)) (stopped w name)
 event_case Q w plain wrote served took (events.Start name) may = plain (events.Start name) (step w (events.Start name)) (started w name)
 event_case Q w plain wrote served took (events.Show name) may = plain (events.Show name) (step w (events.Show name)) (shows w name)
+event_case Q w plain wrote served took (events.Vector name) may = plain (events.Vector name) (step w (events.Vector name)) (tells_vector w name)
+event_case Q w plain wrote served took (events.Marks name) may = plain (events.Marks name) (step w (events.Marks name)) (tells_marks w name)

@@ -10,7 +10,7 @@ use Rattle.adr_model.specs.Serve.{Request, Reply}
 use Rattle.adr_model.specs.Write.{Write, IsWellGiven, AddObject, Modify, Rename, Delete, AddLink, RemoveLink, write}
 use Rattle.adr_model.specs.Collect.{collect, adopt, backup}
 use Rattle.adr_model.specs.Replica.{Standing, Up, Down, Failed, Stops, Fails, Plan, Replica}
-use Rattle.adr_model.specs.World.{Name, World, Gone, Sent, stays, nothing, bound, bound_at, gives, writes, asks, serves_request, delivered, delivers, after_write, after_collect, backed_up, adopts, of_made, of_image, of_controller, with_plan, stops, starts, with_replica, replica_at, shown, step}
+use Rattle.adr_model.specs.World.{Name, World, Gone, Sent, stays, nothing, bound, bound_at, gives, writes, asks, serves_request, delivered, delivers, after_write, after_collect, backed_up, adopts, of_made, of_image, of_controller, with_plan, stops, starts, with_replica, replica_at, shown, marks_shown, step}
 use Rattle.adr_model.specs.Sound.{IsSoundRequest, IsSoundReply, IsSoundStore, IsGiven, AreMarksGiven, IsSoundWorld}
 use Rattle.adr_model.specs.Convergence.{MayHappen, StaysSound}
 use Rattle.adr_convergence.proofs.Found.{bound_member}
@@ -105,6 +105,8 @@ module _ (w : World) (sound : IsSoundWorld w) where
   steps (events.Stop name) may = made_case Sound w name (stays w) same (λ r. stops w r) (λ r called. stopped w sound r called.there Down None)
   steps (events.Start name) may = made_case Sound w name (stays w) same (λ r. starts w r r.standing) (λ r called. started_so r called.there r.standing refl)
   steps (events.Show name) may = reached_case Sound w name (stays w) same (λ r. (w, outcomes.Show (shown w r.safe))) (λ r called up. sound)
+  steps (events.Vector name) may = reached_case Sound w name (stays w) same (λ r. (w, outcomes.Vector r.safe.store.vector)) (λ r called up. sound)
+  steps (events.Marks name) may = reached_case Sound w name (stays w) same (λ r. (w, outcomes.Marks (marks_shown r.safe.store))) (λ r called up. sound)
 
 pub stays_sound : StaysSound
 stays_sound w e sound may = steps w sound e may

@@ -1,6 +1,6 @@
 //! What a controller asks a partner.
 
-ghost use Rattle.std.specs.Prelude.{◌≡◌, ◌≤◌, IfOk};
+ghost use Rattle.std.specs.Prelude.{◌≡◌, IfOk};
 ghost use Rattle.adr_model.specs.Serve.{ask};
 
 use crate::NoMemory;
@@ -12,7 +12,6 @@ use uuid::Uuid;
 /// What the controller asks a partner: the changes behind the mark that it has of the partner, at most `max` items in
 /// one reply (MS-DRSR, DRS_MSG_GETCHGREQ).
 pub fn ask(state: &State, partner: Uuid, max: u32, alloc: Global) -> Result<Request, NoMemory>
-    requires { 1 ≤ max }
     ensures { IfOk result (λ request. request ≡ ask state.now partner max) }
 {
     let kept = state.marks().kept(partner);

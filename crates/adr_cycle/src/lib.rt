@@ -6,6 +6,7 @@
 #![tactic(auto)]
 
 mod asking;
+mod candidate;
 mod candidates;
 mod replying;
 mod serving;

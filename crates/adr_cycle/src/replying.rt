@@ -7,6 +7,7 @@ ghost use Rattle.adr_model.specs.Change.{Item as Defined};
 ghost use Rattle.adr_model.specs.Serve.{begins_at, byte_limit, first_items, reply_of, reply_to};
 
 use crate::NoMemory;
+use crate::candidate::Candidate;
 use crate::candidates::candidates;
 use adr_packet::{Reply, Request, cost_within};
 use adr_state::{Item, State};
@@ -51,17 +52,18 @@ pub fn is_same(a: Uuid, b: Uuid) -> bool
 /// The first items: until there are so many, or so many bytes or more.
 pub fn first_items(
     mut most: u32,
-    all: BTreeMap<u64, Item>,
+    all: BTreeMap<u64, Candidate>,
     alloc: Global,
 ) -> Result<Vec<(u64, Item)>, NoMemory>
-    ensures { IfOk result (λ sent. sent.items ≡ first_items most byte_limit all.entries) }
+    ensures { IfOk result (λ sent. sent.items ≡ first_items most byte_limit all.entry.entries) }
 {
     let mut bytes = BYTE_LIMIT;
     let mut sent = Vec::new(alloc);
-    for (local, item) in all {
+    for (local, candidate) in all {
         if most == 0 || bytes == 0 {
             break;
         }
+        let item = candidate.item(alloc)?;
         most -= 1;
         bytes -= cost_within(&item, bytes);
         sent.push((local, item))?;

@@ -3,8 +3,9 @@
 ghost use Rattle.std.specs.Prelude.{◌≡◌, IfOk};
 
 use crate::directory::Directory;
+use crate::partners::PartnerMarks;
 use adr_schema::{NoMemory, Text};
-use adr_vector::Mark;
+use adr_vector::{Mark, Vector};
 use std::alloc::Global;
 use std::marker::Model;
 use uuid::Uuid;
@@ -124,6 +125,10 @@ pub enum Outcome {
     Removed(u32),
     /// The directory that was asked for.
     Show(Directory),
+    /// What was seen of each incarnation.
+    Vector(Vector),
+    /// How far each partner was read.
+    Marks(PartnerMarks),
     /// A cycle took its most replies, and none of them was the last.
     More,
     /// The controller that was to be started is up.
@@ -175,6 +180,8 @@ impl Outcome {
             }),
             Outcome::Removed(removed) => Ok(Outcome::Removed(*removed)),
             Outcome::Show(directory) => Ok(Outcome::Show(directory.copy(alloc)?)),
+            Outcome::Vector(vector) => Ok(Outcome::Vector(vector.copy(alloc)?)),
+            Outcome::Marks(marks) => Ok(Outcome::Marks(marks.copy(alloc)?)),
             Outcome::More => Ok(Outcome::More),
             Outcome::Up => Ok(Outcome::Up),
             Outcome::Down => Ok(Outcome::Down),

@@ -147,6 +147,14 @@ pub enum Event {
     Show {
         name: Text,
     },
+    /// A client asks what the controller has seen of each incarnation.
+    Vector {
+        name: Text,
+    },
+    /// A client asks how far the controller has read each partner.
+    Marks {
+        name: Text,
+    },
 }
 
 impl Event {
@@ -300,6 +308,12 @@ impl Event {
                 name: name.copy(alloc)?,
             }),
             Event::Show { name } => Ok(Event::Show {
+                name: name.copy(alloc)?,
+            }),
+            Event::Vector { name } => Ok(Event::Vector {
+                name: name.copy(alloc)?,
+            }),
+            Event::Marks { name } => Ok(Event::Marks {
                 name: name.copy(alloc)?,
             }),
         }

@@ -6,11 +6,13 @@
 mod answer;
 mod directory;
 mod event;
+mod partners;
 mod refusal;
 
 pub use answer::{Answer, Field, Fields, Outcome, Plainly};
 pub use directory::{Directory, Entry, EntryLinks, EntryValues, Guids};
 pub use event::Event;
+pub use partners::PartnerMarks;
 pub use refusal::{
     AdoptRefusal, CollectRefusal, ItemFault, ServeRefusal, Table, TakeRefusal, WriteRefusal,
 };

@@ -19,7 +19,8 @@ use Rattle.adr_event.specs.declared.refusal.AdoptRefusal.{AdoptRefusal}
 use Rattle.adr_model.specs.Update.{Identifier}
 use Rattle.adr_model.specs.Visible.{visible}
 use Rattle.adr_model.specs.Directory.{directory}
-use Rattle.adr_model.specs.Store.{State, Store, updates_of, empty_state}
+use Rattle.adr_vector.specs.declared.mark.Mark.{Mark}
+use Rattle.adr_model.specs.Store.{Kept, State, Store, updates_of, empty_state}
 use Rattle.adr_model.specs.Change.{Change, Item}
 use Rattle.adr_model.specs.Serve.{Request, Reply, ask, serve}
 use Rattle.adr_model.specs.Write.{Write, AddObject, Modify, Rename, Delete, AddLink, RemoveLink, write}
@@ -81,6 +82,10 @@ with_replica rs r = map (λ q. if bytes_eq q.name r.name then r else q) rs
 -- was put back, of those that it holds
 abbrev pub shown : World → State → List Entry
 shown w s = directory (if w.clean then visible w.scene.issued s.store.vector (updates_of s.store.rows) else updates_of s.store.rows)
+
+-- how far each partner was read: its identifier, the incarnation that was read, and the mark
+abbrev pub marks_shown : Store → List (Identifier × Identifier × Mark)
+marks_shown s = map (λ (k : Identifier × Kept). (k.0, k.1.inv, k.1.mark)) s.marks
 
 abbrev pub answer : List ℕ → Name → Outcome → Answer
 answer verb name outcome = record { verb = verb; name = name; outcome = outcome }
@@ -270,6 +275,8 @@ step w (events.Fail name calls) =
 step w (events.Stop name) = told (codes "stop") name (of_made (stays w) (replica_at w name) (λ r. stops w r))
 step w (events.Start name) = told (codes "start") name (of_made (stays w) (replica_at w name) (λ r. starts w r r.standing))
 step w (events.Show name) = told (codes "show") name (of_controller w name (stays w) (λ r. (w, outcomes.Show (shown w r.safe))))
+step w (events.Vector name) = told (codes "vector") name (of_controller w name (stays w) (λ r. (w, outcomes.Vector r.safe.store.vector)))
+step w (events.Marks name) = told (codes "marks") name (of_controller w name (stays w) (λ r. (w, outcomes.Marks (marks_shown r.safe.store))))
 
 -- an answer, and those to the events that follow
 abbrev pub followed : World × Answer → (World → List Answer) → List Answer

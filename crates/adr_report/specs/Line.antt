@@ -8,7 +8,7 @@ use Rattle.adr_event.specs.declared.answer.Field.{Field}
 use Rattle.adr_event.specs.declared.answer.Plainly.{Plainly}
 use Rattle.adr_event.specs.declared.answer.Plainly.TheVariants.{Id, Number, Mark as OneMark, Attr, Word}
 use Rattle.adr_event.specs.declared.answer.Outcome.{Outcome}
-use Rattle.adr_event.specs.declared.answer.Outcome.TheVariants.{Silent, Ok, Usn, Served, Took, Removed, Show, More, Up, Down, Failed, Disk, Stopped, Absent, Refused}
+use Rattle.adr_event.specs.declared.answer.Outcome.TheVariants.{Silent, Ok, Usn, Served, Took, Removed, Show, Vector, Marks, More, Up, Down, Failed, Disk, Stopped, Absent, Refused}
 use Rattle.adr_event.specs.declared.directory.Entry.{Entry}
 use Rattle.adr_token.specs.Spelling.{identifier_token, text_token, class_token, attribute_token, set_token}
 
@@ -35,6 +35,14 @@ entry_line e =
 -- a high watermark
 unfoldable pub mark_text : Mark → List ℕ
 mark_text m = decimal m.obj ++ codes "/" ++ decimal m.prop ++ codes "/" ++ decimal m.seen
+
+-- the line of an incarnation: what was seen of it
+unfoldable pub cursor_line : List ℕ × ℕ → List ℕ
+cursor_line c = codes "  " ++ identifier_token c.0 ++ codes " " ++ decimal c.1 ++ codes "\n"
+
+-- the line of a partner: the incarnation that was read, and how far
+unfoldable pub partner_line : List ℕ × List ℕ × Mark → List ℕ
+partner_line p = codes "  " ++ identifier_token p.0 ++ codes " " ++ identifier_token p.1 ++ codes " " ++ mark_text p.2 ++ codes "\n"
 
 unfoldable pub plain_text : Plainly → List ℕ
 plain_text (Id id) = identifier_token id
@@ -68,6 +76,8 @@ result_text (Served from to items rows last) = from_to from to ++ counts_text it
 result_text (Took items wrote usn) = codes "ok items=" ++ decimal items ++ codes " wrote=" ++ decimal wrote ++ codes " usn=" ++ decimal usn
 result_text (Removed removed) = codes "ok removed=" ++ decimal removed
 result_text (Show entries) = decimal (length entries)
+result_text (Vector vector) = decimal (length vector)
+result_text (Marks marks) = decimal (length marks)
 result_text More = codes "more"
 result_text Up = codes "up"
 result_text Down = codes "down"
@@ -80,6 +90,8 @@ result_text (Refused number label fields) = codes "refused " ++ decimal number +
 -- the lines behind an answer's line
 unfoldable pub report_lines : Outcome → List ℕ
 report_lines (Show entries) = flat_map entry_line entries
+report_lines (Vector vector) = flat_map cursor_line vector
+report_lines (Marks marks) = flat_map partner_line marks
 report_lines _ = []
 
 -- a name behind a space, where there is one

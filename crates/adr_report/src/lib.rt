@@ -3,6 +3,7 @@
 #![tactic(auto)]
 
 mod entries;
+mod knowledge;
 mod lines;
 
 pub use lines::line;

@@ -5,22 +5,12 @@ ghost use Rattle.std.specs.Fmt.{decimal};
 ghost use Rattle.adr_report.specs.Line.{plain_text, mark_text, from_to, left_text, counts_text, field_text, result_text, report_lines, named, said, is_silent, line};
 
 use crate::entries::push_entries;
+use crate::knowledge::{push_cursors, push_mark, push_partners};
 use adr_event::{Answer, Field, Outcome, Plainly};
 use adr_schema::NoMemory;
 use adr_token::{push, push_attribute, push_identifier, push_number};
 use adr_vector::Mark;
 use std::alloc::Global;
-
-#[tactic(auto, unfolding(crate::specs::Line::mark_text))]
-fn push_mark(alloc: Global, out: &mut Vec<u8>, mark: Mark) -> Result<(), NoMemory>
-    ensures { OnOk result (out.new.items ≡ out.old.items ++ mark_text mark) }
-{
-    push_number(alloc, out, mark.obj)?;
-    push(out, b"/")?;
-    push_number(alloc, out, mark.prop)?;
-    push(out, b"/")?;
-    push_number(alloc, out, mark.seen)
-}
 
 #[tactic(auto, unfolding(crate::specs::Line::plain_text))]
 fn push_plainly(alloc: Global, out: &mut Vec<u8>, value: &Plainly) -> Result<(), NoMemory>
@@ -170,6 +160,8 @@ fn push_result(alloc: Global, out: &mut Vec<u8>, outcome: &Outcome) -> Result<()
         Outcome::Took { items, wrote, usn } => push_took(alloc, out, *items, *wrote, *usn),
         Outcome::Removed(removed) => push_removed(alloc, out, *removed),
         Outcome::Show(directory) => push_number(alloc, out, directory.entries().len() as u64),
+        Outcome::Vector(vector) => push_number(alloc, out, vector.len() as u64),
+        Outcome::Marks(marks) => push_number(alloc, out, marks.items().len() as u64),
         Outcome::More => push(out, b"more"),
         Outcome::Up => push(out, b"up"),
         Outcome::Down => push(out, b"down"),
@@ -192,6 +184,8 @@ fn push_report(alloc: Global, out: &mut Vec<u8>, outcome: &Outcome) -> Result<()
 {
     match outcome {
         Outcome::Show(directory) => push_entries(alloc, out, directory.entries()),
+        Outcome::Vector(vector) => push_cursors(alloc, out, vector.cursors()),
+        Outcome::Marks(marks) => push_partners(alloc, out, marks.items()),
         Outcome::Silent => Ok(()),
         Outcome::Ok => Ok(()),
         Outcome::Usn(_) => Ok(()),
@@ -240,6 +234,8 @@ fn is_silent(outcome: &Outcome) -> bool
         Outcome::Ok => false,
         Outcome::Usn(_) => false,
         Outcome::Show(_) => false,
+        Outcome::Vector(_) => false,
+        Outcome::Marks(_) => false,
         Outcome::Served { .. } => false,
         Outcome::Took { .. } => false,
         Outcome::Removed(_) => false,

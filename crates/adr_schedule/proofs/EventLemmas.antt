@@ -1,10 +1,13 @@
 -- One line among others.
-use Rattle.std.proofs.Common.{◌≡◌, ℕ, ◌+◌, List, [], ◌∷◌, ◌++◌, Option, Some, None, Result, Ok, Err, refl, sym, ap, subst, ◌∙◌, append_assoc}
+use Rattle.std.proofs.Common.{◌≡◌, ℕ, ◌+◌, ◌≤◌, List, [], ◌∷◌, ◌++◌, length, arith, Option, Some, None, Result, Ok, Err, refl, sym, ap, subst, ◌∙◌, append_assoc}
 use Rattle.std.specs.Option.{option_to_list}
+use Rattle.std.proofs.lemmas.Bool.{le-ltb}
+use Rattle.std.proofs.lemmas.List.{append-nil}
 use Rattle.adr_event.specs.declared.event.Event.{Event}
 use Rattle.adr_schedule.specs.declared.fault.ScheduleFault.{ScheduleFault}
-use Rattle.adr_schedule.specs.Seen.{Seen, seen_after, IsFollowing}
-use Rattle.adr_schedule.specs.Events.{before, line_after, seen_with, on_line, events_from}
+use Rattle.adr_schedule.specs.Seen.{Seen, nothing_seen, seen_after, IsFollowing}
+use Rattle.adr_schedule.specs.Lines.{lines_of}
+use Rattle.adr_schedule.specs.Events.{before, line_after, seen_with, on_line, events_from, events_of}
 
 -- what was seen after some events
 abbrev pub seen_at_end : Seen → List Event → Seen
@@ -25,6 +28,13 @@ moved events events' told seen next k line ls rest all same first says after gro
     let one : events_from seen k (line ∷ ls) ≡ before (option_to_list told) (events_from (seen_with seen told) (k + 1) ls) =
     ap (λ r. on_line k seen r (λ next. events_from next (k + 1) ls)) says in
     rw (grown, after) (before_more events (option_to_list told) (events_from (seen_with seen told) (k + 1) ls) ∙ ap (before events) (sym one) ∙ here)
+
+-- where nothing is left, all is told
+pub all_told : (text rest : List ℕ) (events : List Event) (seen : Seen) (k : ℕ) → length text ≤ 16777216 → length rest ≤ 0
+    → before events (events_from seen k (lines_of rest)) ≡ events_from nothing_seen 1 (lines_of text) → events_of text ≡ Ok events
+unfolding events_of
+all_told text [] events seen k small none same = rw (le-ltb 16777216 (length text) small) (sym same ∙ ap Ok (append-nil events))
+all_told text (b ∷ bs) events seen k small none same = absurd (omega arith)
 
 pub follows_on : (seen : Seen) (es fs : List Event) → IsFollowing seen es → IsFollowing (seen_at_end seen es) fs → IsFollowing seen (es ++ fs)
 follows_on seen [] fs h k = k

@@ -1,4 +1,5 @@
 pub mod LineLemmas
+pub mod NameLemmas
 pub mod EventLemmas
 pub mod PlainBytes
 pub mod EventLaws

@@ -1,14 +1,15 @@
 -- The events of a text are those of their printed form.
-use Rattle.std.proofs.Common.{◌≡◌, ℕ, ◌+◌, Bool, true, false, not, cond, List, [], ◌∷◌, ◌++◌, map, length, Option, Some, None, Result, Ok, Err, refl, sym, ap, subst, ◌∙◌, arith}
+use Rattle.std.proofs.Common.{◌≡◌, ◌⊎◌, ℕ, ◌+◌, Bool, true, false, not, cond, List, [], ◌∷◌, ◌++◌, map, length, Option, Some, None, Result, Ok, Err, refl, sym, ap, subst, ◌∙◌, inl, inr, arith}
 use Rattle.std.specs.Prelude.{◌==◌, codes, nat_lt}
 use Rattle.std.specs.Fmt.{decimal}
 use Rattle.std.specs.Str.{is_utf8}
 use Rattle.std.proofs.lemmas.Bool.{and_parts, le-ltb, ne_eqb, not-true}
 use Rattle.std.proofs.lemmas.Str.{is_utf8-from_IsUtf8}
+use Rattle.adr_schema.specs.Assignments.{Given}
 use Rattle.adr_schema.specs.Schemas.{schema_1}
 use Rattle.adr_schema.specs.declared.content.Value.TheVariants.{Text}
 use Rattle.adr_event.specs.declared.event.Event.{Event}
-use Rattle.adr_event.specs.declared.event.Event.TheVariants.{Controller, Time, Add, Show}
+use Rattle.adr_event.specs.declared.event.Event.TheVariants.{Controller, Time, Add, Ask, Serve, Deliver, Pull, Cycle, Show, Vector, Marks}
 use Rattle.adr_token.specs.Words.{is_name}
 use Rattle.adr_token.specs.Texts.{is_text}
 use Rattle.adr_token.specs.Spelling.{class_token, identifier_token, set_token, text_token}
@@ -19,11 +20,11 @@ use Rattle.adr_schedule.specs.declared.fault.Cause.{Cause}
 use Rattle.adr_schedule.specs.declared.fault.Cause.TheVariants.{NotUtf8, TooLong}
 use Rattle.adr_schedule.specs.declared.fault.ScheduleFault.{ScheduleFault}
 use Rattle.adr_schedule.specs.Lines.{is_line_feed, lines_of}
-use Rattle.adr_schedule.specs.Commands.{account, event_of, is_passed}
+use Rattle.adr_schedule.specs.Commands.{event_of, is_limit, is_passed}
 use Rattle.adr_schedule.specs.Seen.{Seen, nothing_seen, cause_after, seen_after}
 use Rattle.adr_schedule.specs.Events.{before, events_from, events_of, followed, line_after, on_line, unless}
 use Rattle.adr_schedule.specs.Printed.{set_tokens, EventsAreReadAgain, line_of, printed, spaced}
-use Rattle.adr_schedule.proofs.EventLaws.{Spells, account_is, event_again, event_was}
+use Rattle.adr_schedule.proofs.EventLaws.{Spells, SpellsUser, SpellsContainer, account_is, event_again, event_was, limit_small}
 use Rattle.adr_schedule.proofs.PlainBytes.{IsPlain, field_plain, graphic_plain, is_feedless, nothing_plain, plain_append, text_plain}
 
 -- a printed line is plain
@@ -33,9 +34,19 @@ name_plain name rest h more = field_plain name rest (graphic_plain name (name_gr
 identifier_plain : (id rest : List ℕ) → IsPlain rest → IsPlain ((codes " " ++ identifier_token id) ++ rest)
 identifier_plain id rest more = field_plain (identifier_token id) rest (graphic_plain (identifier_token id) (token_graphic id)) more
 
-class_plain : IsPlain (class_token 5)
+limit_plain : (max : ℕ) (rest : List ℕ) → is_limit max ≡ true → IsPlain rest → IsPlain ((codes " " ++ decimal max) ++ rest)
+limit_plain max rest h more = field_plain (decimal max) rest (graphic_plain (decimal max) (digits_graphic false max (limit_small max h)).0) more
+
+bound_plain : (bound : List ℕ) → is_name bound ≡ true → IsPlain (spaced (codes "as" ∷ bound ∷ []))
+bound_plain bound h = field_plain (codes "as") (spaced (bound ∷ [])) (graphic_plain (codes "as") refl) (name_plain bound [] h nothing_plain)
+
+user_plain : IsPlain (class_token 5)
 unfolding class_token schema_1
-class_plain = graphic_plain (codes "user") refl
+user_plain = graphic_plain (codes "user") refl
+
+container_plain : IsPlain (class_token 4)
+unfolding class_token schema_1
+container_plain = graphic_plain (codes "container") refl
 
 account_plain : (value : List ℕ) → is_text value ≡ true → IsPlain (set_token 10 (Text value ∷ []))
 account_plain value h =
@@ -45,6 +56,23 @@ account_plain value h =
 verb_plain : (verb rest : List ℕ) → are_graphic verb ≡ true → IsPlain rest → IsPlain (verb ++ rest)
 verb_plain verb rest h more = plain_append verb rest (graphic_plain verb h) more
 
+-- the class, and the values
+kind_plain : (class : ℕ) (parent text : List ℕ) (values : List Given) → SpellsUser class parent text values ⊎ SpellsContainer class parent text values
+    → IsPlain (class_token class) × IsPlain (spaced (set_tokens values))
+kind_plain class parent text values (inl u) =
+    rw (u.0, u.1.1) (user_plain, field_plain (set_token 10 (Text u.1.0 ∷ [])) [] (account_plain u.1.0 u.1.2) nothing_plain)
+kind_plain class parent text values (inr c) = rw (c.0, c.1) (container_plain, nothing_plain)
+
+object_plain : (name guid parent text : List ℕ) (class : ℕ) (values : List Given) → Spells (Add name guid class parent text values)
+    → IsPlain (spaced (name ∷ identifier_token guid ∷ class_token class ∷ identifier_token parent ∷ text_token text ∷ set_tokens values))
+object_plain name guid parent text class values h =
+    let kind = kind_plain class parent text values h.4 in
+    name_plain name (spaced (identifier_token guid ∷ class_token class ∷ identifier_token parent ∷ text_token text ∷ set_tokens values)) h.0
+    (identifier_plain guid (spaced (class_token class ∷ identifier_token parent ∷ text_token text ∷ set_tokens values))
+    (field_plain (class_token class) (spaced (identifier_token parent ∷ text_token text ∷ set_tokens values)) kind.0
+    (identifier_plain parent (spaced (text_token text ∷ set_tokens values))
+    (field_plain (text_token text) (spaced (set_tokens values)) (text_plain text h.3) kind.1))))
+
 line_plain : (e : Event) → Spells e → IsPlain (line_of e)
 unfolding line_of
 line_plain (Controller name dsa inv) h =
@@ -53,15 +81,25 @@ line_plain (Controller name dsa inv) h =
 line_plain (Time now) h =
     verb_plain (codes "time") (spaced (decimal now ∷ [])) refl (field_plain (decimal now) [] (graphic_plain (decimal now) (digits_graphic false now h).0) nothing_plain)
 line_plain (Add name guid class parent text values) h =
-    rw (h.2, h.5.1)
-    (verb_plain (codes "add") (spaced (name ∷ identifier_token guid ∷ class_token 5 ∷ identifier_token parent ∷ text_token text ∷ set_tokens (account h.5.0))) refl
-    (name_plain name (spaced (identifier_token guid ∷ class_token 5 ∷ identifier_token parent ∷ text_token text ∷ set_tokens (account h.5.0))) h.0
-    (identifier_plain guid (spaced (class_token 5 ∷ identifier_token parent ∷ text_token text ∷ set_tokens (account h.5.0)))
-    (field_plain (class_token 5) (spaced (identifier_token parent ∷ text_token text ∷ set_tokens (account h.5.0))) class_plain
-    (identifier_plain parent (spaced (text_token text ∷ set_tokens (account h.5.0)))
-    (field_plain (text_token text) (spaced (set_tokens (account h.5.0))) (text_plain text h.4)
-    (field_plain (set_token 10 (Text h.5.0 ∷ [])) [] (account_plain h.5.0 h.5.2) nothing_plain)))))))
+    verb_plain (codes "add") (spaced (name ∷ identifier_token guid ∷ class_token class ∷ identifier_token parent ∷ text_token text ∷ set_tokens values)) refl (object_plain name guid parent text class values h)
+line_plain (Ask name partner max bound) h =
+    verb_plain (codes "ask") (spaced (name ∷ partner ∷ decimal max ∷ codes "as" ∷ bound ∷ [])) refl
+    (name_plain name (spaced (partner ∷ decimal max ∷ codes "as" ∷ bound ∷ [])) h.0
+    (name_plain partner (spaced (decimal max ∷ codes "as" ∷ bound ∷ [])) h.1 (limit_plain max (spaced (codes "as" ∷ bound ∷ [])) h.2 (bound_plain bound h.3))))
+line_plain (Serve name request bound) h =
+    verb_plain (codes "serve") (spaced (name ∷ request ∷ codes "as" ∷ bound ∷ [])) refl
+    (name_plain name (spaced (request ∷ codes "as" ∷ bound ∷ [])) h.0 (name_plain request (spaced (codes "as" ∷ bound ∷ [])) h.1 (bound_plain bound h.2)))
+line_plain (Deliver name reply) h =
+    verb_plain (codes "deliver") (spaced (name ∷ reply ∷ [])) refl (name_plain name (spaced (reply ∷ [])) h.0 (name_plain reply [] h.1 nothing_plain))
+line_plain (Pull name source max) h =
+    verb_plain (codes "pull") (spaced (name ∷ source ∷ decimal max ∷ [])) refl
+    (name_plain name (spaced (source ∷ decimal max ∷ [])) h.0 (name_plain source (spaced (decimal max ∷ [])) h.1 (limit_plain max [] h.2 nothing_plain)))
+line_plain (Cycle name source max) h =
+    verb_plain (codes "cycle") (spaced (name ∷ source ∷ decimal max ∷ [])) refl
+    (name_plain name (spaced (source ∷ decimal max ∷ [])) h.0 (name_plain source (spaced (decimal max ∷ [])) h.1 (limit_plain max [] h.2 nothing_plain)))
 line_plain (Show name) h = verb_plain (codes "show") (spaced (name ∷ [])) refl (name_plain name [] h nothing_plain)
+line_plain (Vector name) h = verb_plain (codes "vector") (spaced (name ∷ [])) refl (name_plain name [] h nothing_plain)
+line_plain (Marks name) h = verb_plain (codes "marks") (spaced (name ∷ [])) refl (name_plain name [] h nothing_plain)
 line_plain e h = absurd h
 
 -- it isn't passed over
@@ -75,7 +113,14 @@ unfolding line_of
 line_says (Controller name dsa inv) h = letter_first 99 (codes "ontroller" ++ spaced (name ∷ identifier_token dsa ∷ identifier_token inv ∷ [])) refl refl
 line_says (Time now) h = letter_first 116 (codes "ime" ++ spaced (decimal now ∷ [])) refl refl
 line_says (Add name guid class parent text values) h = letter_first 97 (codes "dd" ++ spaced (name ∷ identifier_token guid ∷ class_token class ∷ identifier_token parent ∷ text_token text ∷ set_tokens values)) refl refl
+line_says (Ask name partner max bound) h = letter_first 97 (codes "sk" ++ spaced (name ∷ partner ∷ decimal max ∷ codes "as" ∷ bound ∷ [])) refl refl
+line_says (Serve name request bound) h = letter_first 115 (codes "erve" ++ spaced (name ∷ request ∷ codes "as" ∷ bound ∷ [])) refl refl
+line_says (Deliver name reply) h = letter_first 100 (codes "eliver" ++ spaced (name ∷ reply ∷ [])) refl refl
+line_says (Pull name source max) h = letter_first 112 (codes "ull" ++ spaced (name ∷ source ∷ decimal max ∷ [])) refl refl
+line_says (Cycle name source max) h = letter_first 99 (codes "ycle" ++ spaced (name ∷ source ∷ decimal max ∷ [])) refl refl
 line_says (Show name) h = letter_first 115 (codes "how" ++ spaced (name ∷ [])) refl refl
+line_says (Vector name) h = letter_first 118 (codes "ector" ++ spaced (name ∷ [])) refl refl
+line_says (Marks name) h = letter_first 109 (codes "arks" ++ spaced (name ∷ [])) refl refl
 line_says e h = absurd h
 
 line_told : (seen : Seen) (e : Event) → Spells e → cause_after seen e ≡ None → line_after seen (line_of e) ≡ Ok (Some e)

@@ -5,7 +5,7 @@ use Rattle.adr_schema.specs.Assignments.{Given}
 use Rattle.adr_disk.specs.declared.memory.Crash.{Crash}
 use Rattle.adr_disk.specs.declared.memory.Crash.TheVariants.{Kept, Lost, Torn}
 use Rattle.adr_event.specs.declared.event.Event.{Event}
-use Rattle.adr_event.specs.declared.event.Event.TheVariants.{Controller, Time, Add, Modify, Rename, Delete, Link, Unlink, Ask, Serve, Deliver, Pull, Cycle, Collect, Backup, Restore, Install, Snapshot, Rollback, StopAfter, Fail, Stop, Start, Show}
+use Rattle.adr_event.specs.declared.event.Event.TheVariants.{Controller, Time, Add, Modify, Rename, Delete, Link, Unlink, Ask, Serve, Deliver, Pull, Cycle, Collect, Backup, Restore, Install, Snapshot, Rollback, StopAfter, Fail, Stop, Start, Show, Vector, Marks}
 use Rattle.adr_token.specs.Spelling.{attribute_token, class_token, identifier_token, set_token, text_token}
 use Rattle.adr_schedule.specs.Events.{events_of}
 
@@ -29,6 +29,8 @@ line_of (Time now) = codes "time" ++ spaced (decimal now ∷ [])
 line_of (Add name guid class parent text values) =
     codes "add" ++ spaced (name ∷ identifier_token guid ∷ class_token class ∷ identifier_token parent ∷ text_token text ∷ set_tokens values)
 line_of (Show name) = codes "show" ++ spaced (name ∷ [])
+line_of (Vector name) = codes "vector" ++ spaced (name ∷ [])
+line_of (Marks name) = codes "marks" ++ spaced (name ∷ [])
 line_of (Modify name guid values) = codes "modify" ++ spaced (name ∷ identifier_token guid ∷ set_tokens values)
 line_of (Rename name guid parent text) = codes "rename" ++ spaced (name ∷ identifier_token guid ∷ identifier_token parent ∷ text_token text ∷ [])
 line_of (Delete name guid) = codes "delete" ++ spaced (name ∷ identifier_token guid ∷ [])

@@ -1,43 +1,75 @@
--- What earlier lines bound, and whether an event may follow them.
-use Rattle.std.specs.Prelude.{◌≡◌, ℕ, List, [], ◌∷◌, ◌++◌, Bool, true, false, Option, Some, None}
+-- What earlier lines bound and gave, and whether an event may follow them.
+use Rattle.std.specs.Prelude.{◌≡◌, ℕ, List, [], ◌∷◌, ◌++◌, length, Bool, true, false, not, ◌||◌, nat_le, Option, Some, None}
 use Rattle.std.specs.List.{list_any}
 use Rattle.std.specs.Str.{bytes_eq}
 use Rattle.adr_event.specs.declared.event.Event.{Event}
-use Rattle.adr_event.specs.declared.event.Event.TheVariants.{Controller, Time, Add, Show}
+use Rattle.adr_event.specs.declared.event.Event.TheVariants.{Controller, Time, Add, Ask, Serve, Deliver, Pull, Cycle, Show, Vector, Marks}
 use Rattle.adr_schedule.specs.declared.fault.Cause.{Cause}
-use Rattle.adr_schedule.specs.declared.fault.Cause.TheVariants.{NoCommand, UnknownName}
+use Rattle.adr_schedule.specs.declared.fault.Cause.TheVariants.{NoCommand, UnknownName, NameUsed, IdentifierUsed, TooMany}
 use Rattle.adr_schedule.specs.Commands.{IsAllowed}
 
--- the names that lines bound, by kind, in order
+-- the names that lines bound, by kind, and the identifiers that they gave, in order
 pub record Seen : Type 0 where
   pub controllers : List (List ℕ)
+  pub requests : List (List ℕ)
+  pub replies : List (List ℕ)
+  pub dsas : List (List ℕ)
+  pub invs : List (List ℕ)
 
 abbrev pub nothing_seen : Seen
-nothing_seen = record { controllers = [] }
+nothing_seen = record { controllers = []; requests = []; replies = []; dsas = []; invs = [] }
 
 abbrev pub is_bound : List (List ℕ) → List ℕ → Bool
 is_bound names name = list_any (λ bound. bytes_eq bound name) names
 
--- a name that a line uses was bound
-abbrev pub unless_bound : Bool → Option Cause
-unless_bound true = None
-unless_bound false = Some UnknownName
+abbrev pub when : Bool → Cause → Option Cause
+when true cause = Some cause
+when false cause = None
 
--- there is one controller so far
-abbrev pub unless_any : List (List ℕ) → Option Cause
-unless_any [] = None
-unless_any (name ∷ names) = Some NoCommand
+-- the first of some causes, if there is one
+abbrev pub first_cause : List (Option Cause) → Option Cause
+first_cause [] = None
+first_cause (None ∷ causes) = first_cause causes
+first_cause (Some cause ∷ causes) = Some cause
+
+-- a name that a line uses was bound
+abbrev pub unless_bound : List (List ℕ) → List ℕ → Option Cause
+unless_bound names name = when (not (is_bound names name)) UnknownName
+
+-- a name that a line binds was bound before
+abbrev pub if_bound : List (List ℕ) → List ℕ → Option Cause
+if_bound names name = when (is_bound names name) NameUsed
+
+-- an identifier that a line gives was given before
+abbrev pub if_given : Seen → List ℕ → List ℕ → Option Cause
+if_given seen dsa inv = when (is_bound seen.dsas dsa || is_bound seen.invs inv) IdentifierUsed
+
+-- there are 64 controllers
+abbrev pub if_full : Seen → Option Cause
+if_full seen = when (nat_le 64 (length seen.controllers)) TooMany
 
 -- why an event may not follow, if it may not
 abbrev pub cause_after : Seen → Event → Option Cause
-cause_after seen (Controller name dsa inv) = unless_any seen.controllers
+cause_after seen (Controller name dsa inv) = first_cause (if_bound seen.controllers name ∷ if_given seen dsa inv ∷ if_full seen ∷ [])
 cause_after seen (Time now) = None
-cause_after seen (Add name guid class parent text values) = unless_bound (is_bound seen.controllers name)
-cause_after seen (Show name) = unless_bound (is_bound seen.controllers name)
+cause_after seen (Add name guid class parent text values) = unless_bound seen.controllers name
+cause_after seen (Ask name partner max bound) =
+    first_cause (unless_bound seen.controllers name ∷ unless_bound seen.controllers partner ∷ if_bound seen.requests bound ∷ [])
+cause_after seen (Serve name request bound) =
+    first_cause (unless_bound seen.controllers name ∷ unless_bound seen.requests request ∷ if_bound seen.replies bound ∷ [])
+cause_after seen (Deliver name reply) = first_cause (unless_bound seen.controllers name ∷ unless_bound seen.replies reply ∷ [])
+cause_after seen (Pull name source max) = first_cause (unless_bound seen.controllers name ∷ unless_bound seen.controllers source ∷ [])
+cause_after seen (Cycle name source max) = first_cause (unless_bound seen.controllers name ∷ unless_bound seen.controllers source ∷ [])
+cause_after seen (Show name) = unless_bound seen.controllers name
+cause_after seen (Vector name) = unless_bound seen.controllers name
+cause_after seen (Marks name) = unless_bound seen.controllers name
 cause_after seen _ = Some NoCommand
 
 abbrev pub seen_after : Seen → Event → Seen
-seen_after seen (Controller name dsa inv) = record { controllers = seen.controllers ++ name ∷ [] }
+seen_after seen (Controller name dsa inv) =
+    record seen { controllers = seen.controllers ++ name ∷ []; dsas = seen.dsas ++ dsa ∷ []; invs = seen.invs ++ inv ∷ [] }
+seen_after seen (Ask name partner max bound) = record seen { requests = seen.requests ++ bound ∷ [] }
+seen_after seen (Serve name request bound) = record seen { replies = seen.replies ++ bound ∷ [] }
 seen_after seen _ = seen
 
 -- each event may follow those before it

@@ -1,10 +1,10 @@
 //! What each line says.
 
-ghost use Rattle.std.specs.Prelude.{◌≡◌, ◌≤◌, ℕ, List, length, IsTrue, ◌↔◌, IfOk, IfErr, is_none};
-ghost use Rattle.adr_token.specs.Gives.{Answers};
+ghost use Rattle.std.specs.Prelude.{◌≡◌, ◌<◌, ◌≤◌, ℕ, List, length, IsTrue, ◌↔◌, IfOk, IfErr, is_none};
+ghost use Rattle.adr_token.specs.Gives.{Gives, Answers};
 ghost use Rattle.adr_token.specs.Words.{unspaced};
 ghost use Rattle.adr_schema.specs.Names.{name_fault};
-ghost use Rattle.adr_schedule.specs.Commands.{controller_line, time_line, show_line, add_line, event_of, is_passed, account, is_account, is_taken, by_verb, IsAllowed};
+ghost use Rattle.adr_schedule.specs.Commands.{controller_line, time_line, show_line, vector_line, marks_line, user_line, container_line, add_line, limit_at, bound_at, ask_line, serve_line, deliver_line, pull_line, cycle_line, replication_line, event_of, is_passed, account, is_account, is_placed, is_taken, by_verb, IsLimit, IsAllowed};
 
 use adr_event::Event;
 use adr_schema::{Assignments, Text, Value, check_name};
@@ -53,6 +53,32 @@ fn show(line: &mut Line<'_>, alloc: Global) -> Result<Event, Stop>
     }
 }
 
+#[tactic(auto, unfolding(crate::specs::Commands::vector_line))]
+fn vector(line: &mut Line<'_>, alloc: Global) -> Result<Event, Stop>
+    ensures answer { Answers result (vector_line line.old) }
+    ensures allowed { IfOk result IsAllowed }
+{
+    let name = line.name(alloc)?;
+    if line.is_ended() {
+        Ok(Event::Vector { name })
+    } else {
+        Err(Stop::Bad)
+    }
+}
+
+#[tactic(auto, unfolding(crate::specs::Commands::marks_line))]
+fn marks(line: &mut Line<'_>, alloc: Global) -> Result<Event, Stop>
+    ensures answer { Answers result (marks_line line.old) }
+    ensures allowed { IfOk result IsAllowed }
+{
+    let name = line.name(alloc)?;
+    if line.is_ended() {
+        Ok(Event::Marks { name })
+    } else {
+        Err(Stop::Bad)
+    }
+}
+
 fn is_object_name(text: &Text) -> bool
     ensures { result ≡ is_none (name_fault text.now) }
 {
@@ -68,11 +94,18 @@ fn is_account(value: &[u8]) -> bool
     1 <= value.len() && value.len() <= 20
 }
 
-/// Whether the schema allows an object under the root with this name and account name.
+/// Whether the parent is the root and the schema allows the name.
+fn is_placed(parent: Uuid, text: &Text) -> bool
+    ensures { result ≡ is_placed parent text.now }
+{
+    parent == Uuid::from_u128(1) && is_object_name(text)
+}
+
+/// Whether the schema allows a user under the root with this name and account name.
 fn is_taken(parent: Uuid, text: &Text, value: &Text) -> bool
     ensures { result ≡ is_taken parent text.now value.now }
 {
-    parent == Uuid::from_u128(1) && is_object_name(text) && is_account(value.items())
+    is_placed(parent, text) && is_account(value.items())
 }
 
 /// One value of sAMAccountName.
@@ -89,14 +122,13 @@ fn account(alloc: Global, value: Text) -> Result<Assignments, Stop>
     }
 }
 
-#[tactic(auto, unfolding(crate::specs::Commands::add_line))]
-fn add(line: &mut Line<'_>, alloc: Global) -> Result<Event, Stop>
-    ensures answer { Answers result (add_line line.old) }
+/// A user, from its parent on.
+#[tactic(auto, unfolding(crate::specs::Commands::user_line))]
+fn user(line: &mut Line<'_>, alloc: Global, name: Text, guid: Uuid) -> Result<Event, Stop>
+    requires { 0 < length name }
+    ensures answer { Answers result (user_line name guid line.old) }
     ensures allowed { IfOk result IsAllowed }
 {
-    let name = line.name(alloc)?;
-    let guid = line.identifier()?;
-    line.said(b"user")?;
     let parent = line.identifier()?;
     line.skip_spaces();
     let text = line.text(alloc)?;
@@ -117,6 +149,173 @@ fn add(line: &mut Line<'_>, alloc: Global) -> Result<Event, Stop>
     })
 }
 
+/// A container, from its parent on.
+#[tactic(auto, unfolding(crate::specs::Commands::container_line))]
+fn container(line: &mut Line<'_>, alloc: Global, name: Text, guid: Uuid) -> Result<Event, Stop>
+    requires { 0 < length name }
+    ensures answer { Answers result (container_line name guid line.old) }
+    ensures allowed { IfOk result IsAllowed }
+{
+    let parent = line.identifier()?;
+    line.skip_spaces();
+    let text = line.text(alloc)?;
+    if !line.is_ended() || !is_placed(parent, &text) {
+        return Err(Stop::Bad);
+    }
+    Ok(Event::Add {
+        name,
+        guid,
+        class: 4,
+        parent,
+        text,
+        values: Assignments::new(alloc),
+    })
+}
+
+#[tactic(auto, unfolding(crate::specs::Commands::add_line))]
+fn add(line: &mut Line<'_>, alloc: Global) -> Result<Event, Stop>
+    ensures answer { Answers result (add_line line.old) }
+    ensures allowed { IfOk result IsAllowed }
+{
+    let name = line.name(alloc)?;
+    let guid = line.identifier()?;
+    let class = line.word()?;
+    if class == b"user".as_slice() {
+        user(line, alloc, name, guid)
+    } else if class == b"container".as_slice() {
+        container(line, alloc, name, guid)
+    } else {
+        Err(Stop::Bad)
+    }
+}
+
+/// How many items are asked for, from 1 to 10,000.
+#[tactic(auto, unfolding(crate::specs::Commands::limit_at))]
+fn limit(line: &mut Line<'_>) -> Result<u32, Stop>
+    ensures reading { Gives result line.new (limit_at line.old) }
+    ensures small { IfOk result IsLimit }
+{
+    let number = line.number()?;
+    if 1 <= number && number <= 10_000 {
+        Ok(number as u32)
+    } else {
+        Err(Stop::Bad)
+    }
+}
+
+/// The name that the line binds.
+#[tactic(auto, unfolding(crate::specs::Commands::bound_at))]
+fn bound(line: &mut Line<'_>, alloc: Global) -> Result<Text, Stop>
+    ensures reading { Gives result line.new (bound_at line.old) }
+    ensures named { IfOk result (λ name. 0 < length name) }
+{
+    line.said(b"as")?;
+    line.name(alloc)
+}
+
+#[tactic(auto, unfolding(crate::specs::Commands::ask_line))]
+fn ask(line: &mut Line<'_>, alloc: Global) -> Result<Event, Stop>
+    ensures answer { Answers result (ask_line line.old) }
+    ensures allowed { IfOk result IsAllowed }
+{
+    let name = line.name(alloc)?;
+    let partner = line.name(alloc)?;
+    let max = limit(line)?;
+    let bound = bound(line, alloc)?;
+    if !line.is_ended() {
+        return Err(Stop::Bad);
+    }
+    Ok(Event::Ask {
+        name,
+        partner,
+        max,
+        bound,
+    })
+}
+
+#[tactic(auto, unfolding(crate::specs::Commands::serve_line))]
+fn serve(line: &mut Line<'_>, alloc: Global) -> Result<Event, Stop>
+    ensures answer { Answers result (serve_line line.old) }
+    ensures allowed { IfOk result IsAllowed }
+{
+    let name = line.name(alloc)?;
+    let request = line.name(alloc)?;
+    let bound = bound(line, alloc)?;
+    if !line.is_ended() {
+        return Err(Stop::Bad);
+    }
+    Ok(Event::Serve {
+        name,
+        request,
+        bound,
+    })
+}
+
+#[tactic(auto, unfolding(crate::specs::Commands::deliver_line))]
+fn deliver(line: &mut Line<'_>, alloc: Global) -> Result<Event, Stop>
+    ensures answer { Answers result (deliver_line line.old) }
+    ensures allowed { IfOk result IsAllowed }
+{
+    let name = line.name(alloc)?;
+    let reply = line.name(alloc)?;
+    if line.is_ended() {
+        Ok(Event::Deliver { name, reply })
+    } else {
+        Err(Stop::Bad)
+    }
+}
+
+#[tactic(auto, unfolding(crate::specs::Commands::pull_line))]
+fn pull(line: &mut Line<'_>, alloc: Global) -> Result<Event, Stop>
+    ensures answer { Answers result (pull_line line.old) }
+    ensures allowed { IfOk result IsAllowed }
+{
+    let name = line.name(alloc)?;
+    let source = line.name(alloc)?;
+    let max = limit(line)?;
+    if line.is_ended() {
+        Ok(Event::Pull { name, source, max })
+    } else {
+        Err(Stop::Bad)
+    }
+}
+
+#[tactic(auto, unfolding(crate::specs::Commands::cycle_line))]
+fn cycle(line: &mut Line<'_>, alloc: Global) -> Result<Event, Stop>
+    ensures answer { Answers result (cycle_line line.old) }
+    ensures allowed { IfOk result IsAllowed }
+{
+    let name = line.name(alloc)?;
+    let source = line.name(alloc)?;
+    let max = limit(line)?;
+    if line.is_ended() {
+        Ok(Event::Cycle { name, source, max })
+    } else {
+        Err(Stop::Bad)
+    }
+}
+
+/// What a line of replication says behind its first word.
+#[tactic(auto, unfolding(crate::specs::Commands::replication_line))]
+fn replication(alloc: Global, verb: &[u8], rest: &mut Line<'_>) -> Result<Event, Stop>
+    ensures answer { Answers result (replication_line verb.now rest.old) }
+    ensures allowed { IfOk result IsAllowed }
+{
+    if verb == b"ask".as_slice() {
+        ask(rest, alloc)
+    } else if verb == b"serve".as_slice() {
+        serve(rest, alloc)
+    } else if verb == b"deliver".as_slice() {
+        deliver(rest, alloc)
+    } else if verb == b"pull".as_slice() {
+        pull(rest, alloc)
+    } else if verb == b"cycle".as_slice() {
+        cycle(rest, alloc)
+    } else {
+        Err(Stop::Bad)
+    }
+}
+
 fn by_verb(alloc: Global, verb: &[u8], rest: &mut Line<'_>) -> Result<Event, Stop>
     ensures answer { Answers result (by_verb verb.now rest.old) }
     ensures allowed { IfOk result IsAllowed }
@@ -129,8 +328,12 @@ fn by_verb(alloc: Global, verb: &[u8], rest: &mut Line<'_>) -> Result<Event, Sto
         add(rest, alloc)
     } else if verb == b"show".as_slice() {
         show(rest, alloc)
+    } else if verb == b"vector".as_slice() {
+        vector(rest, alloc)
+    } else if verb == b"marks".as_slice() {
+        marks(rest, alloc)
     } else {
-        Err(Stop::Bad)
+        replication(alloc, verb, rest)
     }
 }
 

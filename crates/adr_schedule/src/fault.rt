@@ -14,6 +14,12 @@ pub enum Cause {
     NoCommand,
     /// The line uses a name that no earlier line bound.
     UnknownName,
+    /// The line binds a name that an earlier line bound.
+    NameUsed,
+    /// The line gives an identifier that an earlier line gave.
+    IdentifierUsed,
+    /// The line would bind the 65th controller.
+    TooMany,
     /// The text is longer than 16 MiB.
     TooLong,
 }

@@ -6,6 +6,7 @@
 mod commands;
 mod fault;
 mod lines;
+mod names;
 mod parsing;
 mod printing;
 mod seen;

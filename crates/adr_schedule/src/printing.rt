@@ -314,6 +314,14 @@ fn push_line(alloc: Global, out: &mut Vec<u8>, event: &Event) -> Result<(), NoMe
             push(out, b"show")?;
             push_name(out, name)
         }
+        Event::Vector { name } => {
+            push(out, b"vector")?;
+            push_name(out, name)
+        }
+        Event::Marks { name } => {
+            push(out, b"marks")?;
+            push_name(out, name)
+        }
     }
 }
 

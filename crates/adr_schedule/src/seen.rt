@@ -1,54 +1,129 @@
-//! What earlier lines bound.
+//! What earlier lines bound and gave.
 
-ghost use Rattle.std.specs.Prelude.{◌≡◌, ℕ, List, [], ◌∷◌, ◌++◌, OnOk, IfErr};
-ghost use Rattle.adr_schedule.specs.Seen.{nothing_seen, is_bound, unless_bound, cause_after, seen_after};
+ghost use Rattle.std.specs.Prelude.{◌≡◌, ℕ, List, [], ◌∷◌, ◌++◌, ◌||◌, None, OnOk, IfErr};
+ghost use Rattle.adr_schedule.specs.Seen.{nothing_seen, is_bound, first_cause, unless_bound, if_bound, if_given, if_full, cause_after, seen_after};
 
 use crate::fault::{Cause, LineRefusal};
+use crate::names::Names;
 use adr_event::Event;
 use adr_schema::Text;
 use std::alloc::Global;
 use std::marker::Model;
+use uuid::Uuid;
 
-/// The names that lines bound.
+/// The names that lines bound, and the identifiers that they gave.
 #[derive(Debug, Drop)]
 pub struct Seen {
-    controllers: Vec<Text>,
+    controllers: Names,
+    requests: Names,
+    replies: Names,
+    dsas: Vec<Uuid>,
+    invs: Vec<Uuid>,
 }
 
 impl Model for Seen {
-    ghost use Rattle.adr_schedule.specs.Seen.{Seen as Names};
+    ghost use Rattle.adr_schedule.specs.Seen.{Seen as Bindings};
 
-    ghost Value = { Names };
+    ghost Value = { Bindings };
 
-    ghost view = { λ s. record { controllers = s.controllers.items } };
+    ghost view = { λ s. record { controllers = s.controllers; requests = s.requests; replies = s.replies; dsas = s.dsas.items; invs = s.invs.items } };
 }
 
-/// Whether a name is among these.
-fn is_bound(names: &[Text], name: &Text) -> bool
-    ensures { result ≡ is_bound names.now name.now }
+/// Whether an identifier is among these.
+fn is_given(ids: &[Uuid], id: &Uuid) -> bool
+    ensures { result ≡ is_bound ids.now id.now }
 {
-    for bound in names {
-        if bound.items() == name.items() {
-            return true;
-        }
+    ids.iter().any(|given| *given == *id)
+}
+
+/// Adds an identifier.
+fn give(ids: &mut Vec<Uuid>, id: &Uuid) -> Result<(), LineRefusal>
+    ensures given { OnOk result (ids.new.items ≡ ids.old.items ++ id.now ∷ []) }
+    ensures memory { IfErr result (λ refusal. refusal ≡ LineRefusal.NoMemory) }
+{
+    match ids.push(*id) {
+        Ok(()) => Ok(()),
+        Err(_) => Err(LineRefusal::NoMemory),
     }
-    false
 }
 
 impl Seen {
-    /// Nothing was bound yet.
+    /// Nothing was bound or given yet.
     pub fn nothing(alloc: Global) -> Seen
         ensures { result ≡ nothing_seen }
     {
         Seen {
-            controllers: Vec::new(alloc),
+            controllers: Names::new(alloc),
+            requests: Names::new(alloc),
+            replies: Names::new(alloc),
+            dsas: Vec::new(alloc),
+            invs: Vec::new(alloc),
         }
     }
 
-    fn unless_bound(&self, name: &Text) -> Option<Cause>
-        ensures { result ≡ unless_bound (is_bound self.now.controllers name.now) }
+    fn unless_controller(&self, name: &Text) -> Option<Cause>
+        ensures { result ≡ unless_bound self.now.controllers name.now }
     {
-        if is_bound(self.controllers.as_slice(), name) {
+        if self.controllers.contains(name) {
+            None
+        } else {
+            Some(Cause::UnknownName)
+        }
+    }
+
+    fn unless_controllers(&self, name: &Text, other: &Text) -> Option<Cause>
+        ensures { result ≡ first_cause (unless_bound self.now.controllers name.now ∷ unless_bound self.now.controllers other.now ∷ []) }
+    {
+        if self.controllers.contains(name) {
+            self.unless_controller(other)
+        } else {
+            Some(Cause::UnknownName)
+        }
+    }
+
+    fn cause_of_controller(&self, name: &Text, dsa: &Uuid, inv: &Uuid) -> Option<Cause>
+        ensures { result ≡ first_cause (if_bound self.now.controllers name.now ∷ if_given self.now dsa.now inv.now ∷ if_full self.now ∷ []) }
+    {
+        if self.controllers.contains(name) {
+            return Some(Cause::NameUsed);
+        }
+        if is_given(self.dsas.as_slice(), dsa) || is_given(self.invs.as_slice(), inv) {
+            return Some(Cause::IdentifierUsed);
+        }
+        if self.controllers.len() >= 64 {
+            return Some(Cause::TooMany);
+        }
+        None
+    }
+
+    fn cause_of_ask(&self, name: &Text, partner: &Text, bound: &Text) -> Option<Cause>
+        ensures { result ≡ first_cause (unless_bound self.now.controllers name.now ∷ unless_bound self.now.controllers partner.now ∷ if_bound self.now.requests bound.now ∷ []) }
+    {
+        if !self.controllers.contains(name) || !self.controllers.contains(partner) {
+            return Some(Cause::UnknownName);
+        }
+        if self.requests.contains(bound) {
+            return Some(Cause::NameUsed);
+        }
+        None
+    }
+
+    fn cause_of_serve(&self, name: &Text, request: &Text, bound: &Text) -> Option<Cause>
+        ensures { result ≡ first_cause (unless_bound self.now.controllers name.now ∷ unless_bound self.now.requests request.now ∷ if_bound self.now.replies bound.now ∷ []) }
+    {
+        if !self.controllers.contains(name) || !self.requests.contains(request) {
+            return Some(Cause::UnknownName);
+        }
+        if self.replies.contains(bound) {
+            return Some(Cause::NameUsed);
+        }
+        None
+    }
+
+    fn cause_of_deliver(&self, name: &Text, reply: &Text) -> Option<Cause>
+        ensures { result ≡ first_cause (unless_bound self.now.controllers name.now ∷ unless_bound self.now.replies reply.now ∷ []) }
+    {
+        if self.controllers.contains(name) && self.replies.contains(reply) {
             None
         } else {
             Some(Cause::UnknownName)
@@ -60,26 +135,31 @@ impl Seen {
         ensures { result ≡ cause_after self.now event.now }
     {
         match event {
-            Event::Controller { .. } => {
-                if self.controllers.is_empty() {
-                    None
-                } else {
-                    Some(Cause::NoCommand)
-                }
-            }
+            Event::Controller { name, dsa, inv } => self.cause_of_controller(name, dsa, inv),
             Event::Time { .. } => None,
-            Event::Add { name, .. } => self.unless_bound(name),
-            Event::Show { name } => self.unless_bound(name),
+            Event::Add { name, .. } => self.unless_controller(name),
+            Event::Ask {
+                name,
+                partner,
+                bound,
+                ..
+            } => self.cause_of_ask(name, partner, bound),
+            Event::Serve {
+                name,
+                request,
+                bound,
+            } => self.cause_of_serve(name, request, bound),
+            Event::Deliver { name, reply } => self.cause_of_deliver(name, reply),
+            Event::Pull { name, source, .. } => self.unless_controllers(name, source),
+            Event::Cycle { name, source, .. } => self.unless_controllers(name, source),
+            Event::Show { name } => self.unless_controller(name),
+            Event::Vector { name } => self.unless_controller(name),
+            Event::Marks { name } => self.unless_controller(name),
             Event::Modify { .. } => Some(Cause::NoCommand),
             Event::Rename { .. } => Some(Cause::NoCommand),
             Event::Delete { .. } => Some(Cause::NoCommand),
             Event::Link { .. } => Some(Cause::NoCommand),
             Event::Unlink { .. } => Some(Cause::NoCommand),
-            Event::Ask { .. } => Some(Cause::NoCommand),
-            Event::Serve { .. } => Some(Cause::NoCommand),
-            Event::Deliver { .. } => Some(Cause::NoCommand),
-            Event::Pull { .. } => Some(Cause::NoCommand),
-            Event::Cycle { .. } => Some(Cause::NoCommand),
             Event::Collect { .. } => Some(Cause::NoCommand),
             Event::Backup { .. } => Some(Cause::NoCommand),
             Event::Restore { .. } => Some(Cause::NoCommand),
@@ -93,28 +173,21 @@ impl Seen {
         }
     }
 
-    /// Notes what the event binds.
+    /// Notes what the event, which may follow, binds and gives. After an error it isn't said what was noted.
     pub fn note(&mut self, alloc: Global, event: &Event) -> Result<(), LineRefusal>
+        requires { cause_after self.old event.now ≡ None }
         ensures seen { OnOk result (self.new ≡ seen_after self.old event.now) }
         ensures memory { IfErr result (λ refusal. refusal ≡ LineRefusal.NoMemory) }
     {
-        if let Event::Controller { name, .. } = event {
-            let Ok(name) = name.copy(alloc) else {
-                return Err(LineRefusal::NoMemory);
-            };
-            return bind(&mut self.controllers, name);
+        match event {
+            Event::Controller { name, dsa, inv } => {
+                self.controllers.bind(alloc, name)?;
+                give(&mut self.dsas, dsa)?;
+                give(&mut self.invs, inv)
+            }
+            Event::Ask { bound, .. } => self.requests.bind(alloc, bound),
+            Event::Serve { bound, .. } => self.replies.bind(alloc, bound),
+            _ => Ok(()),
         }
-        Ok(())
-    }
-}
-
-/// Adds a name.
-fn bind(names: &mut Vec<Text>, name: Text) -> Result<(), LineRefusal>
-    ensures bound { OnOk result (names.new.items ≡ names.old.items ++ name ∷ []) }
-    ensures memory { IfErr result (λ refusal. refusal ≡ LineRefusal.NoMemory) }
-{
-    match names.push(name) {
-        Ok(()) => Ok(()),
-        Err(_) => Err(LineRefusal::NoMemory),
     }
 }

@@ -13,6 +13,9 @@ fn shown(alloc: Global, text: &[u8]) -> Result<Vec<u8>, AllocError> {
                 Cause::NotUtf8 => "not UTF-8",
                 Cause::NoCommand => "no command",
                 Cause::UnknownName => "unknown name",
+                Cause::NameUsed => "name used",
+                Cause::IdentifierUsed => "identifier used",
+                Cause::TooMany => "too many",
                 Cause::TooLong => "too long",
             };
             let text = format!(in alloc; "line {line}: {cause}")?;
@@ -55,10 +58,6 @@ fn texts_are_events_or_have_a_fault(rt: HostRuntime) -> Result<(), Fail> {
             b"controller A #a0 #a1\nshow A\nshow B\n",
             b"line 3: unknown name",
         ),
-        (
-            b"controller A #a0 #a1\ncontroller B #b0 #b1\n",
-            b"line 2: no command",
-        ),
         (b"controller 1A #a0 #a1\n", b"line 1: no command"),
     ];
     for (text, want) in cases {
@@ -84,6 +83,10 @@ fn objects_are_added(rt: HostRuntime) -> Result<(), Fail> {
         (b" user #1 \"\" sAMAccountName=\"ann\"", false),
         (b" user #2 \"Ann\" sAMAccountName=\"ann\"", false),
         (b" group #1 \"Ann\" sAMAccountName=\"ann\"", false),
+        (b" container #1 \"People\"", true),
+        (b" container #1 \"People\" sAMAccountName=\"ann\"", false),
+        (b" container #2 \"People\"", false),
+        (b" container #1 \"People \"", false),
     ];
     let alloc = rt.alloc();
     for (fields, is_taken) in cases {
@@ -97,6 +100,72 @@ fn objects_are_added(rt: HostRuntime) -> Result<(), Fail> {
         };
         assert_eq!(rt; shown(alloc, text.as_slice())?.as_slice(), want);
     }
+    Ok(())
+}
+
+/// Two controllers, a request and a reply.
+const BOUND: &[u8] = b"controller A #a0 #a1
+controller B #b0 #b1
+ask A B 1 as q
+serve B q as r
+";
+
+#[test]
+fn lines_that_may_follow_are_read_and_printed(rt: HostRuntime) -> Result<(), Fail> {
+    let alloc = rt.alloc();
+    let lines = b"deliver A r
+pull A B 10000
+cycle B A 1
+vector A
+marks B
+show B
+ask B A 7 as A
+serve A A as q
+deliver B q
+controller q #b1 #b0
+";
+    let mut text = BOUND.to_vec(alloc)?;
+    text.extend_from_slice(lines)?;
+    assert_eq!(rt; shown(alloc, text.as_slice())?.as_slice(), text.as_slice());
+    Ok(())
+}
+
+#[test]
+fn lines_that_may_not_follow_have_a_cause(rt: HostRuntime) -> Result<(), Fail> {
+    let cases = [
+        (b"pull A B 0".as_slice(), b"line 5: no command".as_slice()),
+        (b"cycle A B 10001", b"line 5: no command"),
+        (b"ask A B 5 q", b"line 5: no command"),
+        (b"ask A C 5 as q", b"line 5: unknown name"),
+        (b"ask A B 5 as q", b"line 5: name used"),
+        (b"serve B r as r", b"line 5: unknown name"),
+        (b"serve B q as r", b"line 5: name used"),
+        (b"deliver A q", b"line 5: unknown name"),
+        (b"cycle A q 5", b"line 5: unknown name"),
+        (b"controller A #a0 #c1", b"line 5: name used"),
+        (b"controller C #a0 #c1", b"line 5: identifier used"),
+        (b"controller C #c0 #b1", b"line 5: identifier used"),
+    ];
+    let alloc = rt.alloc();
+    for (line, want) in cases {
+        let mut text = BOUND.to_vec(alloc)?;
+        text.extend_from_slice(line)?;
+        assert_eq!(rt; shown(alloc, text.as_slice())?.as_slice(), want);
+    }
+    Ok(())
+}
+
+#[test]
+fn the_65th_controller_is_one_too_many(rt: HostRuntime) -> Result<(), Fail> {
+    let mut text = String::new(rt.alloc());
+    for number in 1..66u32 {
+        let line = format!(in rt.alloc(); "controller C{number} #{number:x} #{number:x}\n")?;
+        text.push_str(line.as_str())?;
+    }
+    assert_eq!(rt;
+        shown(rt.alloc(), text.as_bytes())?.as_slice(),
+        b"line 65: too many".as_slice()
+    );
     Ok(())
 }
 

@@ -168,6 +168,17 @@ impl Marks {
         self.map.is_empty()
     }
 
+    /// What is kept of each partner, by its controller's identifier, rising.
+    pub fn to_vec(&self, alloc: Global) -> Result<Vec<(Uuid, Kept)>, NoMemory>
+        ensures { IfOk result (λ list. list.items ≡ self.now) }
+    {
+        let mut list = Vec::new(alloc);
+        for (partner, kept) in &self.map {
+            list.push((*partner, *kept))?;
+        }
+        Ok(list)
+    }
+
     /// Equal marks.
     pub fn copy(&self, alloc: Global) -> Result<Marks, NoMemory>
         ensures { IfOk result (λ copy. copy ≡ self.now) }

@@ -9,6 +9,7 @@ ghost use Rattle.adr_state.specs.declared.state.ApplyRefusal.TheVariants.{NoMemo
 ghost use Rattle.adr_state.specs.Mode.{mode_of};
 ghost use Rattle.adr_state.specs.Refusal.{of_vector, IsOverfull};
 
+use crate::NoMemory;
 use crate::change::{Change, Mode};
 use crate::marks::Marks;
 use crate::rows::Rows;
@@ -164,6 +165,23 @@ impl State {
         ensures { result.now ≡ self.now.store.marks }
     {
         &self.marks
+    }
+
+    /// An equal state.
+    pub fn copy(&self, alloc: Global) -> Result<State, NoMemory>
+        ensures { IfOk result (λ copy. copy ≡ self.now) }
+    {
+        Ok(State {
+            dsa: self.dsa,
+            inv: self.inv,
+            usn: self.usn,
+            mode: self.mode,
+            schema: self.schema,
+            rows: self.rows.copy(alloc)?,
+            vector: self.vector.copy(alloc)?,
+            purged: self.purged.copy(alloc)?,
+            marks: self.marks.copy(alloc)?,
+        })
     }
 }
 

@@ -286,11 +286,12 @@ fn a_change_is_applied(rt: HostRuntime) -> Result<(), Fail> {
 
 #[test]
 fn a_change_brings_cursors_and_marks(rt: HostRuntime) -> Result<(), Fail> {
-    let state = changed_state(rt.alloc())?;
+    let state = changed_state(rt.alloc())?.copy(rt.alloc())?;
     let seen = [(id(8), 5), (id(9), 2)];
     assert_eq!(rt; state.vector().cursors(), seen.as_slice());
     assert_eq!(rt; state.purged().cursors(), [(id(9), 2)].as_slice());
     assert_eq!(rt; state.marks().mark(id(7), id(8)), some_mark());
+    assert_eq!(rt; state.marks().to_vec(rt.alloc())?.len(), 1);
     Ok(())
 }
 

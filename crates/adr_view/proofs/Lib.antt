@@ -1,4 +1,12 @@
+mod Deaths
+mod Filtered
 mod FormedLinks
 mod HeldRows
 mod LiveLinks
+mod LiveSet
+mod NamedRows
+mod OwnGuids
+mod Referred
+mod Rising
+mod RisingRows
 mod Upwards

@@ -4,6 +4,7 @@ ghost use Rattle.std.specs.Prelude.{◌≡◌, IfOk, IsTrue, map};
 ghost use Rattle.adr_model.specs.Directory.{entry_of, entries_of, directory};
 ghost use Rattle.adr_model.specs.Store.{updates_of};
 ghost use Rattle.adr_view.specs.BackLinks.{have_back_links};
+ghost use Rattle.adr_view.specs.Referents.{referents};
 
 use crate::NoMemory;
 use crate::links::links_at;
@@ -17,9 +18,9 @@ use adr_state::{Rows, Update};
 use std::alloc::Global;
 
 /// A live object as it is shown.
-fn entry_of(alloc: Global, rows: &[Update], all: &[Node], node: &Node) -> Result<Entry, NoMemory>
-    requires { IsTrue (have_back_links rows.now) }
-    ensures { IfOk result (λ entry. entry ≡ entry_of rows.now all.now node.now) }
+fn entry_of(alloc: Global, rows: &[&Update], all: &[Node], node: &Node) -> Result<Entry, NoMemory>
+    requires { IsTrue (have_back_links (referents rows.now)) }
+    ensures { IfOk result (λ entry. entry ≡ entry_of (referents rows.now) all.now node.now) }
 {
     let object = node.object();
     Ok(Entry {
@@ -33,9 +34,9 @@ fn entry_of(alloc: Global, rows: &[Update], all: &[Node], node: &Node) -> Result
 }
 
 /// Live objects as they are shown, in their order.
-fn all_entries(alloc: Global, rows: &[Update], all: &[Node]) -> Result<Vec<Entry>, NoMemory>
-    requires { IsTrue (have_back_links rows.now) }
-    ensures { IfOk result (λ entries. entries.items ≡ map (entry_of rows.now all.now) all.now) }
+fn all_entries(alloc: Global, rows: &[&Update], all: &[Node]) -> Result<Vec<Entry>, NoMemory>
+    requires { IsTrue (have_back_links (referents rows.now)) }
+    ensures { IfOk result (λ entries. entries.items ≡ map (entry_of (referents rows.now) all.now) all.now) }
 {
     let mut entries = Vec::new(alloc);
     for node in all {
@@ -45,9 +46,9 @@ fn all_entries(alloc: Global, rows: &[Update], all: &[Node]) -> Result<Vec<Entry
 }
 
 /// The entries that live rows give.
-fn entries_of(alloc: Global, rows: &[Update]) -> Result<Vec<Entry>, NoMemory>
-    requires { IsTrue (have_back_links rows.now) }
-    ensures { IfOk result (λ entries. entries.items ≡ entries_of rows.now) }
+fn entries_of(alloc: Global, rows: &[&Update]) -> Result<Vec<Entry>, NoMemory>
+    requires { IsTrue (have_back_links (referents rows.now)) }
+    ensures { IfOk result (λ entries. entries.items ≡ entries_of (referents rows.now)) }
 {
     let nodes = nodes_of(alloc, rows)?;
     all_entries(alloc, rows, nodes.as_slice())

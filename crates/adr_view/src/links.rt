@@ -10,6 +10,7 @@ ghost use Rattle.adr_model.specs.Directory.{back_link, one_where, link_ends, of_
 ghost use Rattle.adr_model.specs.Store.{updates_of};
 ghost use Rattle.adr_state.specs.Key.{key_of};
 ghost use Rattle.adr_view.specs.BackLinks.{has_back_link, have_back_links};
+ghost use Rattle.adr_view.specs.Referents.{referents};
 
 use crate::NoMemory;
 use crate::live::is_same_object;
@@ -65,9 +66,9 @@ fn push_ends(ends: &mut Vec<(u16, Uuid)>, object: &Oid, update: &Update) -> Resu
 }
 
 /// What rows show at an object, row by row.
-fn ends_at(alloc: Global, rows: &[Update], object: &Oid) -> Result<Vec<(u16, Uuid)>, NoMemory>
-    requires { IsTrue (have_back_links rows.now) }
-    ensures { IfOk result (λ ends. ends.items ≡ flat_map (λ u. link_ends object.now u.key u.said) rows.now) }
+fn ends_at(alloc: Global, rows: &[&Update], object: &Oid) -> Result<Vec<(u16, Uuid)>, NoMemory>
+    requires { IsTrue (have_back_links (referents rows.now)) }
+    ensures { IfOk result (λ ends. ends.items ≡ flat_map (λ u. link_ends object.now u.key u.said) (referents rows.now)) }
 {
     let mut ends = Vec::new(alloc);
     for update in rows {
@@ -124,9 +125,9 @@ fn gathered(alloc: Global, ends: &[(u16, Uuid)]) -> Result<EntryLinks, NoMemory>
 }
 
 /// The link attributes of an object, forward and back, with the GUIDs at their other ends.
-pub fn links_at(alloc: Global, rows: &[Update], object: &Oid) -> Result<EntryLinks, NoMemory>
-    requires { IsTrue (have_back_links rows.now) }
-    ensures { IfOk result (λ links. links ≡ links_at rows.now object.now) }
+pub fn links_at(alloc: Global, rows: &[&Update], object: &Oid) -> Result<EntryLinks, NoMemory>
+    requires { IsTrue (have_back_links (referents rows.now)) }
+    ensures { IfOk result (λ links. links ≡ links_at (referents rows.now) object.now) }
 {
     let ends = ends_at(alloc, rows, object)?;
     gathered(alloc, ends.as_slice())

@@ -1,17 +1,21 @@
 //! Live objects as their rows name them.
 
-ghost use Rattle.std.specs.Prelude.{◌≡◌, IfOk};
-ghost use Rattle.std.specs.Option.{option_copied, option_and_then};
+ghost use Rattle.std.specs.Prelude.{◌≡◌, false, IfOk};
+ghost use Rattle.std.specs.Option.{option_copied, option_and_then, option_map_or};
 ghost use Rattle.adr_schema.specs.Folding.{folded};
-ghost use Rattle.adr_model.specs.Update.{RowOf, name_attr};
+ghost use Rattle.adr_stamp.specs.declared.Oid.{Oid as Object};
+ghost use Rattle.adr_model.specs.Update.{RowOf, name_attr, same_key, same_object};
 ghost use Rattle.adr_model.specs.Place.{with_name, row_at, node_of, nodes_of};
 ghost use Rattle.adr_state.specs.Key.{key_of};
+ghost use Rattle.adr_view.specs.Names.{AreNamesOf};
+ghost use Rattle.adr_view.specs.Referents.{referents};
 
 use crate::NoMemory;
 use adr_schema::{Content, Text, fold_name};
 use adr_stamp::{LinkStamp, Oid};
 use adr_state::{Key, Said, Update};
 use std::alloc::Global;
+use std::collections::BTreeMap;
 use std::marker::Model;
 use uuid::Uuid;
 
@@ -106,20 +110,43 @@ impl Node {
     }
 }
 
-/// The row of a key.
-fn row_at<'a>(rows: &'a [Update], key: &Key) -> Option<&'a Update>
-    ensures { option_copied result ≡ row_at rows.now (key_of key.now) }
+/// The object that a row of a key names.
+fn named(key: &Key) -> Option<Oid>
+    ensures { (o : Object) → same_key (key_of key.now) (RowOf o name_attr) ≡ option_map_or (λ p. same_object p o) result false }
 {
-    rows.iter().find(|update| update.key().is_same(key))
+    match key {
+        Key::Row { object, attr } if *attr == NAME => Some(*object),
+        _ => None,
+    }
 }
 
-/// The key of the row that names an object.
-fn name_of(object: &Oid) -> Key
-    ensures { key_of result ≡ RowOf object.now name_attr }
+/// Where the first row stands that names each object.
+fn names_of(alloc: Global, rows: &[&Update]) -> Result<BTreeMap<Oid, usize>, NoMemory>
+    ensures { IfOk result (λ names. AreNamesOf (referents rows.now) names) }
 {
-    Key::Row {
-        object: *object,
-        attr: NAME,
+    let mut names = BTreeMap::new(alloc);
+    let mut place = rows.len();
+    while place > 0 {
+        place -= 1;
+        if let Some(object) = named(&rows[place].key()) {
+            names.insert(object, place)?;
+        }
+    }
+    Ok(names)
+}
+
+/// The first row that names an object.
+fn name_row<'a>(
+    rows: &[&'a Update],
+    names: &BTreeMap<Oid, usize>,
+    object: &Oid,
+) -> Option<&'a Update>
+    requires { AreNamesOf (referents rows.now) names.now }
+    ensures { option_copied result ≡ row_at (referents rows.now) (RowOf object.now name_attr) }
+{
+    match names.get(object) {
+        Some(place) => rows.get(*place).copied(),
+        None => None,
     }
 }
 
@@ -145,37 +172,46 @@ fn with_name(
 /// An object by its rows, where it has a class and a name.
 fn with_class(
     alloc: Global,
-    rows: &[Update],
+    rows: &[&Update],
+    names: &BTreeMap<Oid, usize>,
     object: &Oid,
     class: u16,
 ) -> Result<Option<Node>, NoMemory>
-    ensures { IfOk result (λ node. node ≡ option_and_then (λ u. with_name object.now class u.stamp u.said) (row_at rows.now (RowOf object.now name_attr))) }
+    requires { AreNamesOf (referents rows.now) names.now }
+    ensures { IfOk result (λ node. node ≡ option_and_then (λ u. with_name object.now class u.stamp u.said) (row_at (referents rows.now) (RowOf object.now name_attr))) }
 {
-    match row_at(rows, &name_of(object)) {
+    match name_row(rows, names, object) {
         Some(update) => with_name(alloc, object, class, update),
         None => Ok(None),
     }
 }
 
-/// The object that a class row stands for, by the name row beside it.
-fn node_of(alloc: Global, rows: &[Update], update: &Update) -> Result<Option<Node>, NoMemory>
-    ensures { IfOk result (λ node. node ≡ node_of rows.now update.now.key update.now.said) }
+/// The object that a class row stands for, by the row that names it.
+fn node_of(
+    alloc: Global,
+    rows: &[&Update],
+    names: &BTreeMap<Oid, usize>,
+    update: &Update,
+) -> Result<Option<Node>, NoMemory>
+    requires { AreNamesOf (referents rows.now) names.now }
+    ensures { IfOk result (λ node. node ≡ node_of (referents rows.now) update.now.key update.now.said) }
 {
     match (update.key(), update.said()) {
         (Key::Row { object, .. }, Said::Holds(Content::Class(class))) => {
-            with_class(alloc, rows, &object, *class)
+            with_class(alloc, rows, names, &object, *class)
         }
         _ => Ok(None),
     }
 }
 
 /// The live objects of live rows, in order of GUID.
-pub fn nodes_of(alloc: Global, rows: &[Update]) -> Result<Vec<Node>, NoMemory>
-    ensures { IfOk result (λ nodes. nodes.items ≡ nodes_of rows.now) }
+pub fn nodes_of(alloc: Global, rows: &[&Update]) -> Result<Vec<Node>, NoMemory>
+    ensures { IfOk result (λ nodes. nodes.items ≡ nodes_of (referents rows.now)) }
 {
+    let names = names_of(alloc, rows)?;
     let mut nodes = Vec::new(alloc);
     for update in rows {
-        if let Some(node) = node_of(alloc, rows, update)? {
+        if let Some(node) = node_of(alloc, rows, &names, update)? {
             nodes.push(node)?;
         }
     }

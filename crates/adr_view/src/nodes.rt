@@ -8,6 +8,7 @@ ghost use Rattle.adr_model.specs.Live.{live_rows};
 ghost use Rattle.adr_model.specs.Place.{nodes_of, node_at, upward, place};
 ghost use Rattle.adr_model.specs.Shown.{shown_name, name_holder};
 ghost use Rattle.adr_model.specs.Store.{updates_of};
+ghost use Rattle.adr_view.specs.Referents.{referents};
 
 use crate::NoMemory;
 use crate::live::live_rows;
@@ -45,8 +46,8 @@ impl Nodes {
     }
 
     /// The live objects by their rows.
-    pub(crate) fn of_live(rows: &[Update], alloc: Global) -> Result<Nodes, NoMemory>
-        ensures { IfOk result (λ nodes. nodes ≡ nodes_of rows.now) }
+    pub(crate) fn of_live(rows: &[&Update], alloc: Global) -> Result<Nodes, NoMemory>
+        ensures { IfOk result (λ nodes. nodes ≡ nodes_of (referents rows.now)) }
     {
         Ok(Nodes {
             list: nodes_of(alloc, rows)?,

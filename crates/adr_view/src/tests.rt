@@ -1,3 +1,4 @@
+use super::winner::winners;
 use super::*;
 use adr_schema::{Content, Text, Value, Values};
 use adr_stamp::{Birth, LinkKey, LinkStamp, Oid, Stamp};
@@ -111,6 +112,32 @@ fn lost_and_found_keeps_its_name(rt: HostRuntime) -> Result<(), Fail> {
     );
     let lost = text(alloc, "LOSTANDFOUND")?;
     assert_eq!(rt; nodes.holder(id(1), &lost, alloc)?, Some(id(2)));
+    Ok(())
+}
+
+/// The attributes and the versions of the rows of one object that win, in order.
+fn winning(alloc: Global, rows: &[Held]) -> Result<Vec<(u16, u32)>, Fail> {
+    let mut those = Vec::new(alloc);
+    for update in winners(alloc, rows)?.as_slice() {
+        if let Key::Row { attr, .. } = update.key() {
+            those.push((attr, update.stamp().stamp.version))?;
+        }
+    }
+    Ok(those)
+}
+
+#[test]
+fn rows_win_in_any_order(rt: HostRuntime) -> Result<(), Fail> {
+    let alloc = rt.alloc();
+    let mut rows = Vec::new(alloc);
+    rows.push(row(object(10), 2, 1, Content::Class(6)))?;
+    rows.push(row(object(10), 4, 1, Content::Class(6)))?;
+    let those = winning(alloc, rows.as_slice())?;
+    assert_eq!(rt; those.as_slice(), [(2, 1), (4, 1)].as_slice());
+    rows.push(row(object(10), 2, 3, Content::Class(6)))?;
+    rows.push(row(object(10), 1, 1, Content::Class(6)))?;
+    let those = winning(alloc, rows.as_slice())?;
+    assert_eq!(rt; those.as_slice(), [(1, 1), (2, 3), (4, 1)].as_slice());
     Ok(())
 }
 

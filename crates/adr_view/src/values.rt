@@ -2,6 +2,7 @@
 
 ghost use Rattle.std.specs.Prelude.{◌≡◌, IfOk};
 ghost use Rattle.adr_model.specs.Directory.{values_in, values_at};
+ghost use Rattle.adr_view.specs.Referents.{referents};
 
 use crate::NoMemory;
 use crate::live::is_same_object;
@@ -29,8 +30,8 @@ fn values_in(
 }
 
 /// The attributes of an object that have values, in the order of the rows.
-pub fn values_at(alloc: Global, rows: &[Update], object: &Oid) -> Result<EntryValues, NoMemory>
-    ensures { IfOk result (λ values. values ≡ values_at rows.now object.now) }
+pub fn values_at(alloc: Global, rows: &[&Update], object: &Oid) -> Result<EntryValues, NoMemory>
+    ensures { IfOk result (λ values. values ≡ values_at (referents rows.now) object.now) }
 {
     let mut list = Vec::new(alloc);
     for update in rows {

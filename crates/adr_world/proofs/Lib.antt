@@ -1,7 +1,7 @@
-pub mod Adding
-pub mod Visible
-pub mod AsAdded
-pub mod Shown
-pub mod Allowed
-pub mod StepLemmas
-pub mod Names
+pub mod Places
+pub mod Commits
+pub mod Fits
+pub mod Calls
+pub mod Sends
+pub mod Turns
+pub mod Bindings

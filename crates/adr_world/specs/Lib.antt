@@ -1,2 +1,5 @@
-pub mod People
-pub mod Held
+pub mod Run
+pub mod Built
+pub mod Pulls
+pub mod Shows
+pub mod Completes

@@ -1,13 +1,23 @@
-//! The run of a schedule: the controllers, what each event does to them, and what is answered. It
-//! stands on the definitions of a run in `adr_model` and meets them. It knows nothing of texts.
+//! The run of a schedule: the controllers with the book of what was written, what each line does to them, and what is
+//! answered.
+//!
+//! It stands on the definitions of a run in `adr_model` and meets them: a world is seen as the definitions' world, and
+//! it is sound, by the theorem of `adr_convergence`. What a single controller does is of `adr_origin`, `adr_cycle`,
+//! `adr_apply` and `adr_view`. It knows nothing of texts.
 #![tactic(auto)]
 
 mod answers;
-mod laws;
-mod people;
+mod bound;
+mod coming;
+mod controller;
+mod counts;
+mod messages;
+mod pulling;
+mod reports;
+mod run;
+mod taking;
 mod world;
+mod writing;
 
-pub use laws::{
-    all_people_are_visible, one_more_person, people_are_counted, people_are_held, people_are_shown,
-};
+pub use adr_vector::NoMemory;
 pub use world::World;

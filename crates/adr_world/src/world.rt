@@ -1,252 +1,103 @@
-//! The controllers of a run, and what an event does.
+//! The world of a run.
 
-ghost use Rattle.std.specs.Prelude.{◌≡◌, ◌++◌, ◌∷◌, ◌+◌, [], ℕ, List, length, codes, true, IfOk, OnOk, OnErr, None, Some};
-ghost use Rattle.adr_schema.specs.Names.{name_fault};
-ghost use Rattle.adr_schedule.specs.Commands.{account};
-ghost use Rattle.adr_world.specs.People.{IsOneAccount};
+ghost use Rattle.std.specs.Prelude.{◌≡◌, ℕ, [], ◌∷◌, ◌++◌, IfOk, OnErr, OnOk};
+ghost use Rattle.std.specs.Option.{option_copied, option_map};
+ghost use Rattle.adr_event.specs.declared.event.Event.TheVariants.{Ask, Serve, Deliver};
+ghost use Rattle.adr_model.specs.Cycles.{cycle, happens, pull, pulls, reply_limit};
+ghost use Rattle.adr_model.specs.Convergence.{MayHappen, in_view};
+ghost use Rattle.adr_model.specs.Directory.{directory};
+ghost use Rattle.adr_model.specs.Sound.{IsSoundWorld};
+ghost use Rattle.adr_model.specs.World.{empty_world, replica_at, step};
+ghost use Rattle.adr_world.specs.Built.{IsBuilt};
+ghost use Rattle.adr_world.specs.Completes.{IsCompletedBy};
+ghost use Rattle.adr_world.specs.Run.{IsSoundRun, IsTidy, world_of};
+ghost use Rattle.adr_world.specs.Shows.{ShowAlike, ShowWhatIsVisible};
 
-use crate::answers::{answer, refused, silent};
-use crate::people::{Person, directory_of, refusal_of};
-use adr_event::{Answer, Event, Outcome, WriteRefusal};
-use adr_schema::{Assignments, NoMemory, Text, Value, fold_name};
+use crate::answers::answer;
+use crate::bound::{bind, bound_at};
+use crate::pulling::put_answers;
+use crate::run::Run;
+use adr_event::{Answer, Directory, Event, Outcome};
+use adr_origin::NewObject;
+use adr_packet::Reply;
+use adr_schema::{NoMemory, Text};
 use std::alloc::Global;
 use std::marker::Model;
-use uuid::Uuid;
 
-/// A controller: its people in the order in which they were added.
-#[derive(Debug, Drop)]
-pub struct Holder {
-    pub name: Text,
-    pub dsa: Uuid,
-    pub inv: Uuid,
-    pub people: Vec<Person>,
-}
+/// The most replies of a cycle.
+const REPLY_LIMIT: u32 = 1_000_000;
 
-/// The one account name that the values give.
-fn account_of(alloc: Global, values: &Assignments) -> Result<Text, NoMemory>
-    requires { IsOneAccount values.now }
-    ensures { IfOk result (λ text. values.now ≡ account text) }
+/// An equal reply, if there is one.
+fn copy_bound(alloc: Global, reply: Option<&Reply>) -> Result<Option<Reply>, NoMemory>
+    ensures { IfOk result (λ copy. copy ≡ option_copied reply.entry) }
 {
-    match values.next(None) {
-        Some((_, [Value::Text(text)])) => text.copy(alloc),
-        _ => unreachable!(),
+    match reply {
+        Some(reply) => Ok(Some(reply.copy(alloc)?)),
+        None => Ok(None),
     }
 }
 
-/// A user as an `add` gives it.
-fn person_of(
-    alloc: Global,
-    now: u64,
-    guid: Uuid,
-    text: &Text,
-    folded: Text,
-    values: &Assignments,
-) -> Result<Person, NoMemory>
-    requires { IsOneAccount values.now }
-    ensures person { IfOk result (λ person. person ≡ record { guid = guid; time = now; text = text.now; folded = folded; account = person.account }) }
-    ensures account { IfOk result (λ person. values.now ≡ account person.account) }
-{
-    Ok(Person {
-        guid,
-        time: now,
-        text: text.copy(alloc)?,
-        folded,
-        account: account_of(alloc, values)?,
-    })
-}
-
-impl Holder {
-    ghost use Rattle.adr_event.specs.declared.event.Event.TheVariants.{Add, Show};
-    ghost use Rattle.adr_model.specs.Place.{root};
-    ghost use Rattle.adr_model.specs.World.{answer, step};
-    ghost use Rattle.adr_model.specs.Refused.{write_refused};
-    ghost use Rattle.adr_world.specs.People.{people_refusal};
-    ghost use Rattle.adr_world.specs.Held.{world_of, is_sound};
-
-    /// Why one more person is refused, first in order.
-    fn refusal(&self, guid: Uuid, folded: &Text) -> Option<WriteRefusal>
-        requires { is_sound (Some self.now) ≡ true }
-        ensures { result ≡ people_refusal self.now.people.items guid folded.now }
-    {
-        refusal_of(self.people.as_slice(), guid, folded.items())
-    }
-
-    /// Adds a person to the others.
-    fn put(&mut self, person: Person) -> Result<(), NoMemory>
-        ensures ok { OnOk result (self.new.people.items ≡ self.old.people.items ++ person ∷ []) }
-        ensures err { OnErr result (self.new.people.items ≡ self.old.people.items) }
-        ensures name { self.new.name ≡ self.old.name }
-        ensures dsa { self.new.dsa ≡ self.old.dsa }
-        ensures inv { self.new.inv ≡ self.old.inv }
-    {
-        self.people.push(person)?;
-        Ok(())
-    }
-
-    /// Adds a person whom nothing refuses, and answers.
-    fn welcome(&mut self, alloc: Global, person: Person) -> Result<Answer, NoMemory>
-        requires { is_sound (Some self.old) ≡ true }
-        ensures answered { IfOk result (λ made. made ≡ answer (codes "add") self.old.name (Outcome.Usn (length self.old.people.items + 1))) }
-        ensures ok { OnOk result (self.new.people.items ≡ self.old.people.items ++ person ∷ []) }
-        ensures err { OnErr result (self.new.people.items ≡ self.old.people.items) }
-        ensures name { self.new.name ≡ self.old.name }
-        ensures dsa { self.new.dsa ≡ self.old.dsa }
-        ensures inv { self.new.inv ≡ self.old.inv }
-    {
-        let usn = self.people.len() as u64 + 1;
-        let made = answer(alloc, "add", &self.name, Outcome::Usn(usn))?;
-        self.put(person)?;
-        Ok(made)
-    }
-
-    /// Answers that an `add` is refused.
-    fn refuse(&self, alloc: Global, refusal: WriteRefusal) -> Result<Answer, NoMemory>
-        ensures { IfOk result (λ made. made ≡ answer (codes "add") self.now.name (write_refused refusal)) }
-    {
-        answer(alloc, "add", &self.name, refused(alloc, refusal)?)
-    }
-
-    /// A client adds a user under the root.
-    fn add(
-        &mut self,
-        alloc: Global,
-        now: u64,
-        guid: Uuid,
-        text: &Text,
-        values: &Assignments,
-    ) -> Result<Answer, NoMemory>
-        requires sound { is_sound (Some self.old) ≡ true }
-        requires well_named { name_fault text.now ≡ None }
-        requires given { IsOneAccount values.now }
-        ensures stepped { IfOk result (λ made. step (world_of now (Some self.old)) (Add self.old.name guid 5 root text.now values.now) ≡ (world_of now (Some self.new), made)) }
-        ensures err { OnErr result (world_of now (Some self.new) ≡ world_of now (Some self.old)) }
-        ensures kept { is_sound (Some self.new) ≡ true }
-    {
-        let folded = fold_name(alloc, text.as_str())?;
-        match self.refusal(guid, &folded) {
-            Some(refusal) => self.refuse(alloc, refusal),
-            None => {
-                let person = person_of(alloc, now, guid, text, folded, values)?;
-                self.welcome(alloc, person)
-            }
-        }
-    }
-
-    /// A client asks for the directory.
-    fn show(&self, alloc: Global, now: u64) -> Result<Answer, NoMemory>
-        requires { is_sound (Some self.now) ≡ true }
-        ensures { IfOk result (λ made. step (world_of now (Some self.now)) (Show self.now.name) ≡ (world_of now (Some self.now), made)) }
-    {
-        let directory = directory_of(alloc, self.people.as_slice())?;
-        answer(alloc, "show", &self.name, Outcome::Show(directory))
-    }
-}
-
-/// The time, and the controller that may be there.
-#[derive(Debug, Drop)]
-pub struct World {
-    time: u64,
-    holder: Option<Holder>,
-}
-
-impl Model for World {
-    ghost use Rattle.adr_model.specs.World.{World as Run};
-    ghost use Rattle.adr_world.specs.Held.{world_of, is_sound};
-    ghost use Rattle.std.specs.Prelude.{◌≡◌, true};
-
-    ghost Value = { Run };
-
-    ghost view = { λ w. world_of w.time w.holder };
-
-    ghost invariant = { λ w. is_sound w.holder ≡ true };
-}
-
-impl World {
-    ghost use Rattle.adr_event.specs.declared.event.Event.TheVariants.{Controller, Time, Add, Show};
-    ghost use Rattle.adr_model.specs.Place.{root};
-    ghost use Rattle.adr_model.specs.World.{empty_world, step};
-    ghost use Rattle.adr_schedule.specs.Commands.{IsAllowed};
-    ghost use Rattle.adr_schedule.specs.Seen.{cause_after, seen_after};
-    ghost use Rattle.adr_world.specs.Held.{seen_in};
-
-    /// A world without controllers, at time 0.
-    pub fn new() -> World
-        ensures { result ≡ empty_world }
-    {
-        World {
-            time: 0,
-            holder: None,
-        }
-    }
-
-    fn controller(
+impl Run {
+    /// A controller asks a partner; the request is bound to a name.
+    fn ask(
         &mut self,
         alloc: Global,
         name: &Text,
-        dsa: Uuid,
-        inv: Uuid,
+        partner: &Text,
+        max: u32,
+        bound: &Text,
     ) -> Result<Answer, NoMemory>
-        requires { cause_after (seen_in self.old) (Controller name.now dsa inv) ≡ None }
-        ensures stepped { IfOk result (λ made. step self.old (Controller name.now dsa inv) ≡ (self.new, made)) }
-        ensures err { OnErr result (self.new ≡ self.old) }
+        requires { IsTidy self.old.controllers.items }
+        ensures stepped { IfOk result (λ made. step (world_of self.old) (Ask name.now partner.now max bound.now) ≡ (world_of self.new, made)) }
+        ensures err { OnErr result (world_of self.new ≡ world_of self.old) }
+        ensures tidy { IsTidy self.new.controllers.items }
     {
-        let made = answer(alloc, "controller", name, Outcome::Ok)?;
-        let name = name.copy(alloc)?;
-        self.holder = Some(Holder {
-            name,
-            dsa,
-            inv,
-            people: Vec::new(alloc),
-        });
+        let (outcome, request) = self.asks(alloc, name, partner, max)?;
+        let made = answer(alloc, "ask", name, outcome)?;
+        bind(alloc, &mut self.requests, bound, request)?;
         Ok(made)
     }
 
-    fn time(&mut self, alloc: Global, now: u64) -> Result<Answer, NoMemory>
-        ensures stepped { IfOk result (λ made. step self.old (Time now) ≡ (self.new, made)) }
-        ensures err { OnErr result (self.new ≡ self.old) }
-    {
-        let made = silent(alloc, "time")?;
-        self.time = now;
-        Ok(made)
-    }
-
-    fn add(
+    /// A controller answers a request; the reply is bound to a name.
+    fn serve(
         &mut self,
         alloc: Global,
         name: &Text,
-        guid: Uuid,
-        text: &Text,
-        values: &Assignments,
+        request: &Text,
+        bound: &Text,
     ) -> Result<Answer, NoMemory>
-        requires bound { cause_after (seen_in self.old) (Show name.now) ≡ None }
-        requires well_named { name_fault text.now ≡ None }
-        requires given { IsOneAccount values.now }
-        ensures stepped { IfOk result (λ made. step self.old (Add name.now guid 5 root text.now values.now) ≡ (self.new, made)) }
-        ensures err { OnErr result (self.new ≡ self.old) }
+        requires { IsSoundRun self.old }
+        ensures stepped { IfOk result (λ made. step (world_of self.old) (Serve name.now request.now bound.now) ≡ (world_of self.new, made)) }
+        ensures err { OnErr result (world_of self.new ≡ world_of self.old) }
+        ensures tidy { IsTidy self.new.controllers.items }
     {
-        let now = self.time;
-        match &mut self.holder {
-            None => unreachable!(),
-            Some(holder) => holder.add(alloc, now, guid, text, values),
-        }
+        let request = bound_at(self.requests.as_slice(), request);
+        let (outcome, reply) = self.serves(alloc, name, request)?;
+        let made = answer(alloc, "serve", name, outcome)?;
+        bind(alloc, &mut self.replies, bound, reply)?;
+        Ok(made)
     }
 
-    fn show(&self, alloc: Global, name: &Text) -> Result<Answer, NoMemory>
-        requires { cause_after (seen_in self.now) (Show name.now) ≡ None }
-        ensures { IfOk result (λ made. step self.now (Show name.now) ≡ (self.now, made)) }
+    /// A controller takes a reply that was bound to a name.
+    fn deliver(&mut self, alloc: Global, name: &Text, reply: &Text) -> Result<Answer, NoMemory>
+        requires { IsSoundRun self.old }
+        ensures stepped { IfOk result (λ made. step (world_of self.old) (Deliver name.now reply.now) ≡ (world_of self.new, made)) }
+        ensures err { OnErr result (world_of self.new ≡ world_of self.old) }
+        ensures tidy { IsTidy self.new.controllers.items }
     {
-        match &self.holder {
-            None => unreachable!(),
-            Some(holder) => holder.show(alloc, self.time),
-        }
+        let bound = bound_at(self.replies.as_slice(), reply);
+        let reply = copy_bound(alloc, bound)?;
+        self.delivers(alloc, name, reply.as_ref())
     }
 
-    /// What the event does, by its kind.
-    fn do_event(&mut self, alloc: Global, event: &Event) -> Result<Answer, NoMemory>
-        requires follows { cause_after (seen_in self.old) event.now ≡ None }
-        requires allowed { IsAllowed event.now }
-        ensures stepped { IfOk result (λ made. step self.old event.now ≡ (self.new, made)) }
-        ensures err { OnErr result (self.new ≡ self.old) }
+    /// What an event does, by its kind.
+    fn step(&mut self, alloc: Global, event: &Event) -> Result<Answer, NoMemory>
+        requires sound { IsSoundRun self.old }
+        requires built { IsBuilt event.now }
+        requires may { MayHappen (world_of self.old) event.now }
+        ensures stepped { IfOk result (λ made. step (world_of self.old) event.now ≡ (world_of self.new, made)) }
+        ensures err { OnErr result (world_of self.new ≡ world_of self.old) }
+        ensures tidy { IsTidy self.new.controllers.items }
     {
         match event {
             Event::Controller { name, dsa, inv } => self.controller(alloc, name, *dsa, *inv),
@@ -254,24 +105,205 @@ impl World {
             Event::Add {
                 name,
                 guid,
-                class: _,
-                parent: _,
+                class,
+                parent,
                 text,
                 values,
-            } => self.add(alloc, name, *guid, text, values),
+            } => {
+                let object = NewObject {
+                    guid: *guid,
+                    class: *class,
+                    parent: *parent,
+                    text,
+                    values,
+                };
+                self.add(alloc, name, &object)
+            }
+            Event::Ask {
+                name,
+                partner,
+                max,
+                bound,
+            } => self.ask(alloc, name, partner, *max, bound),
+            Event::Serve {
+                name,
+                request,
+                bound,
+            } => self.serve(alloc, name, request, bound),
+            Event::Deliver { name, reply } => self.deliver(alloc, name, reply),
+            Event::Pull { name, .. } => answer(alloc, "pull", name, Outcome::Silent),
+            Event::Cycle { name, .. } => answer(alloc, "cycle", name, Outcome::Silent),
             Event::Show { name } => self.show(alloc, name),
+            Event::Vector { name } => self.vector(alloc, name),
+            Event::Marks { name } => self.marks(alloc, name),
             _ => unreachable!(),
         }
     }
+}
 
-    /// Does what the event says, and gives the answer. After an error nothing has changed.
+/// The controllers of a run, with all that was written and sent. A contract sees it as the world of the definitions,
+/// which is sound.
+#[derive(Debug, Drop)]
+pub struct World {
+    run: Run,
+}
+
+impl Model for World {
+    ghost use Rattle.adr_model.specs.World.{World as Defined};
+
+    ghost Value = { Defined };
+
+    ghost use Rattle.adr_world.specs.Run.{IsSoundRun, world_of};
+
+    ghost view = { λ w. world_of w.run };
+
+    ghost invariant = { λ w. IsSoundRun w.run };
+}
+
+impl World {
+    /// A world without controllers, at time 0.
+    pub fn new(alloc: Global) -> World
+        ensures { result ≡ empty_world }
+    {
+        World {
+            run: Run::new(alloc),
+        }
+    }
+
+    /// Whether no database was put back.
+    pub fn clean(&self) -> bool
+        ensures { result ≡ self.now.clean }
+    {
+        self.run.clean()
+    }
+
+    /// The directory that a controller shows. There is none exactly where no controller of the name is up.
+    pub fn directory(&self, alloc: Global, name: &Text) -> Result<Option<Directory>, NoMemory>
+        ensures { IfOk result (λ shown. shown ≡ option_map (λ r. directory (in_view self.now r)) (replica_at self.now name.now)) }
+    {
+        self.run.directory(alloc, name)
+    }
+
+    /// Does what a single event says, and gives the answer. After an error nothing has changed. Wherever the run stands,
+    /// the world is sound, each controller shows what is visible to it, and equal coverage shows equal directories.
     pub fn step(&mut self, alloc: Global, event: &Event) -> Result<Answer, NoMemory>
-        requires follows { cause_after (seen_in self.old) event.now ≡ None }
-        requires allowed { IsAllowed event.now }
+        requires built { IsBuilt event.now }
+        requires may { MayHappen self.old event.now }
         ensures stepped { IfOk result (λ made. step self.old event.now ≡ (self.new, made)) }
-        ensures seen { OnOk result (seen_in self.new ≡ seen_after (seen_in self.old) event.now) }
+        ensures err { OnErr result (self.new ≡ self.old) }
+        ensures sound { IsSoundWorld self.new }
+        ensures shown { ShowWhatIsVisible self.new }
+        ensures equal { ShowAlike self.new }
+    {
+        let made = self.run.step(alloc, event)?;
+        Ok(made)
+    }
+
+    /// A controller asks another one, which serves, and it takes the reply; an answer other than ok ends it. After an
+    /// error nothing has changed.
+    pub fn pull(
+        &mut self,
+        alloc: Global,
+        dest: &Text,
+        source: &Text,
+        max: u32,
+    ) -> Result<Vec<Answer>, NoMemory>
+        ensures world { OnOk result (self.new ≡ (pull self.old dest.now source.now max).0) }
+        ensures answers { IfOk result (λ answers. answers.items ≡ (pull self.old dest.now source.now max).1) }
+        ensures err { OnErr result (self.new ≡ self.old) }
+        ensures sound { IsSoundWorld self.new }
+        ensures shown { ShowWhatIsVisible self.new }
+        ensures equal { ShowAlike self.new }
+    {
+        let _ = &self.run;
+        let mut answers = Vec::new(alloc);
+        self.pull_onto(alloc, dest, source, max, &mut answers)?;
+        Ok(answers)
+    }
+
+    /// A pull, whose answers are put behind others. It gives whether a reply was taken that isn't the last.
+    fn pull_onto(
+        &mut self,
+        alloc: Global,
+        dest: &Text,
+        source: &Text,
+        max: u32,
+        answers: &mut Vec<Answer>,
+    ) -> Result<bool, NoMemory>
+        ensures world { OnOk result (self.new ≡ (pull self.old dest.now source.now max).0) }
+        ensures answers { OnOk result (answers.new.items ≡ answers.old.items ++ (pull self.old dest.now source.now max).1) }
+        ensures goes_on { IfOk result (λ goes_on. goes_on ≡ (pull self.old dest.now source.now max).2) }
         ensures err { OnErr result (self.new ≡ self.old) }
     {
-        self.do_event(alloc, event)
+        answers.reserve(3)?;
+        let pulled = self.run.pull(alloc, dest, source, max)?;
+        let goes_on = pulled.goes_on;
+        put_answers(answers, pulled);
+        Ok(goes_on)
+    }
+
+    /// Pulls until the last reply was taken, or an answer was other than ok; after a million replies it says that there
+    /// is more. Between two controllers of one schema, where no limit is met, the cycle ends with the last reply and the
+    /// destination then has everything (*completed*). After an error the world is as after some whole pulls.
+    pub fn cycle(
+        &mut self,
+        alloc: Global,
+        dest: &Text,
+        source: &Text,
+        max: u32,
+    ) -> Result<Vec<Answer>, NoMemory>
+        ensures world { OnOk result (self.new ≡ (cycle self.old dest.now source.now max).0) }
+        ensures answers { IfOk result (λ answers. answers.items ≡ (cycle self.old dest.now source.now max).1) }
+        ensures completed { IfOk result (λ answers. IsCompletedBy self.old dest.now source.now max answers.items self.new) }
+        ensures err { OnErr result ((n : ℕ) × (self.new ≡ (pulls n self.old dest.now source.now max).0)) }
+        ensures sound { IsSoundWorld self.new }
+        ensures shown { ShowWhatIsVisible self.new }
+        ensures equal { ShowAlike self.new }
+    {
+        let _ = &self.run;
+        let mut answers = Vec::new(alloc);
+        for turn in 0..REPLY_LIMIT {
+            if !self.pull_onto(alloc, dest, source, max, &mut answers)? {
+                return Ok(answers);
+            }
+        }
+        answers.push(answer(alloc, "cycle", dest, Outcome::More)?)?;
+        Ok(answers)
+    }
+
+    /// A single event, with its answer in a list.
+    fn happen_once(&mut self, alloc: Global, event: &Event) -> Result<Vec<Answer>, NoMemory>
+        requires built { IsBuilt event.now }
+        requires may { MayHappen self.old event.now }
+        ensures world { OnOk result (self.new ≡ (step self.old event.now).0) }
+        ensures answers { IfOk result (λ answers. answers.items ≡ (step self.old event.now).1 ∷ []) }
+        ensures err { OnErr result (self.new ≡ self.old) }
+        ensures sound { IsSoundWorld self.new }
+        ensures shown { ShowWhatIsVisible self.new }
+        ensures equal { ShowAlike self.new }
+    {
+        let _ = &self.run;
+        let mut answers = Vec::new(alloc);
+        answers.reserve(1)?;
+        let made = self.step(alloc, event)?;
+        let _ = answers.push(made);
+        Ok(answers)
+    }
+
+    /// Does what a line says, which may be a pull or a cycle of pulls, and gives the answers in order.
+    pub fn happen(&mut self, alloc: Global, event: &Event) -> Result<Vec<Answer>, NoMemory>
+        requires built { IsBuilt event.now }
+        requires may { MayHappen self.old event.now }
+        ensures world { OnOk result (self.new ≡ (happens self.old event.now).0) }
+        ensures answers { IfOk result (λ answers. answers.items ≡ (happens self.old event.now).1) }
+        ensures sound { IsSoundWorld self.new }
+        ensures shown { ShowWhatIsVisible self.new }
+        ensures equal { ShowAlike self.new }
+    {
+        match event {
+            Event::Pull { name, source, max } => self.pull(alloc, name, source, *max),
+            Event::Cycle { name, source, max } => self.cycle(alloc, name, source, *max),
+            _ => self.happen_once(alloc, event),
+        }
     }
 }

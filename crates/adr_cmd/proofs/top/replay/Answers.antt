@@ -1,5 +1,5 @@
 use Rattle.std.proofs.Common.{inl}
-use Rattle.adr_cmd.proofs.TopLemmas.{told_status, told_written, told_front, told_end}
+use Rattle.adr_cmd.proofs.TopLemmas.{told_status, told_written, told_headline, told_front, told_end}
 use Rattle.adr_cmd.proofs.top.replay.Goals as goal
 
 pub returns-clause-status : goal.returns-clause-status
@@ -23,3 +23,8 @@ returns-clause-ended g c zero =
     (told_status (g.S.Source.left c.args.source.now) c.as_slice.result.now c.ended.result c.perform-status.result.0 c.perform-status.result.1
     (rw c.as_slice.ensures.value c.in-Ok.ensures.read) c.ended.ensures c.perform-status.ensures.status (inl zero))
     c.in-Ok.ensures.left zero
+
+pub returns-clause-headline : goal.returns-clause-headline
+returns-clause-headline g c =
+    told_headline (g.S.Source.left c.args.source.now) c.as_slice.result.now c.ended.result c.perform-status.result.0 c.perform-status.result.1
+    (rw c.as_slice.ensures.value c.in-Ok.ensures.read) c.ended.ensures c.perform-status.ensures.headline

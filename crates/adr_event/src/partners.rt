@@ -1,0 +1,48 @@
+//! How far partners were read.
+
+ghost use Rattle.std.specs.Prelude.{◌≡◌, IfOk};
+
+use adr_schema::NoMemory;
+use adr_vector::Mark;
+use std::alloc::Global;
+use std::marker::Model;
+use uuid::Uuid;
+
+/// For each partner, by its controller's identifier, the invocation identifier of its database that was read, and how
+/// far. In an answer the partners rise.
+#[derive(Debug, Drop)]
+pub struct PartnerMarks {
+    list: Vec<(Uuid, Uuid, Mark)>,
+}
+
+impl Model for PartnerMarks {
+    ghost use Rattle.std.specs.Prelude.{List, ℕ};
+    ghost use Rattle.adr_vector.specs.declared.mark.Mark.{Mark};
+
+    ghost Value = { List (List ℕ × List ℕ × Mark) };
+
+    ghost view = { λ m. m.list.items };
+}
+
+impl PartnerMarks {
+    pub fn of(items: Vec<(Uuid, Uuid, Mark)>) -> PartnerMarks
+        ensures { result ≡ items.items }
+    {
+        PartnerMarks { list: items }
+    }
+
+    pub fn items(&self) -> &[(Uuid, Uuid, Mark)]
+        ensures { result.now ≡ self.now }
+    {
+        self.list.as_slice()
+    }
+
+    /// An equal list.
+    pub fn copy(&self, alloc: Global) -> Result<PartnerMarks, NoMemory>
+        ensures { IfOk result (λ copy. copy ≡ self.now) }
+    {
+        Ok(PartnerMarks {
+            list: Vec::from_slice(alloc, self.list.as_slice())?,
+        })
+    }
+}

@@ -1,0 +1,4 @@
+mod CountedRows
+mod GivenLemmas
+mod HeldRows
+mod InParts

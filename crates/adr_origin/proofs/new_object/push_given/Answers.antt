@@ -1,0 +1,28 @@
+use Rattle.std.proofs.Common.{◌∷◌, [], ◌++◌, List, sym, ap, ◌∙◌}
+use Rattle.adr_schema.specs.declared.content.Value.{Value}
+use Rattle.adr_schema.specs.declared.content.Content.TheVariants.{Values}
+use Rattle.adr_model.specs.Update.{Update}
+use Rattle.adr_model.specs.Write.{row}
+use Rattle.adr_origin.specs.GivenRows.{given_rows}
+use Rattle.adr_origin.proofs.GivenLemmas.{all_left, all_written, fewer_left, next_left, row_written}
+use Rattle.adr_origin.proofs.new_object.push_given.Goals as goal
+
+pub attributes-init : goal.attributes-init
+attributes-init c = ap (λ given. c.args.rows.now.items ++ given_rows c.args.object.now c.args.stamp.now given) (all_left c.args.values.now)
+
+pub attributes-smaller : goal.attributes-smaller
+attributes-smaller c =
+    fewer_left c.attributes.above c.args.values.now (c.in-Some.attr, c.in-Some.list.now)
+    (next_left c.attributes.above c.args.values.now (c.in-Some.attr, c.in-Some.list.now) c.in-Some.ensures.rising (sym c.in-Some.ensures.next))
+
+pub attributes-preserved : goal.attributes-preserved
+attributes-preserved c =
+    row_written c.args.object.now c.args.stamp.now c.attributes.rows.items _ _ c.attributes.above c.args.values.now (c.in-Some.attr, c.in-Some.list.now)
+    (next_left c.attributes.above c.args.values.now (c.in-Some.attr, c.in-Some.list.now) c.in-Some.ensures.rising (sym c.in-Some.ensures.next))
+    c.attributes.invariant
+    (c.in_ok-push.ensures.items
+    ∙ ap (λ (u : Update). c.attributes.rows.items ++ u ∷ [])
+    (c.row.ensures ∙ ap (λ (vs : List Value). row c.args.object.now c.args.stamp.now c.in-Some.attr (Values vs)) c.in_ok-copy_values.ensures))
+
+pub returns : goal.returns
+returns c = all_written c.args.object.now c.args.stamp.now c.attributes.rows.items _ c.attributes.above c.args.values.now (sym c.in_default.ensures.next) c.attributes.invariant

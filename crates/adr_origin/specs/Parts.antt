@@ -1,0 +1,49 @@
+-- The refusals of an `add` in three parts, which are looked at one after the other.
+use Rattle.std.specs.Prelude.{ℕ, ◌+◌, ◌||◌, List, [], ◌∷◌, Option, length}
+use Rattle.std.specs.Option.{option_map}
+use Rattle.adr_schema.specs.Assignments.{Given}
+use Rattle.adr_schema.specs.Numbered.{numbered}
+use Rattle.adr_schema.specs.Table.{Table as Schema}
+use Rattle.adr_schema.specs.Rules.{add_refusal as schema_add_refusal, name_refusal as schema_name_refusal}
+use Rattle.adr_event.specs.declared.refusal.Table.TheVariants.{Objects}
+use Rattle.adr_event.specs.declared.refusal.WriteRefusal.{WriteRefusal}
+use Rattle.adr_event.specs.declared.refusal.WriteRefusal.TheVariants.{Quarantined, GuidThere, NameTaken}
+use Rattle.adr_model.specs.Live.{objects_of}
+use Rattle.adr_model.specs.Place.{Node, is_fixed}
+use Rattle.adr_model.specs.Refusing.{first_of}
+use Rattle.adr_model.specs.Serve.{is_quarantined}
+use Rattle.adr_model.specs.Shown.{name_holder}
+use Rattle.adr_model.specs.Store.{State, updates_of}
+use Rattle.adr_model.specs.Update.{Identifier}
+use Rattle.adr_model.specs.Write.{cursor_refusal, full_refusal, holds_guid, object_limit, of_schema, parent_refusal, superior_refusal, usn_refusal, where_true}
+
+-- wherever it is to stand
+abbrev pub object_refusal : State → Identifier → ℕ → List ℕ → List Given → Option WriteRefusal
+object_refusal s guid class text values =
+    first_of (
+    where_true (is_quarantined s.mode) Quarantined
+    ∷ where_true (is_fixed guid || holds_guid (updates_of s.store.rows) guid) (GuidThere guid)
+    ∷ option_map of_schema (schema_add_refusal (numbered s.store.schema) class values)
+    ∷ option_map of_schema (schema_name_refusal text)
+    ∷ []
+    )
+
+-- among the live objects, where it is to stand
+abbrev pub place_refusal : Schema → List Node → ℕ → Identifier → List ℕ → Option WriteRefusal
+place_refusal table nodes class parent text =
+    first_of (
+    parent_refusal nodes parent
+    ∷ superior_refusal table nodes class parent
+    ∷ option_map NameTaken (name_holder nodes parent text)
+    ∷ []
+    )
+
+-- how much there is room for
+abbrev pub room_refusal : State → Option WriteRefusal
+room_refusal s =
+    first_of (
+    usn_refusal (s.store.usn + 1)
+    ∷ full_refusal Objects object_limit (length (objects_of (updates_of s.store.rows)) + 1)
+    ∷ cursor_refusal s
+    ∷ []
+    )

@@ -1,0 +1,143 @@
+//! Adding an object.
+
+ghost use Rattle.std.specs.Prelude.{◌≡◌, ◌⊎◌, ◌<◌, ◌≤◌, ◌∷◌, [], Ok, Err, IfOk, IfErr, OnOk};
+ghost use Rattle.std.specs.Result.{result_err};
+ghost use Rattle.adr_event.specs.declared.refusal.WriteRefusal.TheVariants.{NoMemory as no_memory};
+ghost use Rattle.adr_model.specs.Change.{only_writes};
+ghost use Rattle.adr_model.specs.Store.{updates_of};
+ghost use Rattle.adr_model.specs.Write.{AddObject, add_refusal, nodes_held, rows_written, usn_limit, write};
+ghost use Rattle.adr_origin.specs.Parts.{object_refusal, place_refusal, room_refusal};
+ghost use Rattle.adr_origin.specs.Telling.{Tells};
+
+use crate::NoMemory;
+use crate::checks::{
+    check_cursors, check_guid, check_mode, check_name_free, check_objects, check_parent,
+    check_schema, check_superior, check_usn,
+};
+use crate::new_object::{NewObject, new_rows};
+use adr_event::WriteRefusal;
+use adr_schema::{Schema, check_name};
+use adr_stamp::{Birth, LinkStamp, Oid, Stamp, Unit};
+use adr_state::{Change, Item, Mode, State, Written};
+use adr_vector::Vector;
+use adr_view::Nodes;
+use std::alloc::Global;
+
+/// What a client's adding an object makes of a controller at a time in seconds: the change, or why it is refused, first
+/// in order (MS-ADTS, add operation; the refusals and their order are this project's own). The controller stays as it
+/// is.
+pub fn add(
+    state: &State,
+    object: &NewObject<'_>,
+    now: u64,
+    alloc: Global,
+) -> Result<Change, WriteRefusal>
+    ensures ok { let added = AddObject object.now.guid object.now.class object.now.parent object.now.text.now object.now.values.now in
+        IfOk result (λ change. write state.now added now ≡ Ok change) }
+    ensures within { IfOk result (λ change. change.usn ≤ usn_limit) }
+    ensures refused { let added = AddObject object.now.guid object.now.class object.now.parent object.now.text.now object.now.values.now in
+        IfErr result (λ refusal. (refusal ≡ no_memory) ⊎ (write state.now added now ≡ Err refusal)) }
+{
+    check_add(alloc, state, object)?;
+    let usn = state.usn() + 1;
+    let item = new_item(alloc, state, object, now)?;
+    Ok(own_change(alloc, usn, item)?)
+}
+
+/// Tests that an object may be added.
+#[tactic(auto, using(crate::proofs::InParts::add_in_parts))]
+fn check_add(alloc: Global, state: &State, object: &NewObject<'_>) -> Result<(), WriteRefusal>
+    ensures told { Tells result (add_refusal state.now object.now.guid object.now.class object.now.parent object.now.text.now object.now.values.now) }
+    ensures room { OnOk result (state.now.store.usn < usn_limit) }
+{
+    check_object(state, object)?;
+    let nodes = nodes_held(alloc, state)?;
+    check_place(alloc, state.schema(), &nodes, object)?;
+    check_room(alloc, state)
+}
+
+/// Tests that an object may be added wherever it is to stand.
+fn check_object(state: &State, object: &NewObject<'_>) -> Result<(), WriteRefusal>
+    ensures { result_err result ≡ object_refusal state.now object.now.guid object.now.class object.now.text.now object.now.values.now }
+{
+    check_mode(state.mode())?;
+    check_guid(state.rows(), object.guid)?;
+    check_schema(state.schema().check_add(object.class, object.values))?;
+    check_schema(check_name(object.text.as_str()))
+}
+
+/// The live objects of a controller.
+fn nodes_held(alloc: Global, state: &State) -> Result<Nodes, NoMemory>
+    ensures { IfOk result (λ nodes. nodes ≡ nodes_held (updates_of state.now.store.rows)) }
+{
+    Nodes::of(state.rows(), alloc)
+}
+
+/// Tests that an object may stand under its parent by its name.
+fn check_place(
+    alloc: Global,
+    schema: Schema,
+    nodes: &Nodes,
+    object: &NewObject<'_>,
+) -> Result<(), WriteRefusal>
+    ensures { Tells result (place_refusal schema nodes.now object.now.class object.now.parent object.now.text.now) }
+{
+    check_parent(nodes, object.parent)?;
+    check_superior(schema, nodes, object.class, object.parent)?;
+    check_name_free(alloc, nodes, object.parent, object.text)
+}
+
+/// Tests that there is room for one more object.
+fn check_room(alloc: Global, state: &State) -> Result<(), WriteRefusal>
+    ensures told { Tells result (room_refusal state.now) }
+    ensures room { OnOk result (state.now.store.usn < usn_limit) }
+{
+    check_usn(state.usn())?;
+    check_objects(alloc, state.rows())?;
+    check_cursors(alloc, state)
+}
+
+/// The new object with its rows, under the next update sequence number.
+fn new_item(
+    alloc: Global,
+    state: &State,
+    object: &NewObject<'_>,
+    now: u64,
+) -> Result<Item, NoMemory>
+    requires { state.now.store.usn < usn_limit }
+    ensures { let added = AddObject object.now.guid object.now.class object.now.parent object.now.text.now object.now.values.now in
+        IfOk result (λ item. item ≡ rows_written state.now added now) }
+{
+    let usn = state.usn() + 1;
+    let birth = Birth {
+        inv: state.inv(),
+        usn,
+    };
+    let oid = Oid {
+        guid: object.guid,
+        birth,
+    };
+    let stamp = LinkStamp {
+        created: 0,
+        stamp: Stamp::first(now, state.inv(), usn),
+    };
+    let rows = new_rows(alloc, &oid, &stamp, object)?;
+    Ok(Item::new(Unit::Object(oid), rows))
+}
+
+/// The change of a write: one item under its update sequence number.
+fn own_change(alloc: Global, usn: u64, item: Item) -> Result<Change, NoMemory>
+    ensures { IfOk result (λ change. change ≡ only_writes usn (record { local = usn; item = item } ∷ [])) }
+{
+    let mut writes = Vec::new(alloc);
+    writes.push(Written::new(usn, item))?;
+    Ok(Change::new(
+        usn,
+        Mode::Normal,
+        None,
+        Vector::new(alloc),
+        Vector::new(alloc),
+        Vec::new(alloc),
+        writes,
+    ))
+}

@@ -1,0 +1,46 @@
+//! How many objects are held.
+
+ghost use Rattle.std.specs.Prelude.{◌≡◌, IfOk, OnOk, fold, length, option_to_list};
+ghost use Rattle.std.specs.BTreeSet.{insert_key};
+ghost use Rattle.adr_stamp.specs.Order.{object_order};
+ghost use Rattle.adr_model.specs.Live.{born, objects_of};
+ghost use Rattle.adr_model.specs.Store.{updates_of};
+ghost use Rattle.adr_state.specs.Key.{key_of};
+
+use crate::NoMemory;
+use crate::new_object::CLASS;
+use adr_stamp::Oid;
+use adr_state::{Key, Rows};
+use std::alloc::Global;
+use std::collections::BTreeSet;
+
+/// The object that a row of this key gives birth to.
+fn born(key: Key) -> Option<Oid>
+    ensures { result ≡ born (key_of key) }
+{
+    match key {
+        Key::Row { object, attr } => { if attr == CLASS { Some(object) } else { None } }
+        Key::Link(_) => None,
+    }
+}
+
+/// Puts the object that a row of this key gives birth to among objects.
+fn add_born(objects: &mut BTreeSet<Oid>, key: Key) -> Result<(), NoMemory>
+    ensures { OnOk result (objects.new.keys ≡ fold (insert_key object_order) objects.old.keys (option_to_list (born (key_of key)))) }
+{
+    if let Some(object) = born(key) {
+        objects.insert(object)?;
+    }
+    Ok(())
+}
+
+/// How many objects are held, live or dead.
+pub fn count_objects(alloc: Global, rows: &Rows) -> Result<usize, NoMemory>
+    ensures { IfOk result (λ count. count ≡ length (objects_of (updates_of rows.now))) }
+{
+    let mut objects = BTreeSet::new(alloc);
+    for held in rows.as_slice() {
+        add_born(&mut objects, held.update().key())?;
+    }
+    Ok(objects.len())
+}

@@ -1,0 +1,18 @@
+//! Originating writes: what a client's write makes of a controller, or why it is refused.
+//!
+//! It stands on the definitions in `adr_model` and meets them, on a controller's state, on its live objects, and on the
+//! schema. It knows nothing of the disk, of messages, or of how a change is committed.
+#![tactic(auto)]
+
+mod adding;
+mod checks;
+mod counting;
+mod new_object;
+mod places;
+
+pub use adding::add;
+pub use adr_view::NoMemory;
+pub use new_object::NewObject;
+
+#[cfg(test)]
+mod tests;

@@ -1,0 +1,92 @@
+//! A new object, and its rows.
+
+ghost use Rattle.std.specs.Prelude.{◌≡◌, ◌++◌, IfOk, OnOk};
+ghost use Rattle.adr_model.specs.Write.{new_rows, row};
+ghost use Rattle.adr_origin.specs.GivenRows.{given_rows};
+
+use crate::NoMemory;
+use adr_schema::{Assignments, Content, Text, Value, Values};
+use adr_stamp::{LinkStamp, Oid};
+use adr_state::{Key, Said, Update};
+use std::alloc::Global;
+use uuid::Uuid;
+
+/// The attribute that says an object's class.
+pub const CLASS: u16 = 1;
+
+/// The attribute that says an object's name and what is above it.
+const NAME: u16 = 2;
+
+/// An object that a client adds.
+#[derive(Debug, Drop)]
+pub struct NewObject<'a> {
+    pub guid: Uuid,
+    pub class: u16,
+    /// The GUID of the object above, or of the root or LostAndFound.
+    pub parent: Uuid,
+    /// The name.
+    pub text: &'a Text,
+    /// What its attributes hold.
+    pub values: &'a Assignments,
+}
+
+/// A row of an object.
+fn row(object: &Oid, stamp: &LinkStamp, attr: u16, content: Content) -> Update
+    ensures { result ≡ row object.now stamp.now attr content }
+{
+    let key = Key::Row {
+        object: *object,
+        attr,
+    };
+    Update::new(key, *stamp, Said::Holds(content))
+}
+
+/// Equal values, in their order.
+fn copy_values(alloc: Global, values: &[Value]) -> Result<Values, NoMemory>
+    ensures { IfOk result (λ copy. copy ≡ values.now) }
+{
+    let mut copy = Vec::new(alloc);
+    for value in values {
+        copy.push(value.copy(alloc)?)?;
+    }
+    Ok(Values::of(copy))
+}
+
+/// Adds the rows of the attributes that are given values, rising.
+fn push_given(
+    alloc: Global,
+    rows: &mut Vec<Update>,
+    object: &Oid,
+    stamp: &LinkStamp,
+    values: &Assignments,
+) -> Result<(), NoMemory>
+    ensures { OnOk result (rows.new.items ≡ rows.old.items ++ given_rows object.now stamp.now values.now) }
+{
+    let mut above = None;
+    'attributes: while let Some((attr, list)) = values.next(above) {
+        let content = Content::Values(copy_values(alloc, list)?);
+        rows.push(row(object, stamp, attr, content))?;
+        above = Some(attr);
+    }
+    Ok(())
+}
+
+/// The rows of a new object: its class, its name and each attribute that is given, all with one stamp.
+pub fn new_rows(
+    alloc: Global,
+    object: &Oid,
+    stamp: &LinkStamp,
+    new: &NewObject<'_>,
+) -> Result<Vec<Update>, NoMemory>
+    ensures { IfOk result (λ rows. rows.items ≡ new_rows object.now stamp.now new.now.class new.now.parent new.now.text.now new.now.values.now) }
+{
+    let name = Content::Name {
+        text: new.text.copy(alloc)?,
+        parent: new.parent,
+    };
+    let mut rows = Vec::new(alloc);
+    rows.push(row(object, stamp, CLASS, Content::Class(new.class)))?;
+    rows.push(row(object, stamp, NAME, name))?;
+    push_given(alloc, &mut rows, object, stamp, new.values)?;
+    Ok(rows)
+}

@@ -1,0 +1,63 @@
+//! The names that lines bound of one kind.
+
+ghost use Rattle.std.specs.Prelude.{◌≡◌, false, [], ◌∷◌, ◌++◌, length, OnOk, IfErr};
+ghost use Rattle.adr_schedule.specs.Seen.{is_bound};
+
+use crate::fault::LineRefusal;
+use adr_schema::Text;
+use indexmap::IndexSet;
+use std::alloc::Global;
+use std::marker::Model;
+
+/// Names in the order in which they were bound. There may be very many, so they are looked up by hash.
+#[derive(Debug, Drop)]
+pub struct Names {
+    set: IndexSet<String>,
+}
+
+impl Model for Names {
+    ghost use Rattle.std.specs.Prelude.{List, ℕ, map, string_bytes};
+
+    ghost Value = { List (List ℕ) };
+
+    ghost view = { λ n. map string_bytes n.set.keys };
+}
+
+impl Names {
+    /// No names.
+    pub fn new(alloc: Global) -> Names
+        ensures { result ≡ [] }
+    {
+        Names {
+            set: IndexSet::new(alloc),
+        }
+    }
+
+    pub fn len(&self) -> usize
+        ensures { result ≡ length self.now }
+    {
+        self.set.len()
+    }
+
+    /// Whether the name was bound.
+    pub fn contains(&self, name: &Text) -> bool
+        ensures { result ≡ is_bound self.now name.now }
+    {
+        self.set.contains(name.as_str())
+    }
+
+    /// Binds a name. After an error it isn't said what is bound.
+    pub fn bind(&mut self, alloc: Global, name: &Text) -> Result<(), LineRefusal>
+        requires { is_bound self.old name.now ≡ false }
+        ensures bound { OnOk result (self.new ≡ self.old ++ name.now ∷ []) }
+        ensures memory { IfErr result (λ refusal. refusal ≡ LineRefusal.NoMemory) }
+    {
+        let Ok(name) = String::from_str(alloc, name.as_str()) else {
+            return Err(LineRefusal::NoMemory);
+        };
+        match self.set.insert(name) {
+            Ok(_) => Ok(()),
+            Err(_) => Err(LineRefusal::NoMemory),
+        }
+    }
+}

@@ -1,0 +1,98 @@
+//! What controllers tell.
+
+ghost use Rattle.std.specs.Prelude.{◌≡◌, map, option_map, IfOk};
+ghost use Rattle.adr_event.specs.declared.event.Event.TheVariants.{Show, Vector as TellVector, Marks as TellMarks};
+ghost use Rattle.adr_model.specs.Store.{Kept as IsKept};
+ghost use Rattle.adr_model.specs.Update.{Identifier};
+ghost use Rattle.adr_model.specs.Convergence.{in_view};
+ghost use Rattle.adr_model.specs.Directory.{directory};
+ghost use Rattle.adr_model.specs.Sound.{IsSoundWorld};
+ghost use Rattle.adr_model.specs.World.{marks_shown, of_controller, replica_at, shown, stays, step};
+ghost use Rattle.adr_world.specs.Run.{replica_of, world_of};
+
+use crate::answers::answer;
+use crate::controller::controller_of;
+use crate::run::Run;
+use adr_event::{Answer, Directory, Outcome, PartnerMarks};
+use adr_schema::{NoMemory, Text};
+use adr_state::Marks;
+use adr_view::{directory, formed_rows_have_back_links};
+use std::alloc::Global;
+
+/// How far each partner was read, as it is told.
+fn partner_marks(alloc: Global, marks: &Marks) -> Result<PartnerMarks, NoMemory>
+    ensures { IfOk result (λ told. told ≡ map (λ (k : Identifier × IsKept). (k.0, k.1.inv, k.1.mark)) marks.now) }
+{
+    let mut list = Vec::new(alloc);
+    for (partner, kept) in marks.to_vec(alloc)? {
+        list.push((partner, kept.inv(), kept.mark()))?;
+    }
+    Ok(PartnerMarks::of(list))
+}
+
+impl Run {
+    /// The directory that a controller shows, if there is one of the name.
+    pub fn directory(&self, alloc: Global, name: &Text) -> Result<Option<Directory>, NoMemory>
+        requires { IsSoundWorld (world_of self.now) }
+        ensures { IfOk result (λ shown. shown ≡ option_map (λ r. directory (in_view (world_of self.now) r)) (replica_at (world_of self.now) name.now)) }
+    {
+        let Some(controller) = controller_of(self.controllers.as_slice(), name) else {
+            return Ok(None);
+        };
+        formed_rows_have_back_links();
+        Ok(Some(directory(controller.state.rows(), alloc)?))
+    }
+
+    /// What is answered where a client asks for the directory.
+    fn directory_told(&self, alloc: Global, name: &Text) -> Result<Outcome, NoMemory>
+        requires { IsSoundWorld (world_of self.now) }
+        ensures { IfOk result (λ outcome. of_controller (world_of self.now) name.now (stays (world_of self.now)) (λ r. (world_of self.now, Outcome.Show (shown (world_of self.now) r.safe))) ≡ (world_of self.now, outcome)) }
+    {
+        match self.directory(alloc, name)? {
+            Some(directory) => Ok(Outcome::Show(directory)),
+            None => Ok(Outcome::Absent),
+        }
+    }
+
+    /// A client asks for the directory.
+    pub fn show(&self, alloc: Global, name: &Text) -> Result<Answer, NoMemory>
+        requires { IsSoundWorld (world_of self.now) }
+        ensures { IfOk result (λ made. step (world_of self.now) (Show name.now) ≡ (world_of self.now, made)) }
+    {
+        answer(alloc, "show", name, self.directory_told(alloc, name)?)
+    }
+
+    /// What is answered where a client asks what the controller has seen.
+    fn vector_told(&self, alloc: Global, name: &Text) -> Result<Outcome, NoMemory>
+        ensures { IfOk result (λ outcome. of_controller (world_of self.now) name.now (stays (world_of self.now)) (λ r. (world_of self.now, Outcome.Vector r.safe.store.vector)) ≡ (world_of self.now, outcome)) }
+    {
+        let Some(controller) = controller_of(self.controllers.as_slice(), name) else {
+            return Ok(Outcome::Absent);
+        };
+        Ok(Outcome::Vector(controller.state.vector().copy(alloc)?))
+    }
+
+    /// A client asks what the controller has seen.
+    pub fn vector(&self, alloc: Global, name: &Text) -> Result<Answer, NoMemory>
+        ensures { IfOk result (λ made. step (world_of self.now) (TellVector name.now) ≡ (world_of self.now, made)) }
+    {
+        answer(alloc, "vector", name, self.vector_told(alloc, name)?)
+    }
+
+    /// What is answered where a client asks how far the controller has read its partners.
+    fn marks_told(&self, alloc: Global, name: &Text) -> Result<Outcome, NoMemory>
+        ensures { IfOk result (λ outcome. of_controller (world_of self.now) name.now (stays (world_of self.now)) (λ r. (world_of self.now, Outcome.Marks (marks_shown r.safe.store))) ≡ (world_of self.now, outcome)) }
+    {
+        let Some(controller) = controller_of(self.controllers.as_slice(), name) else {
+            return Ok(Outcome::Absent);
+        };
+        Ok(Outcome::Marks(partner_marks(alloc, controller.state.marks())?))
+    }
+
+    /// A client asks how far the controller has read its partners.
+    pub fn marks(&self, alloc: Global, name: &Text) -> Result<Answer, NoMemory>
+        ensures { IfOk result (λ made. step (world_of self.now) (TellMarks name.now) ≡ (world_of self.now, made)) }
+    {
+        answer(alloc, "marks", name, self.marks_told(alloc, name)?)
+    }
+}
