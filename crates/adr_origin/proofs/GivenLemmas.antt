@@ -1,5 +1,5 @@
 -- The attributes that are left behind one, in rising order.
-use Rattle.std.proofs.Common.{◌≡◌, ℕ, ◌<◌, ◌≤◌, Bool, true, false, cond, List, [], ◌∷◌, ◌++◌, length, filter, Option, Some, None, refl, sym, ap, subst, ◌∙◌, arith, append_assoc}
+use Rattle.std.proofs.Common.{◌≡◌, ℕ, ◌<◌, ◌≤◌, Bool, true, false, cond, List, [], ◌∷◌, ◌++◌, length, filter, map, Option, Some, None, refl, sym, ap, subst, ◌∙◌, arith, append_assoc}
 use Rattle.std.specs.Prelude.{nat_lt}
 use Rattle.std.specs.List.Sorted.{IsStrictlySortedBy}
 use Rattle.std.specs.Ordering.{nat_cmp}
@@ -7,13 +7,8 @@ use Rattle.std.specs.declared.cmp.Ordering.TheVariants.{Less}
 use Rattle.std.proofs.lemmas.Bool.{lt-ltb, le-ltb, ltb-true}
 use Rattle.std.proofs.lemmas.Bool.Decides.{nat_tests}
 use Rattle.std.proofs.lemmas.List.{append-nil}
-use Rattle.adr_stamp.specs.declared.Oid.{Oid}
-use Rattle.adr_stamp.specs.declared.LinkStamp.{LinkStamp}
 use Rattle.adr_schema.specs.Assignments.{Given, attributes, is_above, next_given}
-use Rattle.adr_schema.specs.declared.content.Content.TheVariants.{Values}
-use Rattle.adr_model.specs.Update.{Update}
-use Rattle.adr_model.specs.Write.{row}
-use Rattle.adr_origin.specs.GivenRows.{given_rows}
+use Rattle.adr_model.specs.Refusing.{first_of}
 
 abbrev pub left_above : Option ℕ → List Given → List Given
 left_above above given = filter (λ g. is_above above g.0) given
@@ -42,7 +37,7 @@ self_above n [] h = refl
 self_above n (g ∷ gs) h = rw (lt-ltb n g.0 h.0, all_above g.0 n gs h.0 h.1) refl
 
 -- what is found is the first of those that are left
-abbrev IsFirst : Option ℕ → List Given → Given → Type 0
+abbrev pub IsFirst : Option ℕ → List Given → Given → Type 0
 IsFirst above gs g = left_above above gs ≡ g ∷ left_above (Some g.0) gs
 
 head_left : (x g : Given) (xs : List Given) (above : Option ℕ) → is_above above x.0 ≡ true → IsRising x.0 xs → x ≡ g → IsFirst above (x ∷ xs) g × (x.0 ≤ g.0)
@@ -88,14 +83,35 @@ none_left above (x ∷ xs) h = by (is_above above x.0) refl h (none_left above x
 pub fewer_left : (above : Option ℕ) (gs : List Given) (g : Given) → IsFirst above gs g → length (left_above (Some g.0) gs) < length (left_above above gs)
 fewer_left above gs g first = let e = ap length first in omega arith
 
-module _ (o : Oid) (stamp : LinkStamp) where
-  -- one more row is written
-  pub row_written : (rows rows' all : List Update) (above : Option ℕ) (gs : List Given) (g : Given) → IsFirst above gs g
-      → rows ++ given_rows o stamp (left_above above gs) ≡ all → rows' ≡ rows ++ row o stamp g.0 (Values g.1) ∷ [] → rows' ++ given_rows o stamp (left_above (Some g.0) gs) ≡ all
+module _ {A : Type 0} (f : Given → A) where
+  -- one more attribute is written
+  pub row_written : (rows rows' all : List A) (above : Option ℕ) (gs : List Given) (g : Given) → IsFirst above gs g
+      → rows ++ map f (left_above above gs) ≡ all → rows' ≡ rows ++ f g ∷ [] → rows' ++ map f (left_above (Some g.0) gs) ≡ all
   row_written rows rows' all above gs g first same grown =
-      rw grown (append_assoc rows (row o stamp g.0 (Values g.1) ∷ []) (given_rows o stamp (left_above (Some g.0) gs))
-      ∙ ap (λ (xs : List Given). rows ++ given_rows o stamp xs) (sym first) ∙ same)
+      rw grown (append_assoc rows (f g ∷ []) (map f (left_above (Some g.0) gs))
+      ∙ ap (λ (xs : List Given). rows ++ map f xs) (sym first) ∙ same)
 
-  pub all_written : (rows all : List Update) (above : Option ℕ) (gs : List Given) → next_given above gs ≡ None → rows ++ given_rows o stamp (left_above above gs) ≡ all → rows ≡ all
+  pub all_written : (rows all : List A) (above : Option ℕ) (gs : List Given) → next_given above gs ≡ None → rows ++ map f (left_above above gs) ≡ all → rows ≡ all
   all_written rows all above gs none same =
-      sym (append-nil rows) ∙ ap (λ (xs : List Given). rows ++ given_rows o stamp xs) (sym (none_left above gs none)) ∙ same
+      sym (append-nil rows) ∙ ap (λ (xs : List Given). rows ++ map f xs) (sym (none_left above gs none)) ∙ same
+
+module _ {A : Type 0} (f : Given → Option A) where
+  -- one more attribute is tested
+  pub one_passed : (above : Option ℕ) (gs : List Given) (g : Given) → IsFirst above gs g → None ≡ f g → first_of (map f (left_above (Some g.0) gs)) ≡ first_of (map f (left_above above gs))
+  one_passed above gs g first none =
+      ap (λ o. first_of (o ∷ map f (left_above (Some g.0) gs))) none ∙ ap (λ (xs : List Given). first_of (map f xs)) (sym first)
+
+  pub one_refused : (above : Option ℕ) (gs : List Given) (g : Given) (x : A) → IsFirst above gs g → Some x ≡ f g → Some x ≡ first_of (map f (left_above above gs))
+  one_refused above gs g x first some =
+      ap (λ o. first_of (o ∷ map f (left_above (Some g.0) gs))) some ∙ ap (λ (xs : List Given). first_of (map f xs)) (sym first)
+
+  pub all_passed : (above : Option ℕ) (gs : List Given) → next_given above gs ≡ None → None ≡ first_of (map f (left_above above gs))
+  all_passed above gs none = ap (λ (xs : List Given). first_of (map f xs)) (sym (none_left above gs none))
+
+  -- where none is refused the next is not, and none of the rest
+  pub next_passes : (above : Option ℕ) (gs : List Given) (g : Given) → IsFirst above gs g → first_of (map f (left_above above gs)) ≡ None → (f g ≡ None) × (first_of (map f (left_above (Some g.0) gs)) ≡ None)
+  next_passes above gs g first none = by (f g) refl (ap (λ (xs : List Given). first_of (map f xs)) (sym first) ∙ none)
+    where
+      by : (o : Option A) → f g ≡ o → first_of (o ∷ map f (left_above (Some g.0) gs)) ≡ None → (f g ≡ None) × (first_of (map f (left_above (Some g.0) gs)) ≡ None)
+      by None is h = (is, h)
+      by (Some x) is h = absurd (cc)

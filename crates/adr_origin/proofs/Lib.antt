@@ -1,4 +1,11 @@
 mod CountedRows
+mod Found
 mod GivenLemmas
 mod HeldRows
+mod Holders
+mod InLiveParts
 mod InParts
+mod Living
+mod PlacedUnder
+mod Versions
+mod LinkInParts

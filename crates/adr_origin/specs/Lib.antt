@@ -1,3 +1,7 @@
 pub mod Telling
 pub mod Parts
 pub mod GivenRows
+pub mod NextRows
+pub mod LiveParts
+pub mod Rivals
+pub mod LinkParts

@@ -67,7 +67,7 @@ fn check_object(state: &State, object: &NewObject<'_>) -> Result<(), WriteRefusa
 }
 
 /// The live objects of a controller.
-fn nodes_held(alloc: Global, state: &State) -> Result<Nodes, NoMemory>
+pub fn nodes_held(alloc: Global, state: &State) -> Result<Nodes, NoMemory>
     ensures { IfOk result (λ nodes. nodes ≡ nodes_held (updates_of state.now.store.rows)) }
 {
     Nodes::of(state.rows(), alloc)
@@ -126,7 +126,7 @@ fn new_item(
 }
 
 /// The change of a write: one item under its update sequence number.
-fn own_change(alloc: Global, usn: u64, item: Item) -> Result<Change, NoMemory>
+pub fn own_change(alloc: Global, usn: u64, item: Item) -> Result<Change, NoMemory>
     ensures { IfOk result (λ change. change ≡ only_writes usn (record { local = usn; item = item } ∷ [])) }
 {
     let mut writes = Vec::new(alloc);

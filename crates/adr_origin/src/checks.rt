@@ -1,6 +1,6 @@
 //! The tests that a write has to pass, each with its refusal.
 
-ghost use Rattle.std.specs.Prelude.{◌≡◌, ◌||◌, ◌+◌, ◌<◌, OnOk, length};
+ghost use Rattle.std.specs.Prelude.{◌≡◌, ◌≢◌, ◌||◌, ◌+◌, ◌<◌, OnOk, length};
 ghost use Rattle.std.specs.Option.{option_map};
 ghost use Rattle.std.specs.Result.{result_err};
 ghost use Rattle.adr_event.specs.declared.refusal.WriteRefusal.TheVariants.{GuidThere as guid_there, NameTaken as name_taken, Quarantined as quarantined};
@@ -9,14 +9,15 @@ ghost use Rattle.adr_model.specs.Live.{objects_of};
 ghost use Rattle.adr_model.specs.Place.{is_fixed};
 ghost use Rattle.adr_model.specs.Serve.{is_quarantined};
 ghost use Rattle.adr_model.specs.Shown.{name_holder};
-ghost use Rattle.adr_model.specs.Store.{updates_of};
-ghost use Rattle.adr_model.specs.Write.{class_of_place, cursor_refusal, full_refusal, holds_guid, is_of_guid, object_limit, of_schema, parent_refusal, superior_refusal, usn_limit, usn_refusal, where_true};
+ghost use Rattle.adr_model.specs.Store.{row_held, updates_of};
+ghost use Rattle.adr_model.specs.Write.{class_of_place, cursor_refusal, fixed_refusal, full_refusal, holds_guid, is_of_guid, object_limit, object_refusal, of_schema, parent_refusal, superior_refusal, usn_limit, usn_refusal, version_limit, version_of, version_refusal, where_true};
 ghost use Rattle.adr_state.specs.Key.{key_of};
 ghost use Rattle.adr_state.specs.Mode.{mode_of};
 ghost use Rattle.adr_origin.specs.Telling.{Tells};
 
 use crate::counting::count_objects;
 use crate::places::{is_fixed, is_lost_and_found, is_root, is_same};
+use crate::stamps::{class_of, version_of};
 use adr_event::{Table, WriteRefusal};
 use adr_schema::{LOST_AND_FOUND_CLASS, ROOT_CLASS, Schema, SchemaRefusal, Text};
 use adr_state::{Key, Mode, Rows, State};
@@ -27,6 +28,9 @@ use uuid::Uuid;
 
 /// The greatest update sequence number that there is.
 const USN_LIMIT: u64 = 9_223_372_036_854_775_807;
+
+/// The greatest version that there is.
+const VERSION_LIMIT: u32 = 4_294_967_295;
 
 /// How many objects a controller holds at most, live or dead.
 const OBJECT_LIMIT: u64 = 200_000;
@@ -72,6 +76,30 @@ pub fn check_guid(rows: &Rows, guid: Uuid) -> Result<(), WriteRefusal>
     } else {
         Ok(())
     }
+}
+
+/// Tests that a GUID isn't that of the root or of LostAndFound.
+pub fn check_not_fixed(guid: Uuid) -> Result<(), WriteRefusal>
+    ensures { result_err result ≡ fixed_refusal guid }
+{
+    if is_fixed(guid) {
+        Err(WriteRefusal::Fixed { guid })
+    } else {
+        Ok(())
+    }
+}
+
+/// Tests that there is a live object of a GUID.
+pub fn check_object(rows: &Rows, nodes: &Nodes, guid: Uuid) -> Result<(), WriteRefusal>
+    ensures { result_err result ≡ object_refusal (updates_of rows.now) nodes.now guid }
+{
+    if !holds_guid(rows, guid) {
+        return Err(WriteRefusal::NoObject { guid });
+    }
+    if nodes.at(guid).is_none() {
+        return Err(WriteRefusal::Deleted { guid });
+    }
+    Ok(())
 }
 
 /// What the schema refuses, as the refusal of a write.
@@ -121,10 +149,7 @@ fn class_of_place(nodes: &Nodes, parent: Uuid) -> u16
     if is_lost_and_found(parent) {
         return LOST_AND_FOUND_CLASS;
     }
-    match nodes.at(parent) {
-        Some(node) => node.class(),
-        None => 0,
-    }
+    class_of(nodes, parent)
 }
 
 /// Tests that an object of a class may stand under a parent.
@@ -155,6 +180,18 @@ pub fn check_name_free(
     match nodes.holder(parent, text, alloc)? {
         Some(holder) => Err(WriteRefusal::NameTaken { holder }),
         None => Ok(()),
+    }
+}
+
+/// Tests that the version of a row can rise.
+pub fn check_version(rows: &Rows, key: Key, attr: u16) -> Result<(), WriteRefusal>
+    ensures told { result_err result ≡ version_refusal rows.now (key_of key) attr }
+    ensures room { OnOk result (version_of (row_held rows.now (key_of key)) ≢ version_limit) }
+{
+    if version_of(rows, &key) == VERSION_LIMIT {
+        Err(WriteRefusal::VersionLimit { attr })
+    } else {
+        Ok(())
     }
 }
 

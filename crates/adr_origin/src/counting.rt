@@ -1,10 +1,11 @@
-//! How many objects are held.
+//! How much is held.
 
 ghost use Rattle.std.specs.Prelude.{◌≡◌, IfOk, OnOk, fold, length, option_to_list};
 ghost use Rattle.std.specs.BTreeSet.{insert_key};
 ghost use Rattle.adr_stamp.specs.Order.{object_order};
 ghost use Rattle.adr_model.specs.Live.{born, objects_of};
 ghost use Rattle.adr_model.specs.Store.{updates_of};
+ghost use Rattle.adr_model.specs.Write.{is_link_row, links_in};
 ghost use Rattle.adr_state.specs.Key.{key_of};
 
 use crate::NoMemory;
@@ -43,4 +44,26 @@ pub fn count_objects(alloc: Global, rows: &Rows) -> Result<usize, NoMemory>
         add_born(&mut objects, held.update().key())?;
     }
     Ok(objects.len())
+}
+
+fn is_link(key: Key) -> bool
+    ensures { result ≡ is_link_row (key_of key) }
+{
+    match key {
+        Key::Row { .. } => false,
+        Key::Link(_) => true,
+    }
+}
+
+/// How many link rows are held, present or not.
+pub fn count_links(rows: &Rows) -> usize
+    ensures { result ≡ links_in rows.now }
+{
+    let mut count = 0;
+    for held in rows.as_slice() {
+        if is_link(held.update().key()) {
+            count += 1;
+        }
+    }
+    count
 }

@@ -6,13 +6,24 @@
 
 mod adding;
 mod checks;
+mod children;
 mod counting;
+mod deleting;
+mod linking;
+mod modifying;
 mod new_object;
 mod places;
+mod renaming;
+mod rivals;
+mod stamps;
 
 pub use adding::add;
 pub use adr_view::NoMemory;
+pub use deleting::delete;
+pub use linking::{link, unlink};
+pub use modifying::modify;
 pub use new_object::NewObject;
+pub use renaming::rename;
 
 #[cfg(test)]
 mod tests;

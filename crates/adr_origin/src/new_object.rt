@@ -15,7 +15,7 @@ use uuid::Uuid;
 pub const CLASS: u16 = 1;
 
 /// The attribute that says an object's name and what is above it.
-const NAME: u16 = 2;
+pub const NAME: u16 = 2;
 
 /// An object that a client adds.
 #[derive(Debug, Drop)]
@@ -31,7 +31,7 @@ pub struct NewObject<'a> {
 }
 
 /// A row of an object.
-fn row(object: &Oid, stamp: &LinkStamp, attr: u16, content: Content) -> Update
+pub fn row(object: &Oid, stamp: &LinkStamp, attr: u16, content: Content) -> Update
     ensures { result ≡ row object.now stamp.now attr content }
 {
     let key = Key::Row {
@@ -42,7 +42,7 @@ fn row(object: &Oid, stamp: &LinkStamp, attr: u16, content: Content) -> Update
 }
 
 /// Equal values, in their order.
-fn copy_values(alloc: Global, values: &[Value]) -> Result<Values, NoMemory>
+pub fn copy_values(alloc: Global, values: &[Value]) -> Result<Values, NoMemory>
     ensures { IfOk result (λ copy. copy ≡ values.now) }
 {
     let mut copy = Vec::new(alloc);

@@ -12,7 +12,8 @@ pub fn is_same(a: Uuid, b: Uuid) -> bool
     a == b
 }
 
-fn root() -> Uuid
+/// The identifier of the root.
+pub fn root() -> Uuid
     ensures { result ≡ root }
 {
     Uuid::from_u128(1)

@@ -1,6 +1,7 @@
 use Rattle.std.proofs.Common.{◌∷◌, [], ◌++◌, List, sym, ap, ◌∙◌}
 use Rattle.adr_schema.specs.declared.content.Value.{Value}
 use Rattle.adr_schema.specs.declared.content.Content.TheVariants.{Values}
+use Rattle.adr_schema.specs.Assignments.{Given}
 use Rattle.adr_model.specs.Update.{Update}
 use Rattle.adr_model.specs.Write.{row}
 use Rattle.adr_origin.specs.GivenRows.{given_rows}
@@ -17,7 +18,7 @@ attributes-smaller c =
 
 pub attributes-preserved : goal.attributes-preserved
 attributes-preserved c =
-    row_written c.args.object.now c.args.stamp.now c.attributes.rows.items _ _ c.attributes.above c.args.values.now (c.in-Some.attr, c.in-Some.list.now)
+    row_written (λ (g : Given). row c.args.object.now c.args.stamp.now g.0 (Values g.1)) c.attributes.rows.items _ _ c.attributes.above c.args.values.now (c.in-Some.attr, c.in-Some.list.now)
     (next_left c.attributes.above c.args.values.now (c.in-Some.attr, c.in-Some.list.now) c.in-Some.ensures.rising (sym c.in-Some.ensures.next))
     c.attributes.invariant
     (c.in_ok-push.ensures.items
@@ -25,4 +26,4 @@ attributes-preserved c =
     (c.row.ensures ∙ ap (λ (vs : List Value). row c.args.object.now c.args.stamp.now c.in-Some.attr (Values vs)) c.in_ok-copy_values.ensures))
 
 pub returns : goal.returns
-returns c = all_written c.args.object.now c.args.stamp.now c.attributes.rows.items _ c.attributes.above c.args.values.now (sym c.in_default.ensures.next) c.attributes.invariant
+returns c = all_written (λ (g : Given). row c.args.object.now c.args.stamp.now g.0 (Values g.1)) c.attributes.rows.items _ c.attributes.above c.args.values.now (sym c.in_default.ensures.next) c.attributes.invariant

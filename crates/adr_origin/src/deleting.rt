@@ -1,0 +1,68 @@
+//! Deleting an object.
+
+ghost use Rattle.std.specs.Prelude.{◌≡◌, ◌⊎◌, ◌<◌, ◌≤◌, IfOk, IfErr, OnOk};
+ghost use Rattle.std.specs.Result.{result_err};
+ghost use Rattle.adr_event.specs.declared.refusal.WriteRefusal.TheVariants.{NoMemory as no_memory};
+ghost use Rattle.adr_model.specs.Store.{updates_of};
+ghost use Rattle.adr_model.specs.Write.{Delete, delete_refusal, nodes_held, object_refusal, rows_written, usn_limit, write};
+
+use crate::NoMemory;
+use crate::adding::{nodes_held, own_change};
+use crate::checks::{check_mode, check_not_fixed, check_object, check_usn};
+use crate::children::check_no_child;
+use crate::stamps::{next_item, object_of};
+use adr_event::WriteRefusal;
+use adr_schema::Content;
+use adr_state::{Change, Item, State};
+use adr_view::Nodes;
+use std::alloc::Global;
+use uuid::Uuid;
+
+/// The attribute that says that an object is dead.
+const DELETED: u16 = 3;
+
+/// What a client's deleting an object makes of a controller at a time in seconds: the change, or why it is refused,
+/// first in order (MS-ADTS, delete operation; the refusals and their order are this project's own). The controller
+/// stays as it is.
+pub fn delete(state: &State, guid: Uuid, now: u64, alloc: Global) -> Result<Change, WriteRefusal>
+    ensures ok { IfOk result (λ change. write state.now (Delete guid) now ≡ Ok change) }
+    ensures within { IfOk result (λ change. change.usn ≤ usn_limit) }
+    ensures refused { IfErr result (λ refusal. (refusal ≡ no_memory) ⊎ (write state.now (Delete guid) now ≡ Err refusal)) }
+{
+    let nodes = nodes_held(alloc, state)?;
+    check_delete(state, &nodes, guid)?;
+    let usn = state.usn() + 1;
+    let item = dead_item(alloc, state, &nodes, guid, now)?;
+    Ok(own_change(alloc, usn, item)?)
+}
+
+/// Tests that an object may be deleted.
+fn check_delete(state: &State, nodes: &Nodes, guid: Uuid) -> Result<(), WriteRefusal>
+    requires { nodes.now ≡ nodes_held (updates_of state.now.store.rows) }
+    ensures told { result_err result ≡ delete_refusal state.now guid }
+    ensures room { OnOk result (state.now.store.usn < usn_limit) }
+    ensures live { OnOk result (object_refusal (updates_of state.now.store.rows) nodes.now guid ≡ None) }
+{
+    check_mode(state.mode())?;
+    check_not_fixed(guid)?;
+    check_object(state.rows(), nodes, guid)?;
+    check_no_child(nodes, guid)?;
+    check_usn(state.usn())
+}
+
+/// The object with the row that says that it is dead, under the next update sequence number.
+fn dead_item(
+    alloc: Global,
+    state: &State,
+    nodes: &Nodes,
+    guid: Uuid,
+    now: u64,
+) -> Result<Item, NoMemory>
+    requires usn { state.now.store.usn < usn_limit }
+    requires held { nodes.now ≡ nodes_held (updates_of state.now.store.rows) }
+    requires live { object_refusal (updates_of state.now.store.rows) nodes.now guid ≡ None }
+    ensures { IfOk result (λ item. item ≡ rows_written state.now (Delete guid) now) }
+{
+    let object = object_of(nodes, guid);
+    next_item(alloc, state, &object, DELETED, Content::Dead, now)
+}

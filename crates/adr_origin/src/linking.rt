@@ -1,0 +1,220 @@
+//! Making and removing links.
+
+ghost use Rattle.std.specs.Prelude.{◌≡◌, ◌≢◌, ◌⊎◌, ◌+◌, ◌<◌, ◌≤◌, Ok, Err, IfOk, IfErr, OnOk, is_some, if◌then◌else◌};
+ghost use Rattle.std.specs.Result.{result_err};
+ghost use Rattle.adr_event.specs.declared.refusal.Table.TheVariants.{Links as links};
+ghost use Rattle.adr_event.specs.declared.refusal.WriteRefusal.TheVariants.{NoMemory as no_memory};
+ghost use Rattle.adr_model.specs.Store.{row_held, updates_of};
+ghost use Rattle.adr_model.specs.Update.{LinkOf};
+ghost use Rattle.adr_model.specs.Write.{AddLink, RemoveLink, any_link_refusal, full_refusal, is_linked, link_limit, link_of, link_refusal, links_in, nodes_held, of_link, says_present, usn_limit, version_limit, version_of, write};
+ghost use Rattle.adr_state.specs.Mode.{mode_of};
+ghost use Rattle.adr_state.specs.Said.{said_of};
+ghost use Rattle.adr_origin.specs.LinkParts.{already_refusal, ends_refusal, start_refusal, write_refusal};
+ghost use Rattle.adr_origin.specs.Telling.{Tells};
+
+use crate::NoMemory;
+use crate::adding::{nodes_held, own_change};
+use crate::checks::{
+    check_mode, check_not_fixed, check_object, check_schema, check_usn, check_version,
+};
+use crate::counting::count_links;
+use crate::stamps::{class_of, next_stamp, object_of};
+use adr_event::{Table, WriteRefusal};
+use adr_stamp::{LinkKey, Unit};
+use adr_state::{Change, Item, Key, Mode, Rows, Said, State, Update};
+use adr_view::Nodes;
+use std::alloc::Global;
+use uuid::Uuid;
+
+/// How many link rows a controller holds at most, present or not.
+const LINK_LIMIT: u64 = 1_000_000;
+
+/// What a client's making a link under an attribute makes of a controller at a time in seconds: the change, or why it is
+/// refused, first in order (MS-ADTS, modify operation, and linked values; the refusals and their order are this project's
+/// own). A link that was removed is made again by its own row. The controller stays as it is.
+pub fn link(
+    state: &State,
+    from: Uuid,
+    attr: u16,
+    to: Uuid,
+    now: u64,
+    alloc: Global,
+) -> Result<Change, WriteRefusal>
+    ensures ok { IfOk result (λ change. write state.now (AddLink from attr to) now ≡ Ok change) }
+    ensures within { IfOk result (λ change. change.usn ≤ usn_limit) }
+    ensures refused { IfErr result (λ refusal. (refusal ≡ no_memory) ⊎ (write state.now (AddLink from attr to) now ≡ Err refusal)) }
+{
+    let link = check_link(alloc, state, from, attr, to)?;
+    let item = link_item(alloc, state, &link, now, true)?;
+    Ok(own_change(alloc, state.usn() + 1, item)?)
+}
+
+/// What a client's removing a link under an attribute makes of a controller at a time in seconds: the change, or why it
+/// is refused, first in order (MS-ADTS, modify operation, and linked values; the refusals and their order are this
+/// project's own). The link's row stays, and says that the link is not there. The controller stays as it is.
+pub fn unlink(
+    state: &State,
+    from: Uuid,
+    attr: u16,
+    to: Uuid,
+    now: u64,
+    alloc: Global,
+) -> Result<Change, WriteRefusal>
+    ensures ok { IfOk result (λ change. write state.now (RemoveLink from attr to) now ≡ Ok change) }
+    ensures within { IfOk result (λ change. change.usn ≤ usn_limit) }
+    ensures refused { IfErr result (λ refusal. (refusal ≡ no_memory) ⊎ (write state.now (RemoveLink from attr to) now ≡ Err refusal)) }
+{
+    let link = check_any_link(alloc, state, from, attr, to, false)?;
+    let item = link_item(alloc, state, &link, now, false)?;
+    Ok(own_change(alloc, state.usn() + 1, item)?)
+}
+
+/// Tests that a link may be made, and names it.
+fn check_link(
+    alloc: Global,
+    state: &State,
+    from: Uuid,
+    attr: u16,
+    to: Uuid,
+) -> Result<LinkKey, WriteRefusal>
+    ensures told { Tells result (link_refusal state.now from attr to) }
+    ensures named { IfOk result (λ link. link ≡ link_of (nodes_held (updates_of state.now.store.rows)) from attr to) }
+    ensures version { IfOk result (λ link. version_of (row_held state.now.store.rows (LinkOf link)) ≢ version_limit) }
+    ensures usn { OnOk result (state.now.store.usn < usn_limit) }
+{
+    let link = check_any_link(alloc, state, from, attr, to, true)?;
+    check_links(state.rows(), &link)?;
+    Ok(link)
+}
+
+/// Tests that a link may be made or removed, apart from how many there are, and names it.
+fn check_any_link(
+    alloc: Global,
+    state: &State,
+    from: Uuid,
+    attr: u16,
+    to: Uuid,
+    present: bool,
+) -> Result<LinkKey, WriteRefusal>
+    ensures told { Tells result (any_link_refusal state.now from attr to (already_refusal present)) }
+    ensures named { IfOk result (λ link. link ≡ link_of (nodes_held (updates_of state.now.store.rows)) from attr to) }
+    ensures version { IfOk result (λ link. version_of (row_held state.now.store.rows (LinkOf link)) ≢ version_limit) }
+    ensures usn { OnOk result (state.now.store.usn < usn_limit) }
+{
+    check_start(state.mode(), from, to)?;
+    let nodes = nodes_held(alloc, state)?;
+    check_ends(state, &nodes, from, attr, to)?;
+    let link = link_of(&nodes, from, attr, to);
+    check_write(state, &link, present)?;
+    Ok(link)
+}
+
+/// Tests that a controller takes writes, and that neither end is always there.
+fn check_start(mode: Mode, from: Uuid, to: Uuid) -> Result<(), WriteRefusal>
+    ensures { result_err result ≡ start_refusal (mode_of mode) from to }
+{
+    check_mode(mode)?;
+    check_not_fixed(from)?;
+    check_not_fixed(to)
+}
+
+/// Tests that both ends are live objects, and that the schema lets the first have such links.
+fn check_ends(
+    state: &State,
+    nodes: &Nodes,
+    from: Uuid,
+    attr: u16,
+    to: Uuid,
+) -> Result<(), WriteRefusal>
+    ensures { result_err result ≡ ends_refusal state.now nodes.now from attr to }
+{
+    check_object(state.rows(), nodes, from)?;
+    check_schema(state.schema().check_link(class_of(nodes, from), attr))?;
+    check_object(state.rows(), nodes, to)
+}
+
+/// The name of a link between live objects.
+fn link_of(nodes: &Nodes, from: Uuid, attr: u16, to: Uuid) -> LinkKey
+    ensures { result ≡ link_of nodes.now from attr to }
+{
+    LinkKey {
+        from: object_of(nodes, from),
+        attr,
+        to: object_of(nodes, to),
+    }
+}
+
+/// Tests that a link is not yet as it is to be, and that its row can be written.
+fn check_write(state: &State, link: &LinkKey, present: bool) -> Result<(), WriteRefusal>
+    ensures told { result_err result ≡ write_refusal state.now link.now present }
+    ensures version { OnOk result (version_of (row_held state.now.store.rows (LinkOf link.now)) ≢ version_limit) }
+    ensures usn { OnOk result (state.now.store.usn < usn_limit) }
+{
+    check_change(is_linked(state.rows(), link), present)?;
+    check_version(state.rows(), Key::Link(*link), link.attr)?;
+    check_usn(state.usn())
+}
+
+/// Tests that a link is not yet as it is to be.
+fn check_change(linked: bool, present: bool) -> Result<(), WriteRefusal>
+    ensures { result_err result ≡ already_refusal present linked }
+{
+    match (present, linked) {
+        (true, true) => Err(WriteRefusal::LinkThere),
+        (false, false) => Err(WriteRefusal::LinkNotThere),
+        _ => Ok(()),
+    }
+}
+
+fn says_present(said: &Said) -> bool
+    ensures { result ≡ says_present (said_of said.now) }
+{
+    match said {
+        Said::IsPresent(present) => *present,
+        Said::Holds(_) => false,
+    }
+}
+
+/// Whether a link is there.
+fn is_linked(rows: &Rows, link: &LinkKey) -> bool
+    ensures { result ≡ is_linked rows.now link.now }
+{
+    match rows.row(Key::Link(*link)) {
+        Some(held) => says_present(held.update().said()),
+        None => false,
+    }
+}
+
+/// Tests that there is room for the row of a link, which may be held already.
+fn check_links(rows: &Rows, link: &LinkKey) -> Result<(), WriteRefusal>
+    ensures { result_err result ≡ full_refusal links link_limit (links_in rows.now + (if is_some (row_held rows.now (LinkOf link.now)) then 0 else 1)) }
+{
+    let is_held = rows.row(Key::Link(*link)).is_some();
+    let most = if is_held { LINK_LIMIT } else { LINK_LIMIT - 1 };
+    if count_links(rows) as u64 <= most {
+        Ok(())
+    } else {
+        Err(WriteRefusal::Full {
+            table: Table::Links,
+            limit: LINK_LIMIT,
+        })
+    }
+}
+
+/// The row of a link, one version on.
+fn link_item(
+    alloc: Global,
+    state: &State,
+    link: &LinkKey,
+    now: u64,
+    present: bool,
+) -> Result<Item, NoMemory>
+    requires usn { state.now.store.usn < usn_limit }
+    requires version { version_of (row_held state.now.store.rows (LinkOf link.now)) ≢ version_limit }
+    ensures { IfOk result (λ item. item ≡ of_link state.now now link.now present) }
+{
+    let stamp = next_stamp(state, Key::Link(*link), now);
+    let mut rows = Vec::new(alloc);
+    rows.push(Update::new(Key::Link(*link), stamp, Said::IsPresent(present)))?;
+    Ok(Item::new(Unit::Link(*link), rows))
+}

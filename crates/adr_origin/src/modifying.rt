@@ -1,0 +1,141 @@
+//! Modifying an object.
+
+ghost use Rattle.std.specs.Prelude.{◌≡◌, ◌⊎◌, ◌<◌, ◌≤◌, IfOk, IfErr, OnOk};
+ghost use Rattle.std.specs.Result.{result_err};
+ghost use Rattle.adr_event.specs.declared.refusal.WriteRefusal.TheVariants.{NoMemory as no_memory};
+ghost use Rattle.adr_model.specs.Store.{updates_of};
+ghost use Rattle.adr_model.specs.Write.{Modify, modify_refusal, nodes_held, object_of, of_object, usn_limit, write};
+ghost use Rattle.adr_origin.specs.LiveParts.{given_refusal, rows_refusal};
+ghost use Rattle.adr_origin.specs.NextRows.{next_rows, versions_refusal};
+
+use crate::NoMemory;
+use crate::adding::{nodes_held, own_change};
+use crate::checks::{
+    check_mode, check_not_fixed, check_object, check_schema, check_usn, check_version,
+};
+use crate::new_object::copy_values;
+use crate::stamps::{class_of, next_row, object_of};
+use adr_event::WriteRefusal;
+use adr_schema::{Assignments, Content};
+use adr_stamp::{Oid, Unit};
+use adr_state::{Change, Item, Key, Rows, State, Update};
+use adr_view::Nodes;
+use std::alloc::Global;
+use uuid::Uuid;
+
+/// What a client's giving an object values makes of a controller at a time in seconds: the change, or why it is
+/// refused, first in order (MS-ADTS, modify operation; the refusals and their order are this project's own). The values
+/// of an attribute take the place of those that it has, and none leave it without. The controller stays as it is.
+pub fn modify(
+    state: &State,
+    guid: Uuid,
+    values: &Assignments,
+    now: u64,
+    alloc: Global,
+) -> Result<Change, WriteRefusal>
+    ensures ok { IfOk result (λ change. write state.now (Modify guid values.now) now ≡ Ok change) }
+    ensures within { IfOk result (λ change. change.usn ≤ usn_limit) }
+    ensures refused { IfErr result (λ refusal. (refusal ≡ no_memory) ⊎ (write state.now (Modify guid values.now) now ≡ Err refusal)) }
+{
+    let nodes = nodes_held(alloc, state)?;
+    check_modify(state, &nodes, guid, values)?;
+    let usn = state.usn() + 1;
+    let item = modified_item(alloc, state, &object_of(&nodes, guid), values, now)?;
+    Ok(own_change(alloc, usn, item)?)
+}
+
+/// Tests that an object may be given values.
+fn check_modify(
+    state: &State,
+    nodes: &Nodes,
+    guid: Uuid,
+    values: &Assignments,
+) -> Result<(), WriteRefusal>
+    requires { nodes.now ≡ nodes_held (updates_of state.now.store.rows) }
+    ensures told { result_err result ≡ modify_refusal state.now guid values.now }
+    ensures room { OnOk result (state.now.store.usn < usn_limit) }
+    ensures versions { OnOk result (versions_refusal state.now.store.rows (object_of nodes.now guid) values.now ≡ None) }
+{
+    check_given(state, nodes, guid, values)?;
+    check_rows(state, &object_of(nodes, guid), values)
+}
+
+/// Tests that an object is live and that the schema allows the values.
+fn check_given(
+    state: &State,
+    nodes: &Nodes,
+    guid: Uuid,
+    values: &Assignments,
+) -> Result<(), WriteRefusal>
+    requires { nodes.now ≡ nodes_held (updates_of state.now.store.rows) }
+    ensures { result_err result ≡ given_refusal state.now guid values.now }
+{
+    check_mode(state.mode())?;
+    check_not_fixed(guid)?;
+    check_object(state.rows(), nodes, guid)?;
+    check_schema(state.schema().check_modify(class_of(nodes, guid), values))
+}
+
+/// Tests that the rows of the attributes that are given values can be written.
+fn check_rows(state: &State, object: &Oid, values: &Assignments) -> Result<(), WriteRefusal>
+    ensures told { result_err result ≡ rows_refusal state.now object.now values.now }
+    ensures room { OnOk result (state.now.store.usn < usn_limit) }
+    ensures versions { OnOk result (versions_refusal state.now.store.rows object.now values.now ≡ None) }
+{
+    check_versions(state.rows(), object, values)?;
+    check_usn(state.usn())
+}
+
+/// Tests that the versions of the rows of the attributes that are given values can rise.
+fn check_versions(rows: &Rows, object: &Oid, values: &Assignments) -> Result<(), WriteRefusal>
+    ensures { result_err result ≡ versions_refusal rows.now object.now values.now }
+{
+    let mut above = None;
+    'attributes: while let Some((attr, _)) = values.next(above) {
+        let key = Key::Row {
+            object: *object,
+            attr,
+        };
+        check_version(rows, key, attr)?;
+        above = Some(attr);
+    }
+    Ok(())
+}
+
+/// The rows of the attributes that are given values, rising, each one version on.
+fn next_rows(
+    alloc: Global,
+    state: &State,
+    object: &Oid,
+    values: &Assignments,
+    now: u64,
+) -> Result<Vec<Update>, NoMemory>
+    requires usn { state.now.store.usn < usn_limit }
+    requires versions { versions_refusal state.now.store.rows object.now values.now ≡ None }
+    ensures { IfOk result (λ rows. rows.items ≡ next_rows state.now now object.now values.now) }
+{
+    let mut rows = Vec::new(alloc);
+    let mut above = None;
+    'attributes: while let Some((attr, list)) = values.next(above) {
+        let content = Content::Values(copy_values(alloc, list)?);
+        rows.push(next_row(state, object, attr, content, now))?;
+        above = Some(attr);
+    }
+    Ok(rows)
+}
+
+/// The object with the rows of the attributes that are given values, under the next update sequence number.
+fn modified_item(
+    alloc: Global,
+    state: &State,
+    object: &Oid,
+    values: &Assignments,
+    now: u64,
+) -> Result<Item, NoMemory>
+    requires usn { state.now.store.usn < usn_limit }
+    requires versions { versions_refusal state.now.store.rows object.now values.now ≡ None }
+    ensures { IfOk result (λ item. item ≡ of_object object.now (next_rows state.now now object.now values.now)) }
+{
+    let rows = next_rows(alloc, state, object, values, now)?;
+    Ok(Item::new(Unit::Object(*object), rows))
+}

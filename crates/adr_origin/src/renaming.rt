@@ -1,0 +1,116 @@
+//! Renaming an object, and moving it.
+
+ghost use Rattle.std.specs.Prelude.{◌≡◌, ◌⊎◌, ◌<◌, ◌≤◌, ◌≢◌, false, IfOk, IfErr, OnOk};
+ghost use Rattle.std.specs.Result.{result_err};
+ghost use Rattle.adr_event.specs.declared.refusal.WriteRefusal.TheVariants.{NoMemory as no_memory};
+ghost use Rattle.adr_model.specs.Place.{is_fixed};
+ghost use Rattle.adr_model.specs.Store.{row_held, updates_of};
+ghost use Rattle.adr_model.specs.Update.{RowOf, name_attr};
+ghost use Rattle.adr_model.specs.Write.{Rename, nodes_held, object_of, rename_refusal, usn_limit, version_limit, version_of, write};
+ghost use Rattle.adr_origin.specs.LiveParts.{moved_refusal, named_refusal, row_refusal};
+ghost use Rattle.adr_origin.specs.Telling.{Tells};
+
+use crate::adding::{nodes_held, own_change};
+use crate::checks::{
+    check_mode, check_not_fixed, check_object, check_parent, check_schema, check_superior,
+    check_usn, check_version,
+};
+use crate::new_object::NAME;
+use crate::rivals::{check_new_name, check_no_loop};
+use crate::stamps::{class_of, next_item, object_of};
+use adr_event::WriteRefusal;
+use adr_schema::{Content, Schema, Text, check_name};
+use adr_stamp::Oid;
+use adr_state::{Change, Key, State};
+use adr_view::Nodes;
+use std::alloc::Global;
+use uuid::Uuid;
+
+/// What a client's giving an object a name and a parent makes of a controller at a time in seconds: the change, or why
+/// it is refused, first in order (MS-ADTS, modify DN operation; the refusals and their order are this project's own).
+/// The parent may be the one that it has. The controller stays as it is.
+pub fn rename(
+    state: &State,
+    guid: Uuid,
+    parent: Uuid,
+    text: &Text,
+    now: u64,
+    alloc: Global,
+) -> Result<Change, WriteRefusal>
+    ensures ok { IfOk result (λ change. write state.now (Rename guid parent text.now) now ≡ Ok change) }
+    ensures within { IfOk result (λ change. change.usn ≤ usn_limit) }
+    ensures refused { IfErr result (λ refusal. (refusal ≡ no_memory) ⊎ (write state.now (Rename guid parent text.now) now ≡ Err refusal)) }
+{
+    let nodes = nodes_held(alloc, state)?;
+    check_rename(alloc, state, &nodes, guid, parent, text)?;
+    let usn = state.usn() + 1;
+    let name = Content::Name {
+        text: text.copy(alloc)?,
+        parent,
+    };
+    let item = next_item(alloc, state, &object_of(&nodes, guid), NAME, name, now)?;
+    Ok(own_change(alloc, usn, item)?)
+}
+
+/// Tests that an object may be given a name and a parent.
+fn check_rename(
+    alloc: Global,
+    state: &State,
+    nodes: &Nodes,
+    guid: Uuid,
+    parent: Uuid,
+    text: &Text,
+) -> Result<(), WriteRefusal>
+    requires { nodes.now ≡ nodes_held (updates_of state.now.store.rows) }
+    ensures told { Tells result (rename_refusal state.now guid parent text.now) }
+    ensures room { OnOk result (state.now.store.usn < usn_limit) }
+    ensures version { OnOk result (version_of (row_held state.now.store.rows (RowOf (object_of nodes.now guid) name_attr)) ≢ version_limit) }
+{
+    check_named(state, nodes, guid, text)?;
+    check_moved(alloc, state.schema(), nodes, guid, parent, text)?;
+    check_row(state, &object_of(nodes, guid), NAME)
+}
+
+/// Tests that an object is live and that it may have a name.
+fn check_named(state: &State, nodes: &Nodes, guid: Uuid, text: &Text) -> Result<(), WriteRefusal>
+    requires { nodes.now ≡ nodes_held (updates_of state.now.store.rows) }
+    ensures told { result_err result ≡ named_refusal state.now guid text.now }
+    ensures free { OnOk result (is_fixed guid ≡ false) }
+{
+    check_mode(state.mode())?;
+    check_not_fixed(guid)?;
+    check_object(state.rows(), nodes, guid)?;
+    check_schema(check_name(text.as_str()))
+}
+
+/// Tests that an object may come to stand under a parent by a name.
+fn check_moved(
+    alloc: Global,
+    schema: Schema,
+    nodes: &Nodes,
+    guid: Uuid,
+    parent: Uuid,
+    text: &Text,
+) -> Result<(), WriteRefusal>
+    requires { is_fixed guid ≡ false }
+    ensures { Tells result (moved_refusal schema nodes.now guid parent text.now) }
+{
+    check_parent(nodes, parent)?;
+    check_no_loop(nodes, guid, parent)?;
+    check_superior(schema, nodes, class_of(nodes, guid), parent)?;
+    check_new_name(alloc, nodes, guid, parent, text)
+}
+
+/// Tests that a row of an object can be written once more.
+fn check_row(state: &State, object: &Oid, attr: u16) -> Result<(), WriteRefusal>
+    ensures told { result_err result ≡ row_refusal state.now object.now attr }
+    ensures room { OnOk result (state.now.store.usn < usn_limit) }
+    ensures version { OnOk result (version_of (row_held state.now.store.rows (RowOf object.now attr)) ≢ version_limit) }
+{
+    let key = Key::Row {
+        object: *object,
+        attr,
+    };
+    check_version(state.rows(), key, attr)?;
+    check_usn(state.usn())
+}

@@ -1,0 +1,122 @@
+//! The live object of a GUID, and the rows that are written once more, with their stamps.
+
+ghost use Rattle.std.specs.Prelude.{◌≡◌, ◌≢◌, ◌<◌, ◌∷◌, [], IfOk};
+ghost use Rattle.std.specs.Option.{option_map_or};
+ghost use Rattle.adr_model.specs.Store.{row_held};
+ghost use Rattle.adr_model.specs.Update.{RowOf};
+ghost use Rattle.adr_model.specs.Write.{class_of, first_created, next_row, next_stamp, object_of, of_object, usn_limit, version_limit, version_of};
+ghost use Rattle.adr_state.specs.Key.{key_of};
+
+use crate::NoMemory;
+use crate::new_object::row;
+use crate::places::root;
+use adr_schema::Content;
+use adr_stamp::{Birth, LinkStamp, Oid, Stamp, Unit};
+use adr_state::{Item, Key, Rows, State, Update};
+use adr_view::Nodes;
+use std::alloc::Global;
+use uuid::Uuid;
+
+/// The live object of a GUID. A write of a GUID that has none is refused.
+pub fn object_of(nodes: &Nodes, guid: Uuid) -> Oid
+    ensures { result ≡ object_of nodes.now guid }
+{
+    match nodes.at(guid) {
+        Some(node) => node.object(),
+        None => Oid {
+            guid,
+            birth: Birth {
+                inv: root(),
+                usn: 0,
+            },
+        },
+    }
+}
+
+/// The class of a live object, or 0 where there is none.
+pub fn class_of(nodes: &Nodes, guid: Uuid) -> u16
+    ensures { result ≡ class_of nodes.now guid }
+{
+    match nodes.at(guid) {
+        Some(node) => node.class(),
+        None => 0,
+    }
+}
+
+/// The version of the row of a key, or 0 where none is held.
+pub fn version_of(rows: &Rows, key: &Key) -> u32
+    ensures { result ≡ version_of (row_held rows.now (key_of key.now)) }
+{
+    match rows.row(*key) {
+        Some(held) => held.update().stamp().stamp.version,
+        None => 0,
+    }
+}
+
+/// When a link was first made that has no row yet; the moment of creation of an object's row is 0.
+fn first_created(key: &Key, now: u64) -> u64
+    ensures { result ≡ first_created (key_of key.now) now }
+{
+    match key {
+        Key::Row { .. } => 0,
+        Key::Link(_) => now,
+    }
+}
+
+/// The moment of creation of the row of a key, which a further write keeps.
+fn created(rows: &Rows, key: &Key, now: u64) -> u64
+    ensures { result ≡ option_map_or (λ h. h.update.stamp.created) (row_held rows.now (key_of key.now)) (first_created (key_of key.now) now) }
+{
+    match rows.row(*key) {
+        Some(held) => held.update().stamp().created,
+        None => first_created(key, now),
+    }
+}
+
+/// The stamp of the next write of a row: one version more than that of the held one.
+pub fn next_stamp(state: &State, key: Key, now: u64) -> LinkStamp
+    requires usn { state.now.store.usn < usn_limit }
+    requires version { version_of (row_held state.now.store.rows (key_of key)) ≢ version_limit }
+    ensures { result ≡ next_stamp state.now (key_of key) now }
+{
+    LinkStamp {
+        created: created(state.rows(), &key, now),
+        stamp: Stamp {
+            version: version_of(state.rows(), &key) + 1,
+            time: now,
+            inv: state.inv(),
+            usn: state.usn() + 1,
+        },
+    }
+}
+
+/// A row of an object, one version on.
+pub fn next_row(state: &State, object: &Oid, attr: u16, content: Content, now: u64) -> Update
+    requires usn { state.now.store.usn < usn_limit }
+    requires version { version_of (row_held state.now.store.rows (RowOf object.now attr)) ≢ version_limit }
+    ensures { result ≡ next_row state.now now object.now attr content }
+{
+    let key = Key::Row {
+        object: *object,
+        attr,
+    };
+    row(object, &next_stamp(state, key, now), attr, content)
+}
+
+/// An object with one row, one version on, under the next update sequence number.
+pub fn next_item(
+    alloc: Global,
+    state: &State,
+    object: &Oid,
+    attr: u16,
+    content: Content,
+    now: u64,
+) -> Result<Item, NoMemory>
+    requires usn { state.now.store.usn < usn_limit }
+    requires version { version_of (row_held state.now.store.rows (RowOf object.now attr)) ≢ version_limit }
+    ensures { IfOk result (λ item. item ≡ of_object object.now (next_row state.now now object.now attr content ∷ [])) }
+{
+    let mut rows = Vec::new(alloc);
+    rows.push(next_row(state, object, attr, content, now))?;
+    Ok(Item::new(Unit::Object(*object), rows))
+}
