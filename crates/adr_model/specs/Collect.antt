@@ -1,8 +1,7 @@
 -- Collecting tombstones, images and how a controller is made of one, and quarantine.
-use Rattle.std.specs.Prelude.{ℕ, ◌+◌, List, [], Bool, ◌&&◌, ◌||◌, nat_le, nat_lt, length, map, fold, Option, Some, None, Result, if◌then◌else◌}
+use Rattle.std.specs.Prelude.{ℕ, ◌+◌, List, [], ◌∷◌, Bool, ◌&&◌, ◌||◌, nat_le, nat_lt, length, map, fold, Option, Some, None, Result, if◌then◌else◌}
 use Rattle.std.specs.List.{list_any, filter_map}
 use Rattle.std.specs.Bool.{then_some}
-use Rattle.std.specs.Option.{option_or}
 use Rattle.adr_stamp.specs.declared.Oid.{Oid}
 use Rattle.adr_vector.specs.Vector.{Cursors, raised, most_cursors}
 use Rattle.adr_event.specs.declared.refusal.Table.TheVariants.{Cursors as CursorTable}
@@ -10,7 +9,7 @@ use Rattle.adr_event.specs.declared.refusal.CollectRefusal.{CollectRefusal}
 use Rattle.adr_event.specs.declared.refusal.CollectRefusal.TheVariants.{Quarantined as IsQuarantined, UsnLimit}
 use Rattle.adr_event.specs.declared.refusal.AdoptRefusal.{AdoptRefusal}
 use Rattle.adr_event.specs.declared.refusal.AdoptRefusal.TheVariants.{IdentifierUsed, Full}
-use Rattle.adr_model.specs.Refusing.{unless}
+use Rattle.adr_model.specs.Refusing.{first_of, unless}
 use Rattle.adr_model.specs.Update.{Identifier, Update, inv_of, usn_of, same_identifier, ends}
 use Rattle.adr_model.specs.Visible.{covers_update, covers_birth}
 use Rattle.adr_model.specs.Store.{Held, Kept, Normal, Quarantined, Store, State}
@@ -51,11 +50,13 @@ collection s deaths =
       writes = [];
     }
 
+-- why a collection is refused, first in order
+abbrev pub collect_refusal : State → Change → Option CollectRefusal
+collect_refusal s change = first_of (then_some (is_quarantined s.mode) IsQuarantined ∷ then_some (nat_lt usn_limit change.usn) UsnLimit ∷ [])
+
 -- a controller collects its tombstones: the first refusal, or the change
 abbrev pub collect : State → ℕ → ℕ → Result Change CollectRefusal
-collect s now lifetime =
-    let change = collection s (deaths_to_collect s now lifetime) in
-    unless (option_or (then_some (is_quarantined s.mode) IsQuarantined) (then_some (nat_lt usn_limit change.usn) UsnLimit)) change
+collect s now lifetime = let change = collection s (deaths_to_collect s now lifetime) in unless (collect_refusal s change) change
 
 -- the image of a controller, if it isn't quarantined
 abbrev pub backup : State → Option Store
@@ -79,11 +80,14 @@ woken s dsa inv =
       store = record { schema = s.schema; usn = s.usn; rows = s.rows; vector = raised s.vector inv s.usn; purged = s.purged; marks = s.marks };
     }
 
+-- why an image can't be adopted, first in order
+abbrev pub adopt_refusal : Store → Identifier → State → Option AdoptRefusal
+adopt_refusal image inv s =
+    first_of (then_some (names_inv image inv) IdentifierUsed ∷ then_some (nat_lt most_cursors (length s.store.vector)) (Full CursorTable most_cursors) ∷ [])
+
 -- a controller is made of an image under a fresh identifier
 abbrev pub adopt : Store → Identifier → Identifier → Result State AdoptRefusal
-adopt image dsa inv =
-    let s = woken image dsa inv in
-    unless (option_or (then_some (names_inv image inv) IdentifierUsed) (then_some (nat_lt most_cursors (length s.store.vector)) (Full CursorTable most_cursors))) s
+adopt image dsa inv = let s = woken image dsa inv in unless (adopt_refusal image inv s) s
 
 -- a controller that showed that it was put back stops; only a restore ends it
 abbrev pub quarantine : State → Change

@@ -1,5 +1,6 @@
--- What is claimed of every run, as named facts.
-use Rattle.std.specs.Prelude.{◌≡◌, ◌≢◌, ◌⊎◌, ◌≤◌, ℕ, List, [], ◌∷◌, ◌++◌, length, filter, max, nat_lt, Bool, true, false, Option, Some, None}
+-- What is claimed of every run, as named facts: of sound worlds, and so of every run as long as no database was put back.
+use Rattle.std.specs.Prelude.{◌≡◌, ◌≢◌, ◌⊎◌, ◌<◌, ◌≤◌, ℕ, List, [], ◌∷◌, ◌++◌, length, filter, max, nat_lt, true, false, Option, Some, None, Result, Ok, codes}
+use Rattle.std.specs.List.{flat_map}
 use Rattle.adr_stamp.specs.declared.Oid.{Oid}
 use Rattle.adr_vector.specs.Vector.{Cursors, at, at_most}
 use Rattle.adr_event.specs.declared.event.Event.{Event}
@@ -14,13 +15,15 @@ use Rattle.adr_model.specs.Visible.{covers_update, covers_birth, visible}
 use Rattle.adr_model.specs.Directory.{directory}
 use Rattle.adr_model.specs.Store.{State, Store, updates_of, kept_of, mark_of}
 use Rattle.adr_model.specs.Serve.{Request, last_local, units_of}
-use Rattle.adr_model.specs.Write.{Write, AddObject, Modify, Rename, Delete, AddLink, RemoveLink, IsWellGiven, rows_written}
+use Rattle.adr_model.specs.Change.{Written, Change}
+use Rattle.adr_model.specs.Write.{AddObject, Modify, IsWellGiven, items_written}
 use Rattle.adr_model.specs.Reflects.{knowledge_of, Reflects}
-use Rattle.adr_model.specs.Collect.{deaths_to_collect}
+use Rattle.adr_model.specs.Collect.{deaths_to_collect, collect}
 use Rattle.adr_model.specs.Replica.{Replica, Up}
-use Rattle.adr_model.specs.World.{World, Name, empty_world, step}
-use Rattle.adr_model.specs.Cycles.{happens, cycle, reply_limit}
-use Rattle.adr_model.specs.Sound.{IsSoundWorld}
+use Rattle.adr_model.specs.World.{World, Name, answer, empty_world}
+use Rattle.adr_model.specs.Cycles.{was_taken, pulls, cycle, reply_limit}
+use Rattle.adr_model.specs.Step.{ClientWrite, write_of, step, after_lines}
+use Rattle.adr_model.specs.Sound.{IsSoundWorld, IsWorldOfRun}
 
 -- ---- soundness is kept
 
@@ -33,87 +36,59 @@ IsNewDsa w dsa = Member dsa w.given.dsas → ⊥
 abbrev pub IsNewInv : World → Identifier → Type 0
 IsNewInv w inv = Member inv w.given.invs → ⊥
 
--- an event that a line may give: names and identifiers that are new are so, no database is put back, and values are given in
--- order
+-- nothing is bound to the name yet
+abbrev pub IsUnbound : {A : Type 0} → List (Name × A) → Name → Type 0
+IsUnbound {A} xs name = Each (λ (x : Name × A). x.0 ≢ name) xs
+
+-- an event that a line may give: names and identifiers that are new are so, and values are given in order
 abbrev pub MayHappen : World → Event → Type 0
 MayHappen w (events.Controller name dsa inv) = IsNewName w name × (IsNewDsa w dsa × IsNewInv w inv)
 MayHappen w (events.Install name dsa image inv) = IsNewName w name × (IsNewDsa w dsa × IsNewInv w inv)
 MayHappen w (events.Restore name image inv) = IsNewInv w inv
-MayHappen w (events.Rollback name snapshot) = ⊥
 MayHappen w (events.Add name guid class parent text values) = IsWellGiven (AddObject guid class parent text values)
 MayHappen w (events.Modify name guid values) = IsWellGiven (Modify guid values)
+MayHappen w (events.Ask name partner max bind) = IsUnbound w.requests bind
+MayHappen w (events.Serve name request bind) = IsUnbound w.replies bind
+MayHappen w (events.Backup name bind) = IsUnbound w.images bind
+MayHappen w (events.Snapshot name bind) = IsUnbound w.snapshots bind
 MayHappen w e = Unit {0}
 
+-- a world on the way of a line: the one behind it, or behind some of the pulls of a cycle
+abbrev pub IsOnTheWay : World → Event → World → Type 0
+IsOnTheWay w (events.Cycle name source max) v = (n : ℕ) × (v ≡ (pulls n w name source max).0)
+IsOnTheWay w e v = v ≡ (step w e).0
+
 abbrev pub BeginsSound : Type 0
-BeginsSound = IsSoundWorld empty_world
+BeginsSound = IsWorldOfRun empty_world
 
+-- every world on the way of a line that may happen is again that of a run
 abbrev pub StaysSound : Type 0
-StaysSound = (w : World) (e : Event) → IsSoundWorld w → MayHappen w e → IsSoundWorld (step w e).0
+StaysSound = (w : World) (e : Event) → IsWorldOfRun w → MayHappen w e → (v : World) → IsOnTheWay w e v → IsWorldOfRun v
 
--- a line may also be a pull or a cycle of pulls
-abbrev pub LinesStaySound : Type 0
-LinesStaySound = (w : World) (e : Event) → IsSoundWorld w → MayHappen w e → IsSoundWorld (happens w e).0
+-- a world that isn't clean never becomes so again
+abbrev pub StaysUnclean : Type 0
+StaysUnclean = (w : World) (e : Event) (v : World) → IsOnTheWay w e v → w.clean ≡ false → v.clean ≡ false
 
-abbrev pub after_lines : World → List Event → World
-after_lines w [] = w
-after_lines w (e ∷ es) = after_lines (happens w e).0 es
-
--- each line may be given where it is
+-- each line may happen where it is
 abbrev pub MayAllHappen : World → List Event → Type 0
 MayAllHappen w [] = Unit {0}
-MayAllHappen w (e ∷ es) = MayHappen w e × MayAllHappen (happens w e).0 es
+MayAllHappen w (e ∷ es) = MayHappen w e × MayAllHappen (step w e).0 es
 
--- every run without a rollback is in a sound world after each of its lines
 abbrev pub RunsAreSound : Type 0
-RunsAreSound = (es : List Event) → MayAllHappen empty_world es → IsSoundWorld (after_lines empty_world es)
+RunsAreSound = (es : List Event) → MayAllHappen empty_world es → IsWorldOfRun (after_lines empty_world es)
 
 -- ---- what is shown
 
 abbrev pub held_by : Replica → List Update
 held_by r = updates_of r.safe.store.rows
 
+-- the issued updates that a controller covers or holds
 abbrev pub in_view : World → Replica → List Update
 in_view w r = visible w.scene.issued r.safe.store.vector (held_by r)
 
--- what a controller holds shows what it has in view
-abbrev pub ShowsWhatIsVisible : Type 0
-ShowsWhatIsVisible = (w : World) → IsSoundWorld w → Each (λ r. directory (held_by r) ≡ directory (in_view w r)) w.replicas
-
--- the controller that a client writes at, and what it writes
-abbrev pub write_of : Event → Option (Name × Write)
-write_of (events.Add name guid class parent text values) = Some (name, AddObject guid class parent text values)
-write_of (events.Modify name guid values) = Some (name, Modify guid values)
-write_of (events.Rename name guid parent text) = Some (name, Rename guid parent text)
-write_of (events.Delete name guid) = Some (name, Delete guid)
-write_of (events.Link name from attr to) = Some (name, AddLink from attr to)
-write_of (events.Unlink name from attr to) = Some (name, RemoveLink from attr to)
-write_of _ = None
-
--- an event was a client's write, and in the world behind it all its rows are issued, under the identifier of its controller
--- and this USN. There is a row, and the controller still has that identifier
-pub record IsAcknowledged (w : World) (e : Event) (usn : ℕ) (behind : World) : Type 0 where
-  pub writer : Replica
-  pub what : Write
-  pub there : Member writer w.replicas
-  pub writes : write_of e ≡ Some (writer.name, what)
-  pub row : (u : Update) × Member u (rows_written writer.safe what w.time).rows
-  pub issued : Each (λ u. Member u behind.scene.issued × ((inv_of u ≡ writer.safe.inv) × (usn_of u ≡ usn))) (rows_written writer.safe what w.time).rows
-  pub stays : (r : Replica) × Member r behind.replicas × (r.name ≡ writer.name) × (r.safe.inv ≡ writer.safe.inv)
-
--- a write that was answered by its USN was issued, each row of it
-abbrev pub AcknowledgedIsIssued : Type 0
-AcknowledgedIsIssued =
-    (w : World) (e : Event) (usn : ℕ) → IsSoundWorld w → MayHappen w e → (step w e).1.outcome ≡ outcomes.Usn usn → IsAcknowledged w e usn (step w e).0
-
--- what was issued stays so, whatever comes
-abbrev pub IssuedStays : Type 0
-IssuedStays = (w : World) (e : Event) → Each (λ u. Member u (happens w e).0.scene.issued) w.scene.issued
-
--- all that was issued under its present identifier is in a controller's view
-abbrev pub OwnIsVisible : Type 0
-OwnIsVisible = (w : World) → IsSoundWorld w → Each (λ r. Each (λ u. inv_of u ≡ r.safe.inv → Member u (in_view w r)) w.scene.issued) w.replicas
-
--- ---- equal coverage, equal directories
+-- what each controller holds shows what it has in view
+abbrev pub ShowWhatIsVisible : World → Type 0
+ShowWhatIsVisible w = Each (λ r. directory (held_by r) ≡ directory (in_view w r)) w.replicas
 
 abbrev pub HoldsNothingBeyond : Replica → Type 0
 HoldsNothingBeyond r = Each (λ u. covers_update r.safe.store.vector u ≡ true) (held_by r)
@@ -121,36 +96,93 @@ HoldsNothingBeyond r = Each (λ u. covers_update r.safe.store.vector u ≡ true)
 abbrev pub CoverTheSame : World → Replica → Replica → Type 0
 CoverTheSame w r q = Each (λ u. covers_update r.safe.store.vector u ≡ covers_update q.safe.store.vector u) w.scene.issued
 
+-- controllers that cover the same, and hold nothing beyond, show the same
+abbrev pub ShowAlike : World → Type 0
+ShowAlike w =
+    Each (λ r. Each (λ q. HoldsNothingBeyond r → HoldsNothingBeyond q → CoverTheSame w r q → directory (held_by r) ≡ directory (held_by q)) w.replicas) w.replicas
+
+abbrev pub ShowsWhatIsVisible : Type 0
+ShowsWhatIsVisible = (w : World) → IsSoundWorld w → ShowWhatIsVisible w
+
 abbrev pub EqualCoverageShowsEqual : Type 0
-EqualCoverageShowsEqual =
-    (w : World) → IsSoundWorld w → Each (λ r. Each (λ q. HoldsNothingBeyond r → HoldsNothingBeyond q → CoverTheSame w r q → directory (held_by r) ≡ directory (held_by q)) w.replicas) w.replicas
+EqualCoverageShowsEqual = (w : World) → IsSoundWorld w → ShowAlike w
 
--- ---- the same of every run
+-- ---- what was acknowledged
 
--- after every run each controller shows what it has in view, and controllers that cover the same show the same
+-- an item of a write is issued, each row of it, under the identifier of its controller and the item's USN, which is above the USN
+-- before the write and at most the one that was answered
+pub record IsIssuedItem (issued : List Update) (s : State) (usn : ℕ) (x : Written) : Type 0 where
+  pub above : s.store.usn < x.local
+  pub within : x.local ≤ usn
+  pub rows : Each (λ u. Member u issued × ((inv_of u ≡ s.inv) × (usn_of u ≡ x.local))) x.item.rows
+
+-- an event was a client's write, and in the world behind it all its items are issued. There is a row, and the controller still
+-- has its identifier
+pub record IsAcknowledged (w : World) (e : Event) (usn : ℕ) (behind : World) : Type 0 where
+  pub write : ClientWrite
+  pub is_write : write_of e ≡ Some write
+  pub writer : Replica
+  pub there : Member writer w.replicas
+  pub name : writer.name ≡ write.name
+  pub row : (x : Written) × (u : Update) × Member x (items_written writer.safe write.what w.time) × Member u x.item.rows
+  pub issued : Each (IsIssuedItem behind.scene.issued writer.safe usn) (items_written writer.safe write.what w.time)
+  pub stays : (r : Replica) × Member r behind.replicas × (r.name ≡ writer.name) × (r.safe.inv ≡ writer.safe.inv)
+
+-- the updates of an acknowledged write
+abbrev pub acknowledged : {e : Event} {usn : ℕ} {behind : World} → (w : World) → IsAcknowledged w e usn behind → List Update
+acknowledged w a = flat_map (λ (x : Written). x.item.rows) (items_written a.writer.safe a.write.what w.time)
+
+-- a line that was answered by a USN issued what it wrote, all of it
+abbrev pub AcknowledgedIsIssued : Type 0
+AcknowledgedIsIssued =
+    (w : World) (e : Event) (usn : ℕ) → IsSoundWorld w → MayHappen w e → Each (λ a. a.outcome ≡ outcomes.Usn usn → IsAcknowledged w e usn (step w e).0) (step w e).1
+
+-- what was issued stays so, whatever comes
+abbrev pub IssuedStays : Type 0
+IssuedStays = (w : World) (e : Event) → Each (λ u. Member u (step w e).0.scene.issued) w.scene.issued
+
+-- all that was issued under its present identifier is in a controller's view
+abbrev pub OwnIsInView : World → Type 0
+OwnIsInView w = Each (λ r. Each (λ u. inv_of u ≡ r.safe.inv → Member u (in_view w r)) w.scene.issued) w.replicas
+
+abbrev pub OwnIsVisible : Type 0
+OwnIsVisible = (w : World) → IsSoundWorld w → OwnIsInView w
+
+-- ---- the same of every run, as long as no database was put back
+
 abbrev pub RunsConverge : Type 0
 RunsConverge =
-    (es : List Event) → MayAllHappen empty_world es
-    → Each (λ r. directory (held_by r) ≡ directory (in_view (after_lines empty_world es) r)) (after_lines empty_world es).replicas
-    × Each (λ r. Each (λ q. HoldsNothingBeyond r → HoldsNothingBeyond q → CoverTheSame (after_lines empty_world es) r q → directory (held_by r) ≡ directory (held_by q)) (after_lines empty_world es).replicas) (after_lines empty_world es).replicas
+    (es : List Event) → MayAllHappen empty_world es → (after_lines empty_world es).clean ≡ true
+    → ShowWhatIsVisible (after_lines empty_world es) × ShowAlike (after_lines empty_world es)
 
--- an acknowledged write of a run is, to its end, in the view of whoever has the identifier under which it was issued
+-- the updates are in the view of whoever has the identifier
+abbrev pub AreInView : World → Identifier → List Update → Type 0
+AreInView w inv us = Each (λ r. r.safe.inv ≡ inv → Each (λ u. Member u (in_view w r)) us) w.replicas
+
+-- an acknowledged write of a run is in the view of whoever has the identifier under which it was issued, from there on
 abbrev pub AcknowledgedStaysInView : Type 0
 AcknowledgedStaysInView =
-    (before after : List Event) (e : Event) (usn : ℕ) → MayAllHappen empty_world (before ++ e ∷ after) → (step (after_lines empty_world before) e).1.outcome ≡ outcomes.Usn usn
-    → (a : IsAcknowledged (after_lines empty_world before) e usn (step (after_lines empty_world before) e).0)
-    × Each (λ r. r.safe.inv ≡ a.writer.safe.inv → Each (λ u. Member u (in_view (after_lines empty_world (before ++ e ∷ after)) r)) (rows_written a.writer.safe a.what (after_lines empty_world before).time).rows) (after_lines empty_world (before ++ e ∷ after)).replicas
+    (before after : List Event) (e : Event) (usn : ℕ) → MayAllHappen empty_world (before ++ e ∷ after)
+    → (after_lines empty_world (before ++ e ∷ after)).clean ≡ true
+    → Each (λ a. a.outcome ≡ outcomes.Usn usn
+        → (k : IsAcknowledged (after_lines empty_world before) e usn (step (after_lines empty_world before) e).0)
+        × AreInView (after_lines empty_world (before ++ e ∷ after)) k.writer.safe.inv (acknowledged (after_lines empty_world before) k))
+        (step (after_lines empty_world before) e).1
 
 -- ---- refusals that don't come
 
 abbrev pub IsRefused : ℕ → Outcome → Type 0
 IsRefused number outcome = (label : List ℕ) × (fields : List Field) × (outcome ≡ outcomes.Refused number label fields)
 
+-- none of these answers is refused so
+abbrev pub NoneRefused : ℕ → List Answer → Type 0
+NoneRefused number answers = Each (λ a. IsRefused number a.outcome → ⊥) answers
+
 -- no controller finds that it was put back, and no item is broken or incomplete
 abbrev pub NoDamage : Type 0
 NoDamage =
     (w : World) (e : Event) → IsSoundWorld w → MayHappen w e
-    → (IsRefused 33 (step w e).1.outcome → ⊥) × ((IsRefused 43 (step w e).1.outcome → ⊥) × (IsRefused 44 (step w e).1.outcome → ⊥))
+    → NoneRefused 33 (step w e).1 × (NoneRefused 43 (step w e).1 × NoneRefused 44 (step w e).1)
 
 -- the stores that a controller may come to have
 abbrev pub IsStoreOf : World → Store → Type 0
@@ -163,23 +195,29 @@ pub record IsPurgedCovered (w : World) : Type 0 where
   pub stores : (s t : Store) → IsStoreOf w s → IsStoreOf w t → at_most s.purged t.vector ≡ true
   pub requests : (s : Store) → IsStoreOf w s → Each (λ (q : Name × Request). at_most s.purged q.1.vector ≡ true) w.requests
 
+-- where that is so, none of a line's answers is that someone is too old
 abbrev pub NeverTooOld : Type 0
-NeverTooOld = (w : World) (e : Event) → IsSoundWorld w → MayHappen w e → IsPurgedCovered w → IsRefused 32 (step w e).1.outcome → ⊥
+NeverTooOld = (w : World) (e : Event) → IsSoundWorld w → MayHappen w e → IsPurgedCovered w → NoneRefused 32 (step w e).1
 
 -- whether a vector covers the births and deaths
 abbrev pub CoversDeaths : Cursors → List (Oid × Update) → Type 0
 CoversDeaths v deaths = Each (λ (d : Oid × Update). (covers_birth v d.0 ≡ true) × (covers_update v d.1 ≡ true)) deaths
 
--- a collection removes what all cover, and a new controller comes while nothing was collected
+-- all who may still ask cover these deaths
+pub record AreDeathsCovered (w : World) (deaths : List (Oid × Update)) : Type 0 where
+  pub stores : (t : Store) → IsStoreOf w t → CoversDeaths t.vector deaths
+  pub requests : Each (λ (q : Name × Request). CoversDeaths q.1.vector deaths) w.requests
+
+-- a collection that is done removes what all cover, and a new controller comes while nothing was collected
 abbrev pub KeepsCovered : World → Event → Type 0
 KeepsCovered w (events.Collect name lifetime) =
-    Each (λ r. r.name ≡ name → (t : Store) → IsStoreOf w t → CoversDeaths t.vector (deaths_to_collect r.safe w.time lifetime)) w.replicas
-    × Each (λ r. r.name ≡ name → Each (λ (q : Name × Request). CoversDeaths q.1.vector (deaths_to_collect r.safe w.time lifetime)) w.requests) w.replicas
+    Each (λ r. r.name ≡ name → r.standing ≡ Up → (c : Change) → collect r.safe w.time lifetime ≡ Ok c → AreDeathsCovered w (deaths_to_collect r.safe w.time lifetime)) w.replicas
 KeepsCovered w (events.Controller name dsa inv) = (s : Store) → IsStoreOf w s → s.purged ≡ []
 KeepsCovered w e = Unit {0}
 
 abbrev pub StaysCovered : Type 0
-StaysCovered = (w : World) (e : Event) → IsSoundWorld w → MayHappen w e → IsPurgedCovered w → KeepsCovered w e → IsPurgedCovered (step w e).0
+StaysCovered =
+    (w : World) (e : Event) → IsSoundWorld w → MayHappen w e → IsPurgedCovered w → KeepsCovered w e → (v : World) → IsOnTheWay w e v → v.clean ≡ true → IsPurgedCovered v
 
 -- ---- a cycle ends and carries everything
 
@@ -194,37 +232,48 @@ pub record MayCycle (w : World) (dest source : Replica) : Type 0 where
   pub schema : dest.safe.store.schema ≡ source.safe.store.schema
   pub purged : at_most source.safe.store.purged dest.safe.store.vector ≡ true
 
-abbrev pub is_delivery : Outcome → Bool
-is_delivery (outcomes.Took items wrote usn) = true
-is_delivery _ = false
-
 -- how many units of the source lie beyond the mark that is kept of it
 abbrev pub units_beyond : State → State → ℕ
 units_beyond dest source =
     length (filter (λ unit. nat_lt (mark_of (kept_of dest.store source.dsa) source.inv).obj (last_local source.store.rows unit)) (units_of source.store.rows))
 
+-- how many replies were taken
+abbrev pub replies_taken : List Answer → ℕ
+replies_taken answers = length (filter (λ a. was_taken a.outcome) answers)
+
 abbrev pub ReflectsMore : World → State → State → Type 0
 ReflectsMore w before after = (u : Update) → Reflects w.scene.issued (knowledge_of before.store) u → Reflects w.scene.issued (knowledge_of after.store) u
 
+-- all of the source was read, up to its USN
+abbrev pub is_read_whole : State → State → Type 0
+is_read_whole source after =
+    kept_of after.store source.dsa ≡ record { inv = source.inv; mark = record { obj = source.store.usn; prop = source.store.usn; seen = source.store.usn } }
+
 -- what the destination has after its last reply
 pub record IsCompleted (w : World) (dest source : State) (answers : List Answer) (after : State) : Type 0 where
-  pub replies : length (filter (λ a. is_delivery a.outcome) answers) ≤ max 1 (units_beyond dest source)
+  pub replies : (1 ≤ replies_taken answers) × (replies_taken answers ≤ max 1 (units_beyond dest source))
+  pub mark : is_read_whole source after
   pub took : Each (λ u. Reflects w.scene.issued (knowledge_of after.store) u) (updates_of source.store.rows)
   pub keeps : ReflectsMore w dest after
-  pub from : Each (λ u. Member u (updates_of dest.store.rows) ⊎ Member u (updates_of source.store.rows)) (updates_of after.store.rows)
+  pub gained : Each (λ u. Member u (updates_of dest.store.rows) ⊎ (Member u (updates_of source.store.rows) × (Reflects w.scene.issued (knowledge_of dest.store) u → ⊥))) (updates_of after.store.rows)
   pub vector : (i : Identifier) → i ≢ after.inv → at after.store.vector i ≡ max (at dest.store.vector i) (at source.store.vector i)
   pub own : at after.store.vector after.inv ≡ after.store.usn
-  pub idle : Each (λ u. Reflects w.scene.issued (knowledge_of dest.store) u) (updates_of source.store.rows) → after.store.usn ≡ dest.store.usn
+  pub idle : Each (λ u. Reflects w.scene.issued (knowledge_of dest.store) u) (updates_of source.store.rows) → (after.store.usn ≡ dest.store.usn) × (after.store.rows ≡ dest.store.rows)
+
+-- the cycle took as many replies as one may, and says that there are more
+pub record SaysMore (dest : Name) (answers : List Answer) : Type 0 where
+  pub replies : replies_taken answers ≡ reply_limit
+  pub more : Member (answer (codes "cycle") dest outcomes.More) answers
 
 -- no limit was met on the way
 abbrev pub AreUnlimited : List Answer → Type 0
-AreUnlimited answers = Each (λ a. (IsRefused 21 a.outcome → ⊥) × (IsRefused 22 a.outcome → ⊥)) answers
+AreUnlimited answers = NoneRefused 21 answers × NoneRefused 22 answers
 
--- a cycle of few enough replies ends with the last one, and the destination has everything
+-- a cycle with nothing in the way says that there is more, or ends with the last reply, and the destination has everything
 abbrev pub CycleEnds : Type 0
 CycleEnds =
     (w : World) (dest source : Replica) (most : ℕ) → IsSoundWorld w → MayCycle w dest source → 1 ≤ most
-    → units_beyond dest.safe source.safe ≤ reply_limit
     → AreUnlimited (cycle w dest.name source.name most).1
-    → (after : Replica) × Member after (cycle w dest.name source.name most).0.replicas × (after.name ≡ dest.name)
-    × IsCompleted w dest.safe source.safe (cycle w dest.name source.name most).1 after.safe
+    → SaysMore dest.name (cycle w dest.name source.name most).1
+    ⊎ ((after : Replica) × Member after (cycle w dest.name source.name most).0.replicas × (after.name ≡ dest.name)
+      × IsCompleted w dest.safe source.safe (cycle w dest.name source.name most).1 after.safe)

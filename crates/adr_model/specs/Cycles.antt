@@ -1,12 +1,10 @@
--- Pulls and cycles: runs of single events whose messages have no name and aren't kept.
+-- Pulls and cycles: one controller asks another, which serves, and it takes the reply. These messages have no name and aren't kept.
 use Rattle.std.specs.Prelude.{ℕ, zero, suc, List, [], ◌∷◌, ◌++◌, Bool, true, false, Option, Some, None, is_none, codes}
-use Rattle.adr_event.specs.declared.event.Event.{Event}
-use Rattle.adr_event.specs.declared.event.Event.TheVariants as events
 use Rattle.adr_event.specs.declared.answer.Answer.{Answer}
 use Rattle.adr_event.specs.declared.answer.Outcome.{Outcome}
 use Rattle.adr_event.specs.declared.answer.Outcome.TheVariants as outcomes
 use Rattle.adr_model.specs.Serve.{Request, Reply}
-use Rattle.adr_model.specs.World.{World, Name, Gone, answer, asks, serves_request, delivers, step}
+use Rattle.adr_model.specs.World.{World, Name, Gone, answer, asks, serves_request, delivers}
 
 -- what a pull leaves: the world, what was answered, and whether a reply was taken that isn't the last
 abbrev pub Pulled : Type 0
@@ -57,20 +55,3 @@ reply_limit = 1000000
 
 abbrev pub cycle : World → Name → Name → ℕ → World × List Answer
 cycle w dest source max = pulls reply_limit w dest source max
-
-abbrev pub one_answer : World × Answer → World × List Answer
-one_answer t = (t.0, t.1 ∷ [])
-
--- what a line does, and what is answered
-abbrev pub happens : World → Event → World × List Answer
-happens w (events.Pull name source max) = let p = pull w name source max in (p.0, p.1)
-happens w (events.Cycle name source max) = cycle w name source max
-happens w e = one_answer (step w e)
-
-abbrev pub on_and_on : World × List Answer → (World → List Answer) → List Answer
-on_and_on t go = t.1 ++ go t.0
-
--- the answers to the lines of a run
-abbrev pub transcript : World → List Event → List Answer
-transcript w [] = []
-transcript w (e ∷ es) = on_and_on (happens w e) (λ v. transcript v es)

@@ -10,6 +10,7 @@ use Rattle.adr_event.specs.declared.answer.Outcome.TheVariants as outcomes
 use Rattle.adr_model.specs.Update.{Identifier, Update}
 use Rattle.adr_model.specs.Store.{State}
 use Rattle.adr_model.specs.Change.{Change, after, updates_written}
+use Rattle.adr_model.specs.Lengths.{log_of, log_after}
 use Rattle.adr_model.specs.History.{History, no_history}
 use Rattle.adr_model.specs.Serve.{Reply}
 use Rattle.adr_model.specs.Write.{Write, write}
@@ -64,14 +65,20 @@ pub record Plan : Type 0 where
 pub record Replica : Type 0 where
   pub name : List ℕ
   pub read : State  -- what a start would find
+  pub read_end : ℕ  -- where the log of that ends
   pub safe : State  -- what a crash would leave that loses the unsynced
+  pub safe_end : ℕ
   pub kept : Option Pending
   pub standing : Standing
   pub plan : Option Plan
 
+-- a controller that is up, whose log ends here
+abbrev pub on_disk : List ℕ → State → ℕ → Replica
+on_disk name s end = record { name = name; read = s; read_end = end; safe = s; safe_end = end; kept = None; standing = Up; plan = None }
+
 -- a controller on a new disk
 abbrev pub on_new_disk : List ℕ → State → Replica
-on_new_disk name s = record { name = name; read = s; safe = s; kept = None; standing = Up; plan = None }
+on_new_disk name s = on_disk name s (log_of s)
 
 -- what all controllers are compared with: what clients wrote, in the order in which it became safe, and the log of each incarnation
 pub record Scene : Type 0 where
@@ -113,9 +120,9 @@ settled (Some p) sc inv = recorded sc inv p
 
 -- a change begins: a start would find it. It settles: it is safe. Or it is forgotten
 abbrev pub moved : Scene × Replica → Move → Scene × Replica
-moved t (Begin p) = (t.0, record t.1 { read = after t.1.safe p.change; kept = Some p })
-moved t Settle = (settled t.1.kept t.0 t.1.safe.inv, record t.1 { safe = t.1.read; kept = None })
-moved t Forget = (t.0, record t.1 { read = t.1.safe; kept = None })
+moved t (Begin p) = (t.0, record t.1 { read = after t.1.safe p.change; read_end = log_after t.1.safe_end p.change; kept = Some p })
+moved t Settle = (settled t.1.kept t.0 t.1.safe.inv, record t.1 { safe = t.1.read; safe_end = t.1.read_end; kept = None })
+moved t Forget = (t.0, record t.1 { read = t.1.safe; read_end = t.1.safe_end; kept = None })
 
 -- ---- device calls
 

@@ -1,5 +1,5 @@
 -- Requests for changes and their replies (after MS-DRSR GetNCChanges; what is left out and how marks move is this project's own).
-use Rattle.std.specs.Prelude.{ℕ, ◌+◌, ◌-◌, List, [], ◌∷◌, Bool, true, false, not, ◌&&◌, ◌||◌, ◌==◌, nat_le, nat_lt, max, length, map, filter, fold, Option, Result, if◌then◌else◌}
+use Rattle.std.specs.Prelude.{ℕ, ◌+◌, ◌-◌, ◌*◌, List, [], ◌∷◌, Bool, true, false, not, ◌&&◌, ◌||◌, ◌==◌, nat_le, nat_lt, max, length, map, filter, fold, Option, Result, if◌then◌else◌}
 use Rattle.std.specs.Ordering.{nat_cmp}
 use Rattle.std.specs.BTreeMap.{insert_entry}
 use Rattle.std.specs.BTreeSet.{insert_key}
@@ -109,6 +109,10 @@ item_length i = by i.unit
     by : Named → ℕ
     by (Object o) = 43 + fold (λ n (u : Update). n + 38 + content_length u.said) 0 i.rows
     by (Link l) = 128
+
+-- the length of a vector in bytes: a count, and sixteen and eight bytes for each cursor
+abbrev pub vector_length : Cursors → ℕ
+vector_length v = 4 + 24 * length v
 
 -- the bytes of items at which a reply is cut: 4 MiB
 abbrev pub byte_limit : ℕ

@@ -1,4 +1,4 @@
--- The sound world: what holds in every run in which no database was put back without a fresh identifier.
+-- The world of a run: what holds always, and what holds as long as no database was put back without a fresh identifier.
 use Rattle.std.specs.Prelude.{◌≡◌, ◌≢◌, ◌⊎◌, ◌≤◌, ℕ, List, true, Some, None, IsSome, IfSome}
 use Rattle.adr_schema.specs.Table.{Table, class_at}
 use Rattle.adr_schema.specs.Numbered.{numbered}
@@ -11,14 +11,14 @@ use Rattle.adr_model.specs.Update.{Identifier, Update, RowOf, Holds, ends, inv_o
 use Rattle.adr_model.specs.Place.{identifier}
 use Rattle.adr_model.specs.Reflects.{Numbers, Covers, Knowledge, knowledge_of, Reflects}
 use Rattle.adr_model.specs.Store.{Held, Kept, Normal, Store, State, updates_of}
-use Rattle.adr_model.specs.Change.{Item, after}
+use Rattle.adr_model.specs.Change.{Item, Change, updates_written, after}
 use Rattle.adr_model.specs.History.{History, no_history, last_usn, rows_at, IsCut, IsKept, IsOrdered, IsBelow, WatermarkHolds}
 use Rattle.adr_model.specs.Serve.{Request, Reply}
 use Rattle.adr_model.specs.Write.{IsWellGiven}
 use Rattle.adr_model.specs.Take.{is_birth}
 use Rattle.adr_model.specs.Formed.{AreRising, AreFormedRows, IsFormedStore, IsFormed, IsClosed}
 use Rattle.adr_model.specs.Replica.{Call, ToWrite, ToTake, ToCollect, ToQuarantine, change_of, Pending, Up, Replica, Scene, history_of}
-use Rattle.adr_model.specs.World.{World, Name}
+use Rattle.adr_model.specs.World.{World, Name, Snapshot}
 
 -- the last USN of an incarnation, 0 for an identifier that wasn't used
 abbrev pub last_of : Scene → Identifier → ℕ
@@ -30,10 +30,16 @@ IsBounded sc V = (i : Identifier) → V i ≤ last_of sc i
 abbrev pub IsBirthOf : Oid → Update → Type 0
 IsBirthOf o u = (u.key ≡ RowOf o class_attr) × (is_birth o u ≡ true)
 
--- what was issued and the logs: that an identifier's USNs were used once, and each object that is named was born
+-- two updates are among the rows that one change of a log writes
+abbrev pub IsOfOneChange : History → Update → Update → Type 0
+IsOfOneChange h u v = (c : Change) × Member c h.changes × Member u (updates_written c) × Member v (updates_written c)
+
+-- what was issued and the logs: that an identifier's USNs were used once, each by one change, and each object that is named was
+-- born
 pub record IsSoundScene (sc : Scene) : Type 0 where
   pub one_content : Each (λ u. Each (λ v. u.key ≡ v.key → inv_of u ≡ inv_of v → usn_of u ≡ usn_of v → u ≡ v) sc.issued) sc.issued
   pub once : Each (λ u. (1 ≤ usn_of u) × (usn_of u ≤ last_of sc (inv_of u))) sc.issued
+  pub one_change : Each (λ u. Each (λ v. inv_of u ≡ inv_of v → usn_of u ≡ usn_of v → IsOfOneChange (history_of sc (inv_of u)) u v) sc.issued) sc.issued
   pub born : Each (λ u. Each (λ o. (b : Update) × Member b sc.issued × IsBirthOf o b) (ends u.key)) sc.issued
   pub births : Each (λ u. (o : Oid) → u.key ≡ RowOf o class_attr → is_birth o u ≡ true) sc.issued
   pub kept : (i : Identifier) → IsKept (history_of sc i)
@@ -155,7 +161,8 @@ pub record AreIdentifiersSound (w : World) : Type 0 where
   pub requests : Each (λ (q : Name × Request). IsGiven w q.1.inv) w.requests
   pub replies : Each (λ (r : Name × Reply). Member r.1.inv w.given.invs) w.replies
 
--- nothing is asked of a snapshot: only a rollback looks at one, and the world isn't clean after it
+-- a world while no database was put back. Nothing is asked of a snapshot: only a rollback looks at one, and the world isn't clean
+-- after it
 pub record IsSoundWorld (w : World) : Type 0 where
   pub clean : w.clean ≡ true
   pub scene : IsSoundScene w.scene
@@ -165,3 +172,31 @@ pub record IsSoundWorld (w : World) : Type 0 where
   pub replies : Each (λ (r : Name × Reply). IsSoundReply w.scene r.1) w.replies
   pub identifiers : AreIdentifiersSound w
   pub normal : Each (λ r. r.safe.mode ≡ Normal) w.replicas
+
+-- ---- what holds always
+
+-- a state whose identifiers lines gave, and whose rows are in order
+pub record IsOrderlyState (w : World) (s : State) : Type 0 where
+  pub dsa : Member s.dsa w.given.dsas
+  pub inv : Member s.inv w.given.invs
+  pub rising : AreRising s.store.rows
+
+-- nothing is bound to a name twice
+abbrev pub AreBoundOnce : {A : Type 0} → List (Name × A) → Type 0
+AreBoundOnce {A} xs = Each (λ (x : Name × A). Each (λ (y : Name × A). x.0 ≡ y.0 → x ≡ y) xs) xs
+
+-- names are no one else's, identifiers are those of lines, and rows are in order: also after a database was put back
+pub record IsOrderlyWorld (w : World) : Type 0 where
+  pub names : Each (λ r. Each (λ q. r.name ≡ q.name → r ≡ q) w.replicas) w.replicas
+  pub replicas : Each (λ r. IsOrderlyState w r.safe × IsOrderlyState w r.read) w.replicas
+  pub images : Each (λ (i : Name × Store). AreRising i.1.rows) w.images
+  pub snapshots : Each (λ (s : Name × Snapshot). IsOrderlyState w s.1.state) w.snapshots
+  pub bound_requests : AreBoundOnce w.requests
+  pub bound_replies : AreBoundOnce w.replies
+  pub bound_images : AreBoundOnce w.images
+  pub bound_snapshots : AreBoundOnce w.snapshots
+
+-- the world of a run: orderly always, and sound while it is clean
+pub record IsWorldOfRun (w : World) : Type 0 where
+  pub orderly : IsOrderlyWorld w
+  pub sound : w.clean ≡ true → IsSoundWorld w

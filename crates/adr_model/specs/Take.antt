@@ -40,7 +40,7 @@ is_of_attr attr (LinkOf l) = false
 
 -- a class, name or deleted row
 abbrev pub is_reserved_row : Key → Bool
-is_reserved_row (RowOf o a) = nat_le a deleted_attr
+is_reserved_row (RowOf o a) = nat_le class_attr a && nat_le a deleted_attr
 is_reserved_row (LinkOf l) = false
 
 abbrev pub has_row : ℕ → List Update → Bool
@@ -58,32 +58,48 @@ is_gone vector rows o = not (holds_object rows o) && covers_birth vector o
 abbrev pub is_lost_end : Cursors → List Held → Oid → Bool
 is_lost_end vector rows o = holds_dead rows o || is_gone vector rows o
 
--- what stands of an object before its item
-abbrev pub by_standing : {A : Type 0} → Cursors → List Held → Oid → A → A → A → A → A
-by_standing vector rows o dead held gone new =
-    if holds_dead rows o then dead else if holds_object rows o then held else if covers_birth vector o then gone else new
+-- what stands of an object before its item: it is held dead, or held alive; or it is gone, since it was held and collected or
+-- never comes; or it is new
+pub data Presence : Type 0 where
+  IsDead : Presence
+  IsHeld : Presence
+  IsGone : Presence
+  IsNew : Presence
+
+abbrev pub presence_of : Cursors → List Held → Oid → Presence
+presence_of vector rows o =
+    if holds_dead rows o then IsDead else if holds_object rows o then IsHeld else if covers_birth vector o then IsGone else IsNew
+
+-- the rows of an object's item that are written: of a dead object a younger death, of a live one all younger rows but its class
+abbrev pub object_rows_taken : List Held → List Update → Presence → List Update
+object_rows_taken rows us IsDead = filter (λ u. is_of_attr deleted_attr u.key && is_above rows u) us
+object_rows_taken rows us IsHeld = left_by_death (filter (λ u. not (is_of_attr class_attr u.key) && is_above rows u) us)
+object_rows_taken rows us IsGone = []
+object_rows_taken rows us IsNew = left_by_death us
 
 -- the rows of an item that are written
 abbrev pub rows_taken : Cursors → List Held → Item → List Update
 rows_taken vector rows item = by item.unit
   where
     by : Named → List Update
-    by (Object o) =
-        by_standing vector rows o
-        (filter (λ u. is_of_attr deleted_attr u.key && is_above rows u) item.rows)
-        (left_by_death (filter (λ u. not (is_of_attr class_attr u.key) && is_above rows u) item.rows))
-        []
-        (left_by_death item.rows)
+    by (Object o) = object_rows_taken rows item.rows (presence_of vector rows o)
     by (Link l) = if is_lost_end vector rows l.from || is_lost_end vector rows l.to then [] else filter (is_above rows) item.rows
 
 -- ---- which rows of an item are looked at, and what is wrong with one
+
+-- the rows of an object's item that are looked at: of a live object all, also where it dies by them
+abbrev pub object_rows_tested : List Update → Presence → List Update
+object_rows_tested us IsDead = []
+object_rows_tested us IsHeld = us
+object_rows_tested us IsGone = []
+object_rows_tested us IsNew = left_by_death us
 
 -- the rows that aren't left out
 abbrev pub rows_tested : Cursors → List Held → Item → List Update
 rows_tested vector rows item = by item.unit
   where
     by : Named → List Update
-    by (Object o) = by_standing vector rows o [] item.rows [] (left_by_death item.rows)
+    by (Object o) = object_rows_tested item.rows (presence_of vector rows o)
     by (Link l) = if is_lost_end vector rows l.from || is_lost_end vector rows l.to then [] else item.rows
 
 -- whether a class row carries the birth of its object
@@ -98,7 +114,7 @@ abbrev pub row_fault : Schema → Option ℕ → Update → Option ItemFault
 row_fault table class u = by u.key u.said
   where
     by : Key → Said → Option ItemFault
-    by (RowOf o attr) (Holds (Class c)) = option_or (then_some (not (is_birth o u)) WrongBirth) (broken (class_refusal table c))
+    by (RowOf o attr) (Holds (Class c)) = first_of (then_some (not (is_birth o u)) WrongBirth ∷ broken (class_refusal table c) ∷ [])
     by (RowOf o attr) (Holds (Name text parent)) = broken (name_refusal text)
     by (RowOf o attr) (Holds Dead) = None
     by (RowOf o attr) (Holds (Values vs)) = broken (row_refusal table class attr vs)
@@ -133,15 +149,20 @@ lacks table rows =
     not (has_row class_attr rows) || not (has_row name_attr rows)
     || (not (has_row deleted_attr rows) && list_any (λ attr. not (has_row attr rows)) (must_of table (unwrap_or (class_among rows) 0)))
 
+-- only a new object may lack anything
+abbrev pub object_lacks : Schema → List Update → Presence → Bool
+object_lacks table us IsNew = lacks table us
+object_lacks table us _ = false
+
 abbrev pub incomplete : Schema → Cursors → List Held → Item → Option TakeRefusal
 incomplete table vector rows item = by item.unit
   where
     by : Named → Option TakeRefusal
-    by (Object o) = by_standing vector rows o None None None (then_some (lacks table item.rows) (Incomplete o))
+    by (Object o) = then_some (object_lacks table item.rows (presence_of vector rows o)) (Incomplete o)
     by (Link l) = None
 
 abbrev pub item_refusal : Schema → Cursors → List Held → ℕ → Item → Option TakeRefusal
-item_refusal table vector rows at item = option_or (option_map (BadItem at) (item_fault table vector rows item)) (incomplete table vector rows item)
+item_refusal table vector rows at item = first_of (option_map (BadItem at) (item_fault table vector rows item) ∷ incomplete table vector rows item ∷ [])
 
 -- ---- the items, one after the other
 
@@ -172,7 +193,7 @@ take_item table vector t item =
       rows = rows;
       usn = t.usn + length writes;
       writes = t.writes ++ writes;
-      refusal = option_or t.refusal (item_refusal table vector t.rows t.place item);
+      refusal = first_of (t.refusal ∷ item_refusal table vector t.rows t.place item ∷ []);
       place = t.place + 1;
       objects = max t.objects (length (objects_of (updates_of rows)));
       links = max t.links (links_in rows);

@@ -1,14 +1,13 @@
--- A run: the time, the scene, the controllers and what is bound to names, and what each event does and is answered.
-use Rattle.std.specs.Prelude.{ℕ, List, [], ◌∷◌, ◌++◌, Bool, true, false, Option, Some, None, is_some, Result, Ok, Err, map, fold, length, if◌then◌else◌, codes}
+-- Where a run stands: the time, the scene, the controllers and what is bound to names; and what each call of a controller does.
+use Rattle.std.specs.Prelude.{ℕ, List, [], ◌∷◌, ◌++◌, Bool, true, false, Option, Some, None, is_some, Result, Ok, Err, map, fold, length, nat_lt, if◌then◌else◌}
 use Rattle.std.specs.List.{find, flat_map}
 use Rattle.std.specs.Option.{option_map}
 use Rattle.std.specs.Str.{bytes_eq}
-use Rattle.adr_event.specs.declared.event.Event.{Event}
-use Rattle.adr_event.specs.declared.event.Event.TheVariants as events
 use Rattle.adr_event.specs.declared.answer.Answer.{Answer}
 use Rattle.adr_event.specs.declared.answer.Outcome.{Outcome}
 use Rattle.adr_event.specs.declared.answer.Outcome.TheVariants as outcomes
 use Rattle.adr_event.specs.declared.directory.Entry.{Entry}
+use Rattle.adr_event.specs.declared.refusal.Table.TheVariants.{Log}
 use Rattle.adr_event.specs.declared.refusal.WriteRefusal.{WriteRefusal}
 use Rattle.adr_event.specs.declared.refusal.ServeRefusal.{ServeRefusal}
 use Rattle.adr_event.specs.declared.refusal.ServeRefusal.TheVariants as serves
@@ -20,14 +19,15 @@ use Rattle.adr_model.specs.Update.{Identifier}
 use Rattle.adr_model.specs.Visible.{visible}
 use Rattle.adr_model.specs.Directory.{directory}
 use Rattle.adr_vector.specs.declared.mark.Mark.{Mark}
-use Rattle.adr_model.specs.Store.{Kept, State, Store, updates_of, empty_state}
+use Rattle.adr_model.specs.Store.{Kept, State, Store, updates_of}
 use Rattle.adr_model.specs.Change.{Change, Item}
 use Rattle.adr_model.specs.Serve.{Request, Reply, ask, serve}
-use Rattle.adr_model.specs.Write.{Write, AddObject, Modify, Rename, Delete, AddLink, RemoveLink, write}
+use Rattle.adr_model.specs.Write.{Write, write}
 use Rattle.adr_model.specs.Take.{take}
-use Rattle.adr_model.specs.Collect.{collect, backup, adopt, quarantine}
-use Rattle.adr_model.specs.Refused.{write_refused, serve_refused, take_refused, collect_refused, adopt_refused, quarantined}
-use Rattle.adr_model.specs.Replica.{ToWrite, ToTake, ToCollect, ToQuarantine, Pending, Standing, Up, Down, Failed, Stops, Fails, Plan, Replica, on_new_disk, Scene, begun, Move, Settle, moved, went, moves_of_commit, moves_of_start, standing_after, plan_after, outcome_after}
+use Rattle.adr_model.specs.Collect.{quarantine}
+use Rattle.adr_model.specs.Refused.{write_refused, serve_refused, take_refused, collect_refused, adopt_refused, quarantined, full}
+use Rattle.adr_model.specs.Lengths.{log_limit, log_of, log_after}
+use Rattle.adr_model.specs.Replica.{ToWrite, ToTake, ToCollect, ToQuarantine, Pending, Standing, Up, Down, Failed, Plan, Replica, on_disk, on_new_disk, Scene, begun, Move, Settle, moved, went, moves_of_commit, moves_of_start, standing_after, plan_after, outcome_after}
 
 abbrev pub Name : Type 0
 Name = List ℕ
@@ -36,6 +36,11 @@ Name = List ℕ
 pub record Given : Type 0 where
   pub dsas : List Identifier
   pub invs : List Identifier
+
+-- a copy of a controller's disk: what a start finds there, and where the log ends
+pub record Snapshot : Type 0 where
+  pub state : State
+  pub log_end : ℕ
 
 -- where a run stands
 pub record World : Type 0 where
@@ -46,7 +51,7 @@ pub record World : Type 0 where
   pub requests : List (Name × Request)
   pub replies : List (Name × Reply)
   pub images : List (Name × Store)
-  pub snapshots : List (Name × State)
+  pub snapshots : List (Name × Snapshot)
   pub given : Given
 
 abbrev pub empty_world : World
@@ -113,29 +118,42 @@ where_up other Failed gone = other outcomes.Failed
 abbrev pub of_controller : {A : Type 0} → World → Name → (Outcome → A) → (Replica → A) → A
 of_controller w name other act = of_made other (replica_at w name) (λ r. where_up other r.standing (act r))
 
+-- a refusal is answered, and nothing has changed; what isn't refused goes on
+abbrev pub unless_refused : {A E : Type 0} → World → (E → Outcome) → (A → Gone) → Result A E → Gone
+unless_refused w refused act (Err refusal) = (w, refused refusal)
+unless_refused w refused act (Ok a) = act a
+
+-- what is written to a log must not end beyond its limit
+abbrev pub within_log : World → ℕ → Gone → Gone
+within_log w end gone = if nat_lt log_limit end then (w, full Log log_limit) else gone
+
 -- a change is committed by four device calls
-abbrev pub commit : World → Replica → Pending → Outcome → Gone
-commit w r p outcome =
+abbrev pub committed : World → Replica → Pending → Outcome → Gone
+committed w r p outcome =
     let g = went r.plan 4 in
     let m = fold moved (w.scene, r) (moves_of_commit p g) in (
       record w { scene = m.0; replicas = with_replica w.replicas (record m.1 { standing = standing_after Failed g; plan = plan_after g }) },
       outcome_after g outcome,
     )
 
+-- a change that the log has room for is committed
+abbrev pub commit : World → Replica → Pending → Outcome → Gone
+commit w r p outcome = within_log w (log_after r.safe_end p.change) (committed w r p outcome)
+
 -- a controller that showed that it was put back is quarantined before it refuses
 abbrev pub quarantines : World → Replica → Outcome → Gone
 quarantines w r refused = commit w r (record { call = ToQuarantine; change = quarantine r.safe }) refused
 
 abbrev pub after_write : World → Replica → Write → Result Change WriteRefusal → Gone
-after_write w r what (Err refusal) = (w, write_refused refusal)
-after_write w r what (Ok change) = commit w r (record { call = ToWrite what w.time; change = change }) (outcomes.Usn change.usn)
+after_write w r what t =
+    unless_refused w write_refused (λ (change : Change). commit w r (record { call = ToWrite what w.time; change = change }) (outcomes.Usn change.usn)) t
 
 abbrev pub writes : World → Name → Write → Gone
 writes w name what = of_controller w name (stays w) (λ r. after_write w r what (write r.safe what w.time))
 
 abbrev pub after_collect : World → Replica → ℕ → Result Change CollectRefusal → Gone
-after_collect w r lifetime (Err refusal) = (w, collect_refused refusal)
-after_collect w r lifetime (Ok change) = commit w r (record { call = ToCollect w.time lifetime; change = change }) (outcomes.Removed (length change.removed))
+after_collect w r lifetime t =
+    unless_refused w collect_refused (λ (change : Change). commit w r (record { call = ToCollect w.time lifetime; change = change }) (outcomes.Removed (length change.removed))) t
 
 -- ---- messages
 
@@ -191,19 +209,22 @@ abbrev pub backed_up : World → Option Store → Sent Store
 backed_up w None = nothing w quarantined
 backed_up w (Some image) = (w, outcomes.Ok, Some image)
 
--- a controller of its name gets a new disk with a state of a fresh identifier
+-- a controller begins on a new disk, with a state of a fresh identifier
+abbrev pub begins : World → (Replica → List Replica) → Name → State → Gone
+begins w placed name s =
+    within_log w (log_of s) (record w { scene = begun w.scene s; replicas = placed (on_new_disk name s) }, outcomes.Ok)
+
 abbrev pub adopts : World → (Replica → List Replica) → Name → Result State AdoptRefusal → Gone
-adopts w placed name (Err refusal) = (w, adopt_refused refusal)
-adopts w placed name (Ok s) = (record w { scene = begun w.scene s; replicas = placed (on_new_disk name s) }, outcomes.Ok)
+adopts w placed name t = unless_refused w adopt_refused (begins w placed name) t
 
 abbrev pub of_image : World → Option Store → (Store → Gone) → Gone
 of_image w None act = (w, outcomes.Absent)
 of_image w (Some image) act = act image
 
 -- a snapshot is put back: from here on nothing is said of what controllers have in view
-abbrev pub put_back : World → Name → Option State → Gone
+abbrev pub put_back : World → Name → Option Snapshot → Gone
 put_back w name None = (w, outcomes.Absent)
-put_back w name (Some s) = (record w { clean = false; replicas = with_replica w.replicas (on_new_disk name s) }, outcomes.Ok)
+put_back w name (Some s) = (record w { clean = false; replicas = with_replica w.replicas (on_disk name s.state s.log_end) }, outcomes.Ok)
 
 abbrev pub with_plan : World → Replica → Plan → Gone
 with_plan w r plan = (record w { replicas = with_replica w.replicas (record r { plan = Some plan }) }, outcomes.Ok)
@@ -224,65 +245,3 @@ abbrev pub starts : World → Replica → Standing → Gone
 starts w r Up = (w, outcomes.Up)
 starts w r Down = started w r
 starts w r Failed = started w r
-
--- ---- events
-
-abbrev pub told : List ℕ → Name → Gone → World × Answer
-told verb name g = (g.0, answer verb name g.1)
-
-abbrev pub gives : World → List Identifier → List Identifier → World
-gives w dsas invs = record w { given = record { dsas = w.given.dsas ++ dsas; invs = w.given.invs ++ invs } }
-
--- what an event does, and what is answered. Lines of pulls are several events
-abbrev pub step : World → Event → World × Answer
-step w (events.Controller name dsa inv) =
-    let v = gives w (dsa ∷ []) (inv ∷ []) in
-    told (codes "controller") name
-    (record v { scene = begun v.scene (empty_state dsa inv); replicas = v.replicas ++ on_new_disk name (empty_state dsa inv) ∷ [] }, outcomes.Ok)
-step w (events.Time now) = (record w { time = now }, answer (codes "time") [] outcomes.Silent)
-step w (events.Add name guid class parent text values) = told (codes "add") name (writes w name (AddObject guid class parent text values))
-step w (events.Modify name guid values) = told (codes "modify") name (writes w name (Modify guid values))
-step w (events.Rename name guid parent text) = told (codes "rename") name (writes w name (Rename guid parent text))
-step w (events.Delete name guid) = told (codes "delete") name (writes w name (Delete guid))
-step w (events.Link name from attr to) = told (codes "link") name (writes w name (AddLink from attr to))
-step w (events.Unlink name from attr to) = told (codes "unlink") name (writes w name (RemoveLink from attr to))
-step w (events.Ask name partner max bind) =
-    let t = asks w name partner max in told (codes "ask") name (record t.0 { requests = bound w.requests bind t.2 }, t.1)
-step w (events.Serve name request bind) =
-    let t = serves_request w name (bound_at w.requests request) in told (codes "serve") name (record t.0 { replies = bound w.replies bind t.2 }, t.1)
-step w (events.Deliver name reply) = told (codes "deliver") name (delivers w name (bound_at w.replies reply))
-step w (events.Pull name source max) = (w, answer (codes "pull") name outcomes.Silent)
-step w (events.Cycle name source max) = (w, answer (codes "cycle") name outcomes.Silent)
-step w (events.Collect name lifetime) =
-    told (codes "collect") name (of_controller w name (stays w) (λ r. after_collect w r lifetime (collect r.safe w.time lifetime)))
-step w (events.Backup name bind) =
-    let t = of_controller w name (nothing w) (λ r. backed_up w (backup r.safe)) in told (codes "backup") name (record t.0 { images = bound w.images bind t.2 }, t.1)
-step w (events.Restore name image inv) =
-    let v = gives w [] (inv ∷ []) in
-    told (codes "restore") name
-    (of_made (stays v) (replica_at v name) (λ r. of_image v (bound_at v.images image) (λ i. adopts v (with_replica v.replicas) name (adopt i r.safe.dsa inv))))
-step w (events.Install name dsa image inv) =
-    let v = gives w (dsa ∷ []) (inv ∷ []) in
-    told (codes "install") name (of_image v (bound_at v.images image) (λ i. adopts v (λ r. v.replicas ++ r ∷ []) name (adopt i dsa inv)))
-step w (events.Snapshot name bind) =
-    let t = of_made (nothing w) (replica_at w name) (λ r. (w, outcomes.Ok, Some r.read)) in told (codes "snapshot") name (record t.0 { snapshots = bound w.snapshots bind t.2 }, t.1)
-step w (events.Rollback name snapshot) =
-    told (codes "rollback") name (of_made (stays w) (replica_at w name) (λ r. put_back w name (bound_at w.snapshots snapshot)))
-step w (events.StopAfter name calls how) =
-    told (codes "stop") name (of_made (stays w) (replica_at w name) (λ r. with_plan w r (record { calls = calls; fault = Stops how })))
-step w (events.Fail name calls) =
-    told (codes "fail") name (of_made (stays w) (replica_at w name) (λ r. with_plan w r (record { calls = calls; fault = Fails })))
-step w (events.Stop name) = told (codes "stop") name (of_made (stays w) (replica_at w name) (λ r. stops w r))
-step w (events.Start name) = told (codes "start") name (of_made (stays w) (replica_at w name) (λ r. starts w r r.standing))
-step w (events.Show name) = told (codes "show") name (of_controller w name (stays w) (λ r. (w, outcomes.Show (shown w r.safe))))
-step w (events.Vector name) = told (codes "vector") name (of_controller w name (stays w) (λ r. (w, outcomes.Vector r.safe.store.vector)))
-step w (events.Marks name) = told (codes "marks") name (of_controller w name (stays w) (λ r. (w, outcomes.Marks (marks_shown r.safe.store))))
-
--- an answer, and those to the events that follow
-abbrev pub followed : World × Answer → (World → List Answer) → List Answer
-followed s go = s.1 ∷ go s.0
-
--- the answers to events, one after the other
-abbrev pub answers : World → List Event → List Answer
-answers w [] = []
-answers w (e ∷ es) = followed (step w e) (λ v. answers v es)

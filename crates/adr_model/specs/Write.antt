@@ -28,7 +28,7 @@ use Rattle.adr_model.specs.Live.{objects_of, live_rows}
 use Rattle.adr_model.specs.Place.{Node, root, lost_and_found, is_fixed, nodes_of, node_at, upward, place}
 use Rattle.adr_model.specs.Shown.{is_lost_name, is_named, name_holder}
 use Rattle.adr_model.specs.Store.{Held, State, updates_of, row_held}
-use Rattle.adr_model.specs.Change.{Item, Change, only_writes}
+use Rattle.adr_model.specs.Change.{Item, Written, Change, only_writes}
 use Rattle.adr_model.specs.Serve.{is_quarantined}
 
 -- how many objects and link rows a controller holds at most, and the greatest USN and version
@@ -330,7 +330,7 @@ abbrev pub of_link : State → ℕ → LinkKey → Bool → Item
 of_link s now link present =
     record { unit = OneLink link; rows = record { key = LinkOf link; stamp = next_stamp s (LinkOf link) now; said = IsPresent present } ∷ [] }
 
--- the rows that a write writes
+-- the rows that a write writes under the next USN
 abbrev pub rows_written : State → Write → ℕ → Item
 rows_written s (AddObject guid class parent text values) now =
     of_object (new_object s guid) (new_rows (new_object s guid) (first_stamp s now) class parent text values)
@@ -343,10 +343,14 @@ rows_written s (Delete guid) now =
 rows_written s (AddLink from attr to) now = of_link s now (link_of (nodes_held (updates_of s.store.rows)) from attr to) true
 rows_written s (RemoveLink from attr to) now = of_link s now (link_of (nodes_held (updates_of s.store.rows)) from attr to) false
 
--- the change of a write: one item under the next USN
-abbrev pub own_change : State → Item → Change
-own_change s item = only_writes (s.store.usn + 1) (record { local = s.store.usn + 1; item = item } ∷ [])
+-- what a write issues: items, each under a USN of its own, from the next one on. The six writes issue one
+abbrev pub items_written : State → Write → ℕ → List Written
+items_written s w now = record { local = s.store.usn + 1; item = rows_written s w now } ∷ []
+
+-- the change of a write: it ends at the last of its USNs
+abbrev pub own_change : State → List Written → Change
+own_change s items = only_writes (s.store.usn + length items) items
 
 -- a client writes: the first refusal, or the change
 abbrev pub write : State → Write → ℕ → Result Change WriteRefusal
-write s w now = unless (write_refusal s w) (own_change s (rows_written s w now))
+write s w now = unless (write_refusal s w) (own_change s (items_written s w now))

@@ -1,0 +1,106 @@
+-- What each line of a run does, and what it is answered.
+use Rattle.std.specs.Prelude.{ℕ, List, [], ◌∷◌, ◌++◌, Option, Some, None, codes}
+use Rattle.adr_event.specs.declared.event.Event.{Event}
+use Rattle.adr_event.specs.declared.event.Event.TheVariants as events
+use Rattle.adr_event.specs.declared.answer.Answer.{Answer}
+use Rattle.adr_event.specs.declared.answer.Outcome.TheVariants as outcomes
+use Rattle.adr_model.specs.Update.{Identifier}
+use Rattle.adr_model.specs.Store.{empty_state}
+use Rattle.adr_model.specs.Write.{Write, AddObject, Modify, Rename, Delete, AddLink, RemoveLink}
+use Rattle.adr_model.specs.Collect.{collect, backup, adopt}
+use Rattle.adr_model.specs.Replica.{Stops, Fails, Replica, on_new_disk, begun}
+use Rattle.adr_model.specs.World.{World, Name, Gone, Sent, Snapshot, answer, stays, nothing, bound, bound_at, replica_at, with_replica, shown, marks_shown, of_made, of_controller, of_image, writes, after_collect, asks, serves_request, delivers, backed_up, adopts, put_back, with_plan, stops, starts}
+use Rattle.adr_model.specs.Cycles.{pull, cycle}
+
+-- a client's write: the word of its line, the controller that it goes to, and what is written
+pub record ClientWrite : Type 0 where
+  pub verb : List ℕ
+  pub name : Name
+  pub what : Write
+
+abbrev pub client_write : List ℕ → Name → Write → Option ClientWrite
+client_write verb name what = Some (record { verb = verb; name = name; what = what })
+
+abbrev pub write_of : Event → Option ClientWrite
+write_of (events.Add name guid class parent text values) = client_write (codes "add") name (AddObject guid class parent text values)
+write_of (events.Modify name guid values) = client_write (codes "modify") name (Modify guid values)
+write_of (events.Rename name guid parent text) = client_write (codes "rename") name (Rename guid parent text)
+write_of (events.Delete name guid) = client_write (codes "delete") name (Delete guid)
+write_of (events.Link name from attr to) = client_write (codes "link") name (AddLink from attr to)
+write_of (events.Unlink name from attr to) = client_write (codes "unlink") name (RemoveLink from attr to)
+write_of _ = None
+
+-- a line with one answer
+abbrev pub told : List ℕ → Name → Gone → World × List Answer
+told verb name g = (g.0, answer verb name g.1 ∷ [])
+
+-- a line with one answer, which binds what was made
+abbrev pub told_bound : {A : Type 0} → List ℕ → Name → Sent A → (World → Option A → World) → World × List Answer
+told_bound verb name t binds = (binds t.0 t.2, answer verb name t.1 ∷ [])
+
+-- a line gives identifiers, whatever it is answered
+abbrev pub gives : World → List Identifier → List Identifier → World
+gives w dsas invs = record w { given = record { dsas = w.given.dsas ++ dsas; invs = w.given.invs ++ invs } }
+
+-- what a line does that is no client's write
+abbrev pub step_of_other : World → Event → World × List Answer
+step_of_other w (events.Controller name dsa inv) =
+    let v = gives w (dsa ∷ []) (inv ∷ []) in
+    told (codes "controller") name
+    (record v { scene = begun v.scene (empty_state dsa inv); replicas = v.replicas ++ on_new_disk name (empty_state dsa inv) ∷ [] }, outcomes.Ok)
+step_of_other w (events.Time now) = (record w { time = now }, [])
+step_of_other w (events.Ask name partner max bind) =
+    told_bound (codes "ask") name (asks w name partner max) (λ v q. record v { requests = bound v.requests bind q })
+step_of_other w (events.Serve name request bind) =
+    told_bound (codes "serve") name (serves_request w name (bound_at w.requests request)) (λ v r. record v { replies = bound v.replies bind r })
+step_of_other w (events.Deliver name reply) = told (codes "deliver") name (delivers w name (bound_at w.replies reply))
+step_of_other w (events.Pull name source max) = let p = pull w name source max in (p.0, p.1)
+step_of_other w (events.Cycle name source max) = cycle w name source max
+step_of_other w (events.Collect name lifetime) =
+    told (codes "collect") name (of_controller w name (stays w) (λ r. after_collect w r lifetime (collect r.safe w.time lifetime)))
+step_of_other w (events.Backup name bind) =
+    told_bound (codes "backup") name (of_controller w name (nothing w) (λ r. backed_up w (backup r.safe))) (λ v i. record v { images = bound v.images bind i })
+step_of_other w (events.Restore name image inv) =
+    let v = gives w [] (inv ∷ []) in
+    told (codes "restore") name
+    (of_made (stays v) (replica_at v name) (λ r. of_image v (bound_at v.images image) (λ i. adopts v (with_replica v.replicas) name (adopt i r.safe.dsa inv))))
+step_of_other w (events.Install name dsa image inv) =
+    let v = gives w (dsa ∷ []) (inv ∷ []) in
+    told (codes "install") name (of_image v (bound_at v.images image) (λ i. adopts v (λ r. v.replicas ++ r ∷ []) name (adopt i dsa inv)))
+step_of_other w (events.Snapshot name bind) =
+    told_bound (codes "snapshot") name
+    (of_made (nothing w) (replica_at w name) (λ r. (w, outcomes.Ok, Some (record { state = r.read; log_end = r.read_end }))))
+    (λ v s. record v { snapshots = bound v.snapshots bind s })
+step_of_other w (events.Rollback name snapshot) =
+    told (codes "rollback") name (of_made (stays w) (replica_at w name) (λ r. put_back w name (bound_at w.snapshots snapshot)))
+step_of_other w (events.StopAfter name calls how) =
+    told (codes "stop") name (of_made (stays w) (replica_at w name) (λ r. with_plan w r (record { calls = calls; fault = Stops how })))
+step_of_other w (events.Fail name calls) =
+    told (codes "fail") name (of_made (stays w) (replica_at w name) (λ r. with_plan w r (record { calls = calls; fault = Fails })))
+step_of_other w (events.Stop name) = told (codes "stop") name (of_made (stays w) (replica_at w name) (λ r. stops w r))
+step_of_other w (events.Start name) = told (codes "start") name (of_made (stays w) (replica_at w name) (λ r. starts w r r.standing))
+step_of_other w (events.Show name) = told (codes "show") name (of_controller w name (stays w) (λ r. (w, outcomes.Show (shown w r.safe))))
+step_of_other w (events.Vector name) = told (codes "vector") name (of_controller w name (stays w) (λ r. (w, outcomes.Vector r.safe.store.vector)))
+step_of_other w (events.Marks name) = told (codes "marks") name (of_controller w name (stays w) (λ r. (w, outcomes.Marks (marks_shown r.safe.store))))
+step_of_other w _ = (w, [])  -- none is left: a client's write is no such line
+
+-- what a line does, and its answers: none to a `time`, those of each call to a pull or a cycle, and else one
+abbrev pub step : World → Event → World × List Answer
+step w e = by (write_of e)
+  where
+    by : Option ClientWrite → World × List Answer
+    by (Some write) = told write.verb write.name (writes w write.name write.what)
+    by None = step_of_other w e
+
+-- the world behind lines, and their answers
+
+abbrev pub after_lines : World → List Event → World
+after_lines w [] = w
+after_lines w (e ∷ es) = after_lines (step w e).0 es
+
+abbrev pub and_on : World × List Answer → (World → List Answer) → List Answer
+and_on t go = t.1 ++ go t.0
+
+abbrev pub answers : World → List Event → List Answer
+answers w [] = []
+answers w (e ∷ es) = and_on (step w e) (λ v. answers v es)

@@ -1,0 +1,22 @@
+use Rattle.std.proofs.Common.{refl}
+use Rattle.caseless.proofs.Computing.{caseless}
+use Rattle.std.specs.Str.{chars}
+use lib.Utf8.{encode}
+use Rattle.uuid.proofs.OnLiterals.{uuid_on_literals}
+use Rattle.adr_schema.specs.Schemas.{schema_1}
+use Rattle.adr_schema.specs.Names.{name_fault}
+use Rattle.adr_schema.specs.Values.{bad_place}
+use Rattle.adr_schema.specs.Rules.{add_refusal, modify_refusal, link_refusal, row_refusal}
+use Rattle.adr_worked.proofs.refused_messages.Goals as goal
+
+pub returns-clause-requests : goal.returns-clause-requests
+unfolding caseless uuid_on_literals chars encode schema_1 name_fault bad_place add_refusal modify_refusal link_refusal row_refusal
+returns-clause-requests c = refl
+
+pub returns-clause-replies : goal.returns-clause-replies
+unfolding caseless uuid_on_literals chars encode schema_1 name_fault bad_place add_refusal modify_refusal link_refusal row_refusal
+returns-clause-replies c = refl
+
+pub returns-clause-limits : goal.returns-clause-limits
+unfolding caseless uuid_on_literals chars encode schema_1 name_fault bad_place add_refusal modify_refusal link_refusal row_refusal
+returns-clause-limits c = refl

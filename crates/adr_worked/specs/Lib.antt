@@ -1,0 +1,10 @@
+pub mod Runs
+pub mod Answered
+pub mod Acting
+pub mod Pulls
+pub mod Conflicts
+pub mod Lifetimes
+pub mod RefusedWrites
+pub mod RefusedReplies
+pub mod Stops
+pub mod Transcripts

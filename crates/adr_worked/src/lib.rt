@@ -1,0 +1,122 @@
+//! What a reader has to believe: what updates are, which of them count, what they show, and what a
+//! run of events does and answers. These definitions speak of plain lists and numbers, and stand on
+//! the types of stamps, contents, events and answers alone. The functions here have no code: their
+//! contracts are what is computed or proved of the definitions.
+#![tactic(auto)]
+
+ghost use Rattle.std.specs.Prelude.{◌≡◌, Some, None};
+ghost use Rattle.adr_model.specs.Directory.{directory};
+ghost use Rattle.adr_worked.specs.Runs.{one_user, one_user_shown, name_twice, name_twice_shown, lost_name, lost_name_shown, loop_of_two, loop_of_two_shown, lost_parent, lost_parent_shown, guid_twice, guid_twice_shown, a_group, a_group_shown};
+ghost use Rattle.adr_worked.specs.Pulls.{equal_stamps, equal_stamps_told, cut, cut_told, repeated, repeated_told, reordered, reordered_told, older_than_restore, older_than_restore_told, compared_by_seen, compared_by_seen_told};
+ghost use Rattle.adr_worked.specs.Conflicts.{one_name_twice, one_name_twice_shown, lost_parent as parent_lost, lost_parent_told, moved_in_a_loop, moved_in_a_loop_shown, two_members, two_members_told, stripped_by_death, stripped_by_death_told, born_twice, born_twice_told};
+ghost use Rattle.adr_worked.specs.Lifetimes.{restored, restored_told, put_back, put_back_told, collected_once, collected_once_told, kept_tombstones, late_change, late_change_told, adopted_anew};
+ghost use Rattle.adr_worked.specs.RefusedWrites.{with_unit, refusals, by_the_schema, by_the_schema_told, by_the_tree, by_the_tree_told, twice, twice_told};
+ghost use Rattle.adr_worked.specs.RefusedReplies.{refused_requests, refused_requests_told, refused_replies, refused_replies_told, at_the_limits, at_the_limits_told};
+ghost use Rattle.adr_event.specs.declared.refusal.AdoptRefusal.TheVariants.{IdentifierUsed};
+ghost use Rattle.adr_disk.specs.declared.memory.Crash.TheVariants.{Kept, Lost, Torn};
+ghost use Rattle.adr_worked.specs.Stops.{stopped_add, stopped_add_told, one_object, two_objects, waiting_plan_told, stopped_start, stopped_start_told, failing_device, failing_device_told, failing_last_sync, failing_last_sync_told, met_later, met_later_told};
+ghost use Rattle.adr_worked.specs.Transcripts.{cut_and_cycle, cut_and_cycle_told, delivered_twice, delivered_twice_told, restore, restore_told, rollback, rollback_told, collection, collection_told};
+ghost use Rattle.adr_model.specs.Cycles.{transcript};
+ghost use Rattle.adr_model.specs.World.{answers, empty_world};
+ghost use Rattle.adr_worked.specs.Answered.{first_person, first_person_answers, refused_adds, refused_adds_answers};
+
+/// Small sets of updates, and the directories that they define.
+#[tactic(none)]
+pub fn small_directories()
+    ensures user { directory one_user ≡ one_user_shown }
+    ensures twice { directory name_twice ≡ name_twice_shown }
+    ensures lost_name { directory lost_name ≡ lost_name_shown }
+    ensures looped { directory loop_of_two ≡ loop_of_two_shown }
+    ensures lost { directory lost_parent ≡ lost_parent_shown }
+    ensures born_twice { directory guid_twice ≡ guid_twice_shown }
+    ensures group { directory a_group ≡ a_group_shown }
+{}
+
+/// Small runs, and the answers that they get.
+#[tactic(none)]
+pub fn small_runs()
+    ensures first_person { answers empty_world first_person ≡ first_person_answers }
+    ensures refused_adds { answers empty_world refused_adds ≡ refused_adds_answers }
+{}
+
+/// Pulls: equal stamps, and replies that are cut, repeated, reordered or late.
+#[tactic(none)]
+pub fn small_pulls()
+    ensures equal { equal_stamps ≡ equal_stamps_told }
+    ensures cut { cut ≡ cut_told }
+    ensures repeated { repeated ≡ repeated_told }
+    ensures reordered { reordered ≡ reordered_told }
+    ensures late { older_than_restore ≡ older_than_restore_told }
+    ensures seen { compared_by_seen ≡ compared_by_seen_told }
+{}
+
+/// What two controllers show after they wrote apart.
+#[tactic(none)]
+pub fn small_conflicts()
+    ensures name { one_name_twice ≡ (one_name_twice_shown, one_name_twice_shown) }
+    ensures parent { parent_lost ≡ lost_parent_told }
+    ensures looped { moved_in_a_loop ≡ (moved_in_a_loop_shown, moved_in_a_loop_shown) }
+    ensures members { two_members ≡ two_members_told }
+    ensures stripped { stripped_by_death ≡ stripped_by_death_told }
+    ensures born_twice { born_twice ≡ born_twice_told }
+{}
+
+/// Restores, a database that was put back, and collected objects.
+#[tactic(none)]
+pub fn small_lifetimes()
+    ensures restored { restored ≡ restored_told }
+    ensures put_back { put_back ≡ put_back_told }
+    ensures collected { collected_once ≡ collected_once_told }
+    ensures kept { kept_tombstones ≡ (Some 0, Some 1) }
+    ensures late { late_change ≡ late_change_told }
+    ensures adopted { adopted_anew ≡ (Some IdentifierUsed, None) }
+{}
+
+/// Refused writes.
+#[tactic(none)]
+pub fn small_refusals()
+    ensures schema { with_unit (λ s. refusals s by_the_schema) ≡ by_the_schema_told }
+    ensures tree { with_unit (λ s. refusals s by_the_tree) ≡ by_the_tree_told }
+    ensures twice { twice ≡ twice_told }
+{}
+
+/// Refused requests and replies, and limits.
+#[tactic(none)]
+pub fn refused_messages()
+    ensures requests { refused_requests ≡ refused_requests_told }
+    ensures replies { refused_replies ≡ refused_replies_told }
+    ensures limits { at_the_limits ≡ at_the_limits_told }
+{}
+
+/// An object is added while the disk stops, at each call and in each way: it is there or it isn't.
+#[tactic(none)]
+pub fn stopped_adds()
+    ensures kept0 { answers empty_world (stopped_add 0 Kept) ≡ stopped_add_told one_object }
+    ensures kept1 { answers empty_world (stopped_add 1 Kept) ≡ stopped_add_told one_object }
+    ensures kept2 { answers empty_world (stopped_add 2 Kept) ≡ stopped_add_told two_objects }
+    ensures kept3 { answers empty_world (stopped_add 3 Kept) ≡ stopped_add_told two_objects }
+    ensures torn1 { answers empty_world (stopped_add 1 Torn) ≡ stopped_add_told one_object }
+    ensures torn2 { answers empty_world (stopped_add 2 Torn) ≡ stopped_add_told two_objects }
+    ensures lost2 { answers empty_world (stopped_add 2 Lost) ≡ stopped_add_told one_object }
+    ensures lost3 { answers empty_world (stopped_add 3 Lost) ≡ stopped_add_told one_object }
+    ensures waits { answers empty_world (stopped_add 4 Kept) ≡ waiting_plan_told }
+{}
+
+/// Starts that are stopped, and device calls that fail.
+#[tactic(none)]
+pub fn failing_disks()
+    ensures start { answers empty_world stopped_start ≡ stopped_start_told }
+    ensures device { answers empty_world failing_device ≡ failing_device_told }
+    ensures sync { answers empty_world failing_last_sync ≡ failing_last_sync_told }
+    ensures later { answers empty_world met_later ≡ met_later_told }
+{}
+
+/// Runs of two controllers, line by line.
+#[tactic(none)]
+pub fn small_transcripts()
+    ensures cycle { transcript empty_world cut_and_cycle ≡ cut_and_cycle_told }
+    ensures twice { transcript empty_world delivered_twice ≡ delivered_twice_told }
+    ensures restore { transcript empty_world restore ≡ restore_told }
+    ensures rollback { transcript empty_world rollback ≡ rollback_told }
+    ensures collection { transcript empty_world collection ≡ collection_told }
+{}
