@@ -11,7 +11,7 @@ use std::alloc::{AllocError, Global};
 use std::marker::Model;
 
 /// What a crash does with the writes that no sync has followed. The interrupted one is among them.
-#[derive(Clone, Copy, Debug, PartialEq, Eq)]
+#[derive(Clone, Copy, PartialEq, Eq)]
 pub enum Crash {
     /// All are there.
     Kept,
@@ -22,7 +22,7 @@ pub enum Crash {
 }
 
 /// What becomes of the call that a plan meets.
-#[derive(Clone, Copy, Debug, PartialEq, Eq)]
+#[derive(Clone, Copy, PartialEq, Eq)]
 pub enum Mishap {
     /// It fails, and changes nothing.
     Failure,
@@ -31,14 +31,14 @@ pub enum Mishap {
 }
 
 /// So many writes and syncs pass, and the next meets a mishap.
-#[derive(Clone, Copy, Debug, PartialEq, Eq)]
+#[derive(Clone, Copy, PartialEq, Eq)]
 pub struct Plan {
     pub calls: u32,
     pub mishap: Mishap,
 }
 
 /// A disk in memory. It keeps all that was ever written, so that each earlier moment can be told.
-#[derive(Debug, Drop)]
+#[derive(Drop)]
 pub struct MemDisk {
     platter: Platter,
     plan: Option<Plan>,

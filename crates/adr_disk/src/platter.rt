@@ -14,7 +14,7 @@ use std::marker::Model;
 const FILLER: u8 = 0xC3;
 
 /// A write, the place of its bytes in the log, and what ended it: a sync that kept it, or a crash.
-#[derive(Clone, Copy, Debug)]
+#[derive(Clone, Copy)]
 pub struct Entry {
     at: usize,
     from: usize,
@@ -22,7 +22,7 @@ pub struct Entry {
     end: Option<Crash>,
 }
 
-#[derive(Debug, Drop)]
+#[derive(Drop)]
 pub struct Platter {
     /// What it held at first.
     first: Vec<u8>,

@@ -1,17 +1,16 @@
 //! What is answered to an event.
 
-ghost use Rattle.std.specs.Prelude.{◌≡◌, IfOk};
+ghost use Rattle.std.specs.Prelude.{◌≡◌};
 
 use crate::directory::Directory;
 use crate::partners::PartnerMarks;
-use adr_schema::{NoMemory, Text};
+use adr_schema::Text;
 use adr_vector::{Mark, Vector};
-use std::alloc::Global;
 use std::marker::Model;
 use uuid::Uuid;
 
 /// A value in a refusal.
-#[derive(Debug, Drop)]
+#[derive(Drop)]
 pub enum Plainly {
     /// An identifier.
     Id(Uuid),
@@ -25,42 +24,15 @@ pub enum Plainly {
     Word(Text),
 }
 
-impl Plainly {
-    /// An equal value.
-    pub fn copy(&self, alloc: Global) -> Result<Plainly, NoMemory>
-        ensures { IfOk result (λ copy. copy ≡ self.now) }
-    {
-        match self {
-            Plainly::Id(id) => Ok(Plainly::Id(*id)),
-            Plainly::Number(number) => Ok(Plainly::Number(*number)),
-            Plainly::Mark(mark) => Ok(Plainly::Mark(*mark)),
-            Plainly::Attr(attr) => Ok(Plainly::Attr(*attr)),
-            Plainly::Word(word) => Ok(Plainly::Word(word.copy(alloc)?)),
-        }
-    }
-}
-
 /// A named value in a refusal.
-#[derive(Debug, Drop)]
+#[derive(Drop)]
 pub struct Field {
     pub name: Text,
     pub value: Plainly,
 }
 
-impl Field {
-    /// An equal field.
-    pub fn copy(&self, alloc: Global) -> Result<Field, NoMemory>
-        ensures { IfOk result (λ copy. copy ≡ self.now) }
-    {
-        Ok(Field {
-            name: self.name.copy(alloc)?,
-            value: self.value.copy(alloc)?,
-        })
-    }
-}
-
 /// The fields of a refusal, in the order in which they are written.
-#[derive(Debug, Drop)]
+#[derive(Drop)]
 pub struct Fields {
     list: Vec<Field>,
 }
@@ -86,21 +58,10 @@ impl Fields {
     {
         self.list.as_slice()
     }
-
-    /// An equal list.
-    pub fn copy(&self, alloc: Global) -> Result<Fields, NoMemory>
-        ensures { IfOk result (λ copy. copy ≡ self.now) }
-    {
-        let mut list = Vec::new(alloc);
-        for field in self.list.as_slice() {
-            list.push(field.copy(alloc)?)?;
-        }
-        Ok(Fields { list })
-    }
 }
 
 /// How an event went.
-#[derive(Debug, Drop)]
+#[derive(Drop)]
 pub enum Outcome {
     /// There is nothing to say: no line is written.
     Silent,
@@ -151,74 +112,10 @@ pub enum Outcome {
     },
 }
 
-impl Outcome {
-    /// An equal outcome.
-    pub fn copy(&self, alloc: Global) -> Result<Outcome, NoMemory>
-        ensures { IfOk result (λ copy. copy ≡ self.now) }
-    {
-        match self {
-            Outcome::Silent => Ok(Outcome::Silent),
-            Outcome::Ok => Ok(Outcome::Ok),
-            Outcome::Usn(usn) => Ok(Outcome::Usn(*usn)),
-            Outcome::Served {
-                from,
-                to,
-                items,
-                rows,
-                last,
-            } => Ok(Outcome::Served {
-                from: *from,
-                to: *to,
-                items: *items,
-                rows: *rows,
-                last: *last,
-            }),
-            Outcome::Took { items, wrote, usn } => Ok(Outcome::Took {
-                items: *items,
-                wrote: *wrote,
-                usn: *usn,
-            }),
-            Outcome::Removed(removed) => Ok(Outcome::Removed(*removed)),
-            Outcome::Show(directory) => Ok(Outcome::Show(directory.copy(alloc)?)),
-            Outcome::Vector(vector) => Ok(Outcome::Vector(vector.copy(alloc)?)),
-            Outcome::Marks(marks) => Ok(Outcome::Marks(marks.copy(alloc)?)),
-            Outcome::More => Ok(Outcome::More),
-            Outcome::Up => Ok(Outcome::Up),
-            Outcome::Down => Ok(Outcome::Down),
-            Outcome::Failed => Ok(Outcome::Failed),
-            Outcome::Disk => Ok(Outcome::Disk),
-            Outcome::Stopped => Ok(Outcome::Stopped),
-            Outcome::Absent => Ok(Outcome::Absent),
-            Outcome::Refused {
-                number,
-                label,
-                fields,
-            } => Ok(Outcome::Refused {
-                number: *number,
-                label: label.copy(alloc)?,
-                fields: fields.copy(alloc)?,
-            }),
-        }
-    }
-}
-
 /// The answer to an event: its verb, the controller that it happened to, and how it went.
-#[derive(Debug, Drop)]
+#[derive(Drop)]
 pub struct Answer {
     pub verb: Text,
     pub name: Text,
     pub outcome: Outcome,
-}
-
-impl Answer {
-    /// An equal answer.
-    pub fn copy(&self, alloc: Global) -> Result<Answer, NoMemory>
-        ensures { IfOk result (λ copy. copy ≡ self.now) }
-    {
-        Ok(Answer {
-            verb: self.verb.copy(alloc)?,
-            name: self.name.copy(alloc)?,
-            outcome: self.outcome.copy(alloc)?,
-        })
-    }
 }

@@ -1,14 +1,13 @@
 //! What a controller shows.
 
-ghost use Rattle.std.specs.Prelude.{◌≡◌, IfOk};
+ghost use Rattle.std.specs.Prelude.{◌≡◌};
 
-use adr_schema::{NoMemory, Text, Values};
-use std::alloc::Global;
+use adr_schema::{Text, Values};
 use std::marker::Model;
 use uuid::Uuid;
 
 /// GUIDs of objects. In an entry they rise.
-#[derive(Debug, Drop)]
+#[derive(Drop)]
 pub struct Guids {
     list: Vec<Uuid>,
 }
@@ -33,19 +32,10 @@ impl Guids {
     {
         self.list.as_slice()
     }
-
-    /// An equal list.
-    pub fn copy(&self, alloc: Global) -> Result<Guids, NoMemory>
-        ensures { IfOk result (λ copy. copy ≡ self.now) }
-    {
-        Ok(Guids {
-            list: Vec::from_slice(alloc, self.list.as_slice())?,
-        })
-    }
 }
 
 /// Attributes with their values. In an entry the attributes rise and each has a value.
-#[derive(Debug, Drop)]
+#[derive(Drop)]
 pub struct EntryValues {
     list: Vec<(u16, Values)>,
 }
@@ -71,21 +61,10 @@ impl EntryValues {
     {
         self.list.as_slice()
     }
-
-    /// An equal list.
-    pub fn copy(&self, alloc: Global) -> Result<EntryValues, NoMemory>
-        ensures { IfOk result (λ copy. copy ≡ self.now) }
-    {
-        let mut list = Vec::new(alloc);
-        for (attr, values) in self.list.as_slice() {
-            list.push((*attr, values.copy(alloc)?))?;
-        }
-        Ok(EntryValues { list })
-    }
 }
 
 /// Link attributes, forward and back, with the GUIDs at their other ends. In an entry both rise.
-#[derive(Debug, Drop)]
+#[derive(Drop)]
 pub struct EntryLinks {
     list: Vec<(u16, Guids)>,
 }
@@ -110,21 +89,10 @@ impl EntryLinks {
     {
         self.list.as_slice()
     }
-
-    /// An equal list.
-    pub fn copy(&self, alloc: Global) -> Result<EntryLinks, NoMemory>
-        ensures { IfOk result (λ copy. copy ≡ self.now) }
-    {
-        let mut list = Vec::new(alloc);
-        for (attr, guids) in self.list.as_slice() {
-            list.push((*attr, guids.copy(alloc)?))?;
-        }
-        Ok(EntryLinks { list })
-    }
 }
 
 /// A live object as it is shown: under its parent, by its shown name.
-#[derive(Debug, Drop)]
+#[derive(Drop)]
 pub struct Entry {
     pub guid: Uuid,
     pub class: u16,
@@ -134,24 +102,8 @@ pub struct Entry {
     pub links: EntryLinks,
 }
 
-impl Entry {
-    /// An equal entry.
-    pub fn copy(&self, alloc: Global) -> Result<Entry, NoMemory>
-        ensures { IfOk result (λ copy. copy ≡ self.now) }
-    {
-        Ok(Entry {
-            guid: self.guid,
-            class: self.class,
-            parent: self.parent,
-            name: self.name.copy(alloc)?,
-            values: self.values.copy(alloc)?,
-            links: self.links.copy(alloc)?,
-        })
-    }
-}
-
 /// The entries that a controller shows, rising by GUID.
-#[derive(Debug, Drop)]
+#[derive(Drop)]
 pub struct Directory {
     list: Vec<Entry>,
 }
@@ -176,16 +128,5 @@ impl Directory {
         ensures { result.now ≡ self.now }
     {
         self.list.as_slice()
-    }
-
-    /// An equal directory.
-    pub fn copy(&self, alloc: Global) -> Result<Directory, NoMemory>
-        ensures { IfOk result (λ copy. copy ≡ self.now) }
-    {
-        let mut list = Vec::new(alloc);
-        for entry in self.list.as_slice() {
-            list.push(entry.copy(alloc)?)?;
-        }
-        Ok(Directory { list })
     }
 }

@@ -6,12 +6,14 @@
 mod answer;
 mod directory;
 mod event;
+mod failure;
 mod partners;
 mod refusal;
 
 pub use answer::{Answer, Field, Fields, Outcome, Plainly};
 pub use directory::{Directory, Entry, EntryLinks, EntryValues, Guids};
 pub use event::Event;
+pub use failure::Failure;
 pub use partners::PartnerMarks;
 pub use refusal::{
     AdoptRefusal, CollectRefusal, ItemFault, ServeRefusal, Table, TakeRefusal, WriteRefusal,

@@ -1,16 +1,14 @@
 //! How far partners were read.
 
-ghost use Rattle.std.specs.Prelude.{◌≡◌, IfOk};
+ghost use Rattle.std.specs.Prelude.{◌≡◌};
 
-use adr_schema::NoMemory;
 use adr_vector::Mark;
-use std::alloc::Global;
 use std::marker::Model;
 use uuid::Uuid;
 
 /// For each partner, by its controller's identifier, the invocation identifier of its database that was read, and how
 /// far. In an answer the partners rise.
-#[derive(Debug, Drop)]
+#[derive(Drop)]
 pub struct PartnerMarks {
     list: Vec<(Uuid, Uuid, Mark)>,
 }
@@ -35,14 +33,5 @@ impl PartnerMarks {
         ensures { result.now ≡ self.now }
     {
         self.list.as_slice()
-    }
-
-    /// An equal list.
-    pub fn copy(&self, alloc: Global) -> Result<PartnerMarks, NoMemory>
-        ensures { IfOk result (λ copy. copy ≡ self.now) }
-    {
-        Ok(PartnerMarks {
-            list: Vec::from_slice(alloc, self.list.as_slice())?,
-        })
     }
 }

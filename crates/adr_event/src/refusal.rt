@@ -1,12 +1,8 @@
 //! Why a call was refused.
 
-ghost use Rattle.std.specs.Prelude.{◌≡◌};
-ghost use Rattle.adr_event.specs.declared.refusal.WriteRefusal.TheVariants.{NoMemory};
-
 use adr_schema::SchemaRefusal;
 use adr_stamp::Oid;
 use adr_vector::Mark;
-use std::alloc::{AllocError, AllocFailed};
 use uuid::Uuid;
 
 /// A table that has a limit.
@@ -73,8 +69,6 @@ pub enum WriteRefusal {
     Full { table: Table, limit: u64 },
     /// The controller showed a partner that its database was put back without a fresh identifier.
     Quarantined,
-    /// Memory ran out.
-    NoMemory,
 }
 
 /// Why a request for changes was refused (MS-DRSR, GetNCChanges; the rules are this project's own).
@@ -92,8 +86,6 @@ pub enum ServeRefusal {
     SchemaMismatch { mine: u32, theirs: u32 },
     /// Objects were collected whose deaths the asker hasn't seen.
     TooOld { inv: Uuid, purged: u64, has: u64 },
-    /// The journal is full, and can't keep the quarantine.
-    Full { table: Table, limit: u64 },
 }
 
 /// What is wrong with a row of an item.
@@ -128,8 +120,6 @@ pub enum TakeRefusal {
     UsnLimit,
     /// The table would pass its limit.
     Full { table: Table, limit: u64 },
-    /// Memory ran out.
-    NoMemory,
 }
 
 /// Why tombstones were not collected.
@@ -139,8 +129,6 @@ pub enum CollectRefusal {
     Quarantined,
     /// The USN can't rise.
     UsnLimit,
-    /// Memory ran out.
-    NoMemory,
 }
 
 /// Why an image was not adopted.
@@ -150,22 +138,4 @@ pub enum AdoptRefusal {
     IdentifierUsed,
     /// The table would pass its limit.
     Full { table: Table, limit: u64 },
-    /// Memory ran out.
-    NoMemory,
-}
-
-impl From<AllocError> for WriteRefusal {
-    ghost from_gives = { λ _ e. e ≡ NoMemory };
-
-    fn from(_e: AllocError) -> WriteRefusal {
-        WriteRefusal::NoMemory
-    }
-}
-
-impl<T: Drop> From<AllocFailed<T>> for WriteRefusal {
-    ghost from_gives = { λ _ e. e ≡ NoMemory };
-
-    fn from(_e: AllocFailed<T>) -> WriteRefusal {
-        WriteRefusal::NoMemory
-    }
 }

@@ -6,7 +6,7 @@ use crate::Fault;
 use std::marker::Model;
 
 /// How many calls have failed so far.
-#[derive(Debug, Drop)]
+#[derive(Drop)]
 pub struct Failures {
     count: u64,
 }

@@ -7,6 +7,7 @@ ghost use Rattle.std.specs.Result.{result_err};
 ghost use Rattle.adr_schema.specs.Assignments.{given};
 ghost use Rattle.adr_schema.specs.Rules.{add_refusal, added_refusal, class_refusal, first_refusal, is_emptied, link_refusal, modify_refusal, not_link_refusal, row_refusal, values_refusal};
 ghost use Rattle.adr_schema.specs.Table.{is_must, is_of, is_superior, kind_at, may_of, must_of, superiors_of};
+ghost use Rattle.adr_schema.specs.Numbered.{numbered};
 ghost use Rattle.adr_schema.specs.Schemas.{schema_table};
 ghost use Rattle.adr_schema.specs.View.{table_of};
 
@@ -25,7 +26,7 @@ pub const LOST_AND_FOUND_CLASS: u16 = 2;
 
 /// One of the schemas that there are, which are this project's own. A class that a schema does not
 /// have has no attributes and stands nowhere.
-#[derive(Clone, Copy, Debug, PartialEq, Eq)]
+#[derive(Clone, Copy, PartialEq, Eq)]
 pub struct Schema {
     number: u32,
 }
@@ -57,8 +58,10 @@ impl Schema {
         }
     }
 
+    /// The number, which stands for the whole schema.
     pub fn number(&self) -> u32
-        ensures { result ≡ self.now.number }
+        ensures number { result ≡ self.now.number }
+        ensures numbered { self.now ≡ numbered result }
     {
         self.number
     }

@@ -11,7 +11,7 @@ use Kind::{Back, Forward, Plain, Reserved};
 use Syntax::{Flag, Number, Octets, Ref, Text};
 
 /// What a value of an attribute is, and its range; of texts and octets in bytes.
-#[derive(Clone, Copy, Debug, PartialEq, Eq)]
+#[derive(Clone, Copy, PartialEq, Eq)]
 pub enum Syntax {
     Text { least: u32, greatest: u32 },
     Number { least: i64, greatest: i64 },
@@ -21,7 +21,7 @@ pub enum Syntax {
 }
 
 /// What an attribute holds.
-#[derive(Clone, Copy, Debug, PartialEq, Eq)]
+#[derive(Clone, Copy, PartialEq, Eq)]
 pub enum Kind {
     /// An object's class, name or death, which no write names.
     Reserved,

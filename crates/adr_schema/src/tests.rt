@@ -114,7 +114,7 @@ fn attributes_are_those_of_the_table(rt: HostRuntime) {
     for (attr, name, kind) in attributes {
         assert_eq!(rt; attribute_name(attr), Some(name));
         assert_eq!(rt; attribute_number(name.as_bytes()), Some(attr));
-        assert_eq!(rt; attribute_kind(attr), Some(kind), "{name}");
+        assert!(rt; attribute_kind(attr) == Some(kind), "{name}");
     }
     for attr in [0, 4, 9, 21, 29, 34] {
         assert_eq!(rt; attribute_name(attr), None);

@@ -13,7 +13,7 @@ use adr_schema::Text;
 use std::alloc::Global;
 
 /// Where the reader stands in a text.
-#[derive(Clone, Copy, Debug)]
+#[derive(Clone, Copy)]
 pub enum Place {
     Plain,
     Escaped,
@@ -21,7 +21,7 @@ pub enum Place {
 }
 
 /// What a byte does there.
-#[derive(Clone, Copy, Debug)]
+#[derive(Clone, Copy)]
 pub enum Move {
     Close,
     Go(Place),

@@ -88,7 +88,7 @@ fn own_text(alloc: Global, word: &[u8]) -> Result<Text, Stop>
 
 /// What is left of a line. A reader takes a token from its front; after an error it isn't said what
 /// is left.
-#[derive(Debug, Drop)]
+#[derive(Drop)]
 pub struct Line<'a> {
     rest: &'a [u8],
 }

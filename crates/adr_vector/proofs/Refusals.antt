@@ -10,12 +10,12 @@ abbrev pub Answer : Type 0
 Answer = Result (Unit {0}) VectorRefusal
 
 abbrev pub IsFullWhen : Answer → ℕ → ℕ → Type 0
-IsFullWhen r most n = IsErrOf r (Full most) ↔ (most < n)
+IsFullWhen r most n = IsErrOf r Full ↔ (most < n)
 
 pub done : (most n : ℕ) → n ≤ most → IsFullWhen (Ok tt) most n
 done most n le = (λ h. absurd (cc), λ lt. absurd (omega arith))
 
-pub full : (most n : ℕ) → most < n → IsFullWhen (Err (Full most)) most n
+pub full : (most n : ℕ) → most < n → IsFullWhen (Err Full) most n
 full most n lt = (λ h. lt, λ k. refl)
 
 -- where memory ran out there was room

@@ -10,7 +10,7 @@ use std::marker::Model;
 use uuid::Uuid;
 
 /// What is left to read of the two lists.
-#[derive(Debug, Drop)]
+#[derive(Drop)]
 pub struct Fronts<'a> {
     left: &'a [(Uuid, u64)],
     right: &'a [(Uuid, u64)],

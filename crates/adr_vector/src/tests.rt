@@ -54,7 +54,7 @@ fn a_vector_has_at_most_ten_thousand_cursors(rt: HostRuntime) -> Result<(), Fail
     for number in 0..10_000u64 {
         seen.raise(id(u128::from(number)), 1)?;
     }
-    let full = Err(VectorRefusal::Full { limit: 10_000 });
+    let full = Err(VectorRefusal::Full);
     assert_eq!(rt; seen.raise(id(10_000), 1), full);
     assert_eq!(rt; seen.raise(id(10_000), 0), Ok(()));
     assert_eq!(rt; seen.raise(id(77), 3), Ok(()));

@@ -15,14 +15,14 @@ use thiserror::Error;
 use uuid::Uuid;
 
 /// How many cursors a vector has at most.
-const LIMIT: u32 = 10_000;
+const LIMIT: usize = 10_000;
 
 /// Why a vector stays as it was.
 #[derive(Clone, Copy, Debug, PartialEq, Eq, Error)]
 pub enum VectorRefusal {
-    /// There would be more cursors than a vector has.
-    #[error("a vector has at most {limit} cursors")]
-    Full { limit: u32 },
+    /// There would be more than 10,000 cursors, the most that a vector has.
+    #[error("a vector has at most 10000 cursors")]
+    Full,
     #[error("memory ran out")]
     NoMemory,
 }
@@ -45,7 +45,7 @@ impl<T: Drop> From<AllocFailed<T>> for VectorRefusal {
 
 /// What has been seen: for each invocation identifier the update sequence number up to which all was seen (MS-DRSR,
 /// UPTODATE_VECTOR_V1_EXT). A contract sees a vector as the list of its cursors, rising by identifier.
-#[derive(Debug, Drop)]
+#[derive(Drop)]
 pub struct Vector {
     cursors: Vec<(Uuid, u64)>,
 }
@@ -139,11 +139,11 @@ impl Vector {
     pub fn join(&mut self, other: &Vector) -> Result<(), VectorRefusal>
         ensures ok { OnOk result (self.new ≡ joined self.old other.now) }
         ensures everywhere { OnOk result ((inv : List ℕ) → at self.new inv ≡ max (at self.old inv) (at other.now inv)) }
-        ensures full { IsErrOf result (VectorRefusal.Full most_cursors) ↔ (most_cursors < length (joined self.old other.now)) }
+        ensures full { IsErrOf result VectorRefusal.Full ↔ (most_cursors < length (joined self.old other.now)) }
         ensures err { OnErr result (self.new ≡ self.old) }
     {
-        if count(&self.cursors, &other.cursors) > LIMIT as usize {
-            return Err(VectorRefusal::Full { limit: LIMIT });
+        if count(&self.cursors, &other.cursors) > LIMIT {
+            return Err(VectorRefusal::Full);
         }
         let alloc = *self.cursors.allocator();
         self.cursors = merge(alloc, &self.cursors, &other.cursors)?;
@@ -155,7 +155,7 @@ impl Vector {
         ensures ok { OnOk result (self.new ≡ raised self.old inv usn) }
         ensures here { OnOk result (at self.new inv ≡ max (at self.old inv) usn) }
         ensures elsewhere { OnOk result ((other : List ℕ) → other ≢ inv → at self.new other ≡ at self.old other) }
-        ensures full { IsErrOf result (VectorRefusal.Full most_cursors) ↔ (most_cursors < length (raised self.old inv usn)) }
+        ensures full { IsErrOf result VectorRefusal.Full ↔ (most_cursors < length (raised self.old inv usn)) }
         ensures err { OnErr result (self.new ≡ self.old) }
     {
         match self.search(inv) {
@@ -240,16 +240,16 @@ impl Vector {
     fn enter(&mut self, place: usize, inv: Uuid, usn: u64) -> Result<(), VectorRefusal>
         requires { IsGapFor self.old inv place }
         ensures ok { OnOk result (self.new ≡ raised self.old inv usn) }
-        ensures full { IsErrOf result (VectorRefusal.Full most_cursors) ↔ (most_cursors < length (raised self.old inv usn)) }
+        ensures full { IsErrOf result VectorRefusal.Full ↔ (most_cursors < length (raised self.old inv usn)) }
         ensures err { OnErr result (self.new ≡ self.old) }
     {
         let is_nothing = usn == 0;
-        let is_full = self.cursors.len() >= LIMIT as usize;
+        let is_full = self.cursors.len() >= LIMIT;
         if is_nothing {
             return Ok(());
         }
         if is_full {
-            return Err(VectorRefusal::Full { limit: LIMIT });
+            return Err(VectorRefusal::Full);
         }
         self.cursors.insert(place, (inv, usn))?;
         Ok(())

@@ -13,7 +13,7 @@ use std::marker::Model;
 use uuid::Uuid;
 
 /// Reads bytes from the front. After a refusal a reader is of no more use.
-#[derive(Debug, Drop)]
+#[derive(Drop)]
 pub struct Reader<'a> {
     place: u64,
     bytes: &'a [u8],

@@ -11,7 +11,7 @@ use std::marker::Model;
 use uuid::Uuid;
 
 /// Writes bytes at the end. Where memory runs out within a value, a part of its bytes may have been written.
-#[derive(Debug, Drop)]
+#[derive(Drop)]
 pub struct Writer {
     bytes: Vec<u8>,
 }

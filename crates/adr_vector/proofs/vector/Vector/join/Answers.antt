@@ -13,8 +13,8 @@ both v w p q = merged-is-joined v w p.rising q.rising p.from_one q.from_one
 merged_vector : (v w : Cursors) → IsVector v → IsVector w → length (merged v w) ≤ most_cursors → IsVector (merged v w)
 merged_vector v w p q few = record { rising = rising-merged v w p.rising q.rising; from_one = from_one-merged v w p.from_one q.from_one; few = few }
 
-pub returns-then-count-clause-full : goal.returns-then-count-clause-full
-returns-then-count-clause-full c =
+pub returns-then-count-gt-LIMIT-clause-full : goal.returns-then-count-gt-LIMIT-clause-full
+returns-then-count-gt-LIMIT-clause-full c =
     let same = ap length (both c.args.self.now c.args.other.now (subst IsVector c.self.view_is c.self.invariant) (subst IsVector c.other.view_is c.other.invariant)) in
     let counted : c.count.result ≡ length (joined c.args.self.now c.args.other.now) = cc in
     full most_cursors (length (joined c.args.self.now c.args.other.now)) (omega arith)
