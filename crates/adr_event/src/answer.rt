@@ -63,8 +63,6 @@ impl Fields {
 /// How an event went.
 #[derive(Drop)]
 pub enum Outcome {
-    /// There is nothing to say: no line is written.
-    Silent,
     Ok,
     /// An originating write was made; its changes have this USN.
     Usn(u64),

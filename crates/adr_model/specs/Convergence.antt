@@ -1,5 +1,5 @@
 -- What is claimed of every run, as named facts: of sound worlds, and so of every run as long as no database was put back.
-use Rattle.std.specs.Prelude.{◌≡◌, ◌≢◌, ◌⊎◌, ◌<◌, ◌≤◌, ℕ, List, [], ◌∷◌, ◌++◌, length, filter, max, nat_lt, true, false, Option, Some, None, Result, Ok, codes}
+use Rattle.std.specs.Prelude.{◌≡◌, ◌≢◌, ◌⊎◌, ◌<◌, ◌≤◌, ℕ, List, [], ◌∷◌, ◌++◌, length, filter, max, nat_lt, true, false, Some, None, Ok, codes}
 use Rattle.std.specs.List.{flat_map}
 use Rattle.adr_stamp.specs.declared.Oid.{Oid}
 use Rattle.adr_vector.specs.Vector.{Cursors, at, at_most}
@@ -165,9 +165,9 @@ AcknowledgedStaysInView =
     (before after : List Event) (e : Event) (usn : ℕ) → MayAllHappen empty_world (before ++ e ∷ after)
     → (after_lines empty_world (before ++ e ∷ after)).clean ≡ true
     → Each (λ a. a.outcome ≡ outcomes.Usn usn
-        → (k : IsAcknowledged (after_lines empty_world before) e usn (step (after_lines empty_world before) e).0)
-        × AreInView (after_lines empty_world (before ++ e ∷ after)) k.writer.safe.inv (acknowledged (after_lines empty_world before) k))
-        (step (after_lines empty_world before) e).1
+    → (k : IsAcknowledged (after_lines empty_world before) e usn (step (after_lines empty_world before) e).0)
+    × AreInView (after_lines empty_world (before ++ e ∷ after)) k.writer.safe.inv (acknowledged (after_lines empty_world before) k))
+    (step (after_lines empty_world before) e).1
 
 -- ---- refusals that don't come
 
@@ -245,14 +245,14 @@ abbrev pub ReflectsMore : World → State → State → Type 0
 ReflectsMore w before after = (u : Update) → Reflects w.scene.issued (knowledge_of before.store) u → Reflects w.scene.issued (knowledge_of after.store) u
 
 -- all of the source was read, up to its USN
-abbrev pub is_read_whole : State → State → Type 0
-is_read_whole source after =
+abbrev pub IsReadWhole : State → State → Type 0
+IsReadWhole source after =
     kept_of after.store source.dsa ≡ record { inv = source.inv; mark = record { obj = source.store.usn; prop = source.store.usn; seen = source.store.usn } }
 
 -- what the destination has after its last reply
 pub record IsCompleted (w : World) (dest source : State) (answers : List Answer) (after : State) : Type 0 where
   pub replies : (1 ≤ replies_taken answers) × (replies_taken answers ≤ max 1 (units_beyond dest source))
-  pub mark : is_read_whole source after
+  pub mark : IsReadWhole source after
   pub took : Each (λ u. Reflects w.scene.issued (knowledge_of after.store) u) (updates_of source.store.rows)
   pub keeps : ReflectsMore w dest after
   pub gained : Each (λ u. Member u (updates_of dest.store.rows) ⊎ (Member u (updates_of source.store.rows) × (Reflects w.scene.issued (knowledge_of dest.store) u → ⊥))) (updates_of after.store.rows)
@@ -276,4 +276,4 @@ CycleEnds =
     → AreUnlimited (cycle w dest.name source.name most).1
     → SaysMore dest.name (cycle w dest.name source.name most).1
     ⊎ ((after : Replica) × Member after (cycle w dest.name source.name most).0.replicas × (after.name ≡ dest.name)
-      × IsCompleted w dest.safe source.safe (cycle w dest.name source.name most).1 after.safe)
+    × IsCompleted w dest.safe source.safe (cycle w dest.name source.name most).1 after.safe)

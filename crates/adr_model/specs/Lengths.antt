@@ -1,5 +1,5 @@
 -- How long images and changes are as bytes, and where the log on a controller's disk ends.
-use Rattle.std.specs.Prelude.{ℕ, ◌+◌, ◌*◌, List, length, fold, is_some, if◌then◌else◌}
+use Rattle.std.specs.Prelude.{ℕ, ◌+◌, ◌*◌, length, fold, is_some, if◌then◌else◌}
 use Rattle.adr_model.specs.Update.{Key, RowOf, LinkOf}
 use Rattle.adr_model.specs.Live.{objects_of}
 use Rattle.adr_model.specs.Store.{Held, Store, State, updates_of}

@@ -86,7 +86,6 @@ write_refused (writes.VersionLimit attr) = outcomes.Refused 20 (codes "VersionLi
 write_refused writes.UsnLimit = usn_limited
 write_refused (writes.Full table limit) = full table limit
 write_refused writes.Quarantined = quarantined
-write_refused writes.NoMemory = outcomes.Silent
 
 -- a refused request
 abbrev pub serve_refused : ServeRefusal → Outcome
@@ -96,7 +95,6 @@ serve_refused (serves.BadMark prop obj seen) = outcomes.Refused 34 (codes "BadMa
 serve_refused (serves.RolledBack inv mine shown) = rolled_back inv mine shown
 serve_refused (serves.SchemaMismatch mine theirs) = schemas_differ mine theirs
 serve_refused (serves.TooOld inv purged has) = outcomes.Refused 32 (codes "TooOld") (id_field (codes "inv") inv ∷ number_field (codes "purged") purged ∷ number_field (codes "has") has ∷ [])
-serve_refused (serves.Full table limit) = full table limit
 
 -- the name of what is wrong with a row
 abbrev pub schema_name : SchemaRefusal → List ℕ
@@ -125,16 +123,13 @@ take_refused (takes.BadItem at cause) = outcomes.Refused 44 (codes "BadItem") (n
 take_refused (takes.Incomplete object) = outcomes.Refused 43 (codes "Incomplete") (id_field (codes "object") object.guid ∷ [])
 take_refused takes.UsnLimit = usn_limited
 take_refused (takes.Full table limit) = full table limit
-take_refused takes.NoMemory = outcomes.Silent
 
 -- a refused collection
 abbrev pub collect_refused : CollectRefusal → Outcome
 collect_refused collects.Quarantined = quarantined
 collect_refused collects.UsnLimit = usn_limited
-collect_refused collects.NoMemory = outcomes.Silent
 
 -- a refused image
 abbrev pub adopt_refused : AdoptRefusal → Outcome
 adopt_refused adopts.IdentifierUsed = outcomes.Refused 50 (codes "IdentifierUsed") []
 adopt_refused (adopts.Full table limit) = full table limit
-adopt_refused adopts.NoMemory = outcomes.Silent

@@ -8,8 +8,8 @@ use Rattle.adr_model.specs.Update.{Identifier}
 use Rattle.adr_model.specs.Store.{empty_state}
 use Rattle.adr_model.specs.Write.{Write, AddObject, Modify, Rename, Delete, AddLink, RemoveLink}
 use Rattle.adr_model.specs.Collect.{collect, backup, adopt}
-use Rattle.adr_model.specs.Replica.{Stops, Fails, Replica, on_new_disk, begun}
-use Rattle.adr_model.specs.World.{World, Name, Gone, Sent, Snapshot, answer, stays, nothing, bound, bound_at, replica_at, with_replica, shown, marks_shown, of_made, of_controller, of_image, writes, after_collect, asks, serves_request, delivers, backed_up, adopts, put_back, with_plan, stops, starts}
+use Rattle.adr_model.specs.Replica.{Stops, Fails, on_new_disk, begun}
+use Rattle.adr_model.specs.World.{World, Name, Gone, Sent, answer, stays, nothing, bound, bound_at, replica_at, with_replica, shown, marks_shown, of_made, of_controller, of_image, writes, after_collect, asks, serves_request, delivers, backed_up, adopts, put_back, with_plan, stops, starts}
 use Rattle.adr_model.specs.Cycles.{pull, cycle}
 
 -- a client's write: the word of its line, the controller that it goes to, and what is written
