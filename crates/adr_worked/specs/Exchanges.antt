@@ -171,13 +171,11 @@ collection =
 abbrev pub collection_told : List Answer
 collection_told =
     both_made
-    ++ answer (codes "time") [] outcomes.Silent
-    ∷ answer (codes "add") a (outcomes.Usn 1)
+    ++ answer (codes "add") a (outcomes.Usn 1)
     ∷ asked b
     ∷ served (mark 0 0 0) (mark 1 1 1) 1 2 true
     ∷ answer (codes "deliver") b (outcomes.Took 1 1 1)
     ∷ answer (codes "delete") a (outcomes.Usn 2)
-    ∷ answer (codes "time") [] outcomes.Silent
     ∷ answer (codes "collect") a (outcomes.Removed 1)
     ∷ asked b
     ∷ answer (codes "serve") a (outcomes.Refused 32 (codes "TooOld") (field (codes "inv") (Id (identifier 161)) ∷ field (codes "purged") (Number 2) ∷ field (codes "has") (Number 1) ∷ []))
@@ -187,3 +185,7 @@ collection_told =
     ∷ served (mark 0 0 0) (mark 3 3 3) 0 0 true
     ∷ answer (codes "deliver") (codes "C") (outcomes.Took 0 0 3)
     ∷ []
+
+-- a request that is bound to a name
+abbrev pub asked_once : List Event
+asked_once = new_a ∷ new_b ∷ events.Ask b a 10 (codes "q") ∷ []

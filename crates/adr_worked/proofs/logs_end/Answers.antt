@@ -7,24 +7,32 @@ use Rattle.adr_schema.specs.Schemas.{schema_1}
 use Rattle.adr_schema.specs.Names.{name_fault}
 use Rattle.adr_schema.specs.Values.{bad_place}
 use Rattle.adr_schema.specs.Rules.{add_refusal, modify_refusal, link_refusal, row_refusal}
-use Rattle.adr_worked.proofs.small_transcripts.Goals as goal
+use Rattle.adr_worked.proofs.logs_end.Goals as goal
 
-pub returns-clause-cycle : goal.returns-clause-cycle
+pub returns-clause-new : goal.returns-clause-new
 unfolding caseless uuid_on_literals chars encode schema_1 name_fault bad_place add_refusal modify_refusal link_refusal row_refusal
-returns-clause-cycle c = refl
+returns-clause-new c = refl
 
-pub returns-clause-twice : goal.returns-clause-twice
+pub returns-clause-grown : goal.returns-clause-grown
 unfolding caseless uuid_on_literals chars encode schema_1 name_fault bad_place add_refusal modify_refusal link_refusal row_refusal
-returns-clause-twice c = refl
+returns-clause-grown c = refl
 
-pub returns-clause-restore : goal.returns-clause-restore
+pub returns-clause-last : goal.returns-clause-last
 unfolding caseless uuid_on_literals chars encode schema_1 name_fault bad_place add_refusal modify_refusal link_refusal row_refusal
-returns-clause-restore c = refl
+returns-clause-last c = refl
 
-pub returns-clause-rollback : goal.returns-clause-rollback
+pub returns-clause-none : goal.returns-clause-none
 unfolding caseless uuid_on_literals chars encode schema_1 name_fault bad_place add_refusal modify_refusal link_refusal row_refusal
-returns-clause-rollback c = refl
+returns-clause-none c = refl
 
-pub returns-clause-collection : goal.returns-clause-collection
+pub returns-clause-put_back : goal.returns-clause-put_back
 unfolding caseless uuid_on_literals chars encode schema_1 name_fault bad_place add_refusal modify_refusal link_refusal row_refusal
-returns-clause-collection c = refl
+returns-clause-put_back c = refl
+
+pub returns-clause-shut_off : goal.returns-clause-shut_off
+unfolding caseless uuid_on_literals chars encode schema_1 name_fault bad_place add_refusal modify_refusal link_refusal row_refusal
+returns-clause-shut_off c = refl
+
+pub returns-clause-unnoted : goal.returns-clause-unnoted
+unfolding caseless uuid_on_literals chars encode schema_1 name_fault bad_place add_refusal modify_refusal link_refusal row_refusal
+returns-clause-unnoted c = refl
