@@ -8,7 +8,7 @@ use Rattle.adr_model.specs.Update.{Identifier, Key, RowOf, LinkOf, Said, Holds, 
 use Rattle.adr_model.specs.Store.{Held, State, updates_of}
 use Rattle.adr_model.specs.Change.{Item, Change, held_of, updates_written}
 use Rattle.adr_model.specs.History.{Follows}
-use Rattle.adr_model.specs.Write.{Write, AddObject, Modify, Rename, Delete, AddLink, RemoveLink, row, next_row, next_stamp, first_stamp, new_rows, new_object, object_of, link_of, nodes_held, rows_written, own_change, write_refusal, write}
+use Rattle.adr_model.specs.Write.{Write, AddObject, Modify, Rename, Delete, AddLink, RemoveLink, row, next_row, next_stamp, first_stamp, new_rows, new_object, object_of, link_of, nodes_held, rows_written, items_written, own_change, write_refusal, write}
 use Rattle.adr_model.specs.Replica.{Scene, ToWrite, issued_by}
 use Rattle.adr_model.specs.Sound.{last_of}
 use Rattle.adr_model.proofs.Members.{mapped_member}
@@ -50,7 +50,7 @@ own_locals usn item x m = each_made (λ (y : Held). y.local ≡ usn) (held_at us
 
 module _ (sc : Scene) (s : State) (w : Write) (now : ℕ) (last : s.store.usn ≡ last_of sc s.inv) where
   abbrev change : Change
-  change = own_change s (rows_written s w now)
+  change = own_change s (items_written s w now)
 
   follows : Follows (last_of sc s.inv) change
   follows = record {
