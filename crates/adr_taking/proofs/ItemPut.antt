@@ -15,7 +15,7 @@ use Rattle.adr_model.specs.Store.{Held, State, updates_of}
 use Rattle.adr_model.specs.Change.{Item}
 use Rattle.adr_model.specs.Formed.{HasRow, IsNamed, IsObjectFormed}
 use Rattle.adr_model.specs.Serve.{Reply}
-use Rattle.adr_model.specs.Take.{is_above, is_of_attr, is_reserved_row, left_by_death, is_lost_end, rows_taken}
+use Rattle.adr_model.specs.Take.{is_above, is_of_attr, is_reserved_row, left_by_death, is_lost_end, Presence, object_rows_taken, rows_taken}
 use Rattle.adr_model.specs.Replica.{Scene}
 use Rattle.adr_model.specs.Sound.{IsExact}
 use Rattle.adr_model.proofs.Members.{of_filter}
@@ -24,7 +24,7 @@ use Rattle.adr_steps.specs.Forms.{HasKey, MayCome}
 use Rattle.adr_taking.specs.OnTheWay.{IsTakeable, source_rows, AreOnTheWay, KeepForms}
 use Rattle.adr_steps.proofs.Rows.{link_of_unit}
 use Rattle.adr_taking.proofs.Tests.{above_supersedes}
-use Rattle.adr_taking.proofs.Standings.{each_standing, IsThere, there_where_untested, deaths_are_reserved, left_from, reserved_is_left, bare_beside_death, left_or_dead}
+use Rattle.adr_taking.proofs.Standings.{each_presence, IsThere, there_where_untested, deaths_are_reserved, left_from, reserved_is_left, bare_beside_death, left_or_dead}
 use Rattle.adr_taking.proofs.Source.{well_said}
 use Rattle.adr_steps.proofs.Rising.{one_of_key}
 use Rattle.adr_taking.proofs.OnTheWay.{source_one, source_formed, source_classes, comes_whole}
@@ -42,7 +42,7 @@ of_held rows us = left_by_death (above_of_held rows us)
 
 -- what is written of an item is of it
 pub taken_from : (vector : Cursors) (rows : List Held) (unit : Named) (xs : List Update) → Each (λ u. Member u xs) (rows_taken vector rows (record { unit = unit; rows = xs }))
-taken_from vector rows (Object o) xs = each_standing vector rows o (of_dead rows xs) (of_held rows xs) [] (left_by_death xs) (Each (λ u. Member u xs))
+taken_from vector rows (Object o) xs = each_presence vector rows o (λ (p : Presence). Each (λ u. Member u xs) (object_rows_taken rows xs p))
     (λ tombstone u m. (of_filter (λ (v : Update). is_of_attr deleted_attr v.key && is_above rows v) xs u m).0)
     (λ alive holds u m. (of_filter (λ (v : Update). not (is_of_attr class_attr v.key) && is_above rows v) xs u (left_from (above_of_held rows xs) u m)).0)
     (λ absent covers u m. absurd m)
@@ -149,7 +149,7 @@ module _ (sc : Scene) (s : State) (r : Reply) (may : IsTakeable sc s r) (rows : 
           by (inr (u, m)) = inr (may_put sc s r may item exact rows way (left_by_death xs) (λ v n. left_from xs v n) new_above (bare_beside_death xs) new_place, ((named u m).class, inr (may_come u m)))
 
     object_may : MayWrite (Object o) (rows_taken s.store.vector rows item)
-    object_may = each_standing s.store.vector rows o (of_dead rows xs) (of_held rows xs) [] (left_by_death xs) (MayWrite (Object o)) where_dead where_held (λ absent covers. inl refl) where_new
+    object_may = each_presence s.store.vector rows o (λ (p : Presence). MayWrite (Object o) (object_rows_taken rows xs p)) where_dead where_held (λ absent covers. inl refl) where_new
 
   module _ (l : LinkKey) (xs : List Update) (exact : IsExact (source_rows sc r) r (record { unit = Link l; rows = xs })) where
     abbrev link : Item

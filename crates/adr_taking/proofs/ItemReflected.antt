@@ -13,7 +13,7 @@ use Rattle.adr_model.specs.Reflects.{CoversBirth, IsDeath, HoldsObject, IsTombst
 use Rattle.adr_model.specs.Store.{Held, State, updates_of}
 use Rattle.adr_model.specs.Change.{Item}
 use Rattle.adr_model.specs.Serve.{Reply}
-use Rattle.adr_model.specs.Take.{is_above, is_of_attr, left_by_death, is_lost_end, rows_taken}
+use Rattle.adr_model.specs.Take.{is_above, is_of_attr, left_by_death, is_lost_end, Presence, object_rows_taken, rows_taken}
 use Rattle.adr_model.specs.Replica.{Scene}
 use Rattle.adr_model.specs.Sound.{IsExact}
 use Rattle.adr_model.proofs.Members.{in_filter, of_filter}
@@ -22,7 +22,7 @@ use Rattle.adr_knowledge.proofs.Knows.{reflects_by_death}
 use Rattle.adr_taking.specs.OnTheWay.{IsTakeable, known_with, source_rows, AreOnTheWay}
 use Rattle.adr_steps.proofs.Rows.{link_of_unit}
 use Rattle.adr_taking.proofs.Tests.{not_above}
-use Rattle.adr_taking.proofs.Standings.{each_standing, IsLost, lost_where_tested, is_death, left_from, left_or_dead}
+use Rattle.adr_taking.proofs.Standings.{each_presence, IsLost, lost_where_tested, is_death, left_from, left_or_dead}
 use Rattle.adr_taking.proofs.OnTheWay.{source_issued, gone_is_purged}
 use Rattle.adr_taking.proofs.ItemRows.{in_source, item_units, row_key, row_of_attr, same_birth}
 use Rattle.adr_taking.proofs.ItemPut.{of_dead, above_of_held, of_held}
@@ -81,7 +81,7 @@ module _ (sc : Scene) (s : State) (r : Reply) (may : IsTakeable sc s r) (rows : 
         keep u (inr (o, its_end u m, inr (gone_is_purged sc s r may rows way u o (source_issued sc s r may u (in_source sc s r may item exact u m)) (its_end u m) absent covers)))
 
     object_reflected : Suffice xs (rows_taken s.store.vector rows item)
-    object_reflected = each_standing s.store.vector rows o (of_dead rows xs) (of_held rows xs) [] (left_by_death xs) (Suffice xs) where_dead where_held where_gone (λ absent missed. left xs (λ u m. m))
+    object_reflected = each_presence s.store.vector rows o (λ (p : Presence). Suffice xs (object_rows_taken rows xs p)) where_dead where_held where_gone (λ absent missed. left xs (λ u m. m))
 
   module _ (l : LinkKey) (xs : List Update) (exact : IsExact (source_rows sc r) r (record { unit = Link l; rows = xs })) where
     abbrev link : Item
