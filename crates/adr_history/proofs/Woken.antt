@@ -164,6 +164,9 @@ module _ (sc : Scene) (image : Store) (dsa inv : Identifier) (scene : IsSoundSce
       by true is = refl
       by false is = absurd (cc)
 
+pub adopted_is_woken : (image : Store) (dsa inv : Identifier) (s : State) → adopt image dsa inv ≡ Ok s → woken image dsa inv ≡ s
+adopted_is_woken image dsa inv s e = (answered (adopt_refusal image inv (woken image dsa inv)) (woken image dsa inv) s e).1
+
 pub adopted_is_sound : (sc : Scene) (image : Store) (dsa inv : Identifier) (s : State) → IsSoundScene sc → IsSoundStore sc image → history_of sc inv ≡ no_history → adopt image dsa inv ≡ Ok s
     → IsLater sc (begun sc s) × (IsSoundScene (begun sc s) × IsSoundState (begun sc s) s)
 adopted_is_sound sc image dsa inv s scene sound fresh e = subst (λ (z : State). IsLater sc (begun sc z) × (IsSoundScene (begun sc z) × IsSoundState (begun sc z) z)) t.1 (
