@@ -61,10 +61,6 @@ all_rising : (ds : List (Oid × Update)) (v : Cursors) → IsRising v → IsRisi
 all_rising [] v r = r
 all_rising (d ∷ ds) v r = all_rising ds (further v d) (rising-raised (raised v d.0.birth.inv d.0.birth.usn) (inv_of d.1) (usn_of d.1) (rising-raised v d.0.birth.inv d.0.birth.usn r))
 
-all_from_one : (ds : List (Oid × Update)) (v : Cursors) → FromOne v → FromOne (fold further v ds)
-all_from_one [] v one = one
-all_from_one (d ∷ ds) v one = all_from_one ds (further v d) (from_one-raised (raised v d.0.birth.inv d.0.birth.usn) (inv_of d.1) (usn_of d.1) (from_one-raised v d.0.birth.inv d.0.birth.usn one))
-
 pub covering_within : (ds : List (Oid × Update)) (V : Numbers) → Each (λ d. CoversBirth V d.0 × Covers V d.1) ds → AtMost (at (covering ds)) V
 covering_within ds V c = all_within ds [] V (λ i. omega arith) c
 

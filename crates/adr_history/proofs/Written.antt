@@ -14,13 +14,11 @@ use Rattle.adr_model.specs.Sound.{last_of}
 use Rattle.adr_model.proofs.Members.{mapped_member}
 use Rattle.adr_knowledge.proofs.Lists.{alone_from}
 use Rattle.adr_knowledge.proofs.Refusing.{answered}
+use Rattle.adr_steps.specs.Puts.{held_at}
 use Rattle.adr_history.specs.Later.{AreIssuedBy}
 
 abbrev IsOwn : State → Update → Type 0
 IsOwn s u = (inv_of u ≡ s.inv) × (usn_of u ≡ s.store.usn + 1)
-
-abbrev held_at : ℕ → Update → Held
-held_at usn u = record { update = u; local = usn }
 
 each_made : {A B : Type 0} (P : B → Type 0) (f : A → B) (xs : List A) → ((x : A) → P (f x)) → Each P (map f xs)
 each_made P f xs made y m = let t = mapped_member f xs y m in subst P (sym t.2) (made t.0)

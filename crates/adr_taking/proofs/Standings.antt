@@ -85,9 +85,6 @@ has_where_tested attr us h = some_passes (λ (u : Update). is_of_attr attr u.key
 pub tested_where_has : (attr : ℕ) (us : List Update) (u : Update) → Member u us → is_of_attr attr u.key ≡ true → has_row attr us ≡ true
 tested_where_has attr us u m is = one_passes (λ (v : Update). is_of_attr attr v.key) us u m is
 
-pub none_of_attr : (attr : ℕ) (us : List Update) → has_row attr us ≡ false → Each (λ u. is_of_attr attr u.key ≡ false) us
-none_of_attr attr us h = each_fails (λ (u : Update). is_of_attr attr u.key) us h
-
 pub is_death : (u : Update) → IsDeath u → is_of_attr deleted_attr u.key ≡ true
 is_death u (o, e) = attr_itself o deleted_attr u.key e
 
