@@ -4,8 +4,8 @@ use Rattle.std.specs.Ordering.{is_eq}
 use Rattle.adr_stamp.specs.declared.Oid.{Oid}
 use Rattle.adr_stamp.specs.Order.{identifier_order}
 use Rattle.adr_vector.specs.Vector.{Cursors, at, raised}
-use Rattle.adr_vector.proofs.Cursors.{IsRising, FromOne, nil_rising, same_from_test}
-use Rattle.adr_vector.proofs.Joining.{at-raised, raised_here, rising-raised, from_one-raised}
+use Rattle.adr_vector.proofs.Cursors.{IsRising, nil_rising, same_from_test}
+use Rattle.adr_vector.proofs.Joining.{at-raised, raised_here, rising-raised}
 use Rattle.adr_model.specs.Member.{Each}
 use Rattle.adr_model.specs.Update.{Identifier, Update, inv_of, usn_of}
 use Rattle.adr_model.specs.Reflects.{Numbers, Covers, CoversBirth, AtMost}
