@@ -3,7 +3,8 @@
 ghost use Rattle.std.specs.Prelude.{◌≡◌, ◌++◌, ◌∷◌, [], ℕ, List, IfOk, OnOk, codes, flat_map, take};
 ghost use Rattle.std.specs.Fmt.{decimal};
 ghost use Rattle.adr_token.specs.Spelling.{attribute_token, class_token, identifier_token, set_token, text_token};
-ghost use Rattle.adr_schedule.specs.Printed.{EventsAreReadAgain, crash_word, line_of, printed, set_tokens, spaced};
+ghost use Rattle.adr_schedule.specs.Grammar.{crash_word};
+ghost use Rattle.adr_schedule.specs.Printed.{line_of, printed, set_tokens, spaced};
 
 use adr_disk::Crash;
 use adr_event::Event;
@@ -147,7 +148,7 @@ fn push_object(
 }
 
 /// Adds the line of an event.
-#[tactic(auto, unfolding(crate::specs::Printed::line_of))]
+#[tactic(auto, unfolding(crate::specs::Printed::line_of, crate::specs::Grammar::tokens_of))]
 fn push_line(alloc: Global, out: &mut Vec<u8>, event: &Event) -> Result<(), NoMemory>
     ensures { OnOk result (out.new.items ≡ out.old.items ++ line_of event.now) }
 {
@@ -336,8 +337,3 @@ pub fn print(alloc: Global, events: &[Event]) -> Result<Vec<u8>, NoMemory>
     }
     Ok(out)
 }
-
-/// The events of a text are read again from their printed form.
-pub fn events_are_read_again()
-    ensures { EventsAreReadAgain }
-{}
