@@ -4,6 +4,8 @@
 
 mod entries;
 mod knowledge;
+mod laws;
 mod lines;
 
+pub use laws::equal_lines_mean_equal_directories;
 pub use lines::line;
