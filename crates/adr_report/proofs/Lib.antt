@@ -3,4 +3,5 @@ pub mod Tokens
 pub mod Names
 pub mod Values
 pub mod EntryLines
-pub mod ShownLines
+pub mod KnowledgeLines
+pub mod ReportLines

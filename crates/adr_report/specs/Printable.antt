@@ -5,6 +5,7 @@ use Rattle.adr_schema.specs.declared.content.Value.{Value as Item}
 use Rattle.adr_schema.specs.declared.content.Value.TheVariants.{Text, Number, Flag, Octets, Ref}
 use Rattle.adr_schema.specs.Schemas.{newest}
 use Rattle.adr_schema.specs.Table.{is_link, kind_at}
+use Rattle.adr_vector.specs.declared.mark.Mark.{Mark}
 use Rattle.adr_event.specs.declared.directory.Entry.{Entry}
 use Rattle.adr_token.specs.Laws.{IsIdentifier}
 
@@ -45,3 +46,16 @@ pub record IsPrintableEntry (e : Entry) : Type 0 where
 -- a directory
 abbrev pub IsPrintable : List Entry → Type 0
 IsPrintable d = All IsPrintableEntry d
+
+-- an incarnation with the USN that was seen of it
+pub record IsPrintableCursor (c : List ℕ × ℕ) : Type 0 where
+  pub inv : IsIdentifier c.0
+  pub usn : c.1 < 2 ^ 64
+
+-- a partner with the incarnation that was read, and how far
+pub record IsPrintablePartner (p : List ℕ × List ℕ × Mark) : Type 0 where
+  pub dsa : IsIdentifier p.0
+  pub inv : IsIdentifier p.1
+  pub obj : p.2.obj < 2 ^ 64
+  pub prop : p.2.prop < 2 ^ 64
+  pub seen : p.2.seen < 2 ^ 64

@@ -7,5 +7,5 @@ mod knowledge;
 mod laws;
 mod lines;
 
-pub use laws::equal_lines_mean_equal_directories;
+pub use laws::{equal_lines_mean_equal_directories, equal_lines_mean_equal_knowledge, what_is_allowed_is_printable};
 pub use lines::line;
