@@ -4,6 +4,8 @@
 
 mod entries;
 mod knowledge;
+mod laws;
 mod lines;
 
+pub use laws::{equal_lines_mean_equal_directories, equal_lines_mean_equal_knowledge, what_is_allowed_is_printable};
 pub use lines::line;
