@@ -1,5 +1,5 @@
 -- An entry's line tells the entry, whatever follows it.
-use Rattle.std.proofs.Common.{◌≡◌, ℕ, ◌<◌, ◌^◌, Bool, true, false, not, List, [], ◌∷◌, ◌++◌, flat_map, refl, sym, ap, subst, ◌∙◌, arith, append_assoc}
+use Rattle.std.proofs.Common.{◌≡◌, ℕ, ◌<◌, ◌^◌, true, false, List, [], ◌∷◌, ◌++◌, flat_map, refl, sym, ap, subst, ◌∙◌, arith, append_assoc}
 use Rattle.std.specs.Prelude.{codes, All}
 use Rattle.std.proofs.lemmas.Bool.{both_ways}
 use Rattle.std.proofs.lemmas.List.{append_cancel_left}
@@ -26,7 +26,7 @@ unfolding said
 sets_divide m n x y r s hm hn e =
     let inside : (attribute_token m ++ 61 ∷ x) ++ r ≡ (attribute_token n ++ 61 ∷ y) ++ s = cc in
     let d = attributes_divide m n (61 ∷ (x ++ r)) (61 ∷ (y ++ s)) hm hn refl refl
-        (sym (append_assoc (attribute_token m) (61 ∷ x) r) ∙ inside ∙ append_assoc (attribute_token n) (61 ∷ y) s) in
+    (sym (append_assoc (attribute_token m) (61 ∷ x) r) ∙ inside ∙ append_assoc (attribute_token n) (61 ∷ y) s) in
     let left : 61 ∷ (x ++ r) ≡ 61 ∷ (y ++ s) = d.1 in
     let rest : x ++ r ≡ y ++ s = cc in
     (d.0, rest)
@@ -47,15 +47,15 @@ one_values : (v w : ℕ × List Item) (r s : List ℕ) → ArePrintableValues v 
 unfolding Stops
 one_values v w r s hv hw er es e =
     let d = sets_divide v.0 w.0 (values_token v.1) (values_token w.1) r s hv.attribute hw.attribute
-        (ap (λ (x : List ℕ). x ++ r) (sym (values_said v)) ∙ e ∙ ap (λ (x : List ℕ). x ++ s) (values_said w)) in
+    (ap (λ (x : List ℕ). x ++ r) (sym (values_said v)) ∙ e ∙ ap (λ (x : List ℕ). x ++ s) (values_said w)) in
     let more = values_divide v.1 w.1 r s hv.values hw.values er es d.1 in
     (λ i. (d.0 i, more.0 i), more.1)
 
 one_links : (k l : ℕ × List (List ℕ)) (r s : List ℕ) → ArePrintableLinks k → ArePrintableLinks l → Stops r → Stops s → links_text k ++ r ≡ links_text l ++ s → (k ≡ l) × (r ≡ s)
 unfolding Stops
 one_links k l r s hk hl er es e =
-    let d = sets_divide k.0 l.0 (listed k.1) (listed l.1) r s (link_small k.0 hk.is_link) (link_small l.0 hl.is_link)
-        (ap (λ (x : List ℕ). x ++ r) (sym (links_said k)) ∙ e ∙ ap (λ (x : List ℕ). x ++ s) (links_said l)) in
+    let d = sets_divide k.0 l.0 (listed k.1) (listed l.1) r s (link_small k.0 hk.link) (link_small l.0 hl.link)
+    (ap (λ (x : List ℕ). x ++ r) (sym (links_said k)) ∙ e ∙ ap (λ (x : List ℕ). x ++ s) (links_said l)) in
     let more = identifiers_listed_divide k.1 l.1 r s hk.ends hl.ends er es d.1 in
     (λ i. (d.0 i, more.0 i), more.1)
 
@@ -103,8 +103,8 @@ values_list_divide = lists_divide values_text ArePrintableValues Stops Closes on
 
 link_closed : (attr : ℕ) (x y r : List ℕ) (l : ℕ × List (List ℕ)) → ArePrintableLinks l → is_link (kind_at newest attr) ≡ false → attr < 2 ^ 64 → said attr x ++ y ≡ links_text l ++ r → ⊥
 link_closed attr x y r l hl other small e =
-    let d = sets_divide attr l.0 x (listed l.1) y r small (link_small l.0 hl.is_link) (e ∙ ap (λ (z : List ℕ). z ++ r) (links_said l)) in
-    both_ways (is_link (kind_at newest l.0)) (subst (λ n. is_link (kind_at newest n) ≡ false) d.0 other) hl.is_link
+    let d = sets_divide attr l.0 x (listed l.1) y r small (link_small l.0 hl.link) (e ∙ ap (λ (z : List ℕ). z ++ r) (links_said l)) in
+    both_ways (is_link (kind_at newest l.0)) (subst (λ n. is_link (kind_at newest n) ≡ false) d.0 other) hl.link
 
 links_close : (ls : List (ℕ × List (List ℕ))) (r : List ℕ) → All ArePrintableLinks ls → Feeds r → Closes (flat_map links_text ls ++ r)
 links_close [] r hl h = record { stops = feed_stops r h; closed = λ attr x y other small e. said_apart attr x y r h e }
@@ -147,7 +147,7 @@ rest_divide : (vs ws : List (ℕ × List Item)) (ks ls : List (ℕ × List (List
 unfolding Feeds rest_text
 rest_divide vs ws ks ls r s hv hw hk hl e =
     let values = values_list_divide vs ws (flat_map links_text ks ++ (10 ∷ r)) (flat_map links_text ls ++ (10 ∷ s)) hv hw
-        (links_close ks (10 ∷ r) hk (r, refl)) (links_close ls (10 ∷ s) hl (s, refl)) e in
+    (links_close ks (10 ∷ r) hk (r, refl)) (links_close ls (10 ∷ s) hl (s, refl)) e in
     let links = links_divide ks ls (10 ∷ r) (10 ∷ s) hk hl (r, refl) (s, refl) values.1 in
     let feed : 10 ∷ r ≡ 10 ∷ s = links.1 in
     let left : r ≡ s = cc in

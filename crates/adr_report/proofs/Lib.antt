@@ -1,3 +1,4 @@
+pub mod Finds
 pub mod Prefixes
 pub mod Tokens
 pub mod Names
@@ -5,3 +6,4 @@ pub mod Values
 pub mod EntryLines
 pub mod KnowledgeLines
 pub mod ReportLines
+pub mod Allowed

@@ -1,19 +1,20 @@
 -- What is written for a class or an attribute tells its number.
-use Rattle.std.proofs.Common.{◌≡◌, ℕ, ◌<◌, ◌^◌, Bool, true, false, not, ◌&&◌, cond, List, [], ◌∷◌, ◌++◌, Option, Some, None, refl, sym, subst, ◌∙◌, arith, nat_eq}
-use Rattle.std.specs.Prelude.{◌==◌, nat_le, nat_lt, codes}
+use Rattle.std.proofs.Common.{◌≡◌, ℕ, ◌<◌, ◌^◌, Bool, true, not, ◌&&◌, List, [], ◌∷◌, ◌++◌, Option, Some, None, refl, sym, subst, arith, nat_eq}
+use Rattle.std.specs.Prelude.{◌==◌, nat_le, nat_lt, IsSome}
 use Rattle.std.specs.List.{list_all, find}
 use Rattle.std.specs.Option.{option_map}
 use Rattle.std.specs.Str.{bytes_eq}
 use Rattle.std.specs.Fmt.{decimal}
-use Rattle.std.proofs.lemmas.Bool.{and_parts, and_from, eqb-true, ltb-true}
+use Rattle.std.proofs.lemmas.Bool.{and_parts, eqb-true, ltb-true}
 use Rattle.std.proofs.lemmas.Bool.Decides.{nat_tests, Decides-eqb}
 use Rattle.std.proofs.lemmas.Fmt.{decimal_injective}
 use Rattle.std.proofs.lemmas.Slice.Eq.{bytes_eq-Decides}
 use Rattle.adr_schema.specs.Names.{class_name, class_number, attribute_name, attribute_number}
 use Rattle.adr_schema.specs.Schemas.{newest, schema_1}
-use Rattle.adr_schema.specs.Table.{Class, Attribute, is_link, kind_at}
+use Rattle.adr_schema.specs.Table.{Class, Attribute, attribute_at, class_at, is_link, kind_at}
 use Rattle.adr_schema.proofs.Apart.{found_by_other}
 use Rattle.adr_token.specs.Spelling.{name_or_number, class_token, attribute_token}
+use Rattle.adr_report.proofs.Finds.{found, mapped}
 use Rattle.adr_report.proofs.Prefixes.{ends, words_divide, all_more}
 use Rattle.adr_report.proofs.Tokens.{is_figure, decimal_figures}
 
@@ -38,23 +39,15 @@ plain_first text number h e =
 figure_word : (b : ℕ) → is_figure b ≡ true → is_word b ≡ true
 figure_word b h = grind (arith, nat_tests)
 
-found_plain_by : {A : Type 0} (name : A → List ℕ) (x : A) (o : Option A) (text : List ℕ) (t : Bool) → is_plain (name x) ≡ true → (option_map name o ≡ Some text → is_plain text ≡ true)
-    → option_map name (cond t (Some x) o) ≡ Some text → is_plain text ≡ true
-found_plain_by name x o text true h more e =
-    let same : name x ≡ text = cc in
-    subst (λ (y : List ℕ). is_plain y ≡ true) same h
-found_plain_by name x o text false h more e = more e
-
 found_plain : {A : Type 0} (name : A → List ℕ) (test : A → Bool) (xs : List A) (text : List ℕ) → list_all (λ x. is_plain (name x)) xs ≡ true → option_map name (find test xs) ≡ Some text → is_plain text ≡ true
-found_plain name test [] text h e = absurd (cc)
-found_plain name test (x ∷ xs) text h e =
-    let parts = and_parts (is_plain (name x)) (list_all (λ y. is_plain (name y)) xs) h in
-    found_plain_by name x (find test xs) text (test x) parts.0 (found_plain name test xs text parts.1) e
+found_plain name test xs text h e =
+    let there = mapped name (find test xs) text e in
+    subst (λ (y : List ℕ). is_plain y ≡ true) there.2 (found test (λ x. is_plain (name x)) xs there.0 h there.1).1
 
 -- numbers with names that are read back
 module _ (name : ℕ → Option (List ℕ)) (number : List ℕ → Option ℕ)
-  (again : (n : ℕ) (text : List ℕ) → name n ≡ Some text → number text ≡ Some n)
-  (plain : (n : ℕ) (text : List ℕ) → name n ≡ Some text → is_plain text ≡ true) where
+    (again : (n : ℕ) (text : List ℕ) → name n ≡ Some text → number text ≡ Some n)
+    (plain : (n : ℕ) (text : List ℕ) → name n ≡ Some text → is_plain text ≡ true) where
   words : (n : ℕ) (o : Option (List ℕ)) → name n ≡ o → list_all is_word (name_or_number o n) ≡ true
   words n None e = all_more is_figure is_word figure_word (decimal n) (decimal_figures n)
   words n (Some text) e = plain_words text (plain n text e)
@@ -111,26 +104,42 @@ pub attributes_divide : (m n : ℕ) (r s : List ℕ) → m < 2 ^ 64 → n < 2 ^ 
 unfolding attribute_token
 attributes_divide = names_divide attribute_name attribute_number attribute_again (λ n text e. found_plain attribute_named (λ a. a.number == n) newest.attributes text attributes_plain e)
 
--- the numbers of links are small
-link_small_by : (n : ℕ) (a : Attribute) (o : Option Attribute) (t : Bool) → (a.number == n) ≡ t → nat_lt a.number 18446744073709551616 ≡ true
-    → (is_link (option_map (λ (x : Attribute). x.kind) o) ≡ true → n < 2 ^ 64)
-    → is_link (option_map (λ (x : Attribute). x.kind) (cond t (Some a) o)) ≡ true → n < 2 ^ 64
-link_small_by n a o true e small more h =
-    let same = eqb-true a.number n e in
-    let below = ltb-true a.number 18446744073709551616 small in
+-- the numbers of a schema are small
+is_small : ℕ → Bool
+is_small n = nat_lt n 18446744073709551616
+
+small : (n m : ℕ) → is_small m ≡ true → (m == n) ≡ true → n < 2 ^ 64
+unfolding is_small
+small n m h e =
+    let same = eqb-true m n e in
+    let below = ltb-true m 18446744073709551616 h in
     omega arith
-link_small_by n a o false e small more h = more h
 
-link_small_in : (n : ℕ) (xs : List Attribute) → list_all (λ (a : Attribute). nat_lt a.number 18446744073709551616) xs ≡ true
-    → is_link (option_map (λ (x : Attribute). x.kind) (find (λ (a : Attribute). a.number == n) xs)) ≡ true → n < 2 ^ 64
-link_small_in n [] h e = absurd (cc)
-link_small_in n (x ∷ xs) h e =
-    let parts = and_parts (nat_lt x.number 18446744073709551616) (list_all (λ (a : Attribute). nat_lt a.number 18446744073709551616) xs) h in
-    link_small_by n x (find (λ (a : Attribute). a.number == n) xs) (x.number == n) refl parts.0 (link_small_in n xs parts.1) e
-
-attributes_small : list_all (λ (a : Attribute). nat_lt a.number 18446744073709551616) newest.attributes ≡ true
-unfolding schema_1
+attributes_small : list_all (λ (a : Attribute). is_small a.number) newest.attributes ≡ true
+unfolding is_small schema_1
 attributes_small = refl
 
+classes_small : list_all (λ (c : Class). is_small c.number) newest.classes ≡ true
+unfolding is_small schema_1
+classes_small = refl
+
+pub attribute_small : (n : ℕ) (a : Attribute) → attribute_at newest n ≡ Some a → n < 2 ^ 64
+attribute_small n a e =
+    let there = found (λ (x : Attribute). x.number == n) (λ (x : Attribute). is_small x.number) newest.attributes a attributes_small e in
+    small n a.number there.1 there.0
+
+class_small_at : (n : ℕ) (o : Option Class) → class_at newest n ≡ o → IsSome o → n < 2 ^ 64
+class_small_at n None e there = absurd (cc)
+class_small_at n (Some c) e there =
+    let is = found (λ (x : Class). x.number == n) (λ (x : Class). is_small x.number) newest.classes c classes_small e in
+    small n c.number is.1 is.0
+
+pub class_small : (n : ℕ) → IsSome (class_at newest n) → n < 2 ^ 64
+class_small n there = class_small_at n (class_at newest n) refl there
+
+link_small_at : (n : ℕ) (o : Option Attribute) → attribute_at newest n ≡ o → is_link (option_map (λ (a : Attribute). a.kind) o) ≡ true → n < 2 ^ 64
+link_small_at n None e h = absurd (cc)
+link_small_at n (Some a) e h = attribute_small n a e
+
 pub link_small : (n : ℕ) → is_link (kind_at newest n) ≡ true → n < 2 ^ 64
-link_small n h = link_small_in n newest.attributes attributes_small h
+link_small n h = link_small_at n (attribute_at newest n) refl h

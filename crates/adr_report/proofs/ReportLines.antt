@@ -1,15 +1,15 @@
 -- What a report writes tells what it reports.
-use Rattle.std.proofs.Common.{◌≡◌, ℕ, ◌<◌, ◌^◌, true, List, [], ◌∷◌, ◌++◌, length, flat_map, refl, sym, ap, ◌∙◌, append_assoc}
+use Rattle.std.proofs.Common.{◌≡◌, ℕ, ◌<◌, ◌^◌, List, [], ◌∷◌, ◌++◌, length, flat_map, refl, sym, ap, ◌∙◌, append_assoc}
 use Rattle.std.specs.Prelude.{All, codes}
 use Rattle.std.specs.Fmt.{decimal}
 use Rattle.std.proofs.lemmas.Fmt.{decimal_injective}
-use Rattle.std.proofs.lemmas.List.{append-nil, append_cancel_left}
+use Rattle.std.proofs.lemmas.List.{append_cancel_left}
 use Rattle.adr_event.specs.declared.directory.Entry.{Entry}
 use Rattle.adr_vector.specs.declared.mark.Mark.{Mark}
 use Rattle.adr_event.specs.declared.answer.Outcome.{Outcome}
 use Rattle.adr_event.specs.declared.answer.Outcome.TheVariants.{Show, Vector, Marks}
 use Rattle.adr_report.specs.Line.{cursor_line, entry_line, line, named, partner_line, report_lines, result_text, said}
-use Rattle.adr_report.specs.Laws.{EqualLinesMeanEqualDirectories, LinesAreToldFromWhatFollows, EqualLinesMeanEqualVectors, EqualLinesMeanEqualMarks, report}
+use Rattle.adr_report.specs.Laws.{EqualLinesMeanEqualDirectories, EqualEntryLinesMeanEqualDirectories, LinesAreToldFromWhatFollows, EqualLinesMeanEqualVectors, EqualLinesMeanEqualMarks, report}
 use Rattle.adr_report.specs.Printable.{IsPrintableCursor, IsPrintableEntry, IsPrintablePartner}
 use Rattle.adr_report.proofs.Prefixes.{as_many_divide, lists_divide, words_divide}
 use Rattle.adr_report.proofs.Tokens.{decimal_figures, is_figure}
@@ -41,9 +41,9 @@ Nothing : List ℕ → Type 0
 Nothing r = r ≡ []
 
 module _ {A : Type 0} (verb : List ℕ) (outcome : List A → Outcome) (f : A → List ℕ) (P : A → Type 0)
-  (is : (name : List ℕ) (xs : List A) (r : List ℕ) → report verb name (outcome xs) ++ r ≡ front verb name (decimal (length xs) ++ (10 ∷ (flat_map f xs ++ r))))
-  (one : (a b : A) (r s : List ℕ) → P a → P b → f a ++ r ≡ f b ++ s → (a ≡ b) × (r ≡ s))
-  (some : (a : A) (r : List ℕ) → f a ++ r ≡ [] → ⊥) where
+    (is : (name : List ℕ) (xs : List A) (r : List ℕ) → report verb name (outcome xs) ++ r ≡ front verb name (decimal (length xs) ++ (10 ∷ (flat_map f xs ++ r))))
+    (one : (a b : A) (r s : List ℕ) → P a → P b → f a ++ r ≡ f b ++ s → (a ≡ b) × (r ≡ s))
+    (some : (a : A) (r : List ℕ) → f a ++ r ≡ [] → ⊥) where
   pieces_divide : (name : List ℕ) (xs ys : List A) (r s : List ℕ) → report verb name (outcome xs) ++ r ≡ report verb name (outcome ys) ++ s
       → (decimal (length xs) ≡ decimal (length ys)) × (flat_map f xs ++ r ≡ flat_map f ys ++ s)
   pieces_divide name xs ys r s h =
@@ -57,6 +57,10 @@ module _ {A : Type 0} (verb : List ℕ) (outcome : List A → Outcome) (f : A �
   unfolding Nothing
   reports_same name xs ys hx hy h =
       (lines_divide xs ys [] [] hx hy refl refl (pieces_divide name xs ys [] [] (ap (λ (x : List ℕ). x ++ []) h)).1).0
+
+  below_same : (xs ys : List A) → All P xs → All P ys → flat_map f xs ≡ flat_map f ys → xs ≡ ys
+  unfolding Nothing
+  below_same xs ys hx hy h = (lines_divide xs ys [] [] hx hy refl refl (ap (λ (x : List ℕ). x ++ []) h)).0
 
   reports_divide : (name : List ℕ) (xs ys : List A) (r s : List ℕ) → All P xs → All P ys → length xs < 2 ^ 64 → length ys < 2 ^ 64
       → report verb name (outcome xs) ++ r ≡ report verb name (outcome ys) ++ s → (xs ≡ ys) × (r ≡ s)
@@ -80,6 +84,10 @@ marks_are name m r = flat (codes "marks") (named name) (codes ": ") (decimal (le
 
 pub directories_same : EqualLinesMeanEqualDirectories
 directories_same = reports_same (codes "show") Show entry_line IsPrintableEntry shown_is entry_divide entry_some
+
+pub directories_same_below : EqualEntryLinesMeanEqualDirectories
+unfolding report_lines
+directories_same_below = below_same (codes "show") Show entry_line IsPrintableEntry shown_is entry_divide entry_some
 
 pub directories_divide : LinesAreToldFromWhatFollows
 directories_divide = reports_divide (codes "show") Show entry_line IsPrintableEntry shown_is entry_divide entry_some

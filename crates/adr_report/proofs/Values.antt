@@ -1,5 +1,5 @@
 -- A value's token tells the value, and so do the tokens of values with commas between them.
-use Rattle.std.proofs.Common.{◌≡◌, ℕ, suc, ◌+◌, ◌*◌, ◌/◌, ◌%◌, ◌<◌, ◌^◌, Bool, true, false, not, ◌&&◌, cond, List, [], ◌∷◌, ◌++◌, length, flat_map, refl, sym, ap, ◌∙◌, arith, append_assoc}
+use Rattle.std.proofs.Common.{◌≡◌, ℕ, suc, ◌/◌, ◌%◌, ◌<◌, ◌^◌, Bool, true, false, ◌&&◌, cond, List, [], ◌∷◌, ◌++◌, length, flat_map, refl, sym, ap, ◌∙◌, arith, append_assoc}
 use Rattle.std.specs.Prelude.{◌==◌, nat_le, codes, pos, negsuc, All, ℤ}
 use Rattle.std.specs.List.{list_all}
 use Rattle.std.specs.Fmt.{decimal, signed_decimal}
@@ -149,9 +149,9 @@ value_apart v r s hv es e =
 
 -- elements with commas between them
 module _ {A : Type 0} (f : A → List ℕ) (P : A → Type 0) (w : List A → List ℕ)
-  (one : (a b : A) (r s : List ℕ) → P a → P b → ends is_inner r ≡ true → ends is_inner s ≡ true → f a ++ r ≡ f b ++ s → (a ≡ b) × (r ≡ s))
-  (apart : (a : A) (r s : List ℕ) → P a → ends is_seen s ≡ true → f a ++ r ≡ s → ⊥)
-  (none : w [] ≡ []) (some : (x : A) (xs : List A) → w (x ∷ xs) ≡ f x ++ flat_map (λ (y : A). codes "," ++ f y) xs) where
+    (one : (a b : A) (r s : List ℕ) → P a → P b → ends is_inner r ≡ true → ends is_inner s ≡ true → f a ++ r ≡ f b ++ s → (a ≡ b) × (r ≡ s))
+    (apart : (a : A) (r s : List ℕ) → P a → ends is_seen s ≡ true → f a ++ r ≡ s → ⊥)
+    (none : w [] ≡ []) (some : (x : A) (xs : List A) → w (x ∷ xs) ≡ f x ++ flat_map (λ (y : A). codes "," ++ f y) xs) where
   further : A → List ℕ
   further y = codes "," ++ f y
 
@@ -191,7 +191,7 @@ module _ {A : Type 0} (f : A → List ℕ) (P : A → Type 0) (w : List A → Li
       absurd (apart x (flat_map further xs ++ r) s (All-head P x xs hx) es (sym (written x xs r) ∙ e ∙ empty s))
   commas_divide (x ∷ xs) (y ∷ ys) r s hx hy er es e =
       let first = one x y (flat_map further xs ++ r) (flat_map further ys ++ s) (All-head P x xs hx) (All-head P y ys hy) (further_goes xs r er) (further_goes ys s es)
-          (sym (written x xs r) ∙ e ∙ written y ys s) in
+      (sym (written x xs r) ∙ e ∙ written y ys s) in
       let more = further_divide xs ys r s (All-tail P x xs hx) (All-tail P y ys hy) er es first.1 in
       (λ i. first.0 i ∷ more.0 i, more.1)
 

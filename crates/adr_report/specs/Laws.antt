@@ -10,7 +10,7 @@ use Rattle.adr_event.specs.declared.answer.Outcome.{Outcome}
 use Rattle.adr_event.specs.declared.answer.Outcome.TheVariants.{Show, Vector, Marks}
 use Rattle.adr_event.specs.declared.directory.Entry.{Entry}
 use Rattle.adr_token.specs.Laws.{IsIdentifier}
-use Rattle.adr_report.specs.Line.{line}
+use Rattle.adr_report.specs.Line.{line, report_lines}
 use Rattle.adr_report.specs.Printable.{IsPrintable, IsPrintableCursor, IsPrintablePartner, ArePrintableValues, ArePrintableLinks}
 
 -- what a report writes
@@ -23,6 +23,10 @@ shown name d = report (codes "show") name (Show d)
 
 abbrev pub EqualLinesMeanEqualDirectories : Type 0
 EqualLinesMeanEqualDirectories = (name : List ℕ) (d e : List Entry) → IsPrintable d → IsPrintable e → shown name d ≡ shown name e → d ≡ e
+
+-- the lines of the entries alone, as two controllers write them below their names
+abbrev pub EqualEntryLinesMeanEqualDirectories : Type 0
+EqualEntryLinesMeanEqualDirectories = (d e : List Entry) → IsPrintable d → IsPrintable e → report_lines (Show d) ≡ report_lines (Show e) → d ≡ e
 
 -- whatever follows, as further answers: the line says how many entries there are, and each of these says where it ends
 abbrev pub LinesAreToldFromWhatFollows : Type 0

@@ -1,4 +1,4 @@
--- The entries whose lines tell them: what is needed of an entry so that no other one has its line.
+-- What is needed of an entry, of a cursor and of a mark so that no other one has its line.
 use Rattle.std.specs.Prelude.{◌≡◌, ◌<◌, ◌^◌, ℕ, List, true, false, All}
 use Rattle.std.specs.Int.Signed.{mag}
 use Rattle.adr_schema.specs.declared.content.Value.{Value as Item}
@@ -9,7 +9,8 @@ use Rattle.adr_vector.specs.declared.mark.Mark.{Mark}
 use Rattle.adr_event.specs.declared.directory.Entry.{Entry}
 use Rattle.adr_token.specs.Laws.{IsIdentifier}
 
--- a value that its token tells: numbers have at most 64 figures, and identifiers sixteen bytes
+-- a value that its token tells: of a number above all of 64 bits figures may be lost; bytes of another length than sixteen, or
+-- above 255, can make the same identifier
 abbrev pub IsPrintableValue : Item → Type 0
 IsPrintableValue (Number number) = mag number < 2 ^ 63
 IsPrintableValue (Ref id) = IsIdentifier id
@@ -19,28 +20,31 @@ IsPrintableValue (Octets octets) = Unit {0}
 
 -- an attribute with its values
 pub record ArePrintableValues (v : ℕ × List Item) : Type 0 where
-  -- references under an attribute look like the other ends of a link
+  -- references under an attribute are written as the other ends of a link are
   pub no_link : is_link (kind_at newest v.0) ≡ false
   -- an attribute that has no name is written by its number
   pub attribute : v.0 < 2 ^ 64
+  -- each value is told by its token
   pub values : All IsPrintableValue v.1
 
--- a link attribute with the other ends
+-- a link attribute with the other ends; such an attribute has a name
 pub record ArePrintableLinks (l : ℕ × List (List ℕ)) : Type 0 where
-  -- the other ends of a link look like references under an attribute
-  pub is_link : is_link (kind_at newest l.0) ≡ true
-  -- bytes of another length, or above 255, can make the same number
+  -- the other ends of a link are written as references under an attribute are
+  pub link : is_link (kind_at newest l.0) ≡ true
+  -- other bytes can make the same identifier
   pub ends : All IsIdentifier l.1
 
--- an entry
+-- an entry; of its name nothing is needed, nor of how many values and links it has
 pub record IsPrintableEntry (e : Entry) : Type 0 where
-  -- bytes of another length, or above 255, can make the same number
+  -- other bytes can make the same identifier
   pub guid : IsIdentifier e.guid
   -- a class that has no name is written by its number
   pub class : e.class < 2 ^ 64
-  -- as for the GUID
+  -- other bytes can make the same identifier
   pub parent : IsIdentifier e.parent
+  -- its attributes are told from its links
   pub values : All ArePrintableValues e.values
+  -- its links are told from its attributes
   pub links : All ArePrintableLinks e.links
 
 -- a directory

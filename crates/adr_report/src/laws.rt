@@ -1,10 +1,11 @@
 //! The laws of the lines.
 
-ghost use Rattle.adr_report.specs.Laws.{EqualLinesMeanEqualDirectories, LinesAreToldFromWhatFollows, EqualLinesMeanEqualVectors, EqualLinesMeanEqualMarks, KnownClassesArePrintable, AllowedValuesArePrintable, LinksArePrintable};
+ghost use Rattle.adr_report.specs.Laws.{EqualLinesMeanEqualDirectories, EqualEntryLinesMeanEqualDirectories, LinesAreToldFromWhatFollows, EqualLinesMeanEqualVectors, EqualLinesMeanEqualMarks, KnownClassesArePrintable, AllowedValuesArePrintable, LinksArePrintable};
 
 /// What a `show` writes tells the directory.
 pub fn equal_lines_mean_equal_directories()
     ensures alone { EqualLinesMeanEqualDirectories }
+    ensures below { EqualEntryLinesMeanEqualDirectories }
     ensures followed { LinesAreToldFromWhatFollows }
 {}
 
