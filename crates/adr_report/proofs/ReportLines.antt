@@ -8,7 +8,7 @@ use Rattle.adr_event.specs.declared.directory.Entry.{Entry}
 use Rattle.adr_vector.specs.declared.mark.Mark.{Mark}
 use Rattle.adr_event.specs.declared.answer.Outcome.{Outcome}
 use Rattle.adr_event.specs.declared.answer.Outcome.TheVariants.{Show, Vector, Marks}
-use Rattle.adr_report.specs.Line.{cursor_line, entry_line, line, named, partner_line, report_lines, result_text, said}
+use Rattle.adr_report.specs.Line.{cursor_line, entry_line, line, partner_line, report_lines, result_text}
 use Rattle.adr_report.specs.Laws.{EqualLinesMeanEqualDirectories, EqualEntryLinesMeanEqualDirectories, LinesAreToldFromWhatFollows, EqualLinesMeanEqualVectors, EqualLinesMeanEqualMarks, report}
 use Rattle.adr_report.specs.Printable.{IsPrintableCursor, IsPrintableEntry, IsPrintablePartner}
 use Rattle.adr_report.proofs.Prefixes.{as_many_divide, lists_divide, words_divide}
@@ -18,7 +18,7 @@ use Rattle.adr_report.proofs.KnowledgeLines.{cursor_divide, cursor_some, partner
 
 -- a report in its pieces: what is the same in each, the number of lines, the lines
 front : List ℕ → List ℕ → List ℕ → List ℕ
-front verb name x = verb ++ (named name ++ (codes ": " ++ x))
+front verb name x = verb ++ ((codes " " ++ name) ++ (codes ": " ++ x))
 
 flat : (a n c k l es r : List ℕ) → (a ++ n ++ c ++ k ++ l ++ es) ++ r ≡ a ++ (n ++ (c ++ (k ++ (l ++ (es ++ r)))))
 flat a n c k l es r = simp append_assoc
@@ -26,8 +26,8 @@ flat a n c k l es r = simp append_assoc
 front_same : (verb name x y : List ℕ) → front verb name x ≡ front verb name y → x ≡ y
 unfolding front
 front_same verb name x y e =
-    let behind : named name ++ (codes ": " ++ x) ≡ named name ++ (codes ": " ++ y) = append_cancel_left verb _ _ e in
-    append_cancel_left (codes ": ") x y (append_cancel_left (named name) _ _ behind)
+    let behind : (codes " " ++ name) ++ (codes ": " ++ x) ≡ (codes " " ++ name) ++ (codes ": " ++ y) = append_cancel_left verb _ _ e in
+    append_cancel_left (codes ": ") x y (append_cancel_left ((codes " " ++ name)) _ _ behind)
 
 counts_divide : (m n : ℕ) (x y : List ℕ) → decimal m ++ (10 ∷ x) ≡ decimal n ++ (10 ∷ y) → (decimal m ≡ decimal n) × (x ≡ y)
 counts_divide m n x y e =
@@ -69,18 +69,18 @@ module _ {A : Type 0} (verb : List ℕ) (outcome : List A → Outcome) (f : A �
       as_many_divide f P one xs ys r s (decimal_injective (length xs) (length ys) nx ny parts.0) hx hy parts.1
 
 shown_is : (name : List ℕ) (d : List Entry) (r : List ℕ) → report (codes "show") name (Show d) ++ r ≡ front (codes "show") name (decimal (length d) ++ (10 ∷ (flat_map entry_line d ++ r)))
-unfolding line said result_text report_lines front
-shown_is name d r = flat (codes "show") (named name) (codes ": ") (decimal (length d)) (codes "\n") (flat_map entry_line d) r
+unfolding line result_text report_lines front
+shown_is name d r = flat (codes "show") ((codes " " ++ name)) (codes ": ") (decimal (length d)) (codes "\n") (flat_map entry_line d) r
 
 vector_is : (name : List ℕ) (v : List (List ℕ × ℕ)) (r : List ℕ)
     → report (codes "vector") name (Vector v) ++ r ≡ front (codes "vector") name (decimal (length v) ++ (10 ∷ (flat_map cursor_line v ++ r)))
-unfolding line said result_text report_lines front
-vector_is name v r = flat (codes "vector") (named name) (codes ": ") (decimal (length v)) (codes "\n") (flat_map cursor_line v) r
+unfolding line result_text report_lines front
+vector_is name v r = flat (codes "vector") ((codes " " ++ name)) (codes ": ") (decimal (length v)) (codes "\n") (flat_map cursor_line v) r
 
 marks_are : (name : List ℕ) (m : List (List ℕ × List ℕ × Mark)) (r : List ℕ)
     → report (codes "marks") name (Marks m) ++ r ≡ front (codes "marks") name (decimal (length m) ++ (10 ∷ (flat_map partner_line m ++ r)))
-unfolding line said result_text report_lines front
-marks_are name m r = flat (codes "marks") (named name) (codes ": ") (decimal (length m)) (codes "\n") (flat_map partner_line m) r
+unfolding line result_text report_lines front
+marks_are name m r = flat (codes "marks") ((codes " " ++ name)) (codes ": ") (decimal (length m)) (codes "\n") (flat_map partner_line m) r
 
 pub directories_same : EqualLinesMeanEqualDirectories
 directories_same = reports_same (codes "show") Show entry_line IsPrintableEntry shown_is entry_divide entry_some
