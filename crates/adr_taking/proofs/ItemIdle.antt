@@ -12,7 +12,7 @@ use Rattle.adr_model.specs.Reflects.{Covers, CoversBirth, IsDeath, HoldsAtLeast,
 use Rattle.adr_model.specs.Store.{Held, State, updates_of}
 use Rattle.adr_model.specs.Change.{Item}
 use Rattle.adr_model.specs.Serve.{Reply}
-use Rattle.adr_model.specs.Take.{is_above, is_of_attr, left_by_death, is_lost_end, Presence, object_rows_taken, rows_taken}
+use Rattle.adr_model.specs.Take.{is_above, is_of_attr, left_by_death, is_lost_end, Presence, IsDead, IsHeld, object_rows_taken, rows_taken}
 use Rattle.adr_model.specs.Replica.{Scene}
 use Rattle.adr_model.specs.Sound.{IsExact}
 use Rattle.adr_knowledge.proofs.Knows.{end_of_row}
@@ -25,7 +25,6 @@ use Rattle.adr_taking.proofs.Standings.{each_presence, IsThere, there_where_unte
 use Rattle.adr_steps.proofs.Rising.{one_of_key}
 use Rattle.adr_taking.proofs.OnTheWay.{purged_is_covered, new_is_lacked}
 use Rattle.adr_taking.proofs.ItemRows.{item_units, row_key, row_of_attr}
-use Rattle.adr_taking.proofs.ItemPut.{of_dead, of_held}
 
 none_left : {A : Type 0} (test : A → Bool) (xs : List A) → Each (λ x. test x ≡ false) xs → filter test xs ≡ []
 none_left test xs none = no_members (filter test xs) (λ x m. let t = of_filter test xs x m in both_ways (test x) (none x t.0) t.1)
@@ -56,7 +55,7 @@ module _ (sc : Scene) (s : State) (r : Reply) (may : IsTakeable sc s r) (rows : 
             on (inl (tombstone, covers)) = where_dead tombstone covers
             on (inr purged) = absurd (purged.absent holds)
 
-    where_dead : IsTombstoned (updates_of rows) o → of_dead rows xs ≡ []
+    where_dead : IsTombstoned (updates_of rows) o → object_rows_taken rows xs IsDead ≡ []
     where_dead (d, n, is) = none_left (λ (u : Update). is_of_attr deleted_attr u.key && is_above rows u) xs fails
       where
         fails : Each (λ u. (is_of_attr deleted_attr u.key && is_above rows u) ≡ false) xs
@@ -66,7 +65,7 @@ module _ (sc : Scene) (s : State) (r : Reply) (may : IsTakeable sc s r) (rows : 
             by false other = refl
             by true death = below (d, deleted_attr, n, is) u m (λ tombstone covers. absurd (missed u m (covers (o, row_of_attr sc s r may item exact rows way o refl deleted_attr u m death))))
 
-    where_held : (IsTombstoned (updates_of rows) o → ⊥) → HoldsObject (updates_of rows) o → of_held rows xs ≡ []
+    where_held : (IsTombstoned (updates_of rows) o → ⊥) → HoldsObject (updates_of rows) o → object_rows_taken rows xs IsHeld ≡ []
     where_held alive holds = ap left_by_death (none_left (λ (u : Update). not (is_of_attr class_attr u.key) && is_above rows u) xs
         (λ u m. and_right (not (is_of_attr class_attr u.key)) (is_above rows u) (below holds u m (λ tombstone covers. absurd (alive tombstone)))))
 

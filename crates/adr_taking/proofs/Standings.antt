@@ -10,7 +10,7 @@ use Rattle.adr_model.specs.Reflects.{CoversBirth, IsDeath, HoldsObject, IsTombst
 use Rattle.adr_model.specs.Visible.{covers_birth}
 use Rattle.adr_model.specs.Store.{Held, updates_of, holds_object, holds_dead}
 use Rattle.adr_model.specs.Take.{is_of_attr, is_reserved_row, has_row, left_by_death, is_gone, is_lost_end, Presence, IsDead, IsHeld, IsGone, IsNew, presence_of}
-use Rattle.adr_model.proofs.Members.{in_filter, of_filter, one_passes, each_fails}
+use Rattle.adr_model.proofs.Members.{in_filter, of_filter, one_passes}
 use Rattle.adr_knowledge.proofs.Lists.{some_passes}
 use Rattle.adr_taking.proofs.Tests.{holds_where_tested, lacks_where_untested, dead_where_tested, alive_where_untested, covers_where_tested, misses_where_untested}
 
@@ -84,9 +84,6 @@ has_where_tested attr us h = some_passes (λ (u : Update). is_of_attr attr u.key
 
 pub tested_where_has : (attr : ℕ) (us : List Update) (u : Update) → Member u us → is_of_attr attr u.key ≡ true → has_row attr us ≡ true
 tested_where_has attr us u m is = one_passes (λ (v : Update). is_of_attr attr v.key) us u m is
-
-pub none_of_attr : (attr : ℕ) (us : List Update) → has_row attr us ≡ false → Each (λ u. is_of_attr attr u.key ≡ false) us
-none_of_attr attr us h = each_fails (λ (u : Update). is_of_attr attr u.key) us h
 
 pub is_death : (u : Update) → IsDeath u → is_of_attr deleted_attr u.key ≡ true
 is_death u (o, e) = attr_itself o deleted_attr u.key e
