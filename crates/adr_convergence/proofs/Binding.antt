@@ -10,7 +10,7 @@ use Rattle.adr_event.specs.declared.refusal.ServeRefusal.TheVariants as serves
 use Rattle.adr_model.specs.Member.{Member}
 use Rattle.adr_model.specs.Update.{Identifier}
 use Rattle.adr_model.specs.Place.{identifier}
-use Rattle.adr_model.specs.Store.{Kept, Store, State, no_mark, kept_of}
+use Rattle.adr_model.specs.Store.{Kept, Store, no_mark, kept_of}
 use Rattle.adr_model.specs.Serve.{Request, Reply, is_quarantined, ask, serve_refusal, reply_to, serve}
 use Rattle.adr_model.specs.Collect.{backup}
 use Rattle.adr_model.specs.Replica.{Replica}

@@ -1,10 +1,6 @@
 -- What every run comes to, and what of it was acknowledged on the way.
 use Rattle.std.proofs.Common.{◌≡◌, ℕ, List, [], ◌∷◌, ◌++◌, Bool, true, false, refl, sym, ◌∙◌, subst}
-use Rattle.adr_event.specs.declared.answer.Answer.{Answer}
-use Rattle.adr_event.specs.declared.answer.Outcome.TheVariants as outcomes
 use Rattle.adr_event.specs.declared.event.Event.{Event}
-use Rattle.adr_model.specs.Member.{Member, Each}
-use Rattle.adr_model.specs.Update.{Update}
 use Rattle.adr_model.specs.Change.{Written}
 use Rattle.adr_model.specs.Write.{items_written}
 use Rattle.adr_model.specs.World.{World, empty_world}

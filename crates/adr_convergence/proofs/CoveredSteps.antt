@@ -17,13 +17,13 @@ use Rattle.adr_model.specs.Change.{Change, after}
 use Rattle.adr_model.specs.Serve.{Request, Reply, is_quarantined, ask, serve}
 use Rattle.adr_model.specs.Write.{Write, items_written, own_change, write_refusal, write}
 use Rattle.adr_model.specs.Take.{take_items, taken_change, refusal_of, take}
-use Rattle.adr_model.specs.Collect.{collection, deaths_to_collect, collect_refusal, collect, backup, woken, adopt, quarantine}
+use Rattle.adr_model.specs.Collect.{collection, deaths_to_collect, collect_refusal, collect, backup, adopt, quarantine}
 use Rattle.adr_model.specs.Lengths.{log_of, log_after}
 use Rattle.adr_model.specs.Refused.{serve_refused, take_refused, quarantined}
 use Rattle.adr_model.specs.Replica.{Pending, ToWrite, ToTake, ToCollect, ToQuarantine, Standing, Up, Down, Failed, Plan, Replica, on_new_disk, Scene, begun, Settle, moved, went, moves_of_commit, moves_of_start, standing_after, plan_after}
 use Rattle.adr_model.specs.World.{Name, World, Snapshot, Gone, Sent, stays, nothing, bound, bound_at, replica_at, with_replica, of_made, of_controller, committed, commit, quarantines, after_write, writes, after_collect, asks, after_serve, served, serves_request, after_take, delivered, delivers, backed_up, adopts, of_image, put_back, with_plan, stops, starts, shown}
 use Rattle.adr_model.specs.Step.{gives, step}
-use Rattle.adr_model.specs.Convergence.{IsStoreOf, IsPurgedCovered, KeepsCovered, AreDeathsCovered}
+use Rattle.adr_model.specs.Convergence.{IsStoreOf, IsPurgedCovered, KeepsCovered}
 use Rattle.adr_model.proofs.Members.{member_of_either}
 use Rattle.adr_knowledge.proofs.Refusing.{answered}
 use Rattle.adr_history.proofs.Woken.{adopted_is_woken}

@@ -11,7 +11,7 @@ use Rattle.adr_model.specs.Write.{AddObject, Modify, Rename, Delete, AddLink, Re
 use Rattle.adr_model.specs.Collect.{adopt}
 use Rattle.adr_model.specs.Replica.{Pending, issued_by, Standing, Stops, Fails, Plan, Replica, on_new_disk, Scene, begun, Move, Begin, Settle, Forget, moved}
 use Rattle.adr_model.specs.World.{Name, World, Snapshot, Gone, Sent, stays, nothing, bound_at, with_replica, begins, adopts, of_image, put_back, after_moves, shown, marks_shown}
-use Rattle.adr_model.specs.Cycles.{pull, pulls, reply_limit}
+use Rattle.adr_model.specs.Cycles.{pulls, reply_limit}
 use Rattle.adr_model.specs.Step.{gives, step}
 use Rattle.adr_model.specs.Convergence.{IssuedStays, StaysUnclean}
 use Rattle.adr_model.proofs.Members.{member_left}

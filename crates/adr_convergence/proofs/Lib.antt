@@ -15,6 +15,10 @@ pub mod Binding
 pub mod Coming
 pub mod Stepping
 pub mod Lines
+pub mod Progress
+pub mod Pulling
+pub mod Cycling
+pub mod Completing
 pub mod Refusals
 pub mod RefusalsPlain
 pub mod RefusalsServed

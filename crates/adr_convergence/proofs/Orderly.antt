@@ -1,22 +1,21 @@
 -- What holds always: names and identifiers are those of lines, rows are in order, and nothing is bound to a name twice.
-use Rattle.std.proofs.Common.{◌≡◌, ◌≢◌, ◌⊎◌, inl, inr, ℕ, List, [], ◌∷◌, ◌++◌, Bool, true, false, Option, Some, None, Result, Ok, Err, refl, sym, ap, ◌∙◌, subst, fold, map, not, if◌then◌else◌, length}
+use Rattle.std.proofs.Common.{◌≡◌, ◌≢◌, ◌⊎◌, inl, inr, ℕ, List, [], ◌∷◌, ◌++◌, Bool, true, false, Option, Some, None, Result, Ok, Err, refl, sym, ap, ◌∙◌, subst, fold, if◌then◌else◌}
 use Rattle.std.specs.List.Sorted.{IsStrictlySortedBy}
-use Rattle.adr_event.specs.declared.answer.Outcome.{Outcome}
 use Rattle.adr_event.specs.declared.answer.Outcome.TheVariants as outcomes
 use Rattle.adr_event.specs.declared.event.Event.{Event}
 use Rattle.adr_event.specs.declared.event.Event.TheVariants as events
 use Rattle.adr_event.specs.declared.refusal.AdoptRefusal.{AdoptRefusal}
 use Rattle.adr_model.specs.Member.{Member, Each}
-use Rattle.adr_model.specs.Update.{Identifier, key_order}
-use Rattle.adr_model.specs.Store.{Held, Store, State, is_row_of, empty_state}
-use Rattle.adr_model.specs.Change.{Change, held_of, put, without_object, rows_after, after}
+use Rattle.adr_model.specs.Update.{Identifier}
+use Rattle.adr_model.specs.Store.{Store, State, empty_state}
+use Rattle.adr_model.specs.Change.{Change, held_of, after}
 use Rattle.adr_model.specs.Formed.{AreRising}
 use Rattle.adr_model.specs.Lengths.{log_of}
 use Rattle.adr_model.specs.Serve.{Request, Reply, is_quarantined}
 use Rattle.adr_model.specs.Write.{AddObject, Modify, Rename, Delete, AddLink, RemoveLink}
-use Rattle.adr_model.specs.Collect.{adopt_refusal, woken, adopt, backup}
+use Rattle.adr_model.specs.Collect.{adopt, backup}
 use Rattle.adr_model.specs.Replica.{Standing, Stops, Fails, Plan, Replica, on_disk, on_new_disk, Scene, begun, Move, moved}
-use Rattle.adr_model.specs.World.{Name, World, Given, Snapshot, Gone, Sent, stays, nothing, bound, bound_at, replica_at, with_replica, of_made, of_controller, asks, serves_request, delivers, backed_up, begins, adopts, of_image, put_back, after_moves, shown, marks_shown, empty_world}
+use Rattle.adr_model.specs.World.{Name, World, Given, Snapshot, Gone, Sent, stays, nothing, bound, bound_at, replica_at, with_replica, of_made, of_controller, asks, serves_request, delivers, backed_up, adopts, of_image, put_back, after_moves, shown, marks_shown}
 use Rattle.adr_model.specs.Cycles.{pulls, reply_limit}
 use Rattle.adr_model.specs.Step.{gives, step}
 use Rattle.adr_model.specs.Sound.{IsOrderlyState, AreBoundOnce, IsOrderlyWorld}

@@ -7,10 +7,12 @@
 //! `Convergence`.
 #![tactic(auto)]
 
+mod cycles;
 mod refused;
 mod showing;
 mod soundness;
 
+pub use cycles::cycles_end;
 pub use refused::{coverage_stays, no_damage_is_found, no_one_is_too_old};
 pub use showing::{
     acknowledged_writes_are_issued, controllers_show_what_is_visible, equal_coverage_shows_equal,
