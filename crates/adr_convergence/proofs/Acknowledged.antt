@@ -1,5 +1,5 @@
 -- A write that was answered by its USN was issued, under the identifier of its controller.
-use Rattle.std.proofs.Common.{◌≡◌, ◌≢◌, inl, inr, ℕ, List, [], ◌∷◌, ◌++◌, ◌+◌, arith, Bool, cond, Option, Some, Result, Ok, Err, refl, sym, ap, subst, fold, map}
+use Rattle.std.proofs.Common.{◌≡◌, ◌≢◌, inl, ℕ, List, [], ◌∷◌, ◌++◌, ◌+◌, arith, Bool, cond, Option, Some, Result, Ok, Err, refl, sym, ap, subst, fold, map}
 use Rattle.adr_schema.specs.Assignments.{Given}
 use Rattle.adr_schema.specs.declared.content.Content.TheVariants.{Values}
 use Rattle.adr_event.specs.declared.answer.Answer.{Answer}
@@ -26,8 +26,8 @@ use Rattle.adr_model.specs.World.{Name, World, Gone, stays, bound_at, with_repli
 use Rattle.adr_model.specs.Cycles.{reply_limit}
 use Rattle.adr_model.specs.Step.{ClientWrite, client_write, write_of, step}
 use Rattle.adr_model.specs.Convergence.{IsIssuedItem, IsAcknowledged, AcknowledgedIsIssued}
-use Rattle.adr_model.proofs.Members.{member_left, member_right}
-use Rattle.adr_history.proofs.Written.{written_is_own}
+use Rattle.adr_model.proofs.Members.{member_right, member_flat}
+use Rattle.adr_history.proofs.Written.{items_are_own, items_take_usns}
 use Rattle.adr_knowledge.proofs.Refusing.{answered}
 use Rattle.adr_convergence.proofs.Found.{same_name_tests, still_there}
 use Rattle.adr_convergence.proofs.Refusals.{is_plain, IsPlain, write_refused_plainly}
@@ -80,15 +80,12 @@ module _ (w : World) (e : Event) (r : Replica) (there : Member r w.replicas) whe
       outcome_after g (outcomes.Usn change.usn),
     )
 
-    item_issued : (usn : ℕ) → change.usn ≡ usn → (x : Written) → x ≡ record { local = r.safe.store.usn + 1; item = rows_written r.safe what w.time } → IsIssuedItem (w.scene.issued ++ updates_written change) r.safe usn x
-    item_issued usn same x e = subst (IsIssuedItem (w.scene.issued ++ updates_written change) r.safe usn) (sym e) (record {
-      above = omega arith;
-      within = omega (arith, same);
-      rows = λ u m. (
-        member_right w.scene.issued (updates_written change) u (member_left (rows_written r.safe what w.time).rows [] u m),
-        written_is_own r.safe what w.time u m,
-      );
-    })
+    items_issued : (usn : ℕ) → change.usn ≡ usn → Each (IsIssuedItem (w.scene.issued ++ updates_written change) r.safe usn) (items_written r.safe what w.time)
+    items_issued usn same x m = record {
+      above = (items_take_usns r.safe what w.time x m).0;
+      within = omega (arith, (items_take_usns r.safe what w.time x m).1, same);
+      rows = λ u n. (member_right w.scene.issued (updates_written change) u (member_flat (λ (y : Written). y.item.rows) (items_written r.safe what w.time) x u m n), items_are_own r.safe what w.time x m u n);
+    }
 
     was_issued : (g : Went) → IsTrueOf w e (gone g)
     was_issued (Passed left) usn h = record {
@@ -98,7 +95,7 @@ module _ (w : World) (e : Event) (r : Replica) (there : Member r w.replicas) whe
       there = there;
       name = name;
       row = let u = a_row r.safe what w.time is in (record { local = r.safe.store.usn + 1; item = rows_written r.safe what w.time }, u.0, inl refl, u.1);
-      issued = λ x m. item_issued usn same x (only x m);
+      issued = items_issued usn same;
       stays = (
         record (fold moved (w.scene, r) (moves_of_commit pending (Passed left))).1 { standing = Up; plan = left },
         in_its_place (record (fold moved (w.scene, r) (moves_of_commit pending (Passed left))).1 { standing = Up; plan = left }) refl,
@@ -109,10 +106,6 @@ module _ (w : World) (e : Event) (r : Replica) (there : Member r w.replicas) whe
       where
         same : change.usn ≡ usn
         same = cc
-
-        only : (x : Written) → Member x (items_written r.safe what w.time) → x ≡ record { local = r.safe.store.usn + 1; item = rows_written r.safe what w.time }
-        only x (inl e) = e
-        only x (inr m) = absurd m
     was_issued (Met place (Stops how)) usn h = absurd (cc)
     was_issued (Met place Fails) usn h = absurd (cc)
 
