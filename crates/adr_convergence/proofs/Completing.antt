@@ -87,9 +87,6 @@ module _ (w v : World) (dest source : Name) (d s : Replica) (goes : Goes w v des
         reflected = ((world.replicas n there.0).safe.store.marks (s.safe.dsa, record { inv = s.safe.inv; mark = r.to }) (kept w v dest source d s goes most)).watermark h.0
             (subst (λ (rs : List Held). Member h.0 rs) rows in_z) (inl (omega (arith, (z_safe.store.formed.locals h.0 in_z).1, like.usn, prop)))
 
-    own_inv : n.safe.inv ≡ d.safe.inv
-    own_inv = refl
-
     -- what is taken is written out of the issued updates of the first world
     nothing_new : Each (λ x. Reflects w.scene.issued (knowledge_of d.safe.store) x) (updates_of s.safe.store.rows) → (n.safe.store.usn ≡ d.safe.store.usn) × (n.safe.store.rows ≡ d.safe.store.rows)
     nothing_new all = idle w v dest source d s goes most ok (λ x m. subst (λ is. Reflects is (knowledge_of d.safe.store) x) (sym goes.issued) (all x m))

@@ -123,9 +123,6 @@ module _ (P : Identifier → Type 0) (sc : Scene) (r : Replica) (scene : IsSound
     given : AreOf P (after r.safe p.change).store
     given = each_mark (λ k. P k.inv) p.change.mark r.safe.store.marks new marks.0
 
-    down_is_not_up : Down ≢ Up
-    down_is_not_up e = absurd (cc)
-
     failed_is_not_up : Failed ≢ Up
     failed_is_not_up e = absurd (cc)
 

@@ -1,4 +1,4 @@
-//! What is proved of every run, over the definitions alone: that every event keeps a world sound, what
+//! What is proved of every run, over the definitions alone: that every line keeps a world sound, what
 //! controllers of a sound world show, which refusals don't come, and that a cycle ends.
 //!
 //! Stands on the definitions of `adr_model` and on the laws of knowledge (`adr_knowledge`), of local
