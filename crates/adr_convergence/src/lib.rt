@@ -1,4 +1,4 @@
-//! What is proved of every run, over the definitions alone: that every event keeps a world sound, what
+//! What is proved of every run, over the definitions alone: that every line keeps a world sound, what
 //! controllers of a sound world show, which refusals don't come, and that a cycle ends.
 //!
 //! Stands on the definitions of `adr_model` and on the laws of knowledge (`adr_knowledge`), of local
@@ -18,4 +18,4 @@ pub use showing::{
     acknowledged_writes_are_issued, controllers_show_what_is_visible, equal_coverage_shows_equal,
     every_run_converges,
 };
-pub use soundness::{every_event_keeps_worlds_sound, the_empty_world_is_sound};
+pub use soundness::{every_line_keeps_worlds_sound, the_empty_world_is_sound};
