@@ -14,6 +14,3 @@ mod taking;
 
 pub use adr_state::NoMemory;
 pub use reply::take;
-
-#[cfg(test)]
-mod tests;
