@@ -7,14 +7,10 @@
 mod faults;
 mod item;
 mod keys;
+mod presence;
 mod reply;
 mod rows;
-mod standing;
-mod tables;
 mod taking;
 
 pub use adr_state::NoMemory;
 pub use reply::take;
-
-#[cfg(test)]
-mod tests;

@@ -1,8 +1,8 @@
+//! Each write that no line of a schedule comes to is made once; what it makes is its contract's.
+
 use super::*;
-use adr_event::WriteRefusal;
-use adr_schema::{Assignments, Schema, Text, Value};
-use adr_stamp::{Birth, LinkKey, LinkStamp, Oid, Stamp};
-use adr_state::{Change, Key, Said, State};
+use adr_schema::{Assignments, Schema, Text};
+use adr_state::State;
 use std::alloc::Global;
 use std::test::Fail;
 use uuid::Uuid;
@@ -11,313 +11,61 @@ fn id(number: u128) -> Uuid {
     Uuid::from_u128(number)
 }
 
-fn text(alloc: Global, name: &str) -> Result<Text, NoMemory> {
-    Ok(Text::from_string(String::from_str(alloc, name)?))
-}
-
-/// The controller 3 of the incarnation 4, empty.
-fn empty(alloc: Global) -> State {
-    State::new(alloc, id(3), id(4), Schema::new(1).unwrap())
-}
-
-/// Adds a user 10, with its account name, under the root.
-fn add_user(alloc: Global, state: &State) -> Result<Change, Fail> {
-    let account = Value::Text(text(alloc, "ann")?);
-    let mut values = Assignments::new(alloc);
-    values.add(10, vec![in alloc; account]?)?;
-    let object = NewObject {
-        guid: id(10),
-        class: 5,
-        parent: id(1),
-        text: &text(alloc, "Ann")?,
-        values: &values,
-    };
-    Ok(add(state, &object, 100, alloc)?)
-}
-
-/// The key of a row of the object 10, which the incarnation 4 made by its first write.
-fn key(attr: u16) -> Key {
-    let object = Oid {
-        guid: id(10),
-        birth: Birth { inv: id(4), usn: 1 },
-    };
-    Key::Row { object, attr }
-}
-
-/// The stamp of that write, at the time 100.
-fn stamp() -> LinkStamp {
-    LinkStamp {
-        created: 0,
-        stamp: Stamp::first(100, id(4), 1),
-    }
-}
-
-#[test]
-fn an_object_is_added(rt: HostRuntime) -> Result<(), Fail> {
-    let change = add_user(rt.alloc(), &empty(rt.alloc()))?;
-    assert_eq!(rt; change.usn(), 1);
-    assert_eq!(rt; change.writes().len(), 1);
-    assert_eq!(rt; change.writes()[0].local(), 1);
-    let rows = change.writes()[0].item().rows();
-    assert_eq!(rt; rows.len(), 3);
-    for (row, attr) in rows.iter().zip([1, 2, 10]) {
-        assert_eq!(rt; row.key(), key(attr));
-        assert_eq!(rt; row.stamp(), stamp());
-    }
-    Ok(())
-}
-
-/// Adds a container under a name.
-fn add_container(
-    alloc: Global,
-    state: &mut State,
-    guid: u128,
-    parent: u128,
-    name: &str,
-) -> Result<(), Fail> {
-    let container = NewObject {
-        guid: id(guid),
-        class: 4,
-        parent: id(parent),
-        text: &text(alloc, name)?,
-        values: &Assignments::new(alloc),
-    };
-    let change = add(state, &container, 100, alloc)?;
-    Ok(state.apply(&change)?)
-}
-
-/// A controller that has the container 10, "East", under the root, and the container 11, "West", under that.
-fn with_containers(alloc: Global) -> Result<State, Fail> {
-    let mut state = empty(alloc);
-    add_container(alloc, &mut state, 10, 1, "East")?;
-    add_container(alloc, &mut state, 11, 10, "West")?;
-    Ok(state)
-}
-
-/// Why an object without values is not added beside the containers.
-fn refusal(
-    alloc: Global,
-    guid: u128,
-    class: u16,
-    parent: u128,
-    name: &str,
-) -> Result<Option<WriteRefusal>, Fail> {
-    let object = NewObject {
-        guid: id(guid),
-        class,
-        parent: id(parent),
-        text: &text(alloc, name)?,
-        values: &Assignments::new(alloc),
-    };
-    Ok(add(&with_containers(alloc)?, &object, 100, alloc).err())
-}
-
-#[test]
-fn the_first_refusal_is_answered(rt: HostRuntime) -> Result<(), Fail> {
-    let there = WriteRefusal::GuidThere { guid: id(10) };
-    let wrong = WriteRefusal::BadName { place: 0 };
-    let lost = WriteRefusal::NoParent { guid: id(9) };
-    let taken = WriteRefusal::NameTaken { holder: id(10) };
-    for (guid, class, parent, name, expected) in [
-        (10, 4, 1, "West", there),
-        (12, 9, 1, " West", WriteRefusal::UnknownClass),
-        (12, 4, 9, " West", wrong),
-        (12, 3, 9, "EAST", lost),
-        (12, 3, 10, "East", WriteRefusal::BadSuperior),
-        (12, 4, 1, "EAST", taken),
-    ] {
-        assert_eq!(rt;
-            refusal(rt.alloc(), guid, class, parent, name)?,
-            Some(expected)
-        );
-    }
-    Ok(())
-}
-
-/// A controller that has the user 10, "Ann", with its account name, under the root.
-fn with_user(alloc: Global) -> Result<State, Fail> {
-    let mut state = empty(alloc);
-    let change = add_user(alloc, &state)?;
-    state.apply(&change)?;
-    Ok(state)
-}
-
-/// Whether a change at the time 200 writes only this row of the object 10, at this version.
-fn writes_row(change: &Change, attr: u16, version: u32) -> bool {
-    let [written] = change.writes() else {
-        return false;
-    };
-    let [row] = written.item().rows() else {
-        return false;
-    };
-    let stamp = Stamp {
-        version,
-        time: 200,
-        inv: id(4),
-        usn: 2,
-    };
-    change.usn() == 2 && row.key() == key(attr) && row.stamp() == LinkStamp { created: 0, stamp }
-}
-
-#[test]
-fn an_object_is_deleted(rt: HostRuntime) -> Result<(), Fail> {
-    let state = with_user(rt.alloc())?;
-    let change = delete(&state, id(10), 200, rt.alloc())?;
-    assert!(rt; writes_row(&change, 3, 1));
-    Ok(())
-}
-
-#[test]
-fn an_object_is_modified(rt: HostRuntime) -> Result<(), Fail> {
-    let state = with_user(rt.alloc())?;
-    let mut values = Assignments::new(rt.alloc());
-    let account = Value::Text(text(rt.alloc(), "ann2")?);
-    values.add(10, vec![in rt.alloc(); account]?)?;
-    let change = modify(&state, id(10), &values, 200, rt.alloc())?;
-    assert!(rt; writes_row(&change, 10, 2));
-    Ok(())
-}
-
-#[test]
-fn an_object_is_renamed(rt: HostRuntime) -> Result<(), Fail> {
-    let state = with_user(rt.alloc())?;
-    let name = text(rt.alloc(), "ANN")?;
-    let change = rename(&state, id(10), id(1), &name, 200, rt.alloc())?;
-    assert!(rt; writes_row(&change, 2, 2));
-    Ok(())
-}
-
-#[test]
-fn the_first_refusal_of_a_rename_is_answered(rt: HostRuntime) -> Result<(), Fail> {
-    let state = with_containers(rt.alloc())?;
-    for (guid, parent, name, expected) in [
-        (1, 9, "North", WriteRefusal::Fixed { guid: id(1) }),
-        (9, 9, "North", WriteRefusal::NoObject { guid: id(9) }),
-        (10, 9, " North", WriteRefusal::BadName { place: 0 }),
-        (10, 9, "North", WriteRefusal::NoParent { guid: id(9) }),
-        (10, 11, "North", WriteRefusal::WouldLoop),
-        (11, 1, "EAST", WriteRefusal::NameTaken { holder: id(10) }),
-    ] {
-        let name = text(rt.alloc(), name)?;
-        let refusal = rename(&state, id(guid), id(parent), &name, 200, rt.alloc()).err();
-        assert_eq!(rt; refusal, Some(expected));
-    }
-    Ok(())
-}
-
-#[test]
-fn an_object_with_a_child_stays(rt: HostRuntime) -> Result<(), Fail> {
-    let state = with_containers(rt.alloc())?;
-    let refusal = delete(&state, id(10), 200, rt.alloc()).err();
-    assert_eq!(rt; refusal, Some(WriteRefusal::HasChildren { child: id(11) }));
-    Ok(())
-}
-
 /// Adds an object without values under the root.
-fn add_named(
-    alloc: Global,
-    state: &mut State,
-    guid: u128,
-    class: u16,
-    name: &str,
-) -> Result<(), Fail> {
+fn put(alloc: Global, state: &mut State, guid: u128, class: u16, name: &str) -> Result<(), Fail> {
+    let text = Text::from_string(String::from_str(alloc, name)?);
+    let values = Assignments::new(alloc);
     let object = NewObject {
         guid: id(guid),
         class,
         parent: id(1),
-        text: &text(alloc, name)?,
-        values: &Assignments::new(alloc),
+        text: &text,
+        values: &values,
     };
     let change = add(state, &object, 100, alloc)?;
     Ok(state.apply(&change)?)
 }
 
-/// A controller that has the organizational unit 10, "East", and the container 11, "West", under the root.
+/// The organizational unit 10, "East", and the container 11, "West", under the root.
 fn two_places(alloc: Global) -> Result<State, Fail> {
-    let mut state = empty(alloc);
-    add_named(alloc, &mut state, 10, 3, "East")?;
-    add_named(alloc, &mut state, 11, 4, "West")?;
+    let mut state = State::new(alloc, id(3), id(4), Schema::new(1).unwrap());
+    put(alloc, &mut state, 10, 3, "East")?;
+    put(alloc, &mut state, 11, 4, "West")?;
     Ok(state)
 }
 
-/// An object that the incarnation 4 made.
-fn made(guid: u128, usn: u64) -> Oid {
-    Oid {
-        guid: id(guid),
-        birth: Birth { inv: id(4), usn },
-    }
+#[test]
+fn an_object_is_deleted(rt: HostRuntime) -> Result<(), Fail> {
+    let state = two_places(rt.alloc())?;
+    let change = delete(&state, id(10), 200, rt.alloc())?;
+    assert_eq!(rt; change.usn(), 3);
+    Ok(())
 }
 
-/// A row of the link that says that "West" manages "East", made at the time 200.
-fn manager(version: u32, time: u64, usn: u64, present: bool) -> (Key, LinkStamp, bool) {
-    let key = Key::Link(LinkKey {
-        from: made(10, 1),
-        attr: 32,
-        to: made(11, 2),
-    });
-    let stamp = LinkStamp {
-        created: 200,
-        stamp: Stamp {
-            version,
-            time,
-            inv: id(4),
-            usn,
-        },
-    };
-    (key, stamp, present)
+#[test]
+fn an_object_is_modified(rt: HostRuntime) -> Result<(), Fail> {
+    let state = two_places(rt.alloc())?;
+    let values = Assignments::new(rt.alloc());
+    let change = modify(&state, id(10), &values, 200, rt.alloc())?;
+    assert_eq!(rt; change.usn(), 3);
+    Ok(())
 }
 
-/// What a change writes, where that is one row of a link.
-fn link_row(change: &Change) -> Option<(Key, LinkStamp, bool)> {
-    let [written] = change.writes() else {
-        return None;
-    };
-    let [row] = written.item().rows() else {
-        return None;
-    };
-    match row.said() {
-        Said::IsPresent(present) => Some((row.key(), row.stamp(), *present)),
-        Said::Holds(_) => None,
-    }
+#[test]
+fn an_object_is_renamed(rt: HostRuntime) -> Result<(), Fail> {
+    let state = two_places(rt.alloc())?;
+    let name = Text::from_string(String::from_str(rt.alloc(), "EAST")?);
+    let change = rename(&state, id(10), id(1), &name, 200, rt.alloc())?;
+    assert_eq!(rt; change.usn(), 3);
+    Ok(())
 }
 
 #[test]
 fn a_link_is_made_and_removed(rt: HostRuntime) -> Result<(), Fail> {
     let mut state = two_places(rt.alloc())?;
-    let change = link(&state, id(10), 32, id(11), 200, rt.alloc())?;
-    assert_eq!(rt; change.usn(), 3);
-    assert_eq!(rt; link_row(&change), Some(manager(1, 200, 3, true)));
-    state.apply(&change)?;
+    let made = link(&state, id(10), 32, id(11), 200, rt.alloc())?;
+    state.apply(&made)?;
     let removed = unlink(&state, id(10), 32, id(11), 300, rt.alloc())?;
     assert_eq!(rt; removed.usn(), 4);
-    assert_eq!(rt; link_row(&removed), Some(manager(2, 300, 4, false)));
-    Ok(())
-}
-
-#[test]
-fn a_link_is_refused(rt: HostRuntime) -> Result<(), Fail> {
-    let state = two_places(rt.alloc())?;
-    for (from, attr, to, expected) in [
-        (1, 32, 2, WriteRefusal::Fixed { guid: id(1) }),
-        (9, 32, 2, WriteRefusal::Fixed { guid: id(2) }),
-        (9, 99, 9, WriteRefusal::NoObject { guid: id(9) }),
-        (10, 99, 9, WriteRefusal::UnknownAttribute { attr: 99 }),
-        (10, 33, 9, WriteRefusal::NotLink { attr: 33 }),
-        (11, 32, 9, WriteRefusal::NotAllowed { attr: 32 }),
-        (10, 32, 9, WriteRefusal::NoObject { guid: id(9) }),
-        (10, 32, 11, WriteRefusal::LinkNotThere),
-    ] {
-        let refusal = unlink(&state, id(from), attr, id(to), 200, rt.alloc()).err();
-        assert_eq!(rt; refusal, Some(expected));
-    }
-    Ok(())
-}
-
-#[test]
-fn a_link_is_not_made_twice(rt: HostRuntime) -> Result<(), Fail> {
-    let mut state = two_places(rt.alloc())?;
-    state.apply(&link(&state, id(10), 32, id(11), 200, rt.alloc())?)?;
-    let again = link(&state, id(10), 32, id(11), 300, rt.alloc()).err();
-    assert_eq!(rt; again, Some(WriteRefusal::LinkThere));
     Ok(())
 }

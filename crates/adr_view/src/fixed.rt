@@ -1,16 +1,11 @@
-//! The places that are always there, and identifiers.
+//! The places that are always there.
 
 ghost use Rattle.std.specs.Prelude.{◌≡◌};
 ghost use Rattle.adr_model.specs.Update.{same_identifier};
 ghost use Rattle.adr_model.specs.Place.{root, lost_and_found, is_fixed};
 
+use adr_state::is_same;
 use uuid::Uuid;
-
-pub fn is_same(a: Uuid, b: Uuid) -> bool
-    ensures { result ≡ same_identifier a b }
-{
-    a == b
-}
 
 /// The identifier of the root.
 pub fn root() -> Uuid
@@ -19,7 +14,8 @@ pub fn root() -> Uuid
     Uuid::from_u128(1)
 }
 
-fn lost_and_found() -> Uuid
+/// The identifier of LostAndFound.
+pub fn lost_and_found() -> Uuid
     ensures { result ≡ lost_and_found }
 {
     Uuid::from_u128(2)
