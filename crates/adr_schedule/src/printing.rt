@@ -139,12 +139,7 @@ fn push_about(
 }
 
 /// Adds a line that binds what a controller makes.
-fn push_made(
-    out: &mut Vec<u8>,
-    verb: &[u8],
-    name: &Text,
-    bound: &Text,
-) -> Result<(), NoMemory>
+fn push_made(out: &mut Vec<u8>, verb: &[u8], name: &Text, bound: &Text) -> Result<(), NoMemory>
     ensures { OnOk result (out.new.items ≡ out.old.items ++ (verb.now ++ spaced (name.now ∷ codes "as" ∷ bound.now ∷ []))) }
 {
     push(out, verb)?;
@@ -287,12 +282,7 @@ fn push_ask(
     push_bound(out, bound)
 }
 
-fn push_serve(
-    out: &mut Vec<u8>,
-    name: &Text,
-    request: &Text,
-    bound: &Text,
-) -> Result<(), NoMemory>
+fn push_serve(out: &mut Vec<u8>, name: &Text, request: &Text, bound: &Text) -> Result<(), NoMemory>
     ensures { OnOk result (out.new.items ≡ out.old.items ++ (codes "serve" ++ spaced (name.now ∷ request.now ∷ codes "as" ∷ bound.now ∷ []))) }
 {
     push_pair(out, b"serve", name, request)?;
@@ -353,12 +343,7 @@ fn push_stop_after(
     push_how(out, how)
 }
 
-fn push_fail(
-    alloc: Global,
-    out: &mut Vec<u8>,
-    name: &Text,
-    calls: u32,
-) -> Result<(), NoMemory>
+fn push_fail(alloc: Global, out: &mut Vec<u8>, name: &Text, calls: u32) -> Result<(), NoMemory>
     ensures { OnOk result (out.new.items ≡ out.old.items ++ (codes "fail" ++ spaced (name.now ∷ codes "after" ∷ decimal calls ∷ []))) }
 {
     push_named(out, b"fail", name)?;
