@@ -1,12 +1,19 @@
 //! The laws of lines and of texts.
 
 ghost use Rattle.adr_schedule.specs.Grammar.{SpelledLinesAreRead, LinesWereSpelled};
+ghost use Rattle.adr_schedule.specs.Texts.{SpelledTextsAreRead, TextsWereSpelled};
 ghost use Rattle.adr_schedule.specs.Printed.{EventsAreReadAgain};
 
 /// A line is read as an event exactly where the grammar spells that event so.
 pub fn lines_read_back()
     ensures again { SpelledLinesAreRead }
     ensures only { LinesWereSpelled }
+{}
+
+/// A text is read as events exactly where its lines spell them, one after the other.
+pub fn texts_read_back()
+    ensures again { SpelledTextsAreRead }
+    ensures only { TextsWereSpelled }
 {}
 
 /// The events of a text are read again from their printed form.
