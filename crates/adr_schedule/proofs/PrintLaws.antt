@@ -28,9 +28,9 @@ use Rattle.adr_schedule.specs.Grammar.{Token, Word, Name, Number, Identifier, Cl
 use Rattle.adr_schedule.specs.Seen.{Seen, nothing_seen, cause_after, seen_after}
 use Rattle.adr_schedule.specs.Events.{before, events_from, events_of, followed, line_after, on_line, unless}
 use Rattle.adr_schedule.specs.Printed.{EventsAreReadAgain, joined, line_of, printed, spaced, token_text}
-use Rattle.adr_schedule.specs.Texts.{SpellEvents}
+use Rattle.adr_schedule.specs.Schedules.{LinesSay}
 use Rattle.adr_schedule.proofs.EventLaws.{lines_read}
-use Rattle.adr_schedule.proofs.TextLaws.{texts_spelled}
+use Rattle.adr_schedule.proofs.ScheduleLaws.{read_texts}
 use Rattle.adr_schedule.proofs.PlainBytes.{IsPlain, field_plain, graphic_plain, is_feedless, nothing_plain, plain_append, text_plain}
 
 -- a token as it is written: it has no line feed, it spells the token, and no space stands in front of it
@@ -248,15 +248,15 @@ from_again : (seen : Seen) (k : ℕ) (es : List Event) → Spelled seen es → e
 from_again seen k [] h = refl
 from_again seen k (e ∷ es) h = rw (line_told seen e h.1 h.0, from_again (seen_after seen e) (k + 1) es h.2) refl
 
--- what the lines of a text spell
-lines_spelled : (seen : Seen) (lines : List (List ℕ)) (es : List Event) → SpellEvents seen lines es → Spelled seen es
-lines_spelled seen [] es h = subst (λ (xs : List Event). Spelled seen xs) (sym h) tt
-lines_spelled seen (line ∷ lines) es (inl h) = lines_spelled seen lines es h.1
-lines_spelled seen (line ∷ lines) es (inr h) =
-    subst (λ (xs : List Event). Spelled seen xs) (sym h.2.first) (h.2.follows, event_is_said line h.0 h.2.spells, lines_spelled (seen_after seen h.0) lines h.1 h.3)
+-- what the lines of a text say
+lines_said : (seen : Seen) (lines : List (List ℕ)) (es : List Event) → LinesSay seen lines es → Spelled seen es
+lines_said seen [] es h = subst (λ (xs : List Event). Spelled seen xs) (sym h) tt
+lines_said seen (line ∷ lines) es (inl h) = lines_said seen lines es h.1
+lines_said seen (line ∷ lines) es (inr h) =
+    subst (λ (xs : List Event). Spelled seen xs) (sym h.4) (h.2.follows, event_is_said line h.0 h.2.spells, lines_said (seen_after seen h.0) lines h.1 h.3)
 
 pub read_again : EventsAreReadAgain
 unfolding events_of
 read_again text events h small =
-    let s = lines_spelled nothing_seen (lines_of text) events (texts_spelled text events h).1 in
+    let s = lines_said nothing_seen (lines_of text) events (read_texts text events h).1 in
     rw (le-ltb 16777216 (length (printed events)) small, printed_lines nothing_seen events s) (from_again nothing_seen 1 events s)

@@ -4,5 +4,5 @@ pub mod Commands
 pub mod Grammar
 pub mod Seen
 pub mod Events
-pub mod Texts
+pub mod Schedules
 pub mod Printed

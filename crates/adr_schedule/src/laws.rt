@@ -1,7 +1,7 @@
 //! The laws of lines and of texts.
 
 ghost use Rattle.adr_schedule.specs.Grammar.{SpelledLinesAreRead, LinesWereSpelled};
-ghost use Rattle.adr_schedule.specs.Texts.{SpelledTextsAreRead, TextsWereSpelled};
+ghost use Rattle.adr_schedule.specs.Schedules.{SchedulesAreRead, ReadTextsAreSchedules, RefusedTextsHaveTheFault};
 ghost use Rattle.adr_schedule.specs.Printed.{EventsAreReadAgain};
 
 /// A line is read as an event exactly where the grammar spells that event so.
@@ -10,10 +10,11 @@ pub fn lines_read_back()
     ensures only { LinesWereSpelled }
 {}
 
-/// A text is read as events exactly where its lines spell them, one after the other.
-pub fn texts_read_back()
-    ensures again { SpelledTextsAreRead }
-    ensures only { TextsWereSpelled }
+/// A text is read as events exactly where its lines say them, one after the other; else it has a first bad line.
+pub fn schedules_read_back()
+    ensures again { SchedulesAreRead }
+    ensures only { ReadTextsAreSchedules }
+    ensures refused { RefusedTextsHaveTheFault }
 {}
 
 /// The events of a text are read again from their printed form.
