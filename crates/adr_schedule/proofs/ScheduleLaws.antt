@@ -2,7 +2,7 @@
 use Rattle.std.proofs.Common.{◌≡◌, ◌⊎◌, ℕ, ◌+◌, ◌≤◌, ◌<◌, Bool, true, false, not, cond, List, [], ◌∷◌, ◌++◌, length, Option, Some, None, Result, Ok, Err, refl, sym, ap, subst, ◌∙◌, inl, inr}
 use Rattle.std.specs.Prelude.{◌||◌, nat_lt, nat_le}
 use Rattle.std.specs.Str.{is_utf8}
-use Rattle.std.proofs.lemmas.Bool.{le-ltb, ltb-false, ltb-true}
+use Rattle.std.proofs.lemmas.Bool.{le-ltb, lt-ltb, ltb-false, ltb-true}
 use Rattle.adr_event.specs.declared.event.Event.{Event}
 use Rattle.adr_event.specs.declared.event.Event.TheVariants.{Controller, Time, Add, Ask, Serve, Deliver, Pull, Cycle, Show, Vector, Marks}
 use Rattle.adr_schedule.specs.declared.fault.Cause.{Cause}
@@ -13,7 +13,7 @@ use Rattle.adr_schedule.specs.Commands.{IsAllowed, event_of, is_passed}
 use Rattle.adr_schedule.specs.Grammar.{Spells}
 use Rattle.adr_schedule.specs.Seen.{Seen, nothing_seen, cause_after, first_cause, if_bound, if_full, if_given, is_bound, seen_after, unless_bound, when}
 use Rattle.adr_schedule.specs.Events.{bad, before, events_from, events_of, followed, line_after, on_line, unless}
-use Rattle.adr_schedule.specs.Schedules.{IsCause, IsFault, IsFirstFault, LinesSay, ReadTextsAreSchedules, RefusedTextsHaveTheFault, Says, SchedulesAreRead}
+use Rattle.adr_schedule.specs.Schedules.{FaultyTextsAreRefused, IsCause, IsFault, IsFirstFault, LinesSay, ReadTextsAreSchedules, RefusedTextsHaveTheFault, Says, SchedulesAreRead}
 use Rattle.adr_schedule.proofs.EventLaws.{lines_read, lines_spelled}
 
 -- ---- what a line said
@@ -210,3 +210,36 @@ text_bad text fault false at h = inr (ltb-false 16777216 (length text) at, from_
 pub refused_texts : RefusedTextsHaveTheFault
 unfolding events_of
 refused_texts text fault h = text_bad text fault (nat_lt 16777216 (length text)) refl h
+
+-- ---- a text with a fault is refused
+
+unread_by : (line : List ℕ) (o : Option Event) → event_of line ≡ o → ((e : Event) → Spells line e → ⊥) → event_of line ≡ None
+unread_by line None at h = at
+unread_by line (Some e) at h = absurd (h e (lines_spelled line e at))
+
+spelled_bad : (seen : Seen) (line : List ℕ) (e : Event) (cause : Cause) → is_passed line ≡ false → is_utf8 line ≡ true → Spells line e → cause_after seen e ≡ Some cause → line_after seen line ≡ Err cause
+spelled_bad seen line e cause p u s c = rw (p, u, lines_read line e s, c) refl
+
+line_bad : (seen : Seen) (line : List ℕ) (cause : Cause) → is_passed line ≡ false → IsCause seen line cause → line_after seen line ≡ Err cause
+line_bad seen line NotUtf8 p h = rw (p, h) refl
+line_bad seen line NoCommand p h = rw (p, h.0, unread_by line (event_of line) refl h.1) refl
+line_bad seen line UnknownName p h = spelled_bad seen line h.1.0 UnknownName p h.0 h.1.1 h.1.2
+line_bad seen line NameUsed p h = spelled_bad seen line h.1.0 NameUsed p h.0 h.1.1 h.1.2
+line_bad seen line IdentifierUsed p h = spelled_bad seen line h.1.0 IdentifierUsed p h.0 h.1.1 h.1.2
+line_bad seen line TooMany p h = spelled_bad seen line h.1.0 TooMany p h.0 h.1.1 h.1.2
+line_bad seen line TooLong p h = spelled_bad seen line h.1.0 TooLong p h.0 h.1.1 h.1.2
+
+from_refused : (seen : Seen) (k : ℕ) (lines : List (List ℕ)) (fault : ScheduleFault) → IsFirstFault seen k lines fault → events_from seen k lines ≡ Err fault
+from_refused seen k [] fault h = absurd h
+from_refused seen k (line ∷ lines) fault (inl h) = rw (h.0, from_refused seen (k + 1) lines fault h.1) refl
+from_refused seen k (line ∷ lines) fault (inr (inl h)) = rw (one_read seen line h.0 h.1, from_refused (seen_after seen h.0) (k + 1) lines fault h.2) refl
+from_refused seen k (line ∷ lines) fault (inr (inr h)) =
+    rw (line_bad seen line fault.cause h.0 h.2) (ap (λ n. err_of (record { line = n; cause = fault.cause })) (sym h.1))
+
+text_refused : (text : List ℕ) (fault : ScheduleFault) → IsFault text fault → cond (nat_lt 16777216 (length text)) (bad 0 TooLong) (events_from nothing_seen 1 (lines_of text)) ≡ Err fault
+text_refused text fault (inl h) = rw (lt-ltb 16777216 (length text) h.0) (ap err_of (sym h.1))
+text_refused text fault (inr h) = rw (le-ltb 16777216 (length text) h.0) (from_refused nothing_seen 1 (lines_of text) fault h.1)
+
+pub faults_refused : FaultyTextsAreRefused
+unfolding events_of
+faults_refused text fault h = text_refused text fault h

@@ -57,3 +57,6 @@ ReadTextsAreSchedules = (text : List ℕ) (events : List Event) → events_of te
 
 abbrev pub RefusedTextsHaveTheFault : Type 0
 RefusedTextsHaveTheFault = (text : List ℕ) (fault : ScheduleFault) → events_of text ≡ Err fault → IsFault text fault
+
+abbrev pub FaultyTextsAreRefused : Type 0
+FaultyTextsAreRefused = (text : List ℕ) (fault : ScheduleFault) → IsFault text fault → events_of text ≡ Err fault
