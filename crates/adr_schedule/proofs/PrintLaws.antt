@@ -1,7 +1,6 @@
 -- The events of a text are those of their printed form.
-use Rattle.std.proofs.Common.{◌≡◌, ◌⊎◌, ℕ, ◌+◌, ◌<◌, ◌^◌, Bool, true, false, not, ◌&&◌, cond, List, [], ◌∷◌, ◌++◌, map, length, Option, Some, None, Result, Ok, Err, refl, sym, ap, subst, ◌∙◌, inl, inr, arith}
-use Rattle.std.specs.Prelude.{◌==◌, codes, nat_lt}
-use Rattle.std.specs.Fmt.{decimal}
+use Rattle.std.proofs.Common.{◌≡◌, ◌⊎◌, ℕ, ◌+◌, ◌<◌, Bool, true, false, not, ◌&&◌, List, [], ◌∷◌, ◌++◌, map, length, Some, None, Ok, refl, sym, ap, subst, ◌∙◌, inl, inr, arith}
+use Rattle.std.specs.Prelude.{◌==◌, codes}
 use Rattle.std.specs.Str.{is_utf8}
 use Rattle.std.proofs.lemmas.Bool.{and_parts, le-ltb, ne_eqb, not-true}
 use Rattle.std.proofs.lemmas.List.{append-nil}
@@ -11,22 +10,18 @@ use Rattle.adr_schema.specs.Schemas.{schema_1}
 use Rattle.adr_schema.specs.declared.content.Value.TheVariants.{Text}
 use Rattle.adr_event.specs.declared.event.Event.{Event}
 use Rattle.adr_event.specs.declared.event.Event.TheVariants.{Controller, Time, Add, Ask, Serve, Deliver, Pull, Cycle, Show, Vector, Marks}
-use Rattle.adr_token.specs.Words.{unspaced, is_name, is_space}
+use Rattle.adr_token.specs.Words.{unspaced, is_space}
 use Rattle.adr_token.specs.Texts.{ends_word, is_text}
-use Rattle.adr_token.specs.Laws.{IsIdentifier, Stands}
 use Rattle.adr_token.specs.Spelling.{attribute_token, class_token, identifier_token, set_token, text_token, value_token}
-use Rattle.adr_token.proofs.WordLaws.{are_graphic, graphic_word, is_graphic, is_spaceless, name_graphic, skips}
+use Rattle.adr_token.proofs.WordLaws.{are_graphic, graphic_word, is_spaceless, name_graphic, skips}
 use Rattle.adr_token.proofs.DigitLaws.{digits_graphic}
 use Rattle.adr_token.proofs.IdentifierLaws.{token_graphic}
 use Rattle.adr_token.proofs.TextLaws.{token_is}
-use Rattle.adr_schedule.specs.declared.fault.Cause.{Cause}
-use Rattle.adr_schedule.specs.declared.fault.Cause.TheVariants.{NotUtf8, TooLong}
-use Rattle.adr_schedule.specs.declared.fault.ScheduleFault.{ScheduleFault}
 use Rattle.adr_schedule.specs.Lines.{is_line_feed, lines_of}
 use Rattle.adr_schedule.specs.Commands.{IsAllowed, IsContainerAdd, IsUserAdd, account, event_of, is_passed}
-use Rattle.adr_schedule.specs.Grammar.{Token, Word, Name, Number, Identifier, Class, Attribute, Quoted, Set, sets, tokens_of, IsSpelled, IsNext, AreSpelled, Spells}
+use Rattle.adr_schedule.specs.Grammar.{Token, Word, Name, Number, Identifier, Class, Attribute, Quoted, Set, sets, tokens_of, IsSpelled, AreSpelled, Spells}
 use Rattle.adr_schedule.specs.Seen.{Seen, nothing_seen, cause_after, seen_after}
-use Rattle.adr_schedule.specs.Events.{before, events_from, events_of, followed, line_after, on_line, unless}
+use Rattle.adr_schedule.specs.Events.{events_from, events_of, line_after}
 use Rattle.adr_schedule.specs.Printed.{EventsAreReadAgain, joined, line_of, printed, spaced, token_text}
 use Rattle.adr_schedule.specs.Schedules.{LinesSay}
 use Rattle.adr_schedule.proofs.EventLaws.{lines_read}
