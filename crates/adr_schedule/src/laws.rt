@@ -1,6 +1,6 @@
 //! The laws of lines and of texts.
 
-ghost use Rattle.adr_schedule.specs.Grammar.{SpelledLinesAreRead, LinesWereSpelled};
+ghost use Rattle.adr_schedule.specs.Grammar.{SpelledLinesAreRead, LinesWereSpelled, LinesSpellOneEvent};
 ghost use Rattle.adr_schedule.specs.Schedules.{SchedulesAreRead, ReadTextsAreSchedules, FaultyTextsAreRefused, RefusedTextsHaveTheFault};
 ghost use Rattle.adr_schedule.specs.Printed.{EventsAreReadAgain};
 
@@ -8,6 +8,7 @@ ghost use Rattle.adr_schedule.specs.Printed.{EventsAreReadAgain};
 pub fn lines_read_back()
     ensures again { SpelledLinesAreRead }
     ensures only { LinesWereSpelled }
+    ensures one { LinesSpellOneEvent }
 {}
 
 /// A text is read as events exactly where its lines say them, one after the other.
