@@ -102,7 +102,7 @@ abbrev pub AreSpelled : List Token → List ℕ → Type 0
 AreSpelled [] bytes = unspaced bytes ≡ []
 AreSpelled (token ∷ tokens) bytes = (rest : List ℕ) × IsNext token bytes rest × AreSpelled tokens rest
 
--- a line spells an event that the grammar allows by its tokens
+-- a line spells an event: the grammar allows the event, and its tokens stand in the line
 abbrev pub Spells : List ℕ → Event → Type 0
 Spells line event = IsAllowed event × AreSpelled (tokens_of event) line
 
