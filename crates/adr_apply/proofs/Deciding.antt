@@ -1,5 +1,5 @@
 -- What is decided before the items, and after them.
-use Rattle.std.proofs.Common.{◌≡◌, ◌≤◌, ℕ, Bool, List, ◌∷◌, Option, Some, None, Result, Ok, Err, IfOk, refl, sym, ap, ◌∙◌, subst, arith, true, false}
+use Rattle.std.proofs.Common.{◌≡◌, ◌≤◌, ℕ, Bool, List, ◌∷◌, Option, Some, None, Ok, Err, refl, ap, ◌∙◌, subst, arith, true, false}
 use Rattle.std.specs.Prelude.{nat_lt}
 use Rattle.std.specs.Bool.{then_some}
 use Rattle.std.proofs.lemmas.Bool.Decides.{nat_tests}

@@ -26,7 +26,7 @@ pub fn log_after(end: u64, change: &Change) -> Option<u64>
 }
 
 /// The length of a change as the body of a record in bytes, or the limit if it is longer.
-pub fn change_length_within(change: &Change, limit: u64) -> u64
+fn change_length_within(change: &Change, limit: u64) -> u64
     ensures { result ≡ min limit (change_length change.now) }
 {
     let head = sum_within(limit, 18, mark_within(limit, change.mark().is_some()));

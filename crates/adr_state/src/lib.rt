@@ -1,5 +1,5 @@
 //! A controller's state in memory: its rows, what it has seen and collected, and how far it has read
-//! each partner, and what a change makes of them.
+//! each partner, what a change makes of them, and how long it is as bytes.
 //!
 //! It stands on the definitions in `adr_model` and meets them, and on the types of stamps, contents
 //! and vectors. It knows nothing of why a change is made, of messages, or of the disk.
@@ -21,7 +21,7 @@ pub use change::{Change, Mode};
 pub use counting::{count_links, count_objects, objects_of};
 pub use item::{Item, Written, copy_updates};
 pub use key::{Key, is_same, is_same_object};
-pub use lengths::{change_length_within, item_length_within, log_after};
+pub use lengths::{item_length_within, log_after};
 pub use limits::{
     CLASS, CURSOR_LIMIT, DELETED, LINK_LIMIT, LOG_LIMIT, MARK_LIMIT, NAME, OBJECT_LIMIT, USN_LIMIT,
     VERSION_LIMIT,
