@@ -62,7 +62,7 @@ impl Run {
         self.dsas.reserve(1)?;
         self.invs.reserve(1)?;
         self.controllers.reserve(1)?;
-        self.book.begin(&state, alloc)?;
+        self.book.begin(&state);
         let _ = self.dsas.push(dsa);
         let _ = self.invs.push(inv);
         let _ = self.controllers.push(Controller { name, state });

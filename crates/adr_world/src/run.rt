@@ -29,14 +29,14 @@ pub struct Run {
     pub invs: Vec<Uuid>,
 }
 
-/// A state after a change that fits into it.
-fn state_after(alloc: Global, state: &State, change: &Change) -> Result<State, NoMemory>
-    requires { ¬ IsOverfull (after state.now change.now) }
-    ensures { IfOk result (λ next. next ≡ after state.now change.now) }
+/// Applies a change that fits.
+fn apply_fitting(state: &mut State, change: &Change) -> Result<(), NoMemory>
+    requires { ¬ IsOverfull (after state.old change.now) }
+    ensures ok { OnOk result (state.new ≡ after state.old change.now) }
+    ensures err { OnErr result (state.new ≡ state.old) }
 {
-    let mut next = state.copy(alloc)?;
-    match next.apply(change) {
-        Ok(()) => Ok(next),
+    match state.apply(change) {
+        Ok(()) => Ok(()),
         Err(ApplyRefusal::Full) => unreachable!(),
         Err(ApplyRefusal::NoMemory) => Err(AllocError),
     }
@@ -50,7 +50,7 @@ impl Run {
     {
         Run {
             time: 0,
-            book: Book::new(alloc),
+            book: Book::new(),
             controllers: Vec::new(alloc),
             requests: Vec::new(alloc),
             replies: Vec::new(alloc),
@@ -67,13 +67,7 @@ impl Run {
     }
 
     /// Commits a change of the controller at a place. A client's write is issued with it.
-    pub fn commit(
-        &mut self,
-        alloc: Global,
-        place: usize,
-        change: Change,
-        is_write: bool,
-    ) -> Result<(), NoMemory>
+    pub fn commit(&mut self, place: usize, change: Change, is_write: bool) -> Result<(), NoMemory>
         requires place { place < length self.old.controllers.items }
         requires tidy { IsTidy self.old.controllers.items }
         requires within { change.usn ≤ usn_limit }
@@ -83,9 +77,9 @@ impl Run {
         ensures err { OnErr result (world_of self.new ≡ world_of self.old) }
         ensures tidy { IsTidy self.new.controllers.items }
     {
-        let next = state_after(alloc, &self.controllers[place].state, &change)?;
-        self.book.record(next.inv(), change, is_write, alloc)?;
-        self.controllers[place].state = next;
+        let inv = self.controllers[place].state.inv();
+        apply_fitting(&mut self.controllers[place].state, &change)?;
+        self.book.record(inv, &change, is_write);
         Ok(())
     }
 }

@@ -33,7 +33,7 @@ impl Run {
         match take(&self.controllers[place].state, reply, alloc) {
             Ok(change) => {
                 let made = answer(alloc, "deliver", name, took(reply, &change)?)?;
-                self.commit(alloc, place, change, false)?;
+                self.commit(place, change, false)?;
                 Ok(made)
             }
             Err(refusal) => {

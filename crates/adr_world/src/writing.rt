@@ -34,7 +34,7 @@ impl Run {
         match add(&self.controllers[place].state, object, self.time, alloc) {
             Ok(change) => {
                 let made = answer(alloc, "add", name, Outcome::Usn(change.usn()))?;
-                self.commit(alloc, place, change, true)?;
+                self.commit(place, change, true)?;
                 Ok(made)
             }
             Err(refusal) => {
