@@ -15,4 +15,4 @@ mod tests;
 
 pub use adr_vector::NoMemory;
 pub use asking::ask;
-pub use serving::{ServeFault, serve};
+pub use serving::serve;

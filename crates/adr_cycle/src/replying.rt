@@ -2,19 +2,17 @@
 
 ghost use Rattle.std.specs.Prelude.{◌≡◌, ℕ, fold, map, IfOk, if◌then◌else◌};
 ghost use Rattle.std.specs.Bool.{then_some};
-ghost use Rattle.adr_model.specs.Update.{same_identifier};
 ghost use Rattle.adr_model.specs.Change.{Item as Defined};
 ghost use Rattle.adr_model.specs.Serve.{begins_at, byte_limit, first_items, reply_of, reply_to};
 
 use crate::NoMemory;
 use crate::candidate::Candidate;
 use crate::candidates::candidates;
-use adr_packet::{Reply, Request, cost_within};
-use adr_state::{Item, State};
+use adr_packet::{Reply, Request};
+use adr_state::{Item, State, is_same, item_length_within};
 use adr_vector::{Mark, Vector};
 use std::alloc::Global;
 use std::collections::BTreeMap;
-use uuid::Uuid;
 
 /// The bytes of items at which a reply is cut: 4 MiB.
 const BYTE_LIMIT: u64 = 4_194_304;
@@ -42,13 +40,6 @@ pub fn begins_at(state: &State, request: &Request) -> Mark
     }
 }
 
-/// Whether the two identifiers are one.
-pub fn is_same(a: Uuid, b: Uuid) -> bool
-    ensures { result ≡ same_identifier a b }
-{
-    a == b
-}
-
 /// The first items: until there are so many, or so many bytes or more.
 pub fn first_items(
     mut most: u32,
@@ -65,7 +56,7 @@ pub fn first_items(
         }
         let item = candidate.item(alloc)?;
         most -= 1;
-        bytes -= cost_within(&item, bytes);
+        bytes -= item_length_within(&item, bytes);
         sent.push((local, item))?;
     }
     Ok(sent)

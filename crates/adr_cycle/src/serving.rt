@@ -1,48 +1,28 @@
 //! What a controller answers to a request.
 
-ghost use Rattle.std.specs.Prelude.{◌≡◌, ◌↔◌, ◌&&◌, ◌==◌, Ok, Err, IfOk, IsErrOf, nat_le, nat_lt, not};
+ghost use Rattle.std.specs.Prelude.{◌≡◌, ◌&&◌, ◌==◌, Ok, Err, IfOk, IsErrOf, nat_le, nat_lt, not};
 ghost use Rattle.std.specs.Bool.{then_some};
 ghost use Rattle.std.specs.Option.{option_map};
 ghost use Rattle.adr_vector.specs.Vector.{first_gap};
 ghost use Rattle.adr_model.specs.Update.{same_identifier};
 ghost use Rattle.adr_model.specs.Serve.{is_quarantined, serve, serve_refusal, shown_by};
 ghost use Rattle.adr_event.specs.declared.refusal.ServeRefusal.{ServeRefusal};
-ghost use Rattle.adr_cycle.specs.declared.serving.ServeFault.TheVariants.{NoMemory};
 
-use crate::replying::{begins_at, is_same, reply_to};
-use adr_event::ServeRefusal;
+use crate::replying::{begins_at, reply_to};
+use adr_event::{Failure, ServeRefusal};
 use adr_packet::{Reply, Request};
-use adr_state::{Mode, State};
+use adr_state::{State, is_same};
 use adr_vector::Mark;
-use std::alloc::{AllocError, Global};
-use thiserror::Error;
-
-/// Why there is no reply.
-#[derive(Clone, Copy, Debug, PartialEq, Eq, Error)]
-pub enum ServeFault {
-    /// The request is refused.
-    #[error("the request is refused")]
-    Refused(ServeRefusal),
-    #[error("memory ran out")]
-    NoMemory,
-}
-
-impl From<AllocError> for ServeFault {
-    ghost from_gives = { λ _ e. e ≡ NoMemory };
-
-    fn from(_e: AllocError) -> ServeFault {
-        ServeFault::NoMemory
-    }
-}
+use std::alloc::Global;
 
 /// What a request is answered: the reply, or the first refusal in order (MS-DRSR, GetNCChanges; the refusals, and how
 /// marks move, are this project's own profile).
-pub fn serve(state: &State, request: &Request, alloc: Global) -> Result<Reply, ServeFault>
+pub fn serve(state: &State, request: &Request, alloc: Global) -> Result<Reply, Failure<ServeRefusal>>
     ensures ok { IfOk result (λ reply. serve state.now request.now ≡ Ok reply) }
-    ensures refused { (refusal : ServeRefusal) → IsErrOf result (ServeFault.Refused refusal) ↔ (serve state.now request.now ≡ Err refusal) }
+    ensures refused { (refusal : ServeRefusal) → IsErrOf result (Failure.Refused refusal) → serve state.now request.now ≡ Err refusal }
 {
     match serve_refusal(state, request) {
-        Some(refusal) => Err(ServeFault::Refused(refusal)),
+        Some(refusal) => Err(Failure::Refused(refusal)),
         None => Ok(reply_to(state, request, alloc)?),
     }
 }
@@ -62,10 +42,10 @@ fn serve_refusal(state: &State, request: &Request) -> Option<ServeRefusal>
 fn quarantined(state: &State) -> Option<ServeRefusal>
     ensures { result ≡ then_some (is_quarantined state.now.mode) ServeRefusal.Quarantined }
 {
-    match state.mode() {
-        Mode::Normal => None,
-        Mode::Quarantined => Some(ServeRefusal::Quarantined),
-    }
+    state
+        .mode()
+        .is_quarantined()
+        .then_some(ServeRefusal::Quarantined)
 }
 
 /// The request is for another controller.

@@ -1,5 +1,5 @@
 -- A live object has no row that says that it is dead.
-use Rattle.std.proofs.Common.{◌≡◌, inl, inr, ℕ, List, [], ◌∷◌, Bool, true, false, cond, not, ◌&&◌, ◌||◌, Option, Some, None, refl, sym, ap, ◌∙◌, subst, filter_map}
+use Rattle.std.proofs.Common.{◌≡◌, ◌==◌, inl, inr, ℕ, List, [], ◌∷◌, Bool, true, false, cond, not, ◌&&◌, ◌||◌, Option, Some, None, refl, sym, ap, ◌∙◌, subst, filter_map}
 use Rattle.std.specs.Prelude.{is_none}
 use Rattle.std.specs.List.{list_any, list_all, cons_option}
 use Rattle.std.specs.Option.{option_and_then, option_map_or}
@@ -11,7 +11,7 @@ use Rattle.adr_stamp.proofs.Exact.{exact_objects}
 use Rattle.adr_schema.specs.declared.content.Content.TheVariants.{Class, Name, Dead, Values}
 use Rattle.adr_event.specs.declared.refusal.WriteRefusal.TheVariants.{NoObject, Deleted}
 use Rattle.adr_model.specs.Member.{Member, Each}
-use Rattle.adr_model.specs.Update.{Identifier, Key, RowOf, LinkOf, Said, Holds, IsPresent, Update, ends, name_attr, deleted_attr, is_death_of, same_key, same_identifier, same_object}
+use Rattle.adr_model.specs.Update.{class_attr, Identifier, Key, RowOf, LinkOf, Said, Holds, IsPresent, Update, ends, name_attr, deleted_attr, is_death_of, same_key, same_identifier, same_object}
 use Rattle.adr_model.specs.Winner.{winners}
 use Rattle.adr_model.specs.Live.{objects_of, standing, live, is_among, live_rows}
 use Rattle.adr_model.specs.Place.{Node, root, row_at, with_name, node_of, node_at}
@@ -65,11 +65,12 @@ named_node o class stamp (Holds (Values vs)) n e = absurd (cc)
 named_node o class stamp (IsPresent b) n e = absurd (cc)
 
 is_row_of : (rows : List Update) (k : Key) (said : Said) (n : Node) → node_of rows k said ≡ Some n → IsRowOf k n
-is_row_of rows (RowOf o attr) (Holds (Class class)) n e = by (row_at rows (RowOf o name_attr)) e
+is_row_of rows (RowOf o attr) (Holds (Class class)) n e = by (attr == class_attr) (row_at rows (RowOf o name_attr)) e
   where
-    by : (u : Option Update) → option_and_then (λ (v : Update). with_name o class v.stamp v.said) u ≡ Some n → IsRowOf (RowOf o attr) n
-    by None h = absurd (cc)
-    by (Some u) h = (attr, ap (λ p. RowOf p attr) (named_node o class u.stamp u.said n h))
+    by : (b : Bool) (u : Option Update) → cond b (option_and_then (λ (v : Update). with_name o class v.stamp v.said) u) None ≡ Some n → IsRowOf (RowOf o attr) n
+    by false u h = absurd (cc)
+    by true None h = absurd (cc)
+    by true (Some u) h = (attr, ap (λ p. RowOf p attr) (named_node o class u.stamp u.said n h))
 is_row_of rows (RowOf o attr) (Holds (Name text parent)) n e = absurd (cc)
 is_row_of rows (RowOf o attr) (Holds Dead) n e = absurd (cc)
 is_row_of rows (RowOf o attr) (Holds (Values vs)) n e = absurd (cc)

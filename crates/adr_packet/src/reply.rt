@@ -13,7 +13,7 @@ use uuid::Uuid;
 /// A reply (MS-DRSR, DRS_MSG_GETCHGREPLY): to whom it goes, from whom and from which incarnation, the marks between
 /// which it lies, the number of the source's schema, what the asker had seen, what the source has seen if nothing is
 /// left to send, and the items.
-#[derive(Debug, Drop)]
+#[derive(Drop)]
 pub struct Reply {
     dest: Uuid,
     source: Uuid,

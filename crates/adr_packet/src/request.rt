@@ -11,7 +11,7 @@ use uuid::Uuid;
 /// A request for changes (MS-DRSR, DRS_MSG_GETCHGREQ): who asks, which partner, the incarnation of the partner's
 /// database that was read and how far, the number of the asker's schema, how many items a reply has at most, and what
 /// the asker has seen.
-#[derive(Debug, Drop)]
+#[derive(Drop)]
 pub struct Request {
     dest: Uuid,
     source: Uuid,

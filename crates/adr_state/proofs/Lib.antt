@@ -1,2 +1,4 @@
 mod Placing
 mod Growing
+mod Counted
+mod ItemLengths

@@ -1,5 +1,5 @@
 -- When a change is refused.
-use Rattle.std.specs.Prelude.{◌⊎◌, ◌<◌, ◌==◌, if◌then◌else◌, length}
+use Rattle.std.specs.Prelude.{◌⊎◌, ◌<◌, length}
 use Rattle.adr_vector.specs.declared.vector.VectorRefusal.{VectorRefusal}
 use Rattle.adr_vector.specs.declared.vector.VectorRefusal.TheVariants.{Full as full, NoMemory as no_memory}
 use Rattle.adr_vector.specs.Vector.{most_cursors}
@@ -13,5 +13,5 @@ IsOverfull s = (most_cursors < length s.store.vector) ⊎ (most_cursors < length
 
 -- what a vector's refusal is to a change
 abbrev pub of_vector : VectorRefusal → ApplyRefusal
-of_vector (full limit) = if limit == most_cursors then Full else NoMemory
+of_vector full = Full
 of_vector no_memory = NoMemory

@@ -2,6 +2,7 @@
 
 ghost use Rattle.std.specs.Prelude.{◌≡◌, IfOk};
 ghost use Rattle.adr_model.specs.Change.{held_of};
+ghost use Rattle.adr_model.specs.Serve.{is_quarantined};
 ghost use Rattle.adr_state.specs.Mode.{mode_of};
 
 use crate::NoMemory;
@@ -21,10 +22,21 @@ pub enum Mode {
     Quarantined,
 }
 
+impl Mode {
+    pub fn is_quarantined(self) -> bool
+        ensures { result ≡ is_quarantined (mode_of self) }
+    {
+        match self {
+            Mode::Normal => false,
+            Mode::Quarantined => true,
+        }
+    }
+}
+
 /// What one commit changes: the update sequence number and the mode after it, the mark of a partner, what is joined
 /// into the vectors of what was seen and of what was collected, the objects that are removed, and the rows that are
 /// written.
-#[derive(Debug, Drop)]
+#[derive(Drop)]
 pub struct Change {
     usn: u64,
     mode: Mode,

@@ -11,7 +11,7 @@ use std::alloc::Global;
 use std::marker::Model;
 
 /// Rows of one object, or a link row.
-#[derive(Debug, Drop)]
+#[derive(Drop)]
 pub struct Item {
     unit: Unit,
     rows: Vec<Update>,
@@ -56,7 +56,7 @@ impl Item {
 }
 
 /// Equal updates, in their order.
-fn copy_updates(alloc: Global, updates: &[Update]) -> Result<Vec<Update>, NoMemory>
+pub fn copy_updates(alloc: Global, updates: &[Update]) -> Result<Vec<Update>, NoMemory>
     ensures { IfOk result (λ copy. copy.items ≡ updates.now) }
 {
     let mut copy = Vec::new(alloc);
@@ -67,7 +67,7 @@ fn copy_updates(alloc: Global, updates: &[Update]) -> Result<Vec<Update>, NoMemo
 }
 
 /// Rows of one unit that are written under one local update sequence number.
-#[derive(Debug, Drop)]
+#[derive(Drop)]
 pub struct Written {
     local: u64,
     item: Item,

@@ -2,15 +2,16 @@
 
 ghost use Rattle.std.specs.Prelude.{◌≡◌};
 ghost use Rattle.adr_stamp.specs.Order.{object_order};
-ghost use Rattle.adr_model.specs.Update.{RowOf, deleted_attr, key_order, same_key, same_object, unit_of};
+ghost use Rattle.adr_model.specs.Update.{RowOf, deleted_attr, key_order, same_identifier, same_key, same_object, unit_of};
+ghost use Rattle.adr_model.specs.Live.{born};
+ghost use Rattle.adr_model.specs.Write.{is_link_row};
 ghost use Rattle.adr_model.specs.Store.{is_row_of};
 ghost use Rattle.adr_model.specs.Change.{goes_with, killed_by};
 
+use crate::limits::{CLASS, DELETED};
 use adr_stamp::{LinkKey, Oid, Unit};
 use std::cmp::Ordering;
-
-/// The attribute that says that an object is dead.
-const DELETED: u16 = 3;
+use uuid::Uuid;
 
 /// What an update is an update of.
 #[derive(Clone, Copy, Debug, PartialEq, Eq)]
@@ -89,6 +90,25 @@ impl Key {
         }
     }
 
+    pub fn is_link(&self) -> bool
+        ensures { result ≡ is_link_row (key_of self.now) }
+    {
+        match self {
+            Key::Row { .. } => false,
+            Key::Link(_) => true,
+        }
+    }
+
+    /// The object that a row of this key gives birth to.
+    pub fn born(&self) -> Option<Oid>
+        ensures { result ≡ born (key_of self.now) }
+    {
+        match self {
+            Key::Row { object, attr } => { if *attr == CLASS { Some(*object) } else { None } }
+            Key::Link(_) => None,
+        }
+    }
+
     /// The object that a row of this key kills.
     pub fn killed(&self) -> Option<Oid>
         ensures { result ≡ killed_by (key_of self.now) }
@@ -104,6 +124,13 @@ impl Key {
             Key::Link(_) => None,
         }
     }
+}
+
+/// Whether the two identifiers are one.
+pub fn is_same(a: Uuid, b: Uuid) -> bool
+    ensures { result ≡ same_identifier a b }
+{
+    a == b
 }
 
 fn is_same_object(a: &Oid, b: &Oid) -> bool

@@ -6,8 +6,11 @@
 #![tactic(auto)]
 
 mod change;
+mod counting;
 mod item;
 mod key;
+mod lengths;
+mod limits;
 mod marks;
 mod rows;
 mod state;
@@ -15,8 +18,14 @@ mod update;
 
 pub use adr_vector::NoMemory;
 pub use change::{Change, Mode};
-pub use item::{Item, Written};
-pub use key::Key;
+pub use counting::{count_links, count_objects};
+pub use item::{Item, Written, copy_updates};
+pub use key::{Key, is_same};
+pub use lengths::{change_length_within, item_length_within, log_after};
+pub use limits::{
+    CLASS, CURSOR_LIMIT, DELETED, LINK_LIMIT, LOG_LIMIT, MARK_LIMIT, NAME, OBJECT_LIMIT, USN_LIMIT,
+    VERSION_LIMIT,
+};
 pub use marks::{Kept, Marks};
 pub use rows::{Held, Rows};
 pub use state::{ApplyRefusal, State};

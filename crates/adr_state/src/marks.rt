@@ -3,12 +3,12 @@
 ghost use Rattle.std.specs.Prelude.{◌≡◌, ◌↔◌, [], length, Some, IsTrue, IfOk, OnOk, OnErr};
 ghost use Rattle.std.specs.BTreeMap.{insert_entry};
 ghost use Rattle.adr_stamp.specs.Order.{identifier_order};
-ghost use Rattle.adr_model.specs.Update.{same_identifier};
 ghost use Rattle.adr_model.specs.Store.{kept_of, mark_of, no_mark};
 ghost use Rattle.adr_model.specs.Change.{with_mark};
 ghost use Rattle.adr_state.specs.Marks.{of_marks};
 
 use crate::NoMemory;
+use crate::key::is_same;
 use adr_vector::Mark;
 use std::alloc::Global;
 use std::collections::BTreeMap;
@@ -16,7 +16,7 @@ use std::marker::Model;
 use uuid::Uuid;
 
 /// How far an incarnation of a partner's database was read (MS-DRSR, USN_VECTOR).
-#[derive(Clone, Copy, Debug)]
+#[derive(Clone, Copy)]
 pub struct Kept {
     inv: Uuid,
     mark: Mark,
@@ -64,12 +64,6 @@ impl Kept {
     }
 }
 
-fn is_same(a: Uuid, b: Uuid) -> bool
-    ensures { result ≡ same_identifier a b }
-{
-    a == b
-}
-
 /// The mark of a partner of whom nothing was read.
 fn no_mark() -> Mark
     ensures { result ≡ no_mark }
@@ -82,7 +76,7 @@ fn no_mark() -> Mark
 }
 
 /// What is kept of each partner, by its controller's identifier.
-#[derive(Debug, Drop)]
+#[derive(Drop)]
 pub struct Marks {
     map: BTreeMap<Uuid, Kept>,
 }

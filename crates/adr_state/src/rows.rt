@@ -17,7 +17,7 @@ use std::cmp::Ordering;
 use std::marker::Model;
 
 /// An update that is held, with the update sequence number under which it was written here.
-#[derive(Debug, Drop)]
+#[derive(Drop)]
 pub struct Held {
     update: Update,
     local: u64,
@@ -68,7 +68,7 @@ impl Held {
 }
 
 /// The rows of a controller, each under its key.
-#[derive(Debug, Drop)]
+#[derive(Drop)]
 pub struct Rows {
     list: Vec<Held>,
 }

@@ -5,6 +5,7 @@ ghost use Rattle.adr_schema.specs.Numbered.{numbered};
 ghost use Rattle.adr_vector.specs.Vector.{joined, most_cursors};
 ghost use Rattle.adr_model.specs.Store.{empty_state, empty_store};
 ghost use Rattle.adr_model.specs.Change.{after};
+ghost use Rattle.adr_model.specs.Lengths.{log_of};
 ghost use Rattle.adr_state.specs.declared.state.ApplyRefusal.TheVariants.{NoMemory as no_memory};
 ghost use Rattle.adr_state.specs.Mode.{mode_of};
 ghost use Rattle.adr_state.specs.Refusal.{of_vector, IsOverfull};
@@ -51,17 +52,14 @@ impl From<VectorRefusal> for ApplyRefusal {
 
     fn from(refusal: VectorRefusal) -> ApplyRefusal {
         match refusal {
-            VectorRefusal::Full { limit } if limit == CURSOR_LIMIT => ApplyRefusal::Full,
-            _ => ApplyRefusal::NoMemory,
+            VectorRefusal::Full => ApplyRefusal::Full,
+            VectorRefusal::NoMemory => ApplyRefusal::NoMemory,
         }
     }
 }
 
-/// How many cursors a vector has at most.
-const CURSOR_LIMIT: u32 = 10_000;
-
 /// A controller: its own identifier, the invocation identifier of its database, its mode, and the database.
-#[derive(Debug, Drop)]
+#[derive(Drop)]
 pub struct State {
     dsa: Uuid,
     inv: Uuid,
@@ -91,8 +89,8 @@ impl Model for State {
 impl State {
     /// A new, empty controller.
     pub fn new(alloc: Global, dsa: Uuid, inv: Uuid, schema: Schema) -> State
-        requires { schema ≡ numbered schema.number }
-        ensures { result ≡ record (empty_state dsa inv) { store = empty_store schema.number } }
+        ensures empty { result ≡ record (empty_state dsa inv) { store = empty_store schema.number } }
+        ensures log { log_of result ≡ 82 }
     {
         State {
             dsa,

@@ -13,7 +13,7 @@ use std::alloc::Global;
 use std::marker::Model;
 
 /// What an update says.
-#[derive(Debug, Drop)]
+#[derive(Drop)]
 pub enum Said {
     /// What a row of an object contains.
     Holds(Content),
@@ -35,7 +35,7 @@ impl Said {
 
 /// A row of an object, or a link row, as it is written and sent (MS-DRSR, AttributeStamp and LinkValueStamp). In the
 /// stamp of an object's row the moment of creation is 0.
-#[derive(Debug, Drop)]
+#[derive(Drop)]
 pub struct Update {
     key: Key,
     stamp: LinkStamp,

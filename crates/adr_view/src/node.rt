@@ -19,6 +19,9 @@ use std::collections::BTreeMap;
 use std::marker::Model;
 use uuid::Uuid;
 
+/// The attribute whose row says the class of an object.
+const CLASS: u16 = 1;
+
 /// The attribute whose row names an object and the object above it.
 const NAME: u16 = 2;
 
@@ -197,8 +200,12 @@ fn node_of(
     ensures { IfOk result (λ node. node ≡ node_of (referents rows.now) update.now.key update.now.said) }
 {
     match (update.key(), update.said()) {
-        (Key::Row { object, .. }, Said::Holds(Content::Class(class))) => {
-            with_class(alloc, rows, names, &object, *class)
+        (Key::Row { object, attr }, Said::Holds(Content::Class(class))) => {
+            if attr == CLASS {
+                with_class(alloc, rows, names, &object, *class)
+            } else {
+                Ok(None)
+            }
         }
         _ => Ok(None),
     }

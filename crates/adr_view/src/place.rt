@@ -55,6 +55,9 @@ pub fn is_met_above(all: &[Node], place: Uuid, guid: Uuid) -> bool
     let mut left = all.len();
     while left > 0 {
         left -= 1;
+        if is_fixed(at) {
+            return false;
+        }
         let Some(node) = node_at(all, at) else {
             return false;
         };
@@ -74,6 +77,9 @@ fn is_in_loop(all: &[Node], node: &Node) -> bool
     let mut left = all.len();
     while left > 0 {
         left -= 1;
+        if is_fixed(at) {
+            return false;
+        }
         let Some(other) = node_at(all, at) else {
             return false;
         };
@@ -93,6 +99,9 @@ fn is_youngest(all: &[Node], node: &Node) -> bool
     let mut left = all.len();
     while left > 0 {
         left -= 1;
+        if is_fixed(at) {
+            return true;
+        }
         let Some(other) = node_at(all, at) else {
             return true;
         };

@@ -5,31 +5,21 @@ ghost use Rattle.std.specs.BTreeSet.{insert_key};
 ghost use Rattle.adr_stamp.specs.Order.{object_order};
 ghost use Rattle.adr_model.specs.Live.{born, objects_of};
 ghost use Rattle.adr_model.specs.Store.{updates_of};
-ghost use Rattle.adr_model.specs.Write.{is_link_row, links_in};
+ghost use Rattle.adr_model.specs.Write.{links_in};
 ghost use Rattle.adr_state.specs.Key.{key_of};
 
 use crate::NoMemory;
-use crate::new_object::CLASS;
+use crate::key::Key;
+use crate::rows::Rows;
 use adr_stamp::Oid;
-use adr_state::{Key, Rows};
 use std::alloc::Global;
 use std::collections::BTreeSet;
-
-/// The object that a row of this key gives birth to.
-fn born(key: Key) -> Option<Oid>
-    ensures { result ≡ born (key_of key) }
-{
-    match key {
-        Key::Row { object, attr } => { if attr == CLASS { Some(object) } else { None } }
-        Key::Link(_) => None,
-    }
-}
 
 /// Puts the object that a row of this key gives birth to among objects.
 fn add_born(objects: &mut BTreeSet<Oid>, key: Key) -> Result<(), NoMemory>
     ensures { OnOk result (objects.new.keys ≡ fold (insert_key object_order) objects.old.keys (option_to_list (born (key_of key)))) }
 {
-    if let Some(object) = born(key) {
+    if let Some(object) = key.born() {
         objects.insert(object)?;
     }
     Ok(())
@@ -46,22 +36,13 @@ pub fn count_objects(alloc: Global, rows: &Rows) -> Result<usize, NoMemory>
     Ok(objects.len())
 }
 
-fn is_link(key: Key) -> bool
-    ensures { result ≡ is_link_row (key_of key) }
-{
-    match key {
-        Key::Row { .. } => false,
-        Key::Link(_) => true,
-    }
-}
-
 /// How many link rows are held, present or not.
 pub fn count_links(rows: &Rows) -> usize
     ensures { result ≡ links_in rows.now }
 {
     let mut count = 0;
     for held in rows.as_slice() {
-        if is_link(held.update().key()) {
+        if held.update().key().is_link() {
             count += 1;
         }
     }

@@ -1,6 +1,6 @@
 use Rattle.std.proofs.Common.{◌≡◌, ◌+◌, fold, min, take}
 use Rattle.adr_model.specs.Serve.{value_length}
-use Rattle.adr_packet.proofs.cost.values_within.Given as goal
+use Rattle.adr_state.proofs.lengths.values_within.Given as goal
 
 -- the sum is that of the values so far
 abbrev pub invariant-loop-value : goal.invariant-loop-value

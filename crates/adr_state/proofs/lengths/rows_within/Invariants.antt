@@ -1,7 +1,7 @@
 use Rattle.std.proofs.Common.{◌≡◌, ◌+◌, fold, min, take}
 use Rattle.adr_model.specs.Update.{Update}
 use Rattle.adr_model.specs.Serve.{content_length}
-use Rattle.adr_packet.proofs.cost.rows_within.Given as goal
+use Rattle.adr_state.proofs.lengths.rows_within.Given as goal
 
 -- the sum is that of the rows so far
 abbrev pub invariant-loop-row : goal.invariant-loop-row

@@ -4,8 +4,8 @@ use Rattle.std.specs.BTreeSet.{insert_key}
 use Rattle.adr_stamp.specs.Order.{object_order}
 use Rattle.adr_model.specs.Update.{Key, Update}
 use Rattle.adr_model.specs.Live.{born}
-use Rattle.adr_origin.proofs.CountedRows.{counted}
-use Rattle.adr_origin.proofs.counting.count_objects.Goals as goal
+use Rattle.adr_state.proofs.Counted.{counted}
+use Rattle.adr_state.proofs.counting.count_objects.Goals as goal
 
 pub loop-held-preserved : goal.loop-held-preserved
 loop-held-preserved c =

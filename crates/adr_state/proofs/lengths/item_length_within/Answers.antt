@@ -1,6 +1,6 @@
 use Rattle.std.proofs.Common.{arith}
-use Rattle.adr_packet.proofs.Lengths.{length_of_object}
-use Rattle.adr_packet.proofs.cost.cost_within.Goals as goal
+use Rattle.adr_state.proofs.ItemLengths.{length_of_object}
+use Rattle.adr_state.proofs.lengths.item_length_within.Goals as goal
 
 pub returns-in-Object : goal.returns-in-Object
 returns-in-Object c =

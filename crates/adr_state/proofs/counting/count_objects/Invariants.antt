@@ -1,7 +1,7 @@
 use Rattle.std.proofs.Common.{◌≡◌, take}
 use Rattle.adr_model.specs.Live.{objects_of}
 use Rattle.adr_model.specs.Store.{updates_of}
-use Rattle.adr_origin.proofs.counting.count_objects.Given as goal
+use Rattle.adr_state.proofs.counting.count_objects.Given as goal
 
 -- the objects so far are counted
 abbrev pub invariant-loop-held : goal.invariant-loop-held
