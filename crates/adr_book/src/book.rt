@@ -11,7 +11,7 @@ use uuid::Uuid;
 
 /// What clients wrote, in the order in which it became safe, and the log of each incarnation, by its invocation
 /// identifier. It keeps nothing when it runs: contracts see it.
-#[derive(Debug, Drop)]
+#[derive(Drop)]
 pub struct Book {
     told: Told,
 }

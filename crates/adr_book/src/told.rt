@@ -17,7 +17,7 @@ pub(crate) struct Recorded<'a> {
 }
 
 /// All that a run was told so far.
-#[derive(Debug, Drop)]
+#[derive(Drop)]
 pub(crate) struct Told {
     pub(crate) ghost scene: { Scene },
 }

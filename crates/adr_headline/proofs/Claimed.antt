@@ -1,5 +1,5 @@
 -- The theorem of the definitions, as it is claimed of a run.
-use Rattle.std.proofs.Common.{◌≡◌, ◌∙◌, List, [], ◌∷◌, ◌++◌, true, sym, subst, append_assoc}
+use Rattle.std.proofs.Common.{◌≡◌, List, [], ◌∷◌, ◌++◌, true, subst}
 use Rattle.adr_event.specs.declared.event.Event.{Event}
 use Rattle.adr_model.specs.World.{World, empty_world}
 use Rattle.adr_model.specs.Step.{step}
@@ -21,5 +21,5 @@ module _ (es : List Event) (may : MayAllHappen empty_world es) where
     shown = λ before after is clean. (runs_converge before (front_may before after is) clean).0;
     equal = λ before after is clean. (runs_converge before (front_may before after is) clean).1;
     acknowledged = λ before mid after e is clean usn.
-        acknowledged_stays_in_view before mid e usn (front_may (before ++ e ∷ mid) after (is ∙ sym (append_assoc before (e ∷ mid) after))) clean;
+        acknowledged_stays_in_view before mid e usn (front_may (before ++ e ∷ mid) after is) clean;
   }
