@@ -60,7 +60,7 @@ at_most n passes = by (nat_lt usn_limit n) refl passes
     by false is none = grind (arith, nat_tests)
 
 -- a change that is made keeps the USN within its limit
-within : (s : State) (r : Reply) (change : Change) → take s r ≡ Ok change → change.usn ≤ usn_limit
+pub within : (s : State) (r : Reply) (change : Change) → take s r ≡ Ok change → change.usn ≤ usn_limit
 within s r change is = by (refusal_of s r (take_items s r.items) (after s (taken_change r (take_items s r.items)))) refl is
   where
     by : (o : Option TakeRefusal) → refusal_of s r (take_items s r.items) (after s (taken_change r (take_items s r.items))) ≡ o
@@ -69,7 +69,3 @@ within s r change is = by (refusal_of s r (take_items s r.items) (after s (taken
     by None found made =
         let made_of : taken_change r (take_items s r.items) ≡ change = cc in
         subst (λ (k : Change). k.usn ≤ usn_limit) made_of (at_most (take_items s r.items).usn (usn_passes s r (take_items s r.items) (after s (taken_change r (take_items s r.items))) found))
-
-pub all_within : (s : State) (r : Reply) (made : Result Change TakeRefusal) → made ≡ take s r → IfOk made (λ (change : Change). change.usn ≤ usn_limit)
-all_within s r (Ok change) is = within s r change (sym is)
-all_within s r (Err x) is = tt

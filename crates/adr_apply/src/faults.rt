@@ -7,11 +7,11 @@ ghost use Rattle.adr_schema.specs.Table.{must_of};
 ghost use Rattle.adr_model.specs.Refusing.{first_of};
 ghost use Rattle.adr_model.specs.Take.{broken, class_among, has_row, is_birth, is_reserved_row, lacks, row_fault};
 
-use crate::keys::{CLASS, DELETED, NAME, class_among, has_row, is_reserved, is_same};
+use crate::keys::{class_among, has_row, is_reserved};
 use adr_event::ItemFault;
 use adr_schema::{Content, Schema, SchemaRefusal, check_name};
 use adr_stamp::Oid;
-use adr_state::{Key, Said, Update};
+use adr_state::{CLASS, DELETED, Key, NAME, Said, Update, is_same};
 
 /// Whether a class row carries the birth of its object.
 fn is_birth(object: &Oid, row: &Update) -> bool

@@ -8,12 +8,12 @@ ghost use Rattle.adr_model.specs.Take.{class_of_item, class_said, incomplete, it
 
 use crate::NoMemory;
 use crate::faults::{first_fault, lacks};
-use crate::keys::{CLASS, DELETED, class_among, class_said, has_row};
-use crate::standing::{Standing, has_lost_end, standing_of};
+use crate::keys::{class_among, class_said, has_row};
+use crate::presence::{Presence, has_lost_end, presence_of};
 use adr_event::{ItemFault, TakeRefusal};
 use adr_schema::Schema;
 use adr_stamp::{Oid, Unit};
-use adr_state::{Item, Key, Rows};
+use adr_state::{CLASS, DELETED, Item, Key, Rows};
 use adr_vector::Vector;
 use std::alloc::AllocError;
 
@@ -50,10 +50,10 @@ fn item_fault(schema: Schema, vector: &Vector, held: &Rows, item: &Item) -> Opti
 {
     let class = class_of_item(held, item);
     match item.unit() {
-        Unit::Object(object) => match standing_of(vector, held, &object) {
-            Standing::Dead | Standing::Gone => None,
-            Standing::Held => first_fault(schema, class, item.rows(), false),
-            Standing::New => {
+        Unit::Object(object) => match presence_of(vector, held, &object) {
+            Presence::Dead | Presence::Gone => None,
+            Presence::Held => first_fault(schema, class, item.rows(), false),
+            Presence::New => {
                 first_fault(schema, class, item.rows(), has_row(DELETED, item.rows()))
             }
         },
@@ -72,9 +72,9 @@ fn incomplete(schema: Schema, vector: &Vector, held: &Rows, item: &Item) -> Opti
     ensures { result ≡ incomplete schema vector.now held.now item.now }
 {
     match item.unit() {
-        Unit::Object(object) => match standing_of(vector, held, &object) {
-            Standing::Dead | Standing::Held | Standing::Gone => None,
-            Standing::New => {
+        Unit::Object(object) => match presence_of(vector, held, &object) {
+            Presence::Dead | Presence::Held | Presence::Gone => None,
+            Presence::New => {
                 if lacks(schema, item.rows()) {
                     Some(TakeRefusal::Incomplete { object })
                 } else {

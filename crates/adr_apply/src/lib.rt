@@ -7,10 +7,9 @@
 mod faults;
 mod item;
 mod keys;
+mod presence;
 mod reply;
 mod rows;
-mod standing;
-mod tables;
 mod taking;
 
 pub use adr_state::NoMemory;

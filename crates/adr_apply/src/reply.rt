@@ -1,52 +1,37 @@
 //! The whole of a reply.
 
-ghost use Rattle.std.specs.Prelude.{◌≡◌, ◌⊎◌, ◌↔◌, ◌≤◌, [], None, Some, Ok, Err, IfOk, IfErr, IsErrOf, IsOk, IsTrue, false, length, nat_lt, unwrap_or};
+ghost use Rattle.std.specs.Prelude.{◌≡◌, ◌↔◌, ◌≤◌, [], None, Some, Ok, Err, IfOk, IsErrOf, IsOk, IsTrue, false, length, nat_lt, unwrap_or};
 ghost use Rattle.std.specs.Option.{option_copied};
 ghost use Rattle.adr_vector.specs.Vector.{joined, most_cursors, raised};
-ghost use Rattle.adr_event.specs.declared.refusal.TakeRefusal.TheVariants.{NoMemory as no_memory};
+ghost use Rattle.adr_event.specs.declared.refusal.TakeRefusal.{TakeRefusal};
 ghost use Rattle.adr_model.specs.Change.{after, with_mark};
-ghost use Rattle.adr_model.specs.Serve.{is_quarantined};
 ghost use Rattle.adr_model.specs.Take.{passes, refusal_of, same_mark, shown_by_last, take, taken_change};
 ghost use Rattle.adr_model.specs.Write.{usn_limit};
-ghost use Rattle.adr_state.specs.Mode.{mode_of};
 ghost use Rattle.adr_apply.specs.Before.{refusal_before};
 
 use crate::NoMemory;
-use crate::keys::is_same;
 use crate::taking::{Taking, take_items};
-use adr_event::{Table, TakeRefusal};
+use adr_event::{Failure, Table, TakeRefusal};
 use adr_packet::Reply;
-use adr_state::{Change, Kept, Mode, State};
+use adr_state::{
+    CURSOR_LIMIT, Change, Kept, LINK_LIMIT, MARK_LIMIT, Mode, OBJECT_LIMIT, State, USN_LIMIT,
+    is_same,
+};
 use adr_vector::{Mark, Vector, VectorRefusal};
 use std::alloc::{AllocError, Global};
-
-/// The greatest update sequence number that there is.
-const USN_LIMIT: u64 = 9_223_372_036_854_775_807;
-
-/// How many objects a controller holds at most, live or dead.
-const OBJECT_LIMIT: u64 = 200_000;
-
-/// How many link rows it holds at most, present or not.
-const LINK_LIMIT: u64 = 1_000_000;
-
-/// How many cursors its vector has at most.
-const CURSOR_LIMIT: u32 = 10_000;
-
-/// How many partners' marks it keeps at most.
-const MARK_LIMIT: u64 = 10_000;
 
 /// What a reply does to a controller: the change that it makes, or why it is refused (MS-DRSR, processing a
 /// GetNCChanges reply; the refusals and their order are this project's own). The controller stays as it is. A fault of
 /// an item whose place needs more than 32 bits counts as want of memory.
-pub fn take(state: &State, reply: &Reply, alloc: Global) -> Result<Change, TakeRefusal>
+pub fn take(state: &State, reply: &Reply, alloc: Global) -> Result<Change, Failure<TakeRefusal>>
     requires { state.now.store.usn ≤ usn_limit }
     ensures ok { IfOk result (λ change. take state.now reply.now ≡ Ok change) }
     ensures within { IfOk result (λ change. change.usn ≤ usn_limit) }
-    ensures refused { IfErr result (λ refusal. (refusal ≡ no_memory) ⊎ (take state.now reply.now ≡ Err refusal)) }
+    ensures refused { (refusal : TakeRefusal) → IsErrOf result (Failure.Refused refusal) → take state.now reply.now ≡ Err refusal }
 {
-    match outcome(alloc, state, reply) {
-        Ok(outcome) => outcome,
-        Err(_) => Err(TakeRefusal::NoMemory),
+    match outcome(alloc, state, reply)? {
+        Ok(change) => Ok(change),
+        Err(refusal) => Err(Failure::Refused(refusal)),
     }
 }
 
@@ -73,7 +58,7 @@ fn outcome(
 fn refusal_before(state: &State, reply: &Reply) -> Option<TakeRefusal>
     ensures { result ≡ refusal_before state.now reply.now }
 {
-    if is_quarantined(state.mode()) {
+    if state.mode().is_quarantined() {
         return Some(TakeRefusal::Quarantined);
     }
     if !is_same(reply.dest(), state.dsa()) {
@@ -105,15 +90,6 @@ fn refusal_before(state: &State, reply: &Reply) -> Option<TakeRefusal>
         });
     }
     None
-}
-
-fn is_quarantined(mode: Mode) -> bool
-    ensures { result ≡ is_quarantined (mode_of mode) }
-{
-    match mode {
-        Mode::Normal => false,
-        Mode::Quarantined => true,
-    }
 }
 
 fn is_same_mark(a: Mark, b: Mark) -> bool
@@ -158,7 +134,7 @@ fn refusal_after(
     if has_many_cursors(alloc, state, reply.last(), taking.usn())? {
         return Ok(Some(TakeRefusal::Full {
             table: Table::Cursors,
-            limit: CURSOR_LIMIT as u64,
+            limit: CURSOR_LIMIT,
         }));
     }
     Ok(passes(Table::Marks, MARK_LIMIT, count_marks(alloc, state, reply)?))
@@ -197,17 +173,13 @@ fn has_many_cursors(
 
 /// Whether a vector was full.
 fn is_full(raised: Result<(), VectorRefusal>) -> Result<bool, NoMemory>
-    ensures full { IfOk result (λ full. IsTrue full ↔ IsErrOf raised (VectorRefusal.Full most_cursors)) }
+    ensures full { IfOk result (λ full. IsTrue full ↔ IsErrOf raised VectorRefusal.Full) }
     ensures changed { IfOk result (λ full. full ≡ false → IsOk raised) }
 {
     match raised {
         Ok(()) => Ok(false),
-        Err(
-            VectorRefusal::Full {
-                limit: CURSOR_LIMIT,
-            },
-        ) => Ok(true),
-        Err(_) => Err(AllocError),
+        Err(VectorRefusal::Full) => Ok(true),
+        Err(VectorRefusal::NoMemory) => Err(AllocError),
     }
 }
 

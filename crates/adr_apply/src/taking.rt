@@ -1,7 +1,7 @@
 //! The items of a reply, one after the other.
 
-ghost use Rattle.std.specs.Prelude.{◌≡◌, ◌+◌, ◌<◌, ◌≤◌, ◌^◌, [], ◌++◌, IfOk, OnOk, fold, length, map};
-ghost use Rattle.std.specs.Option.{option_or};
+ghost use Rattle.std.specs.Prelude.{◌≡◌, ◌+◌, ◌<◌, ◌≤◌, ◌^◌, [], ◌∷◌, ◌++◌, IfOk, OnOk, fold, length, map};
+ghost use Rattle.adr_model.specs.Refusing.{first_of};
 ghost use Rattle.adr_model.specs.Change.{held_of, rows_after};
 ghost use Rattle.adr_model.specs.Take.{begin, take_item, take_items, writes_of};
 ghost use Rattle.adr_model.specs.Write.{usn_limit};
@@ -10,17 +10,16 @@ ghost use Rattle.adr_apply.specs.HeldAt.{held_at};
 use crate::NoMemory;
 use crate::item::item_refusal;
 use crate::rows::rows_taken;
-use crate::tables::{count_links, count_objects};
 use adr_event::TakeRefusal;
 use adr_schema::Schema;
-use adr_state::{Held, Item, Rows, State, Update, Written};
+use adr_state::{Held, Item, Rows, State, Update, Written, count_links, count_objects};
 use adr_vector::Vector;
 use std::alloc::Global;
 use std::marker::Model;
 
 /// How far a reply has been taken: the rows, the update sequence number and the writes so far, the first refusal, how
 /// many items there were, and the most objects and links on the way.
-#[derive(Debug, Drop)]
+#[derive(Drop)]
 pub struct Taking {
     rows: Rows,
     usn: u64,
@@ -133,7 +132,7 @@ impl Taking {
 
 /// The first of two refusals that is there.
 fn first(a: Option<TakeRefusal>, b: Option<TakeRefusal>) -> Option<TakeRefusal>
-    ensures { result ≡ option_or a b }
+    ensures { result ≡ first_of (a ∷ b ∷ []) }
 {
     match a {
         Some(refusal) => Some(refusal),

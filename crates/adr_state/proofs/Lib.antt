@@ -1,4 +1,3 @@
 mod Placing
 mod Growing
-mod Counted
 mod ItemLengths

@@ -1,39 +1,34 @@
 //! How much is held.
 
-ghost use Rattle.std.specs.Prelude.{◌≡◌, IfOk, OnOk, fold, length, option_to_list};
-ghost use Rattle.std.specs.BTreeSet.{insert_key};
-ghost use Rattle.adr_stamp.specs.Order.{object_order};
-ghost use Rattle.adr_model.specs.Live.{born, objects_of};
+ghost use Rattle.std.specs.Prelude.{◌≡◌, IfOk, length};
+ghost use Rattle.adr_model.specs.Live.{objects_of};
 ghost use Rattle.adr_model.specs.Store.{updates_of};
 ghost use Rattle.adr_model.specs.Write.{links_in};
-ghost use Rattle.adr_state.specs.Key.{key_of};
 
 use crate::NoMemory;
-use crate::key::Key;
-use crate::rows::Rows;
+use crate::rows::{Held, Rows};
 use adr_stamp::Oid;
 use std::alloc::Global;
 use std::collections::BTreeSet;
 
-/// Puts the object that a row of this key gives birth to among objects.
-fn add_born(objects: &mut BTreeSet<Oid>, key: Key) -> Result<(), NoMemory>
-    ensures { OnOk result (objects.new.keys ≡ fold (insert_key object_order) objects.old.keys (option_to_list (born (key_of key)))) }
+/// The objects that were born, in order.
+pub fn objects_of(alloc: Global, rows: &[Held]) -> Result<BTreeSet<Oid>, NoMemory>
+    ensures { IfOk result (λ objects. objects.keys ≡ objects_of (updates_of rows.now)) }
 {
-    if let Some(object) = key.born() {
-        objects.insert(object)?;
+    let mut objects = BTreeSet::new(alloc);
+    for held in rows {
+        if let Some(object) = held.update().key().born() {
+            objects.insert(object)?;
+        }
     }
-    Ok(())
+    Ok(objects)
 }
 
 /// How many objects are held, live or dead.
 pub fn count_objects(alloc: Global, rows: &Rows) -> Result<usize, NoMemory>
     ensures { IfOk result (λ count. count ≡ length (objects_of (updates_of rows.now))) }
 {
-    let mut objects = BTreeSet::new(alloc);
-    for held in rows.as_slice() {
-        add_born(&mut objects, held.update().key())?;
-    }
-    Ok(objects.len())
+    Ok(objects_of(alloc, rows.as_slice())?.len())
 }
 
 /// How many link rows are held, present or not.

@@ -133,7 +133,7 @@ pub fn is_same(a: Uuid, b: Uuid) -> bool
     a == b
 }
 
-fn is_same_object(a: &Oid, b: &Oid) -> bool
+pub fn is_same_object(a: &Oid, b: &Oid) -> bool
     ensures { result ≡ same_object a.now b.now }
 {
     a.cmp(b).is_eq()

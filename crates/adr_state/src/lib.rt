@@ -18,9 +18,9 @@ mod update;
 
 pub use adr_vector::NoMemory;
 pub use change::{Change, Mode};
-pub use counting::{count_links, count_objects};
+pub use counting::{count_links, count_objects, objects_of};
 pub use item::{Item, Written, copy_updates};
-pub use key::{Key, is_same};
+pub use key::{Key, is_same, is_same_object};
 pub use lengths::{change_length_within, item_length_within, log_after};
 pub use limits::{
     CLASS, CURSOR_LIMIT, DELETED, LINK_LIMIT, LOG_LIMIT, MARK_LIMIT, NAME, OBJECT_LIMIT, USN_LIMIT,

@@ -2,15 +2,16 @@
 
 ghost use Rattle.std.specs.Prelude.{◌≡◌, ◌||◌};
 ghost use Rattle.adr_model.specs.Visible.{covers_birth};
-ghost use Rattle.adr_model.specs.Take.{by_standing, is_above, is_gone, is_lost_end};
+ghost use Rattle.adr_model.specs.Take.{is_above, is_gone, is_lost_end, presence_of};
+ghost use Rattle.adr_apply.specs.Presence.{defined};
 
 use adr_stamp::{LinkKey, Oid};
 use adr_state::{Rows, Update};
 use adr_vector::Vector;
 
-/// What stands of an object.
-#[derive(Clone, Copy, Debug)]
-pub enum Standing {
+/// What stands of an object before its item.
+#[derive(Clone, Copy)]
+pub enum Presence {
     Dead,
     Held,
     /// It was held and was collected, or never comes.
@@ -18,18 +19,18 @@ pub enum Standing {
     New,
 }
 
-/// What stands of an object.
-pub fn standing_of(vector: &Vector, held: &Rows, object: &Oid) -> Standing
-    ensures { result ≡ by_standing vector.now held.now object.now Standing.Dead Standing.Held Standing.Gone Standing.New }
+/// What stands of an object before its item.
+pub fn presence_of(vector: &Vector, held: &Rows, object: &Oid) -> Presence
+    ensures { defined result ≡ presence_of vector.now held.now object.now }
 {
     if held.is_dead(object) {
-        Standing::Dead
+        Presence::Dead
     } else if held.holds(object) {
-        Standing::Held
+        Presence::Held
     } else if covers_birth(vector, object) {
-        Standing::Gone
+        Presence::Gone
     } else {
-        Standing::New
+        Presence::New
     }
 }
 

@@ -5,7 +5,7 @@ use Rattle.adr_stamp.specs.Order.{object_order}
 use Rattle.adr_model.specs.Update.{Update}
 use Rattle.adr_model.specs.Live.{born, objects_of}
 use Rattle.adr_model.specs.Store.{updates_of}
-use Rattle.adr_view.proofs.live.objects_of.Given as goal
+use Rattle.adr_state.proofs.counting.objects_of.Given as goal
 
 -- with the objects that are born in the rows that are left they are all
 abbrev pub invariant-loop-held : goal.invariant-loop-held
