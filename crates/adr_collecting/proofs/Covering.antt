@@ -4,8 +4,8 @@ use Rattle.std.specs.Ordering.{is_eq}
 use Rattle.adr_stamp.specs.declared.Oid.{Oid}
 use Rattle.adr_stamp.specs.Order.{identifier_order}
 use Rattle.adr_vector.specs.Vector.{Cursors, at, raised}
-use Rattle.adr_vector.proofs.Cursors.{IsRising, FromOne, nil_rising, same_from_test}
-use Rattle.adr_vector.proofs.Joining.{at-raised, raised_here, rising-raised, from_one-raised}
+use Rattle.adr_vector.proofs.Cursors.{IsRising, nil_rising, same_from_test}
+use Rattle.adr_vector.proofs.Joining.{at-raised, raised_here, rising-raised}
 use Rattle.adr_model.specs.Member.{Each}
 use Rattle.adr_model.specs.Update.{Identifier, Update, inv_of, usn_of}
 use Rattle.adr_model.specs.Reflects.{Numbers, Covers, CoversBirth, AtMost}
@@ -60,10 +60,6 @@ all_covered (e ∷ ds) v d (inr m) = all_covered ds (further v e) d m
 all_rising : (ds : List (Oid × Update)) (v : Cursors) → IsRising v → IsRising (fold further v ds)
 all_rising [] v r = r
 all_rising (d ∷ ds) v r = all_rising ds (further v d) (rising-raised (raised v d.0.birth.inv d.0.birth.usn) (inv_of d.1) (usn_of d.1) (rising-raised v d.0.birth.inv d.0.birth.usn r))
-
-all_from_one : (ds : List (Oid × Update)) (v : Cursors) → FromOne v → FromOne (fold further v ds)
-all_from_one [] v one = one
-all_from_one (d ∷ ds) v one = all_from_one ds (further v d) (from_one-raised (raised v d.0.birth.inv d.0.birth.usn) (inv_of d.1) (usn_of d.1) (from_one-raised v d.0.birth.inv d.0.birth.usn one))
 
 pub covering_within : (ds : List (Oid × Update)) (V : Numbers) → Each (λ d. CoversBirth V d.0 × Covers V d.1) ds → AtMost (at (covering ds)) V
 covering_within ds V c = all_within ds [] V (λ i. omega arith) c

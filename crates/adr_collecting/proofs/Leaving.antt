@@ -22,10 +22,11 @@ use Rattle.adr_knowledge.proofs.Knows.{grows_keeps}
 use Rattle.adr_knowledge.proofs.Raised.{raised_up, raised_is_vector, raised_replaces}
 use Rattle.adr_history.proofs.Frames.{born_before}
 use Rattle.adr_history.specs.Settling.{Leaves}
+use Rattle.adr_steps.proofs.Rising.{removals_rise}
 use Rattle.adr_collecting.specs.Collectable.{IsCollectable}
 use Rattle.adr_collecting.proofs.Deaths.{all_collectable}
 use Rattle.adr_collecting.proofs.Vectors.{purged_up, purged_within, purged_covers, purged_is_vector}
-use Rattle.adr_collecting.proofs.Removing.{row_of_tells, stood_before, update_stood, update_stands, stay_rising, stay_alone}
+use Rattle.adr_collecting.proofs.Removing.{row_of_tells, stood_before, update_stood, update_stands, stay_alone}
 use Rattle.adr_collecting.proofs.Forms.{stay_formed, classes_stay_known}
 use Rattle.adr_collecting.proofs.Sizes.{objects_fewer, links_fewer}
 use Rattle.adr_collecting.proofs.Shrinking.{removal_grows, removed_is_dead}
@@ -128,7 +129,7 @@ module _ (sc : Scene) (s : State) (now lifetime : ℕ) (scene : IsSoundScene sc)
     purged = is_purged;
     purged_within = at_most_from_everywhere d.store.purged d.store.vector is_purged.rising (λ i. omega (arith, q_within i, up i));
     marks = state.store.formed.marks;
-    rising = stay_rising os rows state.store.formed.rising;
+    rising = removals_rise os rows state.store.formed.rising;
     locals = λ h m. let l = state.store.formed.locals h (stood_before os rows h m) in (l.0, omega (arith, l.1, usn_rises));
     alone = stay_alone os rows state.store.formed.alone;
     rows = stay_formed os rows (numbered s.store.schema) state.store.formed.rows;

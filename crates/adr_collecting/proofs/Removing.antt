@@ -1,21 +1,18 @@
 -- Which rows stand after objects were removed: those of no such object. Each unit that stands is whole.
-use Rattle.std.proofs.Common.{◌≡◌, ◌⊎◌, inl, inr, ⊎_elim, ℕ, List, [], ◌∷◌, Bool, true, false, refl, sym, ap, ◌∙◌, subst, fold, map, not}
-use Rattle.std.specs.List.Sorted.{IsStrictlySortedBy}
+use Rattle.std.proofs.Common.{◌≡◌, ◌⊎◌, inl, inr, ⊎_elim, ℕ, List, [], ◌∷◌, Bool, true, false, refl, sym, ap, ◌∙◌, subst, fold, not}
 use Rattle.std.proofs.lemmas.Bool.{not-true}
-use Rattle.std.proofs.lemmas.List.Kept.{IsStrictlySortedBy-filter}
 use Rattle.adr_stamp.specs.declared.Oid.{Oid}
 use Rattle.adr_model.specs.Member.{Member, Each}
-use Rattle.adr_model.specs.Update.{Key, RowOf, Update, key_order, unit_of}
+use Rattle.adr_model.specs.Update.{Key, RowOf, Update, unit_of}
 use Rattle.adr_model.specs.Reflects.{HoldsObject}
 use Rattle.adr_model.specs.Store.{Held, updates_of, is_row_of}
 use Rattle.adr_model.specs.Serve.{last_local}
 use Rattle.adr_model.specs.Change.{without_object}
-use Rattle.adr_model.specs.Formed.{AreRising, AreAlone}
+use Rattle.adr_model.specs.Formed.{AreAlone}
 use Rattle.adr_model.proofs.Members.{in_filter, of_filter}
 use Rattle.adr_knowledge.proofs.Comparing.{objects_tell, objects_same}
 use Rattle.adr_history.proofs.Units.{removals_from}
 use Rattle.adr_steps.proofs.Rows.{updated, held_as, row_by_unit}
-use Rattle.adr_steps.proofs.Rising.{keys_filtered}
 use Rattle.adr_steps.proofs.Locals.{same_last}
 
 abbrev pub without : List Oid → List Held → List Held
@@ -71,11 +68,6 @@ removed_is_absent os rows o m (r, attr, n, is) =
     cc
 
 -- ---- order
-
-pub stay_rising : (os : List Oid) (rows : List Held) → AreRising rows → AreRising (without os rows)
-stay_rising [] rows r = r
-stay_rising (o ∷ os) rows r = stay_rising os (without_object rows o) (subst (IsStrictlySortedBy key_order) (sym (keys_filtered (λ k. not (is_row_of o k)) rows))
-    (IsStrictlySortedBy-filter key_order (λ k. not (is_row_of o k)) (map (λ (h : Held). h.update.key) rows) r))
 
 -- ---- last local USNs
 

@@ -1,24 +1,18 @@
 -- A collection takes a USN where it removes anything, and so follows in its log.
 use Rattle.std.proofs.Common.{◌≡◌, ◌⊎◌, inl, inr, ⊎_elim, ℕ, suc, ◌+◌, List, [], ◌∷◌, length, Ok, refl, ap, arith, if◌then◌else◌}
-use Rattle.std.specs.Prelude.{nat_lt}
-use Rattle.std.specs.Bool.{then_some}
-use Rattle.std.specs.Option.{option_or}
 use Rattle.std.proofs.lemmas.Bool.{lt-ltb}
-use Rattle.adr_event.specs.declared.refusal.CollectRefusal.TheVariants.{Quarantined as IsQuarantined, UsnLimit}
 use Rattle.adr_stamp.specs.declared.Oid.{Oid}
 use Rattle.adr_model.specs.Member.{Member}
 use Rattle.adr_model.specs.Update.{Update}
 use Rattle.adr_model.specs.Store.{State}
-use Rattle.adr_model.specs.Serve.{is_quarantined}
 use Rattle.adr_model.specs.Change.{Change}
-use Rattle.adr_model.specs.Write.{usn_limit}
 use Rattle.adr_model.specs.History.{Follows}
 use Rattle.adr_knowledge.proofs.Refusing.{answered}
-use Rattle.adr_model.specs.Collect.{deaths_to_collect, collection, collect}
+use Rattle.adr_model.specs.Collect.{deaths_to_collect, collection, collect_refusal, collect}
 
 pub collect_is_collection : (s : State) (now lifetime : ℕ) (c : Change) → collect s now lifetime ≡ Ok c → collection s (deaths_to_collect s now lifetime) ≡ c
 collect_is_collection s now lifetime c e =
-    (answered (option_or (then_some (is_quarantined s.mode) IsQuarantined) (then_some (nat_lt usn_limit (collection s (deaths_to_collect s now lifetime)).usn) UsnLimit)) (collection s (deaths_to_collect s now lifetime)) c e).1
+    (answered (collect_refusal s (collection s (deaths_to_collect s now lifetime))) (collection s (deaths_to_collect s now lifetime)) c e).1
 
 -- nothing is removed and no USN is taken, or something is and one is
 pub usn_of_collection : (s : State) (ds : List (Oid × Update)) → ((ds ≡ []) × ((collection s ds).usn ≡ s.store.usn)) ⊎ (((d : Oid × Update) × Member d ds) × ((collection s ds).usn ≡ s.store.usn + 1))

@@ -1,11 +1,11 @@
 -- A scene in which an incarnation begins.
 use Rattle.std.proofs.Common.{◌≡◌, inl, inr, ℕ, ◌≤◌, List, [], Bool, true, false, refl, sym, ◌∙◌, subst, ap, arith, nat_le, if◌then◌else◌}
 use Rattle.adr_model.specs.Member.{Member, Each}
-use Rattle.adr_model.specs.Update.{inv_of}
+use Rattle.adr_model.specs.Update.{Identifier, Update, inv_of}
 use Rattle.adr_model.specs.Store.{Held, State}
 use Rattle.adr_model.specs.History.{History, no_history, last_usn, rows_at, IsCut, IsKept}
 use Rattle.adr_model.specs.Replica.{Scene, history_of, begun}
-use Rattle.adr_model.specs.Sound.{last_of, IsSoundScene}
+use Rattle.adr_model.specs.Sound.{last_of, IsOfOneChange, IsSoundScene}
 use Rattle.adr_knowledge.proofs.Lists.{no_members}
 use Rattle.adr_history.specs.Logs.{first_log}
 use Rattle.adr_history.specs.Later.{IsLater}
@@ -48,10 +48,16 @@ module _ (s : Scene) (d : State) (fresh : history_of s d.inv ≡ no_history) (al
       cuts : (usn : ℕ) → usn ≤ last_of s d.inv → IsCut log usn
       cuts usn le = record { start = inr (λ x m. omega (arith, (all x m).0, began_at_0 usn le)); changes = λ c m. absurd m }
 
+  -- the log that begins had no change before
+  changes_stay : (j : Identifier) (u v : Update) → IsOfOneChange (history_of s j) u v → IsOfOneChange (history_of (begun s d) j) u v
+  changes_stay = each_entry s.histories no_history d.inv (first_log d.store.usn d.store.rows) (λ j h. (u v : Update) → IsOfOneChange (history_of s j) u v → IsOfOneChange h u v)
+      (λ u v one. absurd (subst (λ (h : History). Member one.0 h.changes) fresh one.1)) (λ j u v one. one)
+
   pub begun_sound : Each (λ (x : Held). Member x.update s.issued) d.store.rows → IsSoundScene s → IsSoundScene (begun s d)
   begun_sound known is = record {
     one_content = is.one_content;
     once = λ u m. ((is.once u m).0, omega (arith, (is.once u m).1, begun_later.rising (inv_of u)));
+    one_change = λ u m v n i e. changes_stay (inv_of u) u v (is.one_change u m v n i e);
     born = is.born;
     births = is.births;
     kept = each_entry s.histories no_history d.inv (first_log d.store.usn d.store.rows) (λ j h. IsKept h) (log_begins d.store.usn d.store.rows all) is.kept;

@@ -5,16 +5,22 @@ use Rattle.adr_stamp.specs.declared.Oid.{Oid}
 use Rattle.adr_model.specs.Member.{Member, Each}
 use Rattle.adr_model.specs.Update.{Identifier, Update, ends, inv_of, usn_of}
 use Rattle.adr_model.specs.Store.{Held}
-use Rattle.adr_model.specs.Change.{held_of}
+use Rattle.adr_model.specs.Change.{Change, updates_written, held_of}
 use Rattle.adr_model.specs.History.{History, no_history, last_usn, where_made, rows_at, IsCut, IsKept, Follows}
-use Rattle.adr_model.specs.Replica.{Pending, issued_by, Scene, history_of, with_change, recorded}
-use Rattle.adr_model.specs.Sound.{last_of, IsBirthOf, IsSoundScene}
+use Rattle.adr_model.specs.Replica.{Call, ToWrite, ToTake, ToCollect, ToQuarantine, Pending, issued_by, Scene, history_of, with_change, recorded}
+use Rattle.adr_model.specs.Sound.{last_of, IsBirthOf, IsOfOneChange, IsSoundScene}
 use Rattle.adr_model.proofs.Members.{member_left, member_of_either}
 use Rattle.adr_history.specs.Later.{IsLater, AreIssuedBy, MayIssue}
 use Rattle.adr_history.proofs.Units.{change_from}
 use Rattle.adr_history.proofs.Past.{Tells}
 use Rattle.adr_history.proofs.Extended.{log_goes_on, past_rows_stay, past_cuts_stay}
 use Rattle.adr_history.proofs.Tables.{each_entry, entry_itself}
+
+issues_are_written : (call : Call) (c : Change) → Each (λ u. Member u (updates_written c)) (issued_by call c)
+issues_are_written (ToWrite w now) c u m = m
+issues_are_written (ToTake reply) c u m = absurd m
+issues_are_written (ToCollect now lifetime) c u m = absurd m
+issues_are_written ToQuarantine c u m = absurd m
 
 module _ (s : Scene) (inv : Identifier) (p : Pending) (next : Follows (last_of s inv) p.change) (own : AreIssuedBy s inv p.change (issued_by p.call p.change)) where
   abbrev issues : List Update
@@ -52,6 +58,17 @@ module _ (s : Scene) (inv : Identifier) (p : Pending) (next : Follows (last_of s
     alike u v (inr m) (inl n) k i e = absurd (apart v u n m (sym i) (sym e))
     alike u v (inr m) (inr n) k i e = may.alone u m v n k e
 
+    changes_stay : (j : Identifier) (u v : Update) → IsOfOneChange (history_of s j) u v → IsOfOneChange (history_of (recorded s inv p) j) u v
+    changes_stay = each_log (λ j h. (u v : Update) → IsOfOneChange (history_of s j) u v → IsOfOneChange h u v) (λ u v one. (one.0, inr one.1, one.2, one.3)) (λ j u v one. one)
+
+    -- updates of one USN were both issued before, or by this change
+    of_one_change : (u v : Update) → Member u s.issued ⊎ Member u issues → Member v s.issued ⊎ Member v issues → inv_of u ≡ inv_of v → usn_of u ≡ usn_of v → IsOfOneChange (history_of (recorded s inv p) (inv_of u)) u v
+    of_one_change u v (inl m) (inl n) i e = changes_stay (inv_of u) u v (is.one_change u m v n i e)
+    of_one_change u v (inl m) (inr n) i e = absurd (apart u v m n i e)
+    of_one_change u v (inr m) (inl n) i e = absurd (apart v u n m (sym i) (sym e))
+    of_one_change u v (inr m) (inr n) i e = subst (λ j. IsOfOneChange (history_of (recorded s inv p) j) u v) (sym (own u m).0)
+        (subst (λ (h : History). IsOfOneChange h u v) (sym (entry_itself s.histories no_history inv log)) (p.change, inl refl, issues_are_written p.call p.change u m, issues_are_written p.call p.change v n))
+
     last_now : last_of (recorded s inv p) inv ≡ p.change.usn
     last_now = ap last_usn (entry_itself s.histories no_history inv log)
 
@@ -80,6 +97,7 @@ module _ (s : Scene) (inv : Identifier) (p : Pending) (next : Follows (last_of s
     recorded_sound = record {
       one_content = λ u m v n. alike u v (member_of_either s.issued issues u m) (member_of_either s.issued issues v n);
       once = λ u m. once u (member_of_either s.issued issues u m);
+      one_change = λ u m v n. of_one_change u v (member_of_either s.issued issues u m) (member_of_either s.issued issues v n);
       born = λ u m. born u (member_of_either s.issued issues u m);
       births = λ u m. ⊎_elim (λ old. is.births u old) (λ new. may.births u new) (member_of_either s.issued issues u m);
       kept = each_log (λ j h. IsKept h) (log_goes_on (history_of s inv) p.change (is.kept inv) next) is.kept;

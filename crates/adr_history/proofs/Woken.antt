@@ -1,18 +1,18 @@
 -- A controller that is made of an image under a fresh identifier.
-use Rattle.std.proofs.Common.{◌≡◌, inl, inr, ⊎_elim, ℕ, ◌≤◌, [], Bool, true, false, cond, None, Ok, refl, sym, ◌∙◌, subst, ap, arith, max, length, ◌||◌, nat_le, if◌then◌else◌}
+use Rattle.std.proofs.Common.{◌≡◌, inl, inr, ⊎_elim, ℕ, ◌≤◌, List, [], ◌∷◌, Bool, true, false, cond, Option, None, Ok, refl, sym, ◌∙◌, subst, ap, arith, max, length, ◌||◌, nat_le, if◌then◌else◌}
 use Rattle.std.specs.Prelude.{nat_lt}
 use Rattle.std.specs.List.{list_any}
 use Rattle.std.specs.Bool.{then_some}
-use Rattle.std.specs.Option.{option_or}
 use Rattle.std.specs.Ordering.{is_eq}
 use Rattle.std.proofs.lemmas.Bool.{or_parts, ltb-false, le-leb}
 use Rattle.adr_stamp.specs.Order.{identifier_order}
 use Rattle.adr_stamp.specs.declared.Oid.{Oid}
-use Rattle.adr_schema.proofs.ExactCalls.{neither, not_then}
+use Rattle.adr_schema.proofs.ExactCalls.{not_then}
 use Rattle.adr_vector.specs.Vector.{at, raised, most_cursors}
 use Rattle.adr_vector.proofs.Cursors.{same_from_test}
 use Rattle.adr_vector.proofs.Comparing.{everywhere_from_at_most, at_most_from_everywhere}
 use Rattle.adr_vector.proofs.Joining.{at-raised, raised_here}
+use Rattle.adr_event.specs.declared.refusal.AdoptRefusal.{AdoptRefusal}
 use Rattle.adr_event.specs.declared.refusal.AdoptRefusal.TheVariants.{IdentifierUsed, Full}
 use Rattle.adr_event.specs.declared.refusal.Table.TheVariants.{Cursors as CursorTable}
 use Rattle.adr_model.specs.Member.{Member, Each}
@@ -21,7 +21,7 @@ use Rattle.adr_model.specs.Reflects.{Numbers, AtMost, Covers, Reflects, knowledg
 use Rattle.adr_model.specs.Store.{Held, Kept, Store, State, updates_of}
 use Rattle.adr_model.specs.History.{History, no_history, last_usn, rows_at}
 use Rattle.adr_model.specs.Formed.{IsFormedStore, IsClosed}
-use Rattle.adr_model.specs.Collect.{names_inv, woken, adopt}
+use Rattle.adr_model.specs.Collect.{names_inv, woken, adopt_refusal, adopt}
 use Rattle.adr_model.specs.Replica.{Scene, history_of, begun}
 use Rattle.adr_model.specs.Sound.{last_of, IsBounded, IsSoundMark, IsSoundScene, IsSoundStore, IsSoundState}
 use Rattle.adr_history.specs.Logs.{first_log}
@@ -29,7 +29,7 @@ use Rattle.adr_history.specs.Later.{IsLater}
 use Rattle.adr_model.proofs.Members.{each_fails}
 use Rattle.adr_knowledge.specs.Grows.{Keeps}
 use Rattle.adr_knowledge.proofs.Knows.{grows_keeps, more_covered}
-use Rattle.adr_knowledge.proofs.Refusing.{answered}
+use Rattle.adr_knowledge.proofs.Refusing.{none_there, answered}
 use Rattle.adr_knowledge.proofs.Raised.{raised_up, raised_is_vector}
 use Rattle.adr_steps.proofs.Rows.{updated, held_as}
 use Rattle.adr_history.proofs.Begun.{begun_later, begun_sound}
@@ -164,21 +164,27 @@ module _ (sc : Scene) (image : Store) (dsa inv : Identifier) (scene : IsSoundSce
       by true is = refl
       by false is = absurd (cc)
 
+pub adopted_is_woken : (image : Store) (dsa inv : Identifier) (s : State) → adopt image dsa inv ≡ Ok s → woken image dsa inv ≡ s
+adopted_is_woken image dsa inv s e = (answered (adopt_refusal image inv (woken image dsa inv)) (woken image dsa inv) s e).1
+
 pub adopted_is_sound : (sc : Scene) (image : Store) (dsa inv : Identifier) (s : State) → IsSoundScene sc → IsSoundStore sc image → history_of sc inv ≡ no_history → adopt image dsa inv ≡ Ok s
     → IsLater sc (begun sc s) × (IsSoundScene (begun sc s) × IsSoundState (begun sc s) s)
 adopted_is_sound sc image dsa inv s scene sound fresh e = subst (λ (z : State). IsLater sc (begun sc z) × (IsSoundScene (begun sc z) × IsSoundState (begun sc z) z)) t.1 (
   begun_later sc d fresh sound.formed.locals,
-  (begun_sound sc d fresh sound.formed.locals known scene, woken_state sc image dsa inv scene sound fresh (not_then _ IdentifierUsed none.0) (ltb-false most_cursors (length d.store.vector) (not_then _ (Full CursorTable most_cursors) none.1))),
+  (begun_sound sc d fresh sound.formed.locals known scene, woken_state sc image dsa inv scene sound fresh (not_then _ IdentifierUsed (none _ (inl refl))) (ltb-false most_cursors (length d.store.vector) (not_then _ (Full CursorTable most_cursors) (none _ (inr (inl refl)))))),
 )
   where
     d : State
     d = woken image dsa inv
 
-    t : (option_or (then_some (names_inv image inv) IdentifierUsed) (then_some (nat_lt most_cursors (length d.store.vector)) (Full CursorTable most_cursors)) ≡ None) × (d ≡ s)
-    t = answered (option_or (then_some (names_inv image inv) IdentifierUsed) (then_some (nat_lt most_cursors (length d.store.vector)) (Full CursorTable most_cursors))) d s e
+    tests : List (Option AdoptRefusal)
+    tests = then_some (names_inv image inv) IdentifierUsed ∷ then_some (nat_lt most_cursors (length d.store.vector)) (Full CursorTable most_cursors) ∷ []
 
-    none : (then_some (names_inv image inv) IdentifierUsed ≡ None) × (then_some (nat_lt most_cursors (length d.store.vector)) (Full CursorTable most_cursors) ≡ None)
-    none = neither (then_some (names_inv image inv) IdentifierUsed) (then_some (nat_lt most_cursors (length d.store.vector)) (Full CursorTable most_cursors)) t.0
+    t : (adopt_refusal image inv d ≡ None) × (d ≡ s)
+    t = answered (adopt_refusal image inv d) d s e
+
+    none : Each (λ (o : Option AdoptRefusal). o ≡ None) tests
+    none = none_there tests t.0
 
     known : Each (λ (x : Held). Member x.update sc.issued) image.rows
     known x m = sound.known x.update (updated image.rows x m)

@@ -3,7 +3,7 @@ use Rattle.std.proofs.Common.{◌≡◌, inl, inr, ℕ, List, [], ◌∷◌, Boo
 use Rattle.std.specs.Prelude.{is_some}
 use Rattle.std.specs.List.{AllByRecursion}
 use Rattle.std.specs.Bool.{then_some}
-use Rattle.std.specs.Option.{IfSome, option_map, option_or}
+use Rattle.std.specs.Option.{IfSome, option_map}
 use Rattle.std.proofs.lemmas.Bool.{not-false}
 use Rattle.adr_schema.proofs.ExactCalls.{not_then}
 use Rattle.adr_vector.specs.Vector.{Cursors, at_most, first_gap}
@@ -46,10 +46,6 @@ module _ {A : Type 0} where
     pub all_is : (os : List (Option A)) → AllByRecursion (λ o. IfSome o P) os → IfSome (first_of os) P
     all_is [] each = tt
     all_is (o ∷ os) each = first_is o os each.0 (λ _. all_is os each.1)
-
-    pub either_is : (o p : Option A) → IfSome o P → IfSome p P → IfSome (option_or o p) P
-    either_is None p is other = other
-    either_is (Some x) p is other = is
 
     pub tested_is : (b : Bool) (x : A) → P x → IfSome (then_some b x) P
     tested_is true x is = is

@@ -1,6 +1,7 @@
 -- An object of which rows are put that keep to the schema is well formed.
 use Rattle.std.proofs.Common.{◌≡◌, ◌⊎◌, inl, inr, ⊎_elim, ℕ, ◌<◌, List, [], ◌∷◌, true, false, refl, sym, ap, ◌∙◌, subst, arith}
 use Rattle.std.specs.Prelude.{nat_le, None}
+use Rattle.std.proofs.lemmas.Bool.{and_parts}
 use Rattle.std.proofs.lemmas.Bool.Decides.{nat_tests}
 use Rattle.adr_stamp.specs.declared.Oid.{Oid}
 use Rattle.adr_schema.specs.declared.content.Value.{Value as Datum}
@@ -33,7 +34,7 @@ filled_values [] said e full = absurd (full refl)
 filled_values (v ∷ vs) said e full = (v, vs, e)
 
 not_reserved : (o : Oid) (k : Key) (attr : ℕ) → deleted_attr < attr → k ≡ RowOf o attr → is_reserved_row k ≡ true → ⊥
-not_reserved o k attr above is r = let t : nat_le attr deleted_attr ≡ true = ap is_reserved_row (sym is) ∙ r in absurd (grind (arith, nat_tests))
+not_reserved o k attr above is r = let t : nat_le attr deleted_attr ≡ true = (and_parts (nat_le class_attr attr) (nat_le attr deleted_attr) (ap is_reserved_row (sym is) ∙ r)).1 in absurd (grind (arith, nat_tests))
 
 module _ (table : Table) (usn : ℕ) (before after : List Held) (o : Oid) (class : ℕ) (us : List Update) (p : ArePut usn us before after)
     (said : Each (IsWellSaid table class o) us)

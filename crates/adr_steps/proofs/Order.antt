@@ -9,17 +9,20 @@ use Rattle.adr_model.specs.Update.{Key, RowOf, LinkOf, Update, same_object, unit
 use Rattle.adr_model.specs.Reflects.{Numbers}
 use Rattle.adr_model.specs.Store.{Held, updates_of}
 use Rattle.adr_model.specs.Serve.{last_local}
-use Rattle.adr_model.specs.Change.{goes_with, put}
+use Rattle.adr_model.specs.Change.{goes_with, put, rows_after}
 use Rattle.adr_model.specs.Formed.{AreRising, AreAlone}
 use Rattle.adr_model.proofs.Members.{mapped_member}
 use Rattle.adr_knowledge.proofs.Comparing.{objects_tell}
 use Rattle.adr_steps.specs.Puts.{held_at, under, MayPut, IsReplaced, IsStripped, ArePut}
 use Rattle.adr_steps.proofs.Locals.{unit_or_not, within_last, last_within, same_last}
-use Rattle.adr_steps.proofs.Rising.{put_rises}
+use Rattle.adr_steps.proofs.Rising.{removals_rise, put_rises}
 
 pub puts_rise : (rows hs : List Held) → AreRising rows → AreRising (fold put rows hs)
 puts_rise rows [] r = r
 puts_rise rows (h ∷ hs) r = puts_rise (put rows h) hs (put_rises rows h r)
+
+pub rows_rise : (removed : List Oid) (writes rows : List Held) → AreRising rows → AreRising (rows_after removed writes rows)
+rows_rise removed writes rows r = removals_rise removed (fold put rows writes) (puts_rise rows writes r)
 
 -- ---- last local USNs
 

@@ -1,5 +1,5 @@
 -- Rows in order of their keys stay so where one is put.
-use Rattle.std.proofs.Common.{◌≡◌, List, [], ◌∷◌, Bool, true, false, cond, refl, sym, ap, ◌∙◌, subst, filter, map, Option, Some, None, not}
+use Rattle.std.proofs.Common.{◌≡◌, List, [], fold, ◌∷◌, Bool, true, false, cond, refl, sym, ap, ◌∙◌, subst, filter, map, Option, Some, None, not}
 use Rattle.std.specs.List.{AllByRecursion}
 use Rattle.std.specs.List.Sorted.{IsStrictlySortedBy}
 use Rattle.std.specs.Ordering.{match_ordering, ordering_reverse}
@@ -10,8 +10,8 @@ use Rattle.std.proofs.lemmas.Map.Keys.{sorted_head, sorted_tail}
 use Rattle.adr_stamp.specs.declared.Oid.{Oid}
 use Rattle.adr_model.specs.Member.{Each}
 use Rattle.adr_model.specs.Update.{Key, Update, key_order}
-use Rattle.adr_model.specs.Store.{Held, updates_of, with_row}
-use Rattle.adr_model.specs.Change.{goes_with, killed_by, stripped, put}
+use Rattle.adr_model.specs.Store.{Held, is_row_of, updates_of, with_row}
+use Rattle.adr_model.specs.Change.{goes_with, killed_by, stripped, put, without_object}
 use Rattle.adr_model.specs.Formed.{AreRising}
 use Rattle.adr_model.proofs.Keys.{exact_keys}
 use Rattle.adr_knowledge.proofs.Comparing.{keys_total}
@@ -76,7 +76,7 @@ with_row_rises (x ∷ xs) h r = by (key_order h.update.key x.update.key) refl (w
 
 -- ---- rows fewer
 
-pub keys_filtered : (test : Key → Bool) (xs : List Held) → map (λ (h : Held). h.update.key) (filter (λ h. test h.update.key) xs) ≡ filter test (map (λ (h : Held). h.update.key) xs)
+keys_filtered : (test : Key → Bool) (xs : List Held) → map (λ (h : Held). h.update.key) (filter (λ h. test h.update.key) xs) ≡ filter test (map (λ (h : Held). h.update.key) xs)
 keys_filtered test [] = refl
 keys_filtered test (x ∷ xs) = by (test x.update.key) (keys_filtered test xs)
   where
@@ -86,10 +86,16 @@ keys_filtered test (x ∷ xs) = by (test x.update.key) (keys_filtered test xs)
     by true rest = ap (λ ks. x.update.key ∷ ks) rest
     by false rest = rest
 
+fewer_rise : (test : Key → Bool) (rows : List Held) → AreRising rows → AreRising (filter (λ h. test h.update.key) rows)
+fewer_rise test rows r = subst (IsStrictlySortedBy key_order) (sym (keys_filtered test rows)) (IsStrictlySortedBy-filter key_order test (map (λ (h : Held). h.update.key) rows) r)
+
 stripped_rises : (o : Option Oid) (rows : List Held) → AreRising rows → AreRising (stripped o rows)
 stripped_rises None rows r = r
-stripped_rises (Some o) rows r = subst (IsStrictlySortedBy key_order) (sym (keys_filtered (λ k. not (goes_with o k)) rows))
-    (IsStrictlySortedBy-filter key_order (λ k. not (goes_with o k)) (map (λ (h : Held). h.update.key) rows) r)
+stripped_rises (Some o) rows r = fewer_rise (λ k. not (goes_with o k)) rows r
+
+pub removals_rise : (os : List Oid) (rows : List Held) → AreRising rows → AreRising (fold without_object rows os)
+removals_rise [] rows r = r
+removals_rise (o ∷ os) rows r = removals_rise os (without_object rows o) (fewer_rise (λ k. not (is_row_of o k)) rows r)
 
 pub put_rises : (rows : List Held) (h : Held) → AreRising rows → AreRising (put rows h)
 put_rises rows h r = stripped_rises (killed_by h.update.key) (with_row rows h) (with_row_rises rows h r)

@@ -7,7 +7,7 @@ ghost use Rattle.adr_model.specs.Member.{Each};
 ghost use Rattle.adr_model.specs.Update.{Update};
 ghost use Rattle.adr_model.specs.Reflects.{Numbers, AtMost, HoldsObject};
 ghost use Rattle.adr_model.specs.Store.{Held, updates_of};
-ghost use Rattle.adr_model.specs.Change.{put};
+ghost use Rattle.adr_model.specs.Change.{put, rows_after};
 ghost use Rattle.adr_model.specs.Formed.{AreRising, AreAlone};
 ghost use Rattle.adr_knowledge.specs.Grows.{Grows};
 ghost use Rattle.adr_steps.specs.Puts.{under, MayPut, ArePut};
@@ -22,12 +22,12 @@ pub fn rows_of_a_unit_are_put()
     ensures objects { (usn : ℕ) (before after : List Held) (us : List Update) (o : Oid) → ArePut usn us before after → HoldsObject (updates_of before) o → HoldsObject (updates_of after) o }
 {}
 
-/// Rows stay in order of their keys, of each key one, and no two units share their last local USN
-/// where the rows are put under a new one.
+/// Rows stay in order of their keys, of each key one, whatever a change writes and removes. No two
+/// units share their last local USN where the rows are put under a new one.
 #[tactic(none)]
 pub fn order_stays()
     ensures one { (rows : List Held) → AreRising rows → Each (λ x. Each (λ y. x.update.key ≡ y.update.key → x ≡ y) rows) rows }
-    ensures rising { (rows hs : List Held) → AreRising rows → AreRising (fold put rows hs) }
+    ensures rising { (removed : List Oid) (writes rows : List Held) → AreRising rows → AreRising (rows_after removed writes rows) }
     ensures alone { (last usn : ℕ) (before after : List Held) (V : Numbers) (unit : Named) (us : List Update) → AreAlone before → Each (λ x. x.local ≤ last) before → last < usn
         → MayPut (updates_of before) V unit us → ArePut usn us before after → AreAlone after }
 {}

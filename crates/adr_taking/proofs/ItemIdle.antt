@@ -12,7 +12,7 @@ use Rattle.adr_model.specs.Reflects.{Covers, CoversBirth, IsDeath, HoldsAtLeast,
 use Rattle.adr_model.specs.Store.{Held, State, updates_of}
 use Rattle.adr_model.specs.Change.{Item}
 use Rattle.adr_model.specs.Serve.{Reply}
-use Rattle.adr_model.specs.Take.{is_above, is_of_attr, left_by_death, is_lost_end, rows_taken}
+use Rattle.adr_model.specs.Take.{is_above, is_of_attr, left_by_death, is_lost_end, Presence, IsDead, IsHeld, object_rows_taken, rows_taken}
 use Rattle.adr_model.specs.Replica.{Scene}
 use Rattle.adr_model.specs.Sound.{IsExact}
 use Rattle.adr_knowledge.proofs.Knows.{end_of_row}
@@ -21,11 +21,10 @@ use Rattle.adr_knowledge.proofs.Lists.{no_members}
 use Rattle.adr_taking.specs.OnTheWay.{IsTakeable, known_with, source_rows, AreOnTheWay}
 use Rattle.adr_steps.proofs.Rows.{link_of_unit}
 use Rattle.adr_taking.proofs.Tests.{at_least_is_not_above}
-use Rattle.adr_taking.proofs.Standings.{each_standing, IsThere, there_where_untested}
+use Rattle.adr_taking.proofs.Standings.{each_presence, IsThere, there_where_untested}
 use Rattle.adr_steps.proofs.Rising.{one_of_key}
 use Rattle.adr_taking.proofs.OnTheWay.{purged_is_covered, new_is_lacked}
 use Rattle.adr_taking.proofs.ItemRows.{item_units, row_key, row_of_attr}
-use Rattle.adr_taking.proofs.ItemPut.{of_dead, of_held}
 
 none_left : {A : Type 0} (test : A → Bool) (xs : List A) → Each (λ x. test x ≡ false) xs → filter test xs ≡ []
 none_left test xs none = no_members (filter test xs) (λ x m. let t = of_filter test xs x m in both_ways (test x) (none x t.0) t.1)
@@ -56,7 +55,7 @@ module _ (sc : Scene) (s : State) (r : Reply) (may : IsTakeable sc s r) (rows : 
             on (inl (tombstone, covers)) = where_dead tombstone covers
             on (inr purged) = absurd (purged.absent holds)
 
-    where_dead : IsTombstoned (updates_of rows) o → of_dead rows xs ≡ []
+    where_dead : IsTombstoned (updates_of rows) o → object_rows_taken rows xs IsDead ≡ []
     where_dead (d, n, is) = none_left (λ (u : Update). is_of_attr deleted_attr u.key && is_above rows u) xs fails
       where
         fails : Each (λ u. (is_of_attr deleted_attr u.key && is_above rows u) ≡ false) xs
@@ -66,7 +65,7 @@ module _ (sc : Scene) (s : State) (r : Reply) (may : IsTakeable sc s r) (rows : 
             by false other = refl
             by true death = below (d, deleted_attr, n, is) u m (λ tombstone covers. absurd (missed u m (covers (o, row_of_attr sc s r may item exact rows way o refl deleted_attr u m death))))
 
-    where_held : (IsTombstoned (updates_of rows) o → ⊥) → HoldsObject (updates_of rows) o → of_held rows xs ≡ []
+    where_held : (IsTombstoned (updates_of rows) o → ⊥) → HoldsObject (updates_of rows) o → object_rows_taken rows xs IsHeld ≡ []
     where_held alive holds = ap left_by_death (none_left (λ (u : Update). not (is_of_attr class_attr u.key) && is_above rows u) xs
         (λ u m. and_right (not (is_of_attr class_attr u.key)) (is_above rows u) (below holds u m (λ tombstone covers. absurd (alive tombstone)))))
 
@@ -74,7 +73,7 @@ module _ (sc : Scene) (s : State) (r : Reply) (may : IsTakeable sc s r) (rows : 
     where_new absent unseen = ap left_by_death (no_members xs (λ u m. let k = row_key sc s r may item exact rows way o refl u m in new_is_lacked sc s r may rows way o absent unseen u k.0 k.1 (taken u m)))
 
     object_idle : rows_taken s.store.vector rows item ≡ []
-    object_idle = each_standing s.store.vector rows o (of_dead rows xs) (of_held rows xs) [] (left_by_death xs) (λ us. us ≡ []) where_dead where_held (λ absent covers. refl) where_new
+    object_idle = each_presence s.store.vector rows o (λ (p : Presence). object_rows_taken rows xs p ≡ []) where_dead where_held (λ absent covers. refl) where_new
 
   module _ (l : LinkKey) (xs : List Update) (exact : IsExact (source_rows sc r) r (record { unit = Link l; rows = xs })) (taken : Each (λ u. Reflects sc.issued (known_with s rows) u) xs) where
     abbrev link : Item

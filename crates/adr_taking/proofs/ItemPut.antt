@@ -15,7 +15,7 @@ use Rattle.adr_model.specs.Store.{Held, State, updates_of}
 use Rattle.adr_model.specs.Change.{Item}
 use Rattle.adr_model.specs.Formed.{HasRow, IsNamed, IsObjectFormed}
 use Rattle.adr_model.specs.Serve.{Reply}
-use Rattle.adr_model.specs.Take.{is_above, is_of_attr, is_reserved_row, left_by_death, is_lost_end, rows_taken}
+use Rattle.adr_model.specs.Take.{is_above, is_of_attr, is_reserved_row, left_by_death, is_lost_end, Presence, IsDead, IsHeld, object_rows_taken, rows_taken}
 use Rattle.adr_model.specs.Replica.{Scene}
 use Rattle.adr_model.specs.Sound.{IsExact}
 use Rattle.adr_model.proofs.Members.{of_filter}
@@ -24,25 +24,19 @@ use Rattle.adr_steps.specs.Forms.{HasKey, MayCome}
 use Rattle.adr_taking.specs.OnTheWay.{IsTakeable, source_rows, AreOnTheWay, KeepForms}
 use Rattle.adr_steps.proofs.Rows.{link_of_unit}
 use Rattle.adr_taking.proofs.Tests.{above_supersedes}
-use Rattle.adr_taking.proofs.Standings.{each_standing, IsThere, there_where_untested, deaths_are_reserved, left_from, reserved_is_left, bare_beside_death, left_or_dead}
+use Rattle.adr_taking.proofs.Standings.{each_presence, IsThere, there_where_untested, deaths_are_reserved, left_from, reserved_is_left, bare_beside_death, left_or_dead}
 use Rattle.adr_taking.proofs.Source.{well_said}
 use Rattle.adr_steps.proofs.Rising.{one_of_key}
 use Rattle.adr_taking.proofs.OnTheWay.{source_one, source_formed, source_classes, comes_whole}
 use Rattle.adr_taking.proofs.ItemRows.{in_source, item_units, may_put, row_key, row_of_attr, source_holds, may_change}
 
--- the rows of an item that are written where the object is held dead, and where it is held
-abbrev pub of_dead : List Held → List Update → List Update
-of_dead rows us = filter (λ u. is_of_attr deleted_attr u.key && is_above rows u) us
-
+-- the rows of an item that are above where the object is held, but its class
 abbrev pub above_of_held : List Held → List Update → List Update
 above_of_held rows us = filter (λ u. not (is_of_attr class_attr u.key) && is_above rows u) us
 
-abbrev pub of_held : List Held → List Update → List Update
-of_held rows us = left_by_death (above_of_held rows us)
-
 -- what is written of an item is of it
 pub taken_from : (vector : Cursors) (rows : List Held) (unit : Named) (xs : List Update) → Each (λ u. Member u xs) (rows_taken vector rows (record { unit = unit; rows = xs }))
-taken_from vector rows (Object o) xs = each_standing vector rows o (of_dead rows xs) (of_held rows xs) [] (left_by_death xs) (Each (λ u. Member u xs))
+taken_from vector rows (Object o) xs = each_presence vector rows o (λ (p : Presence). Each (λ u. Member u xs) (object_rows_taken rows xs p))
     (λ tombstone u m. (of_filter (λ (v : Update). is_of_attr deleted_attr v.key && is_above rows v) xs u m).0)
     (λ alive holds u m. (of_filter (λ (v : Update). not (is_of_attr class_attr v.key) && is_above rows v) xs u (left_from (above_of_held rows xs) u m)).0)
     (λ absent covers u m. absurd m)
@@ -73,26 +67,26 @@ module _ (sc : Scene) (s : State) (r : Reply) (may : IsTakeable sc s r) (rows : 
     held_place holds p e = inl (subst (HoldsObject (updates_of rows)) (let f : o ≡ p = cc in f) holds)
 
     -- the object is held dead: only its death
-    from_dead : (u : Update) → Member u (of_dead rows xs) → Member u xs × (is_of_attr deleted_attr u.key ≡ true) × (is_above rows u ≡ true)
+    from_dead : (u : Update) → Member u (object_rows_taken rows xs IsDead) → Member u xs × (is_of_attr deleted_attr u.key ≡ true) × (is_above rows u ≡ true)
     from_dead u m = let t = of_filter (λ (v : Update). is_of_attr deleted_attr v.key && is_above rows v) xs u m in let b = and_parts (is_of_attr deleted_attr u.key) (is_above rows u) t.1 in (t.0, b.0, b.1)
 
-    where_dead : IsTombstoned (updates_of rows) o → MayWrite (Object o) (of_dead rows xs)
+    where_dead : IsTombstoned (updates_of rows) o → MayWrite (Object o) (object_rows_taken rows xs IsDead)
     where_dead (d, m, is) = inr (
-      may_put sc s r may item exact rows way (of_dead rows xs) (λ u n. (from_dead u n).0) (λ u n. above_supersedes rows u one_row (from_dead u n).2) (λ e n death u k. deaths_are_reserved u (from_dead u k).1) (held_place holds),
-      ((way.formed.named o holds).class, inl (may_change sc s r may item exact rows way o refl holds (of_dead rows xs) (λ u n. (from_dead u n).0) (λ dead u n. deaths_are_reserved u (from_dead u n).1))),
+      may_put sc s r may item exact rows way (object_rows_taken rows xs IsDead) (λ u n. (from_dead u n).0) (λ u n. above_supersedes rows u one_row (from_dead u n).2) (λ e n death u k. deaths_are_reserved u (from_dead u k).1) (held_place holds),
+      ((way.formed.named o holds).class, inl (may_change sc s r may item exact rows way o refl holds (object_rows_taken rows xs IsDead) (λ u n. (from_dead u n).0) (λ dead u n. deaths_are_reserved u (from_dead u n).1))),
     )
       where
         holds : HoldsObject (updates_of rows) o
         holds = (d, deleted_attr, m, is)
 
-    from_held : (u : Update) → Member u (of_held rows xs) → Member u xs × (is_above rows u ≡ true)
+    from_held : (u : Update) → Member u (object_rows_taken rows xs IsHeld) → Member u xs × (is_above rows u ≡ true)
     from_held u m = let t = of_filter (λ (v : Update). not (is_of_attr class_attr v.key) && is_above rows v) xs u (left_from (above_of_held rows xs) u m) in
         (t.0, (and_parts (not (is_of_attr class_attr u.key)) (is_above rows u) t.1).1)
 
-    where_held : (IsTombstoned (updates_of rows) o → ⊥) → HoldsObject (updates_of rows) o → MayWrite (Object o) (of_held rows xs)
+    where_held : (IsTombstoned (updates_of rows) o → ⊥) → HoldsObject (updates_of rows) o → MayWrite (Object o) (object_rows_taken rows xs IsHeld)
     where_held alive holds = inr (
-      may_put sc s r may item exact rows way (of_held rows xs) (λ u n. (from_held u n).0) (λ u n. above_supersedes rows u one_row (from_held u n).1) (bare_beside_death (above_of_held rows xs)) (held_place holds),
-      ((way.formed.named o holds).class, inl (may_change sc s r may item exact rows way o refl holds (of_held rows xs) (λ u n. (from_held u n).0) (λ dead. absurd (alive dead)))),
+      may_put sc s r may item exact rows way (object_rows_taken rows xs IsHeld) (λ u n. (from_held u n).0) (λ u n. above_supersedes rows u one_row (from_held u n).1) (bare_beside_death (above_of_held rows xs)) (held_place holds),
+      ((way.formed.named o holds).class, inl (may_change sc s r may item exact rows way o refl holds (object_rows_taken rows xs IsHeld) (λ u n. (from_held u n).0) (λ dead. absurd (alive dead)))),
     )
 
     module _ (absent : HoldsObject (updates_of rows) o → ⊥) (missed : CoversBirth (at s.store.vector) o → ⊥) where
@@ -149,7 +143,7 @@ module _ (sc : Scene) (s : State) (r : Reply) (may : IsTakeable sc s r) (rows : 
           by (inr (u, m)) = inr (may_put sc s r may item exact rows way (left_by_death xs) (λ v n. left_from xs v n) new_above (bare_beside_death xs) new_place, ((named u m).class, inr (may_come u m)))
 
     object_may : MayWrite (Object o) (rows_taken s.store.vector rows item)
-    object_may = each_standing s.store.vector rows o (of_dead rows xs) (of_held rows xs) [] (left_by_death xs) (MayWrite (Object o)) where_dead where_held (λ absent covers. inl refl) where_new
+    object_may = each_presence s.store.vector rows o (λ (p : Presence). MayWrite (Object o) (object_rows_taken rows xs p)) where_dead where_held (λ absent covers. inl refl) where_new
 
   module _ (l : LinkKey) (xs : List Update) (exact : IsExact (source_rows sc r) r (record { unit = Link l; rows = xs })) where
     abbrev link : Item

@@ -13,7 +13,7 @@ use Rattle.adr_model.specs.Reflects.{CoversBirth, IsDeath, HoldsObject, IsTombst
 use Rattle.adr_model.specs.Store.{Held, State, updates_of}
 use Rattle.adr_model.specs.Change.{Item}
 use Rattle.adr_model.specs.Serve.{Reply}
-use Rattle.adr_model.specs.Take.{is_above, is_of_attr, left_by_death, is_lost_end, rows_taken}
+use Rattle.adr_model.specs.Take.{is_above, is_of_attr, left_by_death, is_lost_end, Presence, IsDead, IsHeld, object_rows_taken, rows_taken}
 use Rattle.adr_model.specs.Replica.{Scene}
 use Rattle.adr_model.specs.Sound.{IsExact}
 use Rattle.adr_model.proofs.Members.{in_filter, of_filter}
@@ -22,10 +22,10 @@ use Rattle.adr_knowledge.proofs.Knows.{reflects_by_death}
 use Rattle.adr_taking.specs.OnTheWay.{IsTakeable, known_with, source_rows, AreOnTheWay}
 use Rattle.adr_steps.proofs.Rows.{link_of_unit}
 use Rattle.adr_taking.proofs.Tests.{not_above}
-use Rattle.adr_taking.proofs.Standings.{each_standing, IsLost, lost_where_tested, is_death, left_from, left_or_dead}
+use Rattle.adr_taking.proofs.Standings.{each_presence, IsLost, lost_where_tested, is_death, left_from, left_or_dead}
 use Rattle.adr_taking.proofs.OnTheWay.{source_issued, gone_is_purged}
 use Rattle.adr_taking.proofs.ItemRows.{in_source, item_units, row_key, row_of_attr, same_birth}
-use Rattle.adr_taking.proofs.ItemPut.{of_dead, above_of_held, of_held}
+use Rattle.adr_taking.proofs.ItemPut.{above_of_held}
 
 module _ (sc : Scene) (s : State) (r : Reply) (may : IsTakeable sc s r) (rows : List Held) (way : AreOnTheWay sc s rows) (next : List Held)
     (keep : (u : Update) → Reflects sc.issued (known_with s rows) u → Reflects sc.issued (known_with s next) u) where
@@ -46,7 +46,7 @@ module _ (sc : Scene) (s : State) (r : Reply) (may : IsTakeable sc s r) (rows : 
     its_end : (u : Update) → Member u xs → Member o (ends u.key)
     its_end u m = let k = row_key sc s r may item exact rows way o refl u m in subst (λ key. Member o (ends key)) (sym k.1) (inl refl)
 
-    where_dead : IsTombstoned (updates_of rows) o → Suffice xs (of_dead rows xs)
+    where_dead : IsTombstoned (updates_of rows) o → Suffice xs (object_rows_taken rows xs IsDead)
     where_dead tombstone written u m = by (is_of_attr deleted_attr u.key) refl (is_above rows u) refl
       where
         by : (d : Bool) → is_of_attr deleted_attr u.key ≡ d → (a : Bool) → is_above rows u ≡ a → Reflects sc.issued (known_with s next) u
@@ -63,7 +63,7 @@ module _ (sc : Scene) (s : State) (r : Reply) (may : IsTakeable sc s r) (rows : 
         by (inr (d, n, is, f)) = reflects_by_death sc.issued (known_with s next) u o (its_end u (among u m))
             (inl (d, written d n, row_of_attr sc s r may item exact rows way o refl deleted_attr d (among d (left_from us d n)) is)) (λ death. absurd (f death))
 
-    where_held : (IsTombstoned (updates_of rows) o → ⊥) → HoldsObject (updates_of rows) o → Suffice xs (of_held rows xs)
+    where_held : (IsTombstoned (updates_of rows) o → ⊥) → HoldsObject (updates_of rows) o → Suffice xs (object_rows_taken rows xs IsHeld)
     where_held alive holds written u m = by (is_of_attr class_attr u.key) refl (is_above rows u) refl
       where
         class_row : is_of_attr class_attr u.key ≡ true → Member u (updates_of rows)
@@ -81,7 +81,7 @@ module _ (sc : Scene) (s : State) (r : Reply) (may : IsTakeable sc s r) (rows : 
         keep u (inr (o, its_end u m, inr (gone_is_purged sc s r may rows way u o (source_issued sc s r may u (in_source sc s r may item exact u m)) (its_end u m) absent covers)))
 
     object_reflected : Suffice xs (rows_taken s.store.vector rows item)
-    object_reflected = each_standing s.store.vector rows o (of_dead rows xs) (of_held rows xs) [] (left_by_death xs) (Suffice xs) where_dead where_held where_gone (λ absent missed. left xs (λ u m. m))
+    object_reflected = each_presence s.store.vector rows o (λ (p : Presence). Suffice xs (object_rows_taken rows xs p)) where_dead where_held where_gone (λ absent missed. left xs (λ u m. m))
 
   module _ (l : LinkKey) (xs : List Update) (exact : IsExact (source_rows sc r) r (record { unit = Link l; rows = xs })) where
     abbrev link : Item

@@ -21,7 +21,7 @@ use Rattle.adr_model.specs.Store.{Held, State, updates_of, row_held}
 use Rattle.adr_model.specs.Change.{Item}
 use Rattle.adr_model.specs.Formed.{IsNamed}
 use Rattle.adr_model.specs.Serve.{Reply}
-use Rattle.adr_model.specs.Take.{is_of_attr, has_row, left_by_death, is_lost_end, rows_tested, row_fault, class_said, class_among, class_of_item, item_fault, lacks, incomplete}
+use Rattle.adr_model.specs.Take.{is_of_attr, has_row, left_by_death, is_lost_end, rows_tested, row_fault, class_said, class_among, class_of_item, item_fault, lacks, Presence, object_rows_tested, object_lacks, incomplete}
 use Rattle.adr_model.specs.Replica.{Scene}
 use Rattle.adr_model.specs.Sound.{IsExact}
 use Rattle.adr_model.proofs.Members.{found, none_passes, one_passes}
@@ -29,7 +29,7 @@ use Rattle.adr_steps.specs.Forms.{HasKey, IsWellSaid, MayCome}
 use Rattle.adr_taking.specs.OnTheWay.{IsTakeable, source_rows, AreOnTheWay}
 use Rattle.adr_steps.proofs.Rows.{updated, held_as, link_of_unit}
 use Rattle.adr_taking.proofs.Tests.{IsFound, row_found}
-use Rattle.adr_taking.proofs.Standings.{each_standing, attr_itself, tested_where_has, left_from}
+use Rattle.adr_taking.proofs.Standings.{each_presence, attr_itself, tested_where_has, left_from}
 use Rattle.adr_steps.proofs.Rising.{one_update}
 use Rattle.adr_taking.proofs.OnTheWay.{source_formed}
 use Rattle.adr_taking.proofs.ItemRows.{in_source, item_units, item_one, row_key, row_of_attr, said_of_held, class_is_known}
@@ -133,10 +133,10 @@ module _ (sc : Scene) (s : State) (r : Reply) (may : IsTakeable sc s r) (rows : 
         by (inr (u, m)) = new_is_sound absent missed u m
 
     object_sound : IsSound (rows_tested s.store.vector rows item)
-    object_sound = each_standing s.store.vector rows o [] xs [] (left_by_death xs) IsSound (λ tombstone. refl) where_held (λ absent covers. refl) where_new
+    object_sound = each_presence s.store.vector rows o (λ (p : Presence). IsSound (object_rows_tested xs p)) (λ tombstone. refl) where_held (λ absent covers. refl) where_new
 
     object_whole : (u : Update) → Member u xs → incomplete (numbered s.store.schema) s.store.vector rows item ≡ None
-    object_whole u m = each_standing s.store.vector rows o None None None (then_some (lacks (numbered s.store.schema) xs) (Incomplete o)) (λ q. q ≡ None)
+    object_whole u m = each_presence s.store.vector rows o (λ (p : Presence). then_some (object_lacks (numbered s.store.schema) xs p) (Incomplete o) ≡ None)
         (λ tombstone. refl) (λ alive holds. refl) (λ absent covers. refl) (λ absent missed. new_is_whole absent missed u m)
 
   module _ (l : LinkKey) (xs : List Update) (exact : IsExact (source_rows sc r) r (record { unit = Link l; rows = xs })) where

@@ -90,9 +90,6 @@ module _ (sc : Scene) (s : State) (r : Reply) (may : IsTakeable sc s r) where
   pub ends : IsOnTheWay sc s r (take_items s r.items)
   ends = all_on_the_way r.items (begin s) starts (λ i m. m)
 
-  pub items_grow : Grows sc.issued (knowledge_of s.store) (known_with s (take_items s r.items).rows)
-  items_grow = ends.rows.grows
-
   pub items_reflected : (u : Update) → IsSent r u → Reflects sc.issued (known_with s (take_items s r.items).rows) u
   items_reflected u (i, m, n) = all_reflected r.items (begin s) starts (λ j o. o) i m u n
 

@@ -2,7 +2,7 @@
 use Rattle.std.proofs.Common.{◌≡◌, ◌≢◌, inl, inr, ℕ, ◌≤◌, List, [], ◌∷◌, Bool, true, false, Option, Some, None, refl, sym, ◌∙◌, subst, arith, not, length, fold, Err}
 use Rattle.std.specs.Prelude.{nat_lt}
 use Rattle.std.specs.Bool.{then_some}
-use Rattle.std.specs.Option.{option_map, option_map_or, option_or, IfSome}
+use Rattle.std.specs.Option.{option_map, option_map_or, IfSome}
 use Rattle.std.proofs.lemmas.Bool.{true≢false, le-ltb}
 use Rattle.adr_stamp.specs.declared.Oid.{Oid}
 use Rattle.adr_stamp.specs.declared.Unit.{Unit as Named}
@@ -23,12 +23,12 @@ use Rattle.adr_model.specs.Store.{Held, State}
 use Rattle.adr_model.specs.Change.{Item, after}
 use Rattle.adr_model.specs.Serve.{Reply, is_quarantined}
 use Rattle.adr_model.specs.Write.{object_limit, link_limit, usn_limit}
-use Rattle.adr_model.specs.Take.{Taking, begin, lacks, incomplete, item_fault, item_refusal, take_item, kept_mark, shown_by_last, passes, mark_limit, take_items, taken_change, refusal_of, take}
+use Rattle.adr_model.specs.Take.{Taking, begin, lacks, Presence, object_lacks, incomplete, item_fault, item_refusal, take_item, kept_mark, shown_by_last, passes, mark_limit, take_items, taken_change, refusal_of, take}
 use Rattle.adr_model.specs.Replica.{Scene}
 use Rattle.adr_model.specs.Sound.{IsSoundScene, IsSoundState, IsSoundLast, IsSoundReply}
-use Rattle.adr_knowledge.proofs.Refusing.{unmet, where_it_is, none_is, first_is, either_is, tested_is, refused_by, mapped_is}
+use Rattle.adr_knowledge.proofs.Refusing.{unmet, where_it_is, none_is, first_is, tested_is, refused_by, mapped_is}
 use Rattle.adr_taking.specs.OnTheWay.{IsTakeable, IsOnTheWay}
-use Rattle.adr_taking.proofs.Standings.{each_standing}
+use Rattle.adr_taking.proofs.Standings.{each_presence}
 use Rattle.adr_taking.proofs.Granted.{takeable}
 use Rattle.adr_taking.proofs.Passed.{stale, lags, other_schema, put_back}
 use Rattle.adr_taking.proofs.Items.{starts, on_the_way}
@@ -66,7 +66,8 @@ module _ (harm : TakeRefusal → Bool) (sc : Scene) (s : State) (r : Reply) (may
   items_are_harmless [] t way among h = h
   items_are_harmless (i ∷ is) t way among h =
       items_are_harmless is (take_item (numbered s.store.schema) s.store.vector t i) (on_the_way sc s r may t way i (among i (inl refl))) (λ j m. among j (inr m))
-      (either_is (IsCalm harm) t.refusal (item_refusal (numbered s.store.schema) s.store.vector t.rows t.place i) h (item t way i (among i (inl refl))))
+      (first_is (IsCalm harm) t.refusal (item_refusal (numbered s.store.schema) s.store.vector t.rows t.place i ∷ []) h
+      (λ _. first_is (IsCalm harm) (item_refusal (numbered s.store.schema) s.store.vector t.rows t.place i) [] (item t way i (among i (inl refl))) (λ _. tt)))
 
   all_are_harmless : IsHarmless harm (take_items s r.items).refusal
   all_are_harmless = items_are_harmless r.items (begin s) (starts sc s r may) (λ i m. m) (none_is (IsCalm harm) None refl)
@@ -106,12 +107,13 @@ lack : IsOfItems is_incomplete
 lack = record { quarantined = refl; not_mine = λ d. refl; stale = λ m f. refl; behind = λ i h n. refl; schema = λ m t. refl; usn = refl; full = λ t l. refl }
 
 incomplete_alone : (table : Schema) (vector : Cursors) (rows : List Held) (unit : Named) (xs : List Update) → IsHarmless is_broken (incomplete table vector rows (record { unit = unit; rows = xs }))
-incomplete_alone table vector rows (Object o) xs = each_standing vector rows o None None None (then_some (lacks table xs) (Incomplete o)) (IsHarmless is_broken)
+incomplete_alone table vector rows (Object o) xs = each_presence vector rows o (λ (p : Presence). IsHarmless is_broken (then_some (object_lacks table xs p) (Incomplete o)))
     (λ tombstone. none_is (IsCalm is_broken) None refl) (λ alive holds. none_is (IsCalm is_broken) None refl) (λ absent covers. none_is (IsCalm is_broken) None refl) (λ absent missed. tested_is (IsCalm is_broken) (lacks table xs) (Incomplete o) refl)
 incomplete_alone table vector rows (Link l) xs = none_is (IsCalm is_broken) None refl
 
-faultless : (fault : Option ItemFault) (place : ℕ) → fault ≡ None → (other : Option TakeRefusal) → option_or (option_map (BadItem place) fault) other ≡ other
-faultless None place e other = refl
+faultless : (fault : Option ItemFault) (place : ℕ) → fault ≡ None → (other : Option TakeRefusal) → first_of (option_map (BadItem place) fault ∷ other ∷ []) ≡ other
+faultless None place e None = refl
+faultless None place e (Some x) = refl
 faultless (Some x) place e other = absurd (cc)
 
 shown_within : (sc : Scene) (s : State) (r : Reply) → IsSoundState sc s → (last : Option Cursors) → IfSome last (IsSoundLast sc r) → option_map_or (λ v. at v s.inv) last 0 ≤ s.store.usn

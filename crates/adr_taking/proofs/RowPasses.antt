@@ -2,7 +2,7 @@
 use Rattle.std.proofs.Common.{◌≡◌, inl, inr, ℕ, zero, suc, List, [], ◌∷◌, true, Option, Some, None, IsSome, refl, sym, ap, ◌∙◌, subst, arith, map, not}
 use Rattle.std.specs.Prelude.{is_none}
 use Rattle.std.specs.Bool.{then_some}
-use Rattle.std.specs.Option.{option_map, option_or}
+use Rattle.std.specs.Option.{option_map}
 use Rattle.adr_stamp.specs.declared.Oid.{Oid}
 use Rattle.adr_stamp.specs.declared.LinkKey.{LinkKey}
 use Rattle.adr_stamp.specs.declared.LinkStamp.{LinkStamp}
@@ -43,7 +43,7 @@ module _ (table : Table) (class : ℕ) (known : IsSome (class_at table class)) (
 
   class_passes : (attr : ℕ) (stamp : LinkStamp) (said : Said) → (said ≡ Holds (Class class)) × (is_birth o (row attr stamp said) ≡ true) → Passes attr stamp said
   class_passes attr stamp said (e, b) = subst (Passes attr stamp) (sym e)
-      (ap (λ x. option_or (then_some (not x) WrongBirth) (broken (class_refusal table class))) b ∙ ap broken (known_class table class known))
+      (ap (λ x. first_of (then_some (not x) WrongBirth ∷ broken (class_refusal table class) ∷ [])) b ∙ ap (λ o. first_of (broken o ∷ [])) (known_class table class known))
 
   passes : (attr : ℕ) (stamp : LinkStamp) (said : Said) → IsWellSaid table class o (row attr stamp said) → Passes attr stamp said
   passes zero stamp said well = absurd (well.none refl)

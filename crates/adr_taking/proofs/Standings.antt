@@ -9,29 +9,29 @@ use Rattle.adr_model.specs.Update.{Key, RowOf, LinkOf, Update, deleted_attr}
 use Rattle.adr_model.specs.Reflects.{CoversBirth, IsDeath, HoldsObject, IsTombstoned}
 use Rattle.adr_model.specs.Visible.{covers_birth}
 use Rattle.adr_model.specs.Store.{Held, updates_of, holds_object, holds_dead}
-use Rattle.adr_model.specs.Take.{is_of_attr, is_reserved_row, has_row, left_by_death, is_gone, is_lost_end, by_standing}
-use Rattle.adr_model.proofs.Members.{in_filter, of_filter, one_passes, each_fails}
+use Rattle.adr_model.specs.Take.{is_of_attr, is_reserved_row, has_row, left_by_death, is_gone, is_lost_end, Presence, IsDead, IsHeld, IsGone, IsNew, presence_of}
+use Rattle.adr_model.proofs.Members.{in_filter, of_filter, one_passes}
 use Rattle.adr_knowledge.proofs.Lists.{some_passes}
 use Rattle.adr_taking.proofs.Tests.{holds_where_tested, lacks_where_untested, dead_where_tested, alive_where_untested, covers_where_tested, misses_where_untested}
 
 -- an object is held dead, or held, or gone, or new
-module _ {A : Type 0} (vector : Cursors) (rows : List Held) (o : Oid) (dead held gone new : A) (P : A → Type 0) where
-  pub each_standing : (IsTombstoned (updates_of rows) o → P dead)
-      → ((IsTombstoned (updates_of rows) o → ⊥) → HoldsObject (updates_of rows) o → P held)
-      → ((HoldsObject (updates_of rows) o → ⊥) → CoversBirth (at vector) o → P gone)
-      → ((HoldsObject (updates_of rows) o → ⊥) → (CoversBirth (at vector) o → ⊥) → P new)
-      → P (by_standing vector rows o dead held gone new)
-  each_standing where_dead where_held where_gone where_new = by (holds_dead rows o) refl
+module _ (vector : Cursors) (rows : List Held) (o : Oid) (P : Presence → Type 0) where
+  pub each_presence : (IsTombstoned (updates_of rows) o → P IsDead)
+      → ((IsTombstoned (updates_of rows) o → ⊥) → HoldsObject (updates_of rows) o → P IsHeld)
+      → ((HoldsObject (updates_of rows) o → ⊥) → CoversBirth (at vector) o → P IsGone)
+      → ((HoldsObject (updates_of rows) o → ⊥) → (CoversBirth (at vector) o → ⊥) → P IsNew)
+      → P (presence_of vector rows o)
+  each_presence where_dead where_held where_gone where_new = by (holds_dead rows o) refl
     where
-      last : holds_object rows o ≡ false → (b : Bool) → covers_birth vector o ≡ b → P (cond b gone new)
+      last : holds_object rows o ≡ false → (b : Bool) → covers_birth vector o ≡ b → P (cond b IsGone IsNew)
       last absent true is = where_gone (lacks_where_untested rows o absent) (covers_where_tested vector o is)
       last absent false is = where_new (lacks_where_untested rows o absent) (misses_where_untested vector o is)
 
-      next : holds_dead rows o ≡ false → (b : Bool) → holds_object rows o ≡ b → P (cond b held (cond (covers_birth vector o) gone new))
+      next : holds_dead rows o ≡ false → (b : Bool) → holds_object rows o ≡ b → P (cond b IsHeld (cond (covers_birth vector o) IsGone IsNew))
       next alive true is = where_held (alive_where_untested rows o alive) (holds_where_tested rows o is)
       next alive false is = last is (covers_birth vector o) refl
 
-      by : (b : Bool) → holds_dead rows o ≡ b → P (cond b dead (cond (holds_object rows o) held (cond (covers_birth vector o) gone new)))
+      by : (b : Bool) → holds_dead rows o ≡ b → P (cond b IsDead (cond (holds_object rows o) IsHeld (cond (covers_birth vector o) IsGone IsNew)))
       by true is = where_dead (dead_where_tested rows o is)
       by false is = next is (holds_object rows o) refl
 
@@ -84,9 +84,6 @@ has_where_tested attr us h = some_passes (λ (u : Update). is_of_attr attr u.key
 
 pub tested_where_has : (attr : ℕ) (us : List Update) (u : Update) → Member u us → is_of_attr attr u.key ≡ true → has_row attr us ≡ true
 tested_where_has attr us u m is = one_passes (λ (v : Update). is_of_attr attr v.key) us u m is
-
-pub none_of_attr : (attr : ℕ) (us : List Update) → has_row attr us ≡ false → Each (λ u. is_of_attr attr u.key ≡ false) us
-none_of_attr attr us h = each_fails (λ (u : Update). is_of_attr attr u.key) us h
 
 pub is_death : (u : Update) → IsDeath u → is_of_attr deleted_attr u.key ≡ true
 is_death u (o, e) = attr_itself o deleted_attr u.key e

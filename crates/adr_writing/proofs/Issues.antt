@@ -1,8 +1,8 @@
 -- What a write issues keeps a scene sound.
-use Rattle.std.proofs.Common.{◌+◌, [], ◌++◌, sym, subst}
+use Rattle.std.proofs.Common.{◌+◌, [], ◌∷◌, ◌++◌, sym, subst}
 use Rattle.adr_model.specs.Member.{Member, Each}
 use Rattle.adr_model.specs.Store.{Held, State}
-use Rattle.adr_model.specs.Change.{Item, held_of, updates_written}
+use Rattle.adr_model.specs.Change.{Item, Change, held_of, updates_written}
 use Rattle.adr_model.specs.Write.{own_change}
 use Rattle.adr_model.specs.Replica.{Scene}
 use Rattle.adr_model.specs.Sound.{IsSoundScene, IsSoundState}
@@ -13,8 +13,12 @@ use Rattle.adr_writing.specs.MayWrites.{MayWrite}
 use Rattle.adr_knowledge.proofs.Lists.{alone_from}
 use Rattle.adr_writing.proofs.Writes.{end_of_unit, ends_born, class_rows_born}
 
+-- the change that writes one item, under the next USN
+abbrev pub change_of : State → Item → Change
+change_of s item = own_change s (record { local = s.store.usn + 1; item = item } ∷ [])
+
 pub write_may_issue : (sc : Scene) (s : State) (item : Item) → IsSoundScene sc → IsSoundState sc s → MayWrite s item.unit item.rows
-    → MayIssue sc (own_change s item) (updates_written (own_change s item))
+    → MayIssue sc (change_of s item) (updates_written (change_of s item))
 write_may_issue sc s item scene state may = record {
   alone = λ u m v n e _. may.put.alone u (alone_from item.rows u m) v (alone_from item.rows v n) e;
   born = λ u m o n. ends_born sc s scene state item.unit item.rows may o (end_of_unit u.key item.unit o (may.put.of_unit u (alone_from item.rows u m)) n);
@@ -22,6 +26,6 @@ write_may_issue sc s item scene state may = record {
   logged = logged;
 }
   where
-    logged : Each (λ h. Member h.update (sc.issued ++ (item.rows ++ []))) (held_of (own_change s item).writes)
+    logged : Each (λ h. Member h.update (sc.issued ++ (item.rows ++ []))) (held_of (change_of s item).writes)
     logged h m = let u = mapped_member (held_at (s.store.usn + 1)) item.rows h (alone_from _ h m) in
         subst (λ (x : Held). Member x.update (sc.issued ++ (item.rows ++ []))) (sym u.2) (member_right sc.issued (item.rows ++ []) u.0 (member_left item.rows [] u.0 u.1))

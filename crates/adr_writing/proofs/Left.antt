@@ -10,7 +10,7 @@ use Rattle.adr_model.specs.Update.{Update}
 use Rattle.adr_model.specs.Reflects.{Numbers, Covers, AtMost, Knowledge, knowledge_of, Reflects}
 use Rattle.adr_model.specs.Store.{Held, Store, State, updates_of}
 use Rattle.adr_model.specs.Change.{Item, put, held_of, rows_after}
-use Rattle.adr_model.specs.Write.{Write, own_change}
+use Rattle.adr_model.specs.Write.{Write}
 use Rattle.adr_model.specs.Formed.{AreRising, IsFormedStore, IsClosed}
 use Rattle.adr_model.specs.Replica.{Scene, ToWrite}
 use Rattle.adr_model.specs.Sound.{AreClassesKnown, IsSoundScene, IsSoundState}
@@ -26,6 +26,7 @@ use Rattle.adr_writing.specs.MayWrites.{MayWrite}
 use Rattle.adr_knowledge.proofs.Raised.{raised_is_vector, raised_up}
 use Rattle.adr_writing.proofs.Rooms.{cursors_within, whence_update, objects_within_limit, links_within_limit}
 use Rattle.adr_writing.proofs.Forms.{rows_stay_formed, classes_stay, stays_closed}
+use Rattle.adr_writing.proofs.Issues.{change_of}
 use Rattle.adr_knowledge.proofs.Lists.{alone_from}
 
 module _ (sc : Scene) (s : State) (unit : Named) (us : List Update) (rows : List Held)
@@ -105,7 +106,7 @@ module _ (sc : Scene) (s : State) (unit : Named) (us : List Update) (rows : List
 
 module _ (sc : Scene) (s : State) (item : Item) (scene : IsSoundScene sc) (state : IsSoundState sc s) (may : MayWrite s item.unit item.rows) where
   abbrev stands : List Held
-  stands = rows_after [] (held_of (own_change s item).writes) s.store.rows
+  stands = rows_after [] (held_of (change_of s item).writes) s.store.rows
 
   stands_is : fold put s.store.rows (under (s.store.usn + 1) item.rows) ≡ stands
   stands_is = ap (fold put s.store.rows) (sym (append-nil (under (s.store.usn + 1) item.rows)))
@@ -116,7 +117,7 @@ module _ (sc : Scene) (s : State) (item : Item) (scene : IsSoundScene sc) (state
   rising : AreRising stands
   rising = subst AreRising stands_is (puts_rise s.store.rows (under (s.store.usn + 1) item.rows) state.store.formed.rising)
 
-  pub write_leaves : (w : Write) (now : ℕ) → Leaves sc s (record { call = ToWrite w now; change = own_change s item })
+  pub write_leaves : (w : Write) (now : ℕ) → Leaves sc s (record { call = ToWrite w now; change = change_of s item })
   write_leaves w now = record {
     keeps = keeps sc s item.unit item.rows stands scene state may are rising;
     known = known sc s item.unit item.rows stands scene state may are rising;

@@ -1,5 +1,5 @@
 -- What a node that is held is: an object with a class row of its class, and without a death.
-use Rattle.std.proofs.Common.{◌≡◌, inl, inr, ℕ, zero, suc, List, [], ◌∷◌, true, false, Option, Some, None, is_none, not, refl, sym, ap, ◌∙◌, subst, arith}
+use Rattle.std.proofs.Common.{◌≡◌, ◌==◌, inl, inr, ℕ, zero, suc, List, [], ◌∷◌, Bool, true, false, cond, Option, Some, None, is_none, not, refl, sym, ap, ◌∙◌, subst, arith}
 use Rattle.std.specs.List.{list_all}
 use Rattle.std.specs.Option.{option_and_then, option_map_or}
 use Rattle.adr_stamp.specs.declared.Oid.{Oid}
@@ -38,11 +38,12 @@ named_node o class stamp (Holds (Values vs)) n e = absurd (cc)
 named_node o class stamp (IsPresent b) n e = absurd (cc)
 
 is_node_of : (rows : List Update) (k : Key) (said : Said) (n : Node) → node_of rows k said ≡ Some n → IsNodeOf k said n
-is_node_of rows (RowOf o attr) (Holds (Class class)) n e = by (row_at rows (RowOf o name_attr)) e
+is_node_of rows (RowOf o attr) (Holds (Class class)) n e = by (attr == class_attr) (row_at rows (RowOf o name_attr)) e
   where
-    by : (u : Option Update) → option_and_then (λ (v : Update). with_name o class v.stamp v.said) u ≡ Some n → IsNodeOf (RowOf o attr) (Holds (Class class)) n
-    by None h = absurd (cc)
-    by (Some u) h = let t = named_node o class u.stamp u.said n h in (attr, ap (λ p. RowOf p attr) t.0, ap (λ c. Holds (Class c)) t.1)
+    by : (b : Bool) (u : Option Update) → cond b (option_and_then (λ (v : Update). with_name o class v.stamp v.said) u) None ≡ Some n → IsNodeOf (RowOf o attr) (Holds (Class class)) n
+    by false u h = absurd (cc)
+    by true None h = absurd (cc)
+    by true (Some u) h = let t = named_node o class u.stamp u.said n h in (attr, ap (λ p. RowOf p attr) t.0, ap (λ c. Holds (Class c)) t.1)
 is_node_of rows (RowOf o attr) (Holds (Name text parent)) n e = absurd (cc)
 is_node_of rows (RowOf o attr) (Holds Dead) n e = absurd (cc)
 is_node_of rows (RowOf o attr) (Holds (Values vs)) n e = absurd (cc)

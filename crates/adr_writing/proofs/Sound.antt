@@ -2,7 +2,7 @@
 use Rattle.std.proofs.Common.{◌≡◌, ℕ, None, Ok, subst}
 use Rattle.adr_model.specs.Store.{State}
 use Rattle.adr_model.specs.Change.{Change}
-use Rattle.adr_model.specs.Write.{Write, AddObject, Modify, Rename, Delete, AddLink, RemoveLink, IsWellGiven, write_refusal, rows_written, own_change, write}
+use Rattle.adr_model.specs.Write.{Write, AddObject, Modify, Rename, Delete, AddLink, RemoveLink, IsWellGiven, write_refusal, rows_written, items_written, own_change, write}
 use Rattle.adr_model.specs.Formed.{IsFormed}
 use Rattle.adr_model.specs.Replica.{Scene, ToWrite, issued_by}
 use Rattle.adr_model.specs.Sound.{IsSoundScene, IsSoundState}
@@ -27,7 +27,7 @@ may_write s (RemoveLink from attr to) now formed given none = may_remove_link s 
 pub write_leaves_sound : (sc : Scene) (s : State) (w : Write) (now : ℕ) (c : Change) → IsSoundScene sc → IsSoundState sc s → IsWellGiven w → write s w now ≡ Ok c
     → MayIssue sc c (issued_by (ToWrite w now) c) × Leaves sc s (record { call = ToWrite w now; change = c })
 write_leaves_sound sc s w now c scene state given made =
-    let t = answered (write_refusal s w) (own_change s (rows_written s w now)) c made in
+    let t = answered (write_refusal s w) (own_change s (items_written s w now)) c made in
     let may = may_write s w now state.formed given t.0 in
     subst (λ (d : Change). MayIssue sc d (issued_by (ToWrite w now) d) × Leaves sc s (record { call = ToWrite w now; change = d })) t.1
     (write_may_issue sc s (rows_written s w now) scene state may, write_leaves sc s (rows_written s w now) scene state may w now)
