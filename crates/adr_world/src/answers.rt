@@ -15,6 +15,16 @@ pub struct Heading {
 }
 
 impl Heading {
+    /// The heading of a call. Whoever changes something makes it first: then nothing fails behind the change.
+    pub fn new(alloc: Global, verb: &str, name: &Text) -> Result<Heading, NoMemory>
+        ensures { IfOk result (λ made. (made.verb ≡ verb.now) × (made.name ≡ name.now)) }
+    {
+        Ok(Heading {
+            verb: word(alloc, verb)?,
+            name: name.copy(alloc)?,
+        })
+    }
+
     /// The answer of this outcome.
     pub fn of(self, outcome: Outcome) -> Answer
         ensures { result ≡ answer self.verb self.name outcome }
@@ -34,19 +44,9 @@ pub fn word(alloc: Global, text: &str) -> Result<Text, NoMemory>
     Ok(Text::from_string(String::from_str(alloc, text)?))
 }
 
-/// The heading of a call. Whoever changes something makes it first: then nothing fails behind the change.
-pub fn heading(alloc: Global, verb: &str, name: &Text) -> Result<Heading, NoMemory>
-    ensures { IfOk result (λ made. (made.verb ≡ verb.now) × (made.name ≡ name.now)) }
-{
-    Ok(Heading {
-        verb: word(alloc, verb)?,
-        name: name.copy(alloc)?,
-    })
-}
-
 /// The answer to a call.
 pub fn answer(alloc: Global, verb: &str, name: &Text, outcome: Outcome) -> Result<Answer, NoMemory>
     ensures { IfOk result (λ made. made ≡ answer verb.now name.now outcome) }
 {
-    Ok(heading(alloc, verb, name)?.of(outcome))
+    Ok(Heading::new(alloc, verb, name)?.of(outcome))
 }

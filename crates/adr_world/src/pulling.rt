@@ -10,7 +10,7 @@ ghost use Rattle.adr_model.specs.Step.{step};
 ghost use Rattle.adr_world.specs.Pulls.{answers_of, pulled_of};
 ghost use Rattle.adr_world.specs.Run.{IsSoundRun, IsTidy, world_of};
 
-use crate::answers::{answer, heading};
+use crate::answers::{Heading, answer};
 use crate::run::Run;
 use adr_event::{Answer, Outcome};
 use adr_packet::{Reply, Request};
@@ -81,7 +81,7 @@ impl Run {
         ensures err { OnErr result (world_of self.new ≡ world_of self.old) }
         ensures tidy { IsTidy self.new.controllers.items }
     {
-        let heading = heading(alloc, "deliver", dest)?;
+        let heading = Heading::new(alloc, "deliver", dest)?;
         let outcome = self.take(alloc, dest, reply)?;
         let goes_on = was_taken(&outcome) && reply.last().is_none();
         Ok((heading.of(outcome), goes_on))

@@ -7,7 +7,7 @@ ghost use Rattle.adr_model.specs.Step.{step};
 ghost use Rattle.adr_model.specs.World.{delivers};
 ghost use Rattle.adr_world.specs.Run.{IsSoundRun, IsTidy, world_of};
 
-use crate::answers::heading;
+use crate::answers::Heading;
 use crate::bound::copy_bound;
 use crate::controller::place_of;
 use crate::counts::took;
@@ -27,7 +27,7 @@ impl Run {
         ensures err { OnErr result (world_of self.new ≡ world_of self.old) }
         ensures tidy { IsTidy self.new.controllers.items }
     {
-        let heading = heading(alloc, "deliver", name)?;
+        let heading = Heading::new(alloc, "deliver", name)?;
         let Some(reply) = copy_bound(alloc, self.replies.as_slice(), reply)? else {
             return Ok(heading.of(Outcome::Absent));
         };

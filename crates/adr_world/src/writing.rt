@@ -7,7 +7,7 @@ ghost use Rattle.adr_model.specs.World.{writes};
 ghost use Rattle.adr_model.specs.Write.{AddObject, AreInOrder};
 ghost use Rattle.adr_world.specs.Run.{IsSoundRun, IsTidy, world_of};
 
-use crate::answers::heading;
+use crate::answers::Heading;
 use crate::controller::place_of;
 use crate::refused::write_refused;
 use crate::run::Run;
@@ -30,7 +30,7 @@ impl Run {
         ensures err { OnErr result (world_of self.new ≡ world_of self.old) }
         ensures tidy { IsTidy self.new.controllers.items }
     {
-        let heading = heading(alloc, "add", name)?;
+        let heading = Heading::new(alloc, "add", name)?;
         let outcome = self.write(alloc, name, object)?;
         Ok(heading.of(outcome))
     }
