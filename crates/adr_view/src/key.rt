@@ -12,7 +12,7 @@ use std::cmp::Ordering;
 use std::marker::Model;
 
 /// A key, in the order of keys.
-#[derive(Debug, Drop)]
+#[derive(Drop)]
 pub struct OrderedKey {
     key: Key,
 }

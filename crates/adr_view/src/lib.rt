@@ -6,7 +6,7 @@
 #![tactic(auto)]
 
 mod entries;
-mod identifier;
+mod fixed;
 mod key;
 mod laws;
 mod links;
@@ -20,6 +20,7 @@ mod winner;
 
 pub use adr_vector::NoMemory;
 pub use entries::directory;
+pub use fixed::{is_fixed, is_lost_and_found, is_root, lost_and_found, root};
 pub use laws::formed_rows_have_back_links;
 pub use links::have_back_links;
 pub use node::Node;

@@ -13,10 +13,9 @@ ghost use Rattle.adr_view.specs.BackLinks.{has_back_link, have_back_links};
 ghost use Rattle.adr_view.specs.Referents.{referents};
 
 use crate::NoMemory;
-use crate::live::is_same_object;
 use adr_event::{EntryLinks, Guids};
 use adr_stamp::{LinkKey, Oid};
-use adr_state::{Key, Rows, Said, Update};
+use adr_state::{Key, Rows, Said, Update, is_same_object};
 use std::alloc::Global;
 use std::collections::BTreeSet;
 use uuid::Uuid;

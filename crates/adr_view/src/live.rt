@@ -8,39 +8,19 @@ ghost use Rattle.adr_stamp.specs.declared.Oid.{Oid as Object};
 ghost use Rattle.adr_stamp.specs.Order.{object_order};
 ghost use Rattle.adr_model.specs.Member.{Member};
 ghost use Rattle.adr_model.specs.Update.{RowOf, class_attr, ends, is_death_of, same_identifier, same_object};
-ghost use Rattle.adr_model.specs.Live.{born, objects_of, standing, yields_to, unyielding, live, is_among, live_rows};
+ghost use Rattle.adr_model.specs.Live.{standing, yields_to, unyielding, live, is_among, live_rows};
 ghost use Rattle.adr_model.specs.Store.{updates_of};
 ghost use Rattle.adr_state.specs.Key.{key_of};
 ghost use Rattle.adr_view.specs.Referents.{referents};
 ghost use Rattle.adr_view.specs.Shared.{HasShared};
 
 use crate::NoMemory;
-use crate::identifier::is_same;
 use crate::winner::{winner, winners};
 use adr_stamp::Oid;
-use adr_state::{Held, Key, Update};
+use adr_state::{CLASS, Held, Key, Update, is_same, is_same_object, objects_of};
 use std::alloc::Global;
 use std::collections::BTreeSet;
 use uuid::Uuid;
-
-/// The attribute whose row is the creation of an object.
-const CLASS: u16 = 1;
-
-pub fn is_same_object(a: &Oid, b: &Oid) -> bool
-    ensures { result ≡ same_object a.now b.now }
-{
-    a.cmp(b).is_eq()
-}
-
-/// The object that a row of a key gives birth to.
-fn born(key: &Key) -> Option<Oid>
-    ensures { result ≡ born (key_of key.now) }
-{
-    match key {
-        Key::Row { object, attr } if *attr == CLASS => Some(*object),
-        _ => None,
-    }
-}
 
 /// The key of the row that is the creation of an object.
 fn birth_of(object: &Oid) -> Key
@@ -50,19 +30,6 @@ fn birth_of(object: &Oid) -> Key
         object: *object,
         attr: CLASS,
     }
-}
-
-/// The objects that were born, in order.
-fn objects_of(alloc: Global, rows: &[Held]) -> Result<BTreeSet<Oid>, NoMemory>
-    ensures { IfOk result (λ objects. objects.keys ≡ objects_of (updates_of rows.now)) }
-{
-    let mut objects = BTreeSet::new(alloc);
-    for held in rows {
-        if let Some(object) = born(&held.update().key()) {
-            objects.insert(object)?;
-        }
-    }
-    Ok(objects)
 }
 
 /// The objects that died.

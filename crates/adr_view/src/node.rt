@@ -13,20 +13,14 @@ ghost use Rattle.adr_view.specs.Referents.{referents};
 use crate::NoMemory;
 use adr_schema::{Content, Text, fold_name};
 use adr_stamp::{LinkStamp, Oid};
-use adr_state::{Key, Said, Update};
+use adr_state::{CLASS, Key, NAME, Said, Update};
 use std::alloc::Global;
 use std::collections::BTreeMap;
 use std::marker::Model;
 use uuid::Uuid;
 
-/// The attribute whose row says the class of an object.
-const CLASS: u16 = 1;
-
-/// The attribute whose row names an object and the object above it.
-const NAME: u16 = 2;
-
 /// A live object with its class and its name as it was written.
-#[derive(Debug, Drop)]
+#[derive(Drop)]
 pub struct Node {
     object: Oid,
     class: u16,

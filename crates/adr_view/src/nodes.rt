@@ -22,7 +22,7 @@ use std::marker::Model;
 use uuid::Uuid;
 
 /// The live objects of a controller, rising by GUID.
-#[derive(Debug, Drop)]
+#[derive(Drop)]
 pub struct Nodes {
     list: Vec<Node>,
 }

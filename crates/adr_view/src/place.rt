@@ -4,30 +4,12 @@ ghost use Rattle.std.specs.Prelude.{◌≡◌, length, not};
 ghost use Rattle.std.specs.List.{list_any, list_all};
 ghost use Rattle.std.specs.Option.{option_copied};
 ghost use Rattle.adr_model.specs.Update.{same_identifier, same_object};
-ghost use Rattle.adr_model.specs.Place.{root, lost_and_found, is_fixed, node_at, first_place, upward, above, named_before, breaks_loop, place};
+ghost use Rattle.adr_model.specs.Place.{node_at, first_place, upward, above, named_before, breaks_loop, place};
 
-use crate::identifier::is_same;
-use crate::live::is_same_object;
+use crate::fixed::{is_fixed, lost_and_found};
 use crate::node::Node;
+use adr_state::{is_same, is_same_object};
 use uuid::Uuid;
-
-pub fn root() -> Uuid
-    ensures { result ≡ root }
-{
-    Uuid::from_u128(1)
-}
-
-pub fn lost_and_found() -> Uuid
-    ensures { result ≡ lost_and_found }
-{
-    Uuid::from_u128(2)
-}
-
-fn is_fixed(guid: Uuid) -> bool
-    ensures { result ≡ is_fixed guid }
-{
-    is_same(guid, root()) || is_same(guid, lost_and_found())
-}
 
 pub fn node_at(all: &[Node], guid: Uuid) -> Option<&Node>
     ensures { option_copied result ≡ node_at all.now guid }

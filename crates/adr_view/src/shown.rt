@@ -11,10 +11,11 @@ ghost use Rattle.adr_model.specs.Place.{root, place};
 ghost use Rattle.adr_model.specs.Shown.{gives_way, conflict_name, shown_name, name_holder};
 
 use crate::NoMemory;
-use crate::identifier::is_same;
+use crate::fixed::{lost_and_found, root};
 use crate::node::Node;
-use crate::place::{lost_and_found, named_before, place, root};
+use crate::place::{named_before, place};
 use adr_schema::{Text, fold_name};
+use adr_state::is_same;
 use std::alloc::Global;
 use uuid::Uuid;
 

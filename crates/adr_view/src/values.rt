@@ -5,11 +5,10 @@ ghost use Rattle.adr_model.specs.Directory.{values_in, values_at};
 ghost use Rattle.adr_view.specs.Referents.{referents};
 
 use crate::NoMemory;
-use crate::live::is_same_object;
 use adr_event::EntryValues;
 use adr_schema::{Content, Values};
 use adr_stamp::Oid;
-use adr_state::{Key, Said, Update};
+use adr_state::{Key, Said, Update, is_same_object};
 use std::alloc::Global;
 
 /// The attribute and the values that a row of an object gives, where there are any.
