@@ -1,6 +1,5 @@
-//! Transcripts and tables of cases. Expected bytes are worked out by hand.
+//! What no schedule shows: other words, calls that fail, and a text that is too long. Expected bytes are worked out by hand.
 
-ghost use Rattle.std.specs.Prelude.{◌<◌, ◌≤◌, length, IfSome};
 
 use adr_cmd::run;
 use adr_io::{MemSink, MemSource};
@@ -59,75 +58,6 @@ const PEOPLE_WRITTEN: [&str; 4] = [
     "add A: ok usn=2\n",
     "show A: 2\n  #10 user parent=#1 name=\"Ann\" sAMAccountName=\"ann\"\n  #11 user parent=#1 name=\"Bo\" sAMAccountName=\"bo\"\n",
 ];
-
-/// Where the answers of a transcript begin: behind its line of dashes.
-fn dashes(transcript: &[u8]) -> Option<usize>
-    ensures { IfSome result (λ place. place ≤ length transcript.now) }
-{
-    for place in 0..transcript.len() {
-        if transcript[place..].starts_with(DASHES) {
-            return Some(place);
-        }
-    }
-    None
-}
-
-/// The transcript of the schedule in front of the dashes, which is read in pieces.
-fn transcribed(alloc: Global, transcript: &[u8], piece: usize) -> Result<Vec<u8>, Fail>
-    requires { 0 < piece }
-{
-    let place = dashes(transcript).ok_or("no line of dashes")?;
-    let (status, written) = outcome(alloc, &["replay"], &transcript[..place], piece, NEVER)?;
-    let mut told = Vec::from_slice(alloc, &transcript[..place])?;
-    told.extend_from_slice(DASHES)?;
-    told.extend_from_slice(b"status ")?;
-    told.extend_from_slice(status.to_string(alloc)?.as_bytes())?;
-    told.extend_from_slice(b"\n")?;
-    told.extend_from_slice(written.as_slice())?;
-    Ok(told)
-}
-
-const DASHES: &[u8] = b"\n----\n";
-
-/// Schedules, each with a line of dashes behind it, the status, and what is written.
-const TRANSCRIPTS: [&[u8]; 25] = [
-    b"; a comment and an empty line write nothing\n\n----\nstatus 0\n",
-    b"; a name in other letters is taken\ncontroller A #a0 #a1\ntime 1000\nadd A #10 user #1 \"Ann\" sAMAccountName=\"ann\"\nadd A #11 user #1 \"ANN\" sAMAccountName=\"x\"\n----\nstatus 0\ncontroller A: ok\nadd A: ok usn=1\nadd A: refused 13 NameTaken holder=#10\n",
-    b"; names that are equal only after folding\ncontroller A #a0 #a1\nadd A #10 user #1 \"stra\xc3\x9fe\" sAMAccountName=\"s\"\nadd A #11 user #1 \"STRASSE\" sAMAccountName=\"t\"\nshow A\n----\nstatus 0\ncontroller A: ok\nadd A: ok usn=1\nadd A: refused 13 NameTaken holder=#10\nshow A: 1\n  #10 user parent=#1 name=\"stra\xc3\x9fe\" sAMAccountName=\"s\"\n",
-    b"; a GUID that is there, before its name is looked at\ncontroller A #a0 #a1\nadd A #10 user #1 \"Ann\" sAMAccountName=\"ann\"\nadd A #10 user #1 \"Ann\" sAMAccountName=\"ann\"\n----\nstatus 0\ncontroller A: ok\nadd A: ok usn=1\nadd A: refused 17 GuidThere guid=#10\n",
-    b"; the GUIDs of the root and of LostAndFound\ncontroller A #a0 #a1\nadd A #1 user #1 \"Ann\" sAMAccountName=\"ann\"\nadd A #2 user #1 \"Ann\" sAMAccountName=\"ann\"\n----\nstatus 0\ncontroller A: ok\nadd A: refused 17 GuidThere guid=#1\nadd A: refused 17 GuidThere guid=#2\n",
-    b"; the name of LostAndFound\ncontroller A #a0 #a1\nadd A #10 user #1 \"lostANDfound\" sAMAccountName=\"ann\"\n----\nstatus 0\ncontroller A: ok\nadd A: refused 13 NameTaken holder=#2\n",
-    b"; a comment begins with its line\ncontroller A #a0 #a1\n ; no comment, its first byte is a space\n----\nstatus 3\nline 3: no command\n",
-    b"; identifiers in both forms, entries by GUID, texts with their escapes\n  controller   A #000000a0-0000-0000-0000-000000000000 #a1  \n;\n\nadd A #0000000f-0000-0000-0000-000000000000 user #1 \"b\" sAMAccountName=\"a\\\"\\\\\\0a\"\nadd A #00000000-0000-0000-0000-000000000010 user #00000000-0000-0000-0000-000000000001 \"a\" sAMAccountName=\"\\7f\"\nshow A\n----\nstatus 0\ncontroller A: ok\nadd A: ok usn=1\nadd A: ok usn=2\nshow A: 2\n  #10 user parent=#1 name=\"a\" sAMAccountName=\"\\7f\"\n  #0000000f-0000-0000-0000-000000000000 user parent=#1 name=\"b\" sAMAccountName=\"a\\\"\\\\\\0a\"\n",
-    b"; a controller that was never made\nshow A\n----\nstatus 3\nline 2: unknown name\n",
-    b"; nothing is run of a text that has a fault\ncontroller A #a0 #a1\nadd A #10 user #1 \"Ann\" sAMAccountName=\"ann\"\nshow B\n----\nstatus 3\nline 4: unknown name\n",
-    b"; a bad byte\ncontroller A #a0 #a1\nshow \xff\n----\nstatus 3\nline 3: not UTF-8\n",
-    b"; a bad byte in a comment\n; \xff\n----\nstatus 0\n",
-    b"; a second controller, and the directory of each\ncontroller A #a0 #a1\ncontroller B #b0 #b1\nadd B #10 container #1 \"x\"\nshow A\nshow B\n----\nstatus 0\ncontroller A: ok\ncontroller B: ok\nadd B: ok usn=1\nshow A: 0\nshow B: 1\n  #10 container parent=#1 name=\"x\"\n",
-    b"; a name that is used, before its identifiers are looked at\ncontroller A #a0 #a1\ncontroller A #a0 #a1\n----\nstatus 3\nline 3: name used\n",
-    b"; a dsa that was given\ncontroller A #a0 #a1\ncontroller B #a0 #b1\n----\nstatus 3\nline 3: identifier used\n",
-    b"; an inv that was given\ncontroller A #a0 #a1\ncontroller B #b0 #a1\n----\nstatus 3\nline 3: identifier used\n",
-    b"; a dsa may be another's inv\ncontroller A #a0 #a1\ncontroller B #a1 #a0\n----\nstatus 0\ncontroller A: ok\ncontroller B: ok\n",
-    b"; a partner that was never made\ncontroller A #a0 #a1\npull A B 10000\n----\nstatus 3\nline 3: unknown name\n",
-    b"; a request's name is no reply's\ncontroller A #a0 #a1\nask A A 1 as q\ndeliver A q\n----\nstatus 3\nline 4: unknown name\n",
-    b"; a request's name twice, and a reply of the same name\ncontroller A #a0 #a1\nask A A 1 as q\nserve A q as q\nask A A 1 as q\n----\nstatus 3\nline 5: name used\n",
-    b"; no item at all\ncontroller A #a0 #a1\npull A A 0\n----\nstatus 3\nline 3: no command\n",
-    b"; one item too many\ncontroller A #a0 #a1\npull A A 10001\n----\nstatus 3\nline 3: no command\n",
-    b"; a container has no account name\ncontroller A #a0 #a1\nadd A #10 container #1 \"x\" sAMAccountName=\"x\"\n----\nstatus 3\nline 3: no command\n",
-    b"; a name that breaks the rule of names\ncontroller A #a0 #a1\nadd A #10 user #1 \" Ann\" sAMAccountName=\"ann\"\n----\nstatus 3\nline 3: no command\n",
-    b"; a value of 21 bytes\ncontroller A #a0 #a1\nadd A #10 user #1 \"Ann\" sAMAccountName=\"123456789012345678901\"\n----\nstatus 3\nline 3: no command\n",
-];
-
-#[test]
-fn transcripts(rt: HostRuntime) -> Result<(), Fail> {
-    for transcript in TRANSCRIPTS {
-        for piece in [1, 7, 4096] {
-            let told = transcribed(rt.alloc(), transcript, piece)?;
-            assert_eq!(rt; told.as_slice(), transcript);
-        }
-    }
-    Ok(())
-}
 
 #[test]
 fn usage_for_other_words(rt: HostRuntime) -> Result<(), Fail> {

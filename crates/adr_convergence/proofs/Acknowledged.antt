@@ -1,9 +1,10 @@
 -- A write that was answered by its USN was issued, under the identifier of its controller.
-use Rattle.std.proofs.Common.{◌≡◌, ◌≢◌, inl, ℕ, List, [], ◌∷◌, Bool, cond, Some, Result, Ok, Err, refl, sym, ap, ◌∙◌, subst, fold, map}
+use Rattle.std.proofs.Common.{◌≡◌, ◌≢◌, inl, inr, ℕ, List, [], ◌∷◌, ◌++◌, ◌+◌, arith, Bool, cond, Option, Some, Result, Ok, Err, refl, sym, ap, subst, fold, map}
 use Rattle.adr_schema.specs.Assignments.{Given}
 use Rattle.adr_schema.specs.declared.content.Content.TheVariants.{Values}
 use Rattle.adr_event.specs.declared.answer.Answer.{Answer}
 use Rattle.adr_event.specs.declared.event.Event.{Event}
+use Rattle.adr_event.specs.declared.event.Event.TheVariants as events
 use Rattle.adr_event.specs.declared.answer.Outcome.{Outcome}
 use Rattle.adr_event.specs.declared.answer.Outcome.TheVariants as outcomes
 use Rattle.adr_event.specs.declared.refusal.WriteRefusal.{WriteRefusal}
@@ -11,23 +12,29 @@ use Rattle.adr_event.specs.declared.refusal.ServeRefusal.{ServeRefusal}
 use Rattle.adr_event.specs.declared.refusal.ServeRefusal.TheVariants as serves
 use Rattle.adr_event.specs.declared.refusal.TakeRefusal.{TakeRefusal}
 use Rattle.adr_event.specs.declared.refusal.TakeRefusal.TheVariants as takes
-use Rattle.adr_model.specs.Member.{Member}
+use Rattle.adr_model.specs.Member.{Member, Each}
 use Rattle.adr_model.specs.Update.{Update}
 use Rattle.adr_model.specs.Store.{State, updates_of}
-use Rattle.adr_model.specs.Change.{Change, updates_written}
-use Rattle.adr_model.specs.Write.{Write, AddObject, Modify, Rename, Delete, AddLink, RemoveLink, IsWellGiven, next_row, object_of, nodes_held, rows_written, own_change, write_refusal, write}
-use Rattle.adr_model.specs.Refused.{write_refused, serve_refused, take_refused}
+use Rattle.adr_model.specs.Change.{Written, Change, updates_written}
+use Rattle.adr_event.specs.declared.refusal.Table.TheVariants.{Log}
+use Rattle.adr_model.specs.Lengths.{log_limit, log_after}
+use Rattle.adr_model.specs.Serve.{Request, Reply}
+use Rattle.adr_model.specs.Write.{Write, AddObject, Modify, Rename, Delete, AddLink, RemoveLink, IsWellGiven, next_row, object_of, nodes_held, rows_written, items_written, own_change, write_refusal, write}
+use Rattle.adr_model.specs.Refused.{write_refused, serve_refused, take_refused, full}
 use Rattle.adr_model.specs.Replica.{Pending, ToWrite, Up, Failed, Stops, Fails, Replica, moved, Went, Passed, Met, went, moves_of_commit, standing_after, plan_after, outcome_after}
-use Rattle.adr_model.specs.World.{Name, World, Gone, stays, with_replica, commit, after_write, writes}
-use Rattle.adr_model.specs.Convergence.{write_of, IsAcknowledged, AcknowledgedIsIssued}
+use Rattle.adr_model.specs.World.{Name, World, Gone, stays, bound_at, with_replica, committed, commit, after_write, writes, asks, serves_request, delivers}
+use Rattle.adr_model.specs.Cycles.{reply_limit}
+use Rattle.adr_model.specs.Step.{ClientWrite, client_write, write_of, step}
+use Rattle.adr_model.specs.Convergence.{IsIssuedItem, IsAcknowledged, AcknowledgedIsIssued}
 use Rattle.adr_model.proofs.Members.{member_left, member_right}
 use Rattle.adr_history.proofs.Written.{written_is_own}
 use Rattle.adr_knowledge.proofs.Refusing.{answered}
 use Rattle.adr_convergence.proofs.Found.{same_name_tests, still_there}
 use Rattle.adr_convergence.proofs.Refusals.{is_plain, IsPlain, write_refused_plainly}
-use Rattle.adr_convergence.proofs.RefusalsPlain.{event_case}
-use Rattle.adr_convergence.proofs.Reached.{plain_reached}
+use Rattle.adr_convergence.proofs.RefusalsPlain.{asked, line_case}
+use Rattle.adr_convergence.proofs.Reached.{plain_reached, within_case}
 use Rattle.adr_convergence.proofs.RefusalsSpared.{serves_so, takes_so}
+use Rattle.adr_convergence.proofs.Exchanges.{IsKeptByCalls, pull_so, pulls_so}
 
 abbrev IsTrueOf : World → Event → Gone → Type 0
 IsTrueOf w e g = (usn : ℕ) → g.1 ≡ outcomes.Usn usn → IsAcknowledged w e usn g.0
@@ -53,9 +60,12 @@ module _ (w : World) (e : Event) (r : Replica) (there : Member r w.replicas) whe
   in_its_place : (new : Replica) → new.name ≡ r.name → Member new (with_replica w.replicas new)
   in_its_place new same = subst (λ (b : Bool). Member (cond b new r) (with_replica w.replicas new)) (same_name_tests r.name new.name (sym same)) (still_there w.replicas new r there)
 
-  module _ (what : Write) (is : IsWellGiven what) (writes : write_of e ≡ Some (r.name, what)) where
+  module _ (write_it : ClientWrite) (is : IsWellGiven write_it.what) (writes : write_of e ≡ Some write_it) (name : r.name ≡ write_it.name) where
+    abbrev what : Write
+    what = write_it.what
+
     abbrev change : Change
-    change = own_change r.safe (rows_written r.safe what w.time)
+    change = own_change r.safe (items_written r.safe what w.time)
 
     abbrev pending : Pending
     pending = record { call = ToWrite what w.time; change = change }
@@ -70,17 +80,25 @@ module _ (w : World) (e : Event) (r : Replica) (there : Member r w.replicas) whe
       outcome_after g (outcomes.Usn change.usn),
     )
 
+    item_issued : (usn : ℕ) → change.usn ≡ usn → (x : Written) → x ≡ record { local = r.safe.store.usn + 1; item = rows_written r.safe what w.time } → IsIssuedItem (w.scene.issued ++ updates_written change) r.safe usn x
+    item_issued usn same x e = subst (IsIssuedItem (w.scene.issued ++ updates_written change) r.safe usn) (sym e) (record {
+      above = omega arith;
+      within = omega (arith, same);
+      rows = λ u m. (
+        member_right w.scene.issued (updates_written change) u (member_left (rows_written r.safe what w.time).rows [] u m),
+        written_is_own r.safe what w.time u m,
+      );
+    })
+
     was_issued : (g : Went) → IsTrueOf w e (gone g)
     was_issued (Passed left) usn h = record {
+      write = write_it;
+      is_write = writes;
       writer = r;
-      what = what;
       there = there;
-      writes = writes;
-      row = a_row r.safe what w.time is;
-      issued = λ u m. (
-        member_right w.scene.issued (updates_written change) u (member_left (rows_written r.safe what w.time).rows [] u m),
-        ((written_is_own r.safe what w.time u m).0, (written_is_own r.safe what w.time u m).1 ∙ same),
-      );
+      name = name;
+      row = let u = a_row r.safe what w.time is in (record { local = r.safe.store.usn + 1; item = rows_written r.safe what w.time }, u.0, inl refl, u.1);
+      issued = λ x m. item_issued usn same x (only x m);
       stays = (
         record (fold moved (w.scene, r) (moves_of_commit pending (Passed left))).1 { standing = Up; plan = left },
         in_its_place (record (fold moved (w.scene, r) (moves_of_commit pending (Passed left))).1 { standing = Up; plan = left }) refl,
@@ -91,13 +109,18 @@ module _ (w : World) (e : Event) (r : Replica) (there : Member r w.replicas) whe
       where
         same : change.usn ≡ usn
         same = cc
+
+        only : (x : Written) → Member x (items_written r.safe what w.time) → x ≡ record { local = r.safe.store.usn + 1; item = rows_written r.safe what w.time }
+        only x (inl e) = e
+        only x (inr m) = absurd m
     was_issued (Met place (Stops how)) usn h = absurd (cc)
     was_issued (Met place Fails) usn h = absurd (cc)
 
-  wrote : (what : Write) → IsWellGiven what → write_of e ≡ Some (r.name, what) → (t : Result Change WriteRefusal) → write r.safe what w.time ≡ t → IsTrueOf w e (after_write w r what t)
-  wrote what is writes (Err x) h = λ usn same. absurd (plain_is_not (write_refused x) (write_refused_plainly x) usn same)
-  wrote what is writes (Ok c) h = subst (λ (d : Change). IsTrueOf w e (commit w r (record { call = ToWrite what w.time; change = d }) (outcomes.Usn d.usn)))
-      (answered (write_refusal r.safe what) (own_change r.safe (rows_written r.safe what w.time)) c h).1 (was_issued what is writes (went r.plan 4))
+    wrote : (t : Result Change WriteRefusal) → write r.safe what w.time ≡ t → IsTrueOf w e (after_write w r what t)
+    wrote (Err x) h = λ usn same. absurd (plain_is_not (write_refused x) (write_refused_plainly x) usn same)
+    wrote (Ok c) h = subst (λ (d : Change). IsTrueOf w e (commit w r (record { call = ToWrite what w.time; change = d }) (outcomes.Usn d.usn)))
+        (answered (write_refusal r.safe what) change c h).1
+        (within_case (IsTrueOf w e) w (log_after r.safe_end change) (committed w r pending (outcomes.Usn change.usn)) (λ usn same. absurd (plain_is_not (full Log log_limit) refl usn same)) (was_issued (went r.plan 4)))
 
 -- ---- other refusals are plain
 
@@ -109,17 +132,39 @@ taken_otherwise : (x : TakeRefusal) (usn : ℕ) → take_refused x ≢ outcomes.
 taken_otherwise takes.Quarantined usn e = absurd (cc)
 taken_otherwise _ usn e = absurd (cc)
 
-module _ (w : World) (e : Event) where
-  wrote_by_name : (name : Name) (what : Write) → IsWellGiven what → write_of e ≡ Some (name, what) → IsTrueOf w e (writes w name what)
-  wrote_by_name name what is wrote_it = plain_reached (IsTrueOf w e) w name (stays w) (λ o plain usn same. absurd (plain_is_not o plain usn same)) (λ r. after_write w r what (write r.safe what w.time)) (λ r called up.
-      wrote w e r called.there what is (wrote_it ∙ ap (λ (n : Name). Some (n, what)) (sym called.name)) (write r.safe what w.time) refl)
+wrote_by_name : (w : World) (e : Event) (verb : List ℕ) (name : Name) (what : Write) → IsWellGiven what → write_of e ≡ client_write verb name what → IsTrueOf w e (writes w name what)
+wrote_by_name w e verb name what is wrote_it = plain_reached (IsTrueOf w e) w name (stays w) (λ o plain usn same. absurd (plain_is_not o plain usn same)) (λ r. after_write w r what (write r.safe what w.time)) (λ r called up.
+    wrote w e r called.there (record { verb = verb; name = name; what = what }) is wrote_it called.name (write r.safe what w.time) refl)
+
+-- no answer of a message that comes, nor of a pull, is a USN
+abbrev IsNoUsn : Outcome → Type 0
+IsNoUsn o = (usn : ℕ) → o ≢ outcomes.Usn usn
+
+served_no_usn : (w : World) (name : Name) (o : Option Request) → IsNoUsn (serves_request w name o).1
+served_no_usn w name o = serves_so IsNoUsn plain_is_not w name o (λ r there q is x refused. served_otherwise x)
+
+taken_no_usn : (w : World) (name : Name) (o : Option Reply) → IsNoUsn (delivers w name o).1
+taken_no_usn w name o = takes_so IsNoUsn plain_is_not w name o (λ r there p is x refused. taken_otherwise x)
+
+calls_no_usn : IsKeptByCalls (λ v. Unit {0}) (λ v q. Unit {0}) (λ v r. Unit {0}) IsNoUsn
+calls_no_usn = record {
+  asks = λ w name partner max is. (tt, (plain_is_not (asks w name partner max).1 (asked w name partner max), λ q e. tt));
+  serves = λ w name q is m. (tt, (served_no_usn w name (Some q), λ r e. tt));
+  delivers = λ w name r is m. (tt, taken_no_usn w name (Some r));
+  more = plain_is_not outcomes.More refl;
+}
 
 -- an answer that is no USN says nothing
-abbrev IsTrue : World → Event → World × Answer → Type 0
-IsTrue w e t = (usn : ℕ) → t.1.outcome ≡ outcomes.Usn usn → IsAcknowledged w e usn t.0
+abbrev IsTrue : World → Event → World → Answer → Type 0
+IsTrue w e v a = (usn : ℕ) → a.outcome ≡ outcomes.Usn usn → IsAcknowledged w e usn v
+
+says_nothing : (w : World) (e : Event) (t : World × List Answer) → Each (λ (a : Answer). IsNoUsn a.outcome) t.1 → Each (λ (a : Answer). IsTrue w e t.0 a) t.1
+says_nothing w e t none a m usn is = absurd (none a m usn is)
 
 pub acknowledged_is_issued : AcknowledgedIsIssued
-acknowledged_is_issued w e usn sound may = event_case (IsTrue w) w (λ f t plain n is. absurd (plain_is_not t.1.outcome plain n is)) (λ f verb name what is wrote_it. wrote_by_name w f name what is wrote_it)
-    (λ name request bind n is. absurd (serves_so (λ (o : Outcome). (m : ℕ) → o ≢ outcomes.Usn m) plain_is_not w (λ r there bound q named x refused. served_otherwise x) name request n is))
-    (λ name reply n is. absurd (takes_so (λ (o : Outcome). (m : ℕ) → o ≢ outcomes.Usn m) plain_is_not w (λ r there bound p named x refused. taken_otherwise x) name reply n is))
-    e may usn
+acknowledged_is_issued w e usn sound may a m is = line_case (IsTrue w) w (λ f v b plain n h. absurd (plain_is_not b.outcome plain n h)) (λ f verb name what given wrote_it. wrote_by_name w f verb name what given wrote_it)
+    (λ name request bind n h. absurd (served_no_usn w name (bound_at w.requests request) n h))
+    (λ name reply n h. absurd (taken_no_usn w name (bound_at w.replies reply) n h))
+    (λ name source max. says_nothing w (events.Pull name source max) (step w (events.Pull name source max)) (pull_so (λ v. Unit {0}) (λ v q. Unit {0}) (λ v r. Unit {0}) IsNoUsn calls_no_usn name source max w tt).1)
+    (λ name source max. says_nothing w (events.Cycle name source max) (step w (events.Cycle name source max)) (pulls_so (λ v. Unit {0}) (λ v q. Unit {0}) (λ v r. Unit {0}) IsNoUsn calls_no_usn name source max reply_limit w tt).1)
+    e may a m usn is

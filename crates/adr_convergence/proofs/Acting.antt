@@ -1,12 +1,7 @@
 -- Calls that change a controller keep a world sound.
 use Rattle.std.proofs.Common.{◌≡◌, ◌≢◌, inl, inr, ⊎_elim, ℕ, Option, Some, Result, Ok, Err, refl, sym, ap, ◌∙◌, subst, fold, length}
-use Rattle.std.specs.Bool.{then_some}
-use Rattle.std.specs.Option.{IfSome, option_or}
-use Rattle.std.specs.Prelude.{nat_lt}
+use Rattle.std.specs.Option.{IfSome}
 use Rattle.adr_event.specs.declared.answer.Outcome.TheVariants as outcomes
-use Rattle.adr_event.specs.declared.refusal.CollectRefusal.TheVariants.{Quarantined as IsQuarantined, UsnLimit}
-use Rattle.adr_model.specs.Serve.{is_quarantined}
-use Rattle.adr_model.specs.Write.{usn_limit}
 use Rattle.adr_event.specs.declared.answer.Outcome.{Outcome}
 use Rattle.adr_event.specs.declared.refusal.TakeRefusal.{TakeRefusal}
 use Rattle.adr_event.specs.declared.refusal.TakeRefusal.TheVariants as takes
@@ -15,15 +10,17 @@ use Rattle.adr_event.specs.declared.refusal.CollectRefusal.{CollectRefusal}
 use Rattle.adr_model.specs.Member.{Member}
 use Rattle.adr_model.specs.Update.{Identifier}
 use Rattle.adr_model.specs.Change.{Change, after}
+use Rattle.adr_model.specs.Lengths.{log_after}
 use Rattle.adr_model.specs.Serve.{Reply}
-use Rattle.adr_model.specs.Write.{Write, IsWellGiven, rows_written, own_change, write_refusal, write}
+use Rattle.adr_model.specs.Write.{Write, IsWellGiven, items_written, own_change, write_refusal, write}
 use Rattle.adr_model.specs.Take.{take_items, taken_change, refusal_of, take}
-use Rattle.adr_model.specs.Collect.{collection, deaths_to_collect, collect}
+use Rattle.adr_model.specs.Collect.{collection, deaths_to_collect, collect_refusal, collect}
 use Rattle.adr_model.specs.Replica.{Pending, ToWrite, ToTake, ToCollect, change_of, change_in, Standing, Up, Plan, Replica, Scene, Settle, moved, went, moves_of_commit, moves_of_start, standing_after, plan_after, Failed}
-use Rattle.adr_model.specs.World.{World, with_replica, commit, after_write, after_collect, after_take, after_moves}
+use Rattle.adr_model.specs.World.{World, Gone, with_replica, committed, commit, after_write, after_collect, after_take, after_moves}
 use Rattle.adr_model.specs.Sound.{IsSoundCall, IsSettled, IsSoundReplica, IsSoundReply, IsGiven, IsSoundWorld}
 use Rattle.adr_taking.proofs.Refused.{no_rollback as reply_shows_no_rollback}
 use Rattle.adr_knowledge.proofs.Refusing.{answered}
+use Rattle.adr_convergence.proofs.Reached.{within_case}
 use Rattle.adr_convergence.proofs.Replacing.{MayStand, replaced}
 use Rattle.adr_convergence.proofs.Moving.{HasMoved, stays_so, settles_so, start_moves, commit_moves}
 
@@ -67,8 +64,8 @@ module _ (w : World) (sound : IsSoundWorld w) (r : Replica) (there : Member r w.
 
   module _ (up : r.standing ≡ Up) where
     pub commit_sound : (p : Pending) (outcome : Outcome) → IsSoundCall w.scene p.call → change_of r.safe p.call ≡ Some p.change → IfSome p.change.mark (λ m. IsGiven w m.1.inv) → IsSoundWorld (commit w r p outcome).0
-    commit_sound p outcome call made new = moved_world (fold moved (w.scene, r) (moves_of_commit p (went r.plan 4))) (standing_after Failed (went r.plan 4)) (plan_after (went r.plan 4))
-        (commit_moves (IsGiven w) w.scene r sound.scene (sound.replicas r there) (sound.identifiers.marks r there) (sound.normal r there) (up_is_settled up) p call made new (went r.plan 4))
+    commit_sound p outcome call made new = within_case (λ (g : Gone). IsSoundWorld g.0) w (log_after r.safe_end p.change) (committed w r p outcome) sound (moved_world (fold moved (w.scene, r) (moves_of_commit p (went r.plan 4))) (standing_after Failed (went r.plan 4)) (plan_after (went r.plan 4))
+        (commit_moves (IsGiven w) w.scene r sound.scene (sound.replicas r there) (sound.identifiers.marks r there) (sound.normal r there) (up_is_settled up) p call made new (went r.plan 4)))
 
     pub write_sound : (what : Write) → IsWellGiven what → IsSoundWorld (after_write w r what (write r.safe what w.time)).0
     write_sound what is = by (write r.safe what w.time) refl
@@ -76,7 +73,7 @@ module _ (w : World) (sound : IsSoundWorld w) (r : Replica) (there : Member r w.
         by : (t : Result Change WriteRefusal) → write r.safe what w.time ≡ t → IsSoundWorld (after_write w r what t).0
         by (Err x) e = sound
         by (Ok c) e = commit_sound (record { call = ToWrite what w.time; change = c }) (outcomes.Usn c.usn) is (ap change_in e)
-            (subst (λ (d : Change). IfSome d.mark (λ m. IsGiven w m.1.inv)) (answered (write_refusal r.safe what) (own_change r.safe (rows_written r.safe what w.time)) c e).1 tt)
+            (subst (λ (d : Change). IfSome d.mark (λ m. IsGiven w m.1.inv)) (answered (write_refusal r.safe what) (own_change r.safe (items_written r.safe what w.time)) c e).1 tt)
 
     pub collect_sound : (lifetime : ℕ) → IsSoundWorld (after_collect w r lifetime (collect r.safe w.time lifetime)).0
     collect_sound lifetime = by (collect r.safe w.time lifetime) refl
@@ -84,7 +81,7 @@ module _ (w : World) (sound : IsSoundWorld w) (r : Replica) (there : Member r w.
         by : (t : Result Change CollectRefusal) → collect r.safe w.time lifetime ≡ t → IsSoundWorld (after_collect w r lifetime t).0
         by (Err x) e = sound
         by (Ok c) e = commit_sound (record { call = ToCollect w.time lifetime; change = c }) (outcomes.Removed (length c.removed)) tt (ap change_in e)
-            (subst (λ (d : Change). IfSome d.mark (λ m. IsGiven w m.1.inv)) (answered (option_or (then_some (is_quarantined r.safe.mode) IsQuarantined) (then_some (nat_lt usn_limit (collection r.safe (deaths_to_collect r.safe w.time lifetime)).usn) UsnLimit)) (collection r.safe (deaths_to_collect r.safe w.time lifetime)) c e).1 tt)
+            (subst (λ (d : Change). IfSome d.mark (λ m. IsGiven w m.1.inv)) (answered (collect_refusal r.safe (collection r.safe (deaths_to_collect r.safe w.time lifetime))) (collection r.safe (deaths_to_collect r.safe w.time lifetime)) c e).1 tt)
 
     other_refusal : (reply : Reply) (x : TakeRefusal) → ((inv : Identifier) (mine shown : ℕ) → x ≢ takes.RolledBack inv mine shown) → (after_take w r reply (Err x)).0 ≡ w
     other_refusal reply (takes.RolledBack inv mine shown) other = absurd (other inv mine shown refl)

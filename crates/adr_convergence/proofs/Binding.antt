@@ -10,11 +10,11 @@ use Rattle.adr_event.specs.declared.refusal.ServeRefusal.TheVariants as serves
 use Rattle.adr_model.specs.Member.{Member}
 use Rattle.adr_model.specs.Update.{Identifier}
 use Rattle.adr_model.specs.Place.{identifier}
-use Rattle.adr_model.specs.Store.{Kept, Store, State, no_mark, kept_of}
+use Rattle.adr_model.specs.Store.{Kept, Store, no_mark, kept_of}
 use Rattle.adr_model.specs.Serve.{Request, Reply, is_quarantined, ask, serve_refusal, reply_to, serve}
 use Rattle.adr_model.specs.Collect.{backup}
 use Rattle.adr_model.specs.Replica.{Replica}
-use Rattle.adr_model.specs.World.{Name, World, Sent, bound, nothing, of_controller, asks, after_serve, served, serves_request, backed_up}
+use Rattle.adr_model.specs.World.{Name, World, Snapshot, Sent, bound, nothing, of_controller, asks, after_serve, served, serves_request, backed_up}
 use Rattle.adr_model.specs.Sound.{IsSoundRequest, IsSoundReply, IsSoundStore, IsGiven, AreMarksGiven, IsSoundWorld}
 use Rattle.adr_history.proofs.Tables.{each_found}
 use Rattle.adr_history.proofs.Asked.{asked_is_sound}
@@ -165,7 +165,7 @@ module _ (w : World) (sound : IsSoundWorld w) where
   }
 
   -- only the time and the snapshots change
-  pub aside : (time : ℕ) (snapshots : List (Name × State)) → IsSoundWorld (record w { time = time; snapshots = snapshots })
+  pub aside : (time : ℕ) (snapshots : List (Name × Snapshot)) → IsSoundWorld (record w { time = time; snapshots = snapshots })
   aside time snapshots = record {
     clean = sound.clean;
     scene = sound.scene;

@@ -1,18 +1,12 @@
 -- A call that a sound controller makes may settle.
-use Rattle.std.specs.Bool.{then_some}
-use Rattle.std.specs.Option.{option_or}
-use Rattle.std.specs.Prelude.{nat_lt}
-use Rattle.adr_event.specs.declared.refusal.CollectRefusal.TheVariants.{Quarantined as IsQuarantined, UsnLimit}
-use Rattle.adr_model.specs.Serve.{is_quarantined}
-use Rattle.adr_model.specs.Write.{usn_limit}
 use Rattle.std.proofs.Common.{◌≡◌, ◌++◌, List, [], Some, Result, Ok, Err, refl, sym, subst}
 use Rattle.adr_model.specs.Member.{Member, Each}
 use Rattle.adr_model.specs.Store.{Normal, State}
 use Rattle.adr_model.specs.Change.{Change, Written, held_of, after}
 use Rattle.adr_model.specs.History.{Follows}
 use Rattle.adr_model.specs.Take.{take_items, taken_change, refusal_of, take}
-use Rattle.adr_model.specs.Write.{rows_written, own_change, write_refusal, write}
-use Rattle.adr_model.specs.Collect.{deaths_to_collect, collection, collect}
+use Rattle.adr_model.specs.Write.{items_written, own_change, write_refusal, write}
+use Rattle.adr_model.specs.Collect.{deaths_to_collect, collection, collect_refusal, collect}
 use Rattle.adr_model.specs.Replica.{Call, ToWrite, ToTake, ToCollect, ToQuarantine, change_in, change_of, Pending, issued_by, Replica, Scene}
 use Rattle.adr_model.specs.Sound.{last_of, IsSoundScene, IsSoundState, IsSoundCall}
 use Rattle.adr_knowledge.proofs.Refusing.{answered}
@@ -52,8 +46,8 @@ module _ (sc : Scene) (s : State) (scene : IsSoundScene sc) (state : IsSoundStat
       ok : write s w now ≡ Ok c
       ok = in_change (write s w now) c made
 
-      change : own_change s (rows_written s w now) ≡ c
-      change = (answered (write_refusal s w) (own_change s (rows_written s w now)) c ok).1
+      change : own_change s (items_written s w now) ≡ c
+      change = (answered (write_refusal s w) (own_change s (items_written s w now)) c ok).1
 
       left : MayIssue sc c (issued_by (ToWrite w now) c) × Leaves sc s (record { call = ToWrite w now; change = c })
       left = write_leaves_sound sc s w now c scene state is ok
@@ -73,7 +67,7 @@ module _ (sc : Scene) (s : State) (scene : IsSoundScene sc) (state : IsSoundStat
       ok = in_change (collect s now lifetime) c made
 
       change : collection s (deaths_to_collect s now lifetime) ≡ c
-      change = (answered (option_or (then_some (is_quarantined s.mode) IsQuarantined) (then_some (nat_lt usn_limit (collection s (deaths_to_collect s now lifetime)).usn) UsnLimit)) (collection s (deaths_to_collect s now lifetime)) c ok).1
+      change = (answered (collect_refusal s (collection s (deaths_to_collect s now lifetime))) (collection s (deaths_to_collect s now lifetime)) c ok).1
 
       left : Follows (last_of sc s.inv) c × Leaves sc s (record { call = ToCollect now lifetime; change = c })
       left = collection_leaves sc s now lifetime c scene state ok

@@ -1,28 +1,25 @@
 -- Controllers that come, and that are restored, in a sound world.
 use Rattle.std.proofs.Common.{◌≡◌, ◌≢◌, inl, inr, List, [], ◌∷◌, ◌++◌, Result, Ok, Err, refl, sym, ap, ◌∙◌, subst}
-use Rattle.std.specs.Bool.{then_some}
-use Rattle.std.specs.Option.{option_or}
-use Rattle.std.specs.Prelude.{length, nat_lt}
-use Rattle.adr_vector.specs.Vector.{most_cursors}
 use Rattle.adr_event.specs.declared.refusal.AdoptRefusal.{AdoptRefusal}
-use Rattle.adr_event.specs.declared.refusal.AdoptRefusal.TheVariants.{IdentifierUsed, Full}
-use Rattle.adr_event.specs.declared.refusal.Table.TheVariants.{Cursors as CursorTable}
 use Rattle.adr_model.specs.Member.{Member, Each}
 use Rattle.adr_model.specs.Update.{Identifier}
 use Rattle.adr_model.specs.Store.{Normal, Store, State, empty_state}
 use Rattle.adr_model.specs.History.{no_history}
-use Rattle.adr_model.specs.Collect.{names_inv, woken, adopt}
+use Rattle.adr_model.specs.Collect.{woken, adopt}
 use Rattle.adr_model.specs.Replica.{Replica, on_new_disk, history_of, begun}
-use Rattle.adr_model.specs.World.{Name, World, with_replica, gives, adopts}
+use Rattle.adr_model.specs.Lengths.{log_of}
+use Rattle.adr_model.specs.World.{Name, World, Gone, with_replica, adopts}
+use Rattle.adr_model.specs.Step.{gives}
 use Rattle.adr_model.specs.Sound.{IsSoundScene, IsSoundStore, IsSoundState, IsGiven, AreMarksGiven, IsSoundWorld}
 use Rattle.adr_model.specs.Convergence.{IsNewName, IsNewDsa, IsNewInv}
 use Rattle.adr_model.proofs.Members.{member_left, member_right}
 use Rattle.adr_history.specs.Later.{IsLater}
 use Rattle.adr_history.specs.Logs.{first_log}
 use Rattle.adr_history.proofs.Empty.{new_is_sound}
-use Rattle.adr_history.proofs.Woken.{adopted_is_sound}
+use Rattle.adr_history.proofs.Woken.{adopted_is_woken, adopted_is_sound}
 use Rattle.adr_history.proofs.Tables.{entry_other}
-use Rattle.adr_knowledge.proofs.Refusing.{answered}
+use Rattle.adr_event.specs.declared.answer.Outcome.TheVariants as outcomes
+use Rattle.adr_convergence.proofs.Reached.{within_case}
 use Rattle.adr_convergence.proofs.Replacing.{MayStand, OnlyLog, replaced, added}
 
 -- what was given is so when more is given
@@ -99,10 +96,6 @@ module _ (w : World) (sound : IsSoundWorld w) (inv : Identifier) (new_inv : IsNe
 
   -- ---- a controller that is made of an image
 
-  -- what is adopted
-  woken_is : (image : Store) (dsa : Identifier) (s : State) → adopt image dsa inv ≡ Ok s → woken image dsa inv ≡ s
-  woken_is image dsa s e = (answered (option_or (then_some (names_inv image inv) IdentifierUsed) (then_some (nat_lt most_cursors (length (woken image dsa inv).store.vector)) (Full CursorTable most_cursors))) (woken image dsa inv) s e).1
-
   image_marks : (dsas : List Identifier) (image : Store) (dsa : Identifier) (s : State) → woken image dsa inv ≡ s → AreMarksGiven w image → AreMarksGiven (given_more dsas) s.store
   image_marks dsas image dsa s is given k m = still_given w dsas (inv ∷ []) k.1.inv (given k (subst (λ (d : State). Member k d.store.marks) (sym is) m))
 
@@ -113,18 +106,20 @@ module _ (w : World) (sound : IsSoundWorld w) (inv : Identifier) (new_inv : IsNe
       where
         by : (t : Result State AdoptRefusal) → adopt image dsa inv ≡ t → IsSoundWorld (adopts (given_more (dsa ∷ [])) (λ r. w.replicas ++ r ∷ []) name t).0
         by (Err x) e = given_sound w (dsa ∷ []) (inv ∷ []) sound
-        by (Ok s) e = let is = woken_is image dsa s e in
-            comes name dsa new_name new_dsa s (ap (λ (d : State). d.inv) (sym is)) (ap (λ (d : State). d.dsa) (sym is)) (ap (λ (d : State). d.mode) (sym is))
-            (image_marks (dsa ∷ []) image dsa s is given_image) (adopted_is_sound w.scene image dsa inv s sound.scene sound_image fresh e)
+        by (Ok s) e = let is = adopted_is_woken image dsa inv s e in
+            within_case (λ (g : Gone). IsSoundWorld g.0) (given_more (dsa ∷ [])) (log_of s) (record (given_more (dsa ∷ [])) { scene = begun w.scene s; replicas = w.replicas ++ on_new_disk name s ∷ [] }, outcomes.Ok) (given_sound w (dsa ∷ []) (inv ∷ []) sound)
+            (comes name dsa new_name new_dsa s (ap (λ (d : State). d.inv) (sym is)) (ap (λ (d : State). d.dsa) (sym is)) (ap (λ (d : State). d.mode) (sym is))
+            (image_marks (dsa ∷ []) image dsa s is given_image) (adopted_is_sound w.scene image dsa inv s sound.scene sound_image fresh e))
 
     pub restored : (r : Replica) → Member r w.replicas → r.name ≡ name → IsSoundWorld (adopts (given_more []) (with_replica w.replicas) name (adopt image r.safe.dsa inv)).0
     restored r there called = by (adopt image r.safe.dsa inv) refl
       where
         by : (t : Result State AdoptRefusal) → adopt image r.safe.dsa inv ≡ t → IsSoundWorld (adopts (given_more []) (with_replica w.replicas) name t).0
         by (Err x) e = given_sound w [] (inv ∷ []) sound
-        by (Ok s) e = let is = woken_is image r.safe.dsa s e in let dsa : s.dsa ≡ r.safe.dsa = ap (λ (d : State). d.dsa) (sym is) in
-            replaced (given_more []) (begun w.scene s) r (on_new_disk name s) (given_sound w [] (inv ∷ []) sound) there
+        by (Ok s) e = let is = adopted_is_woken image r.safe.dsa inv s e in let dsa : s.dsa ≡ r.safe.dsa = ap (λ (d : State). d.dsa) (sym is) in
+            within_case (λ (g : Gone). IsSoundWorld g.0) (given_more []) (log_of s) (record (given_more []) { scene = begun w.scene s; replicas = with_replica w.replicas (on_new_disk name s) }, outcomes.Ok) (given_sound w [] (inv ∷ []) sound)
+            (replaced (given_more []) (begun w.scene s) r (on_new_disk name s) (given_sound w [] (inv ∷ []) sound) there
             (stands [] name s (ap (λ (d : State). d.inv) (sym is)) (ap (λ (d : State). d.mode) (sym is))
             (subst (λ (d : Identifier). Member d (w.given.dsas ++ [])) (sym dsa) (member_left w.given.dsas [] r.safe.dsa (sound.identifiers.dsas_given r there)))
             (image_marks [] image r.safe.dsa s is given_image) (adopted_is_sound w.scene image r.safe.dsa inv s sound.scene sound_image fresh e))
-            (sym called) dsa (inr (λ q m same. apart q m (same ∙ ap (λ (d : State). d.inv) (sym is)))) (only s (ap (λ (d : State). d.inv) (sym is)))
+            (sym called) dsa (inr (λ q m same. apart q m (same ∙ ap (λ (d : State). d.inv) (sym is)))) (only s (ap (λ (d : State). d.inv) (sym is))))

@@ -39,7 +39,7 @@ pub record MayFollow (w v : World) : Type 0 where
   pub stores : (s : Store) → IsStoreOf v s → MayCome w s
   pub requests : Each (λ (q : Name × Request). Member q w.requests ⊎ IsGrown w q.1.vector) v.requests
 
-grown_covers : (w : World) (p v : Cursors) → IsCovered w p → IsGrown w v → at_most p v ≡ true
+pub grown_covers : (w : World) (p v : Cursors) → IsCovered w p → IsGrown w v → at_most p v ≡ true
 grown_covers w p v covered grown = covered_by_more p grown.origin.vector v grown.grows (covered.stores grown.origin grown.of)
 
 pub followed : (w v : World) → MayFollow w v → IsPurgedCovered v

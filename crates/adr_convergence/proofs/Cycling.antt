@@ -1,8 +1,8 @@
 -- One pull of a cycle: what it answers, what it leaves, and that the cycle may go on.
-use Rattle.std.proofs.Common.{◌≡◌, ◌⊎◌, inl, inr, ⊎_elim, ℕ, ◌≤◌, ◌+◌, List, [], ◌∷◌, Bool, true, false, cond, Option, Some, None, is_none, is_some, unwrap_or, Ok, Err, refl, sym, ap, ◌∙◌, subst, arith, fold, length, ◌==◌, append-nil}
+use Rattle.std.proofs.Common.{◌≡◌, ◌⊎◌, inl, inr, ⊎_elim, ℕ, ◌≤◌, ◌+◌, List, [], ◌∷◌, Bool, true, false, cond, Option, Some, None, is_none, is_some, unwrap_or, Ok, Err, refl, sym, ap, ◌∙◌, subst, arith, fold, length, ◌==◌, append-nil, if◌then◌else◌}
 use Rattle.std.specs.List.{find}
 use Rattle.std.specs.Option.{option_map}
-use Rattle.std.specs.Prelude.{codes}
+use Rattle.std.specs.Prelude.{codes, nat_lt}
 use Rattle.std.specs.Str.{bytes_eq}
 use Rattle.adr_vector.specs.Vector.{Cursors, at, at_most, joined}
 use Rattle.adr_vector.proofs.Comparing.{everywhere_from_at_most, at_most_from_everywhere}
@@ -11,28 +11,29 @@ use Rattle.adr_event.specs.declared.answer.Answer.{Answer}
 use Rattle.adr_event.specs.declared.answer.Outcome.{Outcome}
 use Rattle.adr_event.specs.declared.answer.Outcome.TheVariants as outcomes
 use Rattle.adr_event.specs.declared.refusal.TakeRefusal.{TakeRefusal}
-use Rattle.adr_event.specs.declared.refusal.TakeRefusal.TheVariants as takes
 use Rattle.adr_model.specs.Member.{Member, Each}
 use Rattle.adr_model.specs.Update.{Update}
-use Rattle.adr_model.specs.Reflects.{AtMost, knowledge_of, Reflects}
-use Rattle.adr_model.specs.Store.{Normal, State, updates_of}
+use Rattle.adr_model.specs.Reflects.{AtMost, Covers, knowledge_of, Reflects}
+use Rattle.adr_model.specs.Store.{Normal, State, updates_of, kept_of}
 use Rattle.adr_model.specs.Change.{Item, Change, held_of, rows_after, after}
 use Rattle.adr_model.specs.History.{Follows}
 use Rattle.adr_model.specs.Serve.{Request, Reply, candidates, byte_limit, first_items, reply_of, begins_at, ask, reply_to}
 use Rattle.adr_model.specs.Take.{take_items, taken_change, take}
-use Rattle.adr_model.specs.Refused.{take_refused}
+use Rattle.adr_event.specs.declared.refusal.Table.TheVariants.{Log}
+use Rattle.adr_model.specs.Lengths.{log_limit, log_after}
+use Rattle.adr_model.specs.Refused.{usn_limited, full, full_fields}
 use Rattle.adr_model.specs.Replica.{Pending, ToTake, Up, Plan, Replica, recorded, moved, Went, went, moves_of_commit, standing_after, plan_after, outcome_after, Failed}
-use Rattle.adr_model.specs.World.{Name, World, Gone, answer, replica_at, with_replica, of_made, where_up, nothing, stays, asks, rows_in, after_serve, served, serves_request, commit, after_take, delivered, delivers}
+use Rattle.adr_model.specs.World.{Name, World, Gone, answer, replica_at, with_replica, of_made, where_up, nothing, stays, asks, rows_in, after_serve, served, serves_request, committed, commit, after_take, delivered, delivers}
 use Rattle.adr_model.specs.Cycles.{Pulled, first_told, pull_delivered, pull_served, pull_asked, pull}
 use Rattle.adr_model.specs.Sound.{last_of, IsSoundState, IsSoundReply, IsSent, IsSoundWorld}
-use Rattle.adr_model.specs.Convergence.{units_beyond}
+use Rattle.adr_model.specs.Convergence.{units_beyond, IsRefused}
 use Rattle.adr_history.specs.Settling.{Leaves}
-use Rattle.adr_taking.proofs.TakenLeaves.{taken_leaves, taken_from}
-use Rattle.adr_taking.proofs.TakenIdle.{taken_idle}
+use Rattle.adr_taking.proofs.TakenLeaves.{taken_leaves}
+use Rattle.adr_taking.proofs.TakenLacked.{taken_idle, taken_lacked}
 use Rattle.adr_convergence.proofs.Found.{same_name, same_name_tests, replica_found}
-use Rattle.adr_convergence.proofs.Pulling.{IsLimit, serves_it, reply_sound, taken_or_limited, sent_is_held, sent_is_new, kept_there, nearer}
+use Rattle.adr_convergence.proofs.Pulling.{IsLimit, serves_it, reply_sound, taken_or_limited, sent_is_held, sent_is_new, kept_so, kept_there, nearer}
 use Rattle.adr_knowledge.proofs.Comparing.{supersedes_self}
-use Rattle.adr_convergence.proofs.Lines.{pull_sound}
+use Rattle.adr_convergence.proofs.Stepping.{pull_sound}
 
 -- ---- who is found after a controller was put in place
 
@@ -112,7 +113,15 @@ module _ (w v : World) (dest source : Name) (d s : Replica) (goes : Goes w v des
 
   -- the controller and the world behind the delivery
   abbrev pub next : Replica
-  next = record d { read = after d.safe change; safe = after d.safe change; kept = None; standing = Up; plan = None }
+  next = record d {
+    read = after d.safe change;
+    read_end = log_after d.safe_end change;
+    safe = after d.safe change;
+    safe_end = log_after d.safe_end change;
+    kept = None;
+    standing = Up;
+    plan = None;
+  }
 
   abbrev pub behind : World
   behind = record v { scene = recorded v.scene d.safe.inv pending; replicas = with_replica v.replicas next }
@@ -129,11 +138,18 @@ module _ (w v : World) (dest source : Name) (d s : Replica) (goes : Goes w v des
       ∙ (ap (λ st. where_up (nothing v) st (served v s (Some request))) goes.s_up
       ∙ ap (after_serve v s) (serves_it v.scene d.safe s.safe most goes.sound.scene d_safe s_safe d_normal s_normal goes.schema goes.purged))
 
-  commit_is : (o : Outcome) → commit v d pending o ≡ (behind, o)
-  commit_is o = ap (λ (g : Went). let m = fold moved (v.scene, d) (moves_of_commit pending g) in (
+  -- whether the log has no room for the change
+  abbrev is_full : Bool
+  is_full = nat_lt log_limit (log_after d.safe_end change)
+
+  committed_is : (o : Outcome) → committed v d pending o ≡ (behind, o)
+  committed_is o = ap (λ (g : Went). let m = fold moved (v.scene, d) (moves_of_commit pending g) in (
     record v { scene = m.0; replicas = with_replica v.replicas (record m.1 { standing = standing_after Failed g; plan = plan_after g }) },
     outcome_after g o,
   )) (ap (λ (p : Option Plan). went p 4) goes.plan)
+
+  commit_is : (b : Bool) → is_full ≡ b → (o : Outcome) → commit v d pending o ≡ (if b then (v, full Log log_limit) else (behind, o))
+  commit_is b is o = ap (λ (t : Bool). if t then (v, full Log log_limit) else committed v d pending o) is ∙ ap (λ (g : Gone). if b then (v, full Log log_limit) else g) (committed_is o)
 
   reaches : delivers v dest (Some reply) ≡ after_take v d reply (take d.safe reply)
   reaches =
@@ -159,17 +175,27 @@ module _ (w v : World) (dest source : Name) (d s : Replica) (goes : Goes w v des
       ∷ answer (codes "deliver") dest o
       ∷ []
 
-  pub took : take d.safe reply ≡ Ok change → pull v dest source most ≡ (behind, told taking, is_none reply.last)
-  took ok = pull_is (behind, taking) (reaches ∙ ap (after_take v d reply) ok ∙ commit_is taking)
+  -- the reply is taken, and the log has room for its change
+  abbrev pub Takes : Type 0
+  Takes = (take d.safe reply ≡ Ok change) × (is_full ≡ false)
 
-  limited : (x : TakeRefusal) → take d.safe reply ≡ Err x → IsLimit x → pull v dest source most ≡ (v, told (take_refused x), false)
-  limited x e (inl is) = subst (λ (y : TakeRefusal). take d.safe reply ≡ Err y → pull v dest source most ≡ (v, told (take_refused y), false)) (sym is)
-      (λ f. pull_is (v, take_refused takes.UsnLimit) (reaches ∙ ap (after_take v d reply) f)) e
-  limited x e (inr (table, limit, is)) = subst (λ (y : TakeRefusal). take d.safe reply ≡ Err y → pull v dest source most ≡ (v, told (take_refused y), false)) (sym is)
-      (λ f. pull_is (v, take_refused (takes.Full table limit)) (reaches ∙ ap (after_take v d reply) f)) e
+  pub took : Takes → pull v dest source most ≡ (behind, told taking, is_none reply.last)
+  took t = pull_is (behind, taking) (reaches ∙ (ap (after_take v d reply) t.0 ∙ commit_is false t.1 taking))
 
-  pub taken_or_not : (take d.safe reply ≡ Ok change) ⊎ ((x : TakeRefusal) × (pull v dest source most ≡ (v, told (take_refused x), false)) × IsLimit x)
-  taken_or_not = ⊎_elim (λ ok. inl ok) (λ t. inr (t.0, limited t.0 t.1 t.2, t.2)) (taken_or_limited v.scene d.safe s.safe most goes.sound.scene d_safe s_safe d_normal s_normal goes.schema goes.purged)
+  -- the pull leaves the world as it was, and says that a limit is met
+  abbrev pub MeetsLimit : Type 0
+  MeetsLimit = (o : Outcome) × (pull v dest source most ≡ (v, told o, false)) × (IsRefused 21 o ⊎ IsRefused 22 o)
+
+  refused : (x : TakeRefusal) → take d.safe reply ≡ Err x → IsLimit x → MeetsLimit
+  refused x e (inl is) = (usn_limited, pull_is (v, usn_limited) (reaches ∙ ap (after_take v d reply) (e ∙ ap Err is)), inl (codes "UsnLimit", [], refl))
+  refused x e (inr (table, limit, is)) = (full table limit, pull_is (v, full table limit) (reaches ∙ ap (after_take v d reply) (e ∙ ap Err is)), inr (codes "Full", full_fields table limit, refl))
+
+  pub taken_or_not : Takes ⊎ MeetsLimit
+  taken_or_not = ⊎_elim (λ ok. by is_full refl ok) (λ t. inr (refused t.0 t.1 t.2)) (taken_or_limited v.scene d.safe s.safe most goes.sound.scene d_safe s_safe d_normal s_normal goes.schema goes.purged)
+    where
+      by : (b : Bool) → is_full ≡ b → take d.safe reply ≡ Ok change → Takes ⊎ MeetsLimit
+      by true is ok = inr (full Log log_limit, pull_is (v, full Log log_limit) (reaches ∙ (ap (after_take v d reply) ok ∙ commit_is true is taking)), inr (codes "Full", full_fields Log log_limit, refl))
+      by false is ok = inl (ok, is)
 
   sound_reply : IsSoundReply v.scene reply
   sound_reply = reply_sound v.scene d.safe s.safe most goes.sound.scene d_safe s_safe d_normal s_normal goes.schema goes.purged
@@ -206,7 +232,7 @@ module _ (w v : World) (dest source : Name) (d s : Replica) (goes : Goes w v des
   nearer_end = nearer v.scene d.safe s.safe most goes.sound.scene d_safe s_safe d_normal s_normal goes.schema goes.purged
 
   -- the last reply ends behind all that the source has, and carries its vector
-  pub ended : (W : Cursors) → reply.last ≡ Some W → (reply.to.prop ≡ s.safe.store.usn) × (reply.to.seen ≡ s.safe.store.usn) × (W ≡ s.safe.store.vector)
+  pub ended : (W : Cursors) → reply.last ≡ Some W → (reply.to ≡ record { obj = s.safe.store.usn; prop = s.safe.store.usn; seen = s.safe.store.usn }) × (W ≡ s.safe.store.vector)
   ended W = by (length sent == length all)
     where
       all : List (ℕ × Item)
@@ -216,34 +242,45 @@ module _ (w v : World) (dest source : Name) (d s : Replica) (goes : Goes w v des
       sent = first_items request.max byte_limit all
 
       by : (b : Bool) → (reply_of s.safe request (begins_at s.safe request) sent b).last ≡ Some W
-          → ((reply_of s.safe request (begins_at s.safe request) sent b).to.prop ≡ s.safe.store.usn) × ((reply_of s.safe request (begins_at s.safe request) sent b).to.seen ≡ s.safe.store.usn) × (W ≡ s.safe.store.vector)
-      by true e = (refl, refl, cc)
+          → ((reply_of s.safe request (begins_at s.safe request) sent b).to ≡ record { obj = s.safe.store.usn; prop = s.safe.store.usn; seen = s.safe.store.usn }) × (W ≡ s.safe.store.vector)
+      by true e = (refl, cc)
       by false e = absurd (cc)
 
-  module _ (ok : take d.safe reply ≡ Ok change) where
+  -- what is kept of the source then
+  pub kept_as : kept_of next.safe.store s.safe.dsa ≡ record { inv = s.safe.inv; mark = reply.to }
+  kept_as = kept_so v.scene d.safe s.safe most goes.sound.scene d_safe s_safe d_normal s_normal goes.schema goes.purged
+
+  module _ (takes : Takes) where
+    ok : take d.safe reply ≡ Ok change
+    ok = takes.0
+
     pub behind_sound : IsSoundWorld behind
-    behind_sound = subst (λ (p : Pulled). IsSoundWorld p.0) (took ok) (pull_sound v goes.sound dest source most)
+    behind_sound = subst (λ (p : Pulled). IsSoundWorld p.0) (took takes) (pull_sound v goes.sound dest source most)
 
     pub left : Follows (last_of v.scene d.safe.inv) change × Leaves v.scene d.safe pending
     left = let t = taken_leaves v.scene d.safe reply change goes.sound.scene d_safe sound_reply ok in (t.0, t.1.1)
 
-    -- where all that the source holds was taken, nothing is written
-    pub idle : Each (λ u. Reflects v.scene.issued (knowledge_of d.safe.store) u) (updates_of s.safe.store.rows) → change.usn ≡ d.safe.store.usn
-    idle all = taken_idle v.scene d.safe reply change goes.sound.scene d_safe sound_reply ok
-        (sent_is_new v.scene d.safe s.safe most goes.sound.scene d_safe s_safe d_normal s_normal goes.schema goes.purged) (λ u m. all u (sent_held u m))
+    new_to_it : (u : Update) → IsSent reply u → Covers (at d.safe.store.vector) u → ⊥
+    new_to_it = sent_is_new v.scene d.safe s.safe most goes.sound.scene d_safe s_safe d_normal s_normal goes.schema goes.purged
 
-    pub brings : Each (λ u. Member u (updates_of d.safe.store.rows) ⊎ Member u (updates_of s.safe.store.rows)) (updates_of next.safe.store.rows)
-    brings u m = ⊎_elim (λ old. inl old) (λ sent. inr (sent_held u sent)) (taken_from v.scene d.safe reply change goes.sound.scene d_safe sound_reply ok u m)
+    -- where all that the source holds was taken, nothing is written
+    pub idle : Each (λ u. Reflects v.scene.issued (knowledge_of d.safe.store) u) (updates_of s.safe.store.rows) → (next.safe.store.usn ≡ d.safe.store.usn) × (next.safe.store.rows ≡ d.safe.store.rows)
+    idle all = (usn, ap (λ ws. rows_after [] (held_of ws) d.safe.store.rows) (left.0.idle (omega (arith, usn, d_safe.last))).0)
+      where
+        usn : change.usn ≡ d.safe.store.usn
+        usn = taken_idle v.scene d.safe reply change goes.sound.scene d_safe sound_reply ok new_to_it (λ u m. all u (sent_held u m))
+
+    -- a row that comes is the source's, and was not reflected before
+    pub gained : Each (λ u. Member u (updates_of d.safe.store.rows) ⊎ (Member u (updates_of s.safe.store.rows) × (Reflects w.scene.issued (knowledge_of d.safe.store) u → ⊥))) (updates_of next.safe.store.rows)
+    gained u m = ⊎_elim (λ old. inl old) (λ sent. inr (sent_held u sent.0, λ h. sent.1 (subst (λ is. Reflects is (knowledge_of d.safe.store) u) (sym goes.issued) h)))
+        (taken_lacked v.scene d.safe reply change goes.sound.scene d_safe sound_reply ok new_to_it u m)
 
     -- a controller that pulls from itself writes nothing
     self_like : s ≡ d → IsLike s.safe next.safe
-    self_like e = subst (λ (x : Replica). IsLike x.safe next.safe) (sym e) (record { dsa = refl; inv = refl; schema = refl; usn = usn; rows = ap (λ ws. rows_after [] (held_of ws) d.safe.store.rows) writes; purged = refl })
+    self_like e = subst (λ (x : Replica). IsLike x.safe next.safe) (sym e) (record { dsa = refl; inv = refl; schema = refl; usn = still.0; rows = still.1; purged = refl })
       where
-        usn : change.usn ≡ d.safe.store.usn
-        usn = idle (subst (λ (x : Replica). Each (λ u. Reflects v.scene.issued (knowledge_of d.safe.store) u) (updates_of x.safe.store.rows)) (sym e) (λ u m. inl (u, m, supersedes_self u)))
-
-        writes : change.writes ≡ []
-        writes = (left.0.idle (omega (arith, usn, d_safe.last))).0
+        still : (next.safe.store.usn ≡ d.safe.store.usn) × (next.safe.store.rows ≡ d.safe.store.rows)
+        still = idle (subst (λ (x : Replica). Each (λ u. Reflects v.scene.issued (knowledge_of d.safe.store) u) (updates_of x.safe.store.rows)) (sym e) (λ u m. inl (u, m, supersedes_self u)))
 
     pub server_like : IsLike s.safe server.safe
     server_like = by (bytes_eq s.name d.name) refl

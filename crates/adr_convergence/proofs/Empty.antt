@@ -1,8 +1,8 @@
--- The empty world is sound.
+-- The empty world is that of a run.
 use Rattle.std.proofs.Common.{subst, refl}
 use Rattle.adr_model.specs.Member.{Member}
 use Rattle.adr_model.specs.World.{empty_world}
-use Rattle.adr_model.specs.Sound.{IsSoundScene, AreIdentifiersSound}
+use Rattle.adr_model.specs.Sound.{IsSoundScene, AreIdentifiersSound, IsSoundWorld, IsOrderlyWorld}
 use Rattle.adr_model.specs.Convergence.{BeginsSound}
 use Rattle.adr_history.proofs.Begun.{nothing_stood}
 
@@ -10,6 +10,7 @@ scene_is_sound : IsSoundScene empty_world.scene
 scene_is_sound = record {
   one_content = λ u m. absurd m;
   once = λ u m. absurd m;
+  one_change = λ u m. absurd m;
   born = λ u m. absurd m;
   births = λ u m. absurd m;
   kept = λ i. record { start = λ x m. absurd m; changes = tt };
@@ -30,8 +31,8 @@ identifiers_are_sound = record {
   replies = λ r m. absurd m;
 }
 
-pub begins_sound : BeginsSound
-begins_sound = record {
+world_is_sound : IsSoundWorld empty_world
+world_is_sound = record {
   clean = refl;
   scene = scene_is_sound;
   replicas = λ r m. absurd m;
@@ -41,3 +42,18 @@ begins_sound = record {
   identifiers = identifiers_are_sound;
   normal = λ r m. absurd m;
 }
+
+world_is_orderly : IsOrderlyWorld empty_world
+world_is_orderly = record {
+  names = λ r m. absurd m;
+  replicas = λ r m. absurd m;
+  images = λ i m. absurd m;
+  snapshots = λ s m. absurd m;
+  bound_requests = λ x m. absurd m;
+  bound_replies = λ x m. absurd m;
+  bound_images = λ x m. absurd m;
+  bound_snapshots = λ x m. absurd m;
+}
+
+pub begins_sound : BeginsSound
+begins_sound = record { orderly = world_is_orderly; sound = λ clean. world_is_sound }

@@ -1,53 +1,46 @@
--- Every line of a run keeps a world sound, also a pull and a cycle of pulls.
-use Rattle.std.proofs.Common.{◌≡◌, ℕ, zero, suc, List, [], ◌∷◌, Bool, true, false, Option, Some, None, refl, sym, subst, inl}
-use Rattle.adr_event.specs.declared.answer.Answer.{Answer}
+-- Every world on the way of a line of a run is again that of a run.
+use Rattle.std.proofs.Common.{◌≡◌, List, [], ◌∷◌, Bool, true, false, refl}
 use Rattle.adr_event.specs.declared.event.Event.{Event}
 use Rattle.adr_event.specs.declared.event.Event.TheVariants as events
-use Rattle.adr_model.specs.Serve.{Request, Reply}
-use Rattle.adr_model.specs.World.{Name, World, empty_world, asks, serves_request, delivers}
-use Rattle.adr_model.specs.Cycles.{Pulled, pull_served, pull_asked, pull, and_then, pulls, reply_limit, happens}
-use Rattle.adr_model.specs.Sound.{IsSoundWorld}
-use Rattle.adr_model.specs.Convergence.{LinesStaySound, after_lines, MayAllHappen, RunsAreSound}
+use Rattle.adr_model.specs.World.{World, empty_world}
+use Rattle.adr_model.specs.Cycles.{reply_limit}
+use Rattle.adr_model.specs.Step.{step, after_lines}
+use Rattle.adr_model.specs.Sound.{IsSoundWorld, IsOrderlyWorld, IsWorldOfRun}
+use Rattle.adr_model.specs.Convergence.{MayHappen, IsOnTheWay, StaysSound, MayAllHappen, RunsAreSound}
 use Rattle.adr_convergence.proofs.Empty.{begins_sound}
-use Rattle.adr_convergence.proofs.Binding.{Makes, IsRequest, IsReply, asks_sound, serves_sound}
-use Rattle.adr_convergence.proofs.Stepping.{delivers_sound, stays_sound}
+use Rattle.adr_convergence.proofs.Exchanges.{way_case}
+use Rattle.adr_convergence.proofs.Issuing.{stays_unclean}
+use Rattle.adr_convergence.proofs.Orderly.{pulls_orderly, step_orderly}
+use Rattle.adr_convergence.proofs.Stepping.{pulls_sound, step_sound}
 
-module _ (w : World) (sound : IsSoundWorld w) (dest source : Name) where
-  served_so : (v : World) → v ≡ w → (o : Option Reply) → ((r : Reply) → o ≡ Some r → IsReply w sound r) → IsSoundWorld (pull_served dest v o).0
-  served_so v same None all = subst IsSoundWorld (sym same) sound
-  served_so v same (Some r) all = subst (λ (u : World). IsSoundWorld (delivers u dest (Some r)).0) (sym same)
-      (delivers_sound w sound dest (Some r) (λ q e. let t = all q e in (t.0, inl t.1)))
-
-  asked_so : (v : World) → v ≡ w → (o : Option Request) → ((q : Request) → o ≡ Some q → IsRequest w sound q) → IsSoundWorld (pull_asked dest source v o).0
-  asked_so v same None all = subst IsSoundWorld (sym same) sound
-  asked_so v same (Some q) all = subst (λ (u : World). IsSoundWorld (pull_served dest (serves_request u source (Some q)).0 (serves_request u source (Some q)).2).0) (sym same)
-      (served_so (serves_request w source (Some q)).0 makes.0 (serves_request w source (Some q)).2 makes.1)
-    where
-      makes : Makes w (IsReply w sound) (serves_request w source (Some q))
-      makes = serves_sound w sound source (Some q) (λ p e. (all p e).0)
-
-  pub pull_sound : (max : ℕ) → IsSoundWorld (pull w dest source max).0
-  pull_sound max = let makes = asks_sound w sound dest source max in asked_so (asks w dest source max).0 makes.0 (asks w dest source max).2 makes.1
-
-then_sound : (p : Pulled) (go : World → World × List Answer) → IsSoundWorld p.0 → ((v : World) → IsSoundWorld v → IsSoundWorld (go v).0) → IsSoundWorld (and_then p go).0
-then_sound p go sound goes = by p.2 refl
+-- a world that is clean comes of one that was
+pub was_clean : (w : World) (e : Event) (v : World) → IsOnTheWay w e v → v.clean ≡ true → w.clean ≡ true
+was_clean w e v way clean = by w.clean refl
   where
-    by : (b : Bool) → p.2 ≡ b → IsSoundWorld (and_then (p.0, p.1, b) go).0
-    by true is = goes p.0 sound
-    by false is = sound
+    by : (b : Bool) → w.clean ≡ b → b ≡ true
+    by true is = refl
+    by false is = let t : v.clean ≡ false = stays_unclean w e v way is in cc
 
-pulls_sound : (n : ℕ) (w : World) (dest source : Name) (max : ℕ) → IsSoundWorld w → IsSoundWorld (pulls n w dest source max).0
-pulls_sound zero w dest source max sound = sound
-pulls_sound (suc n) w dest source max sound = then_sound (pull w dest source max) (λ v. pulls n v dest source max) (pull_sound w sound dest source max) (λ v is. pulls_sound n v dest source max is)
+pub way_sound : (w : World) (e : Event) → IsSoundWorld w → MayHappen w e → (v : World) → IsOnTheWay w e v → v.clean ≡ true → IsSoundWorld v
+way_sound w e sound may v way = way_case (λ (x : World). x.clean ≡ true → IsSoundWorld x) w e (λ name source max n is clean. pulls_sound w sound name source max n) (step_sound w sound e may) v way
 
-pub lines_stay_sound : LinesStaySound
-lines_stay_sound w (events.Pull name source max) sound may = pull_sound w sound name source max
-lines_stay_sound w (events.Cycle name source max) sound may = pulls_sound reply_limit w name source max sound
-lines_stay_sound w e sound may = stays_sound w e sound may
+pub way_orderly : (w : World) (e : Event) → IsOrderlyWorld w → MayHappen w e → (v : World) → IsOnTheWay w e v → IsOrderlyWorld v
+way_orderly w e orderly may v way = way_case IsOrderlyWorld w e (λ name source max n is. pulls_orderly w orderly name source max n) (step_orderly w orderly e may) v way
 
-runs : (es : List Event) (w : World) → IsSoundWorld w → MayAllHappen w es → IsSoundWorld (after_lines w es)
-runs [] w sound may = sound
-runs (e ∷ es) w sound may = runs es (happens w e).0 (lines_stay_sound w e sound may.0) may.1
+pub stays_sound : StaysSound
+stays_sound w e run may v way = record {
+  orderly = way_orderly w e run.orderly may v way;
+  sound = λ clean. way_sound w e (run.sound (was_clean w e v way clean)) may v way clean;
+}
+
+-- what is behind a line is on its way
+pub behind_is_on_the_way : (w : World) (e : Event) → IsOnTheWay w e (step w e).0
+behind_is_on_the_way w (events.Cycle name source max) = (reply_limit, refl)
+behind_is_on_the_way w e = refl
+
+runs : (es : List Event) (w : World) → IsWorldOfRun w → MayAllHappen w es → IsWorldOfRun (after_lines w es)
+runs [] w run may = run
+runs (e ∷ es) w run may = runs es (step w e).0 (stays_sound w e run may.0 (step w e).0 (behind_is_on_the_way w e)) may.1
 
 pub runs_are_sound : RunsAreSound
 runs_are_sound es may = runs es empty_world begins_sound may

@@ -1,11 +1,12 @@
 -- What the moves of a commit, a start and a stop leave of a sound controller.
-use Rattle.std.proofs.Common.{◌≡◌, ◌≢◌, ◌⊎◌, inl, inr, ⊎_elim, List, [], ◌∷◌, Bool, true, false, Option, Some, None, refl, sym, ap, ◌∙◌, subst, fold, nat_le, ◌==◌, if◌then◌else◌}
+use Rattle.std.proofs.Common.{◌≡◌, ◌≢◌, ◌⊎◌, inl, inr, ⊎_elim, ℕ, List, [], ◌∷◌, Bool, true, false, Option, Some, None, refl, sym, ap, ◌∙◌, subst, fold, nat_le, ◌==◌, if◌then◌else◌}
 use Rattle.std.specs.Option.{IfSome}
 use Rattle.adr_disk.specs.declared.memory.Crash.TheVariants.{Kept as KeptAll, Lost, Torn}
 use Rattle.adr_model.specs.Member.{Each}
 use Rattle.adr_model.specs.Update.{Identifier}
 use Rattle.adr_model.specs.Store.{Kept, Normal, Store, State}
 use Rattle.adr_model.specs.Change.{after}
+use Rattle.adr_model.specs.Lengths.{log_after}
 use Rattle.adr_model.specs.History.{no_history}
 use Rattle.adr_model.specs.Replica.{Pending, Stops, Fails, change_of, Standing, Up, Down, Failed, Replica, Scene, history_of, with_change, recorded, Move, Begin, Settle, Forget, moved, Went, Passed, Met, moves_of_commit, moves_of_start, standing_after}
 use Rattle.adr_model.specs.Sound.{IsSoundScene, IsSoundState, IsSoundCall, IsPending, IsSettled, IsSoundReplica}
@@ -63,12 +64,10 @@ module _ (P : Identifier → Type 0) (sc : Scene) (r : Replica) (scene : IsSound
   }
 
   module _ (p : Pending) (is : Settles sc r.safe p) where
-    abbrev next : Replica
-    next = record r { safe = after r.safe p.change; read = after r.safe p.change; kept = None }
-
-    -- the kept call settles
-    settled_so : (standing : Standing) → AreOf P (after r.safe p.change).store → HasMoved P sc r (recorded sc r.safe.inv p, next) standing
-    settled_so standing of = record {
+    -- the kept call settles, wherever the log ends then
+    settled_so : (end : ℕ) (standing : Standing) → AreOf P (after r.safe p.change).store
+        → HasMoved P sc r (recorded sc r.safe.inv p, record r { safe = after r.safe p.change; safe_end = end; read = after r.safe p.change; read_end = end; kept = None }) standing
+    settled_so end standing of = record {
       later = recorded_later sc r.safe.inv p is.follows is.issued;
       scene = recorded_sound sc r.safe.inv p is.follows is.issued is.content scene;
       only = λ i other. entry_other sc.histories no_history r.safe.inv i (with_change (history_of sc r.safe.inv) p.change) other;
@@ -99,8 +98,8 @@ module _ (P : Identifier → Type 0) (sc : Scene) (r : Replica) (scene : IsSound
 
       on : (p : Pending) → IsPending sc r p → HasMoved P sc r (moved (sc, r) Settle) standing
       on p k = subst (λ (o : Option Pending). HasMoved P sc r (moved (sc, record r { kept = o }) Settle) standing) (sym k.kept)
-          (subst (λ (d : State). HasMoved P sc r (recorded sc r.safe.inv p, record r { safe = d; read = d; kept = None }) standing) (sym k.read)
-          (settled_so p (call_settles sc r.safe scene sound.safe p k.call k.made) standing (subst (λ (d : State). AreOf P d.store) k.read marks.1)))
+          (subst (λ (d : State). HasMoved P sc r (recorded sc r.safe.inv p, record r { safe = d; safe_end = r.read_end; read = d; kept = None }) standing) (sym k.read)
+          (settled_so p (call_settles sc r.safe scene sound.safe p k.call k.made) r.read_end standing (subst (λ (d : State). AreOf P d.store) k.read marks.1)))
 
       by : IsSettled r ⊎ ((p : Pending) × IsPending sc r p) → HasMoved P sc r (moved (sc, r) Settle) standing
       by (inl s) = idle s
@@ -166,8 +165,8 @@ module _ (P : Identifier → Type 0) (sc : Scene) (r : Replica) (scene : IsSound
     }
 
     pub commit_moves : (g : Went) → HasMoved P sc r (fold moved (sc, r) (moves_of_commit p g)) (standing_after Failed g)
-    commit_moves (Passed left) = settled_so p is Up given
+    commit_moves (Passed left) = settled_so p is (log_after r.safe_end p.change) Up given
     commit_moves (Met place Fails) = begins_or_not (place == 3)
     commit_moves (Met place (Stops Lost)) = either (place == 3) (Begin p ∷ Forget ∷ []) begins_and_forgets
-    commit_moves (Met place (Stops KeptAll)) = either (nat_le 2 place) (Begin p ∷ Settle ∷ []) (settled_so p is Down given)
-    commit_moves (Met place (Stops Torn)) = either (nat_le 2 place) (Begin p ∷ Settle ∷ []) (settled_so p is Down given)
+    commit_moves (Met place (Stops KeptAll)) = either (nat_le 2 place) (Begin p ∷ Settle ∷ []) (settled_so p is (log_after r.safe_end p.change) Down given)
+    commit_moves (Met place (Stops Torn)) = either (nat_le 2 place) (Begin p ∷ Settle ∷ []) (settled_so p is (log_after r.safe_end p.change) Down given)

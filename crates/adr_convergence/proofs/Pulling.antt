@@ -164,9 +164,11 @@ module _ (sc : Scene) (d s : State) (most : ℕ) (scene : IsSoundScene sc) (dest
 
   -- ---- the mark that is kept then
 
-  pub kept_is : mark_of (kept_of (after d c).store s.dsa) s.inv ≡ r.to
-  kept_is = ap (λ k. mark_of k s.inv) (entry_itself d.store.marks (record { inv = identifier 0; mark = no_mark }) s.dsa (record { inv = s.inv; mark = r.to }))
-      ∙ ap (λ b. if b then r.to else no_mark) (test_itself s.inv)
+  pub kept_so : kept_of (after d c).store s.dsa ≡ record { inv = s.inv; mark = r.to }
+  kept_so = entry_itself d.store.marks (record { inv = identifier 0; mark = no_mark }) s.dsa (record { inv = s.inv; mark = r.to })
+
+  kept_is : mark_of (kept_of (after d c).store s.dsa) s.inv ≡ r.to
+  kept_is = ap (λ k. mark_of k s.inv) kept_so ∙ ap (λ b. if b then r.to else no_mark) (test_itself s.inv)
 
   pub kept_there : Member (s.dsa, record { inv = s.inv; mark = r.to }) (after d c).store.marks
   kept_there = entry_there identifier_order exact_bytes d.store.marks s.dsa (record { inv = s.inv; mark = r.to })

@@ -1,10 +1,14 @@
 -- What a call of a controller by its name comes to.
-use Rattle.std.proofs.Common.{◌≡◌, Option, Some, None, refl}
+use Rattle.std.proofs.Common.{◌≡◌, ℕ, Bool, true, false, Option, Some, None, refl, if◌then◌else◌}
+use Rattle.std.specs.Prelude.{nat_lt}
 use Rattle.adr_event.specs.declared.answer.Outcome.{Outcome}
 use Rattle.adr_event.specs.declared.answer.Outcome.TheVariants as outcomes
+use Rattle.adr_event.specs.declared.refusal.Table.TheVariants.{Log}
 use Rattle.adr_model.specs.Member.{Member}
+use Rattle.adr_model.specs.Refused.{full}
+use Rattle.adr_model.specs.Lengths.{log_limit}
 use Rattle.adr_model.specs.Replica.{Standing, Up, Down, Failed, Replica}
-use Rattle.adr_model.specs.World.{Name, World, replica_at, of_made, where_up, of_controller}
+use Rattle.adr_model.specs.World.{Name, World, Gone, replica_at, of_made, where_up, of_controller, within_log}
 use Rattle.adr_convergence.proofs.Found.{replica_found}
 use Rattle.adr_convergence.proofs.Refusals.{IsPlain}
 
@@ -41,3 +45,11 @@ module _ {A : Type 0} (Q : A → Type 0) (w : World) (name : Name) (other : Outc
 
     pub reached_case : (act : Replica → A) → ((r : Replica) → IsCalled w name r → r.standing ≡ Up → Q (act r)) → Q (of_controller w name other act)
     reached_case = plain_reached (λ o plain. others o)
+
+-- a change that the log has no room for leaves the world as it was
+pub within_case : (Q : Gone → Type 0) (w : World) (end : ℕ) (gone : Gone) → Q (w, full Log log_limit) → Q gone → Q (within_log w end gone)
+within_case Q w end gone refused goes = by (nat_lt log_limit end)
+  where
+    by : (b : Bool) → Q (if b then (w, full Log log_limit) else gone)
+    by true = refused
+    by false = goes

@@ -3,10 +3,11 @@
 ghost use Rattle.adr_model.specs.Convergence.{CycleEnds};
 
 /// Between two controllers of a sound world that are up, with one schema, no plan, nothing collected
-/// that the one doesn't cover and no limit met, a cycle ends with the last reply, within as many
-/// replies as the source has units beyond the mark that is kept of it, and at least one. Then the
-/// destination has taken all that the source holds, has lost nothing, and has the join of both vectors;
-/// it has written nothing if it had taken all of it before.
+/// that the one doesn't cover and no limit met, a cycle takes as many replies as one may and says that
+/// there are more, or it ends with the last reply, within as many replies as the source has units beyond
+/// the mark that is kept of it, and at least one. Then the destination has read the source whole and
+/// has taken all that it holds, has gained only what it had not taken before, has lost nothing, and has
+/// the join of both vectors; it has written nothing if it had taken all of it before.
 pub fn cycles_end()
     ensures { CycleEnds }
 {}

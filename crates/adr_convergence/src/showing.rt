@@ -10,8 +10,9 @@ pub fn controllers_show_what_is_visible()
     ensures own { OwnIsVisible }
 {}
 
-/// A write that was answered by its USN was issued, each row of it, under the identifier of the
-/// controller that wrote it and this USN; it has a row. What was issued stays so, whatever comes.
+/// A line that was answered by a USN was a client's write, and each row of its items was issued, under
+/// the identifier of the controller that wrote it and the item's USN; there is a row (*issued*). What
+/// was issued stays so, whatever comes (*stays*).
 pub fn acknowledged_writes_are_issued()
     ensures issued { AcknowledgedIsIssued }
     ensures stays { IssuedStays }
@@ -23,10 +24,11 @@ pub fn equal_coverage_shows_equal()
     ensures { EqualCoverageShowsEqual }
 {}
 
-/// After every run in which no database is put back, whatever messages it loses, repeats or reorders,
-/// and whatever stops, faults and restores it has: each controller shows what is visible to it, and
-/// controllers that cover the same show the same (*shown*). What was acknowledged on the way is visible
-/// to its end to whoever has the identifier under which it was issued (*acknowledged*).
+/// After every run that ends in a clean world, as each does in which no database is put back, whatever
+/// messages it loses, repeats or reorders, and whatever stops, faults and restores it has: each
+/// controller shows what is visible to it, and controllers that cover the same show the same (*shown*).
+/// What was acknowledged on the way is visible to its end to whoever has the identifier under which it
+/// was issued (*acknowledged*).
 pub fn every_run_converges()
     ensures shown { RunsConverge }
     ensures acknowledged { AcknowledgedStaysInView }

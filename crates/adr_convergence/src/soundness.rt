@@ -1,17 +1,19 @@
 //! Which worlds are sound.
 
-ghost use Rattle.adr_model.specs.Convergence.{BeginsSound, LinesStaySound, RunsAreSound, StaysSound};
+ghost use Rattle.adr_model.specs.Convergence.{BeginsSound, RunsAreSound, StaysSound, StaysUnclean};
 
-/// The world before the first event is sound.
+/// The world before the first line is that of a run.
 pub fn the_empty_world_is_sound()
     ensures { BeginsSound }
 {}
 
-/// Every event that may happen keeps a world sound, and so does every line, also a pull and a cycle of
-/// pulls. So every run in which no database is put back is in a sound world after each of its lines,
-/// whatever messages it loses, repeats or reorders, and whatever stops, faults and restores it has.
-pub fn every_event_keeps_worlds_sound()
-    ensures events { StaysSound }
-    ensures lines { LinesStaySound }
+/// A line that may happen leads from the world of a run only to worlds of a run, also within a cycle of
+/// pulls (*lines*): names, identifiers and rows are in order always, also after a database was put back,
+/// and while none was put back the world is sound. A world that isn't clean never becomes so again
+/// (*unclean*). So every run is in a world of a run after each of its lines, whatever messages it loses,
+/// repeats or reorders, and whatever stops, faults and restores it has (*runs*).
+pub fn every_line_keeps_worlds_sound()
+    ensures lines { StaysSound }
+    ensures unclean { StaysUnclean }
     ensures runs { RunsAreSound }
 {}

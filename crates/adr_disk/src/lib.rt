@@ -6,8 +6,6 @@ mod disk;
 mod file;
 mod memory;
 mod platter;
-#[cfg(test)]
-mod tests;
 mod through;
 
 pub use disk::Disk;

@@ -1,5 +1,5 @@
-//! Replays the schedules named by its words, and compares what each writes with the answers that stand
-//! beside it.
+//! Replays the schedules named by its words. In each the answers stand as comments, each behind the
+//! line that it answers: a line that begins with `;> ` is what the program has to write there.
 #![tactic(auto)]
 
 use adr_cmd::run;
@@ -8,36 +8,49 @@ use std::alloc::Global;
 use std::process::ExitCode;
 use std::{env, fs, io};
 
-/// What the program writes for a schedule.
-fn answers(alloc: Global, schedule: &str) -> io::Result<MemSink> {
+/// What begins the comment of an answer.
+const ANSWER: &[u8] = b";> ";
+
+/// The answers that stand in a schedule.
+fn answers_in(alloc: Global, schedule: &[u8]) -> io::Result<Vec<u8>> {
+    let mut answers = Vec::new(alloc);
+    for line in schedule.split(|byte| *byte == b'\n') {
+        if let Some(answer) = line.strip_prefix(ANSWER) {
+            answers.extend_from_slice(answer)?;
+            answers.push(b'\n')?;
+        }
+    }
+    Ok(answers)
+}
+
+/// Whether the program writes these answers for the schedule, of which it is given some bytes at a time.
+fn is_answered(alloc: Global, schedule: &[u8], answers: &[u8]) -> io::Result<bool> {
     let mut words = Vec::new(alloc);
     words.push(String::from_str(alloc, "replay")?)?;
-    let mut source = MemSource::new(Vec::from_slice(alloc, schedule.as_bytes())?, 4096);
+    let mut source = MemSource::new(Vec::from_slice(alloc, schedule)?, 7);
     let mut sink = MemSink::new(alloc);
-    let _status = run(alloc, words.as_slice(), &mut source, &mut sink);
-    Ok(sink)
+    let status = run(alloc, words.as_slice(), &mut source, &mut sink);
+    let due = if answers.starts_with(b"line ".as_slice()) { 3 } else { 0 };
+    Ok(status == due && sink.bytes() == answers)
 }
 
-/// Whether the example's answers are those that the program writes.
+/// Whether the schedule in a file is answered as it says.
 fn is_as_written(rt: &HostRuntime, name: &str) -> io::Result<bool> {
-    let schedule = fs::read_to_string(rt, format!(in rt.alloc(); "{name}.schedule")?)?;
-    let written = fs::read_to_string(rt, format!(in rt.alloc(); "{name}.answers")?)?;
-    let sink = answers(rt.alloc(), schedule.as_str())?;
-    Ok(sink.bytes() == written.as_bytes())
+    let schedule = fs::read(rt, format!(in rt.alloc(); "{name}.schedule")?)?;
+    let answers = answers_in(rt.alloc(), schedule.as_slice())?;
+    is_answered(rt.alloc(), schedule.as_slice(), answers.as_slice())
 }
 
-/// Whether all examples are as written; each is told.
+/// Whether all are as written; each is told.
 fn are_as_written(rt: &HostRuntime) -> io::Result<bool> {
     let mut all = true;
-    let mut first = true;
-    for name in env::args(rt)? {
-        if !first {
-            let same = is_as_written(rt, name.as_str())?;
-            let told = if same { "as written" } else { "other answers" };
-            println!(rt; "{name}: {told}")?;
-            all = all && same;
-        }
-        first = false;
+    let mut names = env::args(rt)?;
+    let _program = names.next();
+    for name in names {
+        let same = is_as_written(rt, name.as_str())?;
+        let told = if same { "as written" } else { "other answers" };
+        println!(rt; "{name}: {told}")?;
+        all = all && same;
     }
     Ok(all)
 }

@@ -1,5 +1,5 @@
 -- How an answer is written: its line, and the lines of a report behind it.
-use Rattle.std.specs.Prelude.{ℕ, List, Bool, true, false, if◌then◌else◌, [], ◌∷◌, ◌++◌, length, flat_map, codes}
+use Rattle.std.specs.Prelude.{ℕ, List, Bool, true, false, [], ◌∷◌, ◌++◌, length, flat_map, codes}
 use Rattle.std.specs.Fmt.{decimal}
 use Rattle.adr_schema.specs.declared.content.Value.{Value as Item}
 use Rattle.adr_vector.specs.declared.mark.Mark.{Mark}
@@ -8,7 +8,7 @@ use Rattle.adr_event.specs.declared.answer.Field.{Field}
 use Rattle.adr_event.specs.declared.answer.Plainly.{Plainly}
 use Rattle.adr_event.specs.declared.answer.Plainly.TheVariants.{Id, Number, Mark as OneMark, Attr, Word}
 use Rattle.adr_event.specs.declared.answer.Outcome.{Outcome}
-use Rattle.adr_event.specs.declared.answer.Outcome.TheVariants.{Silent, Ok, Usn, Served, Took, Removed, Show, Vector, Marks, More, Up, Down, Failed, Disk, Stopped, Absent, Refused}
+use Rattle.adr_event.specs.declared.answer.Outcome.TheVariants.{Ok, Usn, Served, Took, Removed, Show, Vector, Marks, More, Up, Down, Failed, Disk, Stopped, Absent, Refused}
 use Rattle.adr_event.specs.declared.directory.Entry.{Entry}
 use Rattle.adr_token.specs.Spelling.{identifier_token, text_token, class_token, attribute_token, set_token}
 
@@ -69,7 +69,6 @@ counts_text items rows last = codes " items=" ++ decimal items ++ codes " rows="
 
 -- what stands behind the colon of an answer's line
 unfoldable pub result_text : Outcome → List ℕ
-result_text Silent = []
 result_text Ok = codes "ok"
 result_text (Usn usn) = codes "ok usn=" ++ decimal usn
 result_text (Served from to items rows last) = from_to from to ++ counts_text items rows last
@@ -94,19 +93,6 @@ report_lines (Vector vector) = flat_map cursor_line vector
 report_lines (Marks marks) = flat_map partner_line marks
 report_lines _ = []
 
--- a name behind a space, where there is one
-abbrev pub named : List ℕ → List ℕ
-named [] = []
-named (b ∷ bs) = codes " " ++ b ∷ bs
-
--- an answer's line, and what follows it
-unfoldable pub said : Answer → List ℕ
-said a = a.verb ++ named a.name ++ codes ": " ++ result_text a.outcome ++ codes "\n" ++ report_lines a.outcome
-
-abbrev pub is_silent : Outcome → Bool
-is_silent Silent = true
-is_silent _ = false
-
--- an answer as it is written; a silent one has no bytes
+-- an answer's line, and the lines behind it
 unfoldable pub line : Answer → List ℕ
-line a = if is_silent a.outcome then [] else said a
+line a = a.verb ++ codes " " ++ a.name ++ codes ": " ++ result_text a.outcome ++ codes "\n" ++ report_lines a.outcome

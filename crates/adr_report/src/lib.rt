@@ -1,9 +1,15 @@
-//! Answers as bytes: the line of an answer, and the lines of a report behind it. It stands on the
-//! tokens of `adr_token` and the answers of `adr_event`, and knows nothing of what made an answer.
+//! Answers as bytes: the line of an answer, and the lines of a report behind it, with the law that a
+//! report tells what it reports. It stands on the tokens of `adr_token` and the answers of
+//! `adr_event`, and knows nothing of what made an answer.
 #![tactic(auto)]
 
 mod entries;
 mod knowledge;
+mod laws;
 mod lines;
 
+pub use laws::{
+    equal_lines_mean_equal_directories, equal_lines_mean_equal_knowledge,
+    what_is_allowed_is_printable,
+};
 pub use lines::line;

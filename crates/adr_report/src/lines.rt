@@ -2,7 +2,7 @@
 
 ghost use Rattle.std.specs.Prelude.{◌≡◌, ◌++◌, ◌∷◌, [], ℕ, List, length, OnOk, IfOk, flat_map, codes};
 ghost use Rattle.std.specs.Fmt.{decimal};
-ghost use Rattle.adr_report.specs.Line.{plain_text, mark_text, from_to, left_text, counts_text, field_text, result_text, report_lines, named, said, is_silent, line};
+ghost use Rattle.adr_report.specs.Line.{plain_text, mark_text, from_to, left_text, counts_text, field_text, result_text, report_lines, line};
 
 use crate::entries::push_entries;
 use crate::knowledge::{push_cursors, push_mark, push_partners};
@@ -147,7 +147,6 @@ fn push_result(alloc: Global, out: &mut Vec<u8>, outcome: &Outcome) -> Result<()
     ensures { OnOk result (out.new.items ≡ out.old.items ++ result_text outcome.now) }
 {
     match outcome {
-        Outcome::Silent => Ok(()),
         Outcome::Ok => push(out, b"ok"),
         Outcome::Usn(usn) => push_usn(alloc, out, *usn),
         Outcome::Served {
@@ -186,7 +185,6 @@ fn push_report(alloc: Global, out: &mut Vec<u8>, outcome: &Outcome) -> Result<()
         Outcome::Show(directory) => push_entries(alloc, out, directory.entries()),
         Outcome::Vector(vector) => push_cursors(alloc, out, vector.cursors()),
         Outcome::Marks(marks) => push_partners(alloc, out, marks.items()),
-        Outcome::Silent => Ok(()),
         Outcome::Ok => Ok(()),
         Outcome::Usn(_) => Ok(()),
         Outcome::Served { .. } => Ok(()),
@@ -203,62 +201,18 @@ fn push_report(alloc: Global, out: &mut Vec<u8>, outcome: &Outcome) -> Result<()
     }
 }
 
-fn push_named(out: &mut Vec<u8>, name: &[u8]) -> Result<(), NoMemory>
-    ensures { OnOk result (out.new.items ≡ out.old.items ++ named name.now) }
-{
-    if name.len() == 0 {
-        return Ok(());
-    }
-    push(out, b" ")?;
-    push(out, name)
-}
-
-#[tactic(auto, unfolding(crate::specs::Line::said))]
-fn push_said(alloc: Global, out: &mut Vec<u8>, answer: &Answer) -> Result<(), NoMemory>
-    ensures { OnOk result (out.new.items ≡ out.old.items ++ said answer.now) }
-{
-    push(out, answer.verb.items())?;
-    push_named(out, answer.name.items())?;
-    push(out, b": ")?;
-    push_result(alloc, out, &answer.outcome)?;
-    push(out, b"\n")?;
-    push_report(alloc, out, &answer.outcome)
-}
-
-/// Whether an answer is one that is never written.
-fn is_silent(outcome: &Outcome) -> bool
-    ensures { result ≡ is_silent outcome.now }
-{
-    match outcome {
-        Outcome::Silent => true,
-        Outcome::Ok => false,
-        Outcome::Usn(_) => false,
-        Outcome::Show(_) => false,
-        Outcome::Vector(_) => false,
-        Outcome::Marks(_) => false,
-        Outcome::Served { .. } => false,
-        Outcome::Took { .. } => false,
-        Outcome::Removed(_) => false,
-        Outcome::More => false,
-        Outcome::Up => false,
-        Outcome::Down => false,
-        Outcome::Failed => false,
-        Outcome::Disk => false,
-        Outcome::Stopped => false,
-        Outcome::Absent => false,
-        Outcome::Refused { .. } => false,
-    }
-}
-
-/// An answer's line, with a line feed, and the lines of its report. The controller's name is left
-/// out where it is empty; a silent answer has no bytes.
+/// An answer's line, with a line feed, and the lines of its report.
 #[tactic(auto, unfolding(crate::specs::Line::line))]
 pub fn line(alloc: Global, answer: &Answer) -> Result<Vec<u8>, NoMemory>
     ensures { IfOk result (λ bytes. bytes.items ≡ line answer.now) }
 {
     let mut out = Vec::new(alloc);
-    if !is_silent(&answer.outcome) {
-        push_said(alloc, &mut out, answer)?;
-    }
+    push(&mut out, answer.verb.items())?;
+    push(&mut out, b" ")?;
+    push(&mut out, answer.name.items())?;
+    push(&mut out, b": ")?;
+    push_result(alloc, &mut out, &answer.outcome)?;
+    push(&mut out, b"\n")?;
+    push_report(alloc, &mut out, &answer.outcome)?;
     Ok(out)
 }

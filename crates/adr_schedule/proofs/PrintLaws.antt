@@ -1,106 +1,190 @@
 -- The events of a text are those of their printed form.
-use Rattle.std.proofs.Common.{◌≡◌, ◌⊎◌, ℕ, ◌+◌, Bool, true, false, not, cond, List, [], ◌∷◌, ◌++◌, map, length, Option, Some, None, Result, Ok, Err, refl, sym, ap, subst, ◌∙◌, inl, inr, arith}
+use Rattle.std.proofs.Common.{◌≡◌, ◌⊎◌, ℕ, ◌+◌, ◌<◌, ◌^◌, Bool, true, false, not, ◌&&◌, cond, List, [], ◌∷◌, ◌++◌, map, length, Option, Some, None, Result, Ok, Err, refl, sym, ap, subst, ◌∙◌, inl, inr, arith}
 use Rattle.std.specs.Prelude.{◌==◌, codes, nat_lt}
 use Rattle.std.specs.Fmt.{decimal}
 use Rattle.std.specs.Str.{is_utf8}
 use Rattle.std.proofs.lemmas.Bool.{and_parts, le-ltb, ne_eqb, not-true}
+use Rattle.std.proofs.lemmas.List.{append-nil}
 use Rattle.std.proofs.lemmas.Str.{is_utf8-from_IsUtf8}
 use Rattle.adr_schema.specs.Assignments.{Given}
 use Rattle.adr_schema.specs.Schemas.{schema_1}
 use Rattle.adr_schema.specs.declared.content.Value.TheVariants.{Text}
 use Rattle.adr_event.specs.declared.event.Event.{Event}
 use Rattle.adr_event.specs.declared.event.Event.TheVariants.{Controller, Time, Add, Ask, Serve, Deliver, Pull, Cycle, Show, Vector, Marks}
-use Rattle.adr_token.specs.Words.{is_name}
-use Rattle.adr_token.specs.Texts.{is_text}
-use Rattle.adr_token.specs.Spelling.{class_token, identifier_token, set_token, text_token}
-use Rattle.adr_token.proofs.WordLaws.{are_graphic, name_graphic}
+use Rattle.adr_token.specs.Words.{unspaced, is_name, is_space}
+use Rattle.adr_token.specs.Texts.{ends_word, is_text}
+use Rattle.adr_token.specs.Laws.{IsIdentifier, Stands}
+use Rattle.adr_token.specs.Spelling.{attribute_token, class_token, identifier_token, set_token, text_token, value_token}
+use Rattle.adr_token.proofs.WordLaws.{are_graphic, graphic_word, is_graphic, is_spaceless, name_graphic, skips}
 use Rattle.adr_token.proofs.DigitLaws.{digits_graphic}
 use Rattle.adr_token.proofs.IdentifierLaws.{token_graphic}
+use Rattle.adr_token.proofs.TextLaws.{token_is}
 use Rattle.adr_schedule.specs.declared.fault.Cause.{Cause}
 use Rattle.adr_schedule.specs.declared.fault.Cause.TheVariants.{NotUtf8, TooLong}
 use Rattle.adr_schedule.specs.declared.fault.ScheduleFault.{ScheduleFault}
 use Rattle.adr_schedule.specs.Lines.{is_line_feed, lines_of}
-use Rattle.adr_schedule.specs.Commands.{event_of, is_limit, is_passed}
+use Rattle.adr_schedule.specs.Commands.{IsAllowed, IsContainerAdd, IsUserAdd, account, event_of, is_passed}
+use Rattle.adr_schedule.specs.Grammar.{Token, Word, Name, Number, Identifier, Class, Attribute, Quoted, Set, sets, tokens_of, IsSpelled, IsNext, AreSpelled, Spells}
 use Rattle.adr_schedule.specs.Seen.{Seen, nothing_seen, cause_after, seen_after}
 use Rattle.adr_schedule.specs.Events.{before, events_from, events_of, followed, line_after, on_line, unless}
-use Rattle.adr_schedule.specs.Printed.{set_tokens, EventsAreReadAgain, line_of, printed, spaced}
-use Rattle.adr_schedule.proofs.EventLaws.{Spells, SpellsUser, SpellsContainer, account_is, event_again, event_was, limit_small}
+use Rattle.adr_schedule.specs.Printed.{EventsAreReadAgain, joined, line_of, printed, spaced, token_text}
+use Rattle.adr_schedule.proofs.EventLaws.{lines_read, lines_spelled}
 use Rattle.adr_schedule.proofs.PlainBytes.{IsPlain, field_plain, graphic_plain, is_feedless, nothing_plain, plain_append, text_plain}
 
--- a printed line is plain
-name_plain : (name rest : List ℕ) → is_name name ≡ true → IsPlain rest → IsPlain ((codes " " ++ name) ++ rest)
-name_plain name rest h more = field_plain name rest (graphic_plain name (name_graphic name h).0) more
+-- a token as it is written: it has no line feed, it spells the token, and no space stands in front of it
+record IsPrinted (token : Token) : Type 0 where
+  plain : IsPlain (token_text token)
+  spells : IsSpelled token (token_text token)
+  starts : (rest : List ℕ) → unspaced (token_text token ++ rest) ≡ token_text token ++ rest
 
-identifier_plain : (id rest : List ℕ) → IsPlain rest → IsPlain ((codes " " ++ identifier_token id) ++ rest)
-identifier_plain id rest more = field_plain (identifier_token id) rest (graphic_plain (identifier_token id) (token_graphic id)) more
+first_starts : (b : ℕ) (bs : List ℕ) → not (is_space b) ≡ true → unspaced (b ∷ bs) ≡ b ∷ bs
+first_starts b bs h = rw h refl
 
-limit_plain : (max : ℕ) (rest : List ℕ) → is_limit max ≡ true → IsPlain rest → IsPlain ((codes " " ++ decimal max) ++ rest)
-limit_plain max rest h more = field_plain (decimal max) rest (graphic_plain (decimal max) (digits_graphic false max (limit_small max h)).0) more
+graphic_starts : (bs rest : List ℕ) → are_graphic bs ≡ true → 0 < length bs → unspaced (bs ++ rest) ≡ bs ++ rest
+graphic_starts [] rest h l = absurd (omega arith)
+graphic_starts (b ∷ bs) rest h l = first_starts b (bs ++ rest) (and_parts (not (is_space b)) (is_spaceless bs) (graphic_word (b ∷ bs) h)).0
 
-bound_plain : (bound : List ℕ) → is_name bound ≡ true → IsPlain (spaced (codes "as" ∷ bound ∷ []))
-bound_plain bound h = field_plain (codes "as") (spaced (bound ∷ [])) (graphic_plain (codes "as") refl) (name_plain bound [] h nothing_plain)
+graphic_printed : (token : Token) → are_graphic (token_text token) ≡ true → 0 < length (token_text token) → IsSpelled token (token_text token) → IsPrinted token
+graphic_printed token h l s = record { plain = graphic_plain (token_text token) h; spells = s; starts = λ rest. graphic_starts (token_text token) rest h l }
 
-user_plain : IsPlain (class_token 5)
+-- what a name for a word of the line has to be
+abbrev Seeable : List ℕ → Type 0
+Seeable bs = (are_graphic bs ≡ true) × (0 < length bs)
+
+-- what is known of a token but for its spelling
+abbrev IsKnown : Token → Type 0
+IsKnown (Word word) = Seeable word
+IsKnown (Class class) = Seeable (class_token class)
+IsKnown (Attribute attr) = Seeable (attribute_token attr)
+IsKnown (Set attr values) = IsPrinted (Set attr values)
+IsKnown token = Unit {0}
+
+abbrev AreKnown : List Token → Type 0
+AreKnown [] = Unit {0}
+AreKnown (token ∷ tokens) = IsKnown token × AreKnown tokens
+
+abbrev ArePrinted : List Token → Type 0
+ArePrinted [] = Unit {0}
+ArePrinted (token ∷ tokens) = IsPrinted token × ArePrinted tokens
+
+identifier_long : (id : List ℕ) → 0 < length (identifier_token id)
+unfolding identifier_token
+identifier_long id = omega arith
+
+text_starts : (text rest : List ℕ) → unspaced (text_token text ++ rest) ≡ text_token text ++ rest
+text_starts text rest = ap unspaced (token_is text rest) ∙ sym (token_is text rest)
+
+is_printed : (token : Token) (bytes : List ℕ) → IsKnown token → IsSpelled token bytes → IsPrinted token
+is_printed (Word word) bytes k s = graphic_printed (Word word) k.0 k.1 refl
+is_printed (Name name) bytes k s = let w = name_graphic name s.0 in graphic_printed (Name name) w.0 w.1 (s.0, refl)
+is_printed (Number number) bytes k s = let w = digits_graphic false number s.0 in graphic_printed (Number number) w.0 w.1 (s.0, refl)
+is_printed (Identifier id) bytes k s = graphic_printed (Identifier id) (token_graphic id) (identifier_long id) (s.0, inl refl)
+is_printed (Class class) bytes k s = graphic_printed (Class class) k.0 k.1 refl
+is_printed (Attribute attr) bytes k s = graphic_printed (Attribute attr) k.0 k.1 refl
+is_printed (Quoted text) bytes k s = record { plain = text_plain text s.0; spells = (s.0, refl); starts = text_starts text }
+is_printed (Set attr values) bytes k s = k
+
+are_printed : (tokens : List Token) (bytes : List ℕ) → AreKnown tokens → AreSpelled tokens bytes → ArePrinted tokens
+are_printed [] bytes k s = tt
+are_printed (token ∷ tokens) bytes k s = (is_printed token s.1.0 k.0 s.1.1, are_printed tokens s.0 k.1 s.2)
+
+-- the words of an event
+user_known : Seeable (class_token 5)
 unfolding class_token schema_1
-user_plain = graphic_plain (codes "user") refl
+user_known = (refl, omega arith)
 
-container_plain : IsPlain (class_token 4)
+container_known : Seeable (class_token 4)
 unfolding class_token schema_1
-container_plain = graphic_plain (codes "container") refl
+container_known = (refl, omega arith)
 
-account_plain : (value : List ℕ) → is_text value ≡ true → IsPlain (set_token 10 (Text value ∷ []))
-account_plain value h =
-    subst IsPlain (sym (account_is value))
-    (plain_append (codes "sAMAccountName=") (text_token value ++ []) (graphic_plain (codes "sAMAccountName=") refl) (plain_append (text_token value) [] (text_plain value h) nothing_plain))
+pub account_is : (value : List ℕ) → set_token 10 (Text value ∷ []) ≡ codes "sAMAccountName=" ++ (text_token value ++ [])
+unfolding set_token attribute_token value_token schema_1
+account_is value = refl
 
-verb_plain : (verb rest : List ℕ) → are_graphic verb ≡ true → IsPlain rest → IsPlain (verb ++ rest)
-verb_plain verb rest h more = plain_append verb rest (graphic_plain verb h) more
+account_printed : (value : List ℕ) → is_text value ≡ true → IsPrinted (Set 10 (Text value ∷ []))
+unfolding set_token attribute_token value_token schema_1
+account_printed value h = record {
+  plain = plain_append (codes "sAMAccountName=") (text_token value ++ []) (graphic_plain (codes "sAMAccountName=") refl) (plain_append (text_token value) [] (text_plain value h) nothing_plain);
+  spells = (text_token value ++ [], (h, append-nil (text_token value)), refl);
+  starts = λ rest. refl;
+}
 
--- the class, and the values
-kind_plain : (class : ℕ) (parent text : List ℕ) (values : List Given) → SpellsUser class parent text values ⊎ SpellsContainer class parent text values
-    → IsPlain (class_token class) × IsPlain (spaced (set_tokens values))
-kind_plain class parent text values (inl u) =
-    rw (u.0, u.1.1) (user_plain, field_plain (set_token 10 (Text u.1.0 ∷ [])) [] (account_plain u.1.0 u.1.2) nothing_plain)
-kind_plain class parent text values (inr c) = rw (c.0, c.1) (container_plain, nothing_plain)
+-- what the tokens of an `add` are, by its class and its values
+abbrev KnowsAdd : List ℕ → List ℕ → List ℕ → List ℕ → List ℕ → ℕ → List Given → Type 0
+KnowsAdd line name guid parent text class values =
+    AreSpelled (Word (codes "add") ∷ Name name ∷ Identifier guid ∷ Class class ∷ Identifier parent ∷ Quoted text ∷ sets values) line
+    → AreKnown (Word (codes "add") ∷ Name name ∷ Identifier guid ∷ Class class ∷ Identifier parent ∷ Quoted text ∷ sets values)
 
-object_plain : (name guid parent text : List ℕ) (class : ℕ) (values : List Given) → Spells (Add name guid class parent text values)
-    → IsPlain (spaced (name ∷ identifier_token guid ∷ class_token class ∷ identifier_token parent ∷ text_token text ∷ set_tokens values))
-object_plain name guid parent text class values h =
-    let kind = kind_plain class parent text values h.4 in
-    name_plain name (spaced (identifier_token guid ∷ class_token class ∷ identifier_token parent ∷ text_token text ∷ set_tokens values)) h.0
-    (identifier_plain guid (spaced (class_token class ∷ identifier_token parent ∷ text_token text ∷ set_tokens values))
-    (field_plain (class_token class) (spaced (identifier_token parent ∷ text_token text ∷ set_tokens values)) kind.0
-    (identifier_plain parent (spaced (text_token text ∷ set_tokens values))
-    (field_plain (text_token text) (spaced (set_tokens values)) (text_plain text h.3) kind.1))))
+add_known : (line name guid parent text : List ℕ) (class : ℕ) (values : List Given) → IsUserAdd name class parent text values ⊎ IsContainerAdd name class parent text values
+    → KnowsAdd line name guid parent text class values
+add_known line name guid parent text class values (inl u) =
+    let value = u.one_account.0 in
+    let known : KnowsAdd line name guid parent text 5 (account value) =
+    λ s. ((refl, omega arith), (tt, (tt, (user_known, (tt, (tt, (account_printed value s.2.2.2.2.2.2.1.1.1.0, tt))))))) in
+    let given : KnowsAdd line name guid parent text 5 values = subst (λ (vs : List Given). KnowsAdd line name guid parent text 5 vs) (sym u.one_account.1) known in
+    subst (λ (c : ℕ). KnowsAdd line name guid parent text c values) (sym u.is_user) given
+add_known line name guid parent text class values (inr k) =
+    let known : KnowsAdd line name guid parent text 4 [] = λ s. ((refl, omega arith), (tt, (tt, (container_known, (tt, (tt, tt)))))) in
+    let given : KnowsAdd line name guid parent text 4 values = subst (λ (vs : List Given). KnowsAdd line name guid parent text 4 vs) (sym k.no_values) known in
+    subst (λ (c : ℕ). KnowsAdd line name guid parent text c values) (sym k.is_container) given
 
-line_plain : (e : Event) → Spells e → IsPlain (line_of e)
+known : (line : List ℕ) (e : Event) → Spells line e → AreKnown (tokens_of e)
+unfolding tokens_of
+known line (Controller name dsa inv) h = ((refl, omega arith), (tt, (tt, (tt, tt))))
+known line (Time now) h = ((refl, omega arith), (tt, tt))
+known line (Add name guid class parent text values) h = add_known line name guid parent text class values h.0 h.1
+known line (Ask name partner max bound) h = ((refl, omega arith), (tt, (tt, (tt, ((refl, omega arith), (tt, tt))))))
+known line (Serve name request bound) h = ((refl, omega arith), (tt, (tt, ((refl, omega arith), (tt, tt)))))
+known line (Deliver name reply) h = ((refl, omega arith), (tt, (tt, tt)))
+known line (Pull name source max) h = ((refl, omega arith), (tt, (tt, (tt, tt))))
+known line (Cycle name source max) h = ((refl, omega arith), (tt, (tt, (tt, tt))))
+known line (Show name) h = ((refl, omega arith), (tt, tt))
+known line (Vector name) h = ((refl, omega arith), (tt, tt))
+known line (Marks name) h = ((refl, omega arith), (tt, tt))
+known line e h = absurd h.0
+
+-- the tokens with a space between them are plain, and spell themselves
+spaced_plain : (tokens : List Token) → ArePrinted tokens → IsPlain (spaced (map token_text tokens))
+spaced_plain [] h = nothing_plain
+spaced_plain (token ∷ tokens) h = field_plain (token_text token) (spaced (map token_text tokens)) h.0.plain (spaced_plain tokens h.1)
+
+joined_plain : (tokens : List Token) → ArePrinted tokens → IsPlain (joined (map token_text tokens))
+joined_plain [] h = nothing_plain
+joined_plain (token ∷ tokens) h = plain_append (token_text token) (spaced (map token_text tokens)) h.0.plain (spaced_plain tokens h.1)
+
+spaced_ends : (tokens : List (List ℕ)) → ends_word (spaced tokens) ≡ true
+spaced_ends [] = refl
+spaced_ends (token ∷ tokens) = refl
+
+spaced_spelled : (tokens : List Token) → ArePrinted tokens → AreSpelled tokens (spaced (map token_text tokens))
+spaced_spelled [] h = refl
+spaced_spelled (token ∷ tokens) h =
+    let rest = spaced (map token_text tokens) in
+    (rest, (token_text token, h.0.spells, (skips (token_text token ++ rest) ∙ h.0.starts rest, spaced_ends (map token_text tokens))), spaced_spelled tokens h.1)
+
+joined_spelled : (tokens : List Token) → ArePrinted tokens → AreSpelled tokens (joined (map token_text tokens))
+joined_spelled [] h = refl
+joined_spelled (token ∷ tokens) h =
+    let rest = spaced (map token_text tokens) in
+    (rest, (token_text token, h.0.spells, (h.0.starts rest, spaced_ends (map token_text tokens))), spaced_spelled tokens h.1)
+
+-- an event that a line may say, with its tokens as they are written
+record IsSaid (e : Event) : Type 0 where
+  allowed : IsAllowed e
+  printed : ArePrinted (tokens_of e)
+
+event_was : (line : List ℕ) (e : Event) → event_of line ≡ Some e → IsSaid e
+event_was line e h =
+    let s = lines_spelled line e h in
+    record { allowed = s.0; printed = are_printed (tokens_of e) line (known line e s) s.1 }
+
+event_again : (e : Event) → IsSaid e → event_of (line_of e) ≡ Some e
 unfolding line_of
-line_plain (Controller name dsa inv) h =
-    verb_plain (codes "controller") (spaced (name ∷ identifier_token dsa ∷ identifier_token inv ∷ [])) refl
-    (name_plain name (spaced (identifier_token dsa ∷ identifier_token inv ∷ [])) h.0 (identifier_plain dsa (spaced (identifier_token inv ∷ [])) (identifier_plain inv [] nothing_plain)))
-line_plain (Time now) h =
-    verb_plain (codes "time") (spaced (decimal now ∷ [])) refl (field_plain (decimal now) [] (graphic_plain (decimal now) (digits_graphic false now h).0) nothing_plain)
-line_plain (Add name guid class parent text values) h =
-    verb_plain (codes "add") (spaced (name ∷ identifier_token guid ∷ class_token class ∷ identifier_token parent ∷ text_token text ∷ set_tokens values)) refl (object_plain name guid parent text class values h)
-line_plain (Ask name partner max bound) h =
-    verb_plain (codes "ask") (spaced (name ∷ partner ∷ decimal max ∷ codes "as" ∷ bound ∷ [])) refl
-    (name_plain name (spaced (partner ∷ decimal max ∷ codes "as" ∷ bound ∷ [])) h.0
-    (name_plain partner (spaced (decimal max ∷ codes "as" ∷ bound ∷ [])) h.1 (limit_plain max (spaced (codes "as" ∷ bound ∷ [])) h.2 (bound_plain bound h.3))))
-line_plain (Serve name request bound) h =
-    verb_plain (codes "serve") (spaced (name ∷ request ∷ codes "as" ∷ bound ∷ [])) refl
-    (name_plain name (spaced (request ∷ codes "as" ∷ bound ∷ [])) h.0 (name_plain request (spaced (codes "as" ∷ bound ∷ [])) h.1 (bound_plain bound h.2)))
-line_plain (Deliver name reply) h =
-    verb_plain (codes "deliver") (spaced (name ∷ reply ∷ [])) refl (name_plain name (spaced (reply ∷ [])) h.0 (name_plain reply [] h.1 nothing_plain))
-line_plain (Pull name source max) h =
-    verb_plain (codes "pull") (spaced (name ∷ source ∷ decimal max ∷ [])) refl
-    (name_plain name (spaced (source ∷ decimal max ∷ [])) h.0 (name_plain source (spaced (decimal max ∷ [])) h.1 (limit_plain max [] h.2 nothing_plain)))
-line_plain (Cycle name source max) h =
-    verb_plain (codes "cycle") (spaced (name ∷ source ∷ decimal max ∷ [])) refl
-    (name_plain name (spaced (source ∷ decimal max ∷ [])) h.0 (name_plain source (spaced (decimal max ∷ [])) h.1 (limit_plain max [] h.2 nothing_plain)))
-line_plain (Show name) h = verb_plain (codes "show") (spaced (name ∷ [])) refl (name_plain name [] h nothing_plain)
-line_plain (Vector name) h = verb_plain (codes "vector") (spaced (name ∷ [])) refl (name_plain name [] h nothing_plain)
-line_plain (Marks name) h = verb_plain (codes "marks") (spaced (name ∷ [])) refl (name_plain name [] h nothing_plain)
-line_plain e h = absurd h
+event_again e h = lines_read (line_of e) e (h.allowed, joined_spelled (tokens_of e) h.printed)
+
+line_plain : (e : Event) → IsSaid e → IsPlain (line_of e)
+unfolding line_of
+line_plain e h = joined_plain (tokens_of e) h.printed
 
 -- it isn't passed over
 letter_first : (b : ℕ) (bs : List ℕ) → (b == 59) ≡ false → (b == 32) ≡ false → is_passed (b ∷ bs) ≡ false
@@ -108,22 +192,37 @@ letter_first b bs semicolon space =
     let some : (length (b ∷ bs) == 0) ≡ false = ne_eqb _ 0 (λ z. omega arith) in
     rw (semicolon, space, some) refl
 
-line_says : (e : Event) → Spells e → is_passed (line_of e) ≡ false
-unfolding line_of
-line_says (Controller name dsa inv) h = letter_first 99 (codes "ontroller" ++ spaced (name ∷ identifier_token dsa ∷ identifier_token inv ∷ [])) refl refl
-line_says (Time now) h = letter_first 116 (codes "ime" ++ spaced (decimal now ∷ [])) refl refl
-line_says (Add name guid class parent text values) h = letter_first 97 (codes "dd" ++ spaced (name ∷ identifier_token guid ∷ class_token class ∷ identifier_token parent ∷ text_token text ∷ set_tokens values)) refl refl
-line_says (Ask name partner max bound) h = letter_first 97 (codes "sk" ++ spaced (name ∷ partner ∷ decimal max ∷ codes "as" ∷ bound ∷ [])) refl refl
-line_says (Serve name request bound) h = letter_first 115 (codes "erve" ++ spaced (name ∷ request ∷ codes "as" ∷ bound ∷ [])) refl refl
-line_says (Deliver name reply) h = letter_first 100 (codes "eliver" ++ spaced (name ∷ reply ∷ [])) refl refl
-line_says (Pull name source max) h = letter_first 112 (codes "ull" ++ spaced (name ∷ source ∷ decimal max ∷ [])) refl refl
-line_says (Cycle name source max) h = letter_first 99 (codes "ycle" ++ spaced (name ∷ source ∷ decimal max ∷ [])) refl refl
-line_says (Show name) h = letter_first 115 (codes "how" ++ spaced (name ∷ [])) refl refl
-line_says (Vector name) h = letter_first 118 (codes "ector" ++ spaced (name ∷ [])) refl refl
-line_says (Marks name) h = letter_first 109 (codes "arks" ++ spaced (name ∷ [])) refl refl
-line_says e h = absurd h
+-- the first token is a word, and its first byte neither a semicolon nor a space
+abbrev begins : List Token → Bool
+begins (Word (b ∷ bs) ∷ tokens) = not (b == 59) && not (b == 32)
+begins tokens = false
 
-line_told : (seen : Seen) (e : Event) → Spells e → cause_after seen e ≡ None → line_after seen (line_of e) ≡ Ok (Some e)
+says : (tokens : List Token) → begins tokens ≡ true → is_passed (joined (map token_text tokens)) ≡ false
+says (Word (b ∷ bs) ∷ tokens) h =
+    let p = and_parts (not (b == 59)) (not (b == 32)) h in
+    letter_first b (bs ++ spaced (map token_text tokens)) (not-true (b == 59) p.0) (not-true (b == 32) p.1)
+says tokens h = absurd (cc)
+
+event_begins : (e : Event) → IsAllowed e → begins (tokens_of e) ≡ true
+unfolding tokens_of
+event_begins (Controller name dsa inv) h = refl
+event_begins (Time now) h = refl
+event_begins (Add name guid class parent text values) h = refl
+event_begins (Ask name partner max bound) h = refl
+event_begins (Serve name request bound) h = refl
+event_begins (Deliver name reply) h = refl
+event_begins (Pull name source max) h = refl
+event_begins (Cycle name source max) h = refl
+event_begins (Show name) h = refl
+event_begins (Vector name) h = refl
+event_begins (Marks name) h = refl
+event_begins e h = absurd h
+
+line_says : (e : Event) → IsSaid e → is_passed (line_of e) ≡ false
+unfolding line_of
+line_says e h = says (tokens_of e) (event_begins e h.allowed)
+
+line_told : (seen : Seen) (e : Event) → IsSaid e → cause_after seen e ≡ None → line_after seen (line_of e) ≡ Ok (Some e)
 line_told seen e h c =
     let utf8 : is_utf8 (line_of e) ≡ true = is_utf8-from_IsUtf8 (line_of e) (line_plain e h).utf8 in
     rw (line_says e h, utf8, event_again e h, c) refl
@@ -138,7 +237,7 @@ first_line (b ∷ bs) rest h =
 -- events that may follow, each with its spelling
 abbrev Spelled : Seen → List Event → Type 0
 Spelled seen [] = Unit {0}
-Spelled seen (e ∷ es) = (cause_after seen e ≡ None) × Spells e × Spelled (seen_after seen e) es
+Spelled seen (e ∷ es) = (cause_after seen e ≡ None) × IsSaid e × Spelled (seen_after seen e) es
 
 printed_lines : (seen : Seen) (es : List Event) → Spelled seen es → lines_of (printed es) ≡ map line_of es
 printed_lines seen [] h = refl
@@ -155,7 +254,7 @@ unless_was None x e h = (refl, cc)
 unless_was (Some cause) x e h = absurd (cc)
 
 told_by : (seen : Seen) (line : List ℕ) (e : Event) (p u : Bool) (o : Option Event) → event_of line ≡ o
-    → cond p (Ok None) (cond u (followed seen o) (Err NotUtf8)) ≡ Ok (Some e) → (cause_after seen e ≡ None) × Spells e
+    → cond p (Ok None) (cond u (followed seen o) (Err NotUtf8)) ≡ Ok (Some e) → (cause_after seen e ≡ None) × IsSaid e
 told_by seen line e true u o at h = absurd (cc)
 told_by seen line e false false o at h = absurd (cc)
 told_by seen line e false true None at h = absurd (cc)
@@ -163,7 +262,7 @@ told_by seen line e false true (Some x) at h =
     let w = unless_was (cause_after seen x) x e h in
     (subst (λ y. cause_after seen y ≡ None) w.1 w.0, event_was line e (at ∙ ap Some w.1))
 
-told_was : (seen : Seen) (line : List ℕ) (e : Event) → line_after seen line ≡ Ok (Some e) → (cause_after seen e ≡ None) × Spells e
+told_was : (seen : Seen) (line : List ℕ) (e : Event) → line_after seen line ≡ Ok (Some e) → (cause_after seen e ≡ None) × IsSaid e
 told_was seen line e h = told_by seen line e (is_passed line) (is_utf8 line) (event_of line) refl h
 
 before_was : (es events : List Event) (r : Result (List Event) ScheduleFault) → before es r ≡ Ok events → (more : List Event) × (r ≡ Ok more) × (es ++ more ≡ events)

@@ -1,5 +1,5 @@
 -- What a refusal says of the reading that it comes from.
-use Rattle.std.specs.Prelude.{◌≡◌, List, Result, Err}
+use Rattle.std.specs.Prelude.{◌≡◌, List, Option, Some, Result, Err}
 use Rattle.adr_token.specs.declared.stop.Stop.{Stop}
 use Rattle.adr_token.specs.declared.stop.Stop.TheVariants as stops
 use Rattle.adr_event.specs.declared.event.Event.{Event}
@@ -15,6 +15,11 @@ use Rattle.adr_schedule.specs.declared.fault.ParseRefusal.TheVariants as texts
 abbrev pub line_refusal : Stop → LineRefusal
 line_refusal stops.Bad = lines.Bad NoCommand
 line_refusal stops.NoMemory = lines.NoMemory
+
+-- a refused event may not follow, for this cause, unless memory ran out
+abbrev pub RefusesEvent : LineRefusal → Option Cause → Type 0
+RefusesEvent (lines.Bad cause) found = found ≡ Some cause
+RefusesEvent lines.NoMemory found = Unit {0}
 
 -- a refused line has this cause, unless memory ran out
 abbrev pub RefusesLine : {Y : Type 0} → LineRefusal → Result Y Cause → Type 0

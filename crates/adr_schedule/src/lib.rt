@@ -5,6 +5,7 @@
 
 mod commands;
 mod fault;
+mod laws;
 mod lines;
 mod names;
 mod parsing;
@@ -13,8 +14,9 @@ mod seen;
 
 pub use adr_event::Event;
 pub use fault::{Cause, ParseRefusal, ScheduleFault};
+pub use laws::{events_are_read_again, lines_read_back};
 pub use parsing::parse;
-pub use printing::{events_are_read_again, print};
+pub use printing::print;
 
 #[cfg(test)]
 mod tests;

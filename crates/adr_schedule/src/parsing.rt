@@ -1,6 +1,6 @@
 //! The events of a text.
 
-ghost use Rattle.std.specs.Prelude.{◌≡◌, ℕ, List, Ok, Err, IfOk, IfErr, OnOk, ◌++◌, length};
+ghost use Rattle.std.specs.Prelude.{◌≡◌, ◌≤◌, ℕ, List, [], Ok, Err, IfOk, IfErr, OnOk, ◌++◌, length};
 ghost use Rattle.std.specs.Option.{option_to_list};
 ghost use Rattle.adr_schedule.specs.Faults.{RefusesLine, Refuses};
 ghost use Rattle.adr_schedule.specs.Seen.{nothing_seen, IsFollowing};
@@ -13,6 +13,9 @@ use crate::seen::Seen;
 use adr_event::Event;
 use adr_token::utf8;
 use std::alloc::Global;
+
+/// Drops an event, in this place alone: where such a wide enum is dropped a proof is long.
+fn discard(_event: Event) {}
 
 /// What one line says, after the earlier ones.
 fn line_after(alloc: Global, seen: &mut Seen, line: &[u8]) -> Result<Option<Event>, LineRefusal>
@@ -28,11 +31,13 @@ fn line_after(alloc: Global, seen: &mut Seen, line: &[u8]) -> Result<Option<Even
         return Err(LineRefusal::Bad(Cause::NotUtf8));
     }
     let event = event_of(alloc, line)?;
-    if let Some(cause) = seen.cause_after(&event) {
-        return Err(LineRefusal::Bad(cause));
+    match seen.admit(alloc, &event) {
+        Ok(()) => Ok(Some(event)),
+        Err(refusal) => {
+            discard(event);
+            Err(refusal)
+        }
     }
-    seen.note(alloc, &event)?;
-    Ok(Some(event))
 }
 
 /// Adds the event, if there is one.
@@ -44,9 +49,43 @@ fn keep(events: &mut Vec<Event>, told: Option<Event>) -> Result<(), ParseRefusal
         None => Ok(()),
         Some(event) => match events.push(event) {
             Ok(()) => Ok(()),
-            Err(_) => Err(ParseRefusal::NoMemory),
+            Err(failed) => {
+                discard(failed.value);
+                Err(ParseRefusal::NoMemory)
+            }
         },
     }
+}
+
+/// Adds the events of a text to none.
+#[tactic(auto, unfolding(crate::specs::Events::events_of))]
+fn read_lines(alloc: Global, events: &mut Vec<Event>, text: &[u8]) -> Result<(), ParseRefusal>
+    requires none { events.old.items ≡ [] }
+    requires short { length text.now ≤ 16777216 }
+    ensures ok { OnOk result (events_of text.now ≡ Ok events.new.items) }
+    ensures follows { OnOk result (IsFollowing nothing_seen events.new.items) }
+    ensures bad { IfErr result (λ refusal. Refuses refusal (events_of text.now)) }
+{
+    let mut seen = Seen::nothing(alloc);
+    let mut rest = text;
+    let mut number = 1u32;
+    'lines: while rest.len() > 0 {
+        let (line, after) = first_line(rest);
+        let told = match line_after(alloc, &mut seen, line) {
+            Ok(told) => told,
+            Err(LineRefusal::Bad(cause)) => {
+                return Err(ParseRefusal::Bad(ScheduleFault {
+                    line: number,
+                    cause,
+                }));
+            }
+            Err(LineRefusal::NoMemory) => return Err(ParseRefusal::NoMemory),
+        };
+        keep(events, told)?;
+        rest = after;
+        number += 1;
+    }
+    Ok(())
 }
 
 /// The events of a text, or its first bad line.
@@ -63,24 +102,6 @@ pub fn parse(alloc: Global, text: &[u8]) -> Result<Vec<Event>, ParseRefusal>
         }));
     }
     let mut events = Vec::new(alloc);
-    let mut seen = Seen::nothing(alloc);
-    let mut rest = text;
-    let mut number = 1u32;
-    'lines: while rest.len() > 0 {
-        let (line, after) = first_line(rest);
-        let told = match line_after(alloc, &mut seen, line) {
-            Ok(told) => told,
-            Err(LineRefusal::Bad(cause)) => {
-                return Err(ParseRefusal::Bad(ScheduleFault {
-                    line: number,
-                    cause,
-                }));
-            }
-            Err(LineRefusal::NoMemory) => return Err(ParseRefusal::NoMemory),
-        };
-        keep(&mut events, told)?;
-        rest = after;
-        number += 1;
-    }
+    read_lines(alloc, &mut events, text)?;
     Ok(events)
 }

@@ -3,7 +3,8 @@
 ghost use Rattle.std.specs.Prelude.{◌≡◌, ◌++◌, ◌∷◌, [], ℕ, List, IfOk, OnOk, codes, flat_map, take};
 ghost use Rattle.std.specs.Fmt.{decimal};
 ghost use Rattle.adr_token.specs.Spelling.{attribute_token, class_token, identifier_token, set_token, text_token};
-ghost use Rattle.adr_schedule.specs.Printed.{EventsAreReadAgain, crash_word, line_of, printed, set_tokens, spaced};
+ghost use Rattle.adr_schedule.specs.Grammar.{crash_word};
+ghost use Rattle.adr_schedule.specs.Printed.{line_of, printed, set_tokens, spaced};
 
 use adr_disk::Crash;
 use adr_event::Event;
@@ -105,6 +106,69 @@ fn push_sets(alloc: Global, out: &mut Vec<u8>, values: &Assignments) -> Result<(
     Ok(())
 }
 
+/// Adds a line of a verb and a name.
+fn push_named(out: &mut Vec<u8>, verb: &[u8], name: &Text) -> Result<(), NoMemory>
+    ensures { OnOk result (out.new.items ≡ out.old.items ++ (verb.now ++ spaced (name.now ∷ []))) }
+{
+    push(out, verb)?;
+    push_name(out, name)
+}
+
+/// Adds a line of a verb and two names.
+fn push_pair(out: &mut Vec<u8>, verb: &[u8], name: &Text, other: &Text) -> Result<(), NoMemory>
+    ensures { OnOk result (out.new.items ≡ out.old.items ++ (verb.now ++ spaced (name.now ∷ other.now ∷ []))) }
+{
+    push(out, verb)?;
+    push_name(out, name)?;
+    push_name(out, other)
+}
+
+/// Adds the front of a line about an object.
+fn push_about(
+    alloc: Global,
+    out: &mut Vec<u8>,
+    verb: &[u8],
+    name: &Text,
+    guid: Uuid,
+) -> Result<(), NoMemory>
+    ensures { OnOk result (out.new.items ≡ out.old.items ++ (verb.now ++ spaced (name.now ∷ identifier_token guid ∷ []))) }
+{
+    push(out, verb)?;
+    push_name(out, name)?;
+    push_spaced_identifier(alloc, out, guid)
+}
+
+/// Adds a line that binds what a controller makes.
+fn push_made(
+    out: &mut Vec<u8>,
+    verb: &[u8],
+    name: &Text,
+    bound: &Text,
+) -> Result<(), NoMemory>
+    ensures { OnOk result (out.new.items ≡ out.old.items ++ (verb.now ++ spaced (name.now ∷ codes "as" ∷ bound.now ∷ []))) }
+{
+    push(out, verb)?;
+    push_name(out, name)?;
+    push_bound(out, bound)
+}
+
+/// Adds a line of a verb, two names and how many items are asked for.
+fn push_limited(
+    alloc: Global,
+    out: &mut Vec<u8>,
+    verb: &[u8],
+    name: &Text,
+    source: &Text,
+    max: u32,
+) -> Result<(), NoMemory>
+    ensures { OnOk result (out.new.items ≡ out.old.items ++ (verb.now ++ spaced (name.now ∷ source.now ∷ decimal max ∷ []))) }
+{
+    push(out, verb)?;
+    push_name(out, name)?;
+    push_name(out, source)?;
+    push_spaced_number(alloc, out, u64::from(max))
+}
+
 fn push_controller(
     alloc: Global,
     out: &mut Vec<u8>,
@@ -146,8 +210,163 @@ fn push_object(
     push_text(out, text.items())
 }
 
-/// Adds the line of an event.
-#[tactic(auto, unfolding(crate::specs::Printed::line_of))]
+fn push_add(
+    alloc: Global,
+    out: &mut Vec<u8>,
+    name: &Text,
+    guid: Uuid,
+    class: u16,
+    parent: Uuid,
+    text: &Text,
+    values: &Assignments,
+) -> Result<(), NoMemory>
+    ensures { OnOk result (out.new.items ≡ out.old.items ++ (codes "add" ++ spaced (name.now ∷ identifier_token guid ∷ class_token class ∷ identifier_token parent ∷ text_token text.now ∷ set_tokens values.now))) }
+{
+    push(out, b"add")?;
+    push_name(out, name)?;
+    push_object(alloc, out, guid, class, parent, text)?;
+    push_sets(alloc, out, values)
+}
+
+fn push_modify(
+    alloc: Global,
+    out: &mut Vec<u8>,
+    name: &Text,
+    guid: Uuid,
+    values: &Assignments,
+) -> Result<(), NoMemory>
+    ensures { OnOk result (out.new.items ≡ out.old.items ++ (codes "modify" ++ spaced (name.now ∷ identifier_token guid ∷ set_tokens values.now))) }
+{
+    push_about(alloc, out, b"modify", name, guid)?;
+    push_sets(alloc, out, values)
+}
+
+fn push_rename(
+    alloc: Global,
+    out: &mut Vec<u8>,
+    name: &Text,
+    guid: Uuid,
+    parent: Uuid,
+    text: &Text,
+) -> Result<(), NoMemory>
+    ensures { OnOk result (out.new.items ≡ out.old.items ++ (codes "rename" ++ spaced (name.now ∷ identifier_token guid ∷ identifier_token parent ∷ text_token text.now ∷ []))) }
+{
+    push_about(alloc, out, b"rename", name, guid)?;
+    push_spaced_identifier(alloc, out, parent)?;
+    push_spaced_text(out, text)
+}
+
+/// Adds a line that makes or removes a link.
+fn push_link(
+    alloc: Global,
+    out: &mut Vec<u8>,
+    verb: &[u8],
+    name: &Text,
+    from: Uuid,
+    attr: u16,
+    to: Uuid,
+) -> Result<(), NoMemory>
+    ensures { OnOk result (out.new.items ≡ out.old.items ++ (verb.now ++ spaced (name.now ∷ identifier_token from ∷ attribute_token attr ∷ identifier_token to ∷ []))) }
+{
+    push_about(alloc, out, verb, name, from)?;
+    push_spaced_attribute(alloc, out, attr)?;
+    push_spaced_identifier(alloc, out, to)
+}
+
+fn push_ask(
+    alloc: Global,
+    out: &mut Vec<u8>,
+    name: &Text,
+    partner: &Text,
+    max: u32,
+    bound: &Text,
+) -> Result<(), NoMemory>
+    ensures { OnOk result (out.new.items ≡ out.old.items ++ (codes "ask" ++ spaced (name.now ∷ partner.now ∷ decimal max ∷ codes "as" ∷ bound.now ∷ []))) }
+{
+    push_limited(alloc, out, b"ask", name, partner, max)?;
+    push_bound(out, bound)
+}
+
+fn push_serve(
+    out: &mut Vec<u8>,
+    name: &Text,
+    request: &Text,
+    bound: &Text,
+) -> Result<(), NoMemory>
+    ensures { OnOk result (out.new.items ≡ out.old.items ++ (codes "serve" ++ spaced (name.now ∷ request.now ∷ codes "as" ∷ bound.now ∷ []))) }
+{
+    push_pair(out, b"serve", name, request)?;
+    push_bound(out, bound)
+}
+
+fn push_collect(
+    alloc: Global,
+    out: &mut Vec<u8>,
+    name: &Text,
+    lifetime: u64,
+) -> Result<(), NoMemory>
+    ensures { OnOk result (out.new.items ≡ out.old.items ++ (codes "collect" ++ spaced (name.now ∷ decimal lifetime ∷ []))) }
+{
+    push_named(out, b"collect", name)?;
+    push_spaced_number(alloc, out, lifetime)
+}
+
+fn push_restore(
+    alloc: Global,
+    out: &mut Vec<u8>,
+    name: &Text,
+    image: &Text,
+    inv: Uuid,
+) -> Result<(), NoMemory>
+    ensures { OnOk result (out.new.items ≡ out.old.items ++ (codes "restore" ++ spaced (name.now ∷ image.now ∷ identifier_token inv ∷ []))) }
+{
+    push_pair(out, b"restore", name, image)?;
+    push_spaced_identifier(alloc, out, inv)
+}
+
+fn push_install(
+    alloc: Global,
+    out: &mut Vec<u8>,
+    name: &Text,
+    dsa: Uuid,
+    image: &Text,
+    inv: Uuid,
+) -> Result<(), NoMemory>
+    ensures { OnOk result (out.new.items ≡ out.old.items ++ (codes "install" ++ spaced (name.now ∷ identifier_token dsa ∷ image.now ∷ identifier_token inv ∷ []))) }
+{
+    push_about(alloc, out, b"install", name, dsa)?;
+    push_name(out, image)?;
+    push_spaced_identifier(alloc, out, inv)
+}
+
+fn push_stop_after(
+    alloc: Global,
+    out: &mut Vec<u8>,
+    name: &Text,
+    calls: u32,
+    how: Crash,
+) -> Result<(), NoMemory>
+    ensures { OnOk result (out.new.items ≡ out.old.items ++ (codes "stop" ++ spaced (name.now ∷ codes "after" ∷ decimal calls ∷ crash_word how ∷ []))) }
+{
+    push_named(out, b"stop", name)?;
+    push_after(alloc, out, calls)?;
+    push_how(out, how)
+}
+
+fn push_fail(
+    alloc: Global,
+    out: &mut Vec<u8>,
+    name: &Text,
+    calls: u32,
+) -> Result<(), NoMemory>
+    ensures { OnOk result (out.new.items ≡ out.old.items ++ (codes "fail" ++ spaced (name.now ∷ codes "after" ∷ decimal calls ∷ []))) }
+{
+    push_named(out, b"fail", name)?;
+    push_after(alloc, out, calls)
+}
+
+/// Adds the line of an event, by one call for each kind: an arm with many steps makes a long proof.
+#[tactic(auto, unfolding(crate::specs::Printed::line_of, crate::specs::Grammar::tokens_of))]
 fn push_line(alloc: Global, out: &mut Vec<u8>, event: &Event) -> Result<(), NoMemory>
     ensures { OnOk result (out.new.items ≡ out.old.items ++ line_of event.now) }
 {
@@ -161,167 +380,63 @@ fn push_line(alloc: Global, out: &mut Vec<u8>, event: &Event) -> Result<(), NoMe
             parent,
             text,
             values,
-        } => {
-            push(out, b"add")?;
-            push_name(out, name)?;
-            push_object(alloc, out, *guid, *class, *parent, text)?;
-            push_sets(alloc, out, values)
-        }
-        Event::Modify { name, guid, values } => {
-            push(out, b"modify")?;
-            push_name(out, name)?;
-            push_spaced_identifier(alloc, out, *guid)?;
-            push_sets(alloc, out, values)
-        }
+        } => push_add(alloc, out, name, *guid, *class, *parent, text, values),
+        Event::Modify { name, guid, values } => push_modify(alloc, out, name, *guid, values),
         Event::Rename {
             name,
             guid,
             parent,
             text,
-        } => {
-            push(out, b"rename")?;
-            push_name(out, name)?;
-            push_spaced_identifier(alloc, out, *guid)?;
-            push_spaced_identifier(alloc, out, *parent)?;
-            push_spaced_text(out, text)
-        }
-        Event::Delete { name, guid } => {
-            push(out, b"delete")?;
-            push_name(out, name)?;
-            push_spaced_identifier(alloc, out, *guid)
-        }
+        } => push_rename(alloc, out, name, *guid, *parent, text),
+        Event::Delete { name, guid } => push_about(alloc, out, b"delete", name, *guid),
         Event::Link {
             name,
             from,
             attr,
             to,
-        } => {
-            push(out, b"link")?;
-            push_name(out, name)?;
-            push_spaced_identifier(alloc, out, *from)?;
-            push_spaced_attribute(alloc, out, *attr)?;
-            push_spaced_identifier(alloc, out, *to)
-        }
+        } => push_link(alloc, out, b"link", name, *from, *attr, *to),
         Event::Unlink {
             name,
             from,
             attr,
             to,
-        } => {
-            push(out, b"unlink")?;
-            push_name(out, name)?;
-            push_spaced_identifier(alloc, out, *from)?;
-            push_spaced_attribute(alloc, out, *attr)?;
-            push_spaced_identifier(alloc, out, *to)
-        }
+        } => push_link(alloc, out, b"unlink", name, *from, *attr, *to),
         Event::Ask {
             name,
             partner,
             max,
             bound,
-        } => {
-            push(out, b"ask")?;
-            push_name(out, name)?;
-            push_name(out, partner)?;
-            push_spaced_number(alloc, out, u64::from(*max))?;
-            push_bound(out, bound)
-        }
+        } => push_ask(alloc, out, name, partner, *max, bound),
         Event::Serve {
             name,
             request,
             bound,
-        } => {
-            push(out, b"serve")?;
-            push_name(out, name)?;
-            push_name(out, request)?;
-            push_bound(out, bound)
-        }
-        Event::Deliver { name, reply } => {
-            push(out, b"deliver")?;
-            push_name(out, name)?;
-            push_name(out, reply)
-        }
+        } => push_serve(out, name, request, bound),
+        Event::Deliver { name, reply } => push_pair(out, b"deliver", name, reply),
         Event::Pull { name, source, max } => {
-            push(out, b"pull")?;
-            push_name(out, name)?;
-            push_name(out, source)?;
-            push_spaced_number(alloc, out, u64::from(*max))
+            push_limited(alloc, out, b"pull", name, source, *max)
         }
         Event::Cycle { name, source, max } => {
-            push(out, b"cycle")?;
-            push_name(out, name)?;
-            push_name(out, source)?;
-            push_spaced_number(alloc, out, u64::from(*max))
+            push_limited(alloc, out, b"cycle", name, source, *max)
         }
-        Event::Collect { name, lifetime } => {
-            push(out, b"collect")?;
-            push_name(out, name)?;
-            push_spaced_number(alloc, out, *lifetime)
-        }
-        Event::Backup { name, bound } => {
-            push(out, b"backup")?;
-            push_name(out, name)?;
-            push_bound(out, bound)
-        }
-        Event::Restore { name, image, inv } => {
-            push(out, b"restore")?;
-            push_name(out, name)?;
-            push_name(out, image)?;
-            push_spaced_identifier(alloc, out, *inv)
-        }
+        Event::Collect { name, lifetime } => push_collect(alloc, out, name, *lifetime),
+        Event::Backup { name, bound } => push_made(out, b"backup", name, bound),
+        Event::Restore { name, image, inv } => push_restore(alloc, out, name, image, *inv),
         Event::Install {
             name,
             dsa,
             image,
             inv,
-        } => {
-            push(out, b"install")?;
-            push_name(out, name)?;
-            push_spaced_identifier(alloc, out, *dsa)?;
-            push_name(out, image)?;
-            push_spaced_identifier(alloc, out, *inv)
-        }
-        Event::Snapshot { name, bound } => {
-            push(out, b"snapshot")?;
-            push_name(out, name)?;
-            push_bound(out, bound)
-        }
-        Event::Rollback { name, snapshot } => {
-            push(out, b"rollback")?;
-            push_name(out, name)?;
-            push_name(out, snapshot)
-        }
-        Event::StopAfter { name, calls, how } => {
-            push(out, b"stop")?;
-            push_name(out, name)?;
-            push_after(alloc, out, *calls)?;
-            push_how(out, *how)
-        }
-        Event::Fail { name, calls } => {
-            push(out, b"fail")?;
-            push_name(out, name)?;
-            push_after(alloc, out, *calls)
-        }
-        Event::Stop { name } => {
-            push(out, b"stop")?;
-            push_name(out, name)
-        }
-        Event::Start { name } => {
-            push(out, b"start")?;
-            push_name(out, name)
-        }
-        Event::Show { name } => {
-            push(out, b"show")?;
-            push_name(out, name)
-        }
-        Event::Vector { name } => {
-            push(out, b"vector")?;
-            push_name(out, name)
-        }
-        Event::Marks { name } => {
-            push(out, b"marks")?;
-            push_name(out, name)
-        }
+        } => push_install(alloc, out, name, *dsa, image, *inv),
+        Event::Snapshot { name, bound } => push_made(out, b"snapshot", name, bound),
+        Event::Rollback { name, snapshot } => push_pair(out, b"rollback", name, snapshot),
+        Event::StopAfter { name, calls, how } => push_stop_after(alloc, out, name, *calls, *how),
+        Event::Fail { name, calls } => push_fail(alloc, out, name, *calls),
+        Event::Stop { name } => push_named(out, b"stop", name),
+        Event::Start { name } => push_named(out, b"start", name),
+        Event::Show { name } => push_named(out, b"show", name),
+        Event::Vector { name } => push_named(out, b"vector", name),
+        Event::Marks { name } => push_named(out, b"marks", name),
     }
 }
 
@@ -336,8 +451,3 @@ pub fn print(alloc: Global, events: &[Event]) -> Result<Vec<u8>, NoMemory>
     }
     Ok(out)
 }
-
-/// The events of a text are read again from their printed form.
-pub fn events_are_read_again()
-    ensures { EventsAreReadAgain }
-{}

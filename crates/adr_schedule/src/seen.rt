@@ -1,6 +1,7 @@
 //! What earlier lines bound and gave.
 
 ghost use Rattle.std.specs.Prelude.{◌≡◌, ℕ, List, [], ◌∷◌, ◌++◌, ◌||◌, None, OnOk, IfErr};
+ghost use Rattle.adr_schedule.specs.Faults.{RefusesEvent};
 ghost use Rattle.adr_schedule.specs.Seen.{nothing_seen, is_bound, first_cause, unless_bound, if_bound, if_given, if_full, cause_after, seen_after};
 
 use crate::fault::{Cause, LineRefusal};
@@ -12,7 +13,7 @@ use std::marker::Model;
 use uuid::Uuid;
 
 /// The names that lines bound, and the identifiers that they gave.
-#[derive(Debug, Drop)]
+#[derive(Drop)]
 pub struct Seen {
     controllers: Names,
     requests: Names,
@@ -22,7 +23,8 @@ pub struct Seen {
 }
 
 impl Model for Seen {
-    ghost use Rattle.adr_schedule.specs.Seen.{Seen as Bindings};
+    ghost use Rattle.adr_schedule.specs.Faults.{RefusesEvent};
+ghost use Rattle.adr_schedule.specs.Seen.{Seen as Bindings};
 
     ghost Value = { Bindings };
 
@@ -188,6 +190,18 @@ impl Seen {
             Event::Ask { bound, .. } => self.requests.bind(alloc, bound),
             Event::Serve { bound, .. } => self.replies.bind(alloc, bound),
             _ => Ok(()),
+        }
+    }
+
+    /// Notes what the event binds and gives, if it may follow. After an error it isn't said what was noted.
+    pub fn admit(&mut self, alloc: Global, event: &Event) -> Result<(), LineRefusal>
+        ensures follows { OnOk result (cause_after self.old event.now ≡ None) }
+        ensures seen { OnOk result (self.new ≡ seen_after self.old event.now) }
+        ensures refused { IfErr result (λ refusal. RefusesEvent refusal (cause_after self.old event.now)) }
+    {
+        match self.cause_after(event) {
+            Some(cause) => Err(LineRefusal::Bad(cause)),
+            None => self.note(alloc, event),
         }
     }
 }

@@ -89,7 +89,7 @@ goes_on t i us refusal place objects links =
       links = links;
     }
 
-held_of_both : (ws vs : List Written) → held_of (ws ++ vs) ≡ held_of ws ++ held_of vs
+pub held_of_both : (ws vs : List Written) → held_of (ws ++ vs) ≡ held_of ws ++ held_of vs
 held_of_both ws vs = flat_map-append (λ (w : Written). map (held_at w.local) w.item.rows) ws vs
 
 module _ (sc : Scene) (s : State) (r : Reply) (may : IsTakeable sc s r) (t : Taking) (way : IsOnTheWay sc s r t) (i : Item) (refusal : Option TakeRefusal) (place objects links : ℕ) where

@@ -14,5 +14,5 @@ pub mod TakenLeaves
 pub mod RowPasses
 pub mod ItemWhole
 pub mod Refused
-pub mod ItemIdle
-pub mod TakenIdle
+pub mod ItemLacked
+pub mod TakenLacked

@@ -35,12 +35,15 @@ pub fn sound_replies_are_whole()
     ensures rollback { (sc : Scene) (s : State) (r : Reply) (inv : Identifier) (mine shown : ℕ) → IsSoundScene sc → IsSoundState sc s → IsSoundReply sc r → take s r ≢ Err (RolledBack inv mine shown) }
 {}
 
-/// A row that comes with a reply was sent, and where nothing that was sent is covered, it wasn't taken
-/// before. Where all that was sent was taken, nothing is written.
+/// A row that comes with a reply was sent (*from*), and where nothing that was sent is covered, it wasn't
+/// taken before (*lacked*). Where all that was sent was taken, nothing is written (*idle*).
 #[tactic(none)]
 pub fn replies_bring_what_was_lacking()
     ensures from { (sc : Scene) (s : State) (r : Reply) (c : Change) → IsSoundScene sc → IsSoundState sc s → IsSoundReply sc r → take s r ≡ Ok c
         → Each (λ u. Member u (updates_of s.store.rows) ⊎ IsSent r u) (updates_of (after s c).store.rows) }
+    ensures lacked { (sc : Scene) (s : State) (r : Reply) (c : Change) → IsSoundScene sc → IsSoundState sc s → IsSoundReply sc r → take s r ≡ Ok c
+        → ((u : Update) → IsSent r u → Covers (at s.store.vector) u → ⊥)
+        → Each (λ u. Member u (updates_of s.store.rows) ⊎ (IsSent r u × (Reflects sc.issued (knowledge_of s.store) u → ⊥))) (updates_of (after s c).store.rows) }
     ensures idle { (sc : Scene) (s : State) (r : Reply) (c : Change) → IsSoundScene sc → IsSoundState sc s → IsSoundReply sc r → take s r ≡ Ok c
         → ((u : Update) → IsSent r u → Covers (at s.store.vector) u → ⊥) → ((u : Update) → IsSent r u → Reflects sc.issued (knowledge_of s.store) u) → c.usn ≡ s.store.usn }
 {}

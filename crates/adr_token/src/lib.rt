@@ -20,6 +20,3 @@ pub use texts::utf8;
 pub use values::{push_attribute, push_class, push_set, push_value};
 pub use words::{Line, is_digit, is_letter, without_spaces};
 pub use writing::{push, push_identifier, push_number, push_text};
-
-#[cfg(test)]
-mod tests;

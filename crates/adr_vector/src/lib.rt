@@ -14,6 +14,3 @@ pub use vector::{Vector, VectorRefusal, vectors_are_their_numbers};
 
 /// Memory ran out.
 pub type NoMemory = std::alloc::AllocError;
-
-#[cfg(test)]
-mod tests;

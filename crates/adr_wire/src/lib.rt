@@ -21,6 +21,3 @@ pub use writer::Writer;
 
 /// Memory ran out.
 pub type NoMemory = std::alloc::AllocError;
-
-#[cfg(test)]
-mod tests;

@@ -30,7 +30,6 @@ first_person =
 abbrev pub first_person_answers : List Answer
 first_person_answers =
     answer (codes "controller") (codes "A") outcomes.Ok
-    ∷ answer (codes "time") [] outcomes.Silent
     ∷ answer (codes "add") (codes "A") (outcomes.Usn 1)
     ∷ answer (codes "show") (codes "A") (outcomes.Show (a_user 16 (codes "Ann") (codes "ann") ∷ []))
     ∷ []

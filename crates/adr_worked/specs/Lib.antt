@@ -7,4 +7,6 @@ pub mod Lifetimes
 pub mod RefusedWrites
 pub mod RefusedReplies
 pub mod Stops
-pub mod Transcripts
+pub mod Exchanges
+pub mod Logs
+pub mod Forged

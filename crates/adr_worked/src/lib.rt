@@ -1,10 +1,10 @@
-//! What a reader has to believe: what updates are, which of them count, what they show, and what a
-//! run of events does and answers. These definitions speak of plain lists and numbers, and stand on
-//! the types of stamps, contents, events and answers alone. The functions here have no code: their
-//! contracts are what is computed or proved of the definitions.
+//! The definitions of `adr_model`, computed on runs small enough to be followed by hand: directories of
+//! sets of updates, controllers that act one after the other, and whole runs with their answers. Each
+//! function's contract is what comes out, worked out by the rules; there is no code. Each wrong
+//! definition that was tried is refused by one of them.
 #![tactic(auto)]
 
-ghost use Rattle.std.specs.Prelude.{◌≡◌, Some, None};
+ghost use Rattle.std.specs.Prelude.{◌≡◌, [], ◌∷◌, true, false, Some, None, codes};
 ghost use Rattle.adr_model.specs.Directory.{directory};
 ghost use Rattle.adr_worked.specs.Runs.{one_user, one_user_shown, name_twice, name_twice_shown, lost_name, lost_name_shown, loop_of_two, loop_of_two_shown, lost_parent, lost_parent_shown, guid_twice, guid_twice_shown, a_group, a_group_shown};
 ghost use Rattle.adr_worked.specs.Pulls.{equal_stamps, equal_stamps_told, cut, cut_told, repeated, repeated_told, reordered, reordered_told, older_than_restore, older_than_restore_told, compared_by_seen, compared_by_seen_told};
@@ -15,10 +15,22 @@ ghost use Rattle.adr_worked.specs.RefusedReplies.{refused_requests, refused_requ
 ghost use Rattle.adr_event.specs.declared.refusal.AdoptRefusal.TheVariants.{IdentifierUsed};
 ghost use Rattle.adr_disk.specs.declared.memory.Crash.TheVariants.{Kept, Lost, Torn};
 ghost use Rattle.adr_worked.specs.Stops.{stopped_add, stopped_add_told, one_object, two_objects, waiting_plan_told, stopped_start, stopped_start_told, failing_device, failing_device_told, failing_last_sync, failing_last_sync_told, met_later, met_later_told};
-ghost use Rattle.adr_worked.specs.Transcripts.{cut_and_cycle, cut_and_cycle_told, delivered_twice, delivered_twice_told, restore, restore_told, rollback, rollback_told, collection, collection_told};
-ghost use Rattle.adr_model.specs.Cycles.{transcript};
-ghost use Rattle.adr_model.specs.World.{answers, empty_world};
+ghost use Rattle.adr_worked.specs.Exchanges.{cut_and_cycle, cut_and_cycle_told, delivered_twice, delivered_twice_told, restore, restore_told, rollback, rollback_told, collection, collection_told};
+ghost use Rattle.adr_model.specs.Step.{after_lines, answers};
+ghost use Rattle.adr_model.specs.World.{empty_world};
 ghost use Rattle.adr_worked.specs.Answered.{first_person, first_person_answers, refused_adds, refused_adds_answers};
+ghost use Rattle.adr_event.specs.declared.event.Event.TheVariants.{Ask, Rollback};
+ghost use Rattle.adr_event.specs.declared.refusal.ItemFault.TheVariants.{Schema as BreaksSchema};
+ghost use Rattle.adr_event.specs.declared.refusal.TakeRefusal.TheVariants.{BadItem};
+ghost use Rattle.adr_schema.specs.declared.refusal.SchemaRefusal.TheVariants.{UnknownAttribute};
+ghost use Rattle.adr_model.specs.Update.{RowOf};
+ghost use Rattle.adr_model.specs.Convergence.{MayHappen};
+ghost use Rattle.adr_worked.specs.Acting.{first, container};
+ghost use Rattle.adr_worked.specs.Runs.{object};
+ghost use Rattle.adr_worked.specs.Stops.{new_a, add_container};
+ghost use Rattle.adr_worked.specs.Logs.{with_log, full_log, last_room, last_room_told, no_room_told, log_ends, put_back as log_put_back, asked_for_more, shut_off};
+ghost use Rattle.adr_worked.specs.Forged.{on_a_fixed_guid, on_a_fixed_guid_shown, two_classes, dead_with_row_0, keys_taken, refused_with_row_0, two_items};
+ghost use Rattle.adr_worked.specs.Exchanges.{asked_once};
 
 /// Small sets of updates, and the directories that they define.
 #[tactic(none)]
@@ -113,10 +125,42 @@ pub fn failing_disks()
 
 /// Runs of two controllers, line by line.
 #[tactic(none)]
-pub fn small_transcripts()
-    ensures cycle { transcript empty_world cut_and_cycle ≡ cut_and_cycle_told }
-    ensures twice { transcript empty_world delivered_twice ≡ delivered_twice_told }
-    ensures restore { transcript empty_world restore ≡ restore_told }
-    ensures rollback { transcript empty_world rollback ≡ rollback_told }
-    ensures collection { transcript empty_world collection ≡ collection_told }
+pub fn small_exchanges()
+    ensures cycle { answers empty_world cut_and_cycle ≡ cut_and_cycle_told }
+    ensures twice { answers empty_world delivered_twice ≡ delivered_twice_told }
+    ensures restore { answers empty_world restore ≡ restore_told }
+    ensures rollback { answers empty_world rollback ≡ rollback_told }
+    ensures collection { answers empty_world collection ≡ collection_told }
+{}
+
+/// Where logs end: of a new disk, of one with no room left, and of one that is put back.
+#[tactic(none)]
+pub fn logs_end()
+    ensures new { log_ends (after_lines empty_world (new_a ∷ [])) ≡ Some (82, 82) }
+    ensures grown { log_ends (after_lines empty_world (new_a ∷ add_container (codes "A") 16 (codes "x") ∷ [])) ≡ Some (261, 261) }
+    ensures last { answers (with_log 2147483469) last_room ≡ last_room_told }
+    ensures none { answers (with_log 2147483470) last_room ≡ no_room_told }
+    ensures put_back { log_ends (after_lines empty_world log_put_back) ≡ Some (261, 261) }
+    ensures shut_off { asked_for_more 2147483617 ≡ shut_off }
+    ensures unnoted { asked_for_more 2147483618 ≡ full_log (codes "serve") ∷ [] }
+{}
+
+/// Rows that only a forged packet brings.
+#[tactic(none)]
+pub fn forged_rows()
+    ensures fixed { directory on_a_fixed_guid ≡ on_a_fixed_guid_shown }
+    ensures one { directory two_classes ≡ container 16 (codes "x") ∷ [] }
+    ensures left_out { keys_taken dead_with_row_0 ≡ RowOf (object 16 161 1) 1 ∷ RowOf (object 16 161 1) 2 ∷ RowOf (object 16 161 1) 3 ∷ [] }
+    ensures looked_at { refused_with_row_0 ≡ (None, Some (BadItem 0 (BreaksSchema (UnknownAttribute 0)))) }
+{}
+
+/// A database that is put back makes a world unclean; a name without a snapshot doesn't. A write of two
+/// items ends at its second USN. A name is bound once.
+#[tactic(none)]
+pub fn what_lines_leave()
+    ensures unclean { (after_lines empty_world log_put_back).clean ≡ false }
+    ensures clean { (after_lines empty_world (new_a ∷ Rollback (codes "A") (codes "s") ∷ [])).clean ≡ true }
+    ensures two { (two_items first).usn ≡ 2 }
+    ensures bound { MayHappen (after_lines empty_world asked_once) (Ask (codes "B") (codes "A") 10 (codes "q")) → ⊥ }
+    ensures unbound { MayHappen (after_lines empty_world asked_once) (Ask (codes "B") (codes "A") 10 (codes "p")) }
 {}

@@ -1,0 +1,212 @@
+-- A token that is spelled is read, and one that was read is spelled.
+use Rattle.std.proofs.Common.{◌≡◌, ◌⊎◌, ℕ, suc, ◌+◌, ◌<◌, ◌^◌, Bool, true, false, not, cond, List, [], ◌∷◌, ◌++◌, length, take, drop, Option, Some, None, refl, sym, ap, subst, ◌∙◌, inl, inr, arith}
+use Rattle.std.specs.Prelude.{◌==◌, nat_le, codes}
+use Rattle.std.specs.Fmt.{decimal}
+use Rattle.std.specs.List.{position_or_len}
+use Rattle.std.specs.Str.{bytes_eq}
+use Rattle.std.proofs.lemmas.Bool.{and_parts, and_from, leb-true}
+use Rattle.std.proofs.lemmas.Bool.Decides.{nat_tests}
+use Rattle.std.proofs.lemmas.List.{take-append-drop}
+use Rattle.std.proofs.lemmas.Slice.Eq.{bytes_eq-Decides}
+use Rattle.adr_schema.specs.Schemas.{schema_1}
+use Rattle.adr_schema.specs.declared.content.Value.TheVariants.{Text}
+use Rattle.adr_token.specs.Gives.{◌>>=◌}
+use Rattle.adr_token.specs.Words.{is_space, unspaced, said, prefix_at, word_at, name_at}
+use Rattle.adr_token.specs.Numbers.{number_at}
+use Rattle.adr_token.specs.Identifiers.{identifier_at}
+use Rattle.adr_token.specs.Texts.{text_at}
+use Rattle.adr_token.specs.Laws.{IsIdentifier, Stands, full_token}
+use Rattle.adr_token.specs.Spelling.{attribute_token, class_token, identifier_token, text_token}
+use Rattle.adr_token.proofs.WordLaws.{bind_some, if_some, is_spaceless, name_graphic, names_again, names_spelled, word_again, word_was}
+use Rattle.adr_token.proofs.DigitLaws.{numbers_again, numbers_spelled}
+use Rattle.adr_token.proofs.IdentifierLaws.{identifiers_again, identifiers_spelled}
+use Rattle.adr_token.proofs.TextLaws.{texts_again, texts_spelled}
+use Rattle.adr_schedule.specs.Commands.{IsLimit, bound_at, is_limit, limit_at}
+use Rattle.adr_schedule.specs.Grammar.{Token, Word, Name, Number, Identifier, Class, Quoted, Set, IsNext, SpellsIdentifier}
+
+-- spaces in front say nothing
+space_skips : (b : ℕ) (bs : List ℕ) → is_space b ≡ true → unspaced (b ∷ bs) ≡ unspaced bs
+space_skips b bs h =
+    let e : 1 + position_or_len (λ c. not (is_space c)) bs ≡ suc (position_or_len (λ c. not (is_space c)) bs) = omega arith in
+    rw (h, e) refl
+
+starts : (b : ℕ) (bs : List ℕ) → is_space b ≡ false → unspaced (b ∷ bs) ≡ b ∷ bs
+starts b bs h = rw h refl
+
+unspaced_by : (b : ℕ) (bs : List ℕ) (t : Bool) → is_space b ≡ t → unspaced (unspaced bs) ≡ unspaced bs → unspaced (unspaced (b ∷ bs)) ≡ unspaced (b ∷ bs)
+unspaced_by b bs true h more = ap unspaced (space_skips b bs h) ∙ more ∙ sym (space_skips b bs h)
+unspaced_by b bs false h more = ap unspaced (starts b bs h)
+
+unspaced_again : (bytes : List ℕ) → unspaced (unspaced bytes) ≡ unspaced bytes
+unspaced_again [] = refl
+unspaced_again (b ∷ bs) = unspaced_by b bs (is_space b) refl (unspaced_again bs)
+
+word_spaced : (bytes : List ℕ) → word_at (unspaced bytes) ≡ word_at bytes
+word_spaced bytes = rw (unspaced_again bytes) refl
+
+name_spaced : (bytes : List ℕ) → name_at (unspaced bytes) ≡ name_at bytes
+unfolding name_at
+name_spaced bytes = rw (word_spaced bytes) refl
+
+number_spaced : (bytes : List ℕ) → number_at (unspaced bytes) ≡ number_at bytes
+unfolding number_at
+number_spaced bytes = rw (word_spaced bytes) refl
+
+identifier_spaced : (bytes : List ℕ) → identifier_at (unspaced bytes) ≡ identifier_at bytes
+unfolding identifier_at
+identifier_spaced bytes = rw (word_spaced bytes) refl
+
+-- the same bytes stand there
+stands_as : (word word' bytes rest : List ℕ) → word ≡ word' → Stands word bytes rest → Stands word' bytes rest
+stands_as word word' bytes rest e h = subst (λ (w : List ℕ). Stands w bytes rest) e h
+
+-- a token that is spelled is read
+pub word_read : (word bytes rest : List ℕ) → is_spaceless word ≡ true → 0 < length word → IsNext (Word word) bytes rest → word_at bytes ≡ Some (word, rest)
+word_read word bytes rest h l w =
+    let s = stands_as w.0 word bytes rest w.1 w.2 in
+    sym (word_spaced bytes) ∙ ap word_at s.0 ∙ word_again word rest h l s.1
+
+pub name_read : (name bytes rest : List ℕ) → IsNext (Name name) bytes rest → name_at bytes ≡ Some (name, rest)
+name_read name bytes rest w =
+    let s = stands_as w.0 name bytes rest w.1.1 w.2 in
+    sym (name_spaced bytes) ∙ ap name_at s.0 ∙ names_again name rest w.1.0 s.1
+
+pub number_read : (n : ℕ) (bytes rest : List ℕ) → IsNext (Number n) bytes rest → number_at bytes ≡ Some (n, rest)
+number_read n bytes rest w =
+    let s = stands_as w.0 (decimal n) bytes rest w.1.1 w.2 in
+    sym (number_spaced bytes) ∙ ap number_at s.0 ∙ numbers_again n rest w.1.0 s.1
+
+identifier_by : (id bytes rest spelled : List ℕ) → IsIdentifier id → (spelled ≡ identifier_token id) ⊎ (spelled ≡ full_token id) → Stands spelled bytes rest → identifier_at bytes ≡ Some (id, rest)
+identifier_by id bytes rest spelled h (inl e) w =
+    let s = stands_as spelled (identifier_token id) bytes rest e w in
+    sym (identifier_spaced bytes) ∙ ap identifier_at s.0 ∙ (identifiers_again id rest h s.1).0
+identifier_by id bytes rest spelled h (inr e) w =
+    let s = stands_as spelled (full_token id) bytes rest e w in
+    sym (identifier_spaced bytes) ∙ ap identifier_at s.0 ∙ (identifiers_again id rest h s.1).1
+
+pub identifier_read : (id bytes rest : List ℕ) → IsNext (Identifier id) bytes rest → identifier_at bytes ≡ Some (id, rest)
+identifier_read id bytes rest w = identifier_by id bytes rest w.0 w.1.0 w.1.1 w.2
+
+pub text_read : (text bytes rest : List ℕ) → IsNext (Quoted text) bytes rest → text_at (unspaced bytes) ≡ Some (text, rest)
+text_read text bytes rest w =
+    let s = stands_as w.0 (text_token text) bytes rest w.1.1 w.2 in
+    ap text_at s.0 ∙ texts_again text rest w.1.0 s.1
+
+pub limit_true : (n : ℕ) → IsLimit n → is_limit n ≡ true
+limit_true n h = grind (arith, nat_tests)
+
+pub limit_read : (n : ℕ) (bytes rest : List ℕ) → IsLimit n → IsNext (Number n) bytes rest → limit_at bytes ≡ Some (n, rest)
+unfolding limit_at
+limit_read n bytes rest h w = rw (number_read n bytes rest w, limit_true n h) refl
+
+pub bound_read : (name bytes between rest : List ℕ) → IsNext (Word (codes "as")) bytes between → IsNext (Name name) between rest → bound_at bytes ≡ Some (name, rest)
+unfolding bound_at said
+bound_read name bytes between rest w n = rw (word_read (codes "as") bytes between refl (omega arith) w, name_read name between rest n) refl
+
+pub user_read : (bytes rest : List ℕ) → IsNext (Class 5) bytes rest → word_at bytes ≡ Some (codes "user", rest)
+unfolding class_token schema_1
+user_read bytes rest w = word_read (codes "user") bytes rest refl (omega arith) w
+
+pub container_read : (bytes rest : List ℕ) → IsNext (Class 4) bytes rest → word_at bytes ≡ Some (codes "container", rest)
+unfolding class_token schema_1
+container_read bytes rest w = word_read (codes "container") bytes rest refl (omega arith) w
+
+-- an account name: what stands before the text, and the text
+account_spelled : (value rest list : List ℕ) → list ≡ text_token value → (attribute_token 10 ++ codes "=" ++ list) ++ rest ≡ codes "sAMAccountName=" ++ (text_token value ++ rest)
+unfolding attribute_token schema_1
+account_spelled value rest list e = ap (λ (bs : List ℕ). codes "sAMAccountName=" ++ (bs ++ rest)) e
+
+account_stands : (value bytes rest : List ℕ) → IsNext (Set 10 (Text value ∷ [])) bytes rest → unspaced bytes ≡ codes "sAMAccountName=" ++ (text_token value ++ rest)
+account_stands value bytes rest w = w.2.0 ∙ ap (λ (bs : List ℕ). bs ++ rest) w.1.2 ∙ account_spelled value rest w.1.0 w.1.1.1
+
+pub set_read : (value bytes rest : List ℕ) → IsNext (Set 10 (Text value ∷ [])) bytes rest → prefix_at (codes "sAMAccountName=") (unspaced bytes) ≡ Some (tt, text_token value ++ rest)
+set_read value bytes rest w = ap (prefix_at (codes "sAMAccountName=")) (account_stands value bytes rest w)
+
+pub value_read : (value bytes rest : List ℕ) → IsNext (Set 10 (Text value ∷ [])) bytes rest → text_at (text_token value ++ rest) ≡ Some (value, rest)
+value_read value bytes rest w = texts_again value rest w.1.1.0 w.2.1
+
+-- a token that was read is spelled
+abbrev pub Read : Type 0
+Read = List ℕ × List ℕ
+
+pub same_bytes : (bs cs : List ℕ) → bytes_eq bs cs ≡ true → bs ≡ cs
+same_bytes bs cs h = (bytes_eq-Decides bs cs).0 h
+
+pub word_next : (word bytes : List ℕ) (t : Read) → word_at bytes ≡ Some t → bytes_eq t.0 word ≡ true → IsNext (Word word) bytes t.1
+word_next word bytes t h e = (t.0, same_bytes t.0 word e, word_was bytes t.0 t.1 h)
+
+pub name_next : (bytes : List ℕ) (t : Read) → name_at bytes ≡ Some t → IsNext (Name t.0) bytes t.1
+name_next bytes t h = let w = names_spelled bytes t.0 t.1 h in (t.0, (w.0, refl), w.1)
+
+pub named : (bytes : List ℕ) (t : Read) → name_at bytes ≡ Some t → 0 < length t.0
+named bytes t h = (name_graphic t.0 (names_spelled bytes t.0 t.1 h).0).1
+
+pub number_next : (bytes : List ℕ) (t : ℕ × List ℕ) → number_at bytes ≡ Some t → IsNext (Number t.0) bytes t.1
+number_next bytes t h = let w = numbers_spelled bytes t.0 t.1 h in (decimal t.0, (w.0, refl), w.1)
+
+either_form : (id bytes rest : List ℕ) → IsIdentifier id → Stands (identifier_token id) bytes rest ⊎ Stands (full_token id) bytes rest → IsNext (Identifier id) bytes rest
+either_form id bytes rest h (inl s) = (identifier_token id, (h, inl refl), s)
+either_form id bytes rest h (inr s) = (full_token id, (h, inr refl), s)
+
+pub identifier_next : (bytes : List ℕ) (t : Read) → identifier_at bytes ≡ Some t → IsNext (Identifier t.0) bytes t.1
+identifier_next bytes t h = let w = identifiers_spelled bytes t.0 t.1 h in either_form t.0 bytes t.1 w.0 w.1
+
+pub text_next : (bytes : List ℕ) (t : Read) → text_at (unspaced bytes) ≡ Some t → IsNext (Quoted t.0) bytes t.1
+text_next bytes t h = let w = texts_spelled (unspaced bytes) t.0 t.1 h in (text_token t.0, (w.0, refl), (w.1, w.2))
+
+-- a limit is a number
+abbrev Limited : ℕ × List ℕ → List ℕ → Type 0
+Limited t bytes = IsLimit t.0 × IsNext (Number t.0) bytes t.1
+
+limit_small : (n : ℕ) → is_limit n ≡ true → IsLimit n
+limit_small n h = let p = and_parts (nat_le 1 n) (nat_le n 10000) h in (leb-true 1 n p.0, leb-true n 10000 p.1)
+
+pub limit_next : (bytes : List ℕ) (t : ℕ × List ℕ) → limit_at bytes ≡ Some t → IsLimit t.0 × IsNext (Number t.0) bytes t.1
+unfolding limit_at
+limit_next bytes t h =
+    let s = bind_some (number_at bytes) (λ limit. cond (is_limit limit.0) (Some limit) None) t h in
+    let w = if_some (is_limit s.0.0) s.0 t s.2 in
+    subst (λ (x : ℕ × List ℕ). Limited x bytes) w.1 (limit_small s.0.0 w.0, number_next bytes s.0 s.1)
+
+-- a name behind `as`
+abbrev Bound : Read → List ℕ → Type 0
+Bound t bytes = (0 < length t.0) × ((between : List ℕ) × IsNext (Word (codes "as")) bytes between × IsNext (Name t.0) between t.1)
+
+said_next : (what bytes : List ℕ) (t : Unit {0} × List ℕ) → said what bytes ≡ Some t → IsNext (Word what) bytes t.1
+unfolding said
+said_next what bytes t h =
+    let s = bind_some (word_at bytes) (λ word. cond (bytes_eq word.0 what) (Some (tt, word.1)) None) t h in
+    let w = if_some (bytes_eq s.0.0 what) (tt, s.0.1) t s.2 in
+    let last : s.0.1 ≡ t.1 = ap (λ (x : Unit {0} × List ℕ). x.1) w.1 in
+    subst (λ (rest : List ℕ). IsNext (Word what) bytes rest) last (word_next what bytes s.0 s.1 w.0)
+
+pub bound_next : (bytes : List ℕ) (t : Read) → bound_at bytes ≡ Some t → (0 < length t.0) × ((between : List ℕ) × IsNext (Word (codes "as")) bytes between × IsNext (Name t.0) between t.1)
+unfolding bound_at
+bound_next bytes t h =
+    let s = bind_some (said (codes "as") bytes) (λ word. name_at word.1) t h in
+    (named s.0.1 t s.2, (s.0.1, said_next (codes "as") bytes s.0 s.1, name_next s.0.1 t s.2))
+
+pub user_next : (bytes : List ℕ) (t : Read) → word_at bytes ≡ Some t → bytes_eq t.0 (codes "user") ≡ true → IsNext (Class 5) bytes t.1
+unfolding class_token schema_1
+user_next bytes t h e = word_next (codes "user") bytes t h e
+
+pub container_next : (bytes : List ℕ) (t : Read) → word_at bytes ≡ Some t → bytes_eq t.0 (codes "container") ≡ true → IsNext (Class 4) bytes t.1
+unfolding class_token schema_1
+container_next bytes t h e = word_next (codes "container") bytes t h e
+
+prefix_was : (front bytes : List ℕ) (t : Unit {0} × List ℕ) → prefix_at front bytes ≡ Some t → bytes ≡ front ++ t.1
+prefix_was front bytes t h =
+    let w = if_some (bytes_eq (take (length front) bytes) front) (tt, drop (length front) bytes) t h in
+    let begins : take (length front) bytes ≡ front = same_bytes _ front w.0 in
+    let ends : drop (length front) bytes ≡ t.1 = ap (λ (x : Unit {0} × List ℕ). x.1) w.1 in
+    sym (take-append-drop (length front) bytes) ∙ rw (begins, ends) refl
+
+pub account_next : (bytes : List ℕ) (set : Unit {0} × List ℕ) (value : Read) → prefix_at (codes "sAMAccountName=") (unspaced bytes) ≡ Some set → text_at set.1 ≡ Some value
+    → IsNext (Set 10 (Text value.0 ∷ [])) bytes value.1
+account_next bytes set value p h =
+    let w = texts_spelled set.1 value.0 value.1 h in
+    let front = prefix_was (codes "sAMAccountName=") (unspaced bytes) set p in (
+      attribute_token 10 ++ codes "=" ++ text_token value.0,
+      (text_token value.0, (w.0, refl), refl),
+      (front ∙ ap (λ (bs : List ℕ). codes "sAMAccountName=" ++ bs) w.1 ∙ sym (account_spelled value.0 value.1 (text_token value.0) refl), w.2),
+    )

@@ -1,0 +1,8 @@
+use Rattle.adr_schedule.proofs.EventLaws.{lines_read, lines_spelled}
+use Rattle.adr_schedule.proofs.laws.lines_read_back.Goals as goal
+
+pub returns-clause-again : goal.returns-clause-again
+returns-clause-again c = lines_read
+
+pub returns-clause-only : goal.returns-clause-only
+returns-clause-only c = lines_spelled

@@ -1,5 +1,0 @@
-use Rattle.adr_schedule.proofs.PrintLaws.{read_again}
-use Rattle.adr_schedule.proofs.printing.events_are_read_again.Goals as goal
-
-pub returns : goal.returns
-returns c = read_again
