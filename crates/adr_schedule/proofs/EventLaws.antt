@@ -18,7 +18,7 @@ use Rattle.adr_token.specs.Identifiers.{identifier_at}
 use Rattle.adr_token.specs.Texts.{text_at}
 use Rattle.adr_token.proofs.WordLaws.{bind_some, if_some}
 use Rattle.adr_schedule.specs.Commands.{IsContainerAdd, IsUserAdd, account, add_line, ask_line, bound_at, by_verb, container_line, controller_line, cycle_line, deliver_line, event_of, is_account, is_placed, is_taken, limit_at, marks_line, pull_line, replication_line, root, serve_line, show_line, time_line, user_line, vector_line}
-use Rattle.adr_schedule.specs.Grammar.{Token, Word, Name, Number, Identifier, Class, Quoted, Set, sets, tokens_of, IsNext, AreSpelled, Spells, SpelledLinesAreRead, LinesWereSpelled}
+use Rattle.adr_schedule.specs.Grammar.{Token, Word, Name, Number, Identifier, Class, Quoted, Set, sets, tokens_of, IsNext, AreSpelled, Spells, SpelledLinesAreRead, LinesSpellOneEvent, LinesWereSpelled}
 use Rattle.adr_schedule.proofs.TokenLaws.{account_next, bound_next, bound_read, container_next, container_read, identifier_next, identifier_read, limit_next, limit_read, name_next, name_read, named, number_next, number_read, same_bytes, set_read, text_next, text_read, user_next, user_read, value_read, word_next, word_read}
 
 -- ---- what was read is spelled
@@ -348,3 +348,9 @@ lines_read line (Show name) h = rw (word_read (codes "show") line h.1.0 refl (om
 lines_read line (Vector name) h = rw (word_read (codes "vector") line h.1.0 refl (omega arith) h.1.1) (vector_read h.1.0 name h.1.2)
 lines_read line (Marks name) h = rw (word_read (codes "marks") line h.1.0 refl (omega arith) h.1.1) (marks_read h.1.0 name h.1.2)
 lines_read line e h = absurd h.0
+
+same_event : (o : Option Event) (e f : Event) → o ≡ Some e → o ≡ Some f → e ≡ f
+same_event o e f h k = cc
+
+pub one_event : LinesSpellOneEvent
+one_event line e f h k = same_event (event_of line) e f (lines_read line e h) (lines_read line f k)

@@ -4,5 +4,6 @@ pub mod EventLemmas
 pub mod PlainBytes
 pub mod TokenLaws
 pub mod EventLaws
+pub mod ScheduleLaws
 pub mod PrintLaws
 pub mod SetLemmas

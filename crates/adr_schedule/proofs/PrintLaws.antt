@@ -1,7 +1,6 @@
 -- The events of a text are those of their printed form.
-use Rattle.std.proofs.Common.{◌≡◌, ◌⊎◌, ℕ, ◌+◌, ◌<◌, ◌^◌, Bool, true, false, not, ◌&&◌, cond, List, [], ◌∷◌, ◌++◌, map, length, Option, Some, None, Result, Ok, Err, refl, sym, ap, subst, ◌∙◌, inl, inr, arith}
-use Rattle.std.specs.Prelude.{◌==◌, codes, nat_lt}
-use Rattle.std.specs.Fmt.{decimal}
+use Rattle.std.proofs.Common.{◌≡◌, ◌⊎◌, ℕ, ◌+◌, ◌<◌, Bool, true, false, not, ◌&&◌, List, [], ◌∷◌, ◌++◌, map, length, Some, None, Ok, refl, sym, ap, subst, ◌∙◌, inl, inr, arith}
+use Rattle.std.specs.Prelude.{◌==◌, codes}
 use Rattle.std.specs.Str.{is_utf8}
 use Rattle.std.proofs.lemmas.Bool.{and_parts, le-ltb, ne_eqb, not-true}
 use Rattle.std.proofs.lemmas.List.{append-nil}
@@ -11,24 +10,22 @@ use Rattle.adr_schema.specs.Schemas.{schema_1}
 use Rattle.adr_schema.specs.declared.content.Value.TheVariants.{Text}
 use Rattle.adr_event.specs.declared.event.Event.{Event}
 use Rattle.adr_event.specs.declared.event.Event.TheVariants.{Controller, Time, Add, Ask, Serve, Deliver, Pull, Cycle, Show, Vector, Marks}
-use Rattle.adr_token.specs.Words.{unspaced, is_name, is_space}
+use Rattle.adr_token.specs.Words.{unspaced, is_space}
 use Rattle.adr_token.specs.Texts.{ends_word, is_text}
-use Rattle.adr_token.specs.Laws.{IsIdentifier, Stands}
 use Rattle.adr_token.specs.Spelling.{attribute_token, class_token, identifier_token, set_token, text_token, value_token}
-use Rattle.adr_token.proofs.WordLaws.{are_graphic, graphic_word, is_graphic, is_spaceless, name_graphic, skips}
+use Rattle.adr_token.proofs.WordLaws.{are_graphic, graphic_word, is_spaceless, name_graphic, skips}
 use Rattle.adr_token.proofs.DigitLaws.{digits_graphic}
 use Rattle.adr_token.proofs.IdentifierLaws.{token_graphic}
 use Rattle.adr_token.proofs.TextLaws.{token_is}
-use Rattle.adr_schedule.specs.declared.fault.Cause.{Cause}
-use Rattle.adr_schedule.specs.declared.fault.Cause.TheVariants.{NotUtf8, TooLong}
-use Rattle.adr_schedule.specs.declared.fault.ScheduleFault.{ScheduleFault}
 use Rattle.adr_schedule.specs.Lines.{is_line_feed, lines_of}
 use Rattle.adr_schedule.specs.Commands.{IsAllowed, IsContainerAdd, IsUserAdd, account, event_of, is_passed}
-use Rattle.adr_schedule.specs.Grammar.{Token, Word, Name, Number, Identifier, Class, Attribute, Quoted, Set, sets, tokens_of, IsSpelled, IsNext, AreSpelled, Spells}
+use Rattle.adr_schedule.specs.Grammar.{Token, Word, Name, Number, Identifier, Class, Attribute, Quoted, Set, sets, tokens_of, IsSpelled, AreSpelled, Spells}
 use Rattle.adr_schedule.specs.Seen.{Seen, nothing_seen, cause_after, seen_after}
-use Rattle.adr_schedule.specs.Events.{before, events_from, events_of, followed, line_after, on_line, unless}
+use Rattle.adr_schedule.specs.Events.{events_from, events_of, line_after}
 use Rattle.adr_schedule.specs.Printed.{EventsAreReadAgain, joined, line_of, printed, spaced, token_text}
-use Rattle.adr_schedule.proofs.EventLaws.{lines_read, lines_spelled}
+use Rattle.adr_schedule.specs.Schedules.{LinesSay}
+use Rattle.adr_schedule.proofs.EventLaws.{lines_read}
+use Rattle.adr_schedule.proofs.ScheduleLaws.{read_texts}
 use Rattle.adr_schedule.proofs.PlainBytes.{IsPlain, field_plain, graphic_plain, is_feedless, nothing_plain, plain_append, text_plain}
 
 -- a token as it is written: it has no line feed, it spells the token, and no space stands in front of it
@@ -173,10 +170,8 @@ record IsSaid (e : Event) : Type 0 where
   allowed : IsAllowed e
   printed : ArePrinted (tokens_of e)
 
-event_was : (line : List ℕ) (e : Event) → event_of line ≡ Some e → IsSaid e
-event_was line e h =
-    let s = lines_spelled line e h in
-    record { allowed = s.0; printed = are_printed (tokens_of e) line (known line e s) s.1 }
+event_is_said : (line : List ℕ) (e : Event) → Spells line e → IsSaid e
+event_is_said line e s = record { allowed = s.0; printed = are_printed (tokens_of e) line (known line e s) s.1 }
 
 event_again : (e : Event) → IsSaid e → event_of (line_of e) ≡ Some e
 unfolding line_of
@@ -248,49 +243,15 @@ from_again : (seen : Seen) (k : ℕ) (es : List Event) → Spelled seen es → e
 from_again seen k [] h = refl
 from_again seen k (e ∷ es) h = rw (line_told seen e h.1 h.0, from_again (seen_after seen e) (k + 1) es h.2) refl
 
--- what the lines of a text said
-unless_was : (c : Option Cause) (x e : Event) → unless c x ≡ Ok (Some e) → (c ≡ None) × (x ≡ e)
-unless_was None x e h = (refl, cc)
-unless_was (Some cause) x e h = absurd (cc)
-
-told_by : (seen : Seen) (line : List ℕ) (e : Event) (p u : Bool) (o : Option Event) → event_of line ≡ o
-    → cond p (Ok None) (cond u (followed seen o) (Err NotUtf8)) ≡ Ok (Some e) → (cause_after seen e ≡ None) × IsSaid e
-told_by seen line e true u o at h = absurd (cc)
-told_by seen line e false false o at h = absurd (cc)
-told_by seen line e false true None at h = absurd (cc)
-told_by seen line e false true (Some x) at h =
-    let w = unless_was (cause_after seen x) x e h in
-    (subst (λ y. cause_after seen y ≡ None) w.1 w.0, event_was line e (at ∙ ap Some w.1))
-
-told_was : (seen : Seen) (line : List ℕ) (e : Event) → line_after seen line ≡ Ok (Some e) → (cause_after seen e ≡ None) × IsSaid e
-told_was seen line e h = told_by seen line e (is_passed line) (is_utf8 line) (event_of line) refl h
-
-before_was : (es events : List Event) (r : Result (List Event) ScheduleFault) → before es r ≡ Ok events → (more : List Event) × (r ≡ Ok more) × (es ++ more ≡ events)
-before_was es events (Ok more) h = (more, refl, cc)
-before_was es events (Err fault) h = absurd (cc)
-
-one_was : (seen : Seen) (k : ℕ) (line : List ℕ) (r : Result (Option Event) Cause) (go : Seen → Result (List Event) ScheduleFault) (events : List Event)
-    → line_after seen line ≡ r → ((next : Seen) (es : List Event) → go next ≡ Ok es → Spelled next es) → on_line k seen r go ≡ Ok events → Spelled seen events
-one_was seen k line (Err cause) go events at more h = absurd (cc)
-one_was seen k line (Ok None) go events at more h =
-    let b = before_was [] events (go seen) h in
-    subst (Spelled seen) b.2 (more seen b.0 b.1)
-one_was seen k line (Ok (Some e)) go events at more h =
-    let b = before_was (e ∷ []) events (go (seen_after seen e)) h in
-    let t = told_was seen line e at in
-    subst (Spelled seen) b.2 (t.0, t.1, more (seen_after seen e) b.0 b.1)
-
-from_was : (seen : Seen) (k : ℕ) (lines : List (List ℕ)) (events : List Event) → events_from seen k lines ≡ Ok events → Spelled seen events
-from_was seen k [] events h = let none : [] ≡ events = cc in subst (Spelled seen) none tt
-from_was seen k (line ∷ lines) events h =
-    one_was seen k line (line_after seen line) (λ next. events_from next (k + 1) lines) events refl (λ next es g. from_was next (k + 1) lines es g) h
-
-text_was : (text : List ℕ) (events : List Event) (fault : ScheduleFault) (t : Bool) → cond t (Err fault) (events_from nothing_seen 1 (lines_of text)) ≡ Ok events → Spelled nothing_seen events
-text_was text events fault true h = absurd (cc)
-text_was text events fault false h = from_was nothing_seen 1 (lines_of text) events h
+-- what the lines of a text say
+lines_said : (seen : Seen) (lines : List (List ℕ)) (es : List Event) → LinesSay seen lines es → Spelled seen es
+lines_said seen [] es h = subst (λ (xs : List Event). Spelled seen xs) (sym h) tt
+lines_said seen (line ∷ lines) es (inl h) = lines_said seen lines es h.1
+lines_said seen (line ∷ lines) es (inr h) =
+    subst (λ (xs : List Event). Spelled seen xs) (sym h.4) (h.2.follows, event_is_said line h.0 h.2.spells, lines_said (seen_after seen h.0) lines h.1 h.3)
 
 pub read_again : EventsAreReadAgain
 unfolding events_of
 read_again text events h small =
-    let s = text_was text events (record { line = 0; cause = TooLong }) (nat_lt 16777216 (length text)) h in
+    let s = lines_said nothing_seen (lines_of text) events (read_texts text events h).1 in
     rw (le-ltb 16777216 (length (printed events)) small, printed_lines nothing_seen events s) (from_again nothing_seen 1 events s)

@@ -1,16 +1,15 @@
 -- A token that is spelled is read, and one that was read is spelled.
-use Rattle.std.proofs.Common.{◌≡◌, ◌⊎◌, ℕ, suc, ◌+◌, ◌<◌, ◌^◌, Bool, true, false, not, cond, List, [], ◌∷◌, ◌++◌, length, take, drop, Option, Some, None, refl, sym, ap, subst, ◌∙◌, inl, inr, arith}
-use Rattle.std.specs.Prelude.{◌==◌, nat_le, codes}
+use Rattle.std.proofs.Common.{◌≡◌, ◌⊎◌, ℕ, suc, ◌+◌, ◌<◌, Bool, true, false, not, cond, List, [], ◌∷◌, ◌++◌, length, take, drop, Some, None, refl, sym, ap, subst, ◌∙◌, inl, inr, arith}
+use Rattle.std.specs.Prelude.{nat_le, codes}
 use Rattle.std.specs.Fmt.{decimal}
 use Rattle.std.specs.List.{position_or_len}
 use Rattle.std.specs.Str.{bytes_eq}
-use Rattle.std.proofs.lemmas.Bool.{and_parts, and_from, leb-true}
+use Rattle.std.proofs.lemmas.Bool.{and_parts, leb-true}
 use Rattle.std.proofs.lemmas.Bool.Decides.{nat_tests}
 use Rattle.std.proofs.lemmas.List.{take-append-drop}
 use Rattle.std.proofs.lemmas.Slice.Eq.{bytes_eq-Decides}
 use Rattle.adr_schema.specs.Schemas.{schema_1}
 use Rattle.adr_schema.specs.declared.content.Value.TheVariants.{Text}
-use Rattle.adr_token.specs.Gives.{◌>>=◌}
 use Rattle.adr_token.specs.Words.{is_space, unspaced, said, prefix_at, word_at, name_at}
 use Rattle.adr_token.specs.Numbers.{number_at}
 use Rattle.adr_token.specs.Identifiers.{identifier_at}
@@ -22,7 +21,7 @@ use Rattle.adr_token.proofs.DigitLaws.{numbers_again, numbers_spelled}
 use Rattle.adr_token.proofs.IdentifierLaws.{identifiers_again, identifiers_spelled}
 use Rattle.adr_token.proofs.TextLaws.{texts_again, texts_spelled}
 use Rattle.adr_schedule.specs.Commands.{IsLimit, bound_at, is_limit, limit_at}
-use Rattle.adr_schedule.specs.Grammar.{Token, Word, Name, Number, Identifier, Class, Quoted, Set, IsNext, SpellsIdentifier}
+use Rattle.adr_schedule.specs.Grammar.{Word, Name, Number, Identifier, Class, Quoted, Set, IsNext}
 
 -- spaces in front say nothing
 space_skips : (b : ℕ) (bs : List ℕ) → is_space b ≡ true → unspaced (b ∷ bs) ≡ unspaced bs

@@ -1,5 +1,5 @@
 -- The events of a text, or its first bad line.
-use Rattle.std.specs.Prelude.{ℕ, List, [], ◌∷◌, ◌++◌, ◌+◌, nat_lt, if◌then◌else◌, length, Option, Some, None, Result, Ok, Err}
+use Rattle.std.specs.Prelude.{◌≡◌, ℕ, List, [], ◌∷◌, ◌++◌, ◌+◌, nat_lt, if◌then◌else◌, length, Option, Some, None, Result, Ok, Err}
 use Rattle.std.specs.Option.{option_to_list}
 use Rattle.std.specs.Str.{is_utf8}
 use Rattle.adr_event.specs.declared.event.Event.{Event}
@@ -8,7 +8,7 @@ use Rattle.adr_schedule.specs.declared.fault.Cause.TheVariants.{NotUtf8, NoComma
 use Rattle.adr_schedule.specs.declared.fault.ScheduleFault.{ScheduleFault}
 use Rattle.adr_schedule.specs.Lines.{lines_of}
 use Rattle.adr_schedule.specs.Commands.{event_of, is_passed}
-use Rattle.adr_schedule.specs.Seen.{Seen, nothing_seen, cause_after, seen_after}
+use Rattle.adr_schedule.specs.Seen.{Seen, nothing_seen, cause_after, seen_after, IsFollowing}
 
 abbrev pub unless : Option Cause → Event → Result (Option Event) Cause
 unless None event = Ok (Some event)
@@ -28,6 +28,11 @@ line_after seen line =
 abbrev pub seen_with : Seen → Option Event → Seen
 seen_with seen None = seen
 seen_with seen (Some event) = seen_after seen event
+
+-- what a line says goes to the events, and what it binds and gives to what was seen
+abbrev pub IsToldBy : Seen → List ℕ → Seen → List Event → List Event → Type 0
+IsToldBy seen line next events grown =
+    (told : Option Event) × (line_after seen line ≡ Ok told) × (next ≡ seen_with seen told) × IsFollowing seen (option_to_list told) × (grown ≡ events ++ option_to_list told)
 
 abbrev pub bad : ℕ → Cause → Result (List Event) ScheduleFault
 bad line cause = Err (record { line = line; cause = cause })

@@ -111,3 +111,7 @@ SpelledLinesAreRead = (line : List ℕ) (event : Event) → Spells line event �
 
 abbrev pub LinesWereSpelled : Type 0
 LinesWereSpelled = (line : List ℕ) (event : Event) → event_of line ≡ Some event → Spells line event
+
+-- no line can be taken in two ways
+abbrev pub LinesSpellOneEvent : Type 0
+LinesSpellOneEvent = (line : List ℕ) (event other : Event) → Spells line event → Spells line other → event ≡ other

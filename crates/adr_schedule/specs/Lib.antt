@@ -4,4 +4,5 @@ pub mod Commands
 pub mod Grammar
 pub mod Seen
 pub mod Events
+pub mod Schedules
 pub mod Printed

@@ -4,6 +4,8 @@ use Rattle.std.specs.Fmt.{decimal}
 use Rattle.adr_schema.specs.Assignments.{Given}
 use Rattle.adr_event.specs.declared.event.Event.{Event}
 use Rattle.adr_token.specs.Spelling.{attribute_token, class_token, identifier_token, set_token, text_token}
+use Rattle.adr_schedule.specs.declared.printing.Token.{Token as Piece}
+use Rattle.adr_schedule.specs.declared.printing.Token.TheVariants as pieces
 use Rattle.adr_schedule.specs.Grammar.{Token, Word, Name, Number, Identifier, Class, Attribute, Quoted, Set, sets, tokens_of}
 use Rattle.adr_schedule.specs.Events.{events_of}
 
@@ -17,6 +19,16 @@ token_text (Class class) = class_token class
 token_text (Attribute attr) = attribute_token attr
 token_text (Quoted text) = text_token text
 token_text (Set attr values) = set_token attr values
+
+-- the token that a printer writes
+abbrev pub token_of : Piece → Token
+token_of (pieces.Word word) = Word word.now
+token_of (pieces.Name name) = Name name.now
+token_of (pieces.Number number) = Number number
+token_of (pieces.Identifier id) = Identifier id
+token_of (pieces.Class class) = Class class
+token_of (pieces.Attribute attr) = Attribute attr
+token_of (pieces.Quoted text) = Quoted text.now
 
 -- each token behind a space
 abbrev pub spaced : List (List ℕ) → List ℕ

@@ -7,7 +7,7 @@ ghost use Rattle.adr_schedule.specs.Faults.{line_refusal};
 use adr_token::Stop;
 
 /// What is wrong with a line.
-#[derive(Clone, Copy, Debug, PartialEq, Eq)]
+#[derive(Clone, Copy, PartialEq, Eq)]
 pub enum Cause {
     NotUtf8,
     /// The line is outside the grammar.
@@ -25,20 +25,20 @@ pub enum Cause {
 }
 
 /// The first bad line of a text, from 1; 0 stands for the text as a whole.
-#[derive(Clone, Copy, Debug, PartialEq, Eq)]
+#[derive(Clone, Copy, PartialEq, Eq)]
 pub struct ScheduleFault {
     pub line: u32,
     pub cause: Cause,
 }
 
-#[derive(Clone, Copy, Debug, PartialEq, Eq)]
+#[derive(Clone, Copy, PartialEq, Eq)]
 pub enum ParseRefusal {
     Bad(ScheduleFault),
     NoMemory,
 }
 
 /// Why one line was refused.
-#[derive(Clone, Copy, Debug, PartialEq, Eq)]
+#[derive(Clone, Copy)]
 pub enum LineRefusal {
     Bad(Cause),
     NoMemory,

@@ -14,7 +14,7 @@ mod seen;
 
 pub use adr_event::Event;
 pub use fault::{Cause, ParseRefusal, ScheduleFault};
-pub use laws::{events_are_read_again, lines_read_back};
+pub use laws::{events_are_read_again, faults_read_back, lines_read_back, schedules_read_back};
 pub use parsing::parse;
 pub use printing::print;
 

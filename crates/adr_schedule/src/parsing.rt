@@ -4,7 +4,7 @@ ghost use Rattle.std.specs.Prelude.{◌≡◌, ◌≤◌, ℕ, List, [], Ok, Err
 ghost use Rattle.std.specs.Option.{option_to_list};
 ghost use Rattle.adr_schedule.specs.Faults.{RefusesLine, Refuses};
 ghost use Rattle.adr_schedule.specs.Seen.{nothing_seen, IsFollowing};
-ghost use Rattle.adr_schedule.specs.Events.{line_after, seen_with, events_of};
+ghost use Rattle.adr_schedule.specs.Events.{IsToldBy, line_after, seen_with, events_of};
 
 use crate::commands::{event_of, is_passed};
 use crate::fault::{Cause, LineRefusal, ParseRefusal, ScheduleFault};
@@ -14,7 +14,7 @@ use adr_event::Event;
 use adr_token::utf8;
 use std::alloc::Global;
 
-/// Drops an event, in this place alone: where such a wide enum is dropped a proof is long.
+/// Drops an event, in this place alone: a function that drops such a wide enum has a long proof.
 fn discard(_event: Event) {}
 
 /// What one line says, after the earlier ones.
@@ -41,9 +41,9 @@ fn line_after(alloc: Global, seen: &mut Seen, line: &[u8]) -> Result<Option<Even
 }
 
 /// Adds the event, if there is one.
-fn keep(events: &mut Vec<Event>, told: Option<Event>) -> Result<(), ParseRefusal>
+fn keep(events: &mut Vec<Event>, told: Option<Event>) -> Result<(), LineRefusal>
     ensures kept { OnOk result (events.new.items ≡ events.old.items ++ option_to_list told) }
-    ensures memory { IfErr result (λ refusal. refusal ≡ ParseRefusal.NoMemory) }
+    ensures memory { IfErr result (λ refusal. refusal ≡ LineRefusal.NoMemory) }
 {
     match told {
         None => Ok(()),
@@ -51,28 +51,47 @@ fn keep(events: &mut Vec<Event>, told: Option<Event>) -> Result<(), ParseRefusal
             Ok(()) => Ok(()),
             Err(failed) => {
                 discard(failed.value);
-                Err(ParseRefusal::NoMemory)
+                Err(LineRefusal::NoMemory)
             }
         },
     }
 }
 
+/// Adds the event of one line, if it says one.
+fn read_line(
+    alloc: Global,
+    events: &mut Vec<Event>,
+    seen: &mut Seen,
+    line: &[u8],
+) -> Result<(), LineRefusal>
+    ensures told { OnOk result (IsToldBy seen.old line.now seen.new events.old.items events.new.items) }
+    ensures refused { IfErr result (λ refusal. RefusesLine refusal (line_after seen.old line.now)) }
+{
+    let told = line_after(alloc, seen, line)?;
+    keep(events, told)
+}
+
 /// Adds the events of a text to none.
 #[tactic(auto, unfolding(crate::specs::Events::events_of))]
-fn read_lines(alloc: Global, events: &mut Vec<Event>, text: &[u8]) -> Result<(), ParseRefusal>
+fn read_lines(
+    alloc: Global,
+    events: &mut Vec<Event>,
+    seen: &mut Seen,
+    text: &[u8],
+) -> Result<(), ParseRefusal>
     requires none { events.old.items ≡ [] }
+    requires fresh { seen.old ≡ nothing_seen }
     requires short { length text.now ≤ 16777216 }
     ensures ok { OnOk result (events_of text.now ≡ Ok events.new.items) }
     ensures follows { OnOk result (IsFollowing nothing_seen events.new.items) }
     ensures bad { IfErr result (λ refusal. Refuses refusal (events_of text.now)) }
 {
-    let mut seen = Seen::nothing(alloc);
     let mut rest = text;
     let mut number = 1u32;
     'lines: while rest.len() > 0 {
         let (line, after) = first_line(rest);
-        let told = match line_after(alloc, &mut seen, line) {
-            Ok(told) => told,
+        match read_line(alloc, events, seen, line) {
+            Ok(()) => {}
             Err(LineRefusal::Bad(cause)) => {
                 return Err(ParseRefusal::Bad(ScheduleFault {
                     line: number,
@@ -80,19 +99,19 @@ fn read_lines(alloc: Global, events: &mut Vec<Event>, text: &[u8]) -> Result<(),
                 }));
             }
             Err(LineRefusal::NoMemory) => return Err(ParseRefusal::NoMemory),
-        };
-        keep(events, told)?;
+        }
         rest = after;
         number += 1;
     }
     Ok(())
 }
 
-/// The events of a text, or its first bad line.
+/// Adds the events of a text to none, unless the text is too long.
 #[tactic(auto, unfolding(crate::specs::Events::events_of))]
-pub fn parse(alloc: Global, text: &[u8]) -> Result<Vec<Event>, ParseRefusal>
-    ensures ok { IfOk result (λ events. events_of text.now ≡ Ok events.items) }
-    ensures follows { IfOk result (λ events. IsFollowing nothing_seen events.items) }
+fn read_text(alloc: Global, events: &mut Vec<Event>, text: &[u8]) -> Result<(), ParseRefusal>
+    requires { events.old.items ≡ [] }
+    ensures ok { OnOk result (events_of text.now ≡ Ok events.new.items) }
+    ensures follows { OnOk result (IsFollowing nothing_seen events.new.items) }
     ensures bad { IfErr result (λ refusal. Refuses refusal (events_of text.now)) }
 {
     if text.len() > 16_777_216 {
@@ -101,7 +120,17 @@ pub fn parse(alloc: Global, text: &[u8]) -> Result<Vec<Event>, ParseRefusal>
             cause: Cause::TooLong,
         }));
     }
+    let mut seen = Seen::nothing(alloc);
+    read_lines(alloc, events, &mut seen, text)
+}
+
+/// The events of a text, or its first bad line.
+pub fn parse(alloc: Global, text: &[u8]) -> Result<Vec<Event>, ParseRefusal>
+    ensures ok { IfOk result (λ events. events_of text.now ≡ Ok events.items) }
+    ensures follows { IfOk result (λ events. IsFollowing nothing_seen events.items) }
+    ensures bad { IfErr result (λ refusal. Refuses refusal (events_of text.now)) }
+{
     let mut events = Vec::new(alloc);
-    read_lines(alloc, &mut events, text)?;
+    read_text(alloc, &mut events, text)?;
     Ok(events)
 }

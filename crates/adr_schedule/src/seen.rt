@@ -24,7 +24,7 @@ pub struct Seen {
 
 impl Model for Seen {
     ghost use Rattle.adr_schedule.specs.Faults.{RefusesEvent};
-ghost use Rattle.adr_schedule.specs.Seen.{Seen as Bindings};
+    ghost use Rattle.adr_schedule.specs.Seen.{Seen as Bindings};
 
     ghost Value = { Bindings };
 

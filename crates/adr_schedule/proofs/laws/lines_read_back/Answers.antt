@@ -1,4 +1,4 @@
-use Rattle.adr_schedule.proofs.EventLaws.{lines_read, lines_spelled}
+use Rattle.adr_schedule.proofs.EventLaws.{lines_read, lines_spelled, one_event}
 use Rattle.adr_schedule.proofs.laws.lines_read_back.Goals as goal
 
 pub returns-clause-again : goal.returns-clause-again
@@ -6,3 +6,6 @@ returns-clause-again c = lines_read
 
 pub returns-clause-only : goal.returns-clause-only
 returns-clause-only c = lines_spelled
+
+pub returns-clause-one : goal.returns-clause-one
+returns-clause-one c = one_event
