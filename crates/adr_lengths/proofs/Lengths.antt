@@ -1,5 +1,5 @@
 -- How many bytes the formats write of each composite.
-use Rattle.std.proofs.Common.{◌≡◌, ℕ, ◌+◌, List, [], ◌∷◌, ◌++◌, length, map, fold, Option, Some, refl, arith}
+use Rattle.std.proofs.Common.{◌≡◌, ℕ, ◌+◌, ◌*◌, List, [], ◌∷◌, ◌++◌, length, map, fold, Option, Some, refl, arith}
 use Rattle.std.specs.List.{flat_map, AllByRecursion}
 use Rattle.std.proofs.lemmas.List.{length-append}
 use Rattle.adr_stamp.specs.declared.Oid.{Oid}
@@ -10,11 +10,12 @@ use Rattle.adr_schema.specs.declared.content.Value.{Value}
 use Rattle.adr_schema.specs.declared.content.Value.TheVariants.{Text, Number, Flag, Octets, Ref}
 use Rattle.adr_schema.specs.declared.content.Content.{Content}
 use Rattle.adr_schema.specs.declared.content.Content.TheVariants.{Class, Name, Dead, Values}
+use Rattle.adr_vector.specs.Vector.{Cursors}
 use Rattle.adr_wire.specs.Fields.{u16, u32, u64, i64, flag, octets, text}
-use Rattle.adr_wire.specs.Composites.{oid, stamp, value, content, Row, row, link_key, link_stamp, LinkItem}
-use Rattle.adr_wire.specs.Ranges.{IsOid, IsStamp, IsValue, IsContent, IsRow, InTurn, IsRowAbove, IsObject, IsLink}
+use Rattle.adr_wire.specs.Composites.{oid, stamp, value, content, Row, row, link_key, link_stamp, LinkItem, cursor, vector}
+use Rattle.adr_wire.specs.Ranges.{IsOid, IsStamp, IsValue, IsContent, IsRow, InTurn, IsRowAbove, IsObject, IsLink, IsCursor, IsCursors}
 use Rattle.adr_model.specs.Update.{Update, Holds}
-use Rattle.adr_model.specs.Serve.{value_length, content_length, item_length}
+use Rattle.adr_model.specs.Serve.{value_length, content_length, item_length, vector_length}
 use Rattle.adr_lengths.specs.Written.{update_of, object_item, link_item, object_bytes, link_bytes}
 
 -- ---- fields
@@ -94,3 +95,20 @@ link_long l q =
     let front = link_key_long l.0 q.0.0 q.0.1.1 in
     let middle = link_stamp_long l.1 q.1.1 in
     omega (arith, length-append (link_key l.0) (link_stamp l.1 ++ flag l.2), length-append (link_stamp l.1) (flag l.2))
+
+-- ---- vectors
+
+cursor_long : (c : List ℕ × ℕ) → IsCursor c → length (cursor c) ≡ 24
+unfolding u64
+cursor_long c q = omega (arith, q.0, length-append c.0 (u64 c.1))
+
+cursors_long : (v : Cursors) → AllByRecursion IsCursor v → length (flat_map cursor v) ≡ 24 * length v
+cursors_long [] all = refl
+cursors_long (c ∷ cs) all =
+    let rest = cursors_long cs all.1 in
+    let here = cursor_long c all.0 in
+    omega (arith, length-append (cursor c) (flat_map cursor cs))
+
+pub vector_long : (v : Cursors) → IsCursors v → length (vector v) ≡ vector_length v
+unfolding u32
+vector_long v q = omega (arith, cursors_long v q.1)

@@ -1,14 +1,15 @@
 -- The refusals of a `modify` and of a `rename` part by part.
-use Rattle.std.proofs.Common.{◌≡◌, ◌⊎◌, inl, inr, ℕ, ◌+◌, List, [], ◌∷◌, ◌++◌, Option, Some, None, Result, Ok, Err, refl, sym, ap, ap₂, ◌∙◌}
+use Rattle.std.proofs.Common.{◌≡◌, ℕ, ◌+◌, List, [], ◌∷◌, ◌++◌, Option, Some, None, Err, refl, sym, ap, ap₂, ◌∙◌}
 use Rattle.std.specs.Option.{option_map}
-use Rattle.std.specs.Result.{result_err}
 use Rattle.adr_stamp.specs.declared.Oid.{Oid}
 use Rattle.adr_schema.specs.Assignments.{Given}
 use Rattle.adr_schema.specs.Numbered.{numbered}
 use Rattle.adr_schema.specs.Table.{Table as Schema}
 use Rattle.adr_schema.specs.Rules.{modify_refusal as schema_modify_refusal, name_refusal as schema_name_refusal}
+use Rattle.adr_event.specs.declared.failure.Failure.{Failure}
+use Rattle.adr_event.specs.declared.failure.Failure.TheVariants.{Refused, NoMemory}
 use Rattle.adr_event.specs.declared.refusal.WriteRefusal.{WriteRefusal}
-use Rattle.adr_event.specs.declared.refusal.WriteRefusal.TheVariants.{NoMemory, Quarantined}
+use Rattle.adr_event.specs.declared.refusal.WriteRefusal.TheVariants.{Quarantined}
 use Rattle.adr_model.specs.Place.{Node}
 use Rattle.adr_model.specs.Refusing.{first_of}
 use Rattle.adr_model.specs.Serve.{is_quarantined}
@@ -36,10 +37,6 @@ module _ {A : Type 0} where
 
   pub second_told : (o p : Option A) → None ≡ o → p ≡ first_of (o ∷ p ∷ [])
   second_told o p none = alone p ∙ ap (λ q. first_of (q ∷ p ∷ [])) none
-
-told_by : {T : Type 0} (r : Result T WriteRefusal) (o : Option WriteRefusal) → result_err r ≡ o → Tells r o
-told_by (Ok x) o is = sym is
-told_by (Err e) o is = inr (sym is)
 
 module _ (s : State) (guid : Identifier) where
   abbrev nodes : List Node
@@ -90,13 +87,13 @@ module _ (s : State) (guid : Identifier) where
       moved : moved_refusal table ns guid parent text ≡ moved_refusal (numbered s.store.schema) nodes guid parent text
       moved = ap₂ (λ (t : Schema) (ms : List Node). moved_refusal t ms guid parent text) same_table same
 
-      pub moved_told : (x : WriteRefusal) → (x ≡ NoMemory) ⊎ (moved_refusal table ns guid parent text ≡ Some x) → (x ≡ NoMemory) ⊎ (refusal ≡ Some x)
-      moved_told x (inl none) = inl none
-      moved_told x (inr is) = inr (rename_in_parts parent text ∙ sym (first_told x _ (row_refusal s (object_of nodes guid) name_attr) (sym is ∙ moved) ∙ second_told _ _ named))
+      pub moved_told : (x : Failure WriteRefusal) → Tells {T = Unit {0}} (Err x) (moved_refusal table ns guid parent text) → Tells {T = Unit {0}} (Err x) refusal
+      moved_told (Refused x) is = rename_in_parts parent text ∙ sym (first_told x _ (row_refusal s (object_of nodes guid) name_attr) (sym is ∙ moved) ∙ second_told _ _ named)
+      moved_told NoMemory told = tt
 
-      pub row_told : (o : Oid) (r : Result Unit WriteRefusal) → o ≡ object_of ns guid → moved_refusal table ns guid parent text ≡ None → result_err r ≡ row_refusal s o name_attr → Tells r refusal
-      row_told o r is free told =
-          told_by r refusal
+      pub row_told : (o : Oid) (row : Option WriteRefusal) → o ≡ object_of ns guid → moved_refusal table ns guid parent text ≡ None → row ≡ row_refusal s o name_attr → refusal ≡ row
+      row_told o row is free told =
+          sym
           (told
           ∙ (ap (λ (p : Oid). row_refusal s p name_attr) (is ∙ ap (λ (ms : List Node). object_of ms guid) same)
           ∙ (second_told _ _ (sym free ∙ moved) ∙ (second_told _ _ named ∙ sym (rename_in_parts parent text)))))

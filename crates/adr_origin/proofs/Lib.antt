@@ -1,4 +1,3 @@
-mod CountedRows
 mod Found
 mod GivenLemmas
 mod HeldRows

@@ -3,6 +3,7 @@ use Rattle.std.proofs.Common.{◌≡◌, ℕ, ◌+◌, Bool, [], ◌∷◌, Opti
 use Rattle.std.specs.Option.{option_map}
 use Rattle.adr_schema.specs.Numbered.{numbered}
 use Rattle.adr_schema.specs.Rules.{link_refusal as schema_link_refusal}
+use Rattle.adr_event.specs.declared.failure.Failure.{Failure}
 use Rattle.adr_event.specs.declared.refusal.WriteRefusal.{WriteRefusal}
 use Rattle.adr_event.specs.declared.refusal.WriteRefusal.TheVariants.{Quarantined}
 use Rattle.adr_model.specs.Refusing.{first_of}
@@ -44,7 +45,7 @@ link_in_parts s from attr to present =
     (usn_refusal (s.store.usn + 1))
 
 -- what is told of the parts is told of the whole
-pub told_in_parts : {T : Type 0} (s : State) (from : Identifier) (attr : ℕ) (to : Identifier) (present : Bool) (r : Result T WriteRefusal)
+pub told_in_parts : {T : Type 0} (s : State) (from : Identifier) (attr : ℕ) (to : Identifier) (present : Bool) (r : Result T (Failure WriteRefusal))
     → Tells r (first_of (start_refusal s.mode from to ∷ ends_refusal s (nodes_held (updates_of s.store.rows)) from attr to ∷ write_refusal s (link_of (nodes_held (updates_of s.store.rows)) from attr to) present ∷ []))
     → Tells r (any_link_refusal s from attr to (already_refusal present))
 told_in_parts s from attr to present r h =

@@ -1,8 +1,8 @@
 //! Adding an object.
 
-ghost use Rattle.std.specs.Prelude.{◌≡◌, ◌⊎◌, ◌<◌, ◌≤◌, ◌∷◌, [], Ok, Err, IfOk, IfErr, OnOk};
+ghost use Rattle.std.specs.Prelude.{◌≡◌, ◌<◌, ◌≤◌, ◌∷◌, [], Ok, Err, IfOk, IsErrOf, OnOk};
 ghost use Rattle.std.specs.Result.{result_err};
-ghost use Rattle.adr_event.specs.declared.refusal.WriteRefusal.TheVariants.{NoMemory as no_memory};
+ghost use Rattle.adr_event.specs.declared.refusal.WriteRefusal.{WriteRefusal};
 ghost use Rattle.adr_model.specs.Change.{only_writes};
 ghost use Rattle.adr_model.specs.Store.{updates_of};
 ghost use Rattle.adr_model.specs.Write.{AddObject, add_refusal, nodes_held, rows_written, usn_limit, write};
@@ -15,7 +15,7 @@ use crate::checks::{
     check_schema, check_superior, check_usn,
 };
 use crate::new_object::{NewObject, new_rows};
-use adr_event::WriteRefusal;
+use adr_event::{Failure, WriteRefusal};
 use adr_schema::{Schema, check_name};
 use adr_stamp::{Birth, LinkStamp, Oid, Stamp, Unit};
 use adr_state::{Change, Item, Mode, State, Written};
@@ -31,12 +31,12 @@ pub fn add(
     object: &NewObject<'_>,
     now: u64,
     alloc: Global,
-) -> Result<Change, WriteRefusal>
+) -> Result<Change, Failure<WriteRefusal>>
     ensures ok { let added = AddObject object.now.guid object.now.class object.now.parent object.now.text.now object.now.values.now in
         IfOk result (λ change. write state.now added now ≡ Ok change) }
     ensures within { IfOk result (λ change. change.usn ≤ usn_limit) }
     ensures refused { let added = AddObject object.now.guid object.now.class object.now.parent object.now.text.now object.now.values.now in
-        IfErr result (λ refusal. (refusal ≡ no_memory) ⊎ (write state.now added now ≡ Err refusal)) }
+        (refusal : WriteRefusal) → IsErrOf result (Failure.Refused refusal) → write state.now added now ≡ Err refusal }
 {
     check_add(alloc, state, object)?;
     let usn = state.usn() + 1;
@@ -46,7 +46,11 @@ pub fn add(
 
 /// Tests that an object may be added.
 #[tactic(auto, using(crate::proofs::InParts::add_in_parts))]
-fn check_add(alloc: Global, state: &State, object: &NewObject<'_>) -> Result<(), WriteRefusal>
+fn check_add(
+    alloc: Global,
+    state: &State,
+    object: &NewObject<'_>,
+) -> Result<(), Failure<WriteRefusal>>
     ensures told { Tells result (add_refusal state.now object.now.guid object.now.class object.now.parent object.now.text.now object.now.values.now) }
     ensures room { OnOk result (state.now.store.usn < usn_limit) }
 {
@@ -79,7 +83,7 @@ fn check_place(
     schema: Schema,
     nodes: &Nodes,
     object: &NewObject<'_>,
-) -> Result<(), WriteRefusal>
+) -> Result<(), Failure<WriteRefusal>>
     ensures { Tells result (place_refusal schema nodes.now object.now.class object.now.parent object.now.text.now) }
 {
     check_parent(nodes, object.parent)?;
@@ -88,7 +92,7 @@ fn check_place(
 }
 
 /// Tests that there is room for one more object.
-fn check_room(alloc: Global, state: &State) -> Result<(), WriteRefusal>
+fn check_room(alloc: Global, state: &State) -> Result<(), Failure<WriteRefusal>>
     ensures told { Tells result (room_refusal state.now) }
     ensures room { OnOk result (state.now.store.usn < usn_limit) }
 {

@@ -15,36 +15,26 @@ ghost use Rattle.adr_state.specs.Key.{key_of};
 ghost use Rattle.adr_state.specs.Mode.{mode_of};
 ghost use Rattle.adr_origin.specs.Telling.{Tells};
 
-use crate::counting::count_objects;
-use crate::places::{is_fixed, is_lost_and_found, is_root, is_same};
 use crate::stamps::{class_of, version_of};
-use adr_event::{Table, WriteRefusal};
+use adr_event::{Failure, Table, WriteRefusal};
 use adr_schema::{LOST_AND_FOUND_CLASS, ROOT_CLASS, Schema, SchemaRefusal, Text};
-use adr_state::{Key, Mode, Rows, State};
+use adr_state::{
+    CURSOR_LIMIT, Key, Mode, OBJECT_LIMIT, Rows, State, USN_LIMIT, VERSION_LIMIT, count_objects,
+    is_same,
+};
 use adr_vector::VectorRefusal;
-use adr_view::Nodes;
+use adr_view::{Nodes, is_fixed, is_lost_and_found, is_root};
 use std::alloc::Global;
 use uuid::Uuid;
-
-/// The greatest update sequence number that there is.
-const USN_LIMIT: u64 = 9_223_372_036_854_775_807;
-
-/// The greatest version that there is.
-const VERSION_LIMIT: u32 = 4_294_967_295;
-
-/// How many objects a controller holds at most, live or dead.
-const OBJECT_LIMIT: u64 = 200_000;
-
-/// How many cursors its vector has at most.
-const CURSOR_LIMIT: u32 = 10_000;
 
 /// Tests that a controller takes writes.
 pub fn check_mode(mode: Mode) -> Result<(), WriteRefusal>
     ensures { result_err result ≡ where_true (is_quarantined (mode_of mode)) quarantined }
 {
-    match mode {
-        Mode::Normal => Ok(()),
-        Mode::Quarantined => Err(WriteRefusal::Quarantined),
+    if mode.is_quarantined() {
+        Err(WriteRefusal::Quarantined)
+    } else {
+        Ok(())
     }
 }
 
@@ -174,11 +164,11 @@ pub fn check_name_free(
     nodes: &Nodes,
     parent: Uuid,
     text: &Text,
-) -> Result<(), WriteRefusal>
+) -> Result<(), Failure<WriteRefusal>>
     ensures { Tells result (option_map name_taken (name_holder nodes.now parent text.now)) }
 {
     match nodes.holder(parent, text, alloc)? {
-        Some(holder) => Err(WriteRefusal::NameTaken { holder }),
+        Some(holder) => Err(Failure::Refused(WriteRefusal::NameTaken { holder })),
         None => Ok(()),
     }
 }
@@ -208,35 +198,31 @@ pub fn check_usn(usn: u64) -> Result<(), WriteRefusal>
 }
 
 /// Tests that there is room for one more object.
-pub fn check_objects(alloc: Global, rows: &Rows) -> Result<(), WriteRefusal>
+pub fn check_objects(alloc: Global, rows: &Rows) -> Result<(), Failure<WriteRefusal>>
     ensures { Tells result (full_refusal objects object_limit (length (objects_of (updates_of rows.now)) + 1)) }
 {
     if (count_objects(alloc, rows)? as u64) < OBJECT_LIMIT {
         Ok(())
     } else {
-        Err(WriteRefusal::Full {
+        Err(Failure::Refused(WriteRefusal::Full {
             table: Table::Objects,
             limit: OBJECT_LIMIT,
-        })
+        }))
     }
 }
 
 /// Tests that there is room for the own cursor, which may be a new one.
-pub fn check_cursors(alloc: Global, state: &State) -> Result<(), WriteRefusal>
+pub fn check_cursors(alloc: Global, state: &State) -> Result<(), Failure<WriteRefusal>>
     requires { state.now.store.usn < usn_limit }
     ensures { Tells result (cursor_refusal state.now) }
 {
     let mut vector = state.vector().copy(alloc)?;
     match vector.raise(state.inv(), state.usn() + 1) {
         Ok(()) => Ok(()),
-        Err(
-            VectorRefusal::Full {
-                limit: CURSOR_LIMIT,
-            },
-        ) => Err(WriteRefusal::Full {
+        Err(VectorRefusal::Full) => Err(Failure::Refused(WriteRefusal::Full {
             table: Table::Cursors,
-            limit: CURSOR_LIMIT as u64,
-        }),
-        Err(_) => Err(WriteRefusal::NoMemory),
+            limit: CURSOR_LIMIT,
+        })),
+        Err(VectorRefusal::NoMemory) => Err(Failure::NoMemory),
     }
 }

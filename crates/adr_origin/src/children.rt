@@ -8,8 +8,8 @@ ghost use Rattle.adr_model.specs.Place.{is_fixed, place};
 ghost use Rattle.adr_model.specs.Update.{same_identifier};
 ghost use Rattle.adr_model.specs.Write.{child_refusal};
 
-use crate::places::is_same;
 use adr_event::WriteRefusal;
+use adr_state::is_same;
 use adr_view::{Node, Nodes};
 use uuid::Uuid;
 

@@ -1,8 +1,8 @@
 //! Deleting an object.
 
-ghost use Rattle.std.specs.Prelude.{◌≡◌, ◌⊎◌, ◌<◌, ◌≤◌, IfOk, IfErr, OnOk};
+ghost use Rattle.std.specs.Prelude.{◌≡◌, ◌<◌, ◌≤◌, Err, Ok, IfOk, IsErrOf, OnOk};
 ghost use Rattle.std.specs.Result.{result_err};
-ghost use Rattle.adr_event.specs.declared.refusal.WriteRefusal.TheVariants.{NoMemory as no_memory};
+ghost use Rattle.adr_event.specs.declared.refusal.WriteRefusal.{WriteRefusal};
 ghost use Rattle.adr_model.specs.Store.{updates_of};
 ghost use Rattle.adr_model.specs.Write.{Delete, delete_refusal, nodes_held, object_refusal, rows_written, usn_limit, write};
 
@@ -11,23 +11,25 @@ use crate::adding::{nodes_held, own_change};
 use crate::checks::{check_mode, check_not_fixed, check_object, check_usn};
 use crate::children::check_no_child;
 use crate::stamps::{next_item, object_of};
-use adr_event::WriteRefusal;
+use adr_event::{Failure, WriteRefusal};
 use adr_schema::Content;
-use adr_state::{Change, Item, State};
+use adr_state::{Change, DELETED, Item, State};
 use adr_view::Nodes;
 use std::alloc::Global;
 use uuid::Uuid;
 
-/// The attribute that says that an object is dead.
-const DELETED: u16 = 3;
-
 /// What a client's deleting an object makes of a controller at a time in seconds: the change, or why it is refused,
 /// first in order (MS-ADTS, delete operation; the refusals and their order are this project's own). The controller
 /// stays as it is.
-pub fn delete(state: &State, guid: Uuid, now: u64, alloc: Global) -> Result<Change, WriteRefusal>
+pub fn delete(
+    state: &State,
+    guid: Uuid,
+    now: u64,
+    alloc: Global,
+) -> Result<Change, Failure<WriteRefusal>>
     ensures ok { IfOk result (λ change. write state.now (Delete guid) now ≡ Ok change) }
     ensures within { IfOk result (λ change. change.usn ≤ usn_limit) }
-    ensures refused { IfErr result (λ refusal. (refusal ≡ no_memory) ⊎ (write state.now (Delete guid) now ≡ Err refusal)) }
+    ensures refused { (refusal : WriteRefusal) → IsErrOf result (Failure.Refused refusal) → write state.now (Delete guid) now ≡ Err refusal }
 {
     let nodes = nodes_held(alloc, state)?;
     check_delete(state, &nodes, guid)?;

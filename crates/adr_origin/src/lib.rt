@@ -7,12 +7,10 @@
 mod adding;
 mod checks;
 mod children;
-mod counting;
 mod deleting;
 mod linking;
 mod modifying;
 mod new_object;
-mod places;
 mod renaming;
 mod rivals;
 mod stamps;

@@ -1,9 +1,9 @@
 //! Making and removing links.
 
-ghost use Rattle.std.specs.Prelude.{◌≡◌, ◌≢◌, ◌⊎◌, ◌+◌, ◌<◌, ◌≤◌, Ok, Err, IfOk, IfErr, OnOk, is_some, if◌then◌else◌};
+ghost use Rattle.std.specs.Prelude.{◌≡◌, ◌≢◌, ◌+◌, ◌<◌, ◌≤◌, Ok, Err, IfOk, IsErrOf, OnOk, is_some, if◌then◌else◌};
 ghost use Rattle.std.specs.Result.{result_err};
 ghost use Rattle.adr_event.specs.declared.refusal.Table.TheVariants.{Links as links};
-ghost use Rattle.adr_event.specs.declared.refusal.WriteRefusal.TheVariants.{NoMemory as no_memory};
+ghost use Rattle.adr_event.specs.declared.refusal.WriteRefusal.{WriteRefusal};
 ghost use Rattle.adr_model.specs.Store.{row_held, updates_of};
 ghost use Rattle.adr_model.specs.Update.{LinkOf};
 ghost use Rattle.adr_model.specs.Write.{AddLink, RemoveLink, any_link_refusal, full_refusal, is_linked, link_limit, link_of, link_refusal, links_in, nodes_held, of_link, says_present, usn_limit, version_limit, version_of, write};
@@ -17,17 +17,13 @@ use crate::adding::{nodes_held, own_change};
 use crate::checks::{
     check_mode, check_not_fixed, check_object, check_schema, check_usn, check_version,
 };
-use crate::counting::count_links;
 use crate::stamps::{class_of, next_stamp, object_of};
-use adr_event::{Table, WriteRefusal};
+use adr_event::{Failure, Table, WriteRefusal};
 use adr_stamp::{LinkKey, Unit};
-use adr_state::{Change, Item, Key, Mode, Rows, Said, State, Update};
+use adr_state::{Change, Item, Key, LINK_LIMIT, Mode, Rows, Said, State, Update, count_links};
 use adr_view::Nodes;
 use std::alloc::Global;
 use uuid::Uuid;
-
-/// How many link rows a controller holds at most, present or not.
-const LINK_LIMIT: u64 = 1_000_000;
 
 /// What a client's making a link under an attribute makes of a controller at a time in seconds: the change, or why it is
 /// refused, first in order (MS-ADTS, modify operation, and linked values; the refusals and their order are this project's
@@ -39,10 +35,10 @@ pub fn link(
     to: Uuid,
     now: u64,
     alloc: Global,
-) -> Result<Change, WriteRefusal>
+) -> Result<Change, Failure<WriteRefusal>>
     ensures ok { IfOk result (λ change. write state.now (AddLink from attr to) now ≡ Ok change) }
     ensures within { IfOk result (λ change. change.usn ≤ usn_limit) }
-    ensures refused { IfErr result (λ refusal. (refusal ≡ no_memory) ⊎ (write state.now (AddLink from attr to) now ≡ Err refusal)) }
+    ensures refused { (refusal : WriteRefusal) → IsErrOf result (Failure.Refused refusal) → write state.now (AddLink from attr to) now ≡ Err refusal }
 {
     let link = check_link(alloc, state, from, attr, to)?;
     let item = link_item(alloc, state, &link, now, true)?;
@@ -59,10 +55,10 @@ pub fn unlink(
     to: Uuid,
     now: u64,
     alloc: Global,
-) -> Result<Change, WriteRefusal>
+) -> Result<Change, Failure<WriteRefusal>>
     ensures ok { IfOk result (λ change. write state.now (RemoveLink from attr to) now ≡ Ok change) }
     ensures within { IfOk result (λ change. change.usn ≤ usn_limit) }
-    ensures refused { IfErr result (λ refusal. (refusal ≡ no_memory) ⊎ (write state.now (RemoveLink from attr to) now ≡ Err refusal)) }
+    ensures refused { (refusal : WriteRefusal) → IsErrOf result (Failure.Refused refusal) → write state.now (RemoveLink from attr to) now ≡ Err refusal }
 {
     let link = check_any_link(alloc, state, from, attr, to, false)?;
     let item = link_item(alloc, state, &link, now, false)?;
@@ -76,7 +72,7 @@ fn check_link(
     from: Uuid,
     attr: u16,
     to: Uuid,
-) -> Result<LinkKey, WriteRefusal>
+) -> Result<LinkKey, Failure<WriteRefusal>>
     ensures told { Tells result (link_refusal state.now from attr to) }
     ensures named { IfOk result (λ link. link ≡ link_of (nodes_held (updates_of state.now.store.rows)) from attr to) }
     ensures version { IfOk result (λ link. version_of (row_held state.now.store.rows (LinkOf link)) ≢ version_limit) }
@@ -95,7 +91,7 @@ fn check_any_link(
     attr: u16,
     to: Uuid,
     present: bool,
-) -> Result<LinkKey, WriteRefusal>
+) -> Result<LinkKey, Failure<WriteRefusal>>
     ensures told { Tells result (any_link_refusal state.now from attr to (already_refusal present)) }
     ensures named { IfOk result (λ link. link ≡ link_of (nodes_held (updates_of state.now.store.rows)) from attr to) }
     ensures version { IfOk result (λ link. version_of (row_held state.now.store.rows (LinkOf link)) ≢ version_limit) }

@@ -1,8 +1,8 @@
 //! Modifying an object.
 
-ghost use Rattle.std.specs.Prelude.{◌≡◌, ◌⊎◌, ◌<◌, ◌≤◌, IfOk, IfErr, OnOk};
+ghost use Rattle.std.specs.Prelude.{◌≡◌, ◌<◌, ◌≤◌, Err, Ok, IfOk, IsErrOf, OnOk};
 ghost use Rattle.std.specs.Result.{result_err};
-ghost use Rattle.adr_event.specs.declared.refusal.WriteRefusal.TheVariants.{NoMemory as no_memory};
+ghost use Rattle.adr_event.specs.declared.refusal.WriteRefusal.{WriteRefusal};
 ghost use Rattle.adr_model.specs.Store.{updates_of};
 ghost use Rattle.adr_model.specs.Write.{Modify, modify_refusal, nodes_held, object_of, of_object, usn_limit, write};
 ghost use Rattle.adr_origin.specs.LiveParts.{given_refusal, rows_refusal};
@@ -15,7 +15,7 @@ use crate::checks::{
 };
 use crate::new_object::copy_values;
 use crate::stamps::{class_of, next_row, object_of};
-use adr_event::WriteRefusal;
+use adr_event::{Failure, WriteRefusal};
 use adr_schema::{Assignments, Content};
 use adr_stamp::{Oid, Unit};
 use adr_state::{Change, Item, Key, Rows, State, Update};
@@ -32,10 +32,10 @@ pub fn modify(
     values: &Assignments,
     now: u64,
     alloc: Global,
-) -> Result<Change, WriteRefusal>
+) -> Result<Change, Failure<WriteRefusal>>
     ensures ok { IfOk result (λ change. write state.now (Modify guid values.now) now ≡ Ok change) }
     ensures within { IfOk result (λ change. change.usn ≤ usn_limit) }
-    ensures refused { IfErr result (λ refusal. (refusal ≡ no_memory) ⊎ (write state.now (Modify guid values.now) now ≡ Err refusal)) }
+    ensures refused { (refusal : WriteRefusal) → IsErrOf result (Failure.Refused refusal) → write state.now (Modify guid values.now) now ≡ Err refusal }
 {
     let nodes = nodes_held(alloc, state)?;
     check_modify(state, &nodes, guid, values)?;

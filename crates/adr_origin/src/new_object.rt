@@ -7,18 +7,12 @@ ghost use Rattle.adr_origin.specs.GivenRows.{given_rows};
 use crate::NoMemory;
 use adr_schema::{Assignments, Content, Text, Value, Values};
 use adr_stamp::{LinkStamp, Oid};
-use adr_state::{Key, Said, Update};
+use adr_state::{CLASS, Key, NAME, Said, Update};
 use std::alloc::Global;
 use uuid::Uuid;
 
-/// The attribute that says an object's class.
-pub const CLASS: u16 = 1;
-
-/// The attribute that says an object's name and what is above it.
-pub const NAME: u16 = 2;
-
 /// An object that a client adds.
-#[derive(Debug, Drop)]
+#[derive(Drop)]
 pub struct NewObject<'a> {
     pub guid: Uuid,
     pub class: u16,

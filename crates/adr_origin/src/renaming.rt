@@ -1,8 +1,8 @@
 //! Renaming an object, and moving it.
 
-ghost use Rattle.std.specs.Prelude.{◌≡◌, ◌⊎◌, ◌<◌, ◌≤◌, ◌≢◌, false, IfOk, IfErr, OnOk};
+ghost use Rattle.std.specs.Prelude.{◌≡◌, ◌<◌, ◌≤◌, ◌≢◌, false, Err, Ok, IfOk, IsErrOf, OnOk};
 ghost use Rattle.std.specs.Result.{result_err};
-ghost use Rattle.adr_event.specs.declared.refusal.WriteRefusal.TheVariants.{NoMemory as no_memory};
+ghost use Rattle.adr_event.specs.declared.refusal.WriteRefusal.{WriteRefusal};
 ghost use Rattle.adr_model.specs.Place.{is_fixed};
 ghost use Rattle.adr_model.specs.Store.{row_held, updates_of};
 ghost use Rattle.adr_model.specs.Update.{RowOf, name_attr};
@@ -15,13 +15,12 @@ use crate::checks::{
     check_mode, check_not_fixed, check_object, check_parent, check_schema, check_superior,
     check_usn, check_version,
 };
-use crate::new_object::NAME;
 use crate::rivals::{check_new_name, check_no_loop};
 use crate::stamps::{class_of, next_item, object_of};
-use adr_event::WriteRefusal;
+use adr_event::{Failure, WriteRefusal};
 use adr_schema::{Content, Schema, Text, check_name};
 use adr_stamp::Oid;
-use adr_state::{Change, Key, State};
+use adr_state::{Change, Key, NAME, State};
 use adr_view::Nodes;
 use std::alloc::Global;
 use uuid::Uuid;
@@ -36,10 +35,10 @@ pub fn rename(
     text: &Text,
     now: u64,
     alloc: Global,
-) -> Result<Change, WriteRefusal>
+) -> Result<Change, Failure<WriteRefusal>>
     ensures ok { IfOk result (λ change. write state.now (Rename guid parent text.now) now ≡ Ok change) }
     ensures within { IfOk result (λ change. change.usn ≤ usn_limit) }
-    ensures refused { IfErr result (λ refusal. (refusal ≡ no_memory) ⊎ (write state.now (Rename guid parent text.now) now ≡ Err refusal)) }
+    ensures refused { (refusal : WriteRefusal) → IsErrOf result (Failure.Refused refusal) → write state.now (Rename guid parent text.now) now ≡ Err refusal }
 {
     let nodes = nodes_held(alloc, state)?;
     check_rename(alloc, state, &nodes, guid, parent, text)?;
@@ -60,7 +59,7 @@ fn check_rename(
     guid: Uuid,
     parent: Uuid,
     text: &Text,
-) -> Result<(), WriteRefusal>
+) -> Result<(), Failure<WriteRefusal>>
     requires { nodes.now ≡ nodes_held (updates_of state.now.store.rows) }
     ensures told { Tells result (rename_refusal state.now guid parent text.now) }
     ensures room { OnOk result (state.now.store.usn < usn_limit) }
@@ -68,7 +67,8 @@ fn check_rename(
 {
     check_named(state, nodes, guid, text)?;
     check_moved(alloc, state.schema(), nodes, guid, parent, text)?;
-    check_row(state, &object_of(nodes, guid), NAME)
+    check_row(state, &object_of(nodes, guid), NAME)?;
+    Ok(())
 }
 
 /// Tests that an object is live and that it may have a name.
@@ -91,7 +91,7 @@ fn check_moved(
     guid: Uuid,
     parent: Uuid,
     text: &Text,
-) -> Result<(), WriteRefusal>
+) -> Result<(), Failure<WriteRefusal>>
     requires { is_fixed guid ≡ false }
     ensures { Tells result (moved_refusal schema nodes.now guid parent text.now) }
 {

@@ -10,9 +10,9 @@ ghost use Rattle.adr_origin.specs.Rivals.{has_folded, is_rival, shares_name};
 ghost use Rattle.adr_origin.specs.Telling.{Tells};
 
 use crate::NoMemory;
-use crate::places::is_same;
-use adr_event::WriteRefusal;
+use adr_event::{Failure, WriteRefusal};
 use adr_schema::{Text, fold_name};
+use adr_state::is_same;
 use adr_view::{Node, Nodes};
 use std::alloc::Global;
 use uuid::Uuid;
@@ -92,11 +92,11 @@ fn check_not_shared(
     guid: Uuid,
     parent: Uuid,
     text: &Text,
-) -> Result<(), WriteRefusal>
+) -> Result<(), Failure<WriteRefusal>>
     ensures { Tells result (where_true (shares_name nodes.now guid parent text.now) (name_taken guid)) }
 {
     if shares_name(alloc, nodes, guid, parent, text)? {
-        Err(WriteRefusal::NameTaken { holder: guid })
+        Err(Failure::Refused(WriteRefusal::NameTaken { holder: guid }))
     } else {
         Ok(())
     }
@@ -109,7 +109,7 @@ pub fn check_new_name(
     guid: Uuid,
     parent: Uuid,
     text: &Text,
-) -> Result<(), WriteRefusal>
+) -> Result<(), Failure<WriteRefusal>>
     requires { is_fixed guid ≡ false }
     ensures { Tells result (name_refusal nodes.now guid parent text.now) }
 {
@@ -118,7 +118,7 @@ pub fn check_new_name(
             if is_same(holder, guid) {
                 check_not_shared(alloc, nodes, guid, parent, text)
             } else {
-                Err(WriteRefusal::NameTaken { holder })
+                Err(Failure::Refused(WriteRefusal::NameTaken { holder }))
             }
         }
         None => Ok(()),

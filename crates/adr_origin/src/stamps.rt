@@ -9,11 +9,10 @@ ghost use Rattle.adr_state.specs.Key.{key_of};
 
 use crate::NoMemory;
 use crate::new_object::row;
-use crate::places::root;
 use adr_schema::Content;
 use adr_stamp::{Birth, LinkStamp, Oid, Stamp, Unit};
 use adr_state::{Item, Key, Rows, State, Update};
-use adr_view::Nodes;
+use adr_view::{Nodes, root};
 use std::alloc::Global;
 use uuid::Uuid;
 

@@ -1,4 +1,4 @@
-use Rattle.adr_lengths.proofs.Lengths.{value_long, content_long, object_long, link_long}
+use Rattle.adr_lengths.proofs.Lengths.{value_long, content_long, object_long, link_long, vector_long}
 use Rattle.adr_lengths.proofs.laws.items_are_as_long_as_their_bytes.Goals as goal
 
 pub returns-clause-values : goal.returns-clause-values
@@ -12,3 +12,6 @@ returns-clause-objects c = λ x is. object_long x is
 
 pub returns-clause-links : goal.returns-clause-links
 returns-clause-links c = λ l is. link_long l is
+
+pub returns-clause-vectors : goal.returns-clause-vectors
+returns-clause-vectors c = λ v is. vector_long v is

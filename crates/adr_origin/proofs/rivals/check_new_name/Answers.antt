@@ -1,4 +1,4 @@
-use Rattle.std.proofs.Common.{inr, sym, ◌∙◌, subst}
+use Rattle.std.proofs.Common.{sym, ◌∙◌, subst}
 use Rattle.adr_origin.specs.Telling.{Tells}
 use Rattle.adr_origin.proofs.Holders.{other_refuses, sharing_refuses}
 use Rattle.adr_origin.proofs.rivals.check_new_name.Goals as goal
@@ -12,4 +12,4 @@ returns-then-is_same c =
 
 pub returns-else-is_same : goal.returns-else-is_same
 returns-else-is_same c =
-    inr (other_refuses c.args.nodes.now c.args.guid c.args.parent c.args.text.now c.in-Some.holder (sym c.in-Some.is ∙ c.in_ok-holder.ensures) (sym c.is_same.ensures ∙ c.if-is_same.false))
+    other_refuses c.args.nodes.now c.args.guid c.args.parent c.args.text.now c.in-Some.holder (sym c.in-Some.is ∙ c.in_ok-holder.ensures) (sym c.is_same.ensures ∙ c.if-is_same.false)
