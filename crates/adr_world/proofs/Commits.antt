@@ -1,9 +1,10 @@
 -- A change of a controller at a place.
-use Rattle.std.proofs.Common.{◌≡◌, ◌∙◌, refl, sym, ap, subst, ℕ, ◌<◌, ◌≤◌, List, length, map, slice_set, Some, Bool, true, false, nat_lt, if◌then◌else◌}
+use Rattle.std.proofs.Common.{◌≡◌, ◌∙◌, refl, sym, ap, subst, ℕ, ◌<◌, ◌≤◌, List, length, map, slice_set, Option, Some, None, Bool, true, false, cond, nat_lt, if◌then◌else◌, arith}
 use Rattle.std.specs.Prelude.{slice_get, slice_index_or}
 use Rattle.std.specs.List.{find}
 use Rattle.std.specs.Option.{option_map}
 use Rattle.std.specs.Str.{bytes_eq}
+use Rattle.std.proofs.lemmas.Bool.Decides.{nat_tests}
 use Rattle.std.proofs.lemmas.Option.{slice_get_read}
 use Rattle.adr_event.specs.declared.answer.Outcome.{Outcome}
 use Rattle.adr_event.specs.declared.refusal.Table.TheVariants.{Log}
@@ -54,9 +55,27 @@ found_at all cs name i c same at found =
 
 module _ (w : World) (c : Controller) (p : Pending) (o : Outcome) where
   -- a log that has no room
-  pub full_so : (b : Bool) → nat_lt log_limit (log_after c.log_end p.change) ≡ b → b ≡ true → commit w (replica_of c) p o ≡ (w, full Log log_limit)
-  full_so b is full_up = ap (λ x. if x then (w, full Log log_limit) else committed w (replica_of c) p o) (is ∙ full_up)
+  pub full_so : nat_lt log_limit (log_after c.log_end p.change) ≡ true → commit w (replica_of c) p o ≡ (w, full Log log_limit)
+  full_so beyond = ap (λ x. if x then (w, full Log log_limit) else committed w (replica_of c) p o) beyond
 
   -- and one that has it
   pub commit_so : nat_lt log_limit (log_after c.log_end p.change) ≡ false → commit w (replica_of c) p o ≡ (with_commit w c.name c.state p (log_after c.log_end p.change), o)
   commit_so room = ap (λ x. if x then (w, full Log log_limit) else committed w (replica_of c) p o) room
+
+-- where a log ends after a change, if it has room
+pub ends_at : (limit after end : ℕ) → Some end ≡ (if nat_lt limit after then None else Some after) → (nat_lt limit after ≡ false) × (end ≡ after)
+ends_at limit after end is = by (nat_lt limit after) refl is
+  where
+    by : (b : Bool) → nat_lt limit after ≡ b → Some end ≡ cond b None (Some after) → (nat_lt limit after ≡ false) × (end ≡ after)
+    by true t e = absurd (cc)
+    by false t e = (t, (let same : end ≡ after = cc in same))
+
+pub is_beyond : (limit after : ℕ) → None ≡ (if nat_lt limit after then None else Some after) → nat_lt limit after ≡ true
+is_beyond limit after is = by (nat_lt limit after) refl is
+  where
+    by : (b : Bool) → nat_lt limit after ≡ b → None ≡ cond b None (Some after) → nat_lt limit after ≡ true
+    by true t e = t
+    by false t e = absurd (cc)
+
+pub not_beyond : (limit after end : ℕ) → nat_lt limit after ≡ false → end ≡ after → end ≤ limit
+not_beyond limit after end room is = grind (arith, nat_tests)

@@ -7,7 +7,7 @@ use Rattle.adr_event.specs.declared.event.Event.TheVariants as events
 use Rattle.adr_model.specs.Member.{Member, Each}
 use Rattle.adr_model.specs.Replica.{Replica}
 use Rattle.adr_model.specs.World.{World, Name}
-use Rattle.adr_model.specs.Cycles.{cycle}
+use Rattle.adr_model.specs.Cycles.{pull, cycle}
 use Rattle.adr_model.specs.Step.{step}
 use Rattle.adr_model.specs.Sound.{IsSoundWorld, IsWorldOfRun}
 use Rattle.adr_model.specs.Convergence.{MayHappen, IsAcknowledged, MayCycle, AreUnlimited, SaysMore, IsCompleted}
@@ -26,6 +26,10 @@ module _ (w : World) (e : Event) (run : IsWorldOfRun w) (may : MayHappen w e) wh
 
   pub acknowledged_by : (v : World) (answers : List Answer) → IsSoundWorld w → step w e ≡ (v, answers) → AreAcknowledged w e answers v
   acknowledged_by v answers sound is = subst (λ (t : World × List Answer). AreAcknowledged w e t.1 t.0) is (acknowledges sound)
+
+-- the world behind a pull
+pub pulled_of_run : (w v : World) (dest source : Name) (max : ℕ) → IsWorldOfRun w → v ≡ (pull w dest source max).0 → IsWorldOfRun v
+pulled_of_run w v dest source max run is = stays_sound w (events.Pull dest source max) run tt v is
 
 -- the world that want of memory leaves
 pub left_of_run : (w : World) (e : Event) → IsWorldOfRun w → MayHappen w e → (v : World) → IsLeftBy w e v → IsWorldOfRun v
