@@ -17,4 +17,4 @@ directory-requires c =
 pub returns : goal.returns
 returns c =
     let found = found_so c.as_slice.result.now c.args.self.now.controllers.items c.args.name.now (Some c.in-Some.controller.now) c.as_slice.ensures.value c.in-Some.ensures in
-    shown_so (world_of c.args.self.now) (c.requires.of_run.sound refl) c.args.name.now c.in-Some.controller.now found c.in_ok-directory.result (c.in_ok-directory.ensures ∙ ap (λ rows. directory (updates_of rows)) c.rows.ensures)
+    shown_so (world_of c.args.self.now) (c.requires.of_run.sound refl) c.args.name.now c.in-Some.controller.now found c.in_ok-directory.field-0 (c.in_ok-directory.ensures ∙ ap (λ rows. directory (updates_of rows)) c.rows.ensures)
