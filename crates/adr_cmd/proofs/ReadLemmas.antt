@@ -53,3 +53,17 @@ left_ended (Some text) now next bytes bytes' n most told piece len ended small =
     let all = none_left text now (length bytes) told.2 ended in
     let more = read_more (Some text) now next bytes bytes' n told piece len in
     more.2 ∙ ap Some (drop_all (length bytes') text (omega arith) ∙ sym (drop_all most text (omega arith)))
+
+-- no more is gone than there was room for
+abbrev pub GoneAtMost : ℕ → Option (List ℕ) → Option (List ℕ) → Type 0
+GoneAtMost most first now = IfSome first (λ text. (n : ℕ) × (n ≤ most) × (now ≡ Some (drop n text)))
+
+pub gone_so_far : (first now : Option (List ℕ)) (bytes : List ℕ) (most : ℕ) → HasRead first now bytes → length bytes ≤ most → GoneAtMost most first now
+gone_so_far None now bytes most told small = tt
+gone_so_far (Some text) now bytes most told small = (length bytes, small, told.2)
+
+pub gone_more : (first now next : Option (List ℕ)) (bytes : List ℕ) (room most : ℕ) → HasRead first now bytes → GoneAtMost room now next → length bytes + room ≤ most → GoneAtMost most first next
+gone_more None now next bytes room most told gone small = tt
+gone_more (Some text) now next bytes room most told gone small =
+    let p = subst (λ (o : Option (List ℕ)). IfSome o (λ before. (n : ℕ) × (n ≤ room) × (next ≡ Some (drop n before)))) told.2 gone in
+    let few : p.0 ≤ room = p.1 in (length bytes + p.0, omega arith, p.2 ∙ ap Some (drop-drop p.0 (length bytes) text))

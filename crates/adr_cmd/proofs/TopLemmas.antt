@@ -11,7 +11,6 @@ use Rattle.adr_schedule.specs.declared.fault.Cause.TheVariants.{TooLong}
 use Rattle.adr_schedule.specs.Lines.{lines_of}
 use Rattle.adr_schedule.specs.Seen.{nothing_seen}
 use Rattle.adr_schedule.specs.Events.{events_of, events_from, bad}
-use Rattle.adr_headline.specs.Headline.{IsHeadline}
 use Rattle.adr_cmd.specs.Outcome.{outcome, outcome_of, ended}
 
 is_lt : (m n : ℕ) → m < n → nat_lt m n ≡ true
@@ -47,19 +46,6 @@ no_fault r status (Err NoMemory) is h p f = absurd (elim h [ inl e ↦ omega ari
 a_fault : {P : Type 0} (r status : ℕ) (written : Result (Unit {0}) Fault) → r ≡ ended status written → (status ≡ 0) ⊎ (status ≡ 3) → (r ≡ 5) ⊎ (r ≡ 8) → OnErr written P → P
 a_fault r status (Ok done) is plain h p = absurd (elim h [ inl e ↦ elim plain [ inl z ↦ omega arith | inr z ↦ omega arith ] | inr e ↦ elim plain [ inl z ↦ omega arith | inr z ↦ omega arith ] ])
 a_fault r status (Err fault) is plain h p = p
-
-events_front : (text : List ℕ) → events_of (take 16777217 text) ≡ events_of text
-unfolding events_of
-events_front text = cut 16777216 text (bad 0 TooLong) (λ t. events_from nothing_seen 1 (lines_of t))
-
--- what is claimed of the run of what was read is claimed of the text's
-headline_at : (left : Option (List ℕ)) (bytes : List ℕ) → IfSome left (λ text. bytes ≡ take 16777217 text) → IsHeadline bytes → IfSome left IsHeadline
-headline_at None bytes read claimed = tt
-headline_at (Some text) bytes read claimed = λ es is. claimed es (ap events_of read ∙ events_front text ∙ is)
-
-pub told_headline : (left : Option (List ℕ)) (bytes : List ℕ) (r status : ℕ) (written : Result (Unit {0}) Fault) → IfSome left (λ text. bytes ≡ take 16777217 text) → r ≡ ended status written
-    → OnOk written (IsHeadline bytes) → (r ≡ 0) ⊎ (r ≡ 3) → IfSome left IsHeadline
-told_headline left bytes r status written read is ok h = no_fault r status written is h ok (λ s claimed. headline_at left bytes read claimed)
 
 pub told_status : (left : Option (List ℕ)) (bytes : List ℕ) (r status : ℕ) (written : Result (Unit {0}) Fault) → IfSome left (λ text. bytes ≡ take 16777217 text) → r ≡ ended status written
     → OnOk written (status ≡ (outcome bytes).0) → (r ≡ 0) ⊎ (r ≡ 3) → IfSome left (λ text. r ≡ (outcome text).0)

@@ -10,12 +10,12 @@ use Rattle.adr_schedule.specs.declared.fault.Cause.TheVariants.{NotUtf8, NoComma
 use Rattle.adr_schedule.specs.declared.fault.ScheduleFault.{ScheduleFault}
 use Rattle.adr_schedule.specs.Events.{events_of}
 use Rattle.adr_model.specs.World.{World, empty_world}
-use Rattle.adr_model.specs.Cycles.{transcript}
+use Rattle.adr_model.specs.Step.{answers}
 use Rattle.adr_report.specs.Line.{line}
 
 -- what events write from a world on: the lines of their answers
 abbrev pub output_from : World → List Event → List ℕ
-output_from w events = flat_map line (transcript w events)
+output_from w events = flat_map line (answers w events)
 
 abbrev pub cause_text : Cause → List ℕ
 cause_text NotUtf8 = codes "not UTF-8"

@@ -4,7 +4,7 @@ ghost use Rattle.std.specs.Prelude.{◌≡◌, ◌<◌, ◌≤◌, ◌++◌, ℕ
 ghost use Rattle.adr_event.specs.declared.event.Event.{Event as Happening};
 ghost use Rattle.adr_io.specs.Told.{Adds, AddsFront};
 ghost use Rattle.adr_model.specs.Convergence.{MayAllHappen, MayHappen};
-ghost use Rattle.adr_model.specs.Cycles.{happens};
+ghost use Rattle.adr_model.specs.Step.{step};
 ghost use Rattle.adr_model.specs.World.{empty_world};
 ghost use Rattle.adr_report.specs.Line.{line};
 ghost use Rattle.adr_world.specs.Built.{AreBuilt, IsBuilt};
@@ -31,11 +31,11 @@ fn lines_of(alloc: Global, answers: &[Answer]) -> Result<Vec<u8>, AllocError>
 fn lines_told(alloc: Global, world: &mut World, event: &Event) -> Result<Vec<u8>, Fault>
     requires built { IsBuilt event.now }
     requires may { MayHappen world.old event.now }
-    ensures lines { IfOk result (λ bytes. bytes.items ≡ flat_map line (happens world.old event.now).1) }
-    ensures stepped { OnOk result (world.new ≡ (happens world.old event.now).0) }
+    ensures lines { IfOk result (λ bytes. bytes.items ≡ flat_map line (step world.old event.now).1) }
+    ensures stepped { OnOk result (world.new ≡ (step world.old event.now).0) }
     ensures memory { OnErr result (result ≡ Err Fault.NoMemory) }
 {
-    let Ok(answers) = world.happen(alloc, event) else {
+    let Ok(answers) = world.step(alloc, event) else {
         return Err(Fault::NoMemory);
     };
     match lines_of(alloc, answers.as_slice()) {
@@ -61,9 +61,9 @@ fn write_some<K: Sink>(sink: &mut K, bytes: &[u8]) -> Result<(), Fault>
 fn tell<K: Sink>(alloc: Global, world: &mut World, event: &Event, sink: &mut K) -> Result<(), Fault>
     requires built { IsBuilt event.now }
     requires may { MayHappen world.old event.now }
-    ensures stepped { OnOk result (world.new ≡ (happens world.old event.now).0) }
-    ensures told { OnOk result (Adds (K.written sink.old) (K.written sink.new) (flat_map line (happens world.old event.now).1)) }
-    ensures front { OnErr result (AddsFront (K.written sink.old) (K.written sink.new) (flat_map line (happens world.old event.now).1)) }
+    ensures stepped { OnOk result (world.new ≡ (step world.old event.now).0) }
+    ensures told { OnOk result (Adds (K.written sink.old) (K.written sink.new) (flat_map line (step world.old event.now).1)) }
+    ensures front { OnErr result (AddsFront (K.written sink.old) (K.written sink.new) (flat_map line (step world.old event.now).1)) }
     ensures never_falls { K.faults sink.old ≤ K.faults sink.new }
     ensures failed { IsErrOf result Fault.Failed → K.faults sink.old < K.faults sink.new }
 {

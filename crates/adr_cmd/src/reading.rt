@@ -15,6 +15,7 @@ fn read_some<S: Source>(source: &mut S, bytes: &mut Vec<u8>, room: usize) -> Res
         (n ≤ length before) × (S.left source.new ≡ Some (drop n before)) × (bytes.new.items ≡ bytes.old.items ++ take n before))) }
     ensures count { IfOk result (λ n. (n ≤ room) × (length bytes.new.items ≡ length bytes.old.items + n)) }
     ensures end { result ≡ Ok 0 → IfSome (S.left source.old) (λ before. before ≡ []) }
+    ensures at_most { IfSome (S.left source.old) (λ before. (n : ℕ) × (n ≤ room) × (S.left source.new ≡ Some (drop n before))) }
     ensures never_falls { S.faults source.old ≤ S.faults source.new }
     ensures failed { IsErrOf result Fault.Failed → S.faults source.old < S.faults source.new }
 {
@@ -32,6 +33,7 @@ fn read_some<S: Source>(source: &mut S, bytes: &mut Vec<u8>, room: usize) -> Res
 pub fn read_all<S: Source>(alloc: Global, source: &mut S) -> Result<Vec<u8>, Fault>
     ensures read { IfOk result (λ bytes. IfSome (S.left source.old) (λ text. bytes.items ≡ take 16777217 text)) }
     ensures left { IfOk result (λ bytes. IfSome (S.left source.old) (λ text. S.left source.new ≡ Some (drop 16777217 text))) }
+    ensures at_most { IfSome (S.left source.old) (λ text. (n : ℕ) × (n ≤ 16777217) × (S.left source.new ≡ Some (drop n text))) }
     ensures never_falls { S.faults source.old ≤ S.faults source.new }
     ensures failed { IsErrOf result Fault.Failed → S.faults source.old < S.faults source.new }
 {

@@ -5,6 +5,7 @@ ghost use Rattle.std.specs.Fmt.{decimal};
 ghost use Rattle.adr_io.specs.Told.{Adds, AddsFront};
 ghost use Rattle.adr_headline.specs.Headline.{IsHeadline};
 ghost use Rattle.adr_cmd.specs.Outcome.{outcome, cause_text, fault_line, is_replay, usage_line, ended};
+ghost use Rattle.adr_cmd.specs.Shown.{AtEachShow};
 
 use crate::playing::play;
 use crate::reading::read_all;
@@ -81,7 +82,6 @@ fn perform<K: Sink>(alloc: Global, text: &[u8], sink: &mut K) -> (u8, Result<(),
     ensures status { OnOk result.1 (result.0 ≡ (outcome text.now).0) }
     ensures ok { OnOk result.1 (Adds (K.written sink.old) (K.written sink.new) (outcome text.now).1) }
     ensures front { OnErr result.1 (AddsFront (K.written sink.old) (K.written sink.new) (outcome text.now).1) }
-    ensures headline { OnOk result.1 (IsHeadline text.now) }
     ensures statuses { (result.0 ≡ 0) ⊎ (result.0 ≡ 3) }
     ensures never_falls { K.faults sink.old ≤ K.faults sink.new }
     ensures failed { IsErrOf result.1 Fault.Failed → K.faults sink.old < K.faults sink.new }
@@ -98,8 +98,8 @@ fn replay<S: Source, K: Sink>(alloc: Global, source: &mut S, sink: &mut K) -> u8
     ensures status { (result ≡ 0) ⊎ (result ≡ 3) → IfSome (S.left source.old) (λ text. result ≡ (outcome text).0) }
     ensures written { (result ≡ 0) ⊎ (result ≡ 3) → IfSome (S.left source.old) (λ text. Adds (K.written sink.old) (K.written sink.new) (outcome text).1) }
     ensures front { (result ≡ 5) ⊎ (result ≡ 8) → IfSome (S.left source.old) (λ text. AddsFront (K.written sink.old) (K.written sink.new) (outcome text).1) }
-    ensures headline { (result ≡ 0) ⊎ (result ≡ 3) → IfSome (S.left source.old) IsHeadline }
-    ensures read { (result ≡ 0) ⊎ ((result ≡ 3) ⊎ (result ≡ 5)) → IfSome (S.left source.old) (λ text. S.left source.new ≡ Some (drop 16777217 text)) }
+    ensures printed { result ≡ 0 → IfSome (S.left source.old) (λ text. AtEachShow text (Adds (K.written sink.old) (K.written sink.new))) }
+    ensures read { IfSome (S.left source.old) (λ before. (n : ℕ) × (n ≤ 16777217) × (S.left source.new ≡ Some (drop n before))) }
     ensures ended { result ≡ 0 → IfSome (S.left source.old) (λ text. S.left source.new ≡ Some []) }
     ensures read_fault { result ≡ 4 → S.faults source.old < S.faults source.new }
     ensures unwritten { result ≡ 4 → sink.new ≡ sink.old }
@@ -149,14 +149,18 @@ pub fn run<S: Source, K: Sink>(alloc: Global, words: &[String], source: &mut S, 
     ensures written { (result ≡ 0) ⊎ (result ≡ 3) → IfSome (S.left source.old) (λ text. Adds (K.written sink.old) (K.written sink.new) (outcome text).1) }
     ensures ended { result ≡ 0 → IfSome (S.left source.old) (λ text. S.left source.new ≡ Some []) }
 
-    // Wherever the run of that text stands, each controller that is up shows the directory of the issued updates that it
-    // covers or holds, every acknowledged write of its present identifier among them; equal coverage shows equal
-    // directories.
-    ensures headline { (result ≡ 0) ⊎ (result ≡ 3) → IfSome (S.left source.old) IsHeadline }
+    // And where a text asks a controller that is up for its directory, what was written is there the directory of the
+    // issued updates that the controller covers or holds.
+    ensures printed { result ≡ 0 → IfSome (S.left source.old) (λ text. AtEachShow text (Adds (K.written sink.old) (K.written sink.new))) }
 
-    // With a fault it is a front of that, and of the source no more was read than a text may have, and one byte.
+    // Of every text that is a schedule, wherever its run stands while no database was put back: each controller shows the
+    // directory of the issued updates that it covers or holds, controllers that cover the same show the same, and every
+    // write that was acknowledged is in view for whoever has its identifier.
+    ensures headline { (text : List ℕ) → IsHeadline text }
+
+    // With a fault it is a front of that. Of the source no more is read than a text may have, and one byte.
     ensures front { is_replay (map string_bytes words.now) ≡ true → (result ≡ 5) ⊎ (result ≡ 8) → IfSome (S.left source.old) (λ text. AddsFront (K.written sink.old) (K.written sink.new) (outcome text).1) }
-    ensures read { (result ≡ 0) ⊎ (result ≡ 3) → IfSome (S.left source.old) (λ text. S.left source.new ≡ Some (drop 16777217 text)) }
+    ensures read { IfSome (S.left source.old) (λ before. (n : ℕ) × (n ≤ 16777217) × (S.left source.new ≡ Some (drop n before))) }
 
     // A fault has its cause.
     ensures read_fault { result ≡ 4 → S.faults source.old < S.faults source.new }

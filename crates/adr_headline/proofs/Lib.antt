@@ -1,3 +1,4 @@
 pub mod Naming
 pub mod Following
 pub mod Claimed
+pub mod Texts

@@ -1,21 +1,24 @@
--- Lines but those that bring a controller leave who is there, by name, and what identifiers were given.
-use Rattle.std.proofs.Common.{◌≡◌, ◌∙◌, refl, sym, ap, ℕ, zero, suc, List, [], ◌∷◌, Bool, true, false, cond, map, Option, Some, None, Result, Ok, Err}
+-- Lines leave who is there, by name, which identifiers were given and what is bound, but for those that say otherwise.
+use Rattle.std.proofs.Common.{◌≡◌, ◌∙◌, refl, sym, ap, ℕ, zero, suc, List, [], ◌∷◌, Bool, true, false, cond, map, nat_lt, Option, Some, None, Result, Ok, Err}
 use Rattle.std.specs.Str.{bytes_eq}
 use Rattle.adr_event.specs.declared.answer.Answer.{Answer}
 use Rattle.adr_event.specs.declared.answer.Outcome.{Outcome}
 use Rattle.adr_event.specs.declared.answer.Outcome.TheVariants as outcomes
+use Rattle.adr_event.specs.declared.refusal.Table.TheVariants.{Log}
 use Rattle.adr_event.specs.declared.refusal.WriteRefusal.{WriteRefusal}
 use Rattle.adr_event.specs.declared.refusal.ServeRefusal.{ServeRefusal}
 use Rattle.adr_event.specs.declared.refusal.ServeRefusal.TheVariants as serves
 use Rattle.adr_event.specs.declared.refusal.TakeRefusal.{TakeRefusal}
 use Rattle.adr_event.specs.declared.refusal.TakeRefusal.TheVariants as takes
 use Rattle.adr_model.specs.Change.{Change}
+use Rattle.adr_model.specs.Lengths.{log_limit, log_after}
 use Rattle.adr_model.specs.Serve.{Request, Reply, serve}
 use Rattle.adr_model.specs.Write.{Write, write}
 use Rattle.adr_model.specs.Take.{take}
 use Rattle.adr_model.specs.Collect.{quarantine}
+use Rattle.adr_model.specs.Refused.{full}
 use Rattle.adr_model.specs.Replica.{Pending, ToWrite, ToTake, ToQuarantine, Replica}
-use Rattle.adr_model.specs.World.{Name, World, Gone, Sent, stays, nothing, with_replica, commit, writes, after_write, asks, after_serve, served, serves_request, after_take, delivered, delivers, of_controller}
+use Rattle.adr_model.specs.World.{Name, World, Given, Gone, Sent, stays, nothing, with_replica, within_log, committed, commit, writes, after_write, asks, after_serve, served, serves_request, after_take, delivered, delivers, of_controller}
 use Rattle.adr_model.specs.Cycles.{Pulled, pull_served, pull_asked, pull, and_then, pulls}
 use Rattle.adr_convergence.proofs.Found.{same_name}
 use Rattle.adr_convergence.proofs.Reached.{made_case, up_case, reached_case}
@@ -24,15 +27,23 @@ use Rattle.adr_convergence.proofs.Reached.{made_case, up_case, reached_case}
 abbrev pub names_of : List Replica → List Name
 names_of rs = map (λ (r : Replica). r.name) rs
 
--- the same names, and the same identifiers given
-abbrev pub Stays : World → World → Type 0
-Stays w v = (names_of v.replicas ≡ names_of w.replicas) × (v.given ≡ w.given)
+-- the same names, the same identifiers given, and the same messages bound
+pub record Stays (w v : World) : Type 0 where
+  pub names : names_of v.replicas ≡ names_of w.replicas
+  pub given : v.given ≡ w.given
+  pub requests : v.requests ≡ w.requests
+  pub replies : v.replies ≡ w.replies
 
 pub same : (w : World) → Stays w w
-same w = (refl, refl)
+same w = record { names = refl; given = refl; requests = refl; replies = refl }
 
 pub onward : (w v x : World) → Stays w v → Stays v x → Stays w x
-onward w v x first next = (next.0 ∙ first.0, next.1 ∙ first.1)
+onward w v x first next = record {
+  names = next.names ∙ first.names;
+  given = next.given ∙ first.given;
+  requests = next.requests ∙ first.requests;
+  replies = next.replies ∙ first.replies;
+}
 
 -- a controller in the place of the one of its name
 replacing_keeps_names : (rs : List Replica) (r : Replica) → names_of (with_replica rs r) ≡ names_of rs
@@ -50,21 +61,27 @@ module _ (w : World) where
   abbrev KeptBy : {A : Type 0} → Sent A → Type 0
   KeptBy t = Stays w t.0
 
+  -- what is written to a log, or refused there
+  within : (b : Bool) (gone : Gone) → Kept gone → Kept (cond b (w, full Log log_limit) gone)
+  within true gone kept = same w
+  within false gone kept = kept
+
   commits : (r : Replica) (p : Pending) (o : Outcome) → Kept (commit w r p o)
-  commits r p o = (replacing_keeps_names w.replicas _, refl)
+  commits r p o = within (nat_lt log_limit (log_after r.safe_end p.change)) (committed w r p o)
+      (record { names = replacing_keeps_names w.replicas _; given = refl; requests = refl; replies = refl })
 
   wrote : (r : Replica) (what : Write) (t : Result Change WriteRefusal) → Kept (after_write w r what t)
   wrote r what (Err x) = same w
   wrote r what (Ok c) = commits r (record { call = ToWrite what w.time; change = c }) (outcomes.Usn c.usn)
 
   taken : (r : Replica) (reply : Reply) (t : Result Change TakeRefusal) → Kept (after_take w r reply t)
-  taken r reply (Ok c) = commits r (record { call = ToTake reply; change = c }) outcomes.Ok
-  taken r reply (Err (takes.RolledBack inv mine shown)) = commits r (record { call = ToQuarantine; change = quarantine r.safe }) outcomes.Ok
+  taken r reply (Ok c) = commits r (record { call = ToTake reply; change = c }) _
+  taken r reply (Err (takes.RolledBack inv mine shown)) = commits r (record { call = ToQuarantine; change = quarantine r.safe }) _
   taken r reply (Err x) = same w
 
   answered : (r : Replica) (t : Result Reply ServeRefusal) → KeptBy (after_serve w r t)
   answered r (Ok reply) = same w
-  answered r (Err (serves.RolledBack inv mine shown)) = commits r (record { call = ToQuarantine; change = quarantine r.safe }) outcomes.Ok
+  answered r (Err (serves.RolledBack inv mine shown)) = commits r (record { call = ToQuarantine; change = quarantine r.safe }) _
   answered r (Err x) = same w
 
   pub writes_stay : (name : Name) (what : Write) → Kept (writes w name what)

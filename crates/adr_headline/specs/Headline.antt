@@ -1,29 +1,36 @@
 -- What is claimed of every run of a text.
-use Rattle.std.specs.Prelude.{◌≡◌, ℕ, List, ◌∷◌, ◌++◌, Ok}
+use Rattle.std.specs.Prelude.{◌≡◌, ℕ, List, ◌∷◌, ◌++◌, true, Ok}
 use Rattle.adr_event.specs.declared.answer.Outcome.TheVariants as outcomes
 use Rattle.adr_event.specs.declared.event.Event.{Event}
-use Rattle.adr_event.specs.declared.event.Event.TheVariants.{Show}
 use Rattle.adr_schedule.specs.Events.{events_of}
-use Rattle.adr_model.specs.Member.{Member, Each}
-use Rattle.adr_model.specs.Directory.{directory}
-use Rattle.adr_model.specs.Write.{rows_written}
-use Rattle.adr_model.specs.Replica.{Replica, Up}
-use Rattle.adr_model.specs.World.{World, empty_world, step}
-use Rattle.adr_model.specs.Convergence.{after_lines, held_by, in_view, IsAcknowledged, HoldsNothingBeyond, CoverTheSame}
+use Rattle.adr_model.specs.Member.{Each}
+use Rattle.adr_model.specs.World.{World, empty_world}
+use Rattle.adr_model.specs.Step.{step, after_lines}
+use Rattle.adr_model.specs.Convergence.{ShowWhatIsVisible, ShowAlike, IsAcknowledged, acknowledged, AreInView}
 
--- a controller that is up answers with the directory of what it has in view, and that of what it holds is the same
-abbrev pub ShowsItsView : World → Replica → Type 0
-ShowsItsView w r = ((step w (Show r.name)).1.outcome ≡ outcomes.Show (directory (in_view w r))) × (directory (held_by r) ≡ directory (in_view w r))
+-- the world behind the first lines of a run
+abbrev pub behind : List Event → World
+behind es = after_lines empty_world es
 
--- wherever a run stands, each controller that is up shows the directory of the issued updates that it covers or holds. To
--- the end of the run every write that was acknowledged is among them, each row of it, for whoever has the identifier under
--- which it was issued. And controllers that cover the same show the same
+-- what holds of the world at every place of a run, as long as no database was put back
+abbrev pub HoldsThroughout : List Event → (World → Type 0) → Type 0
+HoldsThroughout es P = (before after : List Event) → es ≡ before ++ after → (behind before).clean ≡ true → P (behind before)
+
+-- whatever a line acknowledged is in the view of whoever has the identifier under which it was issued, behind these lines more
+abbrev pub StaysInView : List Event → Event → List Event → Type 0
+StaysInView before e mid =
+    (usn : ℕ) → Each (λ a. a.outcome ≡ outcomes.Usn usn
+    → (k : IsAcknowledged (behind before) e usn (step (behind before) e).0)
+    × AreInView (behind (before ++ e ∷ mid)) k.writer.safe.inv (acknowledged (behind before) k))
+    (step (behind before) e).1
+
+-- wherever a run stands, as long as no database was put back: each controller shows the directory of the issued updates that it
+-- covers or holds; controllers that cover the same show the same; and every write that was acknowledged so far is among what is
+-- in view for whoever has its identifier, each row of it
 pub record Headline (es : List Event) : Type 0 where
-  pub shown : (before after : List Event) → es ≡ before ++ after → Each (λ r. r.standing ≡ Up → ShowsItsView (after_lines empty_world before) r) (after_lines empty_world before).replicas
-  pub acknowledged : (before after : List Event) (e : Event) (usn : ℕ) → es ≡ before ++ e ∷ after → (step (after_lines empty_world before) e).1.outcome ≡ outcomes.Usn usn
-      → (a : IsAcknowledged (after_lines empty_world before) e usn (step (after_lines empty_world before) e).0)
-      × Each (λ r. r.safe.inv ≡ a.writer.safe.inv → Each (λ u. Member u (in_view (after_lines empty_world es) r)) (rows_written a.writer.safe a.what (after_lines empty_world before).time).rows) (after_lines empty_world es).replicas
-  pub equal : Each (λ r. Each (λ q. HoldsNothingBeyond r → HoldsNothingBeyond q → CoverTheSame (after_lines empty_world es) r q → directory (held_by r) ≡ directory (held_by q)) (after_lines empty_world es).replicas) (after_lines empty_world es).replicas
+  pub shown : HoldsThroughout es ShowWhatIsVisible
+  pub equal : HoldsThroughout es ShowAlike
+  pub acknowledged : (before mid after : List Event) (e : Event) → es ≡ before ++ e ∷ mid ++ after → (behind (before ++ e ∷ mid)).clean ≡ true → StaysInView before e mid
 
 -- the run of a text that is a schedule
 abbrev pub IsHeadline : List ℕ → Type 0

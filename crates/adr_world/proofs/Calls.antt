@@ -17,7 +17,6 @@ use Rattle.adr_model.specs.Directory.{directory}
 use Rattle.adr_model.specs.Store.{updates_of}
 use Rattle.adr_schema.specs.Numbered.{numbered}
 use Rattle.adr_model.specs.Formed.{AreFormedRows}
-use Rattle.adr_model.specs.Convergence.{in_view}
 use Rattle.adr_model.specs.Serve.{Request, Reply, ask, serve}
 use Rattle.adr_model.specs.Take.{take}
 use Rattle.adr_model.specs.Change.{Change}
@@ -25,7 +24,7 @@ use Rattle.adr_model.specs.Write.{Write, write}
 use Rattle.adr_model.specs.Refused.{serve_refused, take_refused, write_refused}
 use Rattle.adr_model.specs.Visible.{visible}
 use Rattle.adr_model.specs.Replica.{Up, Replica, ToTake, ToWrite}
-use Rattle.adr_model.specs.World.{World, Name, replica_at, of_made, of_controller, where_up, nothing, stays, asks, serves_request, after_serve, served, after_take, delivered, delivers, after_write, writes, rows_in, shown}
+use Rattle.adr_model.specs.World.{World, Name, replica_at, of_made, of_controller, where_up, nothing, stays, commit, asks, serves_request, after_serve, served, after_take, delivered, delivers, after_write, writes, rows_in, shown}
 use Rattle.adr_model.specs.Sound.{IsSoundWorld, IsSoundRequest, IsSoundReply}
 use Rattle.adr_model.proofs.Members.{mapped_member}
 use Rattle.adr_history.proofs.Granted.{no_rollback as no_rollback_shown}
@@ -33,7 +32,7 @@ use Rattle.adr_taking.proofs.Refused.{no_rollback as no_rollback_taken}
 use Rattle.adr_convergence.proofs.Controllers.{shows_what_is_visible}
 use Rattle.adr_convergence.proofs.Found.{replica_found}
 use Rattle.adr_world.specs.declared.controller.Controller.{Controller}
-use Rattle.adr_world.specs.Run.{replica_of, with_commit}
+use Rattle.adr_world.specs.Run.{replica_of}
 
 -- what a look through the controllers finds
 pub found_so : (all cs : List Controller) (name : Name) (o : Option Controller) → all ≡ cs
@@ -78,22 +77,25 @@ module _ (w : World) (sound : IsSoundWorld w) (name : Name) (c : Controller) (is
   not_taken_so r (takes.RolledBack inv mine shown) reply e = absurd (no_rollback_taken w.scene c.state r inv mine shown sound.scene (sound.replicas (replica_of c) there).safe reply e)
   not_taken_so r _ reply e = refl
 
-  -- what it holds shows what it has in view, and its rows are formed
-  pub shows_so : directory (updates_of c.state.store.rows) ≡ directory (in_view w (replica_of c))
-  shows_so = shows_what_is_visible w sound (replica_of c) there
-
+  -- its rows are formed, and show what it has in view
   pub formed_so : AreFormedRows (numbered c.state.store.schema) (updates_of c.state.store.rows)
   formed_so = (sound.replicas (replica_of c) there).safe.store.formed.rows
 
+  pub shown_so : (d : List Entry) → d ≡ directory (updates_of c.state.store.rows) → of_controller w name (stays w) (λ r. (w, outcomes.Show (shown w r.safe))) ≡ (w, outcomes.Show d)
+  shown_so d made =
+      reaches w name c (stays w) (λ r. (w, outcomes.Show (shown w r.safe))) is
+      ∙ ap (λ b. (w, outcomes.Show (directory (if b then visible w.scene.issued c.state.store.vector (updates_of c.state.store.rows) else updates_of c.state.store.rows)))) sound.clean
+      ∙ ap (λ x. (w, outcomes.Show x)) (sym (made ∙ shows_what_is_visible w sound (replica_of c) there))
+
   pub taken_so : (r : Reply) (change : Change) → take c.state r ≡ Ok change
-      → delivers w name (Some r) ≡ (with_commit w c.name c.state (record { call = ToTake r; change = change }), outcomes.Took (length r.items) (length change.writes) change.usn)
+      → delivers w name (Some r) ≡ commit w (replica_of c) (record { call = ToTake r; change = change }) (outcomes.Took (length r.items) (length change.writes) change.usn)
   taken_so r change made = reaches w name c (stays w) (λ x. delivered w x (Some r)) is ∙ ap (λ t. after_take w (replica_of c) r t) made
 
   pub refused_taking : (r : Reply) (x : TakeRefusal) → IsSoundReply w.scene r → take c.state r ≡ Err x → delivers w name (Some r) ≡ (w, take_refused x)
   refused_taking r x reply made = reaches w name c (stays w) (λ y. delivered w y (Some r)) is ∙ ap (λ t. after_take w (replica_of c) r t) made ∙ not_taken_so r x reply made
 
   pub written_so : (what : Write) (change : Change) → write c.state what w.time ≡ Ok change
-      → writes w name what ≡ (with_commit w c.name c.state (record { call = ToWrite what w.time; change = change }), outcomes.Usn change.usn)
+      → writes w name what ≡ commit w (replica_of c) (record { call = ToWrite what w.time; change = change }) (outcomes.Usn change.usn)
   written_so what change made = reaches w name c (stays w) (λ x. after_write w x what (write x.safe what w.time)) is ∙ ap (λ t. after_write w (replica_of c) what t) made
 
   pub refused_writing : (what : Write) (x : WriteRefusal) → write c.state what w.time ≡ Err x → writes w name what ≡ (w, write_refused x)
@@ -115,20 +117,3 @@ module _ (w : World) (name : Name) (cs : List Controller) (are : w.replicas ≡ 
 
   pub no_reply_so : delivers w name None ≡ (w, outcomes.Absent)
   no_reply_so = all_reached (stays w) (λ r. delivered w r None) _ refl (λ r. refl)
-
--- what is told of the directory, if there is a controller
-module _ (w : World) (name : Name) where
-  in_view_told : (r : Replica) → r.standing ≡ Up → w.clean ≡ true → where_up (stays w) r.standing (w, outcomes.Show (shown w r.safe)) ≡ (w, outcomes.Show (directory (in_view w r)))
-  in_view_told r up clean = ap (λ s. where_up (stays w) s (w, outcomes.Show (shown w r.safe))) up
-      ∙ ap (λ b. (w, outcomes.Show (directory (if b then visible w.scene.issued r.safe.store.vector (updates_of r.safe.store.rows) else updates_of r.safe.store.rows)))) clean
-
-  pub told_so : (cs : List Controller) (d : List Entry) → w.replicas ≡ map replica_of cs → w.clean ≡ true → Some d ≡ option_map (λ r. directory (in_view w r)) (replica_at w name)
-      → of_controller w name (stays w) (λ r. (w, outcomes.Show (shown w r.safe))) ≡ (w, outcomes.Show d)
-  told_so cs d are clean is = by (replica_at w name) refl is
-    where
-      by : (o : Option Replica) → replica_at w name ≡ o → Some d ≡ option_map (λ r. directory (in_view w r)) o → of_controller w name (stays w) (λ r. (w, outcomes.Show (shown w r.safe))) ≡ (w, outcomes.Show d)
-      by None e h = absurd (cc)
-      by (Some r) e h =
-          ap (λ o. of_made (stays w) o (λ q. where_up (stays w) q.standing (w, outcomes.Show (shown w q.safe)))) e
-          ∙ in_view_told r (standing_of cs r (subst (λ rs. Member r rs) are (replica_found w name r e).0)) clean
-          ∙ ap (λ x. (w, outcomes.Show x)) (let same : d ≡ directory (in_view w r) = cc in sym same)

@@ -1,17 +1,21 @@
 -- A change of a controller at a place.
-use Rattle.std.proofs.Common.{◌≡◌, ◌∙◌, refl, sym, ap, subst, ℕ, ◌<◌, ◌≤◌, List, length, map, slice_set, Some}
+use Rattle.std.proofs.Common.{◌≡◌, ◌∙◌, refl, sym, ap, subst, ℕ, ◌<◌, ◌≤◌, List, length, map, slice_set, Option, Some, None, Bool, true, false, cond, nat_lt, if◌then◌else◌, arith}
 use Rattle.std.specs.Prelude.{slice_get, slice_index_or}
 use Rattle.std.specs.List.{find}
 use Rattle.std.specs.Option.{option_map}
 use Rattle.std.specs.Str.{bytes_eq}
+use Rattle.std.proofs.lemmas.Bool.Decides.{nat_tests}
 use Rattle.std.proofs.lemmas.Option.{slice_get_read}
+use Rattle.adr_event.specs.declared.answer.Outcome.{Outcome}
+use Rattle.adr_event.specs.declared.refusal.Table.TheVariants.{Log}
 use Rattle.adr_model.specs.Store.{State}
 use Rattle.adr_model.specs.Change.{after}
-use Rattle.adr_model.specs.Write.{usn_limit}
-use Rattle.adr_model.specs.Replica.{Replica, Scene, Pending, recorded, on_new_disk}
-use Rattle.adr_model.specs.World.{World, Name, with_replica}
+use Rattle.adr_model.specs.Lengths.{log_limit, log_after}
+use Rattle.adr_model.specs.Refused.{full}
+use Rattle.adr_model.specs.Replica.{Replica, Scene, Pending, recorded, on_disk}
+use Rattle.adr_model.specs.World.{World, Name, with_replica, committed, commit}
 use Rattle.adr_world.specs.declared.controller.Controller.{Controller}
-use Rattle.adr_world.specs.Run.{replica_of, with_commit, IsTidy}
+use Rattle.adr_world.specs.Run.{replica_of, with_commit, IsWithin, IsTidy}
 use Rattle.adr_world.proofs.Places.{with_state, placed, apart_still, each_still}
 
 -- what is read at a place
@@ -24,23 +28,20 @@ same_place cs i c d lt is at = let both : Some d ≡ Some c = sym (at_place cs i
 with_parts : (w : World) (a b : Scene) (rs qs : List Replica) → a ≡ b → rs ≡ qs → record w { scene = a; replicas = rs } ≡ record w { scene = b; replicas = qs }
 with_parts w a b rs qs scenes replicas = ap (λ s. record w { scene = s; replicas = rs }) scenes ∙ ap (λ x. record w { scene = b; replicas = x }) replicas
 
--- the world after the change: the book has it, and the controller at the place
-pub is_committed : (w : World) (cs : List Controller) (i : ℕ) (c : Controller) (n : Name) (next : State) (scene : Scene) (p : Pending)
-    → w.replicas ≡ map replica_of cs → IsTidy cs → slice_get cs i ≡ Some c → n ≡ c.name → next ≡ after c.state p.change → scene ≡ recorded w.scene next.inv p
-    → record w { scene = scene; replicas = map replica_of (slice_set cs i (record { name = n; state = next })) } ≡ with_commit w c.name c.state p
-is_committed w cs i c n next scene p replicas tidy at name state book = with_parts w scene (recorded w.scene c.state.inv p) _ _
-    (book ∙ ap (λ s. recorded w.scene s.inv p) state)
-    (
-    ap (λ m. map replica_of (slice_set cs i (record { name = m; state = next }))) name
-    ∙ placed cs i c next tidy.apart at
-    ∙ ap (λ s. with_replica (map replica_of cs) (on_new_disk c.name s)) state
-    ∙ ap (λ rs. with_replica rs (on_new_disk c.name (after c.state p.change))) (sym replicas)
-    )
+module _ (cs : List Controller) (i : ℕ) (c : Controller) (s : State) (end : ℕ) (tidy : IsTidy cs) (at : slice_get cs i ≡ Some c) where
+  -- the world after the change: the book has it, and the controller at the place
+  pub is_committed : (w : World) (next : Controller) (scene : Scene) (p : Pending) → w.replicas ≡ map replica_of cs → next ≡ with_state c (after c.state p.change) end → scene ≡ recorded w.scene c.state.inv p
+      → record w { scene = scene; replicas = map replica_of (slice_set cs i next) } ≡ with_commit w c.name c.state p end
+  is_committed w next scene p replicas is book = with_parts w scene (recorded w.scene c.state.inv p) _ _ book
+      (
+      ap (λ (d : Controller). map replica_of (slice_set cs i d)) is
+      ∙ placed cs i c (after c.state p.change) end tidy.apart at
+      ∙ ap (λ rs. with_replica rs (on_disk c.name (after c.state p.change) end)) (sym replicas)
+      )
 
-pub is_tidy_still : (cs : List Controller) (i : ℕ) (c : Controller) (n : Name) (next : State) → IsTidy cs → slice_get cs i ≡ Some c → n ≡ c.name → next.store.usn ≤ usn_limit
-    → IsTidy (slice_set cs i (record { name = n; state = next }))
-is_tidy_still cs i c n next tidy at name within = subst (λ m. IsTidy (slice_set cs i (record { name = m; state = next }))) (sym name)
-    (record { apart = apart_still cs i c next tidy.apart at; within = each_still (λ (d : Controller). d.state.store.usn ≤ usn_limit) cs i (with_state c next) tidy.within within })
+  pub is_tidy_still : (next : Controller) → next ≡ with_state c s end → IsWithin (with_state c s end) → IsTidy (slice_set cs i next)
+  is_tidy_still next is within = subst (λ d. IsTidy (slice_set cs i d)) (sym is)
+      (record { apart = apart_still cs i c s end tidy.apart at; within = each_still IsWithin cs i (with_state c s end) tidy.within within })
 
 pub place_within : (all cs : List Controller) (i : ℕ) → all ≡ cs → i < length all → i < length cs
 place_within all cs i same lt = subst (λ xs. i < length xs) same lt
@@ -51,3 +52,30 @@ pub found_at : (all cs : List Controller) (name : Name) (i : ℕ) (c : Controlle
     → find (λ (r : Replica). bytes_eq r.name name) (map replica_of cs) ≡ Some (replica_of c)
 found_at all cs name i c same at found =
     subst (λ xs. find (λ (r : Replica). bytes_eq r.name name) (map replica_of xs) ≡ option_map replica_of (slice_get xs i)) same found ∙ ap (λ o. option_map replica_of o) at
+
+module _ (w : World) (c : Controller) (p : Pending) (o : Outcome) where
+  -- a log that has no room
+  pub full_so : nat_lt log_limit (log_after c.log_end p.change) ≡ true → commit w (replica_of c) p o ≡ (w, full Log log_limit)
+  full_so beyond = ap (λ x. if x then (w, full Log log_limit) else committed w (replica_of c) p o) beyond
+
+  -- and one that has it
+  pub commit_so : nat_lt log_limit (log_after c.log_end p.change) ≡ false → commit w (replica_of c) p o ≡ (with_commit w c.name c.state p (log_after c.log_end p.change), o)
+  commit_so room = ap (λ x. if x then (w, full Log log_limit) else committed w (replica_of c) p o) room
+
+-- where a log ends after a change, if it has room
+pub ends_at : (limit after end : ℕ) → Some end ≡ (if nat_lt limit after then None else Some after) → (nat_lt limit after ≡ false) × (end ≡ after)
+ends_at limit after end is = by (nat_lt limit after) refl is
+  where
+    by : (b : Bool) → nat_lt limit after ≡ b → Some end ≡ cond b None (Some after) → (nat_lt limit after ≡ false) × (end ≡ after)
+    by true t e = absurd (cc)
+    by false t e = (t, (let same : end ≡ after = cc in same))
+
+pub is_beyond : (limit after : ℕ) → None ≡ (if nat_lt limit after then None else Some after) → nat_lt limit after ≡ true
+is_beyond limit after is = by (nat_lt limit after) refl is
+  where
+    by : (b : Bool) → nat_lt limit after ≡ b → None ≡ cond b None (Some after) → nat_lt limit after ≡ true
+    by true t e = t
+    by false t e = absurd (cc)
+
+pub not_beyond : (limit after end : ℕ) → nat_lt limit after ≡ false → end ≡ after → end ≤ limit
+not_beyond limit after end room is = grind (arith, nat_tests)

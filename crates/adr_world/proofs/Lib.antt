@@ -5,3 +5,4 @@ pub mod Calls
 pub mod Sends
 pub mod Turns
 pub mod Bindings
+pub mod Doors

@@ -6,17 +6,16 @@ use Rattle.std.specs.Option.{option_map}
 use Rattle.std.specs.Str.{bytes_eq}
 use Rattle.adr_model.specs.Member.{Member, Each}
 use Rattle.adr_model.specs.Store.{State}
-use Rattle.adr_model.specs.Write.{usn_limit}
-use Rattle.adr_model.specs.Replica.{Replica, on_new_disk}
+use Rattle.adr_model.specs.Replica.{Replica, on_disk}
 use Rattle.adr_model.specs.World.{Name, with_replica}
 use Rattle.adr_model.proofs.Members.{member_of_either}
 use Rattle.adr_convergence.proofs.Found.{same_name, same_name_tests}
 use Rattle.adr_world.specs.declared.controller.Controller.{Controller}
-use Rattle.adr_world.specs.Run.{replica_of, AreApart, IsTidy}
+use Rattle.adr_world.specs.Run.{replica_of, AreApart, IsWithin, IsTidy}
 
--- a controller with another state
-abbrev pub with_state : Controller → State → Controller
-with_state c s = record c { state = s }
+-- a controller with another state, whose log ends here
+abbrev pub with_state : Controller → State → ℕ → Controller
+with_state c s end = record c { state = s; log_end = end }
 
 -- what holds of each, and of the one that comes to a place, still does
 pub each_still : (P : Controller → Type 0) (cs : List Controller) (i : ℕ) (d : Controller) → Each P cs → P d → Each P (slice_set cs i d)
@@ -48,29 +47,29 @@ others_stay (d ∷ ds) r other = by (bytes_eq d.name r.name) refl (others_stay d
     by false is rest = ap (λ rs. replica_of d ∷ rs) rest
 
 -- a new state of the controller at a place is that of the one controller of its name
-pub placed : (cs : List Controller) (i : ℕ) (c : Controller) (s : State) → AreApart cs → slice_get cs i ≡ Some c
-    → map replica_of (slice_set cs i (with_state c s)) ≡ with_replica (map replica_of cs) (on_new_disk c.name s)
-placed [] i c s apart at = absurd (cc)
-placed (d ∷ ds) zero c s apart at = let is : d ≡ c = cc in
+pub placed : (cs : List Controller) (i : ℕ) (c : Controller) (s : State) (end : ℕ) → AreApart cs → slice_get cs i ≡ Some c
+    → map replica_of (slice_set cs i (with_state c s end)) ≡ with_replica (map replica_of cs) (on_disk c.name s end)
+placed [] i c s end apart at = absurd (cc)
+placed (d ∷ ds) zero c s end apart at = let is : d ≡ c = cc in
     sym (
-    ap (λ b. cond b (on_new_disk c.name s) (replica_of d) ∷ with_replica (map replica_of ds) (on_new_disk c.name s)) (same_name_tests d.name c.name (ap (λ e. e.name) is))
-    ∙ ap (λ rs. on_new_disk c.name s ∷ rs) (others_stay ds (on_new_disk c.name s) (subst (λ n. Each (λ (e : Controller). n ≢ e.name) ds) (ap (λ e. e.name) is) apart.0))
+    ap (λ b. cond b (on_disk c.name s end) (replica_of d) ∷ with_replica (map replica_of ds) (on_disk c.name s end)) (same_name_tests d.name c.name (ap (λ e. e.name) is))
+    ∙ ap (λ rs. on_disk c.name s end ∷ rs) (others_stay ds (on_disk c.name s end) (subst (λ n. Each (λ (e : Controller). n ≢ e.name) ds) (ap (λ e. e.name) is) apart.0))
     )
-placed (d ∷ ds) (suc i) c s apart at = ap (λ rs. replica_of d ∷ rs) (placed ds i c s apart.1 at)
-    ∙ ap (λ b. cond b (on_new_disk c.name s) (replica_of d) ∷ with_replica (map replica_of ds) (on_new_disk c.name s)) (sym (differs (bytes_eq d.name c.name) refl))
+placed (d ∷ ds) (suc i) c s end apart at = ap (λ rs. replica_of d ∷ rs) (placed ds i c s end apart.1 at)
+    ∙ ap (λ b. cond b (on_disk c.name s end) (replica_of d) ∷ with_replica (map replica_of ds) (on_disk c.name s end)) (sym (differs (bytes_eq d.name c.name) refl))
   where
     differs : (b : Bool) → bytes_eq d.name c.name ≡ b → bytes_eq d.name c.name ≡ false
     differs true is = absurd (apart.0 c (there_at ds i c at) (same_name d.name c.name is))
     differs false is = is
 
 -- names stay apart
-names_still : (n : Name) (cs : List Controller) (i : ℕ) (c : Controller) (s : State) → Each (λ (e : Controller). n ≢ e.name) cs → slice_get cs i ≡ Some c → Each (λ (e : Controller). n ≢ e.name) (slice_set cs i (with_state c s))
-names_still n cs i c s other at = each_still (λ (e : Controller). n ≢ e.name) cs i (with_state c s) other (other c (there_at cs i c at))
+names_still : (n : Name) (cs : List Controller) (i : ℕ) (c : Controller) (s : State) (end : ℕ) → Each (λ (e : Controller). n ≢ e.name) cs → slice_get cs i ≡ Some c → Each (λ (e : Controller). n ≢ e.name) (slice_set cs i (with_state c s end))
+names_still n cs i c s end other at = each_still (λ (e : Controller). n ≢ e.name) cs i (with_state c s end) other (other c (there_at cs i c at))
 
-pub apart_still : (cs : List Controller) (i : ℕ) (c : Controller) (s : State) → AreApart cs → slice_get cs i ≡ Some c → AreApart (slice_set cs i (with_state c s))
-apart_still [] i c s apart at = tt
-apart_still (d ∷ ds) zero c s apart at = let is : d ≡ c = cc in (subst (λ n. Each (λ (e : Controller). n ≢ e.name) ds) (ap (λ e. e.name) is) apart.0, apart.1)
-apart_still (d ∷ ds) (suc i) c s apart at = (names_still d.name ds i c s apart.0 at, apart_still ds i c s apart.1 at)
+pub apart_still : (cs : List Controller) (i : ℕ) (c : Controller) (s : State) (end : ℕ) → AreApart cs → slice_get cs i ≡ Some c → AreApart (slice_set cs i (with_state c s end))
+apart_still [] i c s end apart at = tt
+apart_still (d ∷ ds) zero c s end apart at = let is : d ≡ c = cc in (subst (λ n. Each (λ (e : Controller). n ≢ e.name) ds) (ap (λ e. e.name) is) apart.0, apart.1)
+apart_still (d ∷ ds) (suc i) c s end apart at = (names_still d.name ds i c s end apart.0 at, apart_still ds i c s end apart.1 at)
 
 -- one more controller, of a new name
 pub apart_more : (cs : List Controller) (c : Controller) → AreApart cs → Each (λ (d : Controller). d.name ≢ c.name) cs → AreApart (cs ++ c ∷ [])
@@ -114,13 +113,8 @@ member_replica (d ∷ ds) c (inl e) = inl (ap replica_of e)
 member_replica (d ∷ ds) c (inr m) = inr (member_replica ds c m)
 
 -- one more controller, of a new name
-pub tidy_more : (cs : List Controller) (n : Name) (s : State) → IsTidy cs → Each (λ (r : Replica). r.name ≢ n) (map replica_of cs) → s.store.usn ≤ usn_limit → IsTidy (cs ++ record { name = n; state = s } ∷ [])
-tidy_more cs n s tidy new within = record {
-  apart = apart_more cs (record { name = n; state = s }) tidy.apart (λ d m. new (replica_of d) (member_replica cs d m));
-  within = each_more (λ (d : Controller). d.state.store.usn ≤ usn_limit) cs (record { name = n; state = s }) tidy.within within;
+pub tidy_more : (cs : List Controller) (c : Controller) → IsTidy cs → Each (λ (r : Replica). r.name ≢ c.name) (map replica_of cs) → IsWithin c → IsTidy (cs ++ c ∷ [])
+tidy_more cs c tidy new within = record {
+  apart = apart_more cs c tidy.apart (λ d m. new (replica_of d) (member_replica cs d m));
+  within = each_more IsWithin cs c tidy.within within;
 }
-
--- where it is put, or isn't
-pub tidy_either : (b : Bool) (cs : List Controller) (c : Controller) → IsTidy cs → IsTidy (cs ++ c ∷ []) → IsTidy (if b then cs ++ c ∷ [] else cs)
-tidy_either true cs c tidy more = more
-tidy_either false cs c tidy more = tidy

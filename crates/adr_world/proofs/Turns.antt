@@ -3,15 +3,8 @@ use Rattle.std.proofs.Common.{◌≡◌, ℕ, suc, ◌+◌, ◌-◌, ◌<◌, Li
 use Rattle.std.specs.Prelude.{codes, OnErr}
 use Rattle.adr_event.specs.declared.answer.Answer.{Answer}
 use Rattle.adr_event.specs.declared.answer.Outcome.TheVariants as outcomes
-use Rattle.adr_event.specs.declared.event.Event.TheVariants as events
-use Rattle.adr_model.specs.Member.{Member}
 use Rattle.adr_model.specs.World.{Name, World, answer}
-use Rattle.adr_model.specs.Cycles.{Pulled, and_then, pull, pulls, cycle}
-use Rattle.adr_model.specs.Sound.{IsSoundWorld}
-use Rattle.adr_model.specs.Convergence.{IsCompleted, AreUnlimited}
-use Rattle.adr_convergence.proofs.Lines.{lines_stay_sound}
-use Rattle.adr_convergence.proofs.Completing.{cycle_ends}
-use Rattle.adr_world.specs.Completes.{IsCompletedBy}
+use Rattle.adr_model.specs.Cycles.{Pulled, and_then, pull, pulls}
 
 pub on_err : {X Y P : Type 0} (r : Result X Y) → P → OnErr r P
 on_err (Ok x) p = tt
@@ -64,24 +57,3 @@ module _ (w : World) (dest source : Name) (max : ℕ) where
   -- an error after so many whole pulls
   pub left_by : (turn : ℕ) (v : World) (told : List Answer) → Ahead turn v told → (n : ℕ) × (v ≡ (pulls n w dest source max).0)
   left_by turn v told ahead = (turn, sym (ap (λ (t : World × List Answer). t.0) (comes_to turn v told ahead)))
-
-  -- what a whole cycle came to
-  module _ (v : World) (all : List Answer) (is : cycle w dest source max ≡ (v, all)) where
-    pub world_is : v ≡ (cycle w dest source max).0
-    world_is = sym (ap (λ (t : World × List Answer). t.0) is)
-
-    pub answers_are : all ≡ (cycle w dest source max).1
-    answers_are = sym (ap (λ (t : World × List Answer). t.1) is)
-
-    pub cycle_sound : IsSoundWorld w → IsSoundWorld v
-    cycle_sound sound = subst (λ (t : World × List Answer). IsSoundWorld t.0) is (lines_stay_sound w (events.Cycle dest source max) sound tt)
-
-    pub completed_by : IsSoundWorld w → IsCompletedBy w dest source max all v
-    completed_by sound d s may d_is s_is most few unlimited =
-        let same : cycle w d.name s.name max ≡ (v, all) = ap (λ (n : Name). cycle w n s.name max) d_is ∙ (ap (λ (n : Name). cycle w dest n max) s_is ∙ is) in
-        let t = cycle_ends w d s max sound may most few (subst (λ (x : World × List Answer). AreUnlimited x.1) (sym same) unlimited) in (
-          t.0,
-          subst (λ (x : World × List Answer). Member t.0 x.0.replicas) same t.1,
-          t.2 ∙ d_is,
-          subst (λ (x : World × List Answer). IsCompleted w d.safe s.safe x.1 t.0.safe) same t.3,
-        )

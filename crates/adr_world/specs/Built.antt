@@ -3,20 +3,24 @@ use Rattle.std.specs.Prelude.{List, [], ◌∷◌}
 use Rattle.adr_event.specs.declared.event.Event.{Event}
 use Rattle.adr_event.specs.declared.event.Event.TheVariants.{Controller, Time, Add, Ask, Serve, Deliver, Pull, Cycle, Show, Vector, Marks}
 
+-- a line that has one answer, and that the code can run
+abbrev pub IsBuiltAlone : Event → Type 0
+IsBuiltAlone (Controller name dsa inv) = Unit {0}
+IsBuiltAlone (Add name guid class parent text values) = Unit {0}
+IsBuiltAlone (Ask name partner max bind) = Unit {0}
+IsBuiltAlone (Serve name request bind) = Unit {0}
+IsBuiltAlone (Deliver name reply) = Unit {0}
+IsBuiltAlone (Show name) = Unit {0}
+IsBuiltAlone (Vector name) = Unit {0}
+IsBuiltAlone (Marks name) = Unit {0}
+IsBuiltAlone _ = ⊥
+
 -- an event that the code can run
 abbrev pub IsBuilt : Event → Type 0
-IsBuilt (Controller name dsa inv) = Unit {0}
 IsBuilt (Time now) = Unit {0}
-IsBuilt (Add name guid class parent text values) = Unit {0}
-IsBuilt (Ask name partner max bind) = Unit {0}
-IsBuilt (Serve name request bind) = Unit {0}
-IsBuilt (Deliver name reply) = Unit {0}
 IsBuilt (Pull name source max) = Unit {0}
 IsBuilt (Cycle name source max) = Unit {0}
-IsBuilt (Show name) = Unit {0}
-IsBuilt (Vector name) = Unit {0}
-IsBuilt (Marks name) = Unit {0}
-IsBuilt _ = ⊥
+IsBuilt e = IsBuiltAlone e
 
 abbrev pub AreBuilt : List Event → Type 0
 AreBuilt [] = Unit {0}

@@ -1,5 +1,4 @@
 pub mod Run
 pub mod Built
 pub mod Pulls
-pub mod Shows
-pub mod Completes
+pub mod Door

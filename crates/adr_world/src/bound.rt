@@ -1,9 +1,10 @@
 //! What lines bound to names.
 
-ghost use Rattle.std.specs.Prelude.{◌≡◌, OnErr, OnOk};
+ghost use Rattle.std.specs.Prelude.{◌≡◌, IfOk, OnErr, OnOk};
 ghost use Rattle.std.specs.Option.{option_copied};
 ghost use Rattle.adr_model.specs.World.{bound, bound_at};
 
+use adr_packet::Reply;
 use adr_schema::{NoMemory, Text};
 use std::alloc::Global;
 
@@ -17,6 +18,20 @@ pub fn bound_at<'a, M>(list: &'a [(Text, M)], name: &Text) -> Option<&'a M>
         }
     }
     None
+}
+
+/// An equal reply to the one that is bound to a name.
+pub fn copy_bound(
+    alloc: Global,
+    list: &[(Text, Reply)],
+    name: &Text,
+) -> Result<Option<Reply>, NoMemory>
+    ensures { IfOk result (λ copy. copy ≡ bound_at list.now name.now) }
+{
+    match bound_at(list, name) {
+        Some(reply) => Ok(Some(reply.copy(alloc)?)),
+        None => Ok(None),
+    }
 }
 
 /// Binds a message to a name, if there is one.

@@ -1,13 +1,16 @@
-//! New controllers, and the time.
+//! New controllers.
 
-ghost use Rattle.std.specs.Prelude.{◌≡◌, IfOk, OnErr};
-ghost use Rattle.adr_event.specs.declared.event.Event.TheVariants.{Controller as NewController, Time};
+ghost use Rattle.std.specs.Prelude.{◌≡◌, ◌+◌, ◌≤◌, ◌++◌, ◌∷◌, [], vec_len, IfOk, OnErr};
+ghost use Rattle.std.specs.Vec.{vec_capacity};
+ghost use Rattle.adr_event.specs.declared.event.Event.TheVariants.{Controller as NewController};
 ghost use Rattle.adr_model.specs.Convergence.{IsNewName};
+ghost use Rattle.adr_model.specs.Lengths.{log_of};
+ghost use Rattle.adr_model.specs.Replica.{begun};
+ghost use Rattle.adr_model.specs.Step.{gives, step};
 ghost use Rattle.adr_model.specs.Store.{empty_state};
-ghost use Rattle.adr_model.specs.World.{step};
-ghost use Rattle.adr_world.specs.Run.{IsTidy, world_of};
+ghost use Rattle.adr_world.specs.Run.{IsTidy, replica_of, world_of};
 
-use crate::answers::{answer, silent};
+use crate::answers::answer;
 use crate::controller::Controller;
 use crate::run::Run;
 use adr_event::{Answer, Outcome};
@@ -19,9 +22,13 @@ use uuid::Uuid;
 /// The number of the schema that new controllers have.
 const FIRST_SCHEMA: u32 = 1;
 
+/// Where the log of a new controller ends, in bytes.
+const FIRST_END: u64 = 82;
+
 /// A new, empty controller.
 fn new_state(alloc: Global, dsa: Uuid, inv: Uuid) -> State
-    ensures { result ≡ empty_state dsa inv }
+    ensures empty { result ≡ empty_state dsa inv }
+    ensures log { log_of result ≡ 82 }
 {
     match Schema::new(FIRST_SCHEMA) {
         Some(schema) => State::new(alloc, dsa, inv, schema),
@@ -30,18 +37,6 @@ fn new_state(alloc: Global, dsa: Uuid, inv: Uuid) -> State
 }
 
 impl Run {
-    /// The time of the events that follow.
-    pub fn time(&mut self, alloc: Global, now: u64) -> Result<Answer, NoMemory>
-        requires { IsTidy self.old.controllers.items }
-        ensures stepped { IfOk result (λ made. step (world_of self.old) (Time now) ≡ (world_of self.new, made)) }
-        ensures err { OnErr result (world_of self.new ≡ world_of self.old) }
-        ensures tidy { IsTidy self.new.controllers.items }
-    {
-        let made = silent(alloc, "time")?;
-        self.time = now;
-        Ok(made)
-    }
-
     /// A new, empty controller comes, under a new name.
     pub fn controller(
         &mut self,
@@ -52,20 +47,31 @@ impl Run {
     ) -> Result<Answer, NoMemory>
         requires tidy { IsTidy self.old.controllers.items }
         requires new { IsNewName (world_of self.old) name.now }
-        ensures stepped { IfOk result (λ made. step (world_of self.old) (NewController name.now dsa inv) ≡ (world_of self.new, made)) }
+        ensures stepped { IfOk result (λ made. step (world_of self.old) (NewController name.now dsa inv) ≡ (world_of self.new, made ∷ [])) }
         ensures err { OnErr result (world_of self.new ≡ world_of self.old) }
         ensures tidy { IsTidy self.new.controllers.items }
     {
         let made = answer(alloc, "controller", name, Outcome::Ok)?;
         let name = name.copy(alloc)?;
-        let state = new_state(alloc, dsa, inv);
-        self.dsas.reserve(1)?;
-        self.invs.reserve(1)?;
         self.controllers.reserve(1)?;
-        self.book.begin(&state, alloc)?;
-        let _ = self.dsas.push(dsa);
-        let _ = self.invs.push(inv);
-        let _ = self.controllers.push(Controller { name, state });
+        self.begin(Controller {
+            name,
+            state: new_state(alloc, dsa, inv),
+            log_end: FIRST_END,
+        });
         Ok(made)
+    }
+
+    /// A controller comes, where there is room for it.
+    fn begin(&mut self, controller: Controller)
+        requires { vec_len self.old.controllers + 1 ≤ vec_capacity self.old.controllers }
+        ensures world { let v = gives (world_of self.old) (controller.state.dsa ∷ []) (controller.state.inv ∷ []) in
+            world_of self.new ≡ record v { scene = begun v.scene controller.state; replicas = v.replicas ++ replica_of controller ∷ [] } }
+        ensures items { self.new.controllers.items ≡ self.old.controllers.items ++ controller ∷ [] }
+    {
+        self.book.begin(&controller.state);
+        self.given
+            .give(controller.state.dsa(), controller.state.inv());
+        let _ = self.controllers.push(controller);
     }
 }

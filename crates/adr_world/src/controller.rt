@@ -1,19 +1,41 @@
 //! Controllers by their names.
 
-ghost use Rattle.std.specs.Prelude.{◌≡◌, ◌<◌, None, length, map, slice_get, IfNone, IfSome, IsSome};
+ghost use Rattle.std.specs.Prelude.{◌≡◌, ◌<◌, None, length, map, slice_get, IfNone, IfSome, OnErr, OnOk};
 ghost use Rattle.std.specs.List.{find};
 ghost use Rattle.std.specs.Option.{option_copied, option_map};
 ghost use Rattle.std.specs.Str.{bytes_eq};
+ghost use Rattle.adr_model.specs.Change.{after};
+ghost use Rattle.adr_state.specs.Refusal.{IsOverfull};
 ghost use Rattle.adr_world.specs.Run.{replica_of};
 
-use adr_schema::Text;
-use adr_state::State;
+use adr_schema::{NoMemory, Text};
+use adr_state::{ApplyRefusal, Change, State};
+use std::alloc::AllocError;
 
-/// A controller under the name that a line gave it.
-#[derive(Debug, Drop)]
+/// A controller under the name that a line gave it. The end of its log is in bytes.
+#[derive(Drop)]
 pub struct Controller {
     pub name: Text,
     pub state: State,
+    pub log_end: u64,
+}
+
+impl Controller {
+    /// Applies a change that fits, behind which the log ends here.
+    pub fn apply(&mut self, change: &Change, end: u64) -> Result<(), NoMemory>
+        requires { ¬ IsOverfull (after self.old.state change.now) }
+        ensures ok { OnOk result (self.new ≡ record self.old { state = after self.old.state change.now; log_end = end }) }
+        ensures err { OnErr result (self.new ≡ self.old) }
+    {
+        match self.state.apply(change) {
+            Ok(()) => {
+                self.log_end = end;
+                Ok(())
+            }
+            Err(ApplyRefusal::Full) => unreachable!(),
+            Err(ApplyRefusal::NoMemory) => Err(AllocError),
+        }
+    }
 }
 
 /// Where the controller of a name stands.

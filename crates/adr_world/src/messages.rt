@@ -1,24 +1,47 @@
 //! Requests and replies.
 
-ghost use Rattle.std.specs.Prelude.{◌≡◌, Some, IfOk, IfSome};
-ghost use Rattle.std.specs.Option.{option_copied};
-ghost use Rattle.adr_model.specs.Sound.{IsSoundRequest, IsSoundWorld};
+ghost use Rattle.std.specs.Prelude.{◌≡◌, ◌∷◌, [], Some, IfOk, OnErr};
+ghost use Rattle.adr_event.specs.declared.event.Event.TheVariants.{Ask, Serve};
+ghost use Rattle.adr_model.specs.Sound.{IsSoundRequest};
+ghost use Rattle.adr_model.specs.Step.{step};
 ghost use Rattle.adr_model.specs.World.{asks, serves_request};
-ghost use Rattle.adr_world.specs.Run.{world_of};
+ghost use Rattle.adr_world.specs.Run.{IsSoundRun, IsTidy, world_of};
 
-use crate::answers::serve_refused;
+use crate::answers::answer;
+use crate::bound::{bind, bound_at};
 use crate::controller::controller_of;
 use crate::counts::served;
+use crate::refused::serve_refused;
 use crate::run::Run;
-use adr_cycle::{ServeFault, ask, serve};
-use adr_event::Outcome;
+use adr_cycle::{ask, serve};
+use adr_event::{Answer, Failure, Outcome};
 use adr_packet::{Reply, Request};
 use adr_schema::{NoMemory, Text};
 use std::alloc::{AllocError, Global};
 
 impl Run {
-    /// A controller asks a partner: what is answered, and the request if there is one.
-    pub fn asks(
+    /// A controller asks a partner; the request is bound to a name.
+    pub fn ask(
+        &mut self,
+        alloc: Global,
+        name: &Text,
+        partner: &Text,
+        max: u32,
+        bound: &Text,
+    ) -> Result<Answer, NoMemory>
+        requires { IsTidy self.old.controllers.items }
+        ensures stepped { IfOk result (λ made. step (world_of self.old) (Ask name.now partner.now max bound.now) ≡ (world_of self.new, made ∷ [])) }
+        ensures err { OnErr result (world_of self.new ≡ world_of self.old) }
+        ensures tidy { IsTidy self.new.controllers.items }
+    {
+        let (outcome, request) = self.request(alloc, name, partner, max)?;
+        let made = answer(alloc, "ask", name, outcome)?;
+        bind(alloc, &mut self.requests, bound, request)?;
+        Ok(made)
+    }
+
+    /// What a controller that asks a partner is answered, and the request if there is one.
+    pub fn request(
         &self,
         alloc: Global,
         name: &Text,
@@ -37,15 +60,37 @@ impl Run {
         Ok((Outcome::Ok, Some(request)))
     }
 
-    /// A controller answers a request: what is answered, and the reply if it isn't refused. In a sound world no controller
-    /// finds that it was put back.
-    fn serves_request(
+    /// A controller answers a request that was bound to a name; the reply is bound to another.
+    pub fn serve(
+        &mut self,
+        alloc: Global,
+        name: &Text,
+        request: &Text,
+        bound: &Text,
+    ) -> Result<Answer, NoMemory>
+        requires { IsSoundRun self.old }
+        ensures stepped { IfOk result (λ made. step (world_of self.old) (Serve name.now request.now bound.now) ≡ (world_of self.new, made ∷ [])) }
+        ensures err { OnErr result (world_of self.new ≡ world_of self.old) }
+        ensures tidy { IsTidy self.new.controllers.items }
+    {
+        let Some(request) = bound_at(self.requests.as_slice(), request) else {
+            return answer(alloc, "serve", name, Outcome::Absent);
+        };
+        let (outcome, reply) = self.reply(alloc, name, request)?;
+        let made = answer(alloc, "serve", name, outcome)?;
+        bind(alloc, &mut self.replies, bound, reply)?;
+        Ok(made)
+    }
+
+    /// What comes of a request, and the reply if it isn't refused. In a sound world no controller finds that it was put
+    /// back.
+    pub fn reply(
         &self,
         alloc: Global,
         name: &Text,
         request: &Request,
     ) -> Result<(Outcome, Option<Reply>), NoMemory>
-        requires sound { IsSoundWorld (world_of self.now) }
+        requires sound { IsSoundRun self.now }
         requires request { IsSoundRequest (world_of self.now).scene request.now }
         ensures { IfOk result (λ sent. serves_request (world_of self.now) name.now (Some request.now) ≡ (world_of self.now, sent.0, sent.1)) }
     {
@@ -54,25 +99,8 @@ impl Run {
         };
         match serve(&controller.state, request, alloc) {
             Ok(reply) => Ok((served(&reply)?, Some(reply))),
-            Err(ServeFault::Refused(refusal)) => Ok((serve_refused(alloc, refusal)?, None)),
-            Err(ServeFault::NoMemory) => Err(AllocError),
-        }
-    }
-
-    /// A controller answers a request, if there is one.
-    pub fn serves(
-        &self,
-        alloc: Global,
-        name: &Text,
-        request: Option<&Request>,
-    ) -> Result<(Outcome, Option<Reply>), NoMemory>
-        requires sound { IsSoundWorld (world_of self.now) }
-        requires request { IfSome (option_copied request) (IsSoundRequest (world_of self.now).scene) }
-        ensures { IfOk result (λ sent. serves_request (world_of self.now) name.now (option_copied request.entry) ≡ (world_of self.now, sent.0, sent.1)) }
-    {
-        match request {
-            Some(request) => self.serves_request(alloc, name, request),
-            None => Ok((Outcome::Absent, None)),
+            Err(Failure::Refused(refusal)) => Ok((serve_refused(alloc, refusal)?, None)),
+            Err(Failure::NoMemory) => Err(AllocError),
         }
     }
 }

@@ -1,22 +1,27 @@
 //! Pulls.
 
-ghost use Rattle.std.specs.Prelude.{◌≡◌, ◌++◌, ◌+◌, ◌∷◌, ◌≤◌, [], Some, vec_len, IfOk, OnErr};
+ghost use Rattle.std.specs.Prelude.{◌≡◌, ◌++◌, ◌+◌, ◌∷◌, ◌≤◌, ℕ, [], Some, vec_len, IfOk, OnErr, OnOk};
 ghost use Rattle.std.specs.Option.{option_to_list};
 ghost use Rattle.std.specs.Vec.{vec_capacity};
-ghost use Rattle.adr_model.specs.Cycles.{pull, pull_asked, pull_served, was_taken};
+ghost use Rattle.adr_event.specs.declared.event.Event.TheVariants.{Cycle, Pull};
+ghost use Rattle.adr_model.specs.Cycles.{pull, pull_asked, pull_served, pulls, was_taken};
 ghost use Rattle.adr_model.specs.Sound.{IsGiven, IsSoundReply, IsSoundRequest};
+ghost use Rattle.adr_model.specs.Step.{step};
 ghost use Rattle.adr_world.specs.Pulls.{answers_of, pulled_of};
 ghost use Rattle.adr_world.specs.Run.{IsSoundRun, IsTidy, world_of};
 
-use crate::answers::answer;
+use crate::answers::{Heading, answer};
 use crate::run::Run;
 use adr_event::{Answer, Outcome};
 use adr_packet::{Reply, Request};
 use adr_schema::{NoMemory, Text};
 use std::alloc::Global;
 
+/// The most replies of a cycle.
+const REPLY_LIMIT: u32 = 1_000_000;
+
 /// What was answered to a pull, and whether a reply was taken that isn't the last.
-#[derive(Debug, Drop)]
+#[derive(Drop)]
 pub struct Pulled {
     pub asked: Answer,
     pub served: Option<Answer>,
@@ -40,7 +45,7 @@ fn put_some(answers: &mut Vec<Answer>, answer: Option<Answer>)
 }
 
 /// Adds the answers of a pull where there is room for them.
-pub fn put_answers(answers: &mut Vec<Answer>, pulled: Pulled)
+fn put_answers(answers: &mut Vec<Answer>, pulled: Pulled)
     requires { vec_len answers.old + 3 ≤ vec_capacity answers.old }
     ensures { answers.new.items ≡ answers.old.items ++ answers_of pulled }
 {
@@ -70,14 +75,16 @@ impl Run {
         reply: &Reply,
     ) -> Result<(Answer, bool), NoMemory>
         requires sound { IsSoundRun self.old }
-        requires reply { IsSoundReply (world_of self.old).scene reply.now × IsGiven (world_of self.old) reply.now.inv }
+        requires reply { IsSoundReply (world_of self.old).scene reply.now }
+        requires given { IsGiven (world_of self.old) reply.now.inv }
         ensures pulled { IfOk result (λ told. pull_served dest.now (world_of self.old) (Some reply.now) ≡ (world_of self.new, told.0 ∷ [], told.1)) }
         ensures err { OnErr result (world_of self.new ≡ world_of self.old) }
         ensures tidy { IsTidy self.new.controllers.items }
     {
-        let delivered = self.delivers(alloc, dest, Some(reply))?;
-        let goes_on = was_taken(&delivered.outcome) && reply.last().is_none();
-        Ok((delivered, goes_on))
+        let heading = Heading::new(alloc, "deliver", dest)?;
+        let outcome = self.take(alloc, dest, reply)?;
+        let goes_on = was_taken(&outcome) && reply.last().is_none();
+        Ok((heading.of(outcome), goes_on))
     }
 
     /// The pull of a request that was made. The source's answer comes first.
@@ -94,7 +101,7 @@ impl Run {
         ensures err { OnErr result (world_of self.new ≡ world_of self.old) }
         ensures tidy { IsTidy self.new.controllers.items }
     {
-        let (outcome, reply) = self.serves(alloc, source, Some(request))?;
+        let (outcome, reply) = self.reply(alloc, source, request)?;
         let served = answer(alloc, "serve", source, outcome)?;
         match reply {
             None => Ok((served, None, false)),
@@ -106,7 +113,7 @@ impl Run {
     }
 
     /// A controller asks another one, which serves, and it takes the reply. An answer other than ok ends it.
-    pub fn pull(
+    fn pull_once(
         &mut self,
         alloc: Global,
         dest: &Text,
@@ -118,7 +125,7 @@ impl Run {
         ensures err { OnErr result (world_of self.new ≡ world_of self.old) }
         ensures tidy { IsTidy self.new.controllers.items }
     {
-        let (outcome, request) = self.asks(alloc, dest, source, max)?;
+        let (outcome, request) = self.request(alloc, dest, source, max)?;
         let asked = answer(alloc, "ask", dest, outcome)?;
         let Some(request) = request else {
             return Ok(Pulled {
@@ -135,5 +142,70 @@ impl Run {
             delivered,
             goes_on,
         })
+    }
+
+    /// A pull, whose answers are put behind others. It gives whether a reply was taken that isn't the last.
+    fn pull_onto(
+        &mut self,
+        alloc: Global,
+        dest: &Text,
+        source: &Text,
+        max: u32,
+        answers: &mut Vec<Answer>,
+    ) -> Result<bool, NoMemory>
+        requires { IsSoundRun self.old }
+        ensures world { OnOk result (world_of self.new ≡ (pull (world_of self.old) dest.now source.now max).0) }
+        ensures answers { OnOk result (answers.new.items ≡ answers.old.items ++ (pull (world_of self.old) dest.now source.now max).1) }
+        ensures goes_on { IfOk result (λ goes_on. goes_on ≡ (pull (world_of self.old) dest.now source.now max).2) }
+        ensures err { OnErr result (world_of self.new ≡ world_of self.old) }
+        ensures tidy { IsTidy self.new.controllers.items }
+    {
+        answers.reserve(3)?;
+        let pulled = self.pull_once(alloc, dest, source, max)?;
+        let goes_on = pulled.goes_on;
+        put_answers(answers, pulled);
+        Ok(goes_on)
+    }
+
+    /// The line of a pull.
+    pub fn pull(
+        &mut self,
+        alloc: Global,
+        dest: &Text,
+        source: &Text,
+        max: u32,
+    ) -> Result<Vec<Answer>, NoMemory>
+        requires { IsSoundRun self.old }
+        ensures stepped { IfOk result (λ answers. step (world_of self.old) (Pull dest.now source.now max) ≡ (world_of self.new, answers.items)) }
+        ensures err { OnErr result (world_of self.new ≡ world_of self.old) }
+        ensures tidy { IsTidy self.new.controllers.items }
+    {
+        let mut answers = Vec::new(alloc);
+        self.pull_onto(alloc, dest, source, max, &mut answers)?;
+        Ok(answers)
+    }
+
+    /// The line of a cycle: pulls until the last reply was taken, or an answer was other than ok; after a million replies
+    /// it says that there is more.
+    pub fn cycle(
+        &mut self,
+        alloc: Global,
+        dest: &Text,
+        source: &Text,
+        max: u32,
+    ) -> Result<Vec<Answer>, NoMemory>
+        requires { IsSoundRun self.old }
+        ensures stepped { IfOk result (λ answers. step (world_of self.old) (Cycle dest.now source.now max) ≡ (world_of self.new, answers.items)) }
+        ensures err { OnErr result ((n : ℕ) × (world_of self.new ≡ (pulls n (world_of self.old) dest.now source.now max).0)) }
+        ensures tidy { IsTidy self.new.controllers.items }
+    {
+        let mut answers = Vec::new(alloc);
+        for turn in 0..REPLY_LIMIT {
+            if !self.pull_onto(alloc, dest, source, max, &mut answers)? {
+                return Ok(answers);
+            }
+        }
+        answers.push(answer(alloc, "cycle", dest, Outcome::More)?)?;
+        Ok(answers)
     }
 }

@@ -1,19 +1,17 @@
 //! What controllers tell.
 
-ghost use Rattle.std.specs.Prelude.{◌≡◌, map, option_map, IfOk};
+ghost use Rattle.std.specs.Prelude.{◌≡◌, ◌∷◌, [], map, IfOk};
 ghost use Rattle.adr_event.specs.declared.event.Event.TheVariants.{Show, Vector as TellVector, Marks as TellMarks};
 ghost use Rattle.adr_model.specs.Store.{Kept as IsKept};
 ghost use Rattle.adr_model.specs.Update.{Identifier};
-ghost use Rattle.adr_model.specs.Convergence.{in_view};
-ghost use Rattle.adr_model.specs.Directory.{directory};
-ghost use Rattle.adr_model.specs.Sound.{IsSoundWorld};
-ghost use Rattle.adr_model.specs.World.{marks_shown, of_controller, replica_at, shown, stays, step};
-ghost use Rattle.adr_world.specs.Run.{replica_of, world_of};
+ghost use Rattle.adr_model.specs.Step.{step};
+ghost use Rattle.adr_model.specs.World.{marks_shown, of_controller, shown, stays};
+ghost use Rattle.adr_world.specs.Run.{IsSoundRun, world_of};
 
 use crate::answers::answer;
 use crate::controller::controller_of;
 use crate::run::Run;
-use adr_event::{Answer, Directory, Outcome, PartnerMarks};
+use adr_event::{Answer, Outcome, PartnerMarks};
 use adr_schema::{NoMemory, Text};
 use adr_state::Marks;
 use adr_view::{directory, formed_rows_have_back_links};
@@ -31,33 +29,22 @@ fn partner_marks(alloc: Global, marks: &Marks) -> Result<PartnerMarks, NoMemory>
 }
 
 impl Run {
-    /// The directory that a controller shows, if there is one of the name.
-    pub fn directory(&self, alloc: Global, name: &Text) -> Result<Option<Directory>, NoMemory>
-        requires { IsSoundWorld (world_of self.now) }
-        ensures { IfOk result (λ shown. shown ≡ option_map (λ r. directory (in_view (world_of self.now) r)) (replica_at (world_of self.now) name.now)) }
-    {
-        let Some(controller) = controller_of(self.controllers.as_slice(), name) else {
-            return Ok(None);
-        };
-        formed_rows_have_back_links();
-        Ok(Some(directory(controller.state.rows(), alloc)?))
-    }
-
     /// What is answered where a client asks for the directory.
     fn directory_told(&self, alloc: Global, name: &Text) -> Result<Outcome, NoMemory>
-        requires { IsSoundWorld (world_of self.now) }
+        requires { IsSoundRun self.now }
         ensures { IfOk result (λ outcome. of_controller (world_of self.now) name.now (stays (world_of self.now)) (λ r. (world_of self.now, Outcome.Show (shown (world_of self.now) r.safe))) ≡ (world_of self.now, outcome)) }
     {
-        match self.directory(alloc, name)? {
-            Some(directory) => Ok(Outcome::Show(directory)),
-            None => Ok(Outcome::Absent),
-        }
+        let Some(controller) = controller_of(self.controllers.as_slice(), name) else {
+            return Ok(Outcome::Absent);
+        };
+        formed_rows_have_back_links();
+        Ok(Outcome::Show(directory(controller.state.rows(), alloc)?))
     }
 
     /// A client asks for the directory.
     pub fn show(&self, alloc: Global, name: &Text) -> Result<Answer, NoMemory>
-        requires { IsSoundWorld (world_of self.now) }
-        ensures { IfOk result (λ made. step (world_of self.now) (Show name.now) ≡ (world_of self.now, made)) }
+        requires { IsSoundRun self.now }
+        ensures { IfOk result (λ made. step (world_of self.now) (Show name.now) ≡ (world_of self.now, made ∷ [])) }
     {
         answer(alloc, "show", name, self.directory_told(alloc, name)?)
     }
@@ -74,7 +61,7 @@ impl Run {
 
     /// A client asks what the controller has seen.
     pub fn vector(&self, alloc: Global, name: &Text) -> Result<Answer, NoMemory>
-        ensures { IfOk result (λ made. step (world_of self.now) (TellVector name.now) ≡ (world_of self.now, made)) }
+        ensures { IfOk result (λ made. step (world_of self.now) (TellVector name.now) ≡ (world_of self.now, made ∷ [])) }
     {
         answer(alloc, "vector", name, self.vector_told(alloc, name)?)
     }
@@ -91,7 +78,7 @@ impl Run {
 
     /// A client asks how far the controller has read its partners.
     pub fn marks(&self, alloc: Global, name: &Text) -> Result<Answer, NoMemory>
-        ensures { IfOk result (λ made. step (world_of self.now) (TellMarks name.now) ≡ (world_of self.now, made)) }
+        ensures { IfOk result (λ made. step (world_of self.now) (TellMarks name.now) ≡ (world_of self.now, made ∷ [])) }
     {
         answer(alloc, "marks", name, self.marks_told(alloc, name)?)
     }

@@ -1,45 +1,33 @@
 //! Where a run stands.
 
-ghost use Rattle.std.specs.Prelude.{◌≡◌, ◌<◌, ◌≤◌, [], Some, length, slice_get, OnErr, OnOk, IfOk, if◌then◌else◌};
+ghost use Rattle.std.specs.Prelude.{◌≡◌, ◌<◌, ◌≤◌, ℕ, [], Some, false, length, nat_lt, slice_get, OnErr, OnOk, IfOk, if◌then◌else◌};
 ghost use Rattle.adr_model.specs.Change.{after, updates_written};
+ghost use Rattle.adr_model.specs.Lengths.{log_after, log_limit};
 ghost use Rattle.adr_model.specs.Replica.{Call, issued_by};
-ghost use Rattle.adr_model.specs.World.{empty_world};
+ghost use Rattle.adr_model.specs.World.{commit, empty_world};
 ghost use Rattle.adr_model.specs.Write.{usn_limit};
 ghost use Rattle.adr_state.specs.Refusal.{IsOverfull};
 ghost use Rattle.adr_world.specs.declared.controller.Controller.{Controller as Held};
-ghost use Rattle.adr_world.specs.Run.{IsTidy, with_commit, world_of};
+ghost use Rattle.adr_world.specs.Run.{IsTidy, replica_of, with_commit, world_of};
 
 use crate::controller::Controller;
-use adr_book::Book;
+use crate::refused::full;
+use adr_book::{Book, Identifiers};
+use adr_event::{Outcome, Table};
 use adr_packet::{Reply, Request};
 use adr_schema::{NoMemory, Text};
-use adr_state::{ApplyRefusal, Change, State};
-use std::alloc::{AllocError, Global};
-use uuid::Uuid;
+use adr_state::{Change, LOG_LIMIT, log_after};
+use std::alloc::Global;
 
 /// The time, the book, the controllers, the messages that lines bound to names, and the identifiers that they gave.
-#[derive(Debug, Drop)]
+#[derive(Drop)]
 pub struct Run {
     pub time: u64,
     pub book: Book,
     pub controllers: Vec<Controller>,
     pub requests: Vec<(Text, Request)>,
     pub replies: Vec<(Text, Reply)>,
-    pub dsas: Vec<Uuid>,
-    pub invs: Vec<Uuid>,
-}
-
-/// A state after a change that fits into it.
-fn state_after(alloc: Global, state: &State, change: &Change) -> Result<State, NoMemory>
-    requires { ¬ IsOverfull (after state.now change.now) }
-    ensures { IfOk result (λ next. next ≡ after state.now change.now) }
-{
-    let mut next = state.copy(alloc)?;
-    match next.apply(change) {
-        Ok(()) => Ok(next),
-        Err(ApplyRefusal::Full) => unreachable!(),
-        Err(ApplyRefusal::NoMemory) => Err(AllocError),
-    }
+    pub given: Identifiers,
 }
 
 impl Run {
@@ -50,42 +38,57 @@ impl Run {
     {
         Run {
             time: 0,
-            book: Book::new(alloc),
+            book: Book::new(),
             controllers: Vec::new(alloc),
             requests: Vec::new(alloc),
             replies: Vec::new(alloc),
-            dsas: Vec::new(alloc),
-            invs: Vec::new(alloc),
+            given: Identifiers::new(),
         }
     }
 
-    /// Whether no database was put back: no line does so yet.
-    pub fn clean(&self) -> bool
-        ensures { result ≡ (world_of self.now).clean }
-    {
-        true
-    }
-
-    /// Commits a change of the controller at a place. A client's write is issued with it.
+    /// Commits a change of the controller at a place, a client's write with what it issues: what is answered. A change
+    /// that its log has no room for changes nothing.
     pub fn commit(
         &mut self,
         alloc: Global,
         place: usize,
-        change: Change,
+        change: &Change,
         is_write: bool,
-    ) -> Result<(), NoMemory>
+        done: Outcome,
+    ) -> Result<Outcome, NoMemory>
         requires place { place < length self.old.controllers.items }
         requires tidy { IsTidy self.old.controllers.items }
-        requires within { change.usn ≤ usn_limit }
-        requires fits { (c : Held) → slice_get self.old.controllers.items place ≡ Some c → ¬ IsOverfull (after c.state change) }
-        ensures ok { OnOk result ((c : Held) (call : Call) → slice_get self.old.controllers.items place ≡ Some c → issued_by call change ≡ (if is_write then updates_written change else [])
-            → world_of self.new ≡ with_commit (world_of self.old) c.name c.state (record { call = call; change = change })) }
+        requires within { change.now.usn ≤ usn_limit }
+        requires fits { (c : Held) → slice_get self.old.controllers.items place ≡ Some c → nat_lt log_limit (log_after c.log_end change.now) ≡ false → ¬ IsOverfull (after c.state change.now) }
+        ensures committed { IfOk result (λ told. (c : Held) (call : Call) → slice_get self.old.controllers.items place ≡ Some c → issued_by call change.now ≡ (if is_write then updates_written change.now else [])
+            → commit (world_of self.old) (replica_of c) (record { call = call; change = change.now }) done ≡ (world_of self.new, told)) }
         ensures err { OnErr result (world_of self.new ≡ world_of self.old) }
         ensures tidy { IsTidy self.new.controllers.items }
     {
-        let next = state_after(alloc, &self.controllers[place].state, &change)?;
-        self.book.record(next.inv(), change, is_write, alloc)?;
-        self.controllers[place].state = next;
+        match log_after(self.controllers[place].log_end, change) {
+            None => full(alloc, Table::Log, LOG_LIMIT),
+            Some(end) => {
+                self.apply(place, change, is_write, end)?;
+                Ok(done)
+            }
+        }
+    }
+
+    /// Applies a change that fits to the controller at a place, whose log then ends here, and notes it in the book.
+    fn apply(&mut self, place: usize, change: &Change, is_write: bool, end: u64) -> Result<(), NoMemory>
+        requires place { place < length self.old.controllers.items }
+        requires tidy { IsTidy self.old.controllers.items }
+        requires within { change.now.usn ≤ usn_limit }
+        requires ends { end ≤ log_limit }
+        requires fits { (c : Held) → slice_get self.old.controllers.items place ≡ Some c → ¬ IsOverfull (after c.state change.now) }
+        ensures ok { OnOk result ((c : Held) (call : Call) → slice_get self.old.controllers.items place ≡ Some c → issued_by call change.now ≡ (if is_write then updates_written change.now else [])
+            → world_of self.new ≡ with_commit (world_of self.old) c.name c.state (record { call = call; change = change.now }) end) }
+        ensures err { OnErr result (world_of self.new ≡ world_of self.old) }
+        ensures tidy { IsTidy self.new.controllers.items }
+    {
+        let inv = self.controllers[place].state.inv();
+        self.controllers[place].apply(change, end)?;
+        self.book.record(inv, change, is_write);
         Ok(())
     }
 }

@@ -1,68 +1,59 @@
 //! Taking replies.
 
-ghost use Rattle.std.specs.Prelude.{◌≡◌, Some, IfOk, IfSome, OnErr, codes};
-ghost use Rattle.std.specs.Option.{option_copied};
-ghost use Rattle.adr_model.specs.Serve.{Reply as Replies};
+ghost use Rattle.std.specs.Prelude.{◌≡◌, ◌∷◌, [], Some, IfOk, OnErr};
+ghost use Rattle.adr_event.specs.declared.event.Event.TheVariants.{Deliver};
 ghost use Rattle.adr_model.specs.Sound.{IsGiven, IsSoundReply};
-ghost use Rattle.adr_model.specs.World.{delivers, told};
+ghost use Rattle.adr_model.specs.Step.{step};
+ghost use Rattle.adr_model.specs.World.{delivers};
 ghost use Rattle.adr_world.specs.Run.{IsSoundRun, IsTidy, world_of};
 
-use crate::answers::{answer, take_refused};
+use crate::answers::Heading;
+use crate::bound::copy_bound;
 use crate::controller::place_of;
 use crate::counts::took;
+use crate::refused::take_refused;
 use crate::run::Run;
 use adr_apply::take;
-use adr_event::{Answer, Outcome};
+use adr_event::{Answer, Failure, Outcome};
 use adr_packet::Reply;
 use adr_schema::{NoMemory, Text};
-use std::alloc::Global;
+use std::alloc::{AllocError, Global};
 
 impl Run {
-    /// A controller takes a reply. In a sound world no controller finds that it was put back.
-    fn takes(&mut self, alloc: Global, name: &Text, reply: &Reply) -> Result<Answer, NoMemory>
+    /// A controller takes a reply that was bound to a name.
+    pub fn deliver(&mut self, alloc: Global, name: &Text, reply: &Text) -> Result<Answer, NoMemory>
+        requires { IsSoundRun self.old }
+        ensures stepped { IfOk result (λ made. step (world_of self.old) (Deliver name.now reply.now) ≡ (world_of self.new, made ∷ [])) }
+        ensures err { OnErr result (world_of self.new ≡ world_of self.old) }
+        ensures tidy { IsTidy self.new.controllers.items }
+    {
+        let heading = Heading::new(alloc, "deliver", name)?;
+        let Some(reply) = copy_bound(alloc, self.replies.as_slice(), reply)? else {
+            return Ok(heading.of(Outcome::Absent));
+        };
+        let outcome = self.take(alloc, name, &reply)?;
+        Ok(heading.of(outcome))
+    }
+
+    /// What a controller that takes a reply is answered. In a sound world no controller finds that it was put back.
+    pub fn take(&mut self, alloc: Global, name: &Text, reply: &Reply) -> Result<Outcome, NoMemory>
         requires sound { IsSoundRun self.old }
         requires reply { IsSoundReply (world_of self.old).scene reply.now }
         requires given { IsGiven (world_of self.old) reply.now.inv }
-        ensures stepped { IfOk result (λ made. told (codes "deliver") name.now (delivers (world_of self.old) name.now (Some reply.now)) ≡ (world_of self.new, made)) }
+        ensures taken { IfOk result (λ outcome. delivers (world_of self.old) name.now (Some reply.now) ≡ (world_of self.new, outcome)) }
         ensures err { OnErr result (world_of self.new ≡ world_of self.old) }
         ensures tidy { IsTidy self.new.controllers.items }
     {
         let Some(place) = place_of(self.controllers.as_slice(), name) else {
-            return answer(alloc, "deliver", name, Outcome::Absent);
+            return Ok(Outcome::Absent);
         };
         match take(&self.controllers[place].state, reply, alloc) {
             Ok(change) => {
-                let made = answer(alloc, "deliver", name, took(reply, &change)?)?;
-                self.commit(alloc, place, change, false)?;
-                Ok(made)
+                let done = took(reply, &change)?;
+                self.commit(alloc, place, &change, false, done)
             }
-            Err(refusal) => {
-                let outcome = take_refused(alloc, refusal)?;
-                let made = answer(alloc, "deliver", name, outcome)?;
-                Ok(made)
-            }
-        }
-    }
-
-    /// A controller takes a reply, if there is one.
-    pub fn delivers(
-        &mut self,
-        alloc: Global,
-        name: &Text,
-        reply: Option<&Reply>,
-    ) -> Result<Answer, NoMemory>
-        requires sound { IsSoundRun self.old }
-        requires reply { IfSome (option_copied reply) (λ (r : Replies). IsSoundReply (world_of self.old).scene r × IsGiven (world_of self.old) r.inv) }
-        ensures stepped { IfOk result (λ made. told (codes "deliver") name.now (delivers (world_of self.old) name.now (option_copied reply.entry)) ≡ (world_of self.new, made)) }
-        ensures err { OnErr result (world_of self.new ≡ world_of self.old) }
-        ensures tidy { IsTidy self.new.controllers.items }
-    {
-        match reply {
-            Some(reply) => self.takes(alloc, name, reply),
-            None => {
-                let made = answer(alloc, "deliver", name, Outcome::Absent)?;
-                Ok(made)
-            }
+            Err(Failure::Refused(refusal)) => take_refused(alloc, refusal),
+            Err(Failure::NoMemory) => Err(AllocError),
         }
     }
 }

@@ -4,7 +4,7 @@ use Rattle.adr_model.specs.World.{empty_world}
 use Rattle.adr_model.specs.Convergence.{MayAllHappen}
 use Rattle.adr_world.specs.Built.{AreBuilt}
 use Rattle.adr_headline.proofs.Following.{following_may}
-use Rattle.adr_cmd.proofs.TextLemmas.{all_built, headline_of, on_ok}
+use Rattle.adr_cmd.proofs.TextLemmas.{all_built}
 use Rattle.adr_cmd.proofs.top.perform.Goals as goal
 
 pub play-requires-clause-built : goal.play-requires-clause-built
@@ -12,6 +12,3 @@ play-requires-clause-built g c = subst AreBuilt (sym c.as_slice.ensures.value) (
 
 pub play-requires-clause-may : goal.play-requires-clause-may
 play-requires-clause-may g c = subst (MayAllHappen empty_world) (sym c.as_slice.ensures.value) (following_may c.in-Ok.events.items c.in-Ok.ensures.follows)
-
-pub returns-in-Ok-clause-headline : goal.returns-in-Ok-clause-headline
-returns-in-Ok-clause-headline g c = on_ok c.play.result (headline_of c.args.text.now c.in-Ok.events.items c.in-Ok.ensures.ok c.in-Ok.ensures.follows)

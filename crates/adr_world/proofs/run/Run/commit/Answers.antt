@@ -1,21 +1,41 @@
-use Rattle.std.proofs.Common.{◌≡◌, ◌∙◌, refl, sym, ap, subst, ◌≤◌}
-use Rattle.adr_model.specs.Change.{after}
-use Rattle.adr_model.specs.Replica.{recorded}
-use Rattle.adr_model.specs.Write.{usn_limit}
-use Rattle.adr_world.specs.Run.{world_of}
-use Rattle.adr_world.proofs.Commits.{at_place, same_place, is_committed, is_tidy_still}
+use Rattle.std.proofs.Common.{◌∙◌, sym, ap, nat_lt}
+use Rattle.std.proofs.lemmas.Result.{IfOk-weaker}
+use Rattle.adr_model.specs.Lengths.{log_limit, log_after}
+use Rattle.adr_world.specs.Run.{world_of, with_commit}
+use Rattle.adr_world.proofs.Places.{there_at}
+use Rattle.adr_world.proofs.Commits.{at_place, same_place, full_so, commit_so, ends_at, is_beyond, not_beyond}
 use Rattle.adr_world.proofs.run.Run.commit.Goals as goal
 
-pub returns-clause-ok : goal.returns-clause-ok
-returns-clause-ok c h call at issues =
-    let read = same_place c.args.self.now.controllers.items c.args.place h c.index.result.now c.requires.place c.index.ensures at in
-    let written = same_place c.args.self.now.controllers.items c.args.place h c.index_mut.result.now c.requires.place c.index_mut.ensures.value at in
-    is_committed (world_of c.args.self.now) c.args.self.now.controllers.items c.args.place h c.index_mut.result.now.name c.in_ok-next.next c.record.new.self (record { call = call; change = c.args.change })
-    refl c.requires.tidy at (ap (λ d. d.name) written) (c.in_ok-next.ensures ∙ ap (λ d. after d.state c.args.change) read)
-    (c.in_ok-record.ensures.ok call issues ∙ ap (λ i. recorded c.args.self.now.book i (record { call = call; change = c.args.change })) c.inv.ensures)
+pub log_after-requires : goal.log_after-requires
+log_after-requires c =
+    (c.requires.tidy.within c.index.result.now (there_at c.args.self.now.controllers.items c.args.place c.index.result.now
+    (at_place c.args.self.now.controllers.items c.args.place c.index.result.now c.requires.place c.index.ensures))).log
 
-pub returns-clause-tidy : goal.returns-clause-tidy
-returns-clause-tidy c =
-    is_tidy_still c.args.self.now.controllers.items c.args.place c.index_mut.result.now c.index_mut.result.now.name c.in_ok-next.next c.requires.tidy
-    (at_place c.args.self.now.controllers.items c.args.place c.index_mut.result.now c.requires.place c.index_mut.ensures.value) refl
-    (let is : c.in_ok-next.next.store.usn ≡ c.args.change.usn = ap (λ s. s.store.usn) c.in_ok-next.ensures in subst (λ n. n ≤ usn_limit) (sym is) c.requires.within)
+pub apply-requires-clause-ends : goal.apply-requires-clause-ends
+apply-requires-clause-ends c =
+    let t = ends_at log_limit (log_after c.index.result.now.log_end c.args.change.now) c.in-Some.end (sym c.in-Some.is ∙ c.log_after.ensures) in
+    not_beyond log_limit (log_after c.index.result.now.log_end c.args.change.now) c.in-Some.end t.0 t.1
+
+pub apply-requires-clause-fits : goal.apply-requires-clause-fits
+apply-requires-clause-fits c d at =
+    let same = same_place c.args.self.now.controllers.items c.args.place d c.index.result.now c.requires.place c.index.ensures at in
+    let t = ends_at log_limit (log_after c.index.result.now.log_end c.args.change.now) c.in-Some.end (sym c.in-Some.is ∙ c.log_after.ensures) in
+    c.requires.fits d at (ap (λ e. nat_lt log_limit (log_after e.log_end c.args.change.now)) (sym same) ∙ t.0)
+
+pub returns-in-None-clause-committed : goal.returns-in-None-clause-committed
+returns-in-None-clause-committed c =
+    let beyond = is_beyond log_limit (log_after c.index.result.now.log_end c.args.change.now) (sym c.in-None.is ∙ c.log_after.ensures) in
+    IfOk-weaker c.full.result _ _
+    (λ told is d call at issues.
+    let same = same_place c.args.self.now.controllers.items c.args.place d c.index.result.now c.requires.place c.index.ensures at in
+    full_so (world_of c.args.self.now) d (record { call = call; change = c.args.change.now }) c.args.done (ap (λ e. nat_lt log_limit (log_after e.log_end c.args.change.now)) (sym same) ∙ beyond)
+    ∙ ap (λ o. (world_of c.args.self.now, o)) (sym is))
+    c.full.ensures
+
+pub returns-in_ok-apply-in-Some-clause-committed : goal.returns-in_ok-apply-in-Some-clause-committed
+returns-in_ok-apply-in-Some-clause-committed c d call at issues =
+    let same = same_place c.args.self.now.controllers.items c.args.place d c.index.result.now c.requires.place c.index.ensures at in
+    let t = ends_at log_limit (log_after c.index.result.now.log_end c.args.change.now) c.in-Some.end (sym c.in-Some.is ∙ c.log_after.ensures) in
+    commit_so (world_of c.args.self.now) d (record { call = call; change = c.args.change.now }) c.args.done (ap (λ e. nat_lt log_limit (log_after e.log_end c.args.change.now)) (sym same) ∙ t.0)
+    ∙ ap (λ n. (with_commit (world_of c.args.self.now) d.name d.state (record { call = call; change = c.args.change.now }) n, c.args.done)) (sym (t.1 ∙ ap (λ e. log_after e.log_end c.args.change.now) same))
+    ∙ ap (λ v. (v, c.args.done)) (sym (c.in_ok-apply-in-Some.ensures.ok d call at issues))

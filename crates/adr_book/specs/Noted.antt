@@ -1,0 +1,17 @@
+-- What a change that became safe adds to the book.
+use Rattle.std.specs.Prelude.{[], ◌++◌, if◌then◌else◌}
+use Rattle.std.specs.BTreeMap.{insert_entry}
+use Rattle.adr_stamp.specs.Order.{identifier_order}
+use Rattle.adr_model.specs.Change.{updates_written}
+use Rattle.adr_model.specs.Replica.{Scene, history_of, with_change}
+use Rattle.adr_book.specs.declared.told.Recorded.{Recorded}
+
+abbrev pub no_scene : Scene
+no_scene = record { issued = []; histories = [] }
+
+abbrev pub noted : Scene → Recorded → Scene
+noted s r =
+    record {
+      issued = s.issued ++ (if r.is_write then updates_written r.change.now else []);
+      histories = insert_entry identifier_order s.histories r.inv (with_change (history_of s r.inv) r.change.now);
+    }
