@@ -17,17 +17,17 @@ pub struct Book {
 }
 
 impl Model for Book {
-    ghost use Rattle.adr_model.specs.Replica.{Scene};
+    ghost use Rattle.adr_model.specs.Replica.{Book as Defined};
 
-    ghost Value = { Scene };
+    ghost Value = { Defined };
 
-    ghost view = { λ b. b.told.scene };
+    ghost view = { λ b. b.told.book };
 }
 
 impl Book {
     /// The book of a run that hasn't begun.
     pub fn new() -> Book
-        ensures { result ≡ record { issued = []; histories = [] } }
+        ensures { result ≡ record { issued = []; logs = [] } }
     {
         Book { told: Told::new() }
     }

@@ -1,8 +1,8 @@
 //! What a run was told. Only proofs read it, and it takes no memory.
 
 ghost use Rattle.std.specs.Prelude.{◌≡◌};
-ghost use Rattle.adr_model.specs.Replica.{Scene, begun};
-ghost use Rattle.adr_book.specs.Noted.{no_scene, noted};
+ghost use Rattle.adr_model.specs.Replica.{Book, begun};
+ghost use Rattle.adr_book.specs.Noted.{no_book, noted};
 
 use adr_state::{Change, State};
 use std::marker::Model;
@@ -19,7 +19,7 @@ pub(crate) struct Recorded<'a> {
 /// All that a run was told so far.
 #[derive(Drop)]
 pub(crate) struct Told {
-    pub(crate) ghost scene: { Scene },
+    pub(crate) ghost book: { Book },
 }
 
 impl Model for Told {
@@ -31,21 +31,21 @@ impl Model for Told {
 impl Told {
     /// Nothing yet.
     pub(crate) fn new() -> Told
-        ensures { result.scene ≡ no_scene }
+        ensures { result.book ≡ no_book }
     {
         Told {}
     }
 
     /// And an incarnation begins.
     pub(crate) fn with_begun(&self, _state: &State) -> Told
-        ensures { result.scene ≡ begun self.now.scene _state.now }
+        ensures { result.book ≡ begun self.now.book _state.now }
     {
         Told {}
     }
 
     /// And a change becomes safe.
     pub(crate) fn with_recorded(&self, _recorded: &Recorded<'_>) -> Told
-        ensures { result.scene ≡ noted self.now.scene _recorded.now }
+        ensures { result.book ≡ noted self.now.book _recorded.now }
     {
         Told {}
     }

@@ -17,13 +17,13 @@ use Rattle.adr_model.specs.World.{World, empty_world, answer, stays, where_up, o
 use Rattle.adr_model.specs.Step.{step, told, after_lines, answers}
 use Rattle.adr_model.specs.Sound.{IsSoundWorld}
 use Rattle.adr_model.specs.Convergence.{in_view}
-use Rattle.adr_convergence.proofs.Completing.{found_by_name}
-use Rattle.adr_convergence.proofs.Lines.{runs_are_sound}
+use Rattle.adr_law_convergence.proofs.Completing.{found_by_name}
+use Rattle.adr_law_convergence.proofs.Lines.{runs_are_sound}
 use Rattle.adr_report.specs.Line.{line}
-use Rattle.adr_headline.specs.Headline.{behind}
-use Rattle.adr_headline.proofs.Claimed.{first_may}
-use Rattle.adr_headline.proofs.Following.{following_may}
-use Rattle.adr_headline.proofs.Texts.{text_follows}
+use Rattle.adr_law_headline.specs.Headline.{behind}
+use Rattle.adr_law_headline.proofs.Claimed.{first_may}
+use Rattle.adr_law_headline.proofs.Following.{following_may}
+use Rattle.adr_law_headline.proofs.Texts.{text_follows}
 use Rattle.adr_cmd.specs.Outcome.{output_from, outcome, outcome_of}
 use Rattle.adr_cmd.specs.Shown.{view_line, AtEachShow}
 
@@ -46,7 +46,7 @@ show_so : (w : World) (r : Replica) → IsSoundWorld w → Member r w.replicas �
 show_so w r sound m up =
     ap (λ o. told (codes "show") r.name (of_made (stays w) o (λ q. where_up (stays w) q.standing (w, outcomes.Show (shown w q.safe))))) (found_by_name w r sound m)
     ∙ ap (λ st. told (codes "show") r.name (where_up (stays w) st (w, outcomes.Show (shown w r.safe)))) up
-    ∙ ap (λ b. (w, answer (codes "show") r.name (outcomes.Show (directory (if b then visible w.scene.issued r.safe.store.vector (updates_of r.safe.store.rows) else updates_of r.safe.store.rows))) ∷ [])) sound.clean
+    ∙ ap (λ b. (w, answer (codes "show") r.name (outcomes.Show (directory (if b then visible w.book.issued r.safe.store.vector (updates_of r.safe.store.rows) else updates_of r.safe.store.rows))) ∷ [])) sound.clean
 
 show_output : (w : World) (r : Replica) (after : List Event) → IsSoundWorld w → Member r w.replicas → r.standing ≡ Up → output_from w (events.Show r.name ∷ after) ≡ view_line w r ++ output_from w after
 show_output w r after sound m up =

@@ -3,7 +3,7 @@
 ghost use Rattle.std.specs.Prelude.{◌≡◌, ◌⊎◌, ◌<◌, ◌≤◌, ◌++◌, ◌∷◌, ℕ, List, [], map, string_bytes, true, false, OnOk, OnErr, IfOk, IfErr, IfSome, IsErrOf, drop, Some, codes};
 ghost use Rattle.std.specs.Fmt.{decimal};
 ghost use Rattle.adr_io.specs.Told.{Adds, AddsFront};
-ghost use Rattle.adr_headline.specs.Headline.{IsHeadline};
+ghost use Rattle.adr_law_headline.specs.Headline.{IsHeadline};
 ghost use Rattle.adr_cmd.specs.Outcome.{outcome, cause_text, fault_line, is_replay, usage_line, ended};
 ghost use Rattle.adr_cmd.specs.Shown.{AtEachShow};
 

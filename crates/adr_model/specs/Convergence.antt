@@ -84,7 +84,7 @@ held_by r = updates_of r.safe.store.rows
 
 -- the issued updates that a controller covers or holds
 abbrev pub in_view : World → Replica → List Update
-in_view w r = visible w.scene.issued r.safe.store.vector (held_by r)
+in_view w r = visible w.book.issued r.safe.store.vector (held_by r)
 
 -- what each controller holds shows what it has in view
 abbrev pub ShowWhatIsVisible : World → Type 0
@@ -94,7 +94,7 @@ abbrev pub HoldsNothingBeyond : Replica → Type 0
 HoldsNothingBeyond r = Each (λ u. covers_update r.safe.store.vector u ≡ true) (held_by r)
 
 abbrev pub CoverTheSame : World → Replica → Replica → Type 0
-CoverTheSame w r q = Each (λ u. covers_update r.safe.store.vector u ≡ covers_update q.safe.store.vector u) w.scene.issued
+CoverTheSame w r q = Each (λ u. covers_update r.safe.store.vector u ≡ covers_update q.safe.store.vector u) w.book.issued
 
 -- controllers that cover the same, and hold nothing beyond, show the same
 abbrev pub ShowAlike : World → Type 0
@@ -125,7 +125,7 @@ pub record IsAcknowledged (w : World) (e : Event) (usn : ℕ) (behind : World) :
   pub there : Member writer w.replicas
   pub name : writer.name ≡ write.name
   pub row : (x : Written) × (u : Update) × Member x (items_written writer.safe write.what w.time) × Member u x.item.rows
-  pub issued : Each (IsIssuedItem behind.scene.issued writer.safe usn) (items_written writer.safe write.what w.time)
+  pub issued : Each (IsIssuedItem behind.book.issued writer.safe usn) (items_written writer.safe write.what w.time)
   pub stays : (r : Replica) × Member r behind.replicas × (r.name ≡ writer.name) × (r.safe.inv ≡ writer.safe.inv)
 
 -- the updates of an acknowledged write
@@ -139,11 +139,11 @@ AcknowledgedIsIssued =
 
 -- what was issued stays so, whatever comes
 abbrev pub IssuedStays : Type 0
-IssuedStays = (w : World) (e : Event) → Each (λ u. Member u (step w e).0.scene.issued) w.scene.issued
+IssuedStays = (w : World) (e : Event) → Each (λ u. Member u (step w e).0.book.issued) w.book.issued
 
 -- all that was issued under its present identifier is in a controller's view
 abbrev pub OwnIsInView : World → Type 0
-OwnIsInView w = Each (λ r. Each (λ u. inv_of u ≡ r.safe.inv → Member u (in_view w r)) w.scene.issued) w.replicas
+OwnIsInView w = Each (λ r. Each (λ u. inv_of u ≡ r.safe.inv → Member u (in_view w r)) w.book.issued) w.replicas
 
 abbrev pub OwnIsVisible : Type 0
 OwnIsVisible = (w : World) → IsSoundWorld w → OwnIsInView w
@@ -242,7 +242,7 @@ abbrev pub replies_taken : List Answer → ℕ
 replies_taken answers = length (filter (λ a. was_taken a.outcome) answers)
 
 abbrev pub ReflectsMore : World → State → State → Type 0
-ReflectsMore w before after = (u : Update) → Reflects w.scene.issued (knowledge_of before.store) u → Reflects w.scene.issued (knowledge_of after.store) u
+ReflectsMore w before after = (u : Update) → Reflects w.book.issued (knowledge_of before.store) u → Reflects w.book.issued (knowledge_of after.store) u
 
 -- all of the source was read, up to its USN
 abbrev pub IsReadWhole : State → State → Type 0
@@ -253,12 +253,12 @@ IsReadWhole source after =
 pub record IsCompleted (w : World) (dest source : State) (answers : List Answer) (after : State) : Type 0 where
   pub replies : (1 ≤ replies_taken answers) × (replies_taken answers ≤ max 1 (units_beyond dest source))
   pub mark : IsReadWhole source after
-  pub took : Each (λ u. Reflects w.scene.issued (knowledge_of after.store) u) (updates_of source.store.rows)
+  pub took : Each (λ u. Reflects w.book.issued (knowledge_of after.store) u) (updates_of source.store.rows)
   pub keeps : ReflectsMore w dest after
-  pub gained : Each (λ u. Member u (updates_of dest.store.rows) ⊎ (Member u (updates_of source.store.rows) × (Reflects w.scene.issued (knowledge_of dest.store) u → ⊥))) (updates_of after.store.rows)
+  pub gained : Each (λ u. Member u (updates_of dest.store.rows) ⊎ (Member u (updates_of source.store.rows) × (Reflects w.book.issued (knowledge_of dest.store) u → ⊥))) (updates_of after.store.rows)
   pub vector : (i : Identifier) → i ≢ after.inv → at after.store.vector i ≡ max (at dest.store.vector i) (at source.store.vector i)
   pub own : at after.store.vector after.inv ≡ after.store.usn
-  pub idle : Each (λ u. Reflects w.scene.issued (knowledge_of dest.store) u) (updates_of source.store.rows) → (after.store.usn ≡ dest.store.usn) × (after.store.rows ≡ dest.store.rows)
+  pub idle : Each (λ u. Reflects w.book.issued (knowledge_of dest.store) u) (updates_of source.store.rows) → (after.store.usn ≡ dest.store.usn) × (after.store.rows ≡ dest.store.rows)
 
 -- the cycle took as many replies as one may, and says that there are more
 pub record SaysMore (dest : Name) (answers : List Answer) : Type 0 where

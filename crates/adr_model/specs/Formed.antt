@@ -16,7 +16,7 @@ use Rattle.adr_model.specs.Live.{objects_of}
 use Rattle.adr_model.specs.Reflects.{CoversBirth, HoldsObject, IsTombstoned}
 use Rattle.adr_model.specs.Store.{Held, Kept, Store, State, updates_of}
 use Rattle.adr_model.specs.Serve.{last_local}
-use Rattle.adr_model.specs.History.{IsOrdered}
+use Rattle.adr_model.specs.LocalLog.{IsOrdered}
 use Rattle.adr_model.specs.Write.{object_limit, link_limit, links_in}
 use Rattle.adr_model.specs.Take.{mark_limit, is_birth}
 

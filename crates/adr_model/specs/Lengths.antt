@@ -31,9 +31,9 @@ abbrev pub log_limit : ℕ
 log_limit = 2147483648
 
 -- where the log of a new disk ends: behind a gate, 38 bytes, the image with its length, and a gate
-abbrev pub log_of : State → ℕ
-log_of s = 44 + image_length s.store
+abbrev pub new_log_end : State → ℕ
+new_log_end s = 44 + image_length s.store
 
 -- where it ends after a change: behind the record with its length, and the next gate
-abbrev pub log_after : ℕ → Change → ℕ
-log_after end c = end + 5 + change_length c
+abbrev pub log_end_after : ℕ → Change → ℕ
+log_end_after end c = end + 5 + change_length c

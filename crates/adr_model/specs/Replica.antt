@@ -10,8 +10,8 @@ use Rattle.adr_event.specs.declared.answer.Outcome.TheVariants as outcomes
 use Rattle.adr_model.specs.Update.{Identifier, Update}
 use Rattle.adr_model.specs.Store.{State}
 use Rattle.adr_model.specs.Change.{Change, after, updates_written}
-use Rattle.adr_model.specs.Lengths.{log_of, log_after}
-use Rattle.adr_model.specs.History.{History, no_history}
+use Rattle.adr_model.specs.Lengths.{new_log_end, log_end_after}
+use Rattle.adr_model.specs.LocalLog.{LocalLog, no_log}
 use Rattle.adr_model.specs.Serve.{Reply}
 use Rattle.adr_model.specs.Write.{Write, write}
 use Rattle.adr_model.specs.Take.{take}
@@ -78,33 +78,33 @@ on_disk name s end = record { name = name; read = s; read_end = end; safe = s; s
 
 -- a controller on a new disk
 abbrev pub on_new_disk : List ℕ → State → Replica
-on_new_disk name s = on_disk name s (log_of s)
+on_new_disk name s = on_disk name s (new_log_end s)
 
 -- what all controllers are compared with: what clients wrote, in the order in which it became safe, and the log of each incarnation
-pub record Scene : Type 0 where
+pub record Book : Type 0 where
   pub issued : List Update
-  pub histories : List (Identifier × History)
+  pub logs : List (Identifier × LocalLog)
 
-abbrev pub history_of : Scene → Identifier → History
-history_of sc inv = unwrap_or (lookup (is_at (identifier_order inv)) sc.histories) no_history
+abbrev pub log_of : Book → Identifier → LocalLog
+log_of sc inv = unwrap_or (lookup (is_at (identifier_order inv)) sc.logs) no_log
 
 -- an incarnation begins with what its state has
-abbrev pub begun : Scene → State → Scene
+abbrev pub begun : Book → State → Book
 begun sc s =
     record {
       issued = sc.issued;
-      histories = insert_entry identifier_order sc.histories s.inv (record { start_usn = s.store.usn; start_rows = s.store.rows; changes = [] });
+      logs = insert_entry identifier_order sc.logs s.inv (record { start_usn = s.store.usn; start_rows = s.store.rows; changes = [] });
     }
 
-abbrev pub with_change : History → Change → History
+abbrev pub with_change : LocalLog → Change → LocalLog
 with_change h c = record { start_usn = h.start_usn; start_rows = h.start_rows; changes = c ∷ h.changes }
 
 -- a change of an incarnation becomes safe
-abbrev pub recorded : Scene → Identifier → Pending → Scene
+abbrev pub recorded : Book → Identifier → Pending → Book
 recorded sc inv p =
     record {
       issued = sc.issued ++ issued_by p.call p.change;
-      histories = insert_entry identifier_order sc.histories inv (with_change (history_of sc inv) p.change);
+      logs = insert_entry identifier_order sc.logs inv (with_change (log_of sc inv) p.change);
     }
 
 -- ---- moves
@@ -114,13 +114,13 @@ pub data Move : Type 0 where
   Settle : Move
   Forget : Move
 
-abbrev settled : Option Pending → Scene → Identifier → Scene
+abbrev settled : Option Pending → Book → Identifier → Book
 settled None sc inv = sc
 settled (Some p) sc inv = recorded sc inv p
 
 -- a change begins: a start would find it. It settles: it is safe. Or it is forgotten
-abbrev pub moved : Scene × Replica → Move → Scene × Replica
-moved t (Begin p) = (t.0, record t.1 { read = after t.1.safe p.change; read_end = log_after t.1.safe_end p.change; kept = Some p })
+abbrev pub moved : Book × Replica → Move → Book × Replica
+moved t (Begin p) = (t.0, record t.1 { read = after t.1.safe p.change; read_end = log_end_after t.1.safe_end p.change; kept = Some p })
 moved t Settle = (settled t.1.kept t.0 t.1.safe.inv, record t.1 { safe = t.1.read; safe_end = t.1.read_end; kept = None })
 moved t Forget = (t.0, record t.1 { read = t.1.safe; read_end = t.1.safe_end; kept = None })
 

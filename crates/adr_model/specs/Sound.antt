@@ -12,51 +12,51 @@ use Rattle.adr_model.specs.Place.{identifier}
 use Rattle.adr_model.specs.Reflects.{Numbers, Covers, Knowledge, knowledge_of, Reflects}
 use Rattle.adr_model.specs.Store.{Held, Kept, Normal, Store, State, updates_of}
 use Rattle.adr_model.specs.Change.{Item, Change, updates_written, after}
-use Rattle.adr_model.specs.History.{History, no_history, last_usn, rows_at, IsCut, IsKept, IsOrdered, IsBelow, WatermarkHolds}
+use Rattle.adr_model.specs.LocalLog.{LocalLog, no_log, last_usn, rows_at, IsCut, IsKept, IsOrdered, IsBelow, WatermarkHolds}
 use Rattle.adr_model.specs.Serve.{Request, Reply}
 use Rattle.adr_model.specs.Write.{IsWellGiven}
 use Rattle.adr_model.specs.Take.{is_birth}
 use Rattle.adr_model.specs.Formed.{AreRising, AreFormedRows, IsFormedStore, IsFormed, IsClosed}
-use Rattle.adr_model.specs.Replica.{Call, ToWrite, ToTake, ToCollect, ToQuarantine, change_of, Pending, Up, Replica, Scene, history_of}
+use Rattle.adr_model.specs.Replica.{Call, ToWrite, ToTake, ToCollect, ToQuarantine, change_of, Pending, Up, Replica, Book, log_of}
 use Rattle.adr_model.specs.World.{World, Name, Snapshot}
 
 -- the last USN of an incarnation, 0 for an identifier that wasn't used
-abbrev pub last_of : Scene → Identifier → ℕ
-last_of sc inv = last_usn (history_of sc inv)
+abbrev pub last_of : Book → Identifier → ℕ
+last_of sc inv = last_usn (log_of sc inv)
 
-abbrev pub IsBounded : Scene → Numbers → Type 0
+abbrev pub IsBounded : Book → Numbers → Type 0
 IsBounded sc V = (i : Identifier) → V i ≤ last_of sc i
 
 abbrev pub IsBirthOf : Oid → Update → Type 0
 IsBirthOf o u = (u.key ≡ RowOf o class_attr) × (is_birth o u ≡ true)
 
 -- two updates are among the rows that one change of a log writes
-abbrev pub IsOfOneChange : History → Update → Update → Type 0
+abbrev pub IsOfOneChange : LocalLog → Update → Update → Type 0
 IsOfOneChange h u v = (c : Change) × Member c h.changes × Member u (updates_written c) × Member v (updates_written c)
 
 -- what was issued and the logs: that an identifier's USNs were used once, each by one change, and each object that is named was
 -- born
-pub record IsSoundScene (sc : Scene) : Type 0 where
+pub record IsSoundBook (sc : Book) : Type 0 where
   pub one_content : Each (λ u. Each (λ v. u.key ≡ v.key → inv_of u ≡ inv_of v → usn_of u ≡ usn_of v → u ≡ v) sc.issued) sc.issued
   pub once : Each (λ u. (1 ≤ usn_of u) × (usn_of u ≤ last_of sc (inv_of u))) sc.issued
-  pub one_change : Each (λ u. Each (λ v. inv_of u ≡ inv_of v → usn_of u ≡ usn_of v → IsOfOneChange (history_of sc (inv_of u)) u v) sc.issued) sc.issued
+  pub one_change : Each (λ u. Each (λ v. inv_of u ≡ inv_of v → usn_of u ≡ usn_of v → IsOfOneChange (log_of sc (inv_of u)) u v) sc.issued) sc.issued
   pub born : Each (λ u. Each (λ o. (b : Update) × Member b sc.issued × IsBirthOf o b) (ends u.key)) sc.issued
   pub births : Each (λ u. (o : Oid) → u.key ≡ RowOf o class_attr → is_birth o u ≡ true) sc.issued
-  pub kept : (i : Identifier) → IsKept (history_of sc i)
-  pub logged : (i : Identifier) (usn : ℕ) → Each (λ h. Member h.update sc.issued) (rows_at (history_of sc i) usn)
+  pub kept : (i : Identifier) → IsKept (log_of sc i)
+  pub logged : (i : Identifier) (usn : ℕ) → Each (λ h. Member h.update sc.issued) (rows_at (log_of sc i) usn)
 
 -- a mark of an incarnation tells the truth, of a moment between two changes
-pub record IsSoundMark (sc : Scene) (k : Knowledge) (inv : Identifier) (m : Mark) : Type 0 where
+pub record IsSoundMark (sc : Book) (k : Knowledge) (inv : Identifier) (m : Mark) : Type 0 where
   pub ordered : IsOrdered m
   pub seen : m.seen ≤ last_of sc inv
-  pub cut : IsCut (history_of sc inv) m.seen
-  pub watermark : WatermarkHolds sc.issued k (history_of sc inv) m
+  pub cut : IsCut (log_of sc inv) m.seen
+  pub watermark : WatermarkHolds sc.issued k (log_of sc inv) m
 
 abbrev pub AreClassesKnown : Table → List Update → Type 0
 AreClassesKnown table rows = Each (λ u. (class : ℕ) → u.said ≡ Holds (Class class) → IsSome (class_at table class)) rows
 
 -- a store has taken each issued update that its vector covers
-pub record IsSoundStore (sc : Scene) (s : Store) : Type 0 where
+pub record IsSoundStore (sc : Book) (s : Store) : Type 0 where
   pub known : Each (λ u. Member u sc.issued) (updates_of s.rows)
   pub bounded : IsBounded sc (at s.vector)
   pub covered : Each (λ u. Covers (at s.vector) u → Reflects sc.issued (knowledge_of s) u) sc.issued
@@ -66,13 +66,13 @@ pub record IsSoundStore (sc : Scene) (s : Store) : Type 0 where
   pub marks : Each (λ (k : Identifier × Kept). IsSoundMark sc (knowledge_of s) k.1.inv k.1.mark) s.marks
 
 -- a controller's state is what its log says
-pub record IsSoundState (sc : Scene) (s : State) : Type 0 where
+pub record IsSoundState (sc : Book) (s : State) : Type 0 where
   pub store : IsSoundStore sc s.store
   pub formed : IsFormed s
   pub last : s.store.usn ≡ last_of sc s.inv
-  pub rows : s.store.rows ≡ rows_at (history_of sc s.inv) s.store.usn
+  pub rows : s.store.rows ≡ rows_at (log_of sc s.inv) s.store.usn
 
-pub record IsSoundRequest (sc : Scene) (q : Request) : Type 0 where
+pub record IsSoundRequest (sc : Book) (q : Request) : Type 0 where
   pub bounded : IsBounded sc (at q.vector)
   pub ordered : IsOrdered q.mark
   pub seen : q.mark.seen ≤ last_of sc q.inv
@@ -81,21 +81,21 @@ abbrev pub IsSent : Reply → Update → Type 0
 IsSent r u = (i : Item) × Member i r.items × Member u i.rows
 
 -- what a reply leaves out below its end is covered by the request, or lies below its beginning
-abbrev pub CoversItsGround : Reply → History → Type 0
+abbrev pub CoversItsGround : Reply → LocalLog → Type 0
 CoversItsGround r h =
     Each (λ x. IsBelow (rows_at h r.to.seen) r.to x → Covers (at r.asked) x.update ⊎ (IsSent r x.update ⊎ IsBelow (rows_at h r.to.seen) r.from x)) (rows_at h r.to.seen)
 
 -- with its rows, the carried vector and the request's vector as purged, the source had taken all that the carried vector covers
-abbrev pub CarriesAll : List Update → Reply → History → Cursors → Type 0
+abbrev pub CarriesAll : List Update → Reply → LocalLog → Cursors → Type 0
 CarriesAll issued r h carried =
     Each (λ u. Covers (at carried) u → Reflects issued (record { rows = updates_of (rows_at h r.to.seen); vector = at carried; purged = at r.asked }) u) issued
 
-pub record IsSoundLast (sc : Scene) (r : Reply) (carried : Cursors) : Type 0 where
+pub record IsSoundLast (sc : Book) (r : Reply) (carried : Cursors) : Type 0 where
   pub obj : r.to.obj ≡ r.to.seen
   pub prop : r.to.prop ≡ r.to.seen
   pub vector : IsVector carried
   pub bounded : IsBounded sc (at carried)
-  pub carries : CarriesAll sc.issued r (history_of sc r.inv) carried
+  pub carries : CarriesAll sc.issued r (log_of sc r.inv) carried
 
 -- an item has a row, and is the whole unseen part of its unit
 pub record IsExact (rows : List Held) (r : Reply) (i : Item) : Type 0 where
@@ -103,31 +103,31 @@ pub record IsExact (rows : List Held) (r : Reply) (i : Item) : Type 0 where
   pub from : Each (λ u. (h : Held) × Member h rows × (h.update ≡ u) × (unit_of u.key ≡ i.unit)) i.rows
   pub whole : Each (λ h. unit_of h.update.key ≡ i.unit → Member h.update i.rows ⊎ (Covers (at r.asked) h.update ⊎ (h.local ≤ r.from.prop))) rows
 
-pub record IsSoundReply (sc : Scene) (r : Reply) : Type 0 where
+pub record IsSoundReply (sc : Book) (r : Reply) : Type 0 where
   pub to_ordered : IsOrdered r.to
   pub to_seen : r.to.seen ≤ last_of sc r.inv
-  pub to_cut : IsCut (history_of sc r.inv) r.to.seen
+  pub to_cut : IsCut (log_of sc r.inv) r.to.seen
   pub from_ordered : IsOrdered r.from
   pub forward : r.from.seen ≤ r.to.seen
   pub asked : IsBounded sc (at r.asked)
   pub known : (u : Update) → IsSent r u → Member u sc.issued
-  pub ground : CoversItsGround r (history_of sc r.inv)
+  pub ground : CoversItsGround r (log_of sc r.inv)
   pub last : IfSome r.last (IsSoundLast sc r)
-  pub exact : Each (IsExact (rows_at (history_of sc r.inv) r.to.seen) r) r.items
+  pub exact : Each (IsExact (rows_at (log_of sc r.inv) r.to.seen) r) r.items
   pub once : Each (λ i. Each (λ j. i.unit ≡ j.unit → i ≡ j) r.items) r.items
-  pub rising : AreRising (rows_at (history_of sc r.inv) r.to.seen)
-  pub formed : AreFormedRows (numbered r.schema) (updates_of (rows_at (history_of sc r.inv) r.to.seen))
-  pub classes : AreClassesKnown (numbered r.schema) (updates_of (rows_at (history_of sc r.inv) r.to.seen))
+  pub rising : AreRising (rows_at (log_of sc r.inv) r.to.seen)
+  pub formed : AreFormedRows (numbered r.schema) (updates_of (rows_at (log_of sc r.inv) r.to.seen))
+  pub classes : AreClassesKnown (numbered r.schema) (updates_of (rows_at (log_of sc r.inv) r.to.seen))
 
 -- no controller shows that it was put back, and so none is quarantined
-abbrev pub IsSoundCall : Scene → Call → Type 0
+abbrev pub IsSoundCall : Book → Call → Type 0
 IsSoundCall sc (ToWrite w now) = IsWellGiven w
 IsSoundCall sc (ToTake reply) = IsSoundReply sc reply
 IsSoundCall sc (ToCollect now lifetime) = Unit {0}
 IsSoundCall sc ToQuarantine = ⊥
 
 -- a change that isn't safe is that of the kept call, and the controller isn't up
-pub record IsPending (sc : Scene) (r : Replica) (p : Pending) : Type 0 where
+pub record IsPending (sc : Book) (r : Replica) (p : Pending) : Type 0 where
   pub kept : r.kept ≡ Some p
   pub call : IsSoundCall sc p.call
   pub made : change_of r.safe p.call ≡ Some p.change
@@ -137,7 +137,7 @@ pub record IsPending (sc : Scene) (r : Replica) (p : Pending) : Type 0 where
 abbrev pub IsSettled : Replica → Type 0
 IsSettled r = (r.kept ≡ None) × (r.read ≡ r.safe)
 
-pub record IsSoundReplica (sc : Scene) (r : Replica) : Type 0 where
+pub record IsSoundReplica (sc : Book) (r : Replica) : Type 0 where
   pub safe : IsSoundState sc r.safe
   pub read : IsSettled r ⊎ ((p : Pending) × IsPending sc r p)
 
@@ -155,7 +155,7 @@ pub record AreIdentifiersSound (w : World) : Type 0 where
   pub invs : Each (λ r. Each (λ q. r.safe.inv ≡ q.safe.inv → r ≡ q) w.replicas) w.replicas
   pub dsas_given : Each (λ r. Member r.safe.dsa w.given.dsas) w.replicas
   pub invs_given : Each (λ r. Member r.safe.inv w.given.invs) w.replicas
-  pub unused : (i : Identifier) → (Member i w.given.invs → ⊥) → history_of w.scene i ≡ no_history
+  pub unused : (i : Identifier) → (Member i w.given.invs → ⊥) → log_of w.book i ≡ no_log
   pub marks : Each (λ r. AreMarksGiven w r.safe.store × AreMarksGiven w r.read.store) w.replicas
   pub image_marks : Each (λ (i : Name × Store). AreMarksGiven w i.1) w.images
   pub requests : Each (λ (q : Name × Request). IsGiven w q.1.inv) w.requests
@@ -165,11 +165,11 @@ pub record AreIdentifiersSound (w : World) : Type 0 where
 -- after it
 pub record IsSoundWorld (w : World) : Type 0 where
   pub clean : w.clean ≡ true
-  pub scene : IsSoundScene w.scene
-  pub replicas : Each (IsSoundReplica w.scene) w.replicas
-  pub images : Each (λ (i : Name × Store). IsSoundStore w.scene i.1) w.images
-  pub requests : Each (λ (q : Name × Request). IsSoundRequest w.scene q.1) w.requests
-  pub replies : Each (λ (r : Name × Reply). IsSoundReply w.scene r.1) w.replies
+  pub book : IsSoundBook w.book
+  pub replicas : Each (IsSoundReplica w.book) w.replicas
+  pub images : Each (λ (i : Name × Store). IsSoundStore w.book i.1) w.images
+  pub requests : Each (λ (q : Name × Request). IsSoundRequest w.book q.1) w.requests
+  pub replies : Each (λ (r : Name × Reply). IsSoundReply w.book r.1) w.replies
   pub identifiers : AreIdentifiersSound w
   pub normal : Each (λ r. r.safe.mode ≡ Normal) w.replicas
 

@@ -47,7 +47,7 @@ abbrev pub step_of_other : World → Event → World × List Answer
 step_of_other w (events.Controller name dsa inv) =
     let v = gives w (dsa ∷ []) (inv ∷ []) in
     told (codes "controller") name
-    (record v { scene = begun v.scene (empty_state dsa inv); replicas = v.replicas ++ on_new_disk name (empty_state dsa inv) ∷ [] }, outcomes.Ok)
+    (record v { book = begun v.book (empty_state dsa inv); replicas = v.replicas ++ on_new_disk name (empty_state dsa inv) ∷ [] }, outcomes.Ok)
 step_of_other w (events.Time now) = (record w { time = now }, [])
 step_of_other w (events.Ask name partner max bind) =
     told_bound (codes "ask") name (asks w name partner max) (λ v q. record v { requests = bound v.requests bind q })

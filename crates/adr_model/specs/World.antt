@@ -1,4 +1,4 @@
--- Where a run stands: the time, the scene, the controllers and what is bound to names; and what each call of a controller does.
+-- Where a run stands: the time, the book, the controllers and what is bound to names; and what each call of a controller does.
 use Rattle.std.specs.Prelude.{ℕ, List, [], ◌∷◌, ◌++◌, Bool, true, false, Option, Some, None, is_some, Result, Ok, Err, map, fold, length, nat_lt, if◌then◌else◌}
 use Rattle.std.specs.List.{find, flat_map}
 use Rattle.std.specs.Option.{option_map}
@@ -26,8 +26,8 @@ use Rattle.adr_model.specs.Write.{Write, write}
 use Rattle.adr_model.specs.Take.{take}
 use Rattle.adr_model.specs.Collect.{quarantine}
 use Rattle.adr_model.specs.Refused.{write_refused, serve_refused, take_refused, collect_refused, adopt_refused, quarantined, full}
-use Rattle.adr_model.specs.Lengths.{log_limit, log_of, log_after}
-use Rattle.adr_model.specs.Replica.{ToWrite, ToTake, ToCollect, ToQuarantine, Pending, Standing, Up, Down, Failed, Plan, Replica, on_disk, on_new_disk, Scene, begun, Move, Settle, moved, went, moves_of_commit, moves_of_start, standing_after, plan_after, outcome_after}
+use Rattle.adr_model.specs.Lengths.{log_limit, new_log_end, log_end_after}
+use Rattle.adr_model.specs.Replica.{ToWrite, ToTake, ToCollect, ToQuarantine, Pending, Standing, Up, Down, Failed, Plan, Replica, on_disk, on_new_disk, Book, begun, Move, Settle, moved, went, moves_of_commit, moves_of_start, standing_after, plan_after, outcome_after}
 
 abbrev pub Name : Type 0
 Name = List ℕ
@@ -46,7 +46,7 @@ pub record Snapshot : Type 0 where
 pub record World : Type 0 where
   pub time : ℕ
   pub clean : Bool  -- no database was put back without a fresh identifier
-  pub scene : Scene
+  pub book : Book
   pub replicas : List Replica
   pub requests : List (Name × Request)
   pub replies : List (Name × Reply)
@@ -59,7 +59,7 @@ empty_world =
     record {
       time = 0;
       clean = true;
-      scene = record { issued = []; histories = [] };
+      book = record { issued = []; logs = [] };
       replicas = [];
       requests = [];
       replies = [];
@@ -86,7 +86,7 @@ with_replica rs r = map (λ q. if bytes_eq q.name r.name then r else q) rs
 -- what a controller shows: the directory of the issued updates that its vector covers or that it holds; after a database
 -- was put back, of those that it holds
 abbrev pub shown : World → State → List Entry
-shown w s = directory (if w.clean then visible w.scene.issued s.store.vector (updates_of s.store.rows) else updates_of s.store.rows)
+shown w s = directory (if w.clean then visible w.book.issued s.store.vector (updates_of s.store.rows) else updates_of s.store.rows)
 
 -- how far each partner was read: its identifier, the incarnation that was read, and the mark
 abbrev pub marks_shown : Store → List (Identifier × Identifier × Mark)
@@ -131,14 +131,14 @@ within_log w end gone = if nat_lt log_limit end then (w, full Log log_limit) els
 abbrev pub committed : World → Replica → Pending → Outcome → Gone
 committed w r p outcome =
     let g = went r.plan 4 in
-    let m = fold moved (w.scene, r) (moves_of_commit p g) in (
-      record w { scene = m.0; replicas = with_replica w.replicas (record m.1 { standing = standing_after Failed g; plan = plan_after g }) },
+    let m = fold moved (w.book, r) (moves_of_commit p g) in (
+      record w { book = m.0; replicas = with_replica w.replicas (record m.1 { standing = standing_after Failed g; plan = plan_after g }) },
       outcome_after g outcome,
     )
 
 -- a change that the log has room for is committed
 abbrev pub commit : World → Replica → Pending → Outcome → Gone
-commit w r p outcome = within_log w (log_after r.safe_end p.change) (committed w r p outcome)
+commit w r p outcome = within_log w (log_end_after r.safe_end p.change) (committed w r p outcome)
 
 -- a controller that showed that it was put back is quarantined before it refuses
 abbrev pub quarantines : World → Replica → Outcome → Gone
@@ -212,7 +212,7 @@ backed_up w (Some image) = (w, outcomes.Ok, Some image)
 -- a controller begins on a new disk, with a state of a fresh identifier
 abbrev pub begins : World → (Replica → List Replica) → Name → State → Gone
 begins w placed name s =
-    within_log w (log_of s) (record w { scene = begun w.scene s; replicas = placed (on_new_disk name s) }, outcomes.Ok)
+    within_log w (new_log_end s) (record w { book = begun w.book s; replicas = placed (on_new_disk name s) }, outcomes.Ok)
 
 abbrev pub adopts : World → (Replica → List Replica) → Name → Result State AdoptRefusal → Gone
 adopts w placed name t = unless_refused w adopt_refused (begins w placed name) t
@@ -232,8 +232,8 @@ with_plan w r plan = (record w { replicas = with_replica w.replicas (record r { 
 -- what moves leave of a controller
 abbrev pub after_moves : World → Replica → List Move → Standing → Option Plan → Outcome → Gone
 after_moves w r moves standing plan outcome =
-    let m = fold moved (w.scene, r) moves in
-    (record w { scene = m.0; replicas = with_replica w.replicas (record m.1 { standing = standing; plan = plan }) }, outcome)
+    let m = fold moved (w.book, r) moves in
+    (record w { book = m.0; replicas = with_replica w.replicas (record m.1 { standing = standing; plan = plan }) }, outcome)
 
 abbrev pub stops : World → Replica → Gone
 stops w r = after_moves w r (Settle ∷ []) Down None outcomes.Ok

@@ -3,7 +3,7 @@
 ghost use Rattle.std.specs.Prelude.{◌≡◌, ◌≤◌, ◌+◌, ◌*◌, None, Some, fold, is_some, length, min, nat_lt, if◌then◌else◌};
 ghost use Rattle.adr_model.specs.Update.{Update as Row};
 ghost use Rattle.adr_model.specs.Change.{Written as Wrote};
-ghost use Rattle.adr_model.specs.Lengths.{change_length, log_after, log_limit};
+ghost use Rattle.adr_model.specs.Lengths.{change_length, log_end_after, log_limit};
 ghost use Rattle.adr_model.specs.Serve.{content_length, item_length, value_length, vector_length};
 ghost use Rattle.adr_state.specs.Said.{said_of};
 
@@ -16,9 +16,9 @@ use adr_stamp::Unit;
 use adr_vector::Vector;
 
 /// Where a log that ends at a place ends after the change; none where that would be beyond the limit.
-pub fn log_after(end: u64, change: &Change) -> Option<u64>
+pub fn log_end_after(end: u64, change: &Change) -> Option<u64>
     requires { end ≤ log_limit }
-    ensures { result ≡ (if nat_lt log_limit (log_after end change.now) then None else Some (log_after end change.now)) }
+    ensures { result ≡ (if nat_lt log_limit (log_end_after end change.now) then None else Some (log_end_after end change.now)) }
 {
     let limit = LOG_LIMIT + 1;
     let after = sum_within(limit, end + 5, change_length_within(change, limit));

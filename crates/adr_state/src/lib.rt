@@ -21,7 +21,7 @@ pub use change::{Change, Mode};
 pub use counting::{count_links, count_objects, objects_of};
 pub use item::{Item, Written, copy_updates};
 pub use key::{Key, is_same, is_same_object};
-pub use lengths::{item_length_within, log_after};
+pub use lengths::{item_length_within, log_end_after};
 pub use limits::{
     CLASS, CURSOR_LIMIT, DELETED, LINK_LIMIT, LOG_LIMIT, MARK_LIMIT, NAME, OBJECT_LIMIT, USN_LIMIT,
     VERSION_LIMIT,

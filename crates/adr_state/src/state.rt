@@ -5,7 +5,7 @@ ghost use Rattle.adr_schema.specs.Numbered.{numbered};
 ghost use Rattle.adr_vector.specs.Vector.{joined, most_cursors};
 ghost use Rattle.adr_model.specs.Store.{empty_state, empty_store};
 ghost use Rattle.adr_model.specs.Change.{after};
-ghost use Rattle.adr_model.specs.Lengths.{log_of};
+ghost use Rattle.adr_model.specs.Lengths.{new_log_end};
 ghost use Rattle.adr_state.specs.declared.state.ApplyRefusal.TheVariants.{NoMemory as no_memory};
 ghost use Rattle.adr_state.specs.Mode.{mode_of};
 ghost use Rattle.adr_state.specs.Refusal.{of_vector, IsOverfull};
@@ -90,7 +90,7 @@ impl State {
     /// A new, empty controller.
     pub fn new(alloc: Global, dsa: Uuid, inv: Uuid, schema: Schema) -> State
         ensures empty { result ≡ record (empty_state dsa inv) { store = empty_store schema.number } }
-        ensures log { log_of result ≡ 82 }
+        ensures log { new_log_end result ≡ 82 }
     {
         State {
             dsa,

@@ -8,14 +8,14 @@ use Rattle.adr_model.specs.Serve.{Request, Reply}
 use Rattle.adr_model.specs.World.{Name, World, Gone, Sent, bound, bound_at, serves_request, delivers, answer}
 use Rattle.adr_model.specs.Step.{told, told_bound, step}
 use Rattle.adr_model.specs.Sound.{IsSoundWorld, IsSoundRequest, IsSoundReply, IsGiven}
-use Rattle.adr_convergence.proofs.Found.{bound_member}
+use Rattle.adr_law_convergence.proofs.Found.{bound_member}
 
 module _ (w : World) (sound : IsSoundWorld w) (name : Name) where
-  pub request_bound : (q : Request) → Some q ≡ bound_at w.requests name → IsSoundRequest w.scene q
-  request_bound q e = bound_member (IsSoundRequest w.scene) w.requests name q sound.requests (sym e)
+  pub request_bound : (q : Request) → Some q ≡ bound_at w.requests name → IsSoundRequest w.book q
+  request_bound q e = bound_member (IsSoundRequest w.book) w.requests name q sound.requests (sym e)
 
-  pub reply_bound : (r : Reply) → Some r ≡ bound_at w.replies name → IsSoundReply w.scene r × IsGiven w r.inv
-  reply_bound r e = bound_member (λ (x : Reply). IsSoundReply w.scene x × IsGiven w x.inv) w.replies name r (λ y m. (sound.replies y m, inl (sound.identifiers.replies y m))) (sym e)
+  pub reply_bound : (r : Reply) → Some r ≡ bound_at w.replies name → IsSoundReply w.book r × IsGiven w r.inv
+  reply_bound r e = bound_member (λ (x : Reply). IsSoundReply w.book x × IsGiven w x.inv) w.replies name r (λ y m. (sound.replies y m, inl (sound.identifiers.replies y m))) (sym e)
 
 -- the line of a serve, by what comes of its request
 pub served_step : (w : World) (name request bind : Name) (o : Option Request) (x : Outcome) (r : Option Reply) (made : Answer) → o ≡ bound_at w.requests request → serves_request w name o ≡ (w, x, r)

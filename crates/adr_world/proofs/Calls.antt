@@ -27,10 +27,10 @@ use Rattle.adr_model.specs.Replica.{Up, Replica, ToTake, ToWrite}
 use Rattle.adr_model.specs.World.{World, Name, replica_at, of_made, of_controller, where_up, nothing, stays, commit, asks, serves_request, after_serve, served, after_take, delivered, delivers, after_write, writes, rows_in, shown}
 use Rattle.adr_model.specs.Sound.{IsSoundWorld, IsSoundRequest, IsSoundReply}
 use Rattle.adr_model.proofs.Members.{mapped_member}
-use Rattle.adr_history.proofs.Granted.{no_rollback as no_rollback_shown}
-use Rattle.adr_taking.proofs.Refused.{no_rollback as no_rollback_taken}
-use Rattle.adr_convergence.proofs.Controllers.{shows_what_is_visible}
-use Rattle.adr_convergence.proofs.Found.{replica_found}
+use Rattle.adr_law_logs.proofs.Granted.{no_rollback as no_rollback_shown}
+use Rattle.adr_law_taking.proofs.Refused.{no_rollback as no_rollback_taken}
+use Rattle.adr_law_convergence.proofs.Controllers.{shows_what_is_visible}
+use Rattle.adr_law_convergence.proofs.Found.{replica_found}
 use Rattle.adr_world.specs.declared.controller.Controller.{Controller}
 use Rattle.adr_world.specs.Run.{replica_of}
 
@@ -66,15 +66,15 @@ module _ (w : World) (sound : IsSoundWorld w) (name : Name) (c : Controller) (is
   pub served_so : (q : Request) (r : Reply) → serve c.state q ≡ Ok r → serves_request w name (Some q) ≡ (w, outcomes.Served r.from r.to (length r.items) (rows_in r) (is_some r.last), Some r)
   served_so q r made = reaches w name c (nothing w) (λ x. after_serve w x (serve x.safe q)) is ∙ ap (λ t. after_serve w (replica_of c) t) made
 
-  pub refused_so : (q : Request) (x : ServeRefusal) → IsSoundRequest w.scene q → serve c.state q ≡ Err x → serves_request w name (Some q) ≡ (w, serve_refused x, None)
+  pub refused_so : (q : Request) (x : ServeRefusal) → IsSoundRequest w.book q → serve c.state q ≡ Err x → serves_request w name (Some q) ≡ (w, serve_refused x, None)
   refused_so q x request made = reaches w name c (nothing w) (λ y. after_serve w y (serve y.safe q)) is ∙ ap (λ t. after_serve w (replica_of c) t) made ∙ plainly x made
     where
       plainly : (y : ServeRefusal) → serve c.state q ≡ Err y → after_serve w (replica_of c) (Err y) ≡ (w, serve_refused y, None)
-      plainly (serves.RolledBack inv mine shown) e = absurd (no_rollback_shown w.scene c.state q inv mine shown (sound.replicas (replica_of c) there).safe request e)
+      plainly (serves.RolledBack inv mine shown) e = absurd (no_rollback_shown w.book c.state q inv mine shown (sound.replicas (replica_of c) there).safe request e)
       plainly _ e = refl
 
-  pub not_taken_so : (r : Reply) (x : TakeRefusal) → IsSoundReply w.scene r → take c.state r ≡ Err x → after_take w (replica_of c) r (Err x) ≡ (w, take_refused x)
-  not_taken_so r (takes.RolledBack inv mine shown) reply e = absurd (no_rollback_taken w.scene c.state r inv mine shown sound.scene (sound.replicas (replica_of c) there).safe reply e)
+  pub not_taken_so : (r : Reply) (x : TakeRefusal) → IsSoundReply w.book r → take c.state r ≡ Err x → after_take w (replica_of c) r (Err x) ≡ (w, take_refused x)
+  not_taken_so r (takes.RolledBack inv mine shown) reply e = absurd (no_rollback_taken w.book c.state r inv mine shown sound.book (sound.replicas (replica_of c) there).safe reply e)
   not_taken_so r _ reply e = refl
 
   -- its rows are formed, and show what it has in view
@@ -84,14 +84,14 @@ module _ (w : World) (sound : IsSoundWorld w) (name : Name) (c : Controller) (is
   pub shown_so : (d : List Entry) → d ≡ directory (updates_of c.state.store.rows) → of_controller w name (stays w) (λ r. (w, outcomes.Show (shown w r.safe))) ≡ (w, outcomes.Show d)
   shown_so d made =
       reaches w name c (stays w) (λ r. (w, outcomes.Show (shown w r.safe))) is
-      ∙ ap (λ b. (w, outcomes.Show (directory (if b then visible w.scene.issued c.state.store.vector (updates_of c.state.store.rows) else updates_of c.state.store.rows)))) sound.clean
+      ∙ ap (λ b. (w, outcomes.Show (directory (if b then visible w.book.issued c.state.store.vector (updates_of c.state.store.rows) else updates_of c.state.store.rows)))) sound.clean
       ∙ ap (λ x. (w, outcomes.Show x)) (sym (made ∙ shows_what_is_visible w sound (replica_of c) there))
 
   pub taken_so : (r : Reply) (change : Change) → take c.state r ≡ Ok change
       → delivers w name (Some r) ≡ commit w (replica_of c) (record { call = ToTake r; change = change }) (outcomes.Took (length r.items) (length change.writes) change.usn)
   taken_so r change made = reaches w name c (stays w) (λ x. delivered w x (Some r)) is ∙ ap (λ t. after_take w (replica_of c) r t) made
 
-  pub refused_taking : (r : Reply) (x : TakeRefusal) → IsSoundReply w.scene r → take c.state r ≡ Err x → delivers w name (Some r) ≡ (w, take_refused x)
+  pub refused_taking : (r : Reply) (x : TakeRefusal) → IsSoundReply w.book r → take c.state r ≡ Err x → delivers w name (Some r) ≡ (w, take_refused x)
   refused_taking r x reply made = reaches w name c (stays w) (λ y. delivered w y (Some r)) is ∙ ap (λ t. after_take w (replica_of c) r t) made ∙ not_taken_so r x reply made
 
   pub written_so : (what : Write) (change : Change) → write c.state what w.time ≡ Ok change

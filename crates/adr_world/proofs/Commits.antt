@@ -10,9 +10,9 @@ use Rattle.adr_event.specs.declared.answer.Outcome.{Outcome}
 use Rattle.adr_event.specs.declared.refusal.Table.TheVariants.{Log}
 use Rattle.adr_model.specs.Store.{State}
 use Rattle.adr_model.specs.Change.{after}
-use Rattle.adr_model.specs.Lengths.{log_limit, log_after}
+use Rattle.adr_model.specs.Lengths.{log_limit, log_end_after}
 use Rattle.adr_model.specs.Refused.{full}
-use Rattle.adr_model.specs.Replica.{Replica, Scene, Pending, recorded, on_disk}
+use Rattle.adr_model.specs.Replica.{Replica, Book, Pending, recorded, on_disk}
 use Rattle.adr_model.specs.World.{World, Name, with_replica, committed, commit}
 use Rattle.adr_world.specs.declared.controller.Controller.{Controller}
 use Rattle.adr_world.specs.Run.{replica_of, with_commit, IsWithin, IsTidy}
@@ -25,14 +25,14 @@ at_place cs i d lt is = slice_get_read cs (length cs) i d refl lt is
 pub same_place : (cs : List Controller) (i : ℕ) (c d : Controller) → i < length cs → d ≡ slice_index_or cs i d → slice_get cs i ≡ Some c → d ≡ c
 same_place cs i c d lt is at = let both : Some d ≡ Some c = sym (at_place cs i d lt is) ∙ at in cc
 
-with_parts : (w : World) (a b : Scene) (rs qs : List Replica) → a ≡ b → rs ≡ qs → record w { scene = a; replicas = rs } ≡ record w { scene = b; replicas = qs }
-with_parts w a b rs qs scenes replicas = ap (λ s. record w { scene = s; replicas = rs }) scenes ∙ ap (λ x. record w { scene = b; replicas = x }) replicas
+with_parts : (w : World) (a b : Book) (rs qs : List Replica) → a ≡ b → rs ≡ qs → record w { book = a; replicas = rs } ≡ record w { book = b; replicas = qs }
+with_parts w a b rs qs books replicas = ap (λ s. record w { book = s; replicas = rs }) books ∙ ap (λ x. record w { book = b; replicas = x }) replicas
 
 module _ (cs : List Controller) (i : ℕ) (c : Controller) (s : State) (end : ℕ) (tidy : IsTidy cs) (at : slice_get cs i ≡ Some c) where
   -- the world after the change: the book has it, and the controller at the place
-  pub is_committed : (w : World) (next : Controller) (scene : Scene) (p : Pending) → w.replicas ≡ map replica_of cs → next ≡ with_state c (after c.state p.change) end → scene ≡ recorded w.scene c.state.inv p
-      → record w { scene = scene; replicas = map replica_of (slice_set cs i next) } ≡ with_commit w c.name c.state p end
-  is_committed w next scene p replicas is book = with_parts w scene (recorded w.scene c.state.inv p) _ _ book
+  pub is_committed : (w : World) (next : Controller) (book : Book) (p : Pending) → w.replicas ≡ map replica_of cs → next ≡ with_state c (after c.state p.change) end → book ≡ recorded w.book c.state.inv p
+      → record w { book = book; replicas = map replica_of (slice_set cs i next) } ≡ with_commit w c.name c.state p end
+  is_committed w next book p replicas is same = with_parts w book (recorded w.book c.state.inv p) _ _ same
       (
       ap (λ (d : Controller). map replica_of (slice_set cs i d)) is
       ∙ placed cs i c (after c.state p.change) end tidy.apart at
@@ -55,11 +55,11 @@ found_at all cs name i c same at found =
 
 module _ (w : World) (c : Controller) (p : Pending) (o : Outcome) where
   -- a log that has no room
-  pub full_so : nat_lt log_limit (log_after c.log_end p.change) ≡ true → commit w (replica_of c) p o ≡ (w, full Log log_limit)
+  pub full_so : nat_lt log_limit (log_end_after c.log_end p.change) ≡ true → commit w (replica_of c) p o ≡ (w, full Log log_limit)
   full_so beyond = ap (λ x. if x then (w, full Log log_limit) else committed w (replica_of c) p o) beyond
 
   -- and one that has it
-  pub commit_so : nat_lt log_limit (log_after c.log_end p.change) ≡ false → commit w (replica_of c) p o ≡ (with_commit w c.name c.state p (log_after c.log_end p.change), o)
+  pub commit_so : nat_lt log_limit (log_end_after c.log_end p.change) ≡ false → commit w (replica_of c) p o ≡ (with_commit w c.name c.state p (log_end_after c.log_end p.change), o)
   commit_so room = ap (λ x. if x then (w, full Log log_limit) else committed w (replica_of c) p o) room
 
 -- where a log ends after a change, if it has room

@@ -11,9 +11,9 @@ use Rattle.adr_model.specs.Cycles.{pull, cycle}
 use Rattle.adr_model.specs.Step.{step}
 use Rattle.adr_model.specs.Sound.{IsSoundWorld, IsWorldOfRun}
 use Rattle.adr_model.specs.Convergence.{MayHappen, IsAcknowledged, MayCycle, AreUnlimited, SaysMore, IsCompleted}
-use Rattle.adr_convergence.proofs.Lines.{stays_sound, behind_is_on_the_way}
-use Rattle.adr_convergence.proofs.Acknowledged.{acknowledged_is_issued}
-use Rattle.adr_convergence.proofs.Completing.{cycle_ends}
+use Rattle.adr_law_convergence.proofs.Lines.{stays_sound, behind_is_on_the_way}
+use Rattle.adr_law_convergence.proofs.Acknowledged.{acknowledged_is_issued}
+use Rattle.adr_law_convergence.proofs.Completing.{cycle_ends}
 use Rattle.adr_world.specs.Door.{IsLeftBy, AreAcknowledged, IsCompletedBy}
 
 module _ (w : World) (e : Event) (run : IsWorldOfRun w) (may : MayHappen w e) where

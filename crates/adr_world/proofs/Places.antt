@@ -9,7 +9,7 @@ use Rattle.adr_model.specs.Store.{State}
 use Rattle.adr_model.specs.Replica.{Replica, on_disk}
 use Rattle.adr_model.specs.World.{Name, with_replica}
 use Rattle.adr_model.proofs.Members.{member_of_either}
-use Rattle.adr_convergence.proofs.Found.{same_name, same_name_tests}
+use Rattle.adr_law_convergence.proofs.Found.{same_name, same_name_tests}
 use Rattle.adr_world.specs.declared.controller.Controller.{Controller}
 use Rattle.adr_world.specs.Run.{replica_of, AreApart, IsWithin, IsTidy}
 

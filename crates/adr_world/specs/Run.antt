@@ -20,7 +20,7 @@ world_of r =
     record {
       time = r.time;
       clean = true;
-      scene = r.book;
+      book = r.book;
       replicas = map replica_of r.controllers.items;
       requests = r.requests.items;
       replies = r.replies.items;
@@ -31,7 +31,7 @@ world_of r =
 
 -- a change of a controller, whose log then ends here, has become safe
 abbrev pub with_commit : World → Name → State → Pending → ℕ → World
-with_commit w name s p end = record w { scene = recorded w.scene s.inv p; replicas = with_replica w.replicas (on_disk name (after s p.change) end) }
+with_commit w name s p end = record w { book = recorded w.book s.inv p; replicas = with_replica w.replicas (on_disk name (after s p.change) end) }
 
 -- no two controllers have one name
 abbrev pub AreApart : List Controller → Type 0

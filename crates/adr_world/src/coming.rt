@@ -4,7 +4,7 @@ ghost use Rattle.std.specs.Prelude.{◌≡◌, ◌+◌, ◌≤◌, ◌++◌, ◌
 ghost use Rattle.std.specs.Vec.{vec_capacity};
 ghost use Rattle.adr_event.specs.declared.event.Event.TheVariants.{Controller as NewController};
 ghost use Rattle.adr_model.specs.Convergence.{IsNewName};
-ghost use Rattle.adr_model.specs.Lengths.{log_of};
+ghost use Rattle.adr_model.specs.Lengths.{new_log_end};
 ghost use Rattle.adr_model.specs.Replica.{begun};
 ghost use Rattle.adr_model.specs.Step.{gives, step};
 ghost use Rattle.adr_model.specs.Store.{empty_state};
@@ -28,7 +28,7 @@ const FIRST_END: u64 = 82;
 /// A new, empty controller.
 fn new_state(alloc: Global, dsa: Uuid, inv: Uuid) -> State
     ensures empty { result ≡ empty_state dsa inv }
-    ensures log { log_of result ≡ 82 }
+    ensures log { new_log_end result ≡ 82 }
 {
     match Schema::new(FIRST_SCHEMA) {
         Some(schema) => State::new(alloc, dsa, inv, schema),
@@ -66,7 +66,7 @@ impl Run {
     fn begin(&mut self, controller: Controller)
         requires { vec_len self.old.controllers + 1 ≤ vec_capacity self.old.controllers }
         ensures world { let v = gives (world_of self.old) (controller.state.dsa ∷ []) (controller.state.inv ∷ []) in
-            world_of self.new ≡ record v { scene = begun v.scene controller.state; replicas = v.replicas ++ replica_of controller ∷ [] } }
+            world_of self.new ≡ record v { book = begun v.book controller.state; replicas = v.replicas ++ replica_of controller ∷ [] } }
         ensures items { self.new.controllers.items ≡ self.old.controllers.items ++ controller ∷ [] }
     {
         self.book.begin(&controller.state);

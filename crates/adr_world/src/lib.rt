@@ -2,8 +2,8 @@
 //! answered.
 //!
 //! It stands on the definitions of a run in `adr_model` and meets them: a world is seen as the definitions' world, its
-//! one call does a line as they do, and it is sound, by the theorem of `adr_convergence`. What a single controller does is of `adr_origin`, `adr_cycle`,
-//! `adr_apply` and `adr_view`. It knows nothing of texts.
+//! one call does a line as they do, and it is sound, by the theorem of `adr_law_convergence`. What a single controller does is of `adr_origin`, `adr_cycle`,
+//! `adr_take` and `adr_view`. It knows nothing of texts.
 #![tactic(auto)]
 
 mod answers;

@@ -91,7 +91,7 @@ impl Run {
         request: &Request,
     ) -> Result<(Outcome, Option<Reply>), NoMemory>
         requires sound { IsSoundRun self.now }
-        requires request { IsSoundRequest (world_of self.now).scene request.now }
+        requires request { IsSoundRequest (world_of self.now).book request.now }
         ensures { IfOk result (λ sent. serves_request (world_of self.now) name.now (Some request.now) ≡ (world_of self.now, sent.0, sent.1)) }
     {
         let Some(controller) = controller_of(self.controllers.as_slice(), name) else {

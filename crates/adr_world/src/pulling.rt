@@ -75,7 +75,7 @@ impl Run {
         reply: &Reply,
     ) -> Result<(Answer, bool), NoMemory>
         requires sound { IsSoundRun self.old }
-        requires reply { IsSoundReply (world_of self.old).scene reply.now }
+        requires reply { IsSoundReply (world_of self.old).book reply.now }
         requires given { IsGiven (world_of self.old) reply.now.inv }
         ensures pulled { IfOk result (λ told. pull_served dest.now (world_of self.old) (Some reply.now) ≡ (world_of self.new, told.0 ∷ [], told.1)) }
         ensures err { OnErr result (world_of self.new ≡ world_of self.old) }
@@ -96,7 +96,7 @@ impl Run {
         request: &Request,
     ) -> Result<(Answer, Option<Answer>, bool), NoMemory>
         requires sound { IsSoundRun self.old }
-        requires request { IsSoundRequest (world_of self.old).scene request.now }
+        requires request { IsSoundRequest (world_of self.old).book request.now }
         ensures pulled { IfOk result (λ told. pull_asked dest.now source.now (world_of self.old) (Some request.now) ≡ (world_of self.new, told.0 ∷ option_to_list told.1, told.2)) }
         ensures err { OnErr result (world_of self.new ≡ world_of self.old) }
         ensures tidy { IsTidy self.new.controllers.items }

@@ -2,7 +2,7 @@
 
 ghost use Rattle.std.specs.Prelude.{◌≡◌, ◌<◌, ◌≤◌, ℕ, [], Some, false, length, nat_lt, slice_get, OnErr, OnOk, IfOk, if◌then◌else◌};
 ghost use Rattle.adr_model.specs.Change.{after, updates_written};
-ghost use Rattle.adr_model.specs.Lengths.{log_after, log_limit};
+ghost use Rattle.adr_model.specs.Lengths.{log_end_after, log_limit};
 ghost use Rattle.adr_model.specs.Replica.{Call, issued_by};
 ghost use Rattle.adr_model.specs.World.{commit, empty_world};
 ghost use Rattle.adr_model.specs.Write.{usn_limit};
@@ -16,7 +16,7 @@ use adr_book::{Book, Identifiers};
 use adr_event::{Outcome, Table};
 use adr_packet::{Reply, Request};
 use adr_schema::{NoMemory, Text};
-use adr_state::{Change, LOG_LIMIT, log_after};
+use adr_state::{Change, LOG_LIMIT, log_end_after};
 use std::alloc::Global;
 
 /// The time, the book, the controllers, the messages that lines bound to names, and the identifiers that they gave.
@@ -59,13 +59,13 @@ impl Run {
         requires place { place < length self.old.controllers.items }
         requires tidy { IsTidy self.old.controllers.items }
         requires within { change.now.usn ≤ usn_limit }
-        requires fits { (c : Held) → slice_get self.old.controllers.items place ≡ Some c → nat_lt log_limit (log_after c.log_end change.now) ≡ false → ¬ IsOverfull (after c.state change.now) }
+        requires fits { (c : Held) → slice_get self.old.controllers.items place ≡ Some c → nat_lt log_limit (log_end_after c.log_end change.now) ≡ false → ¬ IsOverfull (after c.state change.now) }
         ensures committed { IfOk result (λ told. (c : Held) (call : Call) → slice_get self.old.controllers.items place ≡ Some c → issued_by call change.now ≡ (if is_write then updates_written change.now else [])
             → commit (world_of self.old) (replica_of c) (record { call = call; change = change.now }) done ≡ (world_of self.new, told)) }
         ensures err { OnErr result (world_of self.new ≡ world_of self.old) }
         ensures tidy { IsTidy self.new.controllers.items }
     {
-        match log_after(self.controllers[place].log_end, change) {
+        match log_end_after(self.controllers[place].log_end, change) {
             None => full(alloc, Table::Log, LOG_LIMIT),
             Some(end) => {
                 self.apply(place, change, is_write, end)?;

@@ -13,7 +13,7 @@ use crate::controller::place_of;
 use crate::counts::took;
 use crate::refused::take_refused;
 use crate::run::Run;
-use adr_apply::take;
+use adr_take::take;
 use adr_event::{Answer, Failure, Outcome};
 use adr_packet::Reply;
 use adr_schema::{NoMemory, Text};
@@ -38,7 +38,7 @@ impl Run {
     /// What a controller that takes a reply is answered. In a sound world no controller finds that it was put back.
     pub fn take(&mut self, alloc: Global, name: &Text, reply: &Reply) -> Result<Outcome, NoMemory>
         requires sound { IsSoundRun self.old }
-        requires reply { IsSoundReply (world_of self.old).scene reply.now }
+        requires reply { IsSoundReply (world_of self.old).book reply.now }
         requires given { IsGiven (world_of self.old) reply.now.inv }
         ensures taken { IfOk result (λ outcome. delivers (world_of self.old) name.now (Some reply.now) ≡ (world_of self.new, outcome)) }
         ensures err { OnErr result (world_of self.new ≡ world_of self.old) }

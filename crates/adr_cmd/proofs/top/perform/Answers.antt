@@ -3,7 +3,7 @@ use Rattle.adr_schedule.specs.Seen.{nothing_seen}
 use Rattle.adr_model.specs.World.{empty_world}
 use Rattle.adr_model.specs.Convergence.{MayAllHappen}
 use Rattle.adr_world.specs.Built.{AreBuilt}
-use Rattle.adr_headline.proofs.Following.{following_may}
+use Rattle.adr_law_headline.proofs.Following.{following_may}
 use Rattle.adr_cmd.proofs.TextLemmas.{all_built}
 use Rattle.adr_cmd.proofs.top.perform.Goals as goal
 

@@ -24,7 +24,7 @@ use denote.Triple.Spec.{Meets, triple_of}
 use denote.Triple.Table.{entered}
 use denote.Triple.Walked.{says, Stays, walk_of, ends_at, walk_Meets}
 use Rattle.adr_book.proofs.Walks.{none, none_made}
-use Rattle.adr_book.specs.Noted.{no_scene}
+use Rattle.adr_book.specs.Noted.{no_book}
 use Rattle.adr_book.specs.contracts.told.Told as Log
 use Rattle.adr_book.specs.contracts.told.Told.new as F
 use Rattle.adr_book.specs.contracts.told.Told.new.Key.{name as #self}
@@ -57,7 +57,7 @@ module _ {M : Type 1} {𝓤 : Ura M} (𝓛 : Logic 𝓤) (at_mem : Memory → SP
     walks =
         let a = z.0.3 in
         let vss = z.0.4 in
-        let log : (Log.the_row).Denot = record { scene = no_scene } in
+        let log : (Log.the_row).Denot = record { book = no_book } in
         qed 𝓛 ((raw toks ⊛ ‵ (owns (types_at ended.signature.params z.0.0) a vss)) ∷ raw ((held z.0.0 a).requires z.1) ∷ []) ∵
         keep ! (0 ∷ []) $ split ! $ move ! (1 ∷ []) $ drop ! $
         enter ! C Λ function [] Post $ alloc_all ! (λ l. pass_all ! refl tt $

@@ -1,5 +1,0 @@
-use Rattle.adr_history.proofs.Woken.{adopted_is_sound}
-use Rattle.adr_history.proofs.scenes.adopted_images_are_sound.Goals as goal
-
-pub returns : goal.returns
-returns c = adopted_is_sound

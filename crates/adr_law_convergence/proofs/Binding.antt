@@ -1,0 +1,189 @@
+-- Messages and images that a sound world makes are sound, and may be bound to names.
+use Rattle.std.proofs.Common.{◌≡◌, ◌≢◌, inr, ℕ, List, Bool, true, false, Option, Some, None, Result, Ok, Err, refl, sym, ap, ◌∙◌, subst, if◌then◌else◌}
+use Rattle.std.specs.BTreeMap.{is_at}
+use Rattle.adr_stamp.specs.Order.{identifier_order}
+use Rattle.adr_event.specs.declared.answer.Outcome.{Outcome}
+use Rattle.adr_event.specs.declared.answer.Outcome.TheVariants as outcomes
+use Rattle.adr_model.specs.Refused.{quarantined}
+use Rattle.adr_event.specs.declared.refusal.ServeRefusal.{ServeRefusal}
+use Rattle.adr_event.specs.declared.refusal.ServeRefusal.TheVariants as serves
+use Rattle.adr_model.specs.Member.{Member}
+use Rattle.adr_model.specs.Update.{Identifier}
+use Rattle.adr_model.specs.Place.{identifier}
+use Rattle.adr_model.specs.Store.{Kept, Store, no_mark, kept_of}
+use Rattle.adr_model.specs.Serve.{Request, Reply, is_quarantined, ask, serve_refusal, reply_to, serve}
+use Rattle.adr_model.specs.Collect.{backup}
+use Rattle.adr_model.specs.Replica.{Replica}
+use Rattle.adr_model.specs.World.{Name, World, Snapshot, Sent, bound, nothing, of_controller, asks, after_serve, served, serves_request, backed_up}
+use Rattle.adr_model.specs.Sound.{IsSoundRequest, IsSoundReply, IsSoundStore, IsGiven, AreMarksGiven, IsSoundWorld}
+use Rattle.adr_law_logs.proofs.Tables.{each_found}
+use Rattle.adr_law_logs.proofs.Asked.{asked_is_sound}
+use Rattle.adr_law_logs.proofs.Granted.{served_is_sound, no_rollback}
+use Rattle.adr_law_knowledge.proofs.Refusing.{answered}
+use Rattle.adr_law_convergence.proofs.Found.{each_bound}
+use Rattle.adr_law_convergence.proofs.Reached.{made_case, up_case, reached_case}
+
+-- the world is as it was, and what is made is so
+abbrev pub Makes : {A : Type 0} → World → (A → Type 0) → Sent A → Type 0
+Makes w P t = (t.0 ≡ w) × ((x : _) → t.2 ≡ Some x → P x)
+
+pub made_nothing : {A : Type 0} (w : World) (P : A → Type 0) (x : Outcome) → Makes w P (nothing w x)
+made_nothing w P x = (refl, λ y e. absurd (cc))
+
+pub only_made : {A : Type 0} (P : A → Type 0) (x : A) → P x → (y : A) → Some x ≡ Some y → P y
+only_made P x p y e = let s : x ≡ y = cc in subst P s p
+
+-- what a partner is kept under is given, or nothing is kept
+kept_given : (w : World) (s : Store) (partner : Identifier) → AreMarksGiven w s → IsGiven w (kept_of s partner).inv
+kept_given w s partner given = each_found (λ (k : Kept). IsGiven w k.inv) (is_at (identifier_order partner)) s.marks (record { inv = identifier 0; mark = no_mark }) (inr refl) given
+
+module _ (w : World) (sound : IsSoundWorld w) where
+  abbrev pub IsRequest : Request → Type 0
+  IsRequest q = IsSoundRequest w.book q × IsGiven w q.inv
+
+  abbrev pub IsReply : Reply → Type 0
+  IsReply r = IsSoundReply w.book r × Member r.inv w.given.invs
+
+  abbrev pub IsImage : Store → Type 0
+  IsImage s = IsSoundStore w.book s × AreMarksGiven w s
+
+  pub asks_sound : (name partner : Name) (max : ℕ) → Makes w IsRequest (asks w name partner max)
+  asks_sound name partner max =
+      made_case (Makes w IsRequest) w name (nothing w) none _ (λ r is. made_case (Makes w IsRequest) w partner (nothing w) none _ (λ p at. up_case (Makes w IsRequest) w name (nothing w) none r.standing _ (λ up.
+      (refl, only_made IsRequest (ask r.safe p.safe.dsa max) (asked_is_sound w.book r.safe p.safe.dsa max (sound.replicas r is.there).safe.store, kept_given w r.safe.store p.safe.dsa (sound.identifiers.marks r is.there).0)))))
+    where
+      none : (x : Outcome) → Makes w IsRequest (nothing w x)
+      none x = made_nothing w IsRequest x
+
+  module _ (r : Replica) (there : Member r w.replicas) where
+    other_refusal : (x : ServeRefusal) → ((inv : Identifier) (mine shown : ℕ) → x ≢ serves.RolledBack inv mine shown) → Makes w IsReply (after_serve w r (Err x))
+    other_refusal (serves.RolledBack inv mine shown) other = absurd (other inv mine shown refl)
+    other_refusal _ other = (refl, λ y e. absurd (cc))
+
+    serve_sound : (q : Request) → IsSoundRequest w.book q → Makes w IsReply (after_serve w r (serve r.safe q))
+    serve_sound q is = by (serve r.safe q) refl
+      where
+        own : serve_refusal r.safe q ≡ serve_refusal r.safe q → (reply : Reply) → serve r.safe q ≡ Ok reply → reply.inv ≡ r.safe.inv
+        own same reply e = ap (λ (p : Reply). p.inv) (sym (answered (serve_refusal r.safe q) (reply_to r.safe q) reply e).1)
+
+        by : (t : Result Reply ServeRefusal) → serve r.safe q ≡ t → Makes w IsReply (after_serve w r t)
+        by (Ok reply) e = (
+          refl,
+          only_made IsReply reply (
+            served_is_sound w.book r.safe q reply sound.book (sound.replicas r there).safe is e,
+            subst (λ (i : Identifier). Member i w.given.invs) (sym (own refl reply e)) (sound.identifiers.invs_given r there),
+          ),
+        )
+        by (Err x) e = other_refusal x (λ inv mine shown s. no_rollback w.book r.safe q inv mine shown (sound.replicas r there).safe is (e ∙ ap Err s))
+
+    served_sound : (o : Option Request) → ((q : Request) → o ≡ Some q → IsSoundRequest w.book q) → Makes w IsReply (served w r o)
+    served_sound None all = made_nothing w IsReply outcomes.Absent
+    served_sound (Some q) all = serve_sound q (all q refl)
+
+  pub serves_sound : (name : Name) (o : Option Request) → ((q : Request) → o ≡ Some q → IsSoundRequest w.book q) → Makes w IsReply (serves_request w name o)
+  serves_sound name o all = reached_case (Makes w IsReply) w name (nothing w) (made_nothing w IsReply) (λ r. served w r o) (λ r is up. served_sound r is.there o all)
+
+  backed_up_sound : (r : Replica) → Member r w.replicas → Makes w IsImage (backed_up w (backup r.safe))
+  backed_up_sound r there = by (is_quarantined r.safe.mode)
+    where
+      by : (b : Bool) → Makes w IsImage (backed_up w (if b then None else Some r.safe.store))
+      by true = made_nothing w IsImage quarantined
+      by false = (refl, only_made IsImage r.safe.store ((sound.replicas r there).safe.store, (sound.identifiers.marks r there).0))
+
+  pub backups_sound : (name : Name) → Makes w IsImage (of_controller w name (nothing w) (λ r. backed_up w (backup r.safe)))
+  backups_sound name = reached_case (Makes w IsImage) w name (nothing w) (made_nothing w IsImage) (λ r. backed_up w (backup r.safe)) (λ r is up. backed_up_sound r is.there)
+
+  -- ---- what is bound
+
+  pub requested : (name : Name) (o : Option Request) → ((q : Request) → o ≡ Some q → IsRequest q) → IsSoundWorld (record w { requests = bound w.requests name o })
+  requested name o all = record {
+    clean = sound.clean;
+    book = sound.book;
+    replicas = sound.replicas;
+    images = sound.images;
+    requests = each_bound (IsSoundRequest w.book) w.requests name o sound.requests (λ q e. (all q e).0);
+    replies = sound.replies;
+    identifiers = record {
+      names = sound.identifiers.names;
+      dsas = sound.identifiers.dsas;
+      invs = sound.identifiers.invs;
+      dsas_given = sound.identifiers.dsas_given;
+      invs_given = sound.identifiers.invs_given;
+      unused = sound.identifiers.unused;
+      marks = sound.identifiers.marks;
+      image_marks = sound.identifiers.image_marks;
+      requests = each_bound (λ q. IsGiven w q.inv) w.requests name o sound.identifiers.requests (λ q e. (all q e).1);
+      replies = sound.identifiers.replies;
+    };
+    normal = sound.normal;
+  }
+
+  pub replied : (name : Name) (o : Option Reply) → ((r : Reply) → o ≡ Some r → IsReply r) → IsSoundWorld (record w { replies = bound w.replies name o })
+  replied name o all = record {
+    clean = sound.clean;
+    book = sound.book;
+    replicas = sound.replicas;
+    images = sound.images;
+    requests = sound.requests;
+    replies = each_bound (IsSoundReply w.book) w.replies name o sound.replies (λ q e. (all q e).0);
+    identifiers = record {
+      names = sound.identifiers.names;
+      dsas = sound.identifiers.dsas;
+      invs = sound.identifiers.invs;
+      dsas_given = sound.identifiers.dsas_given;
+      invs_given = sound.identifiers.invs_given;
+      unused = sound.identifiers.unused;
+      marks = sound.identifiers.marks;
+      image_marks = sound.identifiers.image_marks;
+      requests = sound.identifiers.requests;
+      replies = each_bound (λ r. Member r.inv w.given.invs) w.replies name o sound.identifiers.replies (λ q e. (all q e).1);
+    };
+    normal = sound.normal;
+  }
+
+  pub imaged : (name : Name) (o : Option Store) → ((s : Store) → o ≡ Some s → IsImage s) → IsSoundWorld (record w { images = bound w.images name o })
+  imaged name o all = record {
+    clean = sound.clean;
+    book = sound.book;
+    replicas = sound.replicas;
+    images = each_bound (IsSoundStore w.book) w.images name o sound.images (λ q e. (all q e).0);
+    requests = sound.requests;
+    replies = sound.replies;
+    identifiers = record {
+      names = sound.identifiers.names;
+      dsas = sound.identifiers.dsas;
+      invs = sound.identifiers.invs;
+      dsas_given = sound.identifiers.dsas_given;
+      invs_given = sound.identifiers.invs_given;
+      unused = sound.identifiers.unused;
+      marks = sound.identifiers.marks;
+      image_marks = each_bound (AreMarksGiven w) w.images name o sound.identifiers.image_marks (λ q e. (all q e).1);
+      requests = sound.identifiers.requests;
+      replies = sound.identifiers.replies;
+    };
+    normal = sound.normal;
+  }
+
+  -- only the time and the snapshots change
+  pub aside : (time : ℕ) (snapshots : List (Name × Snapshot)) → IsSoundWorld (record w { time = time; snapshots = snapshots })
+  aside time snapshots = record {
+    clean = sound.clean;
+    book = sound.book;
+    replicas = sound.replicas;
+    images = sound.images;
+    requests = sound.requests;
+    replies = sound.replies;
+    identifiers = record {
+      names = sound.identifiers.names;
+      dsas = sound.identifiers.dsas;
+      invs = sound.identifiers.invs;
+      dsas_given = sound.identifiers.dsas_given;
+      invs_given = sound.identifiers.invs_given;
+      unused = sound.identifiers.unused;
+      marks = sound.identifiers.marks;
+      image_marks = sound.identifiers.image_marks;
+      requests = sound.identifiers.requests;
+      replies = sound.identifiers.replies;
+    };
+    normal = sound.normal;
+  }

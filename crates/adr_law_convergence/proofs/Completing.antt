@@ -1,0 +1,225 @@
+-- A cycle with nothing in the way ends with the last reply, and carries everything, or says that there are more.
+use Rattle.std.proofs.Common.{◌≡◌, ◌≢◌, ◌⊎◌, inl, inr, ⊎_elim, ℕ, zero, suc, ◌≤◌, List, [], ◌++◌, Bool, true, false, cond, Option, Some, None, is_none, unwrap_or, refl, sym, ap, ◌∙◌, subst, arith, max, filter, length}
+use Rattle.std.specs.Prelude.{codes, nat_lt}
+use Rattle.std.specs.Str.{bytes_eq}
+use Rattle.adr_vector.specs.Vector.{Cursors, at, joined}
+use Rattle.adr_vector.proofs.Joining.{at-joined, raised_elsewhere}
+use Rattle.adr_event.specs.declared.answer.Answer.{Answer}
+use Rattle.adr_event.specs.declared.answer.Outcome.{Outcome}
+use Rattle.adr_event.specs.declared.answer.Outcome.TheVariants as outcomes
+use Rattle.adr_vector.specs.declared.mark.Mark.{Mark}
+use Rattle.adr_model.specs.Member.{Member, Each}
+use Rattle.adr_model.specs.Update.{Identifier, Update}
+use Rattle.adr_model.specs.Reflects.{knowledge_of, Reflects}
+use Rattle.adr_model.specs.Store.{Held, Kept, State, updates_of, kept_of, mark_of}
+use Rattle.adr_model.specs.LocalLog.{rows_at}
+use Rattle.adr_model.specs.Serve.{Reply, last_local, units_of}
+use Rattle.adr_model.specs.Replica.{Replica, log_of}
+use Rattle.adr_model.specs.World.{Name, World, answer, replica_at}
+use Rattle.adr_model.specs.Cycles.{Pulled, and_then, pulls, reply_limit}
+use Rattle.adr_model.specs.Sound.{IsSoundState, IsSoundWorld}
+use Rattle.adr_model.specs.Convergence.{units_beyond, replies_taken, IsRefused, IsReadWhole, IsCompleted, AreUnlimited, CycleEnds}
+use Rattle.adr_model.proofs.Members.{found, member_right}
+use Rattle.adr_law_steps.proofs.Rows.{held_as}
+use Rattle.adr_law_convergence.proofs.Found.{replica_found, same_name, same_name_tests}
+use Rattle.adr_law_convergence.proofs.Cycling.{Goes, IsLike, reply, change, next, behind, taking, told, Takes, MeetsLimit, took, taken_or_not, next_found, server, server_found, behind_sound, left, idle, gained, server_like, goes_on, keeps, kept, kept_as, nearer_end, ended, one_of}
+
+-- the units beyond a mark, by what the source is and has
+abbrev units_of_source : State → Identifier → Identifier → List Held → ℕ
+units_of_source d dsa inv rows = length (filter (λ unit. nat_lt (mark_of (kept_of d.store dsa) inv).obj (last_local rows unit)) (units_of rows))
+
+-- all of a source was read, by what it is and its USN
+abbrev WasRead : State → Identifier → Identifier → ℕ → Type 0
+WasRead after dsa inv usn = kept_of after.store dsa ≡ record { inv = inv; mark = record { obj = usn; prop = usn; seen = usn } }
+
+module _ (w v : World) (dest source : Name) (d s : Replica) (goes : Goes w v dest source d s) (most : ℕ) (le : 1 ≤ most) where
+  abbrev r : Reply
+  r = reply w v dest source d s goes most
+
+  abbrev n : Replica
+  n = next w v dest source d s goes most
+
+  abbrev u : World
+  u = behind w v dest source d s goes most
+
+  abbrev answers : Outcome → List Answer
+  answers o = told w v dest source d s goes most o
+
+  module _ (ok : Takes w v dest source d s goes most) where
+    abbrev z : Replica
+    z = server w v dest source d s goes most
+
+    like : IsLike s.safe z.safe
+    like = server_like w v dest source d s goes most ok
+
+    world : IsSoundWorld u
+    world = behind_sound w v dest source d s goes most ok
+
+    there : Member n u.replicas × (n.name ≡ dest)
+    there = replica_found u dest n (next_found w v dest source d s goes most)
+
+    serves : Member z u.replicas × (z.name ≡ source)
+    serves = replica_found u source z (server_found w v dest source d s goes most)
+
+    -- a mark that leaves out all that the source has
+    all_read : r.to ≡ record { obj = s.safe.store.usn; prop = s.safe.store.usn; seen = s.safe.store.usn } → Each (λ x. Reflects w.book.issued (knowledge_of n.safe.store) x) (updates_of s.safe.store.rows)
+    all_read to x m = subst (λ is. Reflects is (knowledge_of n.safe.store) x) (goes_on w v dest source d s goes most ok).issued (subst (λ (y : Update). Reflects u.book.issued (knowledge_of n.safe.store) y) (sym h.2) reflected)
+      where
+        prop : r.to.prop ≡ s.safe.store.usn
+        prop = ap (λ (m : Mark). m.prop) to
+
+        seen : r.to.seen ≡ s.safe.store.usn
+        seen = ap (λ (m : Mark). m.seen) to
+
+        h : (y : Held) × Member y s.safe.store.rows × (x ≡ y.update)
+        h = held_as s.safe.store.rows x m
+
+        z_safe : IsSoundState u.book z.safe
+        z_safe = (world.replicas z serves.0).safe
+
+        in_z : Member h.0 z.safe.store.rows
+        in_z = subst (λ (rs : List Held). Member h.0 rs) (sym like.rows) h.1
+
+        rows : z.safe.store.rows ≡ rows_at (log_of u.book s.safe.inv) r.to.seen
+        rows = z_safe.rows ∙ (ap (λ i. rows_at (log_of u.book i) z.safe.store.usn) like.inv ∙ ap (rows_at (log_of u.book s.safe.inv)) (like.usn ∙ sym seen))
+
+        reflected : Reflects u.book.issued (knowledge_of n.safe.store) h.0.update
+        reflected = ((world.replicas n there.0).safe.store.marks (s.safe.dsa, record { inv = s.safe.inv; mark = r.to }) (kept w v dest source d s goes most)).watermark h.0
+            (subst (λ (rs : List Held). Member h.0 rs) rows in_z) (inl (omega (arith, (z_safe.store.formed.locals h.0 in_z).1, like.usn, prop)))
+
+    -- what is taken is written out of the issued updates of the first world
+    nothing_new : Each (λ x. Reflects w.book.issued (knowledge_of d.safe.store) x) (updates_of s.safe.store.rows) → (n.safe.store.usn ≡ d.safe.store.usn) × (n.safe.store.rows ≡ d.safe.store.rows)
+    nothing_new all = idle w v dest source d s goes most ok (λ x m. subst (λ is. Reflects is (knowledge_of d.safe.store) x) (sym goes.issued) (all x m))
+
+    joined_is : (i : Identifier) → i ≢ d.safe.inv → at n.safe.store.vector i ≡ max (at d.safe.store.vector i) (at (unwrap_or r.last []) i)
+    joined_is i other = raised_elsewhere (joined d.safe.store.vector (unwrap_or r.last [])) d.safe.inv (change w v dest source d s goes most).usn i other
+        ∙ at-joined (unwrap_or r.last []) d.safe.store.vector i (left w v dest source d s goes most ok).1.joined.rising
+
+    -- the last reply
+    done : (W : Cursors) → r.last ≡ Some W → IsCompleted w d.safe s.safe (answers (taking w v dest source d s goes most)) n.safe
+    done W last = record {
+      replies = let e : replies_taken (answers (taking w v dest source d s goes most)) ≡ 1 = refl in (omega (arith, e), omega (arith, e));
+      mark = kept_as w v dest source d s goes most ∙ ap (λ (m : Mark). let k : Kept = record { inv = s.safe.inv; mark = m } in k) t.0;
+      took = all_read t.0;
+      keeps = keeps w v dest source d s goes most ok;
+      gained = gained w v dest source d s goes most ok;
+      vector = λ i other. joined_is i other ∙ ap (λ (o : Option Cursors). max (at d.safe.store.vector i) (at (unwrap_or o []) i)) last ∙ ap (λ x. max (at d.safe.store.vector i) (at x i)) t.1;
+      own = (world.replicas n there.0).safe.formed.own;
+      idle = nothing_new;
+    }
+      where
+        t : (r.to ≡ record { obj = s.safe.store.usn; prop = s.safe.store.usn; seen = s.safe.store.usn }) × (W ≡ s.safe.store.vector)
+        t = ended w v dest source d s goes most W last
+
+    units_are : units_beyond n.safe z.safe ≡ units_beyond n.safe s.safe
+    units_are =
+        ap (λ x. units_of_source n.safe x z.safe.inv z.safe.store.rows) like.dsa
+        ∙ (ap (λ x. units_of_source n.safe s.safe.dsa x z.safe.store.rows) like.inv ∙ ap (units_of_source n.safe s.safe.dsa s.safe.inv) like.rows)
+
+    -- a reply that isn't the last, and what comes after it
+    module _ (more : r.last ≡ None) (rest : List Answer) (after : State) (same : after.inv ≡ d.safe.inv) (c : IsCompleted w n.safe z.safe rest after) where
+      of_server : (x : Update) → Member x (updates_of z.safe.store.rows) → Member x (updates_of s.safe.store.rows)
+      of_server x m = subst (λ (rs : List Held). Member x (updates_of rs)) like.rows m
+
+      to_server : (x : Update) → Member x (updates_of s.safe.store.rows) → Member x (updates_of z.safe.store.rows)
+      to_server x m = subst (λ (rs : List Held). Member x (updates_of rs)) (sym like.rows) m
+
+      unchanged : (i : Identifier) → i ≢ d.safe.inv → at n.safe.store.vector i ≡ at d.safe.store.vector i
+      unchanged i other = joined_is i other ∙ ap (λ (o : Option Cursors). max (at d.safe.store.vector i) (at (unwrap_or o []) i)) more ∙ omega arith
+
+      served_vector : (i : Identifier) → i ≢ d.safe.inv → max (at n.safe.store.vector i) (at z.safe.store.vector i) ≡ max (at d.safe.store.vector i) (at s.safe.store.vector i)
+      served_vector i other = by (bytes_eq s.name d.name) refl
+        where
+          by : (b : Bool) → bytes_eq s.name d.name ≡ b → max (at n.safe.store.vector i) (at (cond b n s).safe.store.vector i) ≡ max (at d.safe.store.vector i) (at s.safe.store.vector i)
+          by true is = ap (λ k. max k k) (unchanged i other) ∙ ap (λ (x : Replica). max (at d.safe.store.vector i) (at x.safe.store.vector i)) (sym (one_of w v dest source d s goes most is))
+          by false is = ap (λ k. max k (at s.safe.store.vector i)) (unchanged i other)
+
+      read : IsReadWhole s.safe after
+      read = subst (λ k. WasRead after k s.safe.inv s.safe.store.usn) like.dsa (subst (λ k. WasRead after z.safe.dsa k s.safe.store.usn) like.inv (subst (WasRead after z.safe.dsa z.safe.inv) like.usn c.mark))
+
+      gains : Each (λ x. Member x (updates_of d.safe.store.rows) ⊎ (Member x (updates_of s.safe.store.rows) × (Reflects w.book.issued (knowledge_of d.safe.store) x → ⊥))) (updates_of after.store.rows)
+      gains x m = ⊎_elim (λ old. gained w v dest source d s goes most ok x old) (λ new. inr (of_server x new.0, λ h. new.1 (keeps w v dest source d s goes most ok x h))) (c.gained x m)
+
+      onward : IsCompleted w d.safe s.safe (answers (taking w v dest source d s goes most) ++ rest) after
+      onward = record {
+        replies = let near = nearer_end w v dest source d s goes most le more in
+            let e : replies_taken (answers (taking w v dest source d s goes most) ++ rest) ≡ suc (replies_taken rest) = refl in
+            (omega (arith, e), omega (arith, e, c.replies.1, units_are, near.0, near.1));
+        mark = read;
+        took = λ x m. c.took x (to_server x m);
+        keeps = λ x h. c.keeps x (keeps w v dest source d s goes most ok x h);
+        gained = gains;
+        vector = λ i other. c.vector i other ∙ served_vector i (λ e. other (e ∙ sym same));
+        own = c.own;
+        idle = λ all. let t = c.idle (λ x m. keeps w v dest source d s goes most ok x (all x (of_server x m))) in let u = nothing_new all in (t.0 ∙ u.0, t.1 ∙ u.1);
+      }
+
+-- so many replies were taken, and there are more
+abbrev TookAll : ℕ → Name → List Answer → Type 0
+TookAll n dest told = (replies_taken told ≡ n) × Member (answer (codes "cycle") dest outcomes.More) told
+
+-- what so many pulls come to, where no limit is met
+abbrev Goal : ℕ → World → Name → State → State → World × List Answer → Type 0
+Goal n w dest d s t = AreUnlimited t.1 → TookAll n dest t.1 ⊎ ((after : Replica) × Member after t.0.replicas × (after.name ≡ dest) × (after.safe.inv ≡ d.inv) × IsCompleted w d s t.1 after.safe)
+
+unlimited_rest : (first rest : List Answer) → AreUnlimited (first ++ rest) → AreUnlimited rest
+unlimited_rest first rest none = (λ a m. none.0 a (member_right first rest a m), λ a m. none.1 a (member_right first rest a m))
+
+completes : (w : World) (dest source : Name) (most : ℕ) → 1 ≤ most → (fuel : ℕ) (v : World) (d s : Replica) → Goes w v dest source d s → Goal fuel w dest d.safe s.safe (pulls fuel v dest source most)
+completes w dest source most le zero v d s goes = λ none. inl (refl, inl refl)
+completes w dest source most le (suc fuel) v d s goes = by (λ x e f is. completes w dest source most le fuel x e f is) (taken_or_not w v dest source d s goes most)
+  where
+    r : Reply
+    r = reply w v dest source d s goes most
+
+    n : Replica
+    n = next w v dest source d s goes most
+
+    z : Replica
+    z = server w v dest source d s goes most
+
+    u : World
+    u = behind w v dest source d s goes most
+
+    answers : List Answer
+    answers = told w v dest source d s goes most (taking w v dest source d s goes most)
+
+    go : World → World × List Answer
+    go x = pulls fuel x dest source most
+
+    Rest : Type 0
+    Rest = (x : World) (e f : Replica) → Goes w x dest source e f → Goal fuel w dest e.safe f.safe (pulls fuel x dest source most)
+
+    was : Rest → (ok : Takes w v dest source d s goes most) → (o : Option Cursors) → r.last ≡ o → Goal (suc fuel) w dest d.safe s.safe (and_then (u, answers, is_none o) go)
+    was rest ok (Some W) last none = inr (n, (there w v dest source d s goes most le ok).0, (there w v dest source d s goes most le ok).1, refl, done w v dest source d s goes most le ok W last)
+    was rest ok None more none = ⊎_elim
+        (λ all. inl (let e : replies_taken (answers ++ (go u).1) ≡ suc (replies_taken (go u).1) = refl in e ∙ ap suc all.0, member_right answers (go u).1 (answer (codes "cycle") dest outcomes.More) all.1))
+        (λ t. inr (t.0, t.1, t.2, t.3, onward w v dest source d s goes most le ok more (go u).1 t.0.safe t.3 t.4))
+        (rest u n z (goes_on w v dest source d s goes most ok) (unlimited_rest answers (go u).1 none))
+
+    -- an answer that says that a limit is met
+    met : (o : Outcome) → IsRefused 21 o ⊎ IsRefused 22 o → AreUnlimited (told w v dest source d s goes most o) → ⊥
+    met o limit none = ⊎_elim (none.0 (answer (codes "deliver") dest o) (inr (inr (inl refl)))) (none.1 (answer (codes "deliver") dest o) (inr (inr (inl refl)))) limit
+
+    by : Rest → Takes w v dest source d s goes most ⊎ MeetsLimit w v dest source d s goes most → Goal (suc fuel) w dest d.safe s.safe (pulls (suc fuel) v dest source most)
+    by rest (inl ok) = subst (λ (p : Pulled). Goal (suc fuel) w dest d.safe s.safe (and_then p go)) (sym (took w v dest source d s goes most ok)) (was rest ok r.last refl)
+    by rest (inr (o, e, limit)) = subst (λ (p : Pulled). Goal (suc fuel) w dest d.safe s.safe (and_then p go)) (sym e) (λ none. absurd (met o limit none))
+
+pub found_by_name : (w : World) (r : Replica) → IsSoundWorld w → Member r w.replicas → replica_at w r.name ≡ Some r
+found_by_name w r sound m = found (λ (x : Replica). bytes_eq x.name r.name) w.replicas r m (same_name_tests r.name r.name refl) (λ x n is. sound.identifiers.names x n r m (same_name x.name r.name is))
+
+pub cycle_ends : CycleEnds
+cycle_ends w dest source most sound may le unlimited = ⊎_elim (λ all. inl (record { replies = all.0; more = all.1 })) (λ t. inr (t.0, t.1, t.2, t.4)) (completes w dest.name source.name most le reply_limit w dest source goes unlimited)
+  where
+    goes : Goes w w dest.name source.name dest source
+    goes = record {
+      sound = sound;
+      issued = refl;
+      d_found = found_by_name w dest sound may.dest_there;
+      s_found = found_by_name w source sound may.source_there;
+      d_up = may.dest_up;
+      s_up = may.source_up;
+      plan = may.dest_unplanned;
+      schema = may.schema;
+      purged = may.purged;
+    }

@@ -1,0 +1,62 @@
+-- What every run comes to, and what of it was acknowledged on the way.
+use Rattle.std.proofs.Common.{◌≡◌, ℕ, List, [], ◌∷◌, ◌++◌, Bool, true, false, refl, sym, ◌∙◌, subst}
+use Rattle.adr_event.specs.declared.event.Event.{Event}
+use Rattle.adr_model.specs.Change.{Written}
+use Rattle.adr_model.specs.Write.{items_written}
+use Rattle.adr_model.specs.World.{World, empty_world}
+use Rattle.adr_model.specs.Step.{step, after_lines}
+use Rattle.adr_model.specs.Sound.{IsSoundWorld}
+use Rattle.adr_model.specs.Convergence.{MayHappen, MayAllHappen, IsAcknowledged, acknowledged, AreInView, RunsConverge, AcknowledgedStaysInView}
+use Rattle.adr_model.proofs.Members.{flat_member}
+use Rattle.adr_law_convergence.proofs.Controllers.{shows_what_is_visible, own_is_visible, equal_coverage_shows}
+use Rattle.adr_law_convergence.proofs.Lines.{runs_are_sound}
+use Rattle.adr_law_convergence.proofs.Acknowledged.{acknowledged_is_issued}
+use Rattle.adr_law_convergence.proofs.Issuing.{Keeps, same, onward, step_keeps}
+
+pub runs_converge : RunsConverge
+runs_converge es may clean = let sound = (runs_are_sound es may).sound clean in (shows_what_is_visible (after_lines empty_world es) sound, equal_coverage_shows (after_lines empty_world es) sound)
+
+-- a line within a run
+line_may : (before after : List Event) (e : Event) (w : World) → MayAllHappen w (before ++ e ∷ after) → MayAllHappen w before × MayHappen (after_lines w before) e
+line_may [] after e w may = (tt, may.0)
+line_may (f ∷ before) after e w may = let t = line_may before after e (step w f).0 may.1 in ((may.0, t.0), t.1)
+
+run_goes_on : (before after : List Event) (e : Event) (w : World) → after_lines w (before ++ e ∷ after) ≡ after_lines (step (after_lines w before) e).0 after
+run_goes_on [] after e w = refl
+run_goes_on (f ∷ before) after e w = run_goes_on before after e (step w f).0
+
+lines_keep : (es : List Event) (w : World) → Keeps w (after_lines w es)
+lines_keep [] w = same w
+lines_keep (e ∷ es) w = onward w (step w e).0 (after_lines (step w e).0 es) (step_keeps w e) (lines_keep es (step w e).0)
+
+module _ (before after : List Event) (e : Event) (may : MayAllHappen empty_world (before ++ e ∷ after)) (clean : (after_lines empty_world (before ++ e ∷ after)).clean ≡ true) where
+  abbrev w : World
+  w = after_lines empty_world before
+
+  abbrev end : World
+  end = after_lines empty_world (before ++ e ∷ after)
+
+  parts : MayAllHappen empty_world before × MayHappen w e
+  parts = line_may before after e empty_world may
+
+  from_line : Keeps (step w e).0 end
+  from_line = subst (λ (v : World). Keeps (step w e).0 v) (sym (run_goes_on before after e empty_world)) (lines_keep after (step w e).0)
+
+  -- a run that ends clean was clean before
+  sound_before : IsSoundWorld w
+  sound_before = (runs_are_sound before parts.0).sound (by w.clean refl)
+    where
+      by : (b : Bool) → w.clean ≡ b → b ≡ true
+      by true is = refl
+      by false is = let t : end.clean ≡ false = from_line.unclean ((step_keeps w e).unclean is) in cc
+
+  stays_in_view : (behind : World) → Keeps behind end → (usn : ℕ) (k : IsAcknowledged w e usn behind) → AreInView end k.writer.safe.inv (acknowledged w k)
+  stays_in_view behind kept usn k r m own u n =
+      let x = flat_member (λ (x : Written). x.item.rows) (items_written k.writer.safe k.write.what w.time) u n in
+      let i = (k.issued x.0 x.1).rows u x.2 in
+      own_is_visible end ((runs_are_sound (before ++ e ∷ after) may).sound clean) r m u (kept.issued u i.0) (i.1.0 ∙ sym own)
+
+pub acknowledged_stays_in_view : AcknowledgedStaysInView
+acknowledged_stays_in_view before after e usn may clean a m is =
+    let k = acknowledged_is_issued (w before after e may clean) e usn (sound_before before after e may clean) (parts before after e may clean).1 a m is in
+    (k, stays_in_view before after e may clean (step (w before after e may clean) e).0 (from_line before after e may clean) usn k)

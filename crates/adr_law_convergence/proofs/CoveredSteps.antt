@@ -1,0 +1,200 @@
+-- What was collected stays covered by each event.
+use Rattle.std.proofs.Common.{◌≡◌, ◌⊎◌, inl, inr, ℕ, List, [], ◌∷◌, ◌++◌, Bool, true, false, Option, Some, None, Result, Ok, Err, refl, sym, ap, ◌∙◌, subst, fold, length, if◌then◌else◌}
+use Rattle.adr_event.specs.declared.answer.Outcome.{Outcome}
+use Rattle.adr_event.specs.declared.answer.Outcome.TheVariants as outcomes
+use Rattle.adr_event.specs.declared.event.Event.TheVariants as events
+use Rattle.adr_event.specs.declared.refusal.WriteRefusal.{WriteRefusal}
+use Rattle.adr_event.specs.declared.refusal.ServeRefusal.{ServeRefusal}
+use Rattle.adr_event.specs.declared.refusal.ServeRefusal.TheVariants as serves
+use Rattle.adr_event.specs.declared.refusal.TakeRefusal.{TakeRefusal}
+use Rattle.adr_event.specs.declared.refusal.TakeRefusal.TheVariants as takes
+use Rattle.adr_event.specs.declared.refusal.CollectRefusal.{CollectRefusal}
+use Rattle.adr_event.specs.declared.refusal.AdoptRefusal.{AdoptRefusal}
+use Rattle.adr_model.specs.Member.{Member}
+use Rattle.adr_model.specs.Update.{Identifier}
+use Rattle.adr_model.specs.Store.{Store, State, empty_state}
+use Rattle.adr_model.specs.Change.{Change, after}
+use Rattle.adr_model.specs.Serve.{Request, Reply, is_quarantined, ask, serve}
+use Rattle.adr_model.specs.Write.{Write, items_written, own_change, write_refusal, write}
+use Rattle.adr_model.specs.Take.{take_items, taken_change, refusal_of, take}
+use Rattle.adr_model.specs.Collect.{collection, deaths_to_collect, collect_refusal, collect, backup, adopt, quarantine}
+use Rattle.adr_model.specs.Lengths.{new_log_end, log_end_after}
+use Rattle.adr_model.specs.Refused.{serve_refused, take_refused, quarantined}
+use Rattle.adr_model.specs.Replica.{Pending, ToWrite, ToTake, ToCollect, ToQuarantine, Standing, Up, Down, Failed, Plan, Replica, on_new_disk, Book, begun, Settle, moved, went, moves_of_commit, moves_of_start, standing_after, plan_after}
+use Rattle.adr_model.specs.World.{Name, World, Snapshot, Gone, Sent, stays, nothing, bound, bound_at, replica_at, with_replica, of_made, of_controller, committed, commit, quarantines, after_write, writes, after_collect, asks, after_serve, served, serves_request, after_take, delivered, delivers, backed_up, adopts, of_image, put_back, with_plan, stops, starts, shown}
+use Rattle.adr_model.specs.Step.{gives, step}
+use Rattle.adr_model.specs.Convergence.{IsStoreOf, IsPurgedCovered, KeepsCovered}
+use Rattle.adr_model.proofs.Members.{member_of_either}
+use Rattle.adr_law_knowledge.proofs.Refusing.{answered}
+use Rattle.adr_law_logs.proofs.Woken.{adopted_is_woken}
+use Rattle.adr_law_convergence.proofs.Found.{bound_member}
+use Rattle.adr_law_convergence.proofs.Reached.{made_case, up_case, reached_case, within_case}
+use Rattle.adr_law_convergence.proofs.Binding.{Makes, made_nothing, only_made}
+use Rattle.adr_law_convergence.proofs.Covered.{IsGrown, IsCovered, MayCome, nothing_collected, nothing_covered, deaths_covered, raised_grows, as_it_was, purged_covered, comes_itself, changed_comes, both_come, placed, joining, requested, imaged}
+use Rattle.adr_law_convergence.proofs.Moves.{settling, starting, committing}
+
+-- ---- calls
+
+module _ (w : World) (covered : IsPurgedCovered w) where
+  abbrev OfWorld : Gone → Type 0
+  OfWorld g = IsPurgedCovered g.0
+
+  unpurged : (c d : Change) → c ≡ d → c.purged ≡ [] → IsCovered w d.purged
+  unpurged c d e none = subst (λ (f : Change). IsCovered w f.purged) e (subst (IsCovered w) (sym none) (nothing_covered w))
+
+  module _ (r : Replica) (there : Member r w.replicas) where
+    moved_world : (m : Book × Replica) (standing : Standing) (plan : Option Plan) → MayCome w m.1.safe.store × MayCome w m.1.read.store
+        → IsPurgedCovered (record w { book = m.0; replicas = with_replica w.replicas (record m.1 { standing = standing; plan = plan }) })
+    moved_world m standing plan comes = placed w covered m.0 (record m.1 { standing = standing; plan = plan }) comes
+
+    commits : (p : Pending) (outcome : Outcome) → IsCovered w p.change.purged → IsPurgedCovered (commit w r p outcome).0
+    commits p outcome purged = within_case OfWorld w (log_end_after r.safe_end p.change) (committed w r p outcome) covered (moved_world (fold moved (w.book, r) (moves_of_commit p (went r.plan 4))) (standing_after Failed (went r.plan 4)) (plan_after (went r.plan 4))
+        (committing (λ (s : State). MayCome w s.store) w.book r (both_come w covered r there) p (changed_comes w covered r.safe p.change (inl (r, there, inl refl)) purged) (went r.plan 4)))
+
+    quarantining : (outcome : Outcome) → IsPurgedCovered (quarantines w r outcome).0
+    quarantining outcome = commits (record { call = ToQuarantine; change = quarantine r.safe }) outcome (nothing_covered w)
+
+    wrote : (what : Write) (t : Result Change WriteRefusal) → write r.safe what w.time ≡ t → IsPurgedCovered (after_write w r what t).0
+    wrote what (Err x) e = covered
+    wrote what (Ok c) e = commits (record { call = ToWrite what w.time; change = c }) (outcomes.Usn c.usn)
+        (unpurged (own_change r.safe (items_written r.safe what w.time)) c (answered (write_refusal r.safe what) (own_change r.safe (items_written r.safe what w.time)) c e).1 refl)
+
+    took : (reply : Reply) (t : Result Change TakeRefusal) → take r.safe reply ≡ t → IsPurgedCovered (after_take w r reply t).0
+    took reply (Ok c) e = commits (record { call = ToTake reply; change = c }) (outcomes.Took (length reply.items) (length c.writes) c.usn)
+        (unpurged (taken_change reply (take_items r.safe reply.items)) c (answered (refusal_of r.safe reply (take_items r.safe reply.items) (after r.safe (taken_change reply (take_items r.safe reply.items)))) (taken_change reply (take_items r.safe reply.items)) c e).1 refl)
+    took reply (Err (takes.RolledBack inv mine shown)) e = quarantining (take_refused (takes.RolledBack inv mine shown))
+    took reply (Err _) e = covered
+
+    took_bound : (o : Option Reply) → IsPurgedCovered (delivered w r o).0
+    took_bound None = covered
+    took_bound (Some reply) = took reply (take r.safe reply) refl
+
+    answered_with : (t : Result Reply ServeRefusal) → IsPurgedCovered (after_serve w r t).0
+    answered_with (Ok reply) = covered
+    answered_with (Err (serves.RolledBack inv mine shown)) = quarantining (serve_refused (serves.RolledBack inv mine shown))
+    answered_with (Err _) = covered
+
+    served_bound : (o : Option Request) → IsPurgedCovered (served w r o).0
+    served_bound None = covered
+    served_bound (Some q) = answered_with (serve r.safe q)
+
+    collected : (lifetime : ℕ) → ((c : Change) → collect r.safe w.time lifetime ≡ Ok c → IsCovered w (collection r.safe (deaths_to_collect r.safe w.time lifetime)).purged) → (t : Result Change CollectRefusal) → collect r.safe w.time lifetime ≡ t
+        → IsPurgedCovered (after_collect w r lifetime t).0
+    collected lifetime purged (Err x) e = covered
+    collected lifetime purged (Ok c) e = commits (record { call = ToCollect w.time lifetime; change = c }) (outcomes.Removed (length c.removed))
+        (subst (λ (d : Change). IsCovered w d.purged)
+        (answered (collect_refusal r.safe (collection r.safe (deaths_to_collect r.safe w.time lifetime))) (collection r.safe (deaths_to_collect r.safe w.time lifetime)) c e).1 (purged c e))
+
+    started_from : (standing : Standing) → IsPurgedCovered (starts w r standing).0
+    started_from Up = covered
+    started_from Down = moved_world (fold moved (w.book, r) (moves_of_start (went r.plan 1))) (standing_after r.standing (went r.plan 1)) (plan_after (went r.plan 1)) (starting (λ (s : State). MayCome w s.store) w.book r (both_come w covered r there) (went r.plan 1))
+    started_from Failed = moved_world (fold moved (w.book, r) (moves_of_start (went r.plan 1))) (standing_after r.standing (went r.plan 1)) (plan_after (went r.plan 1)) (starting (λ (s : State). MayCome w s.store) w.book r (both_come w covered r there) (went r.plan 1))
+
+    imaged_from : (b : Bool) → Makes w (MayCome w) (backed_up w (if b then None else Some r.safe.store))
+    imaged_from true = made_nothing w (MayCome w) quarantined
+    imaged_from false = (refl, only_made (MayCome w) r.safe.store (comes_itself w covered r.safe.store (inl (r, there, inl refl))))
+
+  -- a state that is made of an image
+  woken_comes : (image : Store) (dsa inv : Identifier) (s : State) → IsStoreOf w image → adopt image dsa inv ≡ Ok s → MayCome w s.store
+  woken_comes image dsa inv s of e = subst (λ (t : State). MayCome w t.store)
+      (adopted_is_woken image dsa inv s e)
+      (record { grown = raised_grows w image inv image.usn of; covered = purged_covered w covered image of })
+
+  restored : (name : Name) (dsa inv : Identifier) (image : Store) → IsStoreOf w image → (t : Result State AdoptRefusal) → adopt image dsa inv ≡ t → IsPurgedCovered (adopts w (with_replica w.replicas) name t).0
+  restored name dsa inv image of (Err x) e = covered
+  restored name dsa inv image of (Ok s) e = let new = woken_comes image dsa inv s of e in
+      within_case OfWorld w (new_log_end s) (record w { book = begun w.book s; replicas = with_replica w.replicas (on_new_disk name s) }, outcomes.Ok) covered (placed w covered (begun w.book s) (on_new_disk name s) (new, new))
+
+  installed : (name : Name) (dsa inv : Identifier) (image : Store) → IsStoreOf w image → (t : Result State AdoptRefusal) → adopt image dsa inv ≡ t → IsPurgedCovered (adopts w (λ r. w.replicas ++ r ∷ []) name t).0
+  installed name dsa inv image of (Err x) e = covered
+  installed name dsa inv image of (Ok s) e = let new = woken_comes image dsa inv s of e in
+      within_case OfWorld w (new_log_end s) (record w { book = begun w.book s; replicas = w.replicas ++ on_new_disk name s ∷ [] }, outcomes.Ok) covered (joining w covered (begun w.book s) (on_new_disk name s) (new, new))
+
+  of_bound : (image : Name) (act : Store → Gone) → ((i : Store) → IsStoreOf w i → IsPurgedCovered (act i).0) → IsPurgedCovered (of_image w (bound_at w.images image) act).0
+  of_bound image act acts = by (bound_at w.images image) refl
+    where
+      by : (o : Option Store) → bound_at w.images image ≡ o → IsPurgedCovered (of_image w o act).0
+      by None is = covered
+      by (Some i) is = acts i (bound_member (IsStoreOf w) w.images image i (λ x m. inr (x, m, refl)) is)
+
+  pub asked : (name partner : Name) (max : ℕ) → Makes w (λ (q : Request). IsGrown w q.vector) (asks w name partner max)
+  asked name partner max =
+      made_case (Makes w (λ (q : Request). IsGrown w q.vector)) w name (nothing w) none _ (λ r is. made_case (Makes w (λ (q : Request). IsGrown w q.vector)) w partner (nothing w) none _ (λ p at. up_case (Makes w (λ (q : Request). IsGrown w q.vector)) w name (nothing w) none r.standing _ (λ up.
+      (refl, only_made (λ (q : Request). IsGrown w q.vector) (ask r.safe p.safe.dsa max) (as_it_was w r.safe.store (inl (r, is.there, inl refl)))))))
+    where
+      none : (x : Outcome) → Makes w (λ (q : Request). IsGrown w q.vector) (nothing w x)
+      none x = made_nothing w (λ (q : Request). IsGrown w q.vector) x
+
+  pub given_more : (dsas invs : List Identifier) → IsPurgedCovered (gives w dsas invs)
+  given_more dsas invs = record { stores = covered.stores; requests = covered.requests }
+
+  -- calls by name
+
+  pub writes_covered : (name : Name) (what : Write) → IsPurgedCovered (writes w name what).0
+  writes_covered name what = reached_case OfWorld w name (stays w) (λ x. covered) (λ r. after_write w r what (write r.safe what w.time)) (λ r is up. wrote r is.there what (write r.safe what w.time) refl)
+
+  pub serves_covered : (name : Name) (o : Option Request) → IsPurgedCovered (serves_request w name o).0
+  serves_covered name o = reached_case (λ (t : Sent Reply). IsPurgedCovered t.0) w name (nothing w) (λ x. covered) (λ r. served w r o) (λ r is up. served_bound r is.there o)
+
+  pub delivers_covered : (name : Name) (o : Option Reply) → IsPurgedCovered (delivers w name o).0
+  delivers_covered name o = reached_case OfWorld w name (stays w) (λ x. covered) (λ r. delivered w r o) (λ r is up. took_bound r is.there o)
+
+  pub collects_covered : (name : Name) (lifetime : ℕ) → KeepsCovered w (events.Collect name lifetime) → IsPurgedCovered (of_controller w name (stays w) (λ r. after_collect w r lifetime (collect r.safe w.time lifetime))).0
+  collects_covered name lifetime keeps = reached_case OfWorld w name (stays w) (λ x. covered) (λ r. after_collect w r lifetime (collect r.safe w.time lifetime)) (λ r is up.
+      collected r is.there lifetime (λ c e. let deaths = keeps r is.there is.name up c e in deaths_covered w (deaths_to_collect r.safe w.time lifetime) deaths.stores deaths.requests) (collect r.safe w.time lifetime) refl)
+
+  backups_covered : (name : Name) → Makes w (MayCome w) (of_controller w name (nothing w) (λ r. backed_up w (backup r.safe)))
+  backups_covered name = reached_case (Makes w (MayCome w)) w name (nothing w) (made_nothing w (MayCome w)) (λ r. backed_up w (backup r.safe)) (λ r is up. imaged_from r is.there (is_quarantined r.safe.mode))
+
+  pub plans_covered : (name : Name) (plan : Plan) → IsPurgedCovered (of_made (stays w) (replica_at w name) (λ r. with_plan w r plan)).0
+  plans_covered name plan = made_case OfWorld w name (stays w) (λ x. covered) (λ r. with_plan w r plan) (λ r is. placed w covered w.book (record r { plan = Some plan }) (both_come w covered r is.there))
+
+  pub stops_covered : (name : Name) → IsPurgedCovered (of_made (stays w) (replica_at w name) (λ r. stops w r)).0
+  stops_covered name = made_case OfWorld w name (stays w) (λ x. covered) (λ r. stops w r) (λ r is. moved_world r is.there (moved (w.book, r) Settle) Down None (settling (λ (s : State). MayCome w s.store) w.book r (both_come w covered r is.there)))
+
+  pub starts_covered : (name : Name) → IsPurgedCovered (of_made (stays w) (replica_at w name) (λ r. starts w r r.standing)).0
+  starts_covered name = made_case OfWorld w name (stays w) (λ x. covered) (λ r. starts w r r.standing) (λ r is. started_from r is.there r.standing)
+
+  pub restores_covered : (name image : Name) (inv : Identifier) → IsPurgedCovered (of_made (stays w) (replica_at w name) (λ r. of_image w (bound_at w.images image) (λ i. adopts w (with_replica w.replicas) name (adopt i r.safe.dsa inv)))).0
+  restores_covered name image inv = made_case OfWorld w name (stays w) (λ x. covered) (λ r. of_image w (bound_at w.images image) (λ i. adopts w (with_replica w.replicas) name (adopt i r.safe.dsa inv)))
+      (λ r is. of_bound image (λ i. adopts w (with_replica w.replicas) name (adopt i r.safe.dsa inv)) (λ i of. restored name r.safe.dsa inv i of (adopt i r.safe.dsa inv) refl))
+
+  pub installs_covered : (name image : Name) (dsa inv : Identifier) → IsPurgedCovered (of_image w (bound_at w.images image) (λ i. adopts w (λ r. w.replicas ++ r ∷ []) name (adopt i dsa inv))).0
+  installs_covered name image dsa inv = of_bound image (λ i. adopts w (λ r. w.replicas ++ r ∷ []) name (adopt i dsa inv)) (λ i of. installed name dsa inv i of (adopt i dsa inv) refl)
+
+  pub reports_covered : (name : Name) (what : Replica → Outcome) → IsPurgedCovered (of_controller w name (stays w) (λ r. (w, what r))).0
+  reports_covered name what = reached_case OfWorld w name (stays w) (λ x. covered) (λ r. (w, what r)) (λ r is up. covered)
+
+  -- a new controller, while nothing was collected
+  pub comes_covered : (name : Name) (dsa inv : Identifier) → ((s : Store) → IsStoreOf w s → s.purged ≡ []) → IsPurgedCovered (step w (events.Controller name dsa inv)).0
+  comes_covered name dsa inv none = nothing_collected (step w (events.Controller name dsa inv)).0 each
+    where
+      of : (q : Replica) → Member q (w.replicas ++ on_new_disk name (empty_state dsa inv) ∷ []) → (q.safe.store.purged ≡ []) × (q.read.store.purged ≡ [])
+      of q m = by (member_of_either w.replicas (on_new_disk name (empty_state dsa inv) ∷ []) q m)
+        where
+          by : Member q w.replicas ⊎ Member q (on_new_disk name (empty_state dsa inv) ∷ []) → (q.safe.store.purged ≡ []) × (q.read.store.purged ≡ [])
+          by (inl n) = (none q.safe.store (inl (q, n, inl refl)), none q.read.store (inl (q, n, inr refl)))
+          by (inr (inl e)) = (ap (λ (p : Replica). p.safe.store.purged) e, ap (λ (p : Replica). p.read.store.purged) e)
+          by (inr (inr n)) = absurd n
+
+      each : (s : Store) → IsStoreOf (step w (events.Controller name dsa inv)).0 s → s.purged ≡ []
+      each s (inl (q, m, inl e)) = ap (λ (t : Store). t.purged) e ∙ (of q m).0
+      each s (inl (q, m, inr e)) = ap (λ (t : Store). t.purged) e ∙ (of q m).1
+      each s (inr (i, m, e)) = none s (inr (i, m, e))
+
+  -- with what is bound
+  pub binds_request : (name partner bind : Name) (max : ℕ) → IsPurgedCovered (step w (events.Ask name partner max bind)).0
+  binds_request name partner bind max = subst (λ (v : World). IsPurgedCovered (record v { requests = bound v.requests bind (asks w name partner max).2 })) (sym (asked name partner max).0)
+      (requested w covered bind (asks w name partner max).2 (asked name partner max).1)
+
+  pub binds_image : (name bind : Name) → IsPurgedCovered (step w (events.Backup name bind)).0
+  binds_image name bind = subst (λ (v : World). IsPurgedCovered (record v { images = bound v.images bind (of_controller w name (nothing w) (λ r. backed_up w (backup r.safe))).2 })) (sym (backups_covered name).0)
+      (imaged w covered bind (of_controller w name (nothing w) (λ r. backed_up w (backup r.safe))).2 (backups_covered name).1)
+
+  -- a world into which a snapshot was put back isn't clean
+  pub put_back_covered : (name : Name) (o : Option Snapshot) → (of_made (stays w) (replica_at w name) (λ r. put_back w name o)).0.clean ≡ true → IsPurgedCovered (of_made (stays w) (replica_at w name) (λ r. put_back w name o)).0
+  put_back_covered name o clean = made_case (λ (g : Gone). g.0.clean ≡ true → OfWorld g) w name (stays w) (λ x is. covered) (λ r. put_back w name o) (λ r called is. by o is) clean
+    where
+      by : (o : Option Snapshot) → (put_back w name o).0.clean ≡ true → OfWorld (put_back w name o)
+      by None is = covered
+      by (Some s) is = absurd (cc)

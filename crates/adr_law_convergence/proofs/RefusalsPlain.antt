@@ -1,0 +1,150 @@
+-- All lines but writes, messages that come and pulls answer plainly.
+use Rattle.std.proofs.Common.{◌≡◌, inl, inr, sym, subst, ℕ, List, [], ◌∷◌, ◌++◌, Bool, true, false, Option, Some, None, Result, Ok, Err, refl, length, if◌then◌else◌, codes}
+use Rattle.adr_event.specs.declared.answer.Answer.{Answer}
+use Rattle.adr_event.specs.declared.answer.Outcome.{Outcome}
+use Rattle.adr_event.specs.declared.answer.Outcome.TheVariants as outcomes
+use Rattle.adr_event.specs.declared.event.Event.{Event}
+use Rattle.adr_event.specs.declared.event.Event.TheVariants as events
+use Rattle.adr_event.specs.declared.refusal.CollectRefusal.{CollectRefusal}
+use Rattle.adr_event.specs.declared.refusal.AdoptRefusal.{AdoptRefusal}
+use Rattle.adr_model.specs.Update.{Identifier}
+use Rattle.adr_model.specs.Store.{Store, State}
+use Rattle.adr_model.specs.Change.{Change}
+use Rattle.adr_model.specs.Lengths.{new_log_end, log_end_after}
+use Rattle.adr_model.specs.Member.{Each}
+use Rattle.adr_model.specs.Serve.{is_quarantined}
+use Rattle.adr_model.specs.Write.{Write, IsWellGiven, AddObject, Modify, Rename, Delete, AddLink, RemoveLink}
+use Rattle.adr_model.specs.Collect.{collect, backup, adopt}
+use Rattle.adr_model.specs.Replica.{ToCollect, Standing, Up, Down, Failed, Plan, Stops, Fails, Replica, on_new_disk, begun, went}
+use Rattle.adr_model.specs.World.{Name, World, Snapshot, Gone, Sent, answer, stays, nothing, bound_at, replica_at, with_replica, of_made, of_controller, committed, writes, after_collect, asks, serves_request, delivers, backed_up, adopts, of_image, put_back, with_plan, stops, starts, shown, marks_shown}
+use Rattle.adr_model.specs.Step.{client_write, write_of, gives, step}
+use Rattle.adr_model.specs.Convergence.{MayHappen}
+use Rattle.adr_law_convergence.proofs.Reached.{plain_made, plain_up, plain_reached, within_case}
+use Rattle.adr_law_convergence.proofs.Refusals.{IsPlain, collect_refused_plainly, adopt_refused_plainly, after_calls}
+
+abbrev AnswersPlainly : Gone → Type 0
+AnswersPlainly g = IsPlain g.1
+
+abbrev SendsPlainly : {A : Type 0} → Sent A → Type 0
+SendsPlainly t = IsPlain t.1
+
+module _ (w : World) where
+  pub asked : (name partner : Name) (max : ℕ) → SendsPlainly (asks w name partner max)
+  asked name partner max =
+      plain_made SendsPlainly w name (nothing w) (λ o plain. plain) _ (λ r is. plain_made SendsPlainly w partner (nothing w) (λ o plain. plain) _ (λ p at. plain_up SendsPlainly w name (nothing w) (λ o plain. plain) r.standing _ (λ up. refl)))
+
+  collected : (r : Replica) (lifetime : ℕ) (t : Result Change CollectRefusal) → AnswersPlainly (after_collect w r lifetime t)
+  collected r lifetime (Err x) = collect_refused_plainly x
+  collected r lifetime (Ok c) = within_case AnswersPlainly w (log_end_after r.safe_end c) (committed w r (record { call = ToCollect w.time lifetime; change = c }) (outcomes.Removed (length c.removed))) refl
+      (after_calls IsPlain (λ o is. is) (outcomes.Removed (length c.removed)) refl (went r.plan 4))
+
+  collects : (name : Name) (lifetime : ℕ) → AnswersPlainly (of_controller w name (stays w) (λ r. after_collect w r lifetime (collect r.safe w.time lifetime)))
+  collects name lifetime = plain_reached AnswersPlainly w name (stays w) (λ o plain. plain) (λ r. after_collect w r lifetime (collect r.safe w.time lifetime)) (λ r is up. collected r lifetime (collect r.safe w.time lifetime))
+
+  backs_up : (name : Name) → SendsPlainly (of_controller w name (nothing w) (λ r. backed_up w (backup r.safe)))
+  backs_up name = plain_reached SendsPlainly w name (nothing w) (λ o plain. plain) (λ r. backed_up w (backup r.safe)) (λ r is up. by (is_quarantined r.safe.mode) r.safe.store)
+    where
+      by : (b : Bool) (s : Store) → SendsPlainly (backed_up w (if b then None else Some s))
+      by true s = refl
+      by false s = refl
+
+  of_bound : (image : Name) (act : Store → Gone) → ((i : Store) → AnswersPlainly (act i)) → AnswersPlainly (of_image w (bound_at w.images image) act)
+  of_bound image act acts = by (bound_at w.images image)
+    where
+      by : (o : Option Store) → AnswersPlainly (of_image w o act)
+      by None = refl
+      by (Some i) = acts i
+
+  adopted : (placed : Replica → List Replica) (name : Name) (t : Result State AdoptRefusal) → AnswersPlainly (adopts w placed name t)
+  adopted placed name (Err x) = adopt_refused_plainly x
+  adopted placed name (Ok s) = within_case AnswersPlainly w (new_log_end s) (record w { book = begun w.book s; replicas = placed (on_new_disk name s) }, outcomes.Ok) refl refl
+
+  restores : (name image : Name) (inv : Identifier) → AnswersPlainly (of_made (stays w) (replica_at w name) (λ r. of_image w (bound_at w.images image) (λ i. adopts w (with_replica w.replicas) name (adopt i r.safe.dsa inv))))
+  restores name image inv = plain_made AnswersPlainly w name (stays w) (λ o plain. plain) (λ r. of_image w (bound_at w.images image) (λ i. adopts w (with_replica w.replicas) name (adopt i r.safe.dsa inv)))
+      (λ r is. of_bound image (λ i. adopts w (with_replica w.replicas) name (adopt i r.safe.dsa inv)) (λ i. adopted (with_replica w.replicas) name (adopt i r.safe.dsa inv)))
+
+  installs : (name image : Name) (dsa inv : Identifier) → AnswersPlainly (of_image w (bound_at w.images image) (λ i. adopts w (λ r. w.replicas ++ r ∷ []) name (adopt i dsa inv)))
+  installs name image dsa inv = of_bound image (λ i. adopts w (λ r. w.replicas ++ r ∷ []) name (adopt i dsa inv)) (λ i. adopted (λ r. w.replicas ++ r ∷ []) name (adopt i dsa inv))
+
+  plans : (name : Name) (plan : Plan) → AnswersPlainly (of_made (stays w) (replica_at w name) (λ r. with_plan w r plan))
+  plans name plan = plain_made AnswersPlainly w name (stays w) (λ o plain. plain) (λ r. with_plan w r plan) (λ r is. refl)
+
+  stopped : (name : Name) → AnswersPlainly (of_made (stays w) (replica_at w name) (λ r. stops w r))
+  stopped name = plain_made AnswersPlainly w name (stays w) (λ o plain. plain) (λ r. stops w r) (λ r is. refl)
+
+  started : (name : Name) → AnswersPlainly (of_made (stays w) (replica_at w name) (λ r. starts w r r.standing))
+  started name = plain_made AnswersPlainly w name (stays w) (λ o plain. plain) (λ r. starts w r r.standing) (λ r is. by r r.standing)
+    where
+      by : (r : Replica) (standing : Standing) → AnswersPlainly (starts w r standing)
+      by r Up = refl
+      by r Down = after_calls IsPlain (λ o is. is) outcomes.Ok refl (went r.plan 1)
+      by r Failed = after_calls IsPlain (λ o is. is) outcomes.Ok refl (went r.plan 1)
+
+  shows : (name : Name) → AnswersPlainly (of_controller w name (stays w) (λ r. (w, outcomes.Show (shown w r.safe))))
+  shows name = plain_reached AnswersPlainly w name (stays w) (λ o plain. plain) (λ r. (w, outcomes.Show (shown w r.safe))) (λ r is up. refl)
+
+  tells_vector : (name : Name) → AnswersPlainly (of_controller w name (stays w) (λ r. (w, outcomes.Vector r.safe.store.vector)))
+  tells_vector name = plain_reached AnswersPlainly w name (stays w) (λ o plain. plain) (λ r. (w, outcomes.Vector r.safe.store.vector)) (λ r is up. refl)
+
+  tells_marks : (name : Name) → AnswersPlainly (of_controller w name (stays w) (λ r. (w, outcomes.Marks (marks_shown r.safe.store))))
+  tells_marks name = plain_reached AnswersPlainly w name (stays w) (λ o plain. plain) (λ r. (w, outcomes.Marks (marks_shown r.safe.store))) (λ r is up. refl)
+
+  taken_back : (name : Name) → SendsPlainly {A = Snapshot} (of_made (nothing w) (replica_at w name) (λ r. (w, outcomes.Ok, Some (record { state = r.read; log_end = r.read_end }))))
+  taken_back name = plain_made (SendsPlainly {A = Snapshot}) w name (nothing w) (λ o plain. plain) (λ r. (w, outcomes.Ok, Some (record { state = r.read; log_end = r.read_end }))) (λ r is. refl)
+
+  rolls_back : (name : Name) (o : Option Snapshot) → AnswersPlainly (of_made (stays w) (replica_at w name) (λ r. put_back w name o))
+  rolls_back name o = plain_made AnswersPlainly w name (stays w) (λ x plain. plain) (λ r. put_back w name o) (λ r is. by o)
+    where
+      by : (o : Option Snapshot) → AnswersPlainly (put_back w name o)
+      by None = refl
+      by (Some s) = refl
+
+-- a fact of each answer, with the world behind its line
+abbrev pub OfAnswers : (World → Answer → Type 0) → World × List Answer → Type 0
+OfAnswers Q t = Each (λ (a : Answer). Q t.0 a) t.1
+
+pub one_answer : (Q : World → Answer → Type 0) (v : World) (a : Answer) → Q v a → OfAnswers Q (v, a ∷ [])
+one_answer Q v a is b (inl e) = subst (Q v) (sym e) is
+one_answer Q v a is b (inr m) = absurd m
+
+-- what holds of plain answers, of those to writes, to messages that come and to pulls holds of those to every line that may happen
+module _ (Q : Event → World → Answer → Type 0) (w : World) (plain : (e : Event) (v : World) (a : Answer) → IsPlain a.outcome → Q e v a)
+    (wrote : (e : Event) (verb : List ℕ) (name : Name) (what : Write) → IsWellGiven what → write_of e ≡ client_write verb name what → Q e (writes w name what).0 (answer verb name (writes w name what).1))
+    (served : (name request bind : Name) → Q (events.Serve name request bind) (step w (events.Serve name request bind)).0 (answer (codes "serve") name (serves_request w name (bound_at w.requests request)).1))
+    (took : (name reply : Name) → Q (events.Deliver name reply) (step w (events.Deliver name reply)).0 (answer (codes "deliver") name (delivers w name (bound_at w.replies reply)).1))
+    (pulled : (name source : Name) (max : ℕ) → OfAnswers (Q (events.Pull name source max)) (step w (events.Pull name source max)))
+    (cycled : (name source : Name) (max : ℕ) → OfAnswers (Q (events.Cycle name source max)) (step w (events.Cycle name source max))) where
+  -- the one answer of a line is plain
+  plainly : (e : Event) (verb : List ℕ) (name : Name) (v : World) (o : Outcome) → IsPlain o → OfAnswers (Q e) (v, answer verb name o ∷ [])
+  plainly e verb name v o is = one_answer (Q e) v (answer verb name o) (plain e v (answer verb name o) is)
+
+  written : (e : Event) (verb : List ℕ) (name : Name) (what : Write) → IsWellGiven what → write_of e ≡ client_write verb name what → OfAnswers (Q e) ((writes w name what).0, answer verb name (writes w name what).1 ∷ [])
+  written e verb name what is wrote_it = one_answer (Q e) (writes w name what).0 (answer verb name (writes w name what).1) (wrote e verb name what is wrote_it)
+
+  pub line_case : (e : Event) → MayHappen w e → OfAnswers (Q e) (step w e)
+  line_case (events.Controller name dsa inv) may = plainly (events.Controller name dsa inv) (codes "controller") name (step w (events.Controller name dsa inv)).0 outcomes.Ok refl
+  line_case (events.Time now) may = λ a m. absurd m
+  line_case (events.Add name guid class parent text values) may = written (events.Add name guid class parent text values) (codes "add") name (AddObject guid class parent text values) may refl
+  line_case (events.Modify name guid values) may = written (events.Modify name guid values) (codes "modify") name (Modify guid values) may refl
+  line_case (events.Rename name guid parent text) may = written (events.Rename name guid parent text) (codes "rename") name (Rename guid parent text) tt refl
+  line_case (events.Delete name guid) may = written (events.Delete name guid) (codes "delete") name (Delete guid) tt refl
+  line_case (events.Link name from attr to) may = written (events.Link name from attr to) (codes "link") name (AddLink from attr to) tt refl
+  line_case (events.Unlink name from attr to) may = written (events.Unlink name from attr to) (codes "unlink") name (RemoveLink from attr to) tt refl
+  line_case (events.Ask name partner max bind) may = plainly (events.Ask name partner max bind) (codes "ask") name (step w (events.Ask name partner max bind)).0 (asks w name partner max).1 (asked w name partner max)
+  line_case (events.Serve name request bind) may = one_answer (Q (events.Serve name request bind)) (step w (events.Serve name request bind)).0 (answer (codes "serve") name (serves_request w name (bound_at w.requests request)).1) (served name request bind)
+  line_case (events.Deliver name reply) may = one_answer (Q (events.Deliver name reply)) (step w (events.Deliver name reply)).0 (answer (codes "deliver") name (delivers w name (bound_at w.replies reply)).1) (took name reply)
+  line_case (events.Pull name source max) may = pulled name source max
+  line_case (events.Cycle name source max) may = cycled name source max
+  line_case (events.Collect name lifetime) may = plainly (events.Collect name lifetime) (codes "collect") name (step w (events.Collect name lifetime)).0 (of_controller w name (stays w) (λ r. after_collect w r lifetime (collect r.safe w.time lifetime))).1 (collects w name lifetime)
+  line_case (events.Backup name bind) may = plainly (events.Backup name bind) (codes "backup") name (step w (events.Backup name bind)).0 (of_controller w name (nothing w) (λ r. backed_up w (backup r.safe))).1 (backs_up w name)
+  line_case (events.Restore name image inv) may = plainly (events.Restore name image inv) (codes "restore") name (step w (events.Restore name image inv)).0 _ (restores (gives w [] (inv ∷ [])) name image inv)
+  line_case (events.Install name dsa image inv) may = plainly (events.Install name dsa image inv) (codes "install") name (step w (events.Install name dsa image inv)).0 _ (installs (gives w (dsa ∷ []) (inv ∷ [])) name image dsa inv)
+  line_case (events.Snapshot name bind) may = plainly (events.Snapshot name bind) (codes "snapshot") name (step w (events.Snapshot name bind)).0 _ (taken_back w name)
+  line_case (events.Rollback name snapshot) may = plainly (events.Rollback name snapshot) (codes "rollback") name (step w (events.Rollback name snapshot)).0 _ (rolls_back w name (bound_at w.snapshots snapshot))
+  line_case (events.StopAfter name calls how) may = plainly (events.StopAfter name calls how) (codes "stop") name (step w (events.StopAfter name calls how)).0 _ (plans w name (record { calls = calls; fault = Stops how }))
+  line_case (events.Fail name calls) may = plainly (events.Fail name calls) (codes "fail") name (step w (events.Fail name calls)).0 _ (plans w name (record { calls = calls; fault = Fails }))
+  line_case (events.Stop name) may = plainly (events.Stop name) (codes "stop") name (step w (events.Stop name)).0 _ (stopped w name)
+  line_case (events.Start name) may = plainly (events.Start name) (codes "start") name (step w (events.Start name)).0 _ (started w name)
+  line_case (events.Show name) may = plainly (events.Show name) (codes "show") name (step w (events.Show name)).0 _ (shows w name)
+  line_case (events.Vector name) may = plainly (events.Vector name) (codes "vector") name (step w (events.Vector name)).0 _ (tells_vector w name)
+  line_case (events.Marks name) may = plainly (events.Marks name) (codes "marks") name (step w (events.Marks name)).0 _ (tells_marks w name)

@@ -1,0 +1,176 @@
+-- What lines may say, one after the other, may happen.
+use Rattle.std.proofs.Common.{◌≡◌, ◌∙◌, ◌⊎◌, inl, inr, refl, sym, ap, subst, ℕ, List, [], ◌∷◌, ◌++◌, Bool, true, false, ◌||◌, Option, Some, None}
+use Rattle.std.specs.Str.{bytes_eq}
+use Rattle.std.proofs.lemmas.List.{map-append}
+use Rattle.std.specs.List.Sorted.{IsStrictlySortedBy}
+use Rattle.adr_event.specs.declared.answer.Outcome.TheVariants as outcomes
+use Rattle.adr_event.specs.declared.event.Event.{Event}
+use Rattle.adr_event.specs.declared.event.Event.TheVariants as events
+use Rattle.adr_schema.specs.Assignments.{Given}
+use Rattle.adr_schedule.specs.declared.fault.Cause.{Cause}
+use Rattle.adr_schedule.specs.Commands.{account, IsUserAdd, IsContainerAdd, IsAllowed}
+use Rattle.adr_schedule.specs.Seen.{Seen, nothing_seen, is_bound, when, first_cause, if_bound, if_given, if_full, unless_bound, cause_after, seen_after, IsFollowing}
+use Rattle.adr_model.specs.Member.{Member, Each}
+use Rattle.adr_model.specs.Write.{AddObject, AreInOrder}
+use Rattle.adr_model.specs.Replica.{Replica}
+use Rattle.adr_model.specs.World.{Name, World, empty_world, bound, bound_at, asks, serves_request, shown, marks_shown}
+use Rattle.adr_model.specs.Cycles.{reply_limit}
+use Rattle.adr_model.specs.Step.{step}
+use Rattle.adr_model.specs.Convergence.{IsUnbound, MayHappen, MayAllHappen}
+use Rattle.adr_model.proofs.Members.{member_of_either}
+use Rattle.adr_law_convergence.proofs.Found.{same_name_tests}
+use Rattle.adr_law_headline.proofs.Naming.{names_of, Stays, writes_stay, asks_stay, serves_stay, delivers_stay, reports_stay, pull_stays, pulls_stay}
+
+-- what is bound to names is among what lines bound
+abbrev AreAmong : {A : Type 0} → List (Name × A) → List Name → Type 0
+AreAmong {A} xs names = Each (λ (x : Name × A). Member x.0 names) xs
+
+-- what lines bound and gave is what the world has; a line that was answered otherwise bound no message
+record Agrees (seen : Seen) (w : World) : Type 0 where
+  controllers : names_of w.replicas ≡ seen.controllers
+  dsas : w.given.dsas ≡ seen.dsas
+  invs : w.given.invs ≡ seen.invs
+  requests : AreAmong w.requests seen.requests
+  replies : AreAmong w.replies seen.replies
+
+-- a world of the same names, identifiers and messages
+agrees_on : (seen : Seen) (w v : World) → Agrees seen w → Stays w v → Agrees seen v
+agrees_on seen w v agrees stays = record {
+  controllers = stays.names ∙ agrees.controllers;
+  dsas = ap (λ g. g.dsas) stays.given ∙ agrees.dsas;
+  invs = ap (λ g. g.invs) stays.given ∙ agrees.invs;
+  requests = subst (λ xs. AreAmong xs seen.requests) (sym stays.requests) agrees.requests;
+  replies = subst (λ xs. AreAmong xs seen.replies) (sym stays.replies) agrees.replies;
+}
+
+in_front : (xs ys : List Name) (x : Name) → Member x xs → Member x (xs ++ ys)
+in_front [] ys x m = absurd m
+in_front (y ∷ xs) ys x (inl e) = inl e
+in_front (y ∷ xs) ys x (inr m) = inr (in_front xs ys x m)
+
+at_end : (xs : List Name) (x y : Name) → x ≡ y → Member x (xs ++ y ∷ [])
+at_end [] x y e = inl e
+at_end (z ∷ xs) x y e = inr (at_end xs x y e)
+
+-- a name that is bound, or would be
+one_more : {A : Type 0} (xs : List (Name × A)) (names : List Name) (name : Name) (o : Option A) → AreAmong xs names → AreAmong (bound xs name o) (names ++ name ∷ [])
+one_more xs names name None among x m = in_front names (name ∷ []) x.0 (among x m)
+one_more {A = A} xs names name (Some y) among x m = by (member_of_either xs ((name, y) ∷ []) x m)
+  where
+    by : Member x xs ⊎ Member x ((name, y) ∷ []) → Member x.0 (names ++ name ∷ [])
+    by (inl n) = in_front names (name ∷ []) x.0 (among x n)
+    by (inr (inl e)) = at_end names x.0 name (ap (λ (z : Name × A). z.0) e)
+    by (inr (inr n)) = absurd n
+
+-- ---- causes
+
+neither : (a b : Bool) → (a || b) ≡ false → (a ≡ false) × (b ≡ false)
+neither true b h = absurd (cc)
+neither false b h = (refl, h)
+
+no_member : (names : List Name) (name : Name) → is_bound names name ≡ false → Member name names → ⊥
+no_member [] name h m = m
+no_member (n ∷ ns) name h (inl e) = let is : bytes_eq n name ≡ true = same_name_tests n name (sym e) in absurd (cc)
+no_member (n ∷ ns) name h (inr m) = no_member ns name (neither (bytes_eq n name) (is_bound ns name) h).1 m
+
+not_when : (b : Bool) (cause : Cause) → when b cause ≡ None → b ≡ false
+not_when true cause h = absurd (cc)
+not_when false cause h = refl
+
+none_of : (cause : Option Cause) (causes : List (Option Cause)) → first_cause (cause ∷ causes) ≡ None → (cause ≡ None) × (first_cause causes ≡ None)
+none_of None causes h = (refl, h)
+none_of (Some cause) causes h = absurd (cc)
+
+-- a controller that may come
+record IsNew (seen : Seen) (n d i : Name) : Type 0 where
+  name : is_bound seen.controllers n ≡ false
+  dsa : is_bound seen.dsas d ≡ false
+  inv : is_bound seen.invs i ≡ false
+
+new_controller : (seen : Seen) (name dsa inv : Name) → cause_after seen (events.Controller name dsa inv) ≡ None → IsNew seen name dsa inv
+new_controller seen name dsa inv h =
+    let first = none_of (if_bound seen.controllers name) (if_given seen dsa inv ∷ if_full seen ∷ []) h in
+    let second = none_of (if_given seen dsa inv) (if_full seen ∷ []) first.1 in
+    let given = neither (is_bound seen.dsas dsa) (is_bound seen.invs inv) (not_when (is_bound seen.dsas dsa || is_bound seen.invs inv) _ second.0) in
+    record { name = not_when (is_bound seen.controllers name) _ first.0; dsa = given.0; inv = given.1 }
+
+-- nothing is bound to a name that no line bound
+unbound : {A : Type 0} (xs : List (Name × A)) (names : List Name) (name : Name) → AreAmong xs names → is_bound names name ≡ false → IsUnbound xs name
+unbound xs names name among none x m e = no_member names name none (subst (λ n. Member n names) e (among x m))
+
+new_request : (seen : Seen) (name partner bind : Name) (max : ℕ) → cause_after seen (events.Ask name partner max bind) ≡ None → is_bound seen.requests bind ≡ false
+new_request seen name partner bind max h =
+    let first = none_of (unless_bound seen.controllers name) (unless_bound seen.controllers partner ∷ if_bound seen.requests bind ∷ []) h in
+    let second = none_of (unless_bound seen.controllers partner) (if_bound seen.requests bind ∷ []) first.1 in
+    not_when (is_bound seen.requests bind) _ (none_of (if_bound seen.requests bind) [] second.1).0
+
+new_reply : (seen : Seen) (name request bind : Name) → cause_after seen (events.Serve name request bind) ≡ None → is_bound seen.replies bind ≡ false
+new_reply seen name request bind h =
+    let first = none_of (unless_bound seen.controllers name) (unless_bound seen.requests request ∷ if_bound seen.replies bind ∷ []) h in
+    let second = none_of (unless_bound seen.requests request) (if_bound seen.replies bind ∷ []) first.1 in
+    not_when (is_bound seen.replies bind) _ (none_of (if_bound seen.replies bind) [] second.1).0
+
+-- ---- events
+
+one_in_order : (value : List ℕ) → AreInOrder (account value)
+unfolding IsStrictlySortedBy
+one_in_order value = (tt, tt)
+
+none_in_order : AreInOrder []
+unfolding IsStrictlySortedBy
+none_in_order = tt
+
+in_order : (name : Name) (class : ℕ) (parent text : List ℕ) (values : List Given) → IsUserAdd name class parent text values ⊎ IsContainerAdd name class parent text values → AreInOrder values
+in_order name class parent text values (inl user) = subst AreInOrder (sym user.one_account.1) (one_in_order user.one_account.0)
+in_order name class parent text values (inr container) = subst AreInOrder (sym container.no_values) none_in_order
+
+name_among : (rs : List Replica) (r : Replica) → Member r rs → Member r.name (names_of rs)
+name_among [] r m = absurd m
+name_among (q ∷ qs) r (inl e) = inl (ap (λ x. x.name) e)
+name_among (q ∷ qs) r (inr m) = inr (name_among qs r m)
+
+abbrev Goes : Seen → World → Event → Type 0
+Goes seen w e = MayHappen w e × Agrees (seen_after seen e) (step w e).0
+
+event_may : (seen : Seen) (w : World) (e : Event) → Agrees seen w → cause_after seen e ≡ None → IsAllowed e → Goes seen w e
+event_may seen w (events.Controller name dsa inv) agrees cause allowed = let is = new_controller seen name dsa inv cause in (
+  (
+    (λ r m e. no_member seen.controllers name is.name (subst (λ ns. Member name ns) agrees.controllers (subst (λ n. Member n (names_of w.replicas)) e (name_among w.replicas r m)))),
+    ((λ m. no_member seen.dsas dsa is.dsa (subst (λ xs. Member dsa xs) agrees.dsas m)), (λ m. no_member seen.invs inv is.inv (subst (λ xs. Member inv xs) agrees.invs m))),
+  ),
+  record {
+    controllers = map-append (λ (r : Replica). r.name) w.replicas _ ∙ ap (λ ns. ns ++ name ∷ []) agrees.controllers;
+    dsas = ap (λ xs. xs ++ dsa ∷ []) agrees.dsas;
+    invs = ap (λ xs. xs ++ inv ∷ []) agrees.invs;
+    requests = agrees.requests;
+    replies = agrees.replies;
+  },
+)
+event_may seen w (events.Time now) agrees cause allowed = (tt, record { controllers = agrees.controllers; dsas = agrees.dsas; invs = agrees.invs; requests = agrees.requests; replies = agrees.replies })
+event_may seen w (events.Add name guid class parent text values) agrees cause allowed =
+    (in_order name class parent text values allowed, agrees_on seen w (step w (events.Add name guid class parent text values)).0 agrees (writes_stay w name (AddObject guid class parent text values)))
+event_may seen w (events.Ask name partner max bind) agrees cause allowed =
+    let t = asks w name partner max in let a = agrees_on seen w t.0 agrees (asks_stay w name partner max) in (
+      unbound w.requests seen.requests bind agrees.requests (new_request seen name partner bind max cause),
+      record { controllers = a.controllers; dsas = a.dsas; invs = a.invs; requests = one_more t.0.requests seen.requests bind t.2 a.requests; replies = a.replies },
+    )
+event_may seen w (events.Serve name request bind) agrees cause allowed =
+    let t = serves_request w name (bound_at w.requests request) in let a = agrees_on seen w t.0 agrees (serves_stay w name (bound_at w.requests request)) in (
+      unbound w.replies seen.replies bind agrees.replies (new_reply seen name request bind cause),
+      record { controllers = a.controllers; dsas = a.dsas; invs = a.invs; requests = a.requests; replies = one_more t.0.replies seen.replies bind t.2 a.replies },
+    )
+event_may seen w (events.Deliver name reply) agrees cause allowed = (tt, agrees_on seen w (step w (events.Deliver name reply)).0 agrees (delivers_stay w name (bound_at w.replies reply)))
+event_may seen w (events.Pull name source max) agrees cause allowed = (tt, agrees_on seen w (step w (events.Pull name source max)).0 agrees (pull_stays w name source max))
+event_may seen w (events.Cycle name source max) agrees cause allowed = (tt, agrees_on seen w (step w (events.Cycle name source max)).0 agrees (pulls_stay reply_limit w name source max))
+event_may seen w (events.Show name) agrees cause allowed = (tt, agrees_on seen w (step w (events.Show name)).0 agrees (reports_stay w name (λ r. outcomes.Show (shown w r.safe))))
+event_may seen w (events.Vector name) agrees cause allowed = (tt, agrees_on seen w (step w (events.Vector name)).0 agrees (reports_stay w name (λ r. outcomes.Vector r.safe.store.vector)))
+event_may seen w (events.Marks name) agrees cause allowed = (tt, agrees_on seen w (step w (events.Marks name)).0 agrees (reports_stay w name (λ r. outcomes.Marks (marks_shown r.safe.store))))
+event_may seen w _ agrees cause allowed = absurd allowed
+
+all_may : (es : List Event) (seen : Seen) (w : World) → Agrees seen w → IsFollowing seen es → MayAllHappen w es
+all_may [] seen w agrees follow = tt
+all_may (e ∷ es) seen w agrees follow = let t = event_may seen w e agrees follow.0 follow.1 in (t.0, all_may es (seen_after seen e) (step w e).0 t.1 follow.2)
+
+-- what may follow from the beginning on may happen
+pub following_may : (es : List Event) → IsFollowing nothing_seen es → MayAllHappen empty_world es
+following_may es follow = all_may es nothing_seen empty_world (record { controllers = refl; dsas = refl; invs = refl; requests = λ x m. absurd m; replies = λ x m. absurd m }) follow

@@ -1,0 +1,134 @@
+-- Lines leave who is there, by name, which identifiers were given and what is bound, but for those that say otherwise.
+use Rattle.std.proofs.Common.{◌≡◌, ◌∙◌, refl, sym, ap, ℕ, zero, suc, List, [], ◌∷◌, Bool, true, false, cond, map, nat_lt, Option, Some, None, Result, Ok, Err}
+use Rattle.std.specs.Str.{bytes_eq}
+use Rattle.adr_event.specs.declared.answer.Answer.{Answer}
+use Rattle.adr_event.specs.declared.answer.Outcome.{Outcome}
+use Rattle.adr_event.specs.declared.answer.Outcome.TheVariants as outcomes
+use Rattle.adr_event.specs.declared.refusal.Table.TheVariants.{Log}
+use Rattle.adr_event.specs.declared.refusal.WriteRefusal.{WriteRefusal}
+use Rattle.adr_event.specs.declared.refusal.ServeRefusal.{ServeRefusal}
+use Rattle.adr_event.specs.declared.refusal.ServeRefusal.TheVariants as serves
+use Rattle.adr_event.specs.declared.refusal.TakeRefusal.{TakeRefusal}
+use Rattle.adr_event.specs.declared.refusal.TakeRefusal.TheVariants as takes
+use Rattle.adr_model.specs.Change.{Change}
+use Rattle.adr_model.specs.Lengths.{log_limit, log_end_after}
+use Rattle.adr_model.specs.Serve.{Request, Reply, serve}
+use Rattle.adr_model.specs.Write.{Write, write}
+use Rattle.adr_model.specs.Take.{take}
+use Rattle.adr_model.specs.Collect.{quarantine}
+use Rattle.adr_model.specs.Refused.{full}
+use Rattle.adr_model.specs.Replica.{Pending, ToWrite, ToTake, ToQuarantine, Replica}
+use Rattle.adr_model.specs.World.{Name, World, Given, Gone, Sent, stays, nothing, with_replica, within_log, committed, commit, writes, after_write, asks, after_serve, served, serves_request, after_take, delivered, delivers, of_controller}
+use Rattle.adr_model.specs.Cycles.{Pulled, pull_served, pull_asked, pull, and_then, pulls}
+use Rattle.adr_law_convergence.proofs.Found.{same_name}
+use Rattle.adr_law_convergence.proofs.Reached.{made_case, up_case, reached_case}
+
+-- the names of controllers, in order
+abbrev pub names_of : List Replica → List Name
+names_of rs = map (λ (r : Replica). r.name) rs
+
+-- the same names, the same identifiers given, and the same messages bound
+pub record Stays (w v : World) : Type 0 where
+  pub names : names_of v.replicas ≡ names_of w.replicas
+  pub given : v.given ≡ w.given
+  pub requests : v.requests ≡ w.requests
+  pub replies : v.replies ≡ w.replies
+
+pub same : (w : World) → Stays w w
+same w = record { names = refl; given = refl; requests = refl; replies = refl }
+
+pub onward : (w v x : World) → Stays w v → Stays v x → Stays w x
+onward w v x first next = record {
+  names = next.names ∙ first.names;
+  given = next.given ∙ first.given;
+  requests = next.requests ∙ first.requests;
+  replies = next.replies ∙ first.replies;
+}
+
+-- a controller in the place of the one of its name
+replacing_keeps_names : (rs : List Replica) (r : Replica) → names_of (with_replica rs r) ≡ names_of rs
+replacing_keeps_names [] r = refl
+replacing_keeps_names (q ∷ qs) r = ap (λ ns. (cond (bytes_eq q.name r.name) r q).name ∷ ns) (replacing_keeps_names qs r) ∙ ap (λ n. n ∷ names_of qs) (by (bytes_eq q.name r.name) refl)
+  where
+    by : (b : Bool) → bytes_eq q.name r.name ≡ b → (cond b r q).name ≡ q.name
+    by true is = sym (same_name q.name r.name is)
+    by false is = refl
+
+module _ (w : World) where
+  abbrev Kept : Gone → Type 0
+  Kept g = Stays w g.0
+
+  abbrev KeptBy : {A : Type 0} → Sent A → Type 0
+  KeptBy t = Stays w t.0
+
+  -- what is written to a log, or refused there
+  within : (b : Bool) (gone : Gone) → Kept gone → Kept (cond b (w, full Log log_limit) gone)
+  within true gone kept = same w
+  within false gone kept = kept
+
+  commits : (r : Replica) (p : Pending) (o : Outcome) → Kept (commit w r p o)
+  commits r p o = within (nat_lt log_limit (log_end_after r.safe_end p.change)) (committed w r p o)
+      (record { names = replacing_keeps_names w.replicas _; given = refl; requests = refl; replies = refl })
+
+  wrote : (r : Replica) (what : Write) (t : Result Change WriteRefusal) → Kept (after_write w r what t)
+  wrote r what (Err x) = same w
+  wrote r what (Ok c) = commits r (record { call = ToWrite what w.time; change = c }) (outcomes.Usn c.usn)
+
+  taken : (r : Replica) (reply : Reply) (t : Result Change TakeRefusal) → Kept (after_take w r reply t)
+  taken r reply (Ok c) = commits r (record { call = ToTake reply; change = c }) _
+  taken r reply (Err (takes.RolledBack inv mine shown)) = commits r (record { call = ToQuarantine; change = quarantine r.safe }) _
+  taken r reply (Err x) = same w
+
+  answered : (r : Replica) (t : Result Reply ServeRefusal) → KeptBy (after_serve w r t)
+  answered r (Ok reply) = same w
+  answered r (Err (serves.RolledBack inv mine shown)) = commits r (record { call = ToQuarantine; change = quarantine r.safe }) _
+  answered r (Err x) = same w
+
+  pub writes_stay : (name : Name) (what : Write) → Kept (writes w name what)
+  writes_stay name what = reached_case Kept w name (stays w) (λ o. same w) (λ r. after_write w r what (write r.safe what w.time)) (λ r called up. wrote r what (write r.safe what w.time))
+
+  pub asks_stay : (name partner : Name) (max : ℕ) → KeptBy (asks w name partner max)
+  asks_stay name partner max =
+      made_case KeptBy w name (nothing w) (λ o. same w) _ (λ r is. made_case KeptBy w partner (nothing w) (λ o. same w) _ (λ p at. up_case KeptBy w name (nothing w) (λ o. same w) r.standing _ (λ up. same w)))
+
+  served_stays : (r : Replica) (q : Option Request) → KeptBy (served w r q)
+  served_stays r None = same w
+  served_stays r (Some q) = answered r (serve r.safe q)
+
+  pub serves_stay : (name : Name) (q : Option Request) → KeptBy (serves_request w name q)
+  serves_stay name q = reached_case KeptBy w name (nothing w) (λ o. same w) (λ r. served w r q) (λ r called up. served_stays r q)
+
+  delivered_stays : (r : Replica) (p : Option Reply) → Kept (delivered w r p)
+  delivered_stays r None = same w
+  delivered_stays r (Some p) = taken r p (take r.safe p)
+
+  pub delivers_stay : (name : Name) (p : Option Reply) → Kept (delivers w name p)
+  delivers_stay name p = reached_case Kept w name (stays w) (λ o. same w) (λ r. delivered w r p) (λ r called up. delivered_stays r p)
+
+  pub reports_stay : (name : Name) (what : Replica → Outcome) → Kept (of_controller w name (stays w) (λ r. (w, what r)))
+  reports_stay name what = reached_case Kept w name (stays w) (λ o. same w) (λ r. (w, what r)) (λ r called up. same w)
+
+-- ---- pulls
+
+served_by : (w v : World) (dest : Name) (o : Option Reply) → Stays w v → Stays w (pull_served dest v o).0
+served_by w v dest None kept = kept
+served_by w v dest (Some r) kept = onward w v (delivers v dest (Some r)).0 kept (delivers_stay v dest (Some r))
+
+asked_by : (w v : World) (dest source : Name) (o : Option Request) → Stays w v → Stays w (pull_asked dest source v o).0
+asked_by w v dest source None kept = kept
+asked_by w v dest source (Some q) kept =
+    let t = serves_request v source (Some q) in served_by w t.0 dest t.2 (onward w v t.0 kept (serves_stay v source (Some q)))
+
+pub pull_stays : (w : World) (dest source : Name) (max : ℕ) → Stays w (pull w dest source max).0
+pull_stays w dest source max = let t = asks w dest source max in asked_by w t.0 dest source t.2 (asks_stay w dest source max)
+
+then_stays : (w : World) (p : Pulled) (go : World → World × List Answer) → Stays w p.0 → ((v : World) → Stays v (go v).0) → Stays w (and_then p go).0
+then_stays w p go kept goes = by p.2
+  where
+    by : (b : Bool) → Stays w (and_then (p.0, p.1, b) go).0
+    by true = onward w p.0 (go p.0).0 kept (goes p.0)
+    by false = kept
+
+pub pulls_stay : (n : ℕ) (w : World) (dest source : Name) (max : ℕ) → Stays w (pulls n w dest source max).0
+pulls_stay zero w dest source max = same w
+pulls_stay (suc n) w dest source max = then_stays w (pull w dest source max) (λ v. pulls n v dest source max) (pull_stays w dest source max) (λ v. pulls_stay n v dest source max)

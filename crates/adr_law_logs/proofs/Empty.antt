@@ -1,0 +1,44 @@
+-- A new controller.
+use Rattle.std.proofs.Common.{◌≡◌, refl, arith}
+use Rattle.std.specs.List.Sorted.{IsStrictlySortedBy}
+use Rattle.adr_model.specs.Update.{Identifier}
+use Rattle.adr_model.specs.Store.{empty_store, empty_state}
+use Rattle.adr_model.specs.Formed.{IsFormedStore}
+use Rattle.adr_model.specs.LocalLog.{no_log}
+use Rattle.adr_model.specs.Replica.{Book, log_of, begun}
+use Rattle.adr_model.specs.Sound.{IsSoundBook, IsSoundStore, IsSoundState}
+use Rattle.adr_law_logs.specs.Later.{IsLater}
+use Rattle.adr_law_logs.proofs.Begun.{begun_later, begun_sound}
+use Rattle.adr_law_logs.proofs.Woken.{woken_state}
+
+empty_is_formed : IsFormedStore (empty_store 1)
+unfolding IsStrictlySortedBy
+empty_is_formed = record {
+  vector = record { rising = tt; from_one = tt; few = omega arith };
+  purged = record { rising = tt; from_one = tt; few = omega arith };
+  purged_within = refl;
+  marks = λ k m. absurd m;
+  rising = tt;
+  locals = λ h m. absurd m;
+  alone = λ h m. absurd m;
+  rows = record { none = λ o r m. absurd m; named = λ o h. absurd (h.2); births = λ o r m. absurd m; objects = λ o h. absurd (h.2); links = λ l r m. absurd m };
+  limits = record { objects = omega arith; links = omega arith; marks = omega arith };
+}
+
+empty_is_sound : (sc : Book) → IsSoundBook sc → IsSoundStore sc (empty_store 1)
+empty_is_sound sc book = record {
+  known = λ u m. absurd m;
+  bounded = λ i. omega arith;
+  covered = λ u m c. absurd (omega (arith, (book.once u m).0, c));
+  formed = empty_is_formed;
+  closed = λ l r m. absurd m;
+  classes = λ u m. absurd m;
+  marks = λ k m. absurd m;
+}
+
+pub new_is_sound : (sc : Book) (dsa inv : Identifier) → IsSoundBook sc → log_of sc inv ≡ no_log
+    → IsLater sc (begun sc (empty_state dsa inv)) × (IsSoundBook (begun sc (empty_state dsa inv)) × IsSoundState (begun sc (empty_state dsa inv)) (empty_state dsa inv))
+new_is_sound sc dsa inv book fresh = (
+  begun_later sc (empty_state dsa inv) fresh (λ x m. absurd m),
+  (begun_sound sc (empty_state dsa inv) fresh (λ x m. absurd m) (λ x m. absurd m) book, woken_state sc (empty_store 1) dsa inv book (empty_is_sound sc book) fresh refl (omega arith)),
+)

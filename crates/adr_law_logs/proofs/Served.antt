@@ -1,0 +1,178 @@
+-- A reply that a sound state gives to a sound request is sound.
+use Rattle.std.proofs.Common.{◌≡◌, ◌⊎◌, inl, inr, ⊎_elim, ℕ, ◌≤◌, ◌<◌, List, Bool, true, false, refl, sym, ◌∙◌, subst, ap, arith, map, filter, length, ◌==◌, ◌&&◌, not, if◌then◌else◌}
+use Rattle.std.specs.Bool.{then_some}
+use Rattle.std.specs.Cmp.Derive.{both_true}
+use Rattle.std.proofs.lemmas.Bool.{and_parts, ltb-true}
+use Rattle.std.proofs.lemmas.Bool.Decides.{leb_tells}
+use Rattle.std.specs.Prelude.{nat_lt, IfSome}
+use Rattle.adr_stamp.specs.declared.Unit.{Unit as Named}
+use Rattle.adr_schema.specs.Numbered.{numbered}
+use Rattle.adr_vector.specs.Vector.{at, at_most}
+use Rattle.adr_vector.specs.declared.mark.Mark.{Mark}
+use Rattle.adr_vector.proofs.Cursors.{same_from_test}
+use Rattle.adr_vector.proofs.Comparing.{everywhere_from_at_most}
+use Rattle.adr_model.specs.Member.{Member}
+use Rattle.adr_model.specs.Update.{Update, inv_of, usn_of, unit_of, same_unit, same_identifier}
+use Rattle.adr_model.specs.Reflects.{Covers, Knowledge, knowledge_of, Reflects}
+use Rattle.adr_model.specs.Store.{Held, State, updates_of, no_mark}
+use Rattle.adr_model.specs.Change.{Item}
+use Rattle.adr_model.specs.Formed.{AreRising, AreFormedRows}
+use Rattle.adr_model.specs.LocalLog.{IsOrdered, rows_at}
+use Rattle.adr_model.specs.Serve.{Request, Reply, last_local, is_above_mark, is_unseen, sendable, item_of, candidates, byte_limit, first_items, reply_of, begins_at, reply_to}
+use Rattle.adr_model.specs.Replica.{Book, log_of}
+use Rattle.adr_model.specs.Sound.{last_of, IsSoundBook, IsSoundState, IsSoundRequest, IsExact, IsSoundLast, IsSoundReply, CoversItsGround, AreClassesKnown}
+use Rattle.adr_law_knowledge.specs.Grows.{Grows}
+use Rattle.adr_law_knowledge.proofs.Knows.{grows_keeps, more_covered}
+use Rattle.adr_law_steps.proofs.Rows.{updated, held_as}
+use Rattle.adr_model.proofs.Members.{in_filter, of_filter, member_left, mapped_member}
+use Rattle.adr_law_logs.proofs.Past.{Tells}
+use Rattle.adr_law_steps.proofs.Locals.{last_within, units_same, units_tell}
+use Rattle.adr_law_logs.proofs.Bounds.{cut_when_all_is_read}
+use Rattle.adr_law_logs.proofs.Candidates.{entry_of, candidate_from, row_in_item}
+use Rattle.adr_law_logs.proofs.Ground.{LessTells, lt_tells, first_front, read_to_item, ground_of_log}
+
+-- where a reply begins
+pub begins : (sc : Book) (s : State) (q : Request) → IsSoundState sc s → IsSoundRequest sc q → IsOrdered (begins_at s q) × ((begins_at s q).seen ≤ s.store.usn)
+begins sc s q state request = by (same_identifier q.inv s.inv) refl
+  where
+    by : (b : Bool) → same_identifier q.inv s.inv ≡ b → IsOrdered (if b then q.mark else no_mark) × ((if b then q.mark else no_mark).seen ≤ s.store.usn)
+    by true is = (request.ordered, omega (arith, subst (λ i. q.mark.seen ≤ last_of sc i) (same_from_test q.inv s.inv is) request.seen, state.last))
+    by false is = (record { prop = omega arith; obj = omega arith }, omega arith)
+
+module _ (sc : Book) (s : State) (q : Request) (book : IsSoundBook sc) (state : IsSoundState sc s) (request : IsSoundRequest sc q) (purged : at_most s.store.purged q.vector ≡ true) where
+  abbrev rows : List Held
+  rows = s.store.rows
+
+  abbrev from : Mark
+  from = begins_at s q
+
+  abbrev unseen : List Held
+  unseen = sendable rows from q.vector
+
+  abbrev sent : List (ℕ × Item)
+  sent = first_items q.max byte_limit (candidates rows from q.vector)
+
+  abbrev reply : Bool → Reply
+  reply last = reply_of s q from sent last
+
+  began : IsOrdered from × (from.seen ≤ s.store.usn)
+  began = begins sc s q state request
+
+  -- an item that is sent is of a row that may be sent
+  sent_from : (c : ℕ × Item) → Member c sent → (x : Held) × Member x unseen × (c ≡ entry_of rows unseen (unit_of x.update.key))
+  sent_from c m = let front = first_front q.max byte_limit (candidates rows from q.vector) in
+      candidate_from rows unseen c (subst (λ (cs : List (ℕ × Item)). Member c cs) front.1 (member_left sent front.0 c m))
+
+  above : (x : Held) → Member x unseen → from.obj < last_local rows (unit_of x.update.key)
+  above x m = ltb-true from.obj (last_local rows (unit_of x.update.key)) (and_parts _ _ (of_filter (λ (h : Held). is_above_mark from rows h && is_unseen from q.vector h) rows x m).1).0
+
+  to_ordered : (b : Bool) → IsOrdered (reply b).to
+  to_ordered true = record { prop = omega arith; obj = omega arith }
+  to_ordered false = ⊎_elim
+      (λ e. record { prop = omega (arith, began.0.prop, e); obj = omega (arith, began.0.obj, began.1, e) })
+      (λ z. let x = sent_from z.0 z.1 in let k : z.0.0 ≡ last_local rows (unit_of x.0.update.key) = ap (λ (c : ℕ × Item). c.0) x.2 in
+      record { prop = omega (arith, began.0.prop, above x.0 x.1, z.2, k); obj = omega (arith, within x.0, z.2, k) })
+      (read_to_item from.obj sent)
+    where
+      within : (x : Held) → last_local rows (unit_of x.update.key) ≤ s.store.usn
+      within x = last_within (unit_of x.update.key) rows s.store.usn (λ y m e. (state.store.formed.locals y m).1)
+
+  in_rows : (x : Held) → Member x unseen → Member x rows
+  in_rows x m = (of_filter (λ (h : Held). is_above_mark from rows h && is_unseen from q.vector h) rows x m).0
+
+  -- what an item that is sent is
+  pub item_is : (i : Item) → Member i (map (λ (c : ℕ × Item). c.1) sent) → (x : Held) × Member x unseen × (i ≡ item_of unseen (unit_of x.update.key))
+  item_is i m = let c = mapped_member (λ (c : ℕ × Item). c.1) sent i m in let x = sent_from c.0 c.1 in (x.0, x.1, c.2 ∙ ap (λ (d : ℕ × Item). d.1) x.2)
+
+  pub row_is : (unit : Named) (u : Update) → Member u (item_of unseen unit).rows → (h : Held) × Member h unseen × (h.update ≡ u) × (unit_of h.update.key ≡ unit)
+  row_is unit u m = let h = held_as (filter (λ (y : Held). same_unit (unit_of y.update.key) unit) unseen) u m in
+      let k = of_filter (λ (y : Held). same_unit (unit_of y.update.key) unit) unseen h.0 h.1 in
+      (h.0, k.0, sym h.2, units_tell (unit_of h.0.update.key) unit k.1)
+
+  known : (u : Update) (i : Item) → Member i (map (λ (c : ℕ × Item). c.1) sent) → Member u i.rows → Member u sc.issued
+  known u i m n = let x = item_is i m in let h = row_is (unit_of x.0.update.key) u (subst (λ (j : Item). Member u j.rows) x.2 n) in
+      subst (λ v. Member v sc.issued) h.2 (state.store.known h.0.update (updated rows h.0 (in_rows h.0 h.1)))
+
+  -- a row of the unit of one that may be sent is sent too, or was seen
+  sent_too : (x h : Held) → Member x unseen → Member h rows → unit_of h.update.key ≡ unit_of x.update.key
+      → Member h.update (item_of unseen (unit_of x.update.key)).rows ⊎ (Covers (at q.vector) h.update ⊎ (h.local ≤ from.prop))
+  sent_too x h m n e = by (lt_tells from.prop h.local) (leb_tells (usn_of h.update) (at q.vector (inv_of h.update)))
+    where
+      high : nat_lt from.obj (last_local rows (unit_of h.update.key)) ≡ true
+      high = subst (λ (unit : Named). nat_lt from.obj (last_local rows unit) ≡ true) (sym e) (and_parts _ _ (of_filter (λ (y : Held). is_above_mark from rows y && is_unseen from q.vector y) rows x m).1).0
+
+      by : LessTells from.prop h.local → Tells (usn_of h.update) (at q.vector (inv_of h.update)) → Member h.update (item_of unseen (unit_of x.update.key)).rows ⊎ (Covers (at q.vector) h.update ⊎ (h.local ≤ from.prop))
+      by (inr low) c = inr (inr low.1)
+      by (inl up) (inl covered) = inr (inl covered.1)
+      by (inl up) (inr new) = inl (updated (filter (λ (y : Held). same_unit (unit_of y.update.key) (unit_of x.update.key)) unseen) h
+          (in_filter (λ (y : Held). same_unit (unit_of y.update.key) (unit_of x.update.key)) unseen h
+          (in_filter (λ (y : Held). is_above_mark from rows y && is_unseen from q.vector y) rows h n (both_true high (both_true up.0 (ap not new.0))))
+          (units_same (unit_of h.update.key) (unit_of x.update.key) e)))
+
+  exact : (b : Bool) (i : Item) → Member i (map (λ (c : ℕ × Item). c.1) sent) → IsExact rows (reply b) i
+  exact b i m = record {
+    some = (x.update, subst (λ (j : Item). Member x.update j.rows) (sym is) (row_in_item rows unseen x there));
+    from = λ u n. let h = row_is (unit_of x.update.key) u (subst (λ (j : Item). Member u j.rows) is n) in (h.0, in_rows h.0 h.1, h.2, subst (λ (v : Update). unit_of v.key ≡ i.unit) h.2 (h.3 ∙ sym unit));
+    whole = λ h n e. ⊎_elim (λ t. inl (subst (λ (j : Item). Member h.update j.rows) (sym is) t)) (λ o. inr o) (sent_too x h there n (e ∙ unit));
+  }
+    where
+      x : Held
+      x = (item_is i m).0
+
+      there : Member x unseen
+      there = (item_is i m).1
+
+      is : i ≡ item_of unseen (unit_of x.update.key)
+      is = (item_is i m).2
+
+      unit : i.unit ≡ unit_of x.update.key
+      unit = ap (λ (j : Item). j.unit) is
+
+  by_unit : (i : Item) → Member i (map (λ (c : ℕ × Item). c.1) sent) → i ≡ item_of unseen i.unit
+  by_unit i m = let x = item_is i m in x.2 ∙ ap (item_of unseen) (sym (ap (λ (j : Item). j.unit) x.2))
+
+  moment : (b : Bool) → rows ≡ rows_at (log_of sc s.inv) (reply b).to.seen
+  moment true = state.rows
+  moment false = state.rows
+
+  seen : (b : Bool) → (reply b).to.seen ≡ last_of sc s.inv
+  seen true = state.last
+  seen false = state.last
+
+  abbrev asked_for : Knowledge
+  asked_for = record { rows = updates_of rows; vector = at s.store.vector; purged = at q.vector }
+
+  further : Grows sc.issued (knowledge_of s.store) asked_for
+  further = more_covered sc.issued (updates_of rows) (at s.store.vector) (at s.store.vector) (at s.store.purged) (at q.vector) (λ i. omega arith) (everywhere_from_at_most s.store.purged q.vector purged)
+
+  last : (b : Bool) → IfSome (then_some b s.store.vector) (IsSoundLast sc (reply b))
+  last false = tt
+  last true = record {
+    obj = refl;
+    prop = refl;
+    vector = state.store.formed.vector;
+    bounded = state.store.bounded;
+    carries = λ u m c. subst (λ (rs : List Held). Reflects sc.issued (record { rows = updates_of rs; vector = at s.store.vector; purged = at q.vector }) u) state.rows
+        (grows_keeps sc.issued (knowledge_of s.store) asked_for further u (state.store.covered u m c));
+  }
+
+  sound : (b : Bool) → CoversItsGround (reply b) (log_of sc s.inv) → IsSoundReply sc (reply b)
+  sound b ground = record {
+    to_ordered = to_ordered b;
+    to_seen = omega (arith, seen b);
+    to_cut = cut_when_all_is_read (log_of sc s.inv) (reply b).to.seen (book.kept s.inv) (omega (arith, seen b));
+    from_ordered = began.0;
+    forward = omega (arith, began.1, state.last, seen b);
+    asked = request.bounded;
+    known = λ u t. known u t.0 t.1 t.2;
+    ground = ground;
+    last = last b;
+    exact = λ i m. subst (λ (rs : List Held). IsExact rs (reply b) i) (moment b) (exact b i m);
+    once = λ i m j n e. by_unit i m ∙ (ap (item_of unseen) e ∙ sym (by_unit j n));
+    rising = subst AreRising (moment b) state.store.formed.rising;
+    formed = subst (λ (rs : List Held). AreFormedRows (numbered s.store.schema) (updates_of rs)) (moment b) state.store.formed.rows;
+    classes = subst (λ (rs : List Held). AreClassesKnown (numbered s.store.schema) (updates_of rs)) (moment b) state.store.classes;
+  }
+
+  pub reply_is_sound : IsSoundReply sc (reply_to s q)
+  reply_is_sound = sound (length sent == length (candidates rows from q.vector)) (ground_of_log sc s q state.rows state.store.formed.alone)

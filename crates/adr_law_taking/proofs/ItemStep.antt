@@ -1,0 +1,173 @@
+-- What holds on the way still holds where the rows of an item are put.
+use Rattle.std.proofs.Common.{◌≡◌, ◌⊎◌, inl, inr, ⊎_elim, ℕ, ◌≤◌, ◌<◌, ◌+◌, List, [], ◌∷◌, ◌++◌, refl, sym, ap, ◌∙◌, subst, fold, map, arith, length, Option}
+use Rattle.std.proofs.lemmas.List.{append-nil}
+use Rattle.std.proofs.lemmas.Grind.{fold-append, flat_map-append}
+use Rattle.adr_stamp.specs.declared.Unit.{Unit as Named}
+use Rattle.adr_stamp.specs.declared.Unit.TheVariants.{Object, Link}
+use Rattle.adr_schema.specs.Numbered.{numbered}
+use Rattle.adr_vector.specs.Vector.{at}
+use Rattle.adr_event.specs.declared.refusal.TakeRefusal.{TakeRefusal}
+use Rattle.adr_model.specs.Member.{Member, Each}
+use Rattle.adr_model.specs.Update.{Update}
+use Rattle.adr_model.specs.Store.{Held, State, updates_of}
+use Rattle.adr_model.specs.Change.{Item, Written, held_of, put, rows_after}
+use Rattle.adr_model.specs.Formed.{AreFormedRows, AreAlone}
+use Rattle.adr_model.specs.Serve.{Reply}
+use Rattle.adr_model.specs.Take.{Taking, writes_of}
+use Rattle.adr_model.specs.Replica.{Book}
+use Rattle.adr_model.specs.Sound.{IsSent}
+use Rattle.adr_model.proofs.Members.{mapped_member, member_of_either}
+use Rattle.adr_law_knowledge.specs.Grows.{Grows}
+use Rattle.adr_law_knowledge.proofs.Knows.{grows_trans, grows_self}
+use Rattle.adr_law_steps.specs.Puts.{held_at, under, MayPut, ArePut, AreClosed}
+use Rattle.adr_law_taking.specs.OnTheWay.{IsTakeable, known_with, AreOnTheWay, IsOnTheWay, KeepForms}
+use Rattle.adr_law_steps.proofs.Rows.{updated, held_as}
+use Rattle.adr_law_steps.proofs.Putting.{are_put, puts_grow}
+use Rattle.adr_law_steps.proofs.Order.{puts_rise, puts_stay_alone}
+use Rattle.adr_law_steps.proofs.Formed.{objects_stay_formed, objects_stay_closed}
+use Rattle.adr_law_steps.proofs.Links.{links_stay_formed_by_puts, links_stay_closed}
+use Rattle.adr_law_taking.proofs.OnTheWay.{purged_within}
+
+held_where_written : (usn : ℕ) (unit : Named) (us : List Update) → held_of (record { local = usn; item = record { unit = unit; rows = us } } ∷ []) ≡ under usn us
+held_where_written usn unit us = append-nil (under usn us)
+
+-- the rows that are written of an item are put under the next USN
+pub put_of_item : (usn : ℕ) (i : Item) (us : List Update) (rows : List Held) → rows_after [] (held_of (writes_of usn i us)) rows ≡ fold put rows (under (usn + 1) us)
+put_of_item usn i [] rows = refl
+put_of_item usn i (u ∷ us) rows = ap (λ hs. fold put rows hs) (held_where_written (usn + 1) i.unit (u ∷ us))
+
+pub under_usn : (usn : ℕ) (us : List Update) (h : Held) → Member h (under usn us) → Member h.update us × (h.local ≡ usn)
+under_usn usn us h m = let t = mapped_member (held_at usn) us h m in
+    (subst (λ (x : Held). Member x.update us) (sym t.2) t.1, ap (λ (x : Held). x.local) t.2)
+
+module _ (sc : Book) (s : State) (r : Reply) (may : IsTakeable sc s r) (rows : List Held) (way : AreOnTheWay sc s rows) (usn : ℕ) (unit : Named) (us : List Update)
+    (issued : Each (λ u. Member u sc.issued) us)
+    (puts : MayPut (updates_of rows) (at s.store.vector) unit us) (keeps : KeepForms (numbered s.store.schema) (at s.store.vector) (updates_of rows) unit us) where
+  abbrev next : List Held
+  next = fold put rows (under usn us)
+
+  are : ArePut usn us rows next
+  are = are_put usn rows (at s.store.vector) unit us puts
+
+  known : Each (λ u. Member u sc.issued) (updates_of next)
+  known u m = let h = held_as next u m in subst (λ v. Member v sc.issued) (sym h.2) (by h.0 (are.from h.0 h.1))
+    where
+      by : (h : Held) → Member h (under usn us) ⊎ Member h rows → Member h.update sc.issued
+      by h (inl w) = issued h.update (under_usn usn us h w).0
+      by h (inr old) = way.known h.update (updated rows h old)
+
+  pub grows_by_puts : Grows sc.issued (known_with s rows) (known_with s next)
+  grows_by_puts = puts_grow sc.issued usn rows next (at s.store.vector) (at s.store.purged) unit us puts are (purged_within sc s r may)
+
+  formed : (unit : Named) → MayPut (updates_of rows) (at s.store.vector) unit us → KeepForms (numbered s.store.schema) (at s.store.vector) (updates_of rows) unit us → AreFormedRows (numbered s.store.schema) (updates_of next)
+  formed (Object o) p k = objects_stay_formed s.store.schema usn rows next (at s.store.vector) o k.0 us way.rising (puts_rise rows (under usn us) way.rising) way.formed p are k.1
+  formed (Link l) p k = links_stay_formed_by_puts s.store.schema usn rows next (at s.store.vector) l us way.formed p are k.0 (λ o m. (k.1 o m).0)
+
+  closed : (unit : Named) → MayPut (updates_of rows) (at s.store.vector) unit us → KeepForms (numbered s.store.schema) (at s.store.vector) (updates_of rows) unit us → AreClosed (at s.store.vector) (updates_of next)
+  closed (Object o) p k = objects_stay_closed usn rows next (at s.store.vector) o us way.closed p are
+  closed (Link l) p k = links_stay_closed usn rows next (at s.store.vector) l us way.closed p are (λ o m. (k.1 o m).1)
+
+  pub rows_step : AreOnTheWay sc s next
+  rows_step = record {
+    rising = puts_rise rows (under usn us) way.rising;
+    known = known;
+    grows = grows_trans sc.issued _ (known_with s rows) (known_with s next) way.grows grows_by_puts;
+    formed = formed unit puts keeps;
+    closed = closed unit puts keeps;
+  }
+
+-- a taking that goes on with these rows of an item
+abbrev pub goes_on : Taking → Item → List Update → Option TakeRefusal → ℕ → ℕ → ℕ → Taking
+goes_on t i us refusal place objects links =
+    record {
+      rows = rows_after [] (held_of (writes_of t.usn i us)) t.rows;
+      usn = t.usn + length (writes_of t.usn i us);
+      writes = t.writes ++ writes_of t.usn i us;
+      refusal = refusal;
+      place = place;
+      objects = objects;
+      links = links;
+    }
+
+pub held_of_both : (ws vs : List Written) → held_of (ws ++ vs) ≡ held_of ws ++ held_of vs
+held_of_both ws vs = flat_map-append (λ (w : Written). map (held_at w.local) w.item.rows) ws vs
+
+module _ (sc : Book) (s : State) (r : Reply) (may : IsTakeable sc s r) (t : Taking) (way : IsOnTheWay sc s r t) (i : Item) (refusal : Option TakeRefusal) (place objects links : ℕ) where
+  -- nothing is written
+  idle : IsOnTheWay sc s r (goes_on t i [] refusal place objects links)
+  idle = record {
+    rows = way.rows;
+    alone = way.alone;
+    locals = λ h m. ((way.locals h m).0, omega (arith, (way.locals h m).1));
+    made = ap (λ ws. rows_after [] (held_of ws) s.store.rows) (append-nil t.writes) ∙ way.made;
+    sent = subst (λ ws. Each (λ h. IsSent r h.update) (held_of ws)) (sym (append-nil t.writes)) way.sent;
+    rises = omega (arith, way.rises);
+    above = subst (λ ws. Each (λ h. s.store.usn < h.local) (held_of ws)) (sym (append-nil t.writes)) way.above;
+    within = λ h m. omega (arith, way.within h (subst (λ ws. Member h (held_of ws)) (append-nil t.writes) m));
+    idle = λ le. append-nil t.writes ∙ way.idle (omega (arith, le));
+  }
+
+  module _ (u : Update) (us : List Update) (of_item : Each (λ v. IsSent r v) (u ∷ us))
+      (puts : MayPut (updates_of t.rows) (at s.store.vector) i.unit (u ∷ us)) (keeps : KeepForms (numbered s.store.schema) (at s.store.vector) (updates_of t.rows) i.unit (u ∷ us)) where
+    abbrev after : List Held
+    after = fold put t.rows (under (t.usn + 1) (u ∷ us))
+
+    abbrev behind : Taking
+    behind = goes_on t i (u ∷ us) refusal place objects links
+
+    are_written : ArePut (t.usn + 1) (u ∷ us) t.rows after
+    are_written = are_put (t.usn + 1) t.rows (at s.store.vector) i.unit (u ∷ us) puts
+
+    same : behind.rows ≡ after
+    same = put_of_item t.usn i (u ∷ us) t.rows
+
+    new_or_old : (h : Held) → Member h (held_of behind.writes) → (Member h.update (u ∷ us) × (h.local ≡ t.usn + 1)) ⊎ Member h (held_of t.writes)
+    new_or_old h m = by (member_of_either (held_of t.writes) (held_of (writes_of t.usn i (u ∷ us))) h (subst (Member h) (held_of_both t.writes (writes_of t.usn i (u ∷ us))) m))
+      where
+        by : Member h (held_of t.writes) ⊎ Member h (held_of (writes_of t.usn i (u ∷ us))) → (Member h.update (u ∷ us) × (h.local ≡ t.usn + 1)) ⊎ Member h (held_of t.writes)
+        by (inl old) = inr old
+        by (inr new) = inl (under_usn (t.usn + 1) (u ∷ us) h (subst (Member h) (held_where_written (t.usn + 1) i.unit (u ∷ us)) new))
+
+    locals : Each (λ h. (1 ≤ h.local) × (h.local ≤ t.usn + 1)) after
+    locals h m = by (are_written.from h m)
+      where
+        by : Member h (under (t.usn + 1) (u ∷ us)) ⊎ Member h t.rows → (1 ≤ h.local) × (h.local ≤ t.usn + 1)
+        by (inl new) = let e = (under_usn (t.usn + 1) (u ∷ us) h new).1 in (omega (arith, e), omega (arith, e))
+        by (inr old) = let l = way.locals h old in (l.0, omega (arith, l.1))
+
+    written : IsOnTheWay sc s r behind
+    written = record {
+      rows = subst (AreOnTheWay sc s) (sym same) (rows_step sc s r may t.rows way.rows (t.usn + 1) i.unit (u ∷ us) (λ v m. may.reply.known v (of_item v m)) puts keeps);
+      alone = subst AreAlone (sym same) (puts_stay_alone t.usn (t.usn + 1) t.rows after (at s.store.vector) i.unit (u ∷ us) way.alone (λ h m. (way.locals h m).1) (omega arith) puts are_written);
+      locals = subst (Each (λ h. (1 ≤ h.local) × (h.local ≤ t.usn + 1))) (sym same) locals;
+      made = ap (λ hs. fold put s.store.rows hs) (held_of_both t.writes (writes_of t.usn i (u ∷ us))) ∙ (fold-append put s.store.rows (held_of t.writes) (held_of (writes_of t.usn i (u ∷ us))) ∙ ap (λ rows. fold put rows (held_of (writes_of t.usn i (u ∷ us)))) way.made);
+      sent = λ h m. ⊎_elim (λ new. of_item h.update new.0) (λ old. way.sent h old) (new_or_old h m);
+      rises = omega (arith, way.rises);
+      above = λ h m. ⊎_elim (λ new. omega (arith, new.1, way.rises)) (λ old. way.above h old) (new_or_old h m);
+      within = λ h m. ⊎_elim (λ new. omega (arith, new.1)) (λ old. omega (arith, way.within h old)) (new_or_old h m);
+      idle = λ le. absurd (omega (arith, le, way.rises));
+    }
+
+  pub step : (us : List Update) → Each (λ v. IsSent r v) us
+      → (us ≡ []) ⊎ (MayPut (updates_of t.rows) (at s.store.vector) i.unit us × KeepForms (numbered s.store.schema) (at s.store.vector) (updates_of t.rows) i.unit us)
+      → IsOnTheWay sc s r (goes_on t i us refusal place objects links)
+  step [] of_item e = idle
+  step (u ∷ us) of_item (inl e) = absurd (let f : u ∷ us ≡ [] = e in cc)
+  step (u ∷ us) of_item (inr (puts, keeps)) = written u us of_item puts keeps
+
+  pub step_grows : (us : List Update) → Each (λ v. IsSent r v) us
+      → (us ≡ []) ⊎ (MayPut (updates_of t.rows) (at s.store.vector) i.unit us × KeepForms (numbered s.store.schema) (at s.store.vector) (updates_of t.rows) i.unit us)
+      → Grows sc.issued (known_with s t.rows) (known_with s (goes_on t i us refusal place objects links).rows)
+  step_grows [] of_item e = grows_self sc.issued (known_with s t.rows)
+  step_grows (u ∷ us) of_item (inl e) = absurd (let f : u ∷ us ≡ [] = e in cc)
+  step_grows (u ∷ us) of_item (inr (puts, keeps)) =
+      subst (λ rows. Grows sc.issued (known_with s t.rows) (known_with s rows)) (sym (put_of_item t.usn i (u ∷ us) t.rows))
+      (grows_by_puts sc s r may t.rows way.rows (t.usn + 1) i.unit (u ∷ us) (λ v m. may.reply.known v (of_item v m)) puts keeps)
+
+  pub step_writes : (us : List Update)
+      → (us ≡ []) ⊎ (MayPut (updates_of t.rows) (at s.store.vector) i.unit us × KeepForms (numbered s.store.schema) (at s.store.vector) (updates_of t.rows) i.unit us)
+      → Each (λ v. Member v (updates_of (goes_on t i us refusal place objects links).rows)) us
+  step_writes us (inl e) v m = absurd (subst (Member v) e m)
+  step_writes us (inr (puts, keeps)) v m =
+      subst (λ rows. Member v (updates_of rows)) (sym (put_of_item t.usn i us t.rows))
+      (updated (fold put t.rows (under (t.usn + 1) us)) (held_at (t.usn + 1) v) ((are_put (t.usn + 1) t.rows (at s.store.vector) i.unit us puts).written v m))

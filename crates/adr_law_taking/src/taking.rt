@@ -1,0 +1,49 @@
+//! Taking a reply.
+
+ghost use Rattle.std.specs.Prelude.{◌≡◌, ◌≢◌, ◌⊎◌, ℕ, [], Ok, Err};
+ghost use Rattle.adr_stamp.specs.declared.Oid.{Oid};
+ghost use Rattle.adr_vector.specs.Vector.{at};
+ghost use Rattle.adr_event.specs.declared.refusal.ItemFault.{ItemFault};
+ghost use Rattle.adr_event.specs.declared.refusal.TakeRefusal.TheVariants.{RolledBack, BadItem, Incomplete};
+ghost use Rattle.adr_model.specs.Member.{Member, Each};
+ghost use Rattle.adr_model.specs.Update.{Identifier, Update};
+ghost use Rattle.adr_model.specs.Reflects.{Covers, knowledge_of, Reflects};
+ghost use Rattle.adr_model.specs.Store.{State, updates_of};
+ghost use Rattle.adr_model.specs.Change.{Change, after};
+ghost use Rattle.adr_model.specs.LocalLog.{Follows};
+ghost use Rattle.adr_model.specs.Serve.{Reply};
+ghost use Rattle.adr_model.specs.Take.{take};
+ghost use Rattle.adr_model.specs.Replica.{Book, Pending, ToTake};
+ghost use Rattle.adr_model.specs.Sound.{last_of, IsSoundBook, IsSoundState, IsSoundReply, IsSent};
+ghost use Rattle.adr_law_logs.specs.Later.{MayIssue};
+ghost use Rattle.adr_law_logs.specs.Settling.{Leaves};
+
+/// A sound state that takes a sound reply: the change follows in its log and writes only what was
+/// issued, and leaves what a sound state needs.
+#[tactic(none)]
+pub fn taken_replies_leave_sound_states()
+    ensures { (sc : Book) (s : State) (r : Reply) (c : Change) → IsSoundBook sc → IsSoundState sc s → IsSoundReply sc r → take s r ≡ Ok c
+        → Follows (last_of sc s.inv) c × (MayIssue sc c [] × Leaves sc s (record { call = ToTake r; change = c })) }
+{}
+
+/// A sound state finds no item of a sound reply broken or incomplete, and that it was put back it
+/// doesn't find either.
+#[tactic(none)]
+pub fn sound_replies_are_whole()
+    ensures broken { (sc : Book) (s : State) (r : Reply) (place : ℕ) (cause : ItemFault) → IsSoundBook sc → IsSoundState sc s → IsSoundReply sc r → take s r ≢ Err (BadItem place cause) }
+    ensures incomplete { (sc : Book) (s : State) (r : Reply) (o : Oid) → IsSoundBook sc → IsSoundState sc s → IsSoundReply sc r → take s r ≢ Err (Incomplete o) }
+    ensures rollback { (sc : Book) (s : State) (r : Reply) (inv : Identifier) (mine shown : ℕ) → IsSoundBook sc → IsSoundState sc s → IsSoundReply sc r → take s r ≢ Err (RolledBack inv mine shown) }
+{}
+
+/// A row that comes with a reply was sent (*from*), and where nothing that was sent is covered, it wasn't
+/// taken before (*lacked*). Where all that was sent was taken, nothing is written (*idle*).
+#[tactic(none)]
+pub fn replies_bring_what_was_lacking()
+    ensures from { (sc : Book) (s : State) (r : Reply) (c : Change) → IsSoundBook sc → IsSoundState sc s → IsSoundReply sc r → take s r ≡ Ok c
+        → Each (λ u. Member u (updates_of s.store.rows) ⊎ IsSent r u) (updates_of (after s c).store.rows) }
+    ensures lacked { (sc : Book) (s : State) (r : Reply) (c : Change) → IsSoundBook sc → IsSoundState sc s → IsSoundReply sc r → take s r ≡ Ok c
+        → ((u : Update) → IsSent r u → Covers (at s.store.vector) u → ⊥)
+        → Each (λ u. Member u (updates_of s.store.rows) ⊎ (IsSent r u × (Reflects sc.issued (knowledge_of s.store) u → ⊥))) (updates_of (after s c).store.rows) }
+    ensures idle { (sc : Book) (s : State) (r : Reply) (c : Change) → IsSoundBook sc → IsSoundState sc s → IsSoundReply sc r → take s r ≡ Ok c
+        → ((u : Update) → IsSent r u → Covers (at s.store.vector) u → ⊥) → ((u : Update) → IsSent r u → Reflects sc.issued (knowledge_of s.store) u) → c.usn ≡ s.store.usn }
+{}

@@ -1,0 +1,72 @@
+//! What is held of an item's unit before the item.
+
+ghost use Rattle.std.specs.Prelude.{◌≡◌, ◌||◌};
+ghost use Rattle.adr_model.specs.Visible.{covers_birth};
+ghost use Rattle.adr_model.specs.Take.{is_above, is_gone, is_lost_end, presence_of};
+ghost use Rattle.adr_take.specs.Presence.{defined};
+
+use adr_stamp::{LinkKey, Oid};
+use adr_state::{Rows, Update};
+use adr_vector::Vector;
+
+/// What stands of an object before its item.
+#[derive(Clone, Copy)]
+pub enum Presence {
+    Dead,
+    Held,
+    /// It was held and was collected, or never comes.
+    Gone,
+    New,
+}
+
+/// What stands of an object before its item.
+pub fn presence_of(vector: &Vector, held: &Rows, object: &Oid) -> Presence
+    ensures { defined result ≡ presence_of vector.now held.now object.now }
+{
+    if held.is_dead(object) {
+        Presence::Dead
+    } else if held.holds(object) {
+        Presence::Held
+    } else if covers_birth(vector, object) {
+        Presence::Gone
+    } else {
+        Presence::New
+    }
+}
+
+fn covers_birth(vector: &Vector, object: &Oid) -> bool
+    ensures { result ≡ covers_birth vector.now object.now }
+{
+    vector.covers(object.birth.inv, object.birth.usn)
+}
+
+/// Whether an object was held and was collected, or never comes.
+fn is_gone(vector: &Vector, held: &Rows, object: &Oid) -> bool
+    ensures { result ≡ is_gone vector.now held.now object.now }
+{
+    !held.holds(object) && covers_birth(vector, object)
+}
+
+/// Whether an end of a link is dead or gone.
+fn is_lost_end(vector: &Vector, held: &Rows, object: &Oid) -> bool
+    ensures { result ≡ is_lost_end vector.now held.now object.now }
+{
+    held.is_dead(object) || is_gone(vector, held, object)
+}
+
+/// Whether one of the ends of a link is dead or gone.
+pub fn has_lost_end(vector: &Vector, held: &Rows, link: &LinkKey) -> bool
+    ensures { result ≡ (is_lost_end vector.now held.now link.now.from || is_lost_end vector.now held.now link.now.to) }
+{
+    is_lost_end(vector, held, &link.from) || is_lost_end(vector, held, &link.to)
+}
+
+/// Whether a row is above the one of its key, or there is none.
+pub fn is_above(held: &Rows, row: &Update) -> bool
+    ensures { result ≡ is_above held.now row.now }
+{
+    match held.row(row.key()) {
+        Some(own) => own.update().is_older(row),
+        None => true,
+    }
+}

@@ -1,0 +1,214 @@
+//! The whole of a reply.
+
+ghost use Rattle.std.specs.Prelude.{◌≡◌, ◌↔◌, ◌≤◌, [], None, Some, Ok, Err, IfOk, IsErrOf, IsOk, IsTrue, false, length, nat_lt, unwrap_or};
+ghost use Rattle.std.specs.Option.{option_copied};
+ghost use Rattle.adr_vector.specs.Vector.{joined, most_cursors, raised};
+ghost use Rattle.adr_event.specs.declared.refusal.TakeRefusal.{TakeRefusal};
+ghost use Rattle.adr_model.specs.Change.{after, with_mark};
+ghost use Rattle.adr_model.specs.Take.{passes, refusal_of, same_mark, shown_by_last, take, taken_change};
+ghost use Rattle.adr_model.specs.Write.{usn_limit};
+ghost use Rattle.adr_take.specs.Before.{refusal_before};
+
+use crate::NoMemory;
+use crate::taking::{Taking, take_items};
+use adr_event::{Failure, Table, TakeRefusal};
+use adr_packet::Reply;
+use adr_state::{
+    CURSOR_LIMIT, Change, Kept, LINK_LIMIT, MARK_LIMIT, Mode, OBJECT_LIMIT, State, USN_LIMIT,
+    is_same,
+};
+use adr_vector::{Mark, Vector, VectorRefusal};
+use std::alloc::{AllocError, Global};
+
+/// What a reply does to a controller: the change that it makes, or why it is refused (MS-DRSR, processing a
+/// GetNCChanges reply; the refusals and their order are this project's own). The controller stays as it is. A fault of
+/// an item whose place needs more than 32 bits counts as want of memory.
+pub fn take(state: &State, reply: &Reply, alloc: Global) -> Result<Change, Failure<TakeRefusal>>
+    requires { state.now.store.usn ≤ usn_limit }
+    ensures ok { IfOk result (λ change. take state.now reply.now ≡ Ok change) }
+    ensures within { IfOk result (λ change. change.usn ≤ usn_limit) }
+    ensures refused { (refusal : TakeRefusal) → IsErrOf result (Failure.Refused refusal) → take state.now reply.now ≡ Err refusal }
+{
+    match outcome(alloc, state, reply)? {
+        Ok(change) => Ok(change),
+        Err(refusal) => Err(Failure::Refused(refusal)),
+    }
+}
+
+/// The change or the refusal, unless memory runs out.
+fn outcome(
+    alloc: Global,
+    state: &State,
+    reply: &Reply,
+) -> Result<Result<Change, TakeRefusal>, NoMemory>
+    requires { state.now.store.usn ≤ usn_limit }
+    ensures { IfOk result (λ outcome. outcome ≡ take state.now reply.now) }
+{
+    if let Some(refusal) = refusal_before(state, reply) {
+        return Ok(Err(refusal));
+    }
+    let taking = take_items(alloc, state, reply.items())?;
+    match refusal_after(alloc, state, reply, &taking)? {
+        Some(refusal) => Ok(Err(refusal)),
+        None => Ok(Ok(taken_change(alloc, reply, taking)?)),
+    }
+}
+
+/// Why a reply is refused before its items are looked at, first in order.
+fn refusal_before(state: &State, reply: &Reply) -> Option<TakeRefusal>
+    ensures { result ≡ refusal_before state.now reply.now }
+{
+    if state.mode().is_quarantined() {
+        return Some(TakeRefusal::Quarantined);
+    }
+    if !is_same(reply.dest(), state.dsa()) {
+        return Some(TakeRefusal::NotMine { dest: reply.dest() });
+    }
+    let kept = state.marks().mark(reply.source(), reply.inv());
+    if !is_same_mark(reply.from(), kept) {
+        return Some(TakeRefusal::Stale {
+            mark: kept,
+            from: reply.from(),
+        });
+    }
+    if let Some((inv, has, needs)) = reply.asked().first_gap(state.vector()) {
+        return Some(TakeRefusal::VectorBehind { inv, has, needs });
+    }
+    let mine = state.schema().number();
+    if reply.schema() != mine {
+        return Some(TakeRefusal::SchemaMismatch {
+            mine,
+            theirs: reply.schema(),
+        });
+    }
+    let shown = shown_by_last(state, reply);
+    if state.usn() < shown {
+        return Some(TakeRefusal::RolledBack {
+            inv: state.inv(),
+            mine: state.usn(),
+            shown,
+        });
+    }
+    None
+}
+
+fn is_same_mark(a: Mark, b: Mark) -> bool
+    ensures { result ≡ same_mark a b }
+{
+    a.obj == b.obj && a.prop == b.prop && a.seen == b.seen
+}
+
+/// How much of this incarnation the source has seen.
+fn shown_by_last(state: &State, reply: &Reply) -> u64
+    ensures { result ≡ shown_by_last state.now reply.now }
+{
+    match reply.last() {
+        Some(vector) => vector.at(state.inv()),
+        None => 0,
+    }
+}
+
+/// Why a reply whose items were taken is refused, first in order.
+fn refusal_after(
+    alloc: Global,
+    state: &State,
+    reply: &Reply,
+    taking: &Taking,
+) -> Result<Option<TakeRefusal>, NoMemory>
+    requires { refusal_before state.now reply.now ≡ None }
+    ensures { let taken = after state.now (taken_change reply.now taking.now) in
+        IfOk result (λ refusal. refusal ≡ refusal_of state.now reply.now taking.now taken) }
+{
+    if let Some(refusal) = taking.refusal() {
+        return Ok(Some(refusal));
+    }
+    if USN_LIMIT < taking.usn() {
+        return Ok(Some(TakeRefusal::UsnLimit));
+    }
+    if let Some(refusal) = passes(Table::Objects, OBJECT_LIMIT, taking.objects()) {
+        return Ok(Some(refusal));
+    }
+    if let Some(refusal) = passes(Table::Links, LINK_LIMIT, taking.links()) {
+        return Ok(Some(refusal));
+    }
+    if has_many_cursors(alloc, state, reply.last(), taking.usn())? {
+        return Ok(Some(TakeRefusal::Full {
+            table: Table::Cursors,
+            limit: CURSOR_LIMIT,
+        }));
+    }
+    Ok(passes(Table::Marks, MARK_LIMIT, count_marks(alloc, state, reply)?))
+}
+
+/// The refusal of a table that passes its limit.
+fn passes(table: Table, limit: u64, count: usize) -> Option<TakeRefusal>
+    ensures { result ≡ passes table limit count }
+{
+    if limit < count as u64 {
+        Some(TakeRefusal::Full { table, limit })
+    } else {
+        None
+    }
+}
+
+/// Whether the vector has too many cursors with what the source has seen, if it says so, and with the own update
+/// sequence number.
+fn has_many_cursors(
+    alloc: Global,
+    state: &State,
+    last: Option<&Vector>,
+    usn: u64,
+) -> Result<bool, NoMemory>
+    ensures { let seen = joined state.now.store.vector (unwrap_or (option_copied last.entry) []) in
+        IfOk result (λ many. many ≡ nat_lt most_cursors (length (raised seen state.now.inv usn))) }
+{
+    let mut vector = state.vector().copy(alloc)?;
+    if let Some(last) = last {
+        if is_full(vector.join(last))? {
+            return Ok(true);
+        }
+    }
+    is_full(vector.raise(state.inv(), usn))
+}
+
+/// Whether a vector was full.
+fn is_full(raised: Result<(), VectorRefusal>) -> Result<bool, NoMemory>
+    ensures full { IfOk result (λ full. IsTrue full ↔ IsErrOf raised VectorRefusal.Full) }
+    ensures changed { IfOk result (λ full. full ≡ false → IsOk raised) }
+{
+    match raised {
+        Ok(()) => Ok(false),
+        Err(VectorRefusal::Full) => Ok(true),
+        Err(VectorRefusal::NoMemory) => Err(AllocError),
+    }
+}
+
+/// How many marks are kept with that of the reply.
+fn count_marks(alloc: Global, state: &State, reply: &Reply) -> Result<usize, NoMemory>
+    ensures { let mark = Some (reply.now.source, record { inv = reply.now.inv; mark = reply.now.to }) in
+        IfOk result (λ count. count ≡ length (with_mark mark state.now.store.marks)) }
+{
+    let mut marks = state.marks().copy(alloc)?;
+    marks.keep(reply.source(), reply.inv(), reply.to())?;
+    Ok(marks.len())
+}
+
+/// The change of a taken reply; the last one brings the source's vector.
+fn taken_change(alloc: Global, reply: &Reply, taking: Taking) -> Result<Change, NoMemory>
+    ensures { IfOk result (λ change. change ≡ taken_change reply.now taking) }
+{
+    let joined = match reply.last() {
+        Some(vector) => vector.copy(alloc)?,
+        None => Vector::new(alloc),
+    };
+    let mark = Kept::new(reply.inv(), reply.to());
+    Ok(Change::new(
+        taking.usn(),
+        Mode::Normal,
+        Some((reply.source(), mark)),
+        joined,
+        Vector::new(alloc),
+        Vec::new(alloc),
+        taking.into_writes(),
+    ))
+}

@@ -1,0 +1,164 @@
+//! The items of a reply, one after the other.
+
+ghost use Rattle.std.specs.Prelude.{◌≡◌, ◌+◌, ◌<◌, ◌≤◌, ◌^◌, [], ◌∷◌, ◌++◌, IfOk, OnOk, fold, length, map};
+ghost use Rattle.adr_model.specs.Refusing.{first_of};
+ghost use Rattle.adr_model.specs.Change.{held_of, rows_after};
+ghost use Rattle.adr_model.specs.Take.{begin, take_item, take_items, writes_of};
+ghost use Rattle.adr_model.specs.Write.{usn_limit};
+ghost use Rattle.adr_take.specs.HeldAt.{held_at};
+
+use crate::NoMemory;
+use crate::item::item_refusal;
+use crate::rows::rows_taken;
+use adr_event::TakeRefusal;
+use adr_schema::Schema;
+use adr_state::{Held, Item, Rows, State, Update, Written, count_links, count_objects};
+use adr_vector::Vector;
+use std::alloc::Global;
+use std::marker::Model;
+
+/// How far a reply has been taken: the rows, the update sequence number and the writes so far, the first refusal, how
+/// many items there were, and the most objects and links on the way.
+#[derive(Drop)]
+pub struct Taking {
+    rows: Rows,
+    usn: u64,
+    writes: Vec<Written>,
+    refusal: Option<TakeRefusal>,
+    place: usize,
+    objects: usize,
+    links: usize,
+}
+
+impl Model for Taking {
+    ghost use Rattle.adr_model.specs.Take.{Taking as Defined};
+
+    ghost Value = { Defined };
+
+    ghost view = { λ t. record { rows = t.rows; usn = t.usn; writes = t.writes.items; refusal = t.refusal; place = t.place; objects = t.objects; links = t.links } };
+}
+
+impl Taking {
+    /// Before the first item.
+    pub fn begin(alloc: Global, state: &State) -> Result<Taking, NoMemory>
+        ensures { IfOk result (λ taking. taking ≡ begin state.now) }
+    {
+        Ok(Taking {
+            rows: state.rows().copy(alloc)?,
+            usn: state.usn(),
+            writes: Vec::new(alloc),
+            refusal: None,
+            place: 0,
+            objects: 0,
+            links: 0,
+        })
+    }
+
+    /// Takes one item, which is judged against what the items before it left, with the vector of the start.
+    pub fn take_item(
+        &mut self,
+        alloc: Global,
+        schema: Schema,
+        vector: &Vector,
+        item: &Item,
+    ) -> Result<(), NoMemory>
+        requires usn { self.old.usn + 1 < 2 ^ 64 }
+        requires place { self.old.place + 1 < 2 ^ 64 }
+        ensures item { OnOk result (self.new ≡ take_item schema vector.now self.old item.now) }
+        ensures usn { OnOk result (self.new.usn ≤ self.old.usn + 1) }
+        ensures place { OnOk result (self.new.place ≡ self.old.place + 1) }
+    {
+        let rows = rows_taken(alloc, vector, &self.rows, item)?;
+        let refusal = item_refusal(schema, vector, &self.rows, self.place, item)?;
+        self.write(alloc, item, rows)?;
+        self.refusal = first(self.refusal, refusal);
+        self.place += 1;
+        self.objects = self.objects.max(count_objects(alloc, &self.rows)?);
+        self.links = self.links.max(count_links(&self.rows));
+        Ok(())
+    }
+
+    /// Writes rows of an item's unit under the next update sequence number, where there are any.
+    fn write(&mut self, alloc: Global, item: &Item, rows: Vec<Update>) -> Result<(), NoMemory>
+        requires { self.old.usn + 1 < 2 ^ 64 }
+        ensures { OnOk result (let writes = writes_of self.old.usn item.now rows.items in self.new ≡ record self.old {
+          rows = rows_after [] (held_of writes) self.old.rows;
+          usn = self.old.usn + length writes;
+          writes = self.old.writes ++ writes;
+        }) }
+    {
+        if rows.is_empty() {
+            return Ok(());
+        }
+        let local = self.usn + 1;
+        self.rows
+            .write(held_under(alloc, local, rows.as_slice())?, &[])?;
+        self.writes
+            .push(Written::new(local, Item::new(item.unit(), rows)))?;
+        self.usn = local;
+        Ok(())
+    }
+
+    pub fn usn(&self) -> u64
+        ensures { result ≡ self.now.usn }
+    {
+        self.usn
+    }
+
+    pub fn refusal(&self) -> Option<TakeRefusal>
+        ensures { result ≡ self.now.refusal }
+    {
+        self.refusal
+    }
+
+    pub fn objects(&self) -> usize
+        ensures { result ≡ self.now.objects }
+    {
+        self.objects
+    }
+
+    pub fn links(&self) -> usize
+        ensures { result ≡ self.now.links }
+    {
+        self.links
+    }
+
+    pub fn into_writes(self) -> Vec<Written>
+        ensures { result.items ≡ self.writes }
+    {
+        self.writes
+    }
+}
+
+/// The first of two refusals that is there.
+fn first(a: Option<TakeRefusal>, b: Option<TakeRefusal>) -> Option<TakeRefusal>
+    ensures { result ≡ first_of (a ∷ b ∷ []) }
+{
+    match a {
+        Some(refusal) => Some(refusal),
+        None => b,
+    }
+}
+
+/// The rows with the update sequence number under which they are written.
+fn held_under(alloc: Global, local: u64, rows: &[Update]) -> Result<Vec<Held>, NoMemory>
+    ensures { IfOk result (λ held. held.items ≡ map (held_at local) rows.now) }
+{
+    let mut held = Vec::new(alloc);
+    for row in rows {
+        held.push(Held::new(row.copy(alloc)?, local))?;
+    }
+    Ok(held)
+}
+
+/// Takes all items.
+pub fn take_items(alloc: Global, state: &State, items: &[Item]) -> Result<Taking, NoMemory>
+    requires { state.now.store.usn ≤ usn_limit }
+    ensures { IfOk result (λ taking. taking ≡ take_items state.now items.now) }
+{
+    let mut taking = Taking::begin(alloc, state)?;
+    for item in items {
+        taking.take_item(alloc, state.schema(), state.vector(), item)?;
+    }
+    Ok(taking)
+}
