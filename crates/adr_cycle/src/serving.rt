@@ -1,6 +1,6 @@
 //! What a controller answers to a request.
 
-ghost use Rattle.std.specs.Prelude.{◌≡◌, ◌&&◌, ◌==◌, Ok, Err, IfOk, IsErrOf, nat_le, nat_lt, not};
+ghost use Rattle.std.specs.Prelude.{◌≡◌, ◌↔◌, ◌&&◌, ◌==◌, Ok, Err, IfOk, IsErrOf, nat_le, nat_lt, not};
 ghost use Rattle.std.specs.Bool.{then_some};
 ghost use Rattle.std.specs.Option.{option_map};
 ghost use Rattle.adr_vector.specs.Vector.{first_gap};
@@ -23,7 +23,7 @@ pub fn serve(
     alloc: Global,
 ) -> Result<Reply, Failure<ServeRefusal>>
     ensures ok { IfOk result (λ reply. serve state.now request.now ≡ Ok reply) }
-    ensures refused { (refusal : ServeRefusal) → IsErrOf result (Failure.Refused refusal) → serve state.now request.now ≡ Err refusal }
+    ensures refused { (refusal : ServeRefusal) → IsErrOf result (Failure.Refused refusal) ↔ (serve state.now request.now ≡ Err refusal) }
 {
     match serve_refusal(state, request) {
         Some(refusal) => Err(Failure::Refused(refusal)),

@@ -1,4 +1,4 @@
-use Rattle.std.proofs.Common.{Some, None}
+use Rattle.std.proofs.Common.{None}
 use Rattle.std.proofs.lemmas.Result.{err_from_is_err_and}
 use Rattle.adr_origin.proofs.InLiveParts.{moved_told, named_told, row_told}
 use Rattle.adr_origin.proofs.renaming.check_rename.Goals as goal
