@@ -30,7 +30,11 @@ fn is_answered(alloc: Global, schedule: &[u8], answers: &[u8]) -> io::Result<boo
     let mut source = MemSource::new(Vec::from_slice(alloc, schedule)?, 7);
     let mut sink = MemSink::new(alloc);
     let status = run(alloc, words.as_slice(), &mut source, &mut sink);
-    let due = if answers.starts_with(b"line ".as_slice()) { 3 } else { 0 };
+    let due = if answers.starts_with(b"line ".as_slice()) {
+        3
+    } else {
+        0
+    };
     Ok(status == due && sink.bytes() == answers)
 }
 

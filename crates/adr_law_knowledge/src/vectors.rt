@@ -1,4 +1,4 @@
-//! Version vectors as numbers.
+//! Up-to-dateness vectors as numbers.
 
 ghost use Rattle.std.specs.Prelude.{◌≡◌, ◌≢◌, ◌≤◌, ◌↔◌, ℕ, max, true};
 ghost use Rattle.adr_vector.specs.Vector.{Cursors, IsVector, at, at_most, joined, raised};

@@ -7,21 +7,21 @@
 //! no code, and their contracts are the laws.
 #![tactic(auto)]
 
+mod books;
 mod logs;
 mod moves;
-mod books;
 mod serving;
 mod writing;
 
-pub use logs::{
-    changes_account_for_rows, later_rows_keep_a_cut, logs_are_bounded, logs_go_on, marks_move_on,
-};
-pub use moves::moves_keep_what_is_sound;
 pub use books::{
     a_change_is_recorded, a_change_leaves_a_sound_state, a_reply_moves_its_mark,
     adopted_images_are_sound, an_incarnation_begins, later_is_an_order, new_controllers_are_sound,
     what_is_sound_stays_sound,
 };
+pub use logs::{
+    changes_account_for_rows, later_rows_keep_a_cut, logs_are_bounded, logs_go_on, marks_move_on,
+};
+pub use moves::moves_keep_what_is_sound;
 pub use serving::{
     asked_requests_are_sound, replies_cover_their_ground, served_replies_are_sound,
     sound_requests_show_no_rollback,

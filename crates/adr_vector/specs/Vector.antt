@@ -1,4 +1,4 @@
--- Version vectors: up to which write of each incarnation one has seen everything.
+-- Up-to-dateness vectors: up to which write of each incarnation one has seen everything.
 use Rattle.std.specs.Prelude.{ℕ, ◌≤◌, List, [], ◌∷◌, length, Bool, true, nat_le, not, if◌then◌else◌, Option, None, Some, option_map, find, fold}
 use Rattle.std.specs.List.{list_all, AllByRecursion}
 use Rattle.std.specs.List.Sorted.{IsStrictlySortedBy}

@@ -1,4 +1,4 @@
-//! Version vectors, and high watermarks.
+//! Up-to-dateness vectors, and high watermarks.
 //!
 //! A vector keeps, for each incarnation of a controller's database, up to which of its writes everything has been
 //! seen. A mark keeps how far one has read the changes of one partner. This crate stands on `adr_stamp` for the order

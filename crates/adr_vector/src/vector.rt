@@ -1,4 +1,4 @@
-//! Version vectors.
+//! Up-to-dateness vectors.
 
 ghost use Rattle.std.specs.Prelude.{◌≡◌, ◌≢◌, ◌<◌, ◌≤◌, ◌↔◌, ℕ, List, [], length, max, IsTrue, IsNone, IfOk, IfErr, IfSome, OnOk, OnErr, IsErrOf, true, slice_get};
 ghost use Rattle.std.specs.declared.cmp.Ordering.TheVariants.{Less};

@@ -21,7 +21,12 @@ fn put(alloc: Global, fields: &mut Vec<Field>, name: &str, value: Plainly) -> Re
     Ok(())
 }
 
-fn put_number(alloc: Global, fields: &mut Vec<Field>, name: &str, number: u64) -> Result<(), NoMemory>
+fn put_number(
+    alloc: Global,
+    fields: &mut Vec<Field>,
+    name: &str,
+    number: u64,
+) -> Result<(), NoMemory>
     ensures { OnOk result (fields.new.items ≡ fields.old.items ++ number_field name.now number ∷ []) }
 {
     put(alloc, fields, name, Plainly::Number(number))

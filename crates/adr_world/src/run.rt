@@ -75,7 +75,13 @@ impl Run {
     }
 
     /// Applies a change that fits to the controller at a place, whose log then ends here, and notes it in the book.
-    fn apply(&mut self, place: usize, change: &Change, is_write: bool, end: u64) -> Result<(), NoMemory>
+    fn apply(
+        &mut self,
+        place: usize,
+        change: &Change,
+        is_write: bool,
+        end: u64,
+    ) -> Result<(), NoMemory>
         requires place { place < length self.old.controllers.items }
         requires tidy { IsTidy self.old.controllers.items }
         requires within { change.now.usn ≤ usn_limit }

@@ -13,10 +13,10 @@ use crate::controller::place_of;
 use crate::counts::took;
 use crate::refused::take_refused;
 use crate::run::Run;
-use adr_take::take;
 use adr_event::{Answer, Failure, Outcome};
 use adr_packet::Reply;
 use adr_schema::{NoMemory, Text};
+use adr_take::take;
 use std::alloc::{AllocError, Global};
 
 impl Run {
