@@ -1,1 +1,5 @@
+pub mod ReadLemmas
+pub mod PlayLemmas
+pub mod TextLemmas
+pub mod TopLemmas
 pub mod ShowLemmas

@@ -1,5 +1,5 @@
 use Rattle.std.proofs.Common.{arith, ap, Ok}
-use Rattle.adr_cmd.proofs.ReadLemmas.{read_more, read_most, left_most, read_ended, left_ended}
+use Rattle.adr_cmd.proofs.ReadLemmas.{read_more, read_most, left_most, read_ended, left_ended, gone_so_far, gone_more}
 use Rattle.adr_cmd.proofs.reading.read_all.Goals as goal
 
 pub returns-then-room-eq0-clause-read : goal.returns-then-room-eq0-clause-read
@@ -32,3 +32,17 @@ returns-clause-read g c = read_most (g.S.Source.left c.args.source.now) (g.S.Sou
 
 pub returns-clause-left : goal.returns-clause-left
 returns-clause-left g c = left_most (g.S.Source.left c.args.source.now) (g.S.Source.left c.turns.source) c.turns.bytes.items 16777217 c.turns.invariant.told (omega arith)
+
+pub returns-then-room-eq0-clause-at_most : goal.returns-then-room-eq0-clause-at_most
+returns-then-room-eq0-clause-at_most g c = gone_so_far (g.S.Source.left c.args.source.now) (g.S.Source.left c.turns.source) c.turns.bytes.items 16777217 c.turns.invariant.told c.turns.invariant.most
+
+pub returns-in_err-count-clause-at_most : goal.returns-in_err-count-clause-at_most
+returns-in_err-count-clause-at_most g c =
+    gone_more (g.S.Source.left c.args.source.now) (g.S.Source.left c.turns.source) (g.S.Source.left c.read_some.new.source) c.turns.bytes.items _ 16777217 c.turns.invariant.told c.read_some.ensures.at_most (omega (arith, c.turns.invariant.most))
+
+pub returns-then-count-eq0-clause-at_most : goal.returns-then-count-eq0-clause-at_most
+returns-then-count-eq0-clause-at_most g c =
+    gone_more (g.S.Source.left c.args.source.now) (g.S.Source.left c.turns.source) (g.S.Source.left c.read_some.new.source) c.turns.bytes.items _ 16777217 c.turns.invariant.told c.read_some.ensures.at_most (omega (arith, c.turns.invariant.most))
+
+pub returns-clause-at_most : goal.returns-clause-at_most
+returns-clause-at_most g c = gone_so_far (g.S.Source.left c.args.source.now) (g.S.Source.left c.turns.source) c.turns.bytes.items 16777217 c.turns.invariant.told c.turns.invariant.most
