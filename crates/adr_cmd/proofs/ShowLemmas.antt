@@ -1,27 +1,20 @@
 -- The output of a text, split where a controller is asked for its directory.
-use Rattle.std.proofs.Common.{◌≡◌, ◌∙◌, ℕ, List, [], ◌∷◌, ◌++◌, true, Option, Some, None, Ok, refl, sym, ap, subst, append_assoc, codes, if◌then◌else◌}
+use Rattle.std.proofs.Common.{◌≡◌, ◌∙◌, ℕ, List, [], ◌∷◌, ◌++◌, Option, Some, None, refl, sym, ap, subst, append_assoc}
 use Rattle.std.specs.Prelude.{flat_map, IfSome}
 use Rattle.std.proofs.lemmas.List.{append-nil}
 use Rattle.std.proofs.lemmas.Grind.{flat_map-append}
-use Rattle.adr_event.specs.declared.answer.Outcome.TheVariants as outcomes
 use Rattle.adr_event.specs.declared.event.Event.{Event}
 use Rattle.adr_event.specs.declared.event.Event.TheVariants as events
 use Rattle.adr_io.specs.Told.{Adds}
-use Rattle.adr_schedule.specs.Events.{events_of}
 use Rattle.adr_model.specs.Member.{Member}
-use Rattle.adr_model.specs.Directory.{directory}
-use Rattle.adr_model.specs.Store.{updates_of}
-use Rattle.adr_model.specs.Visible.{visible}
 use Rattle.adr_model.specs.Replica.{Up, Replica}
-use Rattle.adr_model.specs.World.{World, empty_world, answer, stays, where_up, of_made, shown}
-use Rattle.adr_model.specs.Step.{step, told, after_lines, answers}
+use Rattle.adr_model.specs.World.{World, empty_world}
+use Rattle.adr_model.specs.Step.{step, after_lines, answers}
 use Rattle.adr_model.specs.Sound.{IsSoundWorld}
-use Rattle.adr_model.specs.Convergence.{in_view}
-use Rattle.adr_law_convergence.proofs.Completing.{found_by_name}
 use Rattle.adr_law_convergence.proofs.Lines.{runs_are_sound}
 use Rattle.adr_report.specs.Line.{line}
 use Rattle.adr_law_headline.specs.Headline.{behind}
-use Rattle.adr_law_headline.proofs.Claimed.{first_may}
+use Rattle.adr_law_headline.proofs.Claimed.{first_may, show_so}
 use Rattle.adr_law_headline.proofs.Following.{following_may}
 use Rattle.adr_law_headline.proofs.Texts.{text_follows}
 use Rattle.adr_cmd.specs.Outcome.{output_from, outcome, outcome_of}
@@ -39,14 +32,6 @@ output_split (e ∷ before) after w =
     ∙ ap (λ (xs : List ℕ). flat_map line (step w e).1 ++ xs) (output_split before after (step w e).0)
     ∙ sym (append_assoc (flat_map line (step w e).1) (output_from (step w e).0 before) (output_from (after_lines (step w e).0 before) after))
     ∙ ap (λ (xs : List ℕ). xs ++ output_from (after_lines (step w e).0 before) after) (sym (output_next w e before))
-
--- a controller that is up answers with what it has in view, and nothing changes
-show_so : (w : World) (r : Replica) → IsSoundWorld w → Member r w.replicas → r.standing ≡ Up
-    → step w (events.Show r.name) ≡ (w, answer (codes "show") r.name (outcomes.Show (directory (in_view w r))) ∷ [])
-show_so w r sound m up =
-    ap (λ o. told (codes "show") r.name (of_made (stays w) o (λ q. where_up (stays w) q.standing (w, outcomes.Show (shown w q.safe))))) (found_by_name w r sound m)
-    ∙ ap (λ st. told (codes "show") r.name (where_up (stays w) st (w, outcomes.Show (shown w r.safe)))) up
-    ∙ ap (λ b. (w, answer (codes "show") r.name (outcomes.Show (directory (if b then visible w.book.issued r.safe.store.vector (updates_of r.safe.store.rows) else updates_of r.safe.store.rows))) ∷ [])) sound.clean
 
 show_output : (w : World) (r : Replica) (after : List Event) → IsSoundWorld w → Member r w.replicas → r.standing ≡ Up → output_from w (events.Show r.name ∷ after) ≡ view_line w r ++ output_from w after
 show_output w r after sound m up =

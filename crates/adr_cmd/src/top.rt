@@ -4,6 +4,7 @@ ghost use Rattle.std.specs.Prelude.{◌≡◌, ◌⊎◌, ◌<◌, ◌≤◌, �
 ghost use Rattle.std.specs.Fmt.{decimal};
 ghost use Rattle.adr_io.specs.Told.{Adds, AddsFront};
 ghost use Rattle.adr_law_headline.specs.Headline.{IsHeadline};
+ghost use Rattle.adr_report.specs.Laws.{EqualLinesMeanEqualDirectories};
 ghost use Rattle.adr_cmd.specs.Outcome.{outcome, cause_text, fault_line, is_replay, usage_line, ended};
 ghost use Rattle.adr_cmd.specs.Shown.{AtEachShow};
 
@@ -100,6 +101,7 @@ fn replay<S: Source, K: Sink>(alloc: Global, source: &mut S, sink: &mut K) -> u8
     ensures front { (result ≡ 5) ⊎ (result ≡ 8) → IfSome (S.left source.old) (λ text. AddsFront (K.written sink.old) (K.written sink.new) (outcome text).1) }
     ensures printed { result ≡ 0 → IfSome (S.left source.old) (λ text. AtEachShow text (Adds (K.written sink.old) (K.written sink.new))) }
     ensures read { IfSome (S.left source.old) (λ before. (n : ℕ) × (n ≤ 16777217) × (S.left source.new ≡ Some (drop n before))) }
+    ensures read_whole { (result ≡ 0) ⊎ (result ≡ 3) → IfSome (S.left source.old) (λ text. S.left source.new ≡ Some (drop 16777217 text)) }
     ensures ended { result ≡ 0 → IfSome (S.left source.old) (λ text. S.left source.new ≡ Some []) }
     ensures read_fault { result ≡ 4 → S.faults source.old < S.faults source.new }
     ensures unwritten { result ≡ 4 → sink.new ≡ sink.old }
@@ -153,6 +155,9 @@ pub fn run<S: Source, K: Sink>(alloc: Global, words: &[String], source: &mut S, 
     // issued updates that the controller covers or holds.
     ensures printed { result ≡ 0 → IfSome (S.left source.old) (λ text. AtEachShow text (Adds (K.written sink.old) (K.written sink.new))) }
 
+    // Equal lines mean equal directories.
+    ensures directories { EqualLinesMeanEqualDirectories }
+
     // Of every text that is a schedule, wherever its run stands while no database was put back: each controller shows the
     // directory of the issued updates that it covers or holds, controllers that cover the same show the same, and every
     // write that was acknowledged is in view for whoever has its identifier.
@@ -161,6 +166,7 @@ pub fn run<S: Source, K: Sink>(alloc: Global, words: &[String], source: &mut S, 
     // With a fault it is a front of that. Of the source no more is read than a text may have, and one byte.
     ensures front { is_replay (map string_bytes words.now) ≡ true → (result ≡ 5) ⊎ (result ≡ 8) → IfSome (S.left source.old) (λ text. AddsFront (K.written sink.old) (K.written sink.new) (outcome text).1) }
     ensures read { IfSome (S.left source.old) (λ before. (n : ℕ) × (n ≤ 16777217) × (S.left source.new ≡ Some (drop n before))) }
+    ensures read_whole { (result ≡ 0) ⊎ (result ≡ 3) → IfSome (S.left source.old) (λ text. S.left source.new ≡ Some (drop 16777217 text)) }
 
     // A fault has its cause.
     ensures read_fault { result ≡ 4 → S.faults source.old < S.faults source.new }

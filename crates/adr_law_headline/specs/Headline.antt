@@ -1,12 +1,15 @@
 -- What is claimed of every run of a text.
-use Rattle.std.specs.Prelude.{◌≡◌, ℕ, List, ◌∷◌, ◌++◌, true, Ok}
+use Rattle.std.specs.Prelude.{◌≡◌, ℕ, List, [], ◌∷◌, ◌++◌, true, Ok, codes}
 use Rattle.adr_event.specs.declared.answer.Outcome.TheVariants as outcomes
 use Rattle.adr_event.specs.declared.event.Event.{Event}
+use Rattle.adr_event.specs.declared.event.Event.TheVariants as events
 use Rattle.adr_schedule.specs.Events.{events_of}
 use Rattle.adr_model.specs.Member.{Each}
-use Rattle.adr_model.specs.World.{World, empty_world}
+use Rattle.adr_model.specs.Directory.{directory}
+use Rattle.adr_model.specs.Replica.{Up}
+use Rattle.adr_model.specs.World.{World, answer, empty_world}
 use Rattle.adr_model.specs.Step.{step, after_lines}
-use Rattle.adr_model.specs.Convergence.{ShowWhatIsVisible, ShowAlike, IsAcknowledged, acknowledged, AreInView}
+use Rattle.adr_model.specs.Convergence.{in_view, ShowWhatIsVisible, ShowAlike, IsAcknowledged, acknowledged, AreInView}
 
 -- the world behind the first lines of a run
 abbrev pub behind : List Event → World
@@ -16,6 +19,11 @@ behind es = after_lines empty_world es
 abbrev pub HoldsThroughout : List Event → (World → Type 0) → Type 0
 HoldsThroughout es P = (before after : List Event) → es ≡ before ++ after → (behind before).clean ≡ true → P (behind before)
 
+-- a controller that is up answers a `show` by the directory of what it has in view, and nothing changes
+abbrev pub AnswerByTheirView : World → Type 0
+AnswerByTheirView w =
+    Each (λ r. r.standing ≡ Up → step w (events.Show r.name) ≡ (w, answer (codes "show") r.name (outcomes.Show (directory (in_view w r))) ∷ [])) w.replicas
+
 -- whatever a line acknowledged is in the view of whoever has the identifier under which it was issued, behind these lines more
 abbrev pub StaysInView : List Event → Event → List Event → Type 0
 StaysInView before e mid =
@@ -24,10 +32,11 @@ StaysInView before e mid =
     × AreInView (behind (before ++ e ∷ mid)) k.writer.safe.inv (acknowledged (behind before) k))
     (step (behind before) e).1
 
--- wherever a run stands, as long as no database was put back: each controller shows the directory of the issued updates that it
--- covers or holds; controllers that cover the same show the same; and every write that was acknowledged so far is among what is
+-- wherever a run stands, as long as no database was put back: each controller that is up answers by the directory of the issued
+-- updates that it covers or holds, and that of the rows which it holds is the same; controllers that cover the same show the same; and every write that was acknowledged so far is among what is
 -- in view for whoever has its identifier, each row of it
 pub record Headline (es : List Event) : Type 0 where
+  pub answered : HoldsThroughout es AnswerByTheirView
   pub shown : HoldsThroughout es ShowWhatIsVisible
   pub equal : HoldsThroughout es ShowAlike
   pub acknowledged : (before mid after : List Event) (e : Event) → es ≡ before ++ e ∷ mid ++ after → (behind (before ++ e ∷ mid)).clean ≡ true → StaysInView before e mid
