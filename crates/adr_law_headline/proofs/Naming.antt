@@ -18,7 +18,7 @@ use Rattle.adr_model.specs.Take.{take}
 use Rattle.adr_model.specs.Collect.{quarantine}
 use Rattle.adr_model.specs.Refused.{full}
 use Rattle.adr_model.specs.Replica.{Pending, ToWrite, ToTake, ToQuarantine, Replica}
-use Rattle.adr_model.specs.World.{Name, World, Given, Gone, Sent, stays, nothing, with_replica, within_log, committed, commit, writes, after_write, asks, after_serve, served, serves_request, after_take, delivered, delivers, of_controller}
+use Rattle.adr_model.specs.World.{Name, World, Gone, Sent, stays, nothing, with_replica, committed, commit, writes, after_write, asks, after_serve, served, serves_request, after_take, delivered, delivers, of_controller}
 use Rattle.adr_model.specs.Cycles.{Pulled, pull_served, pull_asked, pull, and_then, pulls}
 use Rattle.adr_law_convergence.proofs.Found.{same_name}
 use Rattle.adr_law_convergence.proofs.Reached.{made_case, up_case, reached_case}

@@ -1,16 +1,15 @@
 -- What is claimed of a line follows of what it does.
-use Rattle.std.proofs.Common.{◌≡◌, ◌⊎◌, ◌∙◌, ◌≤◌, ℕ, List, true, refl, sym, ap, subst}
+use Rattle.std.proofs.Common.{◌≡◌, ◌⊎◌, ℕ, List, sym, subst}
 use Rattle.adr_event.specs.declared.answer.Answer.{Answer}
-use Rattle.adr_event.specs.declared.answer.Outcome.TheVariants as outcomes
 use Rattle.adr_event.specs.declared.event.Event.{Event}
 use Rattle.adr_event.specs.declared.event.Event.TheVariants as events
-use Rattle.adr_model.specs.Member.{Member, Each}
+use Rattle.adr_model.specs.Member.{Member}
 use Rattle.adr_model.specs.Replica.{Replica}
 use Rattle.adr_model.specs.World.{World, Name}
 use Rattle.adr_model.specs.Cycles.{pull, cycle}
 use Rattle.adr_model.specs.Step.{step}
 use Rattle.adr_model.specs.Sound.{IsSoundWorld, IsWorldOfRun}
-use Rattle.adr_model.specs.Convergence.{MayHappen, IsAcknowledged, MayCycle, AreUnlimited, SaysMore, IsCompleted}
+use Rattle.adr_model.specs.Convergence.{MayHappen, AreUnlimited, SaysMore, IsCompleted}
 use Rattle.adr_law_convergence.proofs.Lines.{stays_sound, behind_is_on_the_way}
 use Rattle.adr_law_convergence.proofs.Acknowledged.{acknowledged_is_issued}
 use Rattle.adr_law_convergence.proofs.Completing.{cycle_ends}

@@ -1,17 +1,15 @@
 -- A change that a call makes in a sound world fits: no vector has too many cursors behind it.
-use Rattle.std.proofs.Common.{◌≡◌, ◌∙◌, refl, sym, ap, subst, ℕ, inl, inr, cond, Some, Ok, false, nat_lt, arith}
+use Rattle.std.proofs.Common.{◌≡◌, refl, ap, subst, ℕ, inl, inr, cond, Ok, false, nat_lt, arith}
 use Rattle.adr_event.specs.declared.answer.Outcome.{Outcome}
 use Rattle.adr_event.specs.declared.answer.Outcome.TheVariants as outcomes
-use Rattle.adr_event.specs.declared.event.Event.{Event}
 use Rattle.adr_model.specs.Member.{Member}
-use Rattle.adr_model.specs.Store.{State}
 use Rattle.adr_model.specs.Change.{Change, after}
 use Rattle.adr_model.specs.Lengths.{log_limit, log_end_after}
 use Rattle.adr_model.specs.Serve.{Reply}
 use Rattle.adr_model.specs.Write.{Write, IsWellGiven, write}
 use Rattle.adr_model.specs.Take.{take}
 use Rattle.adr_model.specs.Replica.{on_disk, Pending, ToWrite, ToTake}
-use Rattle.adr_model.specs.World.{World, Name, Gone, replica_at, commit, after_write, after_take}
+use Rattle.adr_model.specs.World.{World, Gone, commit, after_write, after_take}
 use Rattle.adr_model.specs.Sound.{IsSoundWorld, IsSoundReply, IsGiven}
 use Rattle.adr_law_convergence.proofs.Acting.{write_sound, take_sound}
 use Rattle.adr_law_convergence.proofs.Found.{same_name_tests, still_there}

@@ -1,7 +1,6 @@
 -- A cycle is what its pulls come to.
-use Rattle.std.proofs.Common.{◌≡◌, ◌<◌, sym, ◌∙◌, arith}
-use Rattle.std.proofs.lemmas.Result.{IfOk-from_err}
-use Rattle.adr_model.specs.Cycles.{cycle, reply_limit}
+use Rattle.std.proofs.Common.{◌≡◌, ◌<◌, ◌∙◌, arith}
+use Rattle.adr_model.specs.Cycles.{reply_limit}
 use Rattle.adr_world.specs.Run.{world_of}
 use Rattle.adr_world.proofs.Doors.{pulled_of_run}
 use Rattle.adr_world.proofs.Turns.{on_err, goes_on, ends, runs_out, left_by}

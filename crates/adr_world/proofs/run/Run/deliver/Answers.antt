@@ -1,4 +1,4 @@
-use Rattle.std.proofs.Common.{◌∙◌, sym, ap, subst, Some, None, refl, codes}
+use Rattle.std.proofs.Common.{◌∙◌, sym, ap, Some, None, refl, codes}
 use Rattle.adr_event.specs.declared.answer.Outcome.TheVariants as outcomes
 use Rattle.adr_model.specs.World.{bound_at, answer}
 use Rattle.adr_world.specs.Run.{world_of}
