@@ -42,13 +42,15 @@ no_room_told = full_log (codes "add") ∷ full_log (codes "add") ∷ answer (cod
 abbrev pub log_ends : World → Option (ℕ × ℕ)
 log_ends w = option_map (λ r. (r.read_end, r.safe_end)) (replica_at w (codes "A"))
 
--- a disk that is put back has the log that it had: its end is that of the snapshot
+-- a disk that is put back has the log that it had: its end is that of the snapshot, 358 bytes behind that of a new disk. A new
+-- disk of that state would end at 416
 abbrev pub put_back : List Event
 put_back =
     new_a
     ∷ add_container (codes "A") 16 (codes "x")
-    ∷ Snapshot (codes "A") (codes "s")
     ∷ add_container (codes "A") 17 (codes "y")
+    ∷ Snapshot (codes "A") (codes "s")
+    ∷ add_container (codes "A") 18 (codes "z")
     ∷ Rollback (codes "A") (codes "s")
     ∷ []
 

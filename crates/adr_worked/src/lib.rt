@@ -140,7 +140,7 @@ pub fn logs_end()
     ensures grown { log_ends (after_lines empty_world (new_a ∷ add_container (codes "A") 16 (codes "x") ∷ [])) ≡ Some (261, 261) }
     ensures last { answers (with_log 2147483469) last_room ≡ last_room_told }
     ensures none { answers (with_log 2147483470) last_room ≡ no_room_told }
-    ensures put_back { log_ends (after_lines empty_world log_put_back) ≡ Some (261, 261) }
+    ensures put_back { log_ends (after_lines empty_world log_put_back) ≡ Some (440, 440) }
     ensures shut_off { asked_for_more 2147483617 ≡ shut_off }
     ensures unnoted { asked_for_more 2147483618 ≡ full_log (codes "serve") ∷ [] }
 {}
