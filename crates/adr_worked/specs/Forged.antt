@@ -1,5 +1,5 @@
--- Rows that no controller makes, as a forged packet may bring them, and names that are bound twice.
-use Rattle.std.specs.Prelude.{◌+◌, List, [], ◌∷◌, map, Option, codes}
+-- Rows that no controller makes, as a forged packet may bring them, and changes that share a USN.
+use Rattle.std.specs.Prelude.{ℕ, ◌+◌, List, [], ◌∷◌, map, Option, codes}
 use Rattle.adr_schema.specs.declared.content.Value.TheVariants.{Text}
 use Rattle.adr_schema.specs.declared.content.Content.TheVariants.{Class, Name, Dead, Values}
 use Rattle.adr_event.specs.declared.directory.Entry.{Entry}
@@ -7,7 +7,8 @@ use Rattle.adr_event.specs.declared.refusal.TakeRefusal.{TakeRefusal}
 use Rattle.adr_model.specs.Update.{Update, Key}
 use Rattle.adr_model.specs.Place.{identifier, root, lost_and_found}
 use Rattle.adr_model.specs.Store.{State}
-use Rattle.adr_model.specs.Change.{Item, Change}
+use Rattle.adr_model.specs.Change.{Item, Change, only_writes}
+use Rattle.adr_model.specs.LocalLog.{LocalLog}
 use Rattle.adr_model.specs.Write.{row, of_object, own_change}
 use Rattle.adr_model.specs.Take.{rows_taken, item_refusal}
 use Rattle.adr_schema.specs.Numbered.{numbered}
@@ -63,3 +64,13 @@ two_items s =
     record { local = s.store.usn + 1; item = of_object (object 16 161 1) (row (object 16 161 1) (stamped 0 1 10 161 1) 1 (Class 4) ∷ []) }
     ∷ record { local = s.store.usn + 2; item = of_object (object 17 161 2) (row (object 17 161 2) (stamped 0 1 10 161 2) 1 (Class 4) ∷ []) }
     ∷ [])
+
+-- two births under one USN, each written by a change of its own
+abbrev pub birth_at_1 : ℕ → Update
+birth_at_1 guid = row (object guid 161 1) (stamped 0 1 10 161 1) 1 (Class 4)
+
+abbrev pub change_at_1 : ℕ → Change
+change_at_1 guid = only_writes 1 (record { local = 1; item = of_object (object guid 161 1) (birth_at_1 guid ∷ []) } ∷ [])
+
+abbrev pub one_usn_twice : LocalLog
+one_usn_twice = record { start_usn = 0; start_rows = []; changes = change_at_1 17 ∷ change_at_1 16 ∷ [] }

@@ -25,11 +25,12 @@ ghost use Rattle.adr_event.specs.declared.refusal.TakeRefusal.TheVariants.{BadIt
 ghost use Rattle.adr_schema.specs.declared.refusal.SchemaRefusal.TheVariants.{UnknownAttribute};
 ghost use Rattle.adr_model.specs.Update.{RowOf};
 ghost use Rattle.adr_model.specs.Convergence.{MayHappen};
+ghost use Rattle.adr_model.specs.Sound.{IsOfOneChange};
 ghost use Rattle.adr_worked.specs.Acting.{first, container};
 ghost use Rattle.adr_worked.specs.Runs.{object};
 ghost use Rattle.adr_worked.specs.Stops.{new_a, add_container};
 ghost use Rattle.adr_worked.specs.Logs.{with_log, full_log, last_room, last_room_told, no_room_told, log_ends, put_back as log_put_back, asked_for_more, shut_off};
-ghost use Rattle.adr_worked.specs.Forged.{on_a_fixed_guid, on_a_fixed_guid_shown, two_classes, dead_with_row_0, keys_taken, refused_with_row_0, two_items};
+ghost use Rattle.adr_worked.specs.Forged.{on_a_fixed_guid, on_a_fixed_guid_shown, two_classes, dead_with_row_0, keys_taken, refused_with_row_0, two_items, birth_at_1, one_usn_twice};
 ghost use Rattle.adr_worked.specs.Exchanges.{asked_once};
 
 /// Small sets of updates, and the directories that they define.
@@ -155,12 +156,13 @@ pub fn forged_rows()
 {}
 
 /// A database that is put back makes a world unclean; a name without a snapshot doesn't. A write of two
-/// items ends at its second USN. A name is bound once.
+/// items ends at its second USN. A name is bound once. Two changes under one USN are not one change.
 #[tactic(none)]
 pub fn what_lines_leave()
     ensures unclean { (after_lines empty_world log_put_back).clean ≡ false }
     ensures clean { (after_lines empty_world (new_a ∷ Rollback (codes "A") (codes "s") ∷ [])).clean ≡ true }
     ensures two { (two_items first).usn ≡ 2 }
     ensures bound { MayHappen (after_lines empty_world asked_once) (Ask (codes "B") (codes "A") 10 (codes "q")) → ⊥ }
+    ensures two_changes { IsOfOneChange one_usn_twice (birth_at_1 16) (birth_at_1 17) → ⊥ }
     ensures unbound { MayHappen (after_lines empty_world asked_once) (Ask (codes "B") (codes "A") 10 (codes "p")) }
 {}

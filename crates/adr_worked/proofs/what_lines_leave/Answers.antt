@@ -1,4 +1,4 @@
-use Rattle.std.proofs.Common.{◌≡◌, inl, ⊎_elim, refl, sym, ap, ◌∙◌}
+use Rattle.std.proofs.Common.{◌≡◌, inl, ⊎_elim, refl, sym, ap, ◌∙◌, subst}
 use Rattle.std.specs.Prelude.{true, false, codes}
 use Rattle.std.specs.Str.{bytes_eq}
 use Rattle.caseless.proofs.Computing.{caseless}
@@ -9,6 +9,11 @@ use Rattle.adr_schema.specs.Schemas.{schema_1}
 use Rattle.adr_schema.specs.Names.{name_fault}
 use Rattle.adr_schema.specs.Values.{bad_place}
 use Rattle.adr_schema.specs.Rules.{add_refusal, modify_refusal, link_refusal, row_refusal}
+use Rattle.adr_model.specs.Member.{Member}
+use Rattle.adr_model.specs.Update.{Update, RowOf, same_key}
+use Rattle.adr_model.specs.Change.{updates_written}
+use Rattle.adr_worked.specs.Runs.{object}
+use Rattle.adr_worked.specs.Forged.{birth_at_1, change_at_1}
 use Rattle.adr_worked.proofs.what_lines_leave.Goals as goal
 
 pub returns-clause-unclean : goal.returns-clause-unclean
@@ -31,3 +36,15 @@ returns-clause-unbound c = λ x m. ⊎_elim (λ is e. other (sym (ap (λ y. y.0)
   where
     other : codes "q" ≡ codes "p" → ⊥
     other e = let t : false ≡ true = ap (λ xs. bytes_eq xs (codes "p")) e in absurd (cc)
+
+pub returns-clause-two_changes : goal.returns-clause-two_changes
+returns-clause-two_changes c = λ one. ⊎_elim (λ is. not_in_17 (subst (λ d. Member (birth_at_1 16) (updates_written d)) is one.2)) (λ rest. ⊎_elim (λ is. not_in_16 (subst (λ d. Member (birth_at_1 17) (updates_written d)) is one.3)) (λ none. none) rest) one.1
+  where
+    differ : birth_at_1 16 ≡ birth_at_1 17 → ⊥
+    differ e = let t : true ≡ false = ap (λ (u : Update). same_key u.key (RowOf (object 16 161 1) 1)) e in absurd (cc)
+
+    not_in_17 : Member (birth_at_1 16) (updates_written (change_at_1 17)) → ⊥
+    not_in_17 m = ⊎_elim differ (λ none. none) m
+
+    not_in_16 : Member (birth_at_1 17) (updates_written (change_at_1 16)) → ⊥
+    not_in_16 m = ⊎_elim (λ e. differ (sym e)) (λ none. none) m
