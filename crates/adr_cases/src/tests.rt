@@ -1,5 +1,7 @@
 //! What no schedule shows: other words, calls that fail, and a text that is too long. Expected bytes are worked out by hand.
 
+ghost use Rattle.std.specs.Prelude.{◌<◌};
+
 use adr_cmd::run;
 use adr_io::{MemSink, MemSource};
 use std::alloc::Global;
