@@ -84,8 +84,8 @@ fn five_objects(alloc: Global) -> Result<State, Fail> {
 /// What a new controller is served of them.
 fn reply(alloc: Global) -> Result<Reply, Fail> {
     let source = five_objects(alloc)?;
-    let request = ask(&controller(alloc, 12, 2), source.dsa(), 10, alloc)?;
-    Ok(serve(&source, &request, alloc)?)
+    let request = ask(alloc, &controller(alloc, 12, 2), source.dsa(), 10)?;
+    Ok(serve(alloc, &source, &request)?)
 }
 
 /// An object has 43 bytes, and its rows 40, 57 and 1,048,618: four objects are the first that have 4 MiB.

@@ -11,7 +11,7 @@ use uuid::Uuid;
 
 /// What the controller asks a partner: the changes behind the mark that it has of the partner, at most `max` items in
 /// one reply (MS-DRSR, DRS_MSG_GETCHGREQ).
-pub fn ask(state: &State, partner: Uuid, max: u32, alloc: Global) -> Result<Request, NoMemory>
+pub fn ask(alloc: Global, state: &State, partner: Uuid, max: u32) -> Result<Request, NoMemory>
     ensures { IfOk result (λ request. request ≡ ask state.now partner max) }
 {
     let kept = state.marks().kept(partner);

@@ -38,12 +38,12 @@ impl<'a> Candidate<'a> {
     pub fn item(&self, alloc: Global) -> Result<Item, NoMemory>
         ensures { IfOk result (λ item. item ≡ self.now) }
     {
-        Ok(Item::new(self.unit, copy_updates(self.rows.as_slice(), alloc)?))
+        Ok(Item::new(self.unit, copy_updates(alloc, self.rows.as_slice())?))
     }
 }
 
 /// Equal updates, in the order of the rows.
-fn copy_updates(rows: &[&Held], alloc: Global) -> Result<Vec<Update>, NoMemory>
+fn copy_updates(alloc: Global, rows: &[&Held]) -> Result<Vec<Update>, NoMemory>
     ensures { IfOk result (λ updates. updates.items ≡ updates_of (rows_at rows.now)) }
 {
     let mut updates = Vec::new(alloc);

@@ -22,20 +22,20 @@ use std::collections::BTreeMap;
 
 /// The items that may be sent, each under the last local update sequence number of its unit.
 pub fn candidates<'a>(
+    alloc: Global,
     rows: &'a [Held],
     from: Mark,
     asked: &Vector,
-    alloc: Global,
 ) -> Result<BTreeMap<u64, Candidate<'a>>, NoMemory>
     ensures { IfOk result (λ items. items.entries ≡ candidates rows.now from asked.now) }
 {
-    let last = last_locals(rows, alloc)?;
-    let sent = sendable(rows, &last, from, asked, alloc)?;
-    by_last_local(&last, sent, alloc)
+    let last = last_locals(alloc, rows)?;
+    let sent = sendable(alloc, rows, &last, from, asked)?;
+    by_last_local(alloc, &last, sent)
 }
 
 /// The last local update sequence number of each unit.
-fn last_locals(rows: &[Held], alloc: Global) -> Result<BTreeMap<Unit, u64>, NoMemory>
+fn last_locals(alloc: Global, rows: &[Held]) -> Result<BTreeMap<Unit, u64>, NoMemory>
     ensures { IfOk result (λ last. (unit : Named) → last_in last unit ≡ last_local rows.now unit) }
 {
     let mut last = BTreeMap::new(alloc);
@@ -56,11 +56,11 @@ fn raise(last: &mut BTreeMap<Unit, u64>, row: &Held) -> Result<(), NoMemory>
 
 /// The rows that may be sent, by their units.
 fn sendable<'a>(
+    alloc: Global,
     rows: &'a [Held],
     last: &BTreeMap<Unit, u64>,
     from: Mark,
     asked: &Vector,
-    alloc: Global,
 ) -> Result<BTreeMap<Unit, Vec<&'a Held>>, NoMemory>
     requires { (unit : Named) → last_in last.now unit ≡ last_local rows.now unit }
     ensures units { IfOk result (λ sent. keys sent ≡ units_of (sendable rows.now from asked.now)) }
@@ -107,9 +107,9 @@ fn is_covered(vector: &Vector, update: &Update) -> bool
 
 /// Rows by their units as items, each under the last local update sequence number of its unit.
 fn by_last_local<'a>(
+    alloc: Global,
     last: &BTreeMap<Unit, u64>,
     sent: BTreeMap<Unit, Vec<&'a Held>>,
-    alloc: Global,
 ) -> Result<BTreeMap<u64, Candidate<'a>>, NoMemory>
     ensures ordered { IsOrdered unit_order sent.entry }
     ensures items { IfOk result (λ items. items.entries ≡ fold (λ t e. insert_entry nat_cmp t (last_in last.now e.0) (record { unit = e.0; rows = updates_of (rows_at e.1.items) })) [] sent.entry.entries) }

@@ -18,15 +18,15 @@ use std::collections::BTreeMap;
 const BYTE_LIMIT: u64 = 4_194_304;
 
 /// The reply to a request.
-pub fn reply_to(state: &State, request: &Request, alloc: Global) -> Result<Reply, NoMemory>
+pub fn reply_to(alloc: Global, state: &State, request: &Request) -> Result<Reply, NoMemory>
     ensures { IfOk result (λ reply. reply ≡ reply_to state.now request.now) }
 {
     let from = begins_at(state, request);
-    let all = candidates(state.rows().as_slice(), from, request.vector(), alloc)?;
+    let all = candidates(alloc, state.rows().as_slice(), from, request.vector())?;
     let count = all.len();
-    let sent = first_items(request.max(), all, alloc)?;
+    let sent = first_items(alloc, request.max(), all)?;
     let is_last = sent.len() == count;
-    reply_of(state, request, from, sent, is_last, alloc)
+    reply_of(alloc, state, request, from, sent, is_last)
 }
 
 /// Where the reply begins: the mark of the request, if it is one of this incarnation.
@@ -42,9 +42,9 @@ pub fn begins_at(state: &State, request: &Request) -> Mark
 
 /// The first items: until there are so many, or so many bytes or more.
 pub fn first_items(
+    alloc: Global,
     mut most: u32,
     all: BTreeMap<u64, Candidate>,
-    alloc: Global,
 ) -> Result<Vec<(u64, Item)>, NoMemory>
     ensures { IfOk result (λ sent. sent.items ≡ first_items most byte_limit all.entry.entries) }
 {
@@ -64,12 +64,12 @@ pub fn first_items(
 
 /// A reply that sends these of the candidates.
 fn reply_of(
+    alloc: Global,
     state: &State,
     request: &Request,
     from: Mark,
     sent: Vec<(u64, Item)>,
     is_last: bool,
-    alloc: Global,
 ) -> Result<Reply, NoMemory>
     ensures { IfOk result (λ reply. reply ≡ reply_of state.now request.now from sent.items is_last) }
 {
@@ -82,8 +82,8 @@ fn reply_of(
         to,
         state.schema().number(),
         request.vector().copy(alloc)?,
-        vector_if(is_last, state, alloc)?,
-        items_of(sent, alloc)?,
+        vector_if(alloc, is_last, state)?,
+        items_of(alloc, sent)?,
     ))
 }
 
@@ -133,7 +133,7 @@ fn last_sent(from: u64, sent: &[(u64, Item)]) -> u64
 }
 
 /// The controller's own vector, in the last reply.
-fn vector_if(is_last: bool, state: &State, alloc: Global) -> Result<Option<Vector>, NoMemory>
+fn vector_if(alloc: Global, is_last: bool, state: &State) -> Result<Option<Vector>, NoMemory>
     ensures { IfOk result (λ vector. vector ≡ then_some is_last state.now.store.vector) }
 {
     if is_last {
@@ -144,7 +144,7 @@ fn vector_if(is_last: bool, state: &State, alloc: Global) -> Result<Option<Vecto
 }
 
 /// The items alone.
-fn items_of(sent: Vec<(u64, Item)>, alloc: Global) -> Result<Vec<Item>, NoMemory>
+fn items_of(alloc: Global, sent: Vec<(u64, Item)>) -> Result<Vec<Item>, NoMemory>
     ensures { IfOk result (λ items. items.items ≡ map (λ (c : ℕ × Defined). c.1) sent.items) }
 {
     let mut items = Vec::new(alloc);

@@ -18,16 +18,16 @@ use std::alloc::Global;
 /// What a request is answered: the reply, or the first refusal in order (MS-DRSR, GetNCChanges; the refusals, and how
 /// marks move, are this project's own profile).
 pub fn serve(
+    alloc: Global,
     state: &State,
     request: &Request,
-    alloc: Global,
 ) -> Result<Reply, Failure<ServeRefusal>>
     ensures ok { IfOk result (λ reply. serve state.now request.now ≡ Ok reply) }
     ensures refused { (refusal : ServeRefusal) → IsErrOf result (Failure.Refused refusal) ↔ (serve state.now request.now ≡ Err refusal) }
 {
     match serve_refusal(state, request) {
         Some(refusal) => Err(Failure::Refused(refusal)),
-        None => Ok(reply_to(state, request, alloc)?),
+        None => Ok(reply_to(alloc, state, request)?),
     }
 }
 

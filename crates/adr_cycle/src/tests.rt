@@ -66,9 +66,9 @@ fn items_rise_and_are_cut(rt: HostRuntime) -> Result<(), Fail> {
     };
     let mut seen = Vector::new(rt.alloc());
     seen.raise(id(1), 5)?;
-    let items = candidates(rows.as_slice(), from, &seen, rt.alloc())?;
+    let items = candidates(rt.alloc(), rows.as_slice(), from, &seen)?;
     assert_eq!(rt; items.len(), 2);
-    let sent = first_items(1, items, rt.alloc())?;
+    let sent = first_items(rt.alloc(), 1, items)?;
     assert_eq!(rt; sent.len(), 1);
     let (local, item) = &sent[0];
     assert_eq!(rt; *local, 7);

@@ -27,10 +27,10 @@ use std::alloc::Global;
 /// in order (MS-ADTS, add operation; the refusals and their order are this project's own). The controller stays as it
 /// is.
 pub fn add(
+    alloc: Global,
     state: &State,
     object: &NewObject<'_>,
     now: u64,
-    alloc: Global,
 ) -> Result<Change, Failure<WriteRefusal>>
     ensures ok { let added = AddObject object.now.guid object.now.class object.now.parent object.now.text.now object.now.values.now in
         IfOk result (λ change. write state.now added now ≡ Ok change) }
@@ -74,7 +74,7 @@ fn check_object(state: &State, object: &NewObject<'_>) -> Result<(), WriteRefusa
 pub fn nodes_held(alloc: Global, state: &State) -> Result<Nodes, NoMemory>
     ensures { IfOk result (λ nodes. nodes ≡ nodes_held (updates_of state.now.store.rows)) }
 {
-    Nodes::of(state.rows(), alloc)
+    Nodes::of(alloc, state.rows())
 }
 
 /// Tests that an object may stand under its parent by its name.

@@ -167,7 +167,7 @@ pub fn check_name_free(
 ) -> Result<(), Failure<WriteRefusal>>
     ensures { Tells result (option_map name_taken (name_holder nodes.now parent text.now)) }
 {
-    match nodes.holder(parent, text, alloc)? {
+    match nodes.holder(alloc, parent, text)? {
         Some(holder) => Err(Failure::Refused(WriteRefusal::NameTaken { holder })),
         None => Ok(()),
     }

@@ -22,10 +22,10 @@ use uuid::Uuid;
 /// first in order (MS-ADTS, delete operation; the refusals and their order are this project's own). The controller
 /// stays as it is.
 pub fn delete(
+    alloc: Global,
     state: &State,
     guid: Uuid,
     now: u64,
-    alloc: Global,
 ) -> Result<Change, Failure<WriteRefusal>>
     ensures ok { IfOk result (λ change. write state.now (Delete guid) now ≡ Ok change) }
     ensures within { IfOk result (λ change. change.usn ≤ usn_limit) }

@@ -29,12 +29,12 @@ use uuid::Uuid;
 /// refused, first in order (MS-ADTS, modify operation, and linked values; the refusals and their order are this project's
 /// own). A link that was removed is made again by its own row. The controller stays as it is.
 pub fn link(
+    alloc: Global,
     state: &State,
     from: Uuid,
     attr: u16,
     to: Uuid,
     now: u64,
-    alloc: Global,
 ) -> Result<Change, Failure<WriteRefusal>>
     ensures ok { IfOk result (λ change. write state.now (AddLink from attr to) now ≡ Ok change) }
     ensures within { IfOk result (λ change. change.usn ≤ usn_limit) }
@@ -49,12 +49,12 @@ pub fn link(
 /// is refused, first in order (MS-ADTS, modify operation, and linked values; the refusals and their order are this
 /// project's own). The link's row stays, and says that the link is not there. The controller stays as it is.
 pub fn unlink(
+    alloc: Global,
     state: &State,
     from: Uuid,
     attr: u16,
     to: Uuid,
     now: u64,
-    alloc: Global,
 ) -> Result<Change, Failure<WriteRefusal>>
     ensures ok { IfOk result (λ change. write state.now (RemoveLink from attr to) now ≡ Ok change) }
     ensures within { IfOk result (λ change. change.usn ≤ usn_limit) }

@@ -27,11 +27,11 @@ use uuid::Uuid;
 /// refused, first in order (MS-ADTS, modify operation; the refusals and their order are this project's own). The values
 /// of an attribute take the place of those that it has, and none leave it without. The controller stays as it is.
 pub fn modify(
+    alloc: Global,
     state: &State,
     guid: Uuid,
     values: &Assignments,
     now: u64,
-    alloc: Global,
 ) -> Result<Change, Failure<WriteRefusal>>
     ensures ok { IfOk result (λ change. write state.now (Modify guid values.now) now ≡ Ok change) }
     ensures within { IfOk result (λ change. change.usn ≤ usn_limit) }

@@ -29,12 +29,12 @@ use uuid::Uuid;
 /// it is refused, first in order (MS-ADTS, modify DN operation; the refusals and their order are this project's own).
 /// The parent may be the one that it has. The controller stays as it is.
 pub fn rename(
+    alloc: Global,
     state: &State,
     guid: Uuid,
     parent: Uuid,
     text: &Text,
     now: u64,
-    alloc: Global,
 ) -> Result<Change, Failure<WriteRefusal>>
     ensures ok { IfOk result (λ change. write state.now (Rename guid parent text.now) now ≡ Ok change) }
     ensures within { IfOk result (λ change. change.usn ≤ usn_limit) }

@@ -113,7 +113,7 @@ pub fn check_new_name(
     requires { is_fixed guid ≡ false }
     ensures { Tells result (name_refusal nodes.now guid parent text.now) }
 {
-    match nodes.holder(parent, text, alloc)? {
+    match nodes.holder(alloc, parent, text)? {
         Some(holder) => {
             if is_same(holder, guid) {
                 check_not_shared(alloc, nodes, guid, parent, text)

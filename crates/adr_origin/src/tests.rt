@@ -22,7 +22,7 @@ fn put(alloc: Global, state: &mut State, guid: u128, class: u16, name: &str) -> 
         text: &text,
         values: &values,
     };
-    let change = add(state, &object, 100, alloc)?;
+    let change = add(alloc, state, &object, 100)?;
     Ok(state.apply(&change)?)
 }
 
@@ -37,7 +37,7 @@ fn two_places(alloc: Global) -> Result<State, Fail> {
 #[test]
 fn an_object_is_deleted(rt: HostRuntime) -> Result<(), Fail> {
     let state = two_places(rt.alloc())?;
-    let change = delete(&state, id(10), 200, rt.alloc())?;
+    let change = delete(rt.alloc(), &state, id(10), 200)?;
     assert_eq!(rt; change.usn(), 3);
     Ok(())
 }
@@ -46,7 +46,7 @@ fn an_object_is_deleted(rt: HostRuntime) -> Result<(), Fail> {
 fn an_object_is_modified(rt: HostRuntime) -> Result<(), Fail> {
     let state = two_places(rt.alloc())?;
     let values = Assignments::new(rt.alloc());
-    let change = modify(&state, id(10), &values, 200, rt.alloc())?;
+    let change = modify(rt.alloc(), &state, id(10), &values, 200)?;
     assert_eq!(rt; change.usn(), 3);
     Ok(())
 }
@@ -55,7 +55,7 @@ fn an_object_is_modified(rt: HostRuntime) -> Result<(), Fail> {
 fn an_object_is_renamed(rt: HostRuntime) -> Result<(), Fail> {
     let state = two_places(rt.alloc())?;
     let name = Text::from_string(String::from_str(rt.alloc(), "EAST")?);
-    let change = rename(&state, id(10), id(1), &name, 200, rt.alloc())?;
+    let change = rename(rt.alloc(), &state, id(10), id(1), &name, 200)?;
     assert_eq!(rt; change.usn(), 3);
     Ok(())
 }
@@ -63,9 +63,9 @@ fn an_object_is_renamed(rt: HostRuntime) -> Result<(), Fail> {
 #[test]
 fn a_link_is_made_and_removed(rt: HostRuntime) -> Result<(), Fail> {
     let mut state = two_places(rt.alloc())?;
-    let made = link(&state, id(10), 32, id(11), 200, rt.alloc())?;
+    let made = link(rt.alloc(), &state, id(10), 32, id(11), 200)?;
     state.apply(&made)?;
-    let removed = unlink(&state, id(10), 32, id(11), 300, rt.alloc())?;
+    let removed = unlink(rt.alloc(), &state, id(10), 32, id(11), 300)?;
     assert_eq!(rt; removed.usn(), 4);
     Ok(())
 }

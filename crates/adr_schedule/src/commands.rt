@@ -13,7 +13,7 @@ use std::alloc::Global;
 use uuid::Uuid;
 
 #[tactic(auto, unfolding(crate::specs::Commands::controller_line))]
-fn controller(line: &mut Line<'_>, alloc: Global) -> Result<Event, Stop>
+fn controller(alloc: Global, line: &mut Line<'_>) -> Result<Event, Stop>
     ensures answer { Answers result (controller_line line.old) }
     ensures allowed { IfOk result IsAllowed }
 {
@@ -41,7 +41,7 @@ fn time(line: &mut Line<'_>) -> Result<Event, Stop>
 }
 
 #[tactic(auto, unfolding(crate::specs::Commands::show_line))]
-fn show(line: &mut Line<'_>, alloc: Global) -> Result<Event, Stop>
+fn show(alloc: Global, line: &mut Line<'_>) -> Result<Event, Stop>
     ensures answer { Answers result (show_line line.old) }
     ensures allowed { IfOk result IsAllowed }
 {
@@ -54,7 +54,7 @@ fn show(line: &mut Line<'_>, alloc: Global) -> Result<Event, Stop>
 }
 
 #[tactic(auto, unfolding(crate::specs::Commands::vector_line))]
-fn vector(line: &mut Line<'_>, alloc: Global) -> Result<Event, Stop>
+fn vector(alloc: Global, line: &mut Line<'_>) -> Result<Event, Stop>
     ensures answer { Answers result (vector_line line.old) }
     ensures allowed { IfOk result IsAllowed }
 {
@@ -67,7 +67,7 @@ fn vector(line: &mut Line<'_>, alloc: Global) -> Result<Event, Stop>
 }
 
 #[tactic(auto, unfolding(crate::specs::Commands::marks_line))]
-fn marks(line: &mut Line<'_>, alloc: Global) -> Result<Event, Stop>
+fn marks(alloc: Global, line: &mut Line<'_>) -> Result<Event, Stop>
     ensures answer { Answers result (marks_line line.old) }
     ensures allowed { IfOk result IsAllowed }
 {
@@ -124,7 +124,7 @@ fn account(alloc: Global, value: Text) -> Result<Assignments, Stop>
 
 /// A user, from its parent on.
 #[tactic(auto, unfolding(crate::specs::Commands::user_line))]
-fn user(line: &mut Line<'_>, alloc: Global, name: Text, guid: Uuid) -> Result<Event, Stop>
+fn user(alloc: Global, line: &mut Line<'_>, name: Text, guid: Uuid) -> Result<Event, Stop>
     requires { 0 < length name }
     ensures answer { Answers result (user_line name guid line.old) }
     ensures allowed { IfOk result IsAllowed }
@@ -151,7 +151,7 @@ fn user(line: &mut Line<'_>, alloc: Global, name: Text, guid: Uuid) -> Result<Ev
 
 /// A container, from its parent on.
 #[tactic(auto, unfolding(crate::specs::Commands::container_line))]
-fn container(line: &mut Line<'_>, alloc: Global, name: Text, guid: Uuid) -> Result<Event, Stop>
+fn container(alloc: Global, line: &mut Line<'_>, name: Text, guid: Uuid) -> Result<Event, Stop>
     requires { 0 < length name }
     ensures answer { Answers result (container_line name guid line.old) }
     ensures allowed { IfOk result IsAllowed }
@@ -173,7 +173,7 @@ fn container(line: &mut Line<'_>, alloc: Global, name: Text, guid: Uuid) -> Resu
 }
 
 #[tactic(auto, unfolding(crate::specs::Commands::add_line))]
-fn add(line: &mut Line<'_>, alloc: Global) -> Result<Event, Stop>
+fn add(alloc: Global, line: &mut Line<'_>) -> Result<Event, Stop>
     ensures answer { Answers result (add_line line.old) }
     ensures allowed { IfOk result IsAllowed }
 {
@@ -181,9 +181,9 @@ fn add(line: &mut Line<'_>, alloc: Global) -> Result<Event, Stop>
     let guid = line.identifier()?;
     let class = line.word()?;
     if class == b"user".as_slice() {
-        user(line, alloc, name, guid)
+        user(alloc, line, name, guid)
     } else if class == b"container".as_slice() {
-        container(line, alloc, name, guid)
+        container(alloc, line, name, guid)
     } else {
         Err(Stop::Bad)
     }
@@ -205,7 +205,7 @@ fn limit(line: &mut Line<'_>) -> Result<u32, Stop>
 
 /// The name that the line binds.
 #[tactic(auto, unfolding(crate::specs::Commands::bound_at))]
-fn bound(line: &mut Line<'_>, alloc: Global) -> Result<Text, Stop>
+fn bound(alloc: Global, line: &mut Line<'_>) -> Result<Text, Stop>
     ensures reading { Gives result line.new (bound_at line.old) }
     ensures named { IfOk result (λ name. 0 < length name) }
 {
@@ -214,14 +214,14 @@ fn bound(line: &mut Line<'_>, alloc: Global) -> Result<Text, Stop>
 }
 
 #[tactic(auto, unfolding(crate::specs::Commands::ask_line))]
-fn ask(line: &mut Line<'_>, alloc: Global) -> Result<Event, Stop>
+fn ask(alloc: Global, line: &mut Line<'_>) -> Result<Event, Stop>
     ensures answer { Answers result (ask_line line.old) }
     ensures allowed { IfOk result IsAllowed }
 {
     let name = line.name(alloc)?;
     let partner = line.name(alloc)?;
     let max = limit(line)?;
-    let bound = bound(line, alloc)?;
+    let bound = bound(alloc, line)?;
     if !line.is_ended() {
         return Err(Stop::Bad);
     }
@@ -234,13 +234,13 @@ fn ask(line: &mut Line<'_>, alloc: Global) -> Result<Event, Stop>
 }
 
 #[tactic(auto, unfolding(crate::specs::Commands::serve_line))]
-fn serve(line: &mut Line<'_>, alloc: Global) -> Result<Event, Stop>
+fn serve(alloc: Global, line: &mut Line<'_>) -> Result<Event, Stop>
     ensures answer { Answers result (serve_line line.old) }
     ensures allowed { IfOk result IsAllowed }
 {
     let name = line.name(alloc)?;
     let request = line.name(alloc)?;
-    let bound = bound(line, alloc)?;
+    let bound = bound(alloc, line)?;
     if !line.is_ended() {
         return Err(Stop::Bad);
     }
@@ -252,7 +252,7 @@ fn serve(line: &mut Line<'_>, alloc: Global) -> Result<Event, Stop>
 }
 
 #[tactic(auto, unfolding(crate::specs::Commands::deliver_line))]
-fn deliver(line: &mut Line<'_>, alloc: Global) -> Result<Event, Stop>
+fn deliver(alloc: Global, line: &mut Line<'_>) -> Result<Event, Stop>
     ensures answer { Answers result (deliver_line line.old) }
     ensures allowed { IfOk result IsAllowed }
 {
@@ -266,7 +266,7 @@ fn deliver(line: &mut Line<'_>, alloc: Global) -> Result<Event, Stop>
 }
 
 #[tactic(auto, unfolding(crate::specs::Commands::pull_line))]
-fn pull(line: &mut Line<'_>, alloc: Global) -> Result<Event, Stop>
+fn pull(alloc: Global, line: &mut Line<'_>) -> Result<Event, Stop>
     ensures answer { Answers result (pull_line line.old) }
     ensures allowed { IfOk result IsAllowed }
 {
@@ -281,7 +281,7 @@ fn pull(line: &mut Line<'_>, alloc: Global) -> Result<Event, Stop>
 }
 
 #[tactic(auto, unfolding(crate::specs::Commands::cycle_line))]
-fn cycle(line: &mut Line<'_>, alloc: Global) -> Result<Event, Stop>
+fn cycle(alloc: Global, line: &mut Line<'_>) -> Result<Event, Stop>
     ensures answer { Answers result (cycle_line line.old) }
     ensures allowed { IfOk result IsAllowed }
 {
@@ -302,15 +302,15 @@ fn replication(alloc: Global, verb: &[u8], rest: &mut Line<'_>) -> Result<Event,
     ensures allowed { IfOk result IsAllowed }
 {
     if verb == b"ask".as_slice() {
-        ask(rest, alloc)
+        ask(alloc, rest)
     } else if verb == b"serve".as_slice() {
-        serve(rest, alloc)
+        serve(alloc, rest)
     } else if verb == b"deliver".as_slice() {
-        deliver(rest, alloc)
+        deliver(alloc, rest)
     } else if verb == b"pull".as_slice() {
-        pull(rest, alloc)
+        pull(alloc, rest)
     } else if verb == b"cycle".as_slice() {
-        cycle(rest, alloc)
+        cycle(alloc, rest)
     } else {
         Err(Stop::Bad)
     }
@@ -321,17 +321,17 @@ fn by_verb(alloc: Global, verb: &[u8], rest: &mut Line<'_>) -> Result<Event, Sto
     ensures allowed { IfOk result IsAllowed }
 {
     if verb == b"controller".as_slice() {
-        controller(rest, alloc)
+        controller(alloc, rest)
     } else if verb == b"time".as_slice() {
         time(rest)
     } else if verb == b"add".as_slice() {
-        add(rest, alloc)
+        add(alloc, rest)
     } else if verb == b"show".as_slice() {
-        show(rest, alloc)
+        show(alloc, rest)
     } else if verb == b"vector".as_slice() {
-        vector(rest, alloc)
+        vector(alloc, rest)
     } else if verb == b"marks".as_slice() {
-        marks(rest, alloc)
+        marks(alloc, rest)
     } else {
         replication(alloc, verb, rest)
     }

@@ -23,7 +23,7 @@ use std::alloc::{AllocError, Global};
 /// What a reply does to a controller: the change that it makes, or why it is refused (MS-DRSR, processing a
 /// GetNCChanges reply; the refusals and their order are this project's own). The controller stays as it is. A fault of
 /// an item whose place needs more than 32 bits counts as want of memory.
-pub fn take(state: &State, reply: &Reply, alloc: Global) -> Result<Change, Failure<TakeRefusal>>
+pub fn take(alloc: Global, state: &State, reply: &Reply) -> Result<Change, Failure<TakeRefusal>>
     requires { state.now.store.usn ≤ usn_limit }
     ensures ok { IfOk result (λ change. take state.now reply.now ≡ Ok change) }
     ensures within { IfOk result (λ change. change.usn ≤ usn_limit) }

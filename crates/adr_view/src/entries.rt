@@ -55,7 +55,7 @@ fn entries_of(alloc: Global, rows: &[&Update]) -> Result<Vec<Entry>, NoMemory>
 }
 
 /// The directory that the rows of a controller define: its live objects, rising by GUID.
-pub fn directory(rows: &Rows, alloc: Global) -> Result<Directory, NoMemory>
+pub fn directory(alloc: Global, rows: &Rows) -> Result<Directory, NoMemory>
     requires { IsTrue (have_back_links (updates_of rows.now)) }
     ensures { IfOk result (λ shown. shown ≡ directory (updates_of rows.now)) }
 {

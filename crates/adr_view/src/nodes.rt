@@ -38,15 +38,15 @@ impl Model for Nodes {
 
 impl Nodes {
     /// The live objects by what a controller holds.
-    pub fn of(rows: &Rows, alloc: Global) -> Result<Nodes, NoMemory>
+    pub fn of(alloc: Global, rows: &Rows) -> Result<Nodes, NoMemory>
         ensures { IfOk result (λ nodes. nodes ≡ nodes_of (live_rows (updates_of rows.now))) }
     {
         let live = live_rows(alloc, rows.as_slice())?;
-        Nodes::of_live(live.as_slice(), alloc)
+        Nodes::of_live(alloc, live.as_slice())
     }
 
     /// The live objects by their rows.
-    pub(crate) fn of_live(rows: &[&Update], alloc: Global) -> Result<Nodes, NoMemory>
+    pub(crate) fn of_live(alloc: Global, rows: &[&Update]) -> Result<Nodes, NoMemory>
         ensures { IfOk result (λ nodes. nodes ≡ nodes_of (referents rows.now)) }
     {
         Ok(Nodes {
@@ -96,14 +96,14 @@ impl Nodes {
 
     /// The name under which an object is shown: its text, or where another object in the place keeps that, the text
     /// with a line feed, `CNF:` and the GUID in lower case (MS-ADTS, naming conflicts; RFC 9562 for the GUID).
-    pub fn shown_name(&self, node: &Node, alloc: Global) -> Result<Text, NoMemory>
+    pub fn shown_name(&self, alloc: Global, node: &Node) -> Result<Text, NoMemory>
         ensures { IfOk result (λ name. name ≡ shown_name self.now node.now) }
     {
         shown_name(alloc, self.list.as_slice(), node)
     }
 
     /// The GUID of the object that keeps a text in a place, in whatever case it is written.
-    pub fn holder(&self, parent: Uuid, text: &Text, alloc: Global) -> Result<Option<Uuid>, NoMemory>
+    pub fn holder(&self, alloc: Global, parent: Uuid, text: &Text) -> Result<Option<Uuid>, NoMemory>
         ensures { IfOk result (λ holder. holder ≡ name_holder self.now parent text.now) }
     {
         name_holder(alloc, self.list.as_slice(), parent, text)

@@ -56,7 +56,7 @@ impl Run {
         let Some(asked) = controller_of(self.controllers.as_slice(), partner) else {
             return Ok((Outcome::Absent, None));
         };
-        let request = ask(&asker.state, asked.state.dsa(), max, alloc)?;
+        let request = ask(alloc, &asker.state, asked.state.dsa(), max)?;
         Ok((Outcome::Ok, Some(request)))
     }
 
@@ -97,7 +97,7 @@ impl Run {
         let Some(controller) = controller_of(self.controllers.as_slice(), name) else {
             return Ok((Outcome::Absent, None));
         };
-        match serve(&controller.state, request, alloc) {
+        match serve(alloc, &controller.state, request) {
             Ok(reply) => Ok((served(&reply)?, Some(reply))),
             Err(Failure::Refused(refusal)) => Ok((serve_refused(alloc, refusal)?, None)),
             Err(Failure::NoMemory) => Err(AllocError),

@@ -38,7 +38,7 @@ impl Run {
             return Ok(Outcome::Absent);
         };
         formed_rows_have_back_links();
-        Ok(Outcome::Show(directory(controller.state.rows(), alloc)?))
+        Ok(Outcome::Show(directory(alloc, controller.state.rows())?))
     }
 
     /// A client asks for the directory.

@@ -47,7 +47,7 @@ impl Run {
         let Some(place) = place_of(self.controllers.as_slice(), name) else {
             return Ok(Outcome::Absent);
         };
-        match take(&self.controllers[place].state, reply, alloc) {
+        match take(alloc, &self.controllers[place].state, reply) {
             Ok(change) => {
                 let done = took(reply, &change)?;
                 self.commit(alloc, place, &change, false, done)

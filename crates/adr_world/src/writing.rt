@@ -51,7 +51,7 @@ impl Run {
         let Some(place) = place_of(self.controllers.as_slice(), name) else {
             return Ok(Outcome::Absent);
         };
-        match add(&self.controllers[place].state, object, self.time, alloc) {
+        match add(alloc, &self.controllers[place].state, object, self.time) {
             Ok(change) => {
                 let done = Outcome::Usn(change.usn());
                 self.commit(alloc, place, &change, true, done)
