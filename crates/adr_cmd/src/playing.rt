@@ -71,7 +71,27 @@ fn tell<K: Sink>(alloc: Global, world: &mut World, event: &Event, sink: &mut K) 
     write_some(sink, bytes.as_slice())
 }
 
-/// Runs the events from an empty world on, and writes the answers to each as they come.
+/// Runs the events from where the world stands on, and writes the answers to each as they come.
+fn play_on<K: Sink>(
+    alloc: Global,
+    world: &mut World,
+    events: &[Event],
+    sink: &mut K,
+) -> Result<(), Fault>
+    requires built { AreBuilt events.now }
+    requires may { MayAllHappen world.old events.now }
+    ensures ok { OnOk result (Adds (K.written sink.old) (K.written sink.new) (output_from world.old events.now)) }
+    ensures front { OnErr result (AddsFront (K.written sink.old) (K.written sink.new) (output_from world.old events.now)) }
+    ensures never_falls { K.faults sink.old ≤ K.faults sink.new }
+    ensures failed { IsErrOf result Fault.Failed → K.faults sink.old < K.faults sink.new }
+{
+    for event in events {
+        tell(alloc, world, event, sink)?;
+    }
+    Ok(())
+}
+
+/// Runs the events from an empty world on.
 pub fn play<K: Sink>(alloc: Global, events: &[Event], sink: &mut K) -> Result<(), Fault>
     requires built { AreBuilt events.now }
     requires may { MayAllHappen empty_world events.now }
@@ -81,8 +101,5 @@ pub fn play<K: Sink>(alloc: Global, events: &[Event], sink: &mut K) -> Result<()
     ensures failed { IsErrOf result Fault.Failed → K.faults sink.old < K.faults sink.new }
 {
     let mut world = World::new(alloc);
-    for event in events {
-        tell(alloc, &mut world, event, sink)?;
-    }
-    Ok(())
+    play_on(alloc, &mut world, events, sink)
 }

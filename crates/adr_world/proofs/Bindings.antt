@@ -1,5 +1,5 @@
 -- What lines bound to names is sound, and what comes of it.
-use Rattle.std.proofs.Common.{◌≡◌, ◌≢◌, ◌∙◌, refl, sym, ap, inl, [], ◌∷◌, Option, Some, None, codes}
+use Rattle.std.proofs.Common.{◌≡◌, ◌∙◌, refl, sym, ap, inl, [], ◌∷◌, Option, Some, codes}
 use Rattle.adr_event.specs.declared.answer.Answer.{Answer}
 use Rattle.adr_event.specs.declared.answer.Outcome.{Outcome}
 use Rattle.adr_event.specs.declared.event.Event.TheVariants.{Serve, Deliver}
@@ -29,8 +29,3 @@ pub delivered_step : (w v : World) (name reply : Name) (o : Option Reply) (x : O
 delivered_step w v name reply o x made is gone said =
     ap (λ (g : Gone). told (codes "deliver") name g) (ap (delivers w name) (sym is) ∙ gone)
     ∙ ap (λ m. (v, m ∷ [])) (sym said)
-
--- nothing is there
-pub none_there : {A : Type 0} (o : Option A) → ((x : A) → o ≢ Some x) → o ≡ None
-none_there None not = refl
-none_there (Some x) not = absurd (not x refl)

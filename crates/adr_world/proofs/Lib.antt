@@ -6,3 +6,4 @@ pub mod Sends
 pub mod Turns
 pub mod Bindings
 pub mod Doors
+pub mod Tables

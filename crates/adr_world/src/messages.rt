@@ -2,13 +2,13 @@
 
 ghost use Rattle.std.specs.Prelude.{◌≡◌, ◌∷◌, [], Some, IfOk, OnErr};
 ghost use Rattle.adr_event.specs.declared.event.Event.TheVariants.{Ask, Serve};
+ghost use Rattle.adr_model.specs.Convergence.{IsUnbound};
 ghost use Rattle.adr_model.specs.Sound.{IsSoundRequest};
 ghost use Rattle.adr_model.specs.Step.{step};
 ghost use Rattle.adr_model.specs.World.{asks, serves_request};
 ghost use Rattle.adr_world.specs.Run.{IsSoundRun, IsTidy, world_of};
 
 use crate::answers::answer;
-use crate::bound::{bind, bound_at};
 use crate::controller::controller_of;
 use crate::counts::served;
 use crate::refused::serve_refused;
@@ -29,14 +29,15 @@ impl Run {
         max: u32,
         bound: &Text,
     ) -> Result<Answer, NoMemory>
-        requires { IsTidy self.old.controllers.items }
+        requires tidy { IsTidy self.old.controllers.items }
+        requires unbound { IsUnbound (world_of self.old).requests bound.now }
         ensures stepped { IfOk result (λ made. step (world_of self.old) (Ask name.now partner.now max bound.now) ≡ (world_of self.new, made ∷ [])) }
         ensures err { OnErr result (world_of self.new ≡ world_of self.old) }
         ensures tidy { IsTidy self.new.controllers.items }
     {
         let (outcome, request) = self.request(alloc, name, partner, max)?;
         let made = answer(alloc, "ask", name, outcome)?;
-        bind(alloc, &mut self.requests, bound, request)?;
+        self.requests.bind(alloc, bound, request)?;
         Ok(made)
     }
 
@@ -68,17 +69,18 @@ impl Run {
         request: &Text,
         bound: &Text,
     ) -> Result<Answer, NoMemory>
-        requires { IsSoundRun self.old }
+        requires sound { IsSoundRun self.old }
+        requires unbound { IsUnbound (world_of self.old).replies bound.now }
         ensures stepped { IfOk result (λ made. step (world_of self.old) (Serve name.now request.now bound.now) ≡ (world_of self.new, made ∷ [])) }
         ensures err { OnErr result (world_of self.new ≡ world_of self.old) }
         ensures tidy { IsTidy self.new.controllers.items }
     {
-        let Some(request) = bound_at(self.requests.as_slice(), request) else {
+        let Some(request) = self.requests.get(request) else {
             return answer(alloc, "serve", name, Outcome::Absent);
         };
         let (outcome, reply) = self.reply(alloc, name, request)?;
         let made = answer(alloc, "serve", name, outcome)?;
-        bind(alloc, &mut self.replies, bound, reply)?;
+        self.replies.bind(alloc, bound, reply)?;
         Ok(made)
     }
 

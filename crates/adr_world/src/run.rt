@@ -10,12 +10,13 @@ ghost use Rattle.adr_state.specs.Refusal.{IsOverfull};
 ghost use Rattle.adr_world.specs.declared.controller.Controller.{Controller as Held};
 ghost use Rattle.adr_world.specs.Run.{IsTidy, replica_of, with_commit, world_of};
 
+use crate::bound::Messages;
 use crate::controller::Controller;
 use crate::refused::full;
 use adr_book::{Book, Identifiers};
 use adr_event::{Outcome, Table};
 use adr_packet::{Reply, Request};
-use adr_schema::{NoMemory, Text};
+use adr_schema::NoMemory;
 use adr_state::{Change, LOG_LIMIT, log_end_after};
 use std::alloc::Global;
 
@@ -25,8 +26,8 @@ pub struct Run {
     pub time: u64,
     pub book: Book,
     pub controllers: Vec<Controller>,
-    pub requests: Vec<(Text, Request)>,
-    pub replies: Vec<(Text, Reply)>,
+    pub requests: Messages<Request>,
+    pub replies: Messages<Reply>,
     pub given: Identifiers,
 }
 
@@ -40,8 +41,8 @@ impl Run {
             time: 0,
             book: Book::new(),
             controllers: Vec::new(alloc),
-            requests: Vec::new(alloc),
-            replies: Vec::new(alloc),
+            requests: Messages::new(alloc),
+            replies: Messages::new(alloc),
             given: Identifiers::new(),
         }
     }

@@ -4,11 +4,11 @@ ghost use Rattle.std.specs.Prelude.{◌≡◌, ◌∷◌, [], Some, IfOk, OnErr}
 ghost use Rattle.adr_event.specs.declared.event.Event.TheVariants.{Deliver};
 ghost use Rattle.adr_model.specs.Sound.{IsGiven, IsSoundReply};
 ghost use Rattle.adr_model.specs.Step.{step};
-ghost use Rattle.adr_model.specs.World.{delivers};
+ghost use Rattle.adr_model.specs.World.{Gone, bound_at, delivers};
 ghost use Rattle.adr_world.specs.Run.{IsSoundRun, IsTidy, world_of};
+ghost use Rattle.adr_world.specs.Taking.{CanBeCommitted, ComesTo};
 
 use crate::answers::Heading;
-use crate::bound::copy_bound;
 use crate::controller::place_of;
 use crate::counts::took;
 use crate::refused::take_refused;
@@ -16,8 +16,21 @@ use crate::run::Run;
 use adr_event::{Answer, Failure, Outcome};
 use adr_packet::Reply;
 use adr_schema::{NoMemory, Text};
+use adr_state::Change;
 use adr_take::take;
 use std::alloc::{AllocError, Global};
+
+/// What comes of a reply, before anything is changed: an answer alone, or a change of the controller at a place, with
+/// the answer once it is committed.
+#[derive(Drop)]
+pub enum Taken {
+    Stays(Outcome),
+    Changes {
+        place: usize,
+        change: Change,
+        done: Outcome,
+    },
+}
 
 impl Run {
     /// A controller takes a reply that was bound to a name.
@@ -28,10 +41,8 @@ impl Run {
         ensures tidy { IsTidy self.new.controllers.items }
     {
         let heading = Heading::new(alloc, "deliver", name)?;
-        let Some(reply) = copy_bound(alloc, self.replies.as_slice(), reply)? else {
-            return Ok(heading.of(Outcome::Absent));
-        };
-        let outcome = self.take(alloc, name, &reply)?;
+        let taken = self.taken_by_name(alloc, name, reply)?;
+        let outcome = self.commit_taken(alloc, taken)?;
         Ok(heading.of(outcome))
     }
 
@@ -44,16 +55,62 @@ impl Run {
         ensures err { OnErr result (world_of self.new ≡ world_of self.old) }
         ensures tidy { IsTidy self.new.controllers.items }
     {
+        let taken = self.taken(alloc, name, reply)?;
+        self.commit_taken(alloc, taken)
+    }
+
+    /// What comes of a reply that was bound to a name. It is read where it stands: it may be large.
+    fn taken_by_name(&self, alloc: Global, name: &Text, reply: &Text) -> Result<Taken, NoMemory>
+        requires { IsSoundRun self.now }
+        ensures ready { IfOk result (λ taken. CanBeCommitted self.now.controllers.items taken) }
+        ensures judged { IfOk result (λ taken. ComesTo self.now taken (delivers (world_of self.now) name.now (bound_at (world_of self.now).replies reply.now))) }
+    {
+        let Some(reply) = self.replies.get(reply) else {
+            return Ok(Taken::Stays(Outcome::Absent));
+        };
+        self.taken(alloc, name, reply)
+    }
+
+    /// What comes of a reply.
+    fn taken(&self, alloc: Global, name: &Text, reply: &Reply) -> Result<Taken, NoMemory>
+        requires sound { IsSoundRun self.now }
+        requires reply { IsSoundReply (world_of self.now).book reply.now }
+        requires given { IsGiven (world_of self.now) reply.now.inv }
+        ensures ready { IfOk result (λ taken. CanBeCommitted self.now.controllers.items taken) }
+        ensures judged { IfOk result (λ taken. ComesTo self.now taken (delivers (world_of self.now) name.now (Some reply.now))) }
+    {
         let Some(place) = place_of(self.controllers.as_slice(), name) else {
-            return Ok(Outcome::Absent);
+            return Ok(Taken::Stays(Outcome::Absent));
         };
         match take(alloc, &self.controllers[place].state, reply) {
             Ok(change) => {
                 let done = took(reply, &change)?;
-                self.commit(alloc, place, &change, false, done)
+                Ok(Taken::Changes {
+                    place,
+                    change,
+                    done,
+                })
             }
-            Err(Failure::Refused(refusal)) => take_refused(alloc, refusal),
+            Err(Failure::Refused(refusal)) => Ok(Taken::Stays(take_refused(alloc, refusal)?)),
             Err(Failure::NoMemory) => Err(AllocError),
+        }
+    }
+
+    /// Commits what was judged of a reply, if it changes anything.
+    fn commit_taken(&mut self, alloc: Global, taken: Taken) -> Result<Outcome, NoMemory>
+        requires tidy { IsTidy self.old.controllers.items }
+        requires ready { CanBeCommitted self.old.controllers.items taken }
+        ensures committed { IfOk result (λ told. (gone : Gone) → ComesTo self.old taken gone → gone ≡ (world_of self.new, told)) }
+        ensures err { OnErr result (world_of self.new ≡ world_of self.old) }
+        ensures tidy { IsTidy self.new.controllers.items }
+    {
+        match taken {
+            Taken::Stays(told) => Ok(told),
+            Taken::Changes {
+                place,
+                change,
+                done,
+            } => self.commit(alloc, place, &change, false, done),
         }
     }
 }

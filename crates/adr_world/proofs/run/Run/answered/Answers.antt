@@ -1,8 +1,15 @@
 use Rattle.std.proofs.Common.{◌≡◌, sym, subst, [], ◌∷◌}
 use Rattle.std.specs.Prelude.{IfOk}
+use Rattle.adr_model.specs.Convergence.{MayHappen}
 use Rattle.adr_model.specs.Step.{step}
 use Rattle.adr_world.specs.Run.{world_of}
 use Rattle.adr_world.proofs.run.Run.answered.Goals as goal
+
+pub ask-requires-clause-unbound : goal.ask-requires-clause-unbound
+ask-requires-clause-unbound c = subst (MayHappen (world_of c.args.self.now)) c.in-Ask.is c.requires.may
+
+pub serve-requires-clause-unbound : goal.serve-requires-clause-unbound
+serve-requires-clause-unbound c = subst (MayHappen (world_of c.args.self.now)) c.in-Serve.is c.requires.may
 
 pub returns-in-Serve-clause-stepped : goal.returns-in-Serve-clause-stepped
 returns-in-Serve-clause-stepped c = subst (λ e. IfOk c.serve.result (λ made. step (world_of c.args.self.now) e ≡ (world_of c.serve.new.self, made ∷ []))) (sym c.in-Serve.is) c.serve.ensures.stepped

@@ -1,7 +1,6 @@
 use Rattle.std.proofs.Common.{◌∙◌, sym, ap, Some, None, refl, [], ◌∷◌}
 use Rattle.std.proofs.lemmas.Result.{IfOk-weaker}
 use Rattle.adr_event.specs.declared.answer.Outcome.TheVariants as outcomes
-use Rattle.adr_model.specs.World.{bound_at}
 use Rattle.adr_world.specs.Run.{world_of}
 use Rattle.adr_world.proofs.Bindings.{request_bound, served_step}
 use Rattle.adr_world.proofs.Calls.{no_request_so}
@@ -12,15 +11,15 @@ returns-in_default-clause-stepped c =
     let w = world_of c.args.self.now in
     IfOk-weaker c.answer.result _ _
     (λ made said. served_step w c.args.name.now c.args.request.now c.args.bound.now None outcomes.Absent None made
-    (c.in_default.ensures ∙ ap (λ xs. bound_at xs c.args.request.now) c.as_slice.ensures.value) (no_request_so w c.args.name.now c.args.self.now.controllers.items refl) said)
+    c.in_default.ensures (no_request_so w c.args.name.now c.args.self.now.controllers.items refl) said)
     c.answer.ensures
 
 pub reply-requires-clause-request : goal.reply-requires-clause-request
 reply-requires-clause-request c =
-    request_bound (world_of c.args.self.now) (c.requires.of_run.sound refl) c.args.request.now c.in-Some.request.now (c.in-Some.ensures ∙ ap (λ xs. bound_at xs c.args.request.now) c.as_slice.ensures.value)
+    request_bound (world_of c.args.self.now) (c.requires.sound.of_run.sound refl) c.args.request.now c.in-Some.request.now c.in-Some.ensures
 
 pub returns-clause-stepped : goal.returns-clause-stepped
 returns-clause-stepped c =
     served_step (world_of c.args.self.now) c.args.name.now c.args.request.now c.args.bound.now (Some c.in-Some.request.now) c.in_ok-outcome.outcome c.in_ok-outcome.reply c.in_ok-made.made
-    (c.in-Some.ensures ∙ ap (λ xs. bound_at xs c.args.request.now) c.as_slice.ensures.value) c.in_ok-outcome.ensures c.in_ok-made.ensures
+    c.in-Some.ensures c.in_ok-outcome.ensures c.in_ok-made.ensures
     ∙ ap (λ rs. (record (world_of c.args.self.now) { replies = rs }, c.in_ok-made.made ∷ [])) (sym c.in_ok-bind.ensures.ok)

@@ -1,9 +1,8 @@
 use Rattle.std.proofs.Common.{Result, Ok, Err}
 use Rattle.std.specs.Prelude.{OnErr}
-use Rattle.adr_model.specs.World.{empty_world}
 use Rattle.adr_cmd.specs.Outcome.{output_from}
 use Rattle.adr_cmd.proofs.PlayLemmas.{front_step}
-use Rattle.adr_cmd.proofs.playing.play.Goals as goal
+use Rattle.adr_cmd.proofs.playing.play_on.Goals as goal
 
 on_err : {X Y P : Type 0} (r : Result X Y) → P → OnErr r P
 on_err (Ok x) p = tt
@@ -11,6 +10,6 @@ on_err (Err e) p = p
 
 pub returns-in_err-tell-clause-front : goal.returns-in_err-tell-clause-front
 returns-in_err-tell-clause-front g c =
-    on_err c.from_residual.result (front_step (g.K.Sink.written c.args.sink.now) (g.K.Sink.written c.loop-event.sink) (g.K.Sink.written c.tell.new.sink) (output_from empty_world c.args.events.now)
+    on_err c.from_residual.result (front_step (g.K.Sink.written c.args.sink.now) (g.K.Sink.written c.loop-event.sink) (g.K.Sink.written c.tell.new.sink) (output_from c.args.world.now c.args.events.now)
     c.loop-event.world c.args.events.now c.loop-event.event-index c.event-item.result c.loop-event-test.true c.event-item.is
     c.loop-event.invariant.due c.in_err-tell.ensures.front)
