@@ -1,25 +1,36 @@
 //! What a run was told. Only proofs read it, and it takes no memory.
 
 ghost use Rattle.std.specs.Prelude.{◌≡◌};
-ghost use Rattle.adr_model.specs.Replica.{Book, begun};
-ghost use Rattle.adr_book.specs.Noted.{no_book, noted};
+ghost use Rattle.adr_book.specs.Past.{Past, nothing_yet};
+ghost use Rattle.adr_book.specs.Told.{past_with};
 
 use adr_state::{Change, State};
 use std::marker::Model;
 use uuid::Uuid;
 
-/// A change of an incarnation that became safe, which a client wrote or not.
-#[derive(Clone, Copy, Drop)]
-pub(crate) struct Recorded<'a> {
-    pub(crate) inv: Uuid,
-    pub(crate) change: &'a Change,
-    pub(crate) is_write: bool,
+/// What a past is told. The types of a state and of a change are parameters, since the check isn't told which modules
+/// hold a type that an enum has behind a reference.
+#[derive(Drop)]
+pub(crate) enum Deed<'a, S, C> {
+    /// An incarnation begins with what its state has.
+    Begun(&'a S),
+    /// A change of an incarnation becomes safe, which a client wrote or not.
+    Recorded {
+        inv: Uuid,
+        change: &'a C,
+        is_write: bool,
+    },
+    /// A line gives the identifiers of a controller and of its database.
+    Gave {
+        dsa: Uuid,
+        inv: Uuid,
+    },
 }
 
 /// All that a run was told so far.
 #[derive(Drop)]
 pub(crate) struct Told {
-    pub(crate) ghost book: { Book },
+    pub(crate) ghost past: { Past },
 }
 
 impl Model for Told {
@@ -31,21 +42,14 @@ impl Model for Told {
 impl Told {
     /// Nothing yet.
     pub(crate) fn new() -> Told
-        ensures { result.book ≡ no_book }
+        ensures { result.past ≡ nothing_yet }
     {
         Told {}
     }
 
-    /// And an incarnation begins.
-    pub(crate) fn with_begun(&self, _state: &State) -> Told
-        ensures { result.book ≡ begun self.now.book _state.now }
-    {
-        Told {}
-    }
-
-    /// And a change becomes safe.
-    pub(crate) fn with_recorded(&self, _recorded: &Recorded<'_>) -> Told
-        ensures { result.book ≡ noted self.now.book _recorded.now }
+    /// And one thing more.
+    pub(crate) fn with(&self, _deed: &Deed<'_, State, Change>) -> Told
+        ensures { result.past ≡ past_with self.now.past _deed.now }
     {
         Told {}
     }

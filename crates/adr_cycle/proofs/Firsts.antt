@@ -1,17 +1,10 @@
 -- The first of several refusals, taken two at a time.
-use Rattle.std.proofs.Common.{◌≡◌, List, [], ◌∷◌, Option, None, Some, refl, ◌∙◌}
+use Rattle.std.proofs.Common.{◌≡◌, [], ◌∷◌, Option, ◌∙◌}
 use Rattle.std.specs.Option.{option_or}
-use Rattle.adr_model.specs.Refusing.{first_of}
+use Rattle.adr_failure.specs.First.{first_of}
+use Rattle.adr_model.proofs.Firsts.{first_of_one, first_of_more}
 
 module _ {A : Type 0} where
-  first_alone : (a : Option A) → a ≡ first_of (a ∷ [])
-  first_alone None = refl
-  first_alone (Some x) = refl
-
-  first_pair : (a b : Option A) (os : List (Option A)) → first_of (option_or a b ∷ os) ≡ first_of (a ∷ b ∷ os)
-  first_pair None b os = refl
-  first_pair (Some x) b os = refl
-
   -- a chain of six is the first of six
   first_of_six : (a b c d e f : Option A) → option_or (option_or (option_or (option_or (option_or a b) c) d) e) f ≡ first_of (a ∷ b ∷ c ∷ d ∷ e ∷ f ∷ [])
   first_of_six a b c d e f =
@@ -19,8 +12,8 @@ module _ {A : Type 0} where
       let three = option_or two c in
       let four = option_or three d in
       let five = option_or four e in
-      first_alone (option_or five f) ∙ first_pair five f [] ∙ first_pair four e (f ∷ []) ∙ first_pair three d (e ∷ f ∷ [])
-      ∙ first_pair two c (d ∷ e ∷ f ∷ []) ∙ first_pair a b (c ∷ d ∷ e ∷ f ∷ [])
+      first_of_one (option_or five f) ∙ first_of_more five f [] ∙ first_of_more four e (f ∷ []) ∙ first_of_more three d (e ∷ f ∷ [])
+      ∙ first_of_more two c (d ∷ e ∷ f ∷ []) ∙ first_of_more a b (c ∷ d ∷ e ∷ f ∷ [])
 
   -- so is a chain of calls that gave these six
   pub calls_of_six : {a b c d e f u v w x y z p q r s t : Option A} → u ≡ a → v ≡ b → w ≡ c → x ≡ d → y ≡ e → z ≡ f

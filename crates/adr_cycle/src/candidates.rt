@@ -47,7 +47,10 @@ fn last_locals(alloc: Global, rows: &[Held]) -> Result<BTreeMap<Unit, u64>, NoMe
 
 /// Raises the number of a row's unit to that of the row, if it is less.
 fn raise(last: &mut BTreeMap<Unit, u64>, row: &Held) -> Result<(), NoMemory>
-    ensures { OnOk result ((unit : Named) → last_in last.new unit ≡ (if same_unit (unit_of row.now.update.key) unit then max (last_in last.old unit) row.now.local else last_in last.old unit)) }
+    ensures { OnOk result ((unit : Named)
+        → last_in last.new unit
+        ≡ (if same_unit (unit_of row.now.update.key) unit then max (last_in last.old unit) row.now.local
+        else last_in last.old unit)) }
 {
     let number = last.entry(unit(row))?.or_insert(0);
     *number = (*number).max(row.local());
@@ -64,7 +67,9 @@ fn sendable<'a>(
 ) -> Result<BTreeMap<Unit, Vec<&'a Held>>, NoMemory>
     requires { (unit : Named) → last_in last.now unit ≡ last_local rows.now unit }
     ensures units { IfOk result (λ sent. keys sent ≡ units_of (sendable rows.now from asked.now)) }
-    ensures rows { IfOk result (λ sent. (unit : Named) → rows_in sent unit ≡ filter (λ h. same_unit (unit_of h.update.key) unit) (sendable rows.now from asked.now)) }
+    ensures rows { IfOk result (λ sent. (unit : Named)
+        → rows_in sent unit
+        ≡ filter (λ h. same_unit (unit_of h.update.key) unit) (sendable rows.now from asked.now)) }
 {
     let mut sent = BTreeMap::new(alloc);
     for row in rows {
@@ -77,8 +82,12 @@ fn sendable<'a>(
 
 /// Adds a row to those of its unit.
 fn add<'a>(sent: &mut BTreeMap<Unit, Vec<&'a Held>>, row: &'a Held) -> Result<(), NoMemory>
-    ensures units { OnOk result (keys sent.new ≡ insert_key unit_order (keys sent.old) (unit_of row.now.update.key)) }
-    ensures rows { OnOk result ((unit : Named) → rows_in sent.new unit ≡ (if same_unit (unit_of row.now.update.key) unit then rows_in sent.old unit ++ row.now ∷ [] else rows_in sent.old unit)) }
+    ensures units { OnOk result (keys sent.new
+        ≡ insert_key unit_order (keys sent.old) (unit_of row.now.update.key)) }
+    ensures rows { OnOk result ((unit : Named)
+        → rows_in sent.new unit
+        ≡ (if same_unit (unit_of row.now.update.key) unit then rows_in sent.old unit ++ row.now ∷ []
+        else rows_in sent.old unit)) }
 {
     sent.entry(unit(row))?.or_default().push(row)?;
     Ok(())
@@ -86,7 +95,8 @@ fn add<'a>(sent: &mut BTreeMap<Unit, Vec<&'a Held>>, row: &'a Held) -> Result<()
 
 /// Whether the row's unit is above the mark, and the asker may lack the row.
 fn is_sendable(from: Mark, asked: &Vector, last: &BTreeMap<Unit, u64>, row: &Held) -> bool
-    ensures { result ≡ (nat_lt from.obj (last_in last.now (unit_of row.now.update.key)) && is_unseen from asked.now row.now) }
+    ensures { result
+        ≡ (nat_lt from.obj (last_in last.now (unit_of row.now.update.key)) && is_unseen from asked.now row.now) }
 {
     from.obj < last_of(last, &unit(row)) && is_unseen(from, asked, row)
 }
@@ -112,7 +122,9 @@ fn by_last_local<'a>(
     sent: BTreeMap<Unit, Vec<&'a Held>>,
 ) -> Result<BTreeMap<u64, Candidate<'a>>, NoMemory>
     ensures ordered { IsOrdered unit_order sent.entry }
-    ensures items { IfOk result (λ items. items.entries ≡ fold (λ t e. insert_entry nat_cmp t (last_in last.now e.0) (record { unit = e.0; rows = updates_of (rows_at e.1.items) })) [] sent.entry.entries) }
+    ensures items { IfOk result (λ items.
+        items.entries
+        ≡ fold (λ t e. insert_entry nat_cmp t (last_in last.now e.0) (record { unit = e.0; rows = updates_of (rows_at e.1.items) })) [] sent.entry.entries) }
 {
     let mut items = BTreeMap::new(alloc);
     for (unit, rows) in sent {

@@ -10,9 +10,9 @@ mod candidate;
 mod candidates;
 mod replying;
 mod serving;
-#[cfg(test)]
-mod tests;
 
-pub use adr_vector::NoMemory;
+pub use adr_event::{Failure, ServeRefusal};
+pub use adr_packet::{Reply, Request};
+pub use adr_state::{NoMemory, State};
 pub use asking::ask;
 pub use serving::serve;

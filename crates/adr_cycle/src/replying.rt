@@ -89,7 +89,10 @@ fn reply_of(
 
 /// How far the asker has read the controller once it has taken the reply.
 fn mark_after(state: &State, from: Mark, sent: &[(u64, Item)], is_last: bool) -> Mark
-    ensures { result ≡ (if is_last then record { obj = state.now.store.usn; prop = state.now.store.usn; seen = state.now.store.usn } else record { obj = fold (λ n (c : ℕ × Defined). c.0) from.obj sent.now; prop = from.prop; seen = state.now.store.usn }) }
+    ensures { result
+        ≡ (if is_last
+        then record { obj = state.now.store.usn; prop = state.now.store.usn; seen = state.now.store.usn }
+        else record { obj = fold (λ n (c : ℕ × Defined). c.0) from.obj sent.now; prop = from.prop; seen = state.now.store.usn }) }
 {
     if is_last {
         all_read(state)
@@ -100,7 +103,8 @@ fn mark_after(state: &State, from: Mark, sent: &[(u64, Item)], is_last: bool) ->
 
 /// The mark after all changes.
 fn all_read(state: &State) -> Mark
-    ensures { result ≡ record { obj = state.now.store.usn; prop = state.now.store.usn; seen = state.now.store.usn } }
+    ensures { result
+        ≡ record { obj = state.now.store.usn; prop = state.now.store.usn; seen = state.now.store.usn } }
 {
     let usn = state.usn();
     Mark {
@@ -113,7 +117,8 @@ fn all_read(state: &State) -> Mark
 /// The mark at the last item that is sent. Only the last reply moves `prop`: until then rows of units that are still to
 /// be sent are missing.
 pub fn read_to(state: &State, from: Mark, sent: &[(u64, Item)]) -> Mark
-    ensures { result ≡ record { obj = fold (λ n (c : ℕ × Defined). c.0) from.obj sent.now; prop = from.prop; seen = state.now.store.usn } }
+    ensures { result
+        ≡ record { obj = fold (λ n (c : ℕ × Defined). c.0) from.obj sent.now; prop = from.prop; seen = state.now.store.usn } }
 {
     Mark {
         obj: last_sent(from.obj, sent),

@@ -23,7 +23,8 @@ pub fn serve(
     request: &Request,
 ) -> Result<Reply, Failure<ServeRefusal>>
     ensures ok { IfOk result (λ reply. serve state.now request.now ≡ Ok reply) }
-    ensures refused { (refusal : ServeRefusal) → IsErrOf result (Failure.Refused refusal) ↔ (serve state.now request.now ≡ Err refusal) }
+    ensures refused { (refusal : ServeRefusal)
+        → IsErrOf result (Failure.Refused refusal) ↔ (serve state.now request.now ≡ Err refusal) }
 {
     match serve_refusal(state, request) {
         Some(refusal) => Err(Failure::Refused(refusal)),
@@ -54,7 +55,8 @@ fn quarantined(state: &State) -> Option<ServeRefusal>
 
 /// The request is for another controller.
 fn wrong_controller(state: &State, request: &Request) -> Option<ServeRefusal>
-    ensures { result ≡ then_some (not (same_identifier request.now.source state.now.dsa)) (ServeRefusal.WrongController state.now.dsa request.now.source) }
+    ensures { result
+        ≡ then_some (not (same_identifier request.now.source state.now.dsa)) (ServeRefusal.WrongController state.now.dsa request.now.source) }
 {
     let mine = state.dsa();
     let asked = request.source();
@@ -67,7 +69,9 @@ fn wrong_controller(state: &State, request: &Request) -> Option<ServeRefusal>
 
 /// The numbers of the mark aren't in order.
 fn bad_mark(request: &Request) -> Option<ServeRefusal>
-    ensures { result ≡ then_some (not (nat_le request.now.mark.prop request.now.mark.obj && nat_le request.now.mark.obj request.now.mark.seen)) (ServeRefusal.BadMark request.now.mark.prop request.now.mark.obj request.now.mark.seen) }
+    ensures { result
+        ≡ then_some (not (nat_le request.now.mark.prop request.now.mark.obj
+        && nat_le request.now.mark.obj request.now.mark.seen)) (ServeRefusal.BadMark request.now.mark.prop request.now.mark.obj request.now.mark.seen) }
 {
     let Mark { obj, prop, seen } = request.mark();
     if prop <= obj && obj <= seen {
@@ -79,7 +83,8 @@ fn bad_mark(request: &Request) -> Option<ServeRefusal>
 
 /// The asker has seen more of this incarnation than there is.
 fn rolled_back(state: &State, request: &Request) -> Option<ServeRefusal>
-    ensures { result ≡ then_some (nat_lt state.now.store.usn (shown_by state.now request.now)) (ServeRefusal.RolledBack state.now.inv state.now.store.usn (shown_by state.now request.now)) }
+    ensures { result
+        ≡ then_some (nat_lt state.now.store.usn (shown_by state.now request.now)) (ServeRefusal.RolledBack state.now.inv state.now.store.usn (shown_by state.now request.now)) }
 {
     let inv = state.inv();
     let mine = state.usn();
@@ -96,7 +101,8 @@ fn shown_by(state: &State, request: &Request) -> u64
 }
 
 fn schema_mismatch(state: &State, request: &Request) -> Option<ServeRefusal>
-    ensures { result ≡ then_some (not (request.now.schema == state.now.store.schema)) (ServeRefusal.SchemaMismatch state.now.store.schema request.now.schema) }
+    ensures { result
+        ≡ then_some (not (request.now.schema == state.now.store.schema)) (ServeRefusal.SchemaMismatch state.now.store.schema request.now.schema) }
 {
     let mine = state.schema().number();
     let theirs = request.schema();
@@ -105,7 +111,8 @@ fn schema_mismatch(state: &State, request: &Request) -> Option<ServeRefusal>
 
 /// Objects were collected whose deaths the asker hasn't seen.
 fn too_old(state: &State, request: &Request) -> Option<ServeRefusal>
-    ensures { result ≡ option_map (λ gap. ServeRefusal.TooOld gap.0 gap.2 gap.1) (first_gap state.now.store.purged request.now.vector) }
+    ensures { result
+        ≡ option_map (λ gap. ServeRefusal.TooOld gap.0 gap.2 gap.1) (first_gap state.now.store.purged request.now.vector) }
 {
     let (inv, has, purged) = state.purged().first_gap(request.vector())?;
     Some(ServeRefusal::TooOld { inv, purged, has })

@@ -51,8 +51,10 @@ pub trait Disk {
     /// Reads into the front of the buffer, as far as the bytes from that place on go: fewer mean the end.
     fn read(&mut self, at: u64, into: &mut [u8]) -> Result<usize, Fault>
         ensures within { IfOk result (λ n. n ≤ length into.new) }
-        ensures filled { IfOk result (λ n. IfSome (content self.old) (λ bytes. n ≡ min (length into.old) (length bytes - at))) }
-        ensures read { IfOk result (λ n. IfSome (content self.old) (λ bytes. take n into.new ≡ take n (drop at bytes))) }
+        ensures filled { IfOk result (λ n. IfSome (content self.old) (λ bytes.
+            n ≡ min (length into.old) (length bytes - at))) }
+        ensures read { IfOk result (λ n. IfSome (content self.old) (λ bytes.
+            take n into.new ≡ take n (drop at bytes))) }
         ensures keeps { Keeps content may_leave moment left_since self.old self.new }
         ensures cause { Counts (faults self.old) (faults self.new) result }
         ensures spare { OnOk result (IsSpare (spare_calls self.old) (spare_bytes self.old) (spare_calls self.new) (spare_bytes self.new)) }
@@ -63,7 +65,8 @@ pub trait Disk {
     fn write_at(&mut self, at: u64, bytes: &[u8]) -> Result<(), Fault>
         requires { ForSome (content self.old) (λ there. at ≤ length there) }
 
-        ensures written { OnOk result (IfSome (content self.old) (λ there. content self.new ≡ Some (put there at bytes.now))) }
+        ensures written { OnOk result (IfSome (content self.old) (λ there.
+            content self.new ≡ Some (put there at bytes.now))) }
         ensures told { IsSome (content self.new) ↔ IsSome (content self.old) }
 
         // What a crash may leave, now and at each moment of the call.
@@ -72,8 +75,10 @@ pub trait Disk {
             (After (Torn at (length bytes.now)) (may_leave self.old)) }
 
         ensures cause { Counts (faults self.old) (faults self.new) result }
-        ensures no_memory { IsErrOf result Fault.NoMemory → Keeps content may_leave moment left_since self.old self.new }
-        ensures no_memory_only { IsErrOf result Fault.NoMemory → (spare_calls self.old ≡ 0) ⊎ (spare_bytes self.old < length bytes.now) }
+        ensures no_memory { IsErrOf result Fault.NoMemory
+            → Keeps content may_leave moment left_since self.old self.new }
+        ensures no_memory_only { IsErrOf result Fault.NoMemory
+            → (spare_calls self.old ≡ 0) ⊎ (spare_bytes self.old < length bytes.now) }
         ensures spare { IsSpare (spare_calls self.old) (spare_bytes self.old) (spare_calls self.new + 1) (spare_bytes self.new + length bytes.now) }
         ensures gives { gives self.old (Writes at bytes.now) (ended result) self.new };
 
@@ -88,7 +93,8 @@ pub trait Disk {
         ensures time { Elapses (moment self.old) (moment self.new) (left_since self.old) (left_since self.new) (may_leave self.old) }
 
         ensures cause { Counts (faults self.old) (faults self.new) result }
-        ensures no_memory { IsErrOf result Fault.NoMemory → Keeps content may_leave moment left_since self.old self.new }
+        ensures no_memory { IsErrOf result Fault.NoMemory
+            → Keeps content may_leave moment left_since self.old self.new }
         ensures no_memory_only { IsErrOf result Fault.NoMemory → spare_calls self.old ≡ 0 }
         ensures spare { IsSpare (spare_calls self.old) (spare_bytes self.old) (spare_calls self.new + 1) (spare_bytes self.new) }
         ensures gives { gives self.old Syncs (ended result) self.new };

@@ -215,7 +215,8 @@ impl MemDisk {
         requires within { at ≤ length (read_of self.old.held.surface) }
         requires calls { 0 < self.old.held.room_calls }
         requires room { length bytes.now ≤ self.old.held.room_bytes }
-        ensures failed { result ≡ Fault.Failed → SameState (failed (Mishap.Crash how) (Writes at bytes.now) self.old) self.new }
+        ensures failed { result ≡ Fault.Failed
+            → SameState (failed (Mishap.Crash how) (Writes at bytes.now) self.old) self.new }
         ensures no_memory { result ≡ Fault.NoMemory → self.new ≡ self.old }
         ensures limit { result ≡ Fault.NoMemory → self.old.faults ≡ 2 ^ 64 - 1 }
         ensures spare { IsSpare (spare_calls_of self.old) self.old.held.room_bytes (spare_calls_of self.new + 1) (self.new.held.room_bytes + length bytes.now) }
@@ -232,7 +233,8 @@ impl MemDisk {
     fn write(&mut self, at: usize, bytes: &[u8]) -> Result<(), Fault>
         requires within { at ≤ length (read_of self.old.held.surface) }
         ensures does { Does self.old (Writes at bytes.now) (ended result) self.new }
-        ensures no_memory_only { IsErrOf result Fault.NoMemory → (spare_calls_of self.old ≡ 0) ⊎ (self.old.held.room_bytes < length bytes.now) }
+        ensures no_memory_only { IsErrOf result Fault.NoMemory
+            → (spare_calls_of self.old ≡ 0) ⊎ (self.old.held.room_bytes < length bytes.now) }
         ensures spare { IsSpare (spare_calls_of self.old) self.old.held.room_bytes (spare_calls_of self.new + 1) (self.new.held.room_bytes + length bytes.now) }
     {
         if self.platter.make_room(1, bytes.len()).is_err() {

@@ -13,7 +13,8 @@ pub fn write_through<D: Disk>(disk: &mut D, at: u64, bytes: &[u8]) -> Result<(),
     requires within { ForSome (D.content disk.old) (λ there. at ≤ length there) }
     requires synced { ForSome (D.content disk.old) (λ there. Only there (D.may_leave disk.old)) }
 
-    ensures written { OnOk result (IfSome (D.content disk.old) (λ there. D.content disk.new ≡ Some (put there at bytes.now))) }
+    ensures written { OnOk result (IfSome (D.content disk.old) (λ there.
+        D.content disk.new ≡ Some (put there at bytes.now))) }
     ensures durable { OnOk result (IfSome (D.content disk.old) (λ there. Only (put there at bytes.now) (D.may_leave disk.new))) }
     ensures told { IsSome (D.content disk.new) ↔ IsSome (D.content disk.old) }
 
@@ -23,7 +24,8 @@ pub fn write_through<D: Disk>(disk: &mut D, at: u64, bytes: &[u8]) -> Result<(),
         (Torn at (length bytes.now) there)) }
 
     ensures cause { Counts (D.faults disk.old) (D.faults disk.new) result }
-    ensures no_memory_only { IsErrOf result Fault.NoMemory → (D.spare_calls disk.old < 2) ⊎ (D.spare_bytes disk.old < length bytes.now) }
+    ensures no_memory_only { IsErrOf result Fault.NoMemory
+        → (D.spare_calls disk.old < 2) ⊎ (D.spare_bytes disk.old < length bytes.now) }
     ensures spare { IsSpare (D.spare_calls disk.old) (D.spare_bytes disk.old) (D.spare_calls disk.new + 2) (D.spare_bytes disk.new + length bytes.now) }
 {
     disk.write_at(at, bytes)?;

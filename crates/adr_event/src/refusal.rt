@@ -1,5 +1,9 @@
 //! Why a call was refused.
 
+ghost use Rattle.std.specs.Prelude.{◌≡◌};
+ghost use Rattle.adr_failure.specs.declared.Failure.TheVariants.{Refused as refused};
+
+use adr_failure::Failure;
 use adr_schema::SchemaRefusal;
 use adr_stamp::Oid;
 use adr_vector::Mark;
@@ -69,6 +73,14 @@ pub enum WriteRefusal {
     Full { table: Table, limit: u64 },
     /// The controller showed a partner that its database was put back without a fresh identifier.
     Quarantined,
+}
+
+impl From<WriteRefusal> for Failure<WriteRefusal> {
+    ghost from_gives = { λ refusal e. e ≡ refused refusal };
+
+    fn from(refusal: WriteRefusal) -> Failure<WriteRefusal> {
+        Failure::Refused(refusal)
+    }
 }
 
 /// Why a request for changes was refused (MS-DRSR, GetNCChanges; the rules are this project's own).

@@ -10,7 +10,8 @@ use Rattle.adr_model.specs.Serve.{last_local}
 use Rattle.adr_model.specs.Change.{without_object}
 use Rattle.adr_model.specs.Formed.{AreAlone}
 use Rattle.adr_model.proofs.Members.{in_filter, of_filter}
-use Rattle.adr_law_knowledge.proofs.Comparing.{objects_tell, objects_same}
+use Rattle.adr_model.proofs.Keys.{objects_tell}
+use Rattle.adr_law_knowledge.proofs.Comparing.{objects_same}
 use Rattle.adr_law_logs.proofs.Units.{removals_from}
 use Rattle.adr_law_steps.proofs.Rows.{updated, held_as, row_by_unit}
 use Rattle.adr_law_steps.proofs.Locals.{same_last}

@@ -155,7 +155,7 @@ says_nothing : (w : World) (e : Event) (t : World × List Answer) → Each (λ (
 says_nothing w e t none a m usn is = absurd (none a m usn is)
 
 pub acknowledged_is_issued : AcknowledgedIsIssued
-acknowledged_is_issued w e usn sound may a m is = line_case (IsTrue w) w (λ f v b plain n h. absurd (plain_is_not b.outcome plain n h)) (λ f verb name what given wrote_it. wrote_by_name w f verb name what given wrote_it)
+acknowledged_is_issued w e sound may usn a m is = line_case (IsTrue w) w (λ f v b plain n h. absurd (plain_is_not b.outcome plain n h)) (λ f verb name what given wrote_it. wrote_by_name w f verb name what given wrote_it)
     (λ name request bind n h. absurd (served_no_usn w name (bound_at w.requests request) n h))
     (λ name reply n h. absurd (taken_no_usn w name (bound_at w.replies reply) n h))
     (λ name source max. says_nothing w (events.Pull name source max) (step w (events.Pull name source max)) (pull_so (λ v. Unit {0}) (λ v q. Unit {0}) (λ v r. Unit {0}) IsNoUsn calls_no_usn name source max w tt).1)

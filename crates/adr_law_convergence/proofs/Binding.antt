@@ -7,7 +7,7 @@ use Rattle.adr_event.specs.declared.answer.Outcome.TheVariants as outcomes
 use Rattle.adr_model.specs.Refused.{quarantined}
 use Rattle.adr_event.specs.declared.refusal.ServeRefusal.{ServeRefusal}
 use Rattle.adr_event.specs.declared.refusal.ServeRefusal.TheVariants as serves
-use Rattle.adr_model.specs.Member.{Member}
+use Rattle.adr_model.specs.Member.{Member, Each}
 use Rattle.adr_model.specs.Update.{Identifier}
 use Rattle.adr_model.specs.Place.{identifier}
 use Rattle.adr_model.specs.Store.{Kept, Store, no_mark, kept_of}
@@ -20,6 +20,7 @@ use Rattle.adr_law_logs.proofs.Tables.{each_found}
 use Rattle.adr_law_logs.proofs.Asked.{asked_is_sound}
 use Rattle.adr_law_logs.proofs.Granted.{served_is_sound, no_rollback}
 use Rattle.adr_law_knowledge.proofs.Refusing.{answered}
+use Rattle.adr_law_convergence.proofs.Beside.{beside_sound}
 use Rattle.adr_law_convergence.proofs.Found.{each_bound}
 use Rattle.adr_law_convergence.proofs.Reached.{made_case, up_case, reached_case}
 
@@ -95,95 +96,27 @@ module _ (w : World) (sound : IsSoundWorld w) where
 
   -- ---- what is bound
 
+  requests_are_sound : Each (λ (q : Name × Request). IsRequest q.1) w.requests
+  requests_are_sound q m = (sound.requests q m, sound.identifiers.requests q m)
+
+  replies_are_sound : Each (λ (r : Name × Reply). IsReply r.1) w.replies
+  replies_are_sound r m = (sound.replies r m, sound.identifiers.replies r m)
+
+  images_are_sound : Each (λ (i : Name × Store). IsImage i.1) w.images
+  images_are_sound i m = (sound.images i m, sound.identifiers.image_marks i m)
+
   pub requested : (name : Name) (o : Option Request) → ((q : Request) → o ≡ Some q → IsRequest q) → IsSoundWorld (record w { requests = bound w.requests name o })
-  requested name o all = record {
-    clean = sound.clean;
-    book = sound.book;
-    replicas = sound.replicas;
-    images = sound.images;
-    requests = each_bound (IsSoundRequest w.book) w.requests name o sound.requests (λ q e. (all q e).0);
-    replies = sound.replies;
-    identifiers = record {
-      names = sound.identifiers.names;
-      dsas = sound.identifiers.dsas;
-      invs = sound.identifiers.invs;
-      dsas_given = sound.identifiers.dsas_given;
-      invs_given = sound.identifiers.invs_given;
-      unused = sound.identifiers.unused;
-      marks = sound.identifiers.marks;
-      image_marks = sound.identifiers.image_marks;
-      requests = each_bound (λ q. IsGiven w q.inv) w.requests name o sound.identifiers.requests (λ q e. (all q e).1);
-      replies = sound.identifiers.replies;
-    };
-    normal = sound.normal;
-  }
+  requested name o all = beside_sound w (record w { requests = bound w.requests name o }) (λ i m. m) sound (λ i m. m)
+      (each_bound IsRequest w.requests name o requests_are_sound all) replies_are_sound images_are_sound
 
   pub replied : (name : Name) (o : Option Reply) → ((r : Reply) → o ≡ Some r → IsReply r) → IsSoundWorld (record w { replies = bound w.replies name o })
-  replied name o all = record {
-    clean = sound.clean;
-    book = sound.book;
-    replicas = sound.replicas;
-    images = sound.images;
-    requests = sound.requests;
-    replies = each_bound (IsSoundReply w.book) w.replies name o sound.replies (λ q e. (all q e).0);
-    identifiers = record {
-      names = sound.identifiers.names;
-      dsas = sound.identifiers.dsas;
-      invs = sound.identifiers.invs;
-      dsas_given = sound.identifiers.dsas_given;
-      invs_given = sound.identifiers.invs_given;
-      unused = sound.identifiers.unused;
-      marks = sound.identifiers.marks;
-      image_marks = sound.identifiers.image_marks;
-      requests = sound.identifiers.requests;
-      replies = each_bound (λ r. Member r.inv w.given.invs) w.replies name o sound.identifiers.replies (λ q e. (all q e).1);
-    };
-    normal = sound.normal;
-  }
+  replied name o all = beside_sound w (record w { replies = bound w.replies name o }) (λ i m. m) sound (λ i m. m)
+      requests_are_sound (each_bound IsReply w.replies name o replies_are_sound all) images_are_sound
 
   pub imaged : (name : Name) (o : Option Store) → ((s : Store) → o ≡ Some s → IsImage s) → IsSoundWorld (record w { images = bound w.images name o })
-  imaged name o all = record {
-    clean = sound.clean;
-    book = sound.book;
-    replicas = sound.replicas;
-    images = each_bound (IsSoundStore w.book) w.images name o sound.images (λ q e. (all q e).0);
-    requests = sound.requests;
-    replies = sound.replies;
-    identifiers = record {
-      names = sound.identifiers.names;
-      dsas = sound.identifiers.dsas;
-      invs = sound.identifiers.invs;
-      dsas_given = sound.identifiers.dsas_given;
-      invs_given = sound.identifiers.invs_given;
-      unused = sound.identifiers.unused;
-      marks = sound.identifiers.marks;
-      image_marks = each_bound (AreMarksGiven w) w.images name o sound.identifiers.image_marks (λ q e. (all q e).1);
-      requests = sound.identifiers.requests;
-      replies = sound.identifiers.replies;
-    };
-    normal = sound.normal;
-  }
+  imaged name o all = beside_sound w (record w { images = bound w.images name o }) (λ i m. m) sound (λ i m. m)
+      requests_are_sound replies_are_sound (each_bound IsImage w.images name o images_are_sound all)
 
   -- only the time and the snapshots change
   pub aside : (time : ℕ) (snapshots : List (Name × Snapshot)) → IsSoundWorld (record w { time = time; snapshots = snapshots })
-  aside time snapshots = record {
-    clean = sound.clean;
-    book = sound.book;
-    replicas = sound.replicas;
-    images = sound.images;
-    requests = sound.requests;
-    replies = sound.replies;
-    identifiers = record {
-      names = sound.identifiers.names;
-      dsas = sound.identifiers.dsas;
-      invs = sound.identifiers.invs;
-      dsas_given = sound.identifiers.dsas_given;
-      invs_given = sound.identifiers.invs_given;
-      unused = sound.identifiers.unused;
-      marks = sound.identifiers.marks;
-      image_marks = sound.identifiers.image_marks;
-      requests = sound.identifiers.requests;
-      replies = sound.identifiers.replies;
-    };
-    normal = sound.normal;
-  }
+  aside time snapshots = beside_sound w (record w { time = time; snapshots = snapshots }) (λ i m. m) sound (λ i m. m) requests_are_sound replies_are_sound images_are_sound

@@ -10,7 +10,7 @@ use Rattle.adr_model.specs.Replica.{Replica, on_new_disk, log_of, begun}
 use Rattle.adr_model.specs.Lengths.{new_log_end}
 use Rattle.adr_model.specs.World.{Name, World, Gone, with_replica, adopts}
 use Rattle.adr_model.specs.Step.{gives}
-use Rattle.adr_model.specs.Sound.{IsSoundBook, IsSoundStore, IsSoundState, IsGiven, AreMarksGiven, IsSoundWorld}
+use Rattle.adr_model.specs.Sound.{IsSoundBook, IsSoundStore, IsSoundState, AreMarksGiven, IsSoundWorld}
 use Rattle.adr_model.specs.Convergence.{IsNewName, IsNewDsa, IsNewInv}
 use Rattle.adr_model.proofs.Members.{member_left, member_right}
 use Rattle.adr_law_logs.specs.Later.{IsLater}
@@ -19,39 +19,21 @@ use Rattle.adr_law_logs.proofs.Empty.{new_is_sound}
 use Rattle.adr_law_logs.proofs.Woken.{adopted_is_woken, adopted_is_sound}
 use Rattle.adr_law_logs.proofs.Tables.{entry_other}
 use Rattle.adr_event.specs.declared.answer.Outcome.TheVariants as outcomes
+use Rattle.adr_law_convergence.proofs.Beside.{beside_sound, marks_still_given, still_given}
 use Rattle.adr_law_convergence.proofs.Reached.{within_case}
 use Rattle.adr_law_convergence.proofs.Replacing.{MayStand, OnlyLog, replaced, added}
 
--- what was given is so when more is given
-still_given : (w : World) (dsas invs : List Identifier) (i : Identifier) → IsGiven w i → IsGiven (gives w dsas invs) i
-still_given w dsas invs i (inl m) = inl (member_left w.given.invs invs i m)
-still_given w dsas invs i (inr e) = inr e
-
 pub given_sound : (w : World) (dsas invs : List Identifier) → IsSoundWorld w → IsSoundWorld (gives w dsas invs)
-given_sound w dsas invs sound = record {
-  clean = sound.clean;
-  book = sound.book;
-  replicas = sound.replicas;
-  images = sound.images;
-  requests = sound.requests;
-  replies = sound.replies;
-  identifiers = record {
-    names = sound.identifiers.names;
-    dsas = sound.identifiers.dsas;
-    invs = sound.identifiers.invs;
-    dsas_given = λ r m. member_left w.given.dsas dsas r.safe.dsa (sound.identifiers.dsas_given r m);
-    invs_given = λ r m. member_left w.given.invs invs r.safe.inv (sound.identifiers.invs_given r m);
-    unused = λ i not_given. sound.identifiers.unused i (λ m. not_given (member_left w.given.invs invs i m));
-    marks = λ r m. (marks r.safe.store (sound.identifiers.marks r m).0, marks r.read.store (sound.identifiers.marks r m).1);
-    image_marks = λ i m. marks i.1 (sound.identifiers.image_marks i m);
-    requests = λ q m. still_given w dsas invs q.1.inv (sound.identifiers.requests q m);
-    replies = λ r m. member_left w.given.invs invs r.1.inv (sound.identifiers.replies r m);
-  };
-  normal = sound.normal;
-}
+given_sound w dsas invs sound = beside_sound w v more sound (member_left w.given.dsas dsas)
+    (λ q m. (sound.requests q m, still_given w v more q.1.inv (sound.identifiers.requests q m)))
+    (λ r m. (sound.replies r m, more r.1.inv (sound.identifiers.replies r m)))
+    (λ i m. (sound.images i m, marks_still_given w v more i.1 (sound.identifiers.image_marks i m)))
   where
-    marks : (s : Store) → AreMarksGiven w s → AreMarksGiven (gives w dsas invs) s
-    marks s all k m = still_given w dsas invs k.1.inv (all k m)
+    v : World
+    v = gives w dsas invs
+
+    more : (i : Identifier) → Member i w.given.invs → Member i (w.given.invs ++ invs)
+    more = member_left w.given.invs invs
 
 module _ (w : World) (sound : IsSoundWorld w) (inv : Identifier) (new_inv : IsNewInv w inv) where
   abbrev given_more : List Identifier → World
@@ -97,7 +79,7 @@ module _ (w : World) (sound : IsSoundWorld w) (inv : Identifier) (new_inv : IsNe
   -- ---- a controller that is made of an image
 
   image_marks : (dsas : List Identifier) (image : Store) (dsa : Identifier) (s : State) → woken image dsa inv ≡ s → AreMarksGiven w image → AreMarksGiven (given_more dsas) s.store
-  image_marks dsas image dsa s is given k m = still_given w dsas (inv ∷ []) k.1.inv (given k (subst (λ (d : State). Member k d.store.marks) (sym is) m))
+  image_marks dsas image dsa s is given k m = still_given w (given_more dsas) (member_left w.given.invs (inv ∷ [])) k.1.inv (given k (subst (λ (d : State). Member k d.store.marks) (sym is) m))
 
   module _ (name : Name) (image : Store) (sound_image : IsSoundStore w.book image) (given_image : AreMarksGiven w image) where
     pub installed : (dsa : Identifier) → IsNewName w name → IsNewDsa w dsa

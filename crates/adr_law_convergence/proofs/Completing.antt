@@ -1,5 +1,5 @@
 -- A cycle with nothing in the way ends with the last reply, and carries everything, or says that there are more.
-use Rattle.std.proofs.Common.{◌≡◌, ◌≢◌, ◌⊎◌, inl, inr, ⊎_elim, ℕ, zero, suc, ◌≤◌, List, [], ◌++◌, Bool, true, false, cond, Option, Some, None, is_none, unwrap_or, refl, sym, ap, ◌∙◌, subst, arith, max, filter, length}
+use Rattle.std.proofs.Common.{◌≡◌, ◌≢◌, ◌⊎◌, inl, inr, ⊎_elim, ℕ, zero, suc, ◌+◌, ◌<◌, ◌≤◌, List, [], ◌++◌, Bool, true, false, cond, Option, Some, None, is_none, unwrap_or, refl, sym, ap, ◌∙◌, subst, arith, max, filter, length}
 use Rattle.std.specs.Prelude.{codes, nat_lt}
 use Rattle.std.specs.Str.{bytes_eq}
 use Rattle.adr_vector.specs.Vector.{Cursors, at, joined}
@@ -154,19 +154,26 @@ module _ (w v : World) (dest source : Name) (d s : Replica) (goes : Goes w v des
         idle = λ all. let t = c.idle (λ x m. keeps w v dest source d s goes most ok x (all x (of_server x m))) in let u = nothing_new all in (t.0 ∙ u.0, t.1 ∙ u.1);
       }
 
--- so many replies were taken, and there are more
-abbrev TookAll : ℕ → Name → List Answer → Type 0
-TookAll n dest told = (replies_taken told ≡ n) × Member (answer (codes "cycle") dest outcomes.More) told
+-- with one more reply there is still more than was taken
+further : (n : ℕ) (before after served : ℕ) → after + 1 ≤ before → 1 ≤ after → served ≡ after → (1 ≤ n → n < served) → suc n < before
+further zero before after served near some same more = omega (arith, near, some)
+further (suc n) before after served near some same more = let t = more (omega arith) in omega (arith, near, same, t)
+
+-- so many replies were taken, and there are more: each of them brought nearer to the end, and wasn't the last
+record TookAll (n : ℕ) (dest : Name) (d s : State) (told : List Answer) : Type 0 where
+  replies : replies_taken told ≡ n
+  units : 1 ≤ n → n < units_beyond d s
+  more : Member (answer (codes "cycle") dest outcomes.More) told
 
 -- what so many pulls come to, where no limit is met
 abbrev Goal : ℕ → World → Name → State → State → World × List Answer → Type 0
-Goal n w dest d s t = AreUnlimited t.1 → TookAll n dest t.1 ⊎ ((after : Replica) × Member after t.0.replicas × (after.name ≡ dest) × (after.safe.inv ≡ d.inv) × IsCompleted w d s t.1 after.safe)
+Goal n w dest d s t = AreUnlimited t.1 → TookAll n dest d s t.1 ⊎ ((after : Replica) × Member after t.0.replicas × (after.name ≡ dest) × (after.safe.inv ≡ d.inv) × IsCompleted w d s t.1 after.safe)
 
 unlimited_rest : (first rest : List Answer) → AreUnlimited (first ++ rest) → AreUnlimited rest
 unlimited_rest first rest none = (λ a m. none.0 a (member_right first rest a m), λ a m. none.1 a (member_right first rest a m))
 
 completes : (w : World) (dest source : Name) (most : ℕ) → 1 ≤ most → (fuel : ℕ) (v : World) (d s : Replica) → Goes w v dest source d s → Goal fuel w dest d.safe s.safe (pulls fuel v dest source most)
-completes w dest source most le zero v d s goes = λ none. inl (refl, inl refl)
+completes w dest source most le zero v d s goes = λ none. inl (record { replies = refl; units = λ one. omega (arith, one); more = inl refl })
 completes w dest source most le (suc fuel) v d s goes = by (λ x e f is. completes w dest source most le fuel x e f is) (taken_or_not w v dest source d s goes most)
   where
     r : Reply
@@ -193,7 +200,12 @@ completes w dest source most le (suc fuel) v d s goes = by (λ x e f is. complet
     was : Rest → (ok : Takes w v dest source d s goes most) → (o : Option Cursors) → r.last ≡ o → Goal (suc fuel) w dest d.safe s.safe (and_then (u, answers, is_none o) go)
     was rest ok (Some W) last none = inr (n, (there w v dest source d s goes most le ok).0, (there w v dest source d s goes most le ok).1, refl, done w v dest source d s goes most le ok W last)
     was rest ok None more none = ⊎_elim
-        (λ all. inl (let e : replies_taken (answers ++ (go u).1) ≡ suc (replies_taken (go u).1) = refl in e ∙ ap suc all.0, member_right answers (go u).1 (answer (codes "cycle") dest outcomes.More) all.1))
+        (λ all. inl (record {
+          replies = let e : replies_taken (answers ++ (go u).1) ≡ suc (replies_taken (go u).1) = refl in e ∙ ap suc all.replies;
+          units = λ one. let near = nearer_end w v dest source d s goes most le more in
+              further fuel (units_beyond d.safe s.safe) (units_beyond n.safe s.safe) (units_beyond n.safe z.safe) near.0 near.1 (units_are w v dest source d s goes most le ok) all.units;
+          more = member_right answers (go u).1 (answer (codes "cycle") dest outcomes.More) all.more;
+        }))
         (λ t. inr (t.0, t.1, t.2, t.3, onward w v dest source d s goes most le ok more (go u).1 t.0.safe t.3 t.4))
         (rest u n z (goes_on w v dest source d s goes most ok) (unlimited_rest answers (go u).1 none))
 
@@ -209,7 +221,7 @@ pub found_by_name : (w : World) (r : Replica) → IsSoundWorld w → Member r w.
 found_by_name w r sound m = found (λ (x : Replica). bytes_eq x.name r.name) w.replicas r m (same_name_tests r.name r.name refl) (λ x n is. sound.identifiers.names x n r m (same_name x.name r.name is))
 
 pub cycle_ends : CycleEnds
-cycle_ends w dest source most sound may le unlimited = ⊎_elim (λ all. inl (record { replies = all.0; more = all.1 })) (λ t. inr (t.0, t.1, t.2, t.4)) (completes w dest.name source.name most le reply_limit w dest source goes unlimited)
+cycle_ends w dest source most sound may le unlimited = ⊎_elim (λ all. inl (record { replies = all.replies; units = all.units (omega arith); more = all.more })) (λ t. inr (t.0, t.1, t.2, t.4)) (completes w dest.name source.name most le reply_limit w dest source goes unlimited)
   where
     goes : Goes w w dest.name source.name dest source
     goes = record {

@@ -58,5 +58,5 @@ module _ (before after : List Event) (e : Event) (may : MayAllHappen empty_world
 
 pub acknowledged_stays_in_view : AcknowledgedStaysInView
 acknowledged_stays_in_view before after e usn may clean a m is =
-    let k = acknowledged_is_issued (w before after e may clean) e usn (sound_before before after e may clean) (parts before after e may clean).1 a m is in
+    let k = acknowledged_is_issued (w before after e may clean) e (sound_before before after e may clean) (parts before after e may clean).1 usn a m is in
     (k, stays_in_view before after e may clean (step (w before after e may clean) e).0 (from_line before after e may clean) usn k)

@@ -7,8 +7,7 @@ use Rattle.std.proofs.lemmas.Slice.Eq.{bytes_eq-Decides}
 use Rattle.adr_model.specs.Member.{Member, Each}
 use Rattle.adr_model.specs.Replica.{Replica}
 use Rattle.adr_model.specs.World.{Name, World, bound_at, bound, replica_at, with_replica}
-use Rattle.adr_model.proofs.Members.{mapped_member, member_mapped, member_of_either}
-use Rattle.adr_law_knowledge.proofs.Lists.{found_member}
+use Rattle.adr_model.proofs.Members.{mapped_member, member_mapped, member_of_either, found_member}
 
 pub same_name : (a b : Name) → bytes_eq a b ≡ true → a ≡ b
 same_name a b h = (bytes_eq-Decides a b).0 h

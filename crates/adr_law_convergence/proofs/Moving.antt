@@ -149,17 +149,7 @@ module _ (P : Identifier → Type 0) (sc : Book) (r : Replica) (book : IsSoundBo
     begins_or_not false = stays_so Failed (inl settled)
 
     begins_and_forgets : HasMoved P sc r (fold moved (sc, r) (Begin p ∷ Forget ∷ [])) Down
-    begins_and_forgets = record {
-      later = later_itself sc;
-      book = book;
-      only = λ i other. refl;
-      sound = record { safe = sound.safe; read = inl (refl, refl) };
-      name = refl;
-      dsa = refl;
-      inv = refl;
-      marks = (marks.0, marks.0);
-      normal = normal;
-    }
+    begins_and_forgets = forgets Down
 
     pub commit_moves : (g : Went) → HasMoved P sc r (fold moved (sc, r) (moves_of_commit p g)) (standing_after Failed g)
     commit_moves (Passed left) = settled_so p is (log_end_after r.safe_end p.change) Up given

@@ -7,7 +7,7 @@ use Rattle.std.specs.Prelude.{nat_lt, length}
 use Rattle.std.proofs.lemmas.Bool.{and_parts, not-true, le-ltb, eq-eqb}
 use Rattle.std.proofs.lemmas.Bool.Decides.{nat_tests}
 use Rattle.adr_stamp.specs.Order.{identifier_order}
-use Rattle.adr_vector.specs.Vector.{at, at_most, first_gap, most_cursors}
+use Rattle.adr_vector.specs.Vector.{at, at_most, first_gap, cursor_limit}
 use Rattle.adr_vector.specs.declared.mark.Mark.{Mark}
 use Rattle.adr_vector.proofs.Cursors.{test_itself}
 use Rattle.adr_vector.proofs.Comparing.{at_most_from_everywhere}
@@ -17,7 +17,8 @@ use Rattle.adr_event.specs.declared.refusal.Table.TheVariants.{Objects, Links, M
 use Rattle.adr_event.specs.declared.refusal.TakeRefusal.{TakeRefusal}
 use Rattle.adr_event.specs.declared.refusal.TakeRefusal.TheVariants as takes
 use Rattle.adr_model.specs.Member.{Member}
-use Rattle.adr_model.specs.Refusing.{first_of, unless}
+use Rattle.adr_failure.specs.First.{first_of}
+use Rattle.adr_model.specs.Refusing.{unless}
 use Rattle.adr_model.specs.Update.{Update, unit_of, same_identifier}
 use Rattle.adr_model.specs.Reflects.{Covers}
 use Rattle.adr_model.specs.Visible.{covers_update}
@@ -97,7 +98,7 @@ module _ (sc : Book) (d s : State) (most : ℕ) (book : IsSoundBook sc) (dest : 
       then_some (nat_lt usn_limit t.usn) takes.UsnLimit
       ∷ passes Objects object_limit t.objects
       ∷ passes Links link_limit t.links
-      ∷ passes CursorTable most_cursors (length (after d c).store.vector)
+      ∷ passes CursorTable cursor_limit (length (after d c).store.vector)
       ∷ passes Marks mark_limit (length (after d c).store.marks)
       ∷ []
 
@@ -129,7 +130,7 @@ module _ (sc : Book) (d s : State) (most : ℕ) (book : IsSoundBook sc) (dest : 
       (
         tested_is IsLimit _ (takes.Full Links link_limit) (inr (Links, link_limit, refl)),
         (
-          tested_is IsLimit _ (takes.Full CursorTable most_cursors) (inr (CursorTable, most_cursors, refl)),
+          tested_is IsLimit _ (takes.Full CursorTable cursor_limit) (inr (CursorTable, cursor_limit, refl)),
           (tested_is IsLimit _ (takes.Full Marks mark_limit) (inr (Marks, mark_limit, refl)), tt),
         ),
       ),

@@ -1,50 +1,19 @@
 -- The orders of keys and of stamps: total, and equal only for the same.
 use Rattle.std.proofs.Common.{◌≡◌, ◌<◌, ◌⊎◌, inl, inr, ℕ, Bool, true, false, refl, sym, ap, ◌∙◌, subst, not, ◌&&◌}
 use Rattle.std.proofs.lemmas.Bool.{and_from}
-use Rattle.std.specs.Cmp.{IsTotalOrder, nat_cmp_is}
+use Rattle.std.specs.Cmp.{nat_cmp_is}
 use Rattle.std.specs.Ordering.{ordering_reverse, ordering_then, is_eq, is_lt, is_gt, nat_cmp}
 use Rattle.std.specs.declared.cmp.Ordering.{Ordering}
 use Rattle.std.specs.declared.cmp.Ordering.TheVariants.{Less, Equal, Greater}
-use Rattle.std.proofs.lemmas.Cmp.{tied_itself, upto, nat_cmp_total, on_total, then_total}
+use Rattle.std.proofs.lemmas.Cmp.{tied_itself, upto, nat_cmp_total}
 use Rattle.adr_stamp.specs.declared.Oid.{Oid}
-use Rattle.adr_stamp.specs.Order.{identifier_order, object_order, stamp_order, link_stamp_order}
+use Rattle.adr_stamp.specs.Order.{identifier_order, stamp_order, link_stamp_order}
 use Rattle.adr_stamp.specs.contracts.OidOrd.TheImpl.Laws.{total-law as objects_total}
-use Rattle.adr_stamp.specs.contracts.LinkKeyOrd.TheImpl.Laws.{total-law as links_total}
 use Rattle.adr_stamp.specs.contracts.LinkStampOrd.TheImpl.Laws.{total-law as link_stamps_total}
-use Rattle.adr_stamp.proofs.Exact.{exact_objects, exact_link_stamps}
-use Rattle.adr_model.specs.Update.{Key, RowOf, LinkOf, Update, key_order, same_key, same_object, is_older, at_least}
+use Rattle.adr_stamp.proofs.Exact.{exact_link_stamps}
+use Rattle.adr_model.specs.Update.{Key, Update, key_order, same_key, same_object, is_older, at_least}
 use Rattle.adr_model.specs.Reflects.{Supersedes}
-use Rattle.adr_model.proofs.Keys.{equal_order, exact_keys}
-
--- rows' keys by object and then by attribute
-rows_total : IsTotalOrder (λ (x y : Oid × ℕ). ordering_then (object_order x.0 y.0) (nat_cmp x.1 y.1))
-rows_total = then_total (on_total (λ (x : Oid × ℕ). x.0) objects_total) (on_total (λ (x : Oid × ℕ). x.1) nat_cmp_total)
-
-either_way : (x y : Key) → key_order x y ≡ ordering_reverse (key_order y x)
-either_way (RowOf o a) (RowOf p b) = rows_total.antisymm (o, a) (p, b)
-either_way (RowOf o a) (LinkOf l) = refl
-either_way (LinkOf k) (RowOf p b) = refl
-either_way (LinkOf k) (LinkOf l) = links_total.antisymm k l
-
-onward : (x y z : Key) → key_order x y ≡ Less → key_order y z ≡ Less → key_order x z ≡ Less
-onward (RowOf o a) (RowOf p b) (RowOf q c) e f = rows_total.trans (o, a) (p, b) (q, c) e f
-onward (RowOf o a) (RowOf p b) (LinkOf l) e f = refl
-onward (RowOf o a) (LinkOf k) (RowOf q c) e f = cc
-onward (RowOf o a) (LinkOf k) (LinkOf l) e f = refl
-onward (LinkOf k) (RowOf p b) z e f = cc
-onward (LinkOf k) (LinkOf l) (RowOf q c) e f = cc
-onward (LinkOf k) (LinkOf l) (LinkOf m) e f = links_total.trans k l m e f
-
-tied : (x y z : Key) → key_order x y ≡ Equal → key_order x z ≡ key_order y z
-tied (RowOf o a) (RowOf p b) (RowOf q c) e = rows_total.congr (o, a) (p, b) (q, c) e
-tied (RowOf o a) (RowOf p b) (LinkOf l) e = refl
-tied (RowOf o a) (LinkOf l) z e = cc
-tied (LinkOf k) (RowOf p b) z e = cc
-tied (LinkOf k) (LinkOf l) (RowOf q c) e = refl
-tied (LinkOf k) (LinkOf l) (LinkOf m) e = links_total.congr k l m e
-
-pub keys_total : IsTotalOrder key_order
-keys_total = record { antisymm = either_way; trans = onward; congr = tied }
+use Rattle.adr_model.proofs.Keys.{equal_order, exact_keys, keys_total}
 
 pub keys_tell : (k l : Key) → same_key k l ≡ true → k ≡ l
 keys_tell k l e = exact_keys k l (equal_order (key_order k l) e)
@@ -54,9 +23,6 @@ same_as_itself k = ap is_eq (tied_itself keys_total k)
 
 pub same_where_equal : (k l : Key) → k ≡ l → same_key k l ≡ true
 same_where_equal k l e = subst (λ m. same_key k m ≡ true) e (same_as_itself k)
-
-pub objects_tell : (o p : Oid) → same_object o p ≡ true → o ≡ p
-objects_tell o p e = exact_objects o p (equal_order (object_order o p) e)
 
 pub objects_same : (o p : Oid) → o ≡ p → same_object o p ≡ true
 objects_same o p e = subst (λ q. same_object o q ≡ true) e (ap is_eq (tied_itself objects_total o))

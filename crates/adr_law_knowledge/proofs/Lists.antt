@@ -1,6 +1,6 @@
 -- Lists that rise in an order: what is filtered of them rises, and their members alone tell them apart.
-use Rattle.std.proofs.Common.{◌≡◌, ◌⊎◌, inl, inr, ⊎_elim, List, [], ◌∷◌, Bool, true, false, cond, ◌&&◌, ◌||◌, Option, Some, None, refl, sym, ap, ◌∙◌, subst, filter, find, fold, filter_map, ◌++◌, append-nil}
-use Rattle.std.specs.List.{list_any, list_all, cons_option}
+use Rattle.std.proofs.Common.{◌≡◌, ◌⊎◌, inl, inr, ⊎_elim, List, [], ◌∷◌, Bool, true, false, cond, ◌||◌, Option, Some, None, refl, sym, ap, ◌∙◌, subst, filter, fold, filter_map, ◌++◌, append-nil}
+use Rattle.std.specs.List.{list_any, cons_option}
 use Rattle.std.specs.Ordering.{match_ordering}
 use Rattle.std.specs.declared.cmp.Ordering.{Ordering}
 use Rattle.std.specs.declared.cmp.Ordering.TheVariants.{Less, Equal, Greater}
@@ -9,7 +9,7 @@ use Rattle.std.specs.Cmp.{IsTotalOrder}
 use Rattle.std.proofs.lemmas.Cmp.{tied_itself}
 use Rattle.std.proofs.lemmas.Map.Lookups.{CmpEqualImpliesEq}
 use Rattle.adr_model.specs.Member.{Member, Each}
-use Rattle.adr_model.proofs.Members.{of_filter}
+use Rattle.adr_model.proofs.Members.{of_filter, of_filter_map}
 use Rattle.adr_law_knowledge.specs.Rises.{Rises}
 
 module _ {A : Type 0} where
@@ -31,54 +31,6 @@ module _ {A : Type 0} where
   same_any test other [] same = refl
   same_any test other (x ∷ xs) same =
       ap (λ b. b || list_any test xs) (same x (inl refl)) ∙ ap (λ b. other x || b) (same_any test other xs (λ y m. same y (inr m)))
-
-  pub some_passes : (test : A → Bool) (xs : List A) → list_any test xs ≡ true → (x : A) × Member x xs × (test x ≡ true)
-  some_passes test [] any = cc
-  some_passes test (y ∷ ys) any = by (test y) refl any (some_passes test ys)
-    where
-      by : (b : Bool) → test y ≡ b → (b || list_any test ys) ≡ true → (list_any test ys ≡ true → (x : A) × Member x ys × (test x ≡ true)) → (x : A) × Member x (y ∷ ys) × (test x ≡ true)
-      by true is any rest = (y, inl refl, is)
-      by false is any rest = let t = rest any in (t.0, inr t.1, t.2)
-
-  pub found_member : (test : A → Bool) (xs : List A) (x : A) → find test xs ≡ Some x → Member x xs × (test x ≡ true)
-  found_member test [] x e = absurd (cc)
-  found_member test (y ∷ ys) x e = by (test y) refl e (found_member test ys x)
-    where
-      by : (b : Bool) → test y ≡ b → cond b (Some y) (find test ys) ≡ Some x → (find test ys ≡ Some x → Member x ys × (test x ≡ true)) → Member x (y ∷ ys) × (test x ≡ true)
-      by true is h rest = let same : x ≡ y = cc in (inl same, ap test same ∙ is)
-      by false is h rest = let t = rest h in (inr t.0, t.1)
-
-  pub all_pass : (test : A → Bool) (xs : List A) → Each (λ x. test x ≡ true) xs → list_all test xs ≡ true
-  all_pass test [] pass = refl
-  all_pass test (x ∷ xs) pass = ap (λ b. b && list_all test xs) (pass x (inl refl)) ∙ all_pass test xs (λ y m. pass y (inr m))
-
-  pub each_passes : (test : A → Bool) (xs : List A) → list_all test xs ≡ true → Each (λ x. test x ≡ true) xs
-  each_passes test [] all x m = absurd m
-  each_passes test (y ∷ ys) all x m = by (test y) refl all m (λ rest n. each_passes test ys rest x n)
-    where
-      by : (b : Bool) → test y ≡ b → (b && list_all test ys) ≡ true → Member x (y ∷ ys) → (list_all test ys ≡ true → Member x ys → test x ≡ true) → test x ≡ true
-      by true is all (inl e) rest = ap test e ∙ is
-      by true is all (inr n) rest = rest all n
-      by false is all n rest = cc
-
-module _ {A B : Type 0} where
-  pub in_filter_map : (h : A → Option B) (xs : List A) (x : A) (y : B) → Member x xs → h x ≡ Some y → Member y (filter_map h xs)
-  in_filter_map h [] x y m is = absurd m
-  in_filter_map h (z ∷ zs) x y (inl e) is = subst (λ o. Member y (cons_option o (filter_map h zs))) (sym is ∙ ap h e) (inl refl)
-  in_filter_map h (z ∷ zs) x y (inr m) is = by (h z) (in_filter_map h zs x y m is)
-    where
-      by : (o : Option B) → Member y (filter_map h zs) → Member y (cons_option o (filter_map h zs))
-      by None rest = rest
-      by (Some w) rest = inr rest
-
-  pub of_filter_map : (h : A → Option B) (xs : List A) (y : B) → Member y (filter_map h xs) → (x : A) × Member x xs × (h x ≡ Some y)
-  of_filter_map h [] y m = absurd m
-  of_filter_map h (z ∷ zs) y m = by (h z) refl m (of_filter_map h zs y)
-    where
-      by : (o : Option B) → h z ≡ o → Member y (cons_option o (filter_map h zs)) → (Member y (filter_map h zs) → (x : A) × Member x zs × (h x ≡ Some y)) → (x : A) × Member x (z ∷ zs) × (h x ≡ Some y)
-      by None is n rest = let t = rest n in (t.0, inr t.1, t.2)
-      by (Some w) is (inl e) rest = (z, inl refl, is ∙ ap Some (sym e))
-      by (Some w) is (inr n) rest = let t = rest n in (t.0, inr t.1, t.2)
 
 module _ {A : Type 0} (R : A → A → Ordering) where
   pub filter_rises : (test : A → Bool) (xs : List A) → Rises R xs → Rises R (filter test xs)

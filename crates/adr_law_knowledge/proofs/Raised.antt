@@ -2,7 +2,7 @@
 use Rattle.std.proofs.Common.{◌≡◌, ℕ, ◌≤◌, Bool, true, false, cond, max, refl, ap, length, arith}
 use Rattle.std.specs.Ordering.{is_eq}
 use Rattle.adr_stamp.specs.Order.{identifier_order}
-use Rattle.adr_vector.specs.Vector.{Cursors, IsVector, at, raised, most_cursors}
+use Rattle.adr_vector.specs.Vector.{Cursors, IsVector, at, raised, cursor_limit}
 use Rattle.adr_vector.proofs.Cursors.{same_from_test}
 use Rattle.adr_vector.proofs.Joining.{at-raised, rising-raised, from_one-raised}
 use Rattle.adr_model.specs.Update.{Identifier}
@@ -21,7 +21,7 @@ module _ (v : Cursors) (inv : Identifier) (usn : ℕ) where
       by true is e = let same : i ≡ inv = same_from_test i inv is in omega (arith, own same, ap (at v) same)
       by false is e = omega (arith, le, e)
 
-  pub raised_is_vector : IsVector v → length (raised v inv usn) ≤ most_cursors → IsVector (raised v inv usn)
+  pub raised_is_vector : IsVector v → length (raised v inv usn) ≤ cursor_limit → IsVector (raised v inv usn)
   raised_is_vector is few = record { rising = rising-raised v inv usn is.rising; from_one = from_one-raised v inv usn is.from_one; few = few }
 
   -- it gets no further cursor where there is one at the identifier

@@ -9,7 +9,8 @@ use Rattle.adr_schema.proofs.ExactCalls.{not_then}
 use Rattle.adr_vector.specs.Vector.{Cursors, at_most, first_gap}
 use Rattle.adr_vector.proofs.Comparing.{gap-is-not_at_most}
 use Rattle.adr_model.specs.Member.{Each}
-use Rattle.adr_model.specs.Refusing.{first_of, unless}
+use Rattle.adr_failure.specs.First.{first_of}
+use Rattle.adr_model.specs.Refusing.{unless}
 
 module _ {A : Type 0} where
   -- where none comes first there is none

@@ -12,12 +12,12 @@ use Rattle.adr_model.specs.Reflects.{AtMost, IsDeathOf, Knowledge, HoldsAtLeast,
 use Rattle.adr_model.specs.Winner.{winner, winners}
 use Rattle.adr_model.specs.Live.{standing, yields_to, unyielding, live, is_among, live_rows}
 use Rattle.adr_model.specs.Directory.{directory, entries_of}
-use Rattle.adr_model.proofs.Keys.{exact_keys}
+use Rattle.adr_model.proofs.Keys.{exact_keys, keys_total, objects_tell}
 use Rattle.adr_law_knowledge.specs.Known.{HasOneContent, IsInView}
 use Rattle.adr_law_knowledge.specs.Stands.{Stands}
-use Rattle.adr_law_knowledge.proofs.Comparing.{keys_total, objects_tell, not_older_trans}
-use Rattle.adr_model.proofs.Members.{of_filter, in_filter}
-use Rattle.adr_law_knowledge.proofs.Lists.{same_filter, same_any, some_passes, each_passes, filter_rises, same_members_one_list, not_both_ways}
+use Rattle.adr_law_knowledge.proofs.Comparing.{not_older_trans}
+use Rattle.adr_model.proofs.Members.{of_filter, in_filter, some_passes, each_passes}
+use Rattle.adr_law_knowledge.proofs.Lists.{same_filter, same_any, filter_rises, same_members_one_list, not_both_ways}
 use Rattle.adr_law_knowledge.proofs.Knows.{covers_up, end_of_row, death_reflected, standing_is_held}
 use Rattle.adr_law_knowledge.proofs.Winners.{Won, is_won, winner_is, of_winners, in_winners, by_key, winners_rise}
 use Rattle.adr_law_knowledge.proofs.Standing.{of_standing, in_standing, standing_rises}

@@ -10,11 +10,11 @@ use Rattle.adr_model.specs.Member.{Member, Each}
 use Rattle.adr_model.specs.Update.{Key, RowOf, LinkOf, Update, class_attr, deleted_attr, is_death_of}
 use Rattle.adr_model.specs.Reflects.{IsDeathOf}
 use Rattle.adr_model.specs.Live.{born, objects_of, standing}
-use Rattle.adr_model.proofs.Members.{none_passes, each_fails, of_filter, in_filter}
+use Rattle.adr_model.proofs.Members.{none_passes, each_fails, of_filter, in_filter, of_filter_map, in_filter_map}
 use Rattle.adr_law_knowledge.specs.Stands.{Stands}
 use Rattle.adr_law_knowledge.specs.Rises.{Rises}
 use Rattle.adr_law_knowledge.proofs.Comparing.{keys_tell, same_where_equal}
-use Rattle.adr_law_knowledge.proofs.Lists.{of_filter_map, in_filter_map, filter_rises, sorted_rises, of_sorted, in_sorted}
+use Rattle.adr_law_knowledge.proofs.Lists.{filter_rises, sorted_rises, of_sorted, in_sorted}
 use Rattle.adr_law_knowledge.proofs.Counting.{no_longer}
 
 birth_key : (k : Key) (o : Oid) → born k ≡ Some o → k ≡ RowOf o class_attr

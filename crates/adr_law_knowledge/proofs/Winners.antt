@@ -4,12 +4,12 @@ use Rattle.std.specs.declared.cmp.Ordering.{Ordering}
 use Rattle.adr_model.specs.Member.{Member, Each}
 use Rattle.adr_model.specs.Update.{Key, Update, same_key, key_order, is_older}
 use Rattle.adr_model.specs.Winner.{or_younger, younger, winner, winners, keys_of}
-use Rattle.adr_model.proofs.Keys.{exact_keys}
-use Rattle.adr_model.proofs.Members.{member_mapped}
+use Rattle.adr_model.proofs.Keys.{exact_keys, keys_total}
+use Rattle.adr_model.proofs.Members.{member_mapped, of_filter_map, in_filter_map}
 use Rattle.adr_law_knowledge.specs.Known.{HasOneContent}
 use Rattle.adr_law_knowledge.specs.Rises.{Rises}
-use Rattle.adr_law_knowledge.proofs.Comparing.{keys_total, keys_tell, same_where_equal, not_older_trans, not_older_self, older_one_way, neither_older}
-use Rattle.adr_law_knowledge.proofs.Lists.{of_filter_map, in_filter_map, filter_map_rises, sorted_rises, in_sorted}
+use Rattle.adr_law_knowledge.proofs.Comparing.{keys_tell, same_where_equal, not_older_trans, not_older_self, older_one_way, neither_older}
+use Rattle.adr_law_knowledge.proofs.Lists.{filter_map_rises, sorted_rises, in_sorted}
 
 abbrev pub Won : List Update → Key → Option Update → Type 0
 Won us key None = Each (λ v. v.key ≡ key → ⊥) us

@@ -20,8 +20,10 @@ pub fn stamps_decide()
     ensures itself { (u : Update) → Supersedes u u }
     ensures onward { (u v w : Update) → Supersedes u v → Supersedes v w → Supersedes u w }
     ensures either { (u v : Update) → u.key ≡ v.key → Supersedes u v ⊎ Supersedes v u }
-    ensures next { (u v : Update) → u.key ≡ v.key → u.stamp.created ≡ v.stamp.created → u.stamp.stamp.version < v.stamp.stamp.version → Supersedes v u × (is_older u v ≡ true) }
-    ensures one { (issued : List Update) → HasOneContent issued → (u v : Update) → Member u issued → Member v issued → Supersedes u v → Supersedes v u → u ≡ v }
+    ensures next { (u v : Update) → u.key ≡ v.key → u.stamp.created ≡ v.stamp.created
+        → u.stamp.stamp.version < v.stamp.stamp.version → Supersedes v u × (is_older u v ≡ true) }
+    ensures one { (issued : List Update) → HasOneContent issued → (u v : Update) → Member u issued
+        → Member v issued → Supersedes u v → Supersedes v u → u ≡ v }
 {}
 
 /// The tests say what the facts say.

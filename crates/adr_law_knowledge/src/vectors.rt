@@ -21,6 +21,8 @@ pub fn vectors_grow()
     ensures raised_elsewhere { (v : Cursors) (i j : Identifier) (usn : ℕ) → j ≢ i → at (raised v i usn) j ≡ at v j }
     ensures raised { (v : Cursors) (i : Identifier) (usn : ℕ) → AtMost (at v) (at (raised v i usn)) }
     ensures joined_at { (v w : Cursors) (i : Identifier) → IsVector w → at (joined v w) i ≡ max (at v i) (at w i) }
-    ensures joined { (v w : Cursors) → IsVector w → AtMost (at v) (at (joined v w)) × AtMost (at w) (at (joined v w)) }
-    ensures least { (v w : Cursors) (x : Numbers) → IsVector w → AtMost (at v) x → AtMost (at w) x → AtMost (at (joined v w)) x }
+    ensures joined { (v w : Cursors) → IsVector w
+        → AtMost (at v) (at (joined v w)) × AtMost (at w) (at (joined v w)) }
+    ensures least { (v w : Cursors) (x : Numbers) → IsVector w → AtMost (at v) x → AtMost (at w) x
+        → AtMost (at (joined v w)) x }
 {}

@@ -1,33 +1,22 @@
 -- What it means that a request is served, and that none shows a rollback.
-use Rattle.std.proofs.Common.{◌≡◌, ◌≢◌, Bool, Err, inl, inr, ℕ, ◌≤◌, List, [], ◌∷◌, true, false, Option, None, Ok, refl, subst, arith, not, ◌&&◌, ◌==◌}
+use Rattle.std.proofs.Common.{◌≡◌, ◌≢◌, Bool, Err, inl, inr, ℕ, ◌≤◌, List, true, false, None, Ok, refl, subst, arith}
 use Rattle.std.specs.Bool.{then_some}
 use Rattle.std.proofs.lemmas.Bool.{true≢false, le-ltb}
 use Rattle.std.specs.List.{AllByRecursion}
 use Rattle.std.specs.Option.{IfSome, option_map}
-use Rattle.std.specs.Prelude.{nat_lt, nat_le}
+use Rattle.std.specs.Prelude.{nat_lt}
 use Rattle.adr_vector.specs.Vector.{at_most, first_gap}
 use Rattle.adr_event.specs.declared.refusal.ServeRefusal.{ServeRefusal}
 use Rattle.adr_event.specs.declared.refusal.ServeRefusal.TheVariants.{Quarantined as IsQuarantined, WrongController, BadMark, RolledBack, SchemaMismatch, TooOld}
-use Rattle.adr_model.specs.Update.{same_identifier}
 use Rattle.adr_model.specs.Store.{State}
-use Rattle.adr_model.specs.Serve.{Request, Reply, is_quarantined, shown_by, serve_refusal, reply_to, serve}
+use Rattle.adr_model.specs.Serve.{Request, Reply, shown_by, serve_refusals, serve_refusal, reply_to, serve}
 use Rattle.adr_model.specs.Replica.{Book}
 use Rattle.adr_model.specs.Sound.{IsSoundBook, IsSoundState, IsSoundRequest, IsSoundReply}
 use Rattle.adr_law_knowledge.proofs.Refusing.{none_there, unmet, where_it_is, none_is, all_is, tested_is, answered, refused_by, mapped_is, no_gap}
 use Rattle.adr_law_logs.proofs.Served.{begins, reply_is_sound}
 
-abbrev refusals : State → Request → List (Option ServeRefusal)
-refusals s q =
-    then_some (is_quarantined s.mode) IsQuarantined
-    ∷ then_some (not (same_identifier q.source s.dsa)) (WrongController s.dsa q.source)
-    ∷ then_some (not (nat_le q.mark.prop q.mark.obj && nat_le q.mark.obj q.mark.seen)) (BadMark q.mark.prop q.mark.obj q.mark.seen)
-    ∷ then_some (nat_lt s.store.usn (shown_by s q)) (RolledBack s.inv s.store.usn (shown_by s q))
-    ∷ then_some (not (q.schema == s.store.schema)) (SchemaMismatch s.store.schema q.schema)
-    ∷ option_map (λ gap. TooOld gap.0 gap.2 gap.1) (first_gap s.store.purged q.vector)
-    ∷ []
-
 nothing_lacks : (s : State) (q : Request) → serve_refusal s q ≡ None → at_most s.store.purged q.vector ≡ true
-nothing_lacks s q h = no_gap (λ gap. TooOld gap.0 gap.2 gap.1) s.store.purged q.vector (none_there (refusals s q) h _ (inr (inr (inr (inr (inr (inl refl)))))))
+nothing_lacks s q h = no_gap (λ gap. TooOld gap.0 gap.2 gap.1) s.store.purged q.vector (none_there (serve_refusals s q) h _ (inr (inr (inr (inr (inr (inl refl)))))))
 
 pub served_is_sound : (sc : Book) (s : State) (q : Request) (r : Reply) → IsSoundBook sc → IsSoundState sc s → IsSoundRequest sc q → serve s q ≡ Ok r → IsSoundReply sc r
 served_is_sound sc s q r book state request e = subst (IsSoundReply sc) t.1 (reply_is_sound sc s q book state request (nothing_lacks s q t.0))
@@ -48,9 +37,9 @@ module _ (P : ServeRefusal → Type 0) (s : State) (q : Request) where
       → P (SchemaMismatch s.store.schema q.schema)
       → IfSome (option_map (λ gap. TooOld gap.0 gap.2 gap.1) (first_gap s.store.purged q.vector)) P
       → (x : ServeRefusal) → serve s q ≡ Err x → P x
-  serve_refusal_is quarantined wrong mark rolled_back schema old x e = where_it_is P (serve_refusal s q) x (all_is P (refusals s q) each) (refused_by (serve_refusal s q) (reply_to s q) x e)
+  serve_refusal_is quarantined wrong mark rolled_back schema old x e = where_it_is P (serve_refusal s q) x (all_is P (serve_refusals s q) each) (refused_by (serve_refusal s q) (reply_to s q) x e)
     where
-      each : AllByRecursion (λ o. IfSome o P) (refusals s q)
+      each : AllByRecursion (λ o. IfSome o P) (serve_refusals s q)
       each = (
         tested_is P _ IsQuarantined quarantined,
         (

@@ -8,7 +8,7 @@ use Rattle.std.proofs.lemmas.Bool.{or_parts, ltb-false, le-leb}
 use Rattle.adr_stamp.specs.Order.{identifier_order}
 use Rattle.adr_stamp.specs.declared.Oid.{Oid}
 use Rattle.adr_schema.proofs.ExactCalls.{not_then}
-use Rattle.adr_vector.specs.Vector.{at, raised, most_cursors}
+use Rattle.adr_vector.specs.Vector.{at, raised, cursor_limit}
 use Rattle.adr_vector.proofs.Cursors.{same_from_test}
 use Rattle.adr_vector.proofs.Comparing.{everywhere_from_at_most, at_most_from_everywhere}
 use Rattle.adr_vector.proofs.Joining.{at-raised, raised_here}
@@ -64,7 +64,7 @@ unborn image inv none u m o n = each_fails (is_of inv) (ends u.key) ends_none o 
     ends_none = subst (λ (v : Update). list_any (is_of inv) (ends v.key) ≡ false) (sym t.2) (or_parts (same_identifier (inv_of t.0.update) inv) (list_any (is_of inv) (ends t.0.update.key)) row_none).1
 
 module _ (sc : Book) (image : Store) (dsa inv : Identifier) (book : IsSoundBook sc) (sound : IsSoundStore sc image) (fresh : log_of sc inv ≡ no_log)
-    (unnamed : names_inv image inv ≡ false) (few : length (raised image.vector inv image.usn) ≤ most_cursors) where
+    (unnamed : names_inv image inv ≡ false) (few : length (raised image.vector inv image.usn) ≤ cursor_limit) where
   abbrev d : State
   d = woken image dsa inv
 
@@ -171,14 +171,14 @@ pub adopted_is_sound : (sc : Book) (image : Store) (dsa inv : Identifier) (s : S
     → IsLater sc (begun sc s) × (IsSoundBook (begun sc s) × IsSoundState (begun sc s) s)
 adopted_is_sound sc image dsa inv s book sound fresh e = subst (λ (z : State). IsLater sc (begun sc z) × (IsSoundBook (begun sc z) × IsSoundState (begun sc z) z)) t.1 (
   begun_later sc d fresh sound.formed.locals,
-  (begun_sound sc d fresh sound.formed.locals known book, woken_state sc image dsa inv book sound fresh (not_then _ IdentifierUsed (none _ (inl refl))) (ltb-false most_cursors (length d.store.vector) (not_then _ (Full CursorTable most_cursors) (none _ (inr (inl refl)))))),
+  (begun_sound sc d fresh sound.formed.locals known book, woken_state sc image dsa inv book sound fresh (not_then _ IdentifierUsed (none _ (inl refl))) (ltb-false cursor_limit (length d.store.vector) (not_then _ (Full CursorTable cursor_limit) (none _ (inr (inl refl)))))),
 )
   where
     d : State
     d = woken image dsa inv
 
     tests : List (Option AdoptRefusal)
-    tests = then_some (names_inv image inv) IdentifierUsed ∷ then_some (nat_lt most_cursors (length d.store.vector)) (Full CursorTable most_cursors) ∷ []
+    tests = then_some (names_inv image inv) IdentifierUsed ∷ then_some (nat_lt cursor_limit (length d.store.vector)) (Full CursorTable cursor_limit) ∷ []
 
     t : (adopt_refusal image inv d ≡ None) × (d ≡ s)
     t = answered (adopt_refusal image inv d) d s e

@@ -28,8 +28,11 @@ pub fn later_is_an_order()
 /// stays sound where these rows were issued.
 #[tactic(none)]
 pub fn an_incarnation_begins()
-    ensures later { (s : Book) (d : State) → log_of s d.inv ≡ no_log → Each (λ x. (1 ≤ x.local) × (x.local ≤ d.store.usn)) d.store.rows → IsLater s (begun s d) }
-    ensures sound { (s : Book) (d : State) → log_of s d.inv ≡ no_log → Each (λ x. (1 ≤ x.local) × (x.local ≤ d.store.usn)) d.store.rows → Each (λ x. Member x.update s.issued) d.store.rows → IsSoundBook s → IsSoundBook (begun s d) }
+    ensures later { (s : Book) (d : State) → log_of s d.inv ≡ no_log
+        → Each (λ x. (1 ≤ x.local) × (x.local ≤ d.store.usn)) d.store.rows → IsLater s (begun s d) }
+    ensures sound { (s : Book) (d : State) → log_of s d.inv ≡ no_log
+        → Each (λ x. (1 ≤ x.local) × (x.local ≤ d.store.usn)) d.store.rows
+        → Each (λ x. Member x.update s.issued) d.store.rows → IsSoundBook s → IsSoundBook (begun s d) }
     ensures own { (s : Book) (d : State) → log_of (begun s d) d.inv ≡ first_log d.store.usn d.store.rows }
     ensures others { (s : Book) (d : State) (i : Identifier) → i ≢ d.inv → log_of (begun s d) i ≡ log_of s i }
 {}
@@ -38,7 +41,8 @@ pub fn an_incarnation_begins()
 /// so is the book in which its incarnation begins.
 #[tactic(none)]
 pub fn adopted_images_are_sound()
-    ensures { (sc : Book) (image : Store) (dsa inv : Identifier) (s : State) → IsSoundBook sc → IsSoundStore sc image → log_of sc inv ≡ no_log → adopt image dsa inv ≡ Ok s
+    ensures { (sc : Book) (image : Store) (dsa inv : Identifier) (s : State) → IsSoundBook sc
+        → IsSoundStore sc image → log_of sc inv ≡ no_log → adopt image dsa inv ≡ Ok s
         → IsLater sc (begun sc s) × (IsSoundBook (begun sc s) × IsSoundState (begun sc s) s) }
 {}
 
@@ -54,17 +58,24 @@ pub fn new_controllers_are_sound()
 /// follows in its log and issues and writes what it may.
 #[tactic(none)]
 pub fn a_change_is_recorded()
-    ensures later { (s : Book) (inv : Identifier) (p : Pending) → Follows (last_of s inv) p.change → AreIssuedBy s inv p.change (issued_by p.call p.change) → IsLater s (recorded s inv p) }
-    ensures sound { (s : Book) (inv : Identifier) (p : Pending) → Follows (last_of s inv) p.change → AreIssuedBy s inv p.change (issued_by p.call p.change) → MayIssue s p.change (issued_by p.call p.change) → IsSoundBook s → IsSoundBook (recorded s inv p) }
-    ensures own { (s : Book) (inv : Identifier) (p : Pending) → log_of (recorded s inv p) inv ≡ with_change (log_of s inv) p.change }
-    ensures others { (s : Book) (inv : Identifier) (p : Pending) (i : Identifier) → i ≢ inv → log_of (recorded s inv p) i ≡ log_of s i }
+    ensures later { (s : Book) (inv : Identifier) (p : Pending) → Follows (last_of s inv) p.change
+        → AreIssuedBy s inv p.change (issued_by p.call p.change) → IsLater s (recorded s inv p) }
+    ensures sound { (s : Book) (inv : Identifier) (p : Pending) → Follows (last_of s inv) p.change
+        → AreIssuedBy s inv p.change (issued_by p.call p.change) → MayIssue s p.change (issued_by p.call p.change)
+        → IsSoundBook s → IsSoundBook (recorded s inv p) }
+    ensures own { (s : Book) (inv : Identifier) (p : Pending)
+        → log_of (recorded s inv p) inv ≡ with_change (log_of s inv) p.change }
+    ensures others { (s : Book) (inv : Identifier) (p : Pending) (i : Identifier) → i ≢ inv
+        → log_of (recorded s inv p) i ≡ log_of s i }
 {}
 
 /// A sound state whose change follows in its log, issues its incarnation's own and leaves what a
 /// sound state needs is sound behind the change, in the book in which that is safe.
 #[tactic(none)]
 pub fn a_change_leaves_a_sound_state()
-    ensures { (sc : Book) (s : State) (p : Pending) → IsSoundBook sc → IsSoundState sc s → Follows (last_of sc s.inv) p.change → AreIssuedBy sc s.inv p.change (issued_by p.call p.change) → Leaves sc s p
+    ensures { (sc : Book) (s : State) (p : Pending) → IsSoundBook sc → IsSoundState sc s
+        → Follows (last_of sc s.inv) p.change → AreIssuedBy sc s.inv p.change (issued_by p.call p.change)
+        → Leaves sc s p
         → IsSoundState (recorded sc s.inv p) (after s p.change) }
 {}
 
@@ -72,20 +83,26 @@ pub fn a_change_leaves_a_sound_state()
 /// is the same.
 #[tactic(none)]
 pub fn what_is_sound_stays_sound()
-    ensures reflected { (s t : Book) → IsLater s t → (k : Knowledge) (u : Update) → Reflects s.issued k u → Reflects t.issued k u }
+    ensures reflected { (s t : Book) → IsLater s t → (k : Knowledge) (u : Update) → Reflects s.issued k u
+        → Reflects t.issued k u }
     ensures bounded { (s t : Book) → IsLater s t → (V : Numbers) → IsBounded s V → IsBounded t V }
-    ensures covered { (s t : Book) → IsLater s t → (V : Numbers) → IsBounded s V → Each (λ u. Covers V u → Member u s.issued) t.issued }
-    ensures mark { (s t : Book) → IsLater s t → (k : Knowledge) (inv : Identifier) (m : Mark) → IsSoundMark s k inv m → IsSoundMark t k inv m }
+    ensures covered { (s t : Book) → IsLater s t → (V : Numbers) → IsBounded s V
+        → Each (λ u. Covers V u → Member u s.issued) t.issued }
+    ensures mark { (s t : Book) → IsLater s t → (k : Knowledge) (inv : Identifier) (m : Mark)
+        → IsSoundMark s k inv m → IsSoundMark t k inv m }
     ensures store { (s t : Book) → IsLater s t → (d : Store) → IsSoundStore s d → IsSoundStore t d }
-    ensures state { (s t : Book) → IsLater s t → (d : State) → log_of t d.inv ≡ log_of s d.inv → IsSoundState s d → IsSoundState t d }
+    ensures state { (s t : Book) → IsLater s t → (d : State) → log_of t d.inv ≡ log_of s d.inv → IsSoundState s d
+        → IsSoundState t d }
     ensures request { (s t : Book) → IsLater s t → (q : Request) → IsSoundRequest s q → IsSoundRequest t q }
     ensures reply { (s t : Book) → IsLater s t → (r : Reply) → IsSoundReply s r → IsSoundReply t r }
-    ensures replica { (s t : Book) → IsLater s t → (r : Replica) → log_of t r.safe.inv ≡ log_of s r.safe.inv → IsSoundReplica s r → IsSoundReplica t r }
+    ensures replica { (s t : Book) → IsLater s t → (r : Replica) → log_of t r.safe.inv ≡ log_of s r.safe.inv
+        → IsSoundReplica s r → IsSoundReplica t r }
 {}
 
 /// The end of a reply is a mark that tells the truth of whoever took it: what was sent is
 /// reflected, and what the reply left out was covered by the request or lay below its beginning.
 #[tactic(none)]
 pub fn a_reply_moves_its_mark()
-    ensures { (s : Book) (r : Reply) (k k' : Knowledge) → IsSoundBook s → IsSoundReply s r → MayTake s k r → HasTaken s k k' r → IsSoundMark s k' r.inv r.to }
+    ensures { (s : Book) (r : Reply) (k k' : Knowledge) → IsSoundBook s → IsSoundReply s r → MayTake s k r
+        → HasTaken s k k' r → IsSoundMark s k' r.inv r.to }
 {}

@@ -18,15 +18,19 @@ ghost use Rattle.adr_law_logs.specs.Logs.{first_log, IsUnitWithin, at_moment};
 /// unit is gone.
 #[tactic(none)]
 pub fn changes_account_for_rows()
-    ensures from { (removed : List Oid) (writes rows : List Held) → Each (λ x. Member x writes ⊎ Member x rows) (rows_after removed writes rows) }
-    ensures units { (removed : List Oid) (writes rows : List Held) → Each (λ x. IsAccountedFor writes x (rows_after removed writes rows)) rows }
+    ensures from { (removed : List Oid) (writes rows : List Held)
+        → Each (λ x. Member x writes ⊎ Member x rows) (rows_after removed writes rows) }
+    ensures units { (removed : List Oid) (writes rows : List Held)
+        → Each (λ x. IsAccountedFor writes x (rows_after removed writes rows)) rows }
 {}
 
 /// USNs in a log that is well kept. Nothing is split by the last USN, or by 0.
 #[tactic(none)]
 pub fn logs_are_bounded()
-    ensures local { (h : LocalLog) (usn : ℕ) → IsKept h → Each (λ x. (1 ≤ x.local) × (x.local ≤ usn)) (rows_at h usn) }
-    ensures all_read { (h : LocalLog) (usn : ℕ) → IsKept h → last_usn h ≤ usn → rows_at h usn ≡ rows_at h (last_usn h) }
+    ensures local { (h : LocalLog) (usn : ℕ) → IsKept h
+        → Each (λ x. (1 ≤ x.local) × (x.local ≤ usn)) (rows_at h usn) }
+    ensures all_read { (h : LocalLog) (usn : ℕ) → IsKept h → last_usn h ≤ usn
+        → rows_at h usn ≡ rows_at h (last_usn h) }
     ensures last_is_cut { (h : LocalLog) (usn : ℕ) → IsKept h → last_usn h ≤ usn → IsCut h usn }
     ensures first_is_cut { (h : LocalLog) → IsKept h → IsCut h 0 }
 {}
@@ -35,11 +39,15 @@ pub fn logs_are_bounded()
 /// earlier USNs it still says.
 #[tactic(none)]
 pub fn logs_go_on()
-    ensures begins { (usn : ℕ) (rows : List Held) → Each (λ x. (1 ≤ x.local) × (x.local ≤ usn)) rows → IsKept (first_log usn rows) }
+    ensures begins { (usn : ℕ) (rows : List Held) → Each (λ x. (1 ≤ x.local) × (x.local ≤ usn)) rows
+        → IsKept (first_log usn rows) }
     ensures kept { (h : LocalLog) (c : Change) → IsKept h → Follows (last_usn h) c → IsKept (with_change h c) }
-    ensures rows { (h : LocalLog) (c : Change) (usn : ℕ) → Follows (last_usn h) c → usn ≤ last_usn h → rows_at (with_change h c) usn ≡ rows_at h usn }
-    ensures cuts { (h : LocalLog) (c : Change) (usn : ℕ) → Follows (last_usn h) c → usn ≤ last_usn h → IsCut h usn → IsCut (with_change h c) usn }
-    ensures now { (h : LocalLog) (c : Change) → IsKept h → Follows (last_usn h) c → rows_at (with_change h c) c.usn ≡ rows_after c.removed (held_of c.writes) (rows_at h (last_usn h)) }
+    ensures rows { (h : LocalLog) (c : Change) (usn : ℕ) → Follows (last_usn h) c → usn ≤ last_usn h
+        → rows_at (with_change h c) usn ≡ rows_at h usn }
+    ensures cuts { (h : LocalLog) (c : Change) (usn : ℕ) → Follows (last_usn h) c → usn ≤ last_usn h → IsCut h usn
+        → IsCut (with_change h c) usn }
+    ensures now { (h : LocalLog) (c : Change) → IsKept h → Follows (last_usn h) c
+        → rows_at (with_change h c) c.usn ≡ rows_after c.removed (held_of c.writes) (rows_at h (last_usn h)) }
 {}
 
 /// What later rows keep of those at a cut: a row written at or before the cut stood there, and a
@@ -47,15 +55,24 @@ pub fn logs_go_on()
 /// of later rows it left out at its own moment.
 #[tactic(none)]
 pub fn later_rows_keep_a_cut()
-    ensures rows { (h : LocalLog) (cut later : ℕ) → IsKept h → IsCut h cut → cut ≤ later → Each (λ x. x.local ≤ cut → Member x (rows_at h cut)) (rows_at h later) }
-    ensures units { (h : LocalLog) (cut later : ℕ) → IsKept h → IsCut h cut → cut ≤ later → Each (λ x. IsUnitWithin (rows_at h later) x cut → Each (λ y. SameUnit y x → Member y (rows_at h later)) (rows_at h cut)) (rows_at h later) }
-    ensures below { (h : LocalLog) (m : Mark) (later : ℕ) → IsKept h → IsCut h m.seen → IsOrdered m → m.seen ≤ later → Each (λ x. IsBelow (rows_at h later) m x → Member x (rows_at h m.seen) × IsBelow (rows_at h m.seen) m x) (rows_at h later) }
+    ensures rows { (h : LocalLog) (cut later : ℕ) → IsKept h → IsCut h cut → cut ≤ later
+        → Each (λ x. x.local ≤ cut → Member x (rows_at h cut)) (rows_at h later) }
+    ensures units { (h : LocalLog) (cut later : ℕ) → IsKept h → IsCut h cut → cut ≤ later
+        → Each (λ x. IsUnitWithin (rows_at h later) x cut
+        → Each (λ y. SameUnit y x → Member y (rows_at h later)) (rows_at h cut)) (rows_at h later) }
+    ensures below { (h : LocalLog) (m : Mark) (later : ℕ) → IsKept h → IsCut h m.seen → IsOrdered m
+        → m.seen ≤ later
+        → Each (λ x. IsBelow (rows_at h later) m x
+        → Member x (rows_at h m.seen) × IsBelow (rows_at h m.seen) m x) (rows_at h later) }
 {}
 
 /// What a mark says of its source stays true of each later moment, and a mark of which nothing
 /// was read says nothing.
 #[tactic(none)]
 pub fn marks_move_on()
-    ensures later { (issued : List Update) (k : Knowledge) (h : LocalLog) (m : Mark) (later : ℕ) → IsKept h → IsCut h m.seen → IsOrdered m → m.seen ≤ later → WatermarkHolds issued k h m → WatermarkHolds issued k h (at_moment m later) }
-    ensures unread { (issued : List Update) (k : Knowledge) (h : LocalLog) → IsKept h → WatermarkHolds issued k h no_mark }
+    ensures later { (issued : List Update) (k : Knowledge) (h : LocalLog) (m : Mark) (later : ℕ) → IsKept h
+        → IsCut h m.seen → IsOrdered m → m.seen ≤ later → WatermarkHolds issued k h m
+        → WatermarkHolds issued k h (at_moment m later) }
+    ensures unread { (issued : List Update) (k : Knowledge) (h : LocalLog) → IsKept h
+        → WatermarkHolds issued k h no_mark }
 {}

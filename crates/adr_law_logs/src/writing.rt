@@ -16,8 +16,13 @@ ghost use Rattle.adr_law_logs.specs.Later.{AreIssuedBy};
 /// issues is the incarnation's own, under USNs that weren't used.
 #[tactic(none)]
 pub fn writes_issue_their_own()
-    ensures stamps { (s : State) (w : Write) (now : ℕ) → Each (λ (x : Written). Each (λ u. (inv_of u ≡ s.inv) × (usn_of u ≡ x.local)) x.item.rows) (items_written s w now) }
-    ensures usns { (s : State) (w : Write) (now : ℕ) → Each (λ (x : Written). (s.store.usn < x.local) × (x.local ≤ s.store.usn + length (items_written s w now))) (items_written s w now) }
-    ensures change { (sc : Book) (s : State) (w : Write) (now : ℕ) → s.store.usn ≡ last_of sc s.inv → (c : Change) → write s w now ≡ Ok c
+    ensures stamps { (s : State) (w : Write) (now : ℕ)
+        → Each (λ (x : Written). Each (λ u. (inv_of u ≡ s.inv)
+        × (usn_of u ≡ x.local)) x.item.rows) (items_written s w now) }
+    ensures usns { (s : State) (w : Write) (now : ℕ)
+        → Each (λ (x : Written). (s.store.usn < x.local)
+        × (x.local ≤ s.store.usn + length (items_written s w now))) (items_written s w now) }
+    ensures change { (sc : Book) (s : State) (w : Write) (now : ℕ) → s.store.usn ≡ last_of sc s.inv → (c : Change)
+        → write s w now ≡ Ok c
         → Follows (last_of sc s.inv) c × AreIssuedBy sc s.inv c (issued_by (ToWrite w now) c) }
 {}

@@ -6,9 +6,8 @@ use Rattle.adr_model.specs.Update.{Key, RowOf, LinkOf, Update, key_order}
 use Rattle.adr_model.specs.Store.{Held, updates_of}
 use Rattle.adr_model.specs.Write.{is_link_row, links_in}
 use Rattle.adr_model.specs.Formed.{AreRising}
-use Rattle.adr_model.proofs.Keys.{exact_keys}
+use Rattle.adr_model.proofs.Keys.{exact_keys, keys_total}
 use Rattle.adr_model.proofs.Members.{member_mapped, mapped_member, of_filter, in_filter}
-use Rattle.adr_law_knowledge.proofs.Comparing.{keys_total}
 use Rattle.adr_law_knowledge.proofs.Lists.{filter_rises}
 use Rattle.adr_law_knowledge.proofs.Counting.{rises_from, no_longer}
 use Rattle.adr_law_steps.proofs.Rows.{held_as}

@@ -11,9 +11,9 @@ use Rattle.adr_model.specs.Update.{RowOf, LinkOf, Update, same_object, is_death_
 use Rattle.adr_model.specs.Reflects.{IsDeathOf}
 use Rattle.adr_model.specs.Store.{Held, updates_of}
 use Rattle.adr_model.specs.Change.{goes_with}
-use Rattle.adr_model.proofs.Members.{mapped_member, each_fails}
-use Rattle.adr_law_knowledge.proofs.Comparing.{keys_tell, same_where_equal, objects_tell, objects_same}
-use Rattle.adr_law_knowledge.proofs.Lists.{some_passes}
+use Rattle.adr_model.proofs.Members.{mapped_member, each_fails, some_passes}
+use Rattle.adr_model.proofs.Keys.{objects_tell}
+use Rattle.adr_law_knowledge.proofs.Comparing.{keys_tell, same_where_equal, objects_same}
 use Rattle.adr_law_knowledge.proofs.Knows.{only_end}
 use Rattle.adr_law_steps.specs.Puts.{held_at, under, IsReplaced, IsStripped, ArePut}
 use Rattle.adr_law_steps.proofs.Rows.{updated, held_as, about}

@@ -12,7 +12,7 @@ use Rattle.adr_model.specs.Serve.{last_local}
 use Rattle.adr_model.specs.Change.{goes_with, put, rows_after}
 use Rattle.adr_model.specs.Formed.{AreRising, AreAlone}
 use Rattle.adr_model.proofs.Members.{mapped_member}
-use Rattle.adr_law_knowledge.proofs.Comparing.{objects_tell}
+use Rattle.adr_model.proofs.Keys.{objects_tell}
 use Rattle.adr_law_steps.specs.Puts.{held_at, under, MayPut, IsReplaced, IsStripped, ArePut}
 use Rattle.adr_law_steps.proofs.Locals.{unit_or_not, within_last, last_within, same_last}
 use Rattle.adr_law_steps.proofs.Rising.{removals_rise, put_rises}

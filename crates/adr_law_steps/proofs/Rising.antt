@@ -13,8 +13,7 @@ use Rattle.adr_model.specs.Update.{Key, Update, key_order}
 use Rattle.adr_model.specs.Store.{Held, is_row_of, updates_of, with_row}
 use Rattle.adr_model.specs.Change.{goes_with, killed_by, stripped, put, without_object}
 use Rattle.adr_model.specs.Formed.{AreRising}
-use Rattle.adr_model.proofs.Keys.{exact_keys}
-use Rattle.adr_law_knowledge.proofs.Comparing.{keys_total}
+use Rattle.adr_model.proofs.Keys.{exact_keys, keys_total}
 use Rattle.adr_law_knowledge.proofs.Counting.{rises_from, one_of_each}
 use Rattle.adr_law_steps.proofs.Rows.{held_as}
 

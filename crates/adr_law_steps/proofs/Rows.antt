@@ -15,9 +15,8 @@ use Rattle.adr_model.specs.Reflects.{IsDeathOf}
 use Rattle.adr_model.specs.Store.{Held, with_row, updates_of, is_row_of}
 use Rattle.adr_model.specs.Change.{goes_with, killed_by, stripped, put}
 use Rattle.adr_model.specs.Take.{is_reserved_row}
-use Rattle.adr_model.proofs.Keys.{exact_keys}
+use Rattle.adr_model.proofs.Keys.{exact_keys, objects_tell}
 use Rattle.adr_model.proofs.Members.{in_filter, of_filter, member_mapped, mapped_member}
-use Rattle.adr_law_knowledge.proofs.Comparing.{objects_tell}
 
 -- ---- rows as updates
 

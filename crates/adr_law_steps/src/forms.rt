@@ -19,13 +19,16 @@ ghost use Rattle.adr_law_steps.specs.Forms.{MayChange, MayCome};
 /// classes stay known, and no link loses an end.
 #[tactic(none)]
 pub fn forms_stay()
-    ensures formed { (schema usn : ℕ) (before after : List Held) (V : Numbers) (o : Oid) (class : ℕ) (us : List Update) → AreRising before → AreRising after → AreFormedRows (numbered schema) (updates_of before)
+    ensures formed { (schema usn : ℕ) (before after : List Held) (V : Numbers) (o : Oid) (class : ℕ) (us : List Update)
+        → AreRising before → AreRising after → AreFormedRows (numbered schema) (updates_of before)
         → MayPut (updates_of before) V (Object o) us → ArePut usn us before after
         → MayChange (numbered schema) (updates_of before) o class us ⊎ MayCome (numbered schema) (updates_of before) o class us → AreFormedRows (numbered schema) (updates_of after) }
-    ensures classes { (schema usn : ℕ) (before after : List Held) (V : Numbers) (o : Oid) (class : ℕ) (us : List Update) → AreClassesKnown (numbered schema) (updates_of before)
+    ensures classes { (schema usn : ℕ) (before after : List Held) (V : Numbers) (o : Oid) (class : ℕ) (us : List Update)
+        → AreClassesKnown (numbered schema) (updates_of before)
         → MayPut (updates_of before) V (Object o) us → ArePut usn us before after
         → MayChange (numbered schema) (updates_of before) o class us ⊎ MayCome (numbered schema) (updates_of before) o class us → AreClassesKnown (numbered schema) (updates_of after) }
-    ensures closed { (usn : ℕ) (before after : List Held) (V : Numbers) (o : Oid) (us : List Update) → AreClosed V (updates_of before)
+    ensures closed { (usn : ℕ) (before after : List Held) (V : Numbers) (o : Oid) (us : List Update)
+        → AreClosed V (updates_of before)
         → MayPut (updates_of before) V (Object o) us → ArePut usn us before after → AreClosed V (updates_of after) }
 {}
 
@@ -33,10 +36,12 @@ pub fn forms_stay()
 /// it. Links stay closed where each end is held or wasn't born where the vector covers.
 #[tactic(none)]
 pub fn links_stay_formed()
-    ensures formed { (schema usn : ℕ) (before after : List Held) (V : Numbers) (l : LinkKey) (us : List Update) → AreFormedRows (numbered schema) (updates_of before)
+    ensures formed { (schema usn : ℕ) (before after : List Held) (V : Numbers) (l : LinkKey) (us : List Update)
+        → AreFormedRows (numbered schema) (updates_of before)
         → MayPut (updates_of before) V (Link l) us → ArePut usn us before after
         → is_forward (kind_at (numbered schema) l.attr) ≡ true → Each (λ o. IsTombstoned (updates_of before) o → ⊥) (ends (LinkOf l)) → AreFormedRows (numbered schema) (updates_of after) }
-    ensures closed { (usn : ℕ) (before after : List Held) (V : Numbers) (l : LinkKey) (us : List Update) → AreClosed V (updates_of before)
+    ensures closed { (usn : ℕ) (before after : List Held) (V : Numbers) (l : LinkKey) (us : List Update)
+        → AreClosed V (updates_of before)
         → MayPut (updates_of before) V (Link l) us → ArePut usn us before after
         → Each (λ o. HoldsObject (updates_of before) o ⊎ (CoversBirth V o → ⊥)) (ends (LinkOf l)) → AreClosed V (updates_of after) }
 {}

@@ -5,13 +5,13 @@ use Rattle.std.specs.Bool.{then_some}
 use Rattle.std.specs.Option.{option_map}
 use Rattle.std.proofs.lemmas.Bool.{ltb-false}
 use Rattle.adr_schema.proofs.ExactCalls.{not_then}
-use Rattle.adr_vector.specs.Vector.{first_gap, most_cursors}
+use Rattle.adr_vector.specs.Vector.{first_gap, cursor_limit}
 use Rattle.adr_event.specs.declared.refusal.Table.{Table}
 use Rattle.adr_event.specs.declared.refusal.Table.TheVariants.{Objects, Links, Cursors as CursorTable, Marks}
 use Rattle.adr_event.specs.declared.refusal.TakeRefusal.{TakeRefusal}
 use Rattle.adr_event.specs.declared.refusal.TakeRefusal.TheVariants.{Quarantined, NotMine, Stale, VectorBehind, SchemaMismatch, RolledBack, UsnLimit, Full}
 use Rattle.adr_model.specs.Member.{Each}
-use Rattle.adr_model.specs.Refusing.{first_of}
+use Rattle.adr_failure.specs.First.{first_of}
 use Rattle.adr_model.specs.Update.{same_identifier}
 use Rattle.adr_model.specs.Store.{State}
 use Rattle.adr_model.specs.Change.{Change, after}
@@ -61,11 +61,11 @@ Nothing o = o ≡ None
 
 no_refusal : (s : State) (r : Reply) (t : Taking) (behind : State) → refusal_of s r t behind ≡ None
     → Nothing (stale s r) × Nothing (lags s r) × Nothing (other_schema s r) × Nothing (passes Objects object_limit t.objects) × Nothing (passes Links link_limit t.links)
-    × Nothing (passes CursorTable most_cursors (length behind.store.vector)) × Nothing (passes Marks mark_limit (length behind.store.marks))
+    × Nothing (passes CursorTable cursor_limit (length behind.store.vector)) × Nothing (passes Marks mark_limit (length behind.store.marks))
 no_refusal s r t behind none = none_of_twelve
     (then_some (is_quarantined s.mode) Quarantined) (then_some (not (same_identifier r.dest s.dsa)) (NotMine r.dest)) (stale s r) (lags s r) (other_schema s r) (put_back s r)
     t.refusal (then_some (nat_lt usn_limit t.usn) UsnLimit) (passes Objects object_limit t.objects) (passes Links link_limit t.links)
-    (passes CursorTable most_cursors (length behind.store.vector)) (passes Marks mark_limit (length behind.store.marks)) none
+    (passes CursorTable cursor_limit (length behind.store.vector)) (passes Marks mark_limit (length behind.store.marks)) none
 
 abbrev whole : State → Reply → Change
 whole s r = taken_change r (take_items s r.items)
@@ -79,6 +79,6 @@ is_taken sc s r c book state reply e =
       is = g.1;
       objects = not_more Objects object_limit (take_items s r.items).objects n.3;
       links = not_more Links link_limit (take_items s r.items).links n.4;
-      cursors = not_more CursorTable most_cursors (length (after s (whole s r)).store.vector) n.5;
+      cursors = not_more CursorTable cursor_limit (length (after s (whole s r)).store.vector) n.5;
       marks = not_more Marks mark_limit (length (after s (whole s r)).store.marks) n.6;
     }

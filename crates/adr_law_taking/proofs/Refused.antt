@@ -9,7 +9,7 @@ use Rattle.adr_stamp.specs.declared.Unit.{Unit as Named}
 use Rattle.adr_stamp.specs.declared.Unit.TheVariants.{Object, Link}
 use Rattle.adr_schema.specs.Numbered.{numbered}
 use Rattle.adr_schema.specs.Table.{Table as Schema}
-use Rattle.adr_vector.specs.Vector.{Cursors, at, first_gap, most_cursors}
+use Rattle.adr_vector.specs.Vector.{Cursors, at, first_gap, cursor_limit}
 use Rattle.adr_vector.specs.declared.mark.Mark.{Mark}
 use Rattle.adr_event.specs.declared.refusal.Table.{Table}
 use Rattle.adr_event.specs.declared.refusal.Table.TheVariants.{Objects, Links, Cursors as CursorTable, Marks}
@@ -17,7 +17,7 @@ use Rattle.adr_event.specs.declared.refusal.ItemFault.{ItemFault}
 use Rattle.adr_event.specs.declared.refusal.TakeRefusal.{TakeRefusal}
 use Rattle.adr_event.specs.declared.refusal.TakeRefusal.TheVariants.{Quarantined, NotMine, Stale, VectorBehind, SchemaMismatch, RolledBack, BadItem, Incomplete, UsnLimit, Full}
 use Rattle.adr_model.specs.Member.{Member, Each}
-use Rattle.adr_model.specs.Refusing.{first_of}
+use Rattle.adr_failure.specs.First.{first_of}
 use Rattle.adr_model.specs.Update.{Identifier, Update, same_identifier}
 use Rattle.adr_model.specs.Store.{Held, State}
 use Rattle.adr_model.specs.Change.{Item, after}
@@ -84,10 +84,10 @@ module _ (harm : TakeRefusal → Bool) (of_items : IsOfItems harm) (sc : Book) (
       judged t d found = twelve_are_harmless harm
           (then_some (is_quarantined s.mode) Quarantined) (then_some (not (same_identifier r.dest s.dsa)) (NotMine r.dest)) (stale s r) (lags s r) (other_schema s r) (put_back s r)
           t.refusal (then_some (nat_lt usn_limit t.usn) UsnLimit) (passes Objects object_limit t.objects) (passes Links link_limit t.links)
-          (passes CursorTable most_cursors (length d.store.vector)) (passes Marks mark_limit (length d.store.marks))
+          (passes CursorTable cursor_limit (length d.store.vector)) (passes Marks mark_limit (length d.store.marks))
           (tested_is (IsCalm harm) _ Quarantined of_items.quarantined) (tested_is (IsCalm harm) _ (NotMine r.dest) (of_items.not_mine r.dest)) (tested_is (IsCalm harm) _ (Stale (kept_mark s r) r.from) (of_items.stale (kept_mark s r) r.from)) (mapped_is (λ g. VectorBehind g.0 g.1 g.2) (IsCalm harm) (λ g. of_items.behind g.0 g.1 g.2) (first_gap r.asked s.store.vector)) (tested_is (IsCalm harm) _ (SchemaMismatch s.store.schema r.schema) (of_items.schema s.store.schema r.schema)) rolled
           (λ nc nd ne. found (takeable sc s r book state reply nc nd ne)) (tested_is (IsCalm harm) _ UsnLimit of_items.usn)
-          (full_is_harmless Objects object_limit t.objects) (full_is_harmless Links link_limit t.links) (full_is_harmless CursorTable most_cursors (length d.store.vector)) (full_is_harmless Marks mark_limit (length d.store.marks))
+          (full_is_harmless Objects object_limit t.objects) (full_is_harmless Links link_limit t.links) (full_is_harmless CursorTable cursor_limit (length d.store.vector)) (full_is_harmless Marks mark_limit (length d.store.marks))
 
 -- ---- no item is broken, and no rollback is found
 

@@ -13,7 +13,7 @@ use Rattle.adr_schema.specs.Rules.{class_refusal}
 use Rattle.adr_schema.proofs.ExactRows.{not_refused_held}
 use Rattle.adr_event.specs.declared.refusal.ItemFault.TheVariants.{WrongBirth}
 use Rattle.adr_model.specs.Member.{Each}
-use Rattle.adr_model.specs.Refusing.{first_of}
+use Rattle.adr_failure.specs.First.{first_of}
 use Rattle.adr_model.specs.Update.{RowOf, LinkOf, Update, Said, Holds}
 use Rattle.adr_model.specs.Take.{is_birth, broken, row_fault}
 use Rattle.adr_law_steps.specs.Forms.{IsWellSaid}

@@ -10,8 +10,7 @@ use Rattle.adr_model.specs.Reflects.{CoversBirth, IsDeath, HoldsObject, IsTombst
 use Rattle.adr_model.specs.Visible.{covers_birth}
 use Rattle.adr_model.specs.Store.{Held, updates_of, holds_object, holds_dead}
 use Rattle.adr_model.specs.Take.{is_of_attr, is_reserved_row, has_row, left_by_death, is_gone, is_lost_end, Presence, IsDead, IsHeld, IsGone, IsNew, presence_of}
-use Rattle.adr_model.proofs.Members.{in_filter, of_filter, one_passes}
-use Rattle.adr_law_knowledge.proofs.Lists.{some_passes}
+use Rattle.adr_model.proofs.Members.{in_filter, of_filter, one_passes, some_passes}
 use Rattle.adr_law_taking.proofs.Tests.{holds_where_tested, lacks_where_untested, dead_where_tested, alive_where_untested, covers_where_tested, misses_where_untested}
 
 -- an object is held dead, or held, or gone, or new

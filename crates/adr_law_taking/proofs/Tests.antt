@@ -11,9 +11,8 @@ use Rattle.adr_model.specs.Reflects.{CoversBirth, Supersedes, HoldsAtLeast, Hold
 use Rattle.adr_model.specs.Visible.{covers_birth}
 use Rattle.adr_model.specs.Store.{Held, updates_of, row_held, is_row_of, holds_object, holds_dead}
 use Rattle.adr_model.specs.Take.{is_above}
-use Rattle.adr_model.proofs.Members.{one_passes}
+use Rattle.adr_model.proofs.Members.{one_passes, some_passes}
 use Rattle.adr_law_knowledge.proofs.Comparing.{keys_tell, same_where_equal, objects_same, older_one_way}
-use Rattle.adr_law_knowledge.proofs.Lists.{some_passes}
 use Rattle.adr_law_steps.proofs.Rows.{updated, held_as, row_is_of}
 
 -- ---- the row of a key

@@ -4,7 +4,7 @@ use Rattle.adr_stamp.specs.declared.Unit.{Unit as Named}
 use Rattle.adr_stamp.specs.declared.Unit.TheVariants.{Object, Link}
 use Rattle.adr_schema.specs.Table.{Table, kind_at, is_forward}
 use Rattle.adr_schema.specs.Numbered.{numbered}
-use Rattle.adr_vector.specs.Vector.{at, most_cursors}
+use Rattle.adr_vector.specs.Vector.{at, cursor_limit}
 use Rattle.adr_model.specs.Member.{Member, Each}
 use Rattle.adr_model.specs.Update.{Update, LinkOf, ends}
 use Rattle.adr_model.specs.Reflects.{Numbers, AtMost, CoversBirth, Knowledge, knowledge_of, HoldsObject, IsTombstoned}
@@ -70,5 +70,5 @@ pub record IsTaken (sc : Book) (s : State) (r : Reply) (c : Change) : Type 0 whe
   pub is : taken_change r (take_items s r.items) ≡ c
   pub objects : (take_items s r.items).objects ≤ object_limit
   pub links : (take_items s r.items).links ≤ link_limit
-  pub cursors : length (after s (taken_change r (take_items s r.items))).store.vector ≤ most_cursors
+  pub cursors : length (after s (taken_change r (take_items s r.items))).store.vector ≤ cursor_limit
   pub marks : length (after s (taken_change r (take_items s r.items))).store.marks ≤ mark_limit

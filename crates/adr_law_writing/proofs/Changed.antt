@@ -1,6 +1,5 @@
 -- An object that is renamed, deleted or modified is live, and its rows are such as the schema wants.
-use Rattle.std.proofs.Common.{◌≡◌, inl, inr, ℕ, ◌<◌, ◌+◌, List, [], ◌∷◌, Option, None, refl, sym, ap, ◌∙◌, subst, map, arith}
-use Rattle.std.specs.Option.{option_map}
+use Rattle.std.proofs.Common.{◌≡◌, inl, inr, ℕ, ◌<◌, List, [], ◌∷◌, None, refl, sym, ap, ◌∙◌, subst, map, arith}
 use Rattle.adr_stamp.specs.declared.Oid.{Oid}
 use Rattle.adr_stamp.specs.declared.Unit.TheVariants.{Object}
 use Rattle.adr_schema.specs.Assignments.{Given}
@@ -10,19 +9,15 @@ use Rattle.adr_schema.specs.Names.{name_fault}
 use Rattle.adr_schema.specs.declared.content.Content.{Content}
 use Rattle.adr_schema.specs.declared.content.Content.TheVariants.{Name, Dead, Values}
 use Rattle.adr_schema.specs.declared.refusal.SchemaRefusal.TheVariants.{BadName}
-use Rattle.adr_schema.specs.Rules.{modify_refusal as schema_modify_refusal, name_refusal as schema_name_refusal}
+use Rattle.adr_schema.specs.Rules.{modify_refusal as schema_modify_refusal}
 use Rattle.adr_schema.proofs.ExactRows.{may_be_held, modified_may_be_held}
 use Rattle.adr_vector.specs.Vector.{at}
-use Rattle.adr_event.specs.declared.refusal.WriteRefusal.{WriteRefusal}
-use Rattle.adr_event.specs.declared.refusal.WriteRefusal.TheVariants.{Quarantined}
 use Rattle.adr_model.specs.Member.{Member, Each}
-use Rattle.adr_model.specs.Refusing.{first_of}
 use Rattle.adr_model.specs.Update.{Identifier, RowOf, Holds, Update, unit_of, name_attr, deleted_attr}
 use Rattle.adr_model.specs.Reflects.{HoldsObject, Supersedes, IsDeath}
 use Rattle.adr_model.specs.Store.{State, updates_of}
-use Rattle.adr_model.specs.Serve.{is_quarantined}
 use Rattle.adr_model.specs.Formed.{IsFormed}
-use Rattle.adr_model.specs.Write.{Modify, Rename, Delete, AreInOrder, where_true, of_schema, fixed_refusal, object_refusal, parent_refusal, loop_refusal, superior_refusal, name_refusal, child_refusal, version_refusal, usn_refusal, nodes_held, class_of, object_of, next_row, modify_refusal, rename_refusal, delete_refusal, rows_written}
+use Rattle.adr_model.specs.Write.{Modify, Rename, Delete, AreInOrder, of_schema, object_refusal, nodes_held, class_of, object_of, next_row, modify_refusals, modify_refusal, rename_refusals, rename_refusal, delete_refusals, delete_refusal, rows_written}
 use Rattle.adr_model.proofs.Members.{mapped_member}
 use Rattle.adr_law_steps.specs.Puts.{MayPut}
 use Rattle.adr_law_steps.specs.Forms.{IsWellSaid}
@@ -65,61 +60,28 @@ module _ (s : State) (formed : IsFormed s) (guid : Identifier) where
   -- ---- a name
 
   module _ (parent : Identifier) (text : List ℕ) (none : rename_refusal s guid parent text ≡ None) where
-    abbrev rename_refusals : List (Option WriteRefusal)
-    rename_refusals =
-        where_true (is_quarantined s.mode) Quarantined
-        ∷ fixed_refusal guid
-        ∷ object_refusal rows (nodes_held rows) guid
-        ∷ option_map of_schema (schema_name_refusal text)
-        ∷ parent_refusal (nodes_held rows) parent
-        ∷ loop_refusal (nodes_held rows) guid parent
-        ∷ superior_refusal (numbered s.store.schema) (nodes_held rows) class parent
-        ∷ name_refusal (nodes_held rows) guid parent text
-        ∷ version_refusal s.store.rows (RowOf o name_attr) name_attr
-        ∷ usn_refusal (s.store.usn + 1)
-        ∷ []
-
     well_named : name_fault text ≡ None
-    well_named = not_mapped BadName _ (not_mapped of_schema _ (none_there rename_refusals none _ (inr (inr (inr (inl refl))))))
+    well_named = not_mapped BadName _ (not_mapped of_schema _ (none_there (rename_refusals s guid parent text) none _ (inr (inr (inr (inl refl))))))
 
     pub may_rename : (now : ℕ) → MayWrite s (rows_written s (Rename guid parent text) now).unit (rows_written s (Rename guid parent text) now).rows
-    may_rename now = one_row now name_attr (Name text parent) (live (none_there rename_refusals none _ (inr (inr (inl refl)))))
+    may_rename now = one_row now name_attr (Name text parent) (live (none_there (rename_refusals s guid parent text) none _ (inr (inr (inl refl)))))
         (name_well_said (numbered s.store.schema) class o (next_row s now o name_attr (Name text parent)) text parent refl refl well_named)
 
   -- ---- a death
 
   module _ (none : delete_refusal s guid ≡ None) where
-    abbrev delete_refusals : List (Option WriteRefusal)
-    delete_refusals =
-        where_true (is_quarantined s.mode) Quarantined
-        ∷ fixed_refusal guid
-        ∷ object_refusal rows (nodes_held rows) guid
-        ∷ child_refusal (nodes_held rows) guid
-        ∷ usn_refusal (s.store.usn + 1)
-        ∷ []
-
     pub may_delete : (now : ℕ) → MayWrite s (rows_written s (Delete guid) now).unit (rows_written s (Delete guid) now).rows
-    may_delete now = one_row now deleted_attr Dead (live (none_there delete_refusals none _ (inr (inr (inl refl)))))
+    may_delete now = one_row now deleted_attr Dead (live (none_there (delete_refusals s guid) none _ (inr (inr (inl refl)))))
         (death_well_said (numbered s.store.schema) class o (next_row s now o deleted_attr Dead) refl refl)
 
   -- ---- values
 
   module _ (values : List Given) (order : AreInOrder values) (none : modify_refusal s guid values ≡ None) where
-    abbrev modify_refusals : List (Option WriteRefusal)
-    modify_refusals =
-        where_true (is_quarantined s.mode) Quarantined
-        ∷ fixed_refusal guid
-        ∷ object_refusal rows (nodes_held rows) guid
-        ∷ option_map of_schema (schema_modify_refusal (numbered s.store.schema) class values)
-        ∷ first_of (map (λ (g : Given). version_refusal s.store.rows (RowOf o g.0) g.0) values)
-        ∷ usn_refusal (s.store.usn + 1)
-        ∷ []
-
     alive : IsLive rows o class
-    alive = live (none_there modify_refusals none _ (inr (inr (inl refl))))
+    alive = live (none_there (modify_refusals s guid values) none _ (inr (inr (inl refl))))
 
     allowed : schema_modify_refusal (numbered s.store.schema) class values ≡ None
-    allowed = not_mapped of_schema _ (none_there modify_refusals none _ (inr (inr (inr (inl refl)))))
+    allowed = not_mapped of_schema _ (none_there (modify_refusals s guid values) none _ (inr (inr (inr (inl refl)))))
 
     held_values : (g : Given) → Member g values → MayBeHeld (numbered s.store.schema) class g.0 g.1
     held_values g m = let p = place_of values g m in

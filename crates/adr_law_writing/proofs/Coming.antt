@@ -1,6 +1,5 @@
 -- An object that is added wasn't held, and its rows are all that the schema wants of it.
-use Rattle.std.proofs.Common.{◌≡◌, ◌⊎◌, inl, inr, ℕ, ◌≤◌, ◌<◌, ◌+◌, List, [], ◌∷◌, true, false, ◌||◌, Option, Some, None, is_some, refl, sym, ap, ◌∙◌, subst, length, eq-eqb, arith}
-use Rattle.std.specs.Option.{option_map}
+use Rattle.std.proofs.Common.{◌≡◌, ◌⊎◌, inl, inr, ℕ, ◌≤◌, ◌<◌, ◌+◌, List, true, false, ◌||◌, Option, Some, None, is_some, refl, sym, ap, ◌∙◌, subst, length, eq-eqb, arith}
 use Rattle.std.proofs.lemmas.Bool.{and_from, or_parts}
 use Rattle.adr_stamp.specs.declared.Oid.{Oid}
 use Rattle.adr_stamp.specs.declared.Unit.TheVariants.{Object}
@@ -11,25 +10,23 @@ use Rattle.adr_schema.specs.Names.{name_fault}
 use Rattle.adr_schema.specs.declared.content.Value.{Value as Datum}
 use Rattle.adr_schema.specs.declared.content.Content.TheVariants.{Class, Name, Values}
 use Rattle.adr_schema.specs.declared.refusal.SchemaRefusal.TheVariants.{BadName}
-use Rattle.adr_schema.specs.Rules.{add_refusal as schema_add_refusal, name_refusal as schema_name_refusal}
+use Rattle.adr_schema.specs.Rules.{add_refusal as schema_add_refusal}
 use Rattle.adr_schema.proofs.ExactCalls.{may_be_added}
 use Rattle.adr_schema.proofs.ExactRows.{may_be_held, added_may_be_held}
-use Rattle.adr_vector.specs.Vector.{at, raised, most_cursors}
+use Rattle.adr_vector.specs.Vector.{at, raised, cursor_limit}
 use Rattle.adr_vector.proofs.Cursors.{test_itself}
 use Rattle.adr_event.specs.declared.refusal.Table.TheVariants.{Objects, Cursors}
 use Rattle.adr_event.specs.declared.refusal.WriteRefusal.{WriteRefusal}
-use Rattle.adr_event.specs.declared.refusal.WriteRefusal.TheVariants.{Quarantined, GuidThere, NameTaken}
+use Rattle.adr_event.specs.declared.refusal.WriteRefusal.TheVariants.{GuidThere}
 use Rattle.adr_model.specs.Member.{Member}
 use Rattle.adr_model.specs.Update.{Identifier, RowOf, Update, unit_of, class_attr, name_attr, deleted_attr}
 use Rattle.adr_model.specs.Live.{objects_of}
 use Rattle.adr_model.specs.Place.{is_fixed}
-use Rattle.adr_model.specs.Shown.{name_holder}
 use Rattle.adr_model.specs.Reflects.{CoversBirth, HoldsObject, IsDeath}
 use Rattle.adr_model.specs.Store.{State, updates_of}
-use Rattle.adr_model.specs.Serve.{is_quarantined}
 use Rattle.adr_model.specs.Take.{is_birth}
 use Rattle.adr_model.specs.Formed.{IsFormed}
-use Rattle.adr_model.specs.Write.{AddObject, AreInOrder, object_limit, where_true, of_schema, parent_refusal, superior_refusal, usn_refusal, full_refusal, cursor_refusal, is_of_guid, holds_guid, nodes_held, first_stamp, new_object, new_rows, row, add_refusal, rows_written}
+use Rattle.adr_model.specs.Write.{AddObject, AreInOrder, object_limit, of_schema, is_of_guid, holds_guid, first_stamp, new_object, new_rows, row, add_refusals, add_refusal, rows_written}
 use Rattle.adr_model.proofs.Members.{each_fails, mapped_member, member_mapped}
 use Rattle.adr_law_steps.specs.Puts.{MayPut}
 use Rattle.adr_law_steps.specs.Forms.{IsWellSaid, HasKey, MayCome}
@@ -45,18 +42,7 @@ module _ (s : State) (formed : IsFormed s) (guid : Identifier) (class : ℕ) (pa
   rows = updates_of s.store.rows
 
   abbrev refusals : List (Option WriteRefusal)
-  refusals =
-      where_true (is_quarantined s.mode) Quarantined
-      ∷ where_true (is_fixed guid || holds_guid rows guid) (GuidThere guid)
-      ∷ option_map of_schema (schema_add_refusal (numbered s.store.schema) class values)
-      ∷ option_map of_schema (schema_name_refusal text)
-      ∷ parent_refusal (nodes_held rows) parent
-      ∷ superior_refusal (numbered s.store.schema) (nodes_held rows) class parent
-      ∷ option_map NameTaken (name_holder (nodes_held rows) parent text)
-      ∷ usn_refusal (s.store.usn + 1)
-      ∷ full_refusal Objects object_limit (length (objects_of rows) + 1)
-      ∷ cursor_refusal s
-      ∷ []
+  refusals = add_refusals s guid class parent text values
 
   not_there : holds_guid rows guid ≡ false
   not_there = (or_parts (is_fixed guid) (holds_guid rows guid) (not_so (is_fixed guid || holds_guid rows guid) (GuidThere guid) (none_there refusals none _ (inr (inl refl))))).1
@@ -70,7 +56,7 @@ module _ (s : State) (formed : IsFormed s) (guid : Identifier) (class : ℕ) (pa
   room : HasRoom s
   room = record {
     objects = not_full Objects object_limit (length (objects_of rows) + 1) (none_there refusals none _ (inr (inr (inr (inr (inr (inr (inr (inr (inl refl))))))))));
-    cursors = not_full Cursors most_cursors (length (raised s.store.vector s.inv (s.store.usn + 1))) (none_there refusals none _ (inr (inr (inr (inr (inr (inr (inr (inr (inr (inl refl)))))))))));
+    cursors = not_full Cursors cursor_limit (length (raised s.store.vector s.inv (s.store.usn + 1))) (none_there refusals none _ (inr (inr (inr (inr (inr (inr (inr (inr (inr (inl refl)))))))))));
   }
 
   abbrev o : Oid

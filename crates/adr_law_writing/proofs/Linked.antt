@@ -1,6 +1,6 @@
 -- A link that is added or removed is one of live objects, under the attribute of a forward link, with room for its row.
 use Rattle.std.proofs.Common.{◌≡◌, ◌⊎◌, inl, inr, ℕ, ◌≤◌, ◌+◌, List, [], ◌∷◌, Bool, true, false, not, Option, Some, None, is_some, refl, sym, ap, ◌∙◌, subst, arith, if◌then◌else◌}
-use Rattle.std.specs.Option.{option_map, option_map_or}
+use Rattle.std.specs.Option.{option_map_or}
 use Rattle.std.proofs.lemmas.Bool.{not-false}
 use Rattle.adr_stamp.specs.declared.Oid.{Oid}
 use Rattle.adr_stamp.specs.declared.LinkKey.{LinkKey}
@@ -12,19 +12,18 @@ use Rattle.adr_schema.proofs.ExactCalls.{neither, not_then}
 use Rattle.adr_vector.specs.Vector.{at}
 use Rattle.adr_event.specs.declared.refusal.WriteRefusal.{WriteRefusal}
 use Rattle.adr_event.specs.declared.refusal.Table.TheVariants.{Links}
-use Rattle.adr_event.specs.declared.refusal.WriteRefusal.TheVariants.{Quarantined, LinkThere, LinkNotThere}
+use Rattle.adr_event.specs.declared.refusal.WriteRefusal.TheVariants.{LinkThere, LinkNotThere}
 use Rattle.adr_model.specs.Member.{Each}
 use Rattle.adr_model.specs.Update.{Identifier, LinkOf, IsPresent, Update, same_key, unit_of, ends}
 use Rattle.adr_model.specs.Store.{Held, State, updates_of, row_held}
-use Rattle.adr_model.specs.Serve.{is_quarantined}
 use Rattle.adr_model.specs.Formed.{IsFormed}
-use Rattle.adr_model.specs.Write.{AddLink, RemoveLink, where_true, of_schema, fixed_refusal, object_refusal, version_refusal, usn_refusal, full_refusal, nodes_held, class_of, object_of, link_of, is_linked, says_present, links_in, link_limit, more_links, any_link_refusal, link_refusal, unlink_refusal, rows_written}
+use Rattle.adr_model.specs.Write.{AddLink, RemoveLink, where_true, of_schema, object_refusal, full_refusal, nodes_held, class_of, object_of, link_of, is_linked, says_present, links_in, link_limit, more_links, any_link_refusals, any_link_refusal, link_refusal, unlink_refusal, rows_written}
 use Rattle.adr_law_knowledge.proofs.Comparing.{keys_tell}
 use Rattle.adr_law_steps.proofs.Rows.{updated}
 use Rattle.adr_law_writing.specs.MayWrites.{IsHeldAlive, HoldsLink, MayWrite}
 use Rattle.adr_law_knowledge.proofs.Refusing.{none_there, not_mapped}
 use Rattle.adr_law_writing.proofs.Refusals.{is_so, not_full}
-use Rattle.adr_law_knowledge.proofs.Lists.{found_member}
+use Rattle.adr_model.proofs.Members.{found_member}
 use Rattle.adr_law_writing.proofs.Nodes.{object_is_live}
 use Rattle.adr_law_steps.proofs.Rising.{one_update}
 use Rattle.adr_law_writing.proofs.Stamps.{written, one_may_be_put}
@@ -53,17 +52,7 @@ module _ (s : State) (formed : IsFormed s) (from : Identifier) (attr : ℕ) (to 
 
   module _ (wrong : Bool → Option WriteRefusal) (none : any_link_refusal s from attr to wrong ≡ None) where
     abbrev refusals : List (Option WriteRefusal)
-    refusals =
-        where_true (is_quarantined s.mode) Quarantined
-        ∷ fixed_refusal from
-        ∷ fixed_refusal to
-        ∷ object_refusal rows (nodes_held rows) from
-        ∷ option_map of_schema (schema_link_refusal (numbered s.store.schema) (class_of (nodes_held rows) from) attr)
-        ∷ object_refusal rows (nodes_held rows) to
-        ∷ wrong (is_linked s.store.rows link)
-        ∷ version_refusal s.store.rows (LinkOf link) attr
-        ∷ usn_refusal (s.store.usn + 1)
-        ∷ []
+    refusals = any_link_refusals s from attr to wrong
 
     from_live : IsHeldAlive rows (object_of (nodes_held rows) from)
     from_live = live from (none_there refusals none _ (inr (inr (inr (inl refl)))))

@@ -1,54 +1,28 @@
 -- What a node that is held is: an object with a class row of its class, and without a death.
-use Rattle.std.proofs.Common.{◌≡◌, ◌==◌, inl, inr, ℕ, zero, suc, List, [], ◌∷◌, Bool, true, false, cond, Option, Some, None, is_none, not, refl, sym, ap, ◌∙◌, subst, arith}
+use Rattle.std.proofs.Common.{◌≡◌, inl, inr, ℕ, zero, suc, List, [], ◌∷◌, true, false, Option, Some, None, is_none, not, refl, sym, ap, ◌∙◌, subst, arith}
 use Rattle.std.specs.List.{list_all}
-use Rattle.std.specs.Option.{option_and_then, option_map_or}
+use Rattle.std.specs.Option.{option_map_or}
 use Rattle.adr_stamp.specs.declared.Oid.{Oid}
-use Rattle.adr_stamp.specs.declared.LinkStamp.{LinkStamp}
 use Rattle.adr_schema.specs.Table.{Table}
-use Rattle.adr_schema.specs.declared.content.Content.TheVariants.{Class, Name, Dead, Values}
+use Rattle.adr_schema.specs.declared.content.Content.TheVariants.{Class, Name, Values}
 use Rattle.adr_model.specs.Member.{Member, Each}
-use Rattle.adr_model.specs.Update.{Identifier, Key, RowOf, LinkOf, Said, Holds, IsPresent, Update, ends, class_attr, name_attr, same_object, same_identifier}
+use Rattle.adr_model.specs.Update.{Identifier, RowOf, Holds, Update, ends, class_attr, name_attr, same_object, same_identifier}
 use Rattle.adr_model.specs.Winner.{winners}
 use Rattle.adr_model.specs.Live.{standing, live, is_among, live_rows}
-use Rattle.adr_model.specs.Place.{Node, root, row_at, with_name, node_of, node_at}
+use Rattle.adr_model.specs.Place.{Node, root, node_of, node_at}
 use Rattle.adr_model.specs.Reflects.{HoldsObject, IsTombstoned}
 use Rattle.adr_model.specs.Formed.{AreFormedRows, IsNamed, IsObjectFormed}
 use Rattle.adr_event.specs.declared.refusal.WriteRefusal.{WriteRefusal}
 use Rattle.adr_event.specs.declared.refusal.WriteRefusal.TheVariants.{NoObject, Deleted}
 use Rattle.adr_model.specs.Write.{where_true, holds_guid, nodes_held, object_refusal, object_of, class_of}
-use Rattle.adr_model.proofs.Members.{of_filter}
-use Rattle.adr_law_knowledge.proofs.Comparing.{objects_tell}
-use Rattle.adr_law_knowledge.proofs.Lists.{found_member, of_filter_map, some_passes, each_passes}
+use Rattle.adr_model.proofs.Nodes.{IsNodeOf, is_node_of}
+use Rattle.adr_model.proofs.Members.{of_filter, found_member, of_filter_map, some_passes, each_passes}
+use Rattle.adr_model.proofs.Keys.{objects_tell}
 use Rattle.adr_law_knowledge.proofs.Standing.{of_standing}
 use Rattle.adr_law_knowledge.proofs.Winners.{is_won, of_winners}
 use Rattle.adr_law_writing.specs.MayWrites.{IsLive}
 use Rattle.adr_law_knowledge.proofs.Refusing.{none_there}
 use Rattle.adr_law_writing.proofs.Refusals.{not_so}
-
--- ---- a node by its class row
-
-abbrev IsNodeOf : Key → Said → Node → Type 0
-IsNodeOf k said n = (attr : ℕ) × (k ≡ RowOf n.object attr) × (said ≡ Holds (Class n.class))
-
-named_node : (o : Oid) (class : ℕ) (stamp : LinkStamp) (said : Said) (n : Node) → with_name o class stamp said ≡ Some n → (o ≡ n.object) × (class ≡ n.class)
-named_node o class stamp (Holds (Name text parent)) n e = let same : record { object = o; class = class; text = text; parent = parent; stamp = stamp } ≡ n = cc in (ap (λ (m : Node). m.object) same, ap (λ (m : Node). m.class) same)
-named_node o class stamp (Holds (Class c)) n e = absurd (cc)
-named_node o class stamp (Holds Dead) n e = absurd (cc)
-named_node o class stamp (Holds (Values vs)) n e = absurd (cc)
-named_node o class stamp (IsPresent b) n e = absurd (cc)
-
-is_node_of : (rows : List Update) (k : Key) (said : Said) (n : Node) → node_of rows k said ≡ Some n → IsNodeOf k said n
-is_node_of rows (RowOf o attr) (Holds (Class class)) n e = by (attr == class_attr) (row_at rows (RowOf o name_attr)) e
-  where
-    by : (b : Bool) (u : Option Update) → cond b (option_and_then (λ (v : Update). with_name o class v.stamp v.said) u) None ≡ Some n → IsNodeOf (RowOf o attr) (Holds (Class class)) n
-    by false u h = absurd (cc)
-    by true None h = absurd (cc)
-    by true (Some u) h = let t = named_node o class u.stamp u.said n h in (attr, ap (λ p. RowOf p attr) t.0, ap (λ c. Holds (Class c)) t.1)
-is_node_of rows (RowOf o attr) (Holds (Name text parent)) n e = absurd (cc)
-is_node_of rows (RowOf o attr) (Holds Dead) n e = absurd (cc)
-is_node_of rows (RowOf o attr) (Holds (Values vs)) n e = absurd (cc)
-is_node_of rows (RowOf o attr) (IsPresent b) n e = absurd (cc)
-is_node_of rows (LinkOf l) said n e = absurd (cc)
 
 -- ---- live rows
 

@@ -4,7 +4,7 @@ use Rattle.adr_stamp.specs.declared.Oid.{Oid}
 use Rattle.adr_stamp.specs.declared.LinkKey.{LinkKey}
 use Rattle.adr_stamp.specs.declared.Unit.{Unit as Named}
 use Rattle.adr_stamp.specs.declared.Unit.TheVariants.{Object, Link}
-use Rattle.adr_vector.specs.Vector.{raised, most_cursors}
+use Rattle.adr_vector.specs.Vector.{raised, cursor_limit}
 use Rattle.adr_model.specs.Member.{Member, Each}
 use Rattle.adr_model.specs.Update.{RowOf, LinkOf, Update, class_attr}
 use Rattle.adr_model.specs.Live.{objects_of}
@@ -20,17 +20,17 @@ use Rattle.adr_law_knowledge.proofs.Raised.{raised_replaces}
 use Rattle.adr_law_steps.proofs.Rows.{updated, held_as, object_of_row, no_link_row, no_object_row, same_link}
 
 -- where a row stands, a USN was used, and so the own cursor is there
-pub few_cursors : (s : State) (r : Update) → IsFormed s → Member r (updates_of s.store.rows) → length (raised s.store.vector s.inv (s.store.usn + 1)) ≤ most_cursors
+pub few_cursors : (s : State) (r : Update) → IsFormed s → Member r (updates_of s.store.rows) → length (raised s.store.vector s.inv (s.store.usn + 1)) ≤ cursor_limit
 few_cursors s r formed m =
     let x = held_as s.store.rows r m in
     let local = formed.store.locals x.0 x.1 in
     omega (arith, raised_replaces s.store.vector s.inv (s.store.usn + 1) (λ _. omega (arith, formed.own, local.0, local.1)) formed.store.vector, formed.store.vector.few)
 
-pub cursors_within : (s : State) (unit : Named) (us : List Update) → IsFormed s → MayWrite s unit us → length (raised s.store.vector s.inv (s.store.usn + 1)) ≤ most_cursors
+pub cursors_within : (s : State) (unit : Named) (us : List Update) → IsFormed s → MayWrite s unit us → length (raised s.store.vector s.inv (s.store.usn + 1)) ≤ cursor_limit
 cursors_within s (Link l) us formed may = let h = (may.fits.ends l.from (inl refl)).0 in few_cursors s h.0 formed h.2
 cursors_within s (Object o) us formed may = by may.fits.0 may.fits.1
   where
-    by : (class : ℕ) → Changes s o class us ⊎ Comes s o class us → length (raised s.store.vector s.inv (s.store.usn + 1)) ≤ most_cursors
+    by : (class : ℕ) → Changes s o class us ⊎ Comes s o class us → length (raised s.store.vector s.inv (s.store.usn + 1)) ≤ cursor_limit
     by class (inl c) = few_cursors s c.of_class.0 formed c.of_class.1
     by class (inr c) = c.1.cursors
 

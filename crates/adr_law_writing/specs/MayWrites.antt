@@ -7,7 +7,7 @@ use Rattle.adr_stamp.specs.declared.Unit.TheVariants.{Object, Link}
 use Rattle.adr_schema.specs.Table.{kind_at, is_forward}
 use Rattle.adr_schema.specs.Numbered.{numbered}
 use Rattle.adr_schema.specs.declared.content.Content.TheVariants.{Class}
-use Rattle.adr_vector.specs.Vector.{at, raised, most_cursors}
+use Rattle.adr_vector.specs.Vector.{at, raised, cursor_limit}
 use Rattle.adr_model.specs.Member.{Member, Each}
 use Rattle.adr_model.specs.Update.{Update, LinkOf, Holds, IsPresent, ends, class_attr}
 use Rattle.adr_model.specs.Live.{objects_of}
@@ -26,7 +26,7 @@ pub record IsLive (rows : List Update) (o : Oid) (class : ℕ) : Type 0 where
 -- one more object and one more cursor are within the limits
 pub record HasRoom (s : State) : Type 0 where
   pub objects : length (objects_of (updates_of s.store.rows)) + 1 ≤ object_limit
-  pub cursors : length (raised s.store.vector s.inv (s.store.usn + 1)) ≤ most_cursors
+  pub cursors : length (raised s.store.vector s.inv (s.store.usn + 1)) ≤ cursor_limit
 
 -- an object is held and not dead
 abbrev pub IsHeldAlive : List Update → Oid → Type 0

@@ -1,16 +1,18 @@
--- Keys are told apart by their order, and rows that are put in by their keys.
-use Rattle.std.proofs.Common.{◌≡◌, ◌⊎◌, inl, inr, ⊎_elim, ℕ, List, [], ◌∷◌, Bool, true, false, cond, Option, Some, None, refl, sym, ap, ◌∙◌, map, fold}
-use Rattle.std.specs.Ordering.{match_ordering, is_eq, nat_cmp}
+-- Keys are ordered and told apart by their order; and what wins at a key of which there is one update.
+use Rattle.std.proofs.Common.{◌≡◌, ◌⊎◌, inl, inr, ⊎_elim, ℕ, List, [], ◌∷◌, Bool, true, false, cond, Option, Some, None, refl, ap, ◌∙◌}
+use Rattle.std.specs.Cmp.{IsTotalOrder}
+use Rattle.std.specs.Ordering.{ordering_reverse, ordering_then, is_eq, nat_cmp}
 use Rattle.std.specs.declared.cmp.Ordering.{Ordering}
 use Rattle.std.specs.declared.cmp.Ordering.TheVariants.{Less, Equal, Greater}
-use Rattle.std.specs.BTreeSet.{insert_key}
+use Rattle.std.proofs.lemmas.Cmp.{nat_cmp_total, on_total, then_total}
 use Rattle.std.proofs.lemmas.Map.Lookups.{CmpEqualImpliesEq, exact_pairs, exact_unsigned}
 use Rattle.adr_stamp.specs.declared.Oid.{Oid}
 use Rattle.adr_stamp.specs.Order.{object_order}
+use Rattle.adr_stamp.specs.contracts.OidOrd.TheImpl.Laws.{total-law as objects_total}
+use Rattle.adr_stamp.specs.contracts.LinkKeyOrd.TheImpl.Laws.{total-law as links_total}
 use Rattle.adr_stamp.proofs.Exact.{exact_objects, exact_links}
-use Rattle.adr_model.specs.Update.{RowOf, LinkOf, Update, key_order, same_key, is_older}
-use Rattle.adr_model.specs.Winner.{or_younger, winner, keys_of}
-use Rattle.adr_model.specs.Store.{Held, updates_of, with_row}
+use Rattle.adr_model.specs.Update.{Key, RowOf, LinkOf, Update, key_order, same_key, same_object, is_older}
+use Rattle.adr_model.specs.Winner.{or_younger, winner}
 use Rattle.adr_model.specs.Member.{Member}
 
 pub equal_order : (o : Ordering) → is_eq o ≡ true → o ≡ Equal
@@ -24,46 +26,38 @@ exact_keys (RowOf o a) (LinkOf l) h = cc
 exact_keys (LinkOf k) (RowOf p b) h = cc
 exact_keys (LinkOf k) (LinkOf l) h = ap LinkOf (exact_links k l h)
 
--- updates with one more, which takes the place of that of its key
-abbrev pub with_update : List Update → Update → List Update
-with_update [] u = u ∷ []
-with_update (x ∷ xs) u = match_ordering (key_order u.key x.key) (u ∷ x ∷ xs) (u ∷ xs) (x ∷ with_update xs u)
+pub objects_tell : (o p : Oid) → same_object o p ≡ true → o ≡ p
+objects_tell o p e = exact_objects o p (equal_order (object_order o p) e)
 
-pub put_before : (u x : Update) (xs : List Update) → key_order u.key x.key ≡ Less → with_update (x ∷ xs) u ≡ u ∷ x ∷ xs
-put_before u x xs e = ap (λ o. match_ordering o (u ∷ x ∷ xs) (u ∷ xs) (x ∷ with_update xs u)) e
+-- rows' keys by object and then by attribute
+rows_total : IsTotalOrder (λ (x y : Oid × ℕ). ordering_then (object_order x.0 y.0) (nat_cmp x.1 y.1))
+rows_total = then_total (on_total (λ (x : Oid × ℕ). x.0) objects_total) (on_total (λ (x : Oid × ℕ). x.1) nat_cmp_total)
 
-pub put_behind : (u x : Update) (xs : List Update) → key_order u.key x.key ≡ Greater → with_update (x ∷ xs) u ≡ x ∷ with_update xs u
-put_behind u x xs e = ap (λ o. match_ordering o (u ∷ x ∷ xs) (u ∷ xs) (x ∷ with_update xs u)) e
+either_way : (x y : Key) → key_order x y ≡ ordering_reverse (key_order y x)
+either_way (RowOf o a) (RowOf p b) = rows_total.antisymm (o, a) (p, b)
+either_way (RowOf o a) (LinkOf l) = refl
+either_way (LinkOf k) (RowOf p b) = refl
+either_way (LinkOf k) (LinkOf l) = links_total.antisymm k l
 
--- rows that are written are updates that are put in
-pub updates_with_row : (xs : List Held) (h : Held) → updates_of (with_row xs h) ≡ with_update (updates_of xs) h.update
-updates_with_row [] h = refl
-updates_with_row (x ∷ xs) h = by (key_order h.update.key x.update.key) (updates_with_row xs h)
-  where
-    by : (o : Ordering) → updates_of (with_row xs h) ≡ with_update (updates_of xs) h.update
-        → updates_of (match_ordering o (h ∷ x ∷ xs) (h ∷ xs) (x ∷ with_row xs h)) ≡ match_ordering o (h.update ∷ x.update ∷ updates_of xs) (h.update ∷ updates_of xs) (x.update ∷ with_update (updates_of xs) h.update)
-    by Less rest = refl
-    by Equal rest = refl
-    by Greater rest = ap (λ us. x.update ∷ us) rest
+onward : (x y z : Key) → key_order x y ≡ Less → key_order y z ≡ Less → key_order x z ≡ Less
+onward (RowOf o a) (RowOf p b) (RowOf q c) e f = rows_total.trans (o, a) (p, b) (q, c) e f
+onward (RowOf o a) (RowOf p b) (LinkOf l) e f = refl
+onward (RowOf o a) (LinkOf k) (RowOf q c) e f = cc
+onward (RowOf o a) (LinkOf k) (LinkOf l) e f = refl
+onward (LinkOf k) (RowOf p b) z e f = cc
+onward (LinkOf k) (LinkOf l) (RowOf q c) e f = cc
+onward (LinkOf k) (LinkOf l) (LinkOf m) e f = links_total.trans k l m e f
 
-keys_with_update : (xs : List Update) (u : Update) → insert_key key_order (map (λ (v : Update). v.key) xs) u.key ≡ map (λ (v : Update). v.key) (with_update xs u)
-keys_with_update [] u = refl
-keys_with_update (x ∷ xs) u = by (key_order u.key x.key) refl (keys_with_update xs u)
-  where
-    by : (o : Ordering) → key_order u.key x.key ≡ o → insert_key key_order (map (λ (v : Update). v.key) xs) u.key ≡ map (λ (v : Update). v.key) (with_update xs u)
-        → match_ordering o (u.key ∷ x.key ∷ map (λ (v : Update). v.key) xs) (x.key ∷ map (λ (v : Update). v.key) xs) (x.key ∷ insert_key key_order (map (λ (v : Update). v.key) xs) u.key)
-        ≡ map (λ (v : Update). v.key) (match_ordering o (u ∷ x ∷ xs) (u ∷ xs) (x ∷ with_update xs u))
-    by Less is rest = refl
-    by Equal is rest = ap (λ k. k ∷ map (λ (v : Update). v.key) xs) (sym (exact_keys u.key x.key is))
-    by Greater is rest = ap (λ ks. x.key ∷ ks) rest
+tied : (x y z : Key) → key_order x y ≡ Equal → key_order x z ≡ key_order y z
+tied (RowOf o a) (RowOf p b) (RowOf q c) e = rows_total.congr (o, a) (p, b) (q, c) e
+tied (RowOf o a) (RowOf p b) (LinkOf l) e = refl
+tied (RowOf o a) (LinkOf l) z e = cc
+tied (LinkOf k) (RowOf p b) z e = cc
+tied (LinkOf k) (LinkOf l) (RowOf q c) e = refl
+tied (LinkOf k) (LinkOf l) (LinkOf m) e = links_total.congr k l m e
 
-keys_with_updates : (us xs : List Update) → fold (insert_key key_order) (map (λ (v : Update). v.key) xs) (map (λ (v : Update). v.key) us) ≡ map (λ (v : Update). v.key) (fold with_update xs us)
-keys_with_updates [] xs = refl
-keys_with_updates (u ∷ us) xs = ap (λ ks. fold (insert_key key_order) ks (map (λ (v : Update). v.key) us)) (keys_with_update xs u) ∙ keys_with_updates us (with_update xs u)
-
--- the keys of updates are those of the updates put in one after the other
-pub keys_of_updates : (us : List Update) → keys_of us ≡ map (λ (v : Update). v.key) (fold with_update [] us)
-keys_of_updates us = keys_with_updates us []
+pub keys_total : IsTotalOrder key_order
+keys_total = record { antisymm = either_way; trans = onward; congr = tied }
 
 -- the winner at a key of which there is one update at most
 abbrev Won : List Update → Update → Option Update → Type 0

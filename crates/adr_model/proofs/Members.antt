@@ -1,8 +1,8 @@
 -- What holds of lists by their members.
-use Rattle.std.proofs.Common.{◌≡◌, ◌⊎◌, inl, inr, ⊎_elim, List, [], ◌∷◌, ◌++◌, Bool, true, false, cond, ◌||◌, Option, Some, None, refl, sym, ap, ◌∙◌, subst, map, filter, find, flat_map, filter_map}
-use Rattle.std.specs.List.{list_any, cons_option}
+use Rattle.std.proofs.Common.{◌≡◌, ◌⊎◌, inl, inr, ⊎_elim, List, [], ◌∷◌, ◌++◌, Bool, true, false, cond, ◌&&◌, ◌||◌, Option, Some, None, refl, sym, ap, ◌∙◌, subst, map, filter, find, flat_map, filter_map}
+use Rattle.std.specs.List.{list_any, list_all, cons_option}
 use Rattle.std.proofs.lemmas.Bool.{or_from, or_left, or_right}
-use Rattle.adr_model.specs.Member.{Member}
+use Rattle.adr_model.specs.Member.{Member, Each}
 
 module _ {A : Type 0} where
   pub member_left : (xs ys : List A) (x : A) → Member x xs → Member x (xs ++ ys)
@@ -32,10 +32,6 @@ module _ {A : Type 0} where
   filter_all test [] pass = refl
   filter_all test (x ∷ xs) pass = ap (λ b. cond b (x ∷ filter test xs) (filter test xs)) (pass x (inl refl)) ∙ ap (λ ys. x ∷ ys) (filter_all test xs (λ y m. pass y (inr m)))
 
-  pub not_found : (test : A → Bool) (xs : List A) → ((x : A) → Member x xs → test x ≡ false) → find test xs ≡ None
-  not_found test [] none = refl
-  not_found test (x ∷ xs) none = ap (λ b. cond b (Some x) (find test xs)) (none x (inl refl)) ∙ not_found test xs (λ y m. none y (inr m))
-
   -- the only member that passes a test is found by it
   pub found : (test : A → Bool) (xs : List A) (x : A) → Member x xs → test x ≡ true → ((y : A) → Member y xs → test y ≡ true → y ≡ x) → find test xs ≡ Some x
   found test [] x m p one = absurd m
@@ -46,27 +42,13 @@ module _ {A : Type 0} where
       by false is (inl e) rest = let t : test y ≡ true = ap test (sym e) ∙ p in cc
       by false is (inr n) rest = rest n
 
-  -- what a search comes to
-  abbrev Searched : (A → Bool) → List A → Option A → Type 0
-  Searched test xs o = ((x : A) × Member x xs × (test x ≡ true) × (o ≡ Some x)) ⊎ (((x : A) → Member x xs → test x ≡ false) × (o ≡ None))
-
-  searched : (test : A → Bool) (xs : List A) → Searched test xs (find test xs)
-  searched test [] = inr ((λ x m. absurd m), refl)
-  searched test (y ∷ ys) = by (test y) refl (searched test ys)
+  pub found_member : (test : A → Bool) (xs : List A) (x : A) → find test xs ≡ Some x → Member x xs × (test x ≡ true)
+  found_member test [] x e = absurd (cc)
+  found_member test (y ∷ ys) x e = by (test y) refl e (found_member test ys x)
     where
-      by : (b : Bool) → test y ≡ b → Searched test ys (find test ys) → Searched test (y ∷ ys) (cond b (Some y) (find test ys))
-      by true is rest = inl (y, inl refl, is, refl)
-      by false is (inl (x, m, p, e)) = inl (x, inr m, p, e)
-      by false is (inr (none, e)) = inr ((λ x m. ⊎_elim (λ here. ap test here ∙ is) (λ there. none x there) m), e)
-
-  -- lists with the same members, of which one at most passes
-  pub found_in_both : (test : A → Bool) (xs ys : List A) → ((x : A) → Member x xs → Member x ys) → ((x : A) → Member x ys → Member x xs)
-      → ((x y : A) → Member x ys → Member y ys → test x ≡ true → test y ≡ true → x ≡ y) → find test xs ≡ find test ys
-  found_in_both test xs ys to back one = by (searched test xs)
-    where
-      by : Searched test xs (find test xs) → find test xs ≡ find test ys
-      by (inl (x, m, p, e)) = e ∙ sym (found test ys x (to x m) p (λ y n q. one y x n (to x m) q p))
-      by (inr (none, e)) = e ∙ sym (not_found test ys (λ x m. none x (back x m)))
+      by : (b : Bool) → test y ≡ b → cond b (Some y) (find test ys) ≡ Some x → (find test ys ≡ Some x → Member x ys × (test x ≡ true)) → Member x (y ∷ ys) × (test x ≡ true)
+      by true is h rest = let same : x ≡ y = cc in (inl same, ap test same ∙ is)
+      by false is h rest = let t = rest h in (inr t.0, t.1)
 
   pub each_fails : (test : A → Bool) (xs : List A) → list_any test xs ≡ false → (x : A) → Member x xs → test x ≡ false
   each_fails test xs none x m = by (test x) refl
@@ -75,21 +57,26 @@ module _ {A : Type 0} where
       by false is = refl
       by true is = let t : list_any test xs ≡ true = one_passes test xs x m is in cc
 
-  passing : (test : A → Bool) (xs : List A) → list_any test xs ≡ true → (x : A) × Member x xs × (test x ≡ true)
-  passing test [] h = cc
-  passing test (y ∷ ys) h = by (test y) refl h (passing test ys)
+  pub some_passes : (test : A → Bool) (xs : List A) → list_any test xs ≡ true → (x : A) × Member x xs × (test x ≡ true)
+  some_passes test [] any = cc
+  some_passes test (y ∷ ys) any = by (test y) refl any (some_passes test ys)
     where
       by : (b : Bool) → test y ≡ b → (b || list_any test ys) ≡ true → (list_any test ys ≡ true → (x : A) × Member x ys × (test x ≡ true)) → (x : A) × Member x (y ∷ ys) × (test x ≡ true)
-      by true is h rest = (y, inl refl, is)
-      by false is h rest = let t = rest h in (t.0, inr t.1, t.2)
+      by true is any rest = (y, inl refl, is)
+      by false is any rest = let t = rest any in (t.0, inr t.1, t.2)
 
-  -- lists with the same members
-  pub any_in_both : (test : A → Bool) (xs ys : List A) → ((x : A) → Member x xs → Member x ys) → ((x : A) → Member x ys → Member x xs) → list_any test xs ≡ list_any test ys
-  any_in_both test xs ys to back = by (list_any test xs) refl
+  pub all_pass : (test : A → Bool) (xs : List A) → Each (λ x. test x ≡ true) xs → list_all test xs ≡ true
+  all_pass test [] pass = refl
+  all_pass test (x ∷ xs) pass = ap (λ b. b && list_all test xs) (pass x (inl refl)) ∙ all_pass test xs (λ y m. pass y (inr m))
+
+  pub each_passes : (test : A → Bool) (xs : List A) → list_all test xs ≡ true → Each (λ x. test x ≡ true) xs
+  each_passes test [] all x m = absurd m
+  each_passes test (y ∷ ys) all x m = by (test y) refl all m (λ rest n. each_passes test ys rest x n)
     where
-      by : (b : Bool) → list_any test xs ≡ b → b ≡ list_any test ys
-      by true is = let t = passing test xs is in sym (one_passes test ys t.0 (to t.0 t.1) t.2)
-      by false is = sym (none_passes test ys (λ y m. each_fails test xs is y (back y m)))
+      by : (b : Bool) → test y ≡ b → (b && list_all test ys) ≡ true → Member x (y ∷ ys) → (list_all test ys ≡ true → Member x ys → test x ≡ true) → test x ≡ true
+      by true is all (inl e) rest = ap test e ∙ is
+      by true is all (inr n) rest = rest all n
+      by false is all n rest = cc
 
   pub in_filter : (test : A → Bool) (xs : List A) (x : A) → Member x xs → test x ≡ true → Member x (filter test xs)
   in_filter test [] x m p = m
@@ -138,3 +125,21 @@ module _ {A B : Type 0} where
   filter_map_keys key h [] back = refl
   filter_map_keys key h (x ∷ xs) back =
       ap (λ (o : Option A). cons_option o (filter_map h (map key xs))) (back x (inl refl)) ∙ ap (λ ys. x ∷ ys) (filter_map_keys key h xs (λ y m. back y (inr m)))
+
+  pub in_filter_map : (h : A → Option B) (xs : List A) (x : A) (y : B) → Member x xs → h x ≡ Some y → Member y (filter_map h xs)
+  in_filter_map h [] x y m is = absurd m
+  in_filter_map h (z ∷ zs) x y (inl e) is = subst (λ o. Member y (cons_option o (filter_map h zs))) (sym is ∙ ap h e) (inl refl)
+  in_filter_map h (z ∷ zs) x y (inr m) is = by (h z) (in_filter_map h zs x y m is)
+    where
+      by : (o : Option B) → Member y (filter_map h zs) → Member y (cons_option o (filter_map h zs))
+      by None rest = rest
+      by (Some w) rest = inr rest
+
+  pub of_filter_map : (h : A → Option B) (xs : List A) (y : B) → Member y (filter_map h xs) → (x : A) × Member x xs × (h x ≡ Some y)
+  of_filter_map h [] y m = absurd m
+  of_filter_map h (z ∷ zs) y m = by (h z) refl m (of_filter_map h zs y)
+    where
+      by : (o : Option B) → h z ≡ o → Member y (cons_option o (filter_map h zs)) → (Member y (filter_map h zs) → (x : A) × Member x zs × (h x ≡ Some y)) → (x : A) × Member x (z ∷ zs) × (h x ≡ Some y)
+      by None is n rest = let t = rest n in (t.0, inr t.1, t.2)
+      by (Some w) is (inl e) rest = (z, inl refl, is ∙ ap Some (sym e))
+      by (Some w) is (inr n) rest = let t = rest n in (t.0, inr t.1, t.2)

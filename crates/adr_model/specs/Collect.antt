@@ -3,13 +3,14 @@ use Rattle.std.specs.Prelude.{ℕ, ◌+◌, List, [], ◌∷◌, Bool, ◌&&◌,
 use Rattle.std.specs.List.{list_any, filter_map}
 use Rattle.std.specs.Bool.{then_some}
 use Rattle.adr_stamp.specs.declared.Oid.{Oid}
-use Rattle.adr_vector.specs.Vector.{Cursors, raised, most_cursors}
+use Rattle.adr_vector.specs.Vector.{Cursors, raised, cursor_limit}
 use Rattle.adr_event.specs.declared.refusal.Table.TheVariants.{Cursors as CursorTable}
 use Rattle.adr_event.specs.declared.refusal.CollectRefusal.{CollectRefusal}
 use Rattle.adr_event.specs.declared.refusal.CollectRefusal.TheVariants.{Quarantined as IsQuarantined, UsnLimit}
 use Rattle.adr_event.specs.declared.refusal.AdoptRefusal.{AdoptRefusal}
 use Rattle.adr_event.specs.declared.refusal.AdoptRefusal.TheVariants.{IdentifierUsed, Full}
-use Rattle.adr_model.specs.Refusing.{first_of, unless}
+use Rattle.adr_failure.specs.First.{first_of}
+use Rattle.adr_model.specs.Refusing.{unless}
 use Rattle.adr_model.specs.Update.{Identifier, Update, inv_of, usn_of, same_identifier, ends}
 use Rattle.adr_model.specs.Visible.{covers_update, covers_birth}
 use Rattle.adr_model.specs.Store.{Held, Kept, Normal, Quarantined, Store, State}
@@ -83,7 +84,7 @@ woken s dsa inv =
 -- why an image can't be adopted, first in order
 abbrev pub adopt_refusal : Store → Identifier → State → Option AdoptRefusal
 adopt_refusal image inv s =
-    first_of (then_some (names_inv image inv) IdentifierUsed ∷ then_some (nat_lt most_cursors (length s.store.vector)) (Full CursorTable most_cursors) ∷ [])
+    first_of (then_some (names_inv image inv) IdentifierUsed ∷ then_some (nat_lt cursor_limit (length s.store.vector)) (Full CursorTable cursor_limit) ∷ [])
 
 -- a controller is made of an image under a fresh identifier
 abbrev pub adopt : Store → Identifier → Identifier → Result State AdoptRefusal

@@ -132,10 +132,13 @@ pub record IsAcknowledged (w : World) (e : Event) (usn : ℕ) (behind : World) :
 abbrev pub acknowledged : {e : Event} {usn : ℕ} {behind : World} → (w : World) → IsAcknowledged w e usn behind → List Update
 acknowledged w a = flat_map (λ (x : Written). x.item.rows) (items_written a.writer.safe a.write.what w.time)
 
+-- every answer by a USN acknowledges a write, all of which is issued in the world behind it
+abbrev pub AreAcknowledged : World → Event → List Answer → World → Type 0
+AreAcknowledged w e answers behind = (usn : ℕ) → Each (λ a. a.outcome ≡ outcomes.Usn usn → IsAcknowledged w e usn behind) answers
+
 -- a line that was answered by a USN issued what it wrote, all of it
 abbrev pub AcknowledgedIsIssued : Type 0
-AcknowledgedIsIssued =
-    (w : World) (e : Event) (usn : ℕ) → IsSoundWorld w → MayHappen w e → Each (λ a. a.outcome ≡ outcomes.Usn usn → IsAcknowledged w e usn (step w e).0) (step w e).1
+AcknowledgedIsIssued = (w : World) (e : Event) → IsSoundWorld w → MayHappen w e → AreAcknowledged w e (step w e).1 (step w e).0
 
 -- what was issued stays so, whatever comes
 abbrev pub IssuedStays : Type 0
@@ -260,20 +263,24 @@ pub record IsCompleted (w : World) (dest source : State) (answers : List Answer)
   pub own : at after.store.vector after.inv ≡ after.store.usn
   pub idle : Each (λ u. Reflects w.book.issued (knowledge_of dest.store) u) (updates_of source.store.rows) → (after.store.usn ≡ dest.store.usn) × (after.store.rows ≡ dest.store.rows)
 
--- the cycle took as many replies as one may, and says that there are more
-pub record SaysMore (dest : Name) (answers : List Answer) : Type 0 where
+-- the cycle took as many replies as one may, and says that there are more: the source had more units beyond the mark than that
+pub record SaysMore (name : Name) (dest source : State) (answers : List Answer) : Type 0 where
   pub replies : replies_taken answers ≡ reply_limit
-  pub more : Member (answer (codes "cycle") dest outcomes.More) answers
+  pub units : reply_limit < units_beyond dest source
+  pub more : Member (answer (codes "cycle") name outcomes.More) answers
 
 -- no limit was met on the way
 abbrev pub AreUnlimited : List Answer → Type 0
 AreUnlimited answers = NoneRefused 21 answers × NoneRefused 22 answers
 
+-- the answers say that there is more, or the last reply was taken, and the destination has everything in the world behind them
+abbrev pub EndsOrSaysMore : World → Replica → Replica → List Answer → World → Type 0
+EndsOrSaysMore w dest source answers behind =
+    SaysMore dest.name dest.safe source.safe answers
+    ⊎ ((after : Replica) × Member after behind.replicas × (after.name ≡ dest.name) × IsCompleted w dest.safe source.safe answers after.safe)
+
 -- a cycle with nothing in the way says that there is more, or ends with the last reply, and the destination has everything
 abbrev pub CycleEnds : Type 0
 CycleEnds =
     (w : World) (dest source : Replica) (most : ℕ) → IsSoundWorld w → MayCycle w dest source → 1 ≤ most
-    → AreUnlimited (cycle w dest.name source.name most).1
-    → SaysMore dest.name (cycle w dest.name source.name most).1
-    ⊎ ((after : Replica) × Member after (cycle w dest.name source.name most).0.replicas × (after.name ≡ dest.name)
-    × IsCompleted w dest.safe source.safe (cycle w dest.name source.name most).1 after.safe)
+    → let c = cycle w dest.name source.name most in AreUnlimited c.1 → EndsOrSaysMore w dest source c.1 c.0

@@ -1,8 +1,8 @@
 -- How long images and changes are as bytes, and where the log on a controller's disk ends.
-use Rattle.std.specs.Prelude.{ℕ, ◌+◌, ◌*◌, length, fold, is_some, if◌then◌else◌}
+use Rattle.std.specs.Prelude.{ℕ, ◌+◌, ◌*◌, [], length, fold, is_some, if◌then◌else◌}
 use Rattle.adr_model.specs.Update.{Key, RowOf, LinkOf}
 use Rattle.adr_model.specs.Live.{objects_of}
-use Rattle.adr_model.specs.Store.{Held, Store, State, updates_of}
+use Rattle.adr_model.specs.Store.{Held, Store, State, empty_state, updates_of}
 use Rattle.adr_model.specs.Change.{Written, Change}
 use Rattle.adr_model.specs.Serve.{content_length, item_length, vector_length}
 
@@ -33,6 +33,10 @@ log_limit = 2147483648
 -- where the log of a new disk ends: behind a gate, 38 bytes, the image with its length, and a gate
 abbrev pub new_log_end : State → ℕ
 new_log_end s = 44 + image_length s.store
+
+-- where it ends on the disk of a new, empty controller, whatever its identifiers
+abbrev pub first_log_end : ℕ
+first_log_end = new_log_end (empty_state [] [])
 
 -- where it ends after a change: behind the record with its length, and the next gate
 abbrev pub log_end_after : ℕ → Change → ℕ

@@ -15,7 +15,8 @@ use Rattle.adr_vector.specs.Vector.{Cursors, at, first_gap}
 use Rattle.adr_vector.specs.declared.mark.Mark.{Mark}
 use Rattle.adr_event.specs.declared.refusal.ServeRefusal.{ServeRefusal}
 use Rattle.adr_event.specs.declared.refusal.ServeRefusal.TheVariants.{Quarantined as IsQuarantined, WrongController, BadMark, RolledBack, SchemaMismatch, TooOld}
-use Rattle.adr_model.specs.Refusing.{first_of, unless}
+use Rattle.adr_failure.specs.First.{first_of}
+use Rattle.adr_model.specs.Refusing.{unless}
 use Rattle.adr_model.specs.Update.{Identifier, Update, Said, Holds, IsPresent, same_identifier, unit_of, same_unit}
 use Rattle.adr_model.specs.Visible.{covers_update}
 use Rattle.adr_model.specs.Store.{Held, Mode, Normal, Quarantined, State, updates_of, kept_of, no_mark}
@@ -163,10 +164,9 @@ is_quarantined Quarantined = true
 abbrev pub shown_by : State → Request → ℕ
 shown_by s q = max (at q.vector s.inv) (begins_at s q).seen
 
--- why a request is refused, first in order
-abbrev pub serve_refusal : State → Request → Option ServeRefusal
-serve_refusal s q =
-    first_of (
+-- why a request is refused, in order; the first one is given
+abbrev pub serve_refusals : State → Request → List (Option ServeRefusal)
+serve_refusals s q =
     then_some (is_quarantined s.mode) IsQuarantined
     ∷ then_some (not (same_identifier q.source s.dsa)) (WrongController s.dsa q.source)
     ∷ then_some (not (nat_le q.mark.prop q.mark.obj && nat_le q.mark.obj q.mark.seen)) (BadMark q.mark.prop q.mark.obj q.mark.seen)
@@ -174,7 +174,9 @@ serve_refusal s q =
     ∷ then_some (not (q.schema == s.store.schema)) (SchemaMismatch s.store.schema q.schema)
     ∷ option_map (λ gap. TooOld gap.0 gap.2 gap.1) (first_gap s.store.purged q.vector)
     ∷ []
-    )
+
+abbrev pub serve_refusal : State → Request → Option ServeRefusal
+serve_refusal s q = first_of (serve_refusals s q)
 
 -- what a request is answered: the first refusal, or the reply
 abbrev pub serve : State → Request → Result Reply ServeRefusal

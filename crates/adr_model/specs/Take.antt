@@ -11,7 +11,7 @@ use Rattle.adr_schema.specs.declared.refusal.SchemaRefusal.{SchemaRefusal}
 use Rattle.adr_schema.specs.Table.{Table as Schema, must_of}
 use Rattle.adr_schema.specs.Numbered.{numbered}
 use Rattle.adr_schema.specs.Rules.{class_refusal, name_refusal, row_refusal, not_link_refusal}
-use Rattle.adr_vector.specs.Vector.{Cursors, at, first_gap, most_cursors}
+use Rattle.adr_vector.specs.Vector.{Cursors, at, first_gap, cursor_limit}
 use Rattle.adr_vector.specs.declared.mark.Mark.{Mark}
 use Rattle.adr_event.specs.declared.refusal.Table.{Table}
 use Rattle.adr_event.specs.declared.refusal.Table.TheVariants.{Objects, Links, Cursors as CursorTable, Marks}
@@ -19,7 +19,8 @@ use Rattle.adr_event.specs.declared.refusal.ItemFault.{ItemFault}
 use Rattle.adr_event.specs.declared.refusal.ItemFault.TheVariants.{Schema as BreaksSchema, WrongBirth}
 use Rattle.adr_event.specs.declared.refusal.TakeRefusal.{TakeRefusal}
 use Rattle.adr_event.specs.declared.refusal.TakeRefusal.TheVariants.{Quarantined, NotMine, Stale, VectorBehind, SchemaMismatch, RolledBack, BadItem, Incomplete, UsnLimit, Full}
-use Rattle.adr_model.specs.Refusing.{first_of, unless}
+use Rattle.adr_failure.specs.First.{first_of}
+use Rattle.adr_model.specs.Refusing.{unless}
 use Rattle.adr_model.specs.Update.{Key, RowOf, LinkOf, Said, Holds, IsPresent, Update, same_identifier, is_older, class_attr, name_attr, deleted_attr}
 use Rattle.adr_model.specs.Live.{objects_of}
 use Rattle.adr_model.specs.Visible.{covers_birth}
@@ -248,7 +249,7 @@ refusal_of s r t taken =
     ∷ then_some (nat_lt usn_limit t.usn) UsnLimit
     ∷ passes Objects object_limit t.objects
     ∷ passes Links link_limit t.links
-    ∷ passes CursorTable most_cursors (length taken.store.vector)
+    ∷ passes CursorTable cursor_limit (length taken.store.vector)
     ∷ passes Marks mark_limit (length taken.store.marks)
     ∷ []
     )

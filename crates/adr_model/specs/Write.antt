@@ -1,5 +1,5 @@
 -- Originating writes: the first refusal, or the rows that a client's write makes.
-use Rattle.std.specs.Prelude.{◌≢◌, ℕ, ◌+◌, List, [], ◌∷◌, Bool, true, false, not, ◌&&◌, ◌||◌, ◌==◌, Option, Some, None, is_none, is_some, Result, map, filter, length, nat_lt, if◌then◌else◌}
+use Rattle.std.specs.Prelude.{◌≢◌, ℕ, ◌+◌, List, [], ◌∷◌, ◌++◌, Bool, true, false, not, ◌&&◌, ◌||◌, ◌==◌, Option, Some, None, is_none, is_some, Result, map, filter, length, nat_lt, if◌then◌else◌}
 use Rattle.std.specs.List.{list_any, find}
 use Rattle.std.specs.List.Sorted.{IsStrictlySortedBy}
 use Rattle.std.specs.Option.{option_map, option_map_or}
@@ -16,13 +16,14 @@ use Rattle.adr_schema.specs.Assignments.{Given, attributes}
 use Rattle.adr_schema.specs.Table.{Table as Schema, is_superior}
 use Rattle.adr_schema.specs.Numbered.{numbered}
 use Rattle.adr_schema.specs.Rules.{add_refusal as schema_add_refusal, modify_refusal as schema_modify_refusal, link_refusal as schema_link_refusal, name_refusal as schema_name_refusal}
-use Rattle.adr_vector.specs.Vector.{raised, most_cursors}
+use Rattle.adr_vector.specs.Vector.{raised, cursor_limit}
 use Rattle.adr_event.specs.declared.refusal.Table.{Table}
 use Rattle.adr_event.specs.declared.refusal.Table.TheVariants.{Objects, Links, Cursors}
 use Rattle.adr_event.specs.declared.refusal.WriteRefusal.{WriteRefusal}
 use Rattle.adr_event.specs.declared.refusal.WriteRefusal.TheVariants as refusal
 use Rattle.adr_event.specs.declared.refusal.WriteRefusal.TheVariants.{Quarantined, Fixed, NoObject, Deleted, GuidThere, NoParent, BadSuperior, NameTaken, WouldLoop, HasChildren, LinkThere, LinkNotThere, VersionLimit, UsnLimit, Full}
-use Rattle.adr_model.specs.Refusing.{first_of, unless}
+use Rattle.adr_failure.specs.First.{first_of}
+use Rattle.adr_model.specs.Refusing.{unless}
 use Rattle.adr_model.specs.Update.{Identifier, Key, RowOf, LinkOf, Said, Holds, IsPresent, Update, same_identifier, class_attr, name_attr, deleted_attr}
 use Rattle.adr_model.specs.Live.{objects_of, live_rows}
 use Rattle.adr_model.specs.Place.{Node, root, lost_and_found, is_fixed, nodes_of, node_at, upward, place}
@@ -147,14 +148,13 @@ full_refusal table limit count = where_true (nat_lt limit count) (Full table lim
 
 -- the own cursor may be a new one
 abbrev pub cursor_refusal : State → Option WriteRefusal
-cursor_refusal s = full_refusal Cursors most_cursors (length (raised s.store.vector s.inv (s.store.usn + 1)))
+cursor_refusal s = full_refusal Cursors cursor_limit (length (raised s.store.vector s.inv (s.store.usn + 1)))
 
--- why an `add` is refused, first in order
-abbrev pub add_refusal : State → Identifier → ℕ → Identifier → List ℕ → List Given → Option WriteRefusal
-add_refusal s guid class parent text values =
+-- why an `add` is refused, in order; the first one is given
+abbrev pub add_refusals : State → Identifier → ℕ → Identifier → List ℕ → List Given → List (Option WriteRefusal)
+add_refusals s guid class parent text values =
     let held = updates_of s.store.rows in
     let nodes = nodes_held held in
-    first_of (
     where_true (is_quarantined s.mode) Quarantined
     ∷ where_true (is_fixed guid || holds_guid held guid) (GuidThere guid)
     ∷ option_map of_schema (schema_add_refusal (numbered s.store.schema) class values)
@@ -166,7 +166,9 @@ add_refusal s guid class parent text values =
     ∷ full_refusal Objects object_limit (length (objects_of held) + 1)
     ∷ cursor_refusal s
     ∷ []
-    )
+
+abbrev pub add_refusal : State → Identifier → ℕ → Identifier → List ℕ → List Given → Option WriteRefusal
+add_refusal s guid class parent text values = first_of (add_refusals s guid class parent text values)
 
 -- the class of a live object
 abbrev pub class_of : List Node → Identifier → ℕ
@@ -176,29 +178,29 @@ class_of nodes guid = option_map_or (λ n. n.class) (node_at nodes guid) 0
 abbrev pub object_of : List Node → Identifier → Oid
 object_of nodes guid = option_map_or (λ n. n.object) (node_at nodes guid) (record { guid = guid; birth = record { inv = root; usn = 0 } })
 
-abbrev pub modify_refusal : State → Identifier → List Given → Option WriteRefusal
-modify_refusal s guid values =
+-- what a write is refused by first, whatever it does, where its object has to be live
+abbrev pub live_refusals : State → Identifier → List (Option WriteRefusal)
+live_refusals s guid =
     let held = updates_of s.store.rows in
-    let nodes = nodes_held held in
-    first_of (
-    where_true (is_quarantined s.mode) Quarantined
-    ∷ fixed_refusal guid
-    ∷ object_refusal held nodes guid
-    ∷ option_map of_schema (schema_modify_refusal (numbered s.store.schema) (class_of nodes guid) values)
+    where_true (is_quarantined s.mode) Quarantined ∷ fixed_refusal guid ∷ object_refusal held (nodes_held held) guid ∷ []
+
+abbrev pub modify_refusals : State → Identifier → List Given → List (Option WriteRefusal)
+modify_refusals s guid values =
+    let nodes = nodes_held (updates_of s.store.rows) in
+    live_refusals s guid
+    ++ option_map of_schema (schema_modify_refusal (numbered s.store.schema) (class_of nodes guid) values)
     ∷ first_of (map (λ (g : Given). version_refusal s.store.rows (RowOf (object_of nodes guid) g.0) g.0) values)
     ∷ usn_refusal (s.store.usn + 1)
     ∷ []
-    )
 
-abbrev pub rename_refusal : State → Identifier → Identifier → List ℕ → Option WriteRefusal
-rename_refusal s guid parent text =
-    let held = updates_of s.store.rows in
-    let nodes = nodes_held held in
-    first_of (
-    where_true (is_quarantined s.mode) Quarantined
-    ∷ fixed_refusal guid
-    ∷ object_refusal held nodes guid
-    ∷ option_map of_schema (schema_name_refusal text)
+abbrev pub modify_refusal : State → Identifier → List Given → Option WriteRefusal
+modify_refusal s guid values = first_of (modify_refusals s guid values)
+
+abbrev pub rename_refusals : State → Identifier → Identifier → List ℕ → List (Option WriteRefusal)
+rename_refusals s guid parent text =
+    let nodes = nodes_held (updates_of s.store.rows) in
+    live_refusals s guid
+    ++ option_map of_schema (schema_name_refusal text)
     ∷ parent_refusal nodes parent
     ∷ loop_refusal nodes guid parent
     ∷ superior_refusal (numbered s.store.schema) nodes (class_of nodes guid) parent
@@ -206,20 +208,20 @@ rename_refusal s guid parent text =
     ∷ version_refusal s.store.rows (RowOf (object_of nodes guid) name_attr) name_attr
     ∷ usn_refusal (s.store.usn + 1)
     ∷ []
-    )
 
-abbrev pub delete_refusal : State → Identifier → Option WriteRefusal
-delete_refusal s guid =
-    let held = updates_of s.store.rows in
-    let nodes = nodes_held held in
-    first_of (
-    where_true (is_quarantined s.mode) Quarantined
-    ∷ fixed_refusal guid
-    ∷ object_refusal held nodes guid
-    ∷ child_refusal nodes guid
+abbrev pub rename_refusal : State → Identifier → Identifier → List ℕ → Option WriteRefusal
+rename_refusal s guid parent text = first_of (rename_refusals s guid parent text)
+
+abbrev pub delete_refusals : State → Identifier → List (Option WriteRefusal)
+delete_refusals s guid =
+    let nodes = nodes_held (updates_of s.store.rows) in
+    live_refusals s guid
+    ++ child_refusal nodes guid
     ∷ usn_refusal (s.store.usn + 1)
     ∷ []
-    )
+
+abbrev pub delete_refusal : State → Identifier → Option WriteRefusal
+delete_refusal s guid = first_of (delete_refusals s guid)
 
 abbrev pub link_of : List Node → Identifier → ℕ → Identifier → LinkKey
 link_of nodes from attr to = record { from = object_of nodes from; attr = attr; to = object_of nodes to }
@@ -241,11 +243,10 @@ abbrev pub links_in : List Held → ℕ
 links_in rows = length (filter (λ h. is_link_row h.update.key) rows)
 
 -- what `link` and `unlink` are both refused by; `wrong` comes where the link is already so
-abbrev pub any_link_refusal : State → Identifier → ℕ → Identifier → (Bool → Option WriteRefusal) → Option WriteRefusal
-any_link_refusal s from attr to wrong =
+abbrev pub any_link_refusals : State → Identifier → ℕ → Identifier → (Bool → Option WriteRefusal) → List (Option WriteRefusal)
+any_link_refusals s from attr to wrong =
     let held = updates_of s.store.rows in
     let nodes = nodes_held held in
-    first_of (
     where_true (is_quarantined s.mode) Quarantined
     ∷ fixed_refusal from
     ∷ fixed_refusal to
@@ -256,7 +257,9 @@ any_link_refusal s from attr to wrong =
     ∷ version_refusal s.store.rows (LinkOf (link_of nodes from attr to)) attr
     ∷ usn_refusal (s.store.usn + 1)
     ∷ []
-    )
+
+abbrev pub any_link_refusal : State → Identifier → ℕ → Identifier → (Bool → Option WriteRefusal) → Option WriteRefusal
+any_link_refusal s from attr to wrong = first_of (any_link_refusals s from attr to wrong)
 
 -- a link row more, where none is held
 abbrev pub more_links : State → Identifier → ℕ → Identifier → ℕ

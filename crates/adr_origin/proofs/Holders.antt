@@ -11,18 +11,13 @@ use Rattle.adr_model.specs.Place.{Node, lost_and_found, is_fixed}
 use Rattle.adr_model.specs.Shown.{is_lost_name, is_named, gives_way, name_holder}
 use Rattle.adr_model.specs.Write.{is_taken, name_refusal, where_true}
 use Rattle.adr_model.proofs.Keys.{equal_order}
-use Rattle.adr_model.proofs.Members.{one_passes}
+use Rattle.adr_model.proofs.Members.{one_passes, found_member}
 use Rattle.adr_origin.specs.Rivals.{shares_name}
-use Rattle.adr_origin.proofs.Found.{found_member}
 use Rattle.adr_origin.proofs.PlacedUnder.{not_lost}
 
 first_holds : (a b : Bool) → (a && b) ≡ true → a ≡ true
 first_holds true b h = refl
 first_holds false b h = cc
-
-none_either : {A : Type 0} (b : Bool) → cond {A = Option A} b None None ≡ None
-none_either true = refl
-none_either false = refl
 
 module _ (nodes : List Node) (guid parent : Identifier) (text : List ℕ) where
   abbrev is_holder : Node → Bool
@@ -67,6 +62,3 @@ module _ (nodes : List Node) (guid parent : Identifier) (text : List ℕ) where
 
       not_lost_name : is_lost_name parent text ≡ false
       not_lost_name = by (is_lost_name parent text) refl held
-
-  pub none_refuses : None ≡ name_holder nodes parent text → name_refusal nodes guid parent text ≡ None
-  none_refuses held = ap (λ o. cond (is_taken nodes guid parent text) (option_map NameTaken o) None) (sym held) ∙ none_either (is_taken nodes guid parent text)

@@ -1,36 +1,25 @@
 -- The refusals of a `modify` and of a `rename` part by part.
-use Rattle.std.proofs.Common.{◌≡◌, ℕ, ◌+◌, List, [], ◌∷◌, ◌++◌, Option, Some, None, Err, refl, sym, ap, ap₂, ◌∙◌}
+use Rattle.std.proofs.Common.{◌≡◌, ℕ, ◌+◌, List, [], ◌∷◌, ◌++◌, Option, Some, None, Err, sym, ap, ap₂, ◌∙◌}
 use Rattle.std.specs.Option.{option_map}
 use Rattle.adr_stamp.specs.declared.Oid.{Oid}
 use Rattle.adr_schema.specs.Assignments.{Given}
 use Rattle.adr_schema.specs.Numbered.{numbered}
 use Rattle.adr_schema.specs.Table.{Table as Schema}
 use Rattle.adr_schema.specs.Rules.{modify_refusal as schema_modify_refusal, name_refusal as schema_name_refusal}
-use Rattle.adr_event.specs.declared.failure.Failure.{Failure}
-use Rattle.adr_event.specs.declared.failure.Failure.TheVariants.{Refused, NoMemory}
+use Rattle.adr_failure.specs.declared.Failure.{Failure}
+use Rattle.adr_failure.specs.declared.Failure.TheVariants.{Refused, NoMemory}
 use Rattle.adr_event.specs.declared.refusal.WriteRefusal.{WriteRefusal}
-use Rattle.adr_event.specs.declared.refusal.WriteRefusal.TheVariants.{Quarantined}
 use Rattle.adr_model.specs.Place.{Node}
-use Rattle.adr_model.specs.Refusing.{first_of}
-use Rattle.adr_model.specs.Serve.{is_quarantined}
+use Rattle.adr_failure.specs.First.{first_of}
 use Rattle.adr_model.specs.Store.{State, updates_of}
 use Rattle.adr_model.specs.Update.{Identifier, RowOf, name_attr}
-use Rattle.adr_model.specs.Write.{class_of, fixed_refusal, loop_refusal, modify_refusal, name_refusal, nodes_held, object_of, object_refusal, of_schema, parent_refusal, rename_refusal, superior_refusal, usn_refusal, version_refusal, where_true}
+use Rattle.adr_model.specs.Write.{class_of, live_refusals, loop_refusal, modify_refusal, name_refusal, nodes_held, object_of, of_schema, parent_refusal, rename_refusal, superior_refusal, usn_refusal, version_refusal}
+use Rattle.adr_origin.proofs.FirstOf.{alone, in_two}
 use Rattle.adr_origin.specs.Telling.{Tells}
 use Rattle.adr_origin.specs.NextRows.{versions_refusal}
 use Rattle.adr_origin.specs.LiveParts.{given_refusal, moved_refusal, named_refusal, row_refusal, rows_refusal}
 
 module _ {A : Type 0} where
-  alone : (o : Option A) → o ≡ first_of (o ∷ [])
-  alone None = refl
-  alone (Some x) = refl
-
-  -- the first of two lists
-  in_two : (xs ys : List (Option A)) → first_of (xs ++ ys) ≡ first_of (first_of xs ∷ first_of ys ∷ [])
-  in_two [] ys = alone (first_of ys)
-  in_two (None ∷ xs) ys = in_two xs ys
-  in_two (Some x ∷ xs) ys = refl
-
   -- what the first part tells, and what the second one does
   pub first_told : (x : A) (o p : Option A) → Some x ≡ o → Some x ≡ first_of (o ∷ p ∷ [])
   first_told x o p is = ap (λ q. first_of (q ∷ p ∷ [])) is
@@ -45,23 +34,13 @@ module _ (s : State) (guid : Identifier) where
   pub modify_in_parts : (values : List Given) → modify_refusal s guid values ≡ first_of (given_refusal s guid values ∷ rows_refusal s (object_of nodes guid) values ∷ [])
   modify_in_parts values =
       in_two
-      (where_true (is_quarantined s.mode) Quarantined
-      ∷ fixed_refusal guid
-      ∷ object_refusal (updates_of s.store.rows) nodes guid
-      ∷ option_map of_schema (schema_modify_refusal (numbered s.store.schema) (class_of nodes guid) values)
-      ∷ [])
+      (live_refusals s guid ++ option_map of_schema (schema_modify_refusal (numbered s.store.schema) (class_of nodes guid) values) ∷ [])
       (versions_refusal s.store.rows (object_of nodes guid) values ∷ usn_refusal (s.store.usn + 1) ∷ [])
 
   pub rename_in_parts : (parent : Identifier) (text : List ℕ)
       → rename_refusal s guid parent text ≡ first_of (named_refusal s guid text ∷ first_of (moved_refusal (numbered s.store.schema) nodes guid parent text ∷ row_refusal s (object_of nodes guid) name_attr ∷ []) ∷ [])
-  rename_in_parts parent text = in_two (named ∷ fixed_refusal guid ∷ object ∷ schema ∷ []) (places ++ row) ∙ ap (λ o. first_of (named_refusal s guid text ∷ o ∷ [])) (in_two places row)
+  rename_in_parts parent text = in_two (live_refusals s guid ++ schema ∷ []) (places ++ row) ∙ ap (λ o. first_of (named_refusal s guid text ∷ o ∷ [])) (in_two places row)
     where
-      named : Option WriteRefusal
-      named = where_true (is_quarantined s.mode) Quarantined
-
-      object : Option WriteRefusal
-      object = object_refusal (updates_of s.store.rows) nodes guid
-
       schema : Option WriteRefusal
       schema = option_map of_schema (schema_name_refusal text)
 

@@ -1,5 +1,5 @@
 -- The refusals of an `add` part by part.
-use Rattle.std.proofs.Common.{◌≡◌, ℕ, ◌+◌, ◌||◌, List, [], ◌∷◌, Option, Some, None, length, refl}
+use Rattle.std.proofs.Common.{◌≡◌, ℕ, ◌+◌, ◌||◌, List, [], ◌∷◌, length}
 use Rattle.std.specs.Option.{option_map}
 use Rattle.adr_schema.specs.Assignments.{Given}
 use Rattle.adr_schema.specs.Numbered.{numbered}
@@ -8,41 +8,27 @@ use Rattle.adr_event.specs.declared.refusal.Table.TheVariants.{Objects}
 use Rattle.adr_event.specs.declared.refusal.WriteRefusal.TheVariants.{Quarantined, GuidThere, NameTaken}
 use Rattle.adr_model.specs.Live.{objects_of}
 use Rattle.adr_model.specs.Place.{is_fixed}
-use Rattle.adr_model.specs.Refusing.{first_of}
+use Rattle.adr_failure.specs.First.{first_of}
 use Rattle.adr_model.specs.Serve.{is_quarantined}
 use Rattle.adr_model.specs.Shown.{name_holder}
 use Rattle.adr_model.specs.Store.{State, updates_of}
 use Rattle.adr_model.specs.Update.{Identifier}
 use Rattle.adr_model.specs.Write.{add_refusal, cursor_refusal, full_refusal, holds_guid, nodes_held, object_limit, of_schema, parent_refusal, superior_refusal, usn_refusal, where_true}
+use Rattle.adr_origin.proofs.FirstOf.{in_three}
 use Rattle.adr_origin.specs.Parts.{object_refusal, place_refusal, room_refusal}
-
--- the first of ten, part by part
-ten : {A : Type 0} (a b c d e f g h i j : Option A)
-    → first_of (a ∷ b ∷ c ∷ d ∷ e ∷ f ∷ g ∷ h ∷ i ∷ j ∷ []) ≡ first_of (first_of (a ∷ b ∷ c ∷ d ∷ []) ∷ first_of (e ∷ f ∷ g ∷ []) ∷ first_of (h ∷ i ∷ j ∷ []) ∷ [])
-ten (Some x) b c d e f g h i j = refl
-ten None (Some x) c d e f g h i j = refl
-ten None None (Some x) d e f g h i j = refl
-ten None None None (Some x) e f g h i j = refl
-ten None None None None (Some x) f g h i j = refl
-ten None None None None None (Some x) g h i j = refl
-ten None None None None None None (Some x) h i j = refl
-ten None None None None None None None (Some x) i j = refl
-ten None None None None None None None None (Some x) j = refl
-ten None None None None None None None None None (Some x) = refl
-ten None None None None None None None None None None = refl
 
 pub add_in_parts : (s : State) (guid : Identifier) (class : ℕ) (parent : Identifier) (text : List ℕ) (values : List Given)
     → add_refusal s guid class parent text values ≡ first_of (object_refusal s guid class text values ∷ place_refusal (numbered s.store.schema) (nodes_held (updates_of s.store.rows)) class parent text ∷ room_refusal s ∷ [])
 add_in_parts s guid class parent text values =
     let nodes = nodes_held (updates_of s.store.rows) in
-    ten
-    (where_true (is_quarantined s.mode) Quarantined)
-    (where_true (is_fixed guid || holds_guid (updates_of s.store.rows) guid) (GuidThere guid))
-    (option_map of_schema (schema_add_refusal (numbered s.store.schema) class values))
-    (option_map of_schema (schema_name_refusal text))
-    (parent_refusal nodes parent)
-    (superior_refusal (numbered s.store.schema) nodes class parent)
-    (option_map NameTaken (name_holder nodes parent text))
-    (usn_refusal (s.store.usn + 1))
-    (full_refusal Objects object_limit (length (objects_of (updates_of s.store.rows)) + 1))
-    (cursor_refusal s)
+    in_three
+    (where_true (is_quarantined s.mode) Quarantined
+    ∷ where_true (is_fixed guid || holds_guid (updates_of s.store.rows) guid) (GuidThere guid)
+    ∷ option_map of_schema (schema_add_refusal (numbered s.store.schema) class values)
+    ∷ option_map of_schema (schema_name_refusal text)
+    ∷ [])
+    (parent_refusal nodes parent
+    ∷ superior_refusal (numbered s.store.schema) nodes class parent
+    ∷ option_map NameTaken (name_holder nodes parent text)
+    ∷ [])
+    (usn_refusal (s.store.usn + 1) ∷ full_refusal Objects object_limit (length (objects_of (updates_of s.store.rows)) + 1) ∷ cursor_refusal s ∷ [])

@@ -1,4 +1,4 @@
-mod Found
+mod FirstOf
 mod GivenLemmas
 mod HeldRows
 mod Holders

@@ -1,48 +1,32 @@
 -- The refusals of a link part by part.
-use Rattle.std.proofs.Common.{◌≡◌, ℕ, ◌+◌, Bool, [], ◌∷◌, Option, Some, None, Result, refl, sym, subst}
+use Rattle.std.proofs.Common.{◌≡◌, ℕ, ◌+◌, Bool, [], ◌∷◌, Option, Result, sym, subst}
 use Rattle.std.specs.Option.{option_map}
 use Rattle.adr_schema.specs.Numbered.{numbered}
 use Rattle.adr_schema.specs.Rules.{link_refusal as schema_link_refusal}
-use Rattle.adr_event.specs.declared.failure.Failure.{Failure}
+use Rattle.adr_failure.specs.declared.Failure.{Failure}
 use Rattle.adr_event.specs.declared.refusal.WriteRefusal.{WriteRefusal}
 use Rattle.adr_event.specs.declared.refusal.WriteRefusal.TheVariants.{Quarantined}
-use Rattle.adr_model.specs.Refusing.{first_of}
+use Rattle.adr_failure.specs.First.{first_of}
 use Rattle.adr_model.specs.Serve.{is_quarantined}
 use Rattle.adr_model.specs.Store.{State, updates_of}
 use Rattle.adr_model.specs.Update.{Identifier, LinkOf}
 use Rattle.adr_model.specs.Write.{any_link_refusal, class_of, fixed_refusal, is_linked, link_of, nodes_held, object_refusal, of_schema, usn_refusal, version_refusal, where_true}
+use Rattle.adr_origin.proofs.FirstOf.{in_three}
 use Rattle.adr_origin.specs.Telling.{Tells}
 use Rattle.adr_origin.specs.LinkParts.{already_refusal, ends_refusal, start_refusal, write_refusal}
-
--- the first of nine, part by part
-nine : {A : Type 0} (a b c d e f g h i : Option A)
-    → first_of (a ∷ b ∷ c ∷ d ∷ e ∷ f ∷ g ∷ h ∷ i ∷ []) ≡ first_of (first_of (a ∷ b ∷ c ∷ []) ∷ first_of (d ∷ e ∷ f ∷ []) ∷ first_of (g ∷ h ∷ i ∷ []) ∷ [])
-nine (Some x) b c d e f g h i = refl
-nine None (Some x) c d e f g h i = refl
-nine None None (Some x) d e f g h i = refl
-nine None None None (Some x) e f g h i = refl
-nine None None None None (Some x) f g h i = refl
-nine None None None None None (Some x) g h i = refl
-nine None None None None None None (Some x) h i = refl
-nine None None None None None None None (Some x) i = refl
-nine None None None None None None None None (Some x) = refl
-nine None None None None None None None None None = refl
 
 pub link_in_parts : (s : State) (from : Identifier) (attr : ℕ) (to : Identifier) (present : Bool)
     → any_link_refusal s from attr to (already_refusal present) ≡ first_of (start_refusal s.mode from to ∷ ends_refusal s (nodes_held (updates_of s.store.rows)) from attr to ∷ write_refusal s (link_of (nodes_held (updates_of s.store.rows)) from attr to) present ∷ [])
 link_in_parts s from attr to present =
     let nodes = nodes_held (updates_of s.store.rows) in
     let link = link_of nodes from attr to in
-    nine
-    (where_true (is_quarantined s.mode) Quarantined)
-    (fixed_refusal from)
-    (fixed_refusal to)
-    (object_refusal (updates_of s.store.rows) nodes from)
-    (option_map of_schema (schema_link_refusal (numbered s.store.schema) (class_of nodes from) attr))
-    (object_refusal (updates_of s.store.rows) nodes to)
-    (already_refusal present (is_linked s.store.rows link))
-    (version_refusal s.store.rows (LinkOf link) attr)
-    (usn_refusal (s.store.usn + 1))
+    in_three
+    (where_true (is_quarantined s.mode) Quarantined ∷ fixed_refusal from ∷ fixed_refusal to ∷ [])
+    (object_refusal (updates_of s.store.rows) nodes from
+    ∷ option_map of_schema (schema_link_refusal (numbered s.store.schema) (class_of nodes from) attr)
+    ∷ object_refusal (updates_of s.store.rows) nodes to
+    ∷ [])
+    (already_refusal present (is_linked s.store.rows link) ∷ version_refusal s.store.rows (LinkOf link) attr ∷ usn_refusal (s.store.usn + 1) ∷ [])
 
 -- what is told of the parts is told of the whole
 pub told_in_parts : {T : Type 0} (s : State) (from : Identifier) (attr : ℕ) (to : Identifier) (present : Bool) (r : Result T (Failure WriteRefusal))

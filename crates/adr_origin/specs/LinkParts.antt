@@ -7,7 +7,7 @@ use Rattle.adr_schema.specs.Rules.{link_refusal as schema_link_refusal}
 use Rattle.adr_event.specs.declared.refusal.WriteRefusal.{WriteRefusal}
 use Rattle.adr_event.specs.declared.refusal.WriteRefusal.TheVariants.{Quarantined, LinkThere, LinkNotThere}
 use Rattle.adr_model.specs.Place.{Node}
-use Rattle.adr_model.specs.Refusing.{first_of}
+use Rattle.adr_failure.specs.First.{first_of}
 use Rattle.adr_model.specs.Serve.{is_quarantined}
 use Rattle.adr_model.specs.Store.{Mode, State, updates_of}
 use Rattle.adr_model.specs.Update.{Identifier, LinkOf}

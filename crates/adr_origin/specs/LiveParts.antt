@@ -1,5 +1,5 @@
 -- The refusals of a `modify` and of a `rename` in parts, which are looked at one after the other.
-use Rattle.std.specs.Prelude.{ℕ, ◌+◌, List, [], ◌∷◌, Option}
+use Rattle.std.specs.Prelude.{ℕ, ◌+◌, List, [], ◌∷◌, ◌++◌, Option}
 use Rattle.std.specs.Option.{option_map}
 use Rattle.adr_stamp.specs.declared.Oid.{Oid}
 use Rattle.adr_schema.specs.Assignments.{Given}
@@ -7,27 +7,18 @@ use Rattle.adr_schema.specs.Numbered.{numbered}
 use Rattle.adr_schema.specs.Table.{Table as Schema}
 use Rattle.adr_schema.specs.Rules.{modify_refusal as schema_modify_refusal, name_refusal as schema_name_refusal}
 use Rattle.adr_event.specs.declared.refusal.WriteRefusal.{WriteRefusal}
-use Rattle.adr_event.specs.declared.refusal.WriteRefusal.TheVariants.{Quarantined}
 use Rattle.adr_model.specs.Place.{Node}
-use Rattle.adr_model.specs.Refusing.{first_of}
-use Rattle.adr_model.specs.Serve.{is_quarantined}
+use Rattle.adr_failure.specs.First.{first_of}
 use Rattle.adr_model.specs.Store.{State, updates_of}
 use Rattle.adr_model.specs.Update.{Identifier, RowOf}
-use Rattle.adr_model.specs.Write.{class_of, fixed_refusal, loop_refusal, name_refusal, nodes_held, object_refusal, of_schema, parent_refusal, superior_refusal, usn_refusal, version_refusal, where_true}
+use Rattle.adr_model.specs.Write.{class_of, live_refusals, loop_refusal, name_refusal, nodes_held, of_schema, parent_refusal, superior_refusal, usn_refusal, version_refusal}
 use Rattle.adr_origin.specs.NextRows.{versions_refusal}
 
 -- of a live object that is given values
 abbrev pub given_refusal : State → Identifier → List Given → Option WriteRefusal
 given_refusal s guid values =
-    let held = updates_of s.store.rows in
-    let nodes = nodes_held held in
-    first_of (
-    where_true (is_quarantined s.mode) Quarantined
-    ∷ fixed_refusal guid
-    ∷ object_refusal held nodes guid
-    ∷ option_map of_schema (schema_modify_refusal (numbered s.store.schema) (class_of nodes guid) values)
-    ∷ []
-    )
+    let nodes = nodes_held (updates_of s.store.rows) in
+    first_of (live_refusals s guid ++ option_map of_schema (schema_modify_refusal (numbered s.store.schema) (class_of nodes guid) values) ∷ [])
 
 -- of the rows of its attributes
 abbrev pub rows_refusal : State → Oid → List Given → Option WriteRefusal
@@ -35,15 +26,7 @@ rows_refusal s o values = first_of (versions_refusal s.store.rows o values ∷ u
 
 -- of a live object that is given a name
 abbrev pub named_refusal : State → Identifier → List ℕ → Option WriteRefusal
-named_refusal s guid text =
-    let held = updates_of s.store.rows in
-    first_of (
-    where_true (is_quarantined s.mode) Quarantined
-    ∷ fixed_refusal guid
-    ∷ object_refusal held (nodes_held held) guid
-    ∷ option_map of_schema (schema_name_refusal text)
-    ∷ []
-    )
+named_refusal s guid text = first_of (live_refusals s guid ++ option_map of_schema (schema_name_refusal text) ∷ [])
 
 -- among the live objects, where it is to stand
 abbrev pub moved_refusal : Schema → List Node → Identifier → Identifier → List ℕ → Option WriteRefusal

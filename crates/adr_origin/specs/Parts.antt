@@ -10,7 +10,7 @@ use Rattle.adr_event.specs.declared.refusal.WriteRefusal.{WriteRefusal}
 use Rattle.adr_event.specs.declared.refusal.WriteRefusal.TheVariants.{Quarantined, GuidThere, NameTaken}
 use Rattle.adr_model.specs.Live.{objects_of}
 use Rattle.adr_model.specs.Place.{Node, is_fixed}
-use Rattle.adr_model.specs.Refusing.{first_of}
+use Rattle.adr_failure.specs.First.{first_of}
 use Rattle.adr_model.specs.Serve.{is_quarantined}
 use Rattle.adr_model.specs.Shown.{name_holder}
 use Rattle.adr_model.specs.Store.{State, updates_of}

@@ -62,7 +62,8 @@ fn check_add(
 
 /// Tests that an object may be added wherever it is to stand.
 fn check_object(state: &State, object: &NewObject<'_>) -> Result<(), WriteRefusal>
-    ensures { result_err result ≡ object_refusal state.now object.now.guid object.now.class object.now.text.now object.now.values.now }
+    ensures { result_err result
+        ≡ object_refusal state.now object.now.guid object.now.class object.now.text.now object.now.values.now }
 {
     check_mode(state.mode())?;
     check_guid(state.rows(), object.guid)?;

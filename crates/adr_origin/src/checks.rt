@@ -22,7 +22,7 @@ use adr_state::{
     CURSOR_LIMIT, Key, Mode, OBJECT_LIMIT, Rows, State, USN_LIMIT, VERSION_LIMIT, count_objects,
     is_same,
 };
-use adr_vector::VectorRefusal;
+use adr_vector::Full;
 use adr_view::{Nodes, is_fixed, is_lost_and_found, is_root};
 use std::alloc::Global;
 use uuid::Uuid;
@@ -59,7 +59,8 @@ fn holds_guid(rows: &Rows, guid: Uuid) -> bool
 
 /// Tests that a GUID is free.
 pub fn check_guid(rows: &Rows, guid: Uuid) -> Result<(), WriteRefusal>
-    ensures { result_err result ≡ where_true (is_fixed guid || holds_guid (updates_of rows.now) guid) (guid_there guid) }
+    ensures { result_err result
+        ≡ where_true (is_fixed guid || holds_guid (updates_of rows.now) guid) (guid_there guid) }
 {
     if is_fixed(guid) || holds_guid(rows, guid) {
         Err(WriteRefusal::GuidThere { guid })
@@ -219,10 +220,10 @@ pub fn check_cursors(alloc: Global, state: &State) -> Result<(), Failure<WriteRe
     let mut vector = state.vector().copy(alloc)?;
     match vector.raise(state.inv(), state.usn() + 1) {
         Ok(()) => Ok(()),
-        Err(VectorRefusal::Full) => Err(Failure::Refused(WriteRefusal::Full {
+        Err(Failure::Refused(Full)) => Err(Failure::Refused(WriteRefusal::Full {
             table: Table::Cursors,
             limit: CURSOR_LIMIT,
         })),
-        Err(VectorRefusal::NoMemory) => Err(Failure::NoMemory),
+        Err(Failure::NoMemory) => Err(Failure::NoMemory),
     }
 }

@@ -22,7 +22,8 @@ fn is_child(nodes: &Nodes, guid: Uuid, node: &Node) -> bool
 
 /// The least object that is placed under another one by its name.
 fn first_child(nodes: &Nodes, guid: Uuid) -> Option<&Node>
-    ensures { option_copied result ≡ find (λ m. same_identifier m.parent guid && same_identifier (place nodes.now m) guid) nodes.now }
+    ensures { option_copied result
+        ≡ find (λ m. same_identifier m.parent guid && same_identifier (place nodes.now m) guid) nodes.now }
 {
     nodes
         .as_slice()

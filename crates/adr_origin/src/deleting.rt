@@ -29,7 +29,8 @@ pub fn delete(
 ) -> Result<Change, Failure<WriteRefusal>>
     ensures ok { IfOk result (λ change. write state.now (Delete guid) now ≡ Ok change) }
     ensures within { IfOk result (λ change. change.usn ≤ usn_limit) }
-    ensures refused { (refusal : WriteRefusal) → IsErrOf result (Failure.Refused refusal) → write state.now (Delete guid) now ≡ Err refusal }
+    ensures refused { (refusal : WriteRefusal) → IsErrOf result (Failure.Refused refusal)
+        → write state.now (Delete guid) now ≡ Err refusal }
 {
     let nodes = nodes_held(alloc, state)?;
     check_delete(state, &nodes, guid)?;

@@ -16,12 +16,12 @@ mod rivals;
 mod stamps;
 
 pub use adding::add;
+pub use adr_event::{Failure, WriteRefusal};
+pub use adr_schema::{Assignments, Text};
+pub use adr_state::{Change, State};
 pub use adr_view::NoMemory;
 pub use deleting::delete;
-pub use linking::{link, unlink};
+pub use linking::{LinkEnds, link, unlink};
 pub use modifying::modify;
 pub use new_object::NewObject;
 pub use renaming::rename;
-
-#[cfg(test)]
-mod tests;

@@ -25,22 +25,30 @@ use adr_view::Nodes;
 use std::alloc::Global;
 use uuid::Uuid;
 
+/// What a link that a client makes or removes goes between: live objects, by their GUIDs, and under which attribute.
+#[derive(Drop)]
+pub struct LinkEnds {
+    pub from: Uuid,
+    pub attr: u16,
+    pub to: Uuid,
+}
+
 /// What a client's making a link under an attribute makes of a controller at a time in seconds: the change, or why it is
 /// refused, first in order (MS-ADTS, modify operation, and linked values; the refusals and their order are this project's
 /// own). A link that was removed is made again by its own row. The controller stays as it is.
 pub fn link(
     alloc: Global,
     state: &State,
-    from: Uuid,
-    attr: u16,
-    to: Uuid,
+    ends: &LinkEnds,
     now: u64,
 ) -> Result<Change, Failure<WriteRefusal>>
-    ensures ok { IfOk result (λ change. write state.now (AddLink from attr to) now ≡ Ok change) }
+    ensures ok { IfOk result (λ change.
+        write state.now (AddLink ends.now.from ends.now.attr ends.now.to) now ≡ Ok change) }
     ensures within { IfOk result (λ change. change.usn ≤ usn_limit) }
-    ensures refused { (refusal : WriteRefusal) → IsErrOf result (Failure.Refused refusal) → write state.now (AddLink from attr to) now ≡ Err refusal }
+    ensures refused { (refusal : WriteRefusal) → IsErrOf result (Failure.Refused refusal)
+        → write state.now (AddLink ends.now.from ends.now.attr ends.now.to) now ≡ Err refusal }
 {
-    let link = check_link(alloc, state, from, attr, to)?;
+    let link = check_link(alloc, state, ends)?;
     let item = link_item(alloc, state, &link, now, true)?;
     Ok(own_change(alloc, state.usn() + 1, item)?)
 }
@@ -51,16 +59,16 @@ pub fn link(
 pub fn unlink(
     alloc: Global,
     state: &State,
-    from: Uuid,
-    attr: u16,
-    to: Uuid,
+    ends: &LinkEnds,
     now: u64,
 ) -> Result<Change, Failure<WriteRefusal>>
-    ensures ok { IfOk result (λ change. write state.now (RemoveLink from attr to) now ≡ Ok change) }
+    ensures ok { IfOk result (λ change.
+        write state.now (RemoveLink ends.now.from ends.now.attr ends.now.to) now ≡ Ok change) }
     ensures within { IfOk result (λ change. change.usn ≤ usn_limit) }
-    ensures refused { (refusal : WriteRefusal) → IsErrOf result (Failure.Refused refusal) → write state.now (RemoveLink from attr to) now ≡ Err refusal }
+    ensures refused { (refusal : WriteRefusal) → IsErrOf result (Failure.Refused refusal)
+        → write state.now (RemoveLink ends.now.from ends.now.attr ends.now.to) now ≡ Err refusal }
 {
-    let link = check_any_link(alloc, state, from, attr, to, false)?;
+    let link = check_any_link(alloc, state, ends, false)?;
     let item = link_item(alloc, state, &link, now, false)?;
     Ok(own_change(alloc, state.usn() + 1, item)?)
 }
@@ -69,16 +77,16 @@ pub fn unlink(
 fn check_link(
     alloc: Global,
     state: &State,
-    from: Uuid,
-    attr: u16,
-    to: Uuid,
+    ends: &LinkEnds,
 ) -> Result<LinkKey, Failure<WriteRefusal>>
-    ensures told { Tells result (link_refusal state.now from attr to) }
-    ensures named { IfOk result (λ link. link ≡ link_of (nodes_held (updates_of state.now.store.rows)) from attr to) }
-    ensures version { IfOk result (λ link. version_of (row_held state.now.store.rows (LinkOf link)) ≢ version_limit) }
+    ensures told { Tells result (link_refusal state.now ends.now.from ends.now.attr ends.now.to) }
+    ensures named { IfOk result (λ link.
+        link ≡ link_of (nodes_held (updates_of state.now.store.rows)) ends.now.from ends.now.attr ends.now.to) }
+    ensures version { IfOk result (λ link.
+        version_of (row_held state.now.store.rows (LinkOf link)) ≢ version_limit) }
     ensures usn { OnOk result (state.now.store.usn < usn_limit) }
 {
-    let link = check_any_link(alloc, state, from, attr, to, true)?;
+    let link = check_any_link(alloc, state, ends, true)?;
     check_links(state.rows(), &link)?;
     Ok(link)
 }
@@ -87,20 +95,20 @@ fn check_link(
 fn check_any_link(
     alloc: Global,
     state: &State,
-    from: Uuid,
-    attr: u16,
-    to: Uuid,
+    ends: &LinkEnds,
     present: bool,
 ) -> Result<LinkKey, Failure<WriteRefusal>>
-    ensures told { Tells result (any_link_refusal state.now from attr to (already_refusal present)) }
-    ensures named { IfOk result (λ link. link ≡ link_of (nodes_held (updates_of state.now.store.rows)) from attr to) }
-    ensures version { IfOk result (λ link. version_of (row_held state.now.store.rows (LinkOf link)) ≢ version_limit) }
+    ensures told { Tells result (any_link_refusal state.now ends.now.from ends.now.attr ends.now.to (already_refusal present)) }
+    ensures named { IfOk result (λ link.
+        link ≡ link_of (nodes_held (updates_of state.now.store.rows)) ends.now.from ends.now.attr ends.now.to) }
+    ensures version { IfOk result (λ link.
+        version_of (row_held state.now.store.rows (LinkOf link)) ≢ version_limit) }
     ensures usn { OnOk result (state.now.store.usn < usn_limit) }
 {
-    check_start(state.mode(), from, to)?;
+    check_start(state.mode(), ends.from, ends.to)?;
     let nodes = nodes_held(alloc, state)?;
-    check_ends(state, &nodes, from, attr, to)?;
-    let link = link_of(&nodes, from, attr, to);
+    check_ends(state, &nodes, ends)?;
+    let link = link_of(&nodes, ends);
     check_write(state, &link, present)?;
     Ok(link)
 }
@@ -115,28 +123,26 @@ fn check_start(mode: Mode, from: Uuid, to: Uuid) -> Result<(), WriteRefusal>
 }
 
 /// Tests that both ends are live objects, and that the schema lets the first have such links.
-fn check_ends(
-    state: &State,
-    nodes: &Nodes,
-    from: Uuid,
-    attr: u16,
-    to: Uuid,
-) -> Result<(), WriteRefusal>
-    ensures { result_err result ≡ ends_refusal state.now nodes.now from attr to }
+fn check_ends(state: &State, nodes: &Nodes, ends: &LinkEnds) -> Result<(), WriteRefusal>
+    ensures { result_err result ≡ ends_refusal state.now nodes.now ends.now.from ends.now.attr ends.now.to }
 {
-    check_object(state.rows(), nodes, from)?;
-    check_schema(state.schema().check_link(class_of(nodes, from), attr))?;
-    check_object(state.rows(), nodes, to)
+    check_object(state.rows(), nodes, ends.from)?;
+    check_schema(
+        state
+            .schema()
+            .check_link(class_of(nodes, ends.from), ends.attr),
+    )?;
+    check_object(state.rows(), nodes, ends.to)
 }
 
 /// The name of a link between live objects.
-fn link_of(nodes: &Nodes, from: Uuid, attr: u16, to: Uuid) -> LinkKey
-    ensures { result ≡ link_of nodes.now from attr to }
+fn link_of(nodes: &Nodes, ends: &LinkEnds) -> LinkKey
+    ensures { result ≡ link_of nodes.now ends.now.from ends.now.attr ends.now.to }
 {
     LinkKey {
-        from: object_of(nodes, from),
-        attr,
-        to: object_of(nodes, to),
+        from: object_of(nodes, ends.from),
+        attr: ends.attr,
+        to: object_of(nodes, ends.to),
     }
 }
 
@@ -183,7 +189,9 @@ fn is_linked(rows: &Rows, link: &LinkKey) -> bool
 
 /// Tests that there is room for the row of a link, which may be held already.
 fn check_links(rows: &Rows, link: &LinkKey) -> Result<(), WriteRefusal>
-    ensures { result_err result ≡ full_refusal links link_limit (links_in rows.now + (if is_some (row_held rows.now (LinkOf link.now)) then 0 else 1)) }
+    ensures { result_err result
+        ≡ full_refusal links link_limit (links_in rows.now + (if is_some (row_held rows.now (LinkOf link.now))
+        then 0 else 1)) }
 {
     let is_held = rows.row(Key::Link(*link)).is_some();
     let most = if is_held { LINK_LIMIT } else { LINK_LIMIT - 1 };

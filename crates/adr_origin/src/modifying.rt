@@ -13,10 +13,9 @@ use crate::adding::{nodes_held, own_change};
 use crate::checks::{
     check_mode, check_not_fixed, check_object, check_schema, check_usn, check_version,
 };
-use crate::new_object::copy_values;
 use crate::stamps::{class_of, next_row, object_of};
 use adr_event::{Failure, WriteRefusal};
-use adr_schema::{Assignments, Content};
+use adr_schema::{Assignments, Content, Values, copy_values};
 use adr_stamp::{Oid, Unit};
 use adr_state::{Change, Item, Key, Rows, State, Update};
 use adr_view::Nodes;
@@ -35,7 +34,8 @@ pub fn modify(
 ) -> Result<Change, Failure<WriteRefusal>>
     ensures ok { IfOk result (λ change. write state.now (Modify guid values.now) now ≡ Ok change) }
     ensures within { IfOk result (λ change. change.usn ≤ usn_limit) }
-    ensures refused { (refusal : WriteRefusal) → IsErrOf result (Failure.Refused refusal) → write state.now (Modify guid values.now) now ≡ Err refusal }
+    ensures refused { (refusal : WriteRefusal) → IsErrOf result (Failure.Refused refusal)
+        → write state.now (Modify guid values.now) now ≡ Err refusal }
 {
     let nodes = nodes_held(alloc, state)?;
     check_modify(state, &nodes, guid, values)?;
@@ -54,7 +54,8 @@ fn check_modify(
     requires { nodes.now ≡ nodes_held (updates_of state.now.store.rows) }
     ensures told { result_err result ≡ modify_refusal state.now guid values.now }
     ensures room { OnOk result (state.now.store.usn < usn_limit) }
-    ensures versions { OnOk result (versions_refusal state.now.store.rows (object_of nodes.now guid) values.now ≡ None) }
+    ensures versions { OnOk result (versions_refusal state.now.store.rows (object_of nodes.now guid) values.now
+        ≡ None) }
 {
     check_given(state, nodes, guid, values)?;
     check_rows(state, &object_of(nodes, guid), values)
@@ -117,7 +118,7 @@ fn next_rows(
     let mut rows = Vec::new(alloc);
     let mut above = None;
     'attributes: while let Some((attr, list)) = values.next(above) {
-        let content = Content::Values(copy_values(alloc, list)?);
+        let content = Content::Values(Values::of(copy_values(alloc, list)?));
         rows.push(next_row(state, object, attr, content, now))?;
         above = Some(attr);
     }

@@ -5,7 +5,7 @@ ghost use Rattle.adr_model.specs.Write.{new_rows, row};
 ghost use Rattle.adr_origin.specs.GivenRows.{given_rows};
 
 use crate::NoMemory;
-use adr_schema::{Assignments, Content, Text, Value, Values};
+use adr_schema::{Assignments, Content, Text, Values, copy_values};
 use adr_stamp::{LinkStamp, Oid};
 use adr_state::{CLASS, Key, NAME, Said, Update};
 use std::alloc::Global;
@@ -35,17 +35,6 @@ pub fn row(object: &Oid, stamp: &LinkStamp, attr: u16, content: Content) -> Upda
     Update::new(key, *stamp, Said::Holds(content))
 }
 
-/// Equal values, in their order.
-pub fn copy_values(alloc: Global, values: &[Value]) -> Result<Values, NoMemory>
-    ensures { IfOk result (λ copy. copy ≡ values.now) }
-{
-    let mut copy = Vec::new(alloc);
-    for value in values {
-        copy.push(value.copy(alloc)?)?;
-    }
-    Ok(Values::of(copy))
-}
-
 /// Adds the rows of the attributes that are given values, rising.
 fn push_given(
     alloc: Global,
@@ -58,7 +47,7 @@ fn push_given(
 {
     let mut above = None;
     'attributes: while let Some((attr, list)) = values.next(above) {
-        let content = Content::Values(copy_values(alloc, list)?);
+        let content = Content::Values(Values::of(copy_values(alloc, list)?));
         rows.push(row(object, stamp, attr, content))?;
         above = Some(attr);
     }
@@ -72,7 +61,9 @@ pub fn new_rows(
     stamp: &LinkStamp,
     new: &NewObject<'_>,
 ) -> Result<Vec<Update>, NoMemory>
-    ensures { IfOk result (λ rows. rows.items ≡ new_rows object.now stamp.now new.now.class new.now.parent new.now.text.now new.now.values.now) }
+    ensures { IfOk result (λ rows.
+        rows.items
+        ≡ new_rows object.now stamp.now new.now.class new.now.parent new.now.text.now new.now.values.now) }
 {
     let name = Content::Name {
         text: new.text.copy(alloc)?,

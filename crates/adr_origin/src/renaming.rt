@@ -38,7 +38,8 @@ pub fn rename(
 ) -> Result<Change, Failure<WriteRefusal>>
     ensures ok { IfOk result (λ change. write state.now (Rename guid parent text.now) now ≡ Ok change) }
     ensures within { IfOk result (λ change. change.usn ≤ usn_limit) }
-    ensures refused { (refusal : WriteRefusal) → IsErrOf result (Failure.Refused refusal) → write state.now (Rename guid parent text.now) now ≡ Err refusal }
+    ensures refused { (refusal : WriteRefusal) → IsErrOf result (Failure.Refused refusal)
+        → write state.now (Rename guid parent text.now) now ≡ Err refusal }
 {
     let nodes = nodes_held(alloc, state)?;
     check_rename(alloc, state, &nodes, guid, parent, text)?;
@@ -63,7 +64,8 @@ fn check_rename(
     requires { nodes.now ≡ nodes_held (updates_of state.now.store.rows) }
     ensures told { Tells result (rename_refusal state.now guid parent text.now) }
     ensures room { OnOk result (state.now.store.usn < usn_limit) }
-    ensures version { OnOk result (version_of (row_held state.now.store.rows (RowOf (object_of nodes.now guid) name_attr)) ≢ version_limit) }
+    ensures version { OnOk result (version_of (row_held state.now.store.rows (RowOf (object_of nodes.now guid) name_attr))
+        ≢ version_limit) }
 {
     check_named(state, nodes, guid, text)?;
     check_moved(alloc, state.schema(), nodes, guid, parent, text)?;
@@ -105,7 +107,8 @@ fn check_moved(
 fn check_row(state: &State, object: &Oid, attr: u16) -> Result<(), WriteRefusal>
     ensures told { result_err result ≡ row_refusal state.now object.now attr }
     ensures room { OnOk result (state.now.store.usn < usn_limit) }
-    ensures version { OnOk result (version_of (row_held state.now.store.rows (RowOf object.now attr)) ≢ version_limit) }
+    ensures version { OnOk result (version_of (row_held state.now.store.rows (RowOf object.now attr))
+        ≢ version_limit) }
 {
     let key = Key::Row {
         object: *object,

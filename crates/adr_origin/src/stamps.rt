@@ -64,7 +64,8 @@ fn first_created(key: &Key, now: u64) -> u64
 
 /// The moment of creation of the row of a key, which a further write keeps.
 fn created(rows: &Rows, key: &Key, now: u64) -> u64
-    ensures { result ≡ option_map_or (λ h. h.update.stamp.created) (row_held rows.now (key_of key.now)) (first_created (key_of key.now) now) }
+    ensures { result
+        ≡ option_map_or (λ h. h.update.stamp.created) (row_held rows.now (key_of key.now)) (first_created (key_of key.now) now) }
 {
     match rows.row(*key) {
         Some(held) => held.update().stamp().created,
@@ -113,7 +114,8 @@ pub fn next_item(
 ) -> Result<Item, NoMemory>
     requires usn { state.now.store.usn < usn_limit }
     requires version { version_of (row_held state.now.store.rows (RowOf object.now attr)) ≢ version_limit }
-    ensures { IfOk result (λ item. item ≡ of_object object.now (next_row state.now now object.now attr content ∷ [])) }
+    ensures { IfOk result (λ item.
+        item ≡ of_object object.now (next_row state.now now object.now attr content ∷ [])) }
 {
     let mut rows = Vec::new(alloc);
     rows.push(next_row(state, object, attr, content, now))?;

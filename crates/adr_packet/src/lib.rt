@@ -7,6 +7,7 @@
 mod reply;
 mod request;
 
-pub use adr_vector::NoMemory;
+pub use adr_state::Item;
+pub use adr_vector::{Mark, Vector};
 pub use reply::Reply;
 pub use request::Request;

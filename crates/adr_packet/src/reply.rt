@@ -1,12 +1,10 @@
 //! What a partner answers to a request.
 
-ghost use Rattle.std.specs.Prelude.{◌≡◌, IfOk};
+ghost use Rattle.std.specs.Prelude.{◌≡◌};
 ghost use Rattle.std.specs.Option.{option_copied};
 
-use crate::NoMemory;
 use adr_state::Item;
 use adr_vector::{Mark, Vector};
-use std::alloc::Global;
 use std::marker::Model;
 use uuid::Uuid;
 
@@ -46,7 +44,8 @@ impl Reply {
         last: Option<Vector>,
         items: Vec<Item>,
     ) -> Reply
-        ensures { result ≡ record { dest = dest; source = source; inv = inv; from = from; to = to; schema = schema; asked = asked; last = last; items = items.items } }
+        ensures { result
+            ≡ record { dest = dest; source = source; inv = inv; from = from; to = to; schema = schema; asked = asked; last = last; items = items.items } }
     {
         Reply {
             dest,
@@ -123,42 +122,4 @@ impl Reply {
     {
         self.items.as_slice()
     }
-
-    /// An equal reply.
-    pub fn copy(&self, alloc: Global) -> Result<Reply, NoMemory>
-        ensures { IfOk result (λ copy. copy ≡ self.now) }
-    {
-        Ok(Reply {
-            dest: self.dest,
-            source: self.source,
-            inv: self.inv,
-            from: self.from,
-            to: self.to,
-            schema: self.schema,
-            asked: self.asked.copy(alloc)?,
-            last: copy_last(alloc, self.last.as_ref())?,
-            items: copy_items(alloc, self.items.as_slice())?,
-        })
-    }
-}
-
-/// An equal vector, if there is one.
-fn copy_last(alloc: Global, last: Option<&Vector>) -> Result<Option<Vector>, NoMemory>
-    ensures { IfOk result (λ copy. copy ≡ option_copied last.entry) }
-{
-    match last {
-        Some(vector) => Ok(Some(vector.copy(alloc)?)),
-        None => Ok(None),
-    }
-}
-
-/// Equal items, in their order.
-fn copy_items(alloc: Global, items: &[Item]) -> Result<Vec<Item>, NoMemory>
-    ensures { IfOk result (λ copy. copy.items ≡ items.now) }
-{
-    let mut copy = Vec::new(alloc);
-    for item in items {
-        copy.push(item.copy(alloc)?)?;
-    }
-    Ok(copy)
 }

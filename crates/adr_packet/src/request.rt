@@ -1,10 +1,8 @@
 //! What a controller asks a partner.
 
-ghost use Rattle.std.specs.Prelude.{◌≡◌, IfOk};
+ghost use Rattle.std.specs.Prelude.{◌≡◌};
 
-use crate::NoMemory;
 use adr_vector::{Mark, Vector};
-use std::alloc::Global;
 use std::marker::Model;
 use uuid::Uuid;
 
@@ -40,7 +38,8 @@ impl Request {
         max: u32,
         vector: Vector,
     ) -> Request
-        ensures { result ≡ record { dest = dest; source = source; inv = inv; mark = mark; schema = schema; max = max; vector = vector } }
+        ensures { result
+            ≡ record { dest = dest; source = source; inv = inv; mark = mark; schema = schema; max = max; vector = vector } }
     {
         Request {
             dest,
@@ -100,20 +99,5 @@ impl Request {
         ensures { result.now ≡ self.now.vector }
     {
         &self.vector
-    }
-
-    /// An equal request.
-    pub fn copy(&self, alloc: Global) -> Result<Request, NoMemory>
-        ensures { IfOk result (λ copy. copy ≡ self.now) }
-    {
-        Ok(Request {
-            dest: self.dest,
-            source: self.source,
-            inv: self.inv,
-            mark: self.mark,
-            schema: self.schema,
-            max: self.max,
-            vector: self.vector.copy(alloc)?,
-        })
     }
 }

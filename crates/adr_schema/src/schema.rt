@@ -247,7 +247,8 @@ impl Schema {
     }
 
     fn check_modified(&self, class: u16, values: &Assignments) -> Result<(), SchemaRefusal>
-        ensures { result_err result ≡ first_refusal (map (λ g. values_refusal self.now (Some class) g.0 g.1) values.now) }
+        ensures { result_err result
+            ≡ first_refusal (map (λ g. values_refusal self.now (Some class) g.0 g.1) values.now) }
     {
         'attributes: for (attr, values) in values.entries() {
             self.check_list(Some(class), *attr, values.items())?;

@@ -1,3 +1,2 @@
 mod Placing
-mod Growing
 mod ItemLengths

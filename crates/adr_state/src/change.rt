@@ -67,7 +67,8 @@ impl Change {
         removed: Vec<Oid>,
         writes: Vec<Written>,
     ) -> Change
-        ensures { result ≡ record { usn = usn; mode = mode_of mode; mark = mark; joined = joined; purged = purged; removed = removed.items; writes = writes.items } }
+        ensures { result
+            ≡ record { usn = usn; mode = mode_of mode; mark = mark; joined = joined; purged = purged; removed = removed.items; writes = writes.items } }
     {
         Change {
             usn,
@@ -139,30 +140,4 @@ impl Change {
         }
         Ok(rows)
     }
-
-    /// An equal change.
-    pub fn copy(&self, alloc: Global) -> Result<Change, NoMemory>
-        ensures { IfOk result (λ copy. copy ≡ self.now) }
-    {
-        Ok(Change {
-            usn: self.usn,
-            mode: self.mode,
-            mark: self.mark,
-            joined: self.joined.copy(alloc)?,
-            purged: self.purged.copy(alloc)?,
-            removed: Vec::from_slice(alloc, self.removed.as_slice())?,
-            writes: copy_writes(alloc, self.writes.as_slice())?,
-        })
-    }
-}
-
-/// Equal writes, in their order.
-fn copy_writes(alloc: Global, writes: &[Written]) -> Result<Vec<Written>, NoMemory>
-    ensures { IfOk result (λ copy. copy.items ≡ writes.now) }
-{
-    let mut copy = Vec::new(alloc);
-    for written in writes {
-        copy.push(written.copy(alloc)?)?;
-    }
-    Ok(copy)
 }

@@ -43,16 +43,6 @@ impl Item {
     {
         self.rows.as_slice()
     }
-
-    /// An equal item.
-    pub fn copy(&self, alloc: Global) -> Result<Item, NoMemory>
-        ensures { IfOk result (λ copy. copy ≡ self.now) }
-    {
-        Ok(Item {
-            unit: self.unit,
-            rows: copy_updates(alloc, self.rows.as_slice())?,
-        })
-    }
 }
 
 /// Equal updates, in their order.
@@ -109,15 +99,5 @@ impl Written {
             rows.push(Held::new(update.copy(alloc)?, self.local))?;
         }
         Ok(())
-    }
-
-    /// An equal value.
-    pub fn copy(&self, alloc: Global) -> Result<Written, NoMemory>
-        ensures { IfOk result (λ copy. copy ≡ self.now) }
-    {
-        Ok(Written {
-            local: self.local,
-            item: self.item.copy(alloc)?,
-        })
     }
 }

@@ -18,7 +18,8 @@ use adr_vector::Vector;
 /// Where a log that ends at a place ends after the change; none where that would be beyond the limit.
 pub fn log_end_after(end: u64, change: &Change) -> Option<u64>
     requires { end ≤ log_limit }
-    ensures { result ≡ (if nat_lt log_limit (log_end_after end change.now) then None else Some (log_end_after end change.now)) }
+    ensures { result
+        ≡ (if nat_lt log_limit (log_end_after end change.now) then None else Some (log_end_after end change.now)) }
 {
     let limit = LOG_LIMIT + 1;
     let after = sum_within(limit, end + 5, change_length_within(change, limit));

@@ -16,20 +16,19 @@ mod rows;
 mod state;
 mod update;
 
-pub use adr_vector::NoMemory;
+pub use adr_failure::{Failure, NoMemory};
+pub use adr_schema::{Content, Schema};
+pub use adr_stamp::{LinkKey, LinkStamp, Oid, Unit};
+pub use adr_vector::{CURSOR_LIMIT, Full, Mark, Vector};
 pub use change::{Change, Mode};
 pub use counting::{count_links, count_objects, objects_of};
 pub use item::{Item, Written, copy_updates};
 pub use key::{Key, is_same, is_same_object};
 pub use lengths::{item_length_within, log_end_after};
 pub use limits::{
-    CLASS, CURSOR_LIMIT, DELETED, LINK_LIMIT, LOG_LIMIT, MARK_LIMIT, NAME, OBJECT_LIMIT, USN_LIMIT,
-    VERSION_LIMIT,
+    CLASS, DELETED, LINK_LIMIT, LOG_LIMIT, MARK_LIMIT, NAME, OBJECT_LIMIT, USN_LIMIT, VERSION_LIMIT,
 };
 pub use marks::{Kept, Marks};
 pub use rows::{Held, Rows};
-pub use state::{ApplyRefusal, State};
+pub use state::State;
 pub use update::{Said, Update};
-
-#[cfg(test)]
-mod tests;

@@ -21,9 +21,6 @@ pub const OBJECT_LIMIT: u64 = 200_000;
 /// How many link rows it holds at most, present or not.
 pub const LINK_LIMIT: u64 = 1_000_000;
 
-/// How many cursors its vector has at most.
-pub const CURSOR_LIMIT: u64 = 10_000;
-
 /// How many partners' marks it keeps at most.
 pub const MARK_LIMIT: u64 = 10_000;
 

@@ -1,6 +1,6 @@
 //! How far each partner has been read.
 
-ghost use Rattle.std.specs.Prelude.{◌≡◌, ◌↔◌, [], length, Some, IsTrue, IfOk, OnOk, OnErr};
+ghost use Rattle.std.specs.Prelude.{◌≡◌, [], length, Some, IfOk, OnOk, OnErr};
 ghost use Rattle.std.specs.BTreeMap.{insert_entry};
 ghost use Rattle.adr_stamp.specs.Order.{identifier_order};
 ghost use Rattle.adr_model.specs.Store.{kept_of, mark_of, no_mark};
@@ -128,7 +128,8 @@ impl Marks {
 
     /// Keeps how far an incarnation of a partner was read, in place of what was kept of the partner.
     pub fn keep(&mut self, partner: Uuid, inv: Uuid, mark: Mark) -> Result<(), NoMemory>
-        ensures ok { OnOk result (self.new ≡ with_mark (Some (partner, record { inv = inv; mark = mark })) self.old) }
+        ensures ok { OnOk result (self.new
+            ≡ with_mark (Some (partner, record { inv = inv; mark = mark })) self.old) }
         ensures err { OnErr result (self.new ≡ self.old) }
     {
         self.map.insert(partner, Kept { inv, mark })?;
@@ -154,12 +155,6 @@ impl Marks {
         ensures { result ≡ length self.now }
     {
         self.map.len()
-    }
-
-    pub fn is_empty(&self) -> bool
-        ensures { IsTrue result ↔ (self.now ≡ []) }
-    {
-        self.map.is_empty()
     }
 
     /// What is kept of each partner, by its controller's identifier, rising.

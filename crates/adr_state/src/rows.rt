@@ -1,6 +1,6 @@
 //! The rows that a controller holds.
 
-ghost use Rattle.std.specs.Prelude.{◌≡◌, ◌↔◌, ◌+◌, ◌<◌, ◌≤◌, [], length, vec_len, IfOk, IfErr, IsTrue, OnOk, OnErr, Some, fold};
+ghost use Rattle.std.specs.Prelude.{◌≡◌, ◌+◌, ◌<◌, ◌≤◌, [], vec_len, IfOk, IfErr, OnOk, OnErr, Some, fold};
 ghost use Rattle.std.specs.Vec.{vec_capacity};
 ghost use Rattle.std.specs.Option.{option_copied};
 ghost use Rattle.adr_model.specs.Store.{with_row, row_held, holds_object, holds_dead};
@@ -102,18 +102,6 @@ impl Rows {
         self.list.as_slice()
     }
 
-    pub fn len(&self) -> usize
-        ensures { result ≡ length self.now }
-    {
-        self.list.len()
-    }
-
-    pub fn is_empty(&self) -> bool
-        ensures { IsTrue result ↔ (self.now ≡ []) }
-    {
-        self.list.is_empty()
-    }
-
     /// The row of a key.
     pub fn row(&self, key: Key) -> Option<&Held>
         ensures { option_copied result ≡ row_held self.now (key_of key) }
@@ -135,24 +123,15 @@ impl Rows {
         self.row(Key::deleted(object)).is_some()
     }
 
-    /// Puts a row in the place of the row of its key. A death takes its object's other rows and its links.
-    pub fn put(&mut self, row: Held) -> Result<(), NoMemory>
-        ensures ok { OnOk result (self.new ≡ put self.old row) }
-        ensures err { OnErr result (self.new ≡ self.old) }
-    {
-        self.list.reserve(1)?;
-        put_reserved(&mut self.list, row);
-        Ok(())
-    }
-
     /// Removes the rows of an object. Its links stay.
-    pub fn remove(&mut self, object: &Oid)
+    fn remove(&mut self, object: &Oid)
         ensures { self.new ≡ without_object self.old object.now }
     {
         self.list.retain(|row| !row.key().is_row_of(object));
     }
 
-    /// Puts rows, one after the other, and then removes objects.
+    /// Puts rows, one after the other, each in the place of the row of its key, and then removes objects. A death takes
+    /// its object's other rows and its links.
     pub fn write(&mut self, rows: Vec<Held>, removed: &[Oid]) -> Result<(), NoMemory>
         ensures ok { OnOk result (self.new ≡ rows_after removed.now rows.items self.old) }
         ensures err { OnErr result (self.new ≡ self.old) }

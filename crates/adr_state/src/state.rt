@@ -2,61 +2,23 @@
 
 ghost use Rattle.std.specs.Prelude.{◌≡◌, ◌<◌, ◌≤◌, length, IfOk, OnOk, OnErr, IsErrOf};
 ghost use Rattle.adr_schema.specs.Numbered.{numbered};
-ghost use Rattle.adr_vector.specs.Vector.{joined, most_cursors};
+ghost use Rattle.adr_vector.specs.Refusal.{full};
+ghost use Rattle.adr_vector.specs.Vector.{joined, cursor_limit};
 ghost use Rattle.adr_model.specs.Store.{empty_state, empty_store};
 ghost use Rattle.adr_model.specs.Change.{after};
-ghost use Rattle.adr_model.specs.Lengths.{new_log_end};
-ghost use Rattle.adr_state.specs.declared.state.ApplyRefusal.TheVariants.{NoMemory as no_memory};
+ghost use Rattle.adr_model.specs.Lengths.{first_log_end, new_log_end};
 ghost use Rattle.adr_state.specs.Mode.{mode_of};
-ghost use Rattle.adr_state.specs.Refusal.{of_vector, IsOverfull};
+ghost use Rattle.adr_state.specs.Refusal.{IsOverfull};
 
-use crate::NoMemory;
 use crate::change::{Change, Mode};
 use crate::marks::Marks;
 use crate::rows::Rows;
+use adr_failure::Failure;
 use adr_schema::Schema;
-use adr_vector::{Vector, VectorRefusal};
-use std::alloc::{AllocError, AllocFailed, Global};
+use adr_vector::{Full, Vector};
+use std::alloc::Global;
 use std::marker::Model;
-use thiserror::Error;
 use uuid::Uuid;
-
-/// Why a change was not applied.
-#[derive(Clone, Copy, Debug, PartialEq, Eq, Error)]
-pub enum ApplyRefusal {
-    /// One of the vectors would have more cursors than a vector has.
-    #[error("a vector would have too many cursors")]
-    Full,
-    #[error("memory ran out")]
-    NoMemory,
-}
-
-impl From<AllocError> for ApplyRefusal {
-    ghost from_gives = { λ _ e. e ≡ no_memory };
-
-    fn from(_: AllocError) -> ApplyRefusal {
-        ApplyRefusal::NoMemory
-    }
-}
-
-impl<T: Drop> From<AllocFailed<T>> for ApplyRefusal {
-    ghost from_gives = { λ _ e. e ≡ no_memory };
-
-    fn from(_: AllocFailed<T>) -> ApplyRefusal {
-        ApplyRefusal::NoMemory
-    }
-}
-
-impl From<VectorRefusal> for ApplyRefusal {
-    ghost from_gives = { λ refusal e. e ≡ of_vector refusal };
-
-    fn from(refusal: VectorRefusal) -> ApplyRefusal {
-        match refusal {
-            VectorRefusal::Full => ApplyRefusal::Full,
-            VectorRefusal::NoMemory => ApplyRefusal::NoMemory,
-        }
-    }
-}
 
 /// A controller: its own identifier, the invocation identifier of its database, its mode, and the database.
 #[derive(Drop)]
@@ -90,7 +52,7 @@ impl State {
     /// A new, empty controller.
     pub fn new(alloc: Global, dsa: Uuid, inv: Uuid, schema: Schema) -> State
         ensures empty { result ≡ record (empty_state dsa inv) { store = empty_store schema.number } }
-        ensures log { new_log_end result ≡ 82 }
+        ensures log { new_log_end result ≡ first_log_end }
     {
         State {
             dsa,
@@ -164,33 +126,16 @@ impl State {
     {
         &self.marks
     }
-
-    /// An equal state.
-    pub fn copy(&self, alloc: Global) -> Result<State, NoMemory>
-        ensures { IfOk result (λ copy. copy ≡ self.now) }
-    {
-        Ok(State {
-            dsa: self.dsa,
-            inv: self.inv,
-            usn: self.usn,
-            mode: self.mode,
-            schema: self.schema,
-            rows: self.rows.copy(alloc)?,
-            vector: self.vector.copy(alloc)?,
-            purged: self.purged.copy(alloc)?,
-            marks: self.marks.copy(alloc)?,
-        })
-    }
 }
 
 impl State {
     /// Commits a change.
-    pub fn apply(&mut self, change: &Change) -> Result<(), ApplyRefusal>
+    pub fn apply(&mut self, change: &Change) -> Result<(), Failure<Full>>
         ensures ok { OnOk result (self.new ≡ after self.old change.now) }
 
         // Where a vector would have too many cursors it fails, and no other change is refused as full.
         ensures room { OnOk result (¬ IsOverfull (after self.old change.now)) }
-        ensures full { IsErrOf result ApplyRefusal.Full → IsOverfull (after self.old change.now) }
+        ensures full { IsErrOf result full → IsOverfull (after self.old change.now) }
         ensures err { OnErr result (self.new ≡ self.old) }
     {
         let alloc = self.rows.allocator();
@@ -208,10 +153,10 @@ impl State {
     }
 
     /// What will have been seen after a change.
-    fn vector_after(&self, alloc: Global, change: &Change) -> Result<Vector, ApplyRefusal>
+    fn vector_after(&self, alloc: Global, change: &Change) -> Result<Vector, Failure<Full>>
         ensures ok { IfOk result (λ vector. vector ≡ (after self.now change.now).store.vector) }
-        ensures few { IfOk result (λ vector. length vector ≤ most_cursors) }
-        ensures full { IsErrOf result ApplyRefusal.Full → most_cursors < length (after self.now change.now).store.vector }
+        ensures few { IfOk result (λ vector. length vector ≤ cursor_limit) }
+        ensures full { IsErrOf result full → cursor_limit < length (after self.now change.now).store.vector }
     {
         let mut vector = joined(alloc, &self.vector, change.joined())?;
         vector.raise(self.inv, change.usn())?;
@@ -220,10 +165,10 @@ impl State {
 }
 
 /// The two vectors as one.
-fn joined(alloc: Global, vector: &Vector, other: &Vector) -> Result<Vector, ApplyRefusal>
+fn joined(alloc: Global, vector: &Vector, other: &Vector) -> Result<Vector, Failure<Full>>
     ensures ok { IfOk result (λ both. both ≡ joined vector.now other.now) }
-    ensures few { IfOk result (λ both. length both ≤ most_cursors) }
-    ensures full { IsErrOf result ApplyRefusal.Full → most_cursors < length (joined vector.now other.now) }
+    ensures few { IfOk result (λ both. length both ≤ cursor_limit) }
+    ensures full { IsErrOf result full → cursor_limit < length (joined vector.now other.now) }
 {
     let mut both = vector.copy(alloc)?;
     both.join(other)?;

@@ -6,7 +6,8 @@ use Rattle.std.proofs.lemmas.Bool.Decides.{nat_tests}
 use Rattle.adr_event.specs.declared.refusal.TakeRefusal.TheVariants.{UsnLimit}
 use Rattle.adr_event.specs.declared.refusal.TakeRefusal.{TakeRefusal}
 use Rattle.adr_model.specs.Change.{Change, after}
-use Rattle.adr_model.specs.Refusing.{first_of, unless}
+use Rattle.adr_failure.specs.First.{first_of}
+use Rattle.adr_model.specs.Refusing.{unless}
 use Rattle.adr_model.specs.Serve.{Reply}
 use Rattle.adr_model.specs.Store.{State}
 use Rattle.adr_model.specs.Take.{Taking, refusal_of, take, take_items, taken_change}

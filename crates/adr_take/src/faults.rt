@@ -4,7 +4,7 @@ ghost use Rattle.std.specs.Prelude.{◌≡◌, filter, map, not, unwrap_or, if�
 ghost use Rattle.std.specs.List.{list_any};
 ghost use Rattle.std.specs.Result.{result_err};
 ghost use Rattle.adr_schema.specs.Table.{must_of};
-ghost use Rattle.adr_model.specs.Refusing.{first_of};
+ghost use Rattle.adr_failure.specs.First.{first_of};
 ghost use Rattle.adr_model.specs.Take.{broken, class_among, has_row, is_birth, is_reserved_row, lacks, row_fault};
 
 use crate::keys::{class_among, has_row, is_reserved};
@@ -85,7 +85,8 @@ pub fn lacks(schema: Schema, rows: &[Update]) -> bool
 
 /// Whether what objects of its class must have is missing.
 fn lacks_must(schema: Schema, rows: &[Update]) -> bool
-    ensures { result ≡ list_any (λ attr. not (has_row attr rows.now)) (must_of schema (unwrap_or (class_among rows.now) 0)) }
+    ensures { result
+        ≡ list_any (λ attr. not (has_row attr rows.now)) (must_of schema (unwrap_or (class_among rows.now) 0)) }
 {
     schema
         .must(class_among(rows).unwrap_or(0))

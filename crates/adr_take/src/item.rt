@@ -19,7 +19,8 @@ use std::alloc::AllocError;
 
 /// The class of an object that is held.
 fn class_held(held: &Rows, object: &Oid) -> Option<u16>
-    ensures { result ≡ option_and_then (λ h. class_said h.update.said) (row_held held.now (RowOf object.now class_attr)) }
+    ensures { result
+        ≡ option_and_then (λ h. class_said h.update.said) (row_held held.now (RowOf object.now class_attr)) }
 {
     let key = Key::Row {
         object: *object,

@@ -12,5 +12,7 @@ mod reply;
 mod rows;
 mod taking;
 
-pub use adr_state::NoMemory;
+pub use adr_event::{Failure, TakeRefusal};
+pub use adr_packet::Reply;
+pub use adr_state::{Change, NoMemory, State};
 pub use reply::take;

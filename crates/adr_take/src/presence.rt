@@ -56,7 +56,8 @@ fn is_lost_end(vector: &Vector, held: &Rows, object: &Oid) -> bool
 
 /// Whether one of the ends of a link is dead or gone.
 pub fn has_lost_end(vector: &Vector, held: &Rows, link: &LinkKey) -> bool
-    ensures { result ≡ (is_lost_end vector.now held.now link.now.from || is_lost_end vector.now held.now link.now.to) }
+    ensures { result
+        ≡ (is_lost_end vector.now held.now link.now.from || is_lost_end vector.now held.now link.now.to) }
 {
     is_lost_end(vector, held, &link.from) || is_lost_end(vector, held, &link.to)
 }

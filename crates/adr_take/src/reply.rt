@@ -2,7 +2,8 @@
 
 ghost use Rattle.std.specs.Prelude.{◌≡◌, ◌↔◌, ◌≤◌, [], None, Some, Ok, Err, IfOk, IsErrOf, IsOk, IsTrue, false, length, nat_lt, unwrap_or};
 ghost use Rattle.std.specs.Option.{option_copied};
-ghost use Rattle.adr_vector.specs.Vector.{joined, most_cursors, raised};
+ghost use Rattle.adr_vector.specs.Refusal.{full};
+ghost use Rattle.adr_vector.specs.Vector.{cursor_limit, joined, raised};
 ghost use Rattle.adr_event.specs.declared.refusal.TakeRefusal.{TakeRefusal};
 ghost use Rattle.adr_model.specs.Change.{after, with_mark};
 ghost use Rattle.adr_model.specs.Take.{passes, refusal_of, same_mark, shown_by_last, take, taken_change};
@@ -17,7 +18,7 @@ use adr_state::{
     CURSOR_LIMIT, Change, Kept, LINK_LIMIT, MARK_LIMIT, Mode, OBJECT_LIMIT, State, USN_LIMIT,
     is_same,
 };
-use adr_vector::{Mark, Vector, VectorRefusal};
+use adr_vector::{Full, Mark, Vector};
 use std::alloc::{AllocError, Global};
 
 /// What a reply does to a controller: the change that it makes, or why it is refused (MS-DRSR, processing a
@@ -27,26 +28,32 @@ pub fn take(alloc: Global, state: &State, reply: &Reply) -> Result<Change, Failu
     requires { state.now.store.usn ≤ usn_limit }
     ensures ok { IfOk result (λ change. take state.now reply.now ≡ Ok change) }
     ensures within { IfOk result (λ change. change.usn ≤ usn_limit) }
-    ensures refused { (refusal : TakeRefusal) → IsErrOf result (Failure.Refused refusal) → take state.now reply.now ≡ Err refusal }
+    ensures refused { (refusal : TakeRefusal) → IsErrOf result (Failure.Refused refusal)
+        → take state.now reply.now ≡ Err refusal }
+
+    // Want of memory never stands for a refusal that comes before the items are looked at.
+    ensures before { (refusal : TakeRefusal) → refusal_before state.now reply.now ≡ Some refusal
+        → IsErrOf result (Failure.Refused refusal) }
 {
+    if let Some(refusal) = refusal_before(state, reply) {
+        return Err(Failure::Refused(refusal));
+    }
     match outcome(alloc, state, reply)? {
         Ok(change) => Ok(change),
         Err(refusal) => Err(Failure::Refused(refusal)),
     }
 }
 
-/// The change or the refusal, unless memory runs out.
+/// The change of a reply that isn't refused before its items are looked at, or the refusal.
 fn outcome(
     alloc: Global,
     state: &State,
     reply: &Reply,
 ) -> Result<Result<Change, TakeRefusal>, NoMemory>
-    requires { state.now.store.usn ≤ usn_limit }
+    requires usn { state.now.store.usn ≤ usn_limit }
+    requires before { refusal_before state.now reply.now ≡ None }
     ensures { IfOk result (λ outcome. outcome ≡ take state.now reply.now) }
 {
-    if let Some(refusal) = refusal_before(state, reply) {
-        return Ok(Err(refusal));
-    }
     let taking = take_items(alloc, state, reply.items())?;
     match refusal_after(alloc, state, reply, &taking)? {
         Some(refusal) => Ok(Err(refusal)),
@@ -160,7 +167,7 @@ fn has_many_cursors(
     usn: u64,
 ) -> Result<bool, NoMemory>
     ensures { let seen = joined state.now.store.vector (unwrap_or (option_copied last.entry) []) in
-        IfOk result (λ many. many ≡ nat_lt most_cursors (length (raised seen state.now.inv usn))) }
+        IfOk result (λ many. many ≡ nat_lt cursor_limit (length (raised seen state.now.inv usn))) }
 {
     let mut vector = state.vector().copy(alloc)?;
     if let Some(last) = last {
@@ -172,14 +179,14 @@ fn has_many_cursors(
 }
 
 /// Whether a vector was full.
-fn is_full(raised: Result<(), VectorRefusal>) -> Result<bool, NoMemory>
-    ensures full { IfOk result (λ full. IsTrue full ↔ IsErrOf raised VectorRefusal.Full) }
-    ensures changed { IfOk result (λ full. full ≡ false → IsOk raised) }
+fn is_full(raised: Result<(), Failure<Full>>) -> Result<bool, NoMemory>
+    ensures full { IfOk result (λ told. IsTrue told ↔ IsErrOf raised full) }
+    ensures changed { IfOk result (λ told. told ≡ false → IsOk raised) }
 {
     match raised {
         Ok(()) => Ok(false),
-        Err(VectorRefusal::Full) => Ok(true),
-        Err(VectorRefusal::NoMemory) => Err(AllocError),
+        Err(Failure::Refused(Full)) => Ok(true),
+        Err(Failure::NoMemory) => Err(AllocError),
     }
 }
 

@@ -64,7 +64,8 @@ fn object_rows_taken(
 
 /// The deleted rows that are above those that are held.
 fn deaths_above(alloc: Global, held: &Rows, rows: &[Update]) -> Result<Vec<Update>, NoMemory>
-    ensures { IfOk result (λ deaths. deaths.items ≡ filter (λ u. is_of_attr deleted_attr u.key && is_above held.now u) rows.now) }
+    ensures { IfOk result (λ deaths.
+        deaths.items ≡ filter (λ u. is_of_attr deleted_attr u.key && is_above held.now u) rows.now) }
 {
     let mut deaths = copy_updates(alloc, rows)?;
     deaths.retain(|row| is_of_attr(DELETED, row.key()) && is_above(held, row));
@@ -73,7 +74,8 @@ fn deaths_above(alloc: Global, held: &Rows, rows: &[Update]) -> Result<Vec<Updat
 
 /// The rows but class rows that are above those that are held.
 fn changes_above(alloc: Global, held: &Rows, rows: &[Update]) -> Result<Vec<Update>, NoMemory>
-    ensures { IfOk result (λ changes. changes.items ≡ filter (λ u. not (is_of_attr class_attr u.key) && is_above held.now u) rows.now) }
+    ensures { IfOk result (λ changes.
+        changes.items ≡ filter (λ u. not (is_of_attr class_attr u.key) && is_above held.now u) rows.now) }
 {
     let mut changes = copy_updates(alloc, rows)?;
     changes.retain(|row| !is_of_attr(CLASS, row.key()) && is_above(held, row));

@@ -1,7 +1,6 @@
 //! The items of a reply, one after the other.
 
-ghost use Rattle.std.specs.Prelude.{◌≡◌, ◌+◌, ◌<◌, ◌≤◌, ◌^◌, [], ◌∷◌, ◌++◌, IfOk, OnOk, fold, length, map};
-ghost use Rattle.adr_model.specs.Refusing.{first_of};
+ghost use Rattle.std.specs.Prelude.{◌≡◌, ◌+◌, ◌<◌, ◌≤◌, ◌^◌, [], ◌++◌, IfOk, OnOk, fold, length, map};
 ghost use Rattle.adr_model.specs.Change.{held_of, rows_after};
 ghost use Rattle.adr_model.specs.Take.{begin, take_item, take_items, writes_of};
 ghost use Rattle.adr_model.specs.Write.{usn_limit};
@@ -55,6 +54,7 @@ impl Taking {
     }
 
     /// Takes one item, which is judged against what the items before it left, with the vector of the start.
+    #[tactic(auto, using(adr_model::proofs::Firsts::first_of_two))]
     pub fn take_item(
         &mut self,
         alloc: Global,
@@ -71,7 +71,7 @@ impl Taking {
         let rows = rows_taken(alloc, vector, &self.rows, item)?;
         let refusal = item_refusal(schema, vector, &self.rows, self.place, item)?;
         self.write(alloc, item, rows)?;
-        self.refusal = first(self.refusal, refusal);
+        self.refusal = self.refusal.or(refusal);
         self.place += 1;
         self.objects = self.objects.max(count_objects(alloc, &self.rows)?);
         self.links = self.links.max(count_links(&self.rows));
@@ -81,11 +81,12 @@ impl Taking {
     /// Writes rows of an item's unit under the next update sequence number, where there are any.
     fn write(&mut self, alloc: Global, item: &Item, rows: Vec<Update>) -> Result<(), NoMemory>
         requires { self.old.usn + 1 < 2 ^ 64 }
-        ensures { OnOk result (let writes = writes_of self.old.usn item.now rows.items in self.new ≡ record self.old {
-          rows = rows_after [] (held_of writes) self.old.rows;
-          usn = self.old.usn + length writes;
-          writes = self.old.writes ++ writes;
-        }) }
+        ensures { OnOk result (let writes = writes_of self.old.usn item.now rows.items in self.new
+            ≡ record self.old {
+              rows = rows_after [] (held_of writes) self.old.rows;
+              usn = self.old.usn + length writes;
+              writes = self.old.writes ++ writes;
+            }) }
     {
         if rows.is_empty() {
             return Ok(());
@@ -127,16 +128,6 @@ impl Taking {
         ensures { result.items ≡ self.writes }
     {
         self.writes
-    }
-}
-
-/// The first of two refusals that is there.
-fn first(a: Option<TakeRefusal>, b: Option<TakeRefusal>) -> Option<TakeRefusal>
-    ensures { result ≡ first_of (a ∷ b ∷ []) }
-{
-    match a {
-        Some(refusal) => Some(refusal),
-        None => b,
     }
 }
 

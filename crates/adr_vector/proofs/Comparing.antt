@@ -52,12 +52,6 @@ pub none_from_at_most : (b : Bool) → not b ≡ false → b ≡ true
 none_from_at_most true h = refl
 none_from_at_most false h = absurd (cc)
 
-pub same_from_not : (a b : Bool) → not a ≡ not b → a ≡ b
-same_from_not true true h = refl
-same_from_not true false h = absurd (cc)
-same_from_not false true h = absurd (cc)
-same_from_not false false h = refl
-
 -- what is said of the first gap
 pub record IsFirstGap (v w : Cursors) (gap : List ℕ × ℕ × ℕ) : Type 0 where
   pub theirs : gap.1 ≡ at w gap.0

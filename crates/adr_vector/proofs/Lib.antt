@@ -3,3 +3,4 @@ pub mod Joining
 pub mod Placing
 pub mod Comparing
 pub mod Refusals
+pub mod Growing

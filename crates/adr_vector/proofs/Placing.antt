@@ -1,7 +1,6 @@
 -- What a search among cursors finds, and what is written at the place that it finds.
-use Rattle.std.proofs.Common.{◌≡◌, ℕ, zero, suc, ◌≤◌, ◌<◌, ◌+◌, Bool, true, false, cond, List, [], ◌∷◌, length, get_or, set, slice_get, refl, sym, ap, subst, ◌∙◌, arith, Result, Ok, Err, IfOk, IfErr, ◌⊎◌, inl, inr}
-use Rattle.std.proofs.lemmas.Bool.{cases_lt, le-leb, lt-leb}
-use Rattle.std.specs.Prelude.{find}
+use Rattle.std.proofs.Common.{◌≡◌, ℕ, zero, suc, ◌≤◌, ◌<◌, ◌+◌, Bool, true, false, cond, List, [], ◌∷◌, length, get_or, set, refl, sym, ap, subst, ◌∙◌, arith, Result, Ok, Err, IfOk, IfErr}
+use Rattle.std.proofs.lemmas.Bool.{le-leb, lt-leb}
 use Rattle.std.specs.List.{insert}
 use Rattle.std.specs.List.Sorted.{IsSearchInRange, IsBinarySearchResult, IsNonDecreasingBy, IsSortedBy}
 use Rattle.std.specs.Map.{keys_of}
@@ -17,8 +16,8 @@ use Rattle.std.proofs.lemmas.Map.Keys.{Less-from_sorted}
 use Rattle.std.proofs.lemmas.Map.Entries.{length-keys_of}
 use Rattle.std.proofs.lemmas.Map.Lookups.{exact_bytes}
 use Rattle.adr_stamp.specs.Order.{identifier_order}
-use Rattle.adr_vector.specs.Vector.{Cursors, at, raised, most_cursors, IsVector}
-use Rattle.adr_vector.specs.Place.{identifier_at, AreLessBefore, IsAt, IsGapFor, BeginAbove}
+use Rattle.adr_vector.specs.Vector.{Cursors, at, raised, cursor_limit, IsVector}
+use Rattle.adr_vector.specs.Place.{identifier_at, AreLessBefore, IsAt, IsGapFor}
 use Rattle.adr_vector.proofs.Cursors.{IsRising, FromOne, turned, turned_back, itself, below_all, at_below, head_below, tail_rising, rising-insert_entry, from_one-insert_entry}
 
 -- ---- one place further
@@ -64,20 +63,6 @@ insert_gap [] inv usn (suc i) h = absurd (omega (arith, h.in_range))
 insert_gap (c ∷ cs) inv usn zero h = rw (h.after (omega arith)) refl
 insert_gap (c ∷ cs) inv usn (suc i) h = rw (passed c cs inv i h.before) (ap (λ (l : Cursors). c ∷ l) (insert_gap cs inv usn i (later_gap c cs inv i h)))
 
--- ---- the next one
-
-later_above : (c : List ℕ × ℕ) (cs : Cursors) (inv : List ℕ) (i : ℕ) → BeginAbove (c ∷ cs) inv (suc i) → BeginAbove cs inv i
-later_above c cs inv i h = record { before = λ j lt. h.before (suc j) (omega arith); after = λ lt. h.after (omega arith) }
-
-pub find_above : (cs : Cursors) (inv : List ℕ) (i : ℕ) → BeginAbove cs inv i → find (λ c. is_lt (identifier_order inv c.0)) cs ≡ slice_get cs i
-find_above [] inv i h = refl
-find_above (c ∷ cs) inv zero h = rw (h.after (omega arith)) refl
-find_above (c ∷ cs) inv (suc i) h = rw (h.before 0 (omega arith)) (find_above cs inv i (later_above c cs inv i h))
-
-pub find_first : (cs : Cursors) → find (λ c. true) cs ≡ slice_get cs 0
-find_first [] = refl
-find_first (c ∷ cs) = refl
-
 -- ---- the search
 
 module _ (cs : Cursors) (s : IsRising cs) (inv : List ℕ) where
@@ -114,22 +99,6 @@ module _ (cs : Cursors) (s : IsRising cs) (inv : List ℕ) where
     },
   )
 
--- where the cursors above an identifier begin
-pub above_place : (cs : Cursors) (inv : List ℕ) (i : ℕ) → IsRising cs → IsAt cs inv i → BeginAbove cs inv (i + 1)
-above_place cs inv i s h = record {
-  before = λ j lt. not_above j (cases_lt j i) lt;
-  after = λ lt. subst (λ (x : List ℕ). identifier_order x (identifier_at cs (i + 1)) ≡ Less) h.is_there (less_before cs s inv (i + 1) i (omega arith) lt);
-}
-  where
-    not_above : (j : ℕ) → (j < i) ⊎ (i ≤ j) → j < i + 1 → is_lt (identifier_order inv (identifier_at cs j)) ≡ false
-    not_above j (inl lt) k = ap is_lt (turned_back (identifier_at cs j) inv (h.before j lt))
-    not_above j (inr le) k =
-        let place : j ≡ i = omega arith in
-        ap is_lt (ap (identifier_order inv) (ap (identifier_at cs) place ∙ h.is_there) ∙ itself inv)
-
-pub above_gap : (cs : Cursors) (inv : List ℕ) (i : ℕ) → IsGapFor cs inv i → BeginAbove cs inv i
-above_gap cs inv i h = record { before = λ j lt. ap is_lt (turned_back (identifier_at cs j) inv (h.before j lt)); after = h.after }
-
 -- ---- the vector that is written
 
 pub written_over : (cs : Cursors) (inv : List ℕ) (usn i : ℕ) → IsVector cs → 1 ≤ usn → IsAt cs inv i → IsVector (set cs i (inv, usn))
@@ -139,7 +108,7 @@ written_over cs inv usn i v one h = record {
   few = rw (length-set cs i (inv, usn)) v.few;
 }
 
-pub written_between : (cs : Cursors) (inv : List ℕ) (usn i : ℕ) → IsVector cs → 1 ≤ usn → length cs < most_cursors → IsGapFor cs inv i → (b : Bool) → IsVector (cond b (insert cs i (inv, usn)) cs)
+pub written_between : (cs : Cursors) (inv : List ℕ) (usn i : ℕ) → IsVector cs → 1 ≤ usn → length cs < cursor_limit → IsGapFor cs inv i → (b : Bool) → IsVector (cond b (insert cs i (inv, usn)) cs)
 written_between cs inv usn i v one room h false = v
 written_between cs inv usn i v one room h true = record {
   rising = subst IsRising (sym (insert_gap cs inv usn i h)) (rising-insert_entry cs inv usn v.rising);

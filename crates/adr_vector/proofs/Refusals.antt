@@ -3,20 +3,22 @@ use Rattle.std.proofs.Common.{◌≡◌, ℕ, ◌≤◌, ◌<◌, ◌↔◌, Res
 use Rattle.std.specs.Prelude.{IsErrOf}
 use Rattle.std.specs.Result.{IsErrAnd}
 use Rattle.std.proofs.lemmas.Result.{err_from_is_err_and}
-use Rattle.adr_vector.specs.declared.vector.VectorRefusal.{VectorRefusal}
-use Rattle.adr_vector.specs.declared.vector.VectorRefusal.TheVariants.{Full, NoMemory}
+use Rattle.adr_failure.specs.declared.Failure.{Failure}
+use Rattle.adr_failure.specs.declared.Failure.TheVariants.{NoMemory}
+use Rattle.adr_vector.specs.declared.vector.Full.{Full}
+use Rattle.adr_vector.specs.Refusal.{full}
 
 abbrev pub Answer : Type 0
-Answer = Result (Unit {0}) VectorRefusal
+Answer = Result (Unit {0}) (Failure Full)
 
 abbrev pub IsFullWhen : Answer → ℕ → ℕ → Type 0
-IsFullWhen r most n = IsErrOf r Full ↔ (most < n)
+IsFullWhen r most n = IsErrOf r full ↔ (most < n)
 
 pub done : (most n : ℕ) → n ≤ most → IsFullWhen (Ok tt) most n
 done most n le = (λ h. absurd (cc), λ lt. absurd (omega arith))
 
-pub full : (most n : ℕ) → most < n → IsFullWhen (Err Full) most n
-full most n lt = (λ h. lt, λ k. refl)
+pub refused : (most n : ℕ) → most < n → IsFullWhen (Err full) most n
+refused most n lt = (λ h. lt, λ k. refl)
 
 -- where memory ran out there was room
 pub wanting : (r : Answer) (most n : ℕ) → IsErrAnd r (λ e. e ≡ NoMemory) → n ≤ most → IsFullWhen r most n

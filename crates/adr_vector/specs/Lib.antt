@@ -1,3 +1,4 @@
 pub mod Vector
 pub mod Place
 pub mod Merging
+pub mod Refusal

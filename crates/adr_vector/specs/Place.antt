@@ -1,6 +1,5 @@
 -- Where an identifier stands among cursors, or would stand.
-use Rattle.std.specs.Prelude.{◌≡◌, ℕ, ◌<◌, ◌≤◌, List, [], length, slice_index_or, false}
-use Rattle.std.specs.Ordering.{is_lt}
+use Rattle.std.specs.Prelude.{◌≡◌, ℕ, ◌<◌, ◌≤◌, List, [], length, slice_index_or}
 use Rattle.std.specs.declared.cmp.Ordering.TheVariants.{Less}
 use Rattle.adr_stamp.specs.Order.{identifier_order}
 use Rattle.adr_vector.specs.Vector.{Cursors}
@@ -21,9 +20,4 @@ pub record IsAt (cursors : Cursors) (inv : List ℕ) (i : ℕ) : Type 0 where
 pub record IsGapFor (cursors : Cursors) (inv : List ℕ) (i : ℕ) : Type 0 where
   pub in_range : i ≤ length cursors
   pub before : AreLessBefore cursors inv i
-  pub after : i < length cursors → identifier_order inv (identifier_at cursors i) ≡ Less
-
--- the cursors from a place on are those above the identifier
-pub record BeginAbove (cursors : Cursors) (inv : List ℕ) (i : ℕ) : Type 0 where
-  pub before : (j : ℕ) → j < i → is_lt (identifier_order inv (identifier_at cursors j)) ≡ false
   pub after : i < length cursors → identifier_order inv (identifier_at cursors i) ≡ Less

@@ -1,9 +1,9 @@
 -- Up-to-dateness vectors: up to which write of each incarnation one has seen everything.
-use Rattle.std.specs.Prelude.{ℕ, ◌≤◌, List, [], ◌∷◌, length, Bool, true, nat_le, not, if◌then◌else◌, Option, None, Some, option_map, find, fold}
+use Rattle.std.specs.Prelude.{ℕ, ◌≤◌, List, [], ◌∷◌, length, Bool, nat_le, not, if◌then◌else◌, Option, option_map, find, fold}
 use Rattle.std.specs.List.{list_all, AllByRecursion}
 use Rattle.std.specs.List.Sorted.{IsStrictlySortedBy}
 use Rattle.std.specs.Map.{keys_of}
-use Rattle.std.specs.Ordering.{is_eq, is_lt}
+use Rattle.std.specs.Ordering.{is_eq}
 use Rattle.std.specs.BTreeMap.{insert_entry}
 use Rattle.adr_stamp.specs.Order.{identifier_order}
 
@@ -36,17 +36,12 @@ raised cursors inv usn = if covers cursors inv usn then cursors else insert_entr
 abbrev pub joined : Cursors → Cursors → Cursors
 joined v w = fold (λ u c. raised u c.0 c.1) v w
 
--- the first cursor above an identifier, or the first of all
-abbrev pub next_above : Cursors → Option (List ℕ) → Option (List ℕ × ℕ)
-next_above cursors None = find (λ c. true) cursors
-next_above cursors (Some above) = find (λ c. is_lt (identifier_order above c.0)) cursors
-
 -- how many cursors a vector has at most
-abbrev pub most_cursors : ℕ
-most_cursors = 10000
+abbrev pub cursor_limit : ℕ
+cursor_limit = 10000
 
 -- identifiers rise, no cursor stands for nothing seen, and there are few enough
 pub record IsVector (cursors : Cursors) : Type 0 where
   pub rising : IsStrictlySortedBy identifier_order (keys_of cursors)
   pub from_one : AllByRecursion (λ c. 1 ≤ c.1) cursors
-  pub few : length cursors ≤ most_cursors
+  pub few : length cursors ≤ cursor_limit

@@ -9,8 +9,6 @@ mod mark;
 mod merging;
 mod vector;
 
+pub use adr_failure::{Failure, NoMemory};
 pub use mark::Mark;
-pub use vector::{Vector, VectorRefusal, vectors_are_their_numbers};
-
-/// Memory ran out.
-pub type NoMemory = std::alloc::AllocError;
+pub use vector::{CURSOR_LIMIT, Full, Vector, vectors_are_their_numbers};

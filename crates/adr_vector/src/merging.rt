@@ -3,7 +3,7 @@
 ghost use Rattle.std.specs.Prelude.{◌≡◌, ◌++◌, option_to_list, length, [], IfNone, List, ℕ, IfOk, ◌+◌, ◌<◌, ◌^◌};
 ghost use Rattle.adr_vector.specs.Merging.{merged};
 
-use crate::NoMemory;
+use adr_failure::NoMemory;
 use std::alloc::Global;
 use std::cmp::Ordering;
 use std::marker::Model;

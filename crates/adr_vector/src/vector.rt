@@ -1,47 +1,24 @@
 //! Up-to-dateness vectors.
 
-ghost use Rattle.std.specs.Prelude.{◌≡◌, ◌≢◌, ◌<◌, ◌≤◌, ◌↔◌, ℕ, List, [], length, max, IsTrue, IsNone, IfOk, IfErr, IfSome, OnOk, OnErr, IsErrOf, true, slice_get};
+ghost use Rattle.std.specs.Prelude.{◌≡◌, ◌≢◌, ◌<◌, ◌≤◌, ◌↔◌, ℕ, List, [], length, max, IsTrue, IsNone, IfOk, IfErr, IfSome, OnOk, OnErr, IsErrOf, true};
 ghost use Rattle.std.specs.declared.cmp.Ordering.TheVariants.{Less};
 ghost use Rattle.adr_stamp.specs.Order.{identifier_order};
-ghost use Rattle.adr_vector.specs.declared.vector.VectorRefusal.TheVariants.{NoMemory as no_memory};
-ghost use Rattle.adr_vector.specs.Vector.{Cursors, IsVector, at, covers, at_most, first_gap, raised, joined, next_above, most_cursors};
-ghost use Rattle.adr_vector.specs.Place.{IsAt, IsGapFor, BeginAbove};
+ghost use Rattle.adr_vector.specs.Vector.{Cursors, IsVector, at, covers, at_most, first_gap, raised, joined, cursor_limit};
+ghost use Rattle.adr_vector.specs.Place.{IsAt, IsGapFor};
+ghost use Rattle.adr_vector.specs.Refusal.{full};
 
-use crate::NoMemory;
 use crate::merging::{count, merge};
-use std::alloc::{AllocError, AllocFailed, Global};
+use adr_failure::{Failure, NoMemory};
+use std::alloc::Global;
 use std::marker::Model;
-use thiserror::Error;
 use uuid::Uuid;
 
-/// How many cursors a vector has at most.
-const LIMIT: usize = 10_000;
+/// How many cursors a vector has at most: `cursor_limit` of the definitions.
+pub const CURSOR_LIMIT: u64 = 10_000;
 
-/// Why a vector stays as it was.
-#[derive(Clone, Copy, Debug, PartialEq, Eq, Error)]
-pub enum VectorRefusal {
-    /// There would be more than 10,000 cursors, the most that a vector has.
-    #[error("a vector has at most 10000 cursors")]
-    Full,
-    #[error("memory ran out")]
-    NoMemory,
-}
-
-impl From<AllocError> for VectorRefusal {
-    ghost from_gives = { λ _ e. e ≡ no_memory };
-
-    fn from(_: AllocError) -> VectorRefusal {
-        VectorRefusal::NoMemory
-    }
-}
-
-impl<T: Drop> From<AllocFailed<T>> for VectorRefusal {
-    ghost from_gives = { λ _ e. e ≡ no_memory };
-
-    fn from(_: AllocFailed<T>) -> VectorRefusal {
-        VectorRefusal::NoMemory
-    }
-}
+/// There would be more cursors than a vector has at most.
+#[derive(Clone, Copy, Debug, PartialEq, Eq)]
+pub struct Full;
 
 /// What has been seen: for each invocation identifier the update sequence number up to which all was seen (MS-DRSR,
 /// UPTODATE_VECTOR_V1_EXT). A contract sees a vector as the list of its cursors, rising by identifier.
@@ -115,14 +92,6 @@ impl Vector {
         usn <= self.at(inv)
     }
 
-    /// Whether the other has seen all that this one has.
-    pub fn at_most(&self, other: &Vector) -> bool
-        ensures value { result ≡ at_most self.now other.now }
-        ensures everywhere { IsTrue result ↔ ((inv : List ℕ) → at self.now inv ≤ at other.now inv) }
-    {
-        self.search_gap(other).is_none()
-    }
-
     /// The least identifier at which this vector is above the other, with the number of the other there and its own.
     pub fn first_gap(&self, other: &Vector) -> Option<(Uuid, u64, u64)>
         ensures value { result ≡ first_gap self.now other.now }
@@ -130,20 +99,22 @@ impl Vector {
         ensures theirs { IfSome result (λ gap. gap.1 ≡ at other.now gap.0) }
         ensures own { IfSome result (λ gap. gap.2 ≡ at self.now gap.0) }
         ensures above { IfSome result (λ gap. gap.1 < gap.2) }
-        ensures least { IfSome result (λ gap. (inv : List ℕ) → identifier_order inv gap.0 ≡ Less → at self.now inv ≤ at other.now inv) }
+        ensures least { IfSome result (λ gap. (inv : List ℕ) → identifier_order inv gap.0 ≡ Less
+            → at self.now inv ≤ at other.now inv) }
     {
         self.search_gap(other)
     }
 
     /// Takes over what the other has seen.
-    pub fn join(&mut self, other: &Vector) -> Result<(), VectorRefusal>
+    pub fn join(&mut self, other: &Vector) -> Result<(), Failure<Full>>
         ensures ok { OnOk result (self.new ≡ joined self.old other.now) }
-        ensures everywhere { OnOk result ((inv : List ℕ) → at self.new inv ≡ max (at self.old inv) (at other.now inv)) }
-        ensures full { IsErrOf result VectorRefusal.Full ↔ (most_cursors < length (joined self.old other.now)) }
+        ensures everywhere { OnOk result ((inv : List ℕ)
+            → at self.new inv ≡ max (at self.old inv) (at other.now inv)) }
+        ensures full { IsErrOf result full ↔ (cursor_limit < length (joined self.old other.now)) }
         ensures err { OnErr result (self.new ≡ self.old) }
     {
-        if count(&self.cursors, &other.cursors) > LIMIT {
-            return Err(VectorRefusal::Full);
+        if count(&self.cursors, &other.cursors) as u64 > CURSOR_LIMIT {
+            return Err(Failure::Refused(Full));
         }
         let alloc = *self.cursors.allocator();
         self.cursors = merge(alloc, &self.cursors, &other.cursors)?;
@@ -151,11 +122,11 @@ impl Vector {
     }
 
     /// Brings the number at one identifier up to this one. A number that is 0, or that has been seen, changes nothing.
-    pub fn raise(&mut self, inv: Uuid, usn: u64) -> Result<(), VectorRefusal>
+    pub fn raise(&mut self, inv: Uuid, usn: u64) -> Result<(), Failure<Full>>
         ensures ok { OnOk result (self.new ≡ raised self.old inv usn) }
         ensures here { OnOk result (at self.new inv ≡ max (at self.old inv) usn) }
         ensures elsewhere { OnOk result ((other : List ℕ) → other ≢ inv → at self.new other ≡ at self.old other) }
-        ensures full { IsErrOf result VectorRefusal.Full ↔ (most_cursors < length (raised self.old inv usn)) }
+        ensures full { IsErrOf result full ↔ (cursor_limit < length (raised self.old inv usn)) }
         ensures err { OnErr result (self.new ≡ self.old) }
     {
         match self.search(inv) {
@@ -164,16 +135,6 @@ impl Vector {
                 Ok(())
             }
             Err(place) => self.enter(place, inv, usn),
-        }
-    }
-
-    /// The cursor of the least identifier above this one, or of the least of all.
-    pub fn next(&self, above: Option<Uuid>) -> Option<(Uuid, u64)>
-        ensures { result ≡ next_above self.now above }
-    {
-        match above {
-            None => self.cursor_at(0),
-            Some(inv) => self.cursor_at(self.place_above(inv)),
         }
     }
 
@@ -197,16 +158,6 @@ impl Vector {
         self.cursors.binary_search_by_key(&inv, |cursor| cursor.0)
     }
 
-    /// Where the cursors above the identifier begin.
-    fn place_above(&self, inv: Uuid) -> usize
-        ensures { BeginAbove self.now inv result }
-    {
-        match self.search(inv) {
-            Ok(place) => place + 1,
-            Err(place) => place,
-        }
-    }
-
     fn search_gap(&self, other: &Vector) -> Option<(Uuid, u64, u64)>
         ensures gap { result ≡ first_gap self.now other.now }
         ensures vector { IsVector self.now }
@@ -219,17 +170,11 @@ impl Vector {
         None
     }
 
-    fn cursor_at(&self, place: usize) -> Option<(Uuid, u64)>
-        ensures { result ≡ slice_get self.now place }
-    {
-        self.cursors.get(place).copied()
-    }
-
     /// Brings up the number of a cursor that is there.
     fn raise_at(&mut self, place: usize, inv: Uuid, usn: u64)
         requires { IsAt self.old inv place }
         ensures raised { self.new ≡ raised self.old inv usn }
-        ensures few { length self.new ≤ most_cursors }
+        ensures few { length self.new ≤ cursor_limit }
     {
         if self.cursors[place].1 < usn {
             self.cursors[place] = (inv, usn);
@@ -237,19 +182,19 @@ impl Vector {
     }
 
     /// Puts a cursor where its identifier would stand.
-    fn enter(&mut self, place: usize, inv: Uuid, usn: u64) -> Result<(), VectorRefusal>
+    fn enter(&mut self, place: usize, inv: Uuid, usn: u64) -> Result<(), Failure<Full>>
         requires { IsGapFor self.old inv place }
         ensures ok { OnOk result (self.new ≡ raised self.old inv usn) }
-        ensures full { IsErrOf result VectorRefusal.Full ↔ (most_cursors < length (raised self.old inv usn)) }
+        ensures full { IsErrOf result full ↔ (cursor_limit < length (raised self.old inv usn)) }
         ensures err { OnErr result (self.new ≡ self.old) }
     {
         let is_nothing = usn == 0;
-        let is_full = self.cursors.len() >= LIMIT;
+        let is_full = self.cursors.len() as u64 >= CURSOR_LIMIT;
         if is_nothing {
             return Ok(());
         }
         if is_full {
-            return Err(VectorRefusal::Full);
+            return Err(Failure::Refused(Full));
         }
         self.cursors.insert(place, (inv, usn))?;
         Ok(())

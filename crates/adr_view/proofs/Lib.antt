@@ -1,7 +1,6 @@
 mod Deaths
 mod Filtered
 mod FormedLinks
-mod HeldRows
 mod LiveLinks
 mod LiveSet
 mod NamedRows

@@ -8,9 +8,8 @@ use Rattle.adr_model.specs.Update.{Key, Update, key_order}
 use Rattle.adr_model.specs.Winner.{winner, winners}
 use Rattle.adr_model.specs.Store.{Held, updates_of}
 use Rattle.adr_model.specs.Formed.{AreRising}
-use Rattle.adr_model.proofs.Keys.{equal_order, exact_keys, winner_found}
+use Rattle.adr_model.proofs.Keys.{equal_order, exact_keys, winner_found, keys_total}
 use Rattle.adr_model.proofs.Members.{filter_map_keys}
-use Rattle.adr_view.specs.KeyOrder.{keys_total}
 use Rattle.adr_view.proofs.Rising.{one_of_each, keys_that_rise}
 
 abbrev pub key : Update → Key

@@ -1,5 +1,5 @@
 -- Going up from a place, one object after the other.
-use Rattle.std.proofs.Common.{◌≡◌, ℕ, ◌-◌, ◌<◌, zero, suc, Bool, true, false, cond, List, [], ◌∷◌, ◌||◌, ◌&&◌, Option, Some, None, refl, sym, ap, ◌∙◌, arith}
+use Rattle.std.proofs.Common.{◌≡◌, ℕ, ◌-◌, ◌<◌, zero, suc, Bool, true, false, cond, List, [], ◌∷◌, ◌||◌, ◌&&◌, Option, Some, refl, sym, ap, ◌∙◌, arith}
 use Rattle.std.specs.List.{list_any, list_all}
 use Rattle.std.specs.Option.{option_map_or}
 use Rattle.adr_model.specs.Update.{Identifier}
@@ -15,14 +15,6 @@ upward_once all zero at some = absurd (omega (arith, some))
 upward_once all (suc n) at some = let e : suc n - 1 ≡ n = omega arith in rw e refl
 
 module _ (all : List Node) (n : ℕ) (at : Identifier) (some : 0 < n) where
-  pub at_fixed : is_fixed at ≡ true → upward all n at ≡ []
-  unfolding from_first
-  at_fixed fixed = upward_once all n at some ∙ ap (λ b. cond b [] (from_first all (n - 1) (node_at all at))) fixed
-
-  pub none_met : is_fixed at ≡ false → node_at all at ≡ None → upward all n at ≡ []
-  unfolding from_first
-  none_met free none = upward_once all n at some ∙ ap (λ b. cond b [] (from_first all (n - 1) (node_at all at))) free ∙ ap (from_first all (n - 1)) none
-
   pub one_met : is_fixed at ≡ false → (m : Node) → node_at all at ≡ Some m → upward all n at ≡ m ∷ upward all (n - 1) (first_place all m)
   unfolding from_first
   one_met free m is = upward_once all n at some ∙ ap (λ b. cond b [] (from_first all (n - 1) (node_at all at))) free ∙ ap (from_first all (n - 1)) is

@@ -5,7 +5,8 @@ ghost use Rattle.std.specs.Cmp.{partial_equiv_from_equiv};
 ghost use Rattle.std.specs.Ordering.{as_partial_cmp};
 ghost use Rattle.adr_model.specs.Update.{key_order, same_key};
 ghost use Rattle.adr_state.specs.Key.{key_of};
-ghost use Rattle.adr_view.specs.KeyOrder.{keys_total, keys_equivalent, keys_partly};
+ghost use Rattle.adr_model.proofs.Keys.{keys_total};
+ghost use Rattle.adr_view.specs.KeyOrder.{keys_equivalent, keys_partly};
 
 use adr_state::Key;
 use std::cmp::Ordering;

@@ -18,13 +18,13 @@ mod shown;
 mod values;
 mod winner;
 
+pub use adr_event::Directory;
+pub use adr_schema::Text;
+pub use adr_stamp::{LinkStamp, Oid};
+pub use adr_state::Rows;
 pub use adr_vector::NoMemory;
 pub use entries::directory;
 pub use fixed::{is_fixed, is_lost_and_found, is_root, lost_and_found, root};
 pub use laws::formed_rows_have_back_links;
-pub use links::have_back_links;
 pub use node::Node;
 pub use nodes::Nodes;
-
-#[cfg(test)]
-mod tests;

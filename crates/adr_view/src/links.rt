@@ -7,42 +7,23 @@ ghost use Rattle.std.specs.BTreeSet.{insert_key};
 ghost use Rattle.adr_stamp.specs.Order.{identifier_order};
 ghost use Rattle.adr_model.specs.Update.{Identifier, same_object};
 ghost use Rattle.adr_model.specs.Directory.{back_link, one_where, link_ends, of_attribute, gathered, links_at};
-ghost use Rattle.adr_model.specs.Store.{updates_of};
-ghost use Rattle.adr_state.specs.Key.{key_of};
 ghost use Rattle.adr_view.specs.BackLinks.{has_back_link, have_back_links};
 ghost use Rattle.adr_view.specs.Referents.{referents};
 
 use crate::NoMemory;
 use adr_event::{EntryLinks, Guids};
 use adr_stamp::{LinkKey, Oid};
-use adr_state::{Key, Rows, Said, Update, is_same_object};
+use adr_state::{Key, Said, Update, is_same_object};
 use std::alloc::Global;
 use std::collections::BTreeSet;
 use uuid::Uuid;
 
-/// Whether the back link of a link's attribute has a number.
-fn has_back_link(key: &Key) -> bool
-    ensures { result ≡ has_back_link (key_of key.now) }
-{
-    match key {
-        Key::Row { .. } => true,
-        Key::Link(link) => link.attr < u16::MAX,
-    }
-}
-
-/// Whether the back link of the attribute of each link has a number, as those of every schema do.
-pub fn have_back_links(rows: &Rows) -> bool
-    ensures { result ≡ have_back_links (updates_of rows.now) }
-{
-    rows.as_slice()
-        .iter()
-        .all(|held| has_back_link(&held.update().key()))
-}
-
 /// Adds what a link that is present shows at an object: the other end, forward or back or both.
 fn push_both(ends: &mut Vec<(u16, Uuid)>, object: &Oid, link: &LinkKey) -> Result<(), NoMemory>
     requires { link.now.attr < 65535 }
-    ensures { OnOk result (ends.new.items ≡ ends.old.items ++ one_where (same_object link.now.from object.now) (link.now.attr, link.now.to.guid) (one_where (same_object link.now.to object.now) (back_link link.now.attr, link.now.from.guid) [])) }
+    ensures { OnOk result (ends.new.items
+        ≡ ends.old.items
+        ++ one_where (same_object link.now.from object.now) (link.now.attr, link.now.to.guid) (one_where (same_object link.now.to object.now) (back_link link.now.attr, link.now.from.guid) [])) }
 {
     if is_same_object(&link.from, object) {
         ends.push((link.attr, link.to.guid))?;
@@ -67,7 +48,8 @@ fn push_ends(ends: &mut Vec<(u16, Uuid)>, object: &Oid, update: &Update) -> Resu
 /// What rows show at an object, row by row.
 fn ends_at(alloc: Global, rows: &[&Update], object: &Oid) -> Result<Vec<(u16, Uuid)>, NoMemory>
     requires { IsTrue (have_back_links (referents rows.now)) }
-    ensures { IfOk result (λ ends. ends.items ≡ flat_map (λ u. link_ends object.now u.key u.said) (referents rows.now)) }
+    ensures { IfOk result (λ ends.
+        ends.items ≡ flat_map (λ u. link_ends object.now u.key u.said) (referents rows.now)) }
 {
     let mut ends = Vec::new(alloc);
     for update in rows {
@@ -78,7 +60,8 @@ fn ends_at(alloc: Global, rows: &[&Update], object: &Oid) -> Result<Vec<(u16, Uu
 
 /// The attributes of ends, rising.
 fn attributes_of(alloc: Global, ends: &[(u16, Uuid)]) -> Result<BTreeSet<u16>, NoMemory>
-    ensures { IfOk result (λ attributes. attributes.keys ≡ fold (insert_key nat_cmp) [] (map (λ (e : ℕ × Identifier). e.0) ends.now)) }
+    ensures { IfOk result (λ attributes.
+        attributes.keys ≡ fold (insert_key nat_cmp) [] (map (λ (e : ℕ × Identifier). e.0) ends.now)) }
 {
     let mut attributes = BTreeSet::new(alloc);
     for (attr, _) in ends {
@@ -89,7 +72,8 @@ fn attributes_of(alloc: Global, ends: &[(u16, Uuid)]) -> Result<BTreeSet<u16>, N
 
 /// The GUIDs of the ends under an attribute, rising.
 fn guids_at(alloc: Global, ends: &[(u16, Uuid)], attr: u16) -> Result<BTreeSet<Uuid>, NoMemory>
-    ensures { IfOk result (λ guids. guids.keys ≡ fold (insert_key identifier_order) [] (filter_map (of_attribute attr) ends.now)) }
+    ensures { IfOk result (λ guids.
+        guids.keys ≡ fold (insert_key identifier_order) [] (filter_map (of_attribute attr) ends.now)) }
 {
     let mut guids = BTreeSet::new(alloc);
     for (own, guid) in ends {

@@ -34,7 +34,8 @@ fn birth_of(object: &Oid) -> Key
 
 /// The objects that died.
 fn dead_of(alloc: Global, rows: &[Held]) -> Result<BTreeSet<Oid>, NoMemory>
-    ensures { IfOk result (λ dead. (o : Object) → contains object_order dead o ≡ list_any (is_death_of o) (updates_of rows.now)) }
+    ensures { IfOk result (λ dead. (o : Object)
+        → contains object_order dead o ≡ list_any (is_death_of o) (updates_of rows.now)) }
 {
     let mut dead = BTreeSet::new(alloc);
     for held in rows {
@@ -79,7 +80,9 @@ fn yields_to(rows: &[Held], object: &Oid, other: &Oid) -> bool
 
 /// Whether an object yields to one of its GUID among these.
 fn yields(rows: &[Held], objects: &[Oid], object: &Oid) -> bool
-    ensures { result ≡ list_any (λ p. same_identifier object.now.guid p.guid && yields_to (updates_of rows.now) object.now p) objects.now }
+    ensures { result
+        ≡ list_any (λ p.
+        same_identifier object.now.guid p.guid && yields_to (updates_of rows.now) object.now p) objects.now }
 {
     objects.iter().any(|other| is_same(object.guid, other.guid) && yields_to(rows, object, other))
 }
@@ -102,7 +105,9 @@ fn shared_guids(alloc: Global, objects: &[Oid]) -> Result<BTreeSet<Uuid>, NoMemo
 fn stays(rows: &[Held], objects: &[Oid], shared: &BTreeSet<Uuid>, object: &Oid) -> bool
     requires shared { HasShared objects.now shared.now }
     requires among { Member object.now objects.now }
-    ensures { result ≡ not (list_any (λ p. same_identifier object.now.guid p.guid && yields_to (updates_of rows.now) object.now p) objects.now) }
+    ensures { result
+        ≡ not (list_any (λ p.
+        same_identifier object.now.guid p.guid && yields_to (updates_of rows.now) object.now p) objects.now) }
 {
     !shared.contains(&object.guid) || !yields(rows, objects, object)
 }

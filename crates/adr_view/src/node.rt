@@ -53,7 +53,8 @@ impl Node {
         parent: Uuid,
         stamp: LinkStamp,
     ) -> Result<Node, NoMemory>
-        ensures { IfOk result (λ node. node ≡ record { object = object; class = class; text = text; parent = parent; stamp = stamp }) }
+        ensures { IfOk result (λ node.
+            node ≡ record { object = object; class = class; text = text; parent = parent; stamp = stamp }) }
     {
         let name = fold_name(alloc, text.as_str())?;
         Ok(Node {
@@ -109,7 +110,8 @@ impl Node {
 
 /// The object that a row of a key names.
 fn named(key: &Key) -> Option<Oid>
-    ensures { (o : Object) → same_key (key_of key.now) (RowOf o name_attr) ≡ option_map_or (λ p. same_object p o) result false }
+    ensures { (o : Object)
+        → same_key (key_of key.now) (RowOf o name_attr) ≡ option_map_or (λ p. same_object p o) result false }
 {
     match key {
         Key::Row { object, attr } if *attr == NAME => Some(*object),
@@ -175,7 +177,9 @@ fn with_class(
     class: u16,
 ) -> Result<Option<Node>, NoMemory>
     requires { AreNamesOf (referents rows.now) names.now }
-    ensures { IfOk result (λ node. node ≡ option_and_then (λ u. with_name object.now class u.stamp u.said) (row_at (referents rows.now) (RowOf object.now name_attr))) }
+    ensures { IfOk result (λ node.
+        node
+        ≡ option_and_then (λ u. with_name object.now class u.stamp u.said) (row_at (referents rows.now) (RowOf object.now name_attr))) }
 {
     match name_row(rows, names, object) {
         Some(update) => with_name(alloc, object, class, update),

@@ -1,12 +1,12 @@
 //! The live objects of a controller.
 
-ghost use Rattle.std.specs.Prelude.{◌≡◌, ◌↔◌, [], IfOk, IsTrue, length};
+ghost use Rattle.std.specs.Prelude.{◌≡◌, IfOk, length};
 ghost use Rattle.std.specs.List.{list_any};
 ghost use Rattle.std.specs.Option.{option_copied};
 ghost use Rattle.adr_model.specs.Update.{same_identifier};
 ghost use Rattle.adr_model.specs.Live.{live_rows};
 ghost use Rattle.adr_model.specs.Place.{nodes_of, node_at, upward, place};
-ghost use Rattle.adr_model.specs.Shown.{shown_name, name_holder};
+ghost use Rattle.adr_model.specs.Shown.{name_holder};
 ghost use Rattle.adr_model.specs.Store.{updates_of};
 ghost use Rattle.adr_view.specs.Referents.{referents};
 
@@ -14,7 +14,7 @@ use crate::NoMemory;
 use crate::live::live_rows;
 use crate::node::{Node, nodes_of};
 use crate::place::{is_met_above, node_at, place};
-use crate::shown::{name_holder, shown_name};
+use crate::shown::name_holder;
 use adr_schema::Text;
 use adr_state::{Rows, Update};
 use std::alloc::Global;
@@ -60,18 +60,6 @@ impl Nodes {
         self.list.as_slice()
     }
 
-    pub fn len(&self) -> usize
-        ensures { result ≡ length self.now }
-    {
-        self.list.len()
-    }
-
-    pub fn is_empty(&self) -> bool
-        ensures { IsTrue result ↔ (self.now ≡ []) }
-    {
-        self.list.is_empty()
-    }
-
     /// The live object of a GUID.
     pub fn at(&self, guid: Uuid) -> Option<&Node>
         ensures { option_copied result ≡ node_at self.now guid }
@@ -89,17 +77,10 @@ impl Nodes {
 
     /// Whether an object of a GUID is met going up from a place, which it may be itself.
     pub fn is_met_above(&self, place: Uuid, guid: Uuid) -> bool
-        ensures { result ≡ list_any (λ m. same_identifier m.object.guid guid) (upward self.now (length self.now) place) }
+        ensures { result
+            ≡ list_any (λ m. same_identifier m.object.guid guid) (upward self.now (length self.now) place) }
     {
         is_met_above(self.list.as_slice(), place, guid)
-    }
-
-    /// The name under which an object is shown: its text, or where another object in the place keeps that, the text
-    /// with a line feed, `CNF:` and the GUID in lower case (MS-ADTS, naming conflicts; RFC 9562 for the GUID).
-    pub fn shown_name(&self, alloc: Global, node: &Node) -> Result<Text, NoMemory>
-        ensures { IfOk result (λ name. name ≡ shown_name self.now node.now) }
-    {
-        shown_name(alloc, self.list.as_slice(), node)
     }
 
     /// The GUID of the object that keeps a text in a place, in whatever case it is written.

@@ -42,7 +42,8 @@ fn has_name(node: &Node, name: &Text) -> bool
 
 /// Whether an object stands in a place under a folded name.
 fn is_named(all: &[Node], parent: Uuid, name: &Text, node: &Node) -> bool
-    ensures { result ≡ (same_identifier (place all.now node.now) parent && bytes_eq (folded node.now.text) name.now) }
+    ensures { result
+        ≡ (same_identifier (place all.now node.now) parent && bytes_eq (folded node.now.text) name.now) }
 {
     has_name(node, name) && is_same(place(all, node), parent)
 }
@@ -66,7 +67,8 @@ fn conflict_name(alloc: Global, text: &Text, guid: Uuid) -> Result<Text, NoMemor
     Ok(Text::from_string(name))
 }
 
-/// The name under which an object is shown.
+/// The name under which an object is shown: its text, or where another object in the place keeps that, the text with a
+/// line feed, `CNF:` and the GUID in lower case (MS-ADTS, naming conflicts; RFC 9562 for the GUID).
 pub fn shown_name(alloc: Global, all: &[Node], node: &Node) -> Result<Text, NoMemory>
     ensures { IfOk result (λ name. name ≡ shown_name all.now node.now) }
 {
@@ -79,7 +81,10 @@ pub fn shown_name(alloc: Global, all: &[Node], node: &Node) -> Result<Text, NoMe
 
 /// The object that keeps a folded name in a place.
 fn keeper<'a>(all: &'a [Node], parent: Uuid, name: &Text) -> Option<&'a Node>
-    ensures { option_copied result ≡ find (λ n. same_identifier (place all.now n) parent && bytes_eq (folded n.text) name.now && not (gives_way all.now n)) all.now }
+    ensures { option_copied result
+        ≡ find (λ n.
+        same_identifier (place all.now n) parent && bytes_eq (folded n.text) name.now
+        && not (gives_way all.now n)) all.now }
 {
     all.iter().find(|node| is_named(all, parent, name, node) && !gives_way(all, node))
 }

@@ -1,8 +1,9 @@
 -- Reading elements one after the other, as a loop does.
 use Rattle.std.proofs.Common.{◌≡◌, ℕ, zero, suc, ◌-◌, ◌+◌, ◌≤◌, ◌<◌, List, [], ◌∷◌, ◌++◌, Option, Some, Ok, Err, refl, sym, ap, ◌∙◌, append_assoc, arith}
 use Rattle.std.proofs.lemmas.List.{append-nil}
-use Rattle.adr_wire.specs.declared.refusal.WireRefusal.{WireRefusal}
-use Rattle.adr_wire.specs.declared.refusal.WireRefusal.TheVariants as refusals
+use Rattle.adr_failure.specs.declared.Failure.{Failure}
+use Rattle.adr_failure.specs.declared.Failure.TheVariants.{Refused, NoMemory}
+use Rattle.adr_wire.specs.declared.refusal.Malformed.{Malformed}
 use Rattle.adr_wire.specs.Reading.{Rest, Read, Reading, ◌>>=◌, Refuses, Names, elements_at}
 
 -- what was read before, and what is still read
@@ -10,17 +11,17 @@ abbrev pub with_front : {E : Type 0} → List E → Read (List E) → Read (List
 with_front front read = read >>= λ x. Ok (front ++ x.0, x.1)
 
 -- a refusal goes up unchanged
-pub refuses_then : {X Y : Type 0} (e : WireRefusal) (r : Read X) (f : X × Rest → Read Y) → Refuses e r → Refuses e (r >>= f)
-refuses_then (refusals.Malformed place) r f h = ap (λ (x : Read _). x >>= f) h
-refuses_then refusals.NoMemory r f h = tt
+pub refuses_then : {X Y : Type 0} (e : Failure Malformed) (r : Read X) (f : X × Rest → Read Y) → Refuses e r → Refuses e (r >>= f)
+refuses_then (Refused malformed) r f h = ap (λ (x : Read _). x >>= f) h
+refuses_then NoMemory r f h = tt
 
-pub names_refuses : {X : Type 0} (e : WireRefusal) (r : Read X) → Names e r → Refuses e r
-names_refuses (refusals.Malformed place) r h = h
-names_refuses refusals.NoMemory r h = tt
+pub names_refuses : {X : Type 0} (e : Failure Malformed) (r : Read X) → Names e r → Refuses e r
+names_refuses (Refused malformed) r h = h
+names_refuses NoMemory r h = tt
 
-refuses_is : {X : Type 0} (e : WireRefusal) (r s : Read X) → r ≡ s → Refuses e r → Refuses e s
-refuses_is (refusals.Malformed place) r s e h = sym e ∙ h
-refuses_is refusals.NoMemory r s e h = tt
+refuses_is : {X : Type 0} (e : Failure Malformed) (r s : Read X) → r ≡ s → Refuses e r → Refuses e s
+refuses_is (Refused malformed) r s e h = sym e ∙ h
+refuses_is NoMemory r s e h = tt
 
 module _ {K E : Type 0} (key : E → K) (element : Option K → Reading E) (front : List E) (count i : ℕ) (last : Option K) (rest : Rest) (total : Read (List E)) where
   regroup : (e : E) (read : Read (List E)) → with_front front (read >>= λ x. Ok (e ∷ x.0, x.1)) ≡ with_front (front ++ e ∷ []) read
@@ -34,7 +35,7 @@ module _ {K E : Type 0} (key : E → K) (element : Option K → Reading E) (fron
       let one : with_front front (elements_at key element (count - i) last rest) ≡ with_front (front ++ e ∷ []) (elements_at key element (count - (i + 1)) (Some (key e)) after) = rw (k, h) (regroup e (elements_at key element (count - (i + 1)) (Some (key e)) after)) in
       sym one ∙ so_far
 
-  pub ends : (e : WireRefusal) → i < count → Refuses e (element last rest) → with_front front (elements_at key element (count - i) last rest) ≡ total → Refuses e total
+  pub ends : (e : Failure Malformed) → i < count → Refuses e (element last rest) → with_front front (elements_at key element (count - i) last rest) ≡ total → Refuses e total
   ends e lt h so_far =
       let k : count - i ≡ suc (count - (i + 1)) = omega arith in
       let here : Refuses e (with_front front (elements_at key element (suc (count - (i + 1))) last rest)) = refuses_then e (elements_at key element (suc (count - (i + 1))) last rest) (λ x. Ok (front ++ x.0, x.1)) (refuses_then e (element last rest) (λ x. elements_at key element (count - (i + 1)) (Some (key x.0)) x.1 >>= λ es. Ok (x.0 ∷ es.0, es.1)) h) in

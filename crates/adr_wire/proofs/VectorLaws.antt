@@ -6,7 +6,7 @@ use Rattle.std.specs.declared.cmp.Ordering.{Ordering}
 use Rattle.std.specs.declared.cmp.Ordering.TheVariants.{Less, Equal, Greater}
 use Rattle.std.proofs.lemmas.Bool.{leb-true, le-leb}
 use Rattle.adr_stamp.specs.Order.{identifier_order}
-use Rattle.adr_vector.specs.Vector.{Cursors, IsVector, most_cursors}
+use Rattle.adr_vector.specs.Vector.{Cursors, IsVector, cursor_limit}
 use Rattle.adr_vector.proofs.Cursors.{IsRising, FromOne, IsBelow, below_all, head_below, tail_rising, cons_rising, nil_rising}
 use Rattle.adr_wire.specs.Reading.{Rest, as_at, where_at, is_above}
 use Rattle.adr_wire.specs.Fields.{u32_at, u64_at, id_at, usn_at, is_usn, u32, u64, id}
@@ -63,7 +63,7 @@ next_read last rest after c h =
     first : (n : ℕ) → is_usn n ≡ true → 1 ≤ n
     first n e = leb-true 1 n (two (leb 1 n) (ltb n (2 ^ 63)) e)
 
-pub vector_read : (count : ℕ) (rest after : Rest) (cs : Cursors) → count ≤ most_cursors → cursors_at count None rest ≡ Ok (cs, after) → IsVector cs
+pub vector_read : (count : ℕ) (rest after : Rest) (cs : Cursors) → count ≤ cursor_limit → cursors_at count None rest ≡ Ok (cs, after) → IsVector cs
 unfolding cursors_at
 vector_read count rest after cs few h =
     let all = each_read head cursor_above IsNext next_read count None rest after cs h in
@@ -103,10 +103,10 @@ in_turn last (c ∷ cs) s b all = ((all.0, above_last last c cs b), in_turn (Som
 pub vector_spelled : IsSpelling IsCursors vector vector_at
 unfolding vector_at cursors_at
 vector_spelled =
-    in_range_too (λ cs. ((length cs ≤ most_cursors) × IsU32 (length cs)) × InTurn head IsCursorAbove None cs) vector vector_at
-    (counted head IsCursorAbove cursor cursor_above cursor_spelled (λ n. (n ≤ most_cursors) × IsU32 n) u32 (where_at (λ n. leb n most_cursors) u32_at)
-    (in_range_too (λ n. IsU32 n × (leb n most_cursors ≡ true)) u32 (where_at (λ n. leb n most_cursors) u32_at) (passed IsU32 u32 u32_at u32_spelled (λ n. leb n most_cursors)) (λ n. (n ≤ most_cursors) × IsU32 n)
-    (λ n h. (h.1, le-leb n most_cursors h.0)) (λ n h. (leb-true n most_cursors h.1, h.0))))
+    in_range_too (λ cs. ((length cs ≤ cursor_limit) × IsU32 (length cs)) × InTurn head IsCursorAbove None cs) vector vector_at
+    (counted head IsCursorAbove cursor cursor_above cursor_spelled (λ n. (n ≤ cursor_limit) × IsU32 n) u32 (where_at (λ n. leb n cursor_limit) u32_at)
+    (in_range_too (λ n. IsU32 n × (leb n cursor_limit ≡ true)) u32 (where_at (λ n. leb n cursor_limit) u32_at) (passed IsU32 u32 u32_at u32_spelled (λ n. leb n cursor_limit)) (λ n. (n ≤ cursor_limit) × IsU32 n)
+    (λ n h. (h.1, le-leb n cursor_limit h.0)) (λ n h. (leb-true n cursor_limit h.1, h.0))))
     IsCursors
     (λ cs h. ((h.0.few, (let few = h.0.few in omega arith)), in_turn None cs h.0.rising tt h.1))
     (λ cs h. let parts = nexts None cs h.1 in let up = rises None cs parts.0 in (record { rising = up.rising; from_one = up.from_one; few = h.0.0 }, parts.1))

@@ -12,7 +12,7 @@ use Rattle.adr_schema.specs.declared.content.Value.TheVariants.{Text, Number, Fl
 use Rattle.adr_schema.specs.declared.content.Content.{Content}
 use Rattle.adr_schema.specs.declared.content.Content.TheVariants.{Class, Name, Dead, Values}
 use Rattle.adr_vector.specs.declared.mark.Mark.{Mark}
-use Rattle.adr_vector.specs.Vector.{Cursors, most_cursors}
+use Rattle.adr_vector.specs.Vector.{Cursors, cursor_limit}
 use Rattle.adr_wire.specs.Reading.{Reading, ◌>>=◌, as_at, where_at, then_at, elements_at, above_at}
 use Rattle.adr_wire.specs.Fields.{u8_at, u16_at, u32_at, u64_at, i64_at, id_at, flag_at, usn_at, usn0_at, version_at, text_at, octets_at, u8, u16, u32, u64, i64, id, flag, text, octets}
 
@@ -167,7 +167,7 @@ unfoldable pub cursors_at : ℕ → Option (List ℕ) → Reading Cursors
 cursors_at = elements_at (λ c. c.0) cursor_above
 
 unfoldable pub vector_at : Reading Cursors
-vector_at = as_at (λ p. p.1) (then_at (where_at (λ count. nat_le count most_cursors) u32_at) (λ count. cursors_at count None))
+vector_at = as_at (λ p. p.1) (then_at (where_at (λ count. nat_le count cursor_limit) u32_at) (λ count. cursors_at count None))
 
 abbrev pub cursor : List ℕ × ℕ → List ℕ
 cursor c = id c.0 ++ u64 c.1

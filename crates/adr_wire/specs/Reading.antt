@@ -2,8 +2,9 @@
 use Rattle.std.specs.Prelude.{◌≡◌, ℕ, zero, suc, ◌+◌, List, [], ◌∷◌, length, take, drop, Bool, true, Option, None, Some, Result, Ok, Err, nat_lt, if◌then◌else◌}
 use Rattle.std.specs.declared.cmp.Ordering.{Ordering}
 use Rattle.std.specs.Ordering.{is_lt}
-use Rattle.adr_wire.specs.declared.refusal.WireRefusal.{WireRefusal}
-use Rattle.adr_wire.specs.declared.refusal.WireRefusal.TheVariants as refusals
+use Rattle.adr_failure.specs.declared.Failure.{Failure}
+use Rattle.adr_failure.specs.declared.Failure.TheVariants.{Refused, NoMemory}
+use Rattle.adr_wire.specs.declared.refusal.Malformed.{Malformed}
 
 -- what is left to read: the place of its first byte, and the bytes
 pub record Rest : Type 0 where
@@ -24,30 +25,30 @@ abbrev pub ◌>>=◌ : {A B : Type 0} → Result A ℕ → (A → Result B ℕ) 
 
 -- ---- what a reader of the program says of a reading
 
-abbrev pub Refuses : {X : Type 0} → WireRefusal → Read X → Type 0
-Refuses (refusals.Malformed place) read = read ≡ Err place
-Refuses refusals.NoMemory read = Unit {0}
+abbrev pub Refuses : {X : Type 0} → Failure Malformed → Read X → Type 0
+Refuses (Refused malformed) read = read ≡ Err malformed.place
+Refuses NoMemory read = Unit {0}
 
 -- it gave the value and stands behind it, or it named the place, or memory ran out
-abbrev pub Gives : {X : Type 0} → Result X WireRefusal → Rest → Read X → Type 0
+abbrev pub Gives : {X : Type 0} → Result X (Failure Malformed) → Rest → Read X → Type 0
 Gives (Ok x) rest read = read ≡ Ok (x, rest)
 Gives (Err e) rest read = Refuses e read
 
-abbrev pub Names : {X : Type 0} → WireRefusal → Read X → Type 0
-Names (refusals.Malformed place) read = read ≡ Err place
-Names refusals.NoMemory read = ⊥
+abbrev pub Names : {X : Type 0} → Failure Malformed → Read X → Type 0
+Names (Refused malformed) read = read ≡ Err malformed.place
+Names NoMemory read = ⊥
 
 -- the same, where no memory is taken
-abbrev pub Tells : {X : Type 0} → Result X WireRefusal → Rest → Read X → Type 0
+abbrev pub Tells : {X : Type 0} → Result X (Failure Malformed) → Rest → Read X → Type 0
 Tells (Ok x) rest read = read ≡ Ok (x, rest)
 Tells (Err e) rest read = Names e read
 
 -- both, of a value that is seen by view
-abbrev pub GivesAs : {X Y : Type 0} → (X → Y) → Result X WireRefusal → Rest → Read Y → Type 0
+abbrev pub GivesAs : {X Y : Type 0} → (X → Y) → Result X (Failure Malformed) → Rest → Read Y → Type 0
 GivesAs view (Ok x) rest read = read ≡ Ok (view x, rest)
 GivesAs view (Err e) rest read = Refuses e read
 
-abbrev pub TellsAs : {X Y : Type 0} → (X → Y) → Result X WireRefusal → Rest → Read Y → Type 0
+abbrev pub TellsAs : {X Y : Type 0} → (X → Y) → Result X (Failure Malformed) → Rest → Read Y → Type 0
 TellsAs view (Ok x) rest read = read ≡ Ok (view x, rest)
 TellsAs view (Err e) rest read = Names e read
 

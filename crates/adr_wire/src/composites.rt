@@ -5,10 +5,11 @@ ghost use Rattle.adr_wire.specs.Reading.{Gives, GivesAs, Tells};
 ghost use Rattle.adr_wire.specs.Composites.{mark_at, oid_at, stamp_at, value_at, content_at, row_at, object_at, link_key_at, link_stamp_at, link_at, vector_at};
 
 use crate::reader::Reader;
-use crate::refusal::WireRefusal;
+use crate::refusal::{Malformed, WireRefusal};
+use adr_failure::Failure;
 use adr_schema::{Content, Value, Values};
 use adr_stamp::{Birth, LinkKey, LinkStamp, Oid, Stamp};
-use adr_vector::{Mark, Vector};
+use adr_vector::{CURSOR_LIMIT, Mark, Vector};
 use std::alloc::Global;
 
 impl Reader<'_> {
@@ -62,7 +63,7 @@ impl Reader<'_> {
             3 => Ok(Value::Flag(self.read_flag()?)),
             4 => Ok(Value::Octets(self.read_octets(alloc)?)),
             5 => Ok(Value::Ref(self.read_id()?)),
-            _ => Err(WireRefusal::Malformed { place }),
+            _ => Err(Failure::Refused(Malformed { place })),
         }
     }
 
@@ -106,7 +107,7 @@ impl Reader<'_> {
         let place = self.place();
         let count = self.read_u16()?;
         if count == 0 {
-            return Err(WireRefusal::Malformed { place });
+            return Err(Failure::Refused(Malformed { place }));
         }
         let rows = self.read_rows(alloc, count)?;
         Ok((oid, rows))
@@ -142,15 +143,15 @@ impl Reader<'_> {
         Ok((key, stamp, present))
     }
 
-    /// At most 10,000 cursors, rising by identifier.
+    /// Cursors, rising by identifier, and no more than a vector has.
     #[tactic(auto, unfolding(crate::specs::Composites::vector_at))]
     pub fn read_vector(&mut self, alloc: Global) -> Result<Vector, WireRefusal>
         ensures { Gives result self.new (vector_at self.old) }
     {
         let place = self.place();
         let count = self.read_u32()?;
-        if count > 10_000 {
-            return Err(WireRefusal::Malformed { place });
+        if count as u64 > CURSOR_LIMIT {
+            return Err(Failure::Refused(Malformed { place }));
         }
         let cursors = self.read_cursors(alloc, count)?;
         Ok(Vector::of(cursors))

@@ -14,10 +14,8 @@ mod refusal;
 mod writer;
 mod writing;
 
+pub use adr_failure::{Failure, NoMemory};
 pub use laws::{composites_have_one_spelling, fields_have_one_spelling};
 pub use reader::Reader;
-pub use refusal::WireRefusal;
+pub use refusal::{Malformed, WireRefusal};
 pub use writer::Writer;
-
-/// Memory ran out.
-pub type NoMemory = std::alloc::AllocError;

@@ -7,7 +7,8 @@ ghost use Rattle.adr_wire.specs.Reading.{Gives, GivesAs, Tells, is_above};
 ghost use Rattle.adr_wire.specs.Composites.{values_at, row_above, rows_at, cursor_above, cursors_at};
 
 use crate::reader::Reader;
-use crate::refusal::WireRefusal;
+use crate::refusal::{Malformed, WireRefusal};
+use adr_failure::Failure;
 use adr_schema::{Content, Value};
 use adr_stamp::Stamp;
 use std::alloc::Global;
@@ -59,7 +60,7 @@ impl Reader<'_> {
         let place = self.place();
         let attr = self.read_u16()?;
         if !rises(last, attr) {
-            return Err(WireRefusal::Malformed { place });
+            return Err(Failure::Refused(Malformed { place }));
         }
         let stamp = self.read_stamp()?;
         let content = self.read_content(alloc, attr)?;
@@ -93,7 +94,7 @@ impl Reader<'_> {
         let place = self.place();
         let inv = self.read_id()?;
         if !id_rises(last, inv) {
-            return Err(WireRefusal::Malformed { place });
+            return Err(Failure::Refused(Malformed { place }));
         }
         let usn = self.read_usn()?;
         Ok((inv, usn))

@@ -2,11 +2,11 @@
 
 ghost use Rattle.std.specs.Prelude.{◌≡◌, ◌↔◌, ◌+◌, ◌<◌, ◌^◌, IsOk, IfErr, [], length};
 ghost use Rattle.std.specs.Str.{is_utf8};
-ghost use Rattle.adr_wire.specs.declared.refusal.WireRefusal.TheVariants.{Malformed};
 ghost use Rattle.adr_wire.specs.Reading.{Gives, Tells, TellsAs, bytes_at};
 ghost use Rattle.adr_wire.specs.Fields.{u8_at, u16_at, u32_at, u64_at, i64_at, id_at, flag_at, usn_at, usn0_at, version_at, text_at, octets_at};
 
-use crate::refusal::WireRefusal;
+use crate::refusal::{Malformed, WireRefusal};
+use adr_failure::Failure;
 use adr_schema::{Octets, Text};
 use std::alloc::Global;
 use std::marker::Model;
@@ -47,12 +47,12 @@ impl<'a> Reader<'a> {
     /// Refuses bytes that are left, at the first of them.
     pub fn end(&self) -> Result<(), WireRefusal>
         ensures end { IsOk result ↔ (self.now.bytes ≡ []) }
-        ensures place { IfErr result (λ e. e ≡ WireRefusal.Malformed self.now.place) }
+        ensures place { IfErr result (λ e. e ≡ Failure.Refused (record { place = self.now.place })) }
     {
         if self.bytes.is_empty() {
             return Ok(());
         }
-        Err(WireRefusal::Malformed { place: self.place })
+        Err(Failure::Refused(Malformed { place: self.place }))
     }
 
     /// Reads so many bytes.
@@ -60,7 +60,7 @@ impl<'a> Reader<'a> {
         ensures { Tells result self.new (bytes_at N self.old) }
     {
         let Some((front, rest)) = self.bytes.split_first_chunk::<N>() else {
-            return Err(WireRefusal::Malformed { place: self.place });
+            return Err(Failure::Refused(Malformed { place: self.place }));
         };
         self.place += N as u64;
         self.bytes = rest;
@@ -111,7 +111,7 @@ impl<'a> Reader<'a> {
         match self.read_u8()? {
             0 => Ok(false),
             1 => Ok(true),
-            _ => Err(WireRefusal::Malformed { place }),
+            _ => Err(Failure::Refused(Malformed { place })),
         }
     }
 
@@ -131,7 +131,7 @@ impl<'a> Reader<'a> {
         if usn >= 1 && usn < LIMIT {
             return Ok(usn);
         }
-        Err(WireRefusal::Malformed { place })
+        Err(Failure::Refused(Malformed { place }))
     }
 
     #[tactic(auto, unfolding(crate::specs::Fields::usn0_at))]
@@ -143,7 +143,7 @@ impl<'a> Reader<'a> {
         if usn < LIMIT {
             return Ok(usn);
         }
-        Err(WireRefusal::Malformed { place })
+        Err(Failure::Refused(Malformed { place }))
     }
 
     #[tactic(auto, unfolding(crate::specs::Fields::version_at))]
@@ -155,7 +155,7 @@ impl<'a> Reader<'a> {
         if version >= 1 {
             return Ok(version);
         }
-        Err(WireRefusal::Malformed { place })
+        Err(Failure::Refused(Malformed { place }))
     }
 
     #[tactic(auto, unfolding(crate::specs::Fields::text_at))]
@@ -165,7 +165,7 @@ impl<'a> Reader<'a> {
         let place = self.place;
         let bytes = self.take_octets()?;
         if !is_text(bytes) {
-            return Err(WireRefusal::Malformed { place });
+            return Err(Failure::Refused(Malformed { place }));
         }
         Ok(Text::of(Vec::from_slice(alloc, bytes)?))
     }
@@ -185,7 +185,7 @@ impl<'a> Reader<'a> {
         let place = self.place;
         let len = self.read_u16()? as usize;
         if self.bytes.len() < len {
-            return Err(WireRefusal::Malformed { place });
+            return Err(Failure::Refused(Malformed { place }));
         }
         let (front, rest) = self.bytes.split_at(len);
         self.place += len as u64;

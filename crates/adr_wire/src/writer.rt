@@ -4,7 +4,7 @@ ghost use Rattle.std.specs.Prelude.{◌≡◌, ◌++◌, [], OnOk, OnErr};
 ghost use Rattle.adr_wire.specs.Fields.{u8, u16, u32, u64, i64, id, flag, text, octets};
 ghost use Rattle.adr_wire.specs.Composites.{IsShort};
 
-use crate::NoMemory;
+use adr_failure::NoMemory;
 use adr_schema::{Octets, Text};
 use std::alloc::Global;
 use std::marker::Model;

@@ -5,8 +5,8 @@ ghost use Rattle.std.specs.List.{flat_map};
 ghost use Rattle.adr_wire.specs.Composites.{IsShortValue, IsShortContent};
 ghost use Rattle.adr_wire.specs.Composites as spelled;
 
-use crate::NoMemory;
 use crate::writer::Writer;
+use adr_failure::NoMemory;
 use adr_schema::{Content, Value};
 use adr_stamp::{LinkKey, LinkStamp, Oid, Stamp};
 use adr_vector::{Mark, Vector};

@@ -1,6 +1,8 @@
 -- Controllers that act one after the other: each call hands on the controller that it leaves.
-use Rattle.std.specs.Prelude.{ℕ, List, [], Bool, Option, Some, None, is_some, Result, Ok, Err, length}
+use Rattle.std.specs.Prelude.{ℕ, List, [], ◌∷◌, Bool, Option, Some, None, is_some, Result, Ok, Err, length}
 use Rattle.std.specs.List.{flat_map}
+use Rattle.adr_schema.specs.declared.content.Value.{Value}
+use Rattle.adr_schema.specs.declared.content.Value.TheVariants.{Text}
 use Rattle.adr_vector.specs.declared.mark.Mark.{Mark}
 use Rattle.adr_event.specs.declared.refusal.ServeRefusal.{ServeRefusal}
 use Rattle.adr_event.specs.declared.refusal.TakeRefusal.{TakeRefusal}
@@ -79,5 +81,15 @@ from_image s dsa inv = woken s.store dsa inv
 abbrev pub mark : ℕ → ℕ → ℕ → Mark
 mark obj prop seen = record { obj = obj; prop = prop; seen = seen }
 
+-- entries: of an object without values and links, of a container under the root, and of a user, who has a name to log on with
+abbrev pub bare : ℕ → ℕ → Identifier → List ℕ → Entry
+bare guid class parent name = record { guid = identifier guid; class = class; parent = parent; name = name; values = []; links = [] }
+
 abbrev pub container : ℕ → List ℕ → Entry
-container guid name = record { guid = identifier guid; class = 4; parent = root; name = name; values = []; links = [] }
+container guid name = bare guid 4 root name
+
+abbrev pub account : List ℕ → List (ℕ × List Value)
+account name = (10, Text name ∷ []) ∷ []
+
+abbrev pub user : ℕ → Identifier → List ℕ → List ℕ → Entry
+user guid parent name login = record { guid = identifier guid; class = 5; parent = parent; name = name; values = account login; links = [] }

@@ -1,22 +1,17 @@
 -- Small runs, written out as events with the answers that they get.
 use Rattle.std.specs.Prelude.{ℕ, List, [], ◌∷◌, codes}
-use Rattle.adr_schema.specs.declared.content.Value.TheVariants.{Text}
 use Rattle.adr_event.specs.declared.event.Event.{Event}
 use Rattle.adr_event.specs.declared.event.Event.TheVariants.{Controller, Time, Add, Show}
 use Rattle.adr_event.specs.declared.answer.Answer.{Answer}
 use Rattle.adr_event.specs.declared.answer.Plainly.TheVariants.{Id}
 use Rattle.adr_event.specs.declared.answer.Outcome.TheVariants as outcomes
-use Rattle.adr_event.specs.declared.directory.Entry.{Entry}
 use Rattle.adr_model.specs.Place.{identifier, root, lost_and_found}
 use Rattle.adr_model.specs.Refused.{field}
 use Rattle.adr_model.specs.World.{answer}
+use Rattle.adr_worked.specs.Acting.{account, user}
 
 abbrev pub add_user : ℕ → List ℕ → List ℕ → Event
-add_user guid name account = Add (codes "A") (identifier guid) 5 root name ((10, Text account ∷ []) ∷ [])
-
-abbrev pub a_user : ℕ → List ℕ → List ℕ → Entry
-a_user guid name account =
-    record { guid = identifier guid; class = 5; parent = root; name = name; values = (10, Text account ∷ []) ∷ []; links = [] }
+add_user guid name login = Add (codes "A") (identifier guid) 5 root name (account login)
 
 -- one controller, one person, and the directory
 abbrev pub first_person : List Event
@@ -31,7 +26,7 @@ abbrev pub first_person_answers : List Answer
 first_person_answers =
     answer (codes "controller") (codes "A") outcomes.Ok
     ∷ answer (codes "add") (codes "A") (outcomes.Usn 1)
-    ∷ answer (codes "show") (codes "A") (outcomes.Show (a_user 16 (codes "Ann") (codes "ann") ∷ []))
+    ∷ answer (codes "show") (codes "A") (outcomes.Show (user 16 root (codes "Ann") (codes "ann") ∷ []))
     ∷ []
 
 -- adds that are refused, and one between them that is not; the directory goes by GUID
@@ -56,5 +51,5 @@ refused_adds_answers =
     ∷ answer (codes "add") (codes "A") (outcomes.Refused 17 (codes "GuidThere") (field (codes "guid") (Id root) ∷ []))
     ∷ answer (codes "add") (codes "A") (outcomes.Refused 13 (codes "NameTaken") (field (codes "holder") (Id lost_and_found) ∷ []))
     ∷ answer (codes "add") (codes "A") (outcomes.Usn 2)
-    ∷ answer (codes "show") (codes "A") (outcomes.Show (a_user 16 (codes "Bo") (codes "bo") ∷ a_user 17 (codes "Ann") (codes "ann") ∷ []))
+    ∷ answer (codes "show") (codes "A") (outcomes.Show (user 16 root (codes "Bo") (codes "bo") ∷ user 17 root (codes "Ann") (codes "ann") ∷ []))
     ∷ []

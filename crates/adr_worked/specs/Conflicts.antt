@@ -1,13 +1,12 @@
 -- Conflicts of two controllers: one name twice, a lost parent, a loop, and links that are written on both sides.
 use Rattle.std.specs.Prelude.{true, pos, ℕ, List, [], ◌∷◌, Some, Ok, codes}
-use Rattle.adr_schema.specs.declared.content.Value.{Value as Datum}
 use Rattle.adr_schema.specs.declared.content.Value.TheVariants.{Text, Number}
 use Rattle.adr_event.specs.declared.directory.Entry.{Entry}
 use Rattle.adr_model.specs.Update.{Identifier}
 use Rattle.adr_model.specs.Place.{identifier, root, lost_and_found}
 use Rattle.adr_model.specs.Store.{State}
 use Rattle.adr_model.specs.Write.{AddObject, Modify, Rename, Delete, AddLink, RemoveLink}
-use Rattle.adr_worked.specs.Acting.{first, second, third, writes, adds, Pulled, pulls, shows, mark, container}
+use Rattle.adr_worked.specs.Acting.{first, second, third, writes, adds, Pulled, pulls, shows, mark, bare, container, account, user}
 
 -- two controllers pull from each other, the second one first
 abbrev pub exchange : {A : Type 0} → State → State → (Pulled → Pulled → State → State → A) → A
@@ -20,10 +19,7 @@ abbrev pub one_name_twice_shown : List Entry
 one_name_twice_shown = container 16 (codes "x\nCNF:00000000-0000-0000-0000-000000000010") ∷ container 17 (codes "X") ∷ []
 
 abbrev pub unit : ℕ → Identifier → List ℕ → Entry
-unit guid parent name = record { guid = identifier guid; class = 3; parent = parent; name = name; values = []; links = [] }
-
-abbrev pub account : List ℕ → List (ℕ × List Datum)
-account name = (10, Text name ∷ []) ∷ []
+unit guid parent name = bare guid 3 parent name
 
 -- a child that was added under an object that died elsewhere
 abbrev pub lost_parent : Pulled × List Entry × List Entry
@@ -33,8 +29,7 @@ lost_parent =
     pulls a b 10 (λ q a. pulls b a 10 (λ r b. (r, shows a, shows b)))))))
 
 abbrev pub lost_child : List Entry
-lost_child =
-    record { guid = identifier 17; class = 5; parent = lost_and_found; name = codes "Ann"; values = account (codes "ann"); links = [] } ∷ []
+lost_child = user 17 lost_and_found (codes "Ann") (codes "ann") ∷ []
 
 abbrev pub lost_parent_told : Pulled × List Entry × List Entry
 lost_parent_told = (Some ((mark 1 1 1, mark 3 3 3, 1, 1, true), Ok (1, 3)), lost_child, lost_child)
@@ -60,8 +55,7 @@ two_members =
     exchange a b (λ q r a b. (p, shows a, shows b)))))))))
 
 abbrev pub person : ℕ → List ℕ → List (ℕ × List Identifier) → Entry
-person guid name links =
-    record { guid = identifier guid; class = 5; parent = root; name = name; values = account name; links = links }
+person guid name links = record (user guid root name name) { links = links }
 
 abbrev pub one_member : List Entry
 one_member =

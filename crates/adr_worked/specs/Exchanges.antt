@@ -29,6 +29,10 @@ served from to items rows last = answer (codes "serve") a (outcomes.Served from 
 abbrev pub asked : List ℕ → Answer
 asked name = answer (codes "ask") name outcomes.Ok
 
+-- the second one takes the one object of the first
+abbrev pub one_taken : List Answer
+one_taken = asked b ∷ served (mark 0 0 0) (mark 1 1 1) 1 2 true ∷ answer (codes "deliver") b (outcomes.Took 1 1 1) ∷ []
+
 -- a change between replies of one item, and what a cycle then has
 abbrev pub cut_and_cycle : List Event
 cut_and_cycle =
@@ -74,11 +78,9 @@ delivered_twice =
 abbrev pub delivered_twice_told : List Answer
 delivered_twice_told =
     both_made
-    ++ answer (codes "add") a (outcomes.Usn 1)
-    ∷ asked b
-    ∷ served (mark 0 0 0) (mark 1 1 1) 1 2 true
-    ∷ answer (codes "deliver") b (outcomes.Took 1 1 1)
-    ∷ answer (codes "deliver") b (outcomes.Refused 41 (codes "Stale") (field (codes "mark") (OneMark (mark 1 1 1)) ∷ field (codes "from") (OneMark (mark 0 0 0)) ∷ []))
+    ++ answer (codes "add") a (outcomes.Usn 1) ∷ []
+    ++ one_taken
+    ++ answer (codes "deliver") b (outcomes.Refused 41 (codes "Stale") (field (codes "mark") (OneMark (mark 1 1 1)) ∷ field (codes "from") (OneMark (mark 0 0 0)) ∷ []))
     ∷ answer (codes "deliver") b outcomes.Absent
     ∷ []
 
@@ -101,12 +103,9 @@ restore =
 abbrev pub restore_told : List Answer
 restore_told =
     both_made
-    ++ answer (codes "backup") a outcomes.Ok
-    ∷ answer (codes "add") a (outcomes.Usn 1)
-    ∷ asked b
-    ∷ served (mark 0 0 0) (mark 1 1 1) 1 2 true
-    ∷ answer (codes "deliver") b (outcomes.Took 1 1 1)
-    ∷ answer (codes "restore") a outcomes.Ok
+    ++ answer (codes "backup") a outcomes.Ok ∷ answer (codes "add") a (outcomes.Usn 1) ∷ []
+    ++ one_taken
+    ++ answer (codes "restore") a outcomes.Ok
     ∷ answer (codes "show") a (outcomes.Show [])
     ∷ asked a
     ∷ answer (codes "serve") b (outcomes.Served (mark 0 0 0) (mark 1 1 1) 1 2 true)
@@ -137,12 +136,9 @@ rollback =
 abbrev pub rollback_told : List Answer
 rollback_told =
     both_made
-    ++ answer (codes "snapshot") a outcomes.Ok
-    ∷ answer (codes "add") a (outcomes.Usn 1)
-    ∷ asked b
-    ∷ served (mark 0 0 0) (mark 1 1 1) 1 2 true
-    ∷ answer (codes "deliver") b (outcomes.Took 1 1 1)
-    ∷ answer (codes "rollback") a outcomes.Ok
+    ++ answer (codes "snapshot") a outcomes.Ok ∷ answer (codes "add") a (outcomes.Usn 1) ∷ []
+    ++ one_taken
+    ++ answer (codes "rollback") a outcomes.Ok
     ∷ asked b
     ∷ answer (codes "serve") a (rolled_back (identifier 161) 0 1)
     ∷ answer (codes "add") a quarantined
@@ -171,11 +167,9 @@ collection =
 abbrev pub collection_told : List Answer
 collection_told =
     both_made
-    ++ answer (codes "add") a (outcomes.Usn 1)
-    ∷ asked b
-    ∷ served (mark 0 0 0) (mark 1 1 1) 1 2 true
-    ∷ answer (codes "deliver") b (outcomes.Took 1 1 1)
-    ∷ answer (codes "delete") a (outcomes.Usn 2)
+    ++ answer (codes "add") a (outcomes.Usn 1) ∷ []
+    ++ one_taken
+    ++ answer (codes "delete") a (outcomes.Usn 2)
     ∷ answer (codes "collect") a (outcomes.Removed 1)
     ∷ asked b
     ∷ answer (codes "serve") a (outcomes.Refused 32 (codes "TooOld") (field (codes "inv") (Id (identifier 161)) ∷ field (codes "purged") (Number 2) ∷ field (codes "has") (Number 1) ∷ []))

@@ -1,5 +1,5 @@
 -- Rows that no controller makes, as a forged packet may bring them, and changes that share a USN.
-use Rattle.std.specs.Prelude.{ℕ, ◌+◌, List, [], ◌∷◌, map, Option, codes}
+use Rattle.std.specs.Prelude.{ℕ, ◌+◌, List, [], ◌∷◌, ◌++◌, map, Option, codes}
 use Rattle.adr_schema.specs.declared.content.Value.TheVariants.{Text}
 use Rattle.adr_schema.specs.declared.content.Content.TheVariants.{Class, Name, Dead, Values}
 use Rattle.adr_event.specs.declared.directory.Entry.{Entry}
@@ -12,32 +12,24 @@ use Rattle.adr_model.specs.LocalLog.{LocalLog}
 use Rattle.adr_model.specs.Write.{row, of_object, own_change}
 use Rattle.adr_model.specs.Take.{rows_taken, item_refusal}
 use Rattle.adr_schema.specs.Numbered.{numbered}
-use Rattle.adr_worked.specs.Acting.{first, adds}
-use Rattle.adr_worked.specs.Runs.{object, stamped}
+use Rattle.adr_worked.specs.Acting.{first, adds, bare}
+use Rattle.adr_worked.specs.Runs.{object, stamped, class_and_name}
 
 -- an orphan, and a live object with the GUID of LostAndFound below it: the way up from the orphan ends at LostAndFound, so there
 -- is no loop
 abbrev pub on_a_fixed_guid : List Update
 on_a_fixed_guid =
-    row (object 2 161 2) (stamped 0 1 20 161 2) 1 (Class 3)
-    ∷ row (object 2 161 2) (stamped 0 1 20 161 2) 2 (Name (codes "z") (identifier 16))
-    ∷ row (object 16 161 1) (stamped 0 1 10 161 1) 1 (Class 3)
-    ∷ row (object 16 161 1) (stamped 0 1 10 161 1) 2 (Name (codes "x") (identifier 17))
-    ∷ []
+    class_and_name (object 2 161 2) (stamped 0 1 20 161 2) 3 (codes "z") (identifier 16)
+    ++ class_and_name (object 16 161 1) (stamped 0 1 10 161 1) 3 (codes "x") (identifier 17)
 
 abbrev pub on_a_fixed_guid_shown : List Entry
-on_a_fixed_guid_shown =
-    record { guid = lost_and_found; class = 3; parent = identifier 16; name = codes "z"; values = []; links = [] }
-    ∷ record { guid = identifier 16; class = 3; parent = lost_and_found; name = codes "x"; values = []; links = [] }
-    ∷ []
+on_a_fixed_guid_shown = bare 2 3 (identifier 16) (codes "z") ∷ bare 16 3 lost_and_found (codes "x") ∷ []
 
 -- a row of another attribute that says a class makes no second object
 abbrev pub two_classes : List Update
 two_classes =
-    row (object 16 161 1) (stamped 0 1 10 161 1) 1 (Class 4)
-    ∷ row (object 16 161 1) (stamped 0 1 10 161 1) 2 (Name (codes "x") root)
-    ∷ row (object 16 161 1) (stamped 0 1 10 161 1) 12 (Class 3)
-    ∷ []
+    class_and_name (object 16 161 1) (stamped 0 1 10 161 1) 4 (codes "x") root
+    ++ row (object 16 161 1) (stamped 0 1 10 161 1) 12 (Class 3) ∷ []
 
 -- a new object that comes dead, with a row of attribute 0: that row is left out, and nothing is refused
 abbrev pub dead_with_row_0 : Item

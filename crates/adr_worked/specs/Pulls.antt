@@ -1,28 +1,20 @@
 -- Pulls: equal stamps, replies that are cut, repeated, reordered and older than a restore.
-use Rattle.std.specs.Prelude.{true, false, ℕ, List, [], ◌∷◌, Some, Ok, Err, codes}
+use Rattle.std.specs.Prelude.{true, false, ℕ, List, [], ◌∷◌, ◌++◌, Some, Ok, Err, codes}
 use Rattle.adr_schema.specs.declared.content.Value.TheVariants.{Text}
 use Rattle.adr_event.specs.declared.directory.Entry.{Entry}
 use Rattle.adr_event.specs.declared.refusal.TakeRefusal.TheVariants.{Stale, VectorBehind}
 use Rattle.adr_model.specs.Place.{identifier, root}
 use Rattle.adr_model.specs.Serve.{Reply, ask, serve}
 use Rattle.adr_model.specs.Write.{AddObject, Modify}
-use Rattle.adr_worked.specs.Acting.{first, second, third, writes, adds, Got, Pulled, replies, delivers, pulls, shows, from_image, mark}
+use Rattle.adr_worked.specs.Acting.{first, second, third, writes, adds, Got, Pulled, replies, delivers, pulls, shows, from_image, mark, account, user}
 
 abbrev pub ann_with_mail : List ℕ → Entry
-ann_with_mail mail =
-    record {
-      guid = identifier 16;
-      class = 5;
-      parent = root;
-      name = codes "Ann";
-      values = (10, Text (codes "ann") ∷ []) ∷ (13, Text mail ∷ []) ∷ [];
-      links = [];
-    }
+ann_with_mail mail = record (user 16 root (codes "Ann") (codes "ann")) { values = account (codes "ann") ++ (13, Text mail ∷ []) ∷ [] }
 
 -- of two rows of equal version and time the one of the greater identifier wins, in both orders
 abbrev pub equal_stamps : List Pulled × List Entry × List Entry
 equal_stamps =
-    writes first 10 (AddObject (identifier 16) 5 root (codes "Ann") ((10, Text (codes "ann") ∷ []) ∷ [])) (λ a.
+    writes first 10 (AddObject (identifier 16) 5 root (codes "Ann") (account (codes "ann"))) (λ a.
     pulls second a 10 (λ p b.
     writes a 10 (Modify (identifier 16) ((13, Text (codes "a") ∷ []) ∷ [])) (λ a.
     writes b 10 (Modify (identifier 16) ((13, Text (codes "b") ∷ []) ∷ [])) (λ b.

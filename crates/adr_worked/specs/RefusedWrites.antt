@@ -6,14 +6,14 @@ use Rattle.adr_event.specs.declared.refusal.WriteRefusal.TheVariants as refused
 use Rattle.adr_model.specs.Place.{identifier, root}
 use Rattle.adr_model.specs.Store.{State}
 use Rattle.adr_model.specs.Write.{Write, AddObject, Modify, Rename, Delete, AddLink, RemoveLink, write}
-use Rattle.adr_worked.specs.Acting.{first, writes}
+use Rattle.adr_worked.specs.Acting.{first, writes, account}
 use Rattle.adr_worked.specs.Lifetimes.{refusal_in}
 
 -- a controller with a unit and a user in it
 abbrev pub with_unit : {A : Type 0} → (State → A) → A
 with_unit next =
     writes first 0 (AddObject (identifier 16) 3 root (codes "o") []) (λ a.
-    writes a 0 (AddObject (identifier 17) 5 (identifier 16) (codes "u") ((10, Text (codes "u") ∷ []) ∷ [])) next)
+    writes a 0 (AddObject (identifier 17) 5 (identifier 16) (codes "u") (account (codes "u"))) next)
 
 abbrev pub refusals : State → List Write → List (Option WriteRefusal)
 refusals s ws = map (λ (w : Write). refusal_in (write s w 0)) ws

@@ -5,6 +5,7 @@ use Rattle.adr_disk.specs.declared.memory.Crash.TheVariants.{Kept, Lost}
 use Rattle.adr_event.specs.declared.event.Event.{Event}
 use Rattle.adr_event.specs.declared.event.Event.TheVariants.{Controller, Add, StopAfter, Fail, Stop, Start, Show}
 use Rattle.adr_event.specs.declared.answer.Answer.{Answer}
+use Rattle.adr_event.specs.declared.answer.Outcome.{Outcome}
 use Rattle.adr_event.specs.declared.answer.Outcome.TheVariants as outcomes
 use Rattle.adr_event.specs.declared.directory.Entry.{Entry}
 use Rattle.adr_model.specs.Place.{identifier, root}
@@ -20,13 +21,22 @@ new_b = Controller (codes "B") (identifier 176) (identifier 177)
 abbrev pub add_container : List ℕ → ℕ → List ℕ → Event
 add_container name guid text = Add name (identifier guid) 4 root text []
 
+abbrev pub add_x : Event
+add_x = add_container (codes "A") 16 (codes "x")
+
+abbrev pub add_y : Event
+add_y = add_container (codes "A") 17 (codes "y")
+
+abbrev pub of_a : List ℕ → Outcome → Answer
+of_a verb outcome = answer verb (codes "A") outcome
+
 -- a second object is added while the disk stops after so many calls
 abbrev pub stopped_add : ℕ → Crash → List Event
 stopped_add calls how =
     new_a
-    ∷ add_container (codes "A") 16 (codes "x")
+    ∷ add_x
     ∷ StopAfter (codes "A") calls how
-    ∷ add_container (codes "A") 17 (codes "y")
+    ∷ add_y
     ∷ Start (codes "A")
     ∷ Show (codes "A")
     ∷ []
@@ -37,32 +47,29 @@ one_object = container 16 (codes "x") ∷ []
 abbrev pub two_objects : List Entry
 two_objects = container 16 (codes "x") ∷ container 17 (codes "y") ∷ []
 
-abbrev pub stopped_add_told : List Entry → List Answer
-stopped_add_told entries =
-    answer (codes "controller") (codes "A") outcomes.Ok
-    ∷ answer (codes "add") (codes "A") (outcomes.Usn 1)
-    ∷ answer (codes "stop") (codes "A") outcomes.Ok
-    ∷ answer (codes "add") (codes "A") outcomes.Stopped
-    ∷ answer (codes "start") (codes "A") outcomes.Ok
-    ∷ answer (codes "show") (codes "A") (outcomes.Show entries)
+-- what the second add and the start are answered, and what is there then
+abbrev pub planned_add_told : Outcome → Outcome → List Entry → List Answer
+planned_add_told added started entries =
+    of_a (codes "controller") outcomes.Ok
+    ∷ of_a (codes "add") (outcomes.Usn 1)
+    ∷ of_a (codes "stop") outcomes.Ok
+    ∷ of_a (codes "add") added
+    ∷ of_a (codes "start") started
+    ∷ of_a (codes "show") (outcomes.Show entries)
     ∷ []
+
+abbrev pub stopped_add_told : List Entry → List Answer
+stopped_add_told entries = planned_add_told outcomes.Stopped outcomes.Ok entries
 
 -- a plan that isn't met in the call waits on
 abbrev pub waiting_plan_told : List Answer
-waiting_plan_told =
-    answer (codes "controller") (codes "A") outcomes.Ok
-    ∷ answer (codes "add") (codes "A") (outcomes.Usn 1)
-    ∷ answer (codes "stop") (codes "A") outcomes.Ok
-    ∷ answer (codes "add") (codes "A") (outcomes.Usn 2)
-    ∷ answer (codes "start") (codes "A") outcomes.Up
-    ∷ answer (codes "show") (codes "A") (outcomes.Show two_objects)
-    ∷ []
+waiting_plan_told = planned_add_told (outcomes.Usn 2) outcomes.Up two_objects
 
 -- a start is stopped, too
 abbrev pub stopped_start : List Event
 stopped_start =
     new_a
-    ∷ add_container (codes "A") 16 (codes "x")
+    ∷ add_x
     ∷ Stop (codes "A")
     ∷ StopAfter (codes "A") 0 Lost
     ∷ Start (codes "A")
@@ -73,14 +80,14 @@ stopped_start =
 
 abbrev pub stopped_start_told : List Answer
 stopped_start_told =
-    answer (codes "controller") (codes "A") outcomes.Ok
-    ∷ answer (codes "add") (codes "A") (outcomes.Usn 1)
-    ∷ answer (codes "stop") (codes "A") outcomes.Ok
-    ∷ answer (codes "stop") (codes "A") outcomes.Ok
-    ∷ answer (codes "start") (codes "A") outcomes.Stopped
-    ∷ answer (codes "show") (codes "A") outcomes.Down
-    ∷ answer (codes "start") (codes "A") outcomes.Ok
-    ∷ answer (codes "show") (codes "A") (outcomes.Show one_object)
+    of_a (codes "controller") outcomes.Ok
+    ∷ of_a (codes "add") (outcomes.Usn 1)
+    ∷ of_a (codes "stop") outcomes.Ok
+    ∷ of_a (codes "stop") outcomes.Ok
+    ∷ of_a (codes "start") outcomes.Stopped
+    ∷ of_a (codes "show") outcomes.Down
+    ∷ of_a (codes "start") outcomes.Ok
+    ∷ of_a (codes "show") (outcomes.Show one_object)
     ∷ []
 
 -- a device call fails: the controller answers so until it is started
@@ -88,8 +95,8 @@ abbrev pub failing_device : List Event
 failing_device =
     new_a
     ∷ Fail (codes "A") 0
-    ∷ add_container (codes "A") 16 (codes "x")
-    ∷ add_container (codes "A") 16 (codes "x")
+    ∷ add_x
+    ∷ add_x
     ∷ Start (codes "A")
     ∷ Stop (codes "A")
     ∷ Show (codes "A")
@@ -100,54 +107,41 @@ failing_device =
 
 abbrev pub failing_device_told : List Answer
 failing_device_told =
-    answer (codes "controller") (codes "A") outcomes.Ok
-    ∷ answer (codes "fail") (codes "A") outcomes.Ok
-    ∷ answer (codes "add") (codes "A") outcomes.Disk
-    ∷ answer (codes "add") (codes "A") outcomes.Failed
-    ∷ answer (codes "start") (codes "A") outcomes.Ok
-    ∷ answer (codes "stop") (codes "A") outcomes.Ok
-    ∷ answer (codes "show") (codes "A") outcomes.Down
-    ∷ answer (codes "start") (codes "A") outcomes.Ok
-    ∷ answer (codes "start") (codes "A") outcomes.Up
-    ∷ answer (codes "show") (codes "A") (outcomes.Show [])
+    of_a (codes "controller") outcomes.Ok
+    ∷ of_a (codes "fail") outcomes.Ok
+    ∷ of_a (codes "add") outcomes.Disk
+    ∷ of_a (codes "add") outcomes.Failed
+    ∷ of_a (codes "start") outcomes.Ok
+    ∷ of_a (codes "stop") outcomes.Ok
+    ∷ of_a (codes "show") outcomes.Down
+    ∷ of_a (codes "start") outcomes.Ok
+    ∷ of_a (codes "start") outcomes.Up
+    ∷ of_a (codes "show") (outcomes.Show [])
     ∷ []
 
 -- the last sync fails: the next start finds the change
 abbrev pub failing_last_sync : List Event
-failing_last_sync =
-    new_a
-    ∷ Fail (codes "A") 3
-    ∷ add_container (codes "A") 16 (codes "x")
-    ∷ Start (codes "A")
-    ∷ Show (codes "A")
-    ∷ []
+failing_last_sync = new_a ∷ Fail (codes "A") 3 ∷ add_x ∷ Start (codes "A") ∷ Show (codes "A") ∷ []
 
 abbrev pub failing_last_sync_told : List Answer
 failing_last_sync_told =
-    answer (codes "controller") (codes "A") outcomes.Ok
-    ∷ answer (codes "fail") (codes "A") outcomes.Ok
-    ∷ answer (codes "add") (codes "A") outcomes.Disk
-    ∷ answer (codes "start") (codes "A") outcomes.Ok
-    ∷ answer (codes "show") (codes "A") (outcomes.Show one_object)
+    of_a (codes "controller") outcomes.Ok
+    ∷ of_a (codes "fail") outcomes.Ok
+    ∷ of_a (codes "add") outcomes.Disk
+    ∷ of_a (codes "start") outcomes.Ok
+    ∷ of_a (codes "show") (outcomes.Show one_object)
     ∷ []
 
 -- what a call leaves of a plan is met by a later one
 abbrev pub met_later : List Event
-met_later =
-    new_a
-    ∷ StopAfter (codes "A") 5 Kept
-    ∷ add_container (codes "A") 16 (codes "x")
-    ∷ add_container (codes "A") 17 (codes "y")
-    ∷ Start (codes "A")
-    ∷ Show (codes "A")
-    ∷ []
+met_later = new_a ∷ StopAfter (codes "A") 5 Kept ∷ add_x ∷ add_y ∷ Start (codes "A") ∷ Show (codes "A") ∷ []
 
 abbrev pub met_later_told : List Answer
 met_later_told =
-    answer (codes "controller") (codes "A") outcomes.Ok
-    ∷ answer (codes "stop") (codes "A") outcomes.Ok
-    ∷ answer (codes "add") (codes "A") (outcomes.Usn 1)
-    ∷ answer (codes "add") (codes "A") outcomes.Stopped
-    ∷ answer (codes "start") (codes "A") outcomes.Ok
-    ∷ answer (codes "show") (codes "A") (outcomes.Show one_object)
+    of_a (codes "controller") outcomes.Ok
+    ∷ of_a (codes "stop") outcomes.Ok
+    ∷ of_a (codes "add") (outcomes.Usn 1)
+    ∷ of_a (codes "add") outcomes.Stopped
+    ∷ of_a (codes "start") outcomes.Ok
+    ∷ of_a (codes "show") (outcomes.Show one_object)
     ∷ []

@@ -138,7 +138,8 @@ pub fn small_exchanges()
 #[tactic(none)]
 pub fn logs_end()
     ensures new { log_ends (after_lines empty_world (new_a ∷ [])) ≡ Some (82, 82) }
-    ensures grown { log_ends (after_lines empty_world (new_a ∷ add_container (codes "A") 16 (codes "x") ∷ [])) ≡ Some (261, 261) }
+    ensures grown { log_ends (after_lines empty_world (new_a ∷ add_container (codes "A") 16 (codes "x") ∷ []))
+        ≡ Some (261, 261) }
     ensures last { answers (with_log 2147483469) last_room ≡ last_room_told }
     ensures none { answers (with_log 2147483470) last_room ≡ no_room_told }
     ensures put_back { log_ends (after_lines empty_world log_put_back) ≡ Some (440, 440) }
@@ -151,7 +152,8 @@ pub fn logs_end()
 pub fn forged_rows()
     ensures fixed { directory on_a_fixed_guid ≡ on_a_fixed_guid_shown }
     ensures one { directory two_classes ≡ container 16 (codes "x") ∷ [] }
-    ensures left_out { keys_taken dead_with_row_0 ≡ RowOf (object 16 161 1) 1 ∷ RowOf (object 16 161 1) 2 ∷ RowOf (object 16 161 1) 3 ∷ [] }
+    ensures left_out { keys_taken dead_with_row_0
+        ≡ RowOf (object 16 161 1) 1 ∷ RowOf (object 16 161 1) 2 ∷ RowOf (object 16 161 1) 3 ∷ [] }
     ensures looked_at { refused_with_row_0 ≡ (None, Some (BadItem 0 (BreaksSchema (UnknownAttribute 0)))) }
 {}
 
@@ -162,7 +164,8 @@ pub fn what_lines_leave()
     ensures unclean { (after_lines empty_world log_put_back).clean ≡ false }
     ensures clean { (after_lines empty_world (new_a ∷ Rollback (codes "A") (codes "s") ∷ [])).clean ≡ true }
     ensures two { (two_items first).usn ≡ 2 }
-    ensures bound { MayHappen (after_lines empty_world asked_once) (Ask (codes "B") (codes "A") 10 (codes "q")) → ⊥ }
+    ensures bound { MayHappen (after_lines empty_world asked_once) (Ask (codes "B") (codes "A") 10 (codes "q"))
+        → ⊥ }
     ensures two_changes { IsOfOneChange one_usn_twice (birth_at_1 16) (birth_at_1 17) → ⊥ }
     ensures unbound { MayHappen (after_lines empty_world asked_once) (Ask (codes "B") (codes "A") 10 (codes "p")) }
 {}

@@ -9,30 +9,6 @@ use Rattle.adr_schema.specs.Values.{bad_place}
 use Rattle.adr_schema.specs.Rules.{add_refusal, modify_refusal, link_refusal, row_refusal}
 use Rattle.adr_worked.proofs.logs_end.Goals as goal
 
-pub returns-clause-new : goal.returns-clause-new
+pub returns : goal.returns
 unfolding caseless uuid_on_literals chars encode schema_1 name_fault bad_place add_refusal modify_refusal link_refusal row_refusal
-returns-clause-new c = refl
-
-pub returns-clause-grown : goal.returns-clause-grown
-unfolding caseless uuid_on_literals chars encode schema_1 name_fault bad_place add_refusal modify_refusal link_refusal row_refusal
-returns-clause-grown c = refl
-
-pub returns-clause-last : goal.returns-clause-last
-unfolding caseless uuid_on_literals chars encode schema_1 name_fault bad_place add_refusal modify_refusal link_refusal row_refusal
-returns-clause-last c = refl
-
-pub returns-clause-none : goal.returns-clause-none
-unfolding caseless uuid_on_literals chars encode schema_1 name_fault bad_place add_refusal modify_refusal link_refusal row_refusal
-returns-clause-none c = refl
-
-pub returns-clause-put_back : goal.returns-clause-put_back
-unfolding caseless uuid_on_literals chars encode schema_1 name_fault bad_place add_refusal modify_refusal link_refusal row_refusal
-returns-clause-put_back c = refl
-
-pub returns-clause-shut_off : goal.returns-clause-shut_off
-unfolding caseless uuid_on_literals chars encode schema_1 name_fault bad_place add_refusal modify_refusal link_refusal row_refusal
-returns-clause-shut_off c = refl
-
-pub returns-clause-unnoted : goal.returns-clause-unnoted
-unfolding caseless uuid_on_literals chars encode schema_1 name_fault bad_place add_refusal modify_refusal link_refusal row_refusal
-returns-clause-unnoted c = refl
+returns c = record { new = refl; grown = refl; last = refl; none = refl; put_back = refl; shut_off = refl; unnoted = refl }

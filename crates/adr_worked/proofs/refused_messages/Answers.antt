@@ -9,14 +9,6 @@ use Rattle.adr_schema.specs.Values.{bad_place}
 use Rattle.adr_schema.specs.Rules.{add_refusal, modify_refusal, link_refusal, row_refusal}
 use Rattle.adr_worked.proofs.refused_messages.Goals as goal
 
-pub returns-clause-requests : goal.returns-clause-requests
+pub returns : goal.returns
 unfolding caseless uuid_on_literals chars encode schema_1 name_fault bad_place add_refusal modify_refusal link_refusal row_refusal
-returns-clause-requests c = refl
-
-pub returns-clause-replies : goal.returns-clause-replies
-unfolding caseless uuid_on_literals chars encode schema_1 name_fault bad_place add_refusal modify_refusal link_refusal row_refusal
-returns-clause-replies c = refl
-
-pub returns-clause-limits : goal.returns-clause-limits
-unfolding caseless uuid_on_literals chars encode schema_1 name_fault bad_place add_refusal modify_refusal link_refusal row_refusal
-returns-clause-limits c = refl
+returns c = record { requests = refl; replies = refl; limits = refl }

@@ -9,14 +9,6 @@ use Rattle.adr_schema.specs.Values.{bad_place}
 use Rattle.adr_schema.specs.Rules.{add_refusal, modify_refusal, link_refusal, row_refusal}
 use Rattle.adr_worked.proofs.small_refusals.Goals as goal
 
-pub returns-clause-schema : goal.returns-clause-schema
+pub returns : goal.returns
 unfolding caseless uuid_on_literals chars encode schema_1 name_fault bad_place add_refusal modify_refusal link_refusal row_refusal
-returns-clause-schema c = refl
-
-pub returns-clause-tree : goal.returns-clause-tree
-unfolding caseless uuid_on_literals chars encode schema_1 name_fault bad_place add_refusal modify_refusal link_refusal row_refusal
-returns-clause-tree c = refl
-
-pub returns-clause-twice : goal.returns-clause-twice
-unfolding caseless uuid_on_literals chars encode schema_1 name_fault bad_place add_refusal modify_refusal link_refusal row_refusal
-returns-clause-twice c = refl
+returns c = record { schema = refl; tree = refl; twice = refl }

@@ -9,10 +9,6 @@ use Rattle.adr_schema.specs.Values.{bad_place}
 use Rattle.adr_schema.specs.Rules.{add_refusal}
 use Rattle.adr_worked.proofs.small_runs.Goals as goal
 
-pub returns-clause-first_person : goal.returns-clause-first_person
+pub returns : goal.returns
 unfolding caseless uuid_on_literals chars encode schema_1 name_fault bad_place add_refusal
-returns-clause-first_person c = refl
-
-pub returns-clause-refused_adds : goal.returns-clause-refused_adds
-unfolding caseless uuid_on_literals chars encode schema_1 name_fault bad_place add_refusal
-returns-clause-refused_adds c = refl
+returns c = record { first_person = refl; refused_adds = refl }

@@ -1,8 +1,7 @@
 use Rattle.std.proofs.Common.{⊎_elim, subst, sym, map}
 use Rattle.adr_model.specs.Member.{Member}
 use Rattle.adr_model.specs.Update.{Key}
-use Rattle.adr_model.proofs.Members.{member_left, member_right, member_of_either, mapped_member, member_mapped, none_passes, each_fails, in_filter, of_filter}
-use Rattle.adr_law_knowledge.proofs.Lists.{all_pass, each_passes}
+use Rattle.adr_model.proofs.Members.{member_left, member_right, member_of_either, mapped_member, member_mapped, none_passes, each_fails, in_filter, of_filter, all_pass, each_passes}
 use Rattle.adr_law_knowledge.proofs.members.lists_have_members.Goals as goal
 
 pub returns-clause-appended : goal.returns-clause-appended

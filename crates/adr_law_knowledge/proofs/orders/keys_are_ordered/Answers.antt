@@ -1,5 +1,4 @@
-use Rattle.adr_model.proofs.Keys.{exact_keys}
-use Rattle.adr_law_knowledge.proofs.Comparing.{keys_total}
+use Rattle.adr_model.proofs.Keys.{exact_keys, keys_total}
 use Rattle.adr_law_knowledge.proofs.orders.keys_are_ordered.Goals as goal
 
 pub returns-clause-total : goal.returns-clause-total

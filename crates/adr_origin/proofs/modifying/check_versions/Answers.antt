@@ -4,7 +4,8 @@ use Rattle.adr_schema.specs.Assignments.{Given}
 use Rattle.adr_model.specs.Update.{RowOf}
 use Rattle.adr_model.specs.Write.{version_refusal}
 use Rattle.adr_origin.specs.NextRows.{versions_refusal}
-use Rattle.adr_origin.proofs.GivenLemmas.{all_left, all_passed, fewer_left, next_left, one_passed, one_refused}
+use Rattle.adr_schema.proofs.LeftAbove.{all_left, fewer_left, next_left}
+use Rattle.adr_origin.proofs.GivenLemmas.{all_passed, one_passed, one_refused}
 use Rattle.adr_origin.proofs.modifying.check_versions.Goals as goal
 
 pub attributes-init : goal.attributes-init

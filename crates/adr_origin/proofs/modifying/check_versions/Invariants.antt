@@ -1,6 +1,6 @@
 use Rattle.std.proofs.Common.{◌≡◌, length}
 use Rattle.adr_origin.specs.NextRows.{versions_refusal}
-use Rattle.adr_origin.proofs.GivenLemmas.{left_above}
+use Rattle.adr_schema.proofs.LeftAbove.{left_above}
 use Rattle.adr_origin.proofs.modifying.check_versions.Given as goal
 
 -- the first that is refused is among those that are left

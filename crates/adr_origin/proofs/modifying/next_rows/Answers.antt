@@ -5,7 +5,8 @@ use Rattle.adr_schema.specs.declared.content.Content.TheVariants.{Values}
 use Rattle.adr_model.specs.Update.{RowOf, Update}
 use Rattle.adr_model.specs.Write.{next_row, version_refusal}
 use Rattle.adr_origin.specs.NextRows.{next_rows, versions_refusal}
-use Rattle.adr_origin.proofs.GivenLemmas.{left_above, all_left, all_written, fewer_left, next_left, next_passes, row_written}
+use Rattle.adr_schema.proofs.LeftAbove.{left_above, all_left, fewer_left, next_left}
+use Rattle.adr_origin.proofs.GivenLemmas.{all_written, next_passes, row_written}
 use Rattle.adr_origin.proofs.Versions.{may_rise}
 use Rattle.adr_origin.proofs.modifying.next_rows.Goals as goal
 
@@ -37,7 +38,7 @@ attributes-preserved c =
           first c.attributes.invariant.rows
           (c.in_ok-push.ensures.items
           ∙ ap (λ (u : Update). c.attributes.rows.items ++ u ∷ [])
-          (c.next_row.ensures ∙ ap (λ (vs : List Value). next_row c.args.state.now c.args.now c.args.object.now c.in-Some.attr (Values vs)) c.in_ok-copy_values.ensures));
+          (c.next_row.ensures ∙ ap (λ (vs : List Value). next_row c.args.state.now c.args.now c.args.object.now c.in-Some.attr (Values vs)) (c.of.ensures ∙ c.in_ok-copy_values.ensures)));
       versions =
           (next_passes (λ (g : Given). version_refusal c.args.state.now.store.rows (RowOf c.args.object.now g.0) g.0) c.attributes.above c.args.values.now (c.in-Some.attr, c.in-Some.list.now)
           first c.attributes.invariant.versions).1;

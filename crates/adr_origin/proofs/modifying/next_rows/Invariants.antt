@@ -1,6 +1,6 @@
 use Rattle.std.proofs.Common.{◌≡◌, ◌++◌, length, None}
 use Rattle.adr_origin.specs.NextRows.{next_rows, versions_refusal}
-use Rattle.adr_origin.proofs.GivenLemmas.{left_above}
+use Rattle.adr_schema.proofs.LeftAbove.{left_above}
 use Rattle.adr_origin.proofs.modifying.next_rows.Given as goal
 
 -- the rows so far, and those that are left, are all, and those that are left can be written

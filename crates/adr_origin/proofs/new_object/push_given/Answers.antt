@@ -5,7 +5,8 @@ use Rattle.adr_schema.specs.Assignments.{Given}
 use Rattle.adr_model.specs.Update.{Update}
 use Rattle.adr_model.specs.Write.{row}
 use Rattle.adr_origin.specs.GivenRows.{given_rows}
-use Rattle.adr_origin.proofs.GivenLemmas.{all_left, all_written, fewer_left, next_left, row_written}
+use Rattle.adr_schema.proofs.LeftAbove.{all_left, fewer_left, next_left}
+use Rattle.adr_origin.proofs.GivenLemmas.{all_written, row_written}
 use Rattle.adr_origin.proofs.new_object.push_given.Goals as goal
 
 pub attributes-init : goal.attributes-init
@@ -23,7 +24,7 @@ attributes-preserved c =
     c.attributes.invariant
     (c.in_ok-push.ensures.items
     ∙ ap (λ (u : Update). c.attributes.rows.items ++ u ∷ [])
-    (c.row.ensures ∙ ap (λ (vs : List Value). row c.args.object.now c.args.stamp.now c.in-Some.attr (Values vs)) c.in_ok-copy_values.ensures))
+    (c.row.ensures ∙ ap (λ (vs : List Value). row c.args.object.now c.args.stamp.now c.in-Some.attr (Values vs)) (c.of.ensures ∙ c.in_ok-copy_values.ensures)))
 
 pub returns : goal.returns
 returns c = all_written (λ (g : Given). row c.args.object.now c.args.stamp.now g.0 (Values g.1)) c.attributes.rows.items _ c.attributes.above c.args.values.now (sym c.in_default.ensures.next) c.attributes.invariant

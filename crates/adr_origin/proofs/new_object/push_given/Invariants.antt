@@ -1,6 +1,6 @@
 use Rattle.std.proofs.Common.{◌≡◌, ◌++◌, length}
 use Rattle.adr_origin.specs.GivenRows.{given_rows}
-use Rattle.adr_origin.proofs.GivenLemmas.{left_above}
+use Rattle.adr_schema.proofs.LeftAbove.{left_above}
 use Rattle.adr_origin.proofs.new_object.push_given.Given as goal
 
 -- the rows so far, and those that are left, are all

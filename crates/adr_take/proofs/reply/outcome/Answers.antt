@@ -1,15 +1,12 @@
 use Rattle.std.proofs.Common.{Some, None, sym, ap, ◌∙◌, Ok}
 use Rattle.adr_model.specs.Take.{take_items}
-use Rattle.adr_take.proofs.Deciding.{early, late}
+use Rattle.adr_take.proofs.Deciding.{late}
 use Rattle.adr_take.proofs.reply.outcome.Goals as goal
 
 pub returns-in-Some : goal.returns-in-Some
-returns-in-Some c = early c.args.state.now c.args.reply.now c.in-Some.refusal (cc)
-
-pub returns-in-Some-2 : goal.returns-in-Some-2
-returns-in-Some-2 c =
+returns-in-Some c =
     late c.args.state.now c.args.reply.now c.in_ok-taking.taking (c.in_ok-taking.ensures ∙ ap (take_items c.args.state.now) c.items.ensures)
-    (Some c.in-Some-2.refusal) (sym c.in-Some-2.is ∙ c.in_ok-refusal.ensures)
+    (Some c.in-Some.refusal) (sym c.in-Some.is ∙ c.in_ok-refusal.ensures)
 
 pub returns-in_ok-taken_change-in-None : goal.returns-in_ok-taken_change-in-None
 returns-in_ok-taken_change-in-None c =

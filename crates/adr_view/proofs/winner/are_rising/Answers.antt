@@ -3,7 +3,7 @@ use Rattle.std.specs.Ordering.{is_lt}
 use Rattle.std.proofs.lemmas.Fn.{always_returns_same}
 use Rattle.adr_model.specs.Update.{key_order}
 use Rattle.adr_model.specs.Store.{Held}
-use Rattle.adr_view.specs.KeyOrder.{keys_total}
+use Rattle.adr_model.proofs.Keys.{keys_total}
 use Rattle.adr_view.proofs.Rising.{sorted_where}
 use Rattle.adr_view.proofs.winner.are_rising.Goals as goal
 

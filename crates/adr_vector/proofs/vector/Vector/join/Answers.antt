@@ -1,29 +1,29 @@
 use Rattle.std.proofs.Common.{◌≡◌, ◌≤◌, length, arith, ap, subst, ◌∙◌}
-use Rattle.adr_vector.specs.Vector.{Cursors, at, most_cursors, joined, IsVector}
+use Rattle.adr_vector.specs.Vector.{Cursors, at, cursor_limit, joined, IsVector}
 use Rattle.adr_vector.specs.Merging.{merged}
 use Rattle.adr_vector.proofs.Cursors.{IsRising}
 use Rattle.adr_vector.proofs.Joining.{merged-is-joined, at-merged, rising-merged, from_one-merged}
-use Rattle.adr_vector.proofs.Refusals.{done, full, wanting}
+use Rattle.adr_vector.proofs.Refusals.{done, refused, wanting}
 use Rattle.adr_vector.proofs.vector.Vector.join.Goals as goal
 
 -- the two vectors read as one are joined
 both : (v w : Cursors) → IsVector v → IsVector w → merged v w ≡ joined v w
 both v w p q = merged-is-joined v w p.rising q.rising p.from_one q.from_one
 
-merged_vector : (v w : Cursors) → IsVector v → IsVector w → length (merged v w) ≤ most_cursors → IsVector (merged v w)
+merged_vector : (v w : Cursors) → IsVector v → IsVector w → length (merged v w) ≤ cursor_limit → IsVector (merged v w)
 merged_vector v w p q few = record { rising = rising-merged v w p.rising q.rising; from_one = from_one-merged v w p.from_one q.from_one; few = few }
 
-pub returns-then-count-gt-LIMIT-clause-full : goal.returns-then-count-gt-LIMIT-clause-full
-returns-then-count-gt-LIMIT-clause-full c =
+pub returns-then-count-gt-CURSOR_LIMIT-clause-full : goal.returns-then-count-gt-CURSOR_LIMIT-clause-full
+returns-then-count-gt-CURSOR_LIMIT-clause-full c =
     let same = ap length (both c.args.self.now c.args.other.now (subst IsVector c.self.view_is c.self.invariant) (subst IsVector c.other.view_is c.other.invariant)) in
     let counted : c.count.result ≡ length (joined c.args.self.now c.args.other.now) = cc in
-    full most_cursors (length (joined c.args.self.now c.args.other.now)) (omega arith)
+    refused cursor_limit (length (joined c.args.self.now c.args.other.now)) (omega arith)
 
 pub returns-in_err-self-inside-clause-full : goal.returns-in_err-self-inside-clause-full
 returns-in_err-self-inside-clause-full c =
     let same = ap length (both c.args.self.now c.args.other.now (subst IsVector c.self.view_is c.self.invariant) (subst IsVector c.other.view_is c.other.invariant)) in
     let counted : c.count.result ≡ length (joined c.args.self.now c.args.other.now) = cc in
-    wanting c.from_residual.result most_cursors (length (joined c.args.self.now c.args.other.now)) c.from_residual.ensures.1 (omega arith)
+    wanting c.from_residual.result cursor_limit (length (joined c.args.self.now c.args.other.now)) c.from_residual.ensures.1 (omega arith)
 
 pub invariant_of-self : goal.invariant_of-self
 invariant_of-self c =
@@ -45,4 +45,4 @@ pub returns-clause-full : goal.returns-clause-full
 returns-clause-full c =
     let same = ap length (both c.args.self.now c.args.other.now (subst IsVector c.self.view_is c.self.invariant) (subst IsVector c.other.view_is c.other.invariant)) in
     let counted : c.count.result ≡ length (joined c.args.self.now c.args.other.now) = cc in
-    done most_cursors (length (joined c.args.self.now c.args.other.now)) (omega arith)
+    done cursor_limit (length (joined c.args.self.now c.args.other.now)) (omega arith)

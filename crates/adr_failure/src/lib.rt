@@ -1,0 +1,36 @@
+//! Why a call gave nothing: it was refused, or memory ran out.
+//!
+//! Every call that may be refused and that takes memory answers in this shape, with a refusal of its own. This crate
+//! stands on nothing, and knows no refusal.
+#![tactic(auto)]
+
+ghost use Rattle.std.specs.Prelude.{◌≡◌};
+ghost use Rattle.adr_failure.specs.declared.Failure.TheVariants.{NoMemory as no_memory};
+
+use std::alloc::{AllocError, AllocFailed};
+
+/// Memory ran out.
+pub type NoMemory = AllocError;
+
+/// Why a call gave nothing: it was refused, or memory ran out.
+#[derive(Clone, Copy, Debug, Drop, PartialEq, Eq)]
+pub enum Failure<R> {
+    Refused(R),
+    NoMemory,
+}
+
+impl<R> From<AllocError> for Failure<R> {
+    ghost from_gives = { λ _ e. e ≡ no_memory };
+
+    fn from(_e: AllocError) -> Failure<R> {
+        Failure::NoMemory
+    }
+}
+
+impl<R, T: Drop> From<AllocFailed<T>> for Failure<R> {
+    ghost from_gives = { λ _ e. e ≡ no_memory };
+
+    fn from(_e: AllocFailed<T>) -> Failure<R> {
+        Failure::NoMemory
+    }
+}
