@@ -1,17 +1,18 @@
 -- What lines may say, one after the other, may happen.
-use Rattle.std.proofs.Common.{◌≡◌, ◌∙◌, ◌⊎◌, inl, inr, refl, sym, ap, subst, ℕ, List, [], ◌∷◌, ◌++◌, Bool, true, false, ◌||◌, Option, Some, None}
+use Rattle.std.proofs.Common.{◌≡◌, ◌≢◌, ◌<◌, ◌∙◌, ◌⊎◌, inl, inr, refl, sym, ap, subst, ℕ, List, [], ◌∷◌, ◌++◌, Bool, true, false, ◌||◌, Option, Some, None, length, arith}
 use Rattle.std.specs.Str.{bytes_eq}
 use Rattle.std.proofs.lemmas.List.{map-append}
-use Rattle.std.specs.List.Sorted.{IsStrictlySortedBy}
 use Rattle.adr_event.specs.declared.answer.Outcome.TheVariants as outcomes
 use Rattle.adr_event.specs.declared.event.Event.{Event}
 use Rattle.adr_event.specs.declared.event.Event.TheVariants as events
 use Rattle.adr_schema.specs.Assignments.{Given}
+use Rattle.adr_schema.proofs.ExactCalls.{not_then}
 use Rattle.adr_schedule.specs.declared.fault.Cause.{Cause}
-use Rattle.adr_schedule.specs.Commands.{account, IsUserAdd, IsContainerAdd, IsAllowed}
-use Rattle.adr_schedule.specs.Seen.{Seen, nothing_seen, is_bound, when, first_cause, if_bound, if_given, if_full, unless_bound, cause_after, seen_after, IsFollowing}
+use Rattle.adr_schedule.specs.Grammar.{IsAllowed}
+use Rattle.adr_failure.specs.First.{first_of}
+use Rattle.adr_schedule.specs.Seen.{Seen, nothing_seen, is_bound, if_bound, if_given, if_full, unless_bound, cause_after, seen_after, IsFollowing}
 use Rattle.adr_model.specs.Member.{Member, Each}
-use Rattle.adr_model.specs.Write.{AddObject, AreInOrder}
+use Rattle.adr_model.specs.Write.{AddObject, Modify, Rename, Delete, AddLink, RemoveLink}
 use Rattle.adr_model.specs.Replica.{Replica}
 use Rattle.adr_model.specs.World.{Name, World, empty_world, bound, bound_at, asks, serves_request, shown, marks_shown}
 use Rattle.adr_model.specs.Cycles.{reply_limit}
@@ -73,11 +74,7 @@ no_member [] name h m = m
 no_member (n ∷ ns) name h (inl e) = let is : bytes_eq n name ≡ true = same_name_tests n name (sym e) in absurd (cc)
 no_member (n ∷ ns) name h (inr m) = no_member ns name (neither (bytes_eq n name) (is_bound ns name) h).1 m
 
-not_when : (b : Bool) (cause : Cause) → when b cause ≡ None → b ≡ false
-not_when true cause h = absurd (cc)
-not_when false cause h = refl
-
-none_of : (cause : Option Cause) (causes : List (Option Cause)) → first_cause (cause ∷ causes) ≡ None → (cause ≡ None) × (first_cause causes ≡ None)
+none_of : (cause : Option Cause) (causes : List (Option Cause)) → first_of (cause ∷ causes) ≡ None → (cause ≡ None) × (first_of causes ≡ None)
 none_of None causes h = (refl, h)
 none_of (Some cause) causes h = absurd (cc)
 
@@ -91,8 +88,8 @@ new_controller : (seen : Seen) (name dsa inv : Name) → cause_after seen (event
 new_controller seen name dsa inv h =
     let first = none_of (if_bound seen.controllers name) (if_given seen dsa inv ∷ if_full seen ∷ []) h in
     let second = none_of (if_given seen dsa inv) (if_full seen ∷ []) first.1 in
-    let given = neither (is_bound seen.dsas dsa) (is_bound seen.invs inv) (not_when (is_bound seen.dsas dsa || is_bound seen.invs inv) _ second.0) in
-    record { name = not_when (is_bound seen.controllers name) _ first.0; dsa = given.0; inv = given.1 }
+    let given = neither (is_bound seen.dsas dsa) (is_bound seen.invs inv) (not_then (is_bound seen.dsas dsa || is_bound seen.invs inv) _ second.0) in
+    record { name = not_then (is_bound seen.controllers name) _ first.0; dsa = given.0; inv = given.1 }
 
 -- nothing is bound to a name that no line bound
 unbound : {A : Type 0} (xs : List (Name × A)) (names : List Name) (name : Name) → AreAmong xs names → is_bound names name ≡ false → IsUnbound xs name
@@ -102,27 +99,18 @@ new_request : (seen : Seen) (name partner bind : Name) (max : ℕ) → cause_aft
 new_request seen name partner bind max h =
     let first = none_of (unless_bound seen.controllers name) (unless_bound seen.controllers partner ∷ if_bound seen.requests bind ∷ []) h in
     let second = none_of (unless_bound seen.controllers partner) (if_bound seen.requests bind ∷ []) first.1 in
-    not_when (is_bound seen.requests bind) _ (none_of (if_bound seen.requests bind) [] second.1).0
+    not_then (is_bound seen.requests bind) _ (none_of (if_bound seen.requests bind) [] second.1).0
 
 new_reply : (seen : Seen) (name request bind : Name) → cause_after seen (events.Serve name request bind) ≡ None → is_bound seen.replies bind ≡ false
 new_reply seen name request bind h =
     let first = none_of (unless_bound seen.controllers name) (unless_bound seen.requests request ∷ if_bound seen.replies bind ∷ []) h in
     let second = none_of (unless_bound seen.requests request) (if_bound seen.replies bind ∷ []) first.1 in
-    not_when (is_bound seen.replies bind) _ (none_of (if_bound seen.replies bind) [] second.1).0
+    not_then (is_bound seen.replies bind) _ (none_of (if_bound seen.replies bind) [] second.1).0
 
 -- ---- events
 
-one_in_order : (value : List ℕ) → AreInOrder (account value)
-unfolding IsStrictlySortedBy
-one_in_order value = (tt, tt)
-
-none_in_order : AreInOrder []
-unfolding IsStrictlySortedBy
-none_in_order = tt
-
-in_order : (name : Name) (class : ℕ) (parent text : List ℕ) (values : List Given) → IsUserAdd name class parent text values ⊎ IsContainerAdd name class parent text values → AreInOrder values
-in_order name class parent text values (inl user) = subst AreInOrder (sym user.one_account.1) (one_in_order user.one_account.0)
-in_order name class parent text values (inr container) = subst AreInOrder (sym container.no_values) none_in_order
+some_given : (values : List Given) → 0 < length values → values ≢ []
+some_given values some none = let size : length values ≡ 0 = ap length none in omega arith
 
 name_among : (rs : List Replica) (r : Replica) → Member r rs → Member r.name (names_of rs)
 name_among [] r m = absurd m
@@ -148,7 +136,16 @@ event_may seen w (events.Controller name dsa inv) agrees cause allowed = let is 
 )
 event_may seen w (events.Time now) agrees cause allowed = (tt, record { controllers = agrees.controllers; dsas = agrees.dsas; invs = agrees.invs; requests = agrees.requests; replies = agrees.replies })
 event_may seen w (events.Add name guid class parent text values) agrees cause allowed =
-    (in_order name class parent text values allowed, agrees_on seen w (step w (events.Add name guid class parent text values)).0 agrees (writes_stay w name (AddObject guid class parent text values)))
+    (allowed.0, agrees_on seen w (step w (events.Add name guid class parent text values)).0 agrees (writes_stay w name (AddObject guid class parent text values)))
+event_may seen w (events.Modify name guid values) agrees cause allowed =
+    ((allowed.0.0, some_given values allowed.0.1), agrees_on seen w (step w (events.Modify name guid values)).0 agrees (writes_stay w name (Modify guid values)))
+event_may seen w (events.Rename name guid parent text) agrees cause allowed =
+    (tt, agrees_on seen w (step w (events.Rename name guid parent text)).0 agrees (writes_stay w name (Rename guid parent text)))
+event_may seen w (events.Delete name guid) agrees cause allowed = (tt, agrees_on seen w (step w (events.Delete name guid)).0 agrees (writes_stay w name (Delete guid)))
+event_may seen w (events.Link name from attr to) agrees cause allowed =
+    (tt, agrees_on seen w (step w (events.Link name from attr to)).0 agrees (writes_stay w name (AddLink from attr to)))
+event_may seen w (events.Unlink name from attr to) agrees cause allowed =
+    (tt, agrees_on seen w (step w (events.Unlink name from attr to)).0 agrees (writes_stay w name (RemoveLink from attr to)))
 event_may seen w (events.Ask name partner max bind) agrees cause allowed =
     let t = asks w name partner max in let a = agrees_on seen w t.0 agrees (asks_stay w name partner max) in (
       unbound w.requests seen.requests bind agrees.requests (new_request seen name partner bind max cause),
@@ -165,7 +162,7 @@ event_may seen w (events.Cycle name source max) agrees cause allowed = (tt, agre
 event_may seen w (events.Show name) agrees cause allowed = (tt, agrees_on seen w (step w (events.Show name)).0 agrees (reports_stay w name (λ r. outcomes.Show (shown w r.safe))))
 event_may seen w (events.Vector name) agrees cause allowed = (tt, agrees_on seen w (step w (events.Vector name)).0 agrees (reports_stay w name (λ r. outcomes.Vector r.safe.store.vector)))
 event_may seen w (events.Marks name) agrees cause allowed = (tt, agrees_on seen w (step w (events.Marks name)).0 agrees (reports_stay w name (λ r. outcomes.Marks (marks_shown r.safe.store))))
-event_may seen w _ agrees cause allowed = absurd allowed
+event_may seen w _ agrees cause allowed = absurd allowed.0
 
 all_may : (es : List Event) (seen : Seen) (w : World) → Agrees seen w → IsFollowing seen es → MayAllHappen w es
 all_may [] seen w agrees follow = tt

@@ -17,9 +17,9 @@ use Rattle.adr_schema.specs.Numbered.{numbered}
 use Rattle.adr_schema.specs.Schemas.{newest, schema_1}
 use Rattle.adr_schema.specs.Table.{Attribute, Table, attribute_at, class_at, is_back, is_forward, is_link, kind_at}
 use Rattle.adr_schema.specs.Values.{fits}
+use Rattle.adr_token.proofs.Lists.{found, mapped}
 use Rattle.adr_report.specs.Laws.{AllowedValuesArePrintable, IsWholeReference, KnownClassesArePrintable, LinksArePrintable}
 use Rattle.adr_report.specs.Printable.{IsPrintableValue}
-use Rattle.adr_report.proofs.Finds.{found, mapped}
 use Rattle.adr_report.proofs.Names.{attribute_small, class_small}
 
 newest_numbered : (number : ℕ) → numbered number ≡ newest

@@ -1,5 +1,5 @@
 -- The line of a cursor tells the cursor, and the line of a partner the partner's mark.
-use Rattle.std.proofs.Common.{◌≡◌, ℕ, ◌<◌, ◌^◌, List, [], ◌∷◌, ◌++◌, refl, sym, ◌∙◌, append_assoc}
+use Rattle.std.proofs.Common.{◌≡◌, ℕ, List, [], ◌∷◌, ◌++◌, refl, sym, ◌∙◌, append_assoc}
 use Rattle.std.specs.Prelude.{codes}
 use Rattle.std.specs.Fmt.{decimal}
 use Rattle.std.proofs.lemmas.List.{append_cancel_left}
@@ -26,21 +26,6 @@ id_divide i j x y hi hj e =
     let left : x ≡ y = cc in
     (d.0, left)
 
--- a number and a byte that is no figure
-line_feed_divide : (m n : ℕ) (r s : List ℕ) → m < 2 ^ 64 → n < 2 ^ 64 → decimal m ++ (10 ∷ r) ≡ decimal n ++ (10 ∷ s) → (m ≡ n) × (r ≡ s)
-line_feed_divide m n r s hm hn e =
-    let d = numbers_divide m n (10 ∷ r) (10 ∷ s) hm hn refl refl e in
-    let behind : 10 ∷ r ≡ 10 ∷ s = d.1 in
-    let left : r ≡ s = cc in
-    (d.0, left)
-
-slash_divide : (m n : ℕ) (r s : List ℕ) → m < 2 ^ 64 → n < 2 ^ 64 → decimal m ++ (47 ∷ r) ≡ decimal n ++ (47 ∷ s) → (m ≡ n) × (r ≡ s)
-slash_divide m n r s hm hn e =
-    let d = numbers_divide m n (47 ∷ r) (47 ∷ s) hm hn refl refl e in
-    let behind : 47 ∷ r ≡ 47 ∷ s = d.1 in
-    let left : r ≡ s = cc in
-    (d.0, left)
-
 cursor_flat : (a i b n f r : List ℕ) → (a ++ i ++ b ++ n ++ f) ++ r ≡ a ++ (i ++ (b ++ (n ++ (f ++ r))))
 cursor_flat a i b n f r = simp append_assoc
 
@@ -51,7 +36,7 @@ cursor_is c r = cursor_flat (codes "  ") (identifier_token c.0) (codes " ") (dec
 pub cursor_divide : (c d : List ℕ × ℕ) (r s : List ℕ) → IsPrintableCursor c → IsPrintableCursor d → cursor_line c ++ r ≡ cursor_line d ++ s → (c ≡ d) × (r ≡ s)
 cursor_divide c d r s hc hd e =
     let id = id_divide c.0 d.0 (decimal c.1 ++ (10 ∷ r)) (decimal d.1 ++ (10 ∷ s)) hc.inv hd.inv (sym (cursor_is c r) ∙ e ∙ cursor_is d s) in
-    let usn = line_feed_divide c.1 d.1 r s hc.usn hd.usn id.1 in
+    let usn = numbers_divide 10 refl c.1 d.1 r s hc.usn hd.usn id.1 in
     (λ i. (id.0 i, usn.0 i), usn.1)
 
 pub cursor_some : (c : List ℕ × ℕ) (r : List ℕ) → cursor_line c ++ r ≡ [] → ⊥
@@ -74,9 +59,9 @@ partner_divide p q r s hp hq e =
     let dsa = id_divide p.0 q.0 (identifier_token p.1 ++ (32 ∷ mark_behind p.2 r)) (identifier_token q.1 ++ (32 ∷ mark_behind q.2 s)) hp.dsa hq.dsa (sym (partner_is p r) ∙ e ∙ partner_is q s) in
     let inv = identifiers_divide p.1 q.1 (32 ∷ mark_behind p.2 r) (32 ∷ mark_behind q.2 s) hp.inv hq.inv refl refl dsa.1 in
     let mark : mark_behind p.2 r ≡ mark_behind q.2 s = append_cancel_left (codes " ") _ _ inv.1 in
-    let obj = slash_divide p.2.obj q.2.obj _ _ hp.obj hq.obj mark in
-    let prop = slash_divide p.2.prop q.2.prop _ _ hp.prop hq.prop obj.1 in
-    let seen = line_feed_divide p.2.seen q.2.seen r s hp.seen hq.seen prop.1 in
+    let obj = numbers_divide 47 refl p.2.obj q.2.obj _ _ hp.obj hq.obj mark in
+    let prop = numbers_divide 47 refl p.2.prop q.2.prop _ _ hp.prop hq.prop obj.1 in
+    let seen = numbers_divide 10 refl p.2.seen q.2.seen r s hp.seen hq.seen prop.1 in
     (λ i. (dsa.0 i, inv.0 i, record { obj = obj.0 i; prop = prop.0 i; seen = seen.0 i }), seen.1)
 
 pub partner_some : (p : List ℕ × List ℕ × Mark) (r : List ℕ) → partner_line p ++ r ≡ [] → ⊥

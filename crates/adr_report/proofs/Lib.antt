@@ -1,4 +1,3 @@
-pub mod Finds
 pub mod Prefixes
 pub mod Tokens
 pub mod Names

@@ -1,21 +1,19 @@
 -- What is written for a class or an attribute tells its number.
-use Rattle.std.proofs.Common.{◌≡◌, ℕ, ◌<◌, ◌^◌, Bool, true, not, ◌&&◌, List, [], ◌∷◌, ◌++◌, Option, Some, None, refl, sym, subst, arith, nat_eq}
+use Rattle.std.proofs.Common.{◌≡◌, ℕ, ◌<◌, ◌^◌, Bool, true, not, ◌&&◌, List, [], ◌∷◌, ◌++◌, Option, Some, None, refl, sym, subst, arith}
 use Rattle.std.specs.Prelude.{◌==◌, nat_le, nat_lt, IsSome}
 use Rattle.std.specs.List.{list_all, find}
 use Rattle.std.specs.Option.{option_map}
-use Rattle.std.specs.Str.{bytes_eq}
 use Rattle.std.specs.Fmt.{decimal}
 use Rattle.std.proofs.lemmas.Bool.{and_parts, eqb-true, ltb-true}
-use Rattle.std.proofs.lemmas.Bool.Decides.{nat_tests, Decides-eqb}
+use Rattle.std.proofs.lemmas.Bool.Decides.{nat_tests}
 use Rattle.std.proofs.lemmas.Fmt.{decimal_injective}
-use Rattle.std.proofs.lemmas.Slice.Eq.{bytes_eq-Decides}
 use Rattle.adr_schema.specs.Names.{class_name, class_number, attribute_name, attribute_number}
 use Rattle.adr_schema.specs.Schemas.{newest, schema_1}
 use Rattle.adr_schema.specs.Table.{Class, Attribute, attribute_at, class_at, is_link, kind_at}
-use Rattle.adr_schema.proofs.Apart.{found_by_other}
 use Rattle.adr_token.specs.Spelling.{name_or_number, class_token, attribute_token}
-use Rattle.adr_report.proofs.Finds.{found, mapped}
-use Rattle.adr_report.proofs.Prefixes.{ends, words_divide, all_more}
+use Rattle.adr_token.proofs.ClassLaws.{class_named, class_told, attribute_named, attribute_told}
+use Rattle.adr_token.proofs.Lists.{all_more, found, mapped}
+use Rattle.adr_report.proofs.Prefixes.{ends, words_divide}
 use Rattle.adr_report.proofs.Tokens.{is_figure, decimal_figures}
 
 -- the bytes of names and of numbers behind a `%`: no space, line feed or `=`
@@ -68,26 +66,6 @@ module _ (name : ℕ → Option (List ℕ)) (number : List ℕ → Option ℕ)
       let d = words_divide is_word (name_or_number (name m) m) (name_or_number (name n) n) r s (words m (name m) refl) (words n (name n) refl) er es e in
       (same m n (name m) (name n) refl refl hm hn d.0, d.1)
 
-abbrev class_numbered : Class → ℕ
-class_numbered c = c.number
-
-abbrev class_named : Class → List ℕ
-class_named c = c.name
-
-abbrev attribute_numbered : Attribute → ℕ
-attribute_numbered a = a.number
-
-abbrev attribute_named : Attribute → List ℕ
-attribute_named a = a.name
-
-class_again : (n : ℕ) (text : List ℕ) → class_name n ≡ Some text → class_number text ≡ Some n
-unfolding schema_1
-class_again n text e = found_by_other class_numbered class_named nat_eq bytes_eq Decides-eqb bytes_eq-Decides newest.classes refl n text e
-
-attribute_again : (n : ℕ) (text : List ℕ) → attribute_name n ≡ Some text → attribute_number text ≡ Some n
-unfolding schema_1
-attribute_again n text e = found_by_other attribute_numbered attribute_named nat_eq bytes_eq Decides-eqb bytes_eq-Decides newest.attributes refl n text e
-
 classes_plain : list_all (λ (c : Class). is_plain c.name) newest.classes ≡ true
 unfolding schema_1
 classes_plain = refl
@@ -98,11 +76,11 @@ attributes_plain = refl
 
 pub classes_divide : (m n : ℕ) (r s : List ℕ) → m < 2 ^ 64 → n < 2 ^ 64 → ends is_word r ≡ true → ends is_word s ≡ true → class_token m ++ r ≡ class_token n ++ s → (m ≡ n) × (r ≡ s)
 unfolding class_token
-classes_divide = names_divide class_name class_number class_again (λ n text e. found_plain class_named (λ c. c.number == n) newest.classes text classes_plain e)
+classes_divide = names_divide class_name class_number class_told (λ n text e. found_plain class_named (λ c. c.number == n) newest.classes text classes_plain e)
 
 pub attributes_divide : (m n : ℕ) (r s : List ℕ) → m < 2 ^ 64 → n < 2 ^ 64 → ends is_word r ≡ true → ends is_word s ≡ true → attribute_token m ++ r ≡ attribute_token n ++ s → (m ≡ n) × (r ≡ s)
 unfolding attribute_token
-attributes_divide = names_divide attribute_name attribute_number attribute_again (λ n text e. found_plain attribute_named (λ a. a.number == n) newest.attributes text attributes_plain e)
+attributes_divide = names_divide attribute_name attribute_number attribute_told (λ n text e. found_plain attribute_named (λ a. a.number == n) newest.attributes text attributes_plain e)
 
 -- the numbers of a schema are small
 is_small : ℕ → Bool

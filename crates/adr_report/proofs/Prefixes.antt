@@ -1,7 +1,7 @@
 -- Writings that tell what was written whatever follows them: where they stand in front of equal bytes, they are equal.
 use Rattle.std.proofs.Common.{◌≡◌, ℕ, Bool, true, not, List, [], ◌∷◌, ◌++◌, length, flat_map, refl, sym, subst, ◌∙◌, arith, append_assoc}
 use Rattle.std.specs.List.{All, list_all}
-use Rattle.std.proofs.lemmas.Bool.{and_parts, and_from}
+use Rattle.std.proofs.lemmas.Bool.{and_parts}
 use Rattle.std.proofs.lemmas.List.Elements.{All-head, All-tail}
 
 -- none of these bytes stands in front
@@ -14,13 +14,6 @@ clash p a b h g e =
     let other : not (p a) ≡ true = subst (λ c. not (p c) ≡ true) (sym e) g in
     let none : not true ≡ true = subst (λ t. not t ≡ true) h other in
     cc
-
--- bytes that pass a test pass a weaker one
-pub all_more : (p q : ℕ → Bool) → ((b : ℕ) → p b ≡ true → q b ≡ true) → (bs : List ℕ) → list_all p bs ≡ true → list_all q bs ≡ true
-all_more p q more [] h = refl
-all_more p q more (b ∷ bs) h =
-    let parts = and_parts (p b) (list_all p bs) h in
-    and_from (q b) (list_all q bs) (more b parts.0) (all_more p q more bs parts.1)
 
 -- words of some bytes, before what is none of them
 pub words_divide : (p : ℕ → Bool) (x y r s : List ℕ) → list_all p x ≡ true → list_all p y ≡ true → ends p r ≡ true → ends p s ≡ true → x ++ r ≡ y ++ s → (x ≡ y) × (r ≡ s)

@@ -11,8 +11,8 @@ use Rattle.adr_event.specs.declared.answer.Outcome.TheVariants.{Show, Vector, Ma
 use Rattle.adr_report.specs.Line.{cursor_line, entry_line, line, partner_line, report_lines, result_text}
 use Rattle.adr_report.specs.Laws.{EqualLinesMeanEqualDirectories, EqualEntryLinesMeanEqualDirectories, LinesAreToldFromWhatFollows, EqualLinesMeanEqualVectors, EqualLinesMeanEqualMarks, report}
 use Rattle.adr_report.specs.Printable.{IsPrintableCursor, IsPrintableEntry, IsPrintablePartner}
-use Rattle.adr_report.proofs.Prefixes.{as_many_divide, lists_divide, words_divide}
-use Rattle.adr_report.proofs.Tokens.{decimal_figures, is_figure}
+use Rattle.adr_report.proofs.Prefixes.{as_many_divide, lists_divide}
+use Rattle.adr_report.proofs.Tokens.{figures_divide}
 use Rattle.adr_report.proofs.EntryLines.{entry_divide, entry_some}
 use Rattle.adr_report.proofs.KnowledgeLines.{cursor_divide, cursor_some, partner_divide, partner_some}
 
@@ -29,13 +29,6 @@ front_same verb name x y e =
     let behind : (codes " " ++ name) ++ (codes ": " ++ x) ≡ (codes " " ++ name) ++ (codes ": " ++ y) = append_cancel_left verb _ _ e in
     append_cancel_left (codes ": ") x y (append_cancel_left ((codes " " ++ name)) _ _ behind)
 
-counts_divide : (m n : ℕ) (x y : List ℕ) → decimal m ++ (10 ∷ x) ≡ decimal n ++ (10 ∷ y) → (decimal m ≡ decimal n) × (x ≡ y)
-counts_divide m n x y e =
-    let d = words_divide is_figure (decimal m) (decimal n) (10 ∷ x) (10 ∷ y) (decimal_figures m) (decimal_figures n) refl refl e in
-    let feeds : 10 ∷ x ≡ 10 ∷ y = d.1 in
-    let left : x ≡ y = cc in
-    (d.0, left)
-
 -- no bytes are left
 Nothing : List ℕ → Type 0
 Nothing r = r ≡ []
@@ -47,7 +40,7 @@ module _ {A : Type 0} (verb : List ℕ) (outcome : List A → Outcome) (f : A �
   pieces_divide : (name : List ℕ) (xs ys : List A) (r s : List ℕ) → report verb name (outcome xs) ++ r ≡ report verb name (outcome ys) ++ s
       → (decimal (length xs) ≡ decimal (length ys)) × (flat_map f xs ++ r ≡ flat_map f ys ++ s)
   pieces_divide name xs ys r s h =
-      counts_divide (length xs) (length ys) (flat_map f xs ++ r) (flat_map f ys ++ s) (front_same verb name _ _ (sym (is name xs r) ∙ h ∙ is name ys s))
+      figures_divide 10 refl (length xs) (length ys) (flat_map f xs ++ r) (flat_map f ys ++ s) (front_same verb name _ _ (sym (is name xs r) ∙ h ∙ is name ys s))
 
   lines_divide : (xs ys : List A) (r s : List ℕ) → All P xs → All P ys → Nothing r → Nothing s → flat_map f xs ++ r ≡ flat_map f ys ++ s → (xs ≡ ys) × (r ≡ s)
   unfolding Nothing

@@ -1,5 +1,5 @@
 -- Tokens tell what they stand for, whatever follows that is none of their bytes.
-use Rattle.std.proofs.Common.{◌≡◌, ℕ, zero, suc, ◌/◌, ◌%◌, ◌<◌, ◌^◌, Bool, true, false, ◌&&◌, cond, List, [], ◌∷◌, ◌++◌, flat_map, Option, Some, refl, sym, ap, ◌∙◌, arith}
+use Rattle.std.proofs.Common.{◌≡◌, ℕ, zero, suc, ◌/◌, ◌%◌, ◌<◌, ◌^◌, Bool, true, false, not, ◌&&◌, cond, List, [], ◌∷◌, ◌++◌, flat_map, Option, Some, refl, sym, ap, ◌∙◌, arith}
 use Rattle.std.specs.Prelude.{◌==◌, nat_le, nat_lt}
 use Rattle.std.specs.List.{list_all}
 use Rattle.std.specs.Fmt.{digit_glyph, digits_onto, digits, decimal}
@@ -52,9 +52,17 @@ hexadecimal_inner : (n : ℕ) → list_all is_inner (digits 16 false n) ≡ true
 unfolding digits
 hexadecimal_inner n = onto_all is_inner 16 glyph_inner 64 n [] refl
 
-pub numbers_divide : (m n : ℕ) (r s : List ℕ) → m < 2 ^ 64 → n < 2 ^ 64 → ends is_figure r ≡ true → ends is_figure s ≡ true → decimal m ++ r ≡ decimal n ++ s → (m ≡ n) × (r ≡ s)
-numbers_divide m n r s hm hn er es e =
-    let d = words_divide is_figure (decimal m) (decimal n) r s (decimal_figures m) (decimal_figures n) er es e in
+-- numbers, with a byte behind them that is no figure
+pub figures_divide : (b : ℕ) → is_figure b ≡ false → (m n : ℕ) (r s : List ℕ) → decimal m ++ (b ∷ r) ≡ decimal n ++ (b ∷ s) → (decimal m ≡ decimal n) × (r ≡ s)
+figures_divide b no_figure m n r s e =
+    let d = words_divide is_figure (decimal m) (decimal n) (b ∷ r) (b ∷ s) (decimal_figures m) (decimal_figures n) (ap not no_figure) (ap not no_figure) e in
+    let behind : b ∷ r ≡ b ∷ s = d.1 in
+    let left : r ≡ s = cc in
+    (d.0, left)
+
+pub numbers_divide : (b : ℕ) → is_figure b ≡ false → (m n : ℕ) (r s : List ℕ) → m < 2 ^ 64 → n < 2 ^ 64 → decimal m ++ (b ∷ r) ≡ decimal n ++ (b ∷ s) → (m ≡ n) × (r ≡ s)
+numbers_divide b no_figure m n r s hm hn e =
+    let d = figures_divide b no_figure m n r s e in
     (decimal_injective m n hm hn d.0, d.1)
 
 -- identifiers

@@ -12,9 +12,10 @@ use Rattle.adr_schema.specs.declared.content.Value.{Value as Item}
 use Rattle.adr_schema.specs.declared.content.Value.TheVariants.{Text, Number, Flag, Octets, Ref}
 use Rattle.adr_token.specs.Laws.{IsIdentifier}
 use Rattle.adr_token.specs.Spelling.{flag_text, identifier_text, identifier_token, text_token, two_figures, value_token, values_token}
+use Rattle.adr_token.proofs.Lists.{all_more}
 use Rattle.adr_report.specs.Line.{listed}
 use Rattle.adr_report.specs.Printable.{IsPrintableValue}
-use Rattle.adr_report.proofs.Prefixes.{all_more, clash, ends, lists_divide, words_divide}
+use Rattle.adr_report.proofs.Prefixes.{clash, ends, lists_divide, words_divide}
 use Rattle.adr_report.proofs.Tokens.{decimal_figures, identifiers_divide, is_figure, is_inner, texts_divide}
 
 -- no space or line feed

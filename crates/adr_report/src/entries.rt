@@ -44,7 +44,8 @@ fn push_further_guid(alloc: Global, out: &mut Vec<u8>, guid: Uuid) -> Result<(),
 }
 
 fn push_further_guids(alloc: Global, out: &mut Vec<u8>, guids: &[Uuid]) -> Result<(), NoMemory>
-    ensures { OnOk result (out.new.items ≡ out.old.items ++ flat_map (λ (i : List ℕ). codes "," ++ identifier_token i) guids.now) }
+    ensures { OnOk result (out.new.items
+        ≡ out.old.items ++ flat_map (λ (i : List ℕ). codes "," ++ identifier_token i) guids.now) }
 {
     for guid in guids {
         push_further_guid(alloc, out, *guid)?;
@@ -84,7 +85,9 @@ fn push_all_links(alloc: Global, out: &mut Vec<u8>, list: &[(u16, Guids)]) -> Re
 
 /// Adds an entry's identity: its GUID and its class.
 fn push_head(alloc: Global, out: &mut Vec<u8>, entry: &Entry) -> Result<(), NoMemory>
-    ensures { OnOk result (out.new.items ≡ out.old.items ++ (codes "  " ++ identifier_token entry.now.guid ++ codes " " ++ class_token entry.now.class)) }
+    ensures { OnOk result (out.new.items
+        ≡ out.old.items
+        ++ (codes "  " ++ identifier_token entry.now.guid ++ codes " " ++ class_token entry.now.class)) }
 {
     push(out, b"  ")?;
     push_identifier(alloc, out, entry.guid)?;
@@ -94,7 +97,9 @@ fn push_head(alloc: Global, out: &mut Vec<u8>, entry: &Entry) -> Result<(), NoMe
 
 /// Adds where an entry stands, and under which name.
 fn push_place(alloc: Global, out: &mut Vec<u8>, entry: &Entry) -> Result<(), NoMemory>
-    ensures { OnOk result (out.new.items ≡ out.old.items ++ (codes " parent=" ++ identifier_token entry.now.parent ++ codes " name=" ++ text_token entry.now.name)) }
+    ensures { OnOk result (out.new.items
+        ≡ out.old.items
+        ++ (codes " parent=" ++ identifier_token entry.now.parent ++ codes " name=" ++ text_token entry.now.name)) }
 {
     push(out, b" parent=")?;
     push_identifier(alloc, out, entry.parent)?;

@@ -8,6 +8,8 @@ mod knowledge;
 mod laws;
 mod lines;
 
+pub use adr_event::Answer;
+pub use adr_schema::NoMemory;
 pub use laws::{
     equal_lines_mean_equal_directories, equal_lines_mean_equal_knowledge,
     what_is_allowed_is_printable,

@@ -93,7 +93,10 @@ fn push_took(
     wrote: u32,
     usn: u64,
 ) -> Result<(), NoMemory>
-    ensures { OnOk result (out.new.items ≡ out.old.items ++ (codes "ok items=" ++ decimal items ++ codes " wrote=" ++ decimal wrote ++ codes " usn=" ++ decimal usn)) }
+    ensures { OnOk result (out.new.items
+        ≡ out.old.items
+        ++ (codes "ok items=" ++ decimal items ++ codes " wrote=" ++ decimal wrote ++ codes " usn="
+        ++ decimal usn)) }
 {
     push(out, b"ok items=")?;
     push_number(alloc, out, u64::from(items))?;
@@ -132,7 +135,9 @@ fn push_refused(
     label: &[u8],
     fields: &[Field],
 ) -> Result<(), NoMemory>
-    ensures { OnOk result (out.new.items ≡ out.old.items ++ (codes "refused " ++ decimal number ++ codes " " ++ label.now ++ flat_map field_text fields.now)) }
+    ensures { OnOk result (out.new.items
+        ≡ out.old.items
+        ++ (codes "refused " ++ decimal number ++ codes " " ++ label.now ++ flat_map field_text fields.now)) }
 {
     push(out, b"refused ")?;
     push_number(alloc, out, u64::from(number))?;

@@ -3,7 +3,10 @@ pub mod NameLemmas
 pub mod EventLemmas
 pub mod PlainBytes
 pub mod TokenLaws
+pub mod RisingLemmas
+pub mod LineSets
 pub mod EventLaws
+pub mod AllowedLaws
 pub mod ScheduleLaws
 pub mod PrintLaws
 pub mod SetLemmas

@@ -1,19 +1,23 @@
 -- A schedule is read as its events, and what was read is a schedule; a text that is refused has the fault.
 use Rattle.std.proofs.Common.{◌≡◌, ℕ, ◌+◌, ◌≤◌, Bool, true, false, not, cond, List, [], ◌∷◌, ◌++◌, length, Option, Some, None, Result, Ok, Err, refl, sym, ap, subst, inl, inr}
 use Rattle.std.specs.Prelude.{◌||◌, nat_lt, nat_le}
+use Rattle.std.specs.Bool.{then_some}
 use Rattle.std.specs.Str.{is_utf8}
 use Rattle.std.proofs.lemmas.Bool.{le-ltb, lt-ltb, ltb-false, ltb-true}
 use Rattle.adr_event.specs.declared.event.Event.{Event}
-use Rattle.adr_event.specs.declared.event.Event.TheVariants.{Controller, Time, Add, Ask, Serve, Deliver, Pull, Cycle, Show, Vector, Marks}
+use Rattle.adr_event.specs.declared.event.Event.TheVariants.{Controller, Time, Add, Modify, Rename, Delete, Link, Unlink, Ask, Serve, Deliver, Pull, Cycle, Show, Vector, Marks}
 use Rattle.adr_schedule.specs.declared.fault.Cause.{Cause}
 use Rattle.adr_schedule.specs.declared.fault.Cause.TheVariants.{NotUtf8, NoCommand, UnknownName, NameUsed, IdentifierUsed, TooMany, TooLong}
 use Rattle.adr_schedule.specs.declared.fault.ScheduleFault.{ScheduleFault}
+use Rattle.adr_schedule.specs.Limits.{controller_limit, text_limit}
 use Rattle.adr_schedule.specs.Lines.{lines_of}
-use Rattle.adr_schedule.specs.Commands.{IsAllowed, event_of, is_passed}
-use Rattle.adr_schedule.specs.Grammar.{Spells}
-use Rattle.adr_schedule.specs.Seen.{Seen, nothing_seen, cause_after, first_cause, if_bound, if_full, if_given, is_bound, seen_after, unless_bound, when}
+use Rattle.adr_schedule.specs.Commands.{event_of, is_passed}
+use Rattle.adr_schedule.specs.Grammar.{HasLine, Spells}
+use Rattle.adr_failure.specs.First.{first_of}
+use Rattle.adr_schedule.specs.Seen.{Seen, nothing_seen, cause_after, if_bound, if_full, if_given, is_bound, seen_after, unless_bound, IsFollowing}
 use Rattle.adr_schedule.specs.Events.{bad, before, events_from, events_of, followed, line_after, on_line, unless}
 use Rattle.adr_schedule.specs.Schedules.{FaultyTextsAreRefused, IsCause, IsFault, IsFirstFault, LinesSay, ReadTextsAreSchedules, RefusedTextsHaveTheFault, Says, SchedulesAreRead}
+use Rattle.adr_schedule.proofs.AllowedLaws.{spelled_allowed}
 use Rattle.adr_schedule.proofs.EventLaws.{lines_read, lines_spelled}
 
 -- ---- what a line said
@@ -75,14 +79,25 @@ from_was seen k [] events h = cc
 from_was seen k (line ∷ lines) events h =
     one_was seen k line lines (line_after seen line) (λ next. events_from next (k + 1) lines) events refl (λ next es g. from_was next (k + 1) lines es g) h
 
-text_was : (text : List ℕ) (events : List Event) (fault : ScheduleFault) (t : Bool) → nat_lt 16777216 (length text) ≡ t → cond t (Err fault) (events_from nothing_seen 1 (lines_of text)) ≡ Ok events
-    → (length text ≤ 16777216) × LinesSay nothing_seen (lines_of text) events
+text_was : (text : List ℕ) (events : List Event) (fault : ScheduleFault) (t : Bool) → nat_lt text_limit (length text) ≡ t → cond t (Err fault) (events_from nothing_seen 1 (lines_of text)) ≡ Ok events
+    → (length text ≤ text_limit) × LinesSay nothing_seen (lines_of text) events
 text_was text events fault true at h = absurd (cc)
-text_was text events fault false at h = (ltb-false 16777216 (length text) at, from_was nothing_seen 1 (lines_of text) events h)
+text_was text events fault false at h = (ltb-false text_limit (length text) at, from_was nothing_seen 1 (lines_of text) events h)
 
 pub read_texts : ReadTextsAreSchedules
 unfolding events_of
-read_texts text events h = text_was text events (record { line = 0; cause = TooLong }) (nat_lt 16777216 (length text)) refl h
+read_texts text events h = text_was text events (record { line = 0; cause = TooLong }) (nat_lt text_limit (length text)) refl h
+
+-- what lines say, one after the other, may follow
+lines_follow : (seen : Seen) (lines : List (List ℕ)) (es : List Event) → LinesSay seen lines es → IsFollowing seen es
+lines_follow seen [] es none = subst (IsFollowing seen) (sym none) tt
+lines_follow seen (line ∷ lines) es (inl passed) = lines_follow seen lines es passed.1
+lines_follow seen (line ∷ lines) es (inr said) =
+    subst (IsFollowing seen) (sym said.4) (said.2.follows, spelled_allowed line said.0 said.2.spells, lines_follow (seen_after seen said.0) lines said.1 said.3)
+
+-- the events of a text may follow one another
+pub text_follows : (text : List ℕ) (es : List Event) → events_of text ≡ Ok es → IsFollowing nothing_seen es
+text_follows text es is = lines_follow nothing_seen (lines_of text) es (read_texts text es is).1
 
 -- ---- what lines say is read
 
@@ -97,7 +112,7 @@ from_read seen k (line ∷ lines) events (inr h) =
 
 pub schedules_read : SchedulesAreRead
 unfolding events_of
-schedules_read text events h = rw (le-ltb 16777216 (length text) h.0) (from_read nothing_seen 1 (lines_of text) events h.1)
+schedules_read text events h = rw (le-ltb text_limit (length text) h.0) (from_read nothing_seen 1 (lines_of text) events h.1)
 
 -- ---- the fault
 
@@ -111,32 +126,37 @@ abbrev AreLate : List (Option Cause) → Type 0
 AreLate [] = Unit {0}
 AreLate (c ∷ cs) = ((x : Cause) → c ≡ Some x → is_late x ≡ true) × AreLate cs
 
-first_late : (cs : List (Option Cause)) → AreLate cs → (x : Cause) → first_cause cs ≡ Some x → is_late x ≡ true
+first_late : (cs : List (Option Cause)) → AreLate cs → (x : Cause) → first_of cs ≡ Some x → is_late x ≡ true
 first_late [] h x e = absurd (cc)
 first_late (None ∷ cs) h x e = first_late cs h.1 x e
 first_late (Some c ∷ cs) h x e = h.0 x e
 
-when_late : (b : Bool) (cause : Cause) → is_late cause ≡ true → (x : Cause) → when b cause ≡ Some x → is_late x ≡ true
-when_late true cause h x e = let same : cause ≡ x = cc in subst (λ (c : Cause). is_late c ≡ true) same h
-when_late false cause h x e = absurd (cc)
+then_late : (b : Bool) (cause : Cause) → is_late cause ≡ true → (x : Cause) → then_some b cause ≡ Some x → is_late x ≡ true
+then_late true cause h x e = let same : cause ≡ x = cc in subst (λ (c : Cause). is_late c ≡ true) same h
+then_late false cause h x e = absurd (cc)
 
 unless_late : (names : List (List ℕ)) (name : List ℕ) (x : Cause) → unless_bound names name ≡ Some x → is_late x ≡ true
-unless_late names name x e = when_late (not (is_bound names name)) UnknownName refl x e
+unless_late names name x e = then_late (not (is_bound names name)) UnknownName refl x e
 
 bound_late : (names : List (List ℕ)) (name : List ℕ) (x : Cause) → if_bound names name ≡ Some x → is_late x ≡ true
-bound_late names name x e = when_late (is_bound names name) NameUsed refl x e
+bound_late names name x e = then_late (is_bound names name) NameUsed refl x e
 
 given_late : (seen : Seen) (dsa inv : List ℕ) (x : Cause) → if_given seen dsa inv ≡ Some x → is_late x ≡ true
-given_late seen dsa inv x e = when_late (is_bound seen.dsas dsa || is_bound seen.invs inv) IdentifierUsed refl x e
+given_late seen dsa inv x e = then_late (is_bound seen.dsas dsa || is_bound seen.invs inv) IdentifierUsed refl x e
 
 full_late : (seen : Seen) (x : Cause) → if_full seen ≡ Some x → is_late x ≡ true
-full_late seen x e = when_late (nat_le 64 (length seen.controllers)) TooMany refl x e
+full_late seen x e = then_late (nat_le controller_limit (length seen.controllers)) TooMany refl x e
 
-cause_late : (seen : Seen) (e : Event) → IsAllowed e → (x : Cause) → cause_after seen e ≡ Some x → is_late x ≡ true
+cause_late : (seen : Seen) (e : Event) → HasLine e → (x : Cause) → cause_after seen e ≡ Some x → is_late x ≡ true
 cause_late seen (Controller name dsa inv) h x c =
     first_late (if_bound seen.controllers name ∷ if_given seen dsa inv ∷ if_full seen ∷ []) (bound_late seen.controllers name, (given_late seen dsa inv, (full_late seen, tt))) x c
 cause_late seen (Time now) h x c = absurd (cc)
 cause_late seen (Add name guid class parent text values) h x c = unless_late seen.controllers name x c
+cause_late seen (Modify name guid values) h x c = unless_late seen.controllers name x c
+cause_late seen (Rename name guid parent text) h x c = unless_late seen.controllers name x c
+cause_late seen (Delete name guid) h x c = unless_late seen.controllers name x c
+cause_late seen (Link name from attr to) h x c = unless_late seen.controllers name x c
+cause_late seen (Unlink name from attr to) h x c = unless_late seen.controllers name x c
 cause_late seen (Ask name partner max bound) h x c =
     first_late (unless_bound seen.controllers name ∷ unless_bound seen.controllers partner ∷ if_bound seen.requests bound ∷ [])
     (unless_late seen.controllers name, (unless_late seen.controllers partner, (bound_late seen.requests bound, tt))) x c
@@ -203,13 +223,13 @@ from_bad seen k [] fault h = absurd (cc)
 from_bad seen k (line ∷ lines) fault h =
     one_bad seen k line lines (line_after seen line) (λ next. events_from next (k + 1) lines) fault refl (λ next g. from_bad next (k + 1) lines fault g) h
 
-text_bad : (text : List ℕ) (fault : ScheduleFault) (t : Bool) → nat_lt 16777216 (length text) ≡ t → cond t (bad 0 TooLong) (events_from nothing_seen 1 (lines_of text)) ≡ Err fault → IsFault text fault
-text_bad text fault true at h = inl (ltb-true 16777216 (length text) at, sym (err_is _ fault h))
-text_bad text fault false at h = inr (ltb-false 16777216 (length text) at, from_bad nothing_seen 1 (lines_of text) fault h)
+text_bad : (text : List ℕ) (fault : ScheduleFault) (t : Bool) → nat_lt text_limit (length text) ≡ t → cond t (bad 0 TooLong) (events_from nothing_seen 1 (lines_of text)) ≡ Err fault → IsFault text fault
+text_bad text fault true at h = inl (ltb-true text_limit (length text) at, sym (err_is _ fault h))
+text_bad text fault false at h = inr (ltb-false text_limit (length text) at, from_bad nothing_seen 1 (lines_of text) fault h)
 
 pub refused_texts : RefusedTextsHaveTheFault
 unfolding events_of
-refused_texts text fault h = text_bad text fault (nat_lt 16777216 (length text)) refl h
+refused_texts text fault h = text_bad text fault (nat_lt text_limit (length text)) refl h
 
 -- ---- a text with a fault is refused
 
@@ -236,9 +256,9 @@ from_refused seen k (line ∷ lines) fault (inr (inl h)) = rw (one_read seen lin
 from_refused seen k (line ∷ lines) fault (inr (inr h)) =
     rw (line_bad seen line fault.cause h.0 h.2) (ap (λ n. err_of (record { line = n; cause = fault.cause })) (sym h.1))
 
-text_refused : (text : List ℕ) (fault : ScheduleFault) → IsFault text fault → cond (nat_lt 16777216 (length text)) (bad 0 TooLong) (events_from nothing_seen 1 (lines_of text)) ≡ Err fault
-text_refused text fault (inl h) = rw (lt-ltb 16777216 (length text) h.0) (ap err_of (sym h.1))
-text_refused text fault (inr h) = rw (le-ltb 16777216 (length text) h.0) (from_refused nothing_seen 1 (lines_of text) fault h.1)
+text_refused : (text : List ℕ) (fault : ScheduleFault) → IsFault text fault → cond (nat_lt text_limit (length text)) (bad 0 TooLong) (events_from nothing_seen 1 (lines_of text)) ≡ Err fault
+text_refused text fault (inl h) = rw (lt-ltb text_limit (length text) h.0) (ap err_of (sym h.1))
+text_refused text fault (inr h) = rw (le-ltb text_limit (length text) h.0) (from_refused nothing_seen 1 (lines_of text) fault h.1)
 
 pub faults_refused : FaultyTextsAreRefused
 unfolding events_of

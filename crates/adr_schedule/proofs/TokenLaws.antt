@@ -1,27 +1,31 @@
 -- A token that is spelled is read, and one that was read is spelled.
-use Rattle.std.proofs.Common.{◌≡◌, ◌⊎◌, ℕ, suc, ◌+◌, ◌<◌, Bool, true, false, not, cond, List, [], ◌∷◌, ◌++◌, length, take, drop, Some, None, refl, sym, ap, subst, ◌∙◌, inl, inr, arith}
+use Rattle.std.proofs.Common.{◌≡◌, ◌⊎◌, ℕ, suc, ◌+◌, ◌<◌, Bool, true, false, not, cond, List, [], ◌∷◌, length, Some, None, refl, sym, ap, subst, ◌∙◌, inl, inr, arith}
 use Rattle.std.specs.Prelude.{nat_le, codes}
 use Rattle.std.specs.Fmt.{decimal}
 use Rattle.std.specs.List.{position_or_len}
 use Rattle.std.specs.Str.{bytes_eq}
 use Rattle.std.proofs.lemmas.Bool.{and_parts, leb-true}
 use Rattle.std.proofs.lemmas.Bool.Decides.{nat_tests}
-use Rattle.std.proofs.lemmas.List.{take-append-drop}
 use Rattle.std.proofs.lemmas.Slice.Eq.{bytes_eq-Decides}
-use Rattle.adr_schema.specs.Schemas.{schema_1}
-use Rattle.adr_schema.specs.declared.content.Value.TheVariants.{Text}
-use Rattle.adr_token.specs.Words.{is_space, unspaced, said, prefix_at, word_at, name_at}
+use Rattle.adr_schema.specs.Assignments.{Given}
+use Rattle.adr_schema.specs.declared.content.Value.{Value as Item}
+use Rattle.adr_token.specs.Words.{is_space, unspaced, said, word_at, name_at}
 use Rattle.adr_token.specs.Numbers.{number_at}
 use Rattle.adr_token.specs.Identifiers.{identifier_at}
+use Rattle.adr_token.specs.Classes.{attribute_at, class_at}
 use Rattle.adr_token.specs.Texts.{text_at}
+use Rattle.adr_token.specs.Values.{set_at}
 use Rattle.adr_token.specs.Laws.{IsIdentifier, Stands, full_token}
-use Rattle.adr_token.specs.Spelling.{attribute_token, class_token, identifier_token, text_token}
-use Rattle.adr_token.proofs.WordLaws.{bind_some, if_some, is_spaceless, name_graphic, names_again, names_spelled, word_again, word_was}
+use Rattle.adr_token.specs.Spelling.{identifier_token, text_token}
+use Rattle.adr_token.proofs.WordLaws.{bind_some, if_some, is_spaceless, names_again, names_spelled, word_again, word_was}
 use Rattle.adr_token.proofs.DigitLaws.{numbers_again, numbers_spelled}
 use Rattle.adr_token.proofs.IdentifierLaws.{identifiers_again, identifiers_spelled}
 use Rattle.adr_token.proofs.TextLaws.{texts_again, texts_spelled}
-use Rattle.adr_schedule.specs.Commands.{IsLimit, bound_at, is_limit, limit_at}
-use Rattle.adr_schedule.specs.Grammar.{Word, Name, Number, Identifier, Class, Quoted, Set, IsNext}
+use Rattle.adr_token.proofs.ClassLaws.{classes_again, classes_spelled, attributes_again, attributes_spelled}
+use Rattle.adr_token.proofs.SetLaws.{sets_again, sets_spelled}
+use Rattle.adr_schedule.specs.Limits.{ask_limit}
+use Rattle.adr_schedule.specs.Commands.{bound_at, is_limit, limit_at}
+use Rattle.adr_schedule.specs.Grammar.{Word, Name, Number, Identifier, Class, Attribute, Quoted, Set, IsLimit, IsNext}
 
 -- spaces in front say nothing
 space_skips : (b : ℕ) (bs : List ℕ) → is_space b ≡ true → unspaced (b ∷ bs) ≡ unspaced bs
@@ -86,6 +90,27 @@ identifier_by id bytes rest spelled h (inr e) w =
 pub identifier_read : (id bytes rest : List ℕ) → IsNext (Identifier id) bytes rest → identifier_at bytes ≡ Some (id, rest)
 identifier_read id bytes rest w = identifier_by id bytes rest w.0 w.1.0 w.1.1 w.2
 
+class_spaced : (bytes : List ℕ) → class_at (unspaced bytes) ≡ class_at bytes
+unfolding class_at
+class_spaced bytes = rw (word_spaced bytes) refl
+
+attribute_spaced : (bytes : List ℕ) → attribute_at (unspaced bytes) ≡ attribute_at bytes
+unfolding attribute_at
+attribute_spaced bytes = rw (word_spaced bytes) refl
+
+set_spaced : (bytes : List ℕ) → set_at (unspaced bytes) ≡ set_at bytes
+unfolding set_at
+set_spaced bytes = rw (unspaced_again bytes) refl
+
+pub class_read : (class : ℕ) (bytes rest : List ℕ) → IsNext (Class class) bytes rest → class_at bytes ≡ Some (class, rest)
+class_read class bytes rest w = sym (class_spaced bytes) ∙ ap class_at w.2.0 ∙ classes_again class w.0 rest w.1 w.2.1
+
+pub attribute_read : (attr : ℕ) (bytes rest : List ℕ) → IsNext (Attribute attr) bytes rest → attribute_at bytes ≡ Some (attr, rest)
+attribute_read attr bytes rest w = sym (attribute_spaced bytes) ∙ ap attribute_at w.2.0 ∙ attributes_again attr w.0 rest w.1 w.2.1
+
+pub set_read : (attr : ℕ) (values : List Item) (bytes rest : List ℕ) → IsNext (Set attr values) bytes rest → set_at bytes ≡ Some ((attr, values), rest)
+set_read attr values bytes rest w = sym (set_spaced bytes) ∙ ap set_at w.2.0 ∙ sets_again attr values w.0 rest w.1 w.2.1
+
 pub text_read : (text bytes rest : List ℕ) → IsNext (Quoted text) bytes rest → text_at (unspaced bytes) ≡ Some (text, rest)
 text_read text bytes rest w =
     let s = stands_as w.0 (text_token text) bytes rest w.1.1 w.2 in
@@ -102,28 +127,6 @@ pub bound_read : (name bytes between rest : List ℕ) → IsNext (Word (codes "a
 unfolding bound_at said
 bound_read name bytes between rest w n = rw (word_read (codes "as") bytes between refl (omega arith) w, name_read name between rest n) refl
 
-pub user_read : (bytes rest : List ℕ) → IsNext (Class 5) bytes rest → word_at bytes ≡ Some (codes "user", rest)
-unfolding class_token schema_1
-user_read bytes rest w = word_read (codes "user") bytes rest refl (omega arith) w
-
-pub container_read : (bytes rest : List ℕ) → IsNext (Class 4) bytes rest → word_at bytes ≡ Some (codes "container", rest)
-unfolding class_token schema_1
-container_read bytes rest w = word_read (codes "container") bytes rest refl (omega arith) w
-
--- an account name: what stands before the text, and the text
-account_spelled : (value rest list : List ℕ) → list ≡ text_token value → (attribute_token 10 ++ codes "=" ++ list) ++ rest ≡ codes "sAMAccountName=" ++ (text_token value ++ rest)
-unfolding attribute_token schema_1
-account_spelled value rest list e = ap (λ (bs : List ℕ). codes "sAMAccountName=" ++ (bs ++ rest)) e
-
-account_stands : (value bytes rest : List ℕ) → IsNext (Set 10 (Text value ∷ [])) bytes rest → unspaced bytes ≡ codes "sAMAccountName=" ++ (text_token value ++ rest)
-account_stands value bytes rest w = w.2.0 ∙ ap (λ (bs : List ℕ). bs ++ rest) w.1.2 ∙ account_spelled value rest w.1.0 w.1.1.1
-
-pub set_read : (value bytes rest : List ℕ) → IsNext (Set 10 (Text value ∷ [])) bytes rest → prefix_at (codes "sAMAccountName=") (unspaced bytes) ≡ Some (tt, text_token value ++ rest)
-set_read value bytes rest w = ap (prefix_at (codes "sAMAccountName=")) (account_stands value bytes rest w)
-
-pub value_read : (value bytes rest : List ℕ) → IsNext (Set 10 (Text value ∷ [])) bytes rest → text_at (text_token value ++ rest) ≡ Some (value, rest)
-value_read value bytes rest w = texts_again value rest w.1.1.0 w.2.1
-
 -- a token that was read is spelled
 abbrev pub Read : Type 0
 Read = List ℕ × List ℕ
@@ -136,9 +139,6 @@ word_next word bytes t h e = (t.0, same_bytes t.0 word e, word_was bytes t.0 t.1
 
 pub name_next : (bytes : List ℕ) (t : Read) → name_at bytes ≡ Some t → IsNext (Name t.0) bytes t.1
 name_next bytes t h = let w = names_spelled bytes t.0 t.1 h in (t.0, (w.0, refl), w.1)
-
-pub named : (bytes : List ℕ) (t : Read) → name_at bytes ≡ Some t → 0 < length t.0
-named bytes t h = (name_graphic t.0 (names_spelled bytes t.0 t.1 h).0).1
 
 pub number_next : (bytes : List ℕ) (t : ℕ × List ℕ) → number_at bytes ≡ Some t → IsNext (Number t.0) bytes t.1
 number_next bytes t h = let w = numbers_spelled bytes t.0 t.1 h in (decimal t.0, (w.0, refl), w.1)
@@ -158,7 +158,7 @@ abbrev Limited : ℕ × List ℕ → List ℕ → Type 0
 Limited t bytes = IsLimit t.0 × IsNext (Number t.0) bytes t.1
 
 limit_small : (n : ℕ) → is_limit n ≡ true → IsLimit n
-limit_small n h = let p = and_parts (nat_le 1 n) (nat_le n 10000) h in (leb-true 1 n p.0, leb-true n 10000 p.1)
+limit_small n h = let p = and_parts (nat_le 1 n) (nat_le n ask_limit) h in (leb-true 1 n p.0, leb-true n ask_limit p.1)
 
 pub limit_next : (bytes : List ℕ) (t : ℕ × List ℕ) → limit_at bytes ≡ Some t → IsLimit t.0 × IsNext (Number t.0) bytes t.1
 unfolding limit_at
@@ -168,9 +168,6 @@ limit_next bytes t h =
     subst (λ (x : ℕ × List ℕ). Limited x bytes) w.1 (limit_small s.0.0 w.0, number_next bytes s.0 s.1)
 
 -- a name behind `as`
-abbrev Bound : Read → List ℕ → Type 0
-Bound t bytes = (0 < length t.0) × ((between : List ℕ) × IsNext (Word (codes "as")) bytes between × IsNext (Name t.0) between t.1)
-
 said_next : (what bytes : List ℕ) (t : Unit {0} × List ℕ) → said what bytes ≡ Some t → IsNext (Word what) bytes t.1
 unfolding said
 said_next what bytes t h =
@@ -179,33 +176,17 @@ said_next what bytes t h =
     let last : s.0.1 ≡ t.1 = ap (λ (x : Unit {0} × List ℕ). x.1) w.1 in
     subst (λ (rest : List ℕ). IsNext (Word what) bytes rest) last (word_next what bytes s.0 s.1 w.0)
 
-pub bound_next : (bytes : List ℕ) (t : Read) → bound_at bytes ≡ Some t → (0 < length t.0) × ((between : List ℕ) × IsNext (Word (codes "as")) bytes between × IsNext (Name t.0) between t.1)
+pub bound_next : (bytes : List ℕ) (t : Read) → bound_at bytes ≡ Some t → (between : List ℕ) × IsNext (Word (codes "as")) bytes between × IsNext (Name t.0) between t.1
 unfolding bound_at
 bound_next bytes t h =
     let s = bind_some (said (codes "as") bytes) (λ word. name_at word.1) t h in
-    (named s.0.1 t s.2, (s.0.1, said_next (codes "as") bytes s.0 s.1, name_next s.0.1 t s.2))
+    (s.0.1, said_next (codes "as") bytes s.0 s.1, name_next s.0.1 t s.2)
 
-pub user_next : (bytes : List ℕ) (t : Read) → word_at bytes ≡ Some t → bytes_eq t.0 (codes "user") ≡ true → IsNext (Class 5) bytes t.1
-unfolding class_token schema_1
-user_next bytes t h e = word_next (codes "user") bytes t h e
+pub class_next : (bytes : List ℕ) (t : ℕ × List ℕ) → class_at bytes ≡ Some t → IsNext (Class t.0) bytes t.1
+class_next bytes t h = classes_spelled bytes t.0 t.1 h
 
-pub container_next : (bytes : List ℕ) (t : Read) → word_at bytes ≡ Some t → bytes_eq t.0 (codes "container") ≡ true → IsNext (Class 4) bytes t.1
-unfolding class_token schema_1
-container_next bytes t h e = word_next (codes "container") bytes t h e
+pub attribute_next : (bytes : List ℕ) (t : ℕ × List ℕ) → attribute_at bytes ≡ Some t → IsNext (Attribute t.0) bytes t.1
+attribute_next bytes t h = attributes_spelled bytes t.0 t.1 h
 
-prefix_was : (front bytes : List ℕ) (t : Unit {0} × List ℕ) → prefix_at front bytes ≡ Some t → bytes ≡ front ++ t.1
-prefix_was front bytes t h =
-    let w = if_some (bytes_eq (take (length front) bytes) front) (tt, drop (length front) bytes) t h in
-    let begins : take (length front) bytes ≡ front = same_bytes _ front w.0 in
-    let ends : drop (length front) bytes ≡ t.1 = ap (λ (x : Unit {0} × List ℕ). x.1) w.1 in
-    sym (take-append-drop (length front) bytes) ∙ rw (begins, ends) refl
-
-pub account_next : (bytes : List ℕ) (set : Unit {0} × List ℕ) (value : Read) → prefix_at (codes "sAMAccountName=") (unspaced bytes) ≡ Some set → text_at set.1 ≡ Some value
-    → IsNext (Set 10 (Text value.0 ∷ [])) bytes value.1
-account_next bytes set value p h =
-    let w = texts_spelled set.1 value.0 value.1 h in
-    let front = prefix_was (codes "sAMAccountName=") (unspaced bytes) set p in (
-      attribute_token 10 ++ codes "=" ++ text_token value.0,
-      (text_token value.0, (w.0, refl), refl),
-      (front ∙ ap (λ (bs : List ℕ). codes "sAMAccountName=" ++ bs) w.1 ∙ sym (account_spelled value.0 value.1 (text_token value.0) refl), w.2),
-    )
+pub set_next : (bytes : List ℕ) (t : Given × List ℕ) → set_at bytes ≡ Some t → IsNext (Set t.0.0 t.0.1) bytes t.1
+set_next bytes t h = sets_spelled bytes t.0.0 t.0.1 t.1 h

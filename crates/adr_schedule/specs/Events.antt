@@ -6,9 +6,10 @@ use Rattle.adr_event.specs.declared.event.Event.{Event}
 use Rattle.adr_schedule.specs.declared.fault.Cause.{Cause}
 use Rattle.adr_schedule.specs.declared.fault.Cause.TheVariants.{NotUtf8, NoCommand, TooLong}
 use Rattle.adr_schedule.specs.declared.fault.ScheduleFault.{ScheduleFault}
+use Rattle.adr_schedule.specs.Limits.{text_limit}
 use Rattle.adr_schedule.specs.Lines.{lines_of}
 use Rattle.adr_schedule.specs.Commands.{event_of, is_passed}
-use Rattle.adr_schedule.specs.Seen.{Seen, nothing_seen, cause_after, seen_after, IsFollowing}
+use Rattle.adr_schedule.specs.Seen.{Seen, nothing_seen, cause_after, seen_after}
 
 abbrev pub unless : Option Cause → Event → Result (Option Event) Cause
 unless None event = Ok (Some event)
@@ -32,7 +33,7 @@ seen_with seen (Some event) = seen_after seen event
 -- what a line says goes to the events, and what it binds and gives to what was seen
 abbrev pub IsToldBy : Seen → List ℕ → Seen → List Event → List Event → Type 0
 IsToldBy seen line next events grown =
-    (told : Option Event) × (line_after seen line ≡ Ok told) × (next ≡ seen_with seen told) × IsFollowing seen (option_to_list told) × (grown ≡ events ++ option_to_list told)
+    (told : Option Event) × (line_after seen line ≡ Ok told) × (next ≡ seen_with seen told) × (grown ≡ events ++ option_to_list told)
 
 abbrev pub bad : ℕ → Cause → Result (List Event) ScheduleFault
 bad line cause = Err (record { line = line; cause = cause })
@@ -54,4 +55,4 @@ events_from seen number (line ∷ lines) = on_line number seen (line_after seen 
 
 -- the events of a text, or its first bad line
 unfoldable pub events_of : List ℕ → Result (List Event) ScheduleFault
-events_of text = if nat_lt 16777216 (length text) then bad 0 TooLong else events_from nothing_seen 1 (lines_of text)
+events_of text = if nat_lt text_limit (length text) then bad 0 TooLong else events_from nothing_seen 1 (lines_of text)

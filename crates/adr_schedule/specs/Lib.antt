@@ -1,5 +1,8 @@
+pub mod Limits
 pub mod Faults
 pub mod Lines
+pub mod Verbs
+pub mod Sets
 pub mod Commands
 pub mod Grammar
 pub mod Seen

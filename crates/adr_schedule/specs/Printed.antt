@@ -6,7 +6,9 @@ use Rattle.adr_event.specs.declared.event.Event.{Event}
 use Rattle.adr_token.specs.Spelling.{attribute_token, class_token, identifier_token, set_token, text_token}
 use Rattle.adr_schedule.specs.declared.printing.Token.{Token as Piece}
 use Rattle.adr_schedule.specs.declared.printing.Token.TheVariants as pieces
-use Rattle.adr_schedule.specs.Grammar.{Token, Word, Name, Number, Identifier, Class, Attribute, Quoted, Set, sets, tokens_of}
+use Rattle.adr_schedule.specs.Limits.{text_limit}
+use Rattle.adr_schedule.specs.Grammar.{Token, Word, Name, Number, Identifier, Class, Attribute, Quoted, Set, sets, tokens_of, IsAllowed, Spells}
+use Rattle.adr_schedule.specs.Seen.{nothing_seen, IsFollowing}
 use Rattle.adr_schedule.specs.Events.{events_of}
 
 -- a token as it is written: an identifier in its short form, if it has one
@@ -49,7 +51,15 @@ line_of event = joined (map token_text (tokens_of event))
 abbrev pub printed : List Event → List ℕ
 printed events = flat_map (λ event. line_of event ++ codes "\n") events
 
--- the events of any text are those of their printed form, where that isn't too long
+-- an event that some line says is said by its printed line
+abbrev pub AllowedEventsHaveLines : Type 0
+AllowedEventsHaveLines = (event : Event) → IsAllowed event → Spells (line_of event) event
+
+-- events that may follow one another are those of their printed form, where that isn't too long
+abbrev pub PrintedEventsAreRead : Type 0
+PrintedEventsAreRead = (events : List Event) → IsFollowing nothing_seen events → length (printed events) ≤ text_limit → events_of (printed events) ≡ Ok events
+
+-- so are the events of any text
 abbrev pub EventsAreReadAgain : Type 0
-EventsAreReadAgain = (text : List ℕ) (events : List Event) → events_of text ≡ Ok events → length (printed events) ≤ 16777216
+EventsAreReadAgain = (text : List ℕ) (events : List Event) → events_of text ≡ Ok events → length (printed events) ≤ text_limit
     → events_of (printed events) ≡ Ok events

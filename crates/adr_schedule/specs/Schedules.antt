@@ -5,6 +5,7 @@ use Rattle.adr_event.specs.declared.event.Event.{Event}
 use Rattle.adr_schedule.specs.declared.fault.Cause.{Cause}
 use Rattle.adr_schedule.specs.declared.fault.Cause.TheVariants.{NotUtf8, NoCommand, TooLong}
 use Rattle.adr_schedule.specs.declared.fault.ScheduleFault.{ScheduleFault}
+use Rattle.adr_schedule.specs.Limits.{text_limit}
 use Rattle.adr_schedule.specs.Lines.{lines_of}
 use Rattle.adr_schedule.specs.Commands.{is_passed}
 use Rattle.adr_schedule.specs.Grammar.{Spells}
@@ -25,9 +26,9 @@ LinesSay seen (line ∷ lines) events =
     ((is_passed line ≡ true) × LinesSay seen lines events)
     ⊎ ((event : Event) × (more : List Event) × Says seen line event × LinesSay (seen_after seen event) lines more × (events ≡ event ∷ more))
 
--- a text says some events: it has at most 16 MiB, and its lines say them
+-- a text says some events: it isn't too long, and its lines say them
 abbrev pub IsSchedule : List ℕ → List Event → Type 0
-IsSchedule text events = (length text ≤ 16777216) × LinesSay nothing_seen (lines_of text) events
+IsSchedule text events = (length text ≤ text_limit) × LinesSay nothing_seen (lines_of text) events
 
 -- why a line is bad, the first of the causes in their order
 abbrev pub IsCause : Seen → List ℕ → Cause → Type 0
@@ -46,8 +47,8 @@ IsFirstFault seen number (line ∷ lines) fault =
 -- the fault of a text that is no schedule
 abbrev pub IsFault : List ℕ → ScheduleFault → Type 0
 IsFault text fault =
-    ((16777216 < length text) × (fault ≡ record { line = 0; cause = TooLong }))
-    ⊎ ((length text ≤ 16777216) × IsFirstFault nothing_seen 1 (lines_of text) fault)
+    ((text_limit < length text) × (fault ≡ record { line = 0; cause = TooLong }))
+    ⊎ ((length text ≤ text_limit) × IsFirstFault nothing_seen 1 (lines_of text) fault)
 
 abbrev pub SchedulesAreRead : Type 0
 SchedulesAreRead = (text : List ℕ) (events : List Event) → IsSchedule text events → events_of text ≡ Ok events

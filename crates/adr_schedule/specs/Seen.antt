@@ -1,12 +1,15 @@
 -- What earlier lines bound and gave, and whether an event may follow them.
-use Rattle.std.specs.Prelude.{◌≡◌, ℕ, List, [], ◌∷◌, ◌++◌, length, Bool, true, false, not, ◌||◌, nat_le, Option, Some, None}
+use Rattle.std.specs.Prelude.{◌≡◌, ℕ, List, [], ◌∷◌, ◌++◌, length, Bool, not, ◌||◌, nat_le, Option, Some, None}
+use Rattle.std.specs.Bool.{then_some}
 use Rattle.std.specs.List.{list_any}
 use Rattle.std.specs.Str.{bytes_eq}
+use Rattle.adr_failure.specs.First.{first_of}
 use Rattle.adr_event.specs.declared.event.Event.{Event}
-use Rattle.adr_event.specs.declared.event.Event.TheVariants.{Controller, Time, Add, Ask, Serve, Deliver, Pull, Cycle, Show, Vector, Marks}
+use Rattle.adr_event.specs.declared.event.Event.TheVariants.{Controller, Time, Add, Modify, Rename, Delete, Link, Unlink, Ask, Serve, Deliver, Pull, Cycle, Show, Vector, Marks}
 use Rattle.adr_schedule.specs.declared.fault.Cause.{Cause}
 use Rattle.adr_schedule.specs.declared.fault.Cause.TheVariants.{NoCommand, UnknownName, NameUsed, IdentifierUsed, TooMany}
-use Rattle.adr_schedule.specs.Commands.{IsAllowed}
+use Rattle.adr_schedule.specs.Limits.{controller_limit}
+use Rattle.adr_schedule.specs.Grammar.{IsAllowed}
 
 -- the names that lines bound, by kind, and the identifiers that they gave, in order
 pub record Seen : Type 0 where
@@ -22,44 +25,39 @@ nothing_seen = record { controllers = []; requests = []; replies = []; dsas = []
 abbrev pub is_bound : List (List ℕ) → List ℕ → Bool
 is_bound names name = list_any (λ bound. bytes_eq bound name) names
 
-abbrev pub when : Bool → Cause → Option Cause
-when true cause = Some cause
-when false cause = None
-
--- the first of some causes, if there is one
-abbrev pub first_cause : List (Option Cause) → Option Cause
-first_cause [] = None
-first_cause (None ∷ causes) = first_cause causes
-first_cause (Some cause ∷ causes) = Some cause
-
 -- a name that a line uses was bound
 abbrev pub unless_bound : List (List ℕ) → List ℕ → Option Cause
-unless_bound names name = when (not (is_bound names name)) UnknownName
+unless_bound names name = then_some (not (is_bound names name)) UnknownName
 
 -- a name that a line binds was bound before
 abbrev pub if_bound : List (List ℕ) → List ℕ → Option Cause
-if_bound names name = when (is_bound names name) NameUsed
+if_bound names name = then_some (is_bound names name) NameUsed
 
 -- an identifier that a line gives was given before
 abbrev pub if_given : Seen → List ℕ → List ℕ → Option Cause
-if_given seen dsa inv = when (is_bound seen.dsas dsa || is_bound seen.invs inv) IdentifierUsed
+if_given seen dsa inv = then_some (is_bound seen.dsas dsa || is_bound seen.invs inv) IdentifierUsed
 
--- there are 64 controllers
+-- there are as many controllers as there may be
 abbrev pub if_full : Seen → Option Cause
-if_full seen = when (nat_le 64 (length seen.controllers)) TooMany
+if_full seen = then_some (nat_le controller_limit (length seen.controllers)) TooMany
 
 -- why an event may not follow, if it may not
 abbrev pub cause_after : Seen → Event → Option Cause
-cause_after seen (Controller name dsa inv) = first_cause (if_bound seen.controllers name ∷ if_given seen dsa inv ∷ if_full seen ∷ [])
+cause_after seen (Controller name dsa inv) = first_of (if_bound seen.controllers name ∷ if_given seen dsa inv ∷ if_full seen ∷ [])
 cause_after seen (Time now) = None
 cause_after seen (Add name guid class parent text values) = unless_bound seen.controllers name
+cause_after seen (Modify name guid values) = unless_bound seen.controllers name
+cause_after seen (Rename name guid parent text) = unless_bound seen.controllers name
+cause_after seen (Delete name guid) = unless_bound seen.controllers name
+cause_after seen (Link name from attr to) = unless_bound seen.controllers name
+cause_after seen (Unlink name from attr to) = unless_bound seen.controllers name
 cause_after seen (Ask name partner max bound) =
-    first_cause (unless_bound seen.controllers name ∷ unless_bound seen.controllers partner ∷ if_bound seen.requests bound ∷ [])
+    first_of (unless_bound seen.controllers name ∷ unless_bound seen.controllers partner ∷ if_bound seen.requests bound ∷ [])
 cause_after seen (Serve name request bound) =
-    first_cause (unless_bound seen.controllers name ∷ unless_bound seen.requests request ∷ if_bound seen.replies bound ∷ [])
-cause_after seen (Deliver name reply) = first_cause (unless_bound seen.controllers name ∷ unless_bound seen.replies reply ∷ [])
-cause_after seen (Pull name source max) = first_cause (unless_bound seen.controllers name ∷ unless_bound seen.controllers source ∷ [])
-cause_after seen (Cycle name source max) = first_cause (unless_bound seen.controllers name ∷ unless_bound seen.controllers source ∷ [])
+    first_of (unless_bound seen.controllers name ∷ unless_bound seen.requests request ∷ if_bound seen.replies bound ∷ [])
+cause_after seen (Deliver name reply) = first_of (unless_bound seen.controllers name ∷ unless_bound seen.replies reply ∷ [])
+cause_after seen (Pull name source max) = first_of (unless_bound seen.controllers name ∷ unless_bound seen.controllers source ∷ [])
+cause_after seen (Cycle name source max) = first_of (unless_bound seen.controllers name ∷ unless_bound seen.controllers source ∷ [])
 cause_after seen (Show name) = unless_bound seen.controllers name
 cause_after seen (Vector name) = unless_bound seen.controllers name
 cause_after seen (Marks name) = unless_bound seen.controllers name

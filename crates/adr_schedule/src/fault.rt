@@ -1,11 +1,5 @@
 //! Why a text is no schedule.
 
-ghost use Rattle.std.specs.Prelude.{◌≡◌};
-ghost use Rattle.adr_token.specs.declared.stop.Stop.{Stop as Stopped};
-ghost use Rattle.adr_schedule.specs.Faults.{line_refusal};
-
-use adr_token::Stop;
-
 /// What is wrong with a line.
 #[derive(Clone, Copy, PartialEq, Eq)]
 pub enum Cause {
@@ -29,28 +23,4 @@ pub enum Cause {
 pub struct ScheduleFault {
     pub line: u32,
     pub cause: Cause,
-}
-
-#[derive(Clone, Copy, PartialEq, Eq)]
-pub enum ParseRefusal {
-    Bad(ScheduleFault),
-    NoMemory,
-}
-
-/// Why one line was refused.
-#[derive(Clone, Copy)]
-pub enum LineRefusal {
-    Bad(Cause),
-    NoMemory,
-}
-
-impl From<Stop> for LineRefusal {
-    ghost from_gives = { λ stop refusal. refusal ≡ line_refusal stop };
-
-    fn from(stop: Stop) -> LineRefusal {
-        match stop {
-            Stop::Bad => LineRefusal::Bad(Cause::NoCommand),
-            Stop::NoMemory => LineRefusal::NoMemory,
-        }
-    }
 }

@@ -1,14 +1,15 @@
 //! The laws of lines and of texts.
 
-ghost use Rattle.adr_schedule.specs.Grammar.{SpelledLinesAreRead, LinesWereSpelled, LinesSpellOneEvent};
+ghost use Rattle.adr_schedule.specs.Grammar.{SpelledLinesAreRead, LinesWereSpelled, LinesSpellOneEvent, SpelledEventsAreAllowed};
 ghost use Rattle.adr_schedule.specs.Schedules.{SchedulesAreRead, ReadTextsAreSchedules, FaultyTextsAreRefused, RefusedTextsHaveTheFault};
-ghost use Rattle.adr_schedule.specs.Printed.{EventsAreReadAgain};
+ghost use Rattle.adr_schedule.specs.Printed.{AllowedEventsHaveLines, PrintedEventsAreRead, EventsAreReadAgain};
 
 /// A line is read as an event exactly where the grammar spells that event so.
 pub fn lines_read_back()
     ensures again { SpelledLinesAreRead }
     ensures only { LinesWereSpelled }
     ensures one { LinesSpellOneEvent }
+    ensures allowed { SpelledEventsAreAllowed }
 {}
 
 /// A text is read as events exactly where its lines say them, one after the other.
@@ -23,7 +24,9 @@ pub fn faults_read_back()
     ensures only { RefusedTextsHaveTheFault }
 {}
 
-/// The events of a text are read again from their printed form.
+/// Events are read again from their printed form, and so are those of a text.
 pub fn events_are_read_again()
-    ensures { EventsAreReadAgain }
+    ensures lines { AllowedEventsHaveLines }
+    ensures printed { PrintedEventsAreRead }
+    ensures again { EventsAreReadAgain }
 {}

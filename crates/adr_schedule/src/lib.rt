@@ -6,17 +6,18 @@
 mod commands;
 mod fault;
 mod laws;
+mod limits;
 mod lines;
 mod names;
 mod parsing;
 mod printing;
 mod seen;
+mod sets;
+mod verb;
 
-pub use adr_event::Event;
-pub use fault::{Cause, ParseRefusal, ScheduleFault};
+pub use adr_event::{Event, Failure};
+pub use fault::{Cause, ScheduleFault};
 pub use laws::{events_are_read_again, faults_read_back, lines_read_back, schedules_read_back};
+pub use limits::TEXT_LIMIT;
 pub use parsing::parse;
 pub use printing::print;
-
-#[cfg(test)]
-mod tests;

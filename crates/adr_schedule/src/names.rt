@@ -3,7 +3,8 @@
 ghost use Rattle.std.specs.Prelude.{◌≡◌, false, [], ◌∷◌, ◌++◌, length, OnOk, IfErr};
 ghost use Rattle.adr_schedule.specs.Seen.{is_bound};
 
-use crate::fault::LineRefusal;
+use crate::fault::Cause;
+use adr_event::Failure;
 use adr_schema::Text;
 use indexmap::IndexSet;
 use std::alloc::Global;
@@ -47,17 +48,17 @@ impl Names {
     }
 
     /// Binds a name. After an error it isn't said what is bound.
-    pub fn bind(&mut self, alloc: Global, name: &Text) -> Result<(), LineRefusal>
+    pub fn bind(&mut self, alloc: Global, name: &Text) -> Result<(), Failure<Cause>>
         requires { is_bound self.old name.now ≡ false }
         ensures bound { OnOk result (self.new ≡ self.old ++ name.now ∷ []) }
-        ensures memory { IfErr result (λ refusal. refusal ≡ LineRefusal.NoMemory) }
+        ensures memory { IfErr result (λ failure. failure ≡ Failure.NoMemory) }
     {
         let Ok(name) = String::from_str(alloc, name.as_str()) else {
-            return Err(LineRefusal::NoMemory);
+            return Err(Failure::NoMemory);
         };
         match self.set.insert(name) {
             Ok(_) => Ok(()),
-            Err(_) => Err(LineRefusal::NoMemory),
+            Err(_) => Err(Failure::NoMemory),
         }
     }
 }

@@ -2,15 +2,17 @@
 
 ghost use Rattle.std.specs.Prelude.{◌≡◌, ◌≤◌, ℕ, List, [], Ok, Err, IfOk, IfErr, OnOk, ◌++◌, length};
 ghost use Rattle.std.specs.Option.{option_to_list};
-ghost use Rattle.adr_schedule.specs.Faults.{RefusesLine, Refuses};
+ghost use Rattle.adr_schedule.specs.Faults.{Refuses};
+ghost use Rattle.adr_schedule.specs.Limits.{text_limit};
 ghost use Rattle.adr_schedule.specs.Seen.{nothing_seen, IsFollowing};
 ghost use Rattle.adr_schedule.specs.Events.{IsToldBy, line_after, seen_with, events_of};
 
 use crate::commands::{event_of, is_passed};
-use crate::fault::{Cause, LineRefusal, ParseRefusal, ScheduleFault};
+use crate::fault::{Cause, ScheduleFault};
+use crate::limits::TEXT_LIMIT;
 use crate::lines::first_line;
 use crate::seen::Seen;
-use adr_event::Event;
+use adr_event::{Event, Failure};
 use adr_token::utf8;
 use std::alloc::Global;
 
@@ -18,32 +20,35 @@ use std::alloc::Global;
 fn discard(_event: Event) {}
 
 /// What one line says, after the earlier ones.
-fn line_after(alloc: Global, seen: &mut Seen, line: &[u8]) -> Result<Option<Event>, LineRefusal>
+fn line_after(alloc: Global, seen: &mut Seen, line: &[u8]) -> Result<Option<Event>, Failure<Cause>>
     ensures says { IfOk result (λ told. line_after seen.old line.now ≡ Ok told) }
     ensures seen { IfOk result (λ told. seen.new ≡ seen_with seen.old told) }
-    ensures follows { IfOk result (λ told. IsFollowing seen.old (option_to_list told)) }
-    ensures refused { IfErr result (λ refusal. RefusesLine refusal (line_after seen.old line.now)) }
+    ensures refused { IfErr result (λ failure. Refuses failure (line_after seen.old line.now)) }
 {
     if is_passed(line) {
         return Ok(None);
     }
     if utf8(line).is_none() {
-        return Err(LineRefusal::Bad(Cause::NotUtf8));
+        return Err(Failure::Refused(Cause::NotUtf8));
     }
-    let event = event_of(alloc, line)?;
+    let event = match event_of(alloc, line) {
+        Ok(event) => event,
+        Err(Failure::Refused(_)) => return Err(Failure::Refused(Cause::NoCommand)),
+        Err(Failure::NoMemory) => return Err(Failure::NoMemory),
+    };
     match seen.admit(alloc, &event) {
         Ok(()) => Ok(Some(event)),
-        Err(refusal) => {
+        Err(failure) => {
             discard(event);
-            Err(refusal)
+            Err(failure)
         }
     }
 }
 
 /// Adds the event, if there is one.
-fn keep(events: &mut Vec<Event>, told: Option<Event>) -> Result<(), LineRefusal>
+fn keep(events: &mut Vec<Event>, told: Option<Event>) -> Result<(), Failure<Cause>>
     ensures kept { OnOk result (events.new.items ≡ events.old.items ++ option_to_list told) }
-    ensures memory { IfErr result (λ refusal. refusal ≡ LineRefusal.NoMemory) }
+    ensures memory { IfErr result (λ failure. failure ≡ Failure.NoMemory) }
 {
     match told {
         None => Ok(()),
@@ -51,7 +56,7 @@ fn keep(events: &mut Vec<Event>, told: Option<Event>) -> Result<(), LineRefusal>
             Ok(()) => Ok(()),
             Err(failed) => {
                 discard(failed.value);
-                Err(LineRefusal::NoMemory)
+                Err(Failure::NoMemory)
             }
         },
     }
@@ -63,9 +68,9 @@ fn read_line(
     events: &mut Vec<Event>,
     seen: &mut Seen,
     line: &[u8],
-) -> Result<(), LineRefusal>
+) -> Result<(), Failure<Cause>>
     ensures told { OnOk result (IsToldBy seen.old line.now seen.new events.old.items events.new.items) }
-    ensures refused { IfErr result (λ refusal. RefusesLine refusal (line_after seen.old line.now)) }
+    ensures refused { IfErr result (λ failure. Refuses failure (line_after seen.old line.now)) }
 {
     let told = line_after(alloc, seen, line)?;
     keep(events, told)
@@ -78,13 +83,12 @@ fn read_lines(
     events: &mut Vec<Event>,
     seen: &mut Seen,
     text: &[u8],
-) -> Result<(), ParseRefusal>
+) -> Result<(), Failure<ScheduleFault>>
     requires none { events.old.items ≡ [] }
     requires fresh { seen.old ≡ nothing_seen }
-    requires short { length text.now ≤ 16777216 }
+    requires short { length text.now ≤ text_limit }
     ensures ok { OnOk result (events_of text.now ≡ Ok events.new.items) }
-    ensures follows { OnOk result (IsFollowing nothing_seen events.new.items) }
-    ensures bad { IfErr result (λ refusal. Refuses refusal (events_of text.now)) }
+    ensures bad { IfErr result (λ failure. Refuses failure (events_of text.now)) }
 {
     let mut rest = text;
     let mut number = 1u32;
@@ -92,13 +96,13 @@ fn read_lines(
         let (line, after) = first_line(rest);
         match read_line(alloc, events, seen, line) {
             Ok(()) => {}
-            Err(LineRefusal::Bad(cause)) => {
-                return Err(ParseRefusal::Bad(ScheduleFault {
+            Err(Failure::Refused(cause)) => {
+                return Err(Failure::Refused(ScheduleFault {
                     line: number,
                     cause,
                 }));
             }
-            Err(LineRefusal::NoMemory) => return Err(ParseRefusal::NoMemory),
+            Err(Failure::NoMemory) => return Err(Failure::NoMemory),
         }
         rest = after;
         number += 1;
@@ -108,14 +112,17 @@ fn read_lines(
 
 /// Adds the events of a text to none, unless the text is too long.
 #[tactic(auto, unfolding(crate::specs::Events::events_of))]
-fn read_text(alloc: Global, events: &mut Vec<Event>, text: &[u8]) -> Result<(), ParseRefusal>
+fn read_text(
+    alloc: Global,
+    events: &mut Vec<Event>,
+    text: &[u8],
+) -> Result<(), Failure<ScheduleFault>>
     requires { events.old.items ≡ [] }
     ensures ok { OnOk result (events_of text.now ≡ Ok events.new.items) }
-    ensures follows { OnOk result (IsFollowing nothing_seen events.new.items) }
-    ensures bad { IfErr result (λ refusal. Refuses refusal (events_of text.now)) }
+    ensures bad { IfErr result (λ failure. Refuses failure (events_of text.now)) }
 {
-    if text.len() > 16_777_216 {
-        return Err(ParseRefusal::Bad(ScheduleFault {
+    if text.len() > TEXT_LIMIT {
+        return Err(Failure::Refused(ScheduleFault {
             line: 0,
             cause: Cause::TooLong,
         }));
@@ -125,10 +132,10 @@ fn read_text(alloc: Global, events: &mut Vec<Event>, text: &[u8]) -> Result<(), 
 }
 
 /// The events of a text, or its first bad line.
-pub fn parse(alloc: Global, text: &[u8]) -> Result<Vec<Event>, ParseRefusal>
+pub fn parse(alloc: Global, text: &[u8]) -> Result<Vec<Event>, Failure<ScheduleFault>>
     ensures ok { IfOk result (λ events. events_of text.now ≡ Ok events.items) }
     ensures follows { IfOk result (λ events. IsFollowing nothing_seen events.items) }
-    ensures bad { IfErr result (λ refusal. Refuses refusal (events_of text.now)) }
+    ensures bad { IfErr result (λ failure. Refuses failure (events_of text.now)) }
 {
     let mut events = Vec::new(alloc);
     read_text(alloc, &mut events, text)?;

@@ -43,7 +43,8 @@ fn push_token(alloc: Global, out: &mut Vec<u8>, token: &Token<'_>) -> Result<(),
 
 /// Adds tokens, each behind a space.
 fn push_tokens(alloc: Global, out: &mut Vec<u8>, tokens: &[Token<'_>]) -> Result<(), NoMemory>
-    ensures { OnOk result (out.new.items ≡ out.old.items ++ spaced (map (λ token. token_text (token_of token)) tokens.now)) }
+    ensures { OnOk result (out.new.items
+        ≡ out.old.items ++ spaced (map (λ token. token_text (token_of token)) tokens.now)) }
 {
     for token in tokens {
         push(out, b" ")?;
@@ -59,7 +60,8 @@ fn push_words(
     verb: &[u8],
     tokens: &[Token<'_>],
 ) -> Result<(), NoMemory>
-    ensures { OnOk result (out.new.items ≡ out.old.items ++ (verb.now ++ spaced (map (λ token. token_text (token_of token)) tokens.now))) }
+    ensures { OnOk result (out.new.items
+        ≡ out.old.items ++ (verb.now ++ spaced (map (λ token. token_text (token_of token)) tokens.now))) }
 {
     push(out, verb)?;
     push_tokens(alloc, out, tokens)
@@ -108,7 +110,11 @@ fn push_add<'a>(
     text: &'a Text,
     values: &Assignments,
 ) -> Result<(), NoMemory>
-    ensures { OnOk result (out.new.items ≡ out.old.items ++ (codes "add" ++ spaced (name.now ∷ identifier_token guid ∷ class_token class ∷ identifier_token parent ∷ text_token text.now ∷ set_tokens values.now))) }
+    ensures { OnOk result (out.new.items
+        ≡ out.old.items
+        ++ (codes "add"
+        ++ spaced (name.now ∷ identifier_token guid ∷ class_token class ∷ identifier_token parent
+        ∷ text_token text.now ∷ set_tokens values.now))) }
 {
     let tokens = [
         Token::Name(name),
@@ -128,7 +134,8 @@ fn push_modify(
     guid: Uuid,
     values: &Assignments,
 ) -> Result<(), NoMemory>
-    ensures { OnOk result (out.new.items ≡ out.old.items ++ (codes "modify" ++ spaced (name.now ∷ identifier_token guid ∷ set_tokens values.now))) }
+    ensures { OnOk result (out.new.items
+        ≡ out.old.items ++ (codes "modify" ++ spaced (name.now ∷ identifier_token guid ∷ set_tokens values.now))) }
 {
     push_words(
         alloc,
@@ -139,8 +146,56 @@ fn push_modify(
     push_sets(alloc, out, values)
 }
 
+fn push_named(alloc: Global, out: &mut Vec<u8>, verb: &[u8], name: &Text) -> Result<(), NoMemory>
+    ensures { OnOk result (out.new.items ≡ out.old.items ++ (verb.now ++ spaced (name.now ∷ []))) }
+{
+    push_words(alloc, out, verb, &[Token::Name(name)])
+}
+
+fn push_link(
+    alloc: Global,
+    out: &mut Vec<u8>,
+    verb: &[u8],
+    name: &Text,
+    from: Uuid,
+    attr: u16,
+    to: Uuid,
+) -> Result<(), NoMemory>
+    ensures { OnOk result (out.new.items
+        ≡ out.old.items
+        ++ (verb.now
+        ++ spaced (name.now ∷ identifier_token from ∷ attribute_token attr ∷ identifier_token to ∷ []))) }
+{
+    let tokens = [
+        Token::Name(name),
+        Token::Identifier(from),
+        Token::Attribute(attr),
+        Token::Identifier(to),
+    ];
+    push_words(alloc, out, verb, &tokens)
+}
+
+fn push_pull<'a>(
+    alloc: Global,
+    out: &mut Vec<u8>,
+    verb: &[u8],
+    name: &'a Text,
+    source: &'a Text,
+    max: u32,
+) -> Result<(), NoMemory>
+    ensures { OnOk result (out.new.items
+        ≡ out.old.items ++ (verb.now ++ spaced (name.now ∷ source.now ∷ decimal max ∷ []))) }
+{
+    let tokens = [
+        Token::Name(name),
+        Token::Name(source),
+        Token::Number(u64::from(max)),
+    ];
+    push_words(alloc, out, verb, &tokens)
+}
+
 /// Adds the line of an event, by one call for each kind: an arm with many steps makes a long proof.
-#[tactic(auto, unfolding(crate::specs::Printed::line_of, crate::specs::Grammar::tokens_of))]
+#[tactic(auto, unfolding(crate::specs::Printed::line_of, crate::specs::Grammar::tokens_in))]
 fn push_line(alloc: Global, out: &mut Vec<u8>, event: &Event) -> Result<(), NoMemory>
     ensures { OnOk result (out.new.items ≡ out.old.items ++ line_of event.now) }
 {
@@ -192,33 +247,13 @@ fn push_line(alloc: Global, out: &mut Vec<u8>, event: &Event) -> Result<(), NoMe
             from,
             attr,
             to,
-        } => push_words(
-            alloc,
-            out,
-            b"link",
-            &[
-                Token::Name(name),
-                Token::Identifier(*from),
-                Token::Attribute(*attr),
-                Token::Identifier(*to),
-            ],
-        ),
+        } => push_link(alloc, out, b"link", name, *from, *attr, *to),
         Event::Unlink {
             name,
             from,
             attr,
             to,
-        } => push_words(
-            alloc,
-            out,
-            b"unlink",
-            &[
-                Token::Name(name),
-                Token::Identifier(*from),
-                Token::Attribute(*attr),
-                Token::Identifier(*to),
-            ],
-        ),
+        } => push_link(alloc, out, b"unlink", name, *from, *attr, *to),
         Event::Ask {
             name,
             partner,
@@ -257,26 +292,8 @@ fn push_line(alloc: Global, out: &mut Vec<u8>, event: &Event) -> Result<(), NoMe
             b"deliver",
             &[Token::Name(name), Token::Name(reply)],
         ),
-        Event::Pull { name, source, max } => push_words(
-            alloc,
-            out,
-            b"pull",
-            &[
-                Token::Name(name),
-                Token::Name(source),
-                Token::Number(u64::from(*max)),
-            ],
-        ),
-        Event::Cycle { name, source, max } => push_words(
-            alloc,
-            out,
-            b"cycle",
-            &[
-                Token::Name(name),
-                Token::Name(source),
-                Token::Number(u64::from(*max)),
-            ],
-        ),
+        Event::Pull { name, source, max } => push_pull(alloc, out, b"pull", name, source, *max),
+        Event::Cycle { name, source, max } => push_pull(alloc, out, b"cycle", name, source, *max),
         Event::Collect { name, lifetime } => push_words(
             alloc,
             out,
@@ -348,11 +365,11 @@ fn push_line(alloc: Global, out: &mut Vec<u8>, event: &Event) -> Result<(), NoMe
                 Token::Number(u64::from(*calls)),
             ],
         ),
-        Event::Stop { name } => push_words(alloc, out, b"stop", &[Token::Name(name)]),
-        Event::Start { name } => push_words(alloc, out, b"start", &[Token::Name(name)]),
-        Event::Show { name } => push_words(alloc, out, b"show", &[Token::Name(name)]),
-        Event::Vector { name } => push_words(alloc, out, b"vector", &[Token::Name(name)]),
-        Event::Marks { name } => push_words(alloc, out, b"marks", &[Token::Name(name)]),
+        Event::Stop { name } => push_named(alloc, out, b"stop", name),
+        Event::Start { name } => push_named(alloc, out, b"start", name),
+        Event::Show { name } => push_named(alloc, out, b"show", name),
+        Event::Vector { name } => push_named(alloc, out, b"vector", name),
+        Event::Marks { name } => push_named(alloc, out, b"marks", name),
     }
 }
 

@@ -2,11 +2,13 @@
 
 ghost use Rattle.std.specs.Prelude.{◌≡◌, ℕ, List, [], ◌∷◌, ◌++◌, ◌||◌, None, OnOk, IfErr};
 ghost use Rattle.adr_schedule.specs.Faults.{RefusesEvent};
-ghost use Rattle.adr_schedule.specs.Seen.{nothing_seen, is_bound, first_cause, unless_bound, if_bound, if_given, if_full, cause_after, seen_after};
+ghost use Rattle.adr_failure.specs.First.{first_of};
+ghost use Rattle.adr_schedule.specs.Seen.{nothing_seen, is_bound, unless_bound, if_bound, if_given, if_full, cause_after, seen_after};
 
-use crate::fault::{Cause, LineRefusal};
+use crate::fault::Cause;
+use crate::limits::CONTROLLER_LIMIT;
 use crate::names::Names;
-use adr_event::Event;
+use adr_event::{Event, Failure};
 use adr_schema::Text;
 use std::alloc::Global;
 use std::marker::Model;
@@ -39,13 +41,13 @@ fn is_given(ids: &[Uuid], id: &Uuid) -> bool
 }
 
 /// Adds an identifier.
-fn give(ids: &mut Vec<Uuid>, id: &Uuid) -> Result<(), LineRefusal>
+fn give(ids: &mut Vec<Uuid>, id: &Uuid) -> Result<(), Failure<Cause>>
     ensures given { OnOk result (ids.new.items ≡ ids.old.items ++ id.now ∷ []) }
-    ensures memory { IfErr result (λ refusal. refusal ≡ LineRefusal.NoMemory) }
+    ensures memory { IfErr result (λ failure. failure ≡ Failure.NoMemory) }
 {
     match ids.push(*id) {
         Ok(()) => Ok(()),
-        Err(_) => Err(LineRefusal::NoMemory),
+        Err(_) => Err(Failure::NoMemory),
     }
 }
 
@@ -74,7 +76,9 @@ impl Seen {
     }
 
     fn unless_controllers(&self, name: &Text, other: &Text) -> Option<Cause>
-        ensures { result ≡ first_cause (unless_bound self.now.controllers name.now ∷ unless_bound self.now.controllers other.now ∷ []) }
+        ensures { result
+            ≡ first_of (unless_bound self.now.controllers name.now
+            ∷ unless_bound self.now.controllers other.now ∷ []) }
     {
         if self.controllers.contains(name) {
             self.unless_controller(other)
@@ -84,7 +88,9 @@ impl Seen {
     }
 
     fn cause_of_controller(&self, name: &Text, dsa: &Uuid, inv: &Uuid) -> Option<Cause>
-        ensures { result ≡ first_cause (if_bound self.now.controllers name.now ∷ if_given self.now dsa.now inv.now ∷ if_full self.now ∷ []) }
+        ensures { result
+            ≡ first_of (if_bound self.now.controllers name.now ∷ if_given self.now dsa.now inv.now
+            ∷ if_full self.now ∷ []) }
     {
         if self.controllers.contains(name) {
             return Some(Cause::NameUsed);
@@ -92,14 +98,16 @@ impl Seen {
         if is_given(self.dsas.as_slice(), dsa) || is_given(self.invs.as_slice(), inv) {
             return Some(Cause::IdentifierUsed);
         }
-        if self.controllers.len() >= 64 {
+        if self.controllers.len() >= CONTROLLER_LIMIT {
             return Some(Cause::TooMany);
         }
         None
     }
 
     fn cause_of_ask(&self, name: &Text, partner: &Text, bound: &Text) -> Option<Cause>
-        ensures { result ≡ first_cause (unless_bound self.now.controllers name.now ∷ unless_bound self.now.controllers partner.now ∷ if_bound self.now.requests bound.now ∷ []) }
+        ensures { result
+            ≡ first_of (unless_bound self.now.controllers name.now
+            ∷ unless_bound self.now.controllers partner.now ∷ if_bound self.now.requests bound.now ∷ []) }
     {
         if !self.controllers.contains(name) || !self.controllers.contains(partner) {
             return Some(Cause::UnknownName);
@@ -111,7 +119,9 @@ impl Seen {
     }
 
     fn cause_of_serve(&self, name: &Text, request: &Text, bound: &Text) -> Option<Cause>
-        ensures { result ≡ first_cause (unless_bound self.now.controllers name.now ∷ unless_bound self.now.requests request.now ∷ if_bound self.now.replies bound.now ∷ []) }
+        ensures { result
+            ≡ first_of (unless_bound self.now.controllers name.now ∷ unless_bound self.now.requests request.now
+            ∷ if_bound self.now.replies bound.now ∷ []) }
     {
         if !self.controllers.contains(name) || !self.requests.contains(request) {
             return Some(Cause::UnknownName);
@@ -123,7 +133,9 @@ impl Seen {
     }
 
     fn cause_of_deliver(&self, name: &Text, reply: &Text) -> Option<Cause>
-        ensures { result ≡ first_cause (unless_bound self.now.controllers name.now ∷ unless_bound self.now.replies reply.now ∷ []) }
+        ensures { result
+            ≡ first_of (unless_bound self.now.controllers name.now ∷ unless_bound self.now.replies reply.now
+            ∷ []) }
     {
         if self.controllers.contains(name) && self.replies.contains(reply) {
             None
@@ -140,6 +152,11 @@ impl Seen {
             Event::Controller { name, dsa, inv } => self.cause_of_controller(name, dsa, inv),
             Event::Time { .. } => None,
             Event::Add { name, .. } => self.unless_controller(name),
+            Event::Modify { name, .. } => self.unless_controller(name),
+            Event::Rename { name, .. } => self.unless_controller(name),
+            Event::Delete { name, .. } => self.unless_controller(name),
+            Event::Link { name, .. } => self.unless_controller(name),
+            Event::Unlink { name, .. } => self.unless_controller(name),
             Event::Ask {
                 name,
                 partner,
@@ -157,11 +174,6 @@ impl Seen {
             Event::Show { name } => self.unless_controller(name),
             Event::Vector { name } => self.unless_controller(name),
             Event::Marks { name } => self.unless_controller(name),
-            Event::Modify { .. } => Some(Cause::NoCommand),
-            Event::Rename { .. } => Some(Cause::NoCommand),
-            Event::Delete { .. } => Some(Cause::NoCommand),
-            Event::Link { .. } => Some(Cause::NoCommand),
-            Event::Unlink { .. } => Some(Cause::NoCommand),
             Event::Collect { .. } => Some(Cause::NoCommand),
             Event::Backup { .. } => Some(Cause::NoCommand),
             Event::Restore { .. } => Some(Cause::NoCommand),
@@ -176,10 +188,10 @@ impl Seen {
     }
 
     /// Notes what the event, which may follow, binds and gives. After an error it isn't said what was noted.
-    pub fn note(&mut self, alloc: Global, event: &Event) -> Result<(), LineRefusal>
+    pub fn note(&mut self, alloc: Global, event: &Event) -> Result<(), Failure<Cause>>
         requires { cause_after self.old event.now ≡ None }
         ensures seen { OnOk result (self.new ≡ seen_after self.old event.now) }
-        ensures memory { IfErr result (λ refusal. refusal ≡ LineRefusal.NoMemory) }
+        ensures memory { IfErr result (λ failure. failure ≡ Failure.NoMemory) }
     {
         match event {
             Event::Controller { name, dsa, inv } => {
@@ -194,13 +206,13 @@ impl Seen {
     }
 
     /// Notes what the event binds and gives, if it may follow. After an error it isn't said what was noted.
-    pub fn admit(&mut self, alloc: Global, event: &Event) -> Result<(), LineRefusal>
+    pub fn admit(&mut self, alloc: Global, event: &Event) -> Result<(), Failure<Cause>>
         ensures follows { OnOk result (cause_after self.old event.now ≡ None) }
         ensures seen { OnOk result (self.new ≡ seen_after self.old event.now) }
-        ensures refused { IfErr result (λ refusal. RefusesEvent refusal (cause_after self.old event.now)) }
+        ensures refused { IfErr result (λ failure. RefusesEvent failure (cause_after self.old event.now)) }
     {
         match self.cause_after(event) {
-            Some(cause) => Err(LineRefusal::Bad(cause)),
+            Some(cause) => Err(Failure::Refused(cause)),
             None => self.note(alloc, event),
         }
     }

@@ -1,6 +1,7 @@
 -- The figures of a number are read as that number, and no others are.
 use Rattle.std.proofs.Common.{◌≡◌, ℕ, zero, suc, ◌+◌, ◌-◌, ◌*◌, ◌/◌, ◌%◌, ◌^◌, ◌<◌, ◌≤◌, Bool, true, false, not, cond, List, [], ◌∷◌, ◌++◌, length, Some, None, ◌⊎◌, inl, inr, refl, sym, ap, subst, ◌∙◌, arith}
 use Rattle.std.specs.Prelude.{◌==◌, nat_le}
+use Rattle.std.specs.List.{list_all}
 use Rattle.std.specs.Fmt.{digit_glyph, digits_onto, digits, decimal}
 use Rattle.std.proofs.Math.Nat.{pow-suc, pow-zero, pow-le-pow_right, mul-le-mul_right}
 use Rattle.std.proofs.lemmas.Bool.{ne_eqb, eqb-true, eqb-false, le-leb, leb-true, cases_lt, and_from}
@@ -10,7 +11,7 @@ use Rattle.adr_token.specs.Gives.{Reading, ◌>>=◌}
 use Rattle.adr_token.specs.Numbers.{base, figure, figures_from, at_most, is_short, number_of, number_at}
 use Rattle.adr_token.specs.Words.{word_at}
 use Rattle.adr_token.specs.Laws.{NumbersAreReadAgain, NumbersWereSpelled}
-use Rattle.adr_token.proofs.WordLaws.{bind_some, if_some, is_graphic, are_graphic, graphic_word, word_again, word_was}
+use Rattle.adr_token.proofs.WordLaws.{are_bare, are_graphic, bare_graphic, bind_some, graphic_word, if_some, is_bare, word_again, word_was}
 
 glyph_read : (hex : Bool) (d : ℕ) → d < base hex → figure hex (digit_glyph false d) ≡ Some d
 glyph_read true d h = grind (arith, nat_tests)
@@ -234,23 +235,30 @@ length_short hex k n (b ∷ c ∷ bs) short read small =
 pub length-digits-le : (hex : Bool) (k n : ℕ) → n < 2 ^ 64 → n < 10 ^ k → length (digits (base hex) false n) ≤ k + 1
 length-digits-le hex k n h small = length_short hex k n (digits (base hex) false n) (digits_short_at hex n h (cases_lt 0 n)) (digits_read hex n h) small
 
--- figures are seen
-figure_graphic : (hex : Bool) (b d : ℕ) → figure hex b ≡ Some d → is_graphic b ≡ true
-figure_graphic true b d h = grind (arith, nat_tests)
-figure_graphic false b d h = grind (arith, nat_tests)
+-- figures are bare
+figure_bare : (hex : Bool) (b d : ℕ) → figure hex b ≡ Some d → is_bare b ≡ true
+figure_bare true b d h = grind (arith, nat_tests)
+figure_bare false b d h = grind (arith, nat_tests)
 
-figures_graphic : (hex : Bool) (m n : ℕ) (word : List ℕ) → figures_from hex m word ≡ Some n → are_graphic word ≡ true
-figures_graphic hex m n [] h = refl
-figures_graphic hex m n (b ∷ bs) h =
+-- what holds of figures holds of those of a number
+figures_pass : (p : ℕ → Bool) (hex : Bool) → ((b d : ℕ) → figure hex b ≡ Some d → p b ≡ true) → (m n : ℕ) (word : List ℕ) → figures_from hex m word ≡ Some n → list_all p word ≡ true
+figures_pass p hex passes m n [] h = refl
+figures_pass p hex passes m n (b ∷ bs) h =
     let s = bind_some (figure hex b) (λ d. figures_from hex (m * base hex + d) bs) n h in
-    and_from _ _ (figure_graphic hex b s.0 s.1) (figures_graphic hex (m * base hex + s.0) n bs s.2)
+    and_from _ _ (passes b s.0 s.1) (figures_pass p hex passes (m * base hex + s.0) n bs s.2)
+
+pub digits_pass : (p : ℕ → Bool) (hex : Bool) → ((b d : ℕ) → figure hex b ≡ Some d → p b ≡ true) → (n : ℕ) → n < 2 ^ 64 → list_all p (digits (base hex) false n) ≡ true
+digits_pass p hex passes n h = figures_pass p hex passes 0 n (digits (base hex) false n) (digits_read hex n h)
 
 short_some : (word : List ℕ) → is_short word ≡ true → 0 < length word
 short_some [] h = absurd (cc)
 short_some (b ∷ bs) h = omega arith
 
+pub digits_bare : (hex : Bool) (n : ℕ) → n < 2 ^ 64 → (are_bare (digits (base hex) false n) ≡ true) × (0 < length (digits (base hex) false n))
+digits_bare hex n h = let w = digits (base hex) false n in (digits_pass is_bare hex (figure_bare hex) n h, short_some w (digits_short_at hex n h (cases_lt 0 n)))
+
 pub digits_graphic : (hex : Bool) (n : ℕ) → n < 2 ^ 64 → (are_graphic (digits (base hex) false n) ≡ true) × (0 < length (digits (base hex) false n))
-digits_graphic hex n h = let w = digits (base hex) false n in (figures_graphic hex 0 n w (digits_read hex n h), short_some w (digits_short_at hex n h (cases_lt 0 n)))
+digits_graphic hex n h = let w = digits_bare hex n h in (bare_graphic (digits (base hex) false n) w.0, w.1)
 
 pub numbers_again : NumbersAreReadAgain
 unfolding number_at

@@ -19,26 +19,27 @@ use Rattle.adr_token.specs.Words.{word_at}
 use Rattle.adr_token.specs.Numbers.{number_of}
 use Rattle.adr_token.specs.Identifiers.{full_identifier, identifier_at, identifier_of, short_identifier, spelled_back}
 use Rattle.adr_token.specs.Laws.{full_token, IsIdentifier, IdentifiersAreReadAgain, IdentifiersWereSpelled, Stands}
-use Rattle.adr_token.specs.Spelling.{identifier_token}
+use Rattle.adr_token.specs.Spelled.{SpellsIdentifier}
+use Rattle.adr_token.specs.Spelling.{identifier_text, identifier_token}
 use Rattle.adr_token.proofs.ByteLaws.{bytes_again, bytes_identifier}
-use Rattle.adr_token.proofs.DigitLaws.{digits_graphic, length-digits-le, number_again, number_was}
-use Rattle.adr_token.proofs.WordLaws.{are_graphic, bind_some, graphic_word, if_some, is_graphic, word_again, word_was}
+use Rattle.adr_token.proofs.DigitLaws.{digits_bare, length-digits-le, number_again, number_was}
+use Rattle.adr_token.proofs.WordLaws.{are_bare, are_graphic, bare_graphic, bind_some, graphic_word, if_some, is_bare, word_again, word_was}
 
--- the full form is seen
-by_index_graphic : (n : ℕ) (f : ℕ → ℕ) → ((k : ℕ) → is_graphic (f k) ≡ true) → are_graphic (by_index n f) ≡ true
+-- the full form is bare
+by_index_bare : (n : ℕ) (f : ℕ → ℕ) → ((k : ℕ) → is_bare (f k) ≡ true) → are_bare (by_index n f) ≡ true
 unfolding by_index
-by_index_graphic zero f h = refl
-by_index_graphic (suc n) f h = list_all-append is_graphic (by_index n f) (f n ∷ []) ∙ and_from _ _ (by_index_graphic n f h) (and_from _ _ (h n) refl)
+by_index_bare zero f h = refl
+by_index_bare (suc n) f h = list_all-append is_bare (by_index n f) (f n ∷ []) ∙ and_from _ _ (by_index_bare n f h) (and_from _ _ (h n) refl)
 
-digit_graphic : (d : ℕ) → d < 16 → is_graphic (hex_digit lower d) ≡ true
-digit_graphic d h = grind (arith, nat_tests)
+digit_bare : (d : ℕ) → d < 16 → is_bare (hex_digit lower d) ≡ true
+digit_bare d h = grind (arith, nat_tests)
 
-place_graphic : (t : Bool) (d : ℕ) → d < 16 → is_graphic (cond t hyphen (hex_digit lower d)) ≡ true
-place_graphic true d h = refl
-place_graphic false d h = digit_graphic d h
+place_bare : (t : Bool) (d : ℕ) → d < 16 → is_bare (cond t hyphen (hex_digit lower d)) ≡ true
+place_bare true d h = refl
+place_bare false d h = digit_bare d h
 
-pub full_graphic : (id : List ℕ) → are_graphic (full_token id) ≡ true
-full_graphic id = by_index_graphic 36 _ (λ k. place_graphic (is_hyphen_place k) (nibble id _) (nibble_small id _))
+full_bare : (id : List ℕ) → are_bare (full_token id) ≡ true
+full_bare id = by_index_bare 36 _ (λ k. place_bare (is_hyphen_place k) (nibble id _) (nibble_small id _))
 
 same_bytes : (bs : List ℕ) → bytes_eq bs bs ≡ true
 same_bytes bs = (bytes_eq-Decides bs bs).1 refl
@@ -73,14 +74,17 @@ token_of : (id : List ℕ) → IsIdentifier id → identifier_of (identifier_tok
 unfolding identifier_token
 token_of id h = token_by id (nat_lt (from_be_bytes w128 id) 4294967296) refl h
 
-token_graphic_by : (id : List ℕ) (t : Bool) → nat_lt (from_be_bytes w128 id) 4294967296 ≡ t
-    → are_graphic (35 ∷ cond t (digits 16 false (from_be_bytes w128 id)) (hyphenated_text lower id)) ≡ true
-token_graphic_by id true e = (digits_graphic true (from_be_bytes w128 id) (let l = ltb-true _ _ e in omega arith)).0
-token_graphic_by id false e = full_graphic id
+token_bare_by : (id : List ℕ) (t : Bool) → nat_lt (from_be_bytes w128 id) 4294967296 ≡ t
+    → are_bare (35 ∷ cond t (digits 16 false (from_be_bytes w128 id)) (hyphenated_text lower id)) ≡ true
+token_bare_by id true e = (digits_bare true (from_be_bytes w128 id) (let l = ltb-true _ _ e in omega arith)).0
+token_bare_by id false e = full_bare id
+
+token_bare : (id : List ℕ) → are_bare (identifier_token id) ≡ true
+unfolding identifier_token
+token_bare id = token_bare_by id (nat_lt (from_be_bytes w128 id) 4294967296) refl
 
 pub token_graphic : (id : List ℕ) → are_graphic (identifier_token id) ≡ true
-unfolding identifier_token
-token_graphic id = token_graphic_by id (nat_lt (from_be_bytes w128 id) 4294967296) refl
+token_graphic id = bare_graphic (identifier_token id) (token_bare id)
 
 token_some : (id : List ℕ) → 0 < length (identifier_token id)
 unfolding identifier_token
@@ -93,7 +97,7 @@ read_word word id rest h w = rw (w, h) refl
 pub identifiers_again : IdentifiersAreReadAgain
 identifiers_again id rest h e = (
   read_word (identifier_token id) id rest (token_of id h) (word_again (identifier_token id) rest (graphic_word (identifier_token id) (token_graphic id)) (token_some id) e),
-  read_word (full_token id) id rest (full_of id h) (word_again (full_token id) rest (graphic_word (full_token id) (full_graphic id)) (omega arith) e),
+  read_word (full_token id) id rest (full_of id h) (word_again (full_token id) rest (graphic_word (full_token id) (bare_graphic (full_token id) (full_bare id))) (omega arith) e),
 )
 
 -- what was read has sixteen bytes
@@ -129,10 +133,21 @@ parsed_identifier s id l h =
     let at : parsed s ≡ parsed_hyphenated s = rw l refl in
     hyphenated_identifier s id ((length s == 36) && has_hyphens s) (sym at ∙ h)
 
--- what was read was one of the two forms
-WasEither : List ℕ → List ℕ → Type 0
-WasEither word id = IsIdentifier id × ((word ≡ identifier_token id) ⊎ (word ≡ full_token id))
+-- both forms begin with `#`, are bare and are read
+pub hash_first : (id word : List ℕ) → SpellsIdentifier id word → (rest : List ℕ) × (word ≡ 35 ∷ rest)
+unfolding identifier_token
+hash_first id word (i, inl e) = (identifier_text id, e)
+hash_first id word (i, inr e) = (hyphenated_text lower id, e)
 
+pub form_bare : (id word : List ℕ) → SpellsIdentifier id word → are_bare word ≡ true
+form_bare id word (i, inl e) = rw e (token_bare id)
+form_bare id word (i, inr e) = rw e (full_bare id)
+
+pub form_read : (id word : List ℕ) → SpellsIdentifier id word → identifier_of word ≡ Some id
+form_read id word (i, inl e) = rw e (token_of id i)
+form_read id word (i, inr e) = rw e (full_of id i)
+
+-- what was read was one of the two forms
 full_was_by : (rest id : List ℕ) (t : Bool) → length rest ≡ 36 → cond t (parsed rest >>= spelled_back rest) None ≡ Some id → IsIdentifier id × (rest ≡ hyphenated_text lower id)
 full_was_by rest id false l h = absurd (cc)
 full_was_by rest id true l h =
@@ -147,8 +162,7 @@ short_token n h =
     let back : from_be_bytes w128 (to_be_bytes w128 n) ≡ n = from_be_bytes-to_be_bytes_16 n (omega arith) in
     rw (back, lt-ltb n 4294967296 h) refl
 
-of_was_by : (b : ℕ) (rest id : List ℕ) (t : Bool) → b ≡ 35 → (length rest == 36) ≡ t → cond t (full_identifier rest) (short_identifier rest) ≡ Some id → WasEither (b ∷ rest) id
-unfolding WasEither
+of_was_by : (b : ℕ) (rest id : List ℕ) (t : Bool) → b ≡ 35 → (length rest == 36) ≡ t → cond t (full_identifier rest) (short_identifier rest) ≡ Some id → SpellsIdentifier id (b ∷ rest)
 of_was_by b rest id true e l h =
     let w = full_was_by rest id (is_utf8 rest) (eqb-true _ 36 l) h in
     (w.0, inr (rw (e, w.1) refl))
@@ -158,16 +172,15 @@ of_was_by b rest id false e l h =
     let same : to_be_bytes w128 s.0 ≡ id = cc in
     (subst IsIdentifier same (bytes_identifier s.0), inl (rw (e, was.0) (sym (short_token s.0 (omega arith)) ∙ ap identifier_token same)))
 
-of_was_at : (b : ℕ) (rest id : List ℕ) (t : Bool) → (b == 35) ≡ t → cond t (cond (length rest == 36) (full_identifier rest) (short_identifier rest)) None ≡ Some id → WasEither (b ∷ rest) id
+of_was_at : (b : ℕ) (rest id : List ℕ) (t : Bool) → (b == 35) ≡ t → cond t (cond (length rest == 36) (full_identifier rest) (short_identifier rest)) None ≡ Some id → SpellsIdentifier id (b ∷ rest)
 of_was_at b rest id true e h = of_was_by b rest id (length rest == 36) (eqb-true b 35 e) refl h
 of_was_at b rest id false e h = absurd (cc)
 
-of_was : (word id : List ℕ) → identifier_of word ≡ Some id → WasEither word id
+pub of_was : (word id : List ℕ) → identifier_of word ≡ Some id → SpellsIdentifier id word
 of_was [] id h = absurd (cc)
 of_was (b ∷ rest) id h = of_was_at b rest id (b == 35) refl h
 
-either_stands : (bytes word id rest : List ℕ) → Stands word bytes rest → WasEither word id → IsIdentifier id × (Stands (identifier_token id) bytes rest ⊎ Stands (full_token id) bytes rest)
-unfolding WasEither
+either_stands : (bytes word id rest : List ℕ) → Stands word bytes rest → SpellsIdentifier id word → IsIdentifier id × (Stands (identifier_token id) bytes rest ⊎ Stands (full_token id) bytes rest)
 either_stands bytes word id rest s (i, inl e) = (i, inl (subst (λ (w : List ℕ). Stands w bytes rest) e s))
 either_stands bytes word id rest s (i, inr e) = (i, inr (subst (λ (w : List ℕ). Stands w bytes rest) e s))
 

@@ -1,8 +1,16 @@
 pub mod NumberLemmas
 pub mod TextLemmas
 pub mod QuoteLaws
+pub mod Lists
 pub mod WordLaws
 pub mod DigitLaws
 pub mod ByteLaws
 pub mod IdentifierLaws
 pub mod TextLaws
+pub mod OctetLemmas
+pub mod ClassLaws
+pub mod SignedLaws
+pub mod ValueLaws
+pub mod ValuesLemmas
+pub mod SetBytes
+pub mod SetLaws

@@ -7,34 +7,35 @@ use Rattle.adr_token.specs.declared.texts.Place.{Place}
 use Rattle.adr_token.specs.declared.texts.Place.TheVariants.{Plain, Escaped, Half}
 use Rattle.adr_token.specs.declared.texts.Move.TheVariants.{Close, Go, Byte, Stray}
 use Rattle.adr_token.specs.Numbers.{figure}
-use Rattle.adr_token.specs.Texts.{is_control, quoted, after_byte, follow, half_move, whole_move, IsHalfSmall}
+use Rattle.adr_token.specs.Gives.{Reading, with_first}
+use Rattle.adr_token.specs.Texts.{is_control, quoted, follow, half_move, whole_move, IsHalfSmall}
 use Rattle.adr_token.specs.Spelling.{two_figures, escaped}
 
-figure_again : (d : ℕ) → d < 16 → figure true (hex_digit lower d) ≡ Some d
+pub figure_again : (d : ℕ) → d < 16 → figure true (hex_digit lower d) ≡ Some d
 figure_again d h = grind (arith, nat_tests)
 
 control_small : (b : ℕ) → is_control b ≡ true → b < 128
 control_small b h = grind (arith, nat_tests)
 
 -- the test of a byte, with what it says
-plain_byte : (b : ℕ) (bs : List ℕ) → (b == 34) ≡ false → (b == 92) ≡ false → is_control b ≡ false → quoted Plain (b ∷ bs) ≡ after_byte b (quoted Plain bs)
+plain_byte : (b : ℕ) (bs : List ℕ) → (b == 34) ≡ false → (b == 92) ≡ false → is_control b ≡ false → quoted Plain (b ∷ bs) ≡ with_first b (quoted Plain bs)
 plain_byte b bs q e k = simp (q, e, k)
 
-escaped_byte : (b : ℕ) (bs : List ℕ) → ((b == 34) || (b == 92)) ≡ true → quoted Plain (92 ∷ b ∷ bs) ≡ after_byte b (quoted Plain bs)
+escaped_byte : (b : ℕ) (bs : List ℕ) → ((b == 34) || (b == 92)) ≡ true → quoted Plain (92 ∷ b ∷ bs) ≡ with_first b (quoted Plain bs)
 escaped_byte b bs h = simp h
 
 -- figures aren't quotes
 figure_plain : (d : ℕ) → d < 16 → ((hex_digit lower d == 34) || (hex_digit lower d == 92)) ≡ false
 figure_plain d h = grind (arith, nat_tests)
 
-control_byte : (b : ℕ) (bs : List ℕ) → is_control b ≡ true → quoted Plain (92 ∷ two_figures b ++ bs) ≡ after_byte b (quoted Plain bs)
+control_byte : (b : ℕ) (bs : List ℕ) → is_control b ≡ true → quoted Plain (92 ∷ two_figures b ++ bs) ≡ with_first b (quoted Plain bs)
 control_byte b bs h =
     let small : b < 128 = control_small b h in
     let whole : b / 16 * 16 + b % 16 ≡ b = omega arith in
     simp (figure_plain (b / 16) (omega arith), figure_again (b / 16) (omega arith), figure_again (b % 16) (omega arith), whole, h)
 
 -- one byte
-one : (b : ℕ) (bs : List ℕ) (q e k : Bool) → (b == 34) ≡ q → (b == 92) ≡ e → is_control b ≡ k → quoted Plain (cond (q || e) (92 ∷ b ∷ []) (cond k (92 ∷ two_figures b) (b ∷ [])) ++ bs) ≡ after_byte b (quoted Plain bs)
+one : (b : ℕ) (bs : List ℕ) (q e k : Bool) → (b == 34) ≡ q → (b == 92) ≡ e → is_control b ≡ k → quoted Plain (cond (q || e) (92 ∷ b ∷ []) (cond k (92 ∷ two_figures b) (b ∷ [])) ++ bs) ≡ with_first b (quoted Plain bs)
 one b bs true e k p r s = escaped_byte b bs (rw p refl)
 one b bs false true k p r s = escaped_byte b bs (rw (p, r) refl)
 one b bs false false true p r s = control_byte b bs s
@@ -44,7 +45,7 @@ pub reads_back : (text rest : List ℕ) → quoted Plain (flat_map escaped text 
 reads_back [] rest = refl
 reads_back (b ∷ bs) rest =
     ap (quoted Plain) (append_assoc (escaped b) (flat_map escaped bs) (34 ∷ rest))
-    ∙ (one b (flat_map escaped bs ++ 34 ∷ rest) (b == 34) (b == 92) (is_control b) refl refl refl ∙ ap (after_byte b) (reads_back bs rest))
+    ∙ (one b (flat_map escaped bs ++ 34 ∷ rest) (b == 34) (b == 92) (is_control b) refl refl refl ∙ ap (with_first b) (reads_back bs rest))
 
 -- the bytes with what the place stands behind
 behind : Place → List ℕ → List ℕ
@@ -52,18 +53,18 @@ behind Plain bs = bs
 behind Escaped bs = 92 ∷ bs
 behind (Half high) bs = 92 ∷ hex_digit lower high ∷ bs
 
--- a byte, taken from what was read
-taken : (b : ℕ) (o : Option (List ℕ × List ℕ)) (text rest : List ℕ) → after_byte b o ≡ Some (text, rest) → (more : List ℕ) × (o ≡ Some (more, rest)) × (text ≡ b ∷ more)
-taken b None text rest h = absurd (cc)
-taken b (Some t) text rest h =
-    let e : (b ∷ t.0, t.1) ≡ (text, rest) = cc in
-    (t.0, ap (λ (r : List ℕ). Some (t.0, r)) (ap (λ (p : List ℕ × List ℕ). p.1) e), sym (ap (λ (p : List ℕ × List ℕ). p.0) e))
+-- an element, taken from what was read
+pub taken : {X : Type 0} (x : X) (o : Reading (List X)) (xs : List X) (rest : List ℕ) → with_first x o ≡ Some (xs, rest) → (more : List X) × (o ≡ Some (more, rest)) × (xs ≡ x ∷ more)
+taken {X} x None xs rest h = absurd (cc)
+taken {X} x (Some t) xs rest h =
+    let e : (x ∷ t.0, t.1) ≡ (xs, rest) = cc in
+    (t.0, ap (λ (r : List ℕ). Some (t.0, r)) (ap (λ (p : List X × List ℕ). p.1) e), sym (ap (λ (p : List X × List ℕ). p.0) e))
 
-figure_was : (b d : ℕ) → figure true b ≡ Some d → (hex_digit lower d ≡ b) × (d < 16)
+pub figure_was : (b d : ℕ) → figure true b ≡ Some d → (hex_digit lower d ≡ b) × (d < 16)
 figure_was b d h = (grind (arith, nat_tests), grind (arith, nat_tests))
 
 -- a byte in front, whose spelling this is
-in_front : (b : ℕ) (front : List ℕ) (bs text rest : List ℕ) (o : Option (List ℕ × List ℕ)) → after_byte b o ≡ Some (text, rest)
+in_front : (b : ℕ) (front : List ℕ) (bs text rest : List ℕ) (o : Option (List ℕ × List ℕ)) → with_first b o ≡ Some (text, rest)
     → ((more : List ℕ) → o ≡ Some (more, rest) → bs ≡ flat_map escaped more ++ 34 ∷ rest) → escaped b ≡ front → front ++ bs ≡ flat_map escaped text ++ 34 ∷ rest
 in_front b front bs text rest o h go spelt =
     let t = taken b o text rest h in

@@ -8,16 +8,17 @@ use Rattle.std.proofs.lemmas.Bool.{and_parts}
 use Rattle.std.proofs.lemmas.Bool.Decides.{nat_tests}
 use Rattle.std.proofs.lemmas.Str.{IsUtf8-from_ascii}
 use Rattle.adr_token.specs.Words.{is_letter, is_name_byte, is_name}
-use Rattle.adr_token.specs.Texts.{after_byte, is_text}
+use Rattle.adr_token.specs.Gives.{Reading, with_first}
+use Rattle.adr_token.specs.Texts.{is_text}
 
--- a front put before the text that is read behind it
-abbrev pub onto : List ℕ → Option (List ℕ × List ℕ) → Option (List ℕ × List ℕ)
+-- a front put before what is read behind it
+abbrev pub onto : {X : Type 0} → List X → Reading (List X) → Reading (List X)
 onto front None = None
 onto front (Some t) = Some (front ++ t.0, t.1)
 
-pub onto_push : (front : List ℕ) (b : ℕ) (t : Option (List ℕ × List ℕ)) → onto (front ++ b ∷ []) t ≡ onto front (after_byte b t)
-onto_push front b None = refl
-onto_push front b (Some t) = ap (λ (xs : List ℕ). Some (xs, t.1)) (append_assoc front (b ∷ []) t.0)
+pub onto_push : {X : Type 0} (front : List X) (x : X) (t : Reading (List X)) → onto (front ++ x ∷ []) t ≡ onto front (with_first x t)
+onto_push {X} front x None = refl
+onto_push {X} front x (Some t) = ap (λ (xs : List X). Some (xs, t.1)) (append_assoc front (x ∷ []) t.0)
 
 -- a test that doesn't hold fails
 fails : (b : Bool) → (b ≡ true → ⊥) → b ≡ false

@@ -4,12 +4,13 @@ use Rattle.std.specs.Prelude.{◌==◌, nat_le}
 use Rattle.std.specs.List.{position_or_len, list_all}
 use Rattle.std.proofs.Math.Seq.{take-append_seam, drop-append_seam}
 use Rattle.std.proofs.lemmas.List.{take-append-drop}
-use Rattle.std.proofs.lemmas.Bool.{and_parts, and_from, ne_eqb}
+use Rattle.std.proofs.lemmas.Bool.{and_parts, and_from, eqb-true, ne_eqb}
 use Rattle.std.proofs.lemmas.Bool.Decides.{nat_tests}
 use Rattle.adr_token.specs.Gives.{◌>>=◌}
 use Rattle.adr_token.specs.Words.{is_space, unspaced, word_at, is_letter, is_name_byte, is_name, name_at}
 use Rattle.adr_token.specs.Texts.{ends_word}
 use Rattle.adr_token.specs.Laws.{Stands, NamesAreReadAgain, NamesWereSpelled}
+use Rattle.adr_token.proofs.Lists.{all_more}
 
 abbrev pub is_spaceless : List ℕ → Bool
 is_spaceless word = list_all (λ b. not (is_space b)) word
@@ -24,12 +25,22 @@ pub if_some : {A : Type 0} (b : Bool) (x y : A) → cond b (Some x) None ≡ Som
 if_some true x y h = (refl, cc)
 if_some false x y h = absurd (cc)
 
-at_space : (word rest : List ℕ) → is_spaceless word ≡ true → ends_word rest ≡ true → position_or_len is_space (word ++ rest) ≡ length word
-at_space [] [] h e = refl
-at_space [] (b ∷ bs) h e = rw e refl
-at_space (b ∷ bs) rest h e =
-    let p = and_parts (not (is_space b)) (is_spaceless bs) h in
-    rw (p.0, at_space bs rest p.1 e) (omega arith)
+-- nothing is left, or its first byte passes a test
+abbrev pub stops : (ℕ → Bool) → List ℕ → Bool
+stops p [] = true
+stops p (b ∷ bs) = p b
+
+pub at_stop : (p : ℕ → Bool) (word rest : List ℕ) → list_all (λ b. not (p b)) word ≡ true → stops p rest ≡ true → position_or_len p (word ++ rest) ≡ length word
+at_stop p [] [] h e = refl
+at_stop p [] (b ∷ bs) h e = rw e refl
+at_stop p (b ∷ bs) rest h e =
+    let parts = and_parts (not (p b)) (list_all (λ c. not (p c)) bs) h in
+    rw (parts.0, at_stop p bs rest parts.1 e) (omega arith)
+
+-- a word ends where it stops at a space
+pub word_stops : (p : ℕ → Bool) (rest : List ℕ) → p 32 ≡ true → ends_word rest ≡ true → stops p rest ≡ true
+word_stops p [] h e = refl
+word_stops p (b ∷ bs) h e = rw (eqb-true b 32 e) h
 
 starts : (b : ℕ) (bs : List ℕ) → not (is_space b) ≡ true → unspaced (b ∷ bs) ≡ b ∷ bs
 starts b bs h = rw h refl
@@ -44,7 +55,7 @@ word_again [] rest h n e = absurd (omega arith)
 word_again (b ∷ bs) rest h n e =
     let p = and_parts (not (is_space b)) (is_spaceless bs) h in
     let some : (length (b ∷ (bs ++ rest)) == 0) ≡ false = ne_eqb _ 0 (λ z. omega arith) in
-    rw (starts b (bs ++ rest) p.0, at_space (b ∷ bs) rest h e, take-append_seam (b ∷ bs) rest, drop-append_seam (b ∷ bs) rest, some) refl
+    rw (starts b (bs ++ rest) p.0, at_stop is_space (b ∷ bs) rest h (word_stops is_space rest refl e), take-append_seam (b ∷ bs) rest, drop-append_seam (b ∷ bs) rest, some) refl
 
 pub word_skips : (bytes : List ℕ) → word_at (32 ∷ bytes) ≡ word_at bytes
 word_skips bytes = rw (skips bytes) refl
@@ -83,10 +94,24 @@ graphic_no_space : (b : ℕ) → is_graphic b ≡ true → not (is_space b) ≡ 
 graphic_no_space b h = grind (arith, nat_tests)
 
 pub graphic_word : (bs : List ℕ) → are_graphic bs ≡ true → is_spaceless bs ≡ true
-graphic_word [] h = refl
-graphic_word (b ∷ bs) h =
-    let p = and_parts (is_graphic b) (are_graphic bs) h in
-    and_from _ _ (graphic_no_space b p.0) (graphic_word bs p.1)
+graphic_word bs h = all_more is_graphic (λ b. not (is_space b)) graphic_no_space bs h
+
+pub graphic_starts : (bs rest : List ℕ) → are_graphic bs ≡ true → 0 < length bs → unspaced (bs ++ rest) ≡ bs ++ rest
+graphic_starts [] rest h l = absurd (omega arith)
+graphic_starts (b ∷ bs) rest h l = starts b (bs ++ rest) (and_parts (not (is_space b)) (is_spaceless bs) (graphic_word (b ∷ bs) h)).0
+
+-- a byte of a token that is no text: it is seen, and is no comma and no quote
+abbrev pub is_bare : ℕ → Bool
+is_bare b = nat_le 35 b && nat_le b 126 && not (b == 44)
+
+abbrev pub are_bare : List ℕ → Bool
+are_bare bs = list_all is_bare bs
+
+bare_byte : (b : ℕ) → is_bare b ≡ true → is_graphic b ≡ true
+bare_byte b h = grind (arith, nat_tests)
+
+pub bare_graphic : (bs : List ℕ) → are_bare bs ≡ true → are_graphic bs ≡ true
+bare_graphic bs h = all_more is_bare is_graphic bare_byte bs h
 
 -- names
 name_byte_graphic : (b : ℕ) → is_name_byte b ≡ true → is_graphic b ≡ true
@@ -96,10 +121,7 @@ letter_graphic : (b : ℕ) → is_letter b ≡ true → is_graphic b ≡ true
 letter_graphic b h = grind (arith, nat_tests)
 
 name_bytes_graphic : (bs : List ℕ) → list_all is_name_byte bs ≡ true → are_graphic bs ≡ true
-name_bytes_graphic [] h = refl
-name_bytes_graphic (b ∷ bs) h =
-    let p = and_parts (is_name_byte b) (list_all is_name_byte bs) h in
-    and_from _ _ (name_byte_graphic b p.0) (name_bytes_graphic bs p.1)
+name_bytes_graphic bs h = all_more is_name_byte is_graphic name_byte_graphic bs h
 
 pub name_graphic : (name : List ℕ) → is_name name ≡ true → (are_graphic name ≡ true) × (0 < length name)
 name_graphic [] h = absurd (cc)

@@ -3,5 +3,9 @@ pub mod Words
 pub mod Numbers
 pub mod Identifiers
 pub mod Texts
+pub mod Classes
+pub mod Values
 pub mod Spelling
 pub mod Laws
+pub mod Spelled
+pub mod SetLaws

@@ -1,7 +1,7 @@
 -- Numbers in decimal and hexadecimal figures.
-use Rattle.std.specs.Prelude.{ℕ, List, [], ◌∷◌, ◌+◌, ◌-◌, ◌*◌, Bool, true, false, not, ◌&&◌, ◌==◌, nat_le, if◌then◌else◌, Option, Some, None}
+use Rattle.std.specs.Prelude.{ℕ, zero, suc, List, [], ◌∷◌, ◌+◌, ◌-◌, ◌*◌, Bool, true, false, not, ◌&&◌, ◌==◌, nat_le, if◌then◌else◌, Option, Some, None, ℤ, pos, negsuc}
 use Rattle.adr_token.specs.Gives.{Reading, ◌>>=◌}
-use Rattle.adr_token.specs.Words.{is_digit, word_at}
+use Rattle.adr_token.specs.Words.{is_digit, strip_byte, word_at}
 
 abbrev pub base : Bool → ℕ
 base true = 16
@@ -31,6 +31,19 @@ is_short (b ∷ c ∷ bs) = not (b == 48)
 -- a number up to a limit, in its one form
 abbrev pub number_of : Bool → ℕ → List ℕ → Option ℕ
 number_of hex limit word = if is_short word then figures_from hex 0 word >>= at_most limit else None
+
+-- the number below 0 that has these figures
+abbrev pub negated : ℕ → Option ℤ
+negated zero = None
+negated (suc n) = Some (negsuc n)
+
+abbrev pub signed_by : List ℕ → Option (List ℕ) → Option ℤ
+signed_by word None = number_of false 9223372036854775807 word >>= λ n. Some (pos n)
+signed_by word (Some figures) = number_of false 9223372036854775808 figures >>= negated
+
+-- a signed number of 64 bits, in its one form
+abbrev pub signed_of : List ℕ → Option ℤ
+signed_of word = signed_by word (strip_byte 45 word)
 
 unfoldable pub number_at : List ℕ → Reading ℕ
 number_at bytes = do

@@ -5,8 +5,8 @@ use Rattle.adr_token.specs.declared.texts.Place.{Place}
 use Rattle.adr_token.specs.declared.texts.Place.TheVariants.{Plain, Escaped, Half}
 use Rattle.adr_token.specs.declared.texts.Move.{Move}
 use Rattle.adr_token.specs.declared.texts.Move.TheVariants.{Close, Go, Byte, Stray}
-use Rattle.adr_token.specs.Gives.{Reading, ◌>>=◌}
-use Rattle.adr_token.specs.Words.{is_space}
+use Rattle.adr_token.specs.Gives.{Reading, with_first, ◌>>=◌}
+use Rattle.adr_token.specs.Words.{is_space, strip_byte}
 use Rattle.adr_token.specs.Numbers.{figure}
 
 -- a byte that is written by two figures
@@ -33,24 +33,16 @@ move Plain b = plain_move b
 move Escaped b = escaped_move b
 move (Half high) b = whole_move high (figure true b)
 
-abbrev pub after_byte : ℕ → Option (List ℕ × List ℕ) → Option (List ℕ × List ℕ)
-after_byte b None = None
-after_byte b (Some t) = Some (b ∷ t.0, t.1)
-
-abbrev pub follow : Move → List ℕ → (Place → Option (List ℕ × List ℕ)) → Option (List ℕ × List ℕ)
+abbrev pub follow : Move → List ℕ → (Place → Reading (List ℕ)) → Reading (List ℕ)
 follow Close rest go = Some ([], rest)
 follow (Go place) rest go = go place
-follow (Byte b) rest go = after_byte b (go Plain)
+follow (Byte b) rest go = with_first b (go Plain)
 follow Stray rest go = None
 
 -- the text up to the closing quote, and what follows the quote
-abbrev pub quoted : Place → List ℕ → Option (List ℕ × List ℕ)
+abbrev pub quoted : Place → List ℕ → Reading (List ℕ)
 quoted place [] = None
 quoted place (b ∷ bs) = follow (move place b) bs (λ next. quoted next bs)
-
-abbrev pub opened : List ℕ → Option (List ℕ)
-opened [] = None
-opened (b ∷ bs) = if b == 34 then Some bs else None
 
 -- a word ends here
 abbrev pub ends_word : List ℕ → Bool
@@ -63,7 +55,7 @@ is_text text = nat_le (length text) 65535 && is_utf8 text
 
 unfoldable pub text_at : List ℕ → Reading (List ℕ)
 text_at bytes = do
-  inside ← opened bytes
+  inside ← strip_byte 34 bytes
   text ← quoted Plain inside
   if ends_word text.1 && is_text text.0 then Some text else None
 

@@ -11,6 +11,11 @@ is_space b = b == 32
 abbrev pub unspaced : List ℕ → List ℕ
 unspaced bytes = drop (position_or_len (λ b. not (is_space b)) bytes) bytes
 
+-- what stands behind a byte, where that is the first
+abbrev pub strip_byte : ℕ → List ℕ → Option (List ℕ)
+strip_byte byte [] = None
+strip_byte byte (b ∷ bs) = if b == byte then Some bs else None
+
 -- up to the first space
 abbrev pub word_at : List ℕ → Reading (List ℕ)
 word_at bytes = if length (unspaced bytes) == 0 then None else Some (cut (unspaced bytes))
@@ -46,7 +51,3 @@ unfoldable pub said : List ℕ → List ℕ → Reading (Unit {0})
 said what bytes = do
   word ← word_at bytes
   if bytes_eq word.0 what then Some (tt, word.1) else None
-
--- some bytes at the front
-abbrev pub prefix_at : List ℕ → List ℕ → Reading (Unit {0})
-prefix_at front bytes = if bytes_eq (take (length front) bytes) front then Some (tt, drop (length front) bytes) else None

@@ -6,9 +6,10 @@ ghost use Rattle.adr_token.specs.Gives.{Gives};
 ghost use Rattle.adr_token.specs.Identifiers.{spelled_back, full_identifier, short_identifier, identifier_of, identifier_at};
 
 use crate::numbers::number_of;
-use crate::stop::Stop;
+use crate::stop::{Bad, Stop};
 use crate::texts::utf8;
 use crate::words::Line;
+use adr_failure::Failure;
 use uuid::Uuid;
 
 fn parsed(text: &str) -> Option<Uuid>
@@ -80,7 +81,7 @@ impl Line<'_> {
         let word = self.word()?;
         match identifier_of(word) {
             Some(id) => Ok(id),
-            None => Err(Stop::Bad),
+            None => Err(Failure::Refused(Bad)),
         }
     }
 }

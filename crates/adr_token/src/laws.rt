@@ -1,6 +1,7 @@
 //! The laws of the tokens.
 
 ghost use Rattle.adr_token.specs.Laws.{NamesAreReadAgain, NamesWereSpelled, NumbersAreReadAgain, NumbersWereSpelled, IdentifiersAreReadAgain, IdentifiersWereSpelled, TextsAreReadAgain, TextsWereSpelled};
+ghost use Rattle.adr_token.specs.SetLaws.{AttributesAreReadAgain, AttributesAreSpelled, AttributesWereSpelled, ClassesAreReadAgain, ClassesAreSpelled, ClassesWereSpelled, SetsAreReadAgain, SetsAreSpelled, SetsWereSpelled};
 
 /// A name is spelled as it is.
 pub fn names_read_back()
@@ -24,4 +25,25 @@ pub fn identifiers_read_back()
 pub fn texts_read_back()
     ensures again { TextsAreReadAgain }
     ensures only { TextsWereSpelled }
+{}
+
+/// A class is spelled by its number, and by its name too where it has one.
+pub fn classes_read_back()
+    ensures again { ClassesAreReadAgain }
+    ensures only { ClassesWereSpelled }
+    ensures token { ClassesAreSpelled }
+{}
+
+/// An attribute is spelled by its number, and by its name too where it has one.
+pub fn attributes_read_back()
+    ensures again { AttributesAreReadAgain }
+    ensures only { AttributesWereSpelled }
+    ensures token { AttributesAreSpelled }
+{}
+
+/// An attribute with its values is spelled by each of its spellings and those of its values.
+pub fn sets_read_back()
+    ensures again { SetsAreReadAgain }
+    ensures only { SetsWereSpelled }
+    ensures token { SetsAreSpelled }
 {}

@@ -1,11 +1,14 @@
-//! The tokens of the schedule language and of answers: names, numbers, identifiers and texts,
-//! each with its reader, its writer and the law that joins them. It stands on the small types of
-//! `adr_schema`, and knows nothing of lines, events or answers.
+//! The tokens of the schedule language and of answers: names, numbers, identifiers, texts, classes,
+//! attributes and sets of values, each with its reader, its writer and the law that joins them. It
+//! stands on the small types and the names of `adr_schema`, and knows nothing of lines, events or
+//! answers.
 #![tactic(auto)]
 
+mod classes;
 mod identifiers;
 mod laws;
 mod numbers;
+mod sets;
 mod stop;
 mod texts;
 mod values;
@@ -13,9 +16,12 @@ mod words;
 mod writing;
 
 pub use identifiers::identifier_of;
-pub use laws::{identifiers_read_back, names_read_back, numbers_read_back, texts_read_back};
+pub use laws::{
+    attributes_read_back, classes_read_back, identifiers_read_back, names_read_back,
+    numbers_read_back, sets_read_back, texts_read_back,
+};
 pub use numbers::number_of;
-pub use stop::Stop;
+pub use stop::{Bad, Stop};
 pub use texts::utf8;
 pub use values::{push_attribute, push_class, push_set, push_value};
 pub use words::{Line, is_digit, is_letter, without_spaces};

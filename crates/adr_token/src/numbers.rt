@@ -2,10 +2,11 @@
 
 ghost use Rattle.std.specs.Prelude.{◌≡◌, ◌≤◌, ◌<◌, ◌^◌, ℕ, List, length, false, IfSome};
 ghost use Rattle.adr_token.specs.Gives.{Gives};
-ghost use Rattle.adr_token.specs.Numbers.{base, figure, figures_from, is_short, number_of, number_at};
+ghost use Rattle.adr_token.specs.Numbers.{base, figure, figures_from, is_short, negated, number_of, number_at, signed_of};
 
-use crate::stop::Stop;
-use crate::words::{Line, is_digit};
+use crate::stop::{Bad, Stop};
+use crate::words::{Line, is_digit, strip_byte};
+use adr_failure::Failure;
 
 /// What a figure stands for.
 pub fn figure(hex: bool, byte: u8) -> Option<u8>
@@ -65,6 +66,27 @@ pub fn number_of(hex: bool, limit: u64, word: &[u8]) -> Option<u64>
     Some(number as u64)
 }
 
+/// The number below 0 of these figures; there is no `-0`.
+fn negated(number: u64) -> Option<i64>
+    requires { number ≤ 2 ^ 63 }
+    ensures { result ≡ negated number }
+{
+    if number == 0 {
+        return None;
+    }
+    Some(-1 - (number - 1) as i64)
+}
+
+/// A decimal number of 64 bits with a sign, without leading zeros.
+pub fn signed_of(word: &[u8]) -> Option<i64>
+    ensures { result ≡ signed_of word.now }
+{
+    match strip_byte(word, b'-') {
+        None => Some(number_of(false, i64::MAX as u64, word)? as i64),
+        Some(figures) => negated(number_of(false, 1 << 63, figures)?),
+    }
+}
+
 impl Line<'_> {
     /// A decimal number of 64 bits.
     #[tactic(auto, unfolding(crate::specs::Numbers::number_at))]
@@ -74,7 +96,7 @@ impl Line<'_> {
         let word = self.word()?;
         match number_of(false, u64::MAX, word) {
             Some(number) => Ok(number),
-            None => Err(Stop::Bad),
+            None => Err(Failure::Refused(Bad)),
         }
     }
 }

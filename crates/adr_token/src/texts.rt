@@ -4,11 +4,12 @@ ghost use Rattle.std.specs.Prelude.{◌≡◌, ◌+◌, ◌*◌, ◌<◌, ℕ, L
 ghost use Rattle.std.specs.Str.{IsUtf8, is_utf8};
 ghost use Rattle.adr_token.specs.Gives.{Gives, Stops};
 ghost use Rattle.adr_token.specs.Numbers.{figure};
-ghost use Rattle.adr_token.specs.Texts.{plain_move, escaped_move, whole_move, is_control, IsHalfSmall, IsMoveSmall, move, quoted, opened, ends_word, is_text, text_at};
+ghost use Rattle.adr_token.specs.Texts.{plain_move, escaped_move, whole_move, is_control, IsHalfSmall, IsMoveSmall, move, quoted, ends_word, is_text, text_at};
 
 use crate::numbers::figure;
-use crate::stop::Stop;
-use crate::words::Line;
+use crate::stop::{Bad, Stop};
+use crate::words::{Line, strip_byte};
+use adr_failure::Failure;
 use adr_schema::Text;
 use std::alloc::Global;
 
@@ -94,7 +95,7 @@ fn move_at(place: Place, byte: u8) -> Move
 
 /// The text up to the closing quote, and what follows.
 #[tactic(auto, using(crate::proofs::TextLemmas::onto_push))]
-fn quoted(alloc: Global, bytes: &[u8]) -> Result<(Vec<u8>, &[u8]), Stop>
+pub fn quoted(alloc: Global, bytes: &[u8]) -> Result<(Vec<u8>, &[u8]), Stop>
     ensures text { IfOk result (λ x. quoted Place.Plain bytes.now ≡ Some (x.0.items, x.1.now)) }
     ensures stop { IfErr result (λ stop. Stops stop (quoted Place.Plain bytes.now)) }
 {
@@ -108,22 +109,14 @@ fn quoted(alloc: Global, bytes: &[u8]) -> Result<(Vec<u8>, &[u8]), Stop>
                 text.push(byte)?;
                 place = Place::Plain;
             }
-            Move::Stray => return Err(Stop::Bad),
+            Move::Stray => return Err(Failure::Refused(Bad)),
         }
     }
-    Err(Stop::Bad)
+    Err(Failure::Refused(Bad))
 }
 
-fn opened(bytes: &[u8]) -> Option<&[u8]>
-    ensures { MatchOption result (opened bytes.now ≡ None) (λ rest. opened bytes.now ≡ Some rest.now) }
-{
-    match bytes.split_first() {
-        Some((first, rest)) if *first == b'"' => Some(rest),
-        _ => None,
-    }
-}
-
-fn ends_word(bytes: &[u8]) -> bool
+/// Whether a word ends before these bytes.
+pub fn ends_word(bytes: &[u8]) -> bool
     ensures { result ≡ ends_word bytes.now }
 {
     match bytes.first() {
@@ -134,7 +127,8 @@ fn ends_word(bytes: &[u8]) -> bool
 
 /// The bytes as text, where they are UTF-8.
 pub fn utf8(bytes: &[u8]) -> Option<&str>
-    ensures { MatchOption result (is_utf8 bytes.now ≡ false) (λ text. (text.now ≡ bytes.now) × (is_utf8 bytes.now ≡ true)) }
+    ensures { MatchOption result (is_utf8 bytes.now ≡ false) (λ text. (text.now ≡ bytes.now)
+        × (is_utf8 bytes.now ≡ true)) }
 {
     match std::str::from_utf8(bytes) {
         Ok(text) => Some(text),
@@ -143,8 +137,9 @@ pub fn utf8(bytes: &[u8]) -> Option<&str>
 }
 
 /// Bytes as a text of its own, where the language has room for it.
-fn text_of(bytes: Vec<u8>) -> Option<Text>
-    ensures { MatchOption result (is_text bytes.items ≡ false) (λ text. (text ≡ bytes.items) × (is_text bytes.items ≡ true)) }
+pub fn text_of(bytes: Vec<u8>) -> Option<Text>
+    ensures { MatchOption result (is_text bytes.items ≡ false) (λ text. (text ≡ bytes.items)
+        × (is_text bytes.items ≡ true)) }
 {
     if bytes.len() > 65_535 {
         return None;
@@ -161,17 +156,17 @@ impl Line<'_> {
     pub fn text(&mut self, alloc: Global) -> Result<Text, Stop>
         ensures { Gives result self.new (text_at self.old) }
     {
-        let Some(inside) = opened(self.rest()) else {
-            return Err(Stop::Bad);
+        let Some(inside) = strip_byte(self.rest(), b'"') else {
+            return Err(Failure::Refused(Bad));
         };
         let (text, rest) = quoted(alloc, inside)?;
         if !ends_word(rest) {
-            return Err(Stop::Bad);
+            return Err(Failure::Refused(Bad));
         }
         self.go_on(rest);
         match text_of(text) {
             Some(text) => Ok(text),
-            None => Err(Stop::Bad),
+            None => Err(Failure::Refused(Bad)),
         }
     }
 }

@@ -1,22 +1,24 @@
 //! The words of a line.
 
-ghost use Rattle.std.specs.Prelude.{◌↔◌, ◌≡◌, ◌≤◌, ◌<◌, ℕ, List, length, IsTrue, not, IfOk, IfErr, Some, None};
+ghost use Rattle.std.specs.Prelude.{◌↔◌, ◌≡◌, ◌==◌, ◌≤◌, ◌<◌, ℕ, List, length, IsTrue, not, IfOk, IfErr, MatchOption, Some, None};
 ghost use Rattle.std.specs.List.{position_or_len, list_all};
-ghost use Rattle.adr_token.specs.Gives.{Gives};
-ghost use Rattle.adr_token.specs.Words.{is_space, unspaced, word_at, is_letter, is_digit, is_name_byte, is_name, name_at, said, prefix_at};
+ghost use Rattle.adr_token.specs.Gives.{Gives, bad};
+ghost use Rattle.adr_failure.specs.declared.Failure.TheVariants.{NoMemory as no_memory};
+ghost use Rattle.adr_token.specs.Words.{is_space, unspaced, word_at, is_letter, is_digit, is_name_byte, is_name, name_at, said, strip_byte};
 
-use crate::stop::Stop;
+use crate::stop::{Bad, Stop};
+use adr_failure::Failure;
 use adr_schema::Text;
 use std::alloc::Global;
 use std::marker::Model;
 
-/// How many bytes stand before the first space.
-fn word_len(bytes: &[u8]) -> usize
-    ensures value { result ≡ position_or_len is_space bytes.now }
+/// How many bytes stand before the first that is this one.
+pub fn len_before(bytes: &[u8], stop: u8) -> usize
+    ensures value { result ≡ position_or_len (λ b. b == stop) bytes.now }
     ensures within { result ≤ length bytes.now }
 {
     for (index, byte) in bytes.iter().enumerate() {
-        if *byte == b' ' {
+        if *byte == stop {
             return index;
         }
     }
@@ -41,6 +43,17 @@ pub fn without_spaces(bytes: &[u8]) -> &[u8]
     ensures { result.now ≡ unspaced bytes.now }
 {
     bytes.split_at(spaces(bytes)).1
+}
+
+/// What stands behind a byte, where that is the first.
+pub fn strip_byte(bytes: &[u8], byte: u8) -> Option<&[u8]>
+    ensures { MatchOption result (strip_byte byte bytes.now ≡ None) (λ rest. strip_byte byte bytes.now
+        ≡ Some rest.now) }
+{
+    match bytes.split_first() {
+        Some((first, rest)) if *first == byte => Some(rest),
+        _ => None,
+    }
 }
 
 pub fn is_letter(byte: u8) -> bool
@@ -80,7 +93,7 @@ fn is_named(word: &[u8]) -> bool
 fn own_text(alloc: Global, word: &[u8]) -> Result<Text, Stop>
     requires { IsTrue (is_name word.now) }
     ensures value { IfOk result (λ text. text ≡ word.now) }
-    ensures memory { IfErr result (λ stop. stop ≡ Stop.NoMemory) }
+    ensures memory { IfErr result (λ stop. stop ≡ no_memory) }
 {
     let bytes = Vec::from_slice(alloc, word)?;
     Ok(Text::of(bytes))
@@ -131,13 +144,13 @@ impl<'a> Line<'a> {
     /// The next word.
     pub fn word(&mut self) -> Result<&'a [u8], Stop>
         ensures word { IfOk result (λ word. word_at self.old ≡ Some (word.now, self.new)) }
-        ensures bad { IfErr result (λ stop. (stop ≡ Stop.Bad) × (word_at self.old ≡ None)) }
+        ensures bad { IfErr result (λ stop. (stop ≡ bad) × (word_at self.old ≡ None)) }
     {
         let rest = without_spaces(self.rest);
         if rest.len() == 0 {
-            return Err(Stop::Bad);
+            return Err(Failure::Refused(Bad));
         }
-        let (word, rest) = rest.split_at(word_len(rest));
+        let (word, rest) = rest.split_at(len_before(rest, b' '));
         self.rest = rest;
         Ok(word)
     }
@@ -150,7 +163,7 @@ impl<'a> Line<'a> {
     {
         let word = self.word()?;
         if !is_named(word) {
-            return Err(Stop::Bad);
+            return Err(Failure::Refused(Bad));
         }
         own_text(alloc, word)
     }
@@ -158,11 +171,10 @@ impl<'a> Line<'a> {
 
 impl Line<'_> {
     /// Whether nothing but spaces is left.
-    pub fn is_ended(&mut self) -> bool
-        ensures { IsTrue result ↔ (length (unspaced self.old) ≡ 0) }
+    pub fn is_ended(&self) -> bool
+        ensures { IsTrue result ↔ (length (unspaced self.now) ≡ 0) }
     {
-        self.skip_spaces();
-        self.rest().len() == 0
+        without_spaces(self.rest()).len() == 0
     }
 
     /// A word that stands as it is.
@@ -173,24 +185,7 @@ impl Line<'_> {
         if self.word()? == what {
             Ok(())
         } else {
-            Err(Stop::Bad)
-        }
-    }
-
-    /// These bytes at the very front.
-    pub fn prefix(&mut self, front: &[u8]) -> Result<(), Stop>
-        ensures { Gives result self.new (prefix_at front.now self.old) }
-    {
-        let rest = self.rest();
-        if rest.len() < front.len() {
-            return Err(Stop::Bad);
-        }
-        let (start, rest) = rest.split_at(front.len());
-        self.go_on(rest);
-        if start == front {
-            Ok(())
-        } else {
-            Err(Stop::Bad)
+            Err(Failure::Refused(Bad))
         }
     }
 }

@@ -1,5 +1,11 @@
-use Rattle.adr_schedule.proofs.PrintLaws.{read_again}
+use Rattle.adr_schedule.proofs.PrintLaws.{allowed_spells, printed_read, read_again}
 use Rattle.adr_schedule.proofs.laws.events_are_read_again.Goals as goal
 
-pub returns : goal.returns
-returns c = read_again
+pub returns-clause-lines : goal.returns-clause-lines
+returns-clause-lines c = allowed_spells
+
+pub returns-clause-printed : goal.returns-clause-printed
+returns-clause-printed c = printed_read
+
+pub returns-clause-again : goal.returns-clause-again
+returns-clause-again c = read_again

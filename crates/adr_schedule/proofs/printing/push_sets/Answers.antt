@@ -1,6 +1,7 @@
 use Rattle.std.proofs.Common.{◌++◌, sym, ap}
 use Rattle.adr_schedule.specs.Printed.{set_tokens, spaced}
-use Rattle.adr_schedule.proofs.SetLemmas.{all_left, all_written, fewer_left, next_left, set_written}
+use Rattle.adr_schema.proofs.LeftAbove.{all_left, fewer_left, next_left}
+use Rattle.adr_schedule.proofs.SetLemmas.{all_written, set_written}
 use Rattle.adr_schedule.proofs.printing.push_sets.Goals as goal
 
 pub attributes-init : goal.attributes-init

@@ -1,0 +1,14 @@
+-- What a schedule has at most.
+use Rattle.std.specs.Prelude.{ℕ}
+
+-- the bytes of a text: 16 MiB
+abbrev pub text_limit : ℕ
+text_limit = 16777216
+
+-- the controllers that its lines make
+abbrev pub controller_limit : ℕ
+controller_limit = 64
+
+-- the items that a line asks for
+abbrev pub ask_limit : ℕ
+ask_limit = 10000

@@ -1,0 +1,10 @@
+//! What a schedule has at most.
+
+/// The bytes of a text: 16 MiB.
+pub const TEXT_LIMIT: usize = 16_777_216;
+
+/// The controllers that its lines make.
+pub const CONTROLLER_LIMIT: usize = 64;
+
+/// The items that a line asks for.
+pub const ASK_LIMIT: u64 = 10_000;
