@@ -2,7 +2,7 @@
 use Rattle.std.proofs.Common.{List, [], ◌∷◌}
 use Rattle.adr_event.specs.declared.event.Event.{Event}
 use Rattle.adr_event.specs.declared.event.Event.TheVariants as events
-use Rattle.adr_schedule.specs.Commands.{IsAllowed}
+use Rattle.adr_schedule.specs.Grammar.{IsAllowed}
 use Rattle.adr_schedule.specs.Seen.{Seen, seen_after, IsFollowing}
 use Rattle.adr_world.specs.Built.{IsBuilt, AreBuilt}
 
@@ -11,6 +11,11 @@ built : (e : Event) → IsAllowed e → IsBuilt e
 built (events.Controller name dsa inv) allowed = tt
 built (events.Time now) allowed = tt
 built (events.Add name guid class parent text values) allowed = tt
+built (events.Modify name guid values) allowed = tt
+built (events.Rename name guid parent text) allowed = tt
+built (events.Delete name guid) allowed = tt
+built (events.Link name from attr to) allowed = tt
+built (events.Unlink name from attr to) allowed = tt
 built (events.Ask name partner max bind) allowed = tt
 built (events.Serve name request bind) allowed = tt
 built (events.Deliver name reply) allowed = tt
@@ -19,7 +24,7 @@ built (events.Cycle name source max) allowed = tt
 built (events.Show name) allowed = tt
 built (events.Vector name) allowed = tt
 built (events.Marks name) allowed = tt
-built _ allowed = absurd allowed
+built _ allowed = absurd allowed.0
 
 pub all_built : (es : List Event) (seen : Seen) → IsFollowing seen es → AreBuilt es
 all_built [] seen follow = tt

@@ -8,6 +8,7 @@ use Rattle.adr_io.specs.Told.{Adds, AddsFront}
 use Rattle.adr_io.specs.declared.Fault.{Fault}
 use Rattle.adr_io.specs.declared.Fault.TheVariants.{Failed, NoMemory}
 use Rattle.adr_schedule.specs.declared.fault.Cause.TheVariants.{TooLong}
+use Rattle.adr_schedule.specs.Limits.{text_limit}
 use Rattle.adr_schedule.specs.Lines.{lines_of}
 use Rattle.adr_schedule.specs.Seen.{nothing_seen}
 use Rattle.adr_schedule.specs.Events.{events_of, events_from, bad}
@@ -27,12 +28,12 @@ cut limit text x f =
     ]
 
 -- the first bytes tell as much as all do
-outcome_front : (text : List ℕ) → outcome (take 16777217 text) ≡ outcome text
+outcome_front : (text : List ℕ) → outcome (take (text_limit + 1) text) ≡ outcome text
 unfolding outcome events_of
-outcome_front text = ap outcome_of (cut 16777216 text (bad 0 TooLong) (λ t. events_from nothing_seen 1 (lines_of t)))
+outcome_front text = ap outcome_of (cut text_limit text (bad 0 TooLong) (λ t. events_from nothing_seen 1 (lines_of t)))
 
 -- what the bytes that were read give is what the text gives
-at_text : (P : ℕ × List ℕ → Type 0) (left : Option (List ℕ)) (bytes : List ℕ) → IfSome left (λ text. bytes ≡ take 16777217 text) → P (outcome bytes) → IfSome left (λ text. P (outcome text))
+at_text : (P : ℕ × List ℕ → Type 0) (left : Option (List ℕ)) (bytes : List ℕ) → IfSome left (λ text. bytes ≡ take (text_limit + 1) text) → P (outcome bytes) → IfSome left (λ text. P (outcome text))
 at_text P None bytes read p = tt
 at_text P (Some text) bytes read p = subst P (ap outcome read ∙ outcome_front text) p
 
@@ -47,31 +48,31 @@ a_fault : {P : Type 0} (r status : ℕ) (written : Result (Unit {0}) Fault) → 
 a_fault r status (Ok done) is plain h p = absurd (elim h [ inl e ↦ elim plain [ inl z ↦ omega arith | inr z ↦ omega arith ] | inr e ↦ elim plain [ inl z ↦ omega arith | inr z ↦ omega arith ] ])
 a_fault r status (Err fault) is plain h p = p
 
-pub told_status : (left : Option (List ℕ)) (bytes : List ℕ) (r status : ℕ) (written : Result (Unit {0}) Fault) → IfSome left (λ text. bytes ≡ take 16777217 text) → r ≡ ended status written
+pub told_status : (left : Option (List ℕ)) (bytes : List ℕ) (r status : ℕ) (written : Result (Unit {0}) Fault) → IfSome left (λ text. bytes ≡ take (text_limit + 1) text) → r ≡ ended status written
     → OnOk written (status ≡ (outcome bytes).0) → (r ≡ 0) ⊎ (r ≡ 3) → IfSome left (λ text. r ≡ (outcome text).0)
 told_status left bytes r status written read is ok h =
     no_fault r status written is h ok (λ same s. at_text (λ x. r ≡ x.0) left bytes read (same ∙ s))
 
-pub told_written : (left before after : Option (List ℕ)) (bytes : List ℕ) (r status : ℕ) (written : Result (Unit {0}) Fault) → IfSome left (λ text. bytes ≡ take 16777217 text) → r ≡ ended status written
+pub told_written : (left before after : Option (List ℕ)) (bytes : List ℕ) (r status : ℕ) (written : Result (Unit {0}) Fault) → IfSome left (λ text. bytes ≡ take (text_limit + 1) text) → r ≡ ended status written
     → OnOk written (Adds before after (outcome bytes).1) → (r ≡ 0) ⊎ (r ≡ 3) → IfSome left (λ text. Adds before after (outcome text).1)
 told_written left before after bytes r status written read is ok h =
     no_fault r status written is h ok (λ same a. at_text (λ x. Adds before after x.1) left bytes read a)
 
-pub told_front : (left before after : Option (List ℕ)) (bytes : List ℕ) (r status : ℕ) (written : Result (Unit {0}) Fault) → IfSome left (λ text. bytes ≡ take 16777217 text) → r ≡ ended status written
+pub told_front : (left before after : Option (List ℕ)) (bytes : List ℕ) (r status : ℕ) (written : Result (Unit {0}) Fault) → IfSome left (λ text. bytes ≡ take (text_limit + 1) text) → r ≡ ended status written
     → (status ≡ 0) ⊎ (status ≡ 3) → OnErr written (AddsFront before after (outcome bytes).1) → (r ≡ 5) ⊎ (r ≡ 8) → IfSome left (λ text. AddsFront before after (outcome text).1)
 told_front left before after bytes r status written read is plain err h =
     at_text (λ x. AddsFront before after x.1) left bytes read (a_fault r status written is plain h err)
 
 -- a text that is a schedule isn't too long
-not_long : (b : Bool) (text : List ℕ) → nat_lt 16777216 (length text) ≡ b → (outcome_of (cond b (bad 0 TooLong) (events_from nothing_seen 1 (lines_of text)))).0 ≡ 0 → length text ≤ 16777217
+not_long : (b : Bool) (text : List ℕ) → nat_lt text_limit (length text) ≡ b → (outcome_of (cond b (bad 0 TooLong) (events_from nothing_seen 1 (lines_of text)))).0 ≡ 0 → length text ≤ text_limit + 1
 not_long true text long zero = absurd (omega arith)
 not_long false text short zero = grind (arith, nat_tests)
 
-short_text : (text : List ℕ) → (outcome text).0 ≡ 0 → length text ≤ 16777217
+short_text : (text : List ℕ) → (outcome text).0 ≡ 0 → length text ≤ text_limit + 1
 unfolding outcome events_of
-short_text text zero = not_long (nat_lt 16777216 (length text)) text refl zero
+short_text text zero = not_long (nat_lt text_limit (length text)) text refl zero
 
 -- with 0 the source is at its end
-pub told_end : (left after : Option (List ℕ)) (r : ℕ) → IfSome left (λ text. r ≡ (outcome text).0) → IfSome left (λ text. after ≡ Some (drop 16777217 text)) → r ≡ 0 → IfSome left (λ text. after ≡ Some [])
+pub told_end : (left after : Option (List ℕ)) (r : ℕ) → IfSome left (λ text. r ≡ (outcome text).0) → IfSome left (λ text. after ≡ Some (drop (text_limit + 1) text)) → r ≡ 0 → IfSome left (λ text. after ≡ Some [])
 told_end None after r status rest zero = tt
-told_end (Some text) after r status rest zero = rest ∙ ap Some (drop_all 16777217 text (short_text text (sym status ∙ zero)))
+told_end (Some text) after r status rest zero = rest ∙ ap Some (drop_all (text_limit + 1) text (short_text text (sym status ∙ zero)))

@@ -1,12 +1,14 @@
 //! Reading a source to its end.
 
 ghost use Rattle.std.specs.Prelude.{◌≡◌, ◌<◌, ◌≤◌, ℕ, List, length, take, drop, [], ◌++◌, ◌+◌, Some, Ok, IfOk, IfSome, OnOk, IsErrOf};
+ghost use Rattle.adr_schedule.specs.Limits.{text_limit};
 
 use adr_io::{Fault, Source};
+use adr_schedule::TEXT_LIMIT;
 use std::alloc::Global;
 
 /// The most bytes that are read: one more than a text may have.
-const MOST: usize = 16_777_217;
+const MOST: usize = TEXT_LIMIT + 1;
 
 /// Reads some bytes, at most so many; at the end none.
 fn read_some<S: Source>(source: &mut S, bytes: &mut Vec<u8>, room: usize) -> Result<usize, Fault>
@@ -15,7 +17,8 @@ fn read_some<S: Source>(source: &mut S, bytes: &mut Vec<u8>, room: usize) -> Res
         (n ≤ length before) × (S.left source.new ≡ Some (drop n before)) × (bytes.new.items ≡ bytes.old.items ++ take n before))) }
     ensures count { IfOk result (λ n. (n ≤ room) × (length bytes.new.items ≡ length bytes.old.items + n)) }
     ensures end { result ≡ Ok 0 → IfSome (S.left source.old) (λ before. before ≡ []) }
-    ensures at_most { IfSome (S.left source.old) (λ before. (n : ℕ) × (n ≤ room) × (S.left source.new ≡ Some (drop n before))) }
+    ensures at_most { IfSome (S.left source.old) (λ before. (n : ℕ) × (n ≤ room)
+        × (S.left source.new ≡ Some (drop n before))) }
     ensures never_falls { S.faults source.old ≤ S.faults source.new }
     ensures failed { IsErrOf result Fault.Failed → S.faults source.old < S.faults source.new }
 {
@@ -23,17 +26,18 @@ fn read_some<S: Source>(source: &mut S, bytes: &mut Vec<u8>, room: usize) -> Res
     let size = room.min(4096);
     let (front, _) = buffer.split_at_mut(size);
     let count = source.read(front)?;
-    match bytes.extend_from_slice(&front[..count]) {
-        Ok(()) => Ok(count),
-        Err(_) => Err(Fault::NoMemory),
-    }
+    bytes.extend_from_slice(&front[..count])?;
+    Ok(count)
 }
 
 /// Reads to the end, or until there are more bytes than a text may have.
 pub fn read_all<S: Source>(alloc: Global, source: &mut S) -> Result<Vec<u8>, Fault>
-    ensures read { IfOk result (λ bytes. IfSome (S.left source.old) (λ text. bytes.items ≡ take 16777217 text)) }
-    ensures left { IfOk result (λ bytes. IfSome (S.left source.old) (λ text. S.left source.new ≡ Some (drop 16777217 text))) }
-    ensures at_most { IfSome (S.left source.old) (λ text. (n : ℕ) × (n ≤ 16777217) × (S.left source.new ≡ Some (drop n text))) }
+    ensures read { IfOk result (λ bytes. IfSome (S.left source.old) (λ text.
+        bytes.items ≡ take (text_limit + 1) text)) }
+    ensures left { IfOk result (λ bytes. IfSome (S.left source.old) (λ text.
+        S.left source.new ≡ Some (drop (text_limit + 1) text))) }
+    ensures at_most { IfSome (S.left source.old) (λ text. (n : ℕ) × (n ≤ text_limit + 1)
+        × (S.left source.new ≡ Some (drop n text))) }
     ensures never_falls { S.faults source.old ≤ S.faults source.new }
     ensures failed { IsErrOf result Fault.Failed → S.faults source.old < S.faults source.new }
 {

@@ -1,17 +1,18 @@
 //! The top call.
 
-ghost use Rattle.std.specs.Prelude.{◌≡◌, ◌⊎◌, ◌<◌, ◌≤◌, ◌++◌, ◌∷◌, ℕ, List, [], map, string_bytes, true, false, OnOk, OnErr, IfOk, IfErr, IfSome, IsErrOf, drop, Some, codes};
+ghost use Rattle.std.specs.Prelude.{◌≡◌, ◌⊎◌, ◌<◌, ◌≤◌, ◌++◌, ◌∷◌, ◌+◌, ℕ, List, [], map, string_bytes, true, false, OnOk, OnErr, IfOk, IfErr, IfSome, IsErrOf, drop, Some, codes};
 ghost use Rattle.std.specs.Fmt.{decimal};
 ghost use Rattle.adr_io.specs.Told.{Adds, AddsFront};
 ghost use Rattle.adr_law_headline.specs.Headline.{IsHeadline};
 ghost use Rattle.adr_report.specs.Laws.{EqualLinesMeanEqualDirectories};
+ghost use Rattle.adr_schedule.specs.Limits.{text_limit};
 ghost use Rattle.adr_cmd.specs.Outcome.{outcome, cause_text, fault_line, is_replay, usage_line, ended};
 ghost use Rattle.adr_cmd.specs.Shown.{AtEachShow};
 
 use crate::playing::play;
 use crate::reading::read_all;
 use adr_io::{Fault, Sink, Source};
-use adr_schedule::{Cause, ParseRefusal, ScheduleFault, parse};
+use adr_schedule::{Cause, Failure, ScheduleFault, parse};
 use adr_token::{push, push_number};
 use std::alloc::{AllocError, Global};
 
@@ -71,10 +72,8 @@ fn tell_fault<K: Sink>(alloc: Global, fault: ScheduleFault, sink: &mut K) -> Res
     ensures never_falls { K.faults sink.old ≤ K.faults sink.new }
     ensures failed { IsErrOf result Fault.Failed → K.faults sink.old < K.faults sink.new }
 {
-    match fault_line(alloc, fault) {
-        Ok(bytes) => sink.write(bytes.as_slice()),
-        Err(_) => Err(Fault::NoMemory),
-    }
+    let bytes = fault_line(alloc, fault)?;
+    sink.write(bytes.as_slice())
 }
 
 /// Runs a text, or tells its fault: the status but for a write that fails, and how the writes went.
@@ -89,19 +88,24 @@ fn perform<K: Sink>(alloc: Global, text: &[u8], sink: &mut K) -> (u8, Result<(),
 {
     match parse(alloc, text) {
         Ok(events) => (0, play(alloc, events.as_slice(), sink)),
-        Err(ParseRefusal::Bad(fault)) => (3, tell_fault(alloc, fault, sink)),
-        Err(ParseRefusal::NoMemory) => (0, Err(Fault::NoMemory)),
+        Err(Failure::Refused(fault)) => (3, tell_fault(alloc, fault, sink)),
+        Err(Failure::NoMemory) => (0, Err(Fault::NoMemory)),
     }
 }
 
 /// Reads a text, and writes what it gives.
 fn replay<S: Source, K: Sink>(alloc: Global, source: &mut S, sink: &mut K) -> u8
     ensures status { (result ≡ 0) ⊎ (result ≡ 3) → IfSome (S.left source.old) (λ text. result ≡ (outcome text).0) }
-    ensures written { (result ≡ 0) ⊎ (result ≡ 3) → IfSome (S.left source.old) (λ text. Adds (K.written sink.old) (K.written sink.new) (outcome text).1) }
-    ensures front { (result ≡ 5) ⊎ (result ≡ 8) → IfSome (S.left source.old) (λ text. AddsFront (K.written sink.old) (K.written sink.new) (outcome text).1) }
-    ensures printed { result ≡ 0 → IfSome (S.left source.old) (λ text. AtEachShow text (Adds (K.written sink.old) (K.written sink.new))) }
-    ensures read { IfSome (S.left source.old) (λ before. (n : ℕ) × (n ≤ 16777217) × (S.left source.new ≡ Some (drop n before))) }
-    ensures read_whole { (result ≡ 0) ⊎ (result ≡ 3) → IfSome (S.left source.old) (λ text. S.left source.new ≡ Some (drop 16777217 text)) }
+    ensures written { (result ≡ 0) ⊎ (result ≡ 3)
+        → IfSome (S.left source.old) (λ text. Adds (K.written sink.old) (K.written sink.new) (outcome text).1) }
+    ensures front { (result ≡ 5) ⊎ (result ≡ 8)
+        → IfSome (S.left source.old) (λ text. AddsFront (K.written sink.old) (K.written sink.new) (outcome text).1) }
+    ensures printed { result ≡ 0
+        → IfSome (S.left source.old) (λ text. AtEachShow text (Adds (K.written sink.old) (K.written sink.new))) }
+    ensures read { IfSome (S.left source.old) (λ before. (n : ℕ) × (n ≤ text_limit + 1)
+        × (S.left source.new ≡ Some (drop n before))) }
+    ensures read_whole { (result ≡ 0) ⊎ (result ≡ 3)
+        → IfSome (S.left source.old) (λ text. S.left source.new ≡ Some (drop (text_limit + 1) text)) }
     ensures ended { result ≡ 0 → IfSome (S.left source.old) (λ text. S.left source.new ≡ Some []) }
     ensures read_fault { result ≡ 4 → S.faults source.old < S.faults source.new }
     ensures unwritten { result ≡ 4 → sink.new ≡ sink.old }
@@ -141,19 +145,23 @@ fn usage<K: Sink>(sink: &mut K) -> u8
 pub fn run<S: Source, K: Sink>(alloc: Global, words: &[String], source: &mut S, sink: &mut K) -> u8
     // Wrong words get the usage line, and no other words do.
     ensures usage { result ≡ 2 → is_replay (map string_bytes words.now) ≡ false }
-    ensures usage_only { is_replay (map string_bytes words.now) ≡ false → (result ≡ 2) ⊎ ((result ≡ 5) ⊎ (result ≡ 8)) }
+    ensures usage_only { is_replay (map string_bytes words.now) ≡ false
+        → (result ≡ 2) ⊎ ((result ≡ 5) ⊎ (result ≡ 8)) }
     ensures usage_line { result ≡ 2 → Adds (K.written sink.old) (K.written sink.new) usage_line }
-    ensures usage_front { is_replay (map string_bytes words.now) ≡ false → (result ≡ 5) ⊎ (result ≡ 8) → AddsFront (K.written sink.old) (K.written sink.new) usage_line }
+    ensures usage_front { is_replay (map string_bytes words.now) ≡ false → (result ≡ 5) ⊎ (result ≡ 8)
+        → AddsFront (K.written sink.old) (K.written sink.new) usage_line }
     ensures usage_unread { is_replay (map string_bytes words.now) ≡ false → source.new ≡ source.old }
 
     // With 0 or 3 what was written is what the text gives, and so is the status. With 0 the source is at its end.
     ensures status { (result ≡ 0) ⊎ (result ≡ 3) → IfSome (S.left source.old) (λ text. result ≡ (outcome text).0) }
-    ensures written { (result ≡ 0) ⊎ (result ≡ 3) → IfSome (S.left source.old) (λ text. Adds (K.written sink.old) (K.written sink.new) (outcome text).1) }
+    ensures written { (result ≡ 0) ⊎ (result ≡ 3)
+        → IfSome (S.left source.old) (λ text. Adds (K.written sink.old) (K.written sink.new) (outcome text).1) }
     ensures ended { result ≡ 0 → IfSome (S.left source.old) (λ text. S.left source.new ≡ Some []) }
 
     // And where a text asks a controller that is up for its directory, what was written is there the directory of the
     // issued updates that the controller covers or holds.
-    ensures printed { result ≡ 0 → IfSome (S.left source.old) (λ text. AtEachShow text (Adds (K.written sink.old) (K.written sink.new))) }
+    ensures printed { result ≡ 0
+        → IfSome (S.left source.old) (λ text. AtEachShow text (Adds (K.written sink.old) (K.written sink.new))) }
 
     // Equal lines mean equal directories.
     ensures directories { EqualLinesMeanEqualDirectories }
@@ -164,15 +172,19 @@ pub fn run<S: Source, K: Sink>(alloc: Global, words: &[String], source: &mut S, 
     ensures headline { (text : List ℕ) → IsHeadline text }
 
     // With a fault it is a front of that. Of the source no more is read than a text may have, and one byte.
-    ensures front { is_replay (map string_bytes words.now) ≡ true → (result ≡ 5) ⊎ (result ≡ 8) → IfSome (S.left source.old) (λ text. AddsFront (K.written sink.old) (K.written sink.new) (outcome text).1) }
-    ensures read { IfSome (S.left source.old) (λ before. (n : ℕ) × (n ≤ 16777217) × (S.left source.new ≡ Some (drop n before))) }
-    ensures read_whole { (result ≡ 0) ⊎ (result ≡ 3) → IfSome (S.left source.old) (λ text. S.left source.new ≡ Some (drop 16777217 text)) }
+    ensures front { is_replay (map string_bytes words.now) ≡ true → (result ≡ 5) ⊎ (result ≡ 8)
+        → IfSome (S.left source.old) (λ text. AddsFront (K.written sink.old) (K.written sink.new) (outcome text).1) }
+    ensures read { IfSome (S.left source.old) (λ before. (n : ℕ) × (n ≤ text_limit + 1)
+        × (S.left source.new ≡ Some (drop n before))) }
+    ensures read_whole { (result ≡ 0) ⊎ (result ≡ 3)
+        → IfSome (S.left source.old) (λ text. S.left source.new ≡ Some (drop (text_limit + 1) text)) }
 
     // A fault has its cause.
     ensures read_fault { result ≡ 4 → S.faults source.old < S.faults source.new }
     ensures unwritten { result ≡ 4 → sink.new ≡ sink.old }
     ensures write_fault { result ≡ 5 → K.faults sink.old < K.faults sink.new }
-    ensures statuses { (result ≡ 0) ⊎ ((result ≡ 2) ⊎ ((result ≡ 3) ⊎ ((result ≡ 4) ⊎ ((result ≡ 5) ⊎ (result ≡ 8))))) }
+    ensures statuses { (result ≡ 0)
+        ⊎ ((result ≡ 2) ⊎ ((result ≡ 3) ⊎ ((result ≡ 4) ⊎ ((result ≡ 5) ⊎ (result ≡ 8))))) }
     ensures source_faults { S.faults source.old ≤ S.faults source.new }
     ensures sink_faults { K.faults sink.old ≤ K.faults sink.new }
 {

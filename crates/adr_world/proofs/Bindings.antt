@@ -1,5 +1,5 @@
 -- What lines bound to names is sound, and what comes of it.
-use Rattle.std.proofs.Common.{◌≡◌, ◌∙◌, refl, sym, ap, inl, [], ◌∷◌, Option, Some, codes}
+use Rattle.std.proofs.Common.{◌≡◌, ◌∙◌, sym, ap, inl, [], ◌∷◌, Option, Some, codes}
 use Rattle.adr_event.specs.declared.answer.Answer.{Answer}
 use Rattle.adr_event.specs.declared.answer.Outcome.{Outcome}
 use Rattle.adr_event.specs.declared.event.Event.TheVariants.{Serve, Deliver}

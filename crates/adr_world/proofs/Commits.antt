@@ -12,8 +12,9 @@ use Rattle.adr_model.specs.Store.{State}
 use Rattle.adr_model.specs.Change.{after}
 use Rattle.adr_model.specs.Lengths.{log_limit, log_end_after}
 use Rattle.adr_model.specs.Refused.{full}
-use Rattle.adr_model.specs.Replica.{Replica, Book, Pending, recorded, on_disk}
+use Rattle.adr_model.specs.Replica.{Replica, Pending, recorded, on_disk}
 use Rattle.adr_model.specs.World.{World, Name, with_replica, committed, commit}
+use Rattle.adr_book.specs.Past.{Past}
 use Rattle.adr_world.specs.declared.controller.Controller.{Controller}
 use Rattle.adr_world.specs.Run.{replica_of, with_commit, IsWithin, IsTidy}
 use Rattle.adr_world.proofs.Places.{with_state, placed, apart_still, each_still}
@@ -25,14 +26,15 @@ at_place cs i d lt is = slice_get_read cs (length cs) i d refl lt is
 pub same_place : (cs : List Controller) (i : ℕ) (c d : Controller) → i < length cs → d ≡ slice_index_or cs i d → slice_get cs i ≡ Some c → d ≡ c
 same_place cs i c d lt is at = let both : Some d ≡ Some c = sym (at_place cs i d lt is) ∙ at in cc
 
-with_parts : (w : World) (a b : Book) (rs qs : List Replica) → a ≡ b → rs ≡ qs → record w { book = a; replicas = rs } ≡ record w { book = b; replicas = qs }
-with_parts w a b rs qs books replicas = ap (λ s. record w { book = s; replicas = rs }) books ∙ ap (λ x. record w { book = b; replicas = x }) replicas
+with_parts : (w : World) (a b : Past) (rs qs : List Replica) → a ≡ b → rs ≡ qs → record w { book = a.book; given = a.given; replicas = rs } ≡ record w { book = b.book; given = b.given; replicas = qs }
+with_parts w a b rs qs pasts replicas = ap (λ (p : Past). record w { book = p.book; given = p.given; replicas = rs }) pasts ∙ ap (λ x. record w { book = b.book; given = b.given; replicas = x }) replicas
 
 module _ (cs : List Controller) (i : ℕ) (c : Controller) (s : State) (end : ℕ) (tidy : IsTidy cs) (at : slice_get cs i ≡ Some c) where
   -- the world after the change: the book has it, and the controller at the place
-  pub is_committed : (w : World) (next : Controller) (book : Book) (p : Pending) → w.replicas ≡ map replica_of cs → next ≡ with_state c (after c.state p.change) end → book ≡ recorded w.book c.state.inv p
-      → record w { book = book; replicas = map replica_of (slice_set cs i next) } ≡ with_commit w c.name c.state p end
-  is_committed w next book p replicas is same = with_parts w book (recorded w.book c.state.inv p) _ _ same
+  pub is_committed : (w : World) (next : Controller) (past : Past) (p : Pending) → w.replicas ≡ map replica_of cs → next ≡ with_state c (after c.state p.change) end
+      → past ≡ record { book = recorded w.book c.state.inv p; given = w.given }
+      → record w { book = past.book; given = past.given; replicas = map replica_of (slice_set cs i next) } ≡ with_commit w c.name c.state p end
+  is_committed w next past p replicas is same = with_parts w past (record { book = recorded w.book c.state.inv p; given = w.given }) _ _ same
       (
       ap (λ (d : Controller). map replica_of (slice_set cs i d)) is
       ∙ placed cs i c (after c.state p.change) end tidy.apart at

@@ -1,6 +1,5 @@
 -- What is claimed of a line follows of what it does.
-use Rattle.std.proofs.Common.{◌≡◌, ◌⊎◌, ℕ, List, sym, subst}
-use Rattle.adr_event.specs.declared.answer.Answer.{Answer}
+use Rattle.std.proofs.Common.{◌≡◌, ◌⊎◌, inl, inr, ℕ, sym, subst}
 use Rattle.adr_event.specs.declared.event.Event.{Event}
 use Rattle.adr_event.specs.declared.event.Event.TheVariants as events
 use Rattle.adr_model.specs.Member.{Member}
@@ -9,42 +8,47 @@ use Rattle.adr_model.specs.World.{World, Name}
 use Rattle.adr_model.specs.Cycles.{pull, cycle}
 use Rattle.adr_model.specs.Step.{step}
 use Rattle.adr_model.specs.Sound.{IsSoundWorld, IsWorldOfRun}
-use Rattle.adr_model.specs.Convergence.{MayHappen, AreUnlimited, SaysMore, IsCompleted}
+use Rattle.adr_model.specs.Convergence.{AreAcknowledged, MayHappen, AreUnlimited, EndsOrSaysMore}
 use Rattle.adr_law_convergence.proofs.Lines.{stays_sound, behind_is_on_the_way}
 use Rattle.adr_law_convergence.proofs.Acknowledged.{acknowledged_is_issued}
 use Rattle.adr_law_convergence.proofs.Completing.{cycle_ends}
-use Rattle.adr_world.specs.Door.{IsLeftBy, AreAcknowledged, IsCompletedBy}
+use Rattle.adr_world.specs.Door.{IsLeftBy, IsCompletedBy}
 
 module _ (w : World) (e : Event) (run : IsWorldOfRun w) (may : MayHappen w e) where
   -- the world behind a line
-  pub behind_of_run : (v : World) (answers : List Answer) → step w e ≡ (v, answers) → IsWorldOfRun v
-  behind_of_run v answers is = subst (λ (t : World × List Answer). IsWorldOfRun t.0) is (stays_sound w e run may (step w e).0 (behind_is_on_the_way w e))
+  pub behind_of_run : (v : World) → v ≡ (step w e).0 → IsWorldOfRun v
+  behind_of_run v is = subst IsWorldOfRun (sym is) (stays_sound w e run may (step w e).0 (behind_is_on_the_way w e))
 
   acknowledges : IsSoundWorld w → AreAcknowledged w e (step w e).1 (step w e).0
-  acknowledges sound usn = acknowledged_is_issued w e usn sound may
+  acknowledges sound = acknowledged_is_issued w e sound may
 
-  pub acknowledged_by : (v : World) (answers : List Answer) → IsSoundWorld w → step w e ≡ (v, answers) → AreAcknowledged w e answers v
-  acknowledged_by v answers sound is = subst (λ (t : World × List Answer). AreAcknowledged w e t.1 t.0) is (acknowledges sound)
+  pub acknowledged_by : (v : World) → IsSoundWorld w → v ≡ (step w e).0 → AreAcknowledged w e (step w e).1 v
+  acknowledged_by v sound is = subst (λ (x : World). AreAcknowledged w e (step w e).1 x) (sym is) (acknowledges sound)
+
+  -- as it was, or as the line leaves it
+  pub either_of_run : (v : World) → (v ≡ w) ⊎ (v ≡ (step w e).0) → IsWorldOfRun v
+  either_of_run v (inl same) = subst IsWorldOfRun (sym same) run
+  either_of_run v (inr is) = behind_of_run v is
 
 -- the world behind a pull
 pub pulled_of_run : (w v : World) (dest source : Name) (max : ℕ) → IsWorldOfRun w → v ≡ (pull w dest source max).0 → IsWorldOfRun v
 pulled_of_run w v dest source max run is = stays_sound w (events.Pull dest source max) run tt v is
 
--- the world that want of memory leaves
+-- the world that a fault leaves
 pub left_of_run : (w : World) (e : Event) → IsWorldOfRun w → MayHappen w e → (v : World) → IsLeftBy w e v → IsWorldOfRun v
 left_of_run w (events.Cycle name source max) run may v left = stays_sound w (events.Cycle name source max) run tt v left
-left_of_run w e run may v left = subst IsWorldOfRun (sym left) run
+left_of_run w e run may v left = either_of_run w e run may v left
 
 cycle_completed : (w : World) (name source : Name) (max : ℕ) → IsSoundWorld w → IsCompletedBy w (events.Cycle name source max) (cycle w name source max).1 (cycle w name source max).0
 cycle_completed w name source max sound d s may d_is s_is most unlimited =
     subst (λ (n : Name). Ends n source) d_is (subst (λ (n : Name). Ends d.name n) s_is (cycle_ends w d s max sound may most)) unlimited
   where
     Ends : Name → Name → Type 0
-    Ends n m = AreUnlimited (cycle w n m max).1 → SaysMore n (cycle w n m max).1 ⊎ ((e : Replica) × Member e (cycle w n m max).0.replicas × (e.name ≡ n) × IsCompleted w d.safe s.safe (cycle w n m max).1 e.safe)
+    Ends n m = AreUnlimited (cycle w n m max).1 → EndsOrSaysMore w d s (cycle w n m max).1 (cycle w n m max).0
 
 completes : (w : World) (e : Event) → IsSoundWorld w → IsCompletedBy w e (step w e).1 (step w e).0
 completes w (events.Cycle name source max) sound = cycle_completed w name source max sound
 completes w e sound = tt
 
-pub completed_by : (w : World) (e : Event) (v : World) (answers : List Answer) → IsSoundWorld w → step w e ≡ (v, answers) → IsCompletedBy w e answers v
-completed_by w e v answers sound is = subst (λ (t : World × List Answer). IsCompletedBy w e t.1 t.0) is (completes w e sound)
+pub completed_by : (w : World) (e : Event) (v : World) → IsSoundWorld w → v ≡ (step w e).0 → IsCompletedBy w e (step w e).1 v
+completed_by w e v sound is = subst (λ (x : World). IsCompletedBy w e (step w e).1 x) (sym is) (completes w e sound)

@@ -6,4 +6,7 @@ pub mod Sends
 pub mod Turns
 pub mod Bindings
 pub mod Doors
+pub mod Due
+pub mod ToldLines
+pub mod Writings
 pub mod Tables

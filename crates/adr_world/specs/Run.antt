@@ -20,13 +20,13 @@ world_of r =
     record {
       time = r.time;
       clean = true;
-      book = r.book;
+      book = r.past.book;
       replicas = map replica_of r.controllers.items;
       requests = r.requests;
       replies = r.replies;
       images = [];
       snapshots = [];
-      given = r.given;
+      given = r.past.given;
     }
 
 -- a change of a controller, whose log then ends here, has become safe

@@ -4,7 +4,7 @@ ghost use Rattle.std.specs.Prelude.{◌≡◌, ◌+◌, ◌≤◌, ◌++◌, ◌
 ghost use Rattle.std.specs.Vec.{vec_capacity};
 ghost use Rattle.adr_event.specs.declared.event.Event.TheVariants.{Controller as NewController};
 ghost use Rattle.adr_model.specs.Convergence.{IsNewName};
-ghost use Rattle.adr_model.specs.Lengths.{new_log_end};
+ghost use Rattle.adr_model.specs.Lengths.{first_log_end, new_log_end};
 ghost use Rattle.adr_model.specs.Replica.{begun};
 ghost use Rattle.adr_model.specs.Step.{gives, step};
 ghost use Rattle.adr_model.specs.Store.{empty_state};
@@ -28,7 +28,7 @@ const FIRST_END: u64 = 82;
 /// A new, empty controller.
 fn new_state(alloc: Global, dsa: Uuid, inv: Uuid) -> State
     ensures empty { result ≡ empty_state dsa inv }
-    ensures log { new_log_end result ≡ 82 }
+    ensures log { new_log_end result ≡ first_log_end }
 {
     match Schema::new(FIRST_SCHEMA) {
         Some(schema) => State::new(alloc, dsa, inv, schema),
@@ -47,7 +47,8 @@ impl Run {
     ) -> Result<Answer, NoMemory>
         requires tidy { IsTidy self.old.controllers.items }
         requires new { IsNewName (world_of self.old) name.now }
-        ensures stepped { IfOk result (λ made. step (world_of self.old) (NewController name.now dsa inv) ≡ (world_of self.new, made ∷ [])) }
+        ensures stepped { IfOk result (λ made.
+            step (world_of self.old) (NewController name.now dsa inv) ≡ (world_of self.new, made ∷ [])) }
         ensures err { OnErr result (world_of self.new ≡ world_of self.old) }
         ensures tidy { IsTidy self.new.controllers.items }
     {
@@ -69,8 +70,8 @@ impl Run {
             world_of self.new ≡ record v { book = begun v.book controller.state; replicas = v.replicas ++ replica_of controller ∷ [] } }
         ensures items { self.new.controllers.items ≡ self.old.controllers.items ++ controller ∷ [] }
     {
-        self.book.begin(&controller.state);
-        self.given
+        self.past.begin(&controller.state);
+        self.past
             .give(controller.state.dsa(), controller.state.inv());
         let _ = self.controllers.push(controller);
     }

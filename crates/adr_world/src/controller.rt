@@ -9,7 +9,7 @@ ghost use Rattle.adr_state.specs.Refusal.{IsOverfull};
 ghost use Rattle.adr_world.specs.Run.{replica_of};
 
 use adr_schema::{NoMemory, Text};
-use adr_state::{ApplyRefusal, Change, State};
+use adr_state::{Change, Failure, State};
 use std::alloc::AllocError;
 
 /// A controller under the name that a line gave it. The end of its log is in bytes.
@@ -24,7 +24,8 @@ impl Controller {
     /// Applies a change that fits, behind which the log ends here.
     pub fn apply(&mut self, change: &Change, end: u64) -> Result<(), NoMemory>
         requires { ¬ IsOverfull (after self.old.state change.now) }
-        ensures ok { OnOk result (self.new ≡ record self.old { state = after self.old.state change.now; log_end = end }) }
+        ensures ok { OnOk result (self.new
+            ≡ record self.old { state = after self.old.state change.now; log_end = end }) }
         ensures err { OnErr result (self.new ≡ self.old) }
     {
         match self.state.apply(change) {
@@ -32,8 +33,8 @@ impl Controller {
                 self.log_end = end;
                 Ok(())
             }
-            Err(ApplyRefusal::Full) => unreachable!(),
-            Err(ApplyRefusal::NoMemory) => Err(AllocError),
+            Err(Failure::Refused(_)) => unreachable!(),
+            Err(Failure::NoMemory) => Err(AllocError),
         }
     }
 }
@@ -41,7 +42,9 @@ impl Controller {
 /// Where the controller of a name stands.
 pub fn place_of(controllers: &[Controller], name: &Text) -> Option<usize>
     ensures place { IfSome result (λ place. place < length controllers.now) }
-    ensures found { IfSome result (λ place. find (λ r. bytes_eq r.name name.now) (map replica_of controllers.now) ≡ option_map replica_of (slice_get controllers.now place)) }
+    ensures found { IfSome result (λ place.
+        find (λ r. bytes_eq r.name name.now) (map replica_of controllers.now)
+        ≡ option_map replica_of (slice_get controllers.now place)) }
     ensures none { IfNone result (find (λ r. bytes_eq r.name name.now) (map replica_of controllers.now) ≡ None) }
 {
     for (place, controller) in controllers.iter().enumerate() {
@@ -54,7 +57,8 @@ pub fn place_of(controllers: &[Controller], name: &Text) -> Option<usize>
 
 /// The controller of a name.
 pub fn controller_of<'a>(controllers: &'a [Controller], name: &Text) -> Option<&'a Controller>
-    ensures { find (λ r. bytes_eq r.name name.now) (map replica_of controllers.now) ≡ option_map replica_of (option_copied result) }
+    ensures { find (λ r. bytes_eq r.name name.now) (map replica_of controllers.now)
+        ≡ option_map replica_of (option_copied result) }
 {
     for controller in controllers {
         if controller.name.items() == name.items() {

@@ -31,7 +31,9 @@ fn rows_in(reply: &Reply) -> Result<u32, NoMemory>
 
 /// What is answered where a reply was made.
 pub fn served(reply: &Reply) -> Result<Outcome, NoMemory>
-    ensures { IfOk result (λ outcome. outcome ≡ Outcome.Served reply.now.from reply.now.to (length reply.now.items) (rows_in reply.now) (is_some reply.now.last)) }
+    ensures { IfOk result (λ outcome.
+        outcome
+        ≡ Outcome.Served reply.now.from reply.now.to (length reply.now.items) (rows_in reply.now) (is_some reply.now.last)) }
 {
     Ok(Outcome::Served {
         from: reply.from(),
@@ -44,7 +46,8 @@ pub fn served(reply: &Reply) -> Result<Outcome, NoMemory>
 
 /// What is answered where a reply was taken.
 pub fn took(reply: &Reply, change: &Change) -> Result<Outcome, NoMemory>
-    ensures { IfOk result (λ outcome. outcome ≡ Outcome.Took (length reply.now.items) (length change.now.writes) change.now.usn) }
+    ensures { IfOk result (λ outcome.
+        outcome ≡ Outcome.Took (length reply.now.items) (length change.now.writes) change.now.usn) }
 {
     Ok(Outcome::Took {
         items: count(reply.items().len())?,

@@ -31,7 +31,8 @@ impl Run {
     ) -> Result<Answer, NoMemory>
         requires tidy { IsTidy self.old.controllers.items }
         requires unbound { IsUnbound (world_of self.old).requests bound.now }
-        ensures stepped { IfOk result (λ made. step (world_of self.old) (Ask name.now partner.now max bound.now) ≡ (world_of self.new, made ∷ [])) }
+        ensures stepped { IfOk result (λ made.
+            step (world_of self.old) (Ask name.now partner.now max bound.now) ≡ (world_of self.new, made ∷ [])) }
         ensures err { OnErr result (world_of self.new ≡ world_of self.old) }
         ensures tidy { IsTidy self.new.controllers.items }
     {
@@ -49,7 +50,8 @@ impl Run {
         partner: &Text,
         max: u32,
     ) -> Result<(Outcome, Option<Request>), NoMemory>
-        ensures { IfOk result (λ sent. asks (world_of self.now) name.now partner.now max ≡ (world_of self.now, sent.0, sent.1)) }
+        ensures { IfOk result (λ sent.
+            asks (world_of self.now) name.now partner.now max ≡ (world_of self.now, sent.0, sent.1)) }
     {
         let Some(asker) = controller_of(self.controllers.as_slice(), name) else {
             return Ok((Outcome::Absent, None));
@@ -71,7 +73,8 @@ impl Run {
     ) -> Result<Answer, NoMemory>
         requires sound { IsSoundRun self.old }
         requires unbound { IsUnbound (world_of self.old).replies bound.now }
-        ensures stepped { IfOk result (λ made. step (world_of self.old) (Serve name.now request.now bound.now) ≡ (world_of self.new, made ∷ [])) }
+        ensures stepped { IfOk result (λ made.
+            step (world_of self.old) (Serve name.now request.now bound.now) ≡ (world_of self.new, made ∷ [])) }
         ensures err { OnErr result (world_of self.new ≡ world_of self.old) }
         ensures tidy { IsTidy self.new.controllers.items }
     {
@@ -94,7 +97,8 @@ impl Run {
     ) -> Result<(Outcome, Option<Reply>), NoMemory>
         requires sound { IsSoundRun self.now }
         requires request { IsSoundRequest (world_of self.now).book request.now }
-        ensures { IfOk result (λ sent. serves_request (world_of self.now) name.now (Some request.now) ≡ (world_of self.now, sent.0, sent.1)) }
+        ensures { IfOk result (λ sent.
+            serves_request (world_of self.now) name.now (Some request.now) ≡ (world_of self.now, sent.0, sent.1)) }
     {
         let Some(controller) = controller_of(self.controllers.as_slice(), name) else {
             return Ok((Outcome::Absent, None));

@@ -1,18 +1,20 @@
 //! Pulls.
 
-ghost use Rattle.std.specs.Prelude.{◌≡◌, ◌++◌, ◌+◌, ◌∷◌, ◌≤◌, ℕ, [], Some, vec_len, IfOk, OnErr, OnOk};
+ghost use Rattle.std.specs.Prelude.{◌≡◌, ◌⊎◌, ◌++◌, ◌+◌, ◌∷◌, ◌<◌, ◌≤◌, ℕ, [], Some, vec_len, IfOk, OnErr, OnOk, IsErrOf, flat_map};
 ghost use Rattle.std.specs.Option.{option_to_list};
 ghost use Rattle.std.specs.Vec.{vec_capacity};
-ghost use Rattle.adr_event.specs.declared.event.Event.TheVariants.{Cycle, Pull};
-ghost use Rattle.adr_model.specs.Cycles.{pull, pull_asked, pull_served, pulls, was_taken};
+ghost use Rattle.adr_io.specs.Told.{Adds, AddsFront};
+ghost use Rattle.adr_model.specs.Cycles.{cycle, pull, pull_asked, pull_served, pulls, was_taken};
 ghost use Rattle.adr_model.specs.Sound.{IsGiven, IsSoundReply, IsSoundRequest};
-ghost use Rattle.adr_model.specs.Step.{step};
+ghost use Rattle.adr_report.specs.Line.{line};
 ghost use Rattle.adr_world.specs.Pulls.{answers_of, pulled_of};
 ghost use Rattle.adr_world.specs.Run.{IsSoundRun, IsTidy, world_of};
 
 use crate::answers::{Heading, answer};
 use crate::run::Run;
+use crate::telling::tell;
 use adr_event::{Answer, Outcome};
+use adr_io::{Fault, Sink};
 use adr_packet::{Reply, Request};
 use adr_schema::{NoMemory, Text};
 use std::alloc::Global;
@@ -77,7 +79,8 @@ impl Run {
         requires sound { IsSoundRun self.old }
         requires reply { IsSoundReply (world_of self.old).book reply.now }
         requires given { IsGiven (world_of self.old) reply.now.inv }
-        ensures pulled { IfOk result (λ told. pull_served dest.now (world_of self.old) (Some reply.now) ≡ (world_of self.new, told.0 ∷ [], told.1)) }
+        ensures pulled { IfOk result (λ told.
+            pull_served dest.now (world_of self.old) (Some reply.now) ≡ (world_of self.new, told.0 ∷ [], told.1)) }
         ensures err { OnErr result (world_of self.new ≡ world_of self.old) }
         ensures tidy { IsTidy self.new.controllers.items }
     {
@@ -97,7 +100,9 @@ impl Run {
     ) -> Result<(Answer, Option<Answer>, bool), NoMemory>
         requires sound { IsSoundRun self.old }
         requires request { IsSoundRequest (world_of self.old).book request.now }
-        ensures pulled { IfOk result (λ told. pull_asked dest.now source.now (world_of self.old) (Some request.now) ≡ (world_of self.new, told.0 ∷ option_to_list told.1, told.2)) }
+        ensures pulled { IfOk result (λ told.
+            pull_asked dest.now source.now (world_of self.old) (Some request.now)
+            ≡ (world_of self.new, told.0 ∷ option_to_list told.1, told.2)) }
         ensures err { OnErr result (world_of self.new ≡ world_of self.old) }
         ensures tidy { IsTidy self.new.controllers.items }
     {
@@ -121,7 +126,8 @@ impl Run {
         max: u32,
     ) -> Result<Pulled, NoMemory>
         requires { IsSoundRun self.old }
-        ensures pulled { IfOk result (λ pulled. pull (world_of self.old) dest.now source.now max ≡ pulled_of (world_of self.new) pulled) }
+        ensures pulled { IfOk result (λ pulled.
+            pull (world_of self.old) dest.now source.now max ≡ pulled_of (world_of self.new) pulled) }
         ensures err { OnErr result (world_of self.new ≡ world_of self.old) }
         ensures tidy { IsTidy self.new.controllers.items }
     {
@@ -144,68 +150,79 @@ impl Run {
         })
     }
 
-    /// A pull, whose answers are put behind others. It gives whether a reply was taken that isn't the last.
-    fn pull_onto(
-        &mut self,
-        alloc: Global,
-        dest: &Text,
-        source: &Text,
-        max: u32,
-        answers: &mut Vec<Answer>,
-    ) -> Result<bool, NoMemory>
-        requires { IsSoundRun self.old }
-        ensures world { OnOk result (world_of self.new ≡ (pull (world_of self.old) dest.now source.now max).0) }
-        ensures answers { OnOk result (answers.new.items ≡ answers.old.items ++ (pull (world_of self.old) dest.now source.now max).1) }
-        ensures goes_on { IfOk result (λ goes_on. goes_on ≡ (pull (world_of self.old) dest.now source.now max).2) }
-        ensures err { OnErr result (world_of self.new ≡ world_of self.old) }
-        ensures tidy { IsTidy self.new.controllers.items }
-    {
-        answers.reserve(3)?;
-        let pulled = self.pull_once(alloc, dest, source, max)?;
-        let goes_on = pulled.goes_on;
-        put_answers(answers, pulled);
-        Ok(goes_on)
-    }
-
-    /// The line of a pull.
+    /// A pull: its answers, and whether a reply was taken that isn't the last.
     pub fn pull(
         &mut self,
         alloc: Global,
         dest: &Text,
         source: &Text,
         max: u32,
-    ) -> Result<Vec<Answer>, NoMemory>
+    ) -> Result<(Vec<Answer>, bool), NoMemory>
         requires { IsSoundRun self.old }
-        ensures stepped { IfOk result (λ answers. step (world_of self.old) (Pull dest.now source.now max) ≡ (world_of self.new, answers.items)) }
+        ensures pulled { IfOk result (λ told.
+            pull (world_of self.old) dest.now source.now max ≡ (world_of self.new, told.0.items, told.1)) }
         ensures err { OnErr result (world_of self.new ≡ world_of self.old) }
         ensures tidy { IsTidy self.new.controllers.items }
     {
         let mut answers = Vec::new(alloc);
-        self.pull_onto(alloc, dest, source, max, &mut answers)?;
-        Ok(answers)
+        answers.reserve(3)?;
+        let pulled = self.pull_once(alloc, dest, source, max)?;
+        let goes_on = pulled.goes_on;
+        put_answers(&mut answers, pulled);
+        Ok((answers, goes_on))
     }
 
-    /// The line of a cycle: pulls until the last reply was taken, or an answer was other than ok; after a million replies
-    /// it says that there is more.
-    pub fn cycle(
+    /// A pull, whose answers are written. It gives whether a reply was taken that isn't the last.
+    fn pull_and_tell<K: Sink>(
         &mut self,
         alloc: Global,
         dest: &Text,
         source: &Text,
         max: u32,
-    ) -> Result<Vec<Answer>, NoMemory>
+        sink: &mut K,
+    ) -> Result<bool, Fault>
         requires { IsSoundRun self.old }
-        ensures stepped { IfOk result (λ answers. step (world_of self.old) (Cycle dest.now source.now max) ≡ (world_of self.new, answers.items)) }
-        ensures err { OnErr result ((n : ℕ) × (world_of self.new ≡ (pulls n (world_of self.old) dest.now source.now max).0)) }
+        ensures world { OnOk result (world_of self.new ≡ (pull (world_of self.old) dest.now source.now max).0) }
+        ensures goes_on { IfOk result (λ goes_on. goes_on ≡ (pull (world_of self.old) dest.now source.now max).2) }
+        ensures told { OnOk result (Adds (K.written sink.old) (K.written sink.new) (flat_map line (pull (world_of self.old) dest.now source.now max).1)) }
+        ensures front { OnErr result (AddsFront (K.written sink.old) (K.written sink.new) (flat_map line (pull (world_of self.old) dest.now source.now max).1)) }
+        ensures never_falls { K.faults sink.old ≤ K.faults sink.new }
+        ensures failed { IsErrOf result Fault.Failed → K.faults sink.old < K.faults sink.new }
+        ensures err { OnErr result ((world_of self.new ≡ world_of self.old)
+            ⊎ (world_of self.new ≡ (pull (world_of self.old) dest.now source.now max).0)) }
         ensures tidy { IsTidy self.new.controllers.items }
     {
-        let mut answers = Vec::new(alloc);
+        let (answers, goes_on) = self.pull(alloc, dest, source, max)?;
+        tell(alloc, answers.as_slice(), sink)?;
+        Ok(goes_on)
+    }
+
+    /// The line of a cycle: pulls until the last reply was taken, or an answer was other than ok; after a million replies
+    /// it says that there is more. The answers to each pull are written before the next.
+    pub fn cycle<K: Sink>(
+        &mut self,
+        alloc: Global,
+        dest: &Text,
+        source: &Text,
+        max: u32,
+        sink: &mut K,
+    ) -> Result<(), Fault>
+        requires { IsSoundRun self.old }
+        ensures stepped { OnOk result (world_of self.new ≡ (cycle (world_of self.old) dest.now source.now max).0) }
+        ensures told { OnOk result (Adds (K.written sink.old) (K.written sink.new) (flat_map line (cycle (world_of self.old) dest.now source.now max).1)) }
+        ensures front { OnErr result (AddsFront (K.written sink.old) (K.written sink.new) (flat_map line (cycle (world_of self.old) dest.now source.now max).1)) }
+        ensures never_falls { K.faults sink.old ≤ K.faults sink.new }
+        ensures failed { IsErrOf result Fault.Failed → K.faults sink.old < K.faults sink.new }
+        ensures err { OnErr result ((n : ℕ)
+            × (world_of self.new ≡ (pulls n (world_of self.old) dest.now source.now max).0)) }
+        ensures tidy { IsTidy self.new.controllers.items }
+    {
         for turn in 0..REPLY_LIMIT {
-            if !self.pull_onto(alloc, dest, source, max, &mut answers)? {
-                return Ok(answers);
+            if !self.pull_and_tell(alloc, dest, source, max, sink)? {
+                return Ok(());
             }
         }
-        answers.push(answer(alloc, "cycle", dest, Outcome::More)?)?;
-        Ok(answers)
+        let more = answer(alloc, "cycle", dest, Outcome::More)?;
+        tell(alloc, &[more], sink)
     }
 }

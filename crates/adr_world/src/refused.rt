@@ -1,6 +1,6 @@
 //! Refusals as they are answered.
 
-ghost use Rattle.std.specs.Prelude.{◌≡◌, ◌++◌, ◌∷◌, [], IfOk, OnOk};
+ghost use Rattle.std.specs.Prelude.{◌≡◌, ◌++◌, ◌∷◌, [], IfOk, OnOk, codes};
 ghost use Rattle.adr_model.specs.Refused.{attr_field, fault_name, field, full, id_field, number_field, rolled_back, schema_name, schemas_differ, serve_refused, table_name, take_refused, write_refused};
 
 use crate::answers::word;
@@ -163,14 +163,38 @@ fn schemas_differ(alloc: Global, mine: u32, theirs: u32) -> Result<Outcome, NoMe
     refused(alloc, 31, "SchemaMismatch", fields)
 }
 
-fn rolled_back(alloc: Global, inv: Uuid, mine: u64, shown: u64) -> Result<Outcome, NoMemory>
-    ensures { IfOk result (λ outcome. outcome ≡ rolled_back inv mine shown) }
+/// A refusal that tells of an incarnation, with two numbers.
+fn of_incarnation(
+    alloc: Global,
+    number: u8,
+    label: &str,
+    inv: Uuid,
+    first: (&str, u64),
+    second: (&str, u64),
+) -> Result<Outcome, NoMemory>
+    ensures { IfOk result (λ outcome.
+        outcome
+        ≡ Outcome.Refused number label.now (id_field (codes "inv") inv
+        ∷ number_field first.entry.0.now first.entry.1 ∷ number_field second.entry.0.now second.entry.1 ∷ [])) }
 {
     let mut fields = Vec::new(alloc);
     put_id(alloc, &mut fields, "inv", inv)?;
-    put_number(alloc, &mut fields, "mine", mine)?;
-    put_number(alloc, &mut fields, "shown", shown)?;
-    refused(alloc, 33, "RolledBack", fields)
+    put_number(alloc, &mut fields, first.0, first.1)?;
+    put_number(alloc, &mut fields, second.0, second.1)?;
+    refused(alloc, number, label, fields)
+}
+
+fn rolled_back(alloc: Global, inv: Uuid, mine: u64, shown: u64) -> Result<Outcome, NoMemory>
+    ensures { IfOk result (λ outcome. outcome ≡ rolled_back inv mine shown) }
+{
+    of_incarnation(
+        alloc,
+        33,
+        "RolledBack",
+        inv,
+        ("mine", mine),
+        ("shown", shown),
+    )
 }
 
 fn wrong_controller(alloc: Global, mine: Uuid, asked: Uuid) -> Result<Outcome, NoMemory>
@@ -195,11 +219,7 @@ fn bad_mark(alloc: Global, prop: u64, obj: u64, seen: u64) -> Result<Outcome, No
 fn too_old(alloc: Global, inv: Uuid, purged: u64, has: u64) -> Result<Outcome, NoMemory>
     ensures { IfOk result (λ outcome. outcome ≡ serve_refused (ServeRefusal.TooOld inv purged has)) }
 {
-    let mut fields = Vec::new(alloc);
-    put_id(alloc, &mut fields, "inv", inv)?;
-    put_number(alloc, &mut fields, "purged", purged)?;
-    put_number(alloc, &mut fields, "has", has)?;
-    refused(alloc, 32, "TooOld", fields)
+    of_incarnation(alloc, 32, "TooOld", inv, ("purged", purged), ("has", has))
 }
 
 /// A refused request as it is answered.
@@ -228,11 +248,14 @@ fn stale(alloc: Global, mark: Mark, from: Mark) -> Result<Outcome, NoMemory>
 fn vector_behind(alloc: Global, inv: Uuid, has: u64, needs: u64) -> Result<Outcome, NoMemory>
     ensures { IfOk result (λ outcome. outcome ≡ take_refused (TakeRefusal.VectorBehind inv has needs)) }
 {
-    let mut fields = Vec::new(alloc);
-    put_id(alloc, &mut fields, "inv", inv)?;
-    put_number(alloc, &mut fields, "has", has)?;
-    put_number(alloc, &mut fields, "needs", needs)?;
-    refused(alloc, 42, "VectorBehind", fields)
+    of_incarnation(
+        alloc,
+        42,
+        "VectorBehind",
+        inv,
+        ("has", has),
+        ("needs", needs),
+    )
 }
 
 fn schema_name(refusal: SchemaRefusal) -> &'static str

@@ -32,7 +32,9 @@ impl Run {
     /// What is answered where a client asks for the directory.
     fn directory_told(&self, alloc: Global, name: &Text) -> Result<Outcome, NoMemory>
         requires { IsSoundRun self.now }
-        ensures { IfOk result (λ outcome. of_controller (world_of self.now) name.now (stays (world_of self.now)) (λ r. (world_of self.now, Outcome.Show (shown (world_of self.now) r.safe))) ≡ (world_of self.now, outcome)) }
+        ensures { IfOk result (λ outcome.
+            of_controller (world_of self.now) name.now (stays (world_of self.now)) (λ r. (world_of self.now, Outcome.Show (shown (world_of self.now) r.safe)))
+            ≡ (world_of self.now, outcome)) }
     {
         let Some(controller) = controller_of(self.controllers.as_slice(), name) else {
             return Ok(Outcome::Absent);
@@ -51,7 +53,9 @@ impl Run {
 
     /// What is answered where a client asks what the controller has seen.
     fn vector_told(&self, alloc: Global, name: &Text) -> Result<Outcome, NoMemory>
-        ensures { IfOk result (λ outcome. of_controller (world_of self.now) name.now (stays (world_of self.now)) (λ r. (world_of self.now, Outcome.Vector r.safe.store.vector)) ≡ (world_of self.now, outcome)) }
+        ensures { IfOk result (λ outcome.
+            of_controller (world_of self.now) name.now (stays (world_of self.now)) (λ r. (world_of self.now, Outcome.Vector r.safe.store.vector))
+            ≡ (world_of self.now, outcome)) }
     {
         let Some(controller) = controller_of(self.controllers.as_slice(), name) else {
             return Ok(Outcome::Absent);
@@ -61,14 +65,17 @@ impl Run {
 
     /// A client asks what the controller has seen.
     pub fn vector(&self, alloc: Global, name: &Text) -> Result<Answer, NoMemory>
-        ensures { IfOk result (λ made. step (world_of self.now) (TellVector name.now) ≡ (world_of self.now, made ∷ [])) }
+        ensures { IfOk result (λ made.
+            step (world_of self.now) (TellVector name.now) ≡ (world_of self.now, made ∷ [])) }
     {
         answer(alloc, "vector", name, self.vector_told(alloc, name)?)
     }
 
     /// What is answered where a client asks how far the controller has read its partners.
     fn marks_told(&self, alloc: Global, name: &Text) -> Result<Outcome, NoMemory>
-        ensures { IfOk result (λ outcome. of_controller (world_of self.now) name.now (stays (world_of self.now)) (λ r. (world_of self.now, Outcome.Marks (marks_shown r.safe.store))) ≡ (world_of self.now, outcome)) }
+        ensures { IfOk result (λ outcome.
+            of_controller (world_of self.now) name.now (stays (world_of self.now)) (λ r. (world_of self.now, Outcome.Marks (marks_shown r.safe.store)))
+            ≡ (world_of self.now, outcome)) }
     {
         let Some(controller) = controller_of(self.controllers.as_slice(), name) else {
             return Ok(Outcome::Absent);
@@ -78,7 +85,8 @@ impl Run {
 
     /// A client asks how far the controller has read its partners.
     pub fn marks(&self, alloc: Global, name: &Text) -> Result<Answer, NoMemory>
-        ensures { IfOk result (λ made. step (world_of self.now) (TellMarks name.now) ≡ (world_of self.now, made ∷ [])) }
+        ensures { IfOk result (λ made.
+            step (world_of self.now) (TellMarks name.now) ≡ (world_of self.now, made ∷ [])) }
     {
         answer(alloc, "marks", name, self.marks_told(alloc, name)?)
     }

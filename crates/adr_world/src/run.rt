@@ -13,22 +13,21 @@ ghost use Rattle.adr_world.specs.Run.{IsTidy, replica_of, with_commit, world_of}
 use crate::bound::Messages;
 use crate::controller::Controller;
 use crate::refused::full;
-use adr_book::{Book, Identifiers};
+use adr_book::Past;
 use adr_event::{Outcome, Table};
 use adr_packet::{Reply, Request};
 use adr_schema::NoMemory;
 use adr_state::{Change, LOG_LIMIT, log_end_after};
 use std::alloc::Global;
 
-/// The time, the book, the controllers, the messages that lines bound to names, and the identifiers that they gave.
+/// The time, the past, the controllers, and the messages that lines bound to names.
 #[derive(Drop)]
 pub struct Run {
     pub time: u64,
-    pub book: Book,
+    pub past: Past,
     pub controllers: Vec<Controller>,
     pub requests: Messages<Request>,
     pub replies: Messages<Reply>,
-    pub given: Identifiers,
 }
 
 impl Run {
@@ -39,11 +38,10 @@ impl Run {
     {
         Run {
             time: 0,
-            book: Book::new(),
+            past: Past::new(),
             controllers: Vec::new(alloc),
             requests: Messages::new(alloc),
             replies: Messages::new(alloc),
-            given: Identifiers::new(),
         }
     }
 
@@ -60,8 +58,12 @@ impl Run {
         requires place { place < length self.old.controllers.items }
         requires tidy { IsTidy self.old.controllers.items }
         requires within { change.now.usn ≤ usn_limit }
-        requires fits { (c : Held) → slice_get self.old.controllers.items place ≡ Some c → nat_lt log_limit (log_end_after c.log_end change.now) ≡ false → ¬ IsOverfull (after c.state change.now) }
-        ensures committed { IfOk result (λ told. (c : Held) (call : Call) → slice_get self.old.controllers.items place ≡ Some c → issued_by call change.now ≡ (if is_write then updates_written change.now else [])
+        requires fits { (c : Held) → slice_get self.old.controllers.items place ≡ Some c
+            → nat_lt log_limit (log_end_after c.log_end change.now) ≡ false
+            → ¬ IsOverfull (after c.state change.now) }
+        ensures committed { IfOk result (λ told. (c : Held) (call : Call)
+            → slice_get self.old.controllers.items place ≡ Some c
+            → issued_by call change.now ≡ (if is_write then updates_written change.now else [])
             → commit (world_of self.old) (replica_of c) (record { call = call; change = change.now }) done ≡ (world_of self.new, told)) }
         ensures err { OnErr result (world_of self.new ≡ world_of self.old) }
         ensures tidy { IsTidy self.new.controllers.items }
@@ -87,15 +89,17 @@ impl Run {
         requires tidy { IsTidy self.old.controllers.items }
         requires within { change.now.usn ≤ usn_limit }
         requires ends { end ≤ log_limit }
-        requires fits { (c : Held) → slice_get self.old.controllers.items place ≡ Some c → ¬ IsOverfull (after c.state change.now) }
-        ensures ok { OnOk result ((c : Held) (call : Call) → slice_get self.old.controllers.items place ≡ Some c → issued_by call change.now ≡ (if is_write then updates_written change.now else [])
+        requires fits { (c : Held) → slice_get self.old.controllers.items place ≡ Some c
+            → ¬ IsOverfull (after c.state change.now) }
+        ensures ok { OnOk result ((c : Held) (call : Call) → slice_get self.old.controllers.items place ≡ Some c
+            → issued_by call change.now ≡ (if is_write then updates_written change.now else [])
             → world_of self.new ≡ with_commit (world_of self.old) c.name c.state (record { call = call; change = change.now }) end) }
         ensures err { OnErr result (world_of self.new ≡ world_of self.old) }
         ensures tidy { IsTidy self.new.controllers.items }
     {
         let inv = self.controllers[place].state.inv();
         self.controllers[place].apply(change, end)?;
-        self.book.record(inv, change, is_write);
+        self.past.record(inv, change, is_write);
         Ok(())
     }
 }

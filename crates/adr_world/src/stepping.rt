@@ -1,33 +1,78 @@
 //! What each line does, by its kind.
 
-ghost use Rattle.std.specs.Prelude.{◌≡◌, [], ◌∷◌, IfOk, OnErr};
+ghost use Rattle.std.specs.Prelude.{◌≡◌, ◌⊎◌, ◌<◌, ◌≤◌, [], ◌∷◌, IfOk, OnErr, OnOk, IsErrOf, flat_map};
 ghost use Rattle.adr_event.specs.declared.event.Event.TheVariants.{Time};
+ghost use Rattle.adr_io.specs.Told.{Adds, AddsFront};
 ghost use Rattle.adr_model.specs.Convergence.{MayHappen};
 ghost use Rattle.adr_model.specs.Step.{step};
-ghost use Rattle.adr_world.specs.Built.{IsBuilt, IsBuiltAlone};
+ghost use Rattle.adr_report.specs.Line.{line};
+ghost use Rattle.adr_world.specs.Built.{IsBuilt, IsBuiltAlone, IsBuiltAtOnce};
 ghost use Rattle.adr_world.specs.Door.{IsLeftBy};
 ghost use Rattle.adr_world.specs.Run.{IsSoundRun, IsTidy, world_of};
 
 use crate::run::Run;
+use crate::telling::tell;
 use adr_event::{Answer, Event};
-use adr_origin::NewObject;
+use adr_io::{Fault, Sink};
 use adr_schema::NoMemory;
 use std::alloc::Global;
 
 impl Run {
-    /// What a line does, and its answers.
-    pub fn step(&mut self, alloc: Global, event: &Event) -> Result<Vec<Answer>, NoMemory>
+    /// Does what a line says, and writes its answers as they come.
+    pub fn step<K: Sink>(&mut self, alloc: Global, event: &Event, sink: &mut K) -> Result<(), Fault>
         requires sound { IsSoundRun self.old }
         requires built { IsBuilt event.now }
         requires may { MayHappen (world_of self.old) event.now }
-        ensures stepped { IfOk result (λ answers. step (world_of self.old) event.now ≡ (world_of self.new, answers.items)) }
+        ensures stepped { OnOk result (world_of self.new ≡ (step (world_of self.old) event.now).0) }
+        ensures told { OnOk result (Adds (K.written sink.old) (K.written sink.new) (flat_map line (step (world_of self.old) event.now).1)) }
+        ensures front { OnErr result (AddsFront (K.written sink.old) (K.written sink.new) (flat_map line (step (world_of self.old) event.now).1)) }
+        ensures never_falls { K.faults sink.old ≤ K.faults sink.new }
+        ensures failed { IsErrOf result Fault.Failed → K.faults sink.old < K.faults sink.new }
         ensures err { OnErr result (IsLeftBy (world_of self.old) event.now (world_of self.new)) }
         ensures tidy { IsTidy self.new.controllers.items }
     {
         match event {
+            Event::Cycle { name, source, max } => self.cycle(alloc, name, source, *max, sink),
+            _ => self.step_at_once(alloc, event, sink),
+        }
+    }
+
+    /// A line that is done before its answers are written: there are at most three.
+    fn step_at_once<K: Sink>(
+        &mut self,
+        alloc: Global,
+        event: &Event,
+        sink: &mut K,
+    ) -> Result<(), Fault>
+        requires sound { IsSoundRun self.old }
+        requires built { IsBuiltAtOnce event.now }
+        requires may { MayHappen (world_of self.old) event.now }
+        ensures stepped { OnOk result (world_of self.new ≡ (step (world_of self.old) event.now).0) }
+        ensures told { OnOk result (Adds (K.written sink.old) (K.written sink.new) (flat_map line (step (world_of self.old) event.now).1)) }
+        ensures front { OnErr result (AddsFront (K.written sink.old) (K.written sink.new) (flat_map line (step (world_of self.old) event.now).1)) }
+        ensures never_falls { K.faults sink.old ≤ K.faults sink.new }
+        ensures failed { IsErrOf result Fault.Failed → K.faults sink.old < K.faults sink.new }
+        ensures err { OnErr result ((world_of self.new ≡ world_of self.old)
+            ⊎ (world_of self.new ≡ (step (world_of self.old) event.now).0)) }
+        ensures tidy { IsTidy self.new.controllers.items }
+    {
+        let answers = self.answers(alloc, event)?;
+        tell(alloc, answers.as_slice(), sink)
+    }
+
+    /// What a line does that is no cycle, and its answers.
+    fn answers(&mut self, alloc: Global, event: &Event) -> Result<Vec<Answer>, NoMemory>
+        requires sound { IsSoundRun self.old }
+        requires built { IsBuiltAtOnce event.now }
+        requires may { MayHappen (world_of self.old) event.now }
+        ensures stepped { IfOk result (λ answers.
+            step (world_of self.old) event.now ≡ (world_of self.new, answers.items)) }
+        ensures err { OnErr result (world_of self.new ≡ world_of self.old) }
+        ensures tidy { IsTidy self.new.controllers.items }
+    {
+        match event {
             Event::Time { now } => Ok(self.time(alloc, *now)),
-            Event::Pull { name, source, max } => self.pull(alloc, name, source, *max),
-            Event::Cycle { name, source, max } => self.cycle(alloc, name, source, *max),
+            Event::Pull { name, source, max } => Ok(self.pull(alloc, name, source, *max)?.0),
             _ => self.step_alone(alloc, event),
         }
     }
@@ -47,7 +92,8 @@ impl Run {
         requires sound { IsSoundRun self.old }
         requires built { IsBuiltAlone event.now }
         requires may { MayHappen (world_of self.old) event.now }
-        ensures stepped { IfOk result (λ answers. step (world_of self.old) event.now ≡ (world_of self.new, answers.items)) }
+        ensures stepped { IfOk result (λ answers.
+            step (world_of self.old) event.now ≡ (world_of self.new, answers.items)) }
         ensures err { OnErr result (world_of self.new ≡ world_of self.old) }
         ensures tidy { IsTidy self.new.controllers.items }
     {
@@ -63,29 +109,19 @@ impl Run {
         requires sound { IsSoundRun self.old }
         requires built { IsBuiltAlone event.now }
         requires may { MayHappen (world_of self.old) event.now }
-        ensures stepped { IfOk result (λ made. step (world_of self.old) event.now ≡ (world_of self.new, made ∷ [])) }
+        ensures stepped { IfOk result (λ made.
+            step (world_of self.old) event.now ≡ (world_of self.new, made ∷ [])) }
         ensures err { OnErr result (world_of self.new ≡ world_of self.old) }
         ensures tidy { IsTidy self.new.controllers.items }
     {
         match event {
             Event::Controller { name, dsa, inv } => self.controller(alloc, name, *dsa, *inv),
-            Event::Add {
-                name,
-                guid,
-                class,
-                parent,
-                text,
-                values,
-            } => {
-                let object = NewObject {
-                    guid: *guid,
-                    class: *class,
-                    parent: *parent,
-                    text,
-                    values,
-                };
-                self.add(alloc, name, &object)
-            }
+            Event::Add { name, .. } => self.write(alloc, "add", name, event),
+            Event::Modify { name, .. } => self.write(alloc, "modify", name, event),
+            Event::Rename { name, .. } => self.write(alloc, "rename", name, event),
+            Event::Delete { name, .. } => self.write(alloc, "delete", name, event),
+            Event::Link { name, .. } => self.write(alloc, "link", name, event),
+            Event::Unlink { name, .. } => self.write(alloc, "unlink", name, event),
             Event::Ask {
                 name,
                 partner,

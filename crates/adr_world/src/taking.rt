@@ -4,7 +4,7 @@ ghost use Rattle.std.specs.Prelude.{◌≡◌, ◌∷◌, [], Some, IfOk, OnErr}
 ghost use Rattle.adr_event.specs.declared.event.Event.TheVariants.{Deliver};
 ghost use Rattle.adr_model.specs.Sound.{IsGiven, IsSoundReply};
 ghost use Rattle.adr_model.specs.Step.{step};
-ghost use Rattle.adr_model.specs.World.{Gone, bound_at, delivers};
+ghost use Rattle.adr_model.specs.World.{Gone, delivers};
 ghost use Rattle.adr_world.specs.Run.{IsSoundRun, IsTidy, world_of};
 ghost use Rattle.adr_world.specs.Taking.{CanBeCommitted, ComesTo};
 
@@ -33,15 +33,19 @@ pub enum Taken {
 }
 
 impl Run {
-    /// A controller takes a reply that was bound to a name.
+    /// A controller takes a reply that was bound to a name. It is read where it stands: it may be large.
     pub fn deliver(&mut self, alloc: Global, name: &Text, reply: &Text) -> Result<Answer, NoMemory>
         requires { IsSoundRun self.old }
-        ensures stepped { IfOk result (λ made. step (world_of self.old) (Deliver name.now reply.now) ≡ (world_of self.new, made ∷ [])) }
+        ensures stepped { IfOk result (λ made.
+            step (world_of self.old) (Deliver name.now reply.now) ≡ (world_of self.new, made ∷ [])) }
         ensures err { OnErr result (world_of self.new ≡ world_of self.old) }
         ensures tidy { IsTidy self.new.controllers.items }
     {
         let heading = Heading::new(alloc, "deliver", name)?;
-        let taken = self.taken_by_name(alloc, name, reply)?;
+        let Some(reply) = self.replies.get(reply) else {
+            return Ok(heading.of(Outcome::Absent));
+        };
+        let taken = self.taken(alloc, name, reply)?;
         let outcome = self.commit_taken(alloc, taken)?;
         Ok(heading.of(outcome))
     }
@@ -51,24 +55,13 @@ impl Run {
         requires sound { IsSoundRun self.old }
         requires reply { IsSoundReply (world_of self.old).book reply.now }
         requires given { IsGiven (world_of self.old) reply.now.inv }
-        ensures taken { IfOk result (λ outcome. delivers (world_of self.old) name.now (Some reply.now) ≡ (world_of self.new, outcome)) }
+        ensures taken { IfOk result (λ outcome.
+            delivers (world_of self.old) name.now (Some reply.now) ≡ (world_of self.new, outcome)) }
         ensures err { OnErr result (world_of self.new ≡ world_of self.old) }
         ensures tidy { IsTidy self.new.controllers.items }
     {
         let taken = self.taken(alloc, name, reply)?;
         self.commit_taken(alloc, taken)
-    }
-
-    /// What comes of a reply that was bound to a name. It is read where it stands: it may be large.
-    fn taken_by_name(&self, alloc: Global, name: &Text, reply: &Text) -> Result<Taken, NoMemory>
-        requires { IsSoundRun self.now }
-        ensures ready { IfOk result (λ taken. CanBeCommitted self.now.controllers.items taken) }
-        ensures judged { IfOk result (λ taken. ComesTo self.now taken (delivers (world_of self.now) name.now (bound_at (world_of self.now).replies reply.now))) }
-    {
-        let Some(reply) = self.replies.get(reply) else {
-            return Ok(Taken::Stays(Outcome::Absent));
-        };
-        self.taken(alloc, name, reply)
     }
 
     /// What comes of a reply.
@@ -100,7 +93,8 @@ impl Run {
     fn commit_taken(&mut self, alloc: Global, taken: Taken) -> Result<Outcome, NoMemory>
         requires tidy { IsTidy self.old.controllers.items }
         requires ready { CanBeCommitted self.old.controllers.items taken }
-        ensures committed { IfOk result (λ told. (gone : Gone) → ComesTo self.old taken gone → gone ≡ (world_of self.new, told)) }
+        ensures committed { IfOk result (λ told. (gone : Gone) → ComesTo self.old taken gone
+            → gone ≡ (world_of self.new, told)) }
         ensures err { OnErr result (world_of self.new ≡ world_of self.old) }
         ensures tidy { IsTidy self.new.controllers.items }
     {

@@ -1,16 +1,18 @@
 //! The world of a run.
 
-ghost use Rattle.std.specs.Prelude.{◌≡◌, IfOk, OnErr};
-ghost use Rattle.adr_model.specs.Convergence.{MayHappen, OwnIsInView, ShowAlike, ShowWhatIsVisible};
+ghost use Rattle.std.specs.Prelude.{◌≡◌, ◌<◌, ◌≤◌, OnErr, OnOk, IsErrOf, flat_map};
+ghost use Rattle.adr_io.specs.Told.{Adds, AddsFront};
+ghost use Rattle.adr_model.specs.Convergence.{AreAcknowledged, MayHappen, OwnIsInView, ShowAlike, ShowWhatIsVisible};
 ghost use Rattle.adr_model.specs.Sound.{IsWorldOfRun};
 ghost use Rattle.adr_model.specs.Step.{step};
 ghost use Rattle.adr_model.specs.World.{empty_world};
+ghost use Rattle.adr_report.specs.Line.{line};
 ghost use Rattle.adr_world.specs.Built.{IsBuilt};
-ghost use Rattle.adr_world.specs.Door.{AreAcknowledged, IsCompletedBy, IsLeftBy};
+ghost use Rattle.adr_world.specs.Door.{IsCompletedBy, IsLeftBy};
 
 use crate::run::Run;
-use adr_event::{Answer, Event};
-use adr_schema::NoMemory;
+use adr_event::Event;
+use adr_io::{Fault, Sink};
 use std::alloc::Global;
 use std::marker::Model;
 
@@ -43,28 +45,33 @@ impl World {
         }
     }
 
-    /// Does what a line says, whatever its kind, and gives the answers in order: none to a `time`, those of each call to
-    /// a pull or a cycle, and else one.
-    pub fn step(&mut self, alloc: Global, event: &Event) -> Result<Vec<Answer>, NoMemory>
+    /// Does what a line says, whatever its kind, and writes its answers as they come: none to a `time`, those of each call
+    /// to a pull or a cycle, and else one.
+    pub fn step<K: Sink>(&mut self, alloc: Global, event: &Event, sink: &mut K) -> Result<(), Fault>
         requires built { IsBuilt event.now }
         requires may { MayHappen self.old event.now }
-        ensures stepped { IfOk result (λ answers. step self.old event.now ≡ (self.new, answers.items)) }
+        ensures stepped { OnOk result (self.new ≡ (step self.old event.now).0) }
+        ensures told { OnOk result (Adds (K.written sink.old) (K.written sink.new) (flat_map line (step self.old event.now).1)) }
 
-        // Want of memory leaves the world as it was, and of a cycle what some whole pulls left.
+        // With a fault a front of that is written, and the world is as it was, or as the line leaves it; of a cycle it is
+        // what some whole pulls left. A write that failed was counted.
+        ensures front { OnErr result (AddsFront (K.written sink.old) (K.written sink.new) (flat_map line (step self.old event.now).1)) }
         ensures err { OnErr result (IsLeftBy self.old event.now self.new) }
+        ensures never_falls { K.faults sink.old ≤ K.faults sink.new }
+        ensures failed { IsErrOf result Fault.Failed → K.faults sink.old < K.faults sink.new }
 
         // Wherever the run stands, the world is that of a run, each controller shows the directory of the issued updates that
         // it covers or holds, controllers that cover the same show the same, and whatever was acknowledged is in view.
         ensures sound { IsWorldOfRun self.new }
         ensures shown { ShowWhatIsVisible self.new }
         ensures equal { ShowAlike self.new }
-        ensures acknowledged { IfOk result (λ answers. AreAcknowledged self.old event.now answers.items self.new) }
+        ensures acknowledged { OnOk result (AreAcknowledged self.old event.now (step self.old event.now).1 self.new) }
         ensures own { OwnIsInView self.new }
 
         // A cycle with nothing in the way ends with everything, or says that there is more.
-        ensures completed { IfOk result (λ answers. IsCompletedBy self.old event.now answers.items self.new) }
+        ensures completed { OnOk result (IsCompletedBy self.old event.now (step self.old event.now).1 self.new) }
     {
-        let answers = self.run.step(alloc, event)?;
-        Ok(answers)
+        self.run.step(alloc, event, sink)?;
+        Ok(())
     }
 }

@@ -8,8 +8,8 @@ on_err : {X Y P : Type 0} (r : Result X Y) → P → OnErr r P
 on_err (Ok x) p = tt
 on_err (Err e) p = p
 
-pub returns-in_err-tell-clause-front : goal.returns-in_err-tell-clause-front
-returns-in_err-tell-clause-front g c =
-    on_err c.from_residual.result (front_step (g.K.Sink.written c.args.sink.now) (g.K.Sink.written c.loop-event.sink) (g.K.Sink.written c.tell.new.sink) (output_from c.args.world.now c.args.events.now)
+pub returns-in_err-step-clause-front : goal.returns-in_err-step-clause-front
+returns-in_err-step-clause-front g c =
+    on_err c.from_residual.result (front_step (g.K.Sink.written c.args.sink.now) (g.K.Sink.written c.loop-event.sink) (g.K.Sink.written c.step.new.sink) (output_from c.args.world.now c.args.events.now)
     c.loop-event.world c.args.events.now c.loop-event.event-index c.event-item.result c.loop-event-test.true c.event-item.is
-    c.loop-event.invariant.due c.in_err-tell.ensures.front)
+    c.loop-event.invariant.due c.in_err-step.ensures.front)

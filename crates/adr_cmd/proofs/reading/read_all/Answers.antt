@@ -1,21 +1,22 @@
-use Rattle.std.proofs.Common.{arith, ap, Ok}
+use Rattle.std.proofs.Common.{◌+◌, arith, ap, Ok}
+use Rattle.adr_schedule.specs.Limits.{text_limit}
 use Rattle.adr_cmd.proofs.ReadLemmas.{read_more, read_most, left_most, read_ended, left_ended, gone_so_far, gone_more}
 use Rattle.adr_cmd.proofs.reading.read_all.Goals as goal
 
 pub returns-then-room-eq0-clause-read : goal.returns-then-room-eq0-clause-read
-returns-then-room-eq0-clause-read g c = read_most (g.S.Source.left c.args.source.now) (g.S.Source.left c.turns.source) c.turns.bytes.items 16777217 c.turns.invariant.told (omega arith)
+returns-then-room-eq0-clause-read g c = read_most (g.S.Source.left c.args.source.now) (g.S.Source.left c.turns.source) c.turns.bytes.items (text_limit + 1) c.turns.invariant.told (omega arith)
 
 pub returns-then-room-eq0-clause-left : goal.returns-then-room-eq0-clause-left
-returns-then-room-eq0-clause-left g c = left_most (g.S.Source.left c.args.source.now) (g.S.Source.left c.turns.source) c.turns.bytes.items 16777217 c.turns.invariant.told (omega arith)
+returns-then-room-eq0-clause-left g c = left_most (g.S.Source.left c.args.source.now) (g.S.Source.left c.turns.source) c.turns.bytes.items (text_limit + 1) c.turns.invariant.told (omega arith)
 
 pub returns-then-count-eq0-clause-read : goal.returns-then-count-eq0-clause-read
 returns-then-count-eq0-clause-read g c =
-    read_ended (g.S.Source.left c.args.source.now) (g.S.Source.left c.turns.source) (g.S.Source.left c.read_some.new.source) c.turns.bytes.items c.read_some.new.bytes.items c.in_ok-count.count 16777217
+    read_ended (g.S.Source.left c.args.source.now) (g.S.Source.left c.turns.source) (g.S.Source.left c.read_some.new.source) c.turns.bytes.items c.read_some.new.bytes.items c.in_ok-count.count (text_limit + 1)
     c.turns.invariant.told c.in_ok-count.ensures.read c.in_ok-count.ensures.count.1 (c.in_ok-count.ensures.end (ap Ok c.if-count-eq0.true)) c.turns.invariant.most
 
 pub returns-then-count-eq0-clause-left : goal.returns-then-count-eq0-clause-left
 returns-then-count-eq0-clause-left g c =
-    left_ended (g.S.Source.left c.args.source.now) (g.S.Source.left c.turns.source) (g.S.Source.left c.read_some.new.source) c.turns.bytes.items c.read_some.new.bytes.items c.in_ok-count.count 16777217
+    left_ended (g.S.Source.left c.args.source.now) (g.S.Source.left c.turns.source) (g.S.Source.left c.read_some.new.source) c.turns.bytes.items c.read_some.new.bytes.items c.in_ok-count.count (text_limit + 1)
     c.turns.invariant.told c.in_ok-count.ensures.read c.in_ok-count.ensures.count.1 (c.in_ok-count.ensures.end (ap Ok c.if-count-eq0.true)) c.turns.invariant.most
 
 pub turns-preserved : goal.turns-preserved
@@ -28,21 +29,21 @@ turns-preserved g c = record {
 }
 
 pub returns-clause-read : goal.returns-clause-read
-returns-clause-read g c = read_most (g.S.Source.left c.args.source.now) (g.S.Source.left c.turns.source) c.turns.bytes.items 16777217 c.turns.invariant.told (omega arith)
+returns-clause-read g c = read_most (g.S.Source.left c.args.source.now) (g.S.Source.left c.turns.source) c.turns.bytes.items (text_limit + 1) c.turns.invariant.told (omega arith)
 
 pub returns-clause-left : goal.returns-clause-left
-returns-clause-left g c = left_most (g.S.Source.left c.args.source.now) (g.S.Source.left c.turns.source) c.turns.bytes.items 16777217 c.turns.invariant.told (omega arith)
+returns-clause-left g c = left_most (g.S.Source.left c.args.source.now) (g.S.Source.left c.turns.source) c.turns.bytes.items (text_limit + 1) c.turns.invariant.told (omega arith)
 
 pub returns-then-room-eq0-clause-at_most : goal.returns-then-room-eq0-clause-at_most
-returns-then-room-eq0-clause-at_most g c = gone_so_far (g.S.Source.left c.args.source.now) (g.S.Source.left c.turns.source) c.turns.bytes.items 16777217 c.turns.invariant.told c.turns.invariant.most
+returns-then-room-eq0-clause-at_most g c = gone_so_far (g.S.Source.left c.args.source.now) (g.S.Source.left c.turns.source) c.turns.bytes.items (text_limit + 1) c.turns.invariant.told c.turns.invariant.most
 
 pub returns-in_err-count-clause-at_most : goal.returns-in_err-count-clause-at_most
 returns-in_err-count-clause-at_most g c =
-    gone_more (g.S.Source.left c.args.source.now) (g.S.Source.left c.turns.source) (g.S.Source.left c.read_some.new.source) c.turns.bytes.items _ 16777217 c.turns.invariant.told c.read_some.ensures.at_most (omega (arith, c.turns.invariant.most))
+    gone_more (g.S.Source.left c.args.source.now) (g.S.Source.left c.turns.source) (g.S.Source.left c.read_some.new.source) c.turns.bytes.items _ (text_limit + 1) c.turns.invariant.told c.read_some.ensures.at_most (omega (arith, c.turns.invariant.most))
 
 pub returns-then-count-eq0-clause-at_most : goal.returns-then-count-eq0-clause-at_most
 returns-then-count-eq0-clause-at_most g c =
-    gone_more (g.S.Source.left c.args.source.now) (g.S.Source.left c.turns.source) (g.S.Source.left c.read_some.new.source) c.turns.bytes.items _ 16777217 c.turns.invariant.told c.read_some.ensures.at_most (omega (arith, c.turns.invariant.most))
+    gone_more (g.S.Source.left c.args.source.now) (g.S.Source.left c.turns.source) (g.S.Source.left c.read_some.new.source) c.turns.bytes.items _ (text_limit + 1) c.turns.invariant.told c.read_some.ensures.at_most (omega (arith, c.turns.invariant.most))
 
 pub returns-clause-at_most : goal.returns-clause-at_most
-returns-clause-at_most g c = gone_so_far (g.S.Source.left c.args.source.now) (g.S.Source.left c.turns.source) c.turns.bytes.items 16777217 c.turns.invariant.told c.turns.invariant.most
+returns-clause-at_most g c = gone_so_far (g.S.Source.left c.args.source.now) (g.S.Source.left c.turns.source) c.turns.bytes.items (text_limit + 1) c.turns.invariant.told c.turns.invariant.most

@@ -12,7 +12,7 @@ returns-clause-ok c h call at issues =
     let written = same_place c.args.self.now.controllers.items c.args.place h c.index_mut.result.now c.requires.place c.index_mut.ensures.value at in
     is_committed c.args.self.now.controllers.items c.args.place h (after h.state c.args.change.now) c.args.end c.requires.tidy at (world_of c.args.self.now) c.apply.new.self c.record.new.self (record { call = call; change = c.args.change.now })
     refl (c.in_ok-apply.ensures.ok ∙ ap (λ d. with_state d (after d.state c.args.change.now) c.args.end) written)
-    (c.record.ensures call issues ∙ ap (λ i. recorded c.args.self.now.book i (record { call = call; change = c.args.change.now })) (c.inv-inv.ensures ∙ ap (λ d. d.state.inv) read))
+    (c.record.ensures call issues ∙ ap (λ i. record c.args.self.now.past { book = recorded c.args.self.now.past.book i (record { call = call; change = c.args.change.now }) }) (c.inv-inv.ensures ∙ ap (λ d. d.state.inv) read))
 
 pub returns-clause-tidy : goal.returns-clause-tidy
 returns-clause-tidy c =

@@ -1,55 +1,56 @@
 -- What is claimed of a line follows of what it does.
 use Rattle.std.proofs.Common.{sym, subst, refl}
-use Rattle.adr_model.specs.Convergence.{MayHappen}
+use Rattle.adr_model.specs.Convergence.{AreAcknowledged, MayHappen}
+use Rattle.adr_model.specs.Step.{step}
 use Rattle.adr_law_convergence.proofs.Controllers.{shows_what_is_visible, equal_coverage_shows, own_is_visible}
-use Rattle.adr_world.specs.Door.{AreAcknowledged, IsCompletedBy}
+use Rattle.adr_world.specs.Door.{IsCompletedBy}
 use Rattle.adr_world.specs.Run.{world_of}
 use Rattle.adr_world.proofs.Doors.{behind_of_run, left_of_run, acknowledged_by, completed_by}
 use Rattle.adr_world.proofs.world.World.step.Goals as goal
 
 pub invariant_of-self : goal.invariant_of-self
-invariant_of-self c = record {
-  of_run = left_of_run (world_of c.self.inside.run) c.args.event.now c.self.invariant.of_run (subst (λ w. MayHappen w c.args.event.now) (sym c.self.view_is) c.requires.may) (world_of c.step.new.self) c.in_err-answers.ensures.err;
-  tidy = c.in_err-answers.ensures.tidy;
+invariant_of-self g c = record {
+  of_run = left_of_run (world_of c.self.inside.run) c.args.event.now c.self.invariant.of_run (subst (λ w. MayHappen w c.args.event.now) (sym c.self.view_is) c.requires.may) (world_of c.step.new.self) c.in_err-step.ensures.err;
+  tidy = c.in_err-step.ensures.tidy;
 }
 
 pub invariant_of-self-2 : goal.invariant_of-self-2
-invariant_of-self-2 c = record {
-  of_run = behind_of_run (world_of c.self.inside.run) c.args.event.now c.self.invariant.of_run (subst (λ w. MayHappen w c.args.event.now) (sym c.self.view_is) c.requires.may) (world_of c.step.new.self) c.in_ok-answers.answers.items c.in_ok-answers.ensures.stepped;
-  tidy = c.in_ok-answers.ensures.tidy;
+invariant_of-self-2 g c = record {
+  of_run = behind_of_run (world_of c.self.inside.run) c.args.event.now c.self.invariant.of_run (subst (λ w. MayHappen w c.args.event.now) (sym c.self.view_is) c.requires.may) (world_of c.step.new.self) c.in_ok-step.ensures.stepped;
+  tidy = c.in_ok-step.ensures.tidy;
 }
 
-pub returns-in_err-answers-clause-sound : goal.returns-in_err-answers-clause-sound
-returns-in_err-answers-clause-sound c = (invariant_of-self c).of_run
+pub returns-in_err-step-clause-sound : goal.returns-in_err-step-clause-sound
+returns-in_err-step-clause-sound g c = (invariant_of-self g c).of_run
 
-pub returns-in_err-answers-clause-shown : goal.returns-in_err-answers-clause-shown
-returns-in_err-answers-clause-shown c = shows_what_is_visible (world_of c.step.new.self) ((invariant_of-self c).of_run.sound refl)
+pub returns-in_err-step-clause-shown : goal.returns-in_err-step-clause-shown
+returns-in_err-step-clause-shown g c = shows_what_is_visible (world_of c.step.new.self) ((invariant_of-self g c).of_run.sound refl)
 
-pub returns-in_err-answers-clause-equal : goal.returns-in_err-answers-clause-equal
-returns-in_err-answers-clause-equal c = equal_coverage_shows (world_of c.step.new.self) ((invariant_of-self c).of_run.sound refl)
+pub returns-in_err-step-clause-equal : goal.returns-in_err-step-clause-equal
+returns-in_err-step-clause-equal g c = equal_coverage_shows (world_of c.step.new.self) ((invariant_of-self g c).of_run.sound refl)
 
-pub returns-in_err-answers-clause-own : goal.returns-in_err-answers-clause-own
-returns-in_err-answers-clause-own c = own_is_visible (world_of c.step.new.self) ((invariant_of-self c).of_run.sound refl)
+pub returns-in_err-step-clause-own : goal.returns-in_err-step-clause-own
+returns-in_err-step-clause-own g c = own_is_visible (world_of c.step.new.self) ((invariant_of-self g c).of_run.sound refl)
 
 pub returns-clause-sound : goal.returns-clause-sound
-returns-clause-sound c = (invariant_of-self-2 c).of_run
+returns-clause-sound g c = (invariant_of-self-2 g c).of_run
 
 pub returns-clause-shown : goal.returns-clause-shown
-returns-clause-shown c = shows_what_is_visible (world_of c.step.new.self) ((invariant_of-self-2 c).of_run.sound refl)
+returns-clause-shown g c = shows_what_is_visible (world_of c.step.new.self) ((invariant_of-self-2 g c).of_run.sound refl)
 
 pub returns-clause-equal : goal.returns-clause-equal
-returns-clause-equal c = equal_coverage_shows (world_of c.step.new.self) ((invariant_of-self-2 c).of_run.sound refl)
+returns-clause-equal g c = equal_coverage_shows (world_of c.step.new.self) ((invariant_of-self-2 g c).of_run.sound refl)
 
 pub returns-clause-own : goal.returns-clause-own
-returns-clause-own c = own_is_visible (world_of c.step.new.self) ((invariant_of-self-2 c).of_run.sound refl)
+returns-clause-own g c = own_is_visible (world_of c.step.new.self) ((invariant_of-self-2 g c).of_run.sound refl)
 
 pub returns-clause-acknowledged : goal.returns-clause-acknowledged
-returns-clause-acknowledged c =
-    subst (λ w. AreAcknowledged w c.args.event.now c.in_ok-answers.answers.items (world_of c.step.new.self)) c.self.view_is
-    (acknowledged_by (world_of c.self.inside.run) c.args.event.now c.self.invariant.of_run (subst (λ w. MayHappen w c.args.event.now) (sym c.self.view_is) c.requires.may) (world_of c.step.new.self) c.in_ok-answers.answers.items
-    (c.self.invariant.of_run.sound refl) c.in_ok-answers.ensures.stepped)
+returns-clause-acknowledged g c =
+    subst (λ w. AreAcknowledged w c.args.event.now (step w c.args.event.now).1 (world_of c.step.new.self)) c.self.view_is
+    (acknowledged_by (world_of c.self.inside.run) c.args.event.now c.self.invariant.of_run (subst (λ w. MayHappen w c.args.event.now) (sym c.self.view_is) c.requires.may) (world_of c.step.new.self)
+    (c.self.invariant.of_run.sound refl) c.in_ok-step.ensures.stepped)
 
 pub returns-clause-completed : goal.returns-clause-completed
-returns-clause-completed c =
-    subst (λ w. IsCompletedBy w c.args.event.now c.in_ok-answers.answers.items (world_of c.step.new.self)) c.self.view_is
-    (completed_by (world_of c.self.inside.run) c.args.event.now (world_of c.step.new.self) c.in_ok-answers.answers.items (c.self.invariant.of_run.sound refl) c.in_ok-answers.ensures.stepped)
+returns-clause-completed g c =
+    subst (λ w. IsCompletedBy w c.args.event.now (step w c.args.event.now).1 (world_of c.step.new.self)) c.self.view_is
+    (completed_by (world_of c.self.inside.run) c.args.event.now (world_of c.step.new.self) (c.self.invariant.of_run.sound refl) c.in_ok-step.ensures.stepped)
