@@ -10,7 +10,7 @@ use adr_schema::{
 use adr_stamp::{Birth, LinkKey, LinkStamp, Oid, Stamp};
 use adr_token::{Line, Stop, push_class, push_set};
 use adr_vector::{Mark, Vector};
-use adr_wire::{Reader, WireRefusal, Writer};
+use adr_wire::{Failure, Malformed, Reader, WireRefusal, Writer};
 use std::alloc::Global;
 use std::fs;
 use std::io::{Error, ErrorKind, Read, Write};
@@ -364,7 +364,7 @@ fn bytes_are_refused_at_the_first_wrong_field(rt: HostRuntime) -> Result<(), Fai
     let alloc = rt.alloc();
     for (word, fields, place) in REFUSED {
         let answer = read(alloc, word, &fields.concat(alloc)?);
-        assert_eq!(rt; answer, Err(WireRefusal::Malformed { place }));
+        assert_eq!(rt; answer, Err(Failure::Refused(Malformed { place })));
     }
     Ok(())
 }

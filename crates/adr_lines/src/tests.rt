@@ -1,0 +1,315 @@
+//! Lines that say something, and lines that are bad, with their causes.
+
+use adr_schedule::{Cause, Failure, TEXT_LIMIT, parse, print};
+use std::alloc::{AllocError, Global};
+use std::test::Fail;
+
+/// The printed events of a text, or its fault.
+fn shown(alloc: Global, text: &[u8]) -> Result<Vec<u8>, AllocError> {
+    match parse(alloc, text) {
+        Ok(events) => print(alloc, events.as_slice()),
+        Err(Failure::NoMemory) => Err(AllocError),
+        Err(Failure::Refused(fault)) => {
+            let line = fault.line;
+            let cause = match fault.cause {
+                Cause::NotUtf8 => "not UTF-8",
+                Cause::NoCommand => "no command",
+                Cause::UnknownName => "unknown name",
+                Cause::NameUsed => "name used",
+                Cause::IdentifierUsed => "identifier used",
+                Cause::TooMany => "too many",
+                Cause::TooLong => "too long",
+            };
+            let text = format!(in alloc; "line {line}: {cause}")?;
+            Vec::from_slice(alloc, text.as_bytes())
+        }
+    }
+}
+
+#[test]
+fn texts_are_events_or_have_a_fault(rt: HostRuntime) -> Result<(), Fail> {
+    let cases = [
+        // lines and spaces
+        (b"".as_slice(), b"".as_slice()),
+        (b"; a bad byte \xff\ntime 5", b"time 5\n"),
+        (b"\n   \n  time   7  \n", b"time 7\n"),
+        (b"time 1\n\xff\n", b"line 2: not UTF-8"),
+        (b"time 1\r\n", b"line 1: no command"),
+        (b"time 1\n\ntime 2 3\n", b"line 3: no command"),
+        // numbers
+        (
+            b"time 18446744073709551615\n",
+            b"time 18446744073709551615\n",
+        ),
+        (b"time 18446744073709551616\n", b"line 1: no command"),
+        (b"time 01\n", b"line 1: no command"),
+        // identifiers
+        (
+            b"controller A #00000000-0000-0000-0000-0000000000a0 #0\n",
+            b"controller A #a0 #0\n",
+        ),
+        (
+            b"controller A_1 #00000001-0000-0000-0000-0000000000af #ffffffff\n",
+            b"controller A_1 #00000001-0000-0000-0000-0000000000af #ffffffff\n",
+        ),
+        (b"controller A #00 #1\n", b"line 1: no command"),
+        (b"controller A #A0 #1\n", b"line 1: no command"),
+        // names
+        (b"show A\n", b"line 1: unknown name"),
+        (
+            b"controller A #a0 #a1\nshow A\nshow B\n",
+            b"line 3: unknown name",
+        ),
+        (b"controller 1A #a0 #a1\n", b"line 1: no command"),
+    ];
+    for (text, want) in cases {
+        assert_eq!(rt; shown(rt.alloc(), text)?.as_slice(), want);
+    }
+    Ok(())
+}
+
+/// What a line behind that of a controller is, printed.
+fn shown_behind(alloc: Global, line: &[u8]) -> Result<Vec<u8>, AllocError> {
+    let mut text = b"controller A #a0 #a1\n".to_vec(alloc)?;
+    text.extend_from_slice(line)?;
+    shown(alloc, text.as_slice())
+}
+
+#[test]
+fn writes_are_read_and_printed(rt: HostRuntime) -> Result<(), Fail> {
+    let lines = [
+        b"add A #10 user #1 \"Ann\" sAMAccountName=\"ann\"\n".as_slice(),
+        b"add A #10 user #1 \"A \\\"\\\\\" sAMAccountName=\"\\0a\\7f\"\n",
+        b"add A #10 container #2 \"\"\n",
+        b"add A #10 %900 #7 \" \" %77=\n",
+        b"modify A #10 description=\"a\",\"b c\" employeeNumber=-9223372036854775808,9223372036854775807,0 disabled=true,false\n",
+        b"modify A #10 thumbprint=x00ff,x1a seeAlso=#a,#00000001-0000-0000-0000-000000000000\n",
+        b"modify A #10 class=5 name=\"n\" deleted=true memberOf=#2 %65535=\n",
+        b"rename A #10 #1 \"Ann\"\n",
+        b"delete A #10\n",
+        b"link A #10 member #11\n",
+        b"unlink A #10 %900 #11\n",
+    ];
+    let alloc = rt.alloc();
+    for line in lines {
+        let mut text = b"controller A #a0 #a1\n".to_vec(alloc)?;
+        text.extend_from_slice(line)?;
+        assert_eq!(rt; shown_behind(alloc, line)?.as_slice(), text.as_slice());
+    }
+    Ok(())
+}
+
+#[test]
+fn writes_are_printed_in_one_form(rt: HostRuntime) -> Result<(), Fail> {
+    let text = b"controller A #a0 #a1
+add A #10 %5 #1 \"Ann\" mail=\"m\" sAMAccountName=\"ann\" %12=\"d\"
+modify  A  #10  %77=1  mail=  class=5
+link A #10 %30 #00000000-0000-0000-0000-000000000011
+";
+    let want = b"controller A #a0 #a1
+add A #10 user #1 \"Ann\" sAMAccountName=\"ann\" description=\"d\" mail=\"m\"
+modify A #10 class=5 mail= %77=1
+link A #10 member #11
+";
+    assert_eq!(rt; shown(rt.alloc(), text)?.as_slice(), want.as_slice());
+    Ok(())
+}
+
+#[test]
+fn writes_outside_the_grammar(rt: HostRuntime) -> Result<(), Fail> {
+    let lines = [
+        // a token is missing, doubled or of a wrong kind
+        b"add A #10 user #1".as_slice(),
+        b"add A #10 #1 \"Ann\"",
+        b"add A user #1 \"Ann\"",
+        b"add A #10 user \"Ann\"",
+        b"add #10 user #1 \"Ann\"",
+        b"add A #10 user #1 Ann",
+        b"add A #10 user #1 \"Ann\" \"Ann\"",
+        b"add A #10 user user #1 \"Ann\"",
+        b"modify A #10",
+        b"modify A mail=\"m\"",
+        b"modify #10 mail=\"m\"",
+        b"modify A #10 #11 mail=\"m\"",
+        b"rename A #10 #1",
+        b"rename A #10 \"Ann\"",
+        b"rename A #10 #1 Ann",
+        b"rename A #10 #1 \"Ann\" \"Ann\"",
+        b"rename A #10 #1 \"Ann\" mail=\"m\"",
+        b"delete A",
+        b"delete #10",
+        b"delete A #10 #11",
+        b"delete A \"x\"",
+        b"link A #10 member",
+        b"link A #10 #11",
+        b"link A member #10 #11",
+        b"link A #10 member #11 #12",
+        b"link A #10 member= #11",
+        b"unlink A #10 member",
+        b"unlink A #10 #11 member",
+        b"unlink A #10 member #11 #12",
+        // classes and attributes
+        b"add A #10 person #1 \"Ann\"",
+        b"add A #10 User #1 \"Ann\"",
+        b"add A #10 5 #1 \"Ann\"",
+        b"add A #10 % #1 \"Ann\"",
+        b"add A #10 %05 #1 \"Ann\"",
+        b"add A #10 %65536 #1 \"Ann\"",
+        b"link A #10 members #11",
+        b"link A #10 %65536 #11",
+        b"unlink A #10 %030 #11",
+        b"modify A #10 nothing=\"x\"",
+        b"modify A #10 =\"x\"",
+        b"modify A #10 %65536=\"x\"",
+        // sets
+        b"modify A #10 mail",
+        b"modify A #10 mail = \"m\"",
+        b"modify A #10 mail= \"m\"",
+        b"modify A #10 mail=\"m\",",
+        b"modify A #10 mail=,\"m\"",
+        b"modify A #10 mail=\"m\",,\"n\"",
+        b"modify A #10 mail=\"m\", \"n\"",
+        b"modify A #10 mail=\"m\"\"n\"",
+        b"modify A #10 mail=\"m\" mail=\"n\"",
+        b"modify A #10 mail=\"m\" disabled=true %13=",
+        // values
+        b"modify A #10 mail=m",
+        b"modify A #10 mail=\"m",
+        b"modify A #10 mail=\"\\41\"",
+        b"modify A #10 mail=\"\t\"",
+        b"modify A #10 employeeNumber=-0",
+        b"modify A #10 employeeNumber=01",
+        b"modify A #10 employeeNumber=-01",
+        b"modify A #10 employeeNumber=+1",
+        b"modify A #10 employeeNumber=-",
+        b"modify A #10 employeeNumber=9223372036854775808",
+        b"modify A #10 employeeNumber=-9223372036854775809",
+        b"modify A #10 disabled=True",
+        b"modify A #10 disabled=truefalse",
+        b"modify A #10 thumbprint=x",
+        b"modify A #10 thumbprint=x0",
+        b"modify A #10 thumbprint=xaB",
+        b"modify A #10 thumbprint=x0g",
+        b"modify A #10 seeAlso=#00",
+    ];
+    for line in lines {
+        assert_eq!(rt;
+            shown_behind(rt.alloc(), line)?.as_slice(),
+            b"line 2: no command".as_slice()
+        );
+    }
+    Ok(())
+}
+
+#[test]
+fn writes_name_a_controller(rt: HostRuntime) -> Result<(), Fail> {
+    let lines = [
+        b"add B #10 user #1 \"Ann\"".as_slice(),
+        b"modify B #10 mail=",
+        b"rename B #10 #1 \"Ann\"",
+        b"delete B #10",
+        b"link B #10 member #11",
+        b"unlink B #10 member #11",
+    ];
+    for line in lines {
+        assert_eq!(rt;
+            shown_behind(rt.alloc(), line)?.as_slice(),
+            b"line 2: unknown name".as_slice()
+        );
+    }
+    Ok(())
+}
+
+#[test]
+fn a_text_of_65536_bytes_is_outside_the_grammar(rt: HostRuntime) -> Result<(), Fail> {
+    let alloc = rt.alloc();
+    let mut line = b"rename A #10 #1 \"".to_vec(alloc)?;
+    line.resize(17 + 65_535, b'a')?;
+    line.extend_from_slice(b"\"\n")?;
+    let mut text = b"controller A #a0 #a1\n".to_vec(alloc)?;
+    text.extend_from_slice(line.as_slice())?;
+    assert_eq!(rt; shown(alloc, text.as_slice())?.as_slice(), text.as_slice());
+    line.resize(17 + 65_535, b'a')?;
+    line.extend_from_slice(b"a\"")?;
+    assert_eq!(rt;
+        shown_behind(alloc, line.as_slice())?.as_slice(),
+        b"line 2: no command".as_slice()
+    );
+    Ok(())
+}
+
+/// Two controllers, a request and a reply.
+const BOUND: &[u8] = b"controller A #a0 #a1
+controller B #b0 #b1
+ask A B 1 as q
+serve B q as r
+";
+
+#[test]
+fn lines_that_may_follow_are_read_and_printed(rt: HostRuntime) -> Result<(), Fail> {
+    let alloc = rt.alloc();
+    let lines = b"deliver A r
+pull A B 10000
+cycle B A 1
+vector A
+marks B
+show B
+ask B A 7 as A
+serve A A as q
+deliver B q
+controller q #b1 #b0
+";
+    let mut text = BOUND.to_vec(alloc)?;
+    text.extend_from_slice(lines)?;
+    assert_eq!(rt; shown(alloc, text.as_slice())?.as_slice(), text.as_slice());
+    Ok(())
+}
+
+#[test]
+fn lines_that_may_not_follow_have_a_cause(rt: HostRuntime) -> Result<(), Fail> {
+    let cases = [
+        (b"pull A B 0".as_slice(), b"line 5: no command".as_slice()),
+        (b"cycle A B 10001", b"line 5: no command"),
+        (b"ask A B 5 q", b"line 5: no command"),
+        (b"ask A C 5 as q", b"line 5: unknown name"),
+        (b"ask A B 5 as q", b"line 5: name used"),
+        (b"serve B r as r", b"line 5: unknown name"),
+        (b"serve B q as r", b"line 5: name used"),
+        (b"deliver A q", b"line 5: unknown name"),
+        (b"cycle A q 5", b"line 5: unknown name"),
+        (b"controller A #a0 #c1", b"line 5: name used"),
+        (b"controller C #a0 #c1", b"line 5: identifier used"),
+        (b"controller C #c0 #b1", b"line 5: identifier used"),
+    ];
+    let alloc = rt.alloc();
+    for (line, want) in cases {
+        let mut text = BOUND.to_vec(alloc)?;
+        text.extend_from_slice(line)?;
+        assert_eq!(rt; shown(alloc, text.as_slice())?.as_slice(), want);
+    }
+    Ok(())
+}
+
+#[test]
+fn the_65th_controller_is_one_too_many(rt: HostRuntime) -> Result<(), Fail> {
+    let mut text = String::new(rt.alloc());
+    for number in 1..66u32 {
+        let line = format!(in rt.alloc(); "controller C{number} #{number:x} #{number:x}\n")?;
+        text.push_str(line.as_str())?;
+    }
+    assert_eq!(rt;
+        shown(rt.alloc(), text.as_bytes())?.as_slice(),
+        b"line 65: too many".as_slice()
+    );
+    Ok(())
+}
+
+#[test]
+fn a_text_past_16_mib_is_too_long(rt: HostRuntime) -> Result<(), Fail> {
+    let text = vec![in rt.alloc(); b'\n'; TEXT_LIMIT + 1]?;
+    assert_eq!(rt;
+        shown(rt.alloc(), text.as_slice())?.as_slice(),
+        b"line 0: too long".as_slice()
+    );
+    Ok(())
+}
