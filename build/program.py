@@ -79,7 +79,13 @@ def places(number):
 def prove(crates, room, number):
     """Proves all crates but the program; whether it went well."""
     lengths, state = with_what_waits(crates), threading.Condition()
-    left, done, begun, failed = set(crates) - {PROGRAM}, set(), time.monotonic(), []
+    left, under_way, done, begun, failed = set(crates) - {PROGRAM}, set(), set(), time.monotonic(), []
+
+    def jobs_for(name, ready):
+        """Processes for a crate's check: all for one that is alone, two for the one that most wait for. More would load the same files again."""
+        if under_way == {name} and ready == [name]:
+            return number
+        return 2 if lengths[name] == max(lengths[it] for it in under_way) else 1
 
     def work(copy):
         while True:
@@ -91,10 +97,13 @@ def prove(crates, room, number):
                     return
                 name = max(ready, key=lengths.get)
                 left.discard(name)
+                under_way.add(name)
+                jobs = jobs_for(name, ready)
             log = f"{room}/{name}.log"
             with open(log, "wb") as out:
-                status = subprocess.call(["rt", "lib"], cwd=f"{room}/{copy}/crates/{name}", stdin=subprocess.DEVNULL, stdout=out, stderr=out)
+                status = subprocess.call(["rt", "lib", "--jobs", str(jobs)], cwd=f"{room}/{copy}/crates/{name}", stdin=subprocess.DEVNULL, stdout=out, stderr=out)
             with state:
+                under_way.discard(name)
                 if status:
                     failed.append(log)
                 else:
