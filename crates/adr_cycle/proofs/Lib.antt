@@ -1,2 +1,5 @@
 pub mod Firsts
-pub mod Tables
+pub mod Numbered
+pub mod Choosing
+pub mod Cutting
+pub mod Replies

@@ -1,1 +1,1 @@
-pub mod Units
+pub mod Candidates

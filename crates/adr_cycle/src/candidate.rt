@@ -2,7 +2,7 @@
 
 ghost use Rattle.std.specs.Prelude.{◌≡◌, IfOk};
 ghost use Rattle.adr_model.specs.Store.{updates_of};
-ghost use Rattle.adr_cycle.specs.Units.{rows_at};
+ghost use Rattle.adr_update.specs.Referents.{referents};
 
 use crate::NoMemory;
 use adr_stamp::Unit;
@@ -19,17 +19,17 @@ pub struct Candidate<'a> {
 
 impl<'a> Model for Candidate<'a> {
     ghost use Rattle.adr_model.specs.Store.{updates_of};
-    ghost use Rattle.adr_cycle.specs.Units.{rows_at};
+    ghost use Rattle.adr_update.specs.Referents.{referents};
     ghost use Rattle.adr_model.specs.Change.{Item as Defined};
 
     ghost Value = { Defined };
 
-    ghost view = { λ c. record { unit = c.unit; rows = updates_of (rows_at c.rows.items) } };
+    ghost view = { λ c. record { unit = c.unit; rows = updates_of (referents c.rows.items) } };
 }
 
 impl<'a> Candidate<'a> {
     pub fn new(unit: Unit, rows: Vec<&'a Held>) -> Candidate<'a>
-        ensures { result ≡ record { unit = unit; rows = updates_of (rows_at rows.entry.items) } }
+        ensures { result ≡ record { unit = unit; rows = updates_of (referents rows.entry.items) } }
     {
         Candidate { unit, rows }
     }
@@ -44,7 +44,7 @@ impl<'a> Candidate<'a> {
 
 /// Equal updates, in the order of the rows.
 fn copy_updates(alloc: Global, rows: &[&Held]) -> Result<Vec<Update>, NoMemory>
-    ensures { IfOk result (λ updates. updates.items ≡ updates_of (rows_at rows.now)) }
+    ensures { IfOk result (λ updates. updates.items ≡ updates_of (referents rows.now)) }
 {
     let mut updates = Vec::new(alloc);
     for row in rows {

@@ -3,16 +3,14 @@
 ghost use Rattle.std.specs.Prelude.{◌≡◌, ℕ, fold, map, IfOk, if◌then◌else◌};
 ghost use Rattle.std.specs.Bool.{then_some};
 ghost use Rattle.adr_model.specs.Change.{Item as Defined};
-ghost use Rattle.adr_model.specs.Serve.{begins_at, byte_limit, first_items, reply_of, reply_to};
+ghost use Rattle.adr_model.specs.Serve.{begins_at, byte_limit, candidates, first_items, reply_of, reply_to};
 
 use crate::NoMemory;
-use crate::candidate::Candidate;
-use crate::candidates::candidates;
+use crate::candidates::{is_none_behind, next_candidate};
 use adr_packet::{Reply, Request};
-use adr_state::{Item, State, is_same, item_length_within};
+use adr_state::{Item, Rows, State, is_same, item_length_within};
 use adr_vector::{Mark, Vector};
 use std::alloc::Global;
-use std::collections::BTreeMap;
 
 /// The bytes of items at which a reply is cut: 4 MiB.
 const BYTE_LIMIT: u64 = 4_194_304;
@@ -22,10 +20,10 @@ pub fn reply_to(alloc: Global, state: &State, request: &Request) -> Result<Reply
     ensures { IfOk result (λ reply. reply ≡ reply_to state.now request.now) }
 {
     let from = begins_at(state, request);
-    let all = candidates(alloc, state.rows().as_slice(), from, request.vector())?;
-    let count = all.len();
-    let sent = first_items(alloc, request.max(), all)?;
-    let is_last = sent.len() == count;
+    let asked = request.vector();
+    let sent = first_items(alloc, state.rows(), from, asked, request.max())?;
+    let last = last_sent(from.obj, sent.as_slice());
+    let is_last = is_none_behind(alloc, state.rows(), from, asked, last)?;
     reply_of(alloc, state, request, from, sent, is_last)
 }
 
@@ -41,22 +39,26 @@ pub fn begins_at(state: &State, request: &Request) -> Mark
 }
 
 /// The first items: until there are so many, or so many bytes or more.
-pub fn first_items(
+fn first_items(
     alloc: Global,
+    rows: &Rows,
+    from: Mark,
+    asked: &Vector,
     mut most: u32,
-    all: BTreeMap<u64, Candidate>,
 ) -> Result<Vec<(u64, Item)>, NoMemory>
-    ensures { IfOk result (λ sent. sent.items ≡ first_items most byte_limit all.entry.entries) }
+    ensures { IfOk result (λ sent. sent.items ≡ first_items most byte_limit (candidates rows.now from asked.now)) }
 {
     let mut bytes = BYTE_LIMIT;
+    let mut last = from.obj;
     let mut sent = Vec::new(alloc);
-    for (local, candidate) in all {
-        if most == 0 || bytes == 0 {
+    while most > 0 && bytes > 0 {
+        let Some((local, candidate)) = next_candidate(alloc, rows, from, asked, last)? else {
             break;
-        }
+        };
         let item = candidate.item(alloc)?;
         most -= 1;
         bytes -= item_length_within(&item, bytes);
+        last = local;
         sent.push((local, item))?;
     }
     Ok(sent)

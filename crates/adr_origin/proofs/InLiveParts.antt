@@ -1,10 +1,9 @@
 -- The refusals of a `modify` and of a `rename` part by part.
-use Rattle.std.proofs.Common.{◌≡◌, ℕ, ◌+◌, List, [], ◌∷◌, ◌++◌, Option, Some, None, Err, sym, ap, ap₂, ◌∙◌}
+use Rattle.std.proofs.Common.{◌≡◌, ℕ, ◌+◌, List, [], ◌∷◌, ◌++◌, Option, Some, None, Err, sym, ap, ◌∙◌}
 use Rattle.std.specs.Option.{option_map}
 use Rattle.adr_stamp.specs.declared.Oid.{Oid}
 use Rattle.adr_schema.specs.Assignments.{Given}
 use Rattle.adr_schema.specs.Numbered.{numbered}
-use Rattle.adr_schema.specs.Table.{Table as Schema}
 use Rattle.adr_schema.specs.Rules.{modify_refusal as schema_modify_refusal, name_refusal as schema_name_refusal}
 use Rattle.adr_failure.specs.declared.Failure.{Failure}
 use Rattle.adr_failure.specs.declared.Failure.TheVariants.{Refused, NoMemory}
@@ -62,17 +61,17 @@ module _ (s : State) (guid : Identifier) where
     pub named_told : (x : WriteRefusal) → Some x ≡ named_refusal s guid text → refusal ≡ Some x
     named_told x is = rename_in_parts parent text ∙ sym (first_told x _ _ is)
 
-    module _ (table : Schema) (same_table : table ≡ numbered s.store.schema) (ns : List Node) (same : ns ≡ nodes) (named : None ≡ named_refusal s guid text) where
-      moved : moved_refusal table ns guid parent text ≡ moved_refusal (numbered s.store.schema) nodes guid parent text
-      moved = ap₂ (λ (t : Schema) (ms : List Node). moved_refusal t ms guid parent text) same_table same
+    module _ (named : None ≡ named_refusal s guid text) where
+      abbrev moved : Option WriteRefusal
+      moved = moved_refusal (numbered s.store.schema) nodes guid parent text
 
-      pub moved_told : (x : Failure WriteRefusal) → Tells {T = Unit {0}} (Err x) (moved_refusal table ns guid parent text) → Tells {T = Unit {0}} (Err x) refusal
-      moved_told (Refused x) is = rename_in_parts parent text ∙ sym (first_told x _ (row_refusal s (object_of nodes guid) name_attr) (sym is ∙ moved) ∙ second_told _ _ named)
+      pub moved_told : (x : Failure WriteRefusal) → Tells {T = Unit {0}} (Err x) moved → Tells {T = Unit {0}} (Err x) refusal
+      moved_told (Refused x) is = rename_in_parts parent text ∙ sym (first_told x _ (row_refusal s (object_of nodes guid) name_attr) (sym is) ∙ second_told _ _ named)
       moved_told NoMemory told = tt
 
-      pub row_told : (o : Oid) (row : Option WriteRefusal) → o ≡ object_of ns guid → moved_refusal table ns guid parent text ≡ None → row ≡ row_refusal s o name_attr → refusal ≡ row
+      pub row_told : (o : Oid) (row : Option WriteRefusal) → o ≡ object_of nodes guid → moved ≡ None → row ≡ row_refusal s o name_attr → refusal ≡ row
       row_told o row is free told =
           sym
           (told
-          ∙ (ap (λ (p : Oid). row_refusal s p name_attr) (is ∙ ap (λ (ms : List Node). object_of ms guid) same)
-          ∙ (second_told _ _ (sym free ∙ moved) ∙ (second_told _ _ named ∙ sym (rename_in_parts parent text)))))
+          ∙ (ap (λ (p : Oid). row_refusal s p name_attr) is
+          ∙ (second_told _ _ (sym free) ∙ (second_told _ _ named ∙ sym (rename_in_parts parent text)))))

@@ -1,10 +1,8 @@
 mod FirstOf
 mod GivenLemmas
-mod HeldRows
-mod Holders
 mod InLiveParts
 mod InParts
 mod Living
-mod PlacedUnder
+mod Superiors
 mod Versions
 mod LinkInParts

@@ -1,10 +1,8 @@
 -- The refusals of a link part by part.
-use Rattle.std.proofs.Common.{◌≡◌, ℕ, ◌+◌, Bool, [], ◌∷◌, Option, Result, sym, subst}
+use Rattle.std.proofs.Common.{◌≡◌, ℕ, ◌+◌, Bool, [], ◌∷◌}
 use Rattle.std.specs.Option.{option_map}
 use Rattle.adr_schema.specs.Numbered.{numbered}
 use Rattle.adr_schema.specs.Rules.{link_refusal as schema_link_refusal}
-use Rattle.adr_failure.specs.declared.Failure.{Failure}
-use Rattle.adr_event.specs.declared.refusal.WriteRefusal.{WriteRefusal}
 use Rattle.adr_event.specs.declared.refusal.WriteRefusal.TheVariants.{Quarantined}
 use Rattle.adr_failure.specs.First.{first_of}
 use Rattle.adr_model.specs.Serve.{is_quarantined}
@@ -12,7 +10,6 @@ use Rattle.adr_model.specs.Store.{State, updates_of}
 use Rattle.adr_model.specs.Update.{Identifier, LinkOf}
 use Rattle.adr_model.specs.Write.{any_link_refusal, class_of, fixed_refusal, is_linked, link_of, nodes_held, object_refusal, of_schema, usn_refusal, version_refusal, where_true}
 use Rattle.adr_origin.proofs.FirstOf.{in_three}
-use Rattle.adr_origin.specs.Telling.{Tells}
 use Rattle.adr_origin.specs.LinkParts.{already_refusal, ends_refusal, start_refusal, write_refusal}
 
 pub link_in_parts : (s : State) (from : Identifier) (attr : ℕ) (to : Identifier) (present : Bool)
@@ -27,10 +24,3 @@ link_in_parts s from attr to present =
     ∷ object_refusal (updates_of s.store.rows) nodes to
     ∷ [])
     (already_refusal present (is_linked s.store.rows link) ∷ version_refusal s.store.rows (LinkOf link) attr ∷ usn_refusal (s.store.usn + 1) ∷ [])
-
--- what is told of the parts is told of the whole
-pub told_in_parts : {T : Type 0} (s : State) (from : Identifier) (attr : ℕ) (to : Identifier) (present : Bool) (r : Result T (Failure WriteRefusal))
-    → Tells r (first_of (start_refusal s.mode from to ∷ ends_refusal s (nodes_held (updates_of s.store.rows)) from attr to ∷ write_refusal s (link_of (nodes_held (updates_of s.store.rows)) from attr to) present ∷ []))
-    → Tells r (any_link_refusal s from attr to (already_refusal present))
-told_in_parts s from attr to present r h =
-    subst (λ (o : Option WriteRefusal). Tells r o) (sym (link_in_parts s from attr to present)) h

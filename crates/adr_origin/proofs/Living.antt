@@ -1,19 +1,17 @@
 -- A live object has no row that says that it is dead.
 use Rattle.std.proofs.Common.{◌≡◌, inl, List, [], ◌∷◌, Bool, true, false, cond, not, ◌||◌, Option, Some, None, refl, sym, ap, ◌∙◌, subst}
-use Rattle.std.specs.Prelude.{is_none}
+use Rattle.std.specs.Prelude.{IsSome}
 use Rattle.std.specs.List.{list_any, list_all}
 use Rattle.std.specs.Option.{option_map_or}
 use Rattle.std.proofs.lemmas.Bool.{not-true}
 use Rattle.adr_stamp.specs.declared.Oid.{Oid}
-use Rattle.adr_event.specs.declared.refusal.WriteRefusal.TheVariants.{NoObject, Deleted}
 use Rattle.adr_model.specs.Member.{Member}
 use Rattle.adr_model.specs.Update.{Identifier, RowOf, Update, ends, deleted_attr, is_death_of, same_key, same_identifier, same_object}
 use Rattle.adr_model.specs.Winner.{winners}
 use Rattle.adr_model.specs.Live.{objects_of, standing, live, is_among, live_rows}
 use Rattle.adr_model.specs.Place.{Node, root, node_of, node_at}
 use Rattle.adr_model.specs.Store.{Held, updates_of, row_held}
-use Rattle.adr_model.specs.Write.{where_true, holds_guid, nodes_held, object_refusal, object_of, version_of}
-use Rattle.adr_failure.specs.First.{first_of}
+use Rattle.adr_model.specs.Write.{nodes_held, object_of, version_of}
 use Rattle.adr_model.proofs.Keys.{objects_tell}
 use Rattle.adr_model.proofs.Nodes.{is_node_of}
 use Rattle.adr_model.proofs.Members.{found_member, each_passes, of_filter, of_filter_map, some_passes}
@@ -47,20 +45,13 @@ module _ (rows : List Held) where
       let row = is_node_of (live_rows us) u.0.key u.0.said n u.2 in
       not_found n.object rows (stands u.0 u.1 n.object (subst (λ k. Member n.object (ends k)) (sym row.1) (inl refl)))
 
-  there : (guid : Identifier) (a b : Bool) → first_of (where_true a (NoObject guid) ∷ where_true b (Deleted guid) ∷ []) ≡ None → b ≡ false
-  there guid true b h = absurd (cc)
-  there guid false true h = absurd (cc)
-  there guid false false h = refl
-
   -- the row that says that a live object is dead is written for the first time
-  pub first_death : (nodes : List Node) (guid : Identifier) → nodes ≡ nodes_held us → object_refusal us nodes guid ≡ None → version_of (row_held rows (RowOf (object_of nodes guid) deleted_attr)) ≡ 0
-  first_death nodes guid same none =
-      subst (λ (ns : List Node). version_of (row_held rows (RowOf (object_of ns guid) deleted_attr)) ≡ 0) (sym same)
-      (by (node_at (nodes_held us) guid) refl (there guid (not (holds_guid us guid)) (is_none (node_at (nodes_held us) guid)) (subst (λ (ns : List Node). object_refusal us ns guid ≡ None) same none)))
+  pub first_death : (guid : Identifier) → IsSome (node_at (nodes_held us) guid) → version_of (row_held rows (RowOf (object_of (nodes_held us) guid) deleted_attr)) ≡ 0
+  first_death guid live = by (node_at (nodes_held us) guid) refl live
     where
       none_given : Oid
       none_given = record { guid = guid; birth = record { inv = root; usn = 0 } }
 
-      by : (o : Option Node) → node_at (nodes_held us) guid ≡ o → is_none o ≡ false → version_of (row_held rows (RowOf (option_map_or (λ (m : Node). m.object) (node_at (nodes_held us) guid) none_given) deleted_attr)) ≡ 0
+      by : (o : Option Node) → node_at (nodes_held us) guid ≡ o → IsSome o → version_of (row_held rows (RowOf (option_map_or (λ (m : Node). m.object) (node_at (nodes_held us) guid) none_given) deleted_attr)) ≡ 0
       by None is some = absurd (cc)
       by (Some n) is some = ap (λ (o : Option Node). version_of (row_held rows (RowOf (option_map_or (λ (m : Node). m.object) o none_given) deleted_attr))) is ∙ ap version_of (node_stands guid n is)

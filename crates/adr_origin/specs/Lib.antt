@@ -3,5 +3,4 @@ pub mod Parts
 pub mod GivenRows
 pub mod NextRows
 pub mod LiveParts
-pub mod Rivals
 pub mod LinkParts

@@ -3,6 +3,7 @@
 ghost use Rattle.std.specs.Prelude.{◌≡◌, ◌<◌, ◌≤◌, ◌∷◌, [], Ok, Err, IfOk, IsErrOf, OnOk};
 ghost use Rattle.std.specs.Result.{result_err};
 ghost use Rattle.adr_event.specs.declared.refusal.WriteRefusal.{WriteRefusal};
+ghost use Rattle.adr_schema.specs.Numbered.{numbered};
 ghost use Rattle.adr_model.specs.Change.{only_writes};
 ghost use Rattle.adr_model.specs.Store.{updates_of};
 ghost use Rattle.adr_model.specs.Write.{AddObject, add_refusal, nodes_held, rows_written, usn_limit, write};
@@ -11,16 +12,15 @@ ghost use Rattle.adr_origin.specs.Telling.{Tells};
 
 use crate::NoMemory;
 use crate::checks::{
-    check_cursors, check_guid, check_mode, check_name_free, check_objects, check_parent,
-    check_schema, check_superior, check_usn,
+    check_cursors, check_guid, check_mode, check_objects, check_schema, check_usn,
 };
 use crate::new_object::{NewObject, new_rows};
+use crate::placing::{check_name_free, check_parent, check_superior};
 use adr_event::{Failure, WriteRefusal};
-use adr_schema::{Schema, check_name};
+use adr_schema::check_name;
 use adr_stamp::{Birth, LinkStamp, Oid, Stamp, Unit};
 use adr_state::{Change, Item, Mode, State, Written};
 use adr_vector::Vector;
-use adr_view::Nodes;
 use std::alloc::Global;
 
 /// What a client's adding an object makes of a controller at a time in seconds: the change, or why it is refused, first
@@ -55,8 +55,7 @@ fn check_add(
     ensures room { OnOk result (state.now.store.usn < usn_limit) }
 {
     check_object(state, object)?;
-    let nodes = nodes_held(alloc, state)?;
-    check_place(alloc, state.schema(), &nodes, object)?;
+    check_place(alloc, state, object)?;
     check_room(alloc, state)
 }
 
@@ -71,25 +70,17 @@ fn check_object(state: &State, object: &NewObject<'_>) -> Result<(), WriteRefusa
     check_schema(check_name(object.text.as_str()))
 }
 
-/// The live objects of a controller.
-pub fn nodes_held(alloc: Global, state: &State) -> Result<Nodes, NoMemory>
-    ensures { IfOk result (λ nodes. nodes ≡ nodes_held (updates_of state.now.store.rows)) }
-{
-    Nodes::of(alloc, state.rows())
-}
-
 /// Tests that an object may stand under its parent by its name.
 fn check_place(
     alloc: Global,
-    schema: Schema,
-    nodes: &Nodes,
+    state: &State,
     object: &NewObject<'_>,
 ) -> Result<(), Failure<WriteRefusal>>
-    ensures { Tells result (place_refusal schema nodes.now object.now.class object.now.parent object.now.text.now) }
+    ensures { Tells result (place_refusal (numbered state.now.store.schema) (nodes_held (updates_of state.now.store.rows)) object.now.class object.now.parent object.now.text.now) }
 {
-    check_parent(nodes, object.parent)?;
-    check_superior(schema, nodes, object.class, object.parent)?;
-    check_name_free(alloc, nodes, object.parent, object.text)
+    check_parent(state, object.parent)?;
+    check_superior(state, object.class, object.parent)?;
+    check_name_free(alloc, state, object.parent, object.text)
 }
 
 /// Tests that there is room for one more object.
@@ -98,7 +89,7 @@ fn check_room(alloc: Global, state: &State) -> Result<(), Failure<WriteRefusal>>
     ensures room { OnOk result (state.now.store.usn < usn_limit) }
 {
     check_usn(state.usn())?;
-    check_objects(alloc, state.rows())?;
+    check_objects(state.rows())?;
     check_cursors(alloc, state)
 }
 

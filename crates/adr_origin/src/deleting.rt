@@ -1,20 +1,20 @@
 //! Deleting an object.
 
-ghost use Rattle.std.specs.Prelude.{◌≡◌, ◌<◌, ◌≤◌, Err, Ok, IfOk, IsErrOf, OnOk};
+ghost use Rattle.std.specs.Prelude.{◌≡◌, ◌<◌, ◌≤◌, Err, Ok, IfOk, IsErrOf, IsSome, OnOk};
 ghost use Rattle.std.specs.Result.{result_err};
 ghost use Rattle.adr_event.specs.declared.refusal.WriteRefusal.{WriteRefusal};
+ghost use Rattle.adr_model.specs.Place.{node_at};
 ghost use Rattle.adr_model.specs.Store.{updates_of};
-ghost use Rattle.adr_model.specs.Write.{Delete, delete_refusal, nodes_held, object_refusal, rows_written, usn_limit, write};
+ghost use Rattle.adr_model.specs.Write.{Delete, delete_refusal, nodes_held, rows_written, usn_limit, write};
 
 use crate::NoMemory;
-use crate::adding::{nodes_held, own_change};
+use crate::adding::own_change;
 use crate::checks::{check_mode, check_not_fixed, check_object, check_usn};
-use crate::children::check_no_child;
+use crate::placing::check_no_child;
 use crate::stamps::{next_item, object_of};
 use adr_event::{Failure, WriteRefusal};
 use adr_schema::Content;
 use adr_state::{Change, DELETED, Item, State};
-use adr_view::Nodes;
 use std::alloc::Global;
 use uuid::Uuid;
 
@@ -32,40 +32,31 @@ pub fn delete(
     ensures refused { (refusal : WriteRefusal) → IsErrOf result (Failure.Refused refusal)
         → write state.now (Delete guid) now ≡ Err refusal }
 {
-    let nodes = nodes_held(alloc, state)?;
-    check_delete(state, &nodes, guid)?;
+    check_delete(state, guid)?;
     let usn = state.usn() + 1;
-    let item = dead_item(alloc, state, &nodes, guid, now)?;
+    let item = dead_item(alloc, state, guid, now)?;
     Ok(own_change(alloc, usn, item)?)
 }
 
 /// Tests that an object may be deleted.
-fn check_delete(state: &State, nodes: &Nodes, guid: Uuid) -> Result<(), WriteRefusal>
-    requires { nodes.now ≡ nodes_held (updates_of state.now.store.rows) }
+fn check_delete(state: &State, guid: Uuid) -> Result<(), WriteRefusal>
     ensures told { result_err result ≡ delete_refusal state.now guid }
     ensures room { OnOk result (state.now.store.usn < usn_limit) }
-    ensures live { OnOk result (object_refusal (updates_of state.now.store.rows) nodes.now guid ≡ None) }
+    ensures live { OnOk result (IsSome (node_at (nodes_held (updates_of state.now.store.rows)) guid)) }
 {
     check_mode(state.mode())?;
     check_not_fixed(guid)?;
-    check_object(state.rows(), nodes, guid)?;
-    check_no_child(nodes, guid)?;
+    check_object(state, guid)?;
+    check_no_child(state, guid)?;
     check_usn(state.usn())
 }
 
 /// The object with the row that says that it is dead, under the next update sequence number.
-fn dead_item(
-    alloc: Global,
-    state: &State,
-    nodes: &Nodes,
-    guid: Uuid,
-    now: u64,
-) -> Result<Item, NoMemory>
+fn dead_item(alloc: Global, state: &State, guid: Uuid, now: u64) -> Result<Item, NoMemory>
     requires usn { state.now.store.usn < usn_limit }
-    requires held { nodes.now ≡ nodes_held (updates_of state.now.store.rows) }
-    requires live { object_refusal (updates_of state.now.store.rows) nodes.now guid ≡ None }
+    requires live { IsSome (node_at (nodes_held (updates_of state.now.store.rows)) guid) }
     ensures { IfOk result (λ item. item ≡ rows_written state.now (Delete guid) now) }
 {
-    let object = object_of(nodes, guid);
+    let object = object_of(state, guid);
     next_item(alloc, state, &object, DELETED, Content::Dead, now)
 }

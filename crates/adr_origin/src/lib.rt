@@ -6,20 +6,20 @@
 
 mod adding;
 mod checks;
-mod children;
 mod deleting;
 mod linking;
+mod live;
 mod modifying;
 mod new_object;
+mod placing;
 mod renaming;
-mod rivals;
 mod stamps;
 
 pub use adding::add;
 pub use adr_event::{Failure, WriteRefusal};
 pub use adr_schema::{Assignments, Text};
 pub use adr_state::{Change, State};
-pub use adr_view::NoMemory;
+pub use adr_update::NoMemory;
 pub use deleting::delete;
 pub use linking::{LinkEnds, link, unlink};
 pub use modifying::modify;

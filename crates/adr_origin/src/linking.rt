@@ -8,20 +8,18 @@ ghost use Rattle.adr_model.specs.Store.{row_held, updates_of};
 ghost use Rattle.adr_model.specs.Update.{LinkOf};
 ghost use Rattle.adr_model.specs.Write.{AddLink, RemoveLink, any_link_refusal, full_refusal, is_linked, link_limit, link_of, link_refusal, links_in, nodes_held, of_link, says_present, usn_limit, version_limit, version_of, write};
 ghost use Rattle.adr_state.specs.Mode.{mode_of};
-ghost use Rattle.adr_state.specs.Said.{said_of};
+ghost use Rattle.adr_update.specs.Said.{said_of};
 ghost use Rattle.adr_origin.specs.LinkParts.{already_refusal, ends_refusal, start_refusal, write_refusal};
-ghost use Rattle.adr_origin.specs.Telling.{Tells};
 
 use crate::NoMemory;
-use crate::adding::{nodes_held, own_change};
+use crate::adding::own_change;
 use crate::checks::{
     check_mode, check_not_fixed, check_object, check_schema, check_usn, check_version,
 };
 use crate::stamps::{class_of, next_stamp, object_of};
 use adr_event::{Failure, Table, WriteRefusal};
 use adr_stamp::{LinkKey, Unit};
-use adr_state::{Change, Item, Key, LINK_LIMIT, Mode, Rows, Said, State, Update, count_links};
-use adr_view::Nodes;
+use adr_state::{Change, Item, Key, LINK_LIMIT, Mode, Rows, Said, State, Update};
 use std::alloc::Global;
 use uuid::Uuid;
 
@@ -48,7 +46,7 @@ pub fn link(
     ensures refused { (refusal : WriteRefusal) → IsErrOf result (Failure.Refused refusal)
         → write state.now (AddLink ends.now.from ends.now.attr ends.now.to) now ≡ Err refusal }
 {
-    let link = check_link(alloc, state, ends)?;
+    let link = check_link(state, ends)?;
     let item = link_item(alloc, state, &link, now, true)?;
     Ok(own_change(alloc, state.usn() + 1, item)?)
 }
@@ -68,37 +66,29 @@ pub fn unlink(
     ensures refused { (refusal : WriteRefusal) → IsErrOf result (Failure.Refused refusal)
         → write state.now (RemoveLink ends.now.from ends.now.attr ends.now.to) now ≡ Err refusal }
 {
-    let link = check_any_link(alloc, state, ends, false)?;
+    let link = check_any_link(state, ends, false)?;
     let item = link_item(alloc, state, &link, now, false)?;
     Ok(own_change(alloc, state.usn() + 1, item)?)
 }
 
 /// Tests that a link may be made, and names it.
-fn check_link(
-    alloc: Global,
-    state: &State,
-    ends: &LinkEnds,
-) -> Result<LinkKey, Failure<WriteRefusal>>
-    ensures told { Tells result (link_refusal state.now ends.now.from ends.now.attr ends.now.to) }
+fn check_link(state: &State, ends: &LinkEnds) -> Result<LinkKey, WriteRefusal>
+    ensures told { result_err result ≡ link_refusal state.now ends.now.from ends.now.attr ends.now.to }
     ensures named { IfOk result (λ link.
         link ≡ link_of (nodes_held (updates_of state.now.store.rows)) ends.now.from ends.now.attr ends.now.to) }
     ensures version { IfOk result (λ link.
         version_of (row_held state.now.store.rows (LinkOf link)) ≢ version_limit) }
     ensures usn { OnOk result (state.now.store.usn < usn_limit) }
 {
-    let link = check_any_link(alloc, state, ends, true)?;
+    let link = check_any_link(state, ends, true)?;
     check_links(state.rows(), &link)?;
     Ok(link)
 }
 
 /// Tests that a link may be made or removed, apart from how many there are, and names it.
-fn check_any_link(
-    alloc: Global,
-    state: &State,
-    ends: &LinkEnds,
-    present: bool,
-) -> Result<LinkKey, Failure<WriteRefusal>>
-    ensures told { Tells result (any_link_refusal state.now ends.now.from ends.now.attr ends.now.to (already_refusal present)) }
+fn check_any_link(state: &State, ends: &LinkEnds, present: bool) -> Result<LinkKey, WriteRefusal>
+    ensures told { result_err result
+        ≡ any_link_refusal state.now ends.now.from ends.now.attr ends.now.to (already_refusal present) }
     ensures named { IfOk result (λ link.
         link ≡ link_of (nodes_held (updates_of state.now.store.rows)) ends.now.from ends.now.attr ends.now.to) }
     ensures version { IfOk result (λ link.
@@ -106,9 +96,8 @@ fn check_any_link(
     ensures usn { OnOk result (state.now.store.usn < usn_limit) }
 {
     check_start(state.mode(), ends.from, ends.to)?;
-    let nodes = nodes_held(alloc, state)?;
-    check_ends(state, &nodes, ends)?;
-    let link = link_of(&nodes, ends);
+    check_ends(state, ends)?;
+    let link = link_of(state, ends);
     check_write(state, &link, present)?;
     Ok(link)
 }
@@ -123,26 +112,25 @@ fn check_start(mode: Mode, from: Uuid, to: Uuid) -> Result<(), WriteRefusal>
 }
 
 /// Tests that both ends are live objects, and that the schema lets the first have such links.
-fn check_ends(state: &State, nodes: &Nodes, ends: &LinkEnds) -> Result<(), WriteRefusal>
-    ensures { result_err result ≡ ends_refusal state.now nodes.now ends.now.from ends.now.attr ends.now.to }
+fn check_ends(state: &State, ends: &LinkEnds) -> Result<(), WriteRefusal>
+    ensures { result_err result
+        ≡ ends_refusal state.now (nodes_held (updates_of state.now.store.rows)) ends.now.from ends.now.attr ends.now.to }
 {
-    check_object(state.rows(), nodes, ends.from)?;
-    check_schema(
-        state
-            .schema()
-            .check_link(class_of(nodes, ends.from), ends.attr),
-    )?;
-    check_object(state.rows(), nodes, ends.to)
+    check_object(state, ends.from)?;
+    let class = class_of(state, ends.from);
+    check_schema(state.schema().check_link(class, ends.attr))?;
+    check_object(state, ends.to)
 }
 
 /// The name of a link between live objects.
-fn link_of(nodes: &Nodes, ends: &LinkEnds) -> LinkKey
-    ensures { result ≡ link_of nodes.now ends.now.from ends.now.attr ends.now.to }
+fn link_of(state: &State, ends: &LinkEnds) -> LinkKey
+    ensures { result
+        ≡ link_of (nodes_held (updates_of state.now.store.rows)) ends.now.from ends.now.attr ends.now.to }
 {
     LinkKey {
-        from: object_of(nodes, ends.from),
+        from: object_of(state, ends.from),
         attr: ends.attr,
-        to: object_of(nodes, ends.to),
+        to: object_of(state, ends.to),
     }
 }
 
@@ -195,7 +183,7 @@ fn check_links(rows: &Rows, link: &LinkKey) -> Result<(), WriteRefusal>
 {
     let is_held = rows.row(Key::Link(*link)).is_some();
     let most = if is_held { LINK_LIMIT } else { LINK_LIMIT - 1 };
-    if count_links(rows) as u64 <= most {
+    if rows.links() as u64 <= most {
         Ok(())
     } else {
         Err(WriteRefusal::Full {

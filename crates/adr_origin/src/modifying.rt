@@ -9,7 +9,7 @@ ghost use Rattle.adr_origin.specs.LiveParts.{given_refusal, rows_refusal};
 ghost use Rattle.adr_origin.specs.NextRows.{next_rows, versions_refusal};
 
 use crate::NoMemory;
-use crate::adding::{nodes_held, own_change};
+use crate::adding::own_change;
 use crate::checks::{
     check_mode, check_not_fixed, check_object, check_schema, check_usn, check_version,
 };
@@ -18,7 +18,6 @@ use adr_event::{Failure, WriteRefusal};
 use adr_schema::{Assignments, Content, Values, copy_values};
 use adr_stamp::{Oid, Unit};
 use adr_state::{Change, Item, Key, Rows, State, Update};
-use adr_view::Nodes;
 use std::alloc::Global;
 use uuid::Uuid;
 
@@ -37,44 +36,33 @@ pub fn modify(
     ensures refused { (refusal : WriteRefusal) → IsErrOf result (Failure.Refused refusal)
         → write state.now (Modify guid values.now) now ≡ Err refusal }
 {
-    let nodes = nodes_held(alloc, state)?;
-    check_modify(state, &nodes, guid, values)?;
+    check_modify(state, guid, values)?;
     let usn = state.usn() + 1;
-    let item = modified_item(alloc, state, &object_of(&nodes, guid), values, now)?;
+    let object = object_of(state, guid);
+    let item = modified_item(alloc, state, &object, values, now)?;
     Ok(own_change(alloc, usn, item)?)
 }
 
 /// Tests that an object may be given values.
-fn check_modify(
-    state: &State,
-    nodes: &Nodes,
-    guid: Uuid,
-    values: &Assignments,
-) -> Result<(), WriteRefusal>
-    requires { nodes.now ≡ nodes_held (updates_of state.now.store.rows) }
+fn check_modify(state: &State, guid: Uuid, values: &Assignments) -> Result<(), WriteRefusal>
     ensures told { result_err result ≡ modify_refusal state.now guid values.now }
     ensures room { OnOk result (state.now.store.usn < usn_limit) }
-    ensures versions { OnOk result (versions_refusal state.now.store.rows (object_of nodes.now guid) values.now
-        ≡ None) }
+    ensures versions { let object = object_of (nodes_held (updates_of state.now.store.rows)) guid in
+        OnOk result (versions_refusal state.now.store.rows object values.now ≡ None) }
 {
-    check_given(state, nodes, guid, values)?;
-    check_rows(state, &object_of(nodes, guid), values)
+    check_given(state, guid, values)?;
+    check_rows(state, &object_of(state, guid), values)
 }
 
 /// Tests that an object is live and that the schema allows the values.
-fn check_given(
-    state: &State,
-    nodes: &Nodes,
-    guid: Uuid,
-    values: &Assignments,
-) -> Result<(), WriteRefusal>
-    requires { nodes.now ≡ nodes_held (updates_of state.now.store.rows) }
+fn check_given(state: &State, guid: Uuid, values: &Assignments) -> Result<(), WriteRefusal>
     ensures { result_err result ≡ given_refusal state.now guid values.now }
 {
     check_mode(state.mode())?;
     check_not_fixed(guid)?;
-    check_object(state.rows(), nodes, guid)?;
-    check_schema(state.schema().check_modify(class_of(nodes, guid), values))
+    check_object(state, guid)?;
+    let class = class_of(state, guid);
+    check_schema(state.schema().check_modify(class, values))
 }
 
 /// Tests that the rows of the attributes that are given values can be written.

@@ -1,27 +1,25 @@
 //! Renaming an object, and moving it.
 
-ghost use Rattle.std.specs.Prelude.{◌≡◌, ◌<◌, ◌≤◌, ◌≢◌, false, Err, Ok, IfOk, IsErrOf, OnOk};
+ghost use Rattle.std.specs.Prelude.{◌≡◌, ◌<◌, ◌≤◌, ◌≢◌, Err, Ok, IfOk, IsErrOf, OnOk};
 ghost use Rattle.std.specs.Result.{result_err};
 ghost use Rattle.adr_event.specs.declared.refusal.WriteRefusal.{WriteRefusal};
-ghost use Rattle.adr_model.specs.Place.{is_fixed};
+ghost use Rattle.adr_schema.specs.Numbered.{numbered};
 ghost use Rattle.adr_model.specs.Store.{row_held, updates_of};
 ghost use Rattle.adr_model.specs.Update.{RowOf, name_attr};
 ghost use Rattle.adr_model.specs.Write.{Rename, nodes_held, object_of, rename_refusal, usn_limit, version_limit, version_of, write};
 ghost use Rattle.adr_origin.specs.LiveParts.{moved_refusal, named_refusal, row_refusal};
 ghost use Rattle.adr_origin.specs.Telling.{Tells};
 
-use crate::adding::{nodes_held, own_change};
+use crate::adding::own_change;
 use crate::checks::{
-    check_mode, check_not_fixed, check_object, check_parent, check_schema, check_superior,
-    check_usn, check_version,
+    check_mode, check_not_fixed, check_object, check_schema, check_usn, check_version,
 };
-use crate::rivals::{check_new_name, check_no_loop};
+use crate::placing::{check_new_name, check_no_loop, check_parent, check_superior};
 use crate::stamps::{class_of, next_item, object_of};
 use adr_event::{Failure, WriteRefusal};
-use adr_schema::{Content, Schema, Text, check_name};
+use adr_schema::{Content, Text, check_name};
 use adr_stamp::Oid;
 use adr_state::{Change, Key, NAME, State};
-use adr_view::Nodes;
 use std::alloc::Global;
 use uuid::Uuid;
 
@@ -41,14 +39,14 @@ pub fn rename(
     ensures refused { (refusal : WriteRefusal) → IsErrOf result (Failure.Refused refusal)
         → write state.now (Rename guid parent text.now) now ≡ Err refusal }
 {
-    let nodes = nodes_held(alloc, state)?;
-    check_rename(alloc, state, &nodes, guid, parent, text)?;
+    check_rename(alloc, state, guid, parent, text)?;
     let usn = state.usn() + 1;
     let name = Content::Name {
         text: text.copy(alloc)?,
         parent,
     };
-    let item = next_item(alloc, state, &object_of(&nodes, guid), NAME, name, now)?;
+    let object = object_of(state, guid);
+    let item = next_item(alloc, state, &object, NAME, name, now)?;
     Ok(own_change(alloc, usn, item)?)
 }
 
@@ -56,51 +54,45 @@ pub fn rename(
 fn check_rename(
     alloc: Global,
     state: &State,
-    nodes: &Nodes,
     guid: Uuid,
     parent: Uuid,
     text: &Text,
 ) -> Result<(), Failure<WriteRefusal>>
-    requires { nodes.now ≡ nodes_held (updates_of state.now.store.rows) }
     ensures told { Tells result (rename_refusal state.now guid parent text.now) }
     ensures room { OnOk result (state.now.store.usn < usn_limit) }
-    ensures version { OnOk result (version_of (row_held state.now.store.rows (RowOf (object_of nodes.now guid) name_attr))
-        ≢ version_limit) }
+    ensures version { let object = object_of (nodes_held (updates_of state.now.store.rows)) guid in
+        OnOk result (version_of (row_held state.now.store.rows (RowOf object name_attr)) ≢ version_limit) }
 {
-    check_named(state, nodes, guid, text)?;
-    check_moved(alloc, state.schema(), nodes, guid, parent, text)?;
-    check_row(state, &object_of(nodes, guid), NAME)?;
+    check_named(state, guid, text)?;
+    check_moved(alloc, state, guid, parent, text)?;
+    check_row(state, &object_of(state, guid), NAME)?;
     Ok(())
 }
 
 /// Tests that an object is live and that it may have a name.
-fn check_named(state: &State, nodes: &Nodes, guid: Uuid, text: &Text) -> Result<(), WriteRefusal>
-    requires { nodes.now ≡ nodes_held (updates_of state.now.store.rows) }
-    ensures told { result_err result ≡ named_refusal state.now guid text.now }
-    ensures free { OnOk result (is_fixed guid ≡ false) }
+fn check_named(state: &State, guid: Uuid, text: &Text) -> Result<(), WriteRefusal>
+    ensures { result_err result ≡ named_refusal state.now guid text.now }
 {
     check_mode(state.mode())?;
     check_not_fixed(guid)?;
-    check_object(state.rows(), nodes, guid)?;
+    check_object(state, guid)?;
     check_schema(check_name(text.as_str()))
 }
 
 /// Tests that an object may come to stand under a parent by a name.
 fn check_moved(
     alloc: Global,
-    schema: Schema,
-    nodes: &Nodes,
+    state: &State,
     guid: Uuid,
     parent: Uuid,
     text: &Text,
 ) -> Result<(), Failure<WriteRefusal>>
-    requires { is_fixed guid ≡ false }
-    ensures { Tells result (moved_refusal schema nodes.now guid parent text.now) }
+    ensures { Tells result (moved_refusal (numbered state.now.store.schema) (nodes_held (updates_of state.now.store.rows)) guid parent text.now) }
 {
-    check_parent(nodes, parent)?;
-    check_no_loop(nodes, guid, parent)?;
-    check_superior(schema, nodes, class_of(nodes, guid), parent)?;
-    check_new_name(alloc, nodes, guid, parent, text)
+    check_parent(state, parent)?;
+    check_no_loop(state, guid, parent)?;
+    check_superior(state, class_of(state, guid), parent)?;
+    check_new_name(alloc, state, guid, parent, text)
 }
 
 /// Tests that a row of an object can be written once more.

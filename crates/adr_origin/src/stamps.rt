@@ -2,25 +2,26 @@
 
 ghost use Rattle.std.specs.Prelude.{◌≡◌, ◌≢◌, ◌<◌, ◌∷◌, [], IfOk};
 ghost use Rattle.std.specs.Option.{option_map_or};
-ghost use Rattle.adr_model.specs.Store.{row_held};
+ghost use Rattle.adr_model.specs.Store.{row_held, updates_of};
 ghost use Rattle.adr_model.specs.Update.{RowOf};
-ghost use Rattle.adr_model.specs.Write.{class_of, first_created, next_row, next_stamp, object_of, of_object, usn_limit, version_limit, version_of};
-ghost use Rattle.adr_state.specs.Key.{key_of};
+ghost use Rattle.adr_model.specs.Write.{class_of, first_created, next_row, next_stamp, nodes_held, object_of, of_object, usn_limit, version_limit, version_of};
+ghost use Rattle.adr_update.specs.Key.{key_of};
 
 use crate::NoMemory;
+use crate::live::node;
 use crate::new_object::row;
 use adr_schema::Content;
 use adr_stamp::{Birth, LinkStamp, Oid, Stamp, Unit};
 use adr_state::{Item, Key, Rows, State, Update};
-use adr_view::{Nodes, root};
+use adr_update::root;
 use std::alloc::Global;
 use uuid::Uuid;
 
 /// The live object of a GUID. A write of a GUID that has none is refused.
-pub fn object_of(nodes: &Nodes, guid: Uuid) -> Oid
-    ensures { result ≡ object_of nodes.now guid }
+pub fn object_of(state: &State, guid: Uuid) -> Oid
+    ensures { result ≡ object_of (nodes_held (updates_of state.now.store.rows)) guid }
 {
-    match nodes.at(guid) {
+    match node(state, guid) {
         Some(node) => node.object(),
         None => Oid {
             guid,
@@ -33,10 +34,10 @@ pub fn object_of(nodes: &Nodes, guid: Uuid) -> Oid
 }
 
 /// The class of a live object, or 0 where there is none.
-pub fn class_of(nodes: &Nodes, guid: Uuid) -> u16
-    ensures { result ≡ class_of nodes.now guid }
+pub fn class_of(state: &State, guid: Uuid) -> u16
+    ensures { result ≡ class_of (nodes_held (updates_of state.now.store.rows)) guid }
 {
-    match nodes.at(guid) {
+    match node(state, guid) {
         Some(node) => node.class(),
         None => 0,
     }

@@ -1,2 +1,3 @@
-mod Placing
 mod ItemLengths
+mod Tied
+pub mod Entered

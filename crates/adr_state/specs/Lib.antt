@@ -1,6 +1,4 @@
-pub mod Key
-pub mod Said
 pub mod Mode
 pub mod Marks
-pub mod Place
 pub mod Refusal
+pub mod Rows

@@ -6,10 +6,9 @@ ghost use Rattle.adr_model.specs.Serve.{is_quarantined};
 ghost use Rattle.adr_state.specs.Mode.{mode_of};
 
 use crate::NoMemory;
-use crate::item::Written;
 use crate::marks::Kept;
-use crate::rows::Held;
 use adr_stamp::Oid;
+use adr_update::{Held, Written};
 use adr_vector::Vector;
 use std::alloc::Global;
 use std::marker::Model;

@@ -5,14 +5,12 @@ ghost use Rattle.adr_model.specs.Update.{Update as Row};
 ghost use Rattle.adr_model.specs.Change.{Written as Wrote};
 ghost use Rattle.adr_model.specs.Lengths.{change_length, log_end_after, log_limit};
 ghost use Rattle.adr_model.specs.Serve.{content_length, item_length, value_length, vector_length};
-ghost use Rattle.adr_state.specs.Said.{said_of};
+ghost use Rattle.adr_update.specs.Said.{said_of};
 
 use crate::change::Change;
-use crate::item::{Item, Written};
-use crate::limits::LOG_LIMIT;
-use crate::update::{Said, Update};
 use adr_schema::{Content, Value};
 use adr_stamp::Unit;
+use adr_update::{Item, LOG_LIMIT, Said, Update, Written};
 use adr_vector::Vector;
 
 /// Where a log that ends at a place ends after the change; none where that would be beyond the limit.

@@ -1,14 +1,14 @@
 //! How far each partner has been read.
 
-ghost use Rattle.std.specs.Prelude.{◌≡◌, [], length, Some, IfOk, OnOk, OnErr};
+ghost use Rattle.std.specs.Prelude.{◌≡◌, [], length, Some, IfOk, OnOk, OnErr, unwrap_or};
 ghost use Rattle.std.specs.BTreeMap.{insert_entry};
 ghost use Rattle.adr_stamp.specs.Order.{identifier_order};
-ghost use Rattle.adr_model.specs.Store.{kept_of, mark_of, no_mark};
+ghost use Rattle.adr_model.specs.Store.{Kept as Defined, kept_of, mark_of, no_mark};
 ghost use Rattle.adr_model.specs.Change.{with_mark};
 ghost use Rattle.adr_state.specs.Marks.{of_marks};
 
 use crate::NoMemory;
-use crate::key::is_same;
+use adr_update::is_same;
 use adr_vector::Mark;
 use std::alloc::Global;
 use std::collections::BTreeMap;
@@ -136,17 +136,30 @@ impl Marks {
         Ok(())
     }
 
-    /// These marks, with what is kept of one more partner, if there is one.
-    pub(crate) fn with(&self, alloc: Global, mark: Option<(Uuid, Kept)>) -> Result<Marks, NoMemory>
-        ensures { IfOk result (λ marks. marks ≡ with_mark mark self.now) }
+    /// These marks with what is kept of one more partner; nothing where no partner is given, and they stay.
+    pub(crate) fn with(
+        &self,
+        alloc: Global,
+        mark: Option<(Uuid, Kept)>,
+    ) -> Result<Option<Marks>, NoMemory>
+        ensures { IfOk result (λ marks. unwrap_or marks self.now ≡ with_mark mark self.now) }
     {
-        let mut marks = self.copy(alloc)?;
         match mark {
-            None => Ok(marks),
+            None => Ok(None),
             Some((partner, kept)) => {
+                let mut marks = self.copy(alloc)?;
                 marks.keep(partner, kept.inv(), kept.mark())?;
-                Ok(marks)
+                Ok(Some(marks))
             }
+        }
+    }
+
+    /// Other marks take the place of these, if there are any.
+    pub(crate) fn renew(&mut self, marks: Option<Marks>)
+        ensures { self.new ≡ unwrap_or marks self.old }
+    {
+        if let Some(marks) = marks {
+            *self = marks;
         }
     }
 
@@ -155,6 +168,18 @@ impl Marks {
         ensures { result ≡ length self.now }
     {
         self.map.len()
+    }
+
+    /// How many partners there are of whom something is kept, together with this one.
+    pub fn len_with(&self, partner: Uuid) -> usize
+        ensures { (kept : Defined) → result ≡ length (with_mark (Some (partner, kept)) self.now) }
+    {
+        let len = self.map.len();
+        if self.map.contains_key(&partner) {
+            len
+        } else {
+            len + 1
+        }
     }
 
     /// What is kept of each partner, by its controller's identifier, rising.

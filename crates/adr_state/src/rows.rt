@@ -1,85 +1,50 @@
-//! The rows that a controller holds.
+//! The rows that a controller holds, and its live objects.
 
-ghost use Rattle.std.specs.Prelude.{◌≡◌, ◌+◌, ◌<◌, ◌≤◌, [], vec_len, IfOk, IfErr, OnOk, OnErr, Some, fold};
-ghost use Rattle.std.specs.Vec.{vec_capacity};
-ghost use Rattle.std.specs.Option.{option_copied};
-ghost use Rattle.adr_model.specs.Store.{with_row, row_held, holds_object, holds_dead};
-ghost use Rattle.adr_model.specs.Change.{put, stripped, rows_after, without_object};
-ghost use Rattle.adr_state.specs.Key.{key_of};
-ghost use Rattle.adr_state.specs.Place.{IsPlaceOf, IsGapFor};
+ghost use Rattle.std.specs.Prelude.{◌≡◌, [], IfOk, IsSome, OnOk, OnErr, Some, false, filter, length};
+ghost use Rattle.std.specs.List.{find, list_any};
+ghost use Rattle.std.specs.Option.{option_copied, option_map};
+ghost use Rattle.adr_model.specs.Change.{rows_after};
+ghost use Rattle.adr_model.specs.Formed.{AreRising};
+ghost use Rattle.adr_model.specs.Live.{objects_of};
+ghost use Rattle.adr_model.specs.Place.{is_fixed, node_at, place, upward};
+ghost use Rattle.adr_model.specs.Shown.{name_holder};
+ghost use Rattle.adr_model.specs.Store.{holds_dead, holds_object, is_row_of, row_held, updates_of};
+ghost use Rattle.adr_model.specs.Update.{same_identifier};
+ghost use Rattle.adr_model.specs.Write.{holds_guid, is_taken, links_in, nodes_held};
+ghost use Rattle.adr_update.specs.Key.{key_of};
+ghost use Rattle.adr_update.specs.Referents.{referents};
+ghost use Rattle.adr_update.specs.Sought.{IsNextLocal, is_link_from, is_link_to, rows_of_unit, units_at};
+ghost use Rattle.adr_tree.specs.Parent.{IsParent};
 
 use crate::NoMemory;
-use crate::key::Key;
-use crate::update::Update;
-use adr_stamp::Oid;
+use adr_live::edits_of;
+use adr_schema::Text;
+use adr_stamp::{Oid, Unit};
+use adr_table::Table;
+use adr_tree::Tree;
+use adr_update::{Held, Key, Node};
 use std::alloc::Global;
-use std::cmp::Ordering;
 use std::marker::Model;
+use uuid::Uuid;
 
-/// An update that is held, with the update sequence number under which it was written here.
-#[derive(Drop)]
-pub struct Held {
-    update: Update,
-    local: u64,
-}
-
-impl Model for Held {
-    ghost use Rattle.adr_model.specs.Store.{Held as Defined};
-
-    ghost Value = { Defined };
-
-    ghost view = { λ h. record { update = h.update; local = h.local } };
-}
-
-impl Held {
-    pub fn new(update: Update, local: u64) -> Held
-        ensures { result ≡ record { update = update; local = local } }
-    {
-        Held { update, local }
-    }
-
-    pub fn update(&self) -> &Update
-        ensures { result.now ≡ self.now.update }
-    {
-        &self.update
-    }
-
-    pub fn local(&self) -> u64
-        ensures { result ≡ self.now.local }
-    {
-        self.local
-    }
-
-    fn key(&self) -> Key
-        ensures { key_of result ≡ self.now.update.key }
-    {
-        self.update.key()
-    }
-
-    /// An equal row.
-    pub fn copy(&self, alloc: Global) -> Result<Held, NoMemory>
-        ensures { IfOk result (λ copy. copy ≡ self.now) }
-    {
-        Ok(Held {
-            update: self.update.copy(alloc)?,
-            local: self.local,
-        })
-    }
-}
-
-/// The rows of a controller, each under its key.
+/// The rows of a controller, each under its key, and the live objects that they make.
 #[derive(Drop)]
 pub struct Rows {
-    list: Vec<Held>,
+    table: Table,
+    tree: Tree,
 }
 
 impl Model for Rows {
     ghost use Rattle.std.specs.Prelude.{List};
     ghost use Rattle.adr_model.specs.Store.{Held as Defined};
+    ghost use Rattle.adr_table.specs.Table.{rows_in};
+    ghost use Rattle.adr_state.specs.Rows.{AreTied};
 
     ghost Value = { List Defined };
 
-    ghost view = { λ r. r.list.items };
+    ghost view = { λ r. rows_in r.table };
+
+    ghost invariant = { λ r. AreTied r.table r.tree };
 }
 
 impl Rows {
@@ -88,139 +53,187 @@ impl Rows {
         ensures { result ≡ [] }
     {
         Rows {
-            list: Vec::new(alloc),
+            table: Table::new(alloc),
+            tree: Tree::new(alloc),
         }
-    }
-
-    pub(crate) fn allocator(&self) -> Global {
-        *self.list.allocator()
-    }
-
-    pub fn as_slice(&self) -> &[Held]
-        ensures { result.now ≡ self.now }
-    {
-        self.list.as_slice()
     }
 
     /// The row of a key.
     pub fn row(&self, key: Key) -> Option<&Held>
         ensures { option_copied result ≡ row_held self.now (key_of key) }
     {
-        self.list.iter().find(|row| row.key().is_same(&key))
+        self.table.row(key)
     }
 
     /// Whether the object is held, live or dead.
     pub fn holds(&self, object: &Oid) -> bool
         ensures { result ≡ holds_object self.now object.now }
     {
-        self.list.iter().any(|row| row.key().is_row_of(object))
+        self.table.holds(object)
     }
 
     /// Whether the object is held dead.
     pub fn is_dead(&self, object: &Oid) -> bool
         ensures { result ≡ holds_dead self.now object.now }
     {
-        self.row(Key::deleted(object)).is_some()
+        self.table.is_dead(object)
     }
 
-    /// Removes the rows of an object. Its links stay.
-    fn remove(&mut self, object: &Oid)
-        ensures { self.new ≡ without_object self.old object.now }
+    /// Whether an object of a GUID is held, live or dead.
+    pub fn holds_guid(&self, guid: Uuid) -> bool
+        ensures { result ≡ holds_guid (updates_of self.now) guid }
     {
-        self.list.retain(|row| !row.key().is_row_of(object));
+        self.table.holds_guid(guid)
     }
 
+    /// How many objects are held, live or dead.
+    pub fn objects(&self) -> usize
+        ensures { result ≡ length (objects_of (updates_of self.now)) }
+    {
+        self.table.objects()
+    }
+
+    /// How many link rows are held, present or not.
+    pub fn links(&self) -> usize
+        ensures { result ≡ links_in self.now }
+    {
+        self.table.links()
+    }
+
+    /// The rows of an object, in order.
+    pub fn rows_of(&self, alloc: Global, object: &Oid) -> Result<Vec<&Held>, NoMemory>
+        ensures { IfOk result (λ rows.
+            referents rows.items ≡ filter (λ h. is_row_of object.now h.update.key) self.now) }
+    {
+        self.table.rows_of(alloc, object)
+    }
+
+    /// The link rows from an object, in order.
+    pub fn links_from(&self, alloc: Global, object: &Oid) -> Result<Vec<&Held>, NoMemory>
+        ensures { IfOk result (λ rows.
+            referents rows.items ≡ filter (λ h. is_link_from object.now h.update.key) self.now) }
+    {
+        self.table.links_from(alloc, object)
+    }
+
+    /// The link rows to an object, in order.
+    pub fn links_to(&self, alloc: Global, object: &Oid) -> Result<Vec<&Held>, NoMemory>
+        ensures { IfOk result (λ rows.
+            referents rows.items ≡ filter (λ h. is_link_to object.now h.update.key) self.now) }
+    {
+        self.table.links_to(alloc, object)
+    }
+
+    /// The rows of a unit, in order.
+    pub fn rows_of_unit(&self, alloc: Global, unit: &Unit) -> Result<Vec<&Held>, NoMemory>
+        ensures { IfOk result (λ rows. referents rows.items ≡ rows_of_unit self.now unit.now) }
+    {
+        self.table.rows_of_unit(alloc, unit)
+    }
+
+    /// The least number behind this one that is the last local update sequence number of a unit.
+    pub fn next_local(&self, usn: u64) -> Option<u64>
+        ensures { IsNextLocal self.now usn result }
+    {
+        self.table.next_local(usn)
+    }
+
+    /// The units whose last local update sequence number is this, rising.
+    pub fn units_at(&self, alloc: Global, usn: u64) -> Result<Vec<Unit>, NoMemory>
+        ensures { IfOk result (λ units. units.items ≡ units_at self.now usn) }
+    {
+        self.table.units_at(alloc, usn)
+    }
+
+    /// The keys of rows rise.
+    pub fn are_rising(&self)
+        ensures { AreRising self.now }
+    {
+        self.table.are_rising();
+    }
+}
+
+impl Rows {
+    /// The live object of a GUID.
+    pub fn node(&self, guid: Uuid) -> Option<&Node>
+        ensures { option_copied result ≡ node_at (nodes_held (updates_of self.now)) guid }
+    {
+        self.tree.get(guid)
+    }
+
+    /// The live objects, rising by GUID.
+    pub fn nodes(&self, alloc: Global) -> Result<Vec<&Node>, NoMemory>
+        ensures { IfOk result (λ live. referents live.items ≡ nodes_held (updates_of self.now)) }
+    {
+        self.tree.nodes(alloc)
+    }
+
+    /// The GUID under which a live object is shown (MS-ADTS, LostAndFound container).
+    pub fn place(&self, node: &Node) -> Uuid
+        requires { node_at (nodes_held (updates_of self.now)) node.now.object.guid ≡ Some node.now }
+        ensures { result ≡ place (nodes_held (updates_of self.now)) node.now }
+    {
+        self.tree.place(node)
+    }
+
+    /// Whether an object of a GUID is met going up from a place, which it may be itself.
+    pub fn is_met_above(&self, place: Uuid, guid: Uuid) -> bool
+        ensures { let nodes = nodes_held (updates_of self.now) in
+            result ≡ list_any (λ m. same_identifier m.object.guid guid) (upward nodes (length nodes) place) }
+    {
+        self.tree.is_met_above(place, guid)
+    }
+
+    /// The least GUID of an object that is shown under a live one.
+    pub fn first_child(&self, guid: Uuid) -> Option<Uuid>
+        requires live { IsSome (node_at (nodes_held (updates_of self.now)) guid) }
+        requires free { is_fixed guid ≡ false }
+        ensures { let nodes = nodes_held (updates_of self.now) in
+            result ≡ option_map (λ m. m.object.guid) (find (λ m. same_identifier (place nodes m) guid) nodes) }
+    {
+        self.tree.first_child(guid)
+    }
+
+    /// The GUID of the object that keeps a text in a place, in whatever case it is written.
+    pub fn holder(&self, alloc: Global, parent: Uuid, text: &Text) -> Result<Option<Uuid>, NoMemory>
+        requires { IsParent (nodes_held (updates_of self.now)) parent }
+        ensures { IfOk result (λ holder.
+            holder ≡ name_holder (nodes_held (updates_of self.now)) parent text.now) }
+    {
+        self.tree.holder(alloc, parent, text)
+    }
+
+    /// Whether a place has another object than that of a GUID, or LostAndFound, of a name that folds alike.
+    pub fn is_taken(
+        &self,
+        alloc: Global,
+        guid: Uuid,
+        parent: Uuid,
+        text: &Text,
+    ) -> Result<bool, NoMemory>
+        requires { IsParent (nodes_held (updates_of self.now)) parent }
+        ensures { IfOk result (λ taken.
+            taken ≡ is_taken (nodes_held (updates_of self.now)) guid parent text.now) }
+    {
+        self.tree.is_taken(alloc, guid, parent, text)
+    }
+}
+
+impl Rows {
     /// Puts rows, one after the other, each in the place of the row of its key, and then removes objects. A death takes
     /// its object's other rows and its links.
-    pub fn write(&mut self, rows: Vec<Held>, removed: &[Oid]) -> Result<(), NoMemory>
+    pub fn write(&mut self, alloc: Global, rows: Vec<Held>, removed: &[Oid]) -> Result<(), NoMemory>
         ensures ok { OnOk result (self.new ≡ rows_after removed.now rows.items self.old) }
         ensures err { OnErr result (self.new ≡ self.old) }
     {
-        self.list.reserve(rows.len())?;
-        put_all_reserved(&mut self.list, rows);
-        self.remove_all(removed);
+        let edits = edits_of(alloc, &self.table, rows.as_slice(), removed)?;
+        let spare = self.table.spare(alloc, rows.as_slice(), removed)?;
+        self.table.reserve(rows.as_slice())?;
+        self.tree.reserve(edits.as_slice())?;
+        self.table.write(rows, removed, spare);
+        self.tree.apply(edits);
+        self.table.are_rising();
+        self.tree.are_in_order();
         Ok(())
-    }
-
-    fn remove_all(&mut self, objects: &[Oid])
-        ensures { self.new ≡ fold without_object self.old objects.now }
-    {
-        for object in objects {
-            self.remove(object);
-        }
-    }
-
-    /// Equal rows.
-    pub fn copy(&self, alloc: Global) -> Result<Rows, NoMemory>
-        ensures { IfOk result (λ copy. copy ≡ self.now) }
-    {
-        let mut list = Vec::new(alloc);
-        for row in self.list.as_slice() {
-            list.push(row.copy(alloc)?)?;
-        }
-        Ok(Rows { list })
-    }
-}
-
-/// Where the row of a key stands, or where it would.
-fn place_of(rows: &[Held], key: &Key) -> Result<usize, usize>
-    ensures place { IfOk result (IsPlaceOf rows.now (key_of key.now)) }
-    ensures gap { IfErr result (IsGapFor rows.now (key_of key.now)) }
-{
-    for (place, row) in rows.iter().enumerate() {
-        match key.order(&row.key()) {
-            Ordering::Less => return Err(place),
-            Ordering::Equal => return Ok(place),
-            Ordering::Greater => {}
-        }
-    }
-    Err(rows.len())
-}
-
-/// Writes a row in the place of the row of its key, where there is room for one more.
-fn write_reserved(list: &mut Vec<Held>, row: Held)
-    requires { vec_len list.old < vec_capacity list.old }
-    ensures items { list.new.items ≡ with_row list.old.items row }
-    ensures len { vec_len list.new ≤ vec_len list.old + 1 }
-    ensures capacity { vec_capacity list.old ≤ vec_capacity list.new }
-{
-    match place_of(list.as_slice(), &row.key()) {
-        Ok(place) => list[place] = row,
-        Err(place) => {
-            let _ = list.insert(place, row);
-        }
-    }
-}
-
-/// Takes the rows that go with a dead object.
-fn strip(list: &mut Vec<Held>, object: &Oid)
-    ensures items { list.new.items ≡ stripped (Some object.now) list.old.items }
-    ensures len { vec_len list.new ≤ vec_len list.old }
-    ensures capacity { vec_capacity list.new ≡ vec_capacity list.old }
-{
-    list.retain(|row| !row.key().goes_with(object));
-}
-
-/// Puts a row where there is room for one more.
-fn put_reserved(list: &mut Vec<Held>, row: Held)
-    requires { vec_len list.old < vec_capacity list.old }
-    ensures items { list.new.items ≡ put list.old.items row }
-    ensures len { vec_len list.new ≤ vec_len list.old + 1 }
-    ensures capacity { vec_capacity list.old ≤ vec_capacity list.new }
-{
-    let key = row.key();
-    write_reserved(list, row);
-    if let Some(object) = key.killed() {
-        strip(list, &object);
-    }
-}
-
-/// Puts rows, one after the other, where there is room for them all.
-fn put_all_reserved(list: &mut Vec<Held>, rows: Vec<Held>)
-    requires { vec_len list.old + vec_len rows ≤ vec_capacity list.old }
-    ensures { list.new.items ≡ fold put list.old.items rows.items }
-{
-    for row in rows {
-        put_reserved(list, row);
     }
 }

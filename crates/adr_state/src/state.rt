@@ -1,6 +1,6 @@
 //! A controller's state.
 
-ghost use Rattle.std.specs.Prelude.{◌≡◌, ◌<◌, ◌≤◌, length, IfOk, OnOk, OnErr, IsErrOf};
+ghost use Rattle.std.specs.Prelude.{◌≡◌, ◌<◌, ◌≤◌, length, IfOk, OnOk, OnErr, IsErrOf, unwrap_or};
 ghost use Rattle.adr_schema.specs.Numbered.{numbered};
 ghost use Rattle.adr_vector.specs.Refusal.{full};
 ghost use Rattle.adr_vector.specs.Vector.{joined, cursor_limit};
@@ -23,6 +23,7 @@ use uuid::Uuid;
 /// A controller: its own identifier, the invocation identifier of its database, its mode, and the database.
 #[derive(Drop)]
 pub struct State {
+    alloc: Global,
     dsa: Uuid,
     inv: Uuid,
     usn: u64,
@@ -55,6 +56,7 @@ impl State {
         ensures log { new_log_end result ≡ first_log_end }
     {
         State {
+            alloc,
             dsa,
             inv,
             usn: 0,
@@ -138,17 +140,17 @@ impl State {
         ensures full { IsErrOf result full → IsOverfull (after self.old change.now) }
         ensures err { OnErr result (self.new ≡ self.old) }
     {
-        let alloc = self.rows.allocator();
+        let alloc = self.alloc;
         let vector = self.vector_after(alloc, change)?;
-        let purged = joined(alloc, &self.purged, change.purged())?;
+        let purged = self.purged_after(alloc, change)?;
         let marks = self.marks.with(alloc, change.mark())?;
         let rows = change.held(alloc)?;
-        self.rows.write(rows, change.removed())?;
+        self.rows.write(alloc, rows, change.removed())?;
         self.usn = change.usn();
         self.mode = change.mode();
         self.vector = vector;
-        self.purged = purged;
-        self.marks = marks;
+        renew(&mut self.purged, purged);
+        self.marks.renew(marks);
         Ok(())
     }
 
@@ -162,6 +164,37 @@ impl State {
         vector.raise(self.inv, change.usn())?;
         Ok(vector)
     }
+
+    /// What covers all that was collected after a change; nothing where that stays as it is.
+    fn purged_after(&self, alloc: Global, change: &Change) -> Result<Option<Vector>, Failure<Full>>
+        ensures ok { IfOk result (λ purged.
+            unwrap_or purged self.now.store.purged ≡ (after self.now change.now).store.purged) }
+        ensures few { IfOk result (λ _. length (after self.now change.now).store.purged ≤ cursor_limit) }
+        ensures full { IsErrOf result full → cursor_limit < length (after self.now change.now).store.purged }
+    {
+        if change.purged().is_empty() {
+            are_few(&self.purged);
+            return Ok(None);
+        }
+        let purged = joined(alloc, &self.purged, change.purged())?;
+        Ok(Some(purged))
+    }
+}
+
+/// Another vector takes the place of this one, if there is one.
+fn renew(vector: &mut Vector, other: Option<Vector>)
+    ensures { vector.new ≡ unwrap_or other vector.old }
+{
+    if let Some(other) = other {
+        *vector = other;
+    }
+}
+
+/// A vector has few enough cursors.
+fn are_few(vector: &Vector)
+    ensures { length vector.now ≤ cursor_limit }
+{
+    vector.cursors();
 }
 
 /// The two vectors as one.

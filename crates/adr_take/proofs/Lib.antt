@@ -1,2 +1,7 @@
-mod Filling
 mod Deciding
+mod Rising
+mod Looked
+mod Tally
+mod Births
+mod Telling
+mod Lengths

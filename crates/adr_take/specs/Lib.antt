@@ -1,3 +1,5 @@
 pub mod Before
+pub mod Cursors
 pub mod HeldAt
 pub mod Presence
+pub mod Told

@@ -10,15 +10,16 @@ use crate::NoMemory;
 use crate::faults::{first_fault, lacks};
 use crate::keys::{class_among, class_said, has_row};
 use crate::presence::{Presence, has_lost_end, presence_of};
+use crate::told::Told;
 use adr_event::{ItemFault, TakeRefusal};
 use adr_schema::Schema;
 use adr_stamp::{Oid, Unit};
-use adr_state::{CLASS, DELETED, Item, Key, Rows};
+use adr_state::{CLASS, DELETED, Item, Key};
 use adr_vector::Vector;
 use std::alloc::AllocError;
 
 /// The class of an object that is held.
-fn class_held(held: &Rows, object: &Oid) -> Option<u16>
+fn class_held(held: &Told, object: &Oid) -> Option<u16>
     ensures { result
         ≡ option_and_then (λ h. class_said h.update.said) (row_held held.now (RowOf object.now class_attr)) }
 {
@@ -33,7 +34,7 @@ fn class_held(held: &Rows, object: &Oid) -> Option<u16>
 }
 
 /// The class of an item's object: that of the held object, or the one that comes.
-fn class_of_item(held: &Rows, item: &Item) -> Option<u16>
+fn class_of_item(held: &Told, item: &Item) -> Option<u16>
     ensures { result ≡ class_of_item held.now item.now }
 {
     match item.unit() {
@@ -46,7 +47,7 @@ fn class_of_item(held: &Rows, item: &Item) -> Option<u16>
 }
 
 /// What is wrong with the first wrong one of an item's rows that are looked at.
-fn item_fault(schema: Schema, vector: &Vector, held: &Rows, item: &Item) -> Option<ItemFault>
+fn item_fault(schema: Schema, vector: &Vector, held: &Told, item: &Item) -> Option<ItemFault>
     ensures { result ≡ item_fault schema vector.now held.now item.now }
 {
     let class = class_of_item(held, item);
@@ -69,7 +70,7 @@ fn item_fault(schema: Schema, vector: &Vector, held: &Rows, item: &Item) -> Opti
 }
 
 /// The refusal of an item whose object is new and comes without its class, its name or what it must have.
-fn incomplete(schema: Schema, vector: &Vector, held: &Rows, item: &Item) -> Option<TakeRefusal>
+fn incomplete(schema: Schema, vector: &Vector, held: &Told, item: &Item) -> Option<TakeRefusal>
     ensures { result ≡ incomplete schema vector.now held.now item.now }
 {
     match item.unit() {
@@ -91,7 +92,7 @@ fn incomplete(schema: Schema, vector: &Vector, held: &Rows, item: &Item) -> Opti
 pub fn item_refusal(
     schema: Schema,
     vector: &Vector,
-    held: &Rows,
+    held: &Told,
     place: usize,
     item: &Item,
 ) -> Result<Option<TakeRefusal>, NoMemory>

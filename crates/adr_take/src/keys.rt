@@ -4,8 +4,8 @@ ghost use Rattle.std.specs.Prelude.{◌≡◌};
 ghost use Rattle.std.specs.List.{find};
 ghost use Rattle.std.specs.Option.{option_copied};
 ghost use Rattle.adr_model.specs.Take.{class_among, class_said, has_row, is_of_attr, is_reserved_row};
-ghost use Rattle.adr_state.specs.Key.{key_of};
-ghost use Rattle.adr_state.specs.Said.{said_of};
+ghost use Rattle.adr_update.specs.Key.{key_of};
+ghost use Rattle.adr_update.specs.Said.{said_of};
 
 use adr_schema::Content;
 use adr_state::{CLASS, DELETED, Key, Said, Update};

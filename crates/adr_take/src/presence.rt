@@ -5,8 +5,9 @@ ghost use Rattle.adr_model.specs.Visible.{covers_birth};
 ghost use Rattle.adr_model.specs.Take.{is_above, is_gone, is_lost_end, presence_of};
 ghost use Rattle.adr_take.specs.Presence.{defined};
 
+use crate::told::Told;
 use adr_stamp::{LinkKey, Oid};
-use adr_state::{Rows, Update};
+use adr_state::Update;
 use adr_vector::Vector;
 
 /// What stands of an object before its item.
@@ -20,7 +21,7 @@ pub enum Presence {
 }
 
 /// What stands of an object before its item.
-pub fn presence_of(vector: &Vector, held: &Rows, object: &Oid) -> Presence
+pub fn presence_of(vector: &Vector, held: &Told, object: &Oid) -> Presence
     ensures { defined result ≡ presence_of vector.now held.now object.now }
 {
     if held.is_dead(object) {
@@ -41,21 +42,21 @@ fn covers_birth(vector: &Vector, object: &Oid) -> bool
 }
 
 /// Whether an object was held and was collected, or never comes.
-fn is_gone(vector: &Vector, held: &Rows, object: &Oid) -> bool
+fn is_gone(vector: &Vector, held: &Told, object: &Oid) -> bool
     ensures { result ≡ is_gone vector.now held.now object.now }
 {
     !held.holds(object) && covers_birth(vector, object)
 }
 
 /// Whether an end of a link is dead or gone.
-fn is_lost_end(vector: &Vector, held: &Rows, object: &Oid) -> bool
+fn is_lost_end(vector: &Vector, held: &Told, object: &Oid) -> bool
     ensures { result ≡ is_lost_end vector.now held.now object.now }
 {
     held.is_dead(object) || is_gone(vector, held, object)
 }
 
 /// Whether one of the ends of a link is dead or gone.
-pub fn has_lost_end(vector: &Vector, held: &Rows, link: &LinkKey) -> bool
+pub fn has_lost_end(vector: &Vector, held: &Told, link: &LinkKey) -> bool
     ensures { result
         ≡ (is_lost_end vector.now held.now link.now.from || is_lost_end vector.now held.now link.now.to) }
 {
@@ -63,7 +64,7 @@ pub fn has_lost_end(vector: &Vector, held: &Rows, link: &LinkKey) -> bool
 }
 
 /// Whether a row is above the one of its key, or there is none.
-pub fn is_above(held: &Rows, row: &Update) -> bool
+pub fn is_above(held: &Told, row: &Update) -> bool
     ensures { result ≡ is_above held.now row.now }
 {
     match held.row(row.key()) {

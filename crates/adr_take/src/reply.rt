@@ -1,16 +1,14 @@
 //! The whole of a reply.
 
-ghost use Rattle.std.specs.Prelude.{◌≡◌, ◌↔◌, ◌≤◌, [], None, Some, Ok, Err, IfOk, IsErrOf, IsOk, IsTrue, false, length, nat_lt, unwrap_or};
-ghost use Rattle.std.specs.Option.{option_copied};
-ghost use Rattle.adr_vector.specs.Refusal.{full};
-ghost use Rattle.adr_vector.specs.Vector.{cursor_limit, joined, raised};
+ghost use Rattle.std.specs.Prelude.{◌≡◌, ◌≤◌, None, Some, Ok, Err, IfOk, IsErrOf};
 ghost use Rattle.adr_event.specs.declared.refusal.TakeRefusal.{TakeRefusal};
-ghost use Rattle.adr_model.specs.Change.{after, with_mark};
+ghost use Rattle.adr_model.specs.Change.{after};
 ghost use Rattle.adr_model.specs.Take.{passes, refusal_of, same_mark, shown_by_last, take, taken_change};
 ghost use Rattle.adr_model.specs.Write.{usn_limit};
 ghost use Rattle.adr_take.specs.Before.{refusal_before};
 
 use crate::NoMemory;
+use crate::cursors::len_after;
 use crate::taking::{Taking, take_items};
 use adr_event::{Failure, Table, TakeRefusal};
 use adr_packet::Reply;
@@ -18,8 +16,8 @@ use adr_state::{
     CURSOR_LIMIT, Change, Kept, LINK_LIMIT, MARK_LIMIT, Mode, OBJECT_LIMIT, State, USN_LIMIT,
     is_same,
 };
-use adr_vector::{Full, Mark, Vector};
-use std::alloc::{AllocError, Global};
+use adr_vector::{Mark, Vector};
+use std::alloc::Global;
 
 /// What a reply does to a controller: the change that it makes, or why it is refused (MS-DRSR, processing a
 /// GetNCChanges reply; the refusals and their order are this project's own). The controller stays as it is. A fault of
@@ -55,7 +53,7 @@ fn outcome(
     ensures { IfOk result (λ outcome. outcome ≡ take state.now reply.now) }
 {
     let taking = take_items(alloc, state, reply.items())?;
-    match refusal_after(alloc, state, reply, &taking)? {
+    match refusal_after(state, reply, &taking) {
         Some(refusal) => Ok(Err(refusal)),
         None => Ok(Ok(taken_change(alloc, reply, taking)?)),
     }
@@ -116,35 +114,26 @@ fn shown_by_last(state: &State, reply: &Reply) -> u64
 }
 
 /// Why a reply whose items were taken is refused, first in order.
-fn refusal_after(
-    alloc: Global,
-    state: &State,
-    reply: &Reply,
-    taking: &Taking,
-) -> Result<Option<TakeRefusal>, NoMemory>
+fn refusal_after(state: &State, reply: &Reply, taking: &Taking) -> Option<TakeRefusal>
     requires { refusal_before state.now reply.now ≡ None }
     ensures { let taken = after state.now (taken_change reply.now taking.now) in
-        IfOk result (λ refusal. refusal ≡ refusal_of state.now reply.now taking.now taken) }
+        result ≡ refusal_of state.now reply.now taking.now taken }
 {
     if let Some(refusal) = taking.refusal() {
-        return Ok(Some(refusal));
+        return Some(refusal);
     }
     if USN_LIMIT < taking.usn() {
-        return Ok(Some(TakeRefusal::UsnLimit));
+        return Some(TakeRefusal::UsnLimit);
     }
-    if let Some(refusal) = passes(Table::Objects, OBJECT_LIMIT, taking.objects()) {
-        return Ok(Some(refusal));
-    }
-    if let Some(refusal) = passes(Table::Links, LINK_LIMIT, taking.links()) {
-        return Ok(Some(refusal));
-    }
-    if has_many_cursors(alloc, state, reply.last(), taking.usn())? {
-        return Ok(Some(TakeRefusal::Full {
-            table: Table::Cursors,
-            limit: CURSOR_LIMIT,
-        }));
-    }
-    Ok(passes(Table::Marks, MARK_LIMIT, count_marks(alloc, state, reply)?))
+    let cursors = len_after(state.vector(), reply.last(), state.inv(), taking.usn());
+    passes(Table::Objects, OBJECT_LIMIT, taking.objects())
+        .or(passes(Table::Links, LINK_LIMIT, taking.links()))
+        .or(passes(Table::Cursors, CURSOR_LIMIT, cursors))
+        .or(passes(
+            Table::Marks,
+            MARK_LIMIT,
+            state.marks().len_with(reply.source()),
+        ))
 }
 
 /// The refusal of a table that passes its limit.
@@ -158,51 +147,9 @@ fn passes(table: Table, limit: u64, count: usize) -> Option<TakeRefusal>
     }
 }
 
-/// Whether the vector has too many cursors with what the source has seen, if it says so, and with the own update
-/// sequence number.
-fn has_many_cursors(
-    alloc: Global,
-    state: &State,
-    last: Option<&Vector>,
-    usn: u64,
-) -> Result<bool, NoMemory>
-    ensures { let seen = joined state.now.store.vector (unwrap_or (option_copied last.entry) []) in
-        IfOk result (λ many. many ≡ nat_lt cursor_limit (length (raised seen state.now.inv usn))) }
-{
-    let mut vector = state.vector().copy(alloc)?;
-    if let Some(last) = last {
-        if is_full(vector.join(last))? {
-            return Ok(true);
-        }
-    }
-    is_full(vector.raise(state.inv(), usn))
-}
-
-/// Whether a vector was full.
-fn is_full(raised: Result<(), Failure<Full>>) -> Result<bool, NoMemory>
-    ensures full { IfOk result (λ told. IsTrue told ↔ IsErrOf raised full) }
-    ensures changed { IfOk result (λ told. told ≡ false → IsOk raised) }
-{
-    match raised {
-        Ok(()) => Ok(false),
-        Err(Failure::Refused(Full)) => Ok(true),
-        Err(Failure::NoMemory) => Err(AllocError),
-    }
-}
-
-/// How many marks are kept with that of the reply.
-fn count_marks(alloc: Global, state: &State, reply: &Reply) -> Result<usize, NoMemory>
-    ensures { let mark = Some (reply.now.source, record { inv = reply.now.inv; mark = reply.now.to }) in
-        IfOk result (λ count. count ≡ length (with_mark mark state.now.store.marks)) }
-{
-    let mut marks = state.marks().copy(alloc)?;
-    marks.keep(reply.source(), reply.inv(), reply.to())?;
-    Ok(marks.len())
-}
-
 /// The change of a taken reply; the last one brings the source's vector.
 fn taken_change(alloc: Global, reply: &Reply, taking: Taking) -> Result<Change, NoMemory>
-    ensures { IfOk result (λ change. change ≡ taken_change reply.now taking) }
+    ensures { IfOk result (λ change. change ≡ taken_change reply.now taking.entry) }
 {
     let joined = match reply.last() {
         Some(vector) => vector.copy(alloc)?,

@@ -8,8 +8,9 @@ ghost use Rattle.adr_take.specs.Presence.{defined};
 use crate::NoMemory;
 use crate::keys::{has_row, is_of_attr, is_reserved};
 use crate::presence::{Presence, has_lost_end, is_above, presence_of};
+use crate::told::Told;
 use adr_stamp::Unit;
-use adr_state::{CLASS, DELETED, Item, Rows, Update, copy_updates};
+use adr_state::{CLASS, DELETED, Item, Update, copy_updates};
 use adr_vector::Vector;
 use std::alloc::Global;
 
@@ -17,7 +18,7 @@ use std::alloc::Global;
 pub fn rows_taken(
     alloc: Global,
     vector: &Vector,
-    held: &Rows,
+    held: &Told,
     item: &Item,
 ) -> Result<Vec<Update>, NoMemory>
     ensures { IfOk result (λ rows. rows.items ≡ rows_taken vector.now held.now item.now) }
@@ -41,7 +42,7 @@ pub fn rows_taken(
 fn object_rows_taken(
     alloc: Global,
     presence: Presence,
-    held: &Rows,
+    held: &Told,
     rows: &[Update],
 ) -> Result<Vec<Update>, NoMemory>
     ensures { IfOk result (λ taken. taken.items ≡ object_rows_taken held.now rows.now (defined presence)) }
@@ -63,7 +64,7 @@ fn object_rows_taken(
 }
 
 /// The deleted rows that are above those that are held.
-fn deaths_above(alloc: Global, held: &Rows, rows: &[Update]) -> Result<Vec<Update>, NoMemory>
+fn deaths_above(alloc: Global, held: &Told, rows: &[Update]) -> Result<Vec<Update>, NoMemory>
     ensures { IfOk result (λ deaths.
         deaths.items ≡ filter (λ u. is_of_attr deleted_attr u.key && is_above held.now u) rows.now) }
 {
@@ -73,7 +74,7 @@ fn deaths_above(alloc: Global, held: &Rows, rows: &[Update]) -> Result<Vec<Updat
 }
 
 /// The rows but class rows that are above those that are held.
-fn changes_above(alloc: Global, held: &Rows, rows: &[Update]) -> Result<Vec<Update>, NoMemory>
+fn changes_above(alloc: Global, held: &Told, rows: &[Update]) -> Result<Vec<Update>, NoMemory>
     ensures { IfOk result (λ changes.
         changes.items ≡ filter (λ u. not (is_of_attr class_attr u.key) && is_above held.now u) rows.now) }
 {
@@ -83,7 +84,7 @@ fn changes_above(alloc: Global, held: &Rows, rows: &[Update]) -> Result<Vec<Upda
 }
 
 /// The rows that are above those that are held.
-fn above(alloc: Global, held: &Rows, rows: &[Update]) -> Result<Vec<Update>, NoMemory>
+fn above(alloc: Global, held: &Told, rows: &[Update]) -> Result<Vec<Update>, NoMemory>
     ensures { IfOk result (λ above. above.items ≡ filter (is_above held.now) rows.now) }
 {
     let mut above = copy_updates(alloc, rows)?;

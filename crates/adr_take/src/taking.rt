@@ -1,7 +1,7 @@
 //! The items of a reply, one after the other.
 
 ghost use Rattle.std.specs.Prelude.{◌≡◌, ◌+◌, ◌<◌, ◌≤◌, ◌^◌, [], ◌++◌, IfOk, OnOk, fold, length, map};
-ghost use Rattle.adr_model.specs.Change.{held_of, rows_after};
+ghost use Rattle.adr_model.specs.Change.{held_of, put, rows_after};
 ghost use Rattle.adr_model.specs.Take.{begin, take_item, take_items, writes_of};
 ghost use Rattle.adr_model.specs.Write.{usn_limit};
 ghost use Rattle.adr_take.specs.HeldAt.{held_at};
@@ -9,18 +9,19 @@ ghost use Rattle.adr_take.specs.HeldAt.{held_at};
 use crate::NoMemory;
 use crate::item::item_refusal;
 use crate::rows::rows_taken;
+use crate::told::Told;
 use adr_event::TakeRefusal;
 use adr_schema::Schema;
-use adr_state::{Held, Item, Rows, State, Update, Written, count_links, count_objects};
+use adr_state::{Held, Item, State, Update, Written};
 use adr_vector::Vector;
 use std::alloc::Global;
 use std::marker::Model;
 
-/// How far a reply has been taken: the rows, the update sequence number and the writes so far, the first refusal, how
-/// many items there were, and the most objects and links on the way.
+/// How far a reply has been taken: what is told, the update sequence number and the writes so far, the first refusal,
+/// how many items there were, and the most objects and links on the way.
 #[derive(Drop)]
-pub struct Taking {
-    rows: Rows,
+pub struct Taking<'a> {
+    told: Told<'a>,
     usn: u64,
     writes: Vec<Written>,
     refusal: Option<TakeRefusal>,
@@ -29,28 +30,28 @@ pub struct Taking {
     links: usize,
 }
 
-impl Model for Taking {
+impl<'a> Model for Taking<'a> {
     ghost use Rattle.adr_model.specs.Take.{Taking as Defined};
 
     ghost Value = { Defined };
 
-    ghost view = { λ t. record { rows = t.rows; usn = t.usn; writes = t.writes.items; refusal = t.refusal; place = t.place; objects = t.objects; links = t.links } };
+    ghost view = { λ t. record { rows = t.told; usn = t.usn; writes = t.writes.items; refusal = t.refusal; place = t.place; objects = t.objects; links = t.links } };
 }
 
-impl Taking {
+impl<'a> Taking<'a> {
     /// Before the first item.
-    pub fn begin(alloc: Global, state: &State) -> Result<Taking, NoMemory>
-        ensures { IfOk result (λ taking. taking ≡ begin state.now) }
+    pub fn begin(alloc: Global, state: &'a State) -> Taking<'a>
+        ensures { result ≡ begin state.now }
     {
-        Ok(Taking {
-            rows: state.rows().copy(alloc)?,
+        Taking {
+            told: Told::new(alloc, state.rows()),
             usn: state.usn(),
             writes: Vec::new(alloc),
             refusal: None,
             place: 0,
             objects: 0,
             links: 0,
-        })
+        }
     }
 
     /// Takes one item, which is judged against what the items before it left, with the vector of the start.
@@ -68,13 +69,13 @@ impl Taking {
         ensures usn { OnOk result (self.new.usn ≤ self.old.usn + 1) }
         ensures place { OnOk result (self.new.place ≡ self.old.place + 1) }
     {
-        let rows = rows_taken(alloc, vector, &self.rows, item)?;
-        let refusal = item_refusal(schema, vector, &self.rows, self.place, item)?;
+        let rows = rows_taken(alloc, vector, &self.told, item)?;
+        let refusal = item_refusal(schema, vector, &self.told, self.place, item)?;
         self.write(alloc, item, rows)?;
         self.refusal = self.refusal.or(refusal);
         self.place += 1;
-        self.objects = self.objects.max(count_objects(alloc, &self.rows)?);
-        self.links = self.links.max(count_links(&self.rows));
+        self.objects = self.objects.max(self.told.objects());
+        self.links = self.links.max(self.told.links());
         Ok(())
     }
 
@@ -92,8 +93,7 @@ impl Taking {
             return Ok(());
         }
         let local = self.usn + 1;
-        self.rows
-            .write(held_under(alloc, local, rows.as_slice())?, &[])?;
+        put_all(alloc, &mut self.told, local, rows.as_slice())?;
         self.writes
             .push(Written::new(local, Item::new(item.unit(), rows)))?;
         self.usn = local;
@@ -125,29 +125,32 @@ impl Taking {
     }
 
     pub fn into_writes(self) -> Vec<Written>
-        ensures { result.items ≡ self.writes }
+        ensures { result.items ≡ self.entry.writes }
     {
         self.writes
     }
 }
 
-/// The rows with the update sequence number under which they are written.
-fn held_under(alloc: Global, local: u64, rows: &[Update]) -> Result<Vec<Held>, NoMemory>
-    ensures { IfOk result (λ held. held.items ≡ map (held_at local) rows.now) }
+/// Puts rows, one after the other, under an update sequence number.
+fn put_all(alloc: Global, told: &mut Told, local: u64, rows: &[Update]) -> Result<(), NoMemory>
+    ensures { OnOk result (told.new ≡ fold put told.old (map (held_at local) rows.now)) }
 {
-    let mut held = Vec::new(alloc);
     for row in rows {
-        held.push(Held::new(row.copy(alloc)?, local))?;
+        told.put(alloc, Held::new(row.copy(alloc)?, local))?;
     }
-    Ok(held)
+    Ok(())
 }
 
 /// Takes all items.
-pub fn take_items(alloc: Global, state: &State, items: &[Item]) -> Result<Taking, NoMemory>
+pub fn take_items<'a>(
+    alloc: Global,
+    state: &'a State,
+    items: &[Item],
+) -> Result<Taking<'a>, NoMemory>
     requires { state.now.store.usn ≤ usn_limit }
     ensures { IfOk result (λ taking. taking ≡ take_items state.now items.now) }
 {
-    let mut taking = Taking::begin(alloc, state)?;
+    let mut taking = Taking::begin(alloc, state);
     for item in items {
         taking.take_item(alloc, state.schema(), state.vector(), item)?;
     }

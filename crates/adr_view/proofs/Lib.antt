@@ -1,11 +1,6 @@
-mod Deaths
-mod Filtered
 mod FormedLinks
-mod LiveLinks
-mod LiveSet
-mod NamedRows
-mod OwnGuids
+mod Gathered
+mod LiveObjects
+mod LiveParts
 mod Referred
-mod Rising
-mod RisingRows
-mod Upwards
+mod YoungestNames

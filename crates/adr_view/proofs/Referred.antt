@@ -1,26 +1,8 @@
 -- Lists of references, by what they refer to.
-use Rattle.std.proofs.Common.{◌≡◌, ◌<◌, ℕ, zero, suc, Bool, true, false, cond, List, [], ◌∷◌, Option, Some, None, refl, sym, ap, ◌∙◌, filter, length, get_or, Bor}
-use Rattle.std.specs.List.{slice_get}
-use Rattle.std.specs.Option.{option_copied}
-use Rattle.std.specs.Slice.{IsGetResult}
-use Rattle.std.proofs.lemmas.Option.{slice_get_past, slice_get_read}
-use Rattle.adr_view.specs.Referents.{referents}
+use Rattle.std.proofs.Common.{◌≡◌, ◌<◌, ◌++◌, ℕ, zero, suc, List, [], ◌∷◌, refl, sym, ap, ◌∙◌, map, length, get_or, drop, drop-cons, append_assoc, Bor}
+use Rattle.adr_update.specs.Referents.{referents}
 
 module _ {A : Type 0} where
-  pub referents_kept : (test : A → Bool) (xs : List (Bor A)) → referents (filter (λ x. test x.now) xs) ≡ filter test (referents xs)
-  referents_kept test [] = refl
-  referents_kept test (x ∷ xs) = by (test x.now) (referents_kept test xs)
-    where
-      by : (b : Bool) → referents (filter (λ y. test y.now) xs) ≡ filter test (referents xs)
-          → referents (cond b (x ∷ filter (λ y. test y.now) xs) (filter (λ y. test y.now) xs)) ≡ cond b (x.now ∷ filter test (referents xs)) (filter test (referents xs))
-      by true rest = ap (λ ys. x.now ∷ ys) rest
-      by false rest = rest
-
-  pub referent_got : (xs : List (Bor A)) (i : ℕ) → option_copied (slice_get xs i) ≡ slice_get (referents xs) i
-  referent_got [] i = refl
-  referent_got (x ∷ xs) zero = refl
-  referent_got (x ∷ xs) (suc i) = referent_got xs i
-
   pub length_referents : (xs : List (Bor A)) → length (referents xs) ≡ length xs
   length_referents [] = refl
   length_referents (x ∷ xs) = ap suc (length_referents xs)
@@ -33,7 +15,13 @@ module _ {A : Type 0} where
       got (y ∷ ys) zero d = refl
       got (y ∷ ys) (suc j) d = got ys j d
 
--- what a look at a place of a slice gives
-pub got_at : {A : Type 0} (xs : List A) (i : ℕ) (r : Option (Bor A)) → IsGetResult xs i i r → option_copied r ≡ slice_get xs i
-got_at xs i None h = sym (slice_get_past xs i h.3)
-got_at xs i (Some x) h = sym (slice_get_read xs (length xs) i x.now refl h.3.0 h.1)
+  pub from_here : (xs : List (Bor A)) (i j : ℕ) (x : Bor A) → i < length xs → x ≡ get_or xs i x → j ≡ suc i → drop i xs ≡ x ∷ drop j xs
+  from_here xs i j x within is next = drop-cons xs i x within ∙ (ap (λ y. y ∷ drop (suc i) xs) (sym is) ∙ ap (λ n. x ∷ drop n xs) (sym next))
+
+  -- one step of a loop that maps what they refer to
+  pub next_mapped : {B : Type 0} (f : A → B) (xs : List (Bor A)) (i j : ℕ) (x : Bor A) → i < length xs → x ≡ get_or xs i x → j ≡ suc i → (ys zs whole : List B) → zs ≡ ys ++ f x.now ∷ []
+      → ys ++ map f (referents (drop i xs)) ≡ whole → zs ++ map f (referents (drop j xs)) ≡ whole
+  next_mapped f xs i j x within is next ys zs whole grown so_far =
+      ap (λ ws. ws ++ map f (referents (drop j xs))) grown
+      ∙ (append_assoc ys (f x.now ∷ []) (map f (referents (drop j xs)))
+      ∙ (ap (λ (ws : List (Bor A)). ys ++ map f (referents ws)) (sym (from_here xs i j x within is next)) ∙ so_far))

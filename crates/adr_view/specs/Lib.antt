@@ -1,5 +1,5 @@
 pub mod BackLinks
-pub mod KeyOrder
-pub mod Names
-pub mod Referents
-pub mod Shared
+pub mod Ends
+pub mod Named
+pub mod Slots
+pub mod Youngest

@@ -1,64 +1,83 @@
 //! The directory that a controller shows.
 
-ghost use Rattle.std.specs.Prelude.{◌≡◌, IfOk, IsTrue, map};
-ghost use Rattle.adr_model.specs.Directory.{entry_of, entries_of, directory};
+ghost use Rattle.std.specs.Prelude.{◌≡◌, Some, IfOk, IsTrue, map};
+ghost use Rattle.adr_model.specs.Directory.{entry_of, directory};
+ghost use Rattle.adr_model.specs.Live.{live_rows};
+ghost use Rattle.adr_model.specs.Place.{node_at};
 ghost use Rattle.adr_model.specs.Store.{updates_of};
+ghost use Rattle.adr_model.specs.Write.{nodes_held};
+ghost use Rattle.adr_update.specs.Referents.{referents};
 ghost use Rattle.adr_view.specs.BackLinks.{have_back_links};
-ghost use Rattle.adr_view.specs.Referents.{referents};
+ghost use Rattle.adr_view.specs.Named.{AreNamed};
+ghost use Rattle.adr_view.specs.Youngest.{AreYoungest};
 
 use crate::NoMemory;
 use crate::links::links_at;
-use crate::live::live_rows;
-use crate::node::{Node, nodes_of};
-use crate::place::place;
+use crate::names::{Rank, youngest_names};
 use crate::shown::shown_name;
+use crate::slot::Slot;
 use crate::values::values_at;
 use adr_event::{Directory, Entry};
-use adr_state::{Rows, Update};
+use adr_state::{Node, Rows};
 use std::alloc::Global;
+use std::collections::BTreeMap;
 
 /// A live object as it is shown.
-fn entry_of(alloc: Global, rows: &[&Update], all: &[Node], node: &Node) -> Result<Entry, NoMemory>
-    requires { IsTrue (have_back_links (referents rows.now)) }
-    ensures { IfOk result (λ entry. entry ≡ entry_of (referents rows.now) all.now node.now) }
+fn entry_of(
+    alloc: Global,
+    rows: &Rows,
+    names: &BTreeMap<Slot, Rank>,
+    node: &Node,
+) -> Result<Entry, NoMemory>
+    requires links { IsTrue (have_back_links (updates_of rows.now)) }
+    requires named { AreNamed (updates_of rows.now) }
+    requires names { AreYoungest (nodes_held (updates_of rows.now)) names.now }
+    requires live { node_at (nodes_held (updates_of rows.now)) node.now.object.guid ≡ Some node.now }
+    ensures { IfOk result (λ entry.
+        entry ≡ entry_of (live_rows (updates_of rows.now)) (nodes_held (updates_of rows.now)) node.now) }
 {
     let object = node.object();
     Ok(Entry {
         guid: object.guid,
         class: node.class(),
-        parent: place(all, node),
-        name: shown_name(alloc, all, node)?,
+        parent: rows.place(node),
+        name: shown_name(alloc, rows, names, node)?,
         values: values_at(alloc, rows, &object)?,
         links: links_at(alloc, rows, &object)?,
     })
 }
 
 /// Live objects as they are shown, in their order.
-fn all_entries(alloc: Global, rows: &[&Update], all: &[Node]) -> Result<Vec<Entry>, NoMemory>
-    requires { IsTrue (have_back_links (referents rows.now)) }
-    ensures { IfOk result (λ entries. entries.items ≡ map (entry_of (referents rows.now) all.now) all.now) }
+fn all_entries(
+    alloc: Global,
+    rows: &Rows,
+    names: &BTreeMap<Slot, Rank>,
+    nodes: &[&Node],
+) -> Result<Vec<Entry>, NoMemory>
+    requires links { IsTrue (have_back_links (updates_of rows.now)) }
+    requires named { AreNamed (updates_of rows.now) }
+    requires names { AreYoungest (nodes_held (updates_of rows.now)) names.now }
+    requires nodes { referents nodes.now ≡ nodes_held (updates_of rows.now) }
+    ensures { IfOk result (λ entries.
+        entries.items
+        ≡ map (entry_of (live_rows (updates_of rows.now)) (nodes_held (updates_of rows.now))) (referents nodes.now)) }
 {
+    rows.are_rising();
     let mut entries = Vec::new(alloc);
-    for node in all {
-        entries.push(entry_of(alloc, rows, all, node)?)?;
+    for node in nodes {
+        entries.push(entry_of(alloc, rows, names, node)?)?;
     }
     Ok(entries)
 }
 
-/// The entries that live rows give.
-fn entries_of(alloc: Global, rows: &[&Update]) -> Result<Vec<Entry>, NoMemory>
-    requires { IsTrue (have_back_links (referents rows.now)) }
-    ensures { IfOk result (λ entries. entries.items ≡ entries_of (referents rows.now)) }
-{
-    let nodes = nodes_of(alloc, rows)?;
-    all_entries(alloc, rows, nodes.as_slice())
-}
-
 /// The directory that the rows of a controller define: its live objects, rising by GUID.
 pub fn directory(alloc: Global, rows: &Rows) -> Result<Directory, NoMemory>
-    requires { IsTrue (have_back_links (updates_of rows.now)) }
+    requires links { IsTrue (have_back_links (updates_of rows.now)) }
+    requires named { AreNamed (updates_of rows.now) }
     ensures { IfOk result (λ shown. shown ≡ directory (updates_of rows.now)) }
 {
-    let live = live_rows(alloc, rows.as_slice())?;
-    Ok(Directory::of(entries_of(alloc, live.as_slice())?))
+    let nodes = rows.nodes(alloc)?;
+    let names = youngest_names(alloc, rows, nodes.as_slice())?;
+    let entries = all_entries(alloc, rows, &names, nodes.as_slice())?;
+    Ok(Directory::of(entries))
 }

@@ -1,59 +1,108 @@
 //! The links of an object, forward and back.
 
-ghost use Rattle.std.specs.Prelude.{◌≡◌, ◌++◌, ◌<◌, [], ℕ, IfOk, OnOk, IsTrue, map, fold};
+ghost use Rattle.std.specs.Prelude.{◌≡◌, ◌++◌, [], ℕ, true, IfOk, OnOk, IsTrue, map, fold};
 ghost use Rattle.std.specs.List.{filter_map, flat_map};
 ghost use Rattle.std.specs.Ordering.{nat_cmp};
 ghost use Rattle.std.specs.BTreeSet.{insert_key};
 ghost use Rattle.adr_stamp.specs.Order.{identifier_order};
-ghost use Rattle.adr_model.specs.Update.{Identifier, same_object};
-ghost use Rattle.adr_model.specs.Directory.{back_link, one_where, link_ends, of_attribute, gathered, links_at};
+ghost use Rattle.adr_model.specs.Update.{Identifier};
+ghost use Rattle.adr_model.specs.Directory.{one_where, of_attribute, gathered, links_at};
+ghost use Rattle.adr_model.specs.Live.{live_rows};
+ghost use Rattle.adr_model.specs.Store.{updates_of};
+ghost use Rattle.adr_model.specs.Write.{nodes_held};
+ghost use Rattle.adr_update.specs.Referents.{referents};
 ghost use Rattle.adr_view.specs.BackLinks.{has_back_link, have_back_links};
-ghost use Rattle.adr_view.specs.Referents.{referents};
+ghost use Rattle.adr_view.specs.Ends.{back_end, forward_end, is_live};
+ghost use Rattle.adr_view.specs.Named.{AreNamed};
 
 use crate::NoMemory;
 use adr_event::{EntryLinks, Guids};
-use adr_stamp::{LinkKey, Oid};
-use adr_state::{Key, Said, Update, is_same_object};
+use adr_stamp::Oid;
+use adr_state::{Held, Key, Rows, Said, Update, is_same_object};
 use std::alloc::Global;
 use std::collections::BTreeSet;
 use uuid::Uuid;
 
-/// Adds what a link that is present shows at an object: the other end, forward or back or both.
-fn push_both(ends: &mut Vec<(u16, Uuid)>, object: &Oid, link: &LinkKey) -> Result<(), NoMemory>
-    requires { link.now.attr < 65535 }
-    ensures { OnOk result (ends.new.items
-        ≡ ends.old.items
-        ++ one_where (same_object link.now.from object.now) (link.now.attr, link.now.to.guid) (one_where (same_object link.now.to object.now) (back_link link.now.attr, link.now.from.guid) [])) }
+/// Whether an object is the live one of its GUID.
+fn is_live(rows: &Rows, object: &Oid) -> bool
+    ensures { result ≡ is_live (nodes_held (updates_of rows.now)) object.now }
 {
-    if is_same_object(&link.from, object) {
-        ends.push((link.attr, link.to.guid))?;
+    match rows.node(object.guid) {
+        Some(node) => is_same_object(&node.object(), object),
+        None => false,
     }
-    if is_same_object(&link.to, object) {
-        ends.push((link.attr + 1, link.from.guid))?;
+}
+
+/// Adds an end if it is shown.
+fn push_where(
+    ends: &mut Vec<(u16, Uuid)>,
+    is_shown: bool,
+    attr: u16,
+    guid: Uuid,
+) -> Result<(), NoMemory>
+    ensures { OnOk result (ends.new.items ≡ ends.old.items ++ one_where is_shown (attr, guid) []) }
+{
+    if is_shown {
+        ends.push((attr, guid))?;
     }
     Ok(())
 }
 
-/// Adds what a row shows at an object.
-fn push_ends(ends: &mut Vec<(u16, Uuid)>, object: &Oid, update: &Update) -> Result<(), NoMemory>
-    requires { IsTrue (has_back_link update.now.key) }
-    ensures { OnOk result (ends.new.items ≡ ends.old.items ++ link_ends object.now update.now.key update.now.said) }
+/// Adds what a row shows at the object that it is a link from.
+fn push_forward(rows: &Rows, ends: &mut Vec<(u16, Uuid)>, update: &Update) -> Result<(), NoMemory>
+    ensures { OnOk result (ends.new.items
+        ≡ ends.old.items ++ forward_end (nodes_held (updates_of rows.now)) update.now.key update.now.said) }
 {
     match (update.key(), update.said()) {
-        (Key::Link(link), Said::IsPresent(true)) => push_both(ends, object, &link),
+        (Key::Link(link), Said::IsPresent(true)) => {
+            push_where(ends, is_live(rows, &link.to), link.attr, link.to.guid)
+        }
         _ => Ok(()),
     }
 }
 
-/// What rows show at an object, row by row.
-fn ends_at(alloc: Global, rows: &[&Update], object: &Oid) -> Result<Vec<(u16, Uuid)>, NoMemory>
-    requires { IsTrue (have_back_links (referents rows.now)) }
+/// Adds what a row shows at the object that it is a link to.
+fn push_back(rows: &Rows, ends: &mut Vec<(u16, Uuid)>, update: &Update) -> Result<(), NoMemory>
+    requires { IsTrue (has_back_link update.now.key) }
+    ensures { OnOk result (ends.new.items
+        ≡ ends.old.items ++ back_end (nodes_held (updates_of rows.now)) update.now.key update.now.said) }
+{
+    match (update.key(), update.said()) {
+        (Key::Link(link), Said::IsPresent(true)) => {
+            push_where(
+                ends,
+                is_live(rows, &link.from),
+                link.attr + 1,
+                link.from.guid,
+            )
+        }
+        _ => Ok(()),
+    }
+}
+
+/// What links from an object show there, link by link.
+fn forward_ends(alloc: Global, rows: &Rows, links: &[&Held]) -> Result<Vec<(u16, Uuid)>, NoMemory>
     ensures { IfOk result (λ ends.
-        ends.items ≡ flat_map (λ u. link_ends object.now u.key u.said) (referents rows.now)) }
+        ends.items
+        ≡ flat_map (λ h. forward_end (nodes_held (updates_of rows.now)) h.update.key h.update.said) (referents links.now)) }
 {
     let mut ends = Vec::new(alloc);
-    for update in rows {
-        push_ends(&mut ends, object, update)?;
+    for held in links {
+        push_forward(rows, &mut ends, held.update())?;
+    }
+    Ok(ends)
+}
+
+/// What links to an object show there, link by link.
+fn back_ends(alloc: Global, rows: &Rows, links: &[&Held]) -> Result<Vec<(u16, Uuid)>, NoMemory>
+    requires { IsTrue (have_back_links (updates_of (referents links.now))) }
+    ensures { IfOk result (λ ends.
+        ends.items
+        ≡ flat_map (λ h. back_end (nodes_held (updates_of rows.now)) h.update.key h.update.said) (referents links.now)) }
+{
+    let mut ends = Vec::new(alloc);
+    for held in links {
+        push_back(rows, &mut ends, held.update())?;
     }
     Ok(ends)
 }
@@ -107,11 +156,18 @@ fn gathered(alloc: Global, ends: &[(u16, Uuid)]) -> Result<EntryLinks, NoMemory>
     Ok(EntryLinks::of(list))
 }
 
-/// The link attributes of an object, forward and back, with the GUIDs at their other ends.
-pub fn links_at(alloc: Global, rows: &[&Update], object: &Oid) -> Result<EntryLinks, NoMemory>
-    requires { IsTrue (have_back_links (referents rows.now)) }
-    ensures { IfOk result (λ links. links ≡ links_at (referents rows.now) object.now) }
+/// The link attributes of a live object, forward and back, with the GUIDs at their other ends.
+pub fn links_at(alloc: Global, rows: &Rows, object: &Oid) -> Result<EntryLinks, NoMemory>
+    requires links { IsTrue (have_back_links (updates_of rows.now)) }
+    requires named { AreNamed (updates_of rows.now) }
+    requires live { is_live (nodes_held (updates_of rows.now)) object.now ≡ true }
+    ensures { IfOk result (λ links. links ≡ links_at (live_rows (updates_of rows.now)) object.now) }
 {
-    let ends = ends_at(alloc, rows, object)?;
+    rows.are_rising();
+    let from = rows.links_from(alloc, object)?;
+    let mut ends = forward_ends(alloc, rows, from.as_slice())?;
+    let to = rows.links_to(alloc, object)?;
+    let mut back = back_ends(alloc, rows, to.as_slice())?;
+    ends.append(&mut back)?;
     gathered(alloc, ends.as_slice())
 }

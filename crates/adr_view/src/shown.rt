@@ -1,22 +1,24 @@
 //! Under which names live objects are shown. Of those in one place whose names fold alike the youngest
 //! name keeps its text (the form of the others is that of MS-ADTS).
 
-ghost use Rattle.std.specs.Prelude.{◌≡◌, ◌&&◌, not, IfOk, codes};
-ghost use Rattle.std.specs.List.{find};
-ghost use Rattle.std.specs.Option.{option_copied};
+ghost use Rattle.std.specs.Prelude.{◌≡◌, ◌&&◌, ◌||◌, Some, IfOk, codes};
 ghost use Rattle.std.specs.Str.{bytes_eq};
 ghost use Rattle.adr_schema.specs.Folding.{folded};
 ghost use Rattle.adr_model.specs.Update.{same_identifier};
-ghost use Rattle.adr_model.specs.Place.{root, place};
-ghost use Rattle.adr_model.specs.Shown.{gives_way, conflict_name, shown_name, name_holder};
+ghost use Rattle.adr_model.specs.Place.{node_at, place, root};
+ghost use Rattle.adr_model.specs.Shown.{conflict_name, gives_way, is_lost_name, shown_name};
+ghost use Rattle.adr_model.specs.Store.{updates_of};
+ghost use Rattle.adr_model.specs.Write.{nodes_held};
+ghost use Rattle.adr_view.specs.Youngest.{AreYoungest};
 
 use crate::NoMemory;
-use crate::fixed::{lost_and_found, root};
-use crate::node::Node;
-use crate::place::{named_before, place};
-use adr_schema::{Text, fold_name};
-use adr_state::is_same;
+use crate::names::{Rank, gives_way};
+use crate::slot::Slot;
+use adr_schema::Text;
+use adr_state::{Node, Rows, is_same};
+use adr_update::root;
 use std::alloc::Global;
+use std::collections::BTreeMap;
 use uuid::Uuid;
 
 /// Whether a folded name is that of LostAndFound, which keeps it, in this place.
@@ -33,29 +35,6 @@ fn is_lost_text(name: &[u8]) -> bool
     name == b"lostandfound".as_slice()
 }
 
-/// Whether the folded name of an object is this one.
-fn has_name(node: &Node, name: &Text) -> bool
-    ensures { result ≡ bytes_eq (folded node.now.text) name.now }
-{
-    node.name().items() == name.items()
-}
-
-/// Whether an object stands in a place under a folded name.
-fn is_named(all: &[Node], parent: Uuid, name: &Text, node: &Node) -> bool
-    ensures { result
-        ≡ (same_identifier (place all.now node.now) parent && bytes_eq (folded node.now.text) name.now) }
-{
-    has_name(node, name) && is_same(place(all, node), parent)
-}
-
-/// Whether another object in the place has a name that folds alike and is younger.
-fn gives_way(all: &[Node], node: &Node) -> bool
-    ensures { result ≡ gives_way all.now node.now }
-{
-    let place = place(all, node);
-    all.iter().any(|other| is_named(all, place, node.name(), other) && named_before(node, other))
-}
-
 /// The name of an object whose text another keeps.
 fn conflict_name(alloc: Global, text: &Text, guid: Uuid) -> Result<Text, NoMemory>
     ensures { IfOk result (λ name. name ≡ conflict_name text.now guid) }
@@ -67,40 +46,38 @@ fn conflict_name(alloc: Global, text: &Text, guid: Uuid) -> Result<Text, NoMemor
     Ok(Text::from_string(name))
 }
 
+/// Whether another object, or LostAndFound, keeps the text of this one in its place.
+fn is_kept_by_another(
+    alloc: Global,
+    rows: &Rows,
+    names: &BTreeMap<Slot, Rank>,
+    node: &Node,
+) -> Result<bool, NoMemory>
+    requires live { node_at (nodes_held (updates_of rows.now)) node.now.object.guid ≡ Some node.now }
+    requires names { AreYoungest (nodes_held (updates_of rows.now)) names.now }
+    ensures { let nodes = nodes_held (updates_of rows.now) in
+        IfOk result (λ is. is ≡ (gives_way nodes node.now || is_lost_name (place nodes node.now) node.now.text)) }
+{
+    let place = rows.place(node);
+    let gives = gives_way(alloc, names, place, node)?;
+    Ok(gives || is_lost_name(place, node.name()))
+}
+
 /// The name under which an object is shown: its text, or where another object in the place keeps that, the text with a
 /// line feed, `CNF:` and the GUID in lower case (MS-ADTS, naming conflicts; RFC 9562 for the GUID).
-pub fn shown_name(alloc: Global, all: &[Node], node: &Node) -> Result<Text, NoMemory>
-    ensures { IfOk result (λ name. name ≡ shown_name all.now node.now) }
+pub fn shown_name(
+    alloc: Global,
+    rows: &Rows,
+    names: &BTreeMap<Slot, Rank>,
+    node: &Node,
+) -> Result<Text, NoMemory>
+    requires live { node_at (nodes_held (updates_of rows.now)) node.now.object.guid ≡ Some node.now }
+    requires names { AreYoungest (nodes_held (updates_of rows.now)) names.now }
+    ensures { IfOk result (λ name. name ≡ shown_name (nodes_held (updates_of rows.now)) node.now) }
 {
-    if gives_way(all, node) || is_lost_name(place(all, node), node.name()) {
+    if is_kept_by_another(alloc, rows, names, node)? {
         conflict_name(alloc, node.text(), node.object().guid)
     } else {
         Ok(node.text().copy(alloc)?)
     }
-}
-
-/// The object that keeps a folded name in a place.
-fn keeper<'a>(all: &'a [Node], parent: Uuid, name: &Text) -> Option<&'a Node>
-    ensures { option_copied result
-        ≡ find (λ n.
-        same_identifier (place all.now n) parent && bytes_eq (folded n.text) name.now
-        && not (gives_way all.now n)) all.now }
-{
-    all.iter().find(|node| is_named(all, parent, name, node) && !gives_way(all, node))
-}
-
-/// The GUID of the object that keeps a text in a place.
-pub fn name_holder(
-    alloc: Global,
-    all: &[Node],
-    parent: Uuid,
-    text: &Text,
-) -> Result<Option<Uuid>, NoMemory>
-    ensures { IfOk result (λ holder. holder ≡ name_holder all.now parent text.now) }
-{
-    let name = fold_name(alloc, text.as_str())?;
-    if is_lost_name(parent, &name) {
-        return Ok(Some(lost_and_found()));
-    }
-    Ok(keeper(all, parent, &name).map(|node| node.object().guid))
 }

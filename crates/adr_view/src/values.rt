@@ -1,14 +1,18 @@
 //! The values that the rows of an object give.
 
-ghost use Rattle.std.specs.Prelude.{◌≡◌, IfOk};
+ghost use Rattle.std.specs.Prelude.{◌≡◌, true, IfOk};
 ghost use Rattle.adr_model.specs.Directory.{values_in, values_at};
-ghost use Rattle.adr_view.specs.Referents.{referents};
+ghost use Rattle.adr_model.specs.Live.{live_rows};
+ghost use Rattle.adr_model.specs.Store.{updates_of};
+ghost use Rattle.adr_model.specs.Write.{nodes_held};
+ghost use Rattle.adr_update.specs.Referents.{referents};
+ghost use Rattle.adr_view.specs.Ends.{is_live};
 
 use crate::NoMemory;
 use adr_event::EntryValues;
 use adr_schema::{Content, Values};
 use adr_stamp::Oid;
-use adr_state::{Key, Said, Update, is_same_object};
+use adr_state::{Held, Key, Rows, Said, Update, is_same_object};
 use std::alloc::Global;
 
 /// The attribute and the values that a row of an object gives, where there are any.
@@ -28,15 +32,25 @@ fn values_in(
     }
 }
 
-/// The attributes of an object that have values, in the order of the rows.
-pub fn values_at(alloc: Global, rows: &[&Update], object: &Oid) -> Result<EntryValues, NoMemory>
-    ensures { IfOk result (λ values. values ≡ values_at (referents rows.now) object.now) }
+/// The attributes of an object that have values among rows, in their order.
+fn values_among(alloc: Global, object: &Oid, rows: &[&Held]) -> Result<EntryValues, NoMemory>
+    ensures { IfOk result (λ values. values ≡ values_at (updates_of (referents rows.now)) object.now) }
 {
     let mut list = Vec::new(alloc);
-    for update in rows {
-        if let Some(given) = values_in(alloc, object, update)? {
+    for held in rows {
+        if let Some(given) = values_in(alloc, object, held.update())? {
             list.push(given)?;
         }
     }
     Ok(EntryValues::of(list))
+}
+
+/// The attributes of a live object that have values, rising.
+pub fn values_at(alloc: Global, rows: &Rows, object: &Oid) -> Result<EntryValues, NoMemory>
+    requires { is_live (nodes_held (updates_of rows.now)) object.now ≡ true }
+    ensures { IfOk result (λ values. values ≡ values_at (live_rows (updates_of rows.now)) object.now) }
+{
+    rows.are_rising();
+    let own = rows.rows_of(alloc, object)?;
+    values_among(alloc, object, own.as_slice())
 }

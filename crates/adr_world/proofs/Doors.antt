@@ -1,18 +1,20 @@
 -- What is claimed of a line follows of what it does.
-use Rattle.std.proofs.Common.{◌≡◌, ◌⊎◌, inl, inr, ℕ, sym, subst}
+use Rattle.std.proofs.Common.{◌≡◌, ◌⊎◌, inl, inr, ℕ, List, Bool, false, sym, ap, subst}
+use Rattle.adr_event.specs.declared.answer.Answer.{Answer}
 use Rattle.adr_event.specs.declared.event.Event.{Event}
 use Rattle.adr_event.specs.declared.event.Event.TheVariants as events
 use Rattle.adr_model.specs.Member.{Member}
 use Rattle.adr_model.specs.Replica.{Replica}
 use Rattle.adr_model.specs.World.{World, Name}
-use Rattle.adr_model.specs.Cycles.{pull, cycle}
+use Rattle.adr_model.specs.Cycles.{Pulled, pull, cycle}
 use Rattle.adr_model.specs.Step.{step}
 use Rattle.adr_model.specs.Sound.{IsSoundWorld, IsWorldOfRun}
 use Rattle.adr_model.specs.Convergence.{AreAcknowledged, MayHappen, AreUnlimited, EndsOrSaysMore}
 use Rattle.adr_law_convergence.proofs.Lines.{stays_sound, behind_is_on_the_way}
 use Rattle.adr_law_convergence.proofs.Acknowledged.{acknowledged_is_issued}
 use Rattle.adr_law_convergence.proofs.Completing.{cycle_ends}
-use Rattle.adr_world.specs.Door.{IsLeftBy, IsCompletedBy}
+use Rattle.adr_world.specs.Door.{IsCompletedBy}
+use Rattle.adr_world.specs.Pulls.{IsCycleTurn, IsTurn}
 
 module _ (w : World) (e : Event) (run : IsWorldOfRun w) (may : MayHappen w e) where
   -- the world behind a line
@@ -25,19 +27,21 @@ module _ (w : World) (e : Event) (run : IsWorldOfRun w) (may : MayHappen w e) wh
   pub acknowledged_by : (v : World) → IsSoundWorld w → v ≡ (step w e).0 → AreAcknowledged w e (step w e).1 v
   acknowledged_by v sound is = subst (λ (x : World). AreAcknowledged w e (step w e).1 x) (sym is) (acknowledges sound)
 
-  -- as it was, or as the line leaves it
-  pub either_of_run : (v : World) → (v ≡ w) ⊎ (v ≡ (step w e).0) → IsWorldOfRun v
-  either_of_run v (inl same) = subst IsWorldOfRun (sym same) run
-  either_of_run v (inr is) = behind_of_run v is
-
 -- the world behind a pull
-pub pulled_of_run : (w v : World) (dest source : Name) (max : ℕ) → IsWorldOfRun w → v ≡ (pull w dest source max).0 → IsWorldOfRun v
+pulled_of_run : (w v : World) (dest source : Name) (max : ℕ) → IsWorldOfRun w → v ≡ (pull w dest source max).0 → IsWorldOfRun v
 pulled_of_run w v dest source max run is = stays_sound w (events.Pull dest source max) run tt v is
 
--- the world that a fault leaves
-pub left_of_run : (w : World) (e : Event) → IsWorldOfRun w → MayHappen w e → (v : World) → IsLeftBy w e v → IsWorldOfRun v
-left_of_run w (events.Cycle name source max) run may v left = stays_sound w (events.Cycle name source max) run tt v left
-left_of_run w e run may v left = either_of_run w e run may v left
+cycle_turned_of_run : (w : World) (dest source : Name) (max turn : ℕ) (p : Pulled) → IsWorldOfRun w → IsCycleTurn turn w dest source max p → IsWorldOfRun p.0
+cycle_turned_of_run w dest source max turn p run (inl is) = pulled_of_run w p.0 dest source max run (ap (λ (q : Pulled). q.0) is.1)
+cycle_turned_of_run w dest source max turn p run (inr is) = subst (λ (q : Pulled). IsWorldOfRun q.0) (sym is.1) run
+
+whole_of_run : (w : World) (e : Event) (p : Pulled) → IsWorldOfRun w → MayHappen w e → p ≡ ((step w e).0, (step w e).1, false) → IsWorldOfRun p.0
+whole_of_run w e p run may is = behind_of_run w e run may p.0 (ap (λ (q : Pulled). q.0) is)
+
+-- the world behind a turn
+pub turned_of_run : (w : World) (e : Event) (turn : ℕ) (p : Pulled) → IsWorldOfRun w → MayHappen w e → IsTurn turn w e p → IsWorldOfRun p.0
+turned_of_run w (events.Cycle dest source max) turn p run may is = cycle_turned_of_run w dest source max turn p run is
+turned_of_run w e turn p run may is = whole_of_run w e p run may is
 
 cycle_completed : (w : World) (name source : Name) (max : ℕ) → IsSoundWorld w → IsCompletedBy w (events.Cycle name source max) (cycle w name source max).1 (cycle w name source max).0
 cycle_completed w name source max sound d s may d_is s_is most unlimited =

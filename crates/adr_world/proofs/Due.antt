@@ -59,3 +59,7 @@ none_added (Some written) bytes = (0, ap Some (sym (append-nil written)))
 
 pub front_so_far : (first now : Option (List ℕ)) (all due : List ℕ) → Remains first now all due → AddsFront first now all
 front_so_far first now all due h = front_remains first now now all [] due h (none_added now [])
+
+-- what was added is a front of itself
+pub all_added : (first now : Option (List ℕ)) (bytes : List ℕ) → Adds first now bytes → AddsFront first now bytes
+all_added first now bytes added = front_so_far first now bytes [] (rest_remains first now bytes bytes [] added (append-nil bytes))

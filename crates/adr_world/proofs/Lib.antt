@@ -7,6 +7,8 @@ pub mod Turns
 pub mod Bindings
 pub mod Doors
 pub mod Due
+pub mod Results
 pub mod ToldLines
+pub mod Left
 pub mod Writings
 pub mod Tables

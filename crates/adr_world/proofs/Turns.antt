@@ -1,118 +1,110 @@
--- A cycle, pull by pull.
-use Rattle.std.proofs.Common.{◌≡◌, ◌⊎◌, inl, inr, refl, ℕ, suc, ◌+◌, ◌-◌, ◌<◌, List, [], ◌∷◌, ◌++◌, Bool, true, false, Result, Ok, Err, sym, ap, ◌∙◌, subst, append_assoc, arith}
-use Rattle.std.specs.Prelude.{codes, OnErr, OnOk, IsErrAnd}
+-- A line, turn by turn.
+use Rattle.std.proofs.Common.{◌≡◌, ◌⊎◌, inl, inr, refl, ℕ, suc, ◌+◌, ◌-◌, ◌<◌, ◌≤◌, List, [], ◌∷◌, ◌++◌, Bool, true, false, sym, ap, ◌∙◌, subst, append_assoc, arith}
+use Rattle.std.specs.Prelude.{codes}
 use Rattle.std.proofs.lemmas.List.{append-nil}
 use Rattle.adr_event.specs.declared.answer.Answer.{Answer}
 use Rattle.adr_event.specs.declared.answer.Outcome.TheVariants as outcomes
+use Rattle.adr_event.specs.declared.event.Event.{Event}
+use Rattle.adr_event.specs.declared.event.Event.TheVariants as events
 use Rattle.adr_model.specs.World.{Name, World, answer}
-use Rattle.adr_model.specs.Cycles.{Pulled, and_then, pull, pulls}
+use Rattle.adr_model.specs.Cycles.{Pulled, and_then, pull, pulls, reply_limit}
+use Rattle.adr_model.specs.Step.{step}
+use Rattle.adr_model.specs.Convergence.{MayHappen}
+use Rattle.adr_world.specs.Door.{turns}
+use Rattle.adr_world.specs.Pulls.{IsCycleTurn, IsTurn}
 
-pub on_err : {X Y P : Type 0} (r : Result X Y) → P → OnErr r P
-on_err (Ok x) p = tt
-on_err (Err e) p = p
+-- answers, and then those that come
+abbrev pub said : List Answer → World × List Answer → World × List Answer
+said told t = (t.0, told ++ t.1)
 
-pub on_ok : {X Y P : Type 0} (r : Result X Y) → P → OnOk r P
-on_ok (Ok x) p = p
-on_ok (Err e) p = tt
+-- what is left of a line: of a cycle at most so many pulls, and of any other line the whole
+abbrev pub rest_of : ℕ → World → Event → World × List Answer
+rest_of n w (events.Cycle name source max) = pulls n w name source max
+rest_of n w e = step w e
 
--- what is said of an `Ok` holds of every `Err`
-pub no_ok : {X Y : Type 0} (P : Type 0) (Q : Y → Type 0) (r : Result X Y) → IsErrAnd r Q → OnOk r P
-no_ok P Q (Ok x) none = absurd none
-no_ok P Q (Err e) is = tt
+-- so many turns of a line came to this, and the others may come
+pub record IsSoFar (w : World) (e : Event) (turn : ℕ) (v : World) (told : List Answer) : Type 0 where
+  pub may : MayHappen v e
+  pub within : turn ≤ reply_limit
+  pub done : (n : ℕ) → turns (n + turn) w e ≡ said told (turns n v e)
+  pub left : (n : ℕ) → rest_of (n + turn) w e ≡ said told (rest_of n v e)
 
-pub on_ok_so : {X Y P Q : Type 0} (r : Result X Y) → OnOk r P → (P → Q) → OnOk r Q
-on_ok_so (Ok x) p so = so p
-on_ok_so (Err e) p so = tt
+-- one more turn came to this: the line goes on, or it is done
+abbrev pub IsBehind : World → Event → ℕ → World → List Answer → Bool → Type 0
+IsBehind w e turn u all true = IsSoFar w e (turn + 1) u all
+IsBehind w e turn u all false = step w e ≡ (u, all)
 
-pub on_err_so : {X Y P Q : Type 0} (r : Result X Y) → OnErr r P → (P → Q) → OnErr r Q
-on_err_so (Ok x) p so = tt
-on_err_so (Err e) p so = so p
+-- before the first turn
+pub at_first : (w : World) (e : Event) → MayHappen w e → IsSoFar w e 0 w []
+at_first w e may = record {
+  may = may;
+  within = omega arith;
+  done = λ n. let same : n + 0 ≡ n = omega arith in ap (λ k. turns k w e) same;
+  left = λ n. let same : n + 0 ≡ n = omega arith in ap (λ k. rest_of k w e) same;
+}
 
--- the answers to a pull come first
-begins : (p : Pulled) (go : World → World × List Answer) → (rest : List Answer) × ((and_then p go).1 ≡ p.1 ++ rest)
-begins p go = by p.2
-  where
-    by : (b : Bool) → (rest : List Answer) × ((and_then (p.0, p.1, b) go).1 ≡ p.1 ++ rest)
-    by true = ((go p.0).1, refl)
-    by false = ([], sym (append-nil p.1))
+-- pulls one by one, by what they come to
+module _ (dest source : Name) (max : ℕ) (go : ℕ → World → World × List Answer) (law : (n : ℕ) (x : World) → go (suc n) x ≡ and_then (pull x dest source max) (go n))
+    (w v u : World) (turn : ℕ) (told more : List Answer) (ahead : (n : ℕ) → go (n + turn) w ≡ said told (go n v)) where
+  next_pull : (b : Bool) → pull v dest source max ≡ (u, more, b) → (n : ℕ) → go (suc n + turn) w ≡ said told (and_then (u, more, b) (go n))
+  next_pull b is n = ahead (suc n) ∙ ap (said told) (law n v ∙ ap (λ (p : Pulled). and_then p (go n)) is)
 
--- one pull, whatever it was answered
-one_pull : (p : Pulled) (go : World → World × List Answer) → ((v : World) → (go v).0 ≡ v) → (and_then p go).0 ≡ p.0
-one_pull p go stays = by p.2
-  where
-    by : (b : Bool) → (and_then (p.0, p.1, b) go).0 ≡ p.0
-    by true = stays p.0
-    by false = refl
+  one_more : pull v dest source max ≡ (u, more, true) → (n : ℕ) → go (n + (turn + 1)) w ≡ said (told ++ more) (go n u)
+  one_more is n = let same : n + (turn + 1) ≡ suc n + turn = omega arith in
+      ap (λ k. go k w) same ∙ (next_pull true is n ∙ ap (λ (rest : List Answer). ((go n u).0, rest)) (sym (append_assoc told more (go n u).1)))
 
-module _ (w : World) (dest source : Name) (max : ℕ) where
-  -- what so many pulls leave, and what they were answered, before as many as may come
-  abbrev pub Ahead : ℕ → World → List Answer → Type 0
-  Ahead turn v told = (n : ℕ) → pulls (n + turn) w dest source max ≡ ((pulls n v dest source max).0, told ++ (pulls n v dest source max).1)
+  last_one : pull v dest source max ≡ (u, more, false) → (limit : ℕ) → turn < limit → go limit w ≡ (u, told ++ more)
+  last_one is limit below = let same : limit ≡ suc (limit - (turn + 1)) + turn = omega arith in
+      ap (λ k. go k w) same ∙ next_pull false is (limit - (turn + 1))
 
-  -- before the first pull
-  pub at_first : Ahead 0 w []
-  at_first n = let e : n + 0 ≡ n = omega arith in ap (λ k. pulls k w dest source max) e
+module _ (dest source : Name) (max : ℕ) (w v : World) (turn : ℕ) (told : List Answer) (so : IsSoFar w (events.Cycle dest source max) turn v told) where
+  behind_pull : (b : Bool) (u : World) (more : List Answer) → turn < reply_limit → pull v dest source max ≡ (u, more, b) → IsBehind w (events.Cycle dest source max) turn u (told ++ more) b
+  behind_pull true u more below is = record {
+    may = tt;
+    within = omega arith;
+    done = one_more dest source max (λ n x. turns n x (events.Cycle dest source max)) (λ n x. refl) w v u turn told more so.done is;
+    left = one_more dest source max (λ n x. pulls n x dest source max) (λ n x. refl) w v u turn told more so.left is;
+  }
+  behind_pull false u more below is = last_one dest source max (λ n x. pulls n x dest source max) (λ n x. refl) w v u turn told more so.left is reply_limit below
 
-  module _ (turn : ℕ) (v u : World) (told all : List Answer) (ahead : Ahead turn v told) (left : u ≡ (pull v dest source max).0) (put : all ≡ told ++ (pull v dest source max).1) where
-    abbrev behind : World × List Answer → World × List Answer
-    behind t = (t.0, told ++ t.1)
+  runs_out : (limit : ℕ) → turn ≡ limit → pulls limit w dest source max ≡ (v, told ++ answer (codes "cycle") dest outcomes.More ∷ [])
+  runs_out limit is = let same : limit ≡ 0 + turn = omega arith in ap (λ k. pulls k w dest source max) same ∙ so.left 0
 
-    abbrev p : Pulled
-    p = pull v dest source max
+  behind_cycle_turn : (p : Pulled) → IsCycleTurn turn v dest source max p → IsBehind w (events.Cycle dest source max) turn p.0 (told ++ p.1) p.2
+  behind_cycle_turn p (inl is) = behind_pull p.2 p.0 p.1 is.0 (sym is.1)
+  behind_cycle_turn p (inr is) =
+      let most : turn ≤ reply_limit = so.within in
+      let least : reply_limit ≤ turn = is.0 in
+      let at : turn ≡ reply_limit = omega arith in
+      subst (λ (q : Pulled). IsBehind w (events.Cycle dest source max) turn q.0 (told ++ q.1) q.2) (sym is.1) (runs_out reply_limit at)
 
-    told_on : (b c : Bool) → c ≡ p.2 → c ≡ b → p ≡ (p.0, p.1, b)
-    told_on b c goes is = let e : p.2 ≡ b = cc in ap (λ (d : Bool). (p.0, p.1, d)) e
+behind_whole : (w v : World) (e : Event) (turn : ℕ) (told : List Answer) (p : Pulled) → step w e ≡ said told (step v e) → p ≡ ((step v e).0, (step v e).1, false) → IsBehind w e turn p.0 (told ++ p.1) p.2
+behind_whole w v e turn told p left is = subst (λ (q : Pulled). IsBehind w e turn q.0 (told ++ q.1) q.2) (sym is) left
 
-    one_more : p ≡ (p.0, p.1, true) → Ahead (turn + 1) p.0 (told ++ p.1)
-    one_more is n = let e : n + (turn + 1) ≡ suc n + turn = omega arith in
-        ap (λ k. pulls k w dest source max) e ∙ (ahead (suc n)
-        ∙ (ap (λ (q : Pulled). behind (and_then q (λ x. pulls n x dest source max))) is
-        ∙ ap (λ (rest : List Answer). ((pulls n p.0 dest source max).0, rest)) (sym (append_assoc told p.1 (pulls n p.0 dest source max).1))))
+-- behind a turn
+pub behind : (w : World) (e : Event) (turn : ℕ) (v : World) (told : List Answer) (p : Pulled) → IsSoFar w e turn v told → IsTurn turn v e p → IsBehind w e turn p.0 (told ++ p.1) p.2
+behind w (events.Cycle dest source max) turn v told p so is = behind_cycle_turn dest source max w v turn told so p is
+behind w e turn v told p so is = behind_whole w v e turn told p (so.left 0) is
 
-    -- a pull after which the cycle goes on
-    pub goes_on : (b : Bool) → b ≡ p.2 → b ≡ true → Ahead (turn + 1) u all
-    goes_on b goes is = subst (λ x. Ahead (turn + 1) x all) (sym left) (subst (λ said. Ahead (turn + 1) p.0 said) (sym put) (one_more (told_on true b goes is)))
+pub goes_on : (w : World) (e : Event) (turn : ℕ) (u : World) (all : List Answer) (b : Bool) → IsBehind w e turn u all b → b ≡ true → IsSoFar w e (turn + 1) u all
+goes_on w e turn u all b h is = subst (IsBehind w e turn u all) is h
 
-    last_one : (limit : ℕ) → turn < limit → p ≡ (p.0, p.1, false) → pulls limit w dest source max ≡ (p.0, told ++ p.1)
-    last_one limit below is = let e : limit ≡ suc (limit - (turn + 1)) + turn = omega arith in
-        ap (λ k. pulls k w dest source max) e ∙ (ahead (suc (limit - (turn + 1)))
-        ∙ ap (λ (q : Pulled). behind (and_then q (λ x. pulls (limit - (turn + 1)) x dest source max))) is)
+pub ends : (w : World) (e : Event) (turn : ℕ) (u : World) (all : List Answer) (b : Bool) → IsBehind w e turn u all b → b ≡ false → step w e ≡ (u, all)
+ends w e turn u all b h is = subst (IsBehind w e turn u all) is h
 
-    -- a pull that ends the cycle
-    pub ends : (b : Bool) → b ≡ p.2 → b ≡ false → (limit : ℕ) → turn < limit → pulls limit w dest source max ≡ (u, all)
-    ends b goes is limit below = subst (λ x. pulls limit w dest source max ≡ (x, all)) (sym left)
-        (subst (λ said. pulls limit w dest source max ≡ (p.0, said)) (sym put) (last_one limit below (told_on false b goes is)))
+-- a line is what is left of it before its first turn
+whole : (w : World) (e : Event) → step w e ≡ rest_of reply_limit w e
+whole w (events.Cycle dest source max) = refl
+whole w e = refl
 
-  -- no more pulls
-  pub comes_to : (turn : ℕ) (v : World) (told : List Answer) → Ahead turn v told → pulls turn w dest source max ≡ (v, told ++ answer (codes "cycle") dest outcomes.More ∷ [])
-  comes_to turn v told ahead = let e : turn ≡ 0 + turn = omega arith in ap (λ k. pulls k w dest source max) e ∙ ahead 0
+module _ (w : World) (e : Event) (turn : ℕ) where
+  -- the answers so far are the first
+  pub told_first : (v : World) (told : List Answer) → IsSoFar w e turn v told → (rest : List Answer) × ((step w e).1 ≡ told ++ rest)
+  told_first v told so =
+      let within : turn ≤ reply_limit = so.within in
+      let same : reply_limit ≡ (reply_limit - turn) + turn = omega arith in
+      ((rest_of (reply_limit - turn) v e).1, ap (λ (t : World × List Answer). t.1) (whole w e ∙ ap (λ k. rest_of k w e) same ∙ so.left (reply_limit - turn)))
 
-  pub runs_out : (turn limit : ℕ) (v : World) (told all : List Answer) (last : Answer) → Ahead turn v told → turn ≡ limit → all ≡ told ++ last ∷ [] → last ≡ answer (codes "cycle") dest outcomes.More → pulls limit w dest source max ≡ (v, all)
-  runs_out turn limit v told all last ahead is put said =
-      let same : all ≡ told ++ answer (codes "cycle") dest outcomes.More ∷ [] = put ∙ ap (λ (x : Answer). told ++ x ∷ []) said in
-      ap (λ k. pulls k w dest source max) (sym is) ∙ (comes_to turn v told ahead ∙ ap (λ (rest : List Answer). (v, rest)) (sym same))
-
-  -- what was answered so far, the answers to the next pull, and those to the others
-  pub next_told : (turn limit : ℕ) (v : World) (told : List Answer) → Ahead turn v told → turn < limit
-      → (rest : List Answer) × ((pulls limit w dest source max).1 ≡ told ++ ((pull v dest source max).1 ++ rest))
-  next_told turn limit v told ahead below =
-      let e : limit ≡ suc (limit - (turn + 1)) + turn = omega arith in
-      let t = begins (pull v dest source max) (λ x. pulls (limit - (turn + 1)) x dest source max) in (
-        t.0,
-        ap (λ k. (pulls k w dest source max).1) e ∙ ap (λ (x : World × List Answer). x.1) (ahead (suc (limit - (turn + 1)))) ∙ ap (λ (list : List Answer). told ++ list) t.1,
-      )
-
-  -- no pulls are left: the last answer is that there is more
-  pub last_told : (turn limit : ℕ) (v : World) (told : List Answer) → Ahead turn v told → turn ≡ limit → (pulls limit w dest source max).1 ≡ told ++ answer (codes "cycle") dest outcomes.More ∷ []
-  last_told turn limit v told ahead is = ap (λ k. (pulls k w dest source max).1) (sym is) ∙ ap (λ (x : World × List Answer). x.1) (comes_to turn v told ahead)
-
-  -- a fault after so many whole pulls, or with the answers to the next one
-  pub left_by : (turn : ℕ) (v : World) (told : List Answer) → Ahead turn v told → (n : ℕ) × (v ≡ (pulls n w dest source max).0)
-  left_by turn v told ahead = (turn, sym (ap (λ (t : World × List Answer). t.0) (comes_to turn v told ahead)))
-
-  pub left_behind : (turn : ℕ) (v u : World) (told : List Answer) → Ahead turn v told → (u ≡ v) ⊎ (u ≡ (pull v dest source max).0) → (n : ℕ) × (u ≡ (pulls n w dest source max).0)
-  left_behind turn v u told ahead (inl same) = let n = left_by turn v told ahead in (n.0, same ∙ n.1)
-  left_behind turn v u told ahead (inr is) = (
-    suc 0 + turn,
-    is ∙ sym (one_pull (pull v dest source max) (λ x. pulls 0 x dest source max) (λ x. refl)) ∙ sym (ap (λ (t : World × List Answer). t.0) (ahead (suc 0))),
-  )
+  pub turns_so_far : (v : World) (told : List Answer) → IsSoFar w e turn v told → turns turn w e ≡ (v, told)
+  turns_so_far v told so = let same : turn ≡ 0 + turn = omega arith in
+      ap (λ k. turns k w e) same ∙ so.done 0 ∙ ap (λ (list : List Answer). (v, list)) (append-nil told)

@@ -1,18 +1,29 @@
 -- What is claimed of a line by the one call that does it.
-use Rattle.std.specs.Prelude.{◌≡◌, ◌≤◌, ◌⊎◌, ℕ, List}
+use Rattle.std.specs.Prelude.{◌≡◌, ◌≤◌, ◌⊎◌, ℕ, zero, suc, List, [], Option, flat_map}
 use Rattle.adr_event.specs.declared.answer.Answer.{Answer}
 use Rattle.adr_event.specs.declared.event.Event.{Event}
 use Rattle.adr_event.specs.declared.event.Event.TheVariants as events
+use Rattle.adr_io.specs.Told.{AddsFront}
 use Rattle.adr_model.specs.Replica.{Replica}
 use Rattle.adr_model.specs.World.{World}
-use Rattle.adr_model.specs.Cycles.{pulls}
+use Rattle.adr_model.specs.Cycles.{and_then, pull, reply_limit}
 use Rattle.adr_model.specs.Step.{step}
 use Rattle.adr_model.specs.Convergence.{MayCycle, AreUnlimited, EndsOrSaysMore}
+use Rattle.adr_report.specs.Line.{line}
 
--- what a fault leaves of a line: the world as it was, or as the line leaves it; of a cycle what some whole pulls left
-abbrev pub IsLeftBy : World → Event → World → Type 0
-IsLeftBy w (events.Cycle name source max) v = (n : ℕ) × (v ≡ (pulls n w name source max).0)
-IsLeftBy w e v = (v ≡ w) ⊎ (v ≡ (step w e).0)
+-- what so many turns of a line come to: of a cycle so many pulls, and any other line is one turn
+abbrev pub turns : ℕ → World → Event → World × List Answer
+turns zero w e = (w, [])
+turns (suc n) w (events.Cycle name source max) = and_then (pull w name source max) (λ v. turns n v (events.Cycle name source max))
+turns (suc n) w e = step w e
+
+-- this is done, and a front of the lines of its answers is written, and nothing else
+abbrev pub IsDone : World × List Answer → World → Option (List ℕ) → Option (List ℕ) → Type 0
+IsDone t v before after = (v ≡ t.0) × AddsFront before after (flat_map line t.1)
+
+-- what a fault leaves of a line, by what was written before it and after: some of its turns are done, or all of it
+abbrev pub IsLeftBy : World → Event → World → Option (List ℕ) → Option (List ℕ) → Type 0
+IsLeftBy w e v before after = ((n : ℕ) × (n ≤ reply_limit) × IsDone (turns n w e) v before after) ⊎ IsDone (step w e) v before after
 
 -- a cycle between two controllers with nothing in the way, which met no limit, says that there is more, or it ended with the last
 -- reply, and the destination has everything

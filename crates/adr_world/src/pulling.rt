@@ -1,26 +1,22 @@
 //! Pulls.
 
-ghost use Rattle.std.specs.Prelude.{◌≡◌, ◌⊎◌, ◌++◌, ◌+◌, ◌∷◌, ◌<◌, ◌≤◌, ℕ, [], Some, vec_len, IfOk, OnErr, OnOk, IsErrOf, flat_map};
+ghost use Rattle.std.specs.Prelude.{◌≡◌, ◌++◌, ◌+◌, ◌∷◌, ◌≤◌, [], Some, vec_len, IfOk, OnErr};
 ghost use Rattle.std.specs.Option.{option_to_list};
 ghost use Rattle.std.specs.Vec.{vec_capacity};
-ghost use Rattle.adr_io.specs.Told.{Adds, AddsFront};
-ghost use Rattle.adr_model.specs.Cycles.{cycle, pull, pull_asked, pull_served, pulls, was_taken};
+ghost use Rattle.adr_model.specs.Cycles.{pull, pull_asked, pull_served, was_taken};
 ghost use Rattle.adr_model.specs.Sound.{IsGiven, IsSoundReply, IsSoundRequest};
-ghost use Rattle.adr_report.specs.Line.{line};
-ghost use Rattle.adr_world.specs.Pulls.{answers_of, pulled_of};
+ghost use Rattle.adr_world.specs.Pulls.{IsCycleTurn, answers_of, pulled_of};
 ghost use Rattle.adr_world.specs.Run.{IsSoundRun, IsTidy, world_of};
 
 use crate::answers::{Heading, answer};
 use crate::run::Run;
-use crate::telling::tell;
 use adr_event::{Answer, Outcome};
-use adr_io::{Fault, Sink};
 use adr_packet::{Reply, Request};
 use adr_schema::{NoMemory, Text};
 use std::alloc::Global;
 
 /// The most replies of a cycle.
-const REPLY_LIMIT: u32 = 1_000_000;
+pub const REPLY_LIMIT: u32 = 1_000_000;
 
 /// What was answered to a pull, and whether a reply was taken that isn't the last.
 #[derive(Drop)]
@@ -172,57 +168,25 @@ impl Run {
         Ok((answers, goes_on))
     }
 
-    /// A pull, whose answers are written. It gives whether a reply was taken that isn't the last.
-    fn pull_and_tell<K: Sink>(
+    /// A turn of a cycle, by its number from 0: a pull, and after a million replies the answer that there is more.
+    pub fn cycle_turn(
         &mut self,
         alloc: Global,
         dest: &Text,
         source: &Text,
         max: u32,
-        sink: &mut K,
-    ) -> Result<bool, Fault>
+        turn: u32,
+    ) -> Result<(Vec<Answer>, bool), NoMemory>
         requires { IsSoundRun self.old }
-        ensures world { OnOk result (world_of self.new ≡ (pull (world_of self.old) dest.now source.now max).0) }
-        ensures goes_on { IfOk result (λ goes_on. goes_on ≡ (pull (world_of self.old) dest.now source.now max).2) }
-        ensures told { OnOk result (Adds (K.written sink.old) (K.written sink.new) (flat_map line (pull (world_of self.old) dest.now source.now max).1)) }
-        ensures front { OnErr result (AddsFront (K.written sink.old) (K.written sink.new) (flat_map line (pull (world_of self.old) dest.now source.now max).1)) }
-        ensures never_falls { K.faults sink.old ≤ K.faults sink.new }
-        ensures failed { IsErrOf result Fault.Failed → K.faults sink.old < K.faults sink.new }
-        ensures err { OnErr result ((world_of self.new ≡ world_of self.old)
-            ⊎ (world_of self.new ≡ (pull (world_of self.old) dest.now source.now max).0)) }
+        ensures turned { IfOk result (λ told. IsCycleTurn turn (world_of self.old) dest.now source.now max
+            (world_of self.new, told.0.items, told.1)) }
+        ensures err { OnErr result (world_of self.new ≡ world_of self.old) }
         ensures tidy { IsTidy self.new.controllers.items }
     {
-        let (answers, goes_on) = self.pull(alloc, dest, source, max)?;
-        tell(alloc, answers.as_slice(), sink)?;
-        Ok(goes_on)
-    }
-
-    /// The line of a cycle: pulls until the last reply was taken, or an answer was other than ok; after a million replies
-    /// it says that there is more. The answers to each pull are written before the next.
-    pub fn cycle<K: Sink>(
-        &mut self,
-        alloc: Global,
-        dest: &Text,
-        source: &Text,
-        max: u32,
-        sink: &mut K,
-    ) -> Result<(), Fault>
-        requires { IsSoundRun self.old }
-        ensures stepped { OnOk result (world_of self.new ≡ (cycle (world_of self.old) dest.now source.now max).0) }
-        ensures told { OnOk result (Adds (K.written sink.old) (K.written sink.new) (flat_map line (cycle (world_of self.old) dest.now source.now max).1)) }
-        ensures front { OnErr result (AddsFront (K.written sink.old) (K.written sink.new) (flat_map line (cycle (world_of self.old) dest.now source.now max).1)) }
-        ensures never_falls { K.faults sink.old ≤ K.faults sink.new }
-        ensures failed { IsErrOf result Fault.Failed → K.faults sink.old < K.faults sink.new }
-        ensures err { OnErr result ((n : ℕ)
-            × (world_of self.new ≡ (pulls n (world_of self.old) dest.now source.now max).0)) }
-        ensures tidy { IsTidy self.new.controllers.items }
-    {
-        for turn in 0..REPLY_LIMIT {
-            if !self.pull_and_tell(alloc, dest, source, max, sink)? {
-                return Ok(());
-            }
+        if turn < REPLY_LIMIT {
+            return self.pull(alloc, dest, source, max);
         }
         let more = answer(alloc, "cycle", dest, Outcome::More)?;
-        tell(alloc, &[more], sink)
+        Ok((vec![in alloc; more]?, false))
     }
 }

@@ -1,6 +1,6 @@
 //! What each line does, by its kind.
 
-ghost use Rattle.std.specs.Prelude.{◌≡◌, ◌⊎◌, ◌<◌, ◌≤◌, [], ◌∷◌, IfOk, OnErr, OnOk, IsErrOf, flat_map};
+ghost use Rattle.std.specs.Prelude.{◌≡◌, ◌<◌, ◌≤◌, [], ◌∷◌, IfOk, OnErr, OnOk, IsErrOf, flat_map};
 ghost use Rattle.adr_event.specs.declared.event.Event.TheVariants.{Time};
 ghost use Rattle.adr_io.specs.Told.{Adds, AddsFront};
 ghost use Rattle.adr_model.specs.Convergence.{MayHappen};
@@ -8,8 +8,10 @@ ghost use Rattle.adr_model.specs.Step.{step};
 ghost use Rattle.adr_report.specs.Line.{line};
 ghost use Rattle.adr_world.specs.Built.{IsBuilt, IsBuiltAlone, IsBuiltAtOnce};
 ghost use Rattle.adr_world.specs.Door.{IsLeftBy};
+ghost use Rattle.adr_world.specs.Pulls.{IsTurn};
 ghost use Rattle.adr_world.specs.Run.{IsSoundRun, IsTidy, world_of};
 
+use crate::pulling::REPLY_LIMIT;
 use crate::run::Run;
 use crate::telling::tell;
 use adr_event::{Answer, Event};
@@ -18,7 +20,7 @@ use adr_schema::NoMemory;
 use std::alloc::Global;
 
 impl Run {
-    /// Does what a line says, and writes its answers as they come.
+    /// Does what a line says, turn by turn, and writes the answers to a turn before the next.
     pub fn step<K: Sink>(&mut self, alloc: Global, event: &Event, sink: &mut K) -> Result<(), Fault>
         requires sound { IsSoundRun self.old }
         requires built { IsBuilt event.now }
@@ -26,38 +28,42 @@ impl Run {
         ensures stepped { OnOk result (world_of self.new ≡ (step (world_of self.old) event.now).0) }
         ensures told { OnOk result (Adds (K.written sink.old) (K.written sink.new) (flat_map line (step (world_of self.old) event.now).1)) }
         ensures front { OnErr result (AddsFront (K.written sink.old) (K.written sink.new) (flat_map line (step (world_of self.old) event.now).1)) }
+        ensures err { OnErr result (IsLeftBy (world_of self.old) event.now (world_of self.new) (K.written sink.old) (K.written sink.new)) }
         ensures never_falls { K.faults sink.old ≤ K.faults sink.new }
         ensures failed { IsErrOf result Fault.Failed → K.faults sink.old < K.faults sink.new }
-        ensures err { OnErr result (IsLeftBy (world_of self.old) event.now (world_of self.new)) }
-        ensures tidy { IsTidy self.new.controllers.items }
+        ensures sound { IsSoundRun self.new }
     {
-        match event {
-            Event::Cycle { name, source, max } => self.cycle(alloc, name, source, *max, sink),
-            _ => self.step_at_once(alloc, event, sink),
+        for turn in 0..=REPLY_LIMIT {
+            let (answers, goes_on) = self.turn(alloc, event, turn)?;
+            tell(alloc, answers.as_slice(), sink)?;
+            if !goes_on {
+                return Ok(());
+            }
         }
+        unreachable!()
     }
 
-    /// A line that is done before its answers are written: there are at most three.
-    fn step_at_once<K: Sink>(
+    /// A turn of a line, by its number from 0: its answers, at most three, and whether the line goes on.
+    fn turn(
         &mut self,
         alloc: Global,
         event: &Event,
-        sink: &mut K,
-    ) -> Result<(), Fault>
+        turn: u32,
+    ) -> Result<(Vec<Answer>, bool), NoMemory>
         requires sound { IsSoundRun self.old }
-        requires built { IsBuiltAtOnce event.now }
+        requires built { IsBuilt event.now }
         requires may { MayHappen (world_of self.old) event.now }
-        ensures stepped { OnOk result (world_of self.new ≡ (step (world_of self.old) event.now).0) }
-        ensures told { OnOk result (Adds (K.written sink.old) (K.written sink.new) (flat_map line (step (world_of self.old) event.now).1)) }
-        ensures front { OnErr result (AddsFront (K.written sink.old) (K.written sink.new) (flat_map line (step (world_of self.old) event.now).1)) }
-        ensures never_falls { K.faults sink.old ≤ K.faults sink.new }
-        ensures failed { IsErrOf result Fault.Failed → K.faults sink.old < K.faults sink.new }
-        ensures err { OnErr result ((world_of self.new ≡ world_of self.old)
-            ⊎ (world_of self.new ≡ (step (world_of self.old) event.now).0)) }
+        ensures turned { IfOk result (λ told.
+            IsTurn turn (world_of self.old) event.now (world_of self.new, told.0.items, told.1)) }
+        ensures err { OnErr result (world_of self.new ≡ world_of self.old) }
         ensures tidy { IsTidy self.new.controllers.items }
     {
-        let answers = self.answers(alloc, event)?;
-        tell(alloc, answers.as_slice(), sink)
+        match event {
+            Event::Cycle { name, source, max } => {
+                self.cycle_turn(alloc, name, source, *max, turn)
+            }
+            _ => Ok((self.answers(alloc, event)?, false)),
+        }
     }
 
     /// What a line does that is no cycle, and its answers.

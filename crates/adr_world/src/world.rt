@@ -53,10 +53,11 @@ impl World {
         ensures stepped { OnOk result (self.new ≡ (step self.old event.now).0) }
         ensures told { OnOk result (Adds (K.written sink.old) (K.written sink.new) (flat_map line (step self.old event.now).1)) }
 
-        // With a fault a front of that is written, and the world is as it was, or as the line leaves it; of a cycle it is
-        // what some whole pulls left. A write that failed was counted.
+        // With a fault a front of that is written, and what is written was done: so many turns of the line are done, and a
+        // front of their lines is written. A pull is a turn of a cycle, and any other line is one turn. A write that failed
+        // was counted.
         ensures front { OnErr result (AddsFront (K.written sink.old) (K.written sink.new) (flat_map line (step self.old event.now).1)) }
-        ensures err { OnErr result (IsLeftBy self.old event.now self.new) }
+        ensures err { OnErr result (IsLeftBy self.old event.now self.new (K.written sink.old) (K.written sink.new)) }
         ensures never_falls { K.faults sink.old ≤ K.faults sink.new }
         ensures failed { IsErrOf result Fault.Failed → K.faults sink.old < K.faults sink.new }
 

@@ -1,8 +1,6 @@
-use Rattle.std.proofs.Common.{List, sym, ap, ◌∙◌}
+use Rattle.std.proofs.Common.{sym, ap, ◌∙◌}
 use Rattle.std.proofs.lemmas.Result.{err_from_is_err_and}
 use Rattle.adr_stamp.specs.declared.Oid.{Oid}
-use Rattle.adr_model.specs.Place.{Node}
-use Rattle.adr_model.specs.Write.{object_of}
 use Rattle.adr_origin.specs.LiveParts.{rows_refusal}
 use Rattle.adr_origin.proofs.InLiveParts.{first_told, modify_in_parts, second_told}
 use Rattle.adr_origin.proofs.modifying.check_modify.Goals as goal
@@ -15,5 +13,5 @@ returns-in_err-check_given-clause-told c =
 pub returns-clause-told : goal.returns-clause-told
 returns-clause-told c =
     c.check_rows.ensures.told
-    ∙ (ap (λ (o : Oid). rows_refusal c.args.state.now o c.args.values.now) (c.object_of.ensures ∙ ap (λ (ns : List Node). object_of ns c.args.guid) c.requires)
+    ∙ (ap (λ (o : Oid). rows_refusal c.args.state.now o c.args.values.now) c.object_of.ensures
     ∙ (second_told _ _ c.in_ok-check_given.ensures ∙ sym (modify_in_parts c.args.state.now c.args.guid c.args.values.now)))

@@ -4,7 +4,7 @@ use Rattle.adr_io.specs.Told.{AddsFront}
 use Rattle.adr_report.specs.Line.{line}
 use Rattle.adr_world.proofs.Due.{front_so_far}
 use Rattle.adr_world.proofs.ToldLines.{line_front}
-use Rattle.adr_world.proofs.Turns.{on_err}
+use Rattle.adr_world.proofs.Results.{on_err}
 use Rattle.adr_world.proofs.telling.tell.Goals as goal
 
 pub returns-in_err-bytes-clause-front : goal.returns-in_err-bytes-clause-front

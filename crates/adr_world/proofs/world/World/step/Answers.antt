@@ -5,44 +5,32 @@ use Rattle.adr_model.specs.Step.{step}
 use Rattle.adr_law_convergence.proofs.Controllers.{shows_what_is_visible, equal_coverage_shows, own_is_visible}
 use Rattle.adr_world.specs.Door.{IsCompletedBy}
 use Rattle.adr_world.specs.Run.{world_of}
-use Rattle.adr_world.proofs.Doors.{behind_of_run, left_of_run, acknowledged_by, completed_by}
+use Rattle.adr_world.proofs.Doors.{acknowledged_by, completed_by}
 use Rattle.adr_world.proofs.world.World.step.Goals as goal
 
-pub invariant_of-self : goal.invariant_of-self
-invariant_of-self g c = record {
-  of_run = left_of_run (world_of c.self.inside.run) c.args.event.now c.self.invariant.of_run (subst (λ w. MayHappen w c.args.event.now) (sym c.self.view_is) c.requires.may) (world_of c.step.new.self) c.in_err-step.ensures.err;
-  tidy = c.in_err-step.ensures.tidy;
-}
-
-pub invariant_of-self-2 : goal.invariant_of-self-2
-invariant_of-self-2 g c = record {
-  of_run = behind_of_run (world_of c.self.inside.run) c.args.event.now c.self.invariant.of_run (subst (λ w. MayHappen w c.args.event.now) (sym c.self.view_is) c.requires.may) (world_of c.step.new.self) c.in_ok-step.ensures.stepped;
-  tidy = c.in_ok-step.ensures.tidy;
-}
-
 pub returns-in_err-step-clause-sound : goal.returns-in_err-step-clause-sound
-returns-in_err-step-clause-sound g c = (invariant_of-self g c).of_run
+returns-in_err-step-clause-sound g c = c.step.ensures.sound.of_run
 
 pub returns-in_err-step-clause-shown : goal.returns-in_err-step-clause-shown
-returns-in_err-step-clause-shown g c = shows_what_is_visible (world_of c.step.new.self) ((invariant_of-self g c).of_run.sound refl)
+returns-in_err-step-clause-shown g c = shows_what_is_visible (world_of c.step.new.self) (c.step.ensures.sound.of_run.sound refl)
 
 pub returns-in_err-step-clause-equal : goal.returns-in_err-step-clause-equal
-returns-in_err-step-clause-equal g c = equal_coverage_shows (world_of c.step.new.self) ((invariant_of-self g c).of_run.sound refl)
+returns-in_err-step-clause-equal g c = equal_coverage_shows (world_of c.step.new.self) (c.step.ensures.sound.of_run.sound refl)
 
 pub returns-in_err-step-clause-own : goal.returns-in_err-step-clause-own
-returns-in_err-step-clause-own g c = own_is_visible (world_of c.step.new.self) ((invariant_of-self g c).of_run.sound refl)
+returns-in_err-step-clause-own g c = own_is_visible (world_of c.step.new.self) (c.step.ensures.sound.of_run.sound refl)
 
 pub returns-clause-sound : goal.returns-clause-sound
-returns-clause-sound g c = (invariant_of-self-2 g c).of_run
+returns-clause-sound g c = c.step.ensures.sound.of_run
 
 pub returns-clause-shown : goal.returns-clause-shown
-returns-clause-shown g c = shows_what_is_visible (world_of c.step.new.self) ((invariant_of-self-2 g c).of_run.sound refl)
+returns-clause-shown g c = shows_what_is_visible (world_of c.step.new.self) (c.step.ensures.sound.of_run.sound refl)
 
 pub returns-clause-equal : goal.returns-clause-equal
-returns-clause-equal g c = equal_coverage_shows (world_of c.step.new.self) ((invariant_of-self-2 g c).of_run.sound refl)
+returns-clause-equal g c = equal_coverage_shows (world_of c.step.new.self) (c.step.ensures.sound.of_run.sound refl)
 
 pub returns-clause-own : goal.returns-clause-own
-returns-clause-own g c = own_is_visible (world_of c.step.new.self) ((invariant_of-self-2 g c).of_run.sound refl)
+returns-clause-own g c = own_is_visible (world_of c.step.new.self) (c.step.ensures.sound.of_run.sound refl)
 
 pub returns-clause-acknowledged : goal.returns-clause-acknowledged
 returns-clause-acknowledged g c =

@@ -1,0 +1,29 @@
+-- The items that may be sent, looked up one by one.
+use Rattle.std.specs.Prelude.{ℕ, List, [], ◌∷◌, Option, Some, None, filter, find, nat_lt}
+use Rattle.std.specs.Ordering.{nat_cmp}
+use Rattle.std.specs.Map.{lookup}
+use Rattle.std.specs.BTreeMap.{is_at}
+use Rattle.adr_stamp.specs.declared.Unit.{Unit as Named}
+use Rattle.adr_vector.specs.Vector.{Cursors}
+use Rattle.adr_vector.specs.declared.mark.Mark.{Mark}
+use Rattle.adr_model.specs.Store.{Held, updates_of}
+use Rattle.adr_model.specs.Change.{Item}
+use Rattle.adr_model.specs.Serve.{candidates, is_unseen}
+use Rattle.adr_update.specs.Sought.{rows_of_unit}
+
+-- the rows of a unit that the asker may lack
+abbrev pub unseen_of : List Held → Mark → Cursors → Named → List Held
+unseen_of rows from asked unit = filter (is_unseen from asked) (rows_of_unit rows unit)
+
+-- rows of a unit as an item, if there are any
+abbrev pub some_item : Named → List Held → Option Item
+some_item unit [] = None
+some_item unit (h ∷ hs) = Some (record { unit = unit; rows = updates_of (h ∷ hs) })
+
+-- the item under a number
+abbrev pub candidate_at : List Held → Mark → Cursors → ℕ → Option Item
+candidate_at rows from asked usn = lookup (is_at (nat_cmp usn)) (candidates rows from asked)
+
+-- the first item behind a number, with its own
+abbrev pub next_candidate : List Held → Mark → Cursors → ℕ → Option (ℕ × Item)
+next_candidate rows from asked usn = find (λ (e : ℕ × Item). nat_lt usn e.0) (candidates rows from asked)

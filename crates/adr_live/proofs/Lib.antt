@@ -1,0 +1,7 @@
+mod Core
+mod Drafting
+mod Filtered
+mod Filters
+mod Gaps
+mod Referred
+mod Reserved

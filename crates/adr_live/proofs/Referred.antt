@@ -1,0 +1,39 @@
+-- Lists of references, by what they refer to.
+use Rattle.std.proofs.Common.{◌≡◌, ◌<◌, ℕ, zero, suc, Bool, true, false, cond, List, [], ◌∷◌, Option, Some, None, refl, sym, ap, ◌∙◌, filter, length, get_or, Bor}
+use Rattle.std.specs.List.{slice_get}
+use Rattle.std.specs.Option.{option_copied}
+use Rattle.std.specs.Slice.{IsGetResult}
+use Rattle.std.proofs.lemmas.Option.{slice_get_past, slice_get_read}
+use Rattle.adr_update.specs.Referents.{referents}
+
+module _ {A : Type 0} where
+  pub referents_kept : (test : A → Bool) (xs : List (Bor A)) → referents (filter (λ x. test x.now) xs) ≡ filter test (referents xs)
+  referents_kept test [] = refl
+  referents_kept test (x ∷ xs) = by (test x.now) (referents_kept test xs)
+    where
+      by : (b : Bool) → referents (filter (λ y. test y.now) xs) ≡ filter test (referents xs)
+          → referents (cond b (x ∷ filter (λ y. test y.now) xs) (filter (λ y. test y.now) xs)) ≡ cond b (x.now ∷ filter test (referents xs)) (filter test (referents xs))
+      by true rest = ap (λ ys. x.now ∷ ys) rest
+      by false rest = rest
+
+  pub referent_got : (xs : List (Bor A)) (i : ℕ) → option_copied (slice_get xs i) ≡ slice_get (referents xs) i
+  referent_got [] i = refl
+  referent_got (x ∷ xs) zero = refl
+  referent_got (x ∷ xs) (suc i) = referent_got xs i
+
+  pub length_referents : (xs : List (Bor A)) → length (referents xs) ≡ length xs
+  length_referents [] = refl
+  length_referents (x ∷ xs) = ap suc (length_referents xs)
+
+  pub referent_at : (xs : List (Bor A)) (i : ℕ) (x : Bor A) → i < length xs → x ≡ get_or xs i x → x.now ≡ get_or (referents xs) i x.now
+  referent_at xs i x within is = ap (λ (y : Bor A). y.now) is ∙ got xs i x
+    where
+      got : (ys : List (Bor A)) (j : ℕ) (d : Bor A) → (get_or ys j d).now ≡ get_or (referents ys) j d.now
+      got [] j d = refl
+      got (y ∷ ys) zero d = refl
+      got (y ∷ ys) (suc j) d = got ys j d
+
+-- what a look at a place of a slice gives
+pub got_at : {A : Type 0} (xs : List A) (i : ℕ) (r : Option (Bor A)) → IsGetResult xs i i r → option_copied r ≡ slice_get xs i
+got_at xs i None h = sym (slice_get_past xs i h.3)
+got_at xs i (Some x) h = sym (slice_get_read xs (length xs) i x.now refl h.3.0 h.1)

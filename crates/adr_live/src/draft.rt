@@ -1,0 +1,135 @@
+//! The rows that say which live object a GUID has, while a change is made.
+
+ghost use Rattle.std.specs.Prelude.{◌≡◌, IfErr, IfOk, OnOk, filter};
+ghost use Rattle.adr_model.specs.Change.{without_object};
+ghost use Rattle.adr_model.specs.Formed.{AreRising};
+ghost use Rattle.adr_model.specs.Place.{node_at};
+ghost use Rattle.adr_model.specs.Store.{updates_of, with_row};
+ghost use Rattle.adr_model.specs.Write.{nodes_held};
+ghost use Rattle.adr_table.specs.Table.{IsKept, rows_in};
+ghost use Rattle.adr_update.specs.Key.{key_of};
+ghost use Rattle.adr_update.specs.Referents.{referents};
+ghost use Rattle.adr_live.specs.Core.{core_object, core_of, is_core};
+ghost use Rattle.adr_live.specs.Gap.{IsPlaceOf, IsGapFor};
+
+use crate::NoMemory;
+use crate::node::live_node;
+use adr_stamp::Oid;
+use adr_table::Table;
+use adr_update::{DELETED, Held, Key, Node};
+use std::alloc::Global;
+use std::cmp::Ordering;
+use std::marker::Model;
+use uuid::Uuid;
+
+/// The class, name and death rows of the objects of one GUID, in order of their keys.
+#[derive(Drop)]
+pub struct Draft {
+    rows: Vec<Held>,
+}
+
+impl Model for Draft {
+    ghost use Rattle.std.specs.Prelude.{List};
+    ghost use Rattle.adr_model.specs.Store.{Held as Defined};
+
+    ghost Value = { List Defined };
+
+    ghost view = { λ d. d.rows.items };
+}
+
+/// Whether rows of a key decide whether an object is live, and how it is named.
+fn is_core(key: &Key) -> bool
+    ensures { result ≡ is_core (key_of key.now) }
+{
+    match key {
+        Key::Row { attr, .. } => *attr <= DELETED,
+        Key::Link(_) => false,
+    }
+}
+
+/// The object of which a row of a key says the class, the name or the death.
+pub fn core_object(key: &Key) -> Option<Oid>
+    ensures { result ≡ core_object (key_of key.now) }
+{
+    match key {
+        Key::Row { object, attr } => {
+            if *attr <= DELETED {
+                Some(*object)
+            } else {
+                None
+            }
+        }
+        Key::Link(_) => None,
+    }
+}
+
+impl Draft {
+    /// The rows of a GUID as a table has them.
+    pub fn of(alloc: Global, table: &Table, guid: Uuid) -> Result<Draft, NoMemory>
+        requires { IsKept table.now }
+        ensures { IfOk result (λ draft. draft ≡ core_of guid (rows_in table.now)) }
+    {
+        let held = table.rows_of_guid(alloc, guid)?;
+        let rows = core_among(alloc, held.as_slice())?;
+        Ok(Draft { rows })
+    }
+
+    /// Writes a row in the place of the row of its key.
+    pub fn write(&mut self, row: Held) -> Result<(), NoMemory>
+        ensures { OnOk result (self.new ≡ with_row self.old row) }
+    {
+        match place_of(self.rows.as_slice(), &row.key()) {
+            Ok(place) => {
+                self.rows[place] = row;
+                Ok(())
+            }
+            Err(place) => {
+                self.rows.insert(place, row)?;
+                Ok(())
+            }
+        }
+    }
+
+    /// Takes the rows of an object.
+    pub fn remove(&mut self, object: &Oid)
+        ensures { self.new ≡ without_object self.old object.now }
+    {
+        self.rows.retain(|row| !row.key().is_row_of(object));
+    }
+
+    /// The live object that a GUID has by these rows.
+    pub fn node(&self, alloc: Global, guid: Uuid) -> Result<Option<Node>, NoMemory>
+        requires { AreRising self.now }
+        ensures { IfOk result (λ node. node ≡ node_at (nodes_held (updates_of self.now)) guid) }
+    {
+        live_node(alloc, self.rows.as_slice(), guid)
+    }
+}
+
+/// Copies of the class, name and death rows among these.
+fn core_among(alloc: Global, rows: &[&Held]) -> Result<Vec<Held>, NoMemory>
+    ensures { IfOk result (λ those. those.items ≡ filter (λ h. is_core h.update.key) (referents rows.now)) }
+{
+    let mut those = Vec::new(alloc);
+    for row in rows {
+        if is_core(&row.key()) {
+            those.push(row.copy(alloc)?)?;
+        }
+    }
+    Ok(those)
+}
+
+/// Where the row of a key stands, or where it would.
+fn place_of(rows: &[Held], key: &Key) -> Result<usize, usize>
+    ensures place { IfOk result (IsPlaceOf rows.now (key_of key.now)) }
+    ensures gap { IfErr result (IsGapFor rows.now (key_of key.now)) }
+{
+    for (place, row) in rows.iter().enumerate() {
+        match key.order(&row.key()) {
+            Ordering::Less => return Err(place),
+            Ordering::Equal => return Ok(place),
+            Ordering::Greater => {}
+        }
+    }
+    Err(rows.len())
+}

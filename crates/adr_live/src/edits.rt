@@ -1,0 +1,76 @@
+//! What becomes of the live objects.
+
+ghost use Rattle.std.specs.Prelude.{◌≡◌, IfOk, map};
+ghost use Rattle.std.specs.BTreeMap.{IsOrdered};
+ghost use Rattle.adr_stamp.specs.Order.{identifier_order};
+ghost use Rattle.adr_model.specs.Change.{rows_after};
+ghost use Rattle.adr_model.specs.Formed.{AreRising};
+ghost use Rattle.adr_model.specs.Place.{node_at};
+ghost use Rattle.adr_model.specs.Store.{updates_of};
+ghost use Rattle.adr_model.specs.Update.{Identifier};
+ghost use Rattle.adr_model.specs.Write.{nodes_held};
+ghost use Rattle.adr_table.specs.Table.{IsKept, rows_in};
+ghost use Rattle.adr_tree.specs.Edits.{AreOwn, edited};
+ghost use Rattle.adr_live.specs.Drafts.{AreDrafts, DoRise, edit_of};
+
+use crate::NoMemory;
+use crate::draft::Draft;
+use crate::drafts::drafts_of;
+use adr_stamp::Oid;
+use adr_table::Table;
+use adr_tree::Edit;
+use adr_update::Held;
+use std::alloc::Global;
+use std::collections::BTreeMap;
+use uuid::Uuid;
+
+/// What becomes of the live objects where rows are written and then objects removed. A GUID of which neither a class,
+/// nor a name, nor a death is written, and no object removed, has no edit.
+pub fn edits_of(
+    alloc: Global,
+    table: &Table,
+    rows: &[Held],
+    removed: &[Oid],
+) -> Result<Vec<Edit>, NoMemory>
+    requires { IsKept table.now }
+    ensures own { IfOk result (λ edits. AreOwn edits.items) }
+    ensures nodes { IfOk result (λ edits. (guid : Identifier)
+        → edited edits.items guid (node_at (nodes_held (updates_of (rows_in table.now))) guid)
+        ≡ node_at (nodes_held (updates_of (rows_after removed.now rows.now (rows_in table.now)))) guid) }
+{
+    table.are_rising();
+    let drafts = drafts_of(alloc, table, rows, removed)?;
+    are_ordered(&drafts);
+    let edits = edits_to(alloc, &drafts)?;
+    Ok(edits)
+}
+
+/// Drafts are in order of GUID.
+fn are_ordered(drafts: &BTreeMap<Uuid, Draft>)
+    ensures { IsOrdered identifier_order drafts.now }
+{
+    drafts.len();
+}
+
+/// The edits to which drafts come.
+fn edits_to(alloc: Global, drafts: &BTreeMap<Uuid, Draft>) -> Result<Vec<Edit>, NoMemory>
+    requires { DoRise drafts.now.entries }
+    ensures { IfOk result (λ edits. edits.items ≡ map edit_of drafts.now.entries) }
+{
+    let mut edits = Vec::new(alloc);
+    for (guid, draft) in drafts {
+        edits.push(edit_of(alloc, *guid, draft)?)?;
+    }
+    Ok(edits)
+}
+
+/// The edit to which a draft of a GUID comes.
+fn edit_of(alloc: Global, guid: Uuid, draft: &Draft) -> Result<Edit, NoMemory>
+    requires { AreRising draft.now }
+    ensures { IfOk result (λ edit. edit ≡ edit_of (guid, draft.now)) }
+{
+    Ok(Edit {
+        guid,
+        node: draft.node(alloc, guid)?,
+    })
+}

@@ -1,0 +1,117 @@
+-- How many rows of a kind there are, after a slot is made or its row replaced.
+use Rattle.std.proofs.Common.{◌≡◌, ℕ, ◌≤◌, [], ◌∷◌, length, Bool, true, false, cond, not, ◌&&◌, Option, Some, None, refl, sym, ap, ◌∙◌, subst, arith}
+use Rattle.std.specs.Prelude.{IsSome, is_some}
+use Rattle.std.specs.Map.{lookup, keys_of}
+use Rattle.std.specs.BTreeMap.{insert_entry, is_at}
+use Rattle.std.specs.Ordering.{is_eq, match_ordering}
+use Rattle.std.specs.declared.cmp.Ordering.{Ordering}
+use Rattle.std.specs.declared.cmp.Ordering.TheVariants.{Less, Equal, Greater}
+use Rattle.std.proofs.lemmas.Map.{lookup-none}
+use Rattle.std.proofs.lemmas.Map.Entries.{none_below_head}
+use Rattle.std.proofs.lemmas.Map.Keys.{sorted_tail}
+use Rattle.adr_model.specs.Store.{Held}
+use Rattle.adr_table.specs.declared.place.Place.{Place}
+use Rattle.adr_table.specs.Place.{place_order}
+use Rattle.adr_table.specs.Slots.{flat, one_more_if, tally}
+use Rattle.adr_table.proofs.Places.{places_total, exact_places}
+use Rattle.adr_table.proofs.Seen.{Entries, AreSorted}
+
+pub tally_few : (test : Place → Bool) (es : Entries) → tally test es ≤ length es
+tally_few test [] = omega arith
+tally_few test (e ∷ es) = by (is_some e.1 && test e.0) (tally_few test es)
+  where
+    by : (b : Bool) → tally test es ≤ length es → one_more_if b (tally test es) ≤ length (e ∷ es)
+    by true h = omega (arith, h)
+    by false h = omega (arith, h)
+
+pub tally_made : (test : Place → Bool) (es : Entries) (p : Place) → lookup (is_at (place_order p)) es ≡ None → tally test (insert_entry place_order es p None) ≡ tally test es
+tally_made test [] p none = refl
+tally_made test (e ∷ es) p none = by (place_order p e.0) none (tally_made test es p)
+  where
+    by : (o : Ordering) → cond (is_eq o) (Some e.1) (lookup (is_at (place_order p)) es) ≡ None → (lookup (is_at (place_order p)) es ≡ None → tally test (insert_entry place_order es p None) ≡ tally test es)
+        → tally test (match_ordering o ((p, None) ∷ e ∷ es) ((e.0, None) ∷ es) (e ∷ insert_entry place_order es p None)) ≡ tally test (e ∷ es)
+    by Less n later = refl
+    by Equal n later = cc
+    by Greater n later = ap (one_more_if (is_some e.1 && test e.0)) (later n)
+
+pub more_more : (a b : Bool) (n : ℕ) → one_more_if a (one_more_if b n) ≡ one_more_if b (one_more_if a n)
+more_more true true n = refl
+more_more true false n = refl
+more_more false true n = refl
+more_more false false n = refl
+
+none_below : (e : Place × Option Held) (es : Entries) (p : Place) → AreSorted (e ∷ es) → place_order p e.0 ≡ Less → lookup (is_at (place_order p)) (e ∷ es) ≡ None
+none_below e es p sorted less = lookup-none (is_at (place_order p)) (e ∷ es) (none_below_head places_total p e es sorted less)
+
+-- the row that was there counts no more, and the one that is put there counts
+pub tally_replaced : (test : Place → Bool) (es : Entries) (p : Place) (v : Option Held) → AreSorted es → IsSome (lookup (is_at (place_order p)) es)
+    → one_more_if (is_some (flat (lookup (is_at (place_order p)) es)) && test p) (tally test (insert_entry place_order es p v)) ≡ one_more_if (is_some v && test p) (tally test es)
+tally_replaced test [] p v sorted there = cc
+tally_replaced test (e ∷ es) p v sorted there = by (place_order p e.0) refl there (tally_replaced test es p v (sorted_tail place_order e.0 (keys_of es) sorted))
+  where
+    old : Option (Option Held)
+    old = lookup (is_at (place_order p)) es
+
+    less : place_order p e.0 ≡ Less → old ≡ None
+    less is = subst (λ o. cond (is_eq o) (Some e.1) old ≡ None) is (none_below e es p sorted is)
+
+    nothing : (o : Option (Option Held)) → o ≡ None → IsSome o → ⊥
+    nothing None is some = cc
+    nothing (Some x) is some = cc
+
+    by : (o : Ordering) → place_order p e.0 ≡ o → IsSome (cond (is_eq o) (Some e.1) old)
+        → (IsSome old → one_more_if (is_some (flat old) && test p) (tally test (insert_entry place_order es p v)) ≡ one_more_if (is_some v && test p) (tally test es))
+        → one_more_if (is_some (flat (cond (is_eq o) (Some e.1) old)) && test p) (tally test (match_ordering o ((p, v) ∷ e ∷ es) ((e.0, v) ∷ es) (e ∷ insert_entry place_order es p v)))
+        ≡ one_more_if (is_some v && test p) (tally test (e ∷ es))
+    by Less is some later = absurd (nothing old (less is) some)
+    by Equal is some later =
+        ap (λ b. one_more_if (is_some e.1 && b) (one_more_if (is_some v && test e.0) (tally test es))) (ap test (exact_places p e.0 is))
+        ∙ more_more (is_some e.1 && test e.0) (is_some v && test e.0) (tally test es)
+        ∙ ap (λ b. one_more_if (is_some v && b) (one_more_if (is_some e.1 && test e.0) (tally test es))) (sym (ap test (exact_places p e.0 is)))
+    by Greater is some later =
+        more_more (is_some (flat old) && test p) (is_some e.1 && test e.0) (tally test (insert_entry place_order es p v))
+        ∙ ap (one_more_if (is_some e.1 && test e.0)) (later some)
+        ∙ more_more (is_some e.1 && test e.0) (is_some v && test p) (tally test es)
+
+-- ---- counts, as rows come and go
+
+-- a slot that is emptied
+pub emptied : (test : Place → Bool) (es fs : Entries) (p : Place) → fs ≡ insert_entry place_order es p None → AreSorted es → IsSome (lookup (is_at (place_order p)) es)
+    → one_more_if (is_some (flat (lookup (is_at (place_order p)) es)) && test p) (tally test fs) ≡ tally test es
+emptied test es fs p is sorted there = ap (λ xs. one_more_if (is_some (flat (lookup (is_at (place_order p)) es)) && test p) (tally test xs)) is ∙ tally_replaced test es p None sorted there
+
+at_least : (b : Bool) (n m : ℕ) → one_more_if b n ≡ m → one_more_if b 0 ≤ m
+at_least true n m e = omega (arith, e)
+at_least false n m e = omega (arith, e)
+
+pub emptied_room : (test : Place → Bool) (es fs : Entries) (p : Place) → fs ≡ insert_entry place_order es p None → AreSorted es → IsSome (lookup (is_at (place_order p)) es)
+    → (b : Bool) → b ≡ (is_some (flat (lookup (is_at (place_order p)) es)) && test p) → (n : ℕ) → n ≡ tally test es → one_more_if b 0 ≤ n
+emptied_room test es fs p is sorted there b e n count =
+    at_least b (tally test fs) n (ap (λ c. one_more_if c (tally test fs)) e ∙ emptied test es fs p is sorted there ∙ sym count)
+
+cancelled : (b : Bool) (n m : ℕ) → one_more_if b n ≡ one_more_if b m → n ≡ m
+cancelled true n m e = omega (arith, e)
+cancelled false n m e = e
+
+pub emptied_count : (test : Place → Bool) (es fs : Entries) (p : Place) → fs ≡ insert_entry place_order es p None → AreSorted es → IsSome (lookup (is_at (place_order p)) es)
+    → (b : Bool) → b ≡ (is_some (flat (lookup (is_at (place_order p)) es)) && test p) → (n m : ℕ) → n ≡ tally test es → one_more_if b m ≡ n → m ≡ tally test fs
+emptied_count test es fs p is sorted there b e n m count less =
+    cancelled b m (tally test fs) (less ∙ count ∙ sym (ap (λ c. one_more_if c (tally test fs)) e ∙ emptied test es fs p is sorted there))
+
+-- a row that is put
+put_either : (was here : Bool) (n m : ℕ) → one_more_if (was && here) m ≡ one_more_if here n → m ≡ one_more_if (not was && here) n
+put_either true true n m e = omega (arith, e)
+put_either true false n m e = e
+put_either false here n m e = e
+
+pub put_count : (test : Place → Bool) (es fs : Entries) (p : Place) (h : Held) → fs ≡ insert_entry place_order es p (Some h) → AreSorted es → IsSome (lookup (is_at (place_order p)) es)
+    → (b : Bool) → b ≡ (not (is_some (flat (lookup (is_at (place_order p)) es))) && test p) → (n : ℕ) → n ≡ tally test es → tally test fs ≡ one_more_if b n
+put_count test es fs p h is sorted there b e n count =
+    put_either (is_some (flat (lookup (is_at (place_order p)) es))) (test p) (tally test es) (tally test fs)
+    (ap (λ xs. one_more_if (is_some (flat (lookup (is_at (place_order p)) es)) && test p) (tally test xs)) is ∙ tally_replaced test es p (Some h) sorted there)
+    ∙ ap (λ c. one_more_if c (tally test es)) (sym e) ∙ ap (one_more_if b) (sym count)
+
+pub put_room : (test : Place → Bool) (es fs : Entries) (p : Place) (h : Held) → fs ≡ insert_entry place_order es p (Some h) → AreSorted es → IsSome (lookup (is_at (place_order p)) es)
+    → (b : Bool) → b ≡ (not (is_some (flat (lookup (is_at (place_order p)) es))) && test p) → (n : ℕ) → n ≡ tally test es → one_more_if b n ≤ length fs
+put_room test es fs p h is sorted there b e n count =
+    let few = tally_few test fs in let more = put_count test es fs p h is sorted there b e n count in omega (arith, few, more)

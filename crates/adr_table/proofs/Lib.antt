@@ -1,0 +1,17 @@
+pub mod Behinds
+pub mod Births
+pub mod Counts
+pub mod Freed
+pub mod Linked
+pub mod LocalsFound
+pub mod LocalsKept
+pub mod LocalsSeats
+pub mod OneList
+pub mod Places
+pub mod Queries
+pub mod Reading
+pub mod Rooms
+pub mod Runs
+pub mod Seen
+pub mod Spans
+pub mod Stripped

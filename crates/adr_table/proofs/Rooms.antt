@@ -1,0 +1,104 @@
+-- Room for rows stays, and so do hints.
+use Rattle.std.proofs.Common.{◌≡◌, refl, sym, ap, ◌∙◌, subst, arith, List, [], ◌∷◌, Bool, true, false, cond, ◌||◌, Option, Some, None, suc, slice_index_or}
+use Rattle.std.specs.Prelude.{IsSome, is_some}
+use Rattle.std.specs.Map.{keys_of, lookup}
+use Rattle.std.specs.BTreeMap.{get, is_at}
+use Rattle.std.specs.BTreeSet.{BTreeSet, contains}
+use Rattle.adr_stamp.specs.declared.LinkKey.{LinkKey}
+use Rattle.adr_model.proofs.Keys.{equal_order}
+use Rattle.adr_model.specs.Update.{Key, LinkOf}
+use Rattle.adr_model.specs.Store.{Held}
+use Rattle.adr_table.specs.declared.place.Place.{Place}
+use Rattle.adr_table.specs.declared.slots.Slots.{Slots}
+use Rattle.adr_table.specs.declared.back.Behind.{Behind}
+use Rattle.adr_table.specs.declared.locals.Local.{Local}
+use Rattle.adr_table.specs.declared.table.Table.{Table}
+use Rattle.adr_table.specs.Place.{place_of, place_order}
+use Rattle.adr_table.specs.Slots.{HasSlot, flat, places, row_at}
+use Rattle.adr_table.specs.Back.{AreBacked, IsHinted, behind_order, hint, link_behind}
+use Rattle.adr_table.specs.Table.{HasRoom, HaveRoom}
+use Rattle.adr_table.proofs.Seen.{Entries}
+use Rattle.adr_table.proofs.Places.{exact_places, same_place}
+use Rattle.adr_table.proofs.Behinds.{exact_behinds}
+
+-- a place without a slot
+pub none_there : (slots : Slots) (p q : Place) → get place_order slots.map p ≡ None → row_at slots q ≡ cond (is_at (place_order p) q) None (row_at slots q)
+none_there slots p q none = by (is_at (place_order p) q) refl
+  where
+    by : (b : Bool) → is_at (place_order p) q ≡ b → row_at slots q ≡ cond b None (row_at slots q)
+    by true at = subst (λ r. row_at slots r ≡ None) (exact_places p q (equal_order (place_order p q) at)) (ap flat none)
+    by false at = refl
+
+pub still_none : (b : Bool) (o : Option Held) → o ≡ None → cond b None o ≡ None
+still_none true o e = refl
+still_none false o e = e
+
+abbrev any_key : (Place → Bool) → List Place → Bool
+any_key test [] = false
+any_key test (p ∷ ps) = test p || any_key test ps
+
+by_keys : (test : Place → Bool) (es : Entries) → is_some (lookup test es) ≡ any_key test (keys_of es)
+by_keys test [] = refl
+by_keys test (e ∷ es) = by (test e.0) (by_keys test es)
+  where
+    by : (b : Bool) → is_some (lookup test es) ≡ any_key test (keys_of es) → is_some (cond b (Some e.1) (lookup test es)) ≡ (b || any_key test (keys_of es))
+    by true h = refl
+    by false h = h
+
+-- slots of the same places
+pub slot_stays : (old new : Slots) → places new ≡ places old → (q : Place) → HasSlot old q → HasSlot new q
+slot_stays old new same q some =
+    by_keys (is_at (place_order q)) new.map.entries ∙ ap (any_key (is_at (place_order q))) same ∙ sym (by_keys (is_at (place_order q)) old.map.entries) ∙ some
+
+pub room_stays : (old new : Slots) (back : BTreeSet Behind) (locals : BTreeSet Local) → places new ≡ places old → (h : Held)
+    → HasRoom (record { slots = old; back = back; locals = locals }) h → HasRoom (record { slots = new; back = back; locals = locals }) h
+room_stays old new back locals same h room = record { slot = slot_stays old new same (place_of h.update.key) room.slot; hinted = room.hinted; located = room.located }
+
+-- a row that is written has its hint
+pub backed_more : (old new : Slots) (back : BTreeSet Behind) (row : Held) → AreBacked old back → IsHinted back row.update.key
+    → ((q : Place) → row_at new q ≡ cond (is_at (place_order (place_of row.update.key)) q) (Some row) (row_at old q)) → AreBacked new back
+backed_more old new back row backed hinted rows l some = by (is_at (place_order (place_of row.update.key)) (place_of (LinkOf l))) refl (rows (place_of (LinkOf l)))
+  where
+    by : (b : Bool) → is_at (place_order (place_of row.update.key)) (place_of (LinkOf l)) ≡ b → row_at new (place_of (LinkOf l)) ≡ cond b (Some row) (row_at old (place_of (LinkOf l))) → contains behind_order back (hint l) ≡ true
+    by true at e = subst (IsHinted back) (same_place row.update.key (LinkOf l) at) hinted
+    by false at e = backed l (subst IsSome e some)
+
+nothing : (o : Option Held) → o ≡ None → IsSome o → ⊥
+nothing None e some = cc
+nothing (Some h) e some = cc
+
+-- and so have fewer rows
+pub backed_fewer : (old new : Slots) (back : BTreeSet Behind) → AreBacked old back → ((q : Place) → row_at old q ≡ None → row_at new q ≡ None) → AreBacked new back
+backed_fewer old new back backed fewer l some = by (row_at old (place_of (LinkOf l))) refl
+  where
+    by : (o : Option Held) → row_at old (place_of (LinkOf l)) ≡ o → contains behind_order back (hint l) ≡ true
+    by None is = absurd (nothing (row_at new (place_of (LinkOf l))) (fewer (place_of (LinkOf l)) is) some)
+    by (Some h) is = backed l (ap is_some is)
+
+pub backed_same : (old new : Slots) (back back' : BTreeSet Behind) → AreBacked old back → ((k : Key) → IsHinted back k → IsHinted back' k) → ((q : Place) → row_at new q ≡ row_at old q) → AreBacked new back'
+backed_same old new back back' backed more same l some = more (LinkOf l) (backed l (subst IsSome (same (place_of (LinkOf l))) some))
+
+links_apart : (k l : LinkKey) → is_at (behind_order (hint k)) (hint l) ≡ true → k ≡ l
+links_apart k l at = let same : Some k ≡ Some l = ap link_behind (exact_behinds (hint k) (hint l) (equal_order (behind_order (hint k) (hint l)) at)) in cc
+
+-- a hint goes that has no row
+pub backed_without : (old new : Slots) (back back' : BTreeSet Behind) (link : LinkKey) → AreBacked old back → row_at old (place_of (LinkOf link)) ≡ None
+    → ((b : Behind) → contains behind_order back' b ≡ cond (is_at (behind_order (hint link)) b) false (contains behind_order back b))
+    → ((q : Place) → row_at new q ≡ row_at old q) → AreBacked new back'
+backed_without old new back back' link backed none without same l some =
+    without (hint l) ∙ by (is_at (behind_order (hint link)) (hint l)) refl
+  where
+    there : IsSome (row_at old (place_of (LinkOf l)))
+    there = subst IsSome (same (place_of (LinkOf l))) some
+
+    by : (t : Bool) → is_at (behind_order (hint link)) (hint l) ≡ t → cond t false (contains behind_order back (hint l)) ≡ true
+    by true at = absurd (nothing (row_at old (place_of (LinkOf l))) (subst (λ k. row_at old (place_of (LinkOf k)) ≡ None) (links_apart link l at) none) there)
+    by false at = backed l there
+
+-- ---- room for several rows
+
+pub room_first : (t : Table) (h : Held) (hs : List Held) → HaveRoom t (h ∷ hs) → HasRoom t h
+room_first t h hs room = room 0 h (omega arith)
+
+pub room_later : (t s : Table) (h : Held) (hs : List Held) → HaveRoom t (h ∷ hs) → ((x : Held) → HasRoom t x → HasRoom s x) → HaveRoom s hs
+room_later t s h hs room more i d lt = more (slice_index_or hs i d) (room (suc i) d (omega (arith, lt)))

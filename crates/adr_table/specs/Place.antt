@@ -1,0 +1,52 @@
+-- Where the row of a key stands, and runs of places.
+use Rattle.std.specs.Prelude.{◌≡◌, Some, None, Bool, true, false, ◌&&◌, ◌||◌, nat_le, nat_lt, ◌==◌, not}
+use Rattle.std.specs.Ordering.{nat_cmp, bool_cmp, is_eq, ordering_then}
+use Rattle.std.specs.Option.{is_none, option_cmp}
+use Rattle.std.specs.declared.cmp.Ordering.{Ordering}
+use Rattle.adr_stamp.specs.Order.{identifier_order, birth_order, object_order}
+use Rattle.adr_stamp.specs.declared.Oid.{Oid}
+use Rattle.adr_model.specs.Update.{Identifier, Key, RowOf, LinkOf, class_attr, same_identifier}
+use Rattle.adr_table.specs.declared.place.Place.{Place}
+
+abbrev pub place_of : Key → Place
+place_of (RowOf o a) = record { is_link = false; guid = o.guid; birth = Some o.birth; attr = a; other = None }
+place_of (LinkOf l) = record { is_link = true; guid = l.from.guid; birth = Some l.from.birth; attr = l.attr; other = Some l.to }
+
+abbrev pub place_order : Place → Place → Ordering
+place_order p q =
+    ordering_then (bool_cmp p.is_link q.is_link)
+    (ordering_then (identifier_order p.guid q.guid)
+    (ordering_then (option_cmp birth_order p.birth q.birth)
+    (ordering_then (nat_cmp p.attr q.attr) (option_cmp object_order p.other q.other))))
+
+-- whether the place is of the object of the first one, with its attribute or a greater one; a first one without a birth
+-- stands for all objects of its GUID
+abbrev pub is_in_run : Place → Place → Bool
+is_in_run start p =
+    is_eq (bool_cmp start.is_link p.is_link)
+    && (same_identifier start.guid p.guid
+    && (is_none start.birth || (is_eq (option_cmp birth_order start.birth p.birth) && nat_le start.attr p.attr)))
+
+-- the place comes before all of its run
+abbrev pub IsStart : Place → Type 0
+IsStart start = (start.other ≡ None) × ((is_none start.birth && nat_lt 0 start.attr) ≡ false)
+
+-- where the rows of a GUID begin, those of an object, those of it that aren't reserved, and the links from it
+abbrev pub guid_start : Identifier → Place
+guid_start guid = record { is_link = false; guid = guid; birth = None; attr = 0; other = None }
+
+abbrev pub rows_start : Oid → Place
+rows_start o = record { is_link = false; guid = o.guid; birth = Some o.birth; attr = 0; other = None }
+
+abbrev pub values_start : Oid → Place
+values_start o = record { is_link = false; guid = o.guid; birth = Some o.birth; attr = 4; other = None }
+
+abbrev pub links_start : Oid → Place
+links_start o = record { is_link = true; guid = o.guid; birth = Some o.birth; attr = 0; other = None }
+
+-- whether class rows stand at the place, and whether link rows do
+abbrev pub is_of_class : Place → Bool
+is_of_class p = not p.is_link && (p.attr == class_attr)
+
+abbrev pub is_of_link : Place → Bool
+is_of_link p = p.is_link

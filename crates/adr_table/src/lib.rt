@@ -1,0 +1,20 @@
+//! A table of rows: a row, the rows of an object, the links at an object and the counts are looked up, and writes happen
+//! whole or not at all.
+//!
+//! Rows stand in slots, in one ordered map in the order of their keys. A write first makes room: a slot and hints for each
+//! row. Then it can't fail. Slots without a row and hints without one are seen by nobody; they cost memory alone.
+//!
+//! It stands on `adr_update` and on the definitions in `adr_model`. It knows nothing of schemas, vectors or marks.
+#![tactic(auto)]
+
+mod back;
+mod locals;
+mod place;
+mod slots;
+mod spare;
+mod table;
+mod write;
+
+pub use adr_update::NoMemory;
+pub use spare::Spare;
+pub use table::Table;

@@ -1,0 +1,233 @@
+//! Which units may have a row with a local update sequence number.
+
+ghost use Rattle.std.specs.Prelude.{◌≡◌, OnOk, IfOk, Some, None, true};
+ghost use Rattle.std.specs.List.{list_any};
+ghost use Rattle.std.specs.BTreeMap.{is_at};
+ghost use Rattle.std.specs.BTreeSet.{contains};
+ghost use Rattle.adr_model.specs.Store.{Held as Row};
+ghost use Rattle.adr_update.specs.Sought.{IsNextLocal, units_at};
+ghost use Rattle.adr_table.specs.Slots.{IsTidy, rows_seen};
+ghost use Rattle.adr_table.specs.Locals.{AreLocated, IsLocated, above, greatest, is_last, local_of, local_order, rows_of_seat, seat_at, unit_at, unit_hinted};
+
+use crate::NoMemory;
+use crate::place::Place;
+use crate::slots::Slots;
+use adr_stamp::{LinkKey, Oid, Unit};
+use adr_update::Held;
+use std::alloc::{AllocError, Global};
+use std::collections::BTreeSet;
+use std::ops::Bound;
+
+/// A hint that a unit may have a row with a local update sequence number. The one without a unit comes before the others
+/// of its number.
+#[derive(Clone, Copy, PartialEq, Eq, PartialOrd, Ord)]
+pub struct Local {
+    pub usn: u64,
+    /// Where the unit stands: a link at its own place, an object at its attribute 0.
+    pub unit: Option<Place>,
+}
+
+impl Local {
+    /// The hint of a row.
+    pub fn of(row: &Held) -> Local
+        ensures { result ≡ local_of row.now }
+    {
+        Local {
+            usn: row.local(),
+            unit: Some(seat_at(&Place::of(&row.key()))),
+        }
+    }
+}
+
+/// The place of the unit whose row stands at a place.
+fn seat_at(place: &Place) -> Place
+    ensures { result ≡ seat_at place.now }
+{
+    if place.is_link {
+        return *place;
+    }
+    Place {
+        is_link: false,
+        guid: place.guid,
+        birth: place.birth,
+        attr: 0,
+        other: None,
+    }
+}
+
+/// The unit that stands at a place.
+fn unit_at(place: &Place) -> Option<Unit>
+    ensures { result ≡ unit_at place.now }
+{
+    let from = Oid {
+        guid: place.guid,
+        birth: place.birth?,
+    };
+    if !place.is_link {
+        return Some(Unit::Object(from));
+    }
+    Some(Unit::Link(LinkKey {
+        from,
+        attr: place.attr,
+        to: place.other?,
+    }))
+}
+
+/// Keeps the hint of a row.
+pub(crate) fn remember(locals: &mut BTreeSet<Local>, row: &Held) -> Result<(), NoMemory>
+    ensures more { (h : Row) → IsLocated locals.old h → IsLocated locals.new h }
+    ensures ok { OnOk result (IsLocated locals.new row.now) }
+{
+    insert(locals, row.local(), seat_at(&Place::of(&row.key())))
+}
+
+fn insert(locals: &mut BTreeSet<Local>, usn: u64, unit: Place) -> Result<(), NoMemory>
+    ensures more { (h : Row) → IsLocated locals.old h → IsLocated locals.new h }
+    ensures ok { OnOk result (contains local_order locals.new (record { usn = usn; unit = Some unit }) ≡ true) }
+{
+    match locals.insert(Local {
+        usn,
+        unit: Some(unit),
+    }) {
+        Ok(_) => Ok(()),
+        Err(_) => Err(AllocError),
+    }
+}
+
+/// Adds the hint of a row to a list.
+pub(crate) fn name(hints: &mut Vec<Local>, row: &Held) -> Result<(), NoMemory> {
+    add(hints, row.local(), seat_at(&Place::of(&row.key())))
+}
+
+fn add(hints: &mut Vec<Local>, usn: u64, unit: Place) -> Result<(), NoMemory> {
+    let _birth = unit.birth;
+    match hints.push(Local {
+        usn,
+        unit: Some(unit),
+    }) {
+        Ok(()) => Ok(()),
+        Err(_) => Err(AllocError),
+    }
+}
+
+fn above(so_far: Option<u64>, local: u64) -> u64
+    ensures { result ≡ above so_far local }
+{
+    match so_far {
+        Some(last) => last.max(local),
+        None => local,
+    }
+}
+
+/// The greatest local update sequence number of the rows of the unit at a place.
+fn last_local(slots: &Slots, unit: Place) -> Option<u64>
+    requires { IsTidy slots.now }
+    ensures { result ≡ greatest None (rows_of_seat unit (rows_seen slots.now)) }
+{
+    let mut last = None;
+    for (place, slot) in slots.map.range((Bound::Included(unit), Bound::Unbounded)) {
+        if !unit.cmp(&seat_at(place)).is_eq() {
+            return last;
+        }
+        if let Some(row) = slot {
+            last = Some(above(last, row.local()));
+        }
+    }
+    last
+}
+
+/// Whether a hint's unit is held and has the hint's number as its last.
+fn is_last(slots: &Slots, hint: &Local) -> bool
+    requires { IsTidy slots.now }
+    ensures { result ≡ is_last (rows_seen slots.now) hint.now }
+{
+    match hint.unit {
+        Some(unit) => match last_local(slots, unit) {
+            Some(last) => last == hint.usn,
+            None => false,
+        },
+        None => false,
+    }
+}
+
+/// The unit of a hint that has the hint's number as its last.
+fn unit_hinted(slots: &Slots, hint: &Local) -> Option<Unit>
+    requires { IsTidy slots.now }
+    ensures { result ≡ unit_hinted (rows_seen slots.now) hint.now }
+{
+    match hint.unit {
+        Some(place) if is_last(slots, hint) => unit_at(&place),
+        _ => None,
+    }
+}
+
+/// The least number behind this one that is the last local update sequence number of a unit.
+pub(crate) fn next_local(slots: &Slots, locals: &BTreeSet<Local>, usn: u64) -> Option<u64>
+    requires tidy { IsTidy slots.now }
+    requires located { AreLocated slots.now locals.now }
+    ensures { IsNextLocal (rows_seen slots.now) usn result }
+{
+    let start = Local { usn, unit: None };
+    for hint in locals.range((Bound::Included(start), Bound::Unbounded)) {
+        if usn < hint.usn && is_last(slots, hint) {
+            return Some(hint.usn);
+        }
+    }
+    None
+}
+
+/// The units whose last local update sequence number is this, rising.
+pub(crate) fn units_at(
+    alloc: Global,
+    slots: &Slots,
+    locals: &BTreeSet<Local>,
+    usn: u64,
+) -> Result<Vec<Unit>, NoMemory>
+    requires tidy { IsTidy slots.now }
+    requires located { AreLocated slots.now locals.now }
+    ensures { IfOk result (λ units. units.items ≡ units_at (rows_seen slots.now) usn) }
+{
+    let mut units = Vec::new(alloc);
+    let start = Local { usn, unit: None };
+    for hint in locals.range((Bound::Included(start), Bound::Unbounded)) {
+        if hint.usn != usn {
+            return Ok(units);
+        }
+        if let Some(unit) = unit_hinted(slots, hint) {
+            units.push(unit)?;
+        }
+    }
+    Ok(units)
+}
+
+/// Whether a row that is seen has this hint.
+fn is_needed(slots: &Slots, hint: &Local) -> bool
+    requires { IsTidy slots.now }
+    ensures { result ≡ list_any (λ h. is_at (local_order hint.now) (local_of h)) (rows_seen slots.now) }
+{
+    let Some(unit) = hint.unit else {
+        return false;
+    };
+    for (place, slot) in slots.map.range((Bound::Included(unit), Bound::Unbounded)) {
+        if !unit.cmp(&seat_at(place)).is_eq() {
+            return false;
+        }
+        if let Some(row) = slot {
+            if row.local() == hint.usn {
+                return true;
+            }
+        }
+    }
+    false
+}
+
+/// Drops a hint that no row needs.
+pub(crate) fn forget(slots: &Slots, locals: &mut BTreeSet<Local>, hint: &Local)
+    requires tidy { IsTidy slots.now }
+    requires located { AreLocated slots.now locals.old }
+    ensures { AreLocated slots.now locals.new }
+{
+    if !is_needed(slots, hint) {
+        locals.remove(hint);
+    }
+}

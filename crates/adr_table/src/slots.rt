@@ -1,0 +1,260 @@
+//! Slots for rows.
+
+ghost use Rattle.std.specs.Prelude.{◌≡◌, ◌≤◌, [], IsTrue, IsSome, IfSome, IfNone, IfOk, OnOk, cond, is_some, length, not, ◌&&◌, slice_get, Some, None};
+ghost use Rattle.std.specs.Option.{option_copied};
+ghost use Rattle.std.specs.BTreeMap.{IsOrdered, get, insert_entry, is_at, keys};
+ghost use Rattle.std.specs.BTreeMap.Range.{IsFromStart, IsLeBy};
+ghost use Rattle.adr_model.specs.Store.{row_held, with_row};
+ghost use Rattle.adr_update.specs.Key.{key_of};
+ghost use Rattle.adr_update.specs.Referents.{referents};
+ghost use Rattle.adr_table.specs.Place.{IsStart, is_in_run, is_of_class, is_of_link, place_of, place_order};
+ghost use Rattle.adr_table.specs.Slots.{HasSlot, IsTidy, flat, one_more_if, places, row_at, rows_in_run, rows_seen};
+
+use crate::NoMemory;
+use crate::place::Place;
+use adr_update::{Held, Key};
+use std::alloc::Global;
+use std::collections::BTreeMap;
+use std::ops::Bound;
+
+/// Slots for rows, in order of their places, and how many class rows and how many link rows are in them.
+#[derive(Drop)]
+pub(crate) struct Slots {
+    pub(crate) map: BTreeMap<Place, Option<Held>>,
+    pub(crate) objects: usize,
+    pub(crate) links: usize,
+}
+
+impl Slots {
+    pub(crate) fn new(alloc: Global) -> Slots
+        ensures seen { rows_seen result ≡ [] }
+        ensures tidy { IsTidy result }
+        ensures rows { (q : Place) → row_at result q ≡ None }
+    {
+        Slots {
+            map: BTreeMap::new(alloc),
+            objects: 0,
+            links: 0,
+        }
+    }
+
+    /// The row in the slot of a key.
+    pub(crate) fn row(&self, key: &Key) -> Option<&Held>
+        requires { IsTidy self.now }
+        ensures { option_copied result ≡ row_held (rows_seen self.now) (key_of key.now) }
+    {
+        match self.map.get(&Place::of(key)) {
+            Some(slot) => slot.as_ref(),
+            None => None,
+        }
+    }
+
+    /// Makes a slot at a place, if there is none. Nobody sees it.
+    pub(crate) fn reserve(&mut self, place: Place) -> Result<(), NoMemory>
+        requires { IsTidy self.old }
+        ensures seen { rows_seen self.new ≡ rows_seen self.old }
+        ensures tidy { IsTidy self.new }
+        ensures same { (q : Place) → row_at self.new q ≡ row_at self.old q }
+        ensures more { (q : Place) → HasSlot self.old q → HasSlot self.new q }
+        ensures ok { OnOk result (HasSlot self.new place) }
+    {
+        if self.map.contains_key(&place) {
+            return Ok(());
+        }
+        self.map.insert(place, None)?;
+        Ok(())
+    }
+
+    /// Puts a row into the slot of its key.
+    pub(crate) fn write(&mut self, row: Held)
+        requires tidy { IsTidy self.old }
+        requires room { HasSlot self.old (place_of row.update.key) }
+        ensures seen { rows_seen self.new ≡ with_row (rows_seen self.old) row }
+        ensures tidy { IsTidy self.new }
+        ensures rows { (q : Place) →
+            row_at self.new q ≡ cond (is_at (place_order (place_of row.update.key)) q) (Some row) (row_at self.old q) }
+        ensures places { places self.new ≡ places self.old }
+    {
+        let place = Place::of(&row.key());
+        let was = replace(&mut self.map, place, Some(row));
+        self.objects = one_more(&self.map, self.objects, was, place.is_of_class());
+        self.links = one_more(&self.map, self.links, was, place.is_link);
+    }
+
+    /// Empties a slot.
+    pub(crate) fn empty(&mut self, place: Place)
+        requires tidy { IsTidy self.old }
+        requires room { HasSlot self.old place }
+        ensures tidy { IsTidy self.new }
+        ensures rows { (q : Place) →
+            row_at self.new q ≡ cond (is_at (place_order place) q) None (row_at self.old q) }
+        ensures places { places self.new ≡ places self.old }
+    {
+        let was = replace(&mut self.map, place, None);
+        self.objects = one_fewer(self.objects, was, place.is_of_class());
+        self.links = one_fewer(self.links, was, place.is_link);
+    }
+
+    /// Empties the slot of a place, if there is one.
+    pub(crate) fn empty_if_there(&mut self, place: Place)
+        requires { IsTidy self.old }
+        ensures tidy { IsTidy self.new }
+        ensures rows { (q : Place) →
+            row_at self.new q ≡ cond (is_at (place_order place) q) None (row_at self.old q) }
+        ensures places { places self.new ≡ places self.old }
+    {
+        if self.map.contains_key(&place) {
+            self.empty(place);
+        }
+    }
+
+    /// Empties the slots of a run of places.
+    pub(crate) fn empty_run(&mut self, start: Place)
+        requires tidy { IsTidy self.old }
+        requires start { IsStart start }
+        ensures tidy { IsTidy self.new }
+        ensures rows { (q : Place) → row_at self.new q ≡ cond (is_in_run start q) None (row_at self.old q) }
+        ensures places { places self.new ≡ places self.old }
+    {
+        let mut from = Bound::Included(start);
+        for _ in 0..self.map.len() {
+            match self.next_place(from) {
+                Some(place) if start.begins_run_of(&place) => {
+                    self.empty(place);
+                    from = Bound::Excluded(place);
+                }
+                _ => return,
+            }
+        }
+    }
+
+    /// Frees the slot of a place, if it is empty. Nobody sees it.
+    pub(crate) fn free(&mut self, place: &Place)
+        requires { IsTidy self.old }
+        ensures seen { rows_seen self.new ≡ rows_seen self.old }
+        ensures tidy { IsTidy self.new }
+        ensures same { (q : Place) → row_at self.new q ≡ row_at self.old q }
+    {
+        if is_empty_slot(&self.map, place) {
+            let _ = self.map.remove(place);
+        }
+    }
+
+    /// Frees the empty slots of a run of places.
+    pub(crate) fn free_run(&mut self, start: Place)
+        requires { IsTidy self.old }
+        ensures seen { rows_seen self.new ≡ rows_seen self.old }
+        ensures tidy { IsTidy self.new }
+        ensures same { (q : Place) → row_at self.new q ≡ row_at self.old q }
+    {
+        let mut from = Bound::Included(start);
+        for _ in 0..self.map.len() {
+            match self.next_place(from) {
+                Some(place) if start.begins_run_of(&place) => {
+                    self.free(&place);
+                    from = Bound::Excluded(place);
+                }
+                _ => return,
+            }
+        }
+    }
+
+    /// The first place with a slot, from a bound on.
+    pub(crate) fn next_place(&self, start: Bound<Place>) -> Option<Place>
+        ensures there { IfSome result (λ p. HasSlot self.now p) }
+        ensures from { IfSome result (λ p. IsFromStart place_order start p) }
+        ensures first { IfSome result (λ p.
+            (q : Place) → IsFromStart place_order start q → HasSlot self.now q → IsLeBy place_order p q) }
+        ensures none { IfNone result (
+            (q : Place) → IsFromStart place_order start q → get place_order self.now.map q ≡ None) }
+    {
+        match self.map.range((start, Bound::Unbounded)).next() {
+            Some((place, _)) => Some(*place),
+            None => None,
+        }
+    }
+
+    /// The rows in the slots of a run of places.
+    pub(crate) fn rows_in_run(&self, alloc: Global, start: Place) -> Result<Vec<&Held>, NoMemory>
+        requires tidy { IsTidy self.now }
+        requires start { IsStart start }
+        ensures { IfOk result (λ rows. referents rows.items ≡ rows_in_run start (rows_seen self.now)) }
+    {
+        let mut rows = Vec::new(alloc);
+        for (place, slot) in self.map.range((Bound::Included(start), Bound::Unbounded)) {
+            if !start.begins_run_of(place) {
+                return Ok(rows);
+            }
+            if let Some(row) = slot {
+                rows.push(row)?;
+            }
+        }
+        Ok(rows)
+    }
+
+    /// Whether a row is in the slots of a run of places.
+    pub(crate) fn has_row_in_run(&self, start: Place) -> bool
+        requires tidy { IsTidy self.now }
+        requires start { IsStart start }
+        ensures { result ≡ is_some (slice_get (rows_in_run start (rows_seen self.now)) 0) }
+    {
+        for (place, slot) in self.map.range((Bound::Included(start), Bound::Unbounded)) {
+            if !start.begins_run_of(place) {
+                return false;
+            }
+            if slot.is_some() {
+                return true;
+            }
+        }
+        false
+    }
+}
+
+/// Puts something into a slot, and tells whether a row was there.
+fn replace(map: &mut BTreeMap<Place, Option<Held>>, place: Place, slot: Option<Held>) -> bool
+    requires ordered { IsOrdered place_order map.old }
+    requires room { IsSome (get place_order map.old place) }
+    ensures was { result ≡ is_some (flat (get place_order map.old place)) }
+    ensures ordered { IsOrdered place_order map.new }
+    ensures entries { map.new.entries ≡ insert_entry place_order map.old.entries place slot }
+    ensures updates { (q : Place) →
+        get place_order map.new q ≡ cond (is_at (place_order place) q) (Some slot) (get place_order map.old q) }
+    ensures keys { keys map.new ≡ keys map.old }
+{
+    match map.insert(place, slot) {
+        Ok(Some(row)) => row.is_some(),
+        Ok(None) => false,
+        Err(_) => unreachable!(),
+    }
+}
+
+/// Whether the place has a slot that is empty.
+fn is_empty_slot(map: &BTreeMap<Place, Option<Held>>, place: &Place) -> bool
+    ensures { IsTrue result → get place_order map.now place.now ≡ Some None }
+{
+    match map.get(place) {
+        Some(slot) => slot.is_none(),
+        None => false,
+    }
+}
+
+/// A count of rows in slots, with a row that is put, where none was and it counts.
+fn one_more(map: &BTreeMap<Place, Option<Held>>, count: usize, was: bool, counts: bool) -> usize
+    requires { one_more_if (not was && counts) count ≤ length map.now.entries }
+    ensures { result ≡ one_more_if (not was && counts) count }
+{
+    let most = map.len();
+    if !was && counts && count < most {
+        count + 1
+    } else {
+        count
+    }
+}
+
+/// A count of rows without one that goes, where it was there and it counts.
+fn one_fewer(count: usize, was: bool, counts: bool) -> usize
+    requires { one_more_if (was && counts) 0 ≤ count }
+    ensures { one_more_if (was && counts) result ≡ count }
+{
+    if was && counts { count - 1 } else { count }
+}

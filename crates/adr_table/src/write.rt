@@ -1,0 +1,182 @@
+//! How rows are written into a table.
+
+ghost use Rattle.std.specs.Prelude.{◌≡◌, None, Some, OnOk, fold};
+ghost use Rattle.adr_model.specs.Change.{put, rows_after, stripped, without_object};
+ghost use Rattle.adr_model.specs.Store.{Held as Row};
+ghost use Rattle.adr_table.specs.Slots.{IsTidy, places, row_at, rows_seen};
+ghost use Rattle.adr_table.specs.Back.{AreBacked};
+ghost use Rattle.adr_table.specs.Locals.{AreLocated};
+ghost use Rattle.adr_table.specs.Table.{HasRoom, HaveRoom, IsKept, rows_in};
+ghost use Rattle.adr_table.specs.declared.place.Place.{Place as Seat};
+
+use crate::back::{Behind, empty_links_to, forget, remember};
+use crate::locals::Local;
+use crate::place::Place;
+use crate::slots::Slots;
+use crate::spare::Spare;
+use crate::table::Table;
+use crate::{NoMemory, locals};
+use adr_stamp::{LinkKey, Oid};
+use adr_update::Held;
+use std::collections::BTreeSet;
+
+/// Empties the slots of what goes with a dead object.
+fn strip(slots: &mut Slots, back: &BTreeSet<Behind>, object: &Oid)
+    requires tidy { IsTidy slots.old }
+    requires backed { AreBacked slots.old back.now }
+    ensures tidy { IsTidy slots.new }
+    ensures seen { rows_seen slots.new ≡ stripped (Some object.now) (rows_seen slots.old) }
+    ensures fewer { (q : Seat) → row_at slots.old q ≡ None → row_at slots.new q ≡ None }
+    ensures places { places slots.new ≡ places slots.old }
+{
+    empty_links_to(slots, back, object);
+    slots.empty_run(Place::before_values(object));
+    slots.empty_run(Place::before_links(object));
+}
+
+/// Empties the slots of an object's rows.
+fn remove(slots: &mut Slots, object: &Oid)
+    requires { IsTidy slots.old }
+    ensures tidy { IsTidy slots.new }
+    ensures seen { rows_seen slots.new ≡ without_object (rows_seen slots.old) object.now }
+    ensures fewer { (q : Seat) → row_at slots.old q ≡ None → row_at slots.new q ≡ None }
+    ensures places { places slots.new ≡ places slots.old }
+{
+    slots.empty_run(Place::before_rows(object));
+}
+
+/// Frees the empty slots of objects. Nobody sees them.
+fn free_all(slots: &mut Slots, objects: &[Oid])
+    requires { IsTidy slots.old }
+    ensures seen { rows_seen slots.new ≡ rows_seen slots.old }
+    ensures tidy { IsTidy slots.new }
+    ensures same { (q : Seat) → row_at slots.new q ≡ row_at slots.old q }
+{
+    for object in objects {
+        slots.free_run(Place::before_rows(object));
+    }
+}
+
+/// Lets go of the hints of links that have no rows. Nobody sees them.
+fn forget_all(slots: &mut Slots, back: &mut BTreeSet<Behind>, links: &[LinkKey])
+    requires tidy { IsTidy slots.old }
+    requires backed { AreBacked slots.old back.old }
+    ensures seen { rows_seen slots.new ≡ rows_seen slots.old }
+    ensures tidy { IsTidy slots.new }
+    ensures same { (q : Seat) → row_at slots.new q ≡ row_at slots.old q }
+    ensures backed { AreBacked slots.new back.new }
+{
+    for link in links {
+        forget(slots, back, link);
+    }
+}
+
+/// Lets go of the hints of local update sequence numbers that no row has. Nobody sees them.
+fn forget_locals(slots: &Slots, locals: &mut BTreeSet<Local>, hints: &[Local])
+    requires tidy { IsTidy slots.now }
+    requires located { AreLocated slots.now locals.old }
+    ensures { AreLocated slots.now locals.new }
+{
+    for hint in hints {
+        locals::forget(slots, locals, hint);
+    }
+}
+
+impl Table {
+    /// Makes a slot for a row, and its hints. Nobody sees it.
+    fn reserve_one(&mut self, row: &Held) -> Result<(), NoMemory>
+        requires { IsKept self.old }
+        ensures rows { rows_in self.new ≡ rows_in self.old }
+        ensures kept { IsKept self.new }
+        ensures more { (h : Row) → HasRoom self.old h → HasRoom self.new h }
+        ensures ok { OnOk result (HasRoom self.new row.now) }
+    {
+        let key = row.key();
+        remember(&mut self.back, &key)?;
+        locals::remember(&mut self.locals, row)?;
+        self.slots.reserve(Place::of(&key))
+    }
+
+    /// Makes room for rows. Nobody sees it.
+    pub fn reserve(&mut self, rows: &[Held]) -> Result<(), NoMemory>
+        requires { IsKept self.old }
+        ensures rows { rows_in self.new ≡ rows_in self.old }
+        ensures kept { IsKept self.new }
+        ensures ok { OnOk result (HaveRoom self.new rows.now) }
+    {
+        for row in rows {
+            self.reserve_one(row)?;
+        }
+        Ok(())
+    }
+
+    /// Puts a row for which there is room.
+    fn put(&mut self, row: Held)
+        requires kept { IsKept self.old }
+        requires room { HasRoom self.old row }
+        ensures rows { rows_in self.new ≡ put (rows_in self.old) row }
+        ensures kept { IsKept self.new }
+        ensures more { (h : Row) → HasRoom self.old h → HasRoom self.new h }
+    {
+        let key = row.key();
+        self.slots.write(row);
+        if let Some(object) = key.killed() {
+            strip(&mut self.slots, &self.back, &object);
+        }
+    }
+
+    /// Puts rows for which there is room.
+    fn put_all(&mut self, rows: Vec<Held>)
+        requires kept { IsKept self.old }
+        requires room { HaveRoom self.old rows.items }
+        ensures rows { rows_in self.new ≡ fold put (rows_in self.old) rows.items }
+        ensures kept { IsKept self.new }
+    {
+        for row in rows {
+            self.put(row);
+        }
+    }
+
+    fn remove(&mut self, object: &Oid)
+        requires { IsKept self.old }
+        ensures rows { rows_in self.new ≡ without_object (rows_in self.old) object.now }
+        ensures kept { IsKept self.new }
+    {
+        remove(&mut self.slots, object);
+    }
+
+    /// Removes objects. Their links stay.
+    fn remove_all(&mut self, objects: &[Oid])
+        requires { IsKept self.old }
+        ensures rows { rows_in self.new ≡ fold without_object (rows_in self.old) objects.now }
+        ensures kept { IsKept self.new }
+    {
+        for object in objects {
+            self.remove(object);
+        }
+    }
+
+    /// Lets go of slots and hints that no row needs. Nobody sees them.
+    fn free(&mut self, spare: &Spare)
+        requires { IsKept self.old }
+        ensures rows { rows_in self.new ≡ rows_in self.old }
+        ensures kept { IsKept self.new }
+    {
+        free_all(&mut self.slots, spare.objects.as_slice());
+        forget_all(&mut self.slots, &mut self.back, spare.links.as_slice());
+        forget_locals(&self.slots, &mut self.locals, spare.locals.as_slice());
+    }
+
+    /// Puts rows for which there is room, one after the other, and then removes objects. A death takes its object's other
+    /// rows and its links. What is spare is let go of.
+    pub fn write(&mut self, rows: Vec<Held>, removed: &[Oid], spare: Spare)
+        requires kept { IsKept self.old }
+        requires room { HaveRoom self.old rows.items }
+        ensures rows { rows_in self.new ≡ rows_after removed.now rows.items (rows_in self.old) }
+        ensures kept { IsKept self.new }
+    {
+        self.put_all(rows);
+        self.remove_all(removed);
+        self.free(&spare);
+    }
+}

@@ -1,0 +1,243 @@
+//! The rows of a controller with others over them, none of which is copied.
+
+ghost use Rattle.std.specs.Prelude.{◌≡◌, ◌+◌, ◌++◌, ◌&&◌, IfOk, OnOk, Some, filter, is_none, length, not};
+ghost use Rattle.std.specs.Option.{option_copied};
+ghost use Rattle.adr_model.specs.Live.{objects_of};
+ghost use Rattle.adr_model.specs.Store.{holds_dead, holds_object, row_held, updates_of};
+ghost use Rattle.adr_model.specs.Change.{killed_by, put};
+ghost use Rattle.adr_model.specs.Write.{is_link_row, links_in};
+ghost use Rattle.adr_update.specs.Key.{key_of};
+ghost use Rattle.adr_update.specs.Referents.{referents};
+ghost use Rattle.adr_update.specs.Sought.{is_link_from};
+ghost use Rattle.adr_take.specs.Told.{is_birth_row, is_left, is_stripped, links_found, links_lost, one};
+
+use crate::NoMemory;
+use adr_stamp::Oid;
+use adr_state::{DELETED, Held, Key, Rows, is_same_object};
+use std::alloc::{AllocError, Global};
+use std::marker::Model;
+
+/// The rows of a controller, which stay as they are, and over them rows that are put, with how many objects and links
+/// there are together.
+#[derive(Drop)]
+pub struct Told<'a> {
+    base: &'a Rows,
+    over: Rows,
+    objects: usize,
+    links: usize,
+}
+
+impl<'a> Model for Told<'a> {
+    ghost use Rattle.std.specs.Prelude.{List};
+    ghost use Rattle.adr_model.specs.Store.{Held as Defined};
+
+    ghost Value = { List Defined };
+
+    ghost use Rattle.adr_take.specs.Told.{IsCounted, told};
+
+    ghost view = { λ t. told t.over t.base.now };
+
+    ghost invariant = { λ t. IsCounted t.over t.base.now t.objects t.links };
+}
+
+impl<'a> Told<'a> {
+    /// The rows of a controller alone.
+    pub fn new(alloc: Global, base: &'a Rows) -> Told<'a>
+        ensures { result ≡ base.now }
+    {
+        base.are_rising();
+        Told {
+            base,
+            over: Rows::new(alloc),
+            objects: base.objects(),
+            links: base.links(),
+        }
+    }
+
+    /// The row of a key.
+    pub fn row(&self, key: Key) -> Option<&Held>
+        ensures { option_copied result ≡ row_held self.now (key_of key) }
+    {
+        match self.over.row(key) {
+            Some(row) => Some(row),
+            None => {
+                if is_stripped(&self.over, &key) {
+                    None
+                } else {
+                    self.base.row(key)
+                }
+            }
+        }
+    }
+
+    /// Whether the object is held, live or dead.
+    pub fn holds(&self, object: &Oid) -> bool
+        ensures { result ≡ holds_object self.now object.now }
+    {
+        self.over.holds(object) || self.base.holds(object)
+    }
+
+    /// Whether the object is held dead.
+    pub fn is_dead(&self, object: &Oid) -> bool
+        ensures { result ≡ holds_dead self.now object.now }
+    {
+        self.row(Key::deleted(object)).is_some()
+    }
+
+    /// How many objects are held, live or dead.
+    pub fn objects(&self) -> usize
+        ensures { result ≡ length (objects_of (updates_of self.now)) }
+    {
+        self.objects
+    }
+
+    /// How many link rows are held, present or not.
+    pub fn links(&self) -> usize
+        ensures { result ≡ links_in self.now }
+    {
+        self.links
+    }
+
+    /// Puts a row in the place of the row of its key. A death takes its object's other rows and its links.
+    pub fn put(&mut self, alloc: Global, row: Held) -> Result<(), NoMemory>
+        ensures { OnOk result (self.new ≡ put self.old row) }
+    {
+        let key = row.key();
+        let lost = self.lost_by(alloc, &key)?;
+        let objects = self.objects_with(&key)?;
+        let links = self.links_with(&key)?;
+        self.over.write(alloc, vec![in alloc; row]?, &[])?;
+        self.objects = objects;
+        self.links = links - lost;
+        Ok(())
+    }
+
+    /// How many objects there are with a row of this key. More than there is a number for count as want of memory.
+    fn objects_with(&self, key: &Key) -> Result<usize, NoMemory>
+        ensures { IfOk result (λ count. count ≡ length (objects_of (updates_of self.now))
+            + one (is_birth_row (key_of key.now) && is_none (row_held self.now (key_of key.now)))) }
+    {
+        if key.born().is_some() && self.row(*key).is_none() {
+            self.objects.checked_add(1).ok_or(AllocError)
+        } else {
+            Ok(self.objects)
+        }
+    }
+
+    /// How many link rows there are with a row of this key. More than there is a number for count as want of memory.
+    fn links_with(&self, key: &Key) -> Result<usize, NoMemory>
+        ensures { IfOk result (λ count. count
+            ≡ links_in self.now + one (is_link_row (key_of key.now) && is_none (row_held self.now (key_of key.now)))) }
+    {
+        if key.is_link() && self.row(*key).is_none() {
+            self.links.checked_add(1).ok_or(AllocError)
+        } else {
+            Ok(self.links)
+        }
+    }
+
+    /// How many links go with the object that a row of this key kills, if it kills one.
+    fn lost_by(&self, alloc: Global, key: &Key) -> Result<usize, NoMemory>
+        ensures { IfOk result (λ count. count ≡ links_lost (killed_by (key_of key.now)) self.now) }
+    {
+        match key.killed() {
+            Some(object) => self.lost_with(alloc, &object),
+            None => Ok(0),
+        }
+    }
+
+    /// How many links go with an object.
+    fn lost_with(&self, alloc: Global, object: &Oid) -> Result<usize, NoMemory>
+        ensures { IfOk result (λ count. count ≡ links_lost (Some object.now) self.now) }
+    {
+        count_at(alloc, &self.over, self.base, object)
+    }
+}
+
+/// How many links there are at an object: those over the others, and of those below them what still counts.
+fn count_at(alloc: Global, over: &Rows, base: &Rows, object: &Oid) -> Result<usize, NoMemory>
+    ensures { IfOk result (λ count. count
+        ≡ length (filter (λ h. is_left over.now h.update.key) (links_found object.now base.now))
+        + length (links_found object.now over.now)) }
+{
+    let above = links_at(alloc, over, object)?.len();
+    let below = count_below(alloc, over, base, object)?;
+    below.checked_add(above).ok_or(AllocError)
+}
+
+/// How many links at an object, of those below the others, still count. Of an object that died by one of them there is
+/// none.
+fn count_below(alloc: Global, over: &Rows, base: &Rows, object: &Oid) -> Result<usize, NoMemory>
+    ensures { IfOk result (λ count. count
+        ≡ length (filter (λ h. is_left over.now h.update.key) (links_found object.now base.now))) }
+{
+    if over.is_dead(object) {
+        return Ok(0);
+    }
+    Ok(count_left(over, links_at(alloc, base, object)?.as_slice()))
+}
+
+/// Whether a row of this key, of those below the others, went with an object that died by one of them.
+fn is_stripped(over: &Rows, key: &Key) -> bool
+    ensures { result ≡ is_stripped over.now (key_of key.now) }
+{
+    match key {
+        Key::Row { object, attr } => over.is_dead(object) && DELETED < *attr,
+        Key::Link(link) => over.is_dead(&link.from) || over.is_dead(&link.to),
+    }
+}
+
+/// Whether a row of this key, of those below the others, still counts.
+fn is_left(over: &Rows, key: Key) -> bool
+    ensures { result ≡ is_left over.now (key_of key) }
+{
+    !is_stripped(over, &key) && over.row(key).is_none()
+}
+
+/// How many of these rows, which lie below the others, still count.
+fn count_left(over: &Rows, rows: &[&Held]) -> usize
+    ensures { result ≡ length (filter (λ h. is_left over.now h.update.key) (referents rows.now)) }
+{
+    let mut count = 0;
+    for row in rows {
+        if is_left(over, row.key()) {
+            count += 1;
+        }
+    }
+    count
+}
+
+/// The links from an object, and then the other links to it.
+fn links_at<'r>(alloc: Global, rows: &'r Rows, object: &Oid) -> Result<Vec<&'r Held>, NoMemory>
+    ensures { IfOk result (λ links. referents links.items ≡ links_found object.now rows.now) }
+{
+    let mut links = rows.links_from(alloc, object)?;
+    push_others(&mut links, object, rows.links_to(alloc, object)?.as_slice())?;
+    Ok(links)
+}
+
+/// Adds those of the links that aren't from an object.
+fn push_others<'r>(
+    links: &mut Vec<&'r Held>,
+    object: &Oid,
+    others: &[&'r Held],
+) -> Result<(), NoMemory>
+    ensures { OnOk result (referents links.new.items ≡ referents links.old.items
+        ++ filter (λ h. not (is_link_from object.now h.update.key)) (referents others.now)) }
+{
+    for link in others {
+        if !is_link_from(object, &link.key()) {
+            links.push(*link)?;
+        }
+    }
+    Ok(())
+}
+
+fn is_link_from(object: &Oid, key: &Key) -> bool
+    ensures { result ≡ is_link_from object.now (key_of key.now) }
+{
+    match key {
+        Key::Row { .. } => false,
+        Key::Link(link) => is_same_object(&link.from, object),
+    }
+}

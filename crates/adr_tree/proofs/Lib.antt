@@ -1,0 +1,9 @@
+mod Steps
+mod Seen
+mod Alike
+mod Breaking
+mod Runs
+mod Found
+mod Childless
+mod Moves
+mod Edited

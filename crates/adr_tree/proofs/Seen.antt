@@ -1,0 +1,191 @@
+-- What is seen of slots that are looked up, made, filled, emptied and freed.
+use Rattle.std.proofs.Common.{◌≡◌, ◌≤◌, ◌+◌, ℕ, suc, List, [], ◌∷◌, Bool, true, false, cond, not, ◌&&◌, Option, Some, None, refl, sym, ap, ◌∙◌, subst, map, length, arith}
+use Rattle.std.specs.Prelude.{if◌then◌else◌, IfSome, IsSome, is_some, unwrap_or}
+use Rattle.std.specs.List.{AllByRecursion}
+use Rattle.std.specs.List.Sorted.{IsStrictlySortedBy}
+use Rattle.std.specs.Map.{keys_of, lookup, remove_entry}
+use Rattle.std.specs.BTreeMap.{insert_entry, is_at}
+use Rattle.std.specs.Ordering.{is_eq, match_ordering, ordering_reverse}
+use Rattle.std.specs.declared.cmp.Ordering.{Ordering}
+use Rattle.std.specs.declared.cmp.Ordering.TheVariants.{Less, Equal, Greater}
+use Rattle.std.proofs.lemmas.Cmp.{eq_by_cmp_equiv, nat_list_cmp_total}
+use Rattle.std.proofs.lemmas.Map.{lookup-none}
+use Rattle.std.proofs.lemmas.Map.Entries.{none_past_head}
+use Rattle.std.proofs.lemmas.Map.Keys.{sorted_head, sorted_tail, IsDistinct-from_sorted}
+use Rattle.std.proofs.lemmas.Map.Lookups.{exact_bytes}
+use Rattle.adr_stamp.specs.Order.{identifier_order}
+use Rattle.adr_model.specs.Update.{Identifier, same_identifier}
+use Rattle.adr_model.specs.Place.{Node, node_at}
+use Rattle.adr_model.proofs.Keys.{equal_order}
+use Rattle.adr_law_tree.specs.InOrder.{AreInOrder}
+use Rattle.adr_tree.specs.Slots.{and_seen, seen, AreAtHome, flat}
+
+abbrev pub Slots : Type 0
+Slots = List (Identifier × Option Node)
+
+abbrev pub AreSorted : Slots → Type 0
+AreSorted es = IsStrictlySortedBy identifier_order (keys_of es)
+
+pub flipped : (g h : Identifier) → same_identifier g h ≡ same_identifier h g
+flipped g h = ap is_eq (nat_list_cmp_total.antisymm g h) ∙ turned (identifier_order h g)
+  where
+    turned : (o : Ordering) → is_eq (ordering_reverse o) ≡ is_eq o
+    turned Less = refl
+    turned Equal = refl
+    turned Greater = refl
+
+-- ---- look-ups
+
+tests_alike : (n : Node) (g k : Identifier) → n.object.guid ≡ k → same_identifier n.object.guid g ≡ is_at (identifier_order g) k
+tests_alike n g k home = flipped n.object.guid g ∙ ap (same_identifier g) home
+
+-- no later slot is that of the first one's GUID
+later_none : (g : Identifier) (e : Identifier × Option Node) (es : Slots) → AreSorted (e ∷ es) → is_at (identifier_order g) e.0 ≡ true → lookup (is_at (identifier_order g)) es ≡ None
+later_none g e es sorted at =
+    lookup-none (is_at (identifier_order g)) es (none_past_head (eq_by_cmp_equiv nat_list_cmp_total) g e es (IsDistinct-from_sorted identifier_order (keys_of (e ∷ es)) sorted) at)
+
+pub found : (es : Slots) (g : Identifier) → AreSorted es → AreAtHome es → flat (lookup (is_at (identifier_order g)) es) ≡ node_at (seen es) g
+found [] g sorted home = refl
+found (e ∷ es) g sorted home = by e.1 refl home.0 (found es g (sorted_tail identifier_order e.0 (keys_of es) sorted) home.1)
+  where
+    empty : (b : Bool) → is_at (identifier_order g) e.0 ≡ b → flat (lookup (is_at (identifier_order g)) es) ≡ node_at (seen es) g
+        → flat (cond b (Some None) (lookup (is_at (identifier_order g)) es)) ≡ node_at (seen es) g
+    empty true at later = sym (sym later ∙ ap flat (later_none g e es sorted at))
+    empty false at later = later
+
+    full : (n : Node) (b : Bool) → flat (lookup (is_at (identifier_order g)) es) ≡ node_at (seen es) g
+        → flat (cond b (Some (Some n)) (lookup (is_at (identifier_order g)) es)) ≡ cond b (Some n) (node_at (seen es) g)
+    full n true later = refl
+    full n false later = later
+
+    by : (o : Option Node) → e.1 ≡ o → IfSome o (λ n. n.object.guid ≡ e.0) → flat (lookup (is_at (identifier_order g)) es) ≡ node_at (seen es) g
+        → flat (cond (is_at (identifier_order g) e.0) (Some o) (lookup (is_at (identifier_order g)) es)) ≡ node_at (and_seen o (seen es)) g
+    by None is h later = empty (is_at (identifier_order g) e.0) refl later
+    by (Some n) is at later =
+        full n (is_at (identifier_order g) e.0) later
+        ∙ ap (λ b. cond b (Some n) (node_at (seen es) g)) (sym (tests_alike n g e.0 at))
+
+-- ---- a new slot
+
+pub made : (es : Slots) (g : Identifier) → lookup (is_at (identifier_order g)) es ≡ None → seen (insert_entry identifier_order es g None) ≡ seen es
+made [] g none = refl
+made (e ∷ es) g none = by (identifier_order g e.0) none (made es g)
+  where
+    by : (o : Ordering) → cond (is_eq o) (Some e.1) (lookup (is_at (identifier_order g)) es) ≡ None → (lookup (is_at (identifier_order g)) es ≡ None → seen (insert_entry identifier_order es g None) ≡ seen es)
+        → seen (match_ordering o ((g, None) ∷ e ∷ es) ((e.0, None) ∷ es) (e ∷ insert_entry identifier_order es g None)) ≡ seen (e ∷ es)
+    by Less n later = refl
+    by Equal n later = cc
+    by Greater n later = ap (λ ns. and_seen e.1 ns) (later n)
+
+pub home_still : (es : Slots) (g : Identifier) (v : Option Node) → IfSome v (λ n. n.object.guid ≡ g) → AreAtHome es → AreAtHome (insert_entry identifier_order es g v)
+home_still [] g v at home = (at, tt)
+home_still (e ∷ es) g v at home = by (identifier_order g e.0) refl (home_still es g v at home.1)
+  where
+    by : (o : Ordering) → identifier_order g e.0 ≡ o → AreAtHome (insert_entry identifier_order es g v) → AreAtHome (match_ordering o ((g, v) ∷ e ∷ es) ((e.0, v) ∷ es) (e ∷ insert_entry identifier_order es g v))
+    by Less is later = (at, home)
+    by Equal is later = (subst (λ k. IfSome v (λ n. n.object.guid ≡ k)) (exact_bytes g e.0 is) at, home.1)
+    by Greater is later = (home.0, later)
+
+-- ---- a slot freed
+
+pub freed_seen : (es : Slots) (g : Identifier) → lookup (is_at (identifier_order g)) es ≡ Some None → seen (remove_entry (is_at (identifier_order g)) es) ≡ seen es
+freed_seen [] g empty = cc
+freed_seen (e ∷ es) g empty = by (is_at (identifier_order g) e.0) empty (freed_seen es g)
+  where
+    first : (o : Option Node) → o ≡ None → seen es ≡ and_seen o (seen es)
+    first None h = refl
+    first (Some n) h = cc
+
+    by : (b : Bool) → cond b (Some e.1) (lookup (is_at (identifier_order g)) es) ≡ Some None → (lookup (is_at (identifier_order g)) es ≡ Some None → seen (remove_entry (is_at (identifier_order g)) es) ≡ seen es)
+        → seen (cond b es (e ∷ remove_entry (is_at (identifier_order g)) es)) ≡ seen (e ∷ es)
+    by true h later = let is : e.1 ≡ None = cc in first e.1 is
+    by false h later = ap (λ ns. and_seen e.1 ns) (later h)
+
+pub freed_home : (es : Slots) (g : Identifier) → AreAtHome es → AreAtHome (remove_entry (is_at (identifier_order g)) es)
+freed_home [] g home = home
+freed_home (e ∷ es) g home = by (is_at (identifier_order g) e.0) (freed_home es g home.1)
+  where
+    by : (b : Bool) → AreAtHome (remove_entry (is_at (identifier_order g)) es) → AreAtHome (cond b es (e ∷ remove_entry (is_at (identifier_order g)) es))
+    by true h = home.1
+    by false h = (home.0, h)
+
+-- ---- by look-ups
+
+pub flat_either : (b : Bool) (v : Option Node) (old : Option (Option Node)) → flat (cond b (Some v) old) ≡ cond b v (flat old)
+flat_either true v old = refl
+flat_either false v old = refl
+
+pub flag_either : (b v : Bool) (old : Option Bool) → unwrap_or (cond b (Some v) old) false ≡ cond b v (unwrap_or old false)
+flag_either true v old = refl
+flag_either false v old = refl
+
+pub not_some : {X : Type 0} (o : Option X) → is_some o ≡ false → o ≡ None
+not_some None is = refl
+not_some (Some x) is = cc
+
+pub still_some : {X : Type 0} (b : Bool) (v : X) (o : Option X) → IsSome o → IsSome (cond b (Some v) o)
+still_some true v o some = refl
+still_some false v o some = some
+
+-- a flag that is new and not set leaves what is looked up
+pub new_flag : (f : Identifier → Option Bool) (g h : Identifier) → f g ≡ None → unwrap_or (cond (is_at (identifier_order g) h) (Some false) (f h)) false ≡ unwrap_or (f h) false
+new_flag f g h none = by (is_at (identifier_order g) h) refl
+  where
+    by : (b : Bool) → is_at (identifier_order g) h ≡ b → unwrap_or (cond b (Some false) (f h)) false ≡ unwrap_or (f h) false
+    by true at = let same : g ≡ h = exact_bytes g h (equal_order (identifier_order g h) at) in sym (ap (λ (o : Option Bool). unwrap_or o false) (subst (λ k. f k ≡ None) same none))
+    by false at = refl
+
+-- ---- the list that is seen
+
+below_seen : (k : Identifier) (es : Slots) → AllByRecursion (λ l. identifier_order k l ≡ Less) (keys_of es) → AreAtHome es
+    → AllByRecursion (λ l. identifier_order k l ≡ Less) (map (λ (n : Node). n.object.guid) (seen es))
+below_seen k [] below home = tt
+below_seen k (e ∷ es) below home = by e.1 home.0 (below_seen k es below.1 home.1)
+  where
+    by : (o : Option Node) → IfSome o (λ n. n.object.guid ≡ e.0) → AllByRecursion (λ l. identifier_order k l ≡ Less) (map (λ (n : Node). n.object.guid) (seen es))
+        → AllByRecursion (λ l. identifier_order k l ≡ Less) (map (λ (n : Node). n.object.guid) (and_seen o (seen es)))
+    by None at rest = rest
+    by (Some n) at rest = (ap (identifier_order k) at ∙ below.0, rest)
+
+pub in_order : (es : Slots) → AreSorted es → AreAtHome es → AreInOrder (seen es)
+unfolding IsStrictlySortedBy
+in_order [] sorted home = tt
+in_order (e ∷ es) sorted home = by e.1 home.0 (in_order es (sorted_tail identifier_order e.0 (keys_of es) sorted) home.1)
+  where
+    by : (o : Option Node) → IfSome o (λ n. n.object.guid ≡ e.0) → AreInOrder (seen es) → AreInOrder (and_seen o (seen es))
+    by None at rest = rest
+    by (Some n) at rest =
+        (subst (λ k. AllByRecursion (λ l. identifier_order k l ≡ Less) (map (λ (n : Node). n.object.guid) (seen es))) (sym at) (below_seen e.0 es (sorted_head identifier_order e.0 (keys_of es) sorted) home.1), rest)
+
+pub length_seen : (es : Slots) → length (seen es) ≤ length es
+length_seen [] = omega arith
+length_seen (e ∷ es) = by e.1 (length_seen es)
+  where
+    by : (o : Option Node) → length (seen es) ≤ length es → length (and_seen o (seen es)) ≤ suc (length es)
+    by None less = omega (arith, less)
+    by (Some n) less = omega (arith, less)
+
+-- the nodes in slots without their GUIDs
+abbrev pub kept : List (Option Node) → List Node
+kept [] = []
+kept (o ∷ os) = and_seen o (kept os)
+
+pub kept_values : (es : Slots) → kept (map (λ (e : Identifier × Option Node). e.1) es) ≡ seen es
+kept_values [] = refl
+kept_values (e ∷ es) = ap (and_seen e.1) (kept_values es)
+
+-- a flag that isn't set needs not be cleared
+pub not_set : (f : Identifier → Bool) (g h : Identifier) → f g ≡ false → f h ≡ (f h && not (same_identifier g h))
+not_set f g h none = by (same_identifier g h) refl
+  where
+    and_true : (b : Bool) → b ≡ (b && true)
+    and_true true = refl
+    and_true false = refl
+
+    by : (b : Bool) → same_identifier g h ≡ b → f h ≡ (f h && not b)
+    by true at = let e : f h ≡ false = subst (λ k. f k ≡ false) (exact_bytes g h (equal_order (identifier_order g h) at)) none in e ∙ sym (ap (λ b. b && false) e)
+    by false at = and_true (f h)
+
+pub len_stays : (b : Bool) (m n : ℕ) → b ≡ true → n ≡ m + (if b then 0 else 1) → n ≡ m
+len_stays true m n is e = let f : n ≡ m + 0 = e in omega (arith, f)
+len_stays false m n is e = cc

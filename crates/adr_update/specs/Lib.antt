@@ -1,0 +1,4 @@
+pub mod Key
+pub mod Said
+pub mod Referents
+pub mod Sought

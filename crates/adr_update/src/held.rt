@@ -1,0 +1,62 @@
+//! Rows as a controller holds them.
+
+ghost use Rattle.std.specs.Prelude.{◌≡◌, IfOk};
+ghost use Rattle.adr_update.specs.Key.{key_of};
+
+use crate::NoMemory;
+use crate::key::Key;
+use crate::update::Update;
+use std::alloc::Global;
+use std::marker::Model;
+
+/// An update that is held, with the update sequence number under which it was written here.
+#[derive(Drop)]
+pub struct Held {
+    update: Update,
+    local: u64,
+}
+
+impl Model for Held {
+    ghost use Rattle.adr_model.specs.Store.{Held as Defined};
+
+    ghost Value = { Defined };
+
+    ghost view = { λ h. record { update = h.update; local = h.local } };
+}
+
+impl Held {
+    pub fn new(update: Update, local: u64) -> Held
+        ensures { result ≡ record { update = update; local = local } }
+    {
+        Held { update, local }
+    }
+
+    pub fn update(&self) -> &Update
+        ensures { result.now ≡ self.now.update }
+    {
+        &self.update
+    }
+
+    pub fn local(&self) -> u64
+        ensures { result ≡ self.now.local }
+    {
+        self.local
+    }
+
+    /// The key of the update.
+    pub fn key(&self) -> Key
+        ensures { key_of result ≡ self.now.update.key }
+    {
+        self.update.key()
+    }
+
+    /// An equal row.
+    pub fn copy(&self, alloc: Global) -> Result<Held, NoMemory>
+        ensures { IfOk result (λ copy. copy ≡ self.now) }
+    {
+        Ok(Held {
+            update: self.update.copy(alloc)?,
+            local: self.local,
+        })
+    }
+}

@@ -1,0 +1,103 @@
+//! Rows of one unit.
+
+ghost use Rattle.std.specs.Prelude.{◌≡◌, ◌∷◌, ◌++◌, [], IfOk, OnOk};
+ghost use Rattle.adr_model.specs.Change.{held_of};
+
+use crate::NoMemory;
+use crate::held::Held;
+use crate::update::Update;
+use adr_stamp::Unit;
+use std::alloc::Global;
+use std::marker::Model;
+
+/// Rows of one object, or a link row.
+#[derive(Drop)]
+pub struct Item {
+    unit: Unit,
+    rows: Vec<Update>,
+}
+
+impl Model for Item {
+    ghost use Rattle.adr_model.specs.Change.{Item as Defined};
+
+    ghost Value = { Defined };
+
+    ghost view = { λ i. record { unit = i.unit; rows = i.rows.items } };
+}
+
+impl Item {
+    pub fn new(unit: Unit, rows: Vec<Update>) -> Item
+        ensures { result ≡ record { unit = unit; rows = rows.items } }
+    {
+        Item { unit, rows }
+    }
+
+    pub fn unit(&self) -> Unit
+        ensures { result ≡ self.now.unit }
+    {
+        self.unit
+    }
+
+    pub fn rows(&self) -> &[Update]
+        ensures { result.now ≡ self.now.rows }
+    {
+        self.rows.as_slice()
+    }
+}
+
+/// Equal updates, in their order.
+pub fn copy_updates(alloc: Global, updates: &[Update]) -> Result<Vec<Update>, NoMemory>
+    ensures { IfOk result (λ copy. copy.items ≡ updates.now) }
+{
+    let mut copy = Vec::new(alloc);
+    for update in updates {
+        copy.push(update.copy(alloc)?)?;
+    }
+    Ok(copy)
+}
+
+/// Rows of one unit that are written under one local update sequence number.
+#[derive(Drop)]
+pub struct Written {
+    local: u64,
+    item: Item,
+}
+
+impl Model for Written {
+    ghost use Rattle.adr_model.specs.Change.{Written as Defined};
+
+    ghost Value = { Defined };
+
+    ghost view = { λ w. record { local = w.local; item = w.item } };
+}
+
+impl Written {
+    pub fn new(local: u64, item: Item) -> Written
+        ensures { result ≡ record { local = local; item = item } }
+    {
+        Written { local, item }
+    }
+
+    /// The update sequence number under which the rows are written here.
+    pub fn local(&self) -> u64
+        ensures { result ≡ self.now.local }
+    {
+        self.local
+    }
+
+    pub fn item(&self) -> &Item
+        ensures { result.now ≡ self.now.item }
+    {
+        &self.item
+    }
+
+    /// Adds the rows to others, each under the local update sequence number.
+    pub fn push_held(&self, alloc: Global, rows: &mut Vec<Held>) -> Result<(), NoMemory>
+        ensures { OnOk result (rows.new.items ≡ rows.old.items ++ held_of (self.now ∷ [])) }
+    {
+        for update in self.item.rows() {
+            rows.push(Held::new(update.copy(alloc)?, self.local))?;
+        }
+        Ok(())
+    }
+}

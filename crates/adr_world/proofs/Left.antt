@@ -1,0 +1,33 @@
+-- What a fault leaves of a line, by the turns that were done.
+use Rattle.std.proofs.Common.{◌≡◌, inl, inr, refl, ℕ, ◌+◌, List, Bool, true, false, Option, sym, subst}
+use Rattle.std.specs.Prelude.{flat_map}
+use Rattle.adr_event.specs.declared.answer.Answer.{Answer}
+use Rattle.adr_event.specs.declared.event.Event.{Event}
+use Rattle.adr_io.specs.Told.{AddsFront}
+use Rattle.adr_model.specs.World.{World}
+use Rattle.adr_model.specs.Step.{step}
+use Rattle.adr_report.specs.Line.{line}
+use Rattle.adr_world.specs.Door.{IsDone, IsLeftBy}
+use Rattle.adr_world.proofs.Turns.{IsSoFar, IsBehind, told_first, turns_so_far}
+use Rattle.adr_world.proofs.ToldLines.{lines_begin}
+
+is_done : (t : World × List Answer) (v : World) (all : List Answer) (first now : Option (List ℕ)) → t ≡ (v, all) → AddsFront first now (flat_map line all) → IsDone t v first now
+is_done t v all first now is front = subst (λ (x : World × List Answer). IsDone x v first now) (sym is) (refl, front)
+
+module _ (w : World) (e : Event) (turn : ℕ) (v : World) (all : List Answer) (first now : Option (List ℕ)) (front : AddsFront first now (flat_map line all)) where
+  -- whole turns were done
+  pub left_so_far : IsSoFar w e turn v all → IsLeftBy w e v first now
+  left_so_far so = inl (turn, so.within, is_done _ v all first now (turns_so_far w e turn v all so) front)
+
+  pub front_so_far : IsSoFar w e turn v all → AddsFront first now (flat_map line (step w e).1)
+  front_so_far so = let t = told_first w e turn v all so in lines_begin first now (step w e).1 all t.0 t.1 front
+
+module _ (w : World) (e : Event) (turn : ℕ) (v : World) (all : List Answer) (first now : Option (List ℕ)) (front : AddsFront first now (flat_map line all)) where
+  -- one more was done, and it may be the last
+  pub left_behind : (b : Bool) → IsBehind w e turn v all b → IsLeftBy w e v first now
+  left_behind true so = left_so_far w e (turn + 1) v all first now front so
+  left_behind false is = inr (is_done (step w e) v all first now is front)
+
+  pub front_behind : (b : Bool) → IsBehind w e turn v all b → AddsFront first now (flat_map line (step w e).1)
+  front_behind true so = front_so_far w e (turn + 1) v all first now front so
+  front_behind false is = subst (λ (t : World × List Answer). AddsFront first now (flat_map line t.1)) (sym is) front
