@@ -8,6 +8,8 @@ use Rattle.adr_model.specs.Change.{goes_with}
 use Rattle.adr_model.specs.Write.{is_link_row, links_in}
 use Rattle.adr_model.specs.Formed.{AreRising}
 use Rattle.adr_update.specs.Sought.{is_link_from, is_link_to}
+use Rattle.adr_table.specs.Table.{IsKept, rows_in}
+use Rattle.adr_table.specs.declared.table.Table.{Table}
 
 -- whether a row of the base went with an object that died by rows over it
 abbrev pub is_stripped : List Held → Key → Bool
@@ -33,6 +35,11 @@ pub record IsCounted (over base : List Held) (m n : ℕ) : Type 0 where
   pub base_rises : AreRising base
   pub objects : m ≡ length (objects_of (updates_of (told over base)))
   pub links : n ≡ links_in (told over base)
+
+-- the rows over the base stand in a table, and with the base they are counted
+pub record AreLaid (over : Table) (base : List Held) (m n : ℕ) : Type 0 where
+  pub kept : IsKept over
+  pub counted : IsCounted (rows_in over) base m n
 
 -- 1 where it is so
 abbrev pub one : Bool → ℕ

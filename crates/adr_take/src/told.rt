@@ -9,11 +9,13 @@ ghost use Rattle.adr_model.specs.Write.{is_link_row, links_in};
 ghost use Rattle.adr_update.specs.Key.{key_of};
 ghost use Rattle.adr_update.specs.Referents.{referents};
 ghost use Rattle.adr_update.specs.Sought.{is_link_from};
+ghost use Rattle.adr_table.specs.Table.{IsKept, rows_in};
 ghost use Rattle.adr_take.specs.Told.{is_birth_row, is_left, is_stripped, links_found, links_lost, one};
 
 use crate::NoMemory;
 use adr_stamp::Oid;
 use adr_state::{DELETED, Held, Key, Rows, is_same_object};
+use adr_table::Table;
 use std::alloc::{AllocError, Global};
 use std::marker::Model;
 
@@ -22,7 +24,7 @@ use std::marker::Model;
 #[derive(Drop)]
 pub struct Told<'a> {
     base: &'a Rows,
-    over: Rows,
+    over: Table,
     objects: usize,
     links: usize,
 }
@@ -33,11 +35,12 @@ impl<'a> Model for Told<'a> {
 
     ghost Value = { List Defined };
 
-    ghost use Rattle.adr_take.specs.Told.{IsCounted, told};
+    ghost use Rattle.adr_table.specs.Table.{rows_in};
+    ghost use Rattle.adr_take.specs.Told.{AreLaid, told};
 
-    ghost view = { λ t. told t.over t.base.now };
+    ghost view = { λ t. told (rows_in t.over) t.base.now };
 
-    ghost invariant = { λ t. IsCounted t.over t.base.now t.objects t.links };
+    ghost invariant = { λ t. AreLaid t.over t.base.now t.objects t.links };
 }
 
 impl<'a> Told<'a> {
@@ -48,7 +51,7 @@ impl<'a> Told<'a> {
         base.are_rising();
         Told {
             base,
-            over: Rows::new(alloc),
+            over: Table::new(alloc),
             objects: base.objects(),
             links: base.links(),
         }
@@ -106,7 +109,10 @@ impl<'a> Told<'a> {
         let lost = self.lost_by(alloc, &key)?;
         let objects = self.objects_with(&key)?;
         let links = self.links_with(&key)?;
-        self.over.write(alloc, vec![in alloc; row]?, &[])?;
+        let rows = vec![in alloc; row]?;
+        let spare = self.over.spare(alloc, rows.as_slice(), &[])?;
+        self.over.reserve(rows.as_slice())?;
+        self.over.write(rows, &[], spare);
         self.objects = objects;
         self.links = links - lost;
         Ok(())
@@ -155,31 +161,34 @@ impl<'a> Told<'a> {
 }
 
 /// How many links there are at an object: those over the others, and of those below them what still counts.
-fn count_at(alloc: Global, over: &Rows, base: &Rows, object: &Oid) -> Result<usize, NoMemory>
+fn count_at(alloc: Global, over: &Table, base: &Rows, object: &Oid) -> Result<usize, NoMemory>
+    requires { IsKept over.now }
     ensures { IfOk result (λ count. count
-        ≡ length (filter (λ h. is_left over.now h.update.key) (links_found object.now base.now))
-        + length (links_found object.now over.now)) }
+        ≡ length (filter (λ h. is_left (rows_in over.now) h.update.key) (links_found object.now base.now))
+        + length (links_found object.now (rows_in over.now))) }
 {
-    let above = links_at(alloc, over, object)?.len();
+    let above = links_above(alloc, over, object)?.len();
     let below = count_below(alloc, over, base, object)?;
     below.checked_add(above).ok_or(AllocError)
 }
 
 /// How many links at an object, of those below the others, still count. Of an object that died by one of them there is
 /// none.
-fn count_below(alloc: Global, over: &Rows, base: &Rows, object: &Oid) -> Result<usize, NoMemory>
+fn count_below(alloc: Global, over: &Table, base: &Rows, object: &Oid) -> Result<usize, NoMemory>
+    requires { IsKept over.now }
     ensures { IfOk result (λ count. count
-        ≡ length (filter (λ h. is_left over.now h.update.key) (links_found object.now base.now))) }
+        ≡ length (filter (λ h. is_left (rows_in over.now) h.update.key) (links_found object.now base.now))) }
 {
     if over.is_dead(object) {
         return Ok(0);
     }
-    Ok(count_left(over, links_at(alloc, base, object)?.as_slice()))
+    Ok(count_left(over, links_below(alloc, base, object)?.as_slice()))
 }
 
 /// Whether a row of this key, of those below the others, went with an object that died by one of them.
-fn is_stripped(over: &Rows, key: &Key) -> bool
-    ensures { result ≡ is_stripped over.now (key_of key.now) }
+fn is_stripped(over: &Table, key: &Key) -> bool
+    requires { IsKept over.now }
+    ensures { result ≡ is_stripped (rows_in over.now) (key_of key.now) }
 {
     match key {
         Key::Row { object, attr } => over.is_dead(object) && DELETED < *attr,
@@ -188,15 +197,17 @@ fn is_stripped(over: &Rows, key: &Key) -> bool
 }
 
 /// Whether a row of this key, of those below the others, still counts.
-fn is_left(over: &Rows, key: Key) -> bool
-    ensures { result ≡ is_left over.now (key_of key) }
+fn is_left(over: &Table, key: Key) -> bool
+    requires { IsKept over.now }
+    ensures { result ≡ is_left (rows_in over.now) (key_of key) }
 {
     !is_stripped(over, &key) && over.row(key).is_none()
 }
 
 /// How many of these rows, which lie below the others, still count.
-fn count_left(over: &Rows, rows: &[&Held]) -> usize
-    ensures { result ≡ length (filter (λ h. is_left over.now h.update.key) (referents rows.now)) }
+fn count_left(over: &Table, rows: &[&Held]) -> usize
+    requires { IsKept over.now }
+    ensures { result ≡ length (filter (λ h. is_left (rows_in over.now) h.update.key) (referents rows.now)) }
 {
     let mut count = 0;
     for row in rows {
@@ -207,12 +218,22 @@ fn count_left(over: &Rows, rows: &[&Held]) -> usize
     count
 }
 
-/// The links from an object, and then the other links to it.
-fn links_at<'r>(alloc: Global, rows: &'r Rows, object: &Oid) -> Result<Vec<&'r Held>, NoMemory>
-    ensures { IfOk result (λ links. referents links.items ≡ links_found object.now rows.now) }
+/// The links from an object, and then the other links to it, of the rows over the others.
+fn links_above<'r>(alloc: Global, over: &'r Table, object: &Oid) -> Result<Vec<&'r Held>, NoMemory>
+    requires { IsKept over.now }
+    ensures { IfOk result (λ links. referents links.items ≡ links_found object.now (rows_in over.now)) }
 {
-    let mut links = rows.links_from(alloc, object)?;
-    push_others(&mut links, object, rows.links_to(alloc, object)?.as_slice())?;
+    let mut links = over.links_from(alloc, object)?;
+    push_others(&mut links, object, over.links_to(alloc, object)?.as_slice())?;
+    Ok(links)
+}
+
+/// The links from an object, and then the other links to it, of the rows below the others.
+fn links_below<'r>(alloc: Global, base: &'r Rows, object: &Oid) -> Result<Vec<&'r Held>, NoMemory>
+    ensures { IfOk result (λ links. referents links.items ≡ links_found object.now base.now) }
+{
+    let mut links = base.links_from(alloc, object)?;
+    push_others(&mut links, object, base.links_to(alloc, object)?.as_slice())?;
     Ok(links)
 }
 

@@ -1,4 +1,5 @@
 use Rattle.std.proofs.Common.{◌≡◌, IfOk, Some, ap, ◌∙◌, subst}
+use Rattle.adr_table.specs.Table.{rows_in}
 use Rattle.adr_take.specs.Told.{links_lost}
 use Rattle.adr_take.proofs.Telling.{lost}
 use Rattle.adr_take.proofs.told.Told.lost_with.Goals as goal
@@ -7,5 +8,5 @@ pub returns : goal.returns
 returns c =
     let o = c.args.object.now in
     subst (λ n. IfOk c.count_at.result (λ count. count ≡ n))
-    (lost o c.self.inside.over c.self.inside.base.now c.self.invariant.over_rises c.self.invariant.base_rises ∙ ap (links_lost (Some o)) c.self.view_is)
+    (lost o (rows_in c.self.inside.over) c.self.inside.base.now c.self.invariant.counted.over_rises c.self.invariant.counted.base_rises ∙ ap (links_lost (Some o)) c.self.view_is)
     c.count_at.ensures
