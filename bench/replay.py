@@ -1,52 +1,177 @@
 #!/usr/bin/env python3
-"""Replays generated schedules of adds over two controllers, with cycles between them, and tells time and memory.
+"""Replays generated schedules at a size and at twice the size, and prints time, ratio and memory.
 
-Usage: bench/replay.py [ADDS..]        (2000 and 4000 if none are given)
+Usage: bench/replay.py [WORD..]        (only the works whose names have one of these words; else all)
+
+The time is that of the processor. That of a work is the time of its whole schedule less that of the lines before it, each
+the least of three runs.
 """
 import os
 import subprocess
 import sys
 import tempfile
-import time
 
 TOP = os.path.dirname(os.path.dirname(os.path.abspath(__file__)))
+RUNS = 3
 
 
-def schedule(adds, most):
-    """Half of the adds at each controller, and then a cycle each way with at most so many objects in a packet."""
-    lines = ["controller A #a0 #a1", "controller B #b0 #b1", "time 1000"]
-    for number in range(adds):
-        controller = "AB"[number % 2]
-        lines.append(f'add {controller} #{4096 + number:x} user #1 "person {number}" sAMAccountName="p{number}"')
-    lines.append(f"cycle B A {most}")
-    lines.append(f"cycle A B {most}")
-    return "\n".join(lines).encode() + b"\n"
+def controllers(names):
+    """Lines that make controllers, each with identifiers of its own."""
+    made = [f"controller {name} #{0xA0000000 + 2 * at:x} #{0xA0000001 + 2 * at:x}" for at, name in enumerate(names)]
+    return made + ["time 1000"]
 
 
-def measured(text):
-    """Seconds and MiB of one replay of the text."""
-    with tempfile.TemporaryFile() as given, tempfile.TemporaryFile() as written:
-        given.write(text)
-        given.seek(0)
-        begin = time.monotonic()
-        replay = subprocess.Popen([f"{TOP}/adrep", "replay"], stdin=given, stdout=written)
-        _, status, usage = os.wait4(replay.pid, 0)
-        seconds = time.monotonic() - begin
-        written.seek(0)
-        last = written.read().splitlines()[-1]
-    if status != 0 or not last.startswith(b"deliver A: ok"):
-        sys.exit(f"the replay ended with status {status} and the line {last!r}")
-    return seconds, usage.ru_maxrss / 1024
+def guid(number):
+    """The identifiers of objects, not in the order in which they are added."""
+    return f"#{0x1000 + number * 2654435761 % 0x8FFFEFFF:x}"
+
+
+def user(controller, number, parent="#1"):
+    return f'add {controller} {guid(number)} user {parent} "person {number}" sAMAccountName="p{number}"'
+
+
+def users(controller, numbers, parent="#1"):
+    return [user(controller, number, parent) for number in numbers]
+
+
+def adds(size):
+    return controllers(["A"]), users("A", range(size))
+
+
+def cycles_of(most):
+    """All that one controller holds, to a new one, with at most so many objects in a reply."""
+    return lambda size: (controllers(["A", "B"]) + users("A", range(size)), [f"cycle B A {most}"])
+
+
+def both_ways(size):
+    """Half of the adds at each of two controllers, and a cycle each way."""
+    lines = [user("AB"[number % 2], number) for number in range(size)]
+    return controllers(["A", "B"]), lines + ["cycle B A 1000", "cycle A B 1000"]
+
+
+def modifies(size):
+    before = controllers(["A"]) + users("A", range(size))
+    return before, [f'modify A {guid(number)} description="person {number}, again"' for number in range(size)]
+
+
+def deletes(size):
+    before = controllers(["A", "B"]) + users("A", range(size)) + ["cycle B A 1000"]
+    return before, [f"delete A {guid(number)}" for number in range(size)] + ["cycle B A 1000"]
+
+
+def one_group(size):
+    """A group that gets its members one by one, and a cycle."""
+    before = controllers(["A", "B"]) + users("A", range(size))
+    before += [f'add A #10 group #1 "All" groupType=2 sAMAccountName="all"']
+    return before, [f"link A #10 member {guid(number)}" for number in range(size)] + ["cycle B A 1000"]
+
+
+def group_deleted(size):
+    """The death of a group with all its links, and a cycle."""
+    before, links = one_group(size)
+    return before + links, ["delete A #10", "cycle B A 1000"]
+
+
+def deep_chain(size):
+    """Containers one in the other, and moves of the last of them between the two above it."""
+    before = controllers(["A"])
+    parent = "#1"
+    for number in range(size):
+        before.append(f'add A {guid(number)} container {parent} "box {number}"')
+        parent = guid(number)
+    foot, above, higher = guid(size - 1), guid(size - 2), guid(size - 3)
+    return before, [f'rename A {foot} {(above, higher)[turn % 2]} "box {size} {turn}"' for turn in range(20)]
+
+
+def units_moved(size):
+    """Objects spread over fifty units, and half of them moved to the next unit."""
+    before = controllers(["A", "B"])
+    units = [f"#{0x100 + unit:x}" for unit in range(50)]
+    before += [f'add A {units[unit]} organizationalUnit #1 "unit {unit}"' for unit in range(50)]
+    before += [user("A", number, units[number % 50]) for number in range(size)] + ["cycle B A 1000"]
+    moves = [f'rename A {guid(number)} {units[(number + 1) % 50]} "person {number}"' for number in range(0, size, 2)]
+    return before, moves + ["cycle B A 1000"]
+
+
+def ring(size):
+    """Adds spread over 64 controllers, and each pulls everything from the one before it, round the ring once."""
+    names = [f"C{at}" for at in range(64)]
+    lines = [user(names[number % 64], number) for number in range(size)]
+    lines += [f"cycle {names[(at + 1) % 64]} {names[at]} 1000" for at in range(64)]
+    return controllers(names), lines
+
+
+def shows(size):
+    before = controllers(["A"]) + users("A", range(size))
+    return before, ["show A"] * 5
+
+
+# Each work with its name and the smaller of its two sizes.
+WORKS = [
+    ("adds at one controller", adds, 20000),
+    ("cycle, MAX 1", cycles_of(1), 10000),
+    ("cycle, MAX 50", cycles_of(50), 20000),
+    ("cycle, MAX 1000", cycles_of(1000), 20000),
+    ("adds on both sides, cycles both ways", both_ways, 20000),
+    ("modifies of all", modifies, 20000),
+    ("deletes of all, and the cycle", deletes, 10000),
+    ("members of one group, and the cycle", one_group, 20000),
+    ("death of the group, and the cycle", group_deleted, 20000),
+    ("deep chain, moves at its foot", deep_chain, 20000),
+    ("fifty units, half moved", units_moved, 20000),
+    ("ring of 64 controllers", ring, 2000),
+    ("five shows", shows, 10000),
+]
+
+
+def measured(lines):
+    """Seconds of the processor and MiB of one replay of these lines, the least of some runs."""
+    best, most = None, 0
+    with tempfile.TemporaryFile() as given:
+        given.write("\n".join(lines).encode() + b"\n")
+        for _ in range(RUNS):
+            given.seek(0)
+            with tempfile.TemporaryFile() as written:
+                replay = subprocess.Popen([f"{TOP}/adrep", "replay"], stdin=given, stdout=written)
+                _, status, usage = os.wait4(replay.pid, 0)
+                seconds = usage.ru_utime + usage.ru_stime
+                written.seek(0)
+                refused = [line for line in written if b": refused" in line][:1]
+            if status != 0 or refused:
+                sys.exit(f"the replay ended with status {status}, {refused}")
+            best = seconds if best is None else min(best, seconds)
+            most = max(most, usage.ru_maxrss / 1024)
+    return best, most
+
+
+def work(made, size):
+    """Seconds and MiB of a work at a size, without the lines before it."""
+    before, lines = made(size)
+    alone, _ = measured(before)
+    whole, memory = measured(before + lines)
+    return whole - alone, memory
+
+
+def whole_run(name, lines):
+    seconds, memory = measured(lines)
+    print(f"{name:40} {seconds:9.2f} s {memory:7.0f} MiB", flush=True)
 
 
 def main():
-    sizes = [int(word) for word in sys.argv[1:]] or [2000, 4000]
+    words = sys.argv[1:]
     subprocess.run([f"{TOP}/adrep", "replay"], input=b"", check=True)  # builds the program
-    print("  adds   MAX   seconds      MiB")
-    for adds in sizes:
-        for most in (50, 1):
-            seconds, memory = measured(schedule(adds, most))
-            print(f"{adds:6} {most:5} {seconds:9.2f} {memory:8.0f}", flush=True)
+    print(f"{'work':40} {'n':>7} {'seconds':>9} {'at 2n':>9} {'ratio':>6} {'MiB':>6} {'at 2n':>6}")
+    for name, made, size in WORKS:
+        if words and not any(word in name for word in words):
+            continue
+        once, small = work(made, size)
+        twice, large = work(made, 2 * size)
+        print(f"{name:40} {size:7} {once:9.3f} {twice:9.3f} {twice / once:6.2f} {small:6.0f} {large:6.0f}", flush=True)
+    if not words:
+        before, lines = cycles_of(1000)(100000)
+        whole_run("100,000 adds, a cycle and a show", before + lines + ["show B"])
+        before, lines = one_group(20000)
+        print(f"{'20,000 members of one group':40} {work(one_group, 20000)[0]:9.2f} s")
 
 
 main()
