@@ -23,11 +23,11 @@ use std::alloc::Global;
 use std::collections::BTreeMap;
 
 /// A live object as it is shown.
-fn entry_of(
+fn entry_of<'a>(
     alloc: Global,
     rows: &Rows,
-    names: &BTreeMap<Slot, Rank>,
-    node: &Node,
+    names: &BTreeMap<Slot<'a>, Rank>,
+    node: &'a Node,
 ) -> Result<Entry, NoMemory>
     requires links { IsTrue (have_back_links (updates_of rows.now)) }
     requires named { AreNamed (updates_of rows.now) }
@@ -37,22 +37,23 @@ fn entry_of(
         entry ≡ entry_of (live_rows (updates_of rows.now)) (nodes_held (updates_of rows.now)) node.now) }
 {
     let object = node.object();
+    let place = rows.place(node);
     Ok(Entry {
         guid: object.guid,
         class: node.class(),
-        parent: rows.place(node),
-        name: shown_name(alloc, rows, names, node)?,
+        parent: place,
+        name: shown_name(alloc, names, place, node)?,
         values: values_at(alloc, rows, &object)?,
         links: links_at(alloc, rows, &object)?,
     })
 }
 
 /// Live objects as they are shown, in their order.
-fn all_entries(
+fn all_entries<'a>(
     alloc: Global,
     rows: &Rows,
-    names: &BTreeMap<Slot, Rank>,
-    nodes: &[&Node],
+    names: &BTreeMap<Slot<'a>, Rank>,
+    nodes: &[&'a Node],
 ) -> Result<Vec<Entry>, NoMemory>
     requires links { IsTrue (have_back_links (updates_of rows.now)) }
     requires named { AreNamed (updates_of rows.now) }

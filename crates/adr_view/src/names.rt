@@ -52,9 +52,9 @@ fn later(youngest: Option<&Rank>, rank: Rank) -> Rank
 }
 
 /// Takes one more name into account.
-fn put(names: &mut BTreeMap<Slot, Rank>, slot: Slot, rank: Rank) -> Result<(), NoMemory>
+fn put<'a>(names: &mut BTreeMap<Slot<'a>, Rank>, slot: Slot<'a>, rank: Rank) -> Result<(), NoMemory>
     ensures { OnOk result ((other : Where)
-        → get slot_order names.new other ≡ with_rank (same_slot slot other) rank (get slot_order names.old other)) }
+        → get slot_order names.new other ≡ with_rank (same_slot slot.entry other) rank (get slot_order names.old other)) }
 {
     let youngest = later(names.get(&slot), rank);
     names.insert(slot, youngest)?;
@@ -62,37 +62,30 @@ fn put(names: &mut BTreeMap<Slot, Rank>, slot: Slot, rank: Rank) -> Result<(), N
 }
 
 /// The youngest name of live objects wherever there is one.
-pub fn youngest_names(
+pub fn youngest_names<'a>(
     alloc: Global,
     rows: &Rows,
-    nodes: &[&Node],
-) -> Result<BTreeMap<Slot, Rank>, NoMemory>
+    nodes: &[&'a Node],
+) -> Result<BTreeMap<Slot<'a>, Rank>, NoMemory>
     requires { referents nodes.now ≡ nodes_held (updates_of rows.now) }
     ensures { IfOk result (λ names. AreYoungest (nodes_held (updates_of rows.now)) names) }
 {
     rows.are_rising();
     let mut names = BTreeMap::new(alloc);
     for node in nodes {
-        let slot = Slot::new(rows.place(node), node.name().copy(alloc)?);
+        let slot = Slot::new(rows.place(node), node.name());
         put(&mut names, slot, rank_of(node))?;
     }
     Ok(names)
 }
 
 /// Whether another object has the name of this one in this place and is younger.
-pub fn gives_way(
-    alloc: Global,
-    names: &BTreeMap<Slot, Rank>,
-    place: Uuid,
-    node: &Node,
-) -> Result<bool, NoMemory>
-    ensures { IfOk result (λ gives.
-        gives
-        ≡ option_map_or (is_before (rank_of node.now)) (get slot_order names.now (place, folded node.now.text)) false) }
+pub fn gives_way<'a>(names: &BTreeMap<Slot<'a>, Rank>, place: Uuid, node: &'a Node) -> bool
+    ensures { result
+        ≡ option_map_or (is_before (rank_of node.now)) (get slot_order names.now (place, folded node.now.text)) false }
 {
-    let slot = Slot::new(place, node.name().copy(alloc)?);
-    match names.get(&slot) {
-        Some(youngest) => Ok(is_before(&rank_of(node), youngest)),
-        None => Ok(false),
+    match names.get(&Slot::new(place, node.name())) {
+        Some(youngest) => is_before(&rank_of(node), youngest),
+        None => false,
     }
 }

@@ -1,21 +1,19 @@
 //! Under which names live objects are shown. Of those in one place whose names fold alike the youngest
 //! name keeps its text (the form of the others is that of MS-ADTS).
 
-ghost use Rattle.std.specs.Prelude.{◌≡◌, ◌&&◌, ◌||◌, Some, IfOk, codes};
+ghost use Rattle.std.specs.Prelude.{◌≡◌, ◌&&◌, ◌||◌, IfOk, List, codes};
 ghost use Rattle.std.specs.Str.{bytes_eq};
 ghost use Rattle.adr_schema.specs.Folding.{folded};
 ghost use Rattle.adr_model.specs.Update.{same_identifier};
-ghost use Rattle.adr_model.specs.Place.{node_at, place, root};
+ghost use Rattle.adr_model.specs.Place.{Node as Live, place as place_in, root};
 ghost use Rattle.adr_model.specs.Shown.{conflict_name, gives_way, is_lost_name, shown_name};
-ghost use Rattle.adr_model.specs.Store.{updates_of};
-ghost use Rattle.adr_model.specs.Write.{nodes_held};
 ghost use Rattle.adr_view.specs.Youngest.{AreYoungest};
 
 use crate::NoMemory;
 use crate::names::{Rank, gives_way};
 use crate::slot::Slot;
 use adr_schema::Text;
-use adr_state::{Node, Rows, is_same};
+use adr_state::{Node, is_same};
 use adr_update::root;
 use std::alloc::Global;
 use std::collections::BTreeMap;
@@ -47,35 +45,25 @@ fn conflict_name(alloc: Global, text: &Text, guid: Uuid) -> Result<Text, NoMemor
 }
 
 /// Whether another object, or LostAndFound, keeps the text of this one in its place.
-fn is_kept_by_another(
-    alloc: Global,
-    rows: &Rows,
-    names: &BTreeMap<Slot, Rank>,
-    node: &Node,
-) -> Result<bool, NoMemory>
-    requires live { node_at (nodes_held (updates_of rows.now)) node.now.object.guid ≡ Some node.now }
-    requires names { AreYoungest (nodes_held (updates_of rows.now)) names.now }
-    ensures { let nodes = nodes_held (updates_of rows.now) in
-        IfOk result (λ is. is ≡ (gives_way nodes node.now || is_lost_name (place nodes node.now) node.now.text)) }
+fn is_kept_by_another<'a>(names: &BTreeMap<Slot<'a>, Rank>, place: Uuid, node: &'a Node) -> bool
+    ensures { (nodes : List Live) → AreYoungest nodes names.now → place ≡ place_in nodes node.now
+        → result ≡ (gives_way nodes node.now || is_lost_name (place_in nodes node.now) node.now.text) }
 {
-    let place = rows.place(node);
-    let gives = gives_way(alloc, names, place, node)?;
-    Ok(gives || is_lost_name(place, node.name()))
+    gives_way(names, place, node) || is_lost_name(place, node.name())
 }
 
-/// The name under which an object is shown: its text, or where another object in the place keeps that, the text with a
-/// line feed, `CNF:` and the GUID in lower case (MS-ADTS, naming conflicts; RFC 9562 for the GUID).
-pub fn shown_name(
+/// The name under which an object is shown in its place: its text, or where another object there keeps that, the text
+/// with a line feed, `CNF:` and the GUID in lower case (MS-ADTS, naming conflicts; RFC 9562 for the GUID).
+pub fn shown_name<'a>(
     alloc: Global,
-    rows: &Rows,
-    names: &BTreeMap<Slot, Rank>,
-    node: &Node,
+    names: &BTreeMap<Slot<'a>, Rank>,
+    place: Uuid,
+    node: &'a Node,
 ) -> Result<Text, NoMemory>
-    requires live { node_at (nodes_held (updates_of rows.now)) node.now.object.guid ≡ Some node.now }
-    requires names { AreYoungest (nodes_held (updates_of rows.now)) names.now }
-    ensures { IfOk result (λ name. name ≡ shown_name (nodes_held (updates_of rows.now)) node.now) }
+    ensures { IfOk result (λ name. (nodes : List Live) → AreYoungest nodes names.now → place ≡ place_in nodes node.now
+        → name ≡ shown_name nodes node.now) }
 {
-    if is_kept_by_another(alloc, rows, names, node)? {
+    if is_kept_by_another(names, place, node) {
         conflict_name(alloc, node.text(), node.object().guid)
     } else {
         Ok(node.text().copy(alloc)?)

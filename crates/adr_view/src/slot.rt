@@ -12,52 +12,52 @@ use uuid::Uuid;
 
 /// A place, and a name in the form in which names are compared.
 #[derive(Drop)]
-pub struct Slot {
+pub struct Slot<'a> {
     place: Uuid,
-    name: Text,
+    name: &'a Text,
 }
 
-impl Model for Slot {
+impl<'a> Model for Slot<'a> {
     ghost use Rattle.adr_view.specs.Slots.{Slot as Defined};
 
     ghost Value = { Defined };
 
-    ghost view = { λ s. (s.place, s.name) };
+    ghost view = { λ s. (s.place, s.name.now) };
 }
 
-impl Slot {
-    pub fn new(place: Uuid, name: Text) -> Slot
-        ensures { result ≡ (place, name) }
+impl<'a> Slot<'a> {
+    pub fn new(place: Uuid, name: &'a Text) -> Slot<'a>
+        ensures { result ≡ (place, name.now) }
     {
         Slot { place, name }
     }
 }
 
-impl PartialEq for Slot {
+impl<'a> PartialEq for Slot<'a> {
     ghost eq = { same_slot };
 
     ghost laws = { partial_equiv_from_equiv slots_equivalent };
 
-    fn eq(&self, other: &Slot) -> bool {
+    fn eq(&self, other: &Slot<'a>) -> bool {
         self.cmp(other).is_eq()
     }
 }
 
-impl Eq for Slot {
+impl<'a> Eq for Slot<'a> {
     ghost laws = { slots_equivalent };
 }
 
-impl PartialOrd for Slot {
+impl<'a> PartialOrd for Slot<'a> {
     ghost partial_cmp = { as_partial_cmp slot_order };
 
     ghost laws = { slots_partly };
 
-    fn partial_cmp(&self, other: &Slot) -> Option<Ordering> {
+    fn partial_cmp(&self, other: &Slot<'a>) -> Option<Ordering> {
         Some(self.cmp(other))
     }
 }
 
-impl Ord for Slot {
+impl<'a> Ord for Slot<'a> {
     ghost cmp = { slot_order };
 
     ghost total = { slots_total };
@@ -66,7 +66,7 @@ impl Ord for Slot {
 
     ghost matches_eq = { λ x y. refl };
 
-    fn cmp(&self, other: &Slot) -> Ordering {
+    fn cmp(&self, other: &Slot<'a>) -> Ordering {
         let by_place = self.place.cmp(&other.place);
         by_place.then(self.name.items().cmp(other.name.items()))
     }

@@ -16,5 +16,5 @@ loop-node-preserved c = λ slot.
     let all = nodes_held (updates_of c.args.rows.now) in
     next_taken all c.args.nodes.now c.loop-node.node-index (c.loop-node.node-index + 1) c.node-item.result c.loop-node-test.true c.node-item.is (omega arith) slot (get slot_order c.loop-node.names slot) (get slot_order c.put.new.names slot) _
     (c.in_ok-put.ensures slot
-    ∙ ap₂ (λ (s : Slot) (r : Rank). with_rank (same_slot s slot) r (get slot_order c.loop-node.names slot)) (c.new-slot.ensures ∙ ap₂ (λ p f. (p, f)) c.place.ensures (c.in_ok-copy.ensures ∙ c.name.ensures)) c.rank_of.ensures)
+    ∙ ap₂ (λ (s : Slot) (r : Rank). with_rank (same_slot s slot) r (get slot_order c.loop-node.names slot)) (c.new-slot.ensures ∙ ap₂ (λ p f. (p, f)) c.place.ensures c.name.ensures) c.rank_of.ensures)
     (c.loop-node.invariant slot)

@@ -6,9 +6,7 @@ use Rattle.std.specs.Str.{bytes_eq}
 use Rattle.adr_schema.specs.Folding.{folded}
 use Rattle.adr_model.specs.Place.{Node, place, root}
 use Rattle.adr_model.specs.Shown.{gives_way, is_lost_name}
-use Rattle.adr_model.specs.Store.{updates_of}
 use Rattle.adr_model.specs.Update.{Identifier, same_identifier}
-use Rattle.adr_model.specs.Write.{nodes_held}
 use Rattle.adr_view.specs.Slots.{Slot, slot_order}
 use Rattle.adr_view.specs.Youngest.{AreYoungest, Rank, is_before, rank_of}
 use Rattle.adr_view.proofs.YoungestNames.{gives_way_is}
@@ -30,15 +28,13 @@ lost all n gives is_lost at name is way there named found =
     ∙ (ap₂ (λ (g : Identifier) (text : List ℕ). same_identifier g root && bytes_eq text (folded (codes "LostAndFound"))) there named
     ∙ sym (ap (λ b. b || is_lost_name (place all n) n.text) (sym way ∙ is)))
 
-pub returns-then-gives : goal.returns-then-gives
-returns-then-gives c =
-    let all = nodes_held (updates_of c.args.rows.now) in
-    gave all c.args.node.now c.in_ok-gives.gives c.if-gives.true
-    (told all c.args.names.now c.requires.names c.args.node.now c.place-place.result c.in_ok-gives.gives c.place-place.ensures c.in_ok-gives.ensures)
+pub returns-then-gives_way : goal.returns-then-gives_way
+returns-then-gives_way c = λ nodes youngest there.
+    gave nodes c.args.node.now c.gives_way.result c.if-gives_way.true
+    (told nodes c.args.names.now youngest c.args.node.now c.args.place c.gives_way.result there c.gives_way.ensures)
 
-pub returns-else-gives : goal.returns-else-gives
-returns-else-gives c =
-    let all = nodes_held (updates_of c.args.rows.now) in
-    lost all c.args.node.now c.in_ok-gives.gives c.is_lost_name.result c.place-place.result c.name.result.now c.if-gives.false
-    (told all c.args.names.now c.requires.names c.args.node.now c.place-place.result c.in_ok-gives.gives c.place-place.ensures c.in_ok-gives.ensures)
-    c.place-place.ensures c.name.ensures c.is_lost_name.ensures
+pub returns-else-gives_way : goal.returns-else-gives_way
+returns-else-gives_way c = λ nodes youngest there.
+    lost nodes c.args.node.now c.gives_way.result c.is_lost_name.result c.args.place c.name.result.now c.if-gives_way.false
+    (told nodes c.args.names.now youngest c.args.node.now c.args.place c.gives_way.result there c.gives_way.ensures)
+    there c.name.ensures c.is_lost_name.ensures
