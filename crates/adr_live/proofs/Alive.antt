@@ -265,8 +265,3 @@ module _ (us : List Update) (rising : IsStrictlySortedBy key_order (map key us))
       ∙ find_given (λ u. node_of us u.key u.said) of_live mine us
       ∙ given_alike _ (node_by us g) us by_birth
     )
-
--- one step of a loop over rows
-module _ {B : Type 0} (f : Update → Option B) (rows : List (Bor Held)) (i : ℕ) (x : Bor Held) (within : i < length rows) (is : x ≡ get_or rows i x) where
-  pub from_here : first_given f (updates_of (referents (drop i rows))) ≡ option_or (f x.now.update) (first_given f (updates_of (referents (drop (i + 1) rows))))
-  from_here = ap (λ xs. first_given f (updates_of (referents xs))) (drop_more rows i x within ∙ ap (λ y. y ∷ drop (i + 1) rows) (sym is))
