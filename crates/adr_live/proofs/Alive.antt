@@ -1,5 +1,5 @@
 -- The live object of a GUID is that of the first birth there that is live.
-use Rattle.std.proofs.Common.{◌≡◌, ◌<◌, ◌+◌, ℕ, inl, inr, Bool, true, false, cond, not, ◌&&◌, ◌||◌, List, [], ◌∷◌, Option, Some, None, refl, sym, ap, ap₂, ◌∙◌, map, filter, filter_map, find, length, get_or, drop, Bor, ◌==◌}
+use Rattle.std.proofs.Common.{◌≡◌, ℕ, inl, inr, Bool, true, false, cond, not, ◌&&◌, ◌||◌, List, [], ◌∷◌, Option, Some, None, refl, sym, ap, ap₂, ◌∙◌, map, filter, filter_map, find, ◌==◌}
 use Rattle.std.specs.Prelude.{if◌then◌else◌}
 use Rattle.std.specs.List.{list_any, list_all, cons_option}
 use Rattle.std.specs.List.Sorted.{IsStrictlySortedBy}
@@ -7,18 +7,15 @@ use Rattle.std.specs.Option.{option_and_then, option_map_or, option_or}
 use Rattle.std.specs.Ordering.{is_eq}
 use Rattle.std.proofs.lemmas.Bool.{eqb-true}
 use Rattle.std.proofs.lemmas.Cmp.{tied_itself}
-use Rattle.std.proofs.lemmas.List.{drop_more}
 use Rattle.adr_stamp.specs.Order.{object_order}
-use Rattle.adr_stamp.specs.declared.LinkStamp.{LinkStamp}
 use Rattle.adr_stamp.specs.declared.Oid.{Oid}
 use Rattle.adr_stamp.proofs.Exact.{exact_objects}
 use Rattle.adr_schema.specs.declared.content.Content.TheVariants.{Class, Name, Dead, Values}
 use Rattle.adr_model.specs.Member.{Member}
 use Rattle.adr_model.specs.Update.{Identifier, Key, RowOf, LinkOf, Said, Holds, IsPresent, Update, same_identifier, same_key, same_object, key_order, class_attr, name_attr, is_death_of, ends}
-use Rattle.adr_model.specs.Winner.{winner, winners}
+use Rattle.adr_model.specs.Winner.{winner}
 use Rattle.adr_model.specs.Live.{born, objects_of, standing, yields_to, live, is_among}
 use Rattle.adr_model.specs.Place.{Node, node_at, row_at, with_name, node_of, nodes_of}
-use Rattle.adr_model.specs.Store.{Held, updates_of}
 use Rattle.adr_model.specs.Write.{nodes_held}
 use Rattle.adr_model.proofs.Keys.{equal_order, exact_keys, keys_total, objects_tell, winner_found}
 use Rattle.adr_model.proofs.Members.{one_passes}
@@ -28,7 +25,6 @@ use Rattle.adr_law_tree.proofs.Local.{named_of}
 use Rattle.adr_law_tree.proofs.Loops.{object_itself}
 use Rattle.adr_law_tree.proofs.Rising.{one_of_each}
 use Rattle.adr_law_tree.proofs.RisingRows.{key, rising_win}
-use Rattle.adr_update.specs.Referents.{referents}
 use Rattle.adr_live.specs.Alive.{is_elder, beats, is_live, node_by}
 
 -- ---- lists
@@ -260,8 +256,8 @@ module _ (us : List Update) (rising : IsStrictlySortedBy key_order (map key us))
 
     pub node_found : first_given (node_by us g) us ≡ node_at (nodes_held us) g
     node_found = sym (
-      ap (λ ws. node_at (nodes_of (filter of_live ws)) g) (rising_win us rising)
-      ∙ ap (find mine) (filter_maps_alike (λ u. node_of (filter of_live us) u.key u.said) (λ u. node_of us u.key u.said) of_live (λ u is. node_whole u.key u.said is) us)
-      ∙ find_given (λ u. node_of us u.key u.said) of_live mine us
-      ∙ given_alike _ (node_by us g) us by_birth
-    )
+        ap (λ ws. node_at (nodes_of (filter of_live ws)) g) (rising_win us rising)
+        ∙ ap (find mine) (filter_maps_alike (λ u. node_of (filter of_live us) u.key u.said) (λ u. node_of us u.key u.said) of_live (λ u is. node_whole u.key u.said is) us)
+        ∙ find_given (λ u. node_of us u.key u.said) of_live mine us
+        ∙ given_alike _ (node_by us g) us by_birth
+        )

@@ -57,7 +57,7 @@ fn edits_to(alloc: Global, drafts: &BTreeMap<Uuid, Draft<'_>>) -> Result<Vec<Edi
     requires { DoRise drafts.now.entries }
     ensures { IfOk result (λ edits. edits.items ≡ map edit_of drafts.now.entries) }
 {
-    let mut edits = Vec::new(alloc);
+    let mut edits = Vec::with_capacity(alloc, drafts.len())?;
     for (guid, draft) in drafts {
         edits.push(edit_of(alloc, *guid, draft)?)?;
     }

@@ -1,7 +1,8 @@
-use Rattle.std.proofs.Common.{◌≡◌, ◌∙◌, List, Option, Some, Result, Ok, Err, refl, ap, subst}
-use Rattle.std.specs.Prelude.{IsSome, OnOk, unwrap_or}
+use Rattle.std.proofs.Common.{◌≡◌, ◌∙◌, List, Option, Some, refl, ap, subst}
+use Rattle.std.specs.Prelude.{IsSome, unwrap_or}
 use Rattle.std.specs.Option.{option_copied_mut}
 use Rattle.std.specs.BTreeMap.{Updates, get}
+use Rattle.std.proofs.lemmas.Result.{on_ok_weaker}
 use Rattle.adr_stamp.specs.Order.{identifier_order}
 use Rattle.adr_model.specs.Store.{Held}
 use Rattle.adr_table.specs.Table.{rows_in}
@@ -9,17 +10,13 @@ use Rattle.adr_live.specs.Core.{core_of}
 use Rattle.adr_live.proofs.Drafting.{row_drafted}
 use Rattle.adr_live.proofs.drafts.write_core.Goals as goal
 
-on_ok : {T E : Type 0} (r : Result T E) (P Q : Type 0) → (P → Q) → OnOk r P → OnOk r Q
-on_ok (Ok x) P Q to p = to p
-on_ok (Err e) P Q to p = tt
-
 pub returns-in-Some : goal.returns-in-Some
 returns-in-Some c =
     let rows = rows_in c.args.table.now in
     let guid = c.args.object.now.guid in
     let after = c.write.new.self in
     let found = subst (λ r. option_copied_mut r ≡ get identifier_order c.args.drafts.now guid) c.in-Some.is c.get_mut.ensures.value in
-    on_ok c.write.result _ _
+    on_ok_weaker c.write.result
     (λ written seen r are. row_drafted rows seen c.args.drafts.now (c.get_mut.follows.lender after) c.args.object.now c.in-Some.draft.now after c.args.row.now r are
     c.requires.core (ap (λ (o : Option (List Held)). unwrap_or o (core_of guid rows)) found) written
     ((c.get_mut.follows.holds after).3 (subst IsSome found refl)))

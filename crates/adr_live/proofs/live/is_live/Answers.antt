@@ -1,4 +1,4 @@
-use Rattle.std.proofs.Common.{◌≡◌, ◌&&◌, Bool, true, false, arith, ap, not, sym, refl, ◌∙◌}
+use Rattle.std.proofs.Common.{◌≡◌, ◌&&◌, Bool, true, false, arith, ap, not, sym, ◌∙◌}
 use Rattle.adr_model.specs.Store.{updates_of}
 use Rattle.adr_update.specs.Referents.{referents}
 use Rattle.adr_live.specs.Alive.{beats}

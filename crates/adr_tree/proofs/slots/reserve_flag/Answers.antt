@@ -12,8 +12,8 @@ returns-clause-same c g =
     let value = c.or_insert.result.now in
     let after = map_with_value c.in_ok-flags.field-0 value in
     let same : flag_at after g ≡ flag_at c.args.flags.now g =
-        ap (λ o. unwrap_or o false) ((c.in_ok-flags.ensures.update.0 value).0 g)
-        ∙ same_flag (get identifier_order c.args.flags.now) c.args.guid g value (c.or_insert.ensures.value ∙ ap (λ (o : Option Bool). unwrap_or o false) c.in_ok-flags.ensures.value)
+    ap (λ o. unwrap_or o false) ((c.in_ok-flags.ensures.update.0 value).0 g)
+    ∙ same_flag (get identifier_order c.args.flags.now) c.args.guid g value (c.or_insert.ensures.value ∙ ap (λ (o : Option Bool). unwrap_or o false) c.in_ok-flags.ensures.value)
     in
     grind (arith, same)
 
@@ -22,6 +22,6 @@ returns-clause-more c q some =
     let value = c.or_insert.result.now in
     let after = map_with_value c.in_ok-flags.field-0 value in
     let still : IsSome (get identifier_order after q) =
-        subst IsSome (sym ((c.in_ok-flags.ensures.update.0 value).0 q)) (still_some (is_at (identifier_order c.args.guid) q) value _ some)
+    subst IsSome (sym ((c.in_ok-flags.ensures.update.0 value).0 q)) (still_some (is_at (identifier_order c.args.guid) q) value _ some)
     in
     grind (arith, still)

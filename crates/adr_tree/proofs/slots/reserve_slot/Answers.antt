@@ -15,7 +15,7 @@ returns-clause-seen c =
     let after = map_with_value c.in_ok-slots.field-0 value in
     let held : value ≡ held_at c.args.slots.now.entries c.args.guid = c.or_insert.ensures.value ∙ ap (λ (o : Option (Option Node)). unwrap_or o None) c.in_ok-slots.ensures.value in
     let same : seen after.entries ≡ seen c.args.slots.now.entries =
-        ap seen (c.in_ok-slots.ensures.update.1 value) ∙ same_seen c.args.slots.now.entries c.args.guid value c.requires.ordered held
+    ap seen (c.in_ok-slots.ensures.update.1 value) ∙ same_seen c.args.slots.now.entries c.args.guid value c.requires.ordered held
     in
     grind (arith, same)
 
@@ -28,7 +28,7 @@ returns-clause-tidy c =
     let after = map_with_value c.in_ok-slots.field-0 value in
     let held : value ≡ held_at c.args.slots.now.entries c.args.guid = c.or_insert.ensures.value ∙ ap (λ (o : Option (Option Node)). unwrap_or o None) c.in_ok-slots.ensures.value in
     let own : IfSome value (λ n. n.object.guid ≡ c.args.guid) =
-        subst (λ o. IfSome o (λ n. n.object.guid ≡ c.args.guid)) (sym held) (held_home c.args.slots.now.entries c.args.guid c.requires.home)
+    subst (λ o. IfSome o (λ n. n.object.guid ≡ c.args.guid)) (sym held) (held_home c.args.slots.now.entries c.args.guid c.requires.home)
     in
     let tidy : IsTidy after = record {
       ordered = c.in_ok-slots.ensures.update.2 value;
@@ -41,6 +41,6 @@ returns-clause-more c q some =
     let value = c.or_insert.result.now in
     let after = map_with_value c.in_ok-slots.field-0 value in
     let still : IsSome (get identifier_order after q) =
-        subst IsSome (sym ((c.in_ok-slots.ensures.update.0 value).0 q)) (still_some (is_at (identifier_order c.args.guid) q) value _ some)
+    subst IsSome (sym ((c.in_ok-slots.ensures.update.0 value).0 q)) (still_some (is_at (identifier_order c.args.guid) q) value _ some)
     in
     grind (arith, still)
