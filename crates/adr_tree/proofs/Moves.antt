@@ -1,8 +1,8 @@
 -- A live object is put in or taken out.
-use Rattle.std.proofs.Common.{◌≡◌, ◌⊎◌, ◌≤◌, inl, inr, ⊎_elim, ℕ, zero, suc, Bool, true, false, cond, not, ◌&&◌, ◌||◌, List, Option, Some, None, option_map, refl, sym, ap, ◌∙◌, subst, length, Bor}
+use Rattle.std.proofs.Common.{◌≡◌, ◌⊎◌, ◌≤◌, inl, inr, ⊎_elim, ℕ, zero, suc, Bool, true, false, cond, not, ◌&&◌, ◌||◌, Option, Some, None, option_map, refl, sym, ap, ◌∙◌, subst, length}
 use Rattle.std.specs.Prelude.{if◌then◌else◌, IfSome, IsSome, is_some}
 use Rattle.std.specs.Bool.{OnFalse}
-use Rattle.std.specs.Option.{option_copied, option_map_or}
+use Rattle.std.specs.Option.{option_map_or}
 use Rattle.std.specs.BTreeMap.{BTreeMap, btree_map_len, get}
 use Rattle.adr_stamp.specs.Order.{identifier_order}
 use Rattle.adr_model.specs.Update.{Identifier, same_identifier}
@@ -10,11 +10,11 @@ use Rattle.adr_model.specs.Place.{Node, node_at, is_fixed, named_before}
 use Rattle.adr_law_tree.specs.Walk.{Look, free}
 use Rattle.adr_law_tree.specs.Breaker.{AreMore, loop_breaker}
 use Rattle.adr_law_tree.specs.Closing.{closing}
-use Rattle.adr_law_tree.proofs.Fuel.{itself, keeps, same_guid}
+use Rattle.adr_law_tree.proofs.Fuel.{itself, keeps}
 use Rattle.adr_law_tree.proofs.Unfixed.{found_free}
 use Rattle.adr_tree.specs.declared.tree.Tree.{Tree}
 use Rattle.adr_tree.specs.Children.{IsChildless, closed_by, opened_by}
-use Rattle.adr_tree.specs.Slots.{IsTidy, flag_at, flagged, flat, looks, seen, slot_at}
+use Rattle.adr_tree.specs.Slots.{IsTidy, flag_at, flagged, looks, seen, slot_at}
 use Rattle.adr_tree.specs.Tree.{HasRoom, IsTree, nodes_in}
 use Rattle.adr_tree.specs.Hints.{AreHinted, IsHinted}
 use Rattle.adr_tree.proofs.Breaking.{closer_found, nobody, opener_found, put_exact, take_exact}

@@ -1,4 +1,4 @@
-use Rattle.std.proofs.Common.{◌≡◌, ◌∙◌, sym, ap, subst, cond, Option, Some, None, refl}
+use Rattle.std.proofs.Common.{◌≡◌, ◌∙◌, sym, ap, subst, Option, Some, None, refl}
 use Rattle.std.specs.Prelude.{IfNone, IsSome}
 use Rattle.std.specs.Option.{option_copied_mut}
 use Rattle.std.specs.BTreeMap.{get, is_at}
