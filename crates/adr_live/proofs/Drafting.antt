@@ -27,7 +27,7 @@ use Rattle.adr_law_tree.proofs.Fuel.{same_guid, itself}
 use Rattle.adr_tree.specs.Edits.{AreOwn, edited}
 use Rattle.adr_tree.specs.declared.edit.Edit.{Edit}
 use Rattle.adr_live.specs.Core.{is_core, core_object, core_of}
-use Rattle.adr_live.specs.Drafts.{AreDrafts, IsTaken, DoRise, edit_of}
+use Rattle.adr_live.specs.Drafts.{AreDrafts, IsDraft, DoRise, edit_of}
 use Rattle.adr_live.proofs.Core.{core_put, core_of_other, core_of_value, core_without, core_without_other, core_rises, core_decides}
 
 abbrev Drafts : Type 0
@@ -35,29 +35,26 @@ Drafts = BTreeMap Identifier (List Held)
 
 -- ---- one step
 
--- a draft that is taken is what the GUID has
-taken : (rows seen : List Held) (old new : Drafts) (g : Identifier) (draft : List Held) → AreDrafts rows seen old → IsTaken rows old new g draft → draft ≡ core_of g seen
-taken rows seen old new g draft are is = is.0 ∙ by (get identifier_order old g) (are g)
+-- the draft of a GUID is what the GUID has
+drafted : (rows seen : List Held) (old : Drafts) (g : Identifier) (draft : List Held) → AreDrafts rows seen old → IsDraft rows old g draft → draft ≡ core_of g seen
+drafted rows seen old g draft are is = is ∙ by (get identifier_order old g) (are g)
   where
     by : (o : Option (List Held)) → MatchOption o (core_of g seen ≡ core_of g rows) (λ d. d ≡ core_of g seen) → unwrap_or o (core_of g rows) ≡ core_of g seen
     by None e = sym e
     by (Some d) e = e
 
-step : (rows seen seen' : List Held) (old mid new : Drafts) (g : Identifier) (draft after : List Held) → AreDrafts rows seen old → IsTaken rows old mid g draft
-    → Updates identifier_order mid new g (Some after) → (draft ≡ core_of g seen → after ≡ core_of g seen')
+step : (rows seen seen' : List Held) (old new : Drafts) (g : Identifier) (draft after : List Held) → AreDrafts rows seen old → IsDraft rows old g draft
+    → Updates identifier_order old new g (Some after) → (draft ≡ core_of g seen → after ≡ core_of g seen')
     → ((h : Identifier) → same_identifier g h ≡ false → core_of h seen' ≡ core_of h seen) → AreDrafts rows seen' new
-step rows seen seen' old mid new g draft after are is up here there h = by (same_identifier g h) refl
+step rows seen seen' old new g draft after are is up here there h = by (same_identifier g h) refl
   where
-    At : Option (List Held) → Type 0
-    At o = MatchOption o (core_of h seen' ≡ core_of h rows) (λ d. d ≡ core_of h seen')
-
     mine : g ≡ h → after ≡ core_of h seen'
-    mine e = here (taken rows seen old mid g draft are is) ∙ ap (λ k. core_of k seen') e
+    mine e = here (drafted rows seen old g draft are is) ∙ ap (λ k. core_of k seen') e
 
     by : (b : Bool) → same_identifier g h ≡ b → MatchOption (get identifier_order new h) (core_of h seen' ≡ core_of h rows) (λ d. d ≡ core_of h seen')
-    by true e = let f : get identifier_order new h ≡ Some after = up.0 h ∙ ap (λ b. cond b (Some after) (get identifier_order mid h)) e in rw f (mine (same_guid g h e))
+    by true e = let f : get identifier_order new h ≡ Some after = up.0 h ∙ ap (λ b. cond b (Some after) (get identifier_order old h)) e in rw f (mine (same_guid g h e))
     by false e =
-        let f : get identifier_order new h ≡ get identifier_order old h = up.0 h ∙ ap (λ b. cond b (Some after) (get identifier_order mid h)) e ∙ is.1 h e in
+        let f : get identifier_order new h ≡ get identifier_order old h = up.0 h ∙ ap (λ b. cond b (Some after) (get identifier_order old h)) e in
         rw (f, there h e) (are h)
 
 -- nothing that decides changes
@@ -85,12 +82,12 @@ not_reserved (RowOf p attr) e = by (nat_lt deleted_attr attr) e
 not_reserved (LinkOf l) e = refl
 
 -- a reserved row is written
-pub row_drafted : (rows seen : List Held) (old mid new : Drafts) (o : Oid) (draft after : List Held) (h : Held)
-    → AreRising seen → AreDrafts rows seen old → core_object h.update.key ≡ Some o → IsTaken rows old mid o.guid draft
-    → after ≡ with_row draft h → Updates identifier_order mid new o.guid (Some after) → AreDrafts rows (put seen h) new
-row_drafted rows seen old mid new o draft after h r are of is left up =
+pub row_drafted : (rows seen : List Held) (old new : Drafts) (o : Oid) (draft after : List Held) (h : Held)
+    → AreRising seen → AreDrafts rows seen old → core_object h.update.key ≡ Some o → IsDraft rows old o.guid draft
+    → after ≡ with_row draft h → Updates identifier_order old new o.guid (Some after) → AreDrafts rows (put seen h) new
+row_drafted rows seen old new o draft after h r are of is left up =
     let t = is_reserved h.update.key o of in
-    step rows seen (put seen h) old mid new o.guid draft after are is up
+    step rows seen (put seen h) old new o.guid draft after are is up
     (λ e. left ∙ ap (λ d. with_row d h) e ∙ sym (core_put o.guid seen h r (ap (is_of_guid o.guid) t.1 ∙ itself o.guid) t.2))
     (λ g other. core_of_other g seen h (ap (is_of_guid g) t.1 ∙ other))
 
@@ -99,10 +96,10 @@ pub value_drafted : (rows seen : List Held) (drafts : Drafts) (h : Held) → Are
 value_drafted rows seen drafts h r are value = same_drafts rows seen (put seen h) drafts (λ g. core_of_value g seen h r (not_reserved h.update.key value)) are
 
 -- an object is removed
-pub object_removed : (rows seen : List Held) (old mid new : Drafts) (o : Oid) (draft after : List Held) → AreDrafts rows seen old → IsTaken rows old mid o.guid draft
-    → after ≡ without_object draft o → Updates identifier_order mid new o.guid (Some after) → AreDrafts rows (without_object seen o) new
-object_removed rows seen old mid new o draft after are is left up =
-    step rows seen (without_object seen o) old mid new o.guid draft after are is up
+pub object_removed : (rows seen : List Held) (old new : Drafts) (o : Oid) (draft after : List Held) → AreDrafts rows seen old → IsDraft rows old o.guid draft
+    → after ≡ without_object draft o → Updates identifier_order old new o.guid (Some after) → AreDrafts rows (without_object seen o) new
+object_removed rows seen old new o draft after are is left up =
+    step rows seen (without_object seen o) old new o.guid draft after are is up
     (λ e. left ∙ ap (λ d. without_object d o) e ∙ sym (core_without o.guid seen o))
     (λ g other. core_without_other g seen o other)
 

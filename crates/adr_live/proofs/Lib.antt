@@ -1,6 +1,6 @@
+mod Alive
 mod Core
 mod Drafting
-mod Filtered
 mod Filters
 mod Gaps
 mod Referred

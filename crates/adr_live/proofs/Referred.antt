@@ -1,9 +1,9 @@
 -- Lists of references, by what they refer to.
-use Rattle.std.proofs.Common.{◌≡◌, ◌<◌, ℕ, zero, suc, Bool, true, false, cond, List, [], ◌∷◌, Option, Some, None, refl, sym, ap, ◌∙◌, filter, length, get_or, Bor}
-use Rattle.std.specs.List.{slice_get}
-use Rattle.std.specs.Option.{option_copied}
-use Rattle.std.specs.Slice.{IsGetResult}
-use Rattle.std.proofs.lemmas.Option.{slice_get_past, slice_get_read}
+use Rattle.std.proofs.Common.{◌≡◌, ◌<◌, ℕ, zero, suc, Bool, true, false, cond, ◌||◌, List, [], ◌∷◌, refl, ap, ◌∙◌, filter, length, get_or, slice_set, Bor}
+use Rattle.std.specs.Prelude.{insert}
+use Rattle.std.specs.List.{list_any}
+use Rattle.adr_model.specs.Update.{Update}
+use Rattle.adr_model.specs.Store.{Held, updates_of}
 use Rattle.adr_update.specs.Referents.{referents}
 
 module _ {A : Type 0} where
@@ -15,11 +15,6 @@ module _ {A : Type 0} where
           → referents (cond b (x ∷ filter (λ y. test y.now) xs) (filter (λ y. test y.now) xs)) ≡ cond b (x.now ∷ filter test (referents xs)) (filter test (referents xs))
       by true rest = ap (λ ys. x.now ∷ ys) rest
       by false rest = rest
-
-  pub referent_got : (xs : List (Bor A)) (i : ℕ) → option_copied (slice_get xs i) ≡ slice_get (referents xs) i
-  referent_got [] i = refl
-  referent_got (x ∷ xs) zero = refl
-  referent_got (x ∷ xs) (suc i) = referent_got xs i
 
   pub length_referents : (xs : List (Bor A)) → length (referents xs) ≡ length xs
   length_referents [] = refl
@@ -33,7 +28,21 @@ module _ {A : Type 0} where
       got (y ∷ ys) zero d = refl
       got (y ∷ ys) (suc j) d = got ys j d
 
--- what a look at a place of a slice gives
-pub got_at : {A : Type 0} (xs : List A) (i : ℕ) (r : Option (Bor A)) → IsGetResult xs i i r → option_copied r ≡ slice_get xs i
-got_at xs i None h = sym (slice_get_past xs i h.3)
-got_at xs i (Some x) h = sym (slice_get_read xs (length xs) i x.now refl h.3.0 h.1)
+  pub referents_set : (xs : List (Bor A)) (i : ℕ) (x : Bor A) → referents (slice_set xs i x) ≡ slice_set (referents xs) i x.now
+  referents_set [] i x = refl
+  referents_set (y ∷ ys) zero x = refl
+  referents_set (y ∷ ys) (suc i) x = ap (λ (zs : List A). y.now ∷ zs) (referents_set ys i x)
+
+  pub referents_insert : (xs : List (Bor A)) (i : ℕ) (x : Bor A) → referents (insert xs i x) ≡ insert (referents xs) i x.now
+  referents_insert [] i x = none i
+    where
+      none : (j : ℕ) → referents (insert [] j x) ≡ insert (referents []) j x.now
+      none zero = refl
+      none (suc j) = refl
+  referents_insert (y ∷ ys) zero x = refl
+  referents_insert (y ∷ ys) (suc i) x = ap (λ (zs : List A). y.now ∷ zs) (referents_insert ys i x)
+
+-- a test of the updates of rows
+pub any_of_updates : (test : Update → Bool) (rows : List (Bor Held)) → list_any (λ h. test h.now.update) rows ≡ list_any test (updates_of (referents rows))
+any_of_updates test [] = refl
+any_of_updates test (h ∷ hs) = ap (λ b. test h.now.update || b) (any_of_updates test hs)

@@ -1,9 +1,9 @@
 -- The reserved rows of the GUIDs that a change touches, while it is made.
-use Rattle.std.specs.Prelude.{◌≡◌, List, false, unwrap_or}
+use Rattle.std.specs.Prelude.{◌≡◌, List, unwrap_or}
 use Rattle.std.specs.Option.{MatchOption}
 use Rattle.std.specs.BTreeMap.{BTreeMap, get}
 use Rattle.adr_stamp.specs.Order.{identifier_order}
-use Rattle.adr_model.specs.Update.{Identifier, same_identifier}
+use Rattle.adr_model.specs.Update.{Identifier}
 use Rattle.adr_model.specs.Member.{Each}
 use Rattle.adr_model.specs.Place.{node_at}
 use Rattle.adr_model.specs.Store.{Held, updates_of}
@@ -17,11 +17,9 @@ abbrev pub AreDrafts : List Held → List Held → BTreeMap Identifier (List Hel
 AreDrafts rows seen drafts =
     (guid : Identifier) → MatchOption (get identifier_order drafts guid) (core_of guid seen ≡ core_of guid rows) (λ draft. draft ≡ core_of guid seen)
 
--- a draft of a GUID is that among these, or what the GUID had; the others stay
-abbrev pub IsTaken : List Held → BTreeMap Identifier (List Held) → BTreeMap Identifier (List Held) → Identifier → List Held → Type 0
-IsTaken rows old new guid draft =
-    (draft ≡ unwrap_or (get identifier_order old guid) (core_of guid rows))
-    × ((other : Identifier) → same_identifier guid other ≡ false → get identifier_order new other ≡ get identifier_order old other)
+-- the draft of a GUID is that among these, or where there is none what the GUID had
+abbrev pub IsDraft : List Held → BTreeMap Identifier (List Held) → Identifier → List Held → Type 0
+IsDraft rows drafts guid draft = draft ≡ unwrap_or (get identifier_order drafts guid) (core_of guid rows)
 
 -- each draft rises
 abbrev pub DoRise : List (Identifier × List Held) → Type 0

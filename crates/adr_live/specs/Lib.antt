@@ -1,3 +1,4 @@
+pub mod Alive
 pub mod Core
 pub mod Drafts
 pub mod Gap

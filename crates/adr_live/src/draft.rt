@@ -1,6 +1,6 @@
 //! The rows that say which live object a GUID has, while a change is made.
 
-ghost use Rattle.std.specs.Prelude.{◌≡◌, IfErr, IfOk, OnOk, filter};
+ghost use Rattle.std.specs.Prelude.{◌≡◌, IfErr, IfOk, OnOk};
 ghost use Rattle.adr_model.specs.Change.{without_object};
 ghost use Rattle.adr_model.specs.Formed.{AreRising};
 ghost use Rattle.adr_model.specs.Place.{node_at};
@@ -22,19 +22,20 @@ use std::cmp::Ordering;
 use std::marker::Model;
 use uuid::Uuid;
 
-/// The class, name and death rows of the objects of one GUID, in order of their keys.
+/// The class, name and death rows of the objects of one GUID, in order of their keys. None of them is copied.
 #[derive(Drop)]
-pub struct Draft {
-    rows: Vec<Held>,
+pub struct Draft<'a> {
+    rows: Vec<&'a Held>,
 }
 
-impl Model for Draft {
+impl<'a> Model for Draft<'a> {
     ghost use Rattle.std.specs.Prelude.{List};
     ghost use Rattle.adr_model.specs.Store.{Held as Defined};
+    ghost use Rattle.adr_update.specs.Referents.{referents};
 
     ghost Value = { List Defined };
 
-    ghost view = { λ d. d.rows.items };
+    ghost view = { λ d. referents d.rows.items };
 }
 
 /// Whether rows of a key decide whether an object is live, and how it is named.
@@ -63,20 +64,20 @@ pub fn core_object(key: &Key) -> Option<Oid>
     }
 }
 
-impl Draft {
+impl<'a> Draft<'a> {
     /// The rows of a GUID as a table has them.
-    pub fn of(alloc: Global, table: &Table, guid: Uuid) -> Result<Draft, NoMemory>
+    pub fn of(alloc: Global, table: &'a Table, guid: Uuid) -> Result<Draft<'a>, NoMemory>
         requires { IsKept table.now }
         ensures { IfOk result (λ draft. draft ≡ core_of guid (rows_in table.now)) }
     {
-        let held = table.rows_of_guid(alloc, guid)?;
-        let rows = core_among(alloc, held.as_slice())?;
+        let mut rows = table.rows_of_guid(alloc, guid)?;
+        rows.retain(|row| is_core(&row.key()));
         Ok(Draft { rows })
     }
 
     /// Writes a row in the place of the row of its key.
-    pub fn write(&mut self, row: Held) -> Result<(), NoMemory>
-        ensures { OnOk result (self.new ≡ with_row self.old row) }
+    pub fn write(&mut self, row: &'a Held) -> Result<(), NoMemory>
+        ensures { OnOk result (self.new ≡ with_row self.old row.now) }
     {
         match place_of(self.rows.as_slice(), &row.key()) {
             Ok(place) => {
@@ -106,23 +107,10 @@ impl Draft {
     }
 }
 
-/// Copies of the class, name and death rows among these.
-fn core_among(alloc: Global, rows: &[&Held]) -> Result<Vec<Held>, NoMemory>
-    ensures { IfOk result (λ those. those.items ≡ filter (λ h. is_core h.update.key) (referents rows.now)) }
-{
-    let mut those = Vec::new(alloc);
-    for row in rows {
-        if is_core(&row.key()) {
-            those.push(row.copy(alloc)?)?;
-        }
-    }
-    Ok(those)
-}
-
 /// Where the row of a key stands, or where it would.
-fn place_of(rows: &[Held], key: &Key) -> Result<usize, usize>
-    ensures place { IfOk result (IsPlaceOf rows.now (key_of key.now)) }
-    ensures gap { IfErr result (IsGapFor rows.now (key_of key.now)) }
+fn place_of(rows: &[&Held], key: &Key) -> Result<usize, usize>
+    ensures place { IfOk result (IsPlaceOf (referents rows.now) (key_of key.now)) }
+    ensures gap { IfErr result (IsGapFor (referents rows.now) (key_of key.now)) }
 {
     for (place, row) in rows.iter().enumerate() {
         match key.order(&row.key()) {

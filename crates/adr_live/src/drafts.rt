@@ -1,11 +1,12 @@
 //! The rows of the GUIDs that a change touches, as it leaves them.
 
-ghost use Rattle.std.specs.Prelude.{◌≡◌, List, IfOk, OnOk, fold};
+ghost use Rattle.std.specs.Prelude.{◌≡◌, List, Some, IfOk, OnOk, fold};
 ghost use Rattle.adr_model.specs.Change.{put, rows_after, without_object};
 ghost use Rattle.adr_model.specs.Formed.{AreRising};
 ghost use Rattle.adr_model.specs.Store.{Held as Row};
 ghost use Rattle.adr_table.specs.Table.{IsKept, rows_in};
-ghost use Rattle.adr_live.specs.Drafts.{AreDrafts, IsTaken};
+ghost use Rattle.adr_live.specs.Core.{core_object};
+ghost use Rattle.adr_live.specs.Drafts.{AreDrafts};
 
 use crate::NoMemory;
 use crate::draft::{Draft, core_object};
@@ -17,12 +18,12 @@ use std::collections::BTreeMap;
 use uuid::Uuid;
 
 /// The drafts of rows that are written and objects that are removed.
-pub fn drafts_of(
+pub fn drafts_of<'a>(
     alloc: Global,
-    table: &Table,
-    rows: &[Held],
+    table: &'a Table,
+    rows: &'a [Held],
     removed: &[Oid],
-) -> Result<BTreeMap<Uuid, Draft>, NoMemory>
+) -> Result<BTreeMap<Uuid, Draft<'a>>, NoMemory>
     requires kept { IsKept table.now }
     requires rising { AreRising (rows_in table.now) }
     ensures { IfOk result (λ drafts.
@@ -35,11 +36,11 @@ pub fn drafts_of(
 }
 
 /// Writes rows into drafts, one after the other.
-fn write_rows(
+fn write_rows<'a>(
     alloc: Global,
-    table: &Table,
-    drafts: &mut BTreeMap<Uuid, Draft>,
-    rows: &[Held],
+    table: &'a Table,
+    drafts: &mut BTreeMap<Uuid, Draft<'a>>,
+    rows: &'a [Held],
 ) -> Result<(), NoMemory>
     requires kept { IsKept table.now }
     requires rising { AreRising (rows_in table.now) }
@@ -53,10 +54,10 @@ fn write_rows(
 }
 
 /// Removes objects from drafts.
-fn remove_all(
+fn remove_all<'a>(
     alloc: Global,
-    table: &Table,
-    drafts: &mut BTreeMap<Uuid, Draft>,
+    table: &'a Table,
+    drafts: &mut BTreeMap<Uuid, Draft<'a>>,
     objects: &[Oid],
 ) -> Result<(), NoMemory>
     requires { IsKept table.now }
@@ -64,19 +65,42 @@ fn remove_all(
         → AreDrafts (rows_in table.now) (fold without_object seen objects.now) drafts.new) }
 {
     for object in objects {
-        let mut draft = take_draft(alloc, table, drafts, object.guid)?;
-        draft.remove(object);
-        drafts.insert(object.guid, draft)?;
+        remove_object(alloc, table, drafts, object)?;
     }
     Ok(())
 }
 
-/// Writes a row into the draft of its GUID, if it says anything of live objects.
-fn write_row(
+/// Removes an object from the draft of its GUID, which begins with what the table has.
+fn remove_object<'a>(
     alloc: Global,
-    table: &Table,
-    drafts: &mut BTreeMap<Uuid, Draft>,
-    row: &Held,
+    table: &'a Table,
+    drafts: &mut BTreeMap<Uuid, Draft<'a>>,
+    object: &Oid,
+) -> Result<(), NoMemory>
+    requires { IsKept table.now }
+    ensures { OnOk result ((seen : List Row) → AreDrafts (rows_in table.now) seen drafts.old
+        → AreDrafts (rows_in table.now) (without_object seen object.now) drafts.new) }
+{
+    match drafts.get_mut(&object.guid) {
+        Some(draft) => {
+            draft.remove(object);
+            Ok(())
+        }
+        None => {
+            let mut draft = Draft::of(alloc, table, object.guid)?;
+            draft.remove(object);
+            drafts.insert(object.guid, draft)?;
+            Ok(())
+        }
+    }
+}
+
+/// Writes a row into the draft of its GUID, if it says anything of live objects.
+fn write_row<'a>(
+    alloc: Global,
+    table: &'a Table,
+    drafts: &mut BTreeMap<Uuid, Draft<'a>>,
+    row: &'a Held,
 ) -> Result<(), NoMemory>
     requires { IsKept table.now }
     ensures { OnOk result ((seen : List Row) → AreRising seen → AreDrafts (rows_in table.now) seen drafts.old
@@ -84,27 +108,30 @@ fn write_row(
 {
     match core_object(&row.key()) {
         None => Ok(()),
-        Some(object) => {
-            let mut draft = take_draft(alloc, table, drafts, object.guid)?;
-            draft.write(row.copy(alloc)?)?;
-            drafts.insert(object.guid, draft)?;
-            Ok(())
-        }
+        Some(object) => write_core(alloc, table, drafts, &object, row),
     }
 }
 
-/// The draft of a GUID, taken from among these; where there is none, what the table has.
-fn take_draft(
+/// Writes a row of an object into the draft of its GUID, which begins with what the table has.
+fn write_core<'a>(
     alloc: Global,
-    table: &Table,
-    drafts: &mut BTreeMap<Uuid, Draft>,
-    guid: Uuid,
-) -> Result<Draft, NoMemory>
-    requires { IsKept table.now }
-    ensures { IfOk result (IsTaken (rows_in table.now) drafts.old drafts.new guid) }
+    table: &'a Table,
+    drafts: &mut BTreeMap<Uuid, Draft<'a>>,
+    object: &Oid,
+    row: &'a Held,
+) -> Result<(), NoMemory>
+    requires kept { IsKept table.now }
+    requires core { core_object row.now.update.key ≡ Some object.now }
+    ensures { OnOk result ((seen : List Row) → AreRising seen → AreDrafts (rows_in table.now) seen drafts.old
+        → AreDrafts (rows_in table.now) (put seen row.now) drafts.new) }
 {
-    match drafts.remove(&guid) {
-        Some(draft) => Ok(draft),
-        None => Draft::of(alloc, table, guid),
+    match drafts.get_mut(&object.guid) {
+        Some(draft) => draft.write(row),
+        None => {
+            let mut draft = Draft::of(alloc, table, object.guid)?;
+            draft.write(row)?;
+            drafts.insert(object.guid, draft)?;
+            Ok(())
+        }
     }
 }

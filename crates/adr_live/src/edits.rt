@@ -46,18 +46,18 @@ pub fn edits_of(
 }
 
 /// Drafts are in order of GUID.
-fn are_ordered(drafts: &BTreeMap<Uuid, Draft>)
+fn are_ordered(drafts: &BTreeMap<Uuid, Draft<'_>>)
     ensures { IsOrdered identifier_order drafts.now }
 {
     drafts.len();
 }
 
 /// The edits to which drafts come.
-fn edits_to(alloc: Global, drafts: &BTreeMap<Uuid, Draft>) -> Result<Vec<Edit>, NoMemory>
+fn edits_to(alloc: Global, drafts: &BTreeMap<Uuid, Draft<'_>>) -> Result<Vec<Edit>, NoMemory>
     requires { DoRise drafts.now.entries }
     ensures { IfOk result (λ edits. edits.items ≡ map edit_of drafts.now.entries) }
 {
-    let mut edits = Vec::new(alloc);
+    let mut edits = Vec::with_capacity(alloc, drafts.len())?;
     for (guid, draft) in drafts {
         edits.push(edit_of(alloc, *guid, draft)?)?;
     }
@@ -65,7 +65,7 @@ fn edits_to(alloc: Global, drafts: &BTreeMap<Uuid, Draft>) -> Result<Vec<Edit>, 
 }
 
 /// The edit to which a draft of a GUID comes.
-fn edit_of(alloc: Global, guid: Uuid, draft: &Draft) -> Result<Edit, NoMemory>
+fn edit_of(alloc: Global, guid: Uuid, draft: &Draft<'_>) -> Result<Edit, NoMemory>
     requires { AreRising draft.now }
     ensures { IfOk result (λ edit. edit ≡ edit_of (guid, draft.now)) }
 {

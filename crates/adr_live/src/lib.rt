@@ -5,13 +5,11 @@
 //! stands on the table of rows and meets the definitions in `adr_model`. It knows nothing of how live objects are kept.
 #![tactic(auto)]
 
-mod born;
 mod draft;
 mod drafts;
 mod edits;
 mod live;
 mod node;
-mod winner;
 
 pub use adr_failure::NoMemory;
 pub use adr_table::Table;

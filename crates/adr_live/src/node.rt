@@ -4,14 +4,15 @@ ghost use Rattle.std.specs.Prelude.{◌≡◌, IfOk};
 ghost use Rattle.std.specs.Option.{option_copied, option_and_then};
 ghost use Rattle.adr_model.specs.Formed.{AreRising};
 ghost use Rattle.adr_model.specs.Update.{RowOf, name_attr};
-ghost use Rattle.adr_model.specs.Place.{with_name, row_at, node_of, nodes_of, node_at};
+ghost use Rattle.adr_model.specs.Place.{with_name, row_at, node_of, node_at};
 ghost use Rattle.adr_model.specs.Store.{updates_of};
 ghost use Rattle.adr_model.specs.Write.{nodes_held};
 ghost use Rattle.adr_update.specs.Key.{key_of};
 ghost use Rattle.adr_update.specs.Referents.{referents};
+ghost use Rattle.adr_live.specs.Alive.{node_by};
 
 use crate::NoMemory;
-use crate::live::live_rows;
+use crate::live::is_live;
 use adr_schema::Content;
 use adr_stamp::Oid;
 use adr_update::{CLASS, Held, Key, NAME, Node, Said, Update, is_same};
@@ -19,12 +20,12 @@ use std::alloc::Global;
 use uuid::Uuid;
 
 /// The first row of a key.
-fn row_at<'a>(rows: &[&'a Update], key: &Key) -> Option<&'a Update>
-    ensures { option_copied result ≡ row_at (referents rows.now) (key_of key.now) }
+fn row_at<'a>(rows: &[&'a Held], key: &Key) -> Option<&'a Update>
+    ensures { option_copied result ≡ row_at (updates_of (referents rows.now)) (key_of key.now) }
 {
-    for update in rows {
-        if update.key().is_same(key) {
-            return Some(update);
+    for row in rows {
+        if row.key().is_same(key) {
+            return Some(row.update());
         }
     }
     None
@@ -52,13 +53,14 @@ fn with_name(
 /// An object by its rows, where it has a class and a name.
 fn with_class(
     alloc: Global,
-    rows: &[&Update],
+    rows: &[&Held],
     object: &Oid,
     class: u16,
 ) -> Result<Option<Node>, NoMemory>
     ensures { IfOk result (λ node.
         node
-        ≡ option_and_then (λ u. with_name object.now class u.stamp u.said) (row_at (referents rows.now) (RowOf object.now name_attr))) }
+        ≡ option_and_then (λ u. with_name object.now class u.stamp u.said)
+        (row_at (updates_of (referents rows.now)) (RowOf object.now name_attr))) }
 {
     let name = Key::Row {
         object: *object,
@@ -71,8 +73,8 @@ fn with_class(
 }
 
 /// The object that a class row stands for, by the row that names it.
-fn node_of(alloc: Global, rows: &[&Update], update: &Update) -> Result<Option<Node>, NoMemory>
-    ensures { IfOk result (λ node. node ≡ node_of (referents rows.now) update.now.key update.now.said) }
+fn node_of(alloc: Global, rows: &[&Held], update: &Update) -> Result<Option<Node>, NoMemory>
+    ensures { IfOk result (λ node. node ≡ node_of (updates_of (referents rows.now)) update.now.key update.now.said) }
 {
     match (update.key(), update.said()) {
         (Key::Row { object, attr }, Said::Holds(Content::Class(class))) => {
@@ -86,29 +88,36 @@ fn node_of(alloc: Global, rows: &[&Update], update: &Update) -> Result<Option<No
     }
 }
 
-/// The live objects of live rows, in order of GUID.
-fn nodes_of(alloc: Global, rows: &[&Update]) -> Result<Vec<Node>, NoMemory>
-    ensures { IfOk result (λ nodes. nodes.items ≡ nodes_of (referents rows.now)) }
+/// The live object of a GUID to which an update gives birth.
+fn node_by(
+    alloc: Global,
+    rows: &[&Held],
+    guid: Uuid,
+    update: &Update,
+) -> Result<Option<Node>, NoMemory>
+    ensures { IfOk result (λ node. node ≡ node_by (updates_of (referents rows.now)) guid update.now) }
 {
-    let mut nodes = Vec::new(alloc);
-    for update in rows {
-        if let Some(node) = node_of(alloc, rows, update)? {
-            nodes.push(node)?;
+    match update.key().born() {
+        Some(object) => {
+            if is_same(object.guid, guid) && is_live(rows, update, &object) {
+                node_of(alloc, rows, update)
+            } else {
+                Ok(None)
+            }
         }
+        None => Ok(None),
     }
-    Ok(nodes)
 }
 
 /// The live object that a GUID has by rows.
-pub fn live_node(alloc: Global, rows: &[Held], guid: Uuid) -> Result<Option<Node>, NoMemory>
-    requires { AreRising rows.now }
-    ensures { IfOk result (λ node. node ≡ node_at (nodes_held (updates_of rows.now)) guid) }
+pub fn live_node(alloc: Global, rows: &[&Held], guid: Uuid) -> Result<Option<Node>, NoMemory>
+    requires { AreRising (referents rows.now) }
+    ensures { IfOk result (λ node. node ≡ node_at (nodes_held (updates_of (referents rows.now))) guid) }
 {
-    let live = live_rows(alloc, rows)?;
-    let nodes = nodes_of(alloc, live.as_slice())?;
-    Ok(
-        nodes
-            .into_iter()
-            .find(|node| is_same(node.object().guid, guid)),
-    )
+    for row in rows {
+        if let Some(node) = node_by(alloc, rows, guid, row.update())? {
+            return Ok(Some(node));
+        }
+    }
+    Ok(None)
 }

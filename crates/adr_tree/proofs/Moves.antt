@@ -1,8 +1,8 @@
 -- A live object is put in or taken out.
-use Rattle.std.proofs.Common.{◌≡◌, ◌⊎◌, ◌≤◌, inl, inr, ⊎_elim, ℕ, zero, suc, Bool, true, false, cond, not, ◌&&◌, ◌||◌, List, Option, Some, None, option_map, refl, sym, ap, ◌∙◌, subst, length, Bor}
+use Rattle.std.proofs.Common.{◌≡◌, ◌⊎◌, ◌≤◌, inl, inr, ⊎_elim, ℕ, zero, suc, Bool, true, false, cond, not, ◌&&◌, ◌||◌, Option, Some, None, option_map, refl, sym, ap, ◌∙◌, subst, length}
 use Rattle.std.specs.Prelude.{if◌then◌else◌, IfSome, IsSome, is_some}
 use Rattle.std.specs.Bool.{OnFalse}
-use Rattle.std.specs.Option.{option_copied, option_map_or}
+use Rattle.std.specs.Option.{option_map_or}
 use Rattle.std.specs.BTreeMap.{BTreeMap, btree_map_len, get}
 use Rattle.adr_stamp.specs.Order.{identifier_order}
 use Rattle.adr_model.specs.Update.{Identifier, same_identifier}
@@ -10,11 +10,11 @@ use Rattle.adr_model.specs.Place.{Node, node_at, is_fixed, named_before}
 use Rattle.adr_law_tree.specs.Walk.{Look, free}
 use Rattle.adr_law_tree.specs.Breaker.{AreMore, loop_breaker}
 use Rattle.adr_law_tree.specs.Closing.{closing}
-use Rattle.adr_law_tree.proofs.Fuel.{itself, keeps, same_guid}
+use Rattle.adr_law_tree.proofs.Fuel.{itself, keeps}
 use Rattle.adr_law_tree.proofs.Unfixed.{found_free}
 use Rattle.adr_tree.specs.declared.tree.Tree.{Tree}
 use Rattle.adr_tree.specs.Children.{IsChildless, closed_by, opened_by}
-use Rattle.adr_tree.specs.Slots.{IsTidy, flag_at, flagged, flat, looks, seen, slot_at}
+use Rattle.adr_tree.specs.Slots.{IsTidy, flag_at, flagged, looks, seen, slot_at}
 use Rattle.adr_tree.specs.Tree.{HasRoom, IsTree, nodes_in}
 use Rattle.adr_tree.specs.Hints.{AreHinted, IsHinted}
 use Rattle.adr_tree.proofs.Breaking.{closer_found, nobody, opener_found, put_exact, take_exact}
@@ -27,21 +27,9 @@ found_in slots tidy g = found slots.entries g tidy.ordered tidy.home
 looks_free : (slots : BTreeMap Identifier (Option Node)) → IsTidy slots → (g : Identifier) → looks slots g ≡ free (seen slots.entries) g
 looks_free slots tidy g = ap (λ o. cond (is_fixed g) None o) (found_in slots tidy g)
 
-pub has_slot : (slots : BTreeMap Identifier (Option Node)) (g : Identifier) (x : Node) → slot_at slots g ≡ Some x → IsSome (get identifier_order slots g)
-has_slot slots g x e = by (get identifier_order slots g) e
-  where
-    by : (o : Option (Option Node)) → flat o ≡ Some x → IsSome o
-    by None e = cc
-    by (Some v) e = refl
-
--- who is there, or not, by a reference
-pub there_or_not : (r : Option (Bor Node)) (o : Option Node) → option_copied r ≡ o → is_some r ≡ false → o ≡ None
-there_or_not None o e none = sym e
-there_or_not (Some n) o e none = cc
-
-pub was_there : (r : Option (Bor Node)) (o : Option Node) → option_copied r ≡ o → is_some r ≡ true → (x : Node) × (o ≡ Some x)
-was_there None o e some = cc
-was_there (Some n) o e some = (n.now, sym e)
+pub some_there : (o : Option Node) → is_some o ≡ true → (x : Node) × (o ≡ Some x)
+some_there None some = cc
+some_there (Some x) some = (x, refl)
 
 -- ---- an object comes
 
@@ -131,13 +119,6 @@ module _ (t : Tree) (tree : IsTree t) (x : Node) (room : HasRoom t x) where
     }
 
 -- ---- an object goes
-
-pub none_taken : (all : List Node) (guid g : Identifier) → node_at all guid ≡ None → node_at all g ≡ cond (same_identifier guid g) None (node_at all g)
-none_taken all guid g none = by (same_identifier guid g) refl
-  where
-    by : (b : Bool) → same_identifier guid g ≡ b → node_at all g ≡ cond b None (node_at all g)
-    by true is = subst (λ h. node_at all h ≡ None) (same_guid guid g is) none
-    by false is = refl
 
 module _ (t : Tree) (tree : IsTree t) (guid : Identifier) (slots : BTreeMap Identifier (Option Node)) (tidy : IsTidy slots)
     (emptied : (g : Identifier) → slot_at slots g ≡ cond (same_identifier guid g) None (slot_at t.slots g)) where

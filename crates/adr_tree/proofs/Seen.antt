@@ -1,16 +1,16 @@
 -- What is seen of slots that are looked up, made, filled, emptied and freed.
 use Rattle.std.proofs.Common.{◌≡◌, ◌≤◌, ◌+◌, ℕ, suc, List, [], ◌∷◌, Bool, true, false, cond, not, ◌&&◌, Option, Some, None, refl, sym, ap, ◌∙◌, subst, map, length, arith}
-use Rattle.std.specs.Prelude.{if◌then◌else◌, IfSome, IsSome, is_some, unwrap_or}
+use Rattle.std.specs.Prelude.{if◌then◌else◌, IfSome, IsSome, unwrap_or}
 use Rattle.std.specs.List.{AllByRecursion}
 use Rattle.std.specs.List.Sorted.{IsStrictlySortedBy}
-use Rattle.std.specs.Map.{keys_of, lookup, remove_entry}
+use Rattle.std.specs.Map.{keys_of, lookup, remove_entry, set_value}
 use Rattle.std.specs.BTreeMap.{insert_entry, is_at}
 use Rattle.std.specs.Ordering.{is_eq, match_ordering, ordering_reverse}
 use Rattle.std.specs.declared.cmp.Ordering.{Ordering}
 use Rattle.std.specs.declared.cmp.Ordering.TheVariants.{Less, Equal, Greater}
 use Rattle.std.proofs.lemmas.Cmp.{eq_by_cmp_equiv, nat_list_cmp_total}
 use Rattle.std.proofs.lemmas.Map.{lookup-none}
-use Rattle.std.proofs.lemmas.Map.Entries.{none_past_head}
+use Rattle.std.proofs.lemmas.Map.Entries.{lookup_at_gap, none_past_head}
 use Rattle.std.proofs.lemmas.Map.Keys.{sorted_head, sorted_tail, IsDistinct-from_sorted}
 use Rattle.std.proofs.lemmas.Map.Lookups.{exact_bytes}
 use Rattle.adr_stamp.specs.Order.{identifier_order}
@@ -65,17 +65,39 @@ found (e ∷ es) g sorted home = by e.1 refl home.0 (found es g (sorted_tail ide
         full n (is_at (identifier_order g) e.0) later
         ∙ ap (λ b. cond b (Some n) (node_at (seen es) g)) (sym (tests_alike n g e.0 at))
 
--- ---- a new slot
+-- ---- a slot that is made, if there is none
 
-pub made : (es : Slots) (g : Identifier) → lookup (is_at (identifier_order g)) es ≡ None → seen (insert_entry identifier_order es g None) ≡ seen es
-made [] g none = refl
-made (e ∷ es) g none = by (identifier_order g e.0) none (made es g)
+-- no slot is that of a GUID below the first one's
+below_none : (g : Identifier) (e : Identifier × Option Node) (es : Slots) → AreSorted (e ∷ es) → identifier_order g e.0 ≡ Less → lookup (is_at (identifier_order g)) (e ∷ es) ≡ None
+below_none g e es sorted less =
+    lookup_at_gap nat_list_cmp_total g (e ∷ es) 0 sorted (λ j x lt is. absurd (omega (arith, lt)))
+    (λ x is. let same : e ≡ x = cc in subst (λ (y : Identifier × Option Node). identifier_order g y.0 ≡ Less) same less)
+
+-- what a slot holds, or nothing where there is no slot
+abbrev pub held_at : Slots → Identifier → Option Node
+held_at es g = unwrap_or (lookup (is_at (identifier_order g)) es) None
+
+pub same_seen : (es : Slots) (g : Identifier) (v : Option Node) → AreSorted es → v ≡ held_at es g → seen (insert_entry identifier_order es g v) ≡ seen es
+same_seen [] g v sorted is = ap (λ o. and_seen o []) is
+same_seen (e ∷ es) g v sorted is = by (identifier_order g e.0) refl (same_seen es g v (sorted_tail identifier_order e.0 (keys_of es) sorted))
   where
-    by : (o : Ordering) → cond (is_eq o) (Some e.1) (lookup (is_at (identifier_order g)) es) ≡ None → (lookup (is_at (identifier_order g)) es ≡ None → seen (insert_entry identifier_order es g None) ≡ seen es)
-        → seen (match_ordering o ((g, None) ∷ e ∷ es) ((e.0, None) ∷ es) (e ∷ insert_entry identifier_order es g None)) ≡ seen (e ∷ es)
-    by Less n later = refl
-    by Equal n later = cc
-    by Greater n later = ap (λ ns. and_seen e.1 ns) (later n)
+    first : (o : Ordering) → identifier_order g e.0 ≡ o → v ≡ unwrap_or (cond (is_eq o) (Some e.1) (lookup (is_at (identifier_order g)) es)) None
+    first o at = is ∙ ap (λ p. unwrap_or (cond (is_eq p) (Some e.1) (lookup (is_at (identifier_order g)) es)) None) at
+
+    by : (o : Ordering) → identifier_order g e.0 ≡ o → (v ≡ held_at es g → seen (insert_entry identifier_order es g v) ≡ seen es)
+        → seen (match_ordering o ((g, v) ∷ e ∷ es) ((e.0, v) ∷ es) (e ∷ insert_entry identifier_order es g v)) ≡ seen (e ∷ es)
+    by Less at later = ap (λ o. and_seen o (seen (e ∷ es))) (is ∙ ap (λ (o : Option (Option Node)). unwrap_or o None) (below_none g e es sorted at))
+    by Equal at later = ap (λ o. and_seen o (seen es)) (first Equal at)
+    by Greater at later = ap (λ ns. and_seen e.1 ns) (later (first Greater at))
+
+pub held_home : (es : Slots) (g : Identifier) → AreAtHome es → IfSome (held_at es g) (λ n. n.object.guid ≡ g)
+held_home [] g home = tt
+held_home (e ∷ es) g home = by (is_at (identifier_order g) e.0) refl (held_home es g home.1)
+  where
+    by : (b : Bool) → is_at (identifier_order g) e.0 ≡ b → IfSome (held_at es g) (λ n. n.object.guid ≡ g)
+        → IfSome (unwrap_or (cond b (Some e.1) (lookup (is_at (identifier_order g)) es)) None) (λ n. n.object.guid ≡ g)
+    by true at later = subst (λ k. IfSome e.1 (λ n. n.object.guid ≡ k)) (sym (exact_bytes g e.0 (equal_order (identifier_order g e.0) at))) home.0
+    by false at later = later
 
 pub home_still : (es : Slots) (g : Identifier) (v : Option Node) → IfSome v (λ n. n.object.guid ≡ g) → AreAtHome es → AreAtHome (insert_entry identifier_order es g v)
 home_still [] g v at home = (at, tt)
@@ -85,6 +107,34 @@ home_still (e ∷ es) g v at home = by (identifier_order g e.0) refl (home_still
     by Less is later = (at, home)
     by Equal is later = (subst (λ k. IfSome v (λ n. n.object.guid ≡ k)) (exact_bytes g e.0 is) at, home.1)
     by Greater is later = (home.0, later)
+
+-- ---- a slot emptied
+
+pub emptied_seen : (es : Slots) (g : Identifier) → flat (lookup (is_at (identifier_order g)) es) ≡ None → seen (set_value (is_at (identifier_order g)) es None) ≡ seen es
+emptied_seen [] g none = refl
+emptied_seen (e ∷ es) g none = by (is_at (identifier_order g) e.0) none (emptied_seen es g)
+  where
+    by : (b : Bool) → flat (cond b (Some e.1) (lookup (is_at (identifier_order g)) es)) ≡ None
+        → (flat (lookup (is_at (identifier_order g)) es) ≡ None → seen (set_value (is_at (identifier_order g)) es None) ≡ seen es)
+        → seen (cond b ((e.0, None) ∷ es) (e ∷ set_value (is_at (identifier_order g)) es None)) ≡ seen (e ∷ es)
+    by true n later = ap (λ o. and_seen o (seen es)) (sym n)
+    by false n later = ap (λ ns. and_seen e.1 ns) (later n)
+
+pub emptied_home : (es : Slots) (g : Identifier) → AreAtHome es → AreAtHome (set_value (is_at (identifier_order g)) es None)
+emptied_home [] g home = home
+emptied_home (e ∷ es) g home = by (is_at (identifier_order g) e.0) (emptied_home es g home.1)
+  where
+    by : (b : Bool) → AreAtHome (set_value (is_at (identifier_order g)) es None) → AreAtHome (cond b ((e.0, None) ∷ es) (e ∷ set_value (is_at (identifier_order g)) es None))
+    by true h = (tt, home.1)
+    by false h = (home.0, h)
+
+-- an empty slot holds nothing still
+pub none_still : (f : Identifier → Option (Option Node)) (g h : Identifier) → f g ≡ None → flat (f h) ≡ cond (same_identifier g h) None (flat (f h))
+none_still f g h none = by (same_identifier g h) refl
+  where
+    by : (b : Bool) → same_identifier g h ≡ b → flat (f h) ≡ cond b None (flat (f h))
+    by true at = ap flat (subst (λ k. f k ≡ None) (exact_bytes g h (equal_order (identifier_order g h) at)) none)
+    by false at = refl
 
 -- ---- a slot freed
 
@@ -119,20 +169,16 @@ pub flag_either : (b v : Bool) (old : Option Bool) → unwrap_or (cond b (Some v
 flag_either true v old = refl
 flag_either false v old = refl
 
-pub not_some : {X : Type 0} (o : Option X) → is_some o ≡ false → o ≡ None
-not_some None is = refl
-not_some (Some x) is = cc
-
 pub still_some : {X : Type 0} (b : Bool) (v : X) (o : Option X) → IsSome o → IsSome (cond b (Some v) o)
 still_some true v o some = refl
 still_some false v o some = some
 
--- a flag that is new and not set leaves what is looked up
-pub new_flag : (f : Identifier → Option Bool) (g h : Identifier) → f g ≡ None → unwrap_or (cond (is_at (identifier_order g) h) (Some false) (f h)) false ≡ unwrap_or (f h) false
-new_flag f g h none = by (is_at (identifier_order g) h) refl
+-- a flag that is written as it is, or not set where there is none, leaves what is looked up
+pub same_flag : (f : Identifier → Option Bool) (g h : Identifier) (v : Bool) → v ≡ unwrap_or (f g) false → unwrap_or (cond (is_at (identifier_order g) h) (Some v) (f h)) false ≡ unwrap_or (f h) false
+same_flag f g h v is = by (is_at (identifier_order g) h) refl
   where
-    by : (b : Bool) → is_at (identifier_order g) h ≡ b → unwrap_or (cond b (Some false) (f h)) false ≡ unwrap_or (f h) false
-    by true at = let same : g ≡ h = exact_bytes g h (equal_order (identifier_order g h) at) in sym (ap (λ (o : Option Bool). unwrap_or o false) (subst (λ k. f k ≡ None) same none))
+    by : (b : Bool) → is_at (identifier_order g) h ≡ b → unwrap_or (cond b (Some v) (f h)) false ≡ unwrap_or (f h) false
+    by true at = is ∙ ap (λ k. unwrap_or (f k) false) (exact_bytes g h (equal_order (identifier_order g h) at))
     by false at = refl
 
 -- ---- the list that is seen

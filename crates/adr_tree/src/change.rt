@@ -26,11 +26,11 @@ impl Tree {
             ≡ cond (same_identifier guid g) None (node_at (nodes_in self.old) g) }
         ensures more { KeepsRoom self.old self.new }
     {
-        if self.get(guid).is_none() {
+        let old = empty(&mut self.slots, guid);
+        if old.is_none() {
             return None;
         }
         let is_parent = may_be_parent(&self.hints, guid);
-        let old = empty(&mut self.slots, guid);
         let breaker = opener_if(&self.slots, &self.flags, is_parent, &old);
         clear(&mut self.flags, breaker);
         old
@@ -132,7 +132,7 @@ impl Tree {
         }
     }
 
-    /// Forgets what was only of a live object that is gone.
+    /// Forgets what was only of a live object that is gone, if there was one.
     fn forget(&mut self, guid: Uuid, old: Option<Node>)
         requires { IsTree self.old }
         ensures tree { IsTree self.new }
@@ -141,8 +141,8 @@ impl Tree {
         if let Some(old) = old {
             self.forget_hint(&Hint::of_child(&old));
             self.forget_hint(&Hint::of_name(&old));
+            self.free(guid);
         }
-        self.free(guid);
     }
 
     /// Forgets what was only of live objects that are gone.

@@ -1,12 +1,12 @@
 //! Who has which name in a place.
 
-ghost use Rattle.std.specs.Prelude.{◌≡◌, ◌&&◌, ◌∷◌, [], ℕ, List, true, false, not, Some, IfSome, IfNone, IfOk, codes};
+ghost use Rattle.std.specs.Prelude.{◌≡◌, ◌∷◌, [], ℕ, List, true, false, not, Some, IfSome, IfNone, IfOk};
 ghost use Rattle.std.specs.List.{list_any};
 ghost use Rattle.std.specs.Option.{option_copied, option_map};
 ghost use Rattle.std.specs.Str.{bytes_eq};
 ghost use Rattle.adr_schema.specs.Folding.{folded};
 ghost use Rattle.adr_model.specs.Member.{Each, Member};
-ghost use Rattle.adr_model.specs.Place.{Node as Defined, node_at, root};
+ghost use Rattle.adr_model.specs.Place.{Node as Defined, node_at};
 ghost use Rattle.adr_model.specs.Shown.{name_holder};
 ghost use Rattle.adr_model.specs.Update.{same_identifier};
 ghost use Rattle.adr_model.specs.Write.{is_taken};
@@ -21,25 +21,10 @@ use crate::hints::{Hint, number_of};
 use crate::tree::Tree;
 use crate::walks::younger;
 use adr_schema::{Text, fold_name};
-use adr_update::{Node, is_root, is_same, lost_and_found};
+use adr_update::{Node, is_lost_name, is_same, lost_and_found};
 use std::alloc::Global;
 use std::ops::Bound;
 use uuid::Uuid;
-
-/// Whether a folded name is that of LostAndFound, which keeps it, in this place.
-fn is_lost_name(parent: Uuid, name: &Text) -> bool
-    ensures { result
-        ≡ (same_identifier parent root && bytes_eq name.now (folded (codes "LostAndFound"))) }
-{
-    is_root(parent) && is_lost_text(name.items())
-}
-
-/// Whether the bytes are the folded name of LostAndFound.
-fn is_lost_text(name: &[u8]) -> bool
-    ensures { result ≡ bytes_eq name.now (folded (codes "LostAndFound")) }
-{
-    name == b"lostandfound".as_slice()
-}
 
 /// Whether the folded name of an object is this one.
 fn has_name(node: &Node, name: &Text) -> bool

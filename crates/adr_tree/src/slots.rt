@@ -1,6 +1,6 @@
 //! Slots for live objects, and flags of those that break a loop. An empty slot is room that nobody sees.
 
-ghost use Rattle.std.specs.Prelude.{◌≡◌, IsTrue, IsSome, OnOk, cond, Some, None};
+ghost use Rattle.std.specs.Prelude.{◌≡◌, IfNone, IsTrue, IsSome, OnOk, cond, Some, None};
 ghost use Rattle.std.specs.Option.{option_copied};
 ghost use Rattle.std.specs.BTreeMap.{btree_map_len, get};
 ghost use Rattle.adr_stamp.specs.Order.{identifier_order};
@@ -43,10 +43,7 @@ pub(crate) fn reserve_slot(
     ensures more { KeepsPlaces slots.old slots.new }
     ensures ok { OnOk result (IsSome (get identifier_order slots.new guid)) }
 {
-    if slots.contains_key(&guid) {
-        return Ok(());
-    }
-    slots.insert(guid, None)?;
+    slots.entry(guid)?.or_insert(None);
     Ok(())
 }
 
@@ -56,10 +53,7 @@ pub(crate) fn reserve_flag(flags: &mut BTreeMap<Uuid, bool>, guid: Uuid) -> Resu
     ensures more { KeepsPlaces flags.old flags.new }
     ensures ok { OnOk result (IsSome (get identifier_order flags.new guid)) }
 {
-    if flags.contains_key(&guid) {
-        return Ok(());
-    }
-    flags.insert(guid, false)?;
+    flags.entry(guid)?.or_insert(false);
     Ok(())
 }
 
@@ -79,19 +73,19 @@ pub(crate) fn fill(slots: &mut BTreeMap<Uuid, Option<Node>>, node: Node)
     }
 }
 
-/// Takes the live object out of the slot of a GUID.
+/// Takes the live object out of the slot of a GUID, if there is one.
 pub(crate) fn empty(slots: &mut BTreeMap<Uuid, Option<Node>>, guid: Uuid) -> Option<Node>
-    requires tidy { IsTidy slots.old }
-    requires room { IsSome (get identifier_order slots.old guid) }
+    requires { IsTidy slots.old }
     ensures old { result ≡ slot_at slots.old guid }
     ensures tidy { IsTidy slots.new }
     ensures nodes { (g : Identifier) → slot_at slots.new g
         ≡ cond (same_identifier guid g) None (slot_at slots.old g) }
     ensures more { KeepsPlaces slots.old slots.new }
+    ensures none { IfNone result (seen slots.new.entries ≡ seen slots.old.entries) }
 {
-    match slots.insert(guid, None) {
-        Ok(old) => old.flatten(),
-        Err(_) => unreachable!(),
+    match slots.get_mut(&guid) {
+        Some(slot) => slot.take(),
+        None => None,
     }
 }
 

@@ -1,10 +1,13 @@
-//! The places that are always there.
+//! The places that are always there, and the name that one of them keeps.
 
-ghost use Rattle.std.specs.Prelude.{◌≡◌};
+ghost use Rattle.std.specs.Prelude.{◌≡◌, ◌&&◌, codes};
+ghost use Rattle.std.specs.Str.{bytes_eq};
+ghost use Rattle.adr_schema.specs.Folding.{folded};
 ghost use Rattle.adr_model.specs.Update.{same_identifier};
 ghost use Rattle.adr_model.specs.Place.{root, lost_and_found, is_fixed};
 
 use crate::key::is_same;
+use adr_schema::Text;
 use uuid::Uuid;
 
 /// The identifier of the root.
@@ -38,4 +41,19 @@ pub fn is_fixed(guid: Uuid) -> bool
     ensures { result ≡ is_fixed guid }
 {
     is_root(guid) || is_lost_and_found(guid)
+}
+
+/// Whether a folded name is that of LostAndFound, which keeps it, in this place.
+pub fn is_lost_name(parent: Uuid, name: &Text) -> bool
+    ensures { result
+        ≡ (same_identifier parent root && bytes_eq name.now (folded (codes "LostAndFound"))) }
+{
+    is_root(parent) && is_lost_text(name.items())
+}
+
+/// Whether the bytes are the folded name of LostAndFound.
+fn is_lost_text(name: &[u8]) -> bool
+    ensures { result ≡ bytes_eq name.now (folded (codes "LostAndFound")) }
+{
+    name == b"lostandfound".as_slice()
 }

@@ -16,7 +16,7 @@ mod update;
 pub use adr_failure::NoMemory;
 pub use adr_schema::{Content, Text};
 pub use adr_stamp::{LinkKey, LinkStamp, Oid, Unit};
-pub use fixed::{is_fixed, is_lost_and_found, is_root, lost_and_found, root};
+pub use fixed::{is_fixed, is_lost_and_found, is_lost_name, is_root, lost_and_found, root};
 pub use held::Held;
 pub use item::{Item, Written, copy_updates};
 pub use key::{Key, is_same, is_same_object};

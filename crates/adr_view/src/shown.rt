@@ -1,11 +1,8 @@
 //! Under which names live objects are shown. Of those in one place whose names fold alike the youngest
 //! name keeps its text (the form of the others is that of MS-ADTS).
 
-ghost use Rattle.std.specs.Prelude.{◌≡◌, ◌&&◌, ◌||◌, IfOk, List, codes};
-ghost use Rattle.std.specs.Str.{bytes_eq};
-ghost use Rattle.adr_schema.specs.Folding.{folded};
-ghost use Rattle.adr_model.specs.Update.{same_identifier};
-ghost use Rattle.adr_model.specs.Place.{Node as Live, place as place_in, root};
+ghost use Rattle.std.specs.Prelude.{◌≡◌, ◌||◌, IfOk, List};
+ghost use Rattle.adr_model.specs.Place.{Node as Live, place as place_in};
 ghost use Rattle.adr_model.specs.Shown.{conflict_name, gives_way, is_lost_name, shown_name};
 ghost use Rattle.adr_view.specs.Youngest.{AreYoungest};
 
@@ -13,25 +10,11 @@ use crate::NoMemory;
 use crate::names::{Rank, gives_way};
 use crate::slot::Slot;
 use adr_schema::Text;
-use adr_state::{Node, is_same};
-use adr_update::root;
+use adr_state::Node;
+use adr_update::is_lost_name;
 use std::alloc::Global;
 use std::collections::BTreeMap;
 use uuid::Uuid;
-
-/// Whether a folded name is that of LostAndFound, which keeps it, in this place.
-fn is_lost_name(parent: Uuid, name: &Text) -> bool
-    ensures { result ≡ (same_identifier parent root && bytes_eq name.now (folded (codes "LostAndFound"))) }
-{
-    is_same(parent, root()) && is_lost_text(name.items())
-}
-
-/// Whether the bytes are the folded name of LostAndFound.
-fn is_lost_text(name: &[u8]) -> bool
-    ensures { result ≡ bytes_eq name.now (folded (codes "LostAndFound")) }
-{
-    name == b"lostandfound".as_slice()
-}
 
 /// The name of an object whose text another keeps.
 fn conflict_name(alloc: Global, text: &Text, guid: Uuid) -> Result<Text, NoMemory>
