@@ -1,3 +1,4 @@
 mod ItemLengths
 mod Tied
 pub mod Entered
+mod Known

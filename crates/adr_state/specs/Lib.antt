@@ -2,3 +2,4 @@ pub mod Mode
 pub mod Marks
 pub mod Refusal
 pub mod Rows
+pub mod Known

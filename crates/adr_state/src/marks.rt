@@ -1,10 +1,12 @@
 //! How far each partner has been read.
 
-ghost use Rattle.std.specs.Prelude.{◌≡◌, [], length, Some, IfOk, OnOk, OnErr, unwrap_or};
-ghost use Rattle.std.specs.BTreeMap.{insert_entry};
+ghost use Rattle.std.specs.Prelude.{◌≡◌, [], length, Some, IfOk, IfSome, IfNone, IsSome, OnOk, OnErr, is_some, unwrap_or};
+ghost use Rattle.std.specs.BTreeMap.{IsOrdered, insert_entry, is_at};
+ghost use Rattle.std.specs.Map.{lookup};
 ghost use Rattle.adr_stamp.specs.Order.{identifier_order};
 ghost use Rattle.adr_model.specs.Store.{Kept as Defined, kept_of, mark_of, no_mark};
 ghost use Rattle.adr_model.specs.Change.{with_mark};
+ghost use Rattle.adr_state.specs.Known.{IsOfKnown};
 ghost use Rattle.adr_state.specs.Marks.{of_marks};
 
 use crate::NoMemory;
@@ -136,30 +138,51 @@ impl Marks {
         Ok(())
     }
 
-    /// These marks with what is kept of one more partner; nothing where no partner is given, and they stay.
-    pub(crate) fn with(
+    /// Whether anything is kept of a partner.
+    fn has(&self, partner: Uuid) -> bool
+        ensures { result ≡ is_some (lookup (is_at (identifier_order partner)) self.now) }
+    {
+        self.map.contains_key(&partner)
+    }
+
+    /// These marks with what is kept of a new partner; nothing where no partner is given or it is known.
+    pub(crate) fn with_new(
         &self,
         alloc: Global,
         mark: Option<(Uuid, Kept)>,
     ) -> Result<Option<Marks>, NoMemory>
-        ensures { IfOk result (λ marks. unwrap_or marks self.now ≡ with_mark mark self.now) }
+        ensures new { IfOk result (λ marks. IfSome marks (λ with. with ≡ with_mark mark self.now)) }
+        ensures known { IfOk result (λ marks. IfNone marks (IsOfKnown self.now mark)) }
     {
-        match mark {
-            None => Ok(None),
-            Some((partner, kept)) => {
-                let mut marks = self.copy(alloc)?;
-                marks.keep(partner, kept.inv(), kept.mark())?;
-                Ok(Some(marks))
-            }
+        let Some((partner, kept)) = mark else {
+            return Ok(None);
+        };
+        if self.has(partner) {
+            return Ok(None);
+        }
+        let mut marks = self.copy(alloc)?;
+        marks.keep(partner, kept.inv(), kept.mark())?;
+        Ok(Some(marks))
+    }
+
+    /// Other marks take the place of these, if there are any; else what is given of a known partner is kept.
+    pub(crate) fn renew(&mut self, marks: Option<Marks>, mark: Option<(Uuid, Kept)>)
+        requires { IfNone marks (IsOfKnown self.old mark) }
+        ensures { self.new ≡ unwrap_or marks (with_mark mark self.old) }
+    {
+        match marks {
+            Some(marks) => *self = marks,
+            None => self.keep_known(mark),
         }
     }
 
-    /// Other marks take the place of these, if there are any.
-    pub(crate) fn renew(&mut self, marks: Option<Marks>)
-        ensures { self.new ≡ unwrap_or marks self.old }
+    /// Keeps what is given of a known partner, in place of what was kept of it.
+    fn keep_known(&mut self, mark: Option<(Uuid, Kept)>)
+        requires { IsOfKnown self.old mark }
+        ensures { self.new ≡ with_mark mark self.old }
     {
-        if let Some(marks) = marks {
-            *self = marks;
+        if let Some((partner, kept)) = mark {
+            overwrite(&mut self.map, partner, kept);
         }
     }
 
@@ -211,4 +234,16 @@ fn put(map: &mut BTreeMap<Uuid, Kept>, partner: Uuid, kept: Kept) -> Result<(), 
 {
     map.insert(partner, kept)?;
     Ok(())
+}
+
+/// Puts what is kept of a partner in the place of what a table has of it.
+fn overwrite(map: &mut BTreeMap<Uuid, Kept>, partner: Uuid, kept: Kept)
+    requires { IsSome (lookup (is_at (identifier_order partner)) map.old.entries) }
+    ensures entries { map.new.entries ≡ insert_entry identifier_order map.old.entries partner kept }
+    ensures ordered { IsOrdered identifier_order map.new }
+{
+    match map.insert(partner, kept) {
+        Ok(_) => {}
+        Err(_) => unreachable!(),
+    }
 }

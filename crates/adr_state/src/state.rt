@@ -1,12 +1,13 @@
 //! A controller's state.
 
-ghost use Rattle.std.specs.Prelude.{◌≡◌, ◌<◌, ◌≤◌, length, IfOk, OnOk, OnErr, IsErrOf, unwrap_or};
+ghost use Rattle.std.specs.Prelude.{◌≡◌, ◌<◌, ◌≤◌, length, true, IfOk, IfSome, IfNone, OnOk, OnErr, IsErrOf, unwrap_or};
 ghost use Rattle.adr_schema.specs.Numbered.{numbered};
 ghost use Rattle.adr_vector.specs.Refusal.{full};
-ghost use Rattle.adr_vector.specs.Vector.{joined, cursor_limit};
+ghost use Rattle.adr_vector.specs.Vector.{joined, raised, cursor_limit};
 ghost use Rattle.adr_model.specs.Store.{empty_state, empty_store};
 ghost use Rattle.adr_model.specs.Change.{after};
 ghost use Rattle.adr_model.specs.Lengths.{first_log_end, new_log_end};
+ghost use Rattle.adr_state.specs.Known.{has_cursors_for};
 ghost use Rattle.adr_state.specs.Mode.{mode_of};
 ghost use Rattle.adr_state.specs.Refusal.{IsOverfull};
 
@@ -143,26 +144,32 @@ impl State {
         let alloc = self.alloc;
         let vector = self.vector_after(alloc, change)?;
         let purged = self.purged_after(alloc, change)?;
-        let marks = self.marks.with(alloc, change.mark())?;
+        let marks = self.marks.with_new(alloc, change.mark())?;
         let rows = change.held(alloc)?;
         self.rows.write(alloc, rows, change.removed())?;
         self.usn = change.usn();
         self.mode = change.mode();
-        self.vector = vector;
+        renew_seen(&mut self.vector, vector, self.inv, change);
         renew(&mut self.purged, purged);
-        self.marks.renew(marks);
+        self.marks.renew(marks, change.mark());
+        are_few(&self.vector);
         Ok(())
     }
 
-    /// What will have been seen after a change.
-    fn vector_after(&self, alloc: Global, change: &Change) -> Result<Vector, Failure<Full>>
-        ensures ok { IfOk result (λ vector. vector ≡ (after self.now change.now).store.vector) }
-        ensures few { IfOk result (λ vector. length vector ≤ cursor_limit) }
+    /// What will have been seen after a change; nothing where the cursors that are there serve.
+    fn vector_after(&self, alloc: Global, change: &Change) -> Result<Option<Vector>, Failure<Full>>
+        ensures new { IfOk result (λ vector.
+            IfSome vector (λ seen. seen ≡ (after self.now change.now).store.vector)) }
+        ensures known { IfOk result (λ vector.
+            IfNone vector (has_cursors_for self.now.store.vector self.now.inv change.now ≡ true)) }
         ensures full { IsErrOf result full → cursor_limit < length (after self.now change.now).store.vector }
     {
-        let mut vector = joined(alloc, &self.vector, change.joined())?;
+        if has_cursors_for(&self.vector, self.inv, change) {
+            return Ok(None);
+        }
+        let mut vector = self.vector.joined(alloc, change.joined())?;
         vector.raise(self.inv, change.usn())?;
-        Ok(vector)
+        Ok(Some(vector))
     }
 
     /// What covers all that was collected after a change; nothing where that stays as it is.
@@ -176,9 +183,37 @@ impl State {
             are_few(&self.purged);
             return Ok(None);
         }
-        let purged = joined(alloc, &self.purged, change.purged())?;
+        let purged = self.purged.joined(alloc, change.purged())?;
         Ok(Some(purged))
     }
+}
+
+/// Whether a vector has all the cursors that a change needs.
+fn has_cursors_for(vector: &Vector, inv: Uuid, change: &Change) -> bool
+    ensures { result ≡ has_cursors_for vector.now inv change.now }
+{
+    vector.has_cursors_of(change.joined()) && (change.usn() == 0 || vector.at(inv) > 0)
+}
+
+/// Another vector takes the place of this one, if there is one; else its cursors are raised.
+fn renew_seen(vector: &mut Vector, other: Option<Vector>, inv: Uuid, change: &Change)
+    requires { IfNone other (has_cursors_for vector.old inv change.now ≡ true) }
+    ensures { vector.new
+        ≡ unwrap_or other (raised (joined vector.old change.now.joined) inv change.now.usn) }
+{
+    match other {
+        Some(other) => *vector = other,
+        None => raise_cursors(vector, inv, change),
+    }
+}
+
+/// Raises the cursors of a vector to what a change brings.
+fn raise_cursors(vector: &mut Vector, inv: Uuid, change: &Change)
+    requires { has_cursors_for vector.old inv change.now ≡ true }
+    ensures { vector.new ≡ raised (joined vector.old change.now.joined) inv change.now.usn }
+{
+    vector.join_known(change.joined());
+    vector.raise_known(inv, change.usn());
 }
 
 /// Another vector takes the place of this one, if there is one.
@@ -195,15 +230,4 @@ fn are_few(vector: &Vector)
     ensures { length vector.now ≤ cursor_limit }
 {
     vector.cursors();
-}
-
-/// The two vectors as one.
-fn joined(alloc: Global, vector: &Vector, other: &Vector) -> Result<Vector, Failure<Full>>
-    ensures ok { IfOk result (λ both. both ≡ joined vector.now other.now) }
-    ensures few { IfOk result (λ both. length both ≤ cursor_limit) }
-    ensures full { IsErrOf result full → cursor_limit < length (joined vector.now other.now) }
-{
-    let mut both = vector.copy(alloc)?;
-    both.join(other)?;
-    Ok(both)
 }

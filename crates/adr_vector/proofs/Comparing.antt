@@ -8,7 +8,7 @@ use Rattle.adr_stamp.specs.Order.{identifier_order}
 use Rattle.adr_vector.specs.Vector.{Cursors, at, covers, at_most, first_gap}
 use Rattle.adr_vector.proofs.Cursors.{IsRising, IsBelow, at_head, at_rest, at_below, below_all, same_from_test, head_below, tail_rising}
 
-both_true : (a b : Bool) → (a && b) ≡ true → (a ≡ true) × (b ≡ true)
+pub both_true : (a b : Bool) → (a && b) ≡ true → (a ≡ true) × (b ≡ true)
 both_true true b h = (refl, h)
 both_true false b h = absurd (cc)
 

@@ -4,3 +4,4 @@ pub mod Placing
 pub mod Comparing
 pub mod Refusals
 pub mod Growing
+pub mod Known

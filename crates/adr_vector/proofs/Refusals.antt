@@ -8,20 +8,20 @@ use Rattle.adr_failure.specs.declared.Failure.TheVariants.{NoMemory}
 use Rattle.adr_vector.specs.declared.vector.Full.{Full}
 use Rattle.adr_vector.specs.Refusal.{full}
 
-abbrev pub Answer : Type 0
-Answer = Result (Unit {0}) (Failure Full)
+abbrev pub Answer : Type 0 → Type 0
+Answer V = Result V (Failure Full)
 
-abbrev pub IsFullWhen : Answer → ℕ → ℕ → Type 0
+abbrev pub IsFullWhen : {V : Type 0} → Answer V → ℕ → ℕ → Type 0
 IsFullWhen r most n = IsErrOf r full ↔ (most < n)
 
-pub done : (most n : ℕ) → n ≤ most → IsFullWhen (Ok tt) most n
-done most n le = (λ h. absurd (cc), λ lt. absurd (omega arith))
+pub done : {V : Type 0} (v : V) (most n : ℕ) → n ≤ most → IsFullWhen (Ok v) most n
+done v most n le = (λ h. absurd (cc), λ lt. absurd (omega arith))
 
-pub refused : (most n : ℕ) → most < n → IsFullWhen (Err full) most n
+pub refused : {V : Type 0} (most n : ℕ) → most < n → IsFullWhen {V = V} (Err full) most n
 refused most n lt = (λ h. lt, λ k. refl)
 
 -- where memory ran out there was room
-pub wanting : (r : Answer) (most n : ℕ) → IsErrAnd r (λ e. e ≡ NoMemory) → n ≤ most → IsFullWhen r most n
+pub wanting : {V : Type 0} (r : Answer V) (most n : ℕ) → IsErrAnd r (λ e. e ≡ NoMemory) → n ≤ most → IsFullWhen r most n
 wanting r most n h le =
     let p = err_from_is_err_and r h in
     (λ k. absurd (let a = p.1 in let b = p.2 in cc), λ lt. absurd (omega arith))

@@ -4,6 +4,7 @@ ghost use Rattle.std.specs.Prelude.{◌≡◌, ◌≢◌, ◌<◌, ◌≤◌, �
 ghost use Rattle.std.specs.declared.cmp.Ordering.TheVariants.{Less};
 ghost use Rattle.adr_stamp.specs.Order.{identifier_order};
 ghost use Rattle.adr_vector.specs.Vector.{Cursors, IsVector, at, covers, at_most, first_gap, raised, joined, cursor_limit};
+ghost use Rattle.adr_vector.specs.Known.{has_cursors_of};
 ghost use Rattle.adr_vector.specs.Place.{IsAt, IsGapFor};
 ghost use Rattle.adr_vector.specs.Refusal.{full};
 
@@ -105,20 +106,35 @@ impl Vector {
         self.search_gap(other)
     }
 
-    /// Takes over what the other has seen.
-    pub fn join(&mut self, other: &Vector) -> Result<(), Failure<Full>>
-        ensures ok { OnOk result (self.new ≡ joined self.old other.now) }
-        ensures everywhere { OnOk result ((inv : List ℕ)
-            → at self.new inv ≡ max (at self.old inv) (at other.now inv)) }
-        ensures full { IsErrOf result full ↔ (cursor_limit < length (joined self.old other.now)) }
-        ensures err { OnErr result (self.new ≡ self.old) }
+    /// Whether each identifier of the other has a cursor here as well.
+    pub fn has_cursors_of(&self, other: &Vector) -> bool
+        ensures { result ≡ has_cursors_of self.now other.now }
+    {
+        other.cursors.iter().all(|cursor| self.at(cursor.0) > 0)
+    }
+
+    /// What this one or the other has seen, as a vector of its own.
+    pub fn joined(&self, alloc: Global, other: &Vector) -> Result<Vector, Failure<Full>>
+        ensures ok { IfOk result (λ both. both ≡ joined self.now other.now) }
+        ensures everywhere { IfOk result (λ both. (inv : List ℕ)
+            → at both inv ≡ max (at self.now inv) (at other.now inv)) }
+        ensures full { IsErrOf result full ↔ (cursor_limit < length (joined self.now other.now)) }
     {
         if count(&self.cursors, &other.cursors) as u64 > CURSOR_LIMIT {
             return Err(Failure::Refused(Full));
         }
-        let alloc = *self.cursors.allocator();
-        self.cursors = merge(alloc, &self.cursors, &other.cursors)?;
-        Ok(())
+        let cursors = merge(alloc, &self.cursors, &other.cursors)?;
+        Ok(Vector { cursors })
+    }
+
+    /// Takes over what the other has seen, where that needs no new cursor and so no memory.
+    pub fn join_known(&mut self, other: &Vector)
+        requires { has_cursors_of self.old other.now ≡ true }
+        ensures { self.new ≡ joined self.old other.now }
+    {
+        for (inv, usn) in &other.cursors {
+            self.raise_known(*inv, *usn);
+        }
     }
 
     /// Brings the number at one identifier up to this one. A number that is 0, or that has been seen, changes nothing.
@@ -135,6 +151,16 @@ impl Vector {
                 Ok(())
             }
             Err(place) => self.enter(place, inv, usn),
+        }
+    }
+
+    /// Brings the number at one identifier up to this one, where that needs no new cursor and so no memory.
+    pub fn raise_known(&mut self, inv: Uuid, usn: u64)
+        requires { usn ≢ 0 → at self.old inv ≢ 0 }
+        ensures { self.new ≡ raised self.old inv usn }
+    {
+        if let Ok(place) = self.search(inv) {
+            self.raise_at(place, inv, usn);
         }
     }
 

@@ -11,6 +11,6 @@ passed (Err x) e refusal h is = cc
 
 pub returns-in_err-vector-clause-full : goal.returns-in_err-vector-clause-full
 returns-in_err-vector-clause-full c is =
-    let over = c.in_err-vector.ensures.full (ap (λ e. Err e) (passed c.from_residual.result _ _ c.from_residual.ensures.1 is)) in
+    let over = c.in_err-vector.ensures.full.0 (ap (λ e. Err e) (passed c.from_residual.result _ _ c.from_residual.ensures.1 is)) in
     let longer = length-raised (joined c.self.inside.vector c.joined.result.now) c.self.inside.inv c.args.change.now.usn in
     rw (← c.self.view_is, ← c.joined.ensures) (omega (arith, over, longer))

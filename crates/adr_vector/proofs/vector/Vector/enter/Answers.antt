@@ -10,7 +10,7 @@ pub returns-then-is_nothing-clause-full : goal.returns-then-is_nothing-clause-fu
 returns-then-is_nothing-clause-full c =
     let same = ap length (raised_seen c.args.self.now c.args.inv c.args.usn (let zero = c.if-is_nothing.true in omega arith)) in
     let viewed = ap length c.self.view_is in
-    done cursor_limit (length (raised c.args.self.now c.args.inv c.args.usn)) (omega (arith, c.self.invariant.few))
+    done tt cursor_limit (length (raised c.args.self.now c.args.inv c.args.usn)) (omega (arith, c.self.invariant.few))
 
 pub returns-then-is_full-clause-full : goal.returns-then-is_full-clause-full
 returns-then-is_full-clause-full c =
@@ -38,4 +38,4 @@ pub returns-clause-full : goal.returns-clause-full
 returns-clause-full c =
     let longer = length_between c.args.self.now c.args.inv c.args.usn c.args.place (subst IsRising c.self.view_is c.self.invariant.rising) c.requires (let some = c.if-is_nothing.false in omega arith) in
     let viewed = ap length c.self.view_is in
-    done cursor_limit (length (raised c.args.self.now c.args.inv c.args.usn)) (omega arith)
+    done tt cursor_limit (length (raised c.args.self.now c.args.inv c.args.usn)) (omega arith)

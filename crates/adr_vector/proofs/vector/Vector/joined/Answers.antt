@@ -4,7 +4,7 @@ use Rattle.adr_vector.specs.Merging.{merged}
 use Rattle.adr_vector.proofs.Cursors.{IsRising}
 use Rattle.adr_vector.proofs.Joining.{merged-is-joined, at-merged, rising-merged, from_one-merged}
 use Rattle.adr_vector.proofs.Refusals.{done, refused, wanting}
-use Rattle.adr_vector.proofs.vector.Vector.join.Goals as goal
+use Rattle.adr_vector.proofs.vector.Vector.joined.Goals as goal
 
 -- the two vectors read as one are joined
 both : (v w : Cursors) → IsVector v → IsVector w → merged v w ≡ joined v w
@@ -19,30 +19,30 @@ returns-then-count-gt-CURSOR_LIMIT-clause-full c =
     let counted : c.count.result ≡ length (joined c.args.self.now c.args.other.now) = cc in
     refused cursor_limit (length (joined c.args.self.now c.args.other.now)) (omega arith)
 
-pub returns-in_err-self-inside-clause-full : goal.returns-in_err-self-inside-clause-full
-returns-in_err-self-inside-clause-full c =
+pub returns-in_err-cursors-clause-full : goal.returns-in_err-cursors-clause-full
+returns-in_err-cursors-clause-full c =
     let same = ap length (both c.args.self.now c.args.other.now (subst IsVector c.self.view_is c.self.invariant) (subst IsVector c.other.view_is c.other.invariant)) in
     let counted : c.count.result ≡ length (joined c.args.self.now c.args.other.now) = cc in
     wanting c.from_residual.result cursor_limit (length (joined c.args.self.now c.args.other.now)) c.from_residual.ensures.1 (omega arith)
 
-pub invariant_of-self : goal.invariant_of-self
-invariant_of-self c =
-    let is_merged : c.in_ok-self-inside.field-0.items ≡ merged c.self.inside.cursors.items c.other.inside.cursors.items = cc c.in_ok-self-inside.ensures in
+pub invariant_of-result : goal.invariant_of-result
+invariant_of-result c =
+    let is_merged : c.in_ok-cursors.cursors.items ≡ merged c.self.inside.cursors.items c.other.inside.cursors.items = cc c.in_ok-cursors.ensures in
     let counted : c.count.result ≡ length (merged c.self.inside.cursors.items c.other.inside.cursors.items) = cc in
     rw is_merged (merged_vector c.self.inside.cursors.items c.other.inside.cursors.items c.self.invariant c.other.invariant (omega arith))
 
 pub returns-clause-ok : goal.returns-clause-ok
 returns-clause-ok c =
-    let is_merged : c.in_ok-self-inside.field-0.items ≡ merged c.args.self.now c.args.other.now = cc c.in_ok-self-inside.ensures in
+    let is_merged : c.in_ok-cursors.cursors.items ≡ merged c.args.self.now c.args.other.now = cc c.in_ok-cursors.ensures in
     is_merged ∙ both c.args.self.now c.args.other.now (subst IsVector c.self.view_is c.self.invariant) (subst IsVector c.other.view_is c.other.invariant)
 
 pub returns-clause-everywhere : goal.returns-clause-everywhere
 returns-clause-everywhere c inv =
-    let is_merged : c.in_ok-self-inside.field-0.items ≡ merged c.args.self.now c.args.other.now = cc c.in_ok-self-inside.ensures in
+    let is_merged : c.in_ok-cursors.cursors.items ≡ merged c.args.self.now c.args.other.now = cc c.in_ok-cursors.ensures in
     ap (λ (v : Cursors). at v inv) is_merged ∙ at-merged c.args.self.now c.args.other.now inv (subst IsRising c.self.view_is c.self.invariant.rising) (subst IsRising c.other.view_is c.other.invariant.rising)
 
 pub returns-clause-full : goal.returns-clause-full
 returns-clause-full c =
     let same = ap length (both c.args.self.now c.args.other.now (subst IsVector c.self.view_is c.self.invariant) (subst IsVector c.other.view_is c.other.invariant)) in
     let counted : c.count.result ≡ length (joined c.args.self.now c.args.other.now) = cc in
-    done cursor_limit (length (joined c.args.self.now c.args.other.now)) (omega arith)
+    done c.in_ok-cursors.cursors.items cursor_limit (length (joined c.args.self.now c.args.other.now)) (omega arith)
