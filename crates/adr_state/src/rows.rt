@@ -227,8 +227,7 @@ impl Rows {
         ensures err { OnErr result (self.new ≡ self.old) }
     {
         let edits = edits_of(alloc, &self.table, rows.as_slice(), removed)?;
-        let spare = self.table.spare(alloc, rows.as_slice(), removed)?;
-        self.table.reserve(rows.as_slice())?;
+        let spare = self.table.reserve(alloc, rows.as_slice(), removed)?;
         self.tree.reserve(edits.as_slice())?;
         self.table.write(rows, removed, spare);
         self.tree.apply(edits);

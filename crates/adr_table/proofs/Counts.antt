@@ -6,15 +6,13 @@ use Rattle.std.specs.BTreeMap.{insert_entry, is_at}
 use Rattle.std.specs.Ordering.{is_eq, match_ordering}
 use Rattle.std.specs.declared.cmp.Ordering.{Ordering}
 use Rattle.std.specs.declared.cmp.Ordering.TheVariants.{Less, Equal, Greater}
-use Rattle.std.proofs.lemmas.Map.{lookup-none}
-use Rattle.std.proofs.lemmas.Map.Entries.{none_below_head}
 use Rattle.std.proofs.lemmas.Map.Keys.{sorted_tail}
 use Rattle.adr_model.specs.Store.{Held}
 use Rattle.adr_table.specs.declared.place.Place.{Place}
 use Rattle.adr_table.specs.Place.{place_order}
 use Rattle.adr_table.specs.Slots.{flat, one_more_if, tally}
-use Rattle.adr_table.proofs.Places.{places_total, exact_places}
-use Rattle.adr_table.proofs.Seen.{Entries, AreSorted}
+use Rattle.adr_table.proofs.Places.{exact_places}
+use Rattle.adr_table.proofs.Seen.{Entries, AreSorted, none_below}
 
 pub tally_few : (test : Place → Bool) (es : Entries) → tally test es ≤ length es
 tally_few test [] = omega arith
@@ -39,9 +37,6 @@ more_more true true n = refl
 more_more true false n = refl
 more_more false true n = refl
 more_more false false n = refl
-
-none_below : (e : Place × Option Held) (es : Entries) (p : Place) → AreSorted (e ∷ es) → place_order p e.0 ≡ Less → lookup (is_at (place_order p)) (e ∷ es) ≡ None
-none_below e es p sorted less = lookup-none (is_at (place_order p)) (e ∷ es) (none_below_head places_total p e es sorted less)
 
 -- the row that was there counts no more, and the one that is put there counts
 pub tally_replaced : (test : Place → Bool) (es : Entries) (p : Place) (v : Option Held) → AreSorted es → IsSome (lookup (is_at (place_order p)) es)

@@ -1,9 +1,11 @@
 -- Room for rows stays, and so do hints.
-use Rattle.std.proofs.Common.{◌≡◌, refl, sym, ap, ◌∙◌, subst, arith, List, [], ◌∷◌, Bool, true, false, cond, ◌||◌, Option, Some, None, suc, slice_index_or}
+use Rattle.std.proofs.Common.{◌≡◌, ◌⊎◌, inl, inr, refl, sym, ap, ◌∙◌, subst, arith, ℕ, ◌+◌, ◌<◌, ◌≤◌, length, List, [], ◌∷◌, Bool, true, false, cond, ◌||◌, Option, Some, None, suc, slice_index_or}
 use Rattle.std.specs.Prelude.{IsSome, is_some}
 use Rattle.std.specs.Map.{keys_of, lookup}
 use Rattle.std.specs.BTreeMap.{get, is_at}
 use Rattle.std.specs.BTreeSet.{BTreeSet, contains}
+use Rattle.std.proofs.lemmas.Bool.{cases_lt}
+use Rattle.std.proofs.lemmas.List.{get_or_default}
 use Rattle.adr_stamp.specs.declared.LinkKey.{LinkKey}
 use Rattle.adr_model.proofs.Keys.{equal_order}
 use Rattle.adr_model.specs.Update.{Key, LinkOf}
@@ -102,3 +104,15 @@ room_first t h hs room = room 0 h (omega arith)
 
 pub room_later : (t s : Table) (h : Held) (hs : List Held) → HaveRoom t (h ∷ hs) → ((x : Held) → HasRoom t x → HasRoom s x) → HaveRoom s hs
 room_later t s h hs room more i d lt = more (slice_index_or hs i d) (room (suc i) d (omega (arith, lt)))
+
+-- room for one row more
+pub room_next : (t s : Table) (rows : List Held) (n : ℕ) (x : Held) → n < length rows → x ≡ slice_index_or rows n x
+    → ((i : ℕ) (d : Held) → i < n → HasRoom t (slice_index_or rows i d)) → ((h : Held) → HasRoom t h → HasRoom s h) → HasRoom s x
+    → (i : ℕ) (d : Held) → i < n + 1 → HasRoom s (slice_index_or rows i d)
+room_next t s rows n x within is before more here i d lt = by (cases_lt i n)
+  where
+    by : (i < n) ⊎ (n ≤ i) → HasRoom s (slice_index_or rows i d)
+    by (inl less) = more (slice_index_or rows i d) (before i d less)
+    by (inr le) =
+        let at : n ≡ i = omega (arith, le, lt) in
+        subst (HasRoom s) (is ∙ get_or_default rows n x d within ∙ ap (λ k. slice_index_or rows k d) at) here

@@ -4,13 +4,14 @@ use Rattle.std.specs.Prelude.{IfSome, IsSome, is_some}
 use Rattle.std.specs.List.{AllByRecursion}
 use Rattle.std.specs.List.Sorted.{IsStrictlySortedBy}
 use Rattle.std.specs.Map.{keys_of, lookup}
+use Rattle.std.specs.Option.{unwrap_or}
 use Rattle.std.specs.BTreeMap.{insert_entry, is_at}
 use Rattle.std.specs.Ordering.{is_eq, match_ordering}
 use Rattle.std.specs.declared.cmp.Ordering.{Ordering}
 use Rattle.std.specs.declared.cmp.Ordering.TheVariants.{Less, Equal, Greater}
-use Rattle.std.proofs.lemmas.Cmp.{eq_by_cmp_equiv}
+use Rattle.std.proofs.lemmas.Cmp.{eq_by_cmp_equiv, tied_itself}
 use Rattle.std.proofs.lemmas.Map.{lookup-none}
-use Rattle.std.proofs.lemmas.Map.Entries.{none_past_head}
+use Rattle.std.proofs.lemmas.Map.Entries.{none_below_head, none_past_head}
 use Rattle.std.proofs.lemmas.Map.Keys.{sorted_head, sorted_tail, IsDistinct-from_sorted}
 use Rattle.adr_model.specs.Update.{Key, key_order, same_key}
 use Rattle.adr_model.proofs.Keys.{equal_order}
@@ -37,6 +38,10 @@ tests_alike h key p home =
 -- no later slot is that of the first one's place
 pub later_none : (p : Place) (e : Place × Option Held) (es : Entries) → AreSorted (e ∷ es) → is_at (place_order p) e.0 ≡ true → lookup (is_at (place_order p)) es ≡ None
 later_none p e es sorted at = lookup-none (is_at (place_order p)) es (none_past_head (eq_by_cmp_equiv places_total) p e es (IsDistinct-from_sorted place_order (keys_of (e ∷ es)) sorted) at)
+
+-- nor is any that of a place below the first one
+pub none_below : (e : Place × Option Held) (es : Entries) (p : Place) → AreSorted (e ∷ es) → place_order p e.0 ≡ Less → lookup (is_at (place_order p)) (e ∷ es) ≡ None
+none_below e es p sorted less = lookup-none (is_at (place_order p)) (e ∷ es) (none_below_head places_total p e es sorted less)
 
 pub found : (es : Entries) (key : Key) → AreSorted es → AreAtHome es → flat (lookup (is_at (place_order (place_of key))) es) ≡ row_held (seen es) key
 found [] key sorted home = refl
@@ -73,6 +78,26 @@ made (e ∷ es) p none = by (place_order p e.0) none (made es p)
     by Less n later = refl
     by Equal n later = cc
     by Greater n later = ap (λ hs. and_seen e.1 hs) (later n)
+
+-- what a slot has, put there again
+put_again : (es : Entries) (p : Place) (v : Option Held) → AreSorted es → lookup (is_at (place_order p)) es ≡ Some v → insert_entry place_order es p v ≡ es
+put_again [] p v sorted there = cc
+put_again (e ∷ es) p v sorted there = by (place_order p e.0) refl there (put_again es p v (sorted_tail place_order e.0 (keys_of es) sorted))
+  where
+    by : (o : Ordering) → place_order p e.0 ≡ o → cond (is_eq o) (Some e.1) (lookup (is_at (place_order p)) es) ≡ Some v → (lookup (is_at (place_order p)) es ≡ Some v → insert_entry place_order es p v ≡ es)
+        → match_ordering o ((p, v) ∷ e ∷ es) ((e.0, v) ∷ es) (e ∷ insert_entry place_order es p v) ≡ e ∷ es
+    by Less at is later = let wrong : None ≡ Some v = sym (none_below e es p sorted at) ∙ there in cc
+    by Equal at is later = let same : e.1 ≡ v = cc in ap (λ w. (e.0, w) ∷ es) (sym same)
+    by Greater at is later = ap (λ xs. e ∷ xs) (later is)
+
+-- an empty slot is made where there is none, and else all stays
+pub slot_made : (P : Entries → Type 0) (es new : Entries) (p : Place) → AreSorted es → new ≡ insert_entry place_order es p (unwrap_or (lookup (is_at (place_order p)) es) None)
+    → P es → (lookup (is_at (place_order p)) es ≡ None → P (insert_entry place_order es p None)) → P new
+slot_made P es new p sorted is stays made = by (lookup (is_at (place_order p)) es) refl is
+  where
+    by : (o : Option (Option Held)) → lookup (is_at (place_order p)) es ≡ o → new ≡ insert_entry place_order es p (unwrap_or o None) → P new
+    by None none at = subst P (sym at) (made none)
+    by (Some v) there at = subst P (sym (at ∙ put_again es p v sorted there)) stays
 
 pub home_still : (es : Entries) (p : Place) (v : Option Held) → IfSome v (λ h. place_of h.update.key ≡ p) → AreAtHome es → AreAtHome (insert_entry place_order es p v)
 home_still [] p v at home = (at, tt)
@@ -139,15 +164,47 @@ pub not_some : {X : Type 0} (o : Option X) → is_some o ≡ false → o ≡ Non
 not_some None is = refl
 not_some (Some x) is = cc
 
-pub still_some : {X : Type 0} (b : Bool) (v : X) (o : Option X) → IsSome o → IsSome (cond b (Some v) o)
+still_some : {X : Type 0} (b : Bool) (v : X) (o : Option X) → IsSome o → IsSome (cond b (Some v) o)
 still_some true v o some = refl
 still_some false v o some = some
 
--- a new slot leaves what is found
-pub new_none : (es : Entries) (p q : Place) → lookup (is_at (place_order p)) es ≡ None
-    → flat (cond (is_at (place_order p) q) (Some None) (lookup (is_at (place_order q)) es)) ≡ flat (lookup (is_at (place_order q)) es)
-new_none es p q none = by (is_at (place_order p) q) refl
+-- what is found once a slot is made
+found_new : (es : Entries) (p q : Place) → lookup (is_at (place_order p)) es ≡ None
+    → lookup (is_at (place_order q)) (insert_entry place_order es p None) ≡ cond (is_at (place_order q) p) (Some None) (lookup (is_at (place_order q)) es)
+found_new [] p q none = refl
+found_new (e ∷ es) p q none = by (place_order p e.0) refl none (found_new es p q)
   where
-    by : (b : Bool) → is_at (place_order p) q ≡ b → flat (cond b (Some None) (lookup (is_at (place_order q)) es)) ≡ flat (lookup (is_at (place_order q)) es)
-    by true at = let same : p ≡ q = exact_places p q (equal_order (place_order p q) at) in sym (ap flat (subst (λ r. lookup (is_at (place_order r)) es ≡ None) same none))
+    apart : place_order p e.0 ≡ Greater → is_at (place_order q) p ≡ true → is_at (place_order q) e.0 ≡ true → ⊥
+    apart above at here =
+        let same : p ≡ e.0 = sym (exact_places q p (equal_order (place_order q p) at)) ∙ exact_places q e.0 (equal_order (place_order q e.0) here) in
+        let wrong : Greater ≡ Equal = sym above ∙ ap (λ r. place_order r e.0) same ∙ tied_itself places_total e.0 in cc
+
+    swap : (a b : Bool) (old : Option (Option Held)) → (a ≡ true → b ≡ true → ⊥) → cond b (Some e.1) (cond a (Some None) old) ≡ cond a (Some None) (cond b (Some e.1) old)
+    swap true true old not_both = absurd (not_both refl refl)
+    swap true false old not_both = refl
+    swap false true old not_both = refl
+    swap false false old not_both = refl
+
+    by : (o : Ordering) → place_order p e.0 ≡ o → cond (is_eq o) (Some e.1) (lookup (is_at (place_order p)) es) ≡ None
+        → (lookup (is_at (place_order p)) es ≡ None → lookup (is_at (place_order q)) (insert_entry place_order es p None) ≡ cond (is_at (place_order q) p) (Some None) (lookup (is_at (place_order q)) es))
+        → lookup (is_at (place_order q)) (match_ordering o ((p, None) ∷ e ∷ es) ((e.0, None) ∷ es) (e ∷ insert_entry place_order es p None)) ≡ cond (is_at (place_order q) p) (Some None) (lookup (is_at (place_order q)) (e ∷ es))
+    by Less at n later = refl
+    by Equal at n later = cc
+    by Greater at n later =
+        ap (λ old. cond (is_at (place_order q) e.0) (Some e.1) old) (later n)
+        ∙ swap (is_at (place_order q) p) (is_at (place_order q) e.0) (lookup (is_at (place_order q)) es) (apart at)
+
+-- a new slot leaves the rows that are found, and the slots
+pub new_none : (es : Entries) (p q : Place) → lookup (is_at (place_order p)) es ≡ None
+    → flat (lookup (is_at (place_order q)) (insert_entry place_order es p None)) ≡ flat (lookup (is_at (place_order q)) es)
+new_none es p q none = ap flat (found_new es p q none) ∙ by (is_at (place_order q) p) refl
+  where
+    by : (b : Bool) → is_at (place_order q) p ≡ b → flat (cond b (Some None) (lookup (is_at (place_order q)) es)) ≡ flat (lookup (is_at (place_order q)) es)
+    by true at =
+        let same : p ≡ q = sym (exact_places q p (equal_order (place_order q p) at)) in
+        sym (ap flat (subst (λ r. lookup (is_at (place_order r)) es ≡ None) same none))
     by false at = refl
+
+pub still_there : (es : Entries) (p q : Place) → lookup (is_at (place_order p)) es ≡ None
+    → IsSome (lookup (is_at (place_order q)) es) → IsSome (lookup (is_at (place_order q)) (insert_entry place_order es p None))
+still_there es p q none some = subst IsSome (sym (found_new es p q none)) (still_some (is_at (place_order q) p) None (lookup (is_at (place_order q)) es) some)

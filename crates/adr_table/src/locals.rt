@@ -1,6 +1,6 @@
 //! Which units may have a row with a local update sequence number.
 
-ghost use Rattle.std.specs.Prelude.{◌≡◌, OnOk, IfOk, Some, None, true};
+ghost use Rattle.std.specs.Prelude.{◌≡◌, OnOk, IfOk, IfSome, Some, None, true};
 ghost use Rattle.std.specs.List.{list_any};
 ghost use Rattle.std.specs.BTreeMap.{is_at};
 ghost use Rattle.std.specs.BTreeSet.{contains};
@@ -32,9 +32,16 @@ impl Local {
     pub fn of(row: &Held) -> Local
         ensures { result ≡ local_of row.now }
     {
+        Local::at(row.local(), &Place::of(&row.key()))
+    }
+
+    /// The hint of a row at a place.
+    pub fn at(usn: u64, place: &Place) -> Local
+        ensures { result ≡ record { usn = usn; unit = Some (seat_at place.now) } }
+    {
         Local {
-            usn: row.local(),
-            unit: Some(seat_at(&Place::of(&row.key()))),
+            usn,
+            unit: Some(seat_at(place)),
         }
     }
 }
@@ -73,12 +80,22 @@ fn unit_at(place: &Place) -> Option<Unit>
     }))
 }
 
-/// Keeps the hint of a row.
-pub(crate) fn remember(locals: &mut BTreeSet<Local>, row: &Held) -> Result<(), NoMemory>
+/// Keeps the hint of a row. Rows of a unit under one number stand side by side, so that of the row before is mostly the
+/// same, and is kept already.
+pub(crate) fn remember(
+    locals: &mut BTreeSet<Local>,
+    before: Option<&Held>,
+    row: &Held,
+) -> Result<(), NoMemory>
+    requires { IfSome before (λ h. IsLocated locals.old h.now) }
     ensures more { (h : Row) → IsLocated locals.old h → IsLocated locals.new h }
     ensures ok { OnOk result (IsLocated locals.new row.now) }
 {
-    insert(locals, row.local(), seat_at(&Place::of(&row.key())))
+    let hint = Local::of(row);
+    match before {
+        Some(before) if Local::of(before).cmp(&hint).is_eq() => Ok(()),
+        _ => insert(locals, row.local(), seat_at(&Place::of(&row.key()))),
+    }
 }
 
 fn insert(locals: &mut BTreeSet<Local>, usn: u64, unit: Place) -> Result<(), NoMemory>
@@ -94,17 +111,12 @@ fn insert(locals: &mut BTreeSet<Local>, usn: u64, unit: Place) -> Result<(), NoM
     }
 }
 
-/// Adds the hint of a row to a list.
-pub(crate) fn name(hints: &mut Vec<Local>, row: &Held) -> Result<(), NoMemory> {
-    add(hints, row.local(), seat_at(&Place::of(&row.key())))
-}
-
-fn add(hints: &mut Vec<Local>, usn: u64, unit: Place) -> Result<(), NoMemory> {
-    let _birth = unit.birth;
-    match hints.push(Local {
-        usn,
-        unit: Some(unit),
-    }) {
+/// Adds a hint to a list, unless it is the last one there.
+pub(crate) fn name(hints: &mut Vec<Local>, hint: Local) -> Result<(), NoMemory> {
+    if hints.as_slice().last() == Some(&hint) {
+        return Ok(());
+    }
+    match hints.push(hint) {
         Ok(()) => Ok(()),
         Err(_) => Err(AllocError),
     }

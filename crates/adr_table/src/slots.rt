@@ -1,7 +1,7 @@
 //! Slots for rows.
 
-ghost use Rattle.std.specs.Prelude.{◌≡◌, ◌≤◌, [], IsTrue, IsSome, IfSome, IfNone, IfOk, OnOk, cond, is_some, length, not, ◌&&◌, slice_get, Some, None};
-ghost use Rattle.std.specs.Option.{option_copied};
+ghost use Rattle.std.specs.Prelude.{◌≡◌, ◌≤◌, [], IsTrue, IsSome, IfSome, IfNone, IfOk, OnOk, OnErr, cond, is_some, length, not, ◌&&◌, slice_get, Some, None};
+ghost use Rattle.std.specs.Option.{option_copied, option_map, unwrap_or};
 ghost use Rattle.std.specs.BTreeMap.{IsOrdered, get, insert_entry, is_at, keys};
 ghost use Rattle.std.specs.BTreeMap.Range.{IsFromStart, IsLeBy};
 ghost use Rattle.adr_model.specs.Store.{row_held, with_row};
@@ -49,20 +49,18 @@ impl Slots {
         }
     }
 
-    /// Makes a slot at a place, if there is none. Nobody sees it.
-    pub(crate) fn reserve(&mut self, place: Place) -> Result<(), NoMemory>
+    /// Makes a slot at a place, if there is none, and tells the local update sequence number of the row in it. Nobody sees it.
+    pub(crate) fn reserve(&mut self, place: Place) -> Result<Option<u64>, NoMemory>
         requires { IsTidy self.old }
         ensures seen { rows_seen self.new ≡ rows_seen self.old }
         ensures tidy { IsTidy self.new }
         ensures same { (q : Place) → row_at self.new q ≡ row_at self.old q }
         ensures more { (q : Place) → HasSlot self.old q → HasSlot self.new q }
         ensures ok { OnOk result (HasSlot self.new place) }
+        ensures local { IfOk result (λ local. local ≡ option_map (λ h. h.local) (row_at self.old place)) }
     {
-        if self.map.contains_key(&place) {
-            return Ok(());
-        }
-        self.map.insert(place, None)?;
-        Ok(())
+        let usn = make(&mut self.map, place)?;
+        Ok(usn)
     }
 
     /// Puts a row into the slot of its key.
@@ -208,6 +206,21 @@ impl Slots {
         }
         false
     }
+}
+
+/// Makes a slot where there is none, and tells the local update sequence number of the row in it.
+fn make(map: &mut BTreeMap<Place, Option<Held>>, place: Place) -> Result<Option<u64>, NoMemory>
+    requires { IsOrdered place_order map.old }
+    ensures local { IfOk result (λ local.
+        local ≡ option_map (λ h. h.local) (unwrap_or (get place_order map.old place) None)) }
+    ensures ordered { IsOrdered place_order map.new }
+    ensures entries { OnOk result (map.new.entries
+        ≡ insert_entry place_order map.old.entries place (unwrap_or (get place_order map.old place) None)) }
+    ensures there { OnOk result (IsSome (get place_order map.new place)) }
+    ensures err { OnErr result (map.new.entries ≡ map.old.entries) }
+{
+    let slot = map.entry(place)?.or_insert(None);
+    Ok(slot.as_ref().map(|row| row.local()))
 }
 
 /// Puts something into a slot, and tells whether a row was there.

@@ -1,10 +1,14 @@
-//! What is left over when rows are written.
+//! Room for rows that are written, and what they leave over.
 
-ghost use Rattle.adr_table.specs.Table.{IsKept};
+ghost use Rattle.std.specs.Prelude.{◌≡◌, IfSome, OnOk};
+ghost use Rattle.adr_model.specs.Store.{Held as Row};
+ghost use Rattle.adr_table.specs.Locals.{IsLocated};
+ghost use Rattle.adr_table.specs.Table.{HasRoom, HaveRoom, IsKept, rows_in};
 
-use crate::NoMemory;
 use crate::locals::{Local, name};
+use crate::place::Place;
 use crate::table::Table;
+use crate::{NoMemory, back, locals};
 use adr_stamp::{LinkKey, Oid};
 use adr_update::{Held, Key};
 use std::alloc::Global;
@@ -29,7 +33,7 @@ impl Spare {
 
     /// Names the hints of a row that goes.
     fn add(&mut self, row: &Held) -> Result<(), NoMemory> {
-        name(&mut self.locals, row)?;
+        name(&mut self.locals, Local::of(row))?;
         if let Key::Link(link) = row.key() {
             self.links.push(link)?;
         }
@@ -73,14 +77,20 @@ impl Spare {
         Ok(())
     }
 
-    /// Names the hint of the row that a row takes the place of, and what dies by it.
-    fn add_before(&mut self, alloc: Global, table: &Table, row: &Held) -> Result<(), NoMemory>
+    /// Names the hint of the row that a row takes the place of, by its number, and what dies by it.
+    fn add_before(
+        &mut self,
+        alloc: Global,
+        table: &Table,
+        key: &Key,
+        before: Option<u64>,
+    ) -> Result<(), NoMemory>
         requires { IsKept table.now }
     {
-        if let Some(before) = table.row(row.key()) {
-            name(&mut self.locals, before)?;
+        if let Some(usn) = before {
+            name(&mut self.locals, Local::at(usn, &Place::of(key)))?;
         }
-        match row.key().killed() {
+        match key.killed() {
             Some(object) => self.add_dead(alloc, table, &object),
             None => Ok(()),
         }
@@ -88,13 +98,44 @@ impl Spare {
 }
 
 impl Table {
-    /// What is left over when rows are written and objects removed.
-    pub fn spare(&self, alloc: Global, rows: &[Held], removed: &[Oid]) -> Result<Spare, NoMemory>
-        requires { IsKept self.now }
+    /// Makes a slot for a row, and its hints, and tells the local update sequence number of the row that it takes the place
+    /// of. Nobody sees it.
+    fn reserve_one(&mut self, before: Option<&Held>, row: &Held) -> Result<Option<u64>, NoMemory>
+        requires kept { IsKept self.old }
+        requires before { IfSome before (λ h. IsLocated self.old.locals h.now) }
+        ensures rows { rows_in self.new ≡ rows_in self.old }
+        ensures kept { IsKept self.new }
+        ensures more { (h : Row) → HasRoom self.old h → HasRoom self.new h }
+        ensures ok { OnOk result (HasRoom self.new row.now) }
+    {
+        let key = row.key();
+        locals::remember(&mut self.locals, before, row)?;
+        // The link of a row that is held has its hint.
+        if let Some(usn) = self.slots.reserve(Place::of(&key))? {
+            return Ok(Some(usn));
+        }
+        back::remember(&mut self.back, &key)?;
+        Ok(None)
+    }
+
+    /// Makes room for rows that are written and objects that are removed, and tells what will be spare. Nobody sees it.
+    pub fn reserve(
+        &mut self,
+        alloc: Global,
+        rows: &[Held],
+        removed: &[Oid],
+    ) -> Result<Spare, NoMemory>
+        requires { IsKept self.old }
+        ensures rows { rows_in self.new ≡ rows_in self.old }
+        ensures kept { IsKept self.new }
+        ensures ok { OnOk result (HaveRoom self.new rows.now) }
     {
         let mut spare = Spare::new(alloc);
+        let mut before = None;
         for row in rows {
-            spare.add_before(alloc, self, row)?;
+            let usn = self.reserve_one(before, row)?;
+            spare.add_before(alloc, self, &row.key(), usn)?;
+            before = Some(row);
         }
         if !spare.objects.is_empty() {
             spare.add_written(rows)?;

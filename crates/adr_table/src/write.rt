@@ -1,6 +1,6 @@
 //! How rows are written into a table.
 
-ghost use Rattle.std.specs.Prelude.{◌≡◌, None, Some, OnOk, fold};
+ghost use Rattle.std.specs.Prelude.{◌≡◌, None, Some, fold};
 ghost use Rattle.adr_model.specs.Change.{put, rows_after, stripped, without_object};
 ghost use Rattle.adr_model.specs.Store.{Held as Row};
 ghost use Rattle.adr_table.specs.Slots.{IsTidy, places, row_at, rows_seen};
@@ -9,13 +9,13 @@ ghost use Rattle.adr_table.specs.Locals.{AreLocated};
 ghost use Rattle.adr_table.specs.Table.{HasRoom, HaveRoom, IsKept, rows_in};
 ghost use Rattle.adr_table.specs.declared.place.Place.{Place as Seat};
 
-use crate::back::{Behind, empty_links_to, forget, remember};
+use crate::back::{Behind, empty_links_to, forget};
+use crate::locals;
 use crate::locals::Local;
 use crate::place::Place;
 use crate::slots::Slots;
 use crate::spare::Spare;
 use crate::table::Table;
-use crate::{NoMemory, locals};
 use adr_stamp::{LinkKey, Oid};
 use adr_update::Held;
 use std::collections::BTreeSet;
@@ -83,33 +83,6 @@ fn forget_locals(slots: &Slots, locals: &mut BTreeSet<Local>, hints: &[Local])
 }
 
 impl Table {
-    /// Makes a slot for a row, and its hints. Nobody sees it.
-    fn reserve_one(&mut self, row: &Held) -> Result<(), NoMemory>
-        requires { IsKept self.old }
-        ensures rows { rows_in self.new ≡ rows_in self.old }
-        ensures kept { IsKept self.new }
-        ensures more { (h : Row) → HasRoom self.old h → HasRoom self.new h }
-        ensures ok { OnOk result (HasRoom self.new row.now) }
-    {
-        let key = row.key();
-        remember(&mut self.back, &key)?;
-        locals::remember(&mut self.locals, row)?;
-        self.slots.reserve(Place::of(&key))
-    }
-
-    /// Makes room for rows. Nobody sees it.
-    pub fn reserve(&mut self, rows: &[Held]) -> Result<(), NoMemory>
-        requires { IsKept self.old }
-        ensures rows { rows_in self.new ≡ rows_in self.old }
-        ensures kept { IsKept self.new }
-        ensures ok { OnOk result (HaveRoom self.new rows.now) }
-    {
-        for row in rows {
-            self.reserve_one(row)?;
-        }
-        Ok(())
-    }
-
     /// Puts a row for which there is room.
     fn put(&mut self, row: Held)
         requires kept { IsKept self.old }

@@ -110,8 +110,7 @@ impl<'a> Told<'a> {
         let objects = self.objects_with(&key)?;
         let links = self.links_with(&key)?;
         let rows = vec![in alloc; row]?;
-        let spare = self.over.spare(alloc, rows.as_slice(), &[])?;
-        self.over.reserve(rows.as_slice())?;
+        let spare = self.over.reserve(alloc, rows.as_slice(), &[])?;
         self.over.write(rows, &[], spare);
         self.objects = objects;
         self.links = links - lost;
