@@ -1,7 +1,9 @@
 mod Deciding
 mod Rising
 mod Looked
+mod Holding
 mod Tally
 mod Births
 mod Telling
 mod Lengths
+mod Standings

@@ -4,7 +4,7 @@ use Rattle.std.specs.Option.{option_or}
 use Rattle.std.specs.Ordering.{is_eq, match_ordering, ordering_then, nat_cmp}
 use Rattle.std.specs.declared.cmp.Ordering.{Ordering}
 use Rattle.std.specs.declared.cmp.Ordering.TheVariants.{Less, Equal, Greater}
-use Rattle.std.proofs.lemmas.Cmp.{eq_by_cmp_equiv, tied_itself}
+use Rattle.std.proofs.lemmas.Cmp.{eq_by_cmp_equiv}
 use Rattle.std.proofs.lemmas.Map.Lookups.{exact_unsigned}
 use Rattle.adr_stamp.specs.declared.Oid.{Oid}
 use Rattle.adr_stamp.specs.Order.{object_order}
@@ -20,7 +20,8 @@ use Rattle.adr_update.specs.Sought.{is_link_from, is_link_to}
 use Rattle.adr_table.proofs.Linked.{one_of_rows}
 use Rattle.adr_law_tree.proofs.RisingHeld.{head_below, tail_rising, with_row_rises, fewer_rise, put_rises, none_rising}
 use Rattle.adr_take.specs.Told.{is_stripped, is_left, laid, told, IsCounted, is_birth_row, links_lost, links_found, one}
-use Rattle.adr_take.proofs.Rising.{none_below, one_key}
+use Rattle.adr_take.proofs.Rising.{none_below}
+use Rattle.adr_take.proofs.Holding.{row_is_held}
 use Rattle.adr_take.proofs.Looked.{held_with_row, held_without, left_at, held_put}
 use Rattle.adr_take.proofs.Tally.{tally, is_tally, tally_same, tally_filter, tally_append, tally_with_row, tally_apart}
 use Rattle.adr_take.proofs.Births.{is_link_at, objects_after, links_after}
@@ -49,11 +50,13 @@ held_told over base k = held_laid over (filter (λ h. not (is_stripped over h.up
 pub held_over : (over base : List Held) (k : Key) (h : Held) → row_held over k ≡ Some h → row_held (told over base) k ≡ Some h
 held_over over base k h e = held_told over base k ∙ ap (λ o. option_or o (cond (is_stripped over k) None (row_held base k))) e
 
-pub held_stripped : (over base : List Held) (k : Key) → row_held over k ≡ None → is_stripped over k ≡ true → row_held (told over base) k ≡ None
-held_stripped over base k e f = held_told over base k ∙ ap (λ o. option_or o (cond (is_stripped over k) None (row_held base k))) e ∙ ap (λ b. cond b None (row_held base k)) f
+-- what the rows over the base don't have is that of the base, where it isn't stripped
+pub held_below : (over base : List Held) (k : Key) → row_held over k ≡ None → row_held (told over base) k ≡ cond (is_stripped over k) None (row_held base k)
+held_below over base k e = held_told over base k ∙ ap (λ o. option_or o (cond (is_stripped over k) None (row_held base k))) e
 
-pub held_base : (over base : List Held) (k : Key) → row_held over k ≡ None → is_stripped over k ≡ false → row_held (told over base) k ≡ row_held base k
-held_base over base k e f = held_told over base k ∙ ap (λ o. option_or o (cond (is_stripped over k) None (row_held base k))) e ∙ ap (λ b. cond b None (row_held base k)) f
+pub none_below_stripped : (b : Bool) (base : List Held) (k : Key) → row_held base k ≡ None → None ≡ cond b None (row_held base k)
+none_below_stripped true base k e = refl
+none_below_stripped false base k e = sym e
 
 -- ---- what a death strips
 
@@ -210,23 +213,6 @@ holds_laid (x ∷ xs) base o = holds_with_row (laid xs base) x o ∙ ap (λ b. i
     by true = refl
     by false = refl
 
--- a dead object is held by its deleted row
-dead_is_held : (rows : List Held) (o : Oid) → holds_dead rows o ≡ true → holds_object rows o ≡ true
-dead_is_held [] o e = cc
-dead_is_held (x ∷ xs) o e = by (same_key x.update.key (RowOf o deleted_attr)) refl e (λ f. dead_is_held xs o f)
-  where
-    here : is_row_of o (RowOf o deleted_attr) ≡ true
-    here = ap is_eq (tied_itself objects_total o)
-
-    either_way : (b : Bool) → b || true ≡ true
-    either_way true = refl
-    either_way false = refl
-
-    by : (b : Bool) → same_key x.update.key (RowOf o deleted_attr) ≡ b → is_some (cond b (Some x) (row_held xs (RowOf o deleted_attr))) ≡ true → (holds_dead xs o ≡ true → holds_object xs o ≡ true)
-        → is_row_of o x.update.key || holds_object xs o ≡ true
-    by true f g later = ap (λ k. is_row_of o k || holds_object xs o) (one_key x.update.key (RowOf o deleted_attr) f) ∙ ap (λ b. b || holds_object xs o) here
-    by false f g later = ap (λ b. is_row_of o x.update.key || b) (later g) ∙ either_way (is_row_of o x.update.key)
-
 -- of an object that isn't dead nothing was stripped
 holds_left : (over base : List Held) (o : Oid) → holds_dead over o ≡ false → holds_object (filter (λ h. not (is_stripped over h.update.key)) base) o ≡ holds_object base o
 holds_left over [] o alive = refl
@@ -252,7 +238,7 @@ pub holds_told : (over base : List Held) (o : Oid) → holds_object (told over b
 holds_told over base o = holds_laid over (filter (λ h. not (is_stripped over h.update.key)) base) o ∙ by (holds_dead over o) refl
   where
     by : (b : Bool) → holds_dead over o ≡ b → holds_object over o || holds_object (filter (λ h. not (is_stripped over h.update.key)) base) o ≡ holds_object over o || holds_object base o
-    by true e = ap (λ b. b || holds_object (filter (λ h. not (is_stripped over h.update.key)) base) o) (dead_is_held over o e) ∙ sym (ap (λ b. b || holds_object base o) (dead_is_held over o e))
+    by true e = ap (λ b. b || holds_object (filter (λ h. not (is_stripped over h.update.key)) base) o) (row_is_held over o deleted_attr e) ∙ sym (ap (λ b. b || holds_object base o) (row_is_held over o deleted_attr e))
     by false e = ap (λ b. holds_object over o || b) (holds_left over base o e)
 
 -- ---- counts

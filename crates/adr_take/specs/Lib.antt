@@ -2,4 +2,5 @@ pub mod Before
 pub mod Cursors
 pub mod HeldAt
 pub mod Presence
+pub mod Standing
 pub mod Told

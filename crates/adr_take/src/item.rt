@@ -1,108 +1,100 @@
 //! Why an item is refused.
 
-ghost use Rattle.std.specs.Prelude.{◌≡◌, IfOk};
-ghost use Rattle.std.specs.Option.{option_and_then};
-ghost use Rattle.adr_model.specs.Update.{RowOf, class_attr};
-ghost use Rattle.adr_model.specs.Store.{row_held};
-ghost use Rattle.adr_model.specs.Take.{class_of_item, class_said, incomplete, item_fault, item_refusal};
+ghost use Rattle.std.specs.Prelude.{◌≡◌, List, IfOk, map};
+ghost use Rattle.adr_failure.specs.First.{first_of};
+ghost use Rattle.adr_vector.specs.Vector.{Cursors};
+ghost use Rattle.adr_model.specs.Store.{Held};
+ghost use Rattle.adr_model.specs.Take.{incomplete, item_fault, item_refusal, object_lacks, object_rows_tested, row_fault};
+ghost use Rattle.adr_take.specs.Presence.{defined};
+ghost use Rattle.adr_take.specs.Standing.{IsStanding};
 
 use crate::NoMemory;
 use crate::faults::{first_fault, lacks};
-use crate::keys::{class_among, class_said, has_row};
-use crate::presence::{Presence, has_lost_end, presence_of};
-use crate::told::Told;
+use crate::keys::{class_among, has_row};
+use crate::presence::Presence;
+use crate::standing::Standing;
 use adr_event::{ItemFault, TakeRefusal};
 use adr_schema::Schema;
-use adr_stamp::{Oid, Unit};
-use adr_state::{CLASS, DELETED, Item, Key};
-use adr_vector::Vector;
+use adr_stamp::Unit;
+use adr_state::{DELETED, Item, Update};
 use std::alloc::AllocError;
 
-/// The class of an object that is held.
-fn class_held(held: &Told, object: &Oid) -> Option<u16>
-    ensures { result
-        ≡ option_and_then (λ h. class_said h.update.said) (row_held held.now (RowOf object.now class_attr)) }
+/// What is wrong with the first wrong one of the rows of an object's item that are looked at.
+fn object_fault(
+    schema: Schema,
+    presence: Presence,
+    class: Option<u16>,
+    rows: &[Update],
+) -> Option<ItemFault>
+    ensures { result ≡ first_of (map (row_fault schema class) (object_rows_tested rows.now (defined presence))) }
 {
-    let key = Key::Row {
-        object: *object,
-        attr: CLASS,
-    };
-    match held.row(key) {
-        Some(row) => class_said(row.update().said()),
-        None => None,
+    match presence {
+        Presence::Dead | Presence::Gone => None,
+        Presence::Held => first_fault(schema, class, rows, false),
+        Presence::New => first_fault(schema, class, rows, has_row(DELETED, rows)),
     }
 }
 
-/// The class of an item's object: that of the held object, or the one that comes.
-fn class_of_item(held: &Told, item: &Item) -> Option<u16>
-    ensures { result ≡ class_of_item held.now item.now }
+/// What is wrong with the first wrong one of an item's rows that are looked at, by what stands of its unit. The class of
+/// its object is that of the held object, or the one that comes.
+fn item_fault(schema: Schema, standing: Standing, item: &Item) -> Option<ItemFault>
+    ensures { (vector : Cursors) (rows : List Held) → IsStanding vector rows item.now.unit standing
+        → result ≡ item_fault schema vector rows item.now }
 {
-    match item.unit() {
-        Unit::Object(object) => match class_held(held, &object) {
-            Some(class) => Some(class),
-            None => class_among(item.rows()),
-        },
-        Unit::Link(_) => None,
-    }
-}
-
-/// What is wrong with the first wrong one of an item's rows that are looked at.
-fn item_fault(schema: Schema, vector: &Vector, held: &Told, item: &Item) -> Option<ItemFault>
-    ensures { result ≡ item_fault schema vector.now held.now item.now }
-{
-    let class = class_of_item(held, item);
-    match item.unit() {
-        Unit::Object(object) => match presence_of(vector, held, &object) {
-            Presence::Dead | Presence::Gone => None,
-            Presence::Held => first_fault(schema, class, item.rows(), false),
-            Presence::New => {
-                first_fault(schema, class, item.rows(), has_row(DELETED, item.rows()))
-            }
-        },
-        Unit::Link(link) => {
-            if has_lost_end(vector, held, &link) {
-                None
-            } else {
-                first_fault(schema, class, item.rows(), false)
-            }
+    let rows = item.rows();
+    match standing {
+        Standing::OfObject { presence, class } => {
+            object_fault(schema, presence, class.or(class_among(rows)), rows)
         }
+        Standing::OfLink { is_lost: true } => None,
+        Standing::OfLink { is_lost: false } => first_fault(schema, None, rows, false),
+    }
+}
+
+/// Whether an object is new and comes without its class, its name or what it must have.
+fn object_lacks(schema: Schema, presence: Presence, rows: &[Update]) -> bool
+    ensures { result ≡ object_lacks schema rows.now (defined presence) }
+{
+    match presence {
+        Presence::Dead | Presence::Held | Presence::Gone => false,
+        Presence::New => lacks(schema, rows),
     }
 }
 
 /// The refusal of an item whose object is new and comes without its class, its name or what it must have.
-fn incomplete(schema: Schema, vector: &Vector, held: &Told, item: &Item) -> Option<TakeRefusal>
-    ensures { result ≡ incomplete schema vector.now held.now item.now }
+fn incomplete(schema: Schema, standing: Standing, item: &Item) -> Option<TakeRefusal>
+    ensures { (vector : Cursors) (rows : List Held) → IsStanding vector rows item.now.unit standing
+        → result ≡ incomplete schema vector rows item.now }
 {
-    match item.unit() {
-        Unit::Object(object) => match presence_of(vector, held, &object) {
-            Presence::Dead | Presence::Held | Presence::Gone => None,
-            Presence::New => {
-                if lacks(schema, item.rows()) {
-                    Some(TakeRefusal::Incomplete { object })
-                } else {
-                    None
-                }
+    match (item.unit(), standing) {
+        (Unit::Object(object), Standing::OfObject { presence, .. }) => {
+            if object_lacks(schema, presence, item.rows()) {
+                Some(TakeRefusal::Incomplete { object })
+            } else {
+                None
             }
-        },
-        Unit::Link(_) => None,
+        }
+        _ => None,
     }
 }
 
-/// Why the item at a place is refused. A place that no refusal has room for counts as want of memory.
+/// Why the item at a place is refused, by what stands of its unit. A place that no refusal has room for counts as want
+/// of memory.
 pub fn item_refusal(
     schema: Schema,
-    vector: &Vector,
-    held: &Told,
+    standing: Standing,
     place: usize,
     item: &Item,
 ) -> Result<Option<TakeRefusal>, NoMemory>
-    ensures { IfOk result (λ refusal. refusal ≡ item_refusal schema vector.now held.now place item.now) }
+    ensures { IfOk result (λ refusal. (vector : Cursors) (rows : List Held)
+        → IsStanding vector rows item.now.unit standing
+        → refusal ≡ item_refusal schema vector rows place item.now) }
 {
-    match item_fault(schema, vector, held, item) {
+    match item_fault(schema, standing, item) {
         Some(cause) => match u32::try_from(place) {
             Ok(place) => Ok(Some(TakeRefusal::BadItem { place, cause })),
             Err(_) => Err(AllocError),
         },
-        None => Ok(incomplete(schema, vector, held, item)),
+        None => Ok(incomplete(schema, standing, item)),
     }
 }

@@ -12,6 +12,7 @@ mod keys;
 mod presence;
 mod reply;
 mod rows;
+mod standing;
 mod taking;
 mod told;
 

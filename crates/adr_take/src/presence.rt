@@ -1,8 +1,9 @@
-//! What is held of an item's unit before the item.
+//! What is held of an object before an item.
 
-ghost use Rattle.std.specs.Prelude.{◌≡◌, ◌||◌};
+ghost use Rattle.std.specs.Prelude.{◌≡◌, ◌||◌, if◌then◌else◌};
+ghost use Rattle.adr_model.specs.Store.{holds_dead};
 ghost use Rattle.adr_model.specs.Visible.{covers_birth};
-ghost use Rattle.adr_model.specs.Take.{is_above, is_gone, is_lost_end, presence_of};
+ghost use Rattle.adr_model.specs.Take.{IsDead, IsGone, IsHeld, IsNew, is_above, is_gone, is_lost_end};
 ghost use Rattle.adr_take.specs.Presence.{defined};
 
 use crate::told::Told;
@@ -20,15 +21,22 @@ pub enum Presence {
     New,
 }
 
-/// What stands of an object before its item.
-pub fn presence_of(vector: &Vector, held: &Told, object: &Oid) -> Presence
-    ensures { defined result ≡ presence_of vector.now held.now object.now }
+/// What stands of an object that is held.
+pub fn presence_held(held: &Told, object: &Oid) -> Presence
+    ensures { defined result ≡ (if holds_dead held.now object.now then IsDead else IsHeld) }
 {
     if held.is_dead(object) {
         Presence::Dead
-    } else if held.holds(object) {
+    } else {
         Presence::Held
-    } else if covers_birth(vector, object) {
+    }
+}
+
+/// What stands of an object that isn't held.
+pub fn presence_absent(vector: &Vector, object: &Oid) -> Presence
+    ensures { defined result ≡ (if covers_birth vector.now object.now then IsGone else IsNew) }
+{
+    if covers_birth(vector, object) {
         Presence::Gone
     } else {
         Presence::New
@@ -45,7 +53,7 @@ fn covers_birth(vector: &Vector, object: &Oid) -> bool
 fn is_gone(vector: &Vector, held: &Told, object: &Oid) -> bool
     ensures { result ≡ is_gone vector.now held.now object.now }
 {
-    !held.holds(object) && covers_birth(vector, object)
+    covers_birth(vector, object) && !held.holds(object)
 }
 
 /// Whether an end of a link is dead or gone.

@@ -1,40 +1,52 @@
 //! Which rows of an item are written.
 
-ghost use Rattle.std.specs.Prelude.{◌≡◌, ◌&&◌, IfOk, filter, not};
+ghost use Rattle.std.specs.Prelude.{◌≡◌, ◌&&◌, [], IfOk, filter, not, if◌then◌else◌};
+ghost use Rattle.adr_vector.specs.Vector.{Cursors};
 ghost use Rattle.adr_model.specs.Update.{class_attr, deleted_attr};
 ghost use Rattle.adr_model.specs.Take.{is_above, is_of_attr, is_reserved_row, left_by_death, object_rows_taken, rows_taken};
 ghost use Rattle.adr_take.specs.Presence.{defined};
+ghost use Rattle.adr_take.specs.Standing.{IsStanding};
 
 use crate::NoMemory;
 use crate::keys::{has_row, is_of_attr, is_reserved};
-use crate::presence::{Presence, has_lost_end, is_above, presence_of};
+use crate::presence::{Presence, is_above};
+use crate::standing::Standing;
 use crate::told::Told;
-use adr_stamp::Unit;
 use adr_state::{CLASS, DELETED, Item, Update, copy_updates};
-use adr_vector::Vector;
 use std::alloc::Global;
 
-/// The rows of an item that are written.
+/// The rows of an item that are written, by what stands of its unit.
 pub fn rows_taken(
     alloc: Global,
-    vector: &Vector,
     held: &Told,
+    standing: Standing,
     item: &Item,
 ) -> Result<Vec<Update>, NoMemory>
-    ensures { IfOk result (λ rows. rows.items ≡ rows_taken vector.now held.now item.now) }
+    ensures { IfOk result (λ rows. (vector : Cursors) → IsStanding vector held.now item.now.unit standing
+        → rows.items ≡ rows_taken vector held.now item.now) }
 {
-    match item.unit() {
-        Unit::Object(object) => {
-            let presence = presence_of(vector, held, &object);
+    match standing {
+        Standing::OfObject { presence, .. } => {
             object_rows_taken(alloc, presence, held, item.rows())
         }
-        Unit::Link(link) => {
-            if has_lost_end(vector, held, &link) {
-                Ok(Vec::new(alloc))
-            } else {
-                above(alloc, held, item.rows())
-            }
-        }
+        Standing::OfLink { is_lost } => link_rows_taken(alloc, is_lost, held, item.rows()),
+    }
+}
+
+/// The rows of a link's item that are written: none, if an end of it is dead or gone.
+fn link_rows_taken(
+    alloc: Global,
+    is_lost: bool,
+    held: &Told,
+    rows: &[Update],
+) -> Result<Vec<Update>, NoMemory>
+    ensures { IfOk result (λ taken.
+        taken.items ≡ (if is_lost then [] else filter (is_above held.now) rows.now)) }
+{
+    if is_lost {
+        Ok(Vec::new(alloc))
+    } else {
+        above(alloc, held, rows)
     }
 }
 
@@ -68,8 +80,12 @@ fn deaths_above(alloc: Global, held: &Told, rows: &[Update]) -> Result<Vec<Updat
     ensures { IfOk result (λ deaths.
         deaths.items ≡ filter (λ u. is_of_attr deleted_attr u.key && is_above held.now u) rows.now) }
 {
-    let mut deaths = copy_updates(alloc, rows)?;
-    deaths.retain(|row| is_of_attr(DELETED, row.key()) && is_above(held, row));
+    let mut deaths = Vec::new(alloc);
+    for row in rows {
+        if is_of_attr(DELETED, row.key()) && is_above(held, row) {
+            deaths.push(row.copy(alloc)?)?;
+        }
+    }
     Ok(deaths)
 }
 
@@ -78,8 +94,12 @@ fn changes_above(alloc: Global, held: &Told, rows: &[Update]) -> Result<Vec<Upda
     ensures { IfOk result (λ changes.
         changes.items ≡ filter (λ u. not (is_of_attr class_attr u.key) && is_above held.now u) rows.now) }
 {
-    let mut changes = copy_updates(alloc, rows)?;
-    changes.retain(|row| !is_of_attr(CLASS, row.key()) && is_above(held, row));
+    let mut changes = Vec::new(alloc);
+    for row in rows {
+        if !is_of_attr(CLASS, row.key()) && is_above(held, row) {
+            changes.push(row.copy(alloc)?)?;
+        }
+    }
     Ok(changes)
 }
 
@@ -87,8 +107,12 @@ fn changes_above(alloc: Global, held: &Told, rows: &[Update]) -> Result<Vec<Upda
 fn above(alloc: Global, held: &Told, rows: &[Update]) -> Result<Vec<Update>, NoMemory>
     ensures { IfOk result (λ above. above.items ≡ filter (is_above held.now) rows.now) }
 {
-    let mut above = copy_updates(alloc, rows)?;
-    above.retain(|row| is_above(held, row));
+    let mut above = Vec::new(alloc);
+    for row in rows {
+        if is_above(held, row) {
+            above.push(row.copy(alloc)?)?;
+        }
+    }
     Ok(above)
 }
 

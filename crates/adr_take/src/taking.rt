@@ -1,6 +1,8 @@
 //! The items of a reply, one after the other.
 
-ghost use Rattle.std.specs.Prelude.{◌≡◌, ◌+◌, ◌<◌, ◌≤◌, ◌^◌, [], ◌++◌, IfOk, OnOk, fold, length, map};
+ghost use Rattle.std.specs.Prelude.{◌≡◌, ◌+◌, ◌<◌, ◌≤◌, ◌^◌, [], ◌++◌, IfOk, IfSome, OnOk, false, fold, length, map};
+ghost use Rattle.std.specs.Option.{option_map_or};
+ghost use Rattle.adr_model.specs.Store.{holds_object, is_row_of};
 ghost use Rattle.adr_model.specs.Change.{held_of, put, rows_after};
 ghost use Rattle.adr_model.specs.Take.{begin, take_item, take_items, writes_of};
 ghost use Rattle.adr_model.specs.Write.{usn_limit};
@@ -9,9 +11,11 @@ ghost use Rattle.adr_take.specs.HeldAt.{held_at};
 use crate::NoMemory;
 use crate::item::item_refusal;
 use crate::rows::rows_taken;
+use crate::standing::{new_object, standing_of};
 use crate::told::Told;
 use adr_event::TakeRefusal;
 use adr_schema::Schema;
+use adr_stamp::Oid;
 use adr_state::{Held, Item, State, Update, Written};
 use adr_vector::Vector;
 use std::alloc::Global;
@@ -69,9 +73,11 @@ impl<'a> Taking<'a> {
         ensures usn { OnOk result (self.new.usn ≤ self.old.usn + 1) }
         ensures place { OnOk result (self.new.place ≡ self.old.place + 1) }
     {
-        let rows = rows_taken(alloc, vector, &self.told, item)?;
-        let refusal = item_refusal(schema, vector, &self.told, self.place, item)?;
-        self.write(alloc, item, rows)?;
+        let unit = item.unit();
+        let standing = standing_of(vector, &self.told, &unit);
+        let rows = rows_taken(alloc, &self.told, standing, item)?;
+        let refusal = item_refusal(schema, standing, self.place, item)?;
+        self.write(alloc, item, rows, new_object(standing, &unit))?;
         self.refusal = self.refusal.or(refusal);
         self.place += 1;
         self.objects = self.objects.max(self.told.objects());
@@ -79,9 +85,17 @@ impl<'a> Taking<'a> {
         Ok(())
     }
 
-    /// Writes rows of an item's unit under the next update sequence number, where there are any.
-    fn write(&mut self, alloc: Global, item: &Item, rows: Vec<Update>) -> Result<(), NoMemory>
-        requires { self.old.usn + 1 < 2 ^ 64 }
+    /// Writes rows of an item's unit under the next update sequence number, where there are any. Its object may be known
+    /// to be new.
+    fn write(
+        &mut self,
+        alloc: Global,
+        item: &Item,
+        rows: Vec<Update>,
+        new: Option<Oid>,
+    ) -> Result<(), NoMemory>
+        requires usn { self.old.usn + 1 < 2 ^ 64 }
+        requires new { IfSome new (λ o. holds_object self.old.rows o ≡ false) }
         ensures { OnOk result (let writes = writes_of self.old.usn item.now rows.items in self.new
             ≡ record self.old {
               rows = rows_after [] (held_of writes) self.old.rows;
@@ -93,7 +107,7 @@ impl<'a> Taking<'a> {
             return Ok(());
         }
         let local = self.usn + 1;
-        put_all(alloc, &mut self.told, local, rows.as_slice())?;
+        put_all(alloc, &mut self.told, local, rows.as_slice(), new)?;
         self.writes
             .push(Written::new(local, Item::new(item.unit(), rows)))?;
         self.usn = local;
@@ -131,14 +145,33 @@ impl<'a> Taking<'a> {
     }
 }
 
-/// Puts rows, one after the other, under an update sequence number.
-fn put_all(alloc: Global, told: &mut Told, local: u64, rows: &[Update]) -> Result<(), NoMemory>
+/// Puts rows, one after the other, under an update sequence number. Before the first row of a new object none is held.
+fn put_all(
+    alloc: Global,
+    told: &mut Told,
+    local: u64,
+    rows: &[Update],
+    mut new: Option<Oid>,
+) -> Result<(), NoMemory>
+    requires { IfSome new (λ o. holds_object told.old o ≡ false) }
     ensures { OnOk result (told.new ≡ fold put told.old (map (held_at local) rows.now)) }
 {
     for row in rows {
-        told.put(alloc, Held::new(row.copy(alloc)?, local))?;
+        let is_new = is_row_of(row, new);
+        told.put(alloc, Held::new(row.copy(alloc)?, local), is_new)?;
+        new = None;
     }
     Ok(())
+}
+
+/// Whether a row is one of an object, if there is one.
+fn is_row_of(row: &Update, object: Option<Oid>) -> bool
+    ensures { result ≡ option_map_or (λ o. is_row_of o row.now.key) object false }
+{
+    match object {
+        Some(object) => row.key().is_row_of(&object),
+        None => false,
+    }
 }
 
 /// Takes all items.

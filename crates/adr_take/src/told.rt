@@ -1,6 +1,6 @@
 //! The rows of a controller with others over them, none of which is copied.
 
-ghost use Rattle.std.specs.Prelude.{◌≡◌, ◌+◌, ◌++◌, ◌&&◌, IfOk, OnOk, Some, filter, is_none, length, not};
+ghost use Rattle.std.specs.Prelude.{◌≡◌, ◌+◌, ◌++◌, ◌&&◌, IfOk, IsTrue, OnOk, None, Some, filter, is_none, length, not, if◌then◌else◌};
 ghost use Rattle.std.specs.Option.{option_copied};
 ghost use Rattle.adr_model.specs.Live.{objects_of};
 ghost use Rattle.adr_model.specs.Store.{holds_dead, holds_object, row_held, updates_of};
@@ -14,7 +14,7 @@ ghost use Rattle.adr_take.specs.Told.{is_birth_row, is_left, is_stripped, links_
 
 use crate::NoMemory;
 use adr_stamp::Oid;
-use adr_state::{DELETED, Held, Key, Rows, is_same_object};
+use adr_state::{DELETED, Held, Key, Rows};
 use adr_table::Table;
 use std::alloc::{AllocError, Global};
 use std::marker::Model;
@@ -63,13 +63,7 @@ impl<'a> Told<'a> {
     {
         match self.over.row(key) {
             Some(row) => Some(row),
-            None => {
-                if is_stripped(&self.over, &key) {
-                    None
-                } else {
-                    self.base.row(key)
-                }
-            }
+            None => row_below(&self.over, self.base, &key),
         }
     }
 
@@ -101,13 +95,15 @@ impl<'a> Told<'a> {
         self.links
     }
 
-    /// Puts a row in the place of the row of its key. A death takes its object's other rows and its links.
-    pub fn put(&mut self, alloc: Global, row: Held) -> Result<(), NoMemory>
+    /// Puts a row in the place of the row of its key, if there is one: it may be known that there is none. A death takes
+    /// its object's other rows and its links.
+    pub fn put(&mut self, alloc: Global, row: Held, is_new: bool) -> Result<(), NoMemory>
+        requires { IsTrue is_new → row_held self.old row.update.key ≡ None }
         ensures { OnOk result (self.new ≡ put self.old row) }
     {
         let key = row.key();
         let lost = self.lost_by(alloc, &key)?;
-        let objects = self.objects_with(&key)?;
+        let objects = self.objects_with(&key, is_new)?;
         let links = self.links_with(&key)?;
         let rows = vec![in alloc; row]?;
         let spare = self.over.reserve(alloc, rows.as_slice(), &[])?;
@@ -118,11 +114,12 @@ impl<'a> Told<'a> {
     }
 
     /// How many objects there are with a row of this key. More than there is a number for count as want of memory.
-    fn objects_with(&self, key: &Key) -> Result<usize, NoMemory>
+    fn objects_with(&self, key: &Key, is_new: bool) -> Result<usize, NoMemory>
+        requires { IsTrue is_new → row_held self.now (key_of key.now) ≡ None }
         ensures { IfOk result (λ count. count ≡ length (objects_of (updates_of self.now))
             + one (is_birth_row (key_of key.now) && is_none (row_held self.now (key_of key.now)))) }
     {
-        if key.born().is_some() && self.row(*key).is_none() {
+        if key.born().is_some() && (is_new || self.row(*key).is_none()) {
             self.objects.checked_add(1).ok_or(AllocError)
         } else {
             Ok(self.objects)
@@ -184,13 +181,31 @@ fn count_below(alloc: Global, over: &Table, base: &Rows, object: &Oid) -> Result
     Ok(count_left(over, links_below(alloc, base, object)?.as_slice()))
 }
 
+/// The row of a key below the others, if it didn't go with an object that died by one of them.
+fn row_below<'r>(over: &Table, base: &'r Rows, key: &Key) -> Option<&'r Held>
+    requires { IsKept over.now }
+    ensures { option_copied result
+        ≡ (if is_stripped (rows_in over.now) (key_of key.now) then None else row_held base.now (key_of key.now)) }
+{
+    match base.row(*key) {
+        Some(row) => {
+            if is_stripped(over, key) {
+                None
+            } else {
+                Some(row)
+            }
+        }
+        None => None,
+    }
+}
+
 /// Whether a row of this key, of those below the others, went with an object that died by one of them.
 fn is_stripped(over: &Table, key: &Key) -> bool
     requires { IsKept over.now }
     ensures { result ≡ is_stripped (rows_in over.now) (key_of key.now) }
 {
     match key {
-        Key::Row { object, attr } => over.is_dead(object) && DELETED < *attr,
+        Key::Row { object, attr } => DELETED < *attr && over.is_dead(object),
         Key::Link(link) => over.is_dead(&link.from) || over.is_dead(&link.to),
     }
 }
@@ -246,18 +261,9 @@ fn push_others<'r>(
         ++ filter (λ h. not (is_link_from object.now h.update.key)) (referents others.now)) }
 {
     for link in others {
-        if !is_link_from(object, &link.key()) {
+        if !link.key().is_link_from(object) {
             links.push(*link)?;
         }
     }
     Ok(())
-}
-
-fn is_link_from(object: &Oid, key: &Key) -> bool
-    ensures { result ≡ is_link_from object.now (key_of key.now) }
-{
-    match key {
-        Key::Row { .. } => false,
-        Key::Link(link) => is_same_object(&link.from, object),
-    }
 }

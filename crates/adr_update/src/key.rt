@@ -7,6 +7,7 @@ ghost use Rattle.adr_model.specs.Live.{born};
 ghost use Rattle.adr_model.specs.Write.{is_link_row};
 ghost use Rattle.adr_model.specs.Store.{is_row_of};
 ghost use Rattle.adr_model.specs.Change.{goes_with, killed_by};
+ghost use Rattle.adr_update.specs.Sought.{is_link_from};
 
 use crate::limits::{CLASS, DELETED};
 use adr_stamp::{LinkKey, Oid, Unit};
@@ -75,6 +76,16 @@ impl Key {
         match self {
             Key::Row { object: own, .. } => is_same_object(own, object),
             Key::Link(_) => false,
+        }
+    }
+
+    /// Whether it is a link from the object.
+    pub fn is_link_from(&self, object: &Oid) -> bool
+        ensures { result ≡ is_link_from object.now (key_of self.now) }
+    {
+        match self {
+            Key::Row { .. } => false,
+            Key::Link(link) => is_same_object(&link.from, object),
         }
     }
 
