@@ -1,10 +1,8 @@
 //! What stands of an item's unit before the item.
 
-ghost use Rattle.std.specs.Prelude.{◌≡◌, List, IfSome, false};
+ghost use Rattle.std.specs.Prelude.{◌≡◌};
 ghost use Rattle.adr_stamp.specs.declared.Unit.TheVariants.{Object};
-ghost use Rattle.adr_vector.specs.Vector.{Cursors};
-ghost use Rattle.adr_model.specs.Store.{Held, holds_object};
-ghost use Rattle.adr_take.specs.Standing.{IsStanding, class_held};
+ghost use Rattle.adr_take.specs.Standing.{IsStanding, class_held, new_object};
 
 use crate::keys::class_said;
 use crate::presence::{Presence, has_lost_end, presence_absent, presence_held};
@@ -56,10 +54,9 @@ fn standing_of_object(vector: &Vector, held: &Told, object: &Oid) -> Standing
     }
 }
 
-/// The object of a unit, if it is new.
-pub fn new_object(standing: Standing, unit: &Unit) -> Option<Oid>
-    ensures { (vector : Cursors) (rows : List Held) → IsStanding vector rows unit.now standing
-        → IfSome result (λ o. holds_object rows o ≡ false) }
+/// The object of a unit, if it is new. Nothing is held of it.
+pub fn new_object(unit: &Unit, standing: Standing) -> Option<Oid>
+    ensures { result ≡ new_object unit.now standing }
 {
     match (unit, standing) {
         (

@@ -77,7 +77,7 @@ impl<'a> Taking<'a> {
         let standing = standing_of(vector, &self.told, &unit);
         let rows = rows_taken(alloc, &self.told, standing, item)?;
         let refusal = item_refusal(schema, standing, self.place, item)?;
-        self.write(alloc, item, rows, new_object(standing, &unit))?;
+        self.write(alloc, item, rows, new_object(&unit, standing))?;
         self.refusal = self.refusal.or(refusal);
         self.place += 1;
         self.objects = self.objects.max(self.told.objects());
@@ -85,17 +85,17 @@ impl<'a> Taking<'a> {
         Ok(())
     }
 
-    /// Writes rows of an item's unit under the next update sequence number, where there are any. Its object may be known
-    /// to be new.
+    /// Writes rows of an item's unit under the next update sequence number, where there are any. An object may be known
+    /// of which nothing is held yet.
     fn write(
         &mut self,
         alloc: Global,
         item: &Item,
         rows: Vec<Update>,
-        new: Option<Oid>,
+        unheld: Option<Oid>,
     ) -> Result<(), NoMemory>
         requires usn { self.old.usn + 1 < 2 ^ 64 }
-        requires new { IfSome new (λ o. holds_object self.old.rows o ≡ false) }
+        requires unheld { IfSome unheld (λ o. holds_object self.old.rows o ≡ false) }
         ensures { OnOk result (let writes = writes_of self.old.usn item.now rows.items in self.new
             ≡ record self.old {
               rows = rows_after [] (held_of writes) self.old.rows;
@@ -107,7 +107,7 @@ impl<'a> Taking<'a> {
             return Ok(());
         }
         let local = self.usn + 1;
-        put_all(alloc, &mut self.told, local, rows.as_slice(), new)?;
+        put_all(alloc, &mut self.told, local, rows.as_slice(), unheld)?;
         self.writes
             .push(Written::new(local, Item::new(item.unit(), rows)))?;
         self.usn = local;
@@ -145,21 +145,22 @@ impl<'a> Taking<'a> {
     }
 }
 
-/// Puts rows, one after the other, under an update sequence number. Before the first row of a new object none is held.
+/// Puts rows, one after the other, under an update sequence number. An object may be known of which nothing is held
+/// before the first.
 fn put_all(
     alloc: Global,
     told: &mut Told,
     local: u64,
     rows: &[Update],
-    mut new: Option<Oid>,
+    mut unheld: Option<Oid>,
 ) -> Result<(), NoMemory>
-    requires { IfSome new (λ o. holds_object told.old o ≡ false) }
+    requires { IfSome unheld (λ o. holds_object told.old o ≡ false) }
     ensures { OnOk result (told.new ≡ fold put told.old (map (held_at local) rows.now)) }
 {
     for row in rows {
-        let is_new = is_row_of(row, new);
+        let is_new = is_row_of(row, unheld);
         told.put(alloc, Held::new(row.copy(alloc)?, local), is_new)?;
-        new = None;
+        unheld = None;
     }
     Ok(())
 }

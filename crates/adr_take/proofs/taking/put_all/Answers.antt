@@ -8,4 +8,4 @@ pub put-requires : goal.put-requires
 put-requires c is_new =
     ap (λ (h : Held). row_held c.loop-row.told h.update.key) c.new.ensures
     ∙ ap (λ (u : Update). row_held c.loop-row.told u.key) c.in_ok-copy.ensures
-    ∙ unheld_row c.loop-row.told c.loop-row.new c.row-item.result.key c.loop-row.invariant.unheld (sym c.is_row_of-is_new.ensures ∙ is_new)
+    ∙ unheld_row c.loop-row.told c.loop-row.unheld c.row-item.result.key c.loop-row.invariant.unheld (sym c.is_row_of-is_new.ensures ∙ is_new)

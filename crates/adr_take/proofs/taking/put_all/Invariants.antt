@@ -5,9 +5,9 @@ use Rattle.adr_model.specs.Store.{holds_object}
 use Rattle.adr_take.specs.HeldAt.{held_at}
 use Rattle.adr_take.proofs.taking.put_all.Given as goal
 
--- the rows so far are put, and a new object isn't held yet
+-- the rows so far are put, and nothing is held of the object of which that is known
 abbrev pub invariant-loop-row : goal.invariant-loop-row
 invariant-loop-row l = record {
   done : l.told ≡ fold put l.initial.told (map (held_at l.local) (take l.row-index l.rows));
-  unheld : IfSome l.new (λ o. holds_object l.told o ≡ false);
+  unheld : IfSome l.unheld (λ o. holds_object l.told o ≡ false);
 }
