@@ -1,4 +1,4 @@
 pub mod Moments
-mod Writes
-mod Steps
-mod Outcomes
+pub mod Writes
+pub mod Steps
+pub mod Outcomes

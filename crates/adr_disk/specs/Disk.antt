@@ -21,8 +21,8 @@ abbrev pub After : (List ℕ → List ℕ → Type 0) → (List ℕ → Type 0) 
 After step left bytes = (old : List ℕ) × left old × step old bytes
 
 -- each of the new outcomes of a crash is one of these
-abbrev pub Among : (List ℕ → Type 0) → (List ℕ → Type 0) → Type 0
-Among outcomes new = (bytes : List ℕ) → new bytes → outcomes bytes
+abbrev pub Among : {O : Type 0} → (O → Type 0) → (O → Type 0) → Type 0
+Among {O} outcomes new = (left : O) → new left → outcomes left
 
 -- a crash leaves these bytes and no others
 abbrev pub Only : List ℕ → (List ℕ → Type 0) → Type 0
@@ -53,12 +53,18 @@ abbrev pub ended : {T : Type 0} → Result T Fault → Option Fault
 ended (Ok _) = None
 ended (Err fault) = Some fault
 
+-- what a write with the sync behind it did: both passed, or one of them ended so
+abbrev pub Through : {D : Type 0} → (D → Call → Option Fault → D → Type 0) → ℕ → List ℕ → D → Option Fault → D → Type 0
+Through {D} gives at bytes old None new = (mid : D) × gives old (Writes at bytes) None mid × gives mid Syncs None new
+Through {D} gives at bytes old (Some fault) new =
+    gives old (Writes at bytes) (Some fault) new ⊎ ((mid : D) × gives old (Writes at bytes) None mid × gives mid Syncs (Some fault) new)
+
 -- memory is sure to suffice for so many calls and bytes
 abbrev pub IsSpare : ℕ → ℕ → ℕ → ℕ → Type 0
 IsSpare calls bytes spare_calls spare_bytes = (calls ≤ spare_calls) × (bytes ≤ spare_bytes)
 
--- Nothing has changed of what a read gives and of what a crash may leave or might have left.
-pub record Keeps {D : Type 0} (content : D → Option (List ℕ)) (may_leave : D → List ℕ → Type 0) (moment : D → ℕ) (left_since : D → ℕ → List ℕ → Type 0) (old new : D) : Type 0 where
+-- Nothing has changed of what is there, and of what a crash may leave or might have left.
+pub record Keeps {D C O : Type 0} (content : D → Option C) (may_leave : D → O → Type 0) (moment : D → ℕ) (left_since : D → ℕ → O → Type 0) (old new : D) : Type 0 where
   pub content_stays : content new ≡ content old
   pub no_more : Among (may_leave old) (may_leave new)
   pub no_fewer : Among (may_leave new) (may_leave old)
@@ -66,9 +72,9 @@ pub record Keeps {D : Type 0} (content : D → Option (List ℕ)) (may_leave : D
   pub past_stays : (t : ℕ) → Among (left_since old t) (left_since new t)
   pub past_kept : (t : ℕ) → Among (left_since new t) (left_since old t)
 
--- A crash at any moment from old to new leaves bytes that have P.
-pub record LeavesOnly {D : Type 0} (moment : D → ℕ) (left_since : D → ℕ → List ℕ → Type 0) (old new : D) (P : List ℕ → Type 0) : Type 0 where
+-- A crash at any moment from old to new leaves what has P.
+pub record LeavesOnly {D O : Type 0} (moment : D → ℕ) (left_since : D → ℕ → O → Type 0) (old new : D) (P : O → Type 0) : Type 0 where
   pub later : moment old ≤ moment new
-  pub each : (bytes : List ℕ) → left_since new (moment old) bytes → P bytes
+  pub each : (left : O) → left_since new (moment old) left → P left
   -- for a run that began earlier
-  pub before : (t : ℕ) (bytes : List ℕ) → t ≤ moment old → left_since new t bytes → left_since old t bytes ⊎ P bytes
+  pub before : (t : ℕ) (left : O) → t ≤ moment old → left_since new t left → left_since old t left ⊎ P left

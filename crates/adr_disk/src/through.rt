@@ -2,7 +2,7 @@
 
 ghost use Rattle.std.specs.Prelude.{◌≡◌, ◌⊎◌, ℕ, ◌+◌, ◌≤◌, ◌<◌, List, Option, Some, IsSome, ◌↔◌, IfSome, OnOk, IsErrOf, length};
 ghost use Rattle.std.specs.Option.{ForSome};
-ghost use Rattle.adr_disk.specs.Disk.{put, Torn, Among, Only, Counts, IsSpare, LeavesOnly};
+ghost use Rattle.adr_disk.specs.Disk.{put, Torn, Among, Only, Counts, IsSpare, LeavesOnly, Through, ended};
 
 use crate::Disk;
 use adr_io::Fault;
@@ -27,6 +27,7 @@ pub fn write_through<D: Disk>(disk: &mut D, at: u64, bytes: &[u8]) -> Result<(),
     ensures no_memory_only { IsErrOf result Fault.NoMemory
         → (D.spare_calls disk.old < 2) ⊎ (D.spare_bytes disk.old < length bytes.now) }
     ensures spare { IsSpare (D.spare_calls disk.old) (D.spare_bytes disk.old) (D.spare_calls disk.new + 2) (D.spare_bytes disk.new + length bytes.now) }
+    ensures gives { Through D.gives at bytes.now disk.old (ended result) disk.new }
 {
     disk.write_at(at, bytes)?;
     disk.sync()

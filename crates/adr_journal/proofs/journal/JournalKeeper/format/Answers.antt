@@ -1,0 +1,106 @@
+use Rattle.std.proofs.Common.{◌≡◌, inr, ℕ, ◌+◌, ◌++◌, [], ◌∷◌, length, Some, sym, ◌∙◌, ap, subst, arith}
+use Rattle.adr_model.specs.Store.{State}
+use Rattle.adr_model.specs.Lengths.{new_log_end}
+use Rattle.adr_law_journal.specs.Log.{Started, start_of}
+use Rattle.adr_law_journal.specs.Kept.{IsSettled}
+use Rattle.adr_law_journal.proofs.Told.{at_told, if_mapped}
+use Rattle.adr_law_journal.proofs.Lifts.{lifted, finds_each, after_kept}
+use Rattle.adr_journal.specs.Ended.{IsNewOrNone}
+use Rattle.adr_journal.specs.Ran.{Formats}
+use Rattle.adr_journal.proofs.Heads.{begun_rests, begun_long, no_memory_left}
+use Rattle.adr_journal.proofs.journal.JournalKeeper.format.Goals as goal
+
+pub returns-in-Ok-write_log-clause-ok : goal.returns-in-Ok-write_log-clause-ok
+returns-in-Ok-write_log-clause-ok g c = λ up.
+    let d = g.D.Disk in
+    let f = g.F.Form in
+    let law = g.met.F.Form in
+    let s = c.args.state.now in
+    let is : c.deref.result.now ≡ f.head_of s ++ 0 ∷ [] = c.deref.ensures.value ∙ c.in-Ok.ensures in
+    let rests = begun_rests f.head f.following f.can_begin f.head_of law.spells_head law.head_length s c.requires.begins c.deref.result.now is in
+    let long = begun_long f.head f.following f.can_begin f.head_of law.spells_head law.head_length s c.requires.begins c.deref.result.now is in
+    let ends : new_log_end s ≡ c.len-in-Ok-write_log.result + 1 = sym long ∙ ap (λ (n : ℕ). n + 1) (c.deref.ensures.len ∙ sym c.len-in-Ok-write_log.ensures) in
+    record {
+      ends = ends;
+      some = omega arith;
+      settled = subst (λ (n : ℕ). IsSettled f.head f.following d.content d.may_leave c.write_log.new.disk n s) ends (c.in-Ok-write_log.ensures.settled f.head f.following s (new_log_end s) rests);
+    }
+
+pub returns-in-Ok-write_log-clause-any_moment : goal.returns-in-Ok-write_log-clause-any_moment
+returns-in-Ok-write_log-clause-any_moment g c =
+    let d = g.D.Disk in
+    let f = g.F.Form in
+    let law = g.met.F.Form in
+    let s = c.args.state.now in
+    let is : c.deref.result.now ≡ f.head_of s ++ 0 ∷ [] = c.deref.ensures.value ∙ c.in-Ok.ensures in
+    let rests = begun_rests f.head f.following f.can_begin f.head_of law.spells_head law.head_length s c.requires.begins c.deref.result.now is in
+    let P : Started State → Type 0 = IsNewOrNone s in
+    let old = c.args.self.now.disk in
+    let mid = c.reserve.new.self in
+    let new = c.write_log.new.disk in
+    let keeps = c.reserve.ensures.keeps in
+    if_mapped (start_of f.head f.following) (d.content old) _ (λ there told.
+    lifted f.head f.following (λ j. j.disk) d.content d.may_leave d.moment d.left_since c.args.self.now _ P
+    (after_kept d.content d.may_leave d.moment d.left_since old mid new (λ bytes. P (start_of f.head f.following bytes)) keeps
+    (at_told (d.content mid) _ there (keeps.content_stays ∙ told) (c.write_log.ensures.any_moment f.head f.following s (new_log_end s) rests))))
+
+pub returns-in-Ok-write_log-clause-left : goal.returns-in-Ok-write_log-clause-left
+returns-in-Ok-write_log-clause-left g c =
+    let d = g.D.Disk in
+    let f = g.F.Form in
+    let law = g.met.F.Form in
+    let s = c.args.state.now in
+    let is : c.deref.result.now ≡ f.head_of s ++ 0 ∷ [] = c.deref.ensures.value ∙ c.in-Ok.ensures in
+    let rests = begun_rests f.head f.following f.can_begin f.head_of law.spells_head law.head_length s c.requires.begins c.deref.result.now is in
+    let P : Started State → Type 0 = IsNewOrNone s in
+    let mid = c.reserve.new.self in
+    if_mapped (start_of f.head f.following) (d.content c.args.self.now.disk) _ (λ there told.
+    finds_each f.head f.following (d.may_leave c.write_log.new.disk) P
+    (at_told (d.content mid) _ there (c.reserve.ensures.keeps.content_stays ∙ told) (c.write_log.ensures.left f.head f.following s (new_log_end s) rests)))
+
+pub returns-clause-any_moment : goal.returns-clause-any_moment
+returns-clause-any_moment g c =
+    let d = g.D.Disk in
+    let f = g.F.Form in
+    let law = g.met.F.Form in
+    let s = c.args.state.now in
+    let is : c.deref.result.now ≡ f.head_of s ++ 0 ∷ [] = c.deref.ensures.value ∙ c.in-Ok.ensures in
+    let rests = begun_rests f.head f.following f.can_begin f.head_of law.spells_head law.head_length s c.requires.begins c.deref.result.now is in
+    let P : Started State → Type 0 = IsNewOrNone s in
+    let old = c.args.self.now.disk in
+    let mid = c.reserve.new.self in
+    let new = c.write_log.new.disk in
+    let keeps = c.reserve.ensures.keeps in
+    if_mapped (start_of f.head f.following) (d.content old) _ (λ there told.
+    lifted f.head f.following (λ j. j.disk) d.content d.may_leave d.moment d.left_since c.args.self.now _ P
+    (after_kept d.content d.may_leave d.moment d.left_since old mid new (λ bytes. P (start_of f.head f.following bytes)) keeps
+    (at_told (d.content mid) _ there (keeps.content_stays ∙ told) (c.write_log.ensures.any_moment f.head f.following s (new_log_end s) rests))))
+
+pub returns-clause-left : goal.returns-clause-left
+returns-clause-left g c =
+    let d = g.D.Disk in
+    let f = g.F.Form in
+    let law = g.met.F.Form in
+    let s = c.args.state.now in
+    let is : c.deref.result.now ≡ f.head_of s ++ 0 ∷ [] = c.deref.ensures.value ∙ c.in-Ok.ensures in
+    let rests = begun_rests f.head f.following f.can_begin f.head_of law.spells_head law.head_length s c.requires.begins c.deref.result.now is in
+    let P : Started State → Type 0 = IsNewOrNone s in
+    let mid = c.reserve.new.self in
+    if_mapped (start_of f.head f.following) (d.content c.args.self.now.disk) _ (λ there told.
+    finds_each f.head f.following (d.may_leave c.write_log.new.disk) P
+    (at_told (d.content mid) _ there (c.reserve.ensures.keeps.content_stays ∙ told) (c.write_log.ensures.left f.head f.following s (new_log_end s) rests)))
+
+pub returns-clause-formats : goal.returns-clause-formats
+returns-clause-formats g c =
+    let d = g.D.Disk in
+    let mid = c.reserve.new.self in
+    let spare = c.in-Ok-reserve.ensures.reserved in
+    inr (
+      mid,
+      c.in-Ok-reserve.ensures.gives,
+      (
+        c.deref.result.now,
+        no_memory_left (λ e. Formats d.gives c.deref.result.now mid (Some e) c.write_log.new.disk) c.in-Err.field-0 (d.spare_calls mid) (d.spare_bytes mid) 6 (length c.deref.result.now + 2)
+            c.in-Err.ensures.no_memory_only spare.0 (omega (arith, spare.1, c.len.ensures, c.deref.ensures.len)) c.in-Err.ensures.gives,
+      ),
+    )

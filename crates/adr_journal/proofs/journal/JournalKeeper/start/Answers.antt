@@ -1,0 +1,31 @@
+use Rattle.std.proofs.Common.{◌≡◌, ℕ, List, Some, Ok, refl, sym, ◌∙◌, subst, arith}
+use Rattle.adr_law_journal.specs.Log.{found, start_of, IsAtRest}
+use Rattle.adr_law_journal.proofs.Logs.{at_rest_stands}
+use Rattle.adr_law_journal.proofs.Told.{at_told, if_mapped}
+use Rattle.adr_journal.proofs.Found.{for_some}
+use Rattle.adr_journal.proofs.journal.JournalKeeper.start.Goals as goal
+
+pub returns-in-Ok-replay-clause-ok : goal.returns-in-Ok-replay-clause-ok
+returns-in-Ok-replay-clause-ok g c =
+    let d = g.D.Disk in
+    let f = g.F.Form in
+    let s = c.in-Ok-replay.state in
+    let end = c.in-Ok-replay.end in
+    let old = c.args.self.now.disk in
+    let new = c.read_synced.new.disk in
+    let same : d.content new ≡ d.content old = c.in-Ok.ensures.same in
+    let rests : (there : List ℕ) → d.content old ≡ Some there → IsAtRest f.head f.following s end there = λ there told.
+    subst (λ (l : List ℕ). IsAtRest f.head f.following s end l) (c.deref.ensures.value ∙ at_told (d.content old) _ there told c.in-Ok.ensures.bytes) c.in-Ok-replay.ensures.rests in
+    let finds : (there : List ℕ) → d.content old ≡ Some there → start_of f.head f.following there ≡ Ok (found s end) = λ there told. at_rest_stands f.head f.following s end there (rests there told) in (
+      end,
+      (λ up. record {
+        ends = refl;
+        some = omega (arith, c.in-Ok-replay.ensures.rests.long);
+        settled = record {
+          at_rest = λ there told. rests there (sym same ∙ told);
+          synced = λ there told. for_some (d.content old) _ c.in-Ok.ensures.synced there (sym same ∙ told);
+          finds = λ there told. finds there (sym same ∙ told);
+        };
+      }),
+      if_mapped (start_of f.head f.following) (d.content old) _ finds,
+    )

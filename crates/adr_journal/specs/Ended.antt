@@ -1,0 +1,32 @@
+-- How a call of a keeper ended, and what it leaves.
+use Rattle.std.specs.Prelude.{◌≡◌, Option, Some, None, Result, Ok, Err, IfSome}
+use Rattle.adr_model.specs.Store.{State}
+use Rattle.adr_model.specs.Change.{Change, after}
+use Rattle.adr_model.specs.Lengths.{new_log_end, log_end_after}
+use Rattle.adr_law_journal.specs.Log.{Found, found, Started}
+use Rattle.adr_journal.specs.Written.{IsNone}
+use Rattle.adr_journal.specs.declared.keeper.KeeperRefusal.{KeeperRefusal}
+use Rattle.adr_journal.specs.declared.keeper.StartRefusal.{StartRefusal}
+use Rattle.adr_journal.specs.declared.keeper.StartRefusal.TheVariants.{DiskFault, Damaged, NoMemory}
+
+abbrev pub ended : {T : Type 0} → Result T KeeperRefusal → Option KeeperRefusal
+ended (Ok _) = None
+ended (Err refusal) = Some refusal
+
+abbrev pub ended_start : {T : Type 0} → Result T StartRefusal → Option StartRefusal
+ended_start (Ok _) = None
+ended_start (Err refusal) = Some refusal
+
+-- what is found after a change
+abbrev pub found_after : Found State → Change → Found State
+found_after f c = found (after f.state c) (log_end_after f.log_end c)
+
+-- a format that was cut short leaves no log, or the new one
+abbrev pub IsNewOrNone : State → Started State → Type 0
+IsNewOrNone s = IsNone s (new_log_end s)
+
+-- what is damaged is damaged at this place, where that is told
+abbrev pub IsDamageOf : StartRefusal → Option (Started State) → Type 0
+IsDamageOf DiskFault told = Unit {0}
+IsDamageOf (Damaged place) told = IfSome told (λ t. t ≡ Err place)
+IsDamageOf NoMemory told = Unit {0}

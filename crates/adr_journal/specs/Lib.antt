@@ -1,0 +1,7 @@
+pub mod Ended
+pub mod Ran
+pub mod Written
+pub mod Kept
+pub mod Planned
+pub mod Laws
+pub mod PlanLaws

@@ -1,0 +1,206 @@
+//! A journal on a disk.
+
+ghost use Rattle.std.specs.Prelude.{◌≡◌, ◌≤◌, ◌<◌, [], ◌∷◌, ◌++◌, true, false, IfOk};
+ghost use Rattle.std.specs.Option.{ForSome};
+ghost use Rattle.adr_disk.specs.Disk.{Only};
+ghost use Rattle.adr_model.specs.Lengths.{log_limit, log_end_after};
+
+use crate::form::Form;
+use crate::formatting::write_log;
+use crate::keeper::{Keeper, KeeperRefusal, StartRefusal};
+use crate::reading::read_synced;
+use crate::recording::{CLOSED, spelled, write_record};
+use crate::replaying::replay;
+use adr_disk::Disk;
+use adr_failure::NoMemory;
+use adr_io::Fault;
+use adr_state::{Change, LOG_LIMIT, State, log_end_after};
+use std::alloc::Global;
+use std::marker::PhantomData;
+
+/// A log on a disk, in bytes of a form. `end` is the place behind its closed gate, 0 before it is formatted or started;
+/// `record` is what the next commit writes.
+#[derive(Drop)]
+pub struct Journal<D, F> {
+    pub(crate) alloc: Global,
+    pub(crate) disk: D,
+    pub(crate) end: u64,
+    pub(crate) failed: bool,
+    pub(crate) record: Vec<u8>,
+    pub(crate) form: PhantomData<F>,
+}
+
+impl<D: Disk, F: Form> Journal<D, F> {
+    /// A journal that is neither formatted nor started.
+    pub fn new(alloc: Global, disk: D) -> Journal<D, F>
+        ensures empty { ForSome (D.content disk) (λ there. there ≡ []) → ForSome (D.content disk) (λ there. Only there (D.may_leave disk))
+            → ⟦<Journal<D, F> as Keeper>⟧.is_empty result }
+        ensures running { ⟦<Journal<D, F> as Keeper>⟧.is_failed result ≡ false }
+    {
+        Journal {
+            alloc,
+            disk,
+            end: 0,
+            failed: false,
+            record: Vec::new(alloc),
+            form: PhantomData,
+        }
+    }
+
+    /// Its disk.
+    pub fn into_disk(self) -> D {
+        self.disk
+    }
+}
+
+/// What a new log begins with, behind its first gate: the head of a state, and a closed gate.
+fn begun<F: Form>(alloc: Global, state: &State) -> Result<Vec<u8>, NoMemory>
+    requires { F.can_begin state.now }
+    ensures { IfOk result (λ bytes. bytes.items ≡ F.head_of state.now ++ 0 ∷ []) }
+{
+    let mut written = F::write_head(alloc, state)?;
+    written.push(CLOSED)?;
+    Ok(written)
+}
+
+impl<D: Disk, F: Form> Journal<D, F> {
+    /// Whether the log has room for a change's record.
+    fn has_room(&self, change: &Change) -> bool
+        ensures room { result ≡ true → log_end_after self.now.end change.now ≤ log_limit }
+        ensures none { result ≡ false → log_limit < log_end_after self.now.end change.now }
+    {
+        self.end <= LOG_LIMIT && log_end_after(self.end, change).is_some()
+    }
+}
+
+impl<D: Disk, F: Form> Keeper for Journal<D, F> {
+    ghost use Rattle.std.specs.Prelude.{◌≡◌, ◌≤◌, ◌<◌, ◌+◌, false, [], length};
+    ghost use Rattle.std.specs.Option.{option_map, ForSome};
+    ghost use Rattle.adr_disk.specs.Disk.{Only, IsSpare, ended};
+    ghost use Rattle.adr_model.specs.Lengths.{log_limit};
+    ghost use Rattle.adr_law_journal.specs.Log.{start_of, record_of};
+    ghost use Rattle.adr_law_journal.specs.Kept.{Finds, IsSettled};
+    ghost use Rattle.adr_journal.specs.Ran.{FormatsDisk, Prepares, Records, Starts};
+    ghost use Rattle.adr_journal.specs.Kept.{IsEmpty, IsAt, IsPrepared};
+    ghost use Rattle.adr_journal.specs.Laws.{at_tells, at_leaves, is_honest};
+
+    ghost faults = { λ j. D.faults j.disk };
+
+    ghost is_failed = { λ j. j.failed };
+
+    ghost is_empty = { λ j. IsEmpty D.content D.may_leave j.disk j.end };
+
+    ghost is_at = { λ j f. j.failed ≡ false → IsAt F.head F.following D.content D.may_leave j.disk j.end f };
+
+    ghost is_prepared = { λ j c. IsPrepared D.spare_calls D.spare_bytes j.disk j.end j.record.items (F.body_of c) };
+
+    ghost told = { λ j. option_map (start_of F.head F.following) (D.content j.disk) };
+
+    ghost may_leave = { λ j. Finds F.head F.following (D.may_leave j.disk) };
+
+    ghost moment = { λ j. D.moment j.disk };
+
+    ghost left_since = { λ j t. Finds F.head F.following (D.left_since j.disk t) };
+
+    ghost can_begin = { F.can_begin };
+
+    ghost can_follow = { F.can_follow };
+
+    ghost is_formed = { F.is_formed };
+
+    ghost formats = { λ j e new. FormatsDisk D.gives j.disk e new.disk };
+
+    ghost prepares = { λ j e new. Prepares D.gives j.disk e new.disk };
+
+    ghost commits = { λ j c e new. Records D.gives j.end (F.body_of c) j.disk e new.disk };
+
+    ghost starts = { λ j e new. Starts D.gives j.disk e new.disk };
+
+    ghost tells = { λ j f at up. at_tells F.head F.following D.content D.may_leave j.disk j.end f (at up) };
+
+    ghost leaves = { λ j f t at up told left. at_leaves F.head F.following D.content D.may_leave j.disk j.end f (at up) t told left };
+
+    ghost honest = { λ j. is_honest F.head F.following (D.content j.disk) (D.may_leave j.disk) (D.honest j.disk) };
+
+    ghost only_now = { λ j t left. (left.0, D.only_now j.disk left.0 left.1, left.2) };
+
+    fn format(&mut self, state: &State) -> Result<(), KeeperRefusal> {
+        let Ok(written) = begun::<F>(self.alloc, state) else {
+            return Err(KeeperRefusal::NoMemory);
+        };
+        match self.disk.reserve(6, written.len() as u64 + 2) {
+            Ok(()) => {}
+            Err(Fault::Failed) => {
+                self.failed = true;
+                return Err(KeeperRefusal::DiskFault);
+            }
+            Err(Fault::NoMemory) => return Err(KeeperRefusal::NoMemory),
+        }
+        match write_log(&mut self.disk, &written) {
+            Ok(()) => {
+                self.end = written.len() as u64 + 1;
+                self.failed = false;
+                Ok(())
+            }
+            Err(_) => {
+                self.failed = true;
+                Err(KeeperRefusal::DiskFault)
+            }
+        }
+    }
+
+    fn prepare(&mut self, change: &Change) -> Result<(), KeeperRefusal> {
+        if self.failed {
+            return Err(KeeperRefusal::Failed);
+        }
+        if !self.has_room(change) {
+            return Err(KeeperRefusal::Full);
+        }
+        let Ok(written) = spelled::<F>(self.alloc, change) else {
+            return Err(KeeperRefusal::NoMemory);
+        };
+        match self.disk.reserve(4, written.len() as u64 + 1) {
+            Ok(()) => {
+                self.record = written;
+                Ok(())
+            }
+            Err(Fault::Failed) => {
+                self.failed = true;
+                Err(KeeperRefusal::DiskFault)
+            }
+            Err(Fault::NoMemory) => Err(KeeperRefusal::NoMemory),
+        }
+    }
+
+    fn commit(&mut self, _change: &Change) -> Result<(), KeeperRefusal> {
+        match write_record(&mut self.disk, self.end, &self.record) {
+            Ok(()) => {
+                self.end += self.record.len() as u64;
+                Ok(())
+            }
+            Err(_) => {
+                self.failed = true;
+                Err(KeeperRefusal::DiskFault)
+            }
+        }
+    }
+
+    fn start(&mut self) -> Result<State, StartRefusal> {
+        let bytes = match read_synced(self.alloc, &mut self.disk) {
+            Ok(bytes) => bytes,
+            Err(Fault::Failed) => {
+                self.failed = true;
+                return Err(StartRefusal::DiskFault);
+            }
+            Err(Fault::NoMemory) => return Err(StartRefusal::NoMemory),
+        };
+        match replay::<F>(self.alloc, &bytes) {
+            Ok((state, end)) => {
+                self.failed = false;
+                self.end = end as u64;
+                Ok(state)
+            }
+            Err(refusal) => Err(refusal),
+        }
+    }
+}

@@ -1,0 +1,23 @@
+//! What keeps a controller's state beyond a crash: a log of gated records on a disk, of which a start finds the state
+//! before a change or after it, whatever the crash.
+//!
+//! It stands on the disks of `adr_disk`, on the state of `adr_state` and on the laws of `adr_law_journal`. The bytes of a
+//! state and of a change are those of a form that it takes as a parameter. It knows nothing of why a change is made.
+#![tactic(auto)]
+
+mod form;
+mod formatting;
+mod journal;
+mod keeper;
+mod memory;
+mod planned;
+mod reading;
+mod recording;
+mod replaying;
+
+pub use adr_failure::NoMemory;
+pub use adr_state::{Change, State};
+pub use form::{FollowRefusal, Form};
+pub use journal::Journal;
+pub use keeper::{Keeper, KeeperRefusal, StartRefusal};
+pub use planned::PlannedKeeper;

@@ -1,0 +1,43 @@
+//! Reads a whole disk.
+
+ghost use Rattle.std.specs.Prelude.{◌≡◌, ◌≤◌, ◌<◌, ◌^◌, Some, IfOk, IfSome, OnOk, IsErrOf, length};
+ghost use Rattle.adr_disk.specs.Disk.{Among, Only, Keeps, LeavesOnly, ended};
+ghost use Rattle.adr_journal.specs.Ran.{Reads, ReadsSynced};
+
+use adr_disk::Disk;
+use adr_io::Fault;
+use std::alloc::Global;
+
+/// All bytes of a disk.
+fn read_all<D: Disk>(alloc: Global, disk: &mut D) -> Result<Vec<u8>, Fault>
+    ensures bytes { IfOk result (λ bytes. IfSome (D.content disk.old) (λ there. bytes.items ≡ there)) }
+    ensures keeps { Keeps D.content D.may_leave D.moment D.left_since disk.old disk.new }
+    ensures later { D.faults disk.old ≤ D.faults disk.new }
+    ensures failed { IsErrOf result Fault.Failed → D.faults disk.old < D.faults disk.new }
+    ensures gives { Reads D.gives disk.old (ended result) disk.new }
+{
+    let len = disk.len()?;
+    let Ok(mut bytes) = vec![in alloc; 0u8; len as usize] else {
+        return Err(Fault::NoMemory);
+    };
+    let count = disk.read(0, &mut bytes)?;
+    bytes.truncate(count);
+    Ok(bytes)
+}
+
+/// All bytes of a disk, which are then synced.
+pub(crate) fn read_synced<D: Disk>(alloc: Global, disk: &mut D) -> Result<Vec<u8>, Fault>
+    ensures bytes { IfOk result (λ bytes. IfSome (D.content disk.old) (λ there. bytes.items ≡ there)) }
+    ensures same { OnOk result (D.content disk.new ≡ D.content disk.old) }
+    ensures synced { OnOk result (IfSome (D.content disk.old) (λ there. Only there (D.may_leave disk.new))) }
+
+    // Whatever it answers, a crash leaves what one might have left before.
+    ensures left { Among (D.may_leave disk.old) (D.may_leave disk.new) }
+    ensures any_moment { LeavesOnly D.moment D.left_since disk.old disk.new (D.may_leave disk.old) }
+    ensures later { D.faults disk.old ≤ D.faults disk.new }
+    ensures failed { IsErrOf result Fault.Failed → D.faults disk.old < D.faults disk.new }
+    ensures gives { ReadsSynced D.gives disk.old (ended result) disk.new }
+{
+    disk.sync()?;
+    read_all(alloc, disk)
+}

@@ -1,0 +1,10 @@
+pub mod Told
+pub mod Logs
+pub mod Replays
+pub mod Formats
+pub mod Settled
+pub mod Lifts
+pub mod Seen
+pub mod Stages
+pub mod Moves
+pub mod Ties

@@ -1,0 +1,4 @@
+pub mod Log
+pub mod Kept
+pub mod Commits
+pub mod Replicas

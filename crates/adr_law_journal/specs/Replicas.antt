@@ -1,0 +1,68 @@
+-- A disk in memory beside a replica of the definitions: what its bytes stand for, and its plan.
+use Rattle.std.specs.Prelude.{◌≡◌, Bool, true, false, Option, Some, None, Ok, fold}
+use Rattle.adr_io.specs.declared.Fault.{Fault as Cause}
+use Rattle.adr_disk.specs.declared.memory.Mishap.{Mishap}
+use Rattle.adr_disk.specs.declared.memory.Mishap.TheVariants.{Failure, Crash}
+use Rattle.adr_disk.specs.declared.memory.Plan.{Plan as DiskPlan}
+use Rattle.adr_disk.specs.declared.memory.Crash.TheVariants.{Torn}
+use Rattle.adr_disk.specs.Memory.{DiskState, read_of, left_by}
+use Rattle.adr_wire.specs.Reading.{Reading}
+use Rattle.adr_model.specs.Store.{State}
+use Rattle.adr_model.specs.Replica.{Pending, Standing, Up, Down, Failed, Fault, Stops, Fails, Plan, Replica, Book, moved, went, moves_of_commit, moves_of_start, standing_after, plan_after}
+use Rattle.adr_law_journal.specs.Log.{Found, found, Started, Following, start_of}
+
+abbrev pub fault_of : Mishap → Fault
+fault_of Failure = Fails
+fault_of (Crash how) = Stops how
+
+abbrev pub plan_of : Option DiskPlan → Option Plan
+plan_of None = None
+plan_of (Some plan) = Some (record { calls = plan.calls; fault = fault_of plan.mishap })
+
+-- how a controller stands after a call that passed or failed: the disk stopped within it, or it is as faulty as before
+abbrev pub standing_of : Option Cause → Bool → Standing → Standing
+standing_of None stopped faulty = Up
+standing_of (Some cause) true faulty = Down
+standing_of (Some cause) false faulty = faulty
+
+-- what a start of a replica would find, and what one would after a crash that loses the unsynced
+abbrev pub read_found : Replica → Found State
+read_found r = found r.read r.read_end
+
+abbrev pub safe_found : Replica → Found State
+safe_found r = found r.safe r.safe_end
+
+-- something has what a replica has: what a start finds now, after a crash that loses the unsynced, and after one that
+-- tears it, which is what a start finds now; and the plan
+pub record Has {K : Type 0} (read safe torn : K → Started State) (plan : K → Option Plan) (k : K) (r : Replica) : Type 0 where
+  pub is_read : read k ≡ Ok (read_found r)
+  pub is_safe : safe k ≡ Ok (safe_found r)
+  pub is_torn : torn k ≡ Ok (read_found r)
+  pub is_plan : plan k ≡ r.plan
+
+-- a disk in memory has it
+abbrev pub IsOn : Reading State → Following State → Replica → DiskState → Type 0
+IsOn head following r d =
+    Has (λ (d : DiskState). start_of head following (read_of d.held.surface)) (λ (d : DiskState). start_of head following d.held.surface.synced)
+    (λ (d : DiskState). start_of head following (left_by Torn d.held.surface)) (λ (d : DiskState). plan_of d.plan) d r
+
+-- the replica after a commit, and after a start
+abbrev pub committed : Book → Replica → Pending → Replica
+committed book r p =
+    let g = went r.plan 4 in
+    let m = fold moved (book, r) (moves_of_commit p g) in
+    record m.1 { standing = standing_after Failed g; plan = plan_after g }
+
+abbrev pub started : Book → Replica → Replica
+started book r =
+    let g = went r.plan 1 in
+    let m = fold moved (book, r) (moves_of_start g) in
+    record m.1 { standing = standing_after r.standing g; plan = plan_after g }
+
+-- a disk has what the replica has after a commit that ended so, and the controller stands as the replica does
+abbrev pub CommitLeads : Reading State → Following State → Book → Replica → Pending → DiskState → Option Cause → Type 0
+CommitLeads head following book r p new e = IsOn head following (committed book r p) new × (standing_of e new.stopped Failed ≡ (committed book r p).standing)
+
+-- and after a start, which leaves a controller whose disk fails as it stood
+abbrev pub StartLeads : Reading State → Following State → Book → Replica → DiskState → Option Cause → Type 0
+StartLeads head following book r new e = IsOn head following (started book r) new × (standing_of e new.stopped r.standing ≡ (started book r).standing)
