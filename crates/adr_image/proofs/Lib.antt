@@ -20,3 +20,4 @@ pub mod Keeping
 pub mod Counted
 pub mod Steps
 pub mod Writing
+pub mod Changing

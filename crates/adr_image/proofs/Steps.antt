@@ -1,13 +1,16 @@
 -- What stands behind the version is read part by part.
-use Rattle.std.proofs.Common.{◌≡◌, ℕ, List, Ok, refl, sym, ap, ◌∙◌}
+use Rattle.std.proofs.Common.{◌≡◌, ℕ, ◌≤◌, ◌^◌, cond, List, Ok, Err, sym, ap, ◌∙◌, arith}
+use Rattle.std.proofs.lemmas.Bool.{ltb-true}
 use Rattle.adr_failure.specs.declared.Failure.{Failure}
 use Rattle.adr_schema.specs.Numbered.{numbered}
 use Rattle.adr_vector.specs.Vector.{Cursors, at_most}
 use Rattle.adr_wire.specs.declared.refusal.Malformed.{Malformed}
 use Rattle.adr_wire.specs.Reading.{Rest, Read, Reading, ◌>>=◌, Refuses, as_at, where_at, then_at}
-use Rattle.adr_wire.specs.Fields.{u32_at, usn0_at}
+use Rattle.adr_wire.specs.Fields.{u32_at, u64_at, is_usn0, usn0_at}
 use Rattle.adr_wire.specs.Composites.{vector_at}
+use Rattle.adr_wire.proofs.Combining.{bind_ok, passed_ok}
 use Rattle.adr_wire.proofs.Loops.{refuses_then, refuses_is}
+use Rattle.adr_model.specs.Write.{usn_limit}
 use Rattle.adr_image.specs.Image.{Rows, HeldLink, Marked}
 use Rattle.adr_image.specs.Whole.{Parts, marks_at, tuple_at, parts_of, parts_at}
 use Rattle.adr_image.proofs.WholeLaws.{is_known, Tail, tail_at, three_at, four_at, five_at, six_at}
@@ -83,3 +86,12 @@ all_read r0 r1 r2 r3 r4 r5 r6 schema usn seen purged marks tail p1 p2 p3 p4 p5 p
     (then_ok vector_at (four_at usn (numbered schema)) r2 r3 r6 seen (purged, (marks, tail)) p3
     (then_ok (purged_at seen) (λ _. three_at usn (numbered schema)) r3 r4 r6 purged (marks, tail) p4
     (then_ok marks_at (λ _. tail_at usn (numbered schema)) r4 r5 r6 marks tail p5 p6)))))
+
+pub usn_fits : (rest : Rest) (n : ℕ) (after : Rest) → usn0_at rest ≡ Ok (n, after) → n ≤ usn_limit
+unfolding usn0_at
+usn_fits rest n after e =
+    let b = bind_ok (u64_at rest) (λ x. cond (is_usn0 x.0) (Ok x) (Err rest.place)) (n, after) e in
+    let g = passed_ok (is_usn0 b.0.0) rest.place b.0 (n, after) b.2 in
+    let lt = ltb-true b.0.0 (2 ^ 63) g.0 in
+    let same = ap (λ (x : ℕ × Rest). x.0) g.1 in
+    omega (arith, lt, same)

@@ -16,7 +16,7 @@ use Rattle.adr_stamp.specs.contracts.OidOrd.TheImpl.Laws.{total-law as objects_t
 use Rattle.adr_schema.specs.declared.content.Content.{Content}
 use Rattle.adr_schema.specs.declared.content.Content.TheVariants.{Class, Name, Dead, Values}
 use Rattle.adr_wire.specs.Composites.{oid, IsShortValue, IsShortContent}
-use Rattle.adr_wire.specs.Fields.{u16}
+use Rattle.adr_wire.specs.Fields.{u16, u32}
 use Rattle.adr_wire.specs.Ranges.{IsContent, IsValue}
 use Rattle.adr_schema.specs.declared.content.Value.{Value as Item}
 use Rattle.adr_schema.specs.declared.content.Value.TheVariants.{Text, Number, Flag, Octets, Ref}
@@ -28,6 +28,7 @@ use Rattle.adr_model.specs.Live.{born}
 use Rattle.adr_model.proofs.Keys.{objects_tell}
 use Rattle.adr_model.proofs.Members.{member_mapped}
 use Rattle.adr_image.specs.Image.{HeldRow, Rows, HeldLink, held_row, object, held_link}
+use Rattle.adr_image.specs.Whole.{objects, links}
 use Rattle.adr_image.specs.Stored.{AreTidy, IsNotFirst, held_of, link_of, rows_of_object, rows_of, apart, IsSpelled, IsSpelledRow}
 use Rattle.adr_image.specs.Written.{told, held, IsShortSaid, own_rows, object_of, first_object, next_object, HaveFewRows, IsWritten, IsWritable}
 use Rattle.adr_image.proofs.Names.{object_itself}
@@ -202,21 +203,22 @@ module _ (o : Oid) (high : ℕ) where
   own_few : (low : ℕ) (hs : List Held) → low ≤ high → Sorted hs → Each (λ (h : Held). IsOwnBetween low h.update.key) hs → own_rows o hs + low ≤ high
   unfolding IsStrictlySortedBy
   own_few low [] fits s own = omega (arith, fits)
-  own_few low (h ∷ hs) fits s own = by h.update.key refl
+  own_few low (h ∷ hs) fits s own = by h.update.key refl (λ more f each. own_few more hs f s.1 each)
     where
-      by : (k : Key) → h.update.key ≡ k → cond (is_row_of o k) (suc (own_rows o hs)) 0 + low ≤ high
-      by (LinkOf l) e = omega (arith, fits)
-      by (RowOf p a) e = mine (same_object p o) refl
-        where
-          mine : (b : Bool) → same_object p o ≡ b → cond b (suc (own_rows o hs)) 0 + low ≤ high
-          mine false same = omega (arith, fits)
-          mine true same =
-              let here = own h (inl refl) p a e same in
-              let name : p ≡ o = objects_tell p o same in
-              let key : h.update.key ≡ RowOf o a = e ∙ ap (λ (q : Oid). RowOf q a) name in
-              let less = subst (λ (k : Key). AllByRecursion (λ j. key_order k j ≡ Less) (keys hs)) key s.0 in
-              let rest = own_few (a + 1) hs (omega (arith, here)) s.1 (later a hs less (weaker low hs (λ g m. own g (inr m)))) in
-              omega (arith, rest, here)
+      mine : (b : Bool) (p : Oid) (a : ℕ) → h.update.key ≡ RowOf p a → same_object p o ≡ b
+          → ((more : ℕ) → more ≤ high → Each (λ (g : Held). IsOwnBetween more g.update.key) hs → own_rows o hs + more ≤ high) → cond b (suc (own_rows o hs)) 0 + low ≤ high
+      mine false p a e same rec = omega (arith, fits)
+      mine true p a e same rec =
+          let here = own h (inl refl) p a e same in
+          let name : p ≡ o = objects_tell p o same in
+          let key : h.update.key ≡ RowOf o a = e ∙ ap (λ (q : Oid). RowOf q a) name in
+          let less = subst (λ (k : Key). AllByRecursion (λ j. key_order k j ≡ Less) (keys hs)) key s.0 in
+          let rest = rec (a + 1) (omega (arith, here)) (later a hs less (weaker low hs (λ g m. own g (inr m)))) in
+          omega (arith, rest, here)
+
+      by : (k : Key) → h.update.key ≡ k → ((more : ℕ) → more ≤ high → Each (λ (g : Held). IsOwnBetween more g.update.key) hs → own_rows o hs + more ≤ high) → cond (is_row_of o k) (suc (own_rows o hs)) 0 + low ≤ high
+      by (LinkOf l) e rec = omega (arith, fits)
+      by (RowOf p a) e rec = mine (same_object p o) p a e refl rec
 
   few_from : (k : ℕ) (hs : List Held) → 1 ≤ high → Sorted hs → Each (λ (h : Held). IsOwnBetween 1 h.update.key) hs → own_rows o (drop k hs) < high
   unfolding IsStrictlySortedBy
@@ -248,3 +250,37 @@ writable s f q = record {
     attr_fits : (p : Oid) (a : ℕ) (said : Said) (stamp : LinkStamp) → IsSpelledRow (RowOf p a) said stamp → a < 2 ^ 16
     attr_fits p a (Holds c) stamp r = r.1
     attr_fits p a (IsPresent b) stamp r = absurd r
+
+-- ---- what is left of rows
+
+abbrev none_of : {A : Type 0} → List A
+none_of = []
+
+drop_none : {A : Type 0} (n : ℕ) → drop n (none_of {A}) ≡ none_of
+drop_none zero = refl
+drop_none (suc n) = refl
+
+drop_drop : {A : Type 0} (k n : ℕ) (xs : List A) → drop k (drop n xs) ≡ drop (n + k) xs
+drop_drop k zero xs = ap (λ (m : ℕ). drop m xs) (omega arith)
+drop_drop k (suc n) [] = drop_none k ∙ sym (drop_none (suc n + k))
+drop_drop k (suc n) (x ∷ xs) =
+    let one : suc n + k ≡ suc (n + k) = omega arith in
+    drop_drop k n xs ∙ ap (λ (m : ℕ). drop m (x ∷ xs)) (sym one)
+
+pub few_behind : (n : ℕ) (hs : List Held) → HaveFewRows hs → HaveFewRows (drop n hs)
+few_behind n hs few o k = subst (λ (gs : List Held). own_rows o gs < 2 ^ 16) (sym (drop_drop k n hs)) (few o (n + k))
+
+pub links_short : (ls : List HeldLink) → All (λ (h : Held). IsShortSaid h.update.said) (map link_of ls)
+links_short [] k d lt = absurd (omega arith)
+links_short (l ∷ ls) zero d lt = tt
+links_short (l ∷ ls) (suc k) d lt = links_short ls k d (omega arith)
+
+pub rows_written : (w0 w1 w2 w3 w4 : List ℕ) (os : List Rows) (ls : List HeldLink) (n : ℕ) (hs : List Held) → w1 ≡ w0 ++ u32 n → n ≡ length os → w2 ≡ w1 ++ flat_map object os → hs ≡ map link_of ls → w3 ≡ w2 ++ u32 (length hs)
+    → w4 ≡ w3 ++ flat_map held hs → w4 ≡ w0 ++ (objects os ++ links ls)
+rows_written w0 w1 w2 w3 w4 os ls n hs a b c d e f =
+    let many : length hs ≡ length ls = ap (λ (gs : List Held). length gs) d ∙ mapped_long link_of ls in
+    let told : flat_map held hs ≡ flat_map held_link ls = ap (flat_map held) d ∙ told_links ls in
+    let one : w1 ≡ w0 ++ u32 (length os) = a ∙ ap (λ (m : ℕ). w0 ++ u32 m) b in
+    let two : w2 ≡ (w0 ++ u32 (length os)) ++ flat_map object os = c ∙ ap (λ (w : List ℕ). w ++ flat_map object os) one in
+    let three : w3 ≡ ((w0 ++ u32 (length os)) ++ flat_map object os) ++ u32 (length ls) = e ∙ ap (λ (w : List ℕ). w ++ u32 (length hs)) two ∙ ap (λ (m : ℕ). ((w0 ++ u32 (length os)) ++ flat_map object os) ++ u32 m) many in
+    f ∙ ap (λ (w : List ℕ). w ++ flat_map held hs) three ∙ ap (λ (w : List ℕ). (((w0 ++ u32 (length os)) ++ flat_map object os) ++ u32 (length ls)) ++ w) told ∙ simp append_assoc

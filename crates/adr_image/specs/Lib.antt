@@ -7,3 +7,4 @@ pub mod Stored
 pub mod Lengths
 pub mod Seen
 pub mod Written
+pub mod Changes

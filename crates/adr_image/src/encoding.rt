@@ -77,7 +77,8 @@ fn write_object(writer: &mut Writer, object: &Oid, rows: &[Held]) -> Result<(), 
 
 /// How many rows at the front are the object's.
 fn own_rows(rows: &[Held], object: &Oid) -> usize
-    ensures { result ≡ own_rows object.now rows.now }
+    ensures value { result ≡ own_rows object.now rows.now }
+    ensures within { result ≤ length rows.now }
 {
     let mut own = 0;
     for row in rows {

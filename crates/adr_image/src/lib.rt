@@ -5,6 +5,7 @@
 //! and on the definitions in `adr_model`. It knows nothing of disks, of journals or of the controllers that own a store.
 #![tactic(auto)]
 
+mod changes;
 mod contents;
 mod decoding;
 mod dormant;
@@ -18,6 +19,7 @@ mod objects;
 mod rows;
 
 pub use adr_wire::{DecodeRefusal, Failure, NoMemory};
+pub use changes::decode_change;
 pub use contents::Contents;
 pub use decoding::decode;
 pub use dormant::Dormant;

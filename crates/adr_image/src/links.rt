@@ -18,8 +18,11 @@ use adr_update::Held;
 use adr_wire::{Failure, Malformed, Reader, WireRefusal};
 use std::collections::BTreeSet;
 
+/// The name of a link, its stamp, and whether it is present.
+pub type LinkItem = (LinkKey, LinkStamp, bool);
+
 /// A local USN, and the link.
-pub type HeldLink = (u64, (LinkKey, LinkStamp, bool));
+pub type HeldLink = (u64, LinkItem);
 
 /// All rows that were read so far, and what they say of the next link: the last key, the last local USNs of earlier
 /// units, and which objects are dead.

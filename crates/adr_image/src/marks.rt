@@ -36,7 +36,7 @@ fn read_ordered_mark(reader: &mut Reader<'_>) -> Result<Mark, WireRefusal>
 
 /// How far a partner behind the last one was read.
 #[tactic(auto, unfolding(crate::specs::Image::kept_above))]
-fn read_kept(reader: &mut Reader<'_>, last: Option<Uuid>) -> Result<(Uuid, Kept), WireRefusal>
+pub fn read_kept(reader: &mut Reader<'_>, last: Option<Uuid>) -> Result<(Uuid, Kept), WireRefusal>
     ensures { Tells result reader.new (kept_above last reader.old) }
 {
     let place = reader.place();
