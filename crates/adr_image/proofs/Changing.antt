@@ -1,13 +1,15 @@
 -- The body of a record is read field by field.
 use Rattle.std.proofs.Common.{◌≡◌, ℕ, zero, suc, Bool, ◌∷◌, ◌++◌, [], List, map, fold, Option, Some, Ok, refl, sym, ap, ◌∙◌}
+use Rattle.std.specs.Ordering.{nat_cmp}
 use Rattle.std.proofs.lemmas.List.Sums.{fold-append}
 use Rattle.adr_failure.specs.declared.Failure.{Failure}
 use Rattle.adr_stamp.specs.declared.Oid.{Oid}
 use Rattle.adr_vector.specs.Vector.{Cursors}
 use Rattle.adr_wire.specs.declared.refusal.Malformed.{Malformed}
-use Rattle.adr_wire.specs.Fields.{usn0_at, flag_at}
-use Rattle.adr_wire.specs.Composites.{vector_at}
-use Rattle.adr_wire.specs.Reading.{Rest, Read, Reading, ◌>>=◌, Refuses, then_at, elements_at}
+use Rattle.adr_wire.specs.Fields.{u8_at, usn_at, usn0_at, flag_at}
+use Rattle.adr_wire.specs.Composites.{LinkItem, Row, link_at, object_at, vector_at}
+use Rattle.adr_wire.specs.Pieces.{Piece, OfRows, OfLink, piece_of, piece_at}
+use Rattle.adr_wire.specs.Reading.{Rest, Read, Reading, ◌>>=◌, Refuses, where_at, then_at, elements_at, is_above}
 use Rattle.adr_wire.specs.Gathering.{gathered_at}
 use Rattle.adr_model.specs.Change.{Written}
 use Rattle.adr_image.specs.Image.{Marked}
@@ -113,3 +115,19 @@ module _ (before : ℕ) where
       (then_ok vector_at (λ _. b5) r3 r4 r7 joined (purged, (removed, writes)) p4
       (then_ok vector_at (λ _. b6) r4 r5 r7 purged (removed, writes) p5
       (then_ok removed_at (λ _. writes_at before) r5 r6 r7 removed writes p6 p7)))))
+
+-- ---- pieces, behind their kind
+
+pub rows_piece : (rest mid end : Rest) (x : Oid × List Row) → u8_at rest ≡ Ok (1, mid) → object_at mid ≡ Ok (x, end) → piece_at rest ≡ Ok (OfRows x, end)
+unfolding piece_at
+rows_piece rest mid end x p q =
+    ap (λ (r : Read ℕ). r >>= λ kind. piece_of rest.place kind.0 kind.1) p ∙ ap (λ (r : Read (Oid × List Row)). r >>= λ z. Ok (OfRows z.0, z.1)) q
+
+pub link_piece : (rest mid end : Rest) (l : LinkItem) → u8_at rest ≡ Ok (2, mid) → link_at mid ≡ Ok (l, end) → piece_at rest ≡ Ok (OfLink l, end)
+unfolding piece_at
+link_piece rest mid end l p q =
+    ap (λ (r : Read ℕ). r >>= λ kind. piece_of rest.place kind.0 kind.1) p ∙ ap (λ (r : Read LinkItem). r >>= λ z. Ok (OfLink z.0, z.1)) q
+
+pub write_read : (rest mid end : Rest) (last local : ℕ) (p : Piece) → where_at (is_above nat_cmp (Some last)) usn_at rest ≡ Ok (local, mid) → piece_at mid ≡ Ok (p, end) → write_above (Some last) rest ≡ Ok ((local, p), end)
+unfolding write_above
+write_read rest mid end last local p a b = then_ok (where_at (is_above nat_cmp (Some last)) usn_at) (λ _. piece_at) rest mid end local p a b

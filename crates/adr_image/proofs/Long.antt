@@ -46,7 +46,7 @@ u64_long n = omega arith
 flag_long : (b : Bool) → length (flag b) ≡ 1
 flag_long b = omega arith
 
-oid_long : (o : Oid) → IsOid o → length (oid o) ≡ 40
+pub oid_long : (o : Oid) → IsOid o → length (oid o) ≡ 40
 unfolding u64
 oid_long o q = simp length-append (omega arith)
 
@@ -58,7 +58,7 @@ cursor_long : (c : List ℕ × ℕ) → IsCursor c → length (cursor c) ≡ 24
 unfolding u64
 cursor_long c q = simp length-append (omega arith)
 
-vector_long : (v : Cursors) → IsCursors v → length (vector v) ≡ vector_length v
+pub vector_long : (v : Cursors) → IsCursors v → length (vector v) ≡ vector_length v
 unfolding u32
 vector_long v q =
     let all = flat_long cursor (λ _. 24) v (each v q.1) in
@@ -69,7 +69,7 @@ vector_long v q =
     each [] h = tt
     each (c ∷ cs) h = (cursor_long c h.0, each cs h.1)
 
-kept_long : (last : Option (List ℕ)) (k : Marked) → IsMarked last k → length (kept k) ≡ 56
+pub kept_long : (last : Option (List ℕ)) (k : Marked) → IsMarked last k → length (kept k) ≡ 56
 unfolding u64
 kept_long last k q = simp length-append (omega arith)
 

@@ -253,16 +253,14 @@ writable s f q = record {
 
 -- ---- what is left of rows
 
-abbrev none_of : {A : Type 0} → List A
-none_of = []
-
-drop_none : {A : Type 0} (n : ℕ) → drop n (none_of {A}) ≡ none_of
-drop_none zero = refl
-drop_none (suc n) = refl
+drop_none : {A : Type 0} (n : ℕ) (xs : List A) → xs ≡ [] → drop n xs ≡ []
+drop_none zero xs e = e
+drop_none (suc n) [] e = refl
+drop_none (suc n) (x ∷ xs) e = absurd (cc)
 
 drop_drop : {A : Type 0} (k n : ℕ) (xs : List A) → drop k (drop n xs) ≡ drop (n + k) xs
 drop_drop k zero xs = ap (λ (m : ℕ). drop m xs) (omega arith)
-drop_drop k (suc n) [] = drop_none k ∙ sym (drop_none (suc n + k))
+drop_drop k (suc n) [] = drop_none k (drop (suc n) []) (drop_none (suc n) [] refl) ∙ sym (drop_none (suc n + k) [] refl)
 drop_drop k (suc n) (x ∷ xs) =
     let one : suc n + k ≡ suc (n + k) = omega arith in
     drop_drop k n xs ∙ ap (λ (m : ℕ). drop m (x ∷ xs)) (sym one)

@@ -13,7 +13,7 @@ use Rattle.adr_model.specs.Serve.{is_quarantined}
 use Rattle.adr_model.specs.Store.{Mode, Normal, Quarantined}
 use Rattle.adr_model.specs.Update.{Update}
 use Rattle.adr_law_lengths.specs.Written.{link_item, object_item}
-use Rattle.adr_image.specs.Body.{Body, Write, body_at, mark_if}
+use Rattle.adr_image.specs.Body.{Body, Write, body_at, mark_if, IsBody}
 use Rattle.adr_image.specs.Written.{IsShortSaid, told}
 
 -- ---- from a body to a change
@@ -78,3 +78,9 @@ pub record IsShortChange (c : Change) : Type 0 where
   pub removed : length c.removed < 2 ^ 32
   pub few : length c.writes < 2 ^ 32
   pub short : All (λ (w : Written). AreShort w.item.rows) c.writes
+
+-- a change that is that of a body in range, behind this USN
+pub record IsSpelledChange (before : ℕ) (c : Change) : Type 0 where
+  pub body : Body
+  pub in_range : IsBody before body
+  pub says : c ≡ change_of body

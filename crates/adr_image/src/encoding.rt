@@ -24,7 +24,7 @@ use std::alloc::Global;
 use uuid::Uuid;
 
 /// Writes what a row says, behind its local USN.
-fn write_told(
+pub fn write_told(
     writer: &mut Writer,
     key: &Key,
     stamp: &LinkStamp,
@@ -149,7 +149,7 @@ fn write_rows(writer: &mut Writer, rows: &[Held]) -> Result<(), NoMemory>
 }
 
 /// Writes how far a partner was read.
-fn write_kept(writer: &mut Writer, mark: &(Uuid, Kept)) -> Result<(), NoMemory>
+pub fn write_kept(writer: &mut Writer, mark: &(Uuid, Kept)) -> Result<(), NoMemory>
     ensures { OnOk result (writer.new ≡ writer.old ++ form.kept mark.now) }
 {
     writer.write_id(&mark.0)?;

@@ -1,12 +1,14 @@
 //! What is written is read again, and what is read was written so.
 
-ghost use Rattle.std.specs.Prelude.{◌≡◌, ℕ, List, length, take, Ok, Err};
+ghost use Rattle.std.specs.Prelude.{◌≡◌, ℕ, List, Ok, Err, Some, length, take};
 ghost use Rattle.adr_wire.specs.declared.refusal.DecodeRefusal.TheVariants.{Malformed};
 ghost use Rattle.adr_wire.specs.Spelling.{AreBytes, IsSpelling};
 ghost use Rattle.adr_model.specs.Formed.{IsFormedStore};
-ghost use Rattle.adr_model.specs.Lengths.{image_length};
+ghost use Rattle.adr_model.specs.Change.{Change};
+ghost use Rattle.adr_model.specs.Lengths.{change_length, image_length};
 ghost use Rattle.adr_model.specs.Store.{Store};
 ghost use Rattle.adr_image.specs.Body.{IsBody, body, body_at};
+ghost use Rattle.adr_image.specs.Changes.{IsShortChange, IsSpelledChange, change_bytes, decoded_change};
 ghost use Rattle.adr_image.specs.Lengths.{parts_length};
 ghost use Rattle.adr_image.specs.Ranged.{AreParts};
 ghost use Rattle.adr_image.specs.Stored.{IsSpelled, decoded, image, parts_in};
@@ -37,6 +39,17 @@ pub fn images_are_as_long_as_counted()
 /// The body of a record behind this USN has one spelling.
 pub fn bodies_have_one_spelling()
     ensures { (before : ℕ) → IsSpelling (IsBody before) body (body_at before) }
+{}
+
+/// A change that is that of a body in range is read again from its bytes, and what is read as a change was written so. Its
+/// bytes can be written, and are as many as is counted.
+pub fn changes_have_one_spelling()
+    ensures again { (before : ℕ) (c : Change) → IsSpelledChange before c
+        → decoded_change before (change_bytes c) ≡ Some c }
+    ensures only { (before : ℕ) (bytes : List ℕ) (c : Change) → AreBytes bytes → decoded_change before bytes ≡ Some c
+        → IsSpelledChange before c × (bytes ≡ change_bytes c) }
+    ensures short { (before : ℕ) (c : Change) → IsSpelledChange before c → IsShortChange c }
+    ensures long { (before : ℕ) (c : Change) → IsSpelledChange before c → length (change_bytes c) ≡ change_length c }
 {}
 
 /// The image of an empty controller has 38 bytes, and without the last one it is refused at the field that is cut.

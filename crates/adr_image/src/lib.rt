@@ -5,6 +5,7 @@
 //! and on the definitions in `adr_model`. It knows nothing of disks, of journals or of the controllers that own a store.
 #![tactic(auto)]
 
+mod bodies;
 mod changes;
 mod contents;
 mod decoding;
@@ -19,12 +20,13 @@ mod objects;
 mod rows;
 
 pub use adr_wire::{DecodeRefusal, Failure, NoMemory};
+pub use bodies::encode_change;
 pub use changes::decode_change;
 pub use contents::Contents;
 pub use decoding::decode;
 pub use dormant::Dormant;
 pub use encoding::encode;
 pub use laws::{
-    bodies_have_one_spelling, images_are_as_long_as_counted, images_have_one_spelling,
+    bodies_have_one_spelling, changes_have_one_spelling, images_are_as_long_as_counted, images_have_one_spelling,
     parts_have_one_spelling, worked_images,
 };
