@@ -191,13 +191,13 @@ module _ (attr : ℕ) where
 
 -- ---- rows and objects
 
-abbrev IsBehind : Row → Type 0
+abbrev pub IsBehind : Row → Type 0
 IsBehind r = IsStamp r.1 × IsContent r.0 r.2
 
-abbrev behind_attr : Row → List ℕ
+abbrev pub behind_attr : Row → List ℕ
 behind_attr r = stamp r.1 ++ content r.2
 
-row_of_spelled : (attr : ℕ) → IsSpelling (λ r. IsBehind r × (r.0 ≡ attr)) behind_attr (row_of attr)
+pub row_of_spelled : (attr : ℕ) → IsSpelling (λ r. IsBehind r × (r.0 ≡ attr)) behind_attr (row_of attr)
 unfolding row_of
 row_of_spelled attr =
     made (λ p. IsStamp p.0 × IsContent attr p.1) (λ p. stamp p.0 ++ content p.1) (then_at stamp_at (λ _. content_at attr)) (pair IsStamp stamp stamp_at stamp_spelled (IsContent attr) content (content_at attr) (content_spelled attr))
@@ -225,14 +225,14 @@ object_spelled =
 
 -- ---- links
 
-link_key_spelled : IsSpelling (λ k. IsOid k.from × (IsU16 k.attr × IsOid k.to)) link_key link_key_at
+pub link_key_spelled : IsSpelling (λ k. IsOid k.from × (IsU16 k.attr × IsOid k.to)) link_key link_key_at
 unfolding link_key_at
 link_key_spelled =
     made _ _ _ (pair IsOid oid oid_at oid_spelled (λ p. IsU16 p.0 × IsOid p.1) (λ p. u16 p.0 ++ oid p.1) (then_at u16_at (λ _. oid_at)) (pair IsU16 u16 u16_at u16_spelled IsOid oid oid_at oid_spelled))
     (λ p. record { from = p.0; attr = p.1.0; to = p.1.1 }) (λ k. IsOid k.from × (IsU16 k.attr × IsOid k.to)) link_key
     (λ k q. ((k.from, (k.attr, k.to)), refl, q, refl)) (λ p q fits. (q, refl))
 
-link_stamp_spelled : IsSpelling (λ s. IsU64 s.created × IsStamp s.stamp) link_stamp link_stamp_at
+pub link_stamp_spelled : IsSpelling (λ s. IsU64 s.created × IsStamp s.stamp) link_stamp link_stamp_at
 unfolding link_stamp_at
 link_stamp_spelled =
     made _ _ _ (pair IsU64 u64 u64_at u64_spelled IsStamp stamp stamp_at stamp_spelled)

@@ -19,7 +19,7 @@ pub names_refuses : {X : Type 0} (e : Failure Malformed) (r : Read X) → Names 
 names_refuses (Refused malformed) r h = h
 names_refuses NoMemory r h = tt
 
-refuses_is : {X : Type 0} (e : Failure Malformed) (r s : Read X) → r ≡ s → Refuses e r → Refuses e s
+pub refuses_is : {X : Type 0} (e : Failure Malformed) (r s : Read X) → r ≡ s → Refuses e r → Refuses e s
 refuses_is (Refused malformed) r s e h = sym e ∙ h
 refuses_is NoMemory r s e h = tt
 

@@ -3,3 +3,5 @@ pub mod Fields
 pub mod Composites
 pub mod Spelling
 pub mod Ranges
+pub mod Gathering
+pub mod Pieces

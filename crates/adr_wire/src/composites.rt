@@ -124,7 +124,7 @@ impl Reader<'_> {
     }
 
     #[tactic(auto, unfolding(crate::specs::Composites::link_stamp_at))]
-    fn read_link_stamp(&mut self) -> Result<LinkStamp, WireRefusal>
+    pub fn read_link_stamp(&mut self) -> Result<LinkStamp, WireRefusal>
         ensures { Tells result self.new (link_stamp_at self.old) }
     {
         let created = self.read_u64()?;

@@ -5,6 +5,7 @@ ghost use Rattle.adr_wire.specs.Spelling.{IsSpelling};
 ghost use Rattle.adr_wire.specs.Ranges as range;
 ghost use Rattle.adr_wire.specs.Fields as field;
 ghost use Rattle.adr_wire.specs.Composites as composite;
+ghost use Rattle.adr_wire.specs.Pieces as pieces;
 
 /// Each field has one spelling: it is read again whatever follows, and nothing else is read as it.
 pub fn fields_have_one_spelling()
@@ -33,4 +34,9 @@ pub fn composites_have_one_spelling()
     ensures object { IsSpelling range.IsObject composite.object composite.object_at }
     ensures link { IsSpelling range.IsLink composite.link composite.link_at }
     ensures vector { IsSpelling range.IsCursors composite.vector composite.vector_at }
+{}
+
+/// So has an object or a link behind the kind that says which.
+pub fn pieces_have_one_spelling()
+    ensures { IsSpelling pieces.IsPiece pieces.piece pieces.piece_at }
 {}

@@ -15,7 +15,7 @@ mod writer;
 mod writing;
 
 pub use adr_failure::{Failure, NoMemory};
-pub use laws::{composites_have_one_spelling, fields_have_one_spelling};
+pub use laws::{composites_have_one_spelling, fields_have_one_spelling, pieces_have_one_spelling};
 pub use reader::Reader;
-pub use refusal::{Malformed, WireRefusal};
+pub use refusal::{DecodeRefusal, Malformed, WireRefusal};
 pub use writer::Writer;

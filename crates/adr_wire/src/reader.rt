@@ -37,6 +37,16 @@ impl<'a> Reader<'a> {
         Reader { place: 0, bytes }
     }
 
+    /// A reader of the same bytes from the same place.
+    pub fn again(&self) -> Reader<'a>
+        ensures { result ≡ self.now }
+    {
+        Reader {
+            place: self.place,
+            bytes: self.bytes,
+        }
+    }
+
     /// The place of the next byte, counted from 0.
     pub fn place(&self) -> u64
         ensures { result ≡ self.now.place }
@@ -56,7 +66,7 @@ impl<'a> Reader<'a> {
     }
 
     /// Reads so many bytes.
-    fn take<const N: usize>(&mut self) -> Result<[u8; N], WireRefusal>
+    pub fn take<const N: usize>(&mut self) -> Result<[u8; N], WireRefusal>
         ensures { Tells result self.new (bytes_at N self.old) }
     {
         let Some((front, rest)) = self.bytes.split_first_chunk::<N>() else {

@@ -11,3 +11,12 @@ pub struct Malformed {
 
 /// Why a call of a reader gave nothing.
 pub type WireRefusal = Failure<Malformed>;
+
+/// Why bytes were refused that begin with a magic and a version.
+#[derive(Clone, Copy, Debug, PartialEq, Eq)]
+pub enum DecodeRefusal {
+    /// They are not of the form of that version, or have another magic. `place` is as in `Malformed`.
+    Malformed { place: u64 },
+    /// The magic is right, and no form of that version is known.
+    WrongVersion { found: u16 },
+}

@@ -40,7 +40,8 @@ impl Writer {
         self.bytes
     }
 
-    fn push(&mut self, bytes: &[u8]) -> Result<(), NoMemory>
+    /// Writes bytes as they are.
+    pub fn write_bytes(&mut self, bytes: &[u8]) -> Result<(), NoMemory>
         ensures ok { OnOk result (self.new ≡ self.old ++ bytes.now) }
         ensures err { OnErr result (self.new ≡ self.old) }
     {
@@ -51,7 +52,7 @@ impl Writer {
         ensures ok { OnOk result (self.new ≡ self.old ++ u8 value.now) }
         ensures err { OnErr result (self.new ≡ self.old) }
     {
-        self.push(&[*value])
+        self.write_bytes(&[*value])
     }
 
     #[tactic(auto, unfolding(crate::specs::Fields::u16))]
@@ -59,7 +60,7 @@ impl Writer {
         ensures ok { OnOk result (self.new ≡ self.old ++ u16 value.now) }
         ensures err { OnErr result (self.new ≡ self.old) }
     {
-        self.push(&value.to_be_bytes())
+        self.write_bytes(&value.to_be_bytes())
     }
 
     #[tactic(auto, unfolding(crate::specs::Fields::u32))]
@@ -67,7 +68,7 @@ impl Writer {
         ensures ok { OnOk result (self.new ≡ self.old ++ u32 value.now) }
         ensures err { OnErr result (self.new ≡ self.old) }
     {
-        self.push(&value.to_be_bytes())
+        self.write_bytes(&value.to_be_bytes())
     }
 
     #[tactic(auto, unfolding(crate::specs::Fields::u64))]
@@ -75,7 +76,7 @@ impl Writer {
         ensures ok { OnOk result (self.new ≡ self.old ++ u64 value.now) }
         ensures err { OnErr result (self.new ≡ self.old) }
     {
-        self.push(&value.to_be_bytes())
+        self.write_bytes(&value.to_be_bytes())
     }
 
     #[tactic(auto, unfolding(crate::specs::Fields::i64, crate::specs::Fields::u64))]
@@ -83,14 +84,14 @@ impl Writer {
         ensures ok { OnOk result (self.new ≡ self.old ++ i64 value.now) }
         ensures err { OnErr result (self.new ≡ self.old) }
     {
-        self.push(&value.to_be_bytes())
+        self.write_bytes(&value.to_be_bytes())
     }
 
     pub fn write_id(&mut self, value: &Uuid) -> Result<(), NoMemory>
         ensures ok { OnOk result (self.new ≡ self.old ++ id value.now) }
         ensures err { OnErr result (self.new ≡ self.old) }
     {
-        self.push(value.as_bytes())
+        self.write_bytes(value.as_bytes())
     }
 
     pub fn write_flag(&mut self, value: &bool) -> Result<(), NoMemory>
@@ -149,6 +150,6 @@ impl Writer {
         ensures { OnOk result (self.new ≡ self.old ++ octets bytes.now) }
     {
         self.write_u16(&(bytes.len() as u16))?;
-        self.push(bytes)
+        self.write_bytes(bytes)
     }
 }

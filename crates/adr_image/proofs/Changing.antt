@@ -1,0 +1,133 @@
+-- The body of a record is read field by field.
+use Rattle.std.proofs.Common.{◌≡◌, ℕ, zero, suc, Bool, ◌∷◌, ◌++◌, [], List, map, fold, Option, Some, Ok, refl, sym, ap, ◌∙◌}
+use Rattle.std.specs.Ordering.{nat_cmp}
+use Rattle.std.proofs.lemmas.List.Sums.{fold-append}
+use Rattle.adr_failure.specs.declared.Failure.{Failure}
+use Rattle.adr_stamp.specs.declared.Oid.{Oid}
+use Rattle.adr_vector.specs.Vector.{Cursors}
+use Rattle.adr_wire.specs.declared.refusal.Malformed.{Malformed}
+use Rattle.adr_wire.specs.Fields.{u8_at, usn_at, usn0_at, flag_at}
+use Rattle.adr_wire.specs.Composites.{LinkItem, Row, link_at, object_at, vector_at}
+use Rattle.adr_wire.specs.Pieces.{Piece, OfRows, OfLink, piece_of, piece_at}
+use Rattle.adr_wire.specs.Reading.{Rest, Read, Reading, ◌>>=◌, Refuses, where_at, then_at, elements_at, is_above}
+use Rattle.adr_wire.specs.Gathering.{gathered_at}
+use Rattle.adr_model.specs.Change.{Written}
+use Rattle.adr_image.specs.Image.{Marked}
+use Rattle.adr_image.specs.Body.{Write, write_above, mark_if_at, removed_at, writes_at, body_at}
+use Rattle.adr_image.specs.Changes.{written_of}
+use Rattle.adr_image.proofs.Steps.{then_ok, then_first, then_second}
+
+-- elements by the key before them are elements by all that is known before them
+pub elements_gathered : {K E : Type 0} (key : E → K) (element : Option K → Reading E) (n : ℕ) (last : Option K) (rest : Rest)
+    → elements_at key element n last rest ≡ gathered_at (λ _ e. Some (key e)) element n last rest
+elements_gathered key element zero last rest = refl
+elements_gathered {K} {E} key element (suc n) last rest =
+    ap (λ (f : E × Rest → Read (List E)). element last rest >>= f) (λ i e. (elements_gathered key element n (Some (key e.0)) e.1) i >>= λ es. Ok (e.0 ∷ es.0, es.1))
+
+-- ---- writes
+
+abbrev pub next_local : Option ℕ → Write → Option ℕ
+next_local last w = Some w.0
+
+-- the writes so far, and the last local USN
+abbrev pub KeepsWrites : ℕ → List Written × ℕ → List Write → Type 0
+KeepsWrites before k ws = (k.0 ≡ map written_of ws) × (fold next_local (Some before) ws ≡ Some k.1)
+
+mapped_more : (ws : List Write) (w : Write) → map written_of (ws ++ w ∷ []) ≡ map written_of ws ++ written_of w ∷ []
+mapped_more [] w = refl
+mapped_more (v ∷ vs) w = ap (λ (us : List Written). written_of v ∷ us) (mapped_more vs w)
+
+pub keeps_write : (before : ℕ) (items : List Written) (last : ℕ) (written : Written) (ws : List Write) (w : Write) → KeepsWrites before (items, last) ws → written ≡ written_of w → KeepsWrites before (items ++ written ∷ [], written.local) (ws ++ w ∷ [])
+keeps_write before items last written ws w keeps is =
+    (ap (λ (us : List Written). us ++ written ∷ []) keeps.0 ∙ ap (λ (v : Written). map written_of ws ++ v ∷ []) is ∙ sym (mapped_more ws w),
+    fold-append next_local (Some before) ws (w ∷ []) ∙ ap (λ (v : Written). Some v.local) (sym is))
+
+-- ---- a body, field by field
+
+module _ (before : ℕ) where
+  abbrev pub b6 : Reading (List Oid × List Write)
+  b6 = then_at removed_at (λ _. writes_at before)
+
+  abbrev pub b5 : Reading (Cursors × (List Oid × List Write))
+  b5 = then_at vector_at (λ _. b6)
+
+  abbrev pub b4 : Reading (Cursors × (Cursors × (List Oid × List Write)))
+  b4 = then_at vector_at (λ _. b5)
+
+  abbrev pub b3 : Reading (Option Marked × (Cursors × (Cursors × (List Oid × List Write))))
+  b3 = then_at mark_if_at (λ _. b4)
+
+  abbrev pub b2 : Reading (Bool × (Option Marked × (Cursors × (Cursors × (List Oid × List Write)))))
+  b2 = then_at flag_at (λ _. b3)
+
+  module _ (e : Failure Malformed) (r0 : Rest) where
+    pub body_usn : Refuses e (usn0_at r0) → Refuses e (body_at before r0)
+    unfolding body_at
+    body_usn h = then_first e usn0_at (λ _. b2) r0 h
+
+    module _ (usn : ℕ) (r1 : Rest) (p1 : usn0_at r0 ≡ Ok (usn, r1)) where
+      at_b2 : Refuses e (b2 r1) → Refuses e (body_at before r0)
+      unfolding body_at
+      at_b2 h = then_second e usn0_at (λ _. b2) r0 r1 usn p1 h
+
+      pub body_flag : Refuses e (flag_at r1) → Refuses e (body_at before r0)
+      body_flag h = at_b2 (then_first e flag_at (λ _. b3) r1 h)
+
+      module _ (quarantined : Bool) (r2 : Rest) (p2 : flag_at r1 ≡ Ok (quarantined, r2)) where
+        at_b3 : Refuses e (b3 r2) → Refuses e (body_at before r0)
+        at_b3 h = at_b2 (then_second e flag_at (λ _. b3) r1 r2 quarantined p2 h)
+
+        pub body_mark : Refuses e (mark_if_at r2) → Refuses e (body_at before r0)
+        body_mark h = at_b3 (then_first e mark_if_at (λ _. b4) r2 h)
+
+        module _ (mark : Option Marked) (r3 : Rest) (p3 : mark_if_at r2 ≡ Ok (mark, r3)) where
+          at_b4 : Refuses e (b4 r3) → Refuses e (body_at before r0)
+          at_b4 h = at_b3 (then_second e mark_if_at (λ _. b4) r2 r3 mark p3 h)
+
+          pub body_joined : Refuses e (vector_at r3) → Refuses e (body_at before r0)
+          body_joined h = at_b4 (then_first e vector_at (λ _. b5) r3 h)
+
+          module _ (joined : Cursors) (r4 : Rest) (p4 : vector_at r3 ≡ Ok (joined, r4)) where
+            at_b5 : Refuses e (b5 r4) → Refuses e (body_at before r0)
+            at_b5 h = at_b4 (then_second e vector_at (λ _. b5) r3 r4 joined p4 h)
+
+            pub body_purged : Refuses e (vector_at r4) → Refuses e (body_at before r0)
+            body_purged h = at_b5 (then_first e vector_at (λ _. b6) r4 h)
+
+            module _ (purged : Cursors) (r5 : Rest) (p5 : vector_at r4 ≡ Ok (purged, r5)) where
+              at_b6 : Refuses e (b6 r5) → Refuses e (body_at before r0)
+              at_b6 h = at_b5 (then_second e vector_at (λ _. b6) r4 r5 purged p5 h)
+
+              pub body_removed : Refuses e (removed_at r5) → Refuses e (body_at before r0)
+              body_removed h = at_b6 (then_first e removed_at (λ _. writes_at before) r5 h)
+
+              pub body_writes : (removed : List Oid) (r6 : Rest) → removed_at r5 ≡ Ok (removed, r6) → Refuses e (writes_at before r6) → Refuses e (body_at before r0)
+              body_writes removed r6 p6 h = at_b6 (then_second e removed_at (λ _. writes_at before) r5 r6 removed p6 h)
+
+  pub body_read : (r0 r1 r2 r3 r4 r5 r6 r7 : Rest) (usn : ℕ) (quarantined : Bool) (mark : Option Marked) (joined purged : Cursors) (removed : List Oid) (writes : List Write)
+      → usn0_at r0 ≡ Ok (usn, r1) → flag_at r1 ≡ Ok (quarantined, r2) → mark_if_at r2 ≡ Ok (mark, r3) → vector_at r3 ≡ Ok (joined, r4) → vector_at r4 ≡ Ok (purged, r5) → removed_at r5 ≡ Ok (removed, r6)
+      → writes_at before r6 ≡ Ok (writes, r7) → body_at before r0 ≡ Ok ((usn, (quarantined, (mark, (joined, (purged, (removed, writes)))))), r7)
+  unfolding body_at
+  body_read r0 r1 r2 r3 r4 r5 r6 r7 usn quarantined mark joined purged removed writes p1 p2 p3 p4 p5 p6 p7 =
+      then_ok usn0_at (λ _. b2) r0 r1 r7 usn (quarantined, (mark, (joined, (purged, (removed, writes))))) p1
+      (then_ok flag_at (λ _. b3) r1 r2 r7 quarantined (mark, (joined, (purged, (removed, writes)))) p2
+      (then_ok mark_if_at (λ _. b4) r2 r3 r7 mark (joined, (purged, (removed, writes))) p3
+      (then_ok vector_at (λ _. b5) r3 r4 r7 joined (purged, (removed, writes)) p4
+      (then_ok vector_at (λ _. b6) r4 r5 r7 purged (removed, writes) p5
+      (then_ok removed_at (λ _. writes_at before) r5 r6 r7 removed writes p6 p7)))))
+
+-- ---- pieces, behind their kind
+
+pub rows_piece : (rest mid end : Rest) (x : Oid × List Row) → u8_at rest ≡ Ok (1, mid) → object_at mid ≡ Ok (x, end) → piece_at rest ≡ Ok (OfRows x, end)
+unfolding piece_at
+rows_piece rest mid end x p q =
+    ap (λ (r : Read ℕ). r >>= λ kind. piece_of rest.place kind.0 kind.1) p ∙ ap (λ (r : Read (Oid × List Row)). r >>= λ z. Ok (OfRows z.0, z.1)) q
+
+pub link_piece : (rest mid end : Rest) (l : LinkItem) → u8_at rest ≡ Ok (2, mid) → link_at mid ≡ Ok (l, end) → piece_at rest ≡ Ok (OfLink l, end)
+unfolding piece_at
+link_piece rest mid end l p q =
+    ap (λ (r : Read ℕ). r >>= λ kind. piece_of rest.place kind.0 kind.1) p ∙ ap (λ (r : Read LinkItem). r >>= λ z. Ok (OfLink z.0, z.1)) q
+
+pub write_read : (rest mid end : Rest) (last local : ℕ) (p : Piece) → where_at (is_above nat_cmp (Some last)) usn_at rest ≡ Ok (local, mid) → piece_at mid ≡ Ok (p, end) → write_above (Some last) rest ≡ Ok ((local, p), end)
+unfolding write_above
+write_read rest mid end last local p a b = then_ok (where_at (is_above nat_cmp (Some last)) usn_at) (λ _. piece_at) rest mid end local p a b

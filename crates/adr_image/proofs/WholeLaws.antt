@@ -1,0 +1,210 @@
+-- A whole image is spelled in one way.
+use Rattle.std.proofs.Common.{◌≡◌, ℕ, ◌+◌, ◌≤◌, Bool, true, false, cond, leb, eqb, List, [], ◌++◌, length, Result, Ok, Err, refl, sym, ap, ◌∙◌, append_assoc, append-nil, arith}
+use Rattle.std.specs.Prelude.{is_some}
+use Rattle.std.specs.Str.{bytes_eq}
+use Rattle.std.proofs.lemmas.Bool.{eqb-true}
+use Rattle.std.proofs.lemmas.List.{nil_from_length}
+use Rattle.std.proofs.lemmas.Slice.Eq.{bytes_eq-Decides}
+use Rattle.adr_schema.specs.Table.{Table}
+use Rattle.adr_schema.specs.Schemas.{schema_table}
+use Rattle.adr_schema.specs.Numbered.{numbered}
+use Rattle.adr_vector.specs.Vector.{Cursors, at_most}
+use Rattle.adr_wire.specs.Reading.{Rest, Read, Reading, where_at, then_at, bytes_at}
+use Rattle.adr_wire.specs.Fields.{u16_at, u32_at, usn0_at, u16, u32, u64}
+use Rattle.adr_wire.specs.Composites.{vector_at, vector}
+use Rattle.adr_wire.specs.declared.refusal.DecodeRefusal.{DecodeRefusal}
+use Rattle.adr_wire.specs.declared.refusal.DecodeRefusal.TheVariants.{Malformed, WrongVersion}
+use Rattle.adr_wire.specs.Spelling.{AreBytes, behind, IsSpelling}
+use Rattle.adr_wire.specs.Ranges.{IsU16, IsU32, IsUsn0, IsCursors}
+use Rattle.adr_wire.proofs.Combining.{from, rest_bytes, made, passed, both, pair, counted, bytes_spelled, HasLength, as_they_are}
+use Rattle.adr_wire.proofs.FieldLaws.{u16_spelled, u32_spelled, usn0_spelled}
+use Rattle.adr_wire.proofs.VectorLaws.{vector_spelled}
+use Rattle.adr_model.specs.Take.{mark_limit}
+use Rattle.adr_model.specs.Write.{object_limit, link_limit, usn_limit}
+use Rattle.adr_image.specs.Image.{Rows, HeldLink, Marked, kept, kept_above, marks_of, object_at, object, no_objects, with_rows, link_at, held_link, with_link}
+use Rattle.adr_image.specs.Whole.{Parts, count_at, marks_at, objects_at, links_at, dead_of, no_links, Tuple, tuple_at, parts_of, parts_at, magic, version_at, ended, versioned, read_parts, marks, objects, links, body, image_of}
+use Rattle.adr_image.specs.Ranged.{IsCount, IsMarked, AreMarks, IsObjectIn, AreObjects, IsLinkIn, AreLinks, AreParts}
+use Rattle.adr_wire.proofs.Gathering.{counted_too}
+use Rattle.adr_image.proofs.ImageLaws.{kept_spelled, object_in_spelled, link_in_spelled}
+
+count_spelled : (most : ℕ) → IsSpelling (IsCount most) u32 (count_at most)
+count_spelled most = passed IsU32 u32 u32_at u32_spelled (λ n. leb n most)
+
+pub marks_spelled : IsSpelling AreMarks marks marks_at
+unfolding marks_at marks_of
+marks_spelled = counted (λ (k : Marked). k.0) IsMarked kept kept_above kept_spelled (IsCount mark_limit) u32 (count_at mark_limit) (count_spelled mark_limit)
+
+module _ (usn : ℕ) (table : Table) where
+  pub objects_spelled : usn ≤ usn_limit → IsSpelling (AreObjects usn table) objects (objects_at usn table)
+  unfolding objects_at
+  objects_spelled fits = counted_too with_rows (IsObjectIn usn table) object (object_at usn table) (λ e. object_in_spelled usn table e fits) (IsCount object_limit) u32 (count_at object_limit) (count_spelled object_limit) no_objects
+
+  pub links_spelled : (os : List Rows) → IsSpelling (AreLinks usn table os) links (links_at usn table os)
+  unfolding links_at
+  links_spelled os =
+      counted_too with_link (IsLinkIn usn table (dead_of os)) held_link (link_at usn table (dead_of os)) (λ k. link_in_spelled (dead_of os) usn k table)
+      (IsCount link_limit) u32 (count_at link_limit) (count_spelled link_limit) (no_links os)
+
+-- ---- the parts behind one another
+
+abbrev pub Tail : Type 0
+Tail = List Rows × List HeldLink
+
+abbrev AreTail : ℕ → Table → Tail → Type 0
+AreTail usn table t = AreObjects usn table t.0 × AreLinks usn table t.0 t.1
+
+abbrev tail : Tail → List ℕ
+tail t = objects t.0 ++ links t.1
+
+abbrev pub tail_at : ℕ → Table → Reading Tail
+tail_at usn table = then_at (objects_at usn table) (links_at usn table)
+
+tail_spelled : (usn : ℕ) (table : Table) → usn ≤ usn_limit → IsSpelling (AreTail usn table) tail (tail_at usn table)
+tail_spelled usn table fits = both (AreObjects usn table) objects (objects_at usn table) (objects_spelled usn table fits) (AreLinks usn table) (λ _. links) (links_at usn table) (λ os h. links_spelled usn table os)
+
+abbrev pub Three : Type 0
+Three = List Marked × Tail
+
+abbrev AreThree : ℕ → Table → Three → Type 0
+AreThree usn table t = AreMarks t.0 × AreTail usn table t.1
+
+abbrev three : Three → List ℕ
+three t = marks t.0 ++ tail t.1
+
+abbrev pub three_at : ℕ → Table → Reading Three
+three_at usn table = then_at marks_at (λ _. tail_at usn table)
+
+three_spelled : (usn : ℕ) (table : Table) → usn ≤ usn_limit → IsSpelling (AreThree usn table) three (three_at usn table)
+three_spelled usn table fits = pair AreMarks marks marks_at marks_spelled (AreTail usn table) tail (tail_at usn table) (tail_spelled usn table fits)
+
+abbrev pub Four : Type 0
+Four = Cursors × Three
+
+abbrev AreFour : ℕ → Table → Cursors → Four → Type 0
+AreFour usn table seen t = (IsCursors t.0 × (at_most t.0 seen ≡ true)) × AreThree usn table t.1
+
+abbrev four : Four → List ℕ
+four t = vector t.0 ++ three t.1
+
+abbrev pub four_at : ℕ → Table → Cursors → Reading Four
+four_at usn table seen = then_at (where_at (λ p. at_most p seen) vector_at) (λ _. three_at usn table)
+
+four_spelled : (usn : ℕ) (table : Table) (seen : Cursors) → usn ≤ usn_limit → IsSpelling (AreFour usn table seen) four (four_at usn table seen)
+four_spelled usn table seen fits =
+    pair (λ p. IsCursors p × (at_most p seen ≡ true)) vector (where_at (λ p. at_most p seen) vector_at) (passed IsCursors vector vector_at vector_spelled (λ p. at_most p seen))
+    (AreThree usn table) three (three_at usn table) (three_spelled usn table fits)
+
+abbrev pub Five : Type 0
+Five = Cursors × Four
+
+abbrev AreFive : ℕ → Table → Five → Type 0
+AreFive usn table t = IsCursors t.0 × AreFour usn table t.0 t.1
+
+abbrev five : Five → List ℕ
+five t = vector t.0 ++ four t.1
+
+abbrev pub five_at : ℕ → Table → Reading Five
+five_at usn table = then_at vector_at (four_at usn table)
+
+five_spelled : (usn : ℕ) (table : Table) → usn ≤ usn_limit → IsSpelling (AreFive usn table) five (five_at usn table)
+five_spelled usn table fits = both IsCursors vector vector_at vector_spelled (AreFour usn table) (λ _. four) (four_at usn table) (λ seen h. four_spelled usn table seen fits)
+
+abbrev pub Six : Type 0
+Six = ℕ × Five
+
+abbrev AreSix : ℕ → Six → Type 0
+AreSix schema t = IsUsn0 t.0 × AreFive t.0 (numbered schema) t.1
+
+abbrev six : Six → List ℕ
+six t = u64 t.0 ++ five t.1
+
+abbrev pub six_at : ℕ → Reading Six
+six_at schema = then_at usn0_at (λ usn. five_at usn (numbered schema))
+
+six_spelled : (schema : ℕ) → IsSpelling (AreSix schema) six (six_at schema)
+six_spelled schema = both IsUsn0 u64 usn0_at usn0_spelled (λ usn. AreFive usn (numbered schema)) (λ _. five) (λ usn. five_at usn (numbered schema)) (λ usn h. five_spelled usn (numbered schema) (omega (arith, h)))
+
+abbrev pub is_known : ℕ → Bool
+is_known n = is_some (schema_table n)
+
+abbrev AreTuple : Tuple → Type 0
+AreTuple t = (IsU32 t.0 × (is_known t.0 ≡ true)) × AreSix t.0 t.1
+
+abbrev tuple : Tuple → List ℕ
+tuple t = u32 t.0 ++ six t.1
+
+tuple_spelled : IsSpelling AreTuple tuple tuple_at
+unfolding tuple_at
+tuple_spelled = both (λ n. IsU32 n × (is_known n ≡ true)) u32 (where_at is_known u32_at) (passed IsU32 u32 u32_at u32_spelled is_known) AreSix (λ _. six) six_at (λ schema h. six_spelled schema)
+
+abbrev tuple_of : Parts → Tuple
+tuple_of p = (p.schema, (p.usn, (p.vector, (p.purged, (p.marks, (p.objects, p.links))))))
+
+pub parts_spelled : IsSpelling AreParts body parts_at
+unfolding parts_at
+parts_spelled =
+    made AreTuple tuple tuple_at tuple_spelled parts_of AreParts body
+    (λ p q. (tuple_of p, refl, (q.schema, (q.usn, (q.vector, (q.purged, (q.marks, (q.objects, q.links)))))), refl))
+    (λ t q fits. (record { schema = q.0; usn = q.1.0; vector = q.1.1.0; purged = q.1.1.1.0; marks = q.1.1.1.1.0; objects = q.1.1.1.1.1.0; links = q.1.1.1.1.1.1 }, refl))
+
+-- ---- the head, and the end
+
+abbrev head : ℕ → List ℕ
+head v = magic ++ u16 v
+
+abbrev IsMagic : List ℕ → Type 0
+IsMagic m = HasLength 4 m × (bytes_eq magic m ≡ true)
+
+magic_is : (m : List ℕ) → bytes_eq magic m ≡ true → magic ≡ m
+magic_is m e = (bytes_eq-Decides magic m).0 e
+
+version_spelled : IsSpelling IsU16 head version_at
+unfolding version_at
+version_spelled =
+    made (λ (p : List ℕ × ℕ). IsMagic p.0 × IsU16 p.1) (λ p. p.0 ++ u16 p.1) (then_at (where_at (bytes_eq magic) (bytes_at 4)) (λ _. u16_at))
+    (pair IsMagic as_they_are (where_at (bytes_eq magic) (bytes_at 4)) (passed (HasLength 4) as_they_are (bytes_at 4) (bytes_spelled 4) (bytes_eq magic)) IsU16 u16 u16_at u16_spelled)
+    (λ p. p.1) IsU16 head
+    (λ v q. ((magic, v), refl, ((refl, refl), q), refl))
+    (λ p q fits. (q.1, ap (λ (m : List ℕ). m ++ u16 p.1) (magic_is p.0 q.0.1)))
+
+abbrev said : {X : Type 0} → X → Result X DecodeRefusal
+said x = Ok x
+
+abbrev given : {X : Type 0} → X → Rest → Read X
+given x rest = Ok (x, rest)
+
+said_is : {X : Type 0} (x y : X) → said x ≡ said y → x ≡ y
+said_is x y e = cc
+
+ended_ok : {X : Type 0} (r : Read X) (x : X) → ended r ≡ Ok x → (rest : Rest) × (r ≡ Ok (x, rest)) × (rest.bytes ≡ [])
+ended_ok {X} (Ok y) x e = by (eqb (length y.1.bytes) 0) refl e
+  where
+    by : (b : Bool) → eqb (length y.1.bytes) 0 ≡ b → cond b (Ok y.0) (Err (Malformed y.1.place)) ≡ said x → (rest : Rest) × (given y.0 y.1 ≡ given x rest) × (rest.bytes ≡ [])
+    by true t h = (y.1, ap (λ (z : X). given z y.1) (said_is y.0 x h), nil_from_length y.1.bytes (eqb-true (length y.1.bytes) 0 t))
+    by false t h = absurd (cc)
+ended_ok (Err place) x e = absurd (cc)
+
+versioned_ok : {X : Type 0} (a : Reading X) (r : Read ℕ) (x : X) → versioned a r ≡ Ok x → (rest : Rest) × (r ≡ Ok (1, rest)) × (ended (a rest) ≡ Ok x)
+versioned_ok {X} a (Ok v) x e = by (eqb v.0 1) refl e
+  where
+    by : (b : Bool) → eqb v.0 1 ≡ b → cond b (ended (a v.1)) (Err (WrongVersion v.0)) ≡ said x → (rest : Rest) × (given v.0 v.1 ≡ given 1 rest) × (ended (a rest) ≡ Ok x)
+    by true t h = (v.1, ap (λ (n : ℕ). given n v.1) (eqb-true v.0 1 t), h)
+    by false t h = absurd (cc)
+versioned_ok a (Err place) x e = absurd (cc)
+
+-- what is written is read again
+pub parts_again : (p : Parts) → AreParts p → read_parts (image_of p) ≡ Ok p
+parts_again p q =
+    let one : IsU16 1 = omega arith in
+    ap (versioned parts_at) (ap (λ (bytes : List ℕ). version_at (from 0 bytes)) (sym (append_assoc magic (u16 1) (body p))) ∙ version_spelled.again 0 1 (body p) one)
+    ∙ ap ended (ap (λ (bytes : List ℕ). parts_at (from (0 + length (head 1)) bytes)) (sym (append-nil (body p))) ∙ parts_spelled.again (0 + length (head 1)) p [] q)
+
+-- what is read was written so
+pub parts_only : (bytes : List ℕ) (p : Parts) → AreBytes bytes → read_parts bytes ≡ Ok p → AreParts p × (bytes ≡ image_of p)
+parts_only bytes p fits e =
+    let v = versioned_ok parts_at (version_at (from 0 bytes)) p e in
+    let first = version_spelled.only 0 bytes 1 v.0 fits v.1 in
+    let d = ended_ok (parts_at v.0) p v.2 in
+    let second = parts_spelled.only v.0.place v.0.bytes p d.0 (rest_bytes IsU16 head 0 bytes 1 v.0 first fits) d.1 in
+    (second.in_range,
+    first.spelled_so ∙ ap (λ (w : List ℕ). head 1 ++ w) (second.spelled_so ∙ ap (λ (w : List ℕ). body p ++ w) d.2 ∙ append-nil (body p)) ∙ append_assoc magic (u16 1) (body p))

@@ -1,0 +1,7 @@
+use Rattle.std.proofs.Common.{◌≡◌, ◌++◌, take}
+use Rattle.std.specs.List.{flat_map}
+use Rattle.adr_image.specs.Changes.{written_bytes}
+use Rattle.adr_image.proofs.bodies.write_writes.Given as goal
+
+abbrev pub invariant-loop-written : goal.invariant-loop-written
+invariant-loop-written l = l.writer ≡ l.fn.writer ++ flat_map written_bytes (take l.written-index l.writes)

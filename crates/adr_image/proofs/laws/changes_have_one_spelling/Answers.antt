@@ -1,0 +1,14 @@
+use Rattle.adr_image.proofs.Bodies.{change_again, change_long, change_only, change_short}
+use Rattle.adr_image.proofs.laws.changes_have_one_spelling.Goals as goal
+
+pub returns-clause-again : goal.returns-clause-again
+returns-clause-again c = λ before d q. change_again before d q
+
+pub returns-clause-only : goal.returns-clause-only
+returns-clause-only c = λ before bytes d fits e. change_only before bytes d fits e
+
+pub returns-clause-short : goal.returns-clause-short
+returns-clause-short c = λ before d q. change_short before d q
+
+pub returns-clause-long : goal.returns-clause-long
+returns-clause-long c = λ before d q. change_long before d q

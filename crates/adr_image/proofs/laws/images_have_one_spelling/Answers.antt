@@ -1,0 +1,12 @@
+use Rattle.adr_image.proofs.InRange.{in_range, image_read}
+use Rattle.adr_image.proofs.Spelled.{read_is_formed}
+use Rattle.adr_image.proofs.laws.images_have_one_spelling.Goals as goal
+
+pub returns-clause-formed : goal.returns-clause-formed
+returns-clause-formed c = λ bytes s fits e. read_is_formed bytes s fits e
+
+pub returns-clause-again : goal.returns-clause-again
+returns-clause-again c = λ s f q. image_read s f q
+
+pub returns-clause-in_range : goal.returns-clause-in_range
+returns-clause-in_range c = λ s f q. in_range s f q

@@ -1,0 +1,78 @@
+-- The body of a journal's record: a change as bytes.
+use Rattle.std.specs.Prelude.{if◌then◌else◌, ◌≡◌, ℕ, List, [], ◌++◌, length, Bool, true, Option, None, Some, is_some, Ok, ⊤}
+use Rattle.std.specs.List.{flat_map}
+use Rattle.std.specs.Ordering.{nat_cmp}
+use Rattle.adr_stamp.specs.declared.Oid.{Oid}
+use Rattle.adr_vector.specs.Vector.{Cursors}
+use Rattle.adr_wire.specs.Reading.{Reading, ◌>>=◌, as_at, where_at, then_at, elements_at, is_above}
+use Rattle.adr_wire.specs.Fields.{u32_at, usn_at, usn0_at, flag_at, u32, u64, flag}
+use Rattle.adr_wire.specs.Composites.{oid_at, oid, vector_at, vector}
+use Rattle.adr_wire.specs.Pieces.{Piece, piece_at, piece, IsPiece}
+use Rattle.adr_wire.specs.Ranges.{IsU32, IsUsn, IsUsn0, IsOid, IsCursors, InTurn}
+use Rattle.adr_image.specs.Image.{Marked, kept_above, kept}
+use Rattle.adr_image.specs.Ranged.{IsMarked}
+
+-- ---- writes, whose local USNs rise
+
+abbrev pub Write : Type 0
+Write = ℕ × Piece
+
+unfoldable pub write_above : Option ℕ → Reading Write
+write_above last = then_at (where_at (is_above nat_cmp last) usn_at) (λ _. piece_at)
+
+abbrev pub write : Write → List ℕ
+write w = u64 w.0 ++ piece w.1
+
+abbrev pub IsWrite : Option ℕ → Write → Type 0
+IsWrite last w = (IsUsn w.0 × (is_above nat_cmp last w.0 ≡ true)) × IsPiece w.1
+
+-- ---- removed objects, in any order
+
+abbrev pub one_name : Oid → Unit {0}
+one_name o = tt
+
+-- ---- a mark, if there is one
+
+unfoldable pub mark_if_at : Reading (Option Marked)
+mark_if_at rest = flag_at rest >>= λ there. (if there.0 then as_at Some (kept_above None) else λ behind. Ok (None, behind)) there.1
+
+abbrev pub mark_told : Option Marked → List ℕ
+mark_told None = []
+mark_told (Some k) = kept k
+
+abbrev pub mark_if : Option Marked → List ℕ
+mark_if m = flag (is_some m) ++ mark_told m
+
+abbrev pub IsMarkIf : Option Marked → Type 0
+IsMarkIf None = ⊤
+IsMarkIf (Some k) = IsMarked None k
+
+-- ---- a body: the USN after, whether it quarantines, the mark, the vectors, the removed objects and the writes
+
+abbrev pub Body : Type 0
+Body = ℕ × (Bool × (Option Marked × (Cursors × (Cursors × (List Oid × List Write)))))
+
+unfoldable pub removed_at : Reading (List Oid)
+removed_at = as_at (λ p. p.1) (then_at u32_at (λ n. elements_at one_name (λ _. oid_at) n None))
+
+-- local USNs are above the USN before
+unfoldable pub writes_at : ℕ → Reading (List Write)
+writes_at before = as_at (λ p. p.1) (then_at u32_at (λ n. elements_at (λ (w : Write). w.0) write_above n (Some before)))
+
+unfoldable pub body_at : ℕ → Reading Body
+body_at before =
+    then_at usn0_at (λ _. then_at flag_at (λ _. then_at mark_if_at (λ _. then_at vector_at (λ _. then_at vector_at (λ _. then_at removed_at (λ _. writes_at before))))))
+
+abbrev pub body : Body → List ℕ
+body b =
+    u64 b.0 ++ (flag b.1.0 ++ (mark_if b.1.1.0 ++ (vector b.1.1.1.0 ++ (vector b.1.1.1.1.0
+    ++ ((u32 (length b.1.1.1.1.1.0) ++ flat_map oid b.1.1.1.1.1.0) ++ (u32 (length b.1.1.1.1.1.1) ++ flat_map write b.1.1.1.1.1.1))))))
+
+abbrev pub AreRemoved : List Oid → Type 0
+AreRemoved os = IsU32 (length os) × InTurn one_name (λ _. IsOid) None os
+
+abbrev pub AreWrites : ℕ → List Write → Type 0
+AreWrites before ws = IsU32 (length ws) × InTurn (λ (w : Write). w.0) IsWrite (Some before) ws
+
+abbrev pub IsBody : ℕ → Body → Type 0
+IsBody before b = IsUsn0 b.0 × (⊤ × (IsMarkIf b.1.1.0 × (IsCursors b.1.1.1.0 × (IsCursors b.1.1.1.1.0 × (AreRemoved b.1.1.1.1.1.0 × AreWrites before b.1.1.1.1.1.1)))))

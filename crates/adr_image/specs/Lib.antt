@@ -1,0 +1,10 @@
+pub mod Image
+pub mod Whole
+pub mod Ranged
+pub mod Worked
+pub mod Body
+pub mod Stored
+pub mod Lengths
+pub mod Seen
+pub mod Written
+pub mod Changes

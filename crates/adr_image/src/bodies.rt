@@ -1,0 +1,118 @@
+//! The bodies of a journal's records are written.
+
+ghost use Rattle.std.specs.Prelude.{◌≡◌, ◌++◌, All, IfOk, OnOk};
+ghost use Rattle.std.specs.List.{flat_map};
+ghost use Rattle.adr_wire.specs.Composites.{oid};
+ghost use Rattle.adr_image.specs.Body.{mark_if};
+ghost use Rattle.adr_image.specs.Changes.{AreShort, IsShortChange, change_bytes, unit_bytes, update_bytes, written_bytes};
+ghost use Rattle.adr_image.specs.Written.{IsShortSaid};
+
+use crate::encoding::{write_kept, write_told};
+use adr_stamp::{Oid, Unit};
+use adr_state::{Change, Kept};
+use adr_update::{NoMemory, Update, Written};
+use adr_wire::Writer;
+use std::alloc::Global;
+use uuid::Uuid;
+
+/// Writes an update, but not the unit that it is of.
+fn write_update(writer: &mut Writer, update: &Update) -> Result<(), NoMemory>
+    requires { IsShortSaid update.now.said }
+    ensures { OnOk result (writer.new ≡ writer.old ++ update_bytes update.now) }
+{
+    write_told(writer, &update.key(), &update.stamp(), update.said())
+}
+
+/// Writes updates, one behind the other.
+fn write_updates(writer: &mut Writer, updates: &[Update]) -> Result<(), NoMemory>
+    requires { All (λ update. IsShortSaid update.said) updates.now }
+    ensures { OnOk result (writer.new ≡ writer.old ++ flat_map update_bytes updates.now) }
+{
+    for update in updates {
+        write_update(writer, update)?;
+    }
+    Ok(())
+}
+
+/// Writes rows of a unit, behind the kind that says what it is.
+fn write_unit(writer: &mut Writer, unit: &Unit, rows: &[Update]) -> Result<(), NoMemory>
+    requires { AreShort rows.now }
+    ensures { OnOk result (writer.new ≡ writer.old ++ unit_bytes unit.now rows.now) }
+{
+    match unit {
+        Unit::Object(object) => {
+            writer.write_u8(&1)?;
+            writer.write_oid(object)?;
+            writer.write_u16(&(rows.len() as u16))?;
+            write_updates(writer, rows)
+        }
+        Unit::Link(_) => {
+            writer.write_u8(&2)?;
+            write_updates(writer, rows)
+        }
+    }
+}
+
+/// Writes what is written under one local USN.
+fn write_written(writer: &mut Writer, written: &Written) -> Result<(), NoMemory>
+    requires { AreShort written.now.item.rows }
+    ensures { OnOk result (writer.new ≡ writer.old ++ written_bytes written.now) }
+{
+    writer.write_usn(&written.local())?;
+    let item = written.item();
+    write_unit(writer, &item.unit(), item.rows())
+}
+
+/// Writes what is written, one local USN behind the other.
+fn write_writes(writer: &mut Writer, writes: &[Written]) -> Result<(), NoMemory>
+    requires { All (λ written. AreShort written.item.rows) writes.now }
+    ensures { OnOk result (writer.new ≡ writer.old ++ flat_map written_bytes writes.now) }
+{
+    for written in writes {
+        write_written(writer, written)?;
+    }
+    Ok(())
+}
+
+/// Writes objects, one behind the other.
+fn write_removed(writer: &mut Writer, removed: &[Oid]) -> Result<(), NoMemory>
+    ensures { OnOk result (writer.new ≡ writer.old ++ flat_map oid removed.now) }
+{
+    for object in removed {
+        writer.write_oid(object)?;
+    }
+    Ok(())
+}
+
+/// Writes whether there is a mark, and the mark.
+fn write_mark_if(writer: &mut Writer, mark: &Option<(Uuid, Kept)>) -> Result<(), NoMemory>
+    ensures { OnOk result (writer.new ≡ writer.old ++ mark_if mark.now) }
+{
+    match mark {
+        None => writer.write_flag(&false),
+        Some(mark) => {
+            writer.write_flag(&true)?;
+            write_kept(writer, mark)
+        }
+    }
+}
+
+/// Writes a change as the body of a record.
+pub fn encode_change(alloc: Global, change: &Change) -> Result<Vec<u8>, NoMemory>
+    requires { IsShortChange change.now }
+    ensures { IfOk result (λ bytes. bytes.items ≡ change_bytes change.now) }
+{
+    let mut writer = Writer::new(alloc);
+    writer.write_usn0(&change.usn())?;
+    writer.write_flag(&change.mode().is_quarantined())?;
+    write_mark_if(&mut writer, &change.mark())?;
+    writer.write_vector(change.joined())?;
+    writer.write_vector(change.purged())?;
+    let removed = change.removed();
+    writer.write_u32(&(removed.len() as u32))?;
+    write_removed(&mut writer, removed)?;
+    let writes = change.writes();
+    writer.write_u32(&(writes.len() as u32))?;
+    write_writes(&mut writer, writes)?;
+    Ok(writer.into_bytes())
+}

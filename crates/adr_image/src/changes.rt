@@ -1,0 +1,214 @@
+//! Changes as the bodies of a journal's records.
+
+ghost use Rattle.std.specs.Prelude.{◌≡◌, None, Some, IfOk, map};
+ghost use Rattle.std.specs.Ordering.{nat_cmp};
+ghost use Rattle.adr_law_lengths.specs.Written.{link_item, object_item, update_of};
+ghost use Rattle.adr_state.specs.Mode.{mode_of};
+ghost use Rattle.adr_wire.specs.Fields.{usn_at};
+ghost use Rattle.adr_wire.specs.Pieces.{piece_at};
+ghost use Rattle.adr_wire.specs.Composites.{oid_at};
+ghost use Rattle.adr_wire.specs.Reading.{GivesAs, Tells, elements_at, is_above, where_at};
+ghost use Rattle.adr_image.specs.Body as form;
+ghost use Rattle.adr_image.specs.Changes.{change_of, decoded_change, item_of, mode_of_flag, written_of};
+ghost use Rattle.adr_image.specs.Seen.{GivesSeen};
+
+use crate::links::LinkItem;
+use crate::marks::read_kept;
+use adr_schema::Content;
+use adr_stamp::{LinkStamp, Oid, Stamp, Unit};
+use adr_state::{Change, Kept, Mode};
+use adr_update::{Item, Key, NoMemory, Said, Update, Written};
+use adr_wire::{Failure, Malformed, Reader, WireRefusal};
+use std::alloc::{AllocError, Global};
+use uuid::Uuid;
+
+/// A row: its attribute, its stamp and its content.
+type Row = (u16, Stamp, Content);
+
+/// A row of an object, as an update.
+fn update_of(object: &Oid, row: Row) -> Update
+    ensures { result ≡ update_of object.now row }
+{
+    let (attr, stamp, content) = row;
+    Update::new(
+        Key::Row { object: *object, attr },
+        LinkStamp { created: 0, stamp },
+        Said::Holds(content),
+    )
+}
+
+/// An object with its rows, as an item.
+fn object_item(alloc: Global, object: &Oid, rows: Vec<Row>) -> Result<Item, NoMemory>
+    ensures { IfOk result (λ item. item ≡ object_item (object.now, rows.items)) }
+{
+    let mut updates = Vec::new(alloc);
+    for row in rows {
+        updates.push(update_of(object, row))?;
+    }
+    Ok(Item::new(Unit::Object(*object), updates))
+}
+
+/// A link, as an item of its one row.
+fn link_item(alloc: Global, link: &LinkItem) -> Result<Item, NoMemory>
+    ensures { IfOk result (λ item. item ≡ link_item link.now) }
+{
+    let mut updates = Vec::new(alloc);
+    updates.push(Update::new(Key::Link(link.0), link.1, Said::IsPresent(link.2)))?;
+    Ok(Item::new(Unit::Link(link.0), updates))
+}
+
+/// An item behind its kind.
+#[tactic(auto, unfolding(adr_wire::specs::Pieces::piece_at))]
+fn read_item(reader: &mut Reader<'_>, alloc: Global) -> Result<Item, WireRefusal>
+    ensures { GivesSeen (λ item p. item ≡ item_of p) result reader.new (piece_at reader.old) }
+{
+    let place = reader.place();
+    match reader.read_u8()? {
+        1 => {
+            let (object, rows) = reader.read_object(alloc)?;
+            Ok(object_item(alloc, &object, rows)?)
+        }
+        2 => {
+            let link = reader.read_link()?;
+            Ok(link_item(alloc, &link)?)
+        }
+        _ => Err(Failure::Refused(Malformed { place })),
+    }
+}
+
+/// A local USN above the last one.
+fn read_local_above(reader: &mut Reader<'_>, last: u64) -> Result<u64, WireRefusal>
+    ensures { Tells result reader.new (where_at (is_above nat_cmp (Some last)) usn_at reader.old) }
+{
+    let place = reader.place();
+    let local = reader.read_usn()?;
+    if !last.cmp(&local).is_lt() {
+        return Err(Failure::Refused(Malformed { place }));
+    }
+    Ok(local)
+}
+
+/// What is written under a local USN above the last one.
+#[tactic(auto, unfolding(crate::specs::Body::write_above))]
+fn read_write(reader: &mut Reader<'_>, alloc: Global, last: u64) -> Result<Written, WireRefusal>
+    ensures { GivesSeen (λ write w. write ≡ written_of w) result reader.new (form.write_above (Some last) reader.old) }
+{
+    let local = read_local_above(reader, last)?;
+    let item = read_item(reader, alloc)?;
+    Ok(Written::new(local, item))
+}
+
+/// So many writes, rising by their local USNs from the one before.
+fn read_each_write(
+    reader: &mut Reader<'_>,
+    alloc: Global,
+    before: u64,
+    count: u32,
+) -> Result<Vec<Written>, WireRefusal>
+    ensures { GivesSeen (λ writes ws. writes.items ≡ map written_of ws) result reader.new
+        (elements_at (λ w. w.0) form.write_above count (Some before) reader.old) }
+{
+    let mut writes = Vec::new(alloc);
+    let mut last = before;
+    for _ in 0..count {
+        let write = read_write(reader, alloc, last)?;
+        last = write.local();
+        writes.push(write)?;
+    }
+    Ok(writes)
+}
+
+/// The writes of a change.
+#[tactic(auto, unfolding(crate::specs::Body::writes_at))]
+fn read_writes(
+    reader: &mut Reader<'_>,
+    alloc: Global,
+    before: u64,
+) -> Result<Vec<Written>, WireRefusal>
+    ensures { GivesSeen (λ writes ws. writes.items ≡ map written_of ws) result reader.new
+        (form.writes_at before reader.old) }
+{
+    let count = reader.read_u32()?;
+    read_each_write(reader, alloc, before, count)
+}
+
+/// So many objects.
+fn read_each_removed(
+    reader: &mut Reader<'_>,
+    alloc: Global,
+    count: u32,
+) -> Result<Vec<Oid>, WireRefusal>
+    ensures { GivesAs (λ removed. removed.items) result reader.new
+        (elements_at form.one_name (λ _. oid_at) count None reader.old) }
+{
+    let mut removed = Vec::new(alloc);
+    for _ in 0..count {
+        let object = reader.read_oid()?;
+        removed.push(object)?;
+    }
+    Ok(removed)
+}
+
+/// The objects that a change removes.
+#[tactic(auto, unfolding(crate::specs::Body::removed_at))]
+fn read_removed(reader: &mut Reader<'_>, alloc: Global) -> Result<Vec<Oid>, WireRefusal>
+    ensures { GivesAs (λ removed. removed.items) result reader.new (form.removed_at reader.old) }
+{
+    let count = reader.read_u32()?;
+    read_each_removed(reader, alloc, count)
+}
+
+/// The mark that a change keeps, if there is one.
+#[tactic(auto, unfolding(crate::specs::Body::mark_if_at))]
+fn read_mark_if(reader: &mut Reader<'_>) -> Result<Option<(Uuid, Kept)>, WireRefusal>
+    ensures { Tells result reader.new (form.mark_if_at reader.old) }
+{
+    if !reader.read_flag()? {
+        return Ok(None);
+    }
+    let mark = read_kept(reader, None)?;
+    Ok(Some(mark))
+}
+
+/// The mode after a change.
+fn mode_of_flag(quarantined: bool) -> Mode
+    ensures { mode_of result ≡ mode_of_flag quarantined }
+{
+    if quarantined {
+        Mode::Quarantined
+    } else {
+        Mode::Normal
+    }
+}
+
+/// The body of a record behind a controller's USN.
+#[tactic(auto, unfolding(crate::specs::Body::body_at))]
+fn read_body(reader: &mut Reader<'_>, alloc: Global, before: u64) -> Result<Change, WireRefusal>
+    ensures { GivesSeen (λ change b. change ≡ change_of b) result reader.new (form.body_at before reader.old) }
+{
+    let usn = reader.read_usn0()?;
+    let quarantined = reader.read_flag()?;
+    let mark = read_mark_if(reader)?;
+    let joined = reader.read_vector(alloc)?;
+    let purged = reader.read_vector(alloc)?;
+    let removed = read_removed(reader, alloc)?;
+    let writes = read_writes(reader, alloc, before)?;
+    let mode = mode_of_flag(quarantined);
+    Ok(Change::new(usn, mode, mark, joined, purged, removed, writes))
+}
+
+/// The change that bytes say to a controller of this USN, if they are the body of a record.
+pub fn decode_change(alloc: Global, before: u64, bytes: &[u8]) -> Result<Option<Change>, NoMemory>
+    ensures { IfOk result (λ change. change ≡ decoded_change before bytes.now) }
+{
+    let mut reader = Reader::new(bytes);
+    let change = match read_body(&mut reader, alloc, before) {
+        Ok(change) => change,
+        Err(Failure::Refused(_)) => return Ok(None),
+        Err(Failure::NoMemory) => return Err(AllocError),
+    };
+    if reader.end().is_err() {
+        return Ok(None);
+    }
+    Ok(Some(change))
+}

@@ -1,0 +1,112 @@
+//! What stands behind the version of an image.
+
+ghost use Rattle.std.specs.Prelude.{◌≡◌, ◌≤◌, IfOk, is_some};
+ghost use Rattle.adr_schema.specs.Numbered.{numbered};
+ghost use Rattle.adr_schema.specs.Schemas.{schema_table};
+ghost use Rattle.adr_model.specs.Write.{usn_limit};
+ghost use Rattle.adr_vector.specs.Vector.{at_most};
+ghost use Rattle.adr_wire.specs.Composites.{vector_at};
+ghost use Rattle.adr_wire.specs.Fields.{u32_at};
+ghost use Rattle.adr_wire.specs.Reading.{Gives, TellsAs, then_at, where_at};
+ghost use Rattle.adr_image.specs.Seen.{GivesSeen};
+ghost use Rattle.adr_image.specs.Stored.{rows_of, store_of};
+ghost use Rattle.adr_image.specs.Whole.{links_at, objects_at, parts_at};
+
+use crate::gathered::{read_links, read_objects};
+use crate::marks::read_marks;
+use adr_schema::Schema;
+use adr_state::{Kept, Vector};
+use adr_update::Held;
+use adr_wire::{Failure, Malformed, Reader, WireRefusal};
+use std::alloc::Global;
+use std::marker::Model;
+use uuid::Uuid;
+
+/// A database, as it was read.
+#[derive(Drop)]
+pub struct Contents {
+    pub schema: Schema,
+    pub usn: u64,
+    pub rows: Vec<Held>,
+    pub vector: Vector,
+    pub purged: Vector,
+    pub marks: Vec<(Uuid, Kept)>,
+}
+
+impl Model for Contents {
+    ghost use Rattle.std.specs.Prelude.{◌≡◌};
+    ghost use Rattle.adr_schema.specs.Numbered.{numbered};
+    ghost use Rattle.adr_model.specs.Store.{Store};
+
+    ghost Value = { Store };
+
+    ghost view = { λ c. record { schema = c.schema.number; usn = c.usn; rows = c.rows.items; vector = c.vector; purged = c.purged; marks = c.marks.items } };
+
+    ghost invariant = { λ c. c.schema ≡ numbered c.schema.number };
+}
+
+/// A schema by its number.
+fn read_schema(reader: &mut Reader<'_>) -> Result<Schema, WireRefusal>
+    ensures number { TellsAs (λ schema. schema.number) result reader.new
+        (where_at (λ n. is_some (schema_table n)) u32_at reader.old) }
+    ensures table { IfOk result (λ schema. schema ≡ numbered schema.number) }
+{
+    let place = reader.place();
+    let number = reader.read_u32()?;
+    match Schema::new(number) {
+        Some(schema) => Ok(schema),
+        None => Err(Failure::Refused(Malformed { place })),
+    }
+}
+
+/// The vector of what was collected, which is within the other.
+fn read_purged(
+    reader: &mut Reader<'_>,
+    alloc: Global,
+    vector: &Vector,
+) -> Result<Vector, WireRefusal>
+    ensures { Gives result reader.new (where_at (λ p. at_most p vector.now) vector_at reader.old) }
+{
+    let place = reader.place();
+    let purged = reader.read_vector(alloc)?;
+    if purged.first_gap(vector).is_some() {
+        return Err(Failure::Refused(Malformed { place }));
+    }
+    Ok(purged)
+}
+
+/// The rows of all objects, and all links.
+fn read_rows(
+    reader: &mut Reader<'_>,
+    alloc: Global,
+    usn: u64,
+    schema: &Schema,
+) -> Result<Vec<Held>, WireRefusal>
+    requires { usn ≤ usn_limit }
+    ensures { GivesSeen (λ rows p. rows.items ≡ rows_of p) result reader.new
+        (then_at (objects_at usn schema.now) (links_at usn schema.now) reader.old) }
+{
+    let objects = read_objects(reader, alloc, usn, schema)?;
+    let links = read_links(reader, usn, schema, objects)?;
+    Ok(links.rows)
+}
+
+/// What stands behind the version.
+pub fn read_contents(reader: &mut Reader<'_>, alloc: Global) -> Result<Contents, WireRefusal>
+    ensures { GivesSeen (λ contents p. contents ≡ store_of p) result reader.new (parts_at reader.old) }
+{
+    let schema = read_schema(reader)?;
+    let usn = reader.read_usn0()?;
+    let vector = reader.read_vector(alloc)?;
+    let purged = read_purged(reader, alloc, &vector)?;
+    let marks = read_marks(reader, alloc)?;
+    let rows = read_rows(reader, alloc, usn, &schema)?;
+    Ok(Contents {
+        schema,
+        usn,
+        rows,
+        vector,
+        purged,
+        marks,
+    })
+}

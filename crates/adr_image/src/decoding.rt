@@ -1,0 +1,90 @@
+//! Images are read.
+
+ghost use Rattle.std.specs.Prelude.{◌≡◌, IfErr, IfOk};
+ghost use Rattle.std.specs.Str.{bytes_eq};
+ghost use Rattle.adr_wire.specs.Reading.{Tells, bytes_at, where_at};
+ghost use Rattle.adr_image.specs.Seen.{Ends, IsRefusedSo, as_decoding};
+ghost use Rattle.adr_image.specs.Stored.{decoded};
+ghost use Rattle.adr_image.specs.Whole.{magic, parts_at, version_at};
+
+use crate::contents::{Contents, read_contents};
+use crate::dormant::Dormant;
+use adr_wire::{DecodeRefusal, Failure, Malformed, Reader, WireRefusal};
+use std::alloc::Global;
+
+/// The bytes with which an image begins.
+pub const MAGIC: [u8; 4] = [65, 68, 73, 77];
+
+/// The version of the images that are read and written.
+pub const VERSION: u16 = 1;
+
+/// The first bytes of an image.
+fn read_magic(reader: &mut Reader<'_>) -> Result<[u8; 4], WireRefusal>
+    ensures { Tells result reader.new (where_at (bytes_eq magic) (bytes_at 4) reader.old) }
+{
+    let place = reader.place();
+    let bytes = reader.take::<4>()?;
+    if bytes != MAGIC {
+        return Err(Failure::Refused(Malformed { place }));
+    }
+    Ok(bytes)
+}
+
+/// The version of an image, behind its first bytes.
+#[tactic(auto, unfolding(crate::specs::Whole::version_at))]
+fn read_version(reader: &mut Reader<'_>) -> Result<u16, WireRefusal>
+    ensures { Tells result reader.new (version_at reader.old) }
+{
+    read_magic(reader)?;
+    let version = reader.read_u16()?;
+    Ok(version)
+}
+
+/// All that stands behind the version of an image, to its end.
+fn read_to_end(reader: &mut Reader<'_>, alloc: Global) -> Result<Contents, WireRefusal>
+    ensures { Ends result (parts_at reader.old) }
+{
+    let contents = read_contents(reader, alloc)?;
+    reader.end()?;
+    Ok(contents)
+}
+
+/// A refusal of bytes of the right version.
+fn malformed(refusal: WireRefusal) -> Failure<DecodeRefusal>
+    ensures { result ≡ as_decoding refusal }
+{
+    match refusal {
+        Failure::Refused(Malformed { place }) => Failure::Refused(DecodeRefusal::Malformed { place }),
+        Failure::NoMemory => Failure::NoMemory,
+    }
+}
+
+/// What an image says.
+fn read_image(alloc: Global, bytes: &[u8]) -> Result<Contents, Failure<DecodeRefusal>>
+    ensures read { IfOk result (λ contents. decoded bytes.now ≡ Ok contents) }
+    ensures refused { IfErr result (IsRefusedSo (decoded bytes.now)) }
+{
+    let mut reader = Reader::new(bytes);
+    let found = match read_version(&mut reader) {
+        Ok(found) => found,
+        Err(refusal) => return Err(malformed(refusal)),
+    };
+    if found != VERSION {
+        return Err(Failure::Refused(DecodeRefusal::WrongVersion { found }));
+    }
+    match read_to_end(&mut reader, alloc) {
+        Ok(contents) => Ok(contents),
+        Err(refusal) => Err(malformed(refusal)),
+    }
+}
+
+/// Reads an image. Where it is refused, `Malformed` names the first byte of the field, list or unit that breaks the form.
+pub fn decode(alloc: Global, bytes: &[u8]) -> Result<Dormant, Failure<DecodeRefusal>>
+    ensures read { IfOk result (λ image. decoded bytes.now ≡ Ok image) }
+    ensures refused { IfErr result (IsRefusedSo (decoded bytes.now)) }
+{
+    match read_image(alloc, bytes) {
+        Ok(contents) => Ok(Dormant::of(contents)),
+        Err(refusal) => Err(refusal),
+    }
+}

@@ -1,0 +1,195 @@
+//! Images are written.
+
+ghost use Rattle.std.specs.Prelude.{◌≡◌, ◌≤◌, ◌<◌, ◌^◌, ◌++◌, [], All, OnOk, IfOk, length, take, drop};
+ghost use Rattle.std.specs.List.{filter_map, flat_map};
+ghost use Rattle.adr_model.specs.Formed.{IsFormedStore};
+ghost use Rattle.adr_model.specs.Live.{born};
+ghost use Rattle.adr_model.specs.Take.{mark_limit};
+ghost use Rattle.adr_wire.specs.Composites.{oid};
+ghost use Rattle.adr_wire.specs.Fields.{u16};
+ghost use Rattle.adr_update.specs.Key.{key_of};
+ghost use Rattle.adr_update.specs.Said.{said_of};
+ghost use Rattle.adr_image.specs.Image as form;
+ghost use Rattle.adr_image.specs.Stored.{IsSpelled, apart, image};
+ghost use Rattle.adr_image.specs.Whole as whole;
+ghost use Rattle.adr_image.specs.Written.{HaveFewRows, IsShortSaid, IsWritable, IsWritten, first_object, held, next_object, own_rows, told};
+
+use crate::contents::Contents;
+use crate::decoding::{MAGIC, VERSION};
+use adr_stamp::{LinkStamp, Oid};
+use adr_state::Kept;
+use adr_update::{Held, Key, NoMemory, Said};
+use adr_wire::Writer;
+use std::alloc::Global;
+use uuid::Uuid;
+
+/// Writes what a row says, behind its local USN.
+pub fn write_told(
+    writer: &mut Writer,
+    key: &Key,
+    stamp: &LinkStamp,
+    said: &Said,
+) -> Result<(), NoMemory>
+    requires { IsShortSaid (said_of said.now) }
+    ensures { OnOk result (writer.new ≡ writer.old ++ told (key_of key.now) stamp.now (said_of said.now)) }
+{
+    match (key, said) {
+        (Key::Row { attr, .. }, Said::Holds(content)) => {
+            writer.write_row_of(*attr, &stamp.stamp, content)
+        }
+        (Key::Link(link), Said::IsPresent(present)) => writer.write_link(&(*link, *stamp, *present)),
+        _ => Ok(()),
+    }
+}
+
+/// Writes a row with its local USN.
+fn write_held(writer: &mut Writer, row: &Held) -> Result<(), NoMemory>
+    requires { IsShortSaid row.now.update.said }
+    ensures { OnOk result (writer.new ≡ writer.old ++ held row.now) }
+{
+    writer.write_usn(&row.local())?;
+    let update = row.update();
+    write_told(writer, &update.key(), &update.stamp(), update.said())
+}
+
+/// Writes rows, one behind the other.
+fn write_each(writer: &mut Writer, rows: &[Held]) -> Result<(), NoMemory>
+    requires { All (λ row. IsShortSaid row.update.said) rows.now }
+    ensures { OnOk result (writer.new ≡ writer.old ++ flat_map held rows.now) }
+{
+    for row in rows {
+        write_held(writer, row)?;
+    }
+    Ok(())
+}
+
+/// Writes an object with its rows.
+fn write_object(writer: &mut Writer, object: &Oid, rows: &[Held]) -> Result<(), NoMemory>
+    requires few { length rows.now < 2 ^ 16 }
+    requires short { All (λ row. IsShortSaid row.update.said) rows.now }
+    ensures { OnOk result (writer.new
+        ≡ writer.old ++ (oid object.now ++ (u16 (length rows.now) ++ flat_map held rows.now))) }
+{
+    writer.write_oid(object)?;
+    writer.write_u16(&(rows.len() as u16))?;
+    write_each(writer, rows)
+}
+
+/// How many rows at the front are the object's.
+fn own_rows(rows: &[Held], object: &Oid) -> usize
+    ensures value { result ≡ own_rows object.now rows.now }
+    ensures within { result ≤ length rows.now }
+{
+    let mut own = 0;
+    for row in rows {
+        if !row.key().is_row_of(object) {
+            return own;
+        }
+        own += 1;
+    }
+    own
+}
+
+/// The object of the first row.
+fn first_object(rows: &[Held]) -> Option<Oid>
+    ensures { result ≡ first_object rows.now }
+{
+    match rows.first()?.key() {
+        Key::Row { object, .. } => Some(object),
+        Key::Link(_) => None,
+    }
+}
+
+/// Writes the object at the front with its rows, and gives the rows behind them.
+fn write_next_object<'a>(
+    writer: &mut Writer,
+    rows: &'a [Held],
+    object: &Oid,
+) -> Result<&'a [Held], NoMemory>
+    requires few { HaveFewRows rows.now }
+    requires short { All (λ row. IsShortSaid row.update.said) rows.now }
+    ensures written { OnOk result (writer.new ≡ writer.old ++ next_object object.now rows.now) }
+    ensures others { IfOk result (λ others. others.now ≡ drop (own_rows object.now rows.now) rows.now) }
+{
+    let own = own_rows(rows, object);
+    write_object(writer, object, &rows[..own])?;
+    Ok(&rows[own..])
+}
+
+/// Writes the objects at the front, one behind the other, and gives the rows behind them.
+fn write_objects<'a>(writer: &mut Writer, rows: &'a [Held]) -> Result<&'a [Held], NoMemory>
+    requires few { HaveFewRows rows.now }
+    requires short { All (λ row. IsShortSaid row.update.said) rows.now }
+    ensures { IfOk result (λ links. IsWritten writer.old writer.new rows.now links.now) }
+{
+    let mut rest = rows;
+    'objects: while let Some(object) = first_object(rest) {
+        rest = write_next_object(writer, rest, &object)?;
+    }
+    Ok(rest)
+}
+
+/// How many objects are born by the rows.
+fn births(rows: &[Held]) -> usize
+    ensures { result ≡ length (filter_map (λ h. born h.update.key) rows.now) }
+{
+    rows.iter().filter_map(|row| row.key().born()).count()
+}
+
+/// Writes all objects, and all links.
+fn write_rows(writer: &mut Writer, rows: &[Held]) -> Result<(), NoMemory>
+    requires { IsWritable rows.now }
+    ensures { OnOk result (writer.new
+        ≡ writer.old ++ (whole.objects (apart rows.now).0 ++ whole.links (apart rows.now).1)) }
+{
+    writer.write_u32(&(births(rows) as u32))?;
+    let links = write_objects(writer, rows)?;
+    writer.write_u32(&(links.len() as u32))?;
+    write_each(writer, links)
+}
+
+/// Writes how far a partner was read.
+pub fn write_kept(writer: &mut Writer, mark: &(Uuid, Kept)) -> Result<(), NoMemory>
+    ensures { OnOk result (writer.new ≡ writer.old ++ form.kept mark.now) }
+{
+    writer.write_id(&mark.0)?;
+    writer.write_id(&mark.1.inv())?;
+    writer.write_mark(&mark.1.mark())
+}
+
+/// Writes marks, one behind the other.
+fn write_each_mark(writer: &mut Writer, marks: &[(Uuid, Kept)]) -> Result<(), NoMemory>
+    ensures { OnOk result (writer.new ≡ writer.old ++ flat_map form.kept marks.now) }
+{
+    for mark in marks {
+        write_kept(writer, mark)?;
+    }
+    Ok(())
+}
+
+/// Writes how far each partner was read.
+fn write_marks(writer: &mut Writer, marks: &[(Uuid, Kept)]) -> Result<(), NoMemory>
+    requires { length marks.now ≤ mark_limit }
+    ensures { OnOk result (writer.new ≡ writer.old ++ whole.marks marks.now) }
+{
+    writer.write_u32(&(marks.len() as u32))?;
+    write_each_mark(writer, marks)
+}
+
+/// Writes a database as an image.
+pub fn encode(alloc: Global, contents: &Contents) -> Result<Vec<u8>, NoMemory>
+    requires formed { IsFormedStore contents.now }
+    requires spelled { IsSpelled contents.now }
+    ensures { IfOk result (λ bytes. bytes.items ≡ image contents.now) }
+{
+    let mut writer = Writer::new(alloc);
+    writer.write_bytes(&MAGIC)?;
+    writer.write_u16(&VERSION)?;
+    writer.write_u32(&contents.schema.number())?;
+    writer.write_usn0(&contents.usn)?;
+    writer.write_vector(&contents.vector)?;
+    writer.write_vector(&contents.purged)?;
+    write_marks(&mut writer, &contents.marks)?;
+    write_rows(&mut writer, &contents.rows)?;
+    Ok(writer.into_bytes())
+}

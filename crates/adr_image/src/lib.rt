@@ -1,0 +1,32 @@
+//! Images: a store as bytes, and back.
+//!
+//! This crate decides how the bytes of an image are read, and which are refused and where, and how a store is written.
+//! Of each store there is one image, and whatever is read is formed. It stands on the fields and composites of `adr_wire`
+//! and on the definitions in `adr_model`. It knows nothing of disks, of journals or of the controllers that own a store.
+#![tactic(auto)]
+
+mod bodies;
+mod changes;
+mod contents;
+mod decoding;
+mod dormant;
+mod encoding;
+mod gathered;
+mod known;
+mod laws;
+mod links;
+mod marks;
+mod objects;
+mod rows;
+
+pub use adr_wire::{DecodeRefusal, Failure, NoMemory};
+pub use bodies::encode_change;
+pub use changes::decode_change;
+pub use contents::Contents;
+pub use decoding::decode;
+pub use dormant::Dormant;
+pub use encoding::encode;
+pub use laws::{
+    bodies_have_one_spelling, changes_have_one_spelling, images_are_as_long_as_counted, images_have_one_spelling,
+    parts_have_one_spelling, worked_images,
+};

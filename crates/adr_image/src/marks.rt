@@ -1,0 +1,82 @@
+//! How far each partner was read.
+
+ghost use Rattle.std.specs.Prelude.{◌≡◌, None};
+ghost use Rattle.adr_stamp.specs.Order.{identifier_order};
+ghost use Rattle.adr_wire.specs.Composites.{mark_at};
+ghost use Rattle.adr_wire.specs.Reading.{GivesAs, Tells, is_above, where_at};
+ghost use Rattle.adr_image.specs.Image.{is_ordered, kept_above, marks_of};
+ghost use Rattle.adr_image.specs.Whole.{marks_at};
+
+use adr_state::{Kept, MARK_LIMIT, Mark};
+use adr_wire::{Failure, Malformed, Reader, WireRefusal};
+use std::alloc::Global;
+use uuid::Uuid;
+
+/// Whether a partner comes behind the last one.
+fn rises(last: Option<Uuid>, partner: Uuid) -> bool
+    ensures { result ≡ is_above identifier_order last partner }
+{
+    match last {
+        None => true,
+        Some(last) => last.cmp(&partner).is_lt(),
+    }
+}
+
+/// A mark whose numbers are in order.
+fn read_ordered_mark(reader: &mut Reader<'_>) -> Result<Mark, WireRefusal>
+    ensures { Tells result reader.new (where_at is_ordered mark_at reader.old) }
+{
+    let place = reader.place();
+    let mark = reader.read_mark()?;
+    if mark.prop > mark.obj || mark.obj > mark.seen {
+        return Err(Failure::Refused(Malformed { place }));
+    }
+    Ok(mark)
+}
+
+/// How far a partner behind the last one was read.
+#[tactic(auto, unfolding(crate::specs::Image::kept_above))]
+pub fn read_kept(reader: &mut Reader<'_>, last: Option<Uuid>) -> Result<(Uuid, Kept), WireRefusal>
+    ensures { Tells result reader.new (kept_above last reader.old) }
+{
+    let place = reader.place();
+    let partner = reader.read_id()?;
+    if !rises(last, partner) {
+        return Err(Failure::Refused(Malformed { place }));
+    }
+    let inv = reader.read_id()?;
+    let mark = read_ordered_mark(reader)?;
+    Ok((partner, Kept::new(inv, mark)))
+}
+
+/// So many partners' marks, rising by partner.
+#[tactic(auto, unfolding(crate::specs::Image::marks_of))]
+fn read_each_mark(
+    reader: &mut Reader<'_>,
+    alloc: Global,
+    count: u32,
+) -> Result<Vec<(Uuid, Kept)>, WireRefusal>
+    ensures { GivesAs (λ marks. marks.items) result reader.new (marks_of count reader.old) }
+{
+    let mut marks = Vec::new(alloc);
+    let mut last = None;
+    for _ in 0..count {
+        let (partner, kept) = read_kept(reader, last)?;
+        last = Some(partner);
+        marks.push((partner, kept))?;
+    }
+    Ok(marks)
+}
+
+/// The marks of an image.
+#[tactic(auto, unfolding(crate::specs::Whole::marks_at))]
+pub fn read_marks(reader: &mut Reader<'_>, alloc: Global) -> Result<Vec<(Uuid, Kept)>, WireRefusal>
+    ensures { GivesAs (λ marks. marks.items) result reader.new (marks_at reader.old) }
+{
+    let place = reader.place();
+    let count = reader.read_u32()?;
+    if count as u64 > MARK_LIMIT {
+        return Err(Failure::Refused(Malformed { place }));
+    }
+    read_each_mark(reader, alloc, count)
+}
