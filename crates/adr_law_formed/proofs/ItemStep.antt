@@ -1,0 +1,137 @@
+-- What holds on the way still holds behind one more item, and so behind all.
+use Rattle.std.proofs.Common.{◌≡◌, ◌⊎◌, inl, inr, ℕ, ◌≤◌, ◌+◌, List, [], ◌∷◌, ◌++◌, Option, None, refl, sym, ap, ◌∙◌, subst, fold, arith, length}
+use Rattle.std.proofs.lemmas.List.{append-nil}
+use Rattle.std.proofs.lemmas.Grind.{fold-append}
+use Rattle.adr_stamp.specs.declared.Unit.{Unit as Named}
+use Rattle.adr_stamp.specs.declared.Unit.TheVariants.{Object, Link}
+use Rattle.adr_schema.specs.Numbered.{numbered}
+use Rattle.adr_vector.specs.Vector.{at}
+use Rattle.adr_event.specs.declared.refusal.TakeRefusal.{TakeRefusal}
+use Rattle.adr_model.specs.Member.{Member, Each}
+use Rattle.adr_model.specs.Update.{Update}
+use Rattle.adr_model.specs.Live.{objects_of}
+use Rattle.adr_model.specs.Store.{Held, State, updates_of}
+use Rattle.adr_model.specs.Change.{Item, Written, held_of, put, rows_after}
+use Rattle.adr_model.specs.Formed.{IsFormed, AreRising, AreAlone, AreFormedRows}
+use Rattle.adr_model.specs.Write.{object_limit, link_limit, links_in}
+use Rattle.adr_model.specs.Take.{Taking, begin, rows_taken, item_refusal, take_item, take_items}
+use Rattle.adr_law_steps.specs.Puts.{under, MayPut, ArePut}
+use Rattle.adr_law_steps.proofs.Putting.{are_put}
+use Rattle.adr_law_steps.proofs.Order.{puts_rise, puts_stay_alone}
+use Rattle.adr_law_steps.proofs.Formed.{objects_stay_formed}
+use Rattle.adr_law_steps.proofs.Links.{links_stay_formed_by_puts}
+use Rattle.adr_law_taking.specs.OnTheWay.{KeepForms}
+use Rattle.adr_law_taking.proofs.ItemStep.{put_of_item, under_usn, goes_on}
+use Rattle.adr_law_formed.specs.Spelled.{IsSpelledItem}
+use Rattle.adr_law_formed.specs.Follow.{MayFollow, AreFew, AreFollowing, AreLocals, behind_write}
+use Rattle.adr_law_formed.specs.Taken.{IsGood}
+use Rattle.adr_law_formed.specs.OnWay.{IsOnWay}
+use Rattle.adr_law_formed.proofs.Said.{neither}
+use Rattle.adr_law_formed.proofs.ItemMay.{item_may}
+use Rattle.adr_law_formed.proofs.Writes.{held_of_both, one_more_follows, one_more_local}
+
+-- rows that are put keep the forms
+pub rows_stay_formed : (schema usn : ℕ) (before after : List Held) (V : List ℕ → ℕ) (unit : Named) (us : List Update) → AreRising before → AreRising after → AreFormedRows (numbered schema) (updates_of before)
+    → MayPut (updates_of before) V unit us → ArePut usn us before after → KeepForms (numbered schema) V (updates_of before) unit us → AreFormedRows (numbered schema) (updates_of after)
+rows_stay_formed schema usn before after V (Object o) us was is formed put are keeps = objects_stay_formed schema usn before after V o keeps.0 us was is formed put are keeps.1
+rows_stay_formed schema usn before after V (Link l) us was is formed put are keeps = links_stay_formed_by_puts schema usn before after V l us formed put are keeps.0 (λ o m. (keeps.1 o m).0)
+
+module _ (s : State) (t : Taking) (way : IsOnWay s t) (i : Item) (refusal : Option TakeRefusal) (place objects links : ℕ) (more_objects : t.objects ≤ objects) (more_links : t.links ≤ links) where
+  -- nothing is written
+  idle : IsOnWay s (goes_on t i [] refusal place objects links)
+  idle = record {
+    rising = way.rising;
+    formed = way.formed;
+    alone = way.alone;
+    locals = λ h m. ((way.locals h m).0, omega (arith, (way.locals h m).1));
+    made = ap (λ ws. rows_after [] (held_of ws) s.store.rows) (append-nil t.writes) ∙ way.made;
+    rises = omega (arith, way.rises);
+    spaced = subst (AreLocals s.store.usn (t.usn + 0)) (sym (append-nil t.writes)) (subst (λ n. AreLocals s.store.usn n t.writes) (omega arith) way.spaced);
+    follow = λ o l. subst (AreFollowing (numbered s.store.schema) s.store.vector s.store.rows) (sym (append-nil t.writes)) (way.follow (omega (arith, o, more_objects)) (omega (arith, l, more_links)));
+  }
+
+  module _ (u : Update) (us : List Update) (good : IsGood s.store.schema s.store.vector t.rows i.unit (u ∷ us))
+      (count_objects : length (objects_of (updates_of (goes_on t i (u ∷ us) refusal place objects links).rows)) ≤ objects) (count_links : links_in (goes_on t i (u ∷ us) refusal place objects links).rows ≤ links) where
+    abbrev after : List Held
+    after = fold put t.rows (under (t.usn + 1) (u ∷ us))
+
+    abbrev behind : Taking
+    behind = goes_on t i (u ∷ us) refusal place objects links
+
+    abbrev write : Written
+    write = record { local = t.usn + 1; item = record { unit = i.unit; rows = u ∷ us } }
+
+    are : ArePut (t.usn + 1) (u ∷ us) t.rows after
+    are = are_put (t.usn + 1) t.rows (at s.store.vector) i.unit (u ∷ us) good.put
+
+    rise : AreRising after
+    rise = puts_rise t.rows (under (t.usn + 1) (u ∷ us)) way.rising
+
+    same : behind.rows ≡ after
+    same = put_of_item t.usn i (u ∷ us) t.rows
+
+    locals : Each (λ h. (1 ≤ h.local) × (h.local ≤ t.usn + 1)) after
+    locals h m = by (are.from h m)
+      where
+        by : Member h (under (t.usn + 1) (u ∷ us)) ⊎ Member h t.rows → (1 ≤ h.local) × (h.local ≤ t.usn + 1)
+        by (inl new) = let e = (under_usn (t.usn + 1) (u ∷ us) h new).1 in (omega (arith, e), omega (arith, e))
+        by (inr old) = let l = way.locals h old in (l.0, omega (arith, l.1))
+
+    follow : objects ≤ object_limit → links ≤ link_limit → AreFollowing (numbered s.store.schema) s.store.vector s.store.rows (t.writes ++ (write ∷ []))
+    follow o l = one_more_follows (numbered s.store.schema) s.store.vector s.store.rows t.writes write (way.follow (omega (arith, o, more_objects)) (omega (arith, l, more_links)))
+        (subst (λ rows. MayFollow (numbered s.store.schema) s.store.vector rows write.item) (sym way.made) good.follows)
+        (subst (λ rows. AreFew (behind_write rows write)) (sym way.made) (omega (arith, o, count_objects), omega (arith, l, count_links)))
+
+    written : IsOnWay s behind
+    written = record {
+      rising = subst AreRising (sym same) rise;
+      formed = subst (λ rows. AreFormedRows (numbered s.store.schema) (updates_of rows)) (sym same)
+          (rows_stay_formed s.store.schema (t.usn + 1) t.rows after (at s.store.vector) i.unit (u ∷ us) way.rising rise way.formed good.put are good.keeps);
+      alone = subst AreAlone (sym same) (puts_stay_alone t.usn (t.usn + 1) t.rows after (at s.store.vector) i.unit (u ∷ us) way.alone (λ h m. (way.locals h m).1) (omega arith) good.put are);
+      locals = subst (Each (λ h. (1 ≤ h.local) × (h.local ≤ t.usn + 1))) (sym same) locals;
+      made = ap (λ hs. fold put s.store.rows hs) (held_of_both t.writes (write ∷ [])) ∙ (fold-append put s.store.rows (held_of t.writes) (held_of (write ∷ [])) ∙ ap (λ rows. fold put rows (held_of (write ∷ []))) way.made);
+      rises = omega (arith, way.rises);
+      spaced = one_more_local s.store.usn t.usn t.writes write way.rises (omega arith) way.spaced;
+      follow = follow;
+    }
+
+  pub step : (us : List Update) → (us ≡ []) ⊎ IsGood s.store.schema s.store.vector t.rows i.unit us
+      → length (objects_of (updates_of (goes_on t i us refusal place objects links).rows)) ≤ objects → links_in (goes_on t i us refusal place objects links).rows ≤ links
+      → IsOnWay s (goes_on t i us refusal place objects links)
+  step [] e objects links = idle
+  step (u ∷ us) (inl e) objects links = absurd (let f : u ∷ us ≡ [] = e in cc)
+  step (u ∷ us) (inr good) objects links = written u us good objects links
+
+module _ (s : State) where
+  abbrev taken : Taking → Item → Taking
+  taken t i = take_item (numbered s.store.schema) s.store.vector t i
+
+  abbrev all : Taking → List Item → Taking
+  all t is = fold (take_item (numbered s.store.schema) s.store.vector) t is
+
+  one_item : (t : Taking) (i : Item) → IsOnWay s t → IsSpelledItem i → item_refusal (numbered s.store.schema) s.store.vector t.rows t.place i ≡ None → IsOnWay s (taken t i)
+  one_item t i way spelled none =
+      step s t way i (taken t i).refusal (taken t i).place (taken t i).objects (taken t i).links (omega arith) (omega arith) (rows_taken s.store.vector t.rows i)
+      (item_may s.store.schema s.store.vector t.rows t.place i way.rising way.formed spelled none) (omega arith) (omega arith)
+
+  all_on_way : (is : List Item) (t : Taking) → (t.refusal ≡ None → IsOnWay s t) → Each IsSpelledItem is → (all t is).refusal ≡ None → IsOnWay s (all t is)
+  all_on_way [] t way spelled none = way none
+  all_on_way (i ∷ is) t way spelled none = all_on_way is (taken t i) next (λ j m. spelled j (inr m)) none
+    where
+      next : (taken t i).refusal ≡ None → IsOnWay s (taken t i)
+      next e = let p = neither t.refusal (item_refusal (numbered s.store.schema) s.store.vector t.rows t.place i) e in one_item t i (way p.0) (spelled i (inl refl)) p.1
+
+  pub items_on_way : (is : List Item) → IsFormed s → Each IsSpelledItem is → (take_items s is).refusal ≡ None → IsOnWay s (take_items s is)
+  items_on_way is formed spelled none = all_on_way is (begin s) (λ e. starts) spelled none
+    where
+      starts : IsOnWay s (begin s)
+      starts = record {
+        rising = formed.store.rising;
+        formed = formed.store.rows;
+        alone = formed.store.alone;
+        locals = formed.store.locals;
+        made = refl;
+        rises = omega arith;
+        spaced = tt;
+        follow = λ o l. tt;
+      }

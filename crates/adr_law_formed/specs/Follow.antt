@@ -1,0 +1,92 @@
+-- Which changes can follow a state: judged write by write, with the vector before the change.
+use Rattle.std.specs.Prelude.{◌≡◌, ◌⊎◌, ◌≤◌, ◌<◌, ℕ, List, [], ◌∷◌, length, true}
+use Rattle.std.specs.Option.{IfSome}
+use Rattle.std.specs.List.Sorted.{IsStrictlySortedBy}
+use Rattle.adr_stamp.specs.Order.{object_order}
+use Rattle.adr_stamp.specs.declared.Oid.{Oid}
+use Rattle.adr_stamp.specs.declared.Unit.{Unit as Named}
+use Rattle.adr_stamp.specs.declared.Unit.TheVariants.{Object, Link}
+use Rattle.adr_schema.specs.declared.content.Content.TheVariants.{Class}
+use Rattle.adr_schema.specs.Table.{Table, has, must_of}
+use Rattle.adr_schema.specs.Numbered.{numbered}
+use Rattle.adr_vector.specs.Vector.{Cursors, IsVector, at}
+use Rattle.adr_model.specs.Member.{Member, Each}
+use Rattle.adr_model.specs.Update.{Update, LinkOf, Holds, ends, class_attr, name_attr}
+use Rattle.adr_model.specs.Live.{objects_of}
+use Rattle.adr_model.specs.Reflects.{Covers, CoversBirth, HoldsObject, IsTombstoned, IsDeathOf, IsDeath}
+use Rattle.adr_model.specs.Store.{Held, Normal, State, updates_of}
+use Rattle.adr_model.specs.Change.{Item, Written, Change, held_of, rows_after, after}
+use Rattle.adr_model.specs.Formed.{HasRow, IsFormed}
+use Rattle.adr_model.specs.LocalLog.{IsOrdered}
+use Rattle.adr_model.specs.Write.{object_limit, link_limit, links_in}
+use Rattle.adr_model.specs.Take.{is_above, is_reserved_row}
+use Rattle.adr_law_steps.specs.Forms.{HasKey}
+use Rattle.adr_law_formed.specs.Spelled.{IsSpelledItem}
+
+-- rows of a new object: its class, its name, and its death or all that it must have
+pub record IsWhole (table : Table) (o : Oid) (us : List Update) : Type 0 where
+  pub class : ℕ
+  pub of_class : HasRow us o class_attr (λ said. said ≡ Holds (Class class))
+  pub of_name : HasKey us o name_attr
+  pub whole : ((d : Update) × Member d us × IsDeathOf o d) ⊎ ((attr : ℕ) → has (must_of table class) attr ≡ true → HasKey us o attr)
+
+-- an object that is written to is dead and only dies, or stands, or is new and comes whole
+abbrev pub IsObjectPlaced : Table → Cursors → List Held → Oid → List Update → Type 0
+IsObjectPlaced table vector rows o us =
+    (IsTombstoned (updates_of rows) o × Each (IsDeathOf o) us)
+    ⊎ (((IsTombstoned (updates_of rows) o → ⊥) × HoldsObject (updates_of rows) o)
+    ⊎ ((HoldsObject (updates_of rows) o → ⊥) × (CoversBirth (at vector) o → ⊥) × IsWhole table o us))
+
+-- an end of a link isn't dead, and is held or wasn't seen
+abbrev pub IsEndPlaced : Cursors → List Held → Oid → Type 0
+IsEndPlaced vector rows o = (IsTombstoned (updates_of rows) o → ⊥) × (HoldsObject (updates_of rows) o ⊎ (CoversBirth (at vector) o → ⊥))
+
+abbrev pub IsPlaced : Table → Cursors → List Held → Named → List Update → Type 0
+IsPlaced table vector rows (Object o) us = IsObjectPlaced table vector rows o us
+IsPlaced table vector rows (Link l) us = Each (IsEndPlaced vector rows) (ends (LinkOf l))
+
+-- one write: it has a row, is of the form of an item, each row is new or greater, a death is beside reserved rows alone, and its unit
+-- may be written
+pub record MayFollow (table : Table) (vector : Cursors) (rows : List Held) (item : Item) : Type 0 where
+  pub some : (u : Update) × Member u item.rows
+  pub form : IsSpelledItem item
+  pub greater : Each (λ u. is_above rows u ≡ true) item.rows
+  pub bare : Each (λ d. IsDeath d → Each (λ u. is_reserved_row u.key ≡ true) item.rows) item.rows
+  pub placed : IsPlaced table vector rows item.unit item.rows
+
+abbrev pub AreFew : List Held → Type 0
+AreFew rows = (length (objects_of (updates_of rows)) ≤ object_limit) × (links_in rows ≤ link_limit)
+
+-- rows after one write
+abbrev pub behind_write : List Held → Written → List Held
+behind_write rows w = rows_after [] (held_of (w ∷ [])) rows
+
+-- each write at its turn, and no table over its limit behind it
+abbrev pub AreFollowing : Table → Cursors → List Held → List Written → Type 0
+AreFollowing table vector rows [] = Unit {0}
+AreFollowing table vector rows (w ∷ ws) = MayFollow table vector rows w.item × AreFew (behind_write rows w) × AreFollowing table vector (behind_write rows w) ws
+
+-- local USNs rise strictly, above one and up to another
+abbrev pub AreLocals : ℕ → ℕ → List Written → Type 0
+AreLocals above last [] = Unit {0}
+AreLocals above last (w ∷ ws) = (above < w.local) × (w.local ≤ last) × AreLocals w.local last ws
+
+-- a removed object is held dead, and its birth and its death are purged (and so covered, since what is purged is at most the vector)
+pub record IsRemovable (rows : List Held) (purged : Cursors) (o : Oid) : Type 0 where
+  pub death : Update
+  pub is_held : Member death (updates_of rows)
+  pub is_death : IsDeathOf o death
+  pub birth_purged : CoversBirth (at purged) o
+  pub death_purged : Covers (at purged) death
+
+pub record CanFollow (s : State) (c : Change) : Type 0 where
+  pub normal : s.mode ≡ Normal
+  pub rises : s.store.usn ≤ c.usn
+  pub locals : AreLocals s.store.usn c.usn c.writes
+  pub mark : IfSome c.mark (λ m. IsOrdered m.1.mark)
+  pub joined : IsVector c.joined
+  pub purged : IsVector c.purged
+  pub writes : AreFollowing (numbered s.store.schema) s.store.vector s.store.rows c.writes
+  pub removed : Each (IsRemovable (rows_after [] (held_of c.writes) s.store.rows) (after s c).store.purged) c.removed
+  pub in_order : IsStrictlySortedBy object_order c.removed
+  pub formed : IsFormed (after s c)

@@ -1,0 +1,146 @@
+-- What can follow, as a test that looks at what a change touches. Its form was tested where it was read.
+use Rattle.std.specs.Prelude.{Option, ℕ, List, [], ◌∷◌, length, Bool, true, false, not, ◌&&◌, ◌||◌, ◌==◌, nat_le, Some, None, is_none, is_some}
+use Rattle.std.specs.List.{list_all}
+use Rattle.std.specs.Option.{option_map_or, IfSome}
+use Rattle.std.specs.Ordering.{is_lt}
+use Rattle.adr_stamp.specs.Order.{object_order}
+use Rattle.adr_stamp.specs.declared.Oid.{Oid}
+use Rattle.adr_stamp.specs.declared.Unit.{Unit as Named}
+use Rattle.adr_stamp.specs.declared.Unit.TheVariants.{Object, Link}
+use Rattle.adr_schema.specs.declared.content.Content.TheVariants.{Class, Name, Dead, Values}
+use Rattle.adr_schema.specs.Table.{Table, class_at, must_of, kind_at, is_forward}
+use Rattle.adr_schema.specs.Numbered.{numbered}
+use Rattle.adr_schema.specs.Names.{name_fault}
+use Rattle.adr_schema.specs.Rules.{row_refusal}
+use Rattle.adr_vector.specs.Vector.{Cursors, IsVector, at, at_most, cursor_limit}
+use Rattle.adr_model.specs.Member.{Member, Each}
+use Rattle.adr_model.specs.Update.{Key, RowOf, LinkOf, Said, Holds, IsPresent, Update, class_attr, name_attr, deleted_attr}
+use Rattle.adr_model.specs.Live.{objects_of}
+use Rattle.adr_model.specs.Visible.{covers_update, covers_birth}
+use Rattle.adr_model.specs.Store.{Held, State, updates_of, row_held, is_row_of, holds_object}
+use Rattle.adr_model.specs.Change.{Item, Written, Change, held_of, rows_after, after}
+use Rattle.adr_model.specs.LocalLog.{IsOrdered}
+use Rattle.adr_model.specs.Serve.{is_quarantined}
+use Rattle.adr_model.specs.Write.{object_limit, link_limit, links_in}
+use Rattle.adr_model.specs.Take.{is_above, is_of_attr, is_reserved_row, has_row, lacks, is_lost_end, Presence, IsDead, IsHeld, IsGone, IsNew, presence_of, is_birth, class_said, mark_limit}
+use Rattle.adr_law_formed.specs.Spelled.{IsSpelledItem}
+use Rattle.adr_law_formed.specs.Follow.{AreLocals, behind_write}
+
+-- what the reading of a record's body gives: local USNs in order, vectors, a mark in order, and items that have a row
+pub record IsSpelledChange (before : ℕ) (c : Change) : Type 0 where
+  pub locals : AreLocals before c.usn c.writes
+  pub mark : IfSome c.mark (λ m. IsOrdered m.1.mark)
+  pub joined : IsVector c.joined
+  pub purged : IsVector c.purged
+  pub items : Each (λ (w : Written). IsSpelledItem w.item × ((u : Update) × Member u w.item.rows)) c.writes
+
+-- ---- one write at its turn
+
+abbrev pub is_bare : List Update → Bool
+is_bare us = not (has_row deleted_attr us) || list_all (λ u. is_reserved_row u.key) us
+
+-- an object that is written to is dead and only dies, or stands, or is new and comes whole
+abbrev pub is_object_placed : Table → List Update → Presence → Bool
+is_object_placed table us IsDead = list_all (λ u. is_of_attr deleted_attr u.key) us
+is_object_placed table us IsHeld = true
+is_object_placed table us IsGone = false
+is_object_placed table us IsNew = not (lacks table us)
+
+abbrev pub is_placed : Table → Cursors → List Held → Named → List Update → Bool
+is_placed table vector rows (Object o) us = is_object_placed table us (presence_of vector rows o)
+is_placed table vector rows (Link l) us = not (is_lost_end vector rows l.from || is_lost_end vector rows l.to)
+
+abbrev pub may_follow : Table → Cursors → List Held → Item → Bool
+may_follow table vector rows item = list_all (is_above rows) item.rows && is_bare item.rows && is_placed table vector rows item.unit item.rows
+
+abbrev pub are_few : List Held → Bool
+are_few rows = nat_le (length (objects_of (updates_of rows))) object_limit && nat_le (links_in rows) link_limit
+
+abbrev pub are_following : Table → Cursors → List Held → List Written → Bool
+are_following table vector rows [] = true
+are_following table vector rows (w ∷ ws) = may_follow table vector rows w.item && are_few (behind_write rows w) && are_following table vector (behind_write rows w) ws
+
+-- ---- removed objects
+
+abbrev pub is_removable : List Held → Cursors → Oid → Bool
+is_removable rows purged o =
+    option_map_or (λ h. covers_birth purged o && covers_update purged h.update) (row_held rows (RowOf o deleted_attr)) false
+
+abbrev pub rise : List Oid → Bool
+rise [] = true
+rise (o ∷ os) = list_all (λ p. is_lt (object_order o p)) os && rise os
+
+-- ---- a touched unit behind the change
+
+abbrev pub says_class : Said → Bool
+says_class said = is_some (class_said said)
+
+abbrev pub says_name : Said → Bool
+says_name (Holds (Name text parent)) = is_none (name_fault text)
+says_name (Holds (Class class)) = false
+says_name (Holds Dead) = false
+says_name (Holds (Values vs)) = false
+says_name (IsPresent b) = false
+
+abbrev pub says_dead : Said → Bool
+says_dead (Holds Dead) = true
+says_dead (Holds (Class class)) = false
+says_dead (Holds (Name text parent)) = false
+says_dead (Holds (Values vs)) = false
+says_dead (IsPresent b) = false
+
+-- a row of a live object of a class
+abbrev pub keeps : Table → ℕ → Update → Bool
+keeps table class u = by u.key u.said
+  where
+    by : Key → Said → Bool
+    by (RowOf p attr) (Holds (Values vs)) = is_none (row_refusal table (Some class) attr vs)
+    by (RowOf p attr) (Holds (Class c)) = attr == class_attr
+    by (RowOf p attr) (Holds (Name text parent)) = attr == name_attr
+    by (RowOf p attr) (Holds Dead) = false
+    by (RowOf p attr) (IsPresent b) = false
+    by (LinkOf l) said = false
+
+-- a row of a dead object
+abbrev pub is_kept_key : Key → Bool
+is_kept_key (RowOf p attr) = nat_le class_attr attr && nat_le attr deleted_attr
+is_kept_key (LinkOf l) = false
+
+-- something holds of all rows of an object
+abbrev pub of_own : List Held → Oid → (Update → Bool) → Bool
+of_own rows o test = list_all (λ (h : Held). not (is_row_of o h.update.key) || test h.update) rows
+
+abbrev pub is_alive_formed : Table → List Held → Oid → Option ℕ → Bool
+is_alive_formed table rows o None = false
+is_alive_formed table rows o (Some c) = is_some (class_at table c) && (of_own rows o (keeps table c) && list_all (λ attr. is_some (row_held rows (RowOf o attr))) (must_of table c))
+
+-- by the class row, the name row and the deleted row
+abbrev pub formed_by : Table → List Held → Oid → Option Held → Option Held → Option Held → Bool
+formed_by table rows o None n d = false
+formed_by table rows o (Some b) None d = false
+formed_by table rows o (Some b) (Some n) None = is_birth o b.update && (says_name n.update.said && is_alive_formed table rows o (class_said b.update.said))
+formed_by table rows o (Some b) (Some n) (Some d) = is_birth o b.update && (says_class b.update.said && (says_name n.update.said && (says_dead d.update.said && of_own rows o (λ u. is_kept_key u.key))))
+
+abbrev pub is_object_formed : Table → List Held → Oid → Bool
+is_object_formed table rows o = formed_by table rows o (row_held rows (RowOf o class_attr)) (row_held rows (RowOf o name_attr)) (row_held rows (RowOf o deleted_attr))
+
+abbrev pub is_touched_formed : Table → List Held → Named → Bool
+is_touched_formed table rows (Object o) = not (holds_object rows o) || is_object_formed table rows o
+is_touched_formed table rows (Link l) = is_none (row_held rows (LinkOf l)) || is_forward (kind_at table l.attr)
+
+-- ---- the whole
+
+abbrev pub can_follow : State → Change → Bool
+can_follow s c =
+    let table = numbered s.store.schema in
+    let d = after s c in
+    not (is_quarantined s.mode)
+    && nat_le s.store.usn c.usn
+    && are_following table s.store.vector s.store.rows c.writes
+    && list_all (is_removable (rows_after [] (held_of c.writes) s.store.rows) d.store.purged) c.removed
+    && rise c.removed
+    && nat_le (at c.joined s.inv) c.usn
+    && at_most c.purged d.store.vector
+    && nat_le (length d.store.vector) cursor_limit
+    && nat_le (length d.store.marks) mark_limit
+    && list_all (λ (w : Written). is_touched_formed table d.store.rows w.item.unit) c.writes
