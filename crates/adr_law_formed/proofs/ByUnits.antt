@@ -1,16 +1,17 @@
 -- Where the forms after a change are asked of what it touches alone, they hold of all.
-use Rattle.std.proofs.Common.{◌≡◌, ◌⊎◌, inl, inr, ⊎_elim, ℕ, ◌≤◌, List, [], ◌∷◌, true, refl, sym, ap, ◌∙◌, subst, map, arith}
+use Rattle.std.proofs.Common.{◌≡◌, ◌⊎◌, inl, inr, ⊎_elim, ℕ, ◌≤◌, List, [], ◌∷◌, true, IsSome, refl, sym, ap, ◌∙◌, subst, map, arith}
 use Rattle.adr_stamp.specs.declared.Oid.{Oid}
 use Rattle.adr_stamp.specs.declared.LinkKey.{LinkKey}
 use Rattle.adr_stamp.specs.declared.Unit.TheVariants.{Object, Link}
 use Rattle.adr_schema.specs.Numbered.{numbered}
-use Rattle.adr_schema.specs.Table.{Table, kind_at, is_forward}
+use Rattle.adr_schema.specs.Table.{Table, class_at, kind_at, is_forward}
+use Rattle.adr_schema.specs.declared.content.Content.TheVariants.{Class}
 use Rattle.adr_vector.specs.Vector.{IsVector, at, joined}
 use Rattle.adr_vector.proofs.Cursors.{IsRising, FromOne}
 use Rattle.adr_vector.proofs.Comparing.{everywhere_from_at_most, at_most_from_everywhere}
 use Rattle.adr_vector.proofs.Joining.{at-joined, raised_here, rising-raised, from_one-raised, rising-joined, from_one-joined}
 use Rattle.adr_model.specs.Member.{Member, Each}
-use Rattle.adr_model.specs.Update.{Update, LinkOf, RowOf, unit_of, class_attr}
+use Rattle.adr_model.specs.Update.{Key, Update, LinkOf, RowOf, Holds, unit_of, class_attr}
 use Rattle.adr_model.specs.Reflects.{AtMost, HoldsObject}
 use Rattle.adr_model.specs.Store.{Held, Kept, State, updates_of}
 use Rattle.adr_model.specs.Change.{Change, Written, held_of, rows_after, after}
@@ -28,7 +29,8 @@ use Rattle.adr_law_steps.proofs.FormedSame.{named_same, object_same}
 use Rattle.adr_law_steps.proofs.Rising.{removals_rise}
 use Rattle.adr_law_collecting.proofs.Removing.{stood_before, update_stood, update_stands, removed_is_absent, row_of_tells, stay_alone}
 use Rattle.adr_law_collecting.proofs.Sizes.{objects_fewer, links_fewer}
-use Rattle.adr_law_formed.specs.Follow.{AreFew, CanFollow}
+use Rattle.adr_law_formed.specs.Spelled.{SaysOf}
+use Rattle.adr_law_formed.specs.Follow.{AreFew, HasKnownClasses, CanFollow}
 use Rattle.adr_law_formed.specs.Touched.{IsUnitFormed, CanFollowByUnits}
 use Rattle.adr_law_formed.proofs.Passing.{IsUntouched, IsInOrder, ArePassed, all_pass}
 
@@ -43,7 +45,7 @@ touched_or_not (w ∷ ws) q = by (unit_or_not w.item.unit (Object q)) (touched_o
     by (inr other) (inl (v, m, e)) = inl (v, inr m, e)
     by (inr other) (inr none) = inr (λ v m e. ⊎_elim (λ is. other (ap (λ (z : Written). z.item.unit) (sym is) ∙ e)) (λ n. none v n e) m)
 
-module _ (s : State) (c : Change) (formed : IsFormed s) (f : CanFollowByUnits s c) where
+module _ (s : State) (c : Change) (formed : IsFormed s) (known : HasKnownClasses s) (f : CanFollowByUnits s c) where
   abbrev table : Table
   table = numbered s.store.schema
 
@@ -90,6 +92,7 @@ module _ (s : State) (c : Change) (formed : IsFormed s) (f : CanFollowByUnits s 
     untouched_formed = record {
       none = λ r m is. formed.store.rows.none q r (back r 0 is m) is;
       births = λ r m is. formed.store.rows.births q r (back r class_attr is m) is;
+      classes = λ r m is class says. known r (back r class_attr is m) class says;
       named = λ h. named_same (updates_of before) (updates_of now) q (to h) (formed.store.rows.named q (held_before h));
       formed = λ h. object_same (updates_of before) (updates_of now) q (to h) back table (formed.store.rows.objects q (held_before h));
     }
@@ -120,6 +123,29 @@ module _ (s : State) (c : Change) (formed : IsFormed s) (f : CanFollowByUnits s 
   links l r m is =
       let live = passed.order.live r (stood r m) l is in
       record { forward = forward r l m is; from = λ t. live.0 (t.0, stood t.0 t.1, t.2); to = λ t. live.1 (t.0, stood t.0 t.1, t.2) }
+
+  -- ---- classes
+
+  -- a row that says a class stood before, or was written and is the class row of its object
+  classes : HasKnownClasses d
+  classes r m class says = let h = held_as now r m in by h (change_from c.removed (held_of c.writes) before h.0 h.1)
+    where
+      of_key : (w : Written) → Member w c.writes → unit_of r.key ≡ w.item.unit → (k : Key) → r.key ≡ k → SaysOf k (Holds (Class class)) → IsSome (class_at table class)
+      of_key w n unit (RowOf o attr) is of = (f.touched.objects w n o (sym unit ∙ ap unit_of is)).classes r m (is ∙ ap (λ a. RowOf o a) of) class says
+      of_key w n unit (LinkOf l) is of = absurd of
+
+      written_so : (x : Held) → r ≡ x.update → Member x (held_of c.writes) → IsSome (class_at table class)
+      written_so x same new =
+          let t = flat_member (λ (w : Written). map (held_at w.local) w.item.rows) c.writes x new in
+          let u = mapped_member (held_at t.0.local) t.0.item.rows x t.2 in
+          let e : r ≡ u.0 = same ∙ ap (λ (h : Held). h.update) u.2 in
+          let form = passed.spelled t.0 t.1 in
+          of_key t.0 t.1 (ap (λ (v : Update). unit_of v.key) e ∙ form.of_unit u.0 u.1) r.key refl
+          (subst (SaysOf r.key) says (subst (λ (v : Update). SaysOf v.key v.said) (sym e) (form.says u.0 u.1)))
+
+      by : (h : (h : Held) × Member h now × (r ≡ h.update)) → Member h.0 (held_of c.writes) ⊎ Member h.0 before → IsSome (class_at table class)
+      by h (inl new) = written_so h.0 h.2 new
+      by h (inr old) = known r (subst (λ u. Member u (updates_of before)) (sym h.2) (updated before h.0 old)) class says
 
   rows : AreFormedRows table (updates_of now)
   rows = record {
@@ -194,12 +220,12 @@ module _ (s : State) (c : Change) (formed : IsFormed s) (f : CanFollowByUnits s 
     purged = f.purged;
     writes = f.writes;
     removed = f.removed;
-    in_order = f.in_order;
-    formed = record { store = store; own = own };
+      formed = record { store = store; own = own };
+    classes = classes;
   }
 
-pub units_are_enough : (s : State) (c : Change) → IsFormed s → CanFollowByUnits s c → CanFollow s c
-units_are_enough s c formed f = follows s c formed f
+pub units_are_enough : (s : State) (c : Change) → IsFormed s → HasKnownClasses s → CanFollowByUnits s c → CanFollow s c
+units_are_enough s c formed known f = follows s c formed known f
 
 pub units_are_asked : (s : State) (c : Change) → IsFormed s → CanFollow s c → CanFollowByUnits s c
 units_are_asked s c formed f = record {
@@ -211,9 +237,8 @@ units_are_asked s c formed f = record {
   purged = f.purged;
   writes = f.writes;
   removed = f.removed;
-  in_order = f.in_order;
   touched = record {
-    objects = λ w m o e. record { none = f.formed.store.rows.none o; births = f.formed.store.rows.births o; named = f.formed.store.rows.named o; formed = f.formed.store.rows.objects o };
+    objects = λ w m o e. record { none = f.formed.store.rows.none o; births = f.formed.store.rows.births o; classes = λ r n is. f.classes r n; named = f.formed.store.rows.named o; formed = f.formed.store.rows.objects o };
     links = λ w m l e r n is. (f.formed.store.rows.links l r n is).forward;
   };
   own = own;

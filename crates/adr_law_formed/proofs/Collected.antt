@@ -23,7 +23,7 @@ use Rattle.adr_model.specs.Visible.{covers_update, covers_birth}
 use Rattle.adr_model.specs.Store.{Held, State, updates_of}
 use Rattle.adr_model.specs.Serve.{is_quarantined}
 use Rattle.adr_model.specs.Change.{Change, after, killed_by}
-use Rattle.adr_model.specs.Formed.{IsFormedStore, IsFormed}
+use Rattle.adr_model.specs.Formed.{AreRising, IsFormedStore, IsFormed}
 use Rattle.adr_model.specs.Write.{usn_limit}
 use Rattle.adr_model.specs.Collect.{collected_by, deaths_to_collect, covering, collection, collect_refusal, collect}
 use Rattle.adr_model.proofs.Members.{mapped_member}
@@ -36,11 +36,11 @@ use Rattle.adr_law_knowledge.proofs.Fewer.{no_more_cursors}
 use Rattle.adr_law_collecting.proofs.Covering.{covering_within, covering_rises}
 use Rattle.adr_law_collecting.proofs.Deaths.{all_collectable}
 use Rattle.adr_law_collecting.proofs.Vectors.{purged_within, purged_covers, purged_is_vector}
-use Rattle.adr_law_collecting.proofs.Removing.{stood_before, stay_alone}
+use Rattle.adr_law_collecting.proofs.Removing.{stood_before, update_stood, stay_alone}
 use Rattle.adr_law_collecting.proofs.Forms.{stay_formed}
 use Rattle.adr_law_collecting.proofs.Sizes.{objects_fewer, links_fewer}
-use Rattle.adr_law_collecting.proofs.Taken.{usn_of_collection}
-use Rattle.adr_law_formed.specs.Follow.{IsRemovable, CanFollow}
+use Rattle.adr_law_collecting.proofs.Taken.{collect_is_collection, usn_of_collection}
+use Rattle.adr_law_formed.specs.Follow.{IsRemovable, HasKnownClasses, CanFollow}
 use Rattle.adr_law_formed.proofs.Said.{neither}
 use Rattle.adr_law_formed.proofs.TakenFollow.{nothing_is_vector, normal_where_not_quarantined}
 
@@ -116,7 +116,7 @@ module _ (s : State) (now lifetime : ℕ) where
       by None is e = absurd (cc)
       by (Some o) is e = collected_dies h.update d.0 (is ∙ ap Some (let f : (o, h.update) ≡ d = cc in ap (λ (t : Oid × Update). t.0) f))
 
-module _ (s : State) (now lifetime : ℕ) (is : IsFormed s) where
+module _ (s : State) (now lifetime : ℕ) (is : IsFormed s) (classes : HasKnownClasses s) where
   abbrev dead : List (Oid × Update)
   dead = deaths_to_collect s now lifetime
 
@@ -217,13 +217,18 @@ module _ (s : State) (now lifetime : ℕ) (is : IsFormed s) where
     purged = covers;
     writes = tt;
     removed = removable;
-    in_order = gone_rise (λ (h : Held). with_death s now lifetime h.update (collected_by s.store.vector now lifetime h.update)) (dies s now lifetime) rows is.store.rising;
     formed = record { store = formed; own = (let here = raised_here s.store.vector s.inv c.usn in omega (arith, here, is.own, usn_rises)) };
+    classes = λ u m. classes u (update_stood os rows u m);
   }
 
-pub collected_follows : (s : State) (now lifetime : ℕ) (c : Change) → IsFormed s → collect s now lifetime ≡ Ok c → CanFollow s c
-collected_follows s now lifetime c is e =
+pub collected_follows : (s : State) (now lifetime : ℕ) (c : Change) → IsFormed s → HasKnownClasses s → collect s now lifetime ≡ Ok c → CanFollow s c
+collected_follows s now lifetime c is classes e =
     let change = collection s (deaths_to_collect s now lifetime) in
     let g = answered (collect_refusal s change) change c e in
     let n = neither (then_some (is_quarantined s.mode) IsQuarantined) (then_some (nat_lt usn_limit change.usn) UsnLimit) g.0 in
-    subst (CanFollow s) g.1 (follows s now lifetime is (not_then (is_quarantined s.mode) IsQuarantined n.0))
+    subst (CanFollow s) g.1 (follows s now lifetime is classes (not_then (is_quarantined s.mode) IsQuarantined n.0))
+
+-- what is removed rises by the objects' names
+pub collected_rise : (s : State) (now lifetime : ℕ) (c : Change) → AreRising s.store.rows → collect s now lifetime ≡ Ok c → IsStrictlySortedBy object_order c.removed
+collected_rise s now lifetime c rising e = subst (λ (x : Change). IsStrictlySortedBy object_order x.removed) (collect_is_collection s now lifetime c e)
+    (gone_rise (λ (h : Held). with_death s now lifetime h.update (collected_by s.store.vector now lifetime h.update)) (dies s now lifetime) s.store.rows rising)

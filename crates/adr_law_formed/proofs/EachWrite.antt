@@ -30,7 +30,7 @@ use Rattle.adr_failure.specs.First.{first_of}
 use Rattle.adr_model.specs.Update.{Identifier, Key, RowOf, LinkOf, Said, Holds, IsPresent, Update, key_order, is_older, class_attr, name_attr, deleted_attr}
 use Rattle.adr_model.specs.Reflects.{HoldsObject}
 use Rattle.adr_model.specs.Store.{Held, Normal, State, updates_of, row_held}
-use Rattle.adr_model.specs.Change.{Change}
+use Rattle.adr_model.specs.Change.{Written, Change}
 use Rattle.adr_model.specs.Serve.{is_quarantined}
 use Rattle.adr_model.specs.Formed.{IsFormed}
 use Rattle.adr_model.specs.Take.{is_above}
@@ -50,7 +50,8 @@ use Rattle.adr_law_writing.proofs.Nodes.{object_is_live}
 use Rattle.adr_law_writing.proofs.Saids.{live_is_held}
 use Rattle.adr_law_writing.proofs.Refusals.{not_so}
 use Rattle.adr_law_writing.proofs.Sound.{may_write}
-use Rattle.adr_law_formed.specs.Follow.{CanFollow}
+use Rattle.adr_law_formed.specs.Bare.{AreBare}
+use Rattle.adr_law_formed.specs.Follow.{HasKnownClasses, CanFollow}
 use Rattle.adr_law_formed.proofs.Sorted.{keys}
 use Rattle.adr_law_formed.proofs.ItemMay.{new_is_above}
 use Rattle.adr_law_formed.proofs.TakenFollow.{normal_where_not_quarantined}
@@ -115,7 +116,7 @@ some_or_none : {A : Type 0} (xs : List A) → (xs ≡ []) ⊎ ((x : A) × Member
 some_or_none [] = inl refl
 some_or_none (x ∷ xs) = inr (x, inl refl)
 
-module _ (s : State) (formed : IsFormed s) where
+module _ (s : State) (formed : IsFormed s) (known : HasKnownClasses s) where
   abbrev rows : List Update
   rows = updates_of s.store.rows
 
@@ -128,7 +129,7 @@ module _ (s : State) (formed : IsFormed s) where
   -- a row written next of a live object
   one_row : (now attr : ℕ) (content : Content) (o : Oid) → MayWrite s (Object o) (next_row s now o attr content ∷ []) → IsHeldAlive rows o → s.mode ≡ Normal
       → CanFollow s (change_of s (record { unit = Object o; rows = next_row s now o attr content ∷ [] }))
-  one_row now attr content o may alive is_normal = written_follows s (record { unit = Object o; rows = next_row s now o attr content ∷ [] }) formed may is_normal
+  one_row now attr content o may alive is_normal = written_follows s (record { unit = Object o; rows = next_row s now o attr content ∷ [] }) formed known may is_normal
       (next_row s now o attr content, inl refl) (one_rises (RowOf o attr)) above (live_placed s o (next_row s now o attr content ∷ []) alive)
     where
       above : Each (λ u. is_above s.store.rows u ≡ true) (next_row s now o attr content ∷ [])
@@ -138,7 +139,7 @@ module _ (s : State) (formed : IsFormed s) where
   -- a link row written next
   one_link : (now : ℕ) (l : LinkKey) (present : Bool) → MayWrite s (Link l) (written s now (LinkOf l) (IsPresent present) ∷ []) → s.mode ≡ Normal
       → CanFollow s (change_of s (record { unit = Link l; rows = written s now (LinkOf l) (IsPresent present) ∷ [] }))
-  one_link now l present may is_normal = written_follows s (record { unit = Link l; rows = written s now (LinkOf l) (IsPresent present) ∷ [] }) formed may is_normal
+  one_link now l present may is_normal = written_follows s (record { unit = Link l; rows = written s now (LinkOf l) (IsPresent present) ∷ [] }) formed known may is_normal
       (written s now (LinkOf l) (IsPresent present), inl refl) (one_rises (LinkOf l)) above (link_placed s l (written s now (LinkOf l) (IsPresent present) ∷ []) may)
     where
       above : Each (λ u. is_above s.store.rows u ≡ true) (written s now (LinkOf l) (IsPresent present) ∷ [])
@@ -148,7 +149,7 @@ module _ (s : State) (formed : IsFormed s) where
   -- values of a live object
   some_values : (now : ℕ) (o : Oid) (values : List Given) → MayWrite s (Object o) (map (λ (g : Given). next_row s now o g.0 (Values g.1)) values) → IsHeldAlive rows o → s.mode ≡ Normal
       → AreInOrder values → (g : Given) × Member g values → CanFollow s (change_of s (record { unit = Object o; rows = map (λ (g : Given). next_row s now o g.0 (Values g.1)) values }))
-  some_values now o values may alive is_normal order some = written_follows s (record { unit = Object o; rows = us }) formed may is_normal
+  some_values now o values may alive is_normal order some = written_follows s (record { unit = Object o; rows = us }) formed known may is_normal
       (made some.0, member_mapped made values some.0 some.1) (given_rise o made (λ g. refl) values order) above (live_placed s o us alive)
     where
       made : Given → Update
@@ -205,7 +206,7 @@ module _ (s : State) (formed : IsFormed s) where
       above u m = let k = row_of_unit u.key o (may.put.of_unit u m) in new_is_above s.store.rows u (λ h n e. absent (h.update, k.0, updated s.store.rows h n, e ∙ k.1))
 
       new_follows : s.mode ≡ Normal → AreInOrder values → CanFollow s (change_of s (record { unit = Object o; rows = us }))
-      new_follows is_normal order = written_follows s (record { unit = Object o; rows = us }) formed may is_normal (row o stamp class_attr (Class class), inl refl) (rise order) above
+      new_follows is_normal order = written_follows s (record { unit = Object o; rows = us }) formed known may is_normal (row o stamp class_attr (Class class), inl refl) (rise order) above
           (new_placed s o comes.0 us (may.put.place o refl) comes.1)
 
   -- ---- the refusals, call by call
@@ -290,7 +291,16 @@ module _ (s : State) (formed : IsFormed s) where
   each_write (RemoveLink from attr to) now given none = one_link now (link_of (nodes_held rows) from attr to) false (may_write s (RemoveLink from attr to) now formed given none)
       (normal_link from attr to (λ linked. where_true (not linked) LinkNotThere) none)
 
-pub write_follows : (s : State) (w : Write) (now : ℕ) (c : Change) → IsFormed s → IsWellGiven w → write s w now ≡ Ok c → CanFollow s c
-write_follows s w now c formed given e =
+pub write_follows : (s : State) (w : Write) (now : ℕ) (c : Change) → IsFormed s → HasKnownClasses s → IsWellGiven w → write s w now ≡ Ok c → CanFollow s c
+write_follows s w now c formed known given e =
     let t = answered (write_refusal s w) (own_change s (items_written s w now)) c e in
-    subst (CanFollow s) t.1 (each_write s formed w now given t.0)
+    subst (CanFollow s) t.1 (each_write s formed known w now given t.0)
+
+pub write_is_bare : (s : State) (w : Write) (now : ℕ) (c : Change) → IsFormed s → IsWellGiven w → write s w now ≡ Ok c → Each (λ w. AreBare w.item.rows) c.writes
+write_is_bare s w now c formed given e =
+    let t = answered (write_refusal s w) (own_change s (items_written s w now)) c e in
+    subst (λ (x : Change). Each (λ (v : Written). AreBare v.item.rows) x.writes) t.1 (alone t.0)
+  where
+    alone : write_refusal s w ≡ None → Each (λ (v : Written). AreBare v.item.rows) (items_written s w now)
+    alone none v (inl is) = subst (λ (z : Written). AreBare z.item.rows) (sym is) (may_write s w now formed given none).put.bare
+    alone none v (inr m) = absurd m

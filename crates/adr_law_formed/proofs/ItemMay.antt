@@ -78,12 +78,11 @@ module _ (schema : ℕ) (vector : Cursors) (rows : List Held) (rising : AreRisin
     }
 
     part_follows : (us : List Update) → (u : Update) × Member u us → Each (λ u. Member u xs) us → IsStrictlySortedBy key_order (keys us) → Each (λ u. is_above rows u ≡ true) us
-        → Each (λ d. IsDeath d → Each (λ u. is_reserved_row u.key ≡ true) us) us → IsPlaced table vector rows unit us → MayFollow table vector rows (record { unit = unit; rows = us })
-    part_follows us some among rise above bare placed = record {
+        → IsPlaced table vector rows unit us → MayFollow table vector rows (record { unit = unit; rows = us })
+    part_follows us some among rise above placed = record {
       some = some;
       form = record { of_unit = λ u m. spelled.of_unit u (among u m); rising = rise; says = λ u m. spelled.says u (among u m) };
       greater = above;
-      bare = bare;
       placed = placed;
     }
 
@@ -132,7 +131,7 @@ module _ (schema : ℕ) (vector : Cursors) (rows : List Held) (rising : AreRisin
           dead = λ t u n. reserved u n;
         }),
       );
-      follows = part_follows (Object o) xs spelled (object_rows_taken rows xs IsDead) some (λ u n. (from_dead u n).0) (filtered_rise (λ (v : Update). is_of_attr deleted_attr v.key && is_above rows v) xs spelled.rising) (λ u n. (from_dead u n).2) (λ e n death u k. reserved u k)
+      follows = part_follows (Object o) xs spelled (object_rows_taken rows xs IsDead) some (λ u n. (from_dead u n).0) (filtered_rise (λ (v : Update). is_of_attr deleted_attr v.key && is_above rows v) xs spelled.rising) (λ u n. (from_dead u n).2)
           (inl ((d, m, is), λ u n. (from_dead u n).1));
     }
       where
@@ -189,7 +188,7 @@ module _ (schema : ℕ) (vector : Cursors) (rows : List Held) (rising : AreRisin
           put = part_put (Object o) xs spelled (object_rows_taken rows xs IsHeld) (λ u n. (from_held u n).0) (λ u n. (from_held u n).2) (bare_beside_death (above_of_held rows xs)) (held_place holds);
           keeps = (here.class, inl (record { of_class = here.of_class; said = said_of_held; dead = λ t. absurd (alive t) }));
           follows = part_follows (Object o) xs spelled (object_rows_taken rows xs IsHeld) some (λ u n. (from_held u n).0)
-              (left_rise (above_of_held rows xs) (filtered_rise (λ (v : Update). not (is_of_attr class_attr v.key) && is_above rows v) xs spelled.rising)) (λ u n. (from_held u n).2) (bare_beside_death (above_of_held rows xs))
+              (left_rise (above_of_held rows xs) (filtered_rise (λ (v : Update). not (is_of_attr class_attr v.key) && is_above rows v) xs spelled.rising)) (λ u n. (from_held u n).2)
               (inr (inl (alive, holds)));
         }
 
@@ -292,7 +291,7 @@ module _ (schema : ℕ) (vector : Cursors) (rows : List Held) (rising : AreRisin
         new_is_good some = record {
           put = part_put (Object o) xs spelled (left_by_death xs) (left_from xs) new_above (bare_beside_death xs) new_place;
           keeps = (class, inr (record { absent = absent; known = known; said = said_of_new; of_class = reserved class_attr refl birth; of_name = reserved name_attr refl (key_of name_attr parts.1); whole = all }));
-          follows = part_follows (Object o) xs spelled (left_by_death xs) some (left_from xs) (left_rise xs spelled.rising) new_above (bare_beside_death xs)
+          follows = part_follows (Object o) xs spelled (left_by_death xs) some (left_from xs) (left_rise xs spelled.rising) new_above
               (inr (inr (
                 absent,
                 missed,
@@ -332,7 +331,7 @@ module _ (schema : ℕ) (vector : Cursors) (rows : List Held) (rising : AreRisin
     there_is_good from to none some = record {
       put = part_put (Link l) xs spelled (filter (is_above rows) xs) (λ v n. (kept v n).0) (λ v n. (kept v n).1) (λ d n death. absurd (no_death d (kept d n).0 death)) (λ o e. absurd (cc));
       keeps = (is_forward_link some.0 (kept some.0 some.1).0 (none some.0 (kept some.0 some.1).0), each_end);
-      follows = part_follows (Link l) xs spelled (filter (is_above rows) xs) some (λ v n. (kept v n).0) (filtered_rise (is_above rows) xs spelled.rising) (λ v n. (kept v n).1) (λ d n death. absurd (no_death d (kept d n).0 death)) each_end;
+      follows = part_follows (Link l) xs spelled (filter (is_above rows) xs) some (λ v n. (kept v n).0) (filtered_rise (is_above rows) xs spelled.rising) (λ v n. (kept v n).1) each_end;
     }
       where
         each_end : Each (λ o. IsThere vector rows o) (ends (LinkOf l))

@@ -26,10 +26,10 @@ use Rattle.adr_law_writing.specs.MayWrites.{MayWrite, Changes, Comes, IsHeldAliv
 use Rattle.adr_law_knowledge.proofs.Raised.{raised_is_vector, raised_up}
 use Rattle.adr_law_writing.proofs.Rooms.{cursors_within, objects_within_limit, links_within_limit}
 use Rattle.adr_law_writing.proofs.Issues.{change_of}
-use Rattle.adr_law_writing.proofs.Forms.{rows_stay_formed}
+use Rattle.adr_law_writing.proofs.Forms.{rows_stay_formed, classes_stay}
 use Rattle.adr_law_formed.specs.Spelled.{SaysOf}
-use Rattle.adr_law_formed.specs.Follow.{IsPlaced, CanFollow}
-use Rattle.adr_law_formed.proofs.TakenFollow.{nothing_is_vector, nothing_in_order}
+use Rattle.adr_law_formed.specs.Follow.{IsPlaced, HasKnownClasses, CanFollow}
+use Rattle.adr_law_formed.proofs.TakenFollow.{nothing_is_vector}
 
 -- ---- what rows say
 
@@ -77,7 +77,7 @@ module _ (s : State) where
 
   -- ---- the whole
 
-  module _ (item : Item) (formed : IsFormed s) (may : MayWrite s item.unit item.rows) where
+  module _ (item : Item) (formed : IsFormed s) (known : HasKnownClasses s) (may : MayWrite s item.unit item.rows) where
     abbrev d : State
     d = after s (change_of s item)
 
@@ -127,11 +127,11 @@ module _ (s : State) where
       joined = nothing_is_vector;
       purged = nothing_is_vector;
       writes = (
-        record { some = some; form = record { of_unit = may.put.of_unit; rising = rise; says = says_of_written item.unit item.rows may }; greater = above; bare = may.put.bare; placed = placed },
+        record { some = some; form = record { of_unit = may.put.of_unit; rising = rise; says = says_of_written item.unit item.rows may }; greater = above; placed = placed },
         (objects_within_limit s item.rows stands are item.unit may formed.store.limits.objects, links_within_limit s item.rows stands are item.unit may rising formed.store.limits.links),
         tt,
       );
       removed = λ o m. absurd m;
-      in_order = nothing_in_order;
       formed = record { store = store; own = (let here = raised_here s.store.vector s.inv (s.store.usn + 1) in omega (arith, here, formed.own)) };
+      classes = classes_stay s item.rows stands are item.unit may known;
     }

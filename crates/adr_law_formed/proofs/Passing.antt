@@ -15,15 +15,12 @@ use Rattle.adr_model.specs.Formed.{AreRising, AreAlone}
 use Rattle.adr_model.proofs.Members.{mapped_member}
 use Rattle.adr_law_steps.specs.Puts.{held_at, under, MayPut, ArePut}
 use Rattle.adr_law_steps.proofs.Rows.{no_link_row, same_link}
-use Rattle.adr_law_steps.proofs.Rising.{one_of_key as one_held_of_key}
-use Rattle.adr_law_steps.proofs.Putting.{are_put}
-use Rattle.adr_law_steps.proofs.Order.{puts_rise, puts_stay_alone}
+use Rattle.adr_law_steps.proofs.Putting.{rising_are_put}
+use Rattle.adr_law_steps.proofs.Order.{puts_rise, stay_alone}
 use Rattle.adr_law_steps.proofs.FormedRows.{stood, link_goes_from, link_goes_to}
 use Rattle.adr_law_steps.proofs.FormedOther.{other_back, other_to, end_lives}
-use Rattle.adr_law_taking.proofs.Tests.{above_supersedes}
 use Rattle.adr_law_formed.specs.Spelled.{IsSpelledItem}
 use Rattle.adr_law_formed.specs.Follow.{IsPlaced, MayFollow, AreFew, AreFollowing, AreLocals, behind_write}
-use Rattle.adr_law_formed.proofs.Sorted.{one_of_key}
 use Rattle.adr_law_formed.proofs.Writes.{in_turn}
 
 -- no link has a dead end
@@ -51,24 +48,6 @@ pub record ArePassed (before after : List Held) (ws : List Written) (usn : ℕ) 
   pub spelled : Each (λ (w : Written). IsSpelledItem w.item) ws
 
 module _ (table : Table) (vector : Cursors) where
-  -- a write that follows may be put
-  placed_place : (rows : List Held) (unit : Named) (us : List Update) → IsPlaced table vector rows unit us → (o : Oid) → unit ≡ Object o → HoldsObject (updates_of rows) o ⊎ (CoversBirth (at vector) o → ⊥)
-  placed_place rows unit us placed o e = by (subst (λ n. IsPlaced table vector rows n us) e placed)
-    where
-      by : IsPlaced table vector rows (Object o) us → HoldsObject (updates_of rows) o ⊎ (CoversBirth (at vector) o → ⊥)
-      by (inl (t, only)) = inl (t.0, deleted_attr, t.1, t.2)
-      by (inr (inl (alive, holds))) = inl holds
-      by (inr (inr (absent, missed, whole))) = inr missed
-
-  may_put : (rows : List Held) (item : Item) → AreRising rows → MayFollow table vector rows item → MayPut (updates_of rows) (at vector) item.unit item.rows
-  may_put rows item rising may = record {
-    of_unit = may.form.of_unit;
-    alone = one_of_key item.rows may.form.rising;
-    above = λ u m. above_supersedes rows u (one_held_of_key rows rising) (may.greater u m);
-    bare = may.bare;
-    place = placed_place rows item.unit item.rows may.placed;
-  }
-
   module _ (rows : List Held) (usn : ℕ) (way : IsInOrder rows usn) (w : Written) (may : MayFollow table vector rows w.item) (above : usn < w.local) where
     abbrev next : List Held
     next = behind_write rows w
@@ -76,11 +55,8 @@ module _ (table : Table) (vector : Cursors) where
     next_is : fold put rows (under w.local w.item.rows) ≡ next
     next_is = ap (fold put rows) (sym (append-nil (under w.local w.item.rows)))
 
-    puts : MayPut (updates_of rows) (at vector) w.item.unit w.item.rows
-    puts = may_put rows w.item way.rising may
-
     are : ArePut w.local w.item.rows rows next
-    are = subst (ArePut w.local w.item.rows rows) next_is (are_put w.local rows (at vector) w.item.unit w.item.rows puts)
+    are = subst (ArePut w.local w.item.rows rows) next_is (rising_are_put w.local rows w.item.unit w.item.rows may.form.of_unit may.form.rising)
 
     locals : Each (λ h. (1 ≤ h.local) × (h.local ≤ w.local)) next
     locals h m = ⊎_elim
@@ -101,12 +77,12 @@ module _ (table : Table) (vector : Cursors) where
 
     live : AreLinksLive (updates_of next)
     live r m l is = let before = live_before r m l is in
-        (end_lives w.local rows next w.item.rows are r l l.from m is (link_goes_from l) before.0, end_lives w.local rows next w.item.rows are r l l.to m is (link_goes_to l) before.1)
+        (end_lives w.local rows next w.item.rows are w.item.unit may.form.of_unit r l l.from m is (link_goes_from l) before.0, end_lives w.local rows next w.item.rows are w.item.unit may.form.of_unit r l l.to m is (link_goes_to l) before.1)
 
     order : IsInOrder next w.local
     order = record {
       rising = subst AreRising next_is (puts_rise rows (under w.local w.item.rows) way.rising);
-      alone = puts_stay_alone usn w.local rows next (at vector) w.item.unit w.item.rows way.alone (λ h m. (way.locals h m).1) above puts are;
+      alone = stay_alone usn w.local rows next w.item.unit w.item.rows (λ h m. (way.locals h m).1) above may.form.of_unit are way.alone;
       locals = locals;
       live = live;
     }

@@ -9,6 +9,7 @@ use Rattle.std.proofs.lemmas.Bool.{le-leb, or_parts, both_ways, ltb-false}
 use Rattle.adr_stamp.specs.Order.{identifier_order}
 use Rattle.adr_stamp.specs.declared.Oid.{Oid}
 use Rattle.adr_schema.proofs.ExactCalls.{not_then}
+use Rattle.adr_schema.specs.Numbered.{numbered}
 use Rattle.adr_vector.specs.Vector.{Cursors, IsVector, at, raised, cursor_limit}
 use Rattle.adr_vector.proofs.Cursors.{same_from_test, test_itself}
 use Rattle.adr_vector.proofs.Comparing.{everywhere_from_at_most, at_most_from_everywhere}
@@ -16,14 +17,15 @@ use Rattle.adr_vector.proofs.Joining.{raised_here, rising-raised, from_one-raise
 use Rattle.adr_event.specs.declared.refusal.Table.TheVariants.{Cursors as CursorTable}
 use Rattle.adr_event.specs.declared.refusal.AdoptRefusal.TheVariants.{IdentifierUsed, Full}
 use Rattle.adr_model.specs.Update.{Identifier, inv_of, same_identifier, ends}
-use Rattle.adr_model.specs.Store.{Held, Kept, Normal, Store, State}
+use Rattle.adr_model.specs.Store.{Held, Kept, Normal, Store, State, updates_of}
 use Rattle.adr_model.specs.Formed.{IsFormedStore, IsFormed}
+use Rattle.adr_model.specs.Sound.{AreClassesKnown}
 use Rattle.adr_model.specs.Collect.{names_inv, woken, adopt_refusal, adopt, quarantine}
 use Rattle.adr_law_knowledge.proofs.Refusing.{answered}
 use Rattle.adr_law_knowledge.proofs.Raised.{raised_up}
-use Rattle.adr_law_formed.specs.Follow.{CanFollow}
+use Rattle.adr_law_formed.specs.Follow.{HasKnownClasses, CanFollow}
 use Rattle.adr_law_formed.proofs.Said.{neither}
-use Rattle.adr_law_formed.proofs.TakenFollow.{nothing_is_vector, nothing_in_order}
+use Rattle.adr_law_formed.proofs.TakenFollow.{nothing_is_vector}
 
 -- a vector that has seen it already isn't raised
 not_raised : (v : Cursors) (inv : Identifier) (usn : ℕ) → usn ≤ at v inv → raised v inv usn ≡ v
@@ -44,8 +46,8 @@ with_vector s v formed vector up = record {
   limits = record { objects = formed.limits.objects; links = formed.limits.links; marks = formed.limits.marks };
 }
 
-pub quarantine_follows : (s : State) → IsFormed s → s.mode ≡ Normal → CanFollow s (quarantine s)
-quarantine_follows s formed normal = record {
+pub quarantine_follows : (s : State) → IsFormed s → HasKnownClasses s → s.mode ≡ Normal → CanFollow s (quarantine s)
+quarantine_follows s formed classes normal = record {
   normal = normal;
   rises = omega arith;
   locals = tt;
@@ -54,11 +56,11 @@ quarantine_follows s formed normal = record {
   purged = nothing_is_vector;
   writes = tt;
   removed = λ o m. absurd m;
-  in_order = nothing_in_order;
   formed = record {
     store = with_vector s.store (raised s.store.vector s.inv s.store.usn) formed.store (subst IsVector (sym same) formed.store.vector) (raised_up s.store.vector s.inv s.store.usn);
     own = (let here = raised_here s.store.vector s.inv s.store.usn in omega (arith, here, formed.own));
   };
+  classes = classes;
 }
   where
     same : raised s.store.vector s.inv s.store.usn ≡ s.store.vector
@@ -102,3 +104,6 @@ adopted_is_formed image dsa inv s formed e =
     let n = neither (then_some (names_inv image inv) IdentifierUsed) (then_some (nat_lt cursor_limit length_after) (Full CursorTable cursor_limit)) g.0 in
     subst IsFormed g.1 (woken_formed image dsa inv formed (not_then (names_inv image inv) IdentifierUsed n.0)
     (ltb-false cursor_limit length_after (not_then (nat_lt cursor_limit length_after) (Full CursorTable cursor_limit) n.1)))
+
+pub adopted_has_known_classes : (image : Store) (dsa inv : Identifier) (s : State) → AreClassesKnown (numbered image.schema) (updates_of image.rows) → adopt image dsa inv ≡ Ok s → HasKnownClasses s
+adopted_has_known_classes image dsa inv s classes e = subst HasKnownClasses (answered (adopt_refusal image inv (woken image dsa inv)) (woken image dsa inv) s e).1 classes

@@ -3,9 +3,7 @@ use Rattle.std.proofs.Common.{◌≡◌, inl, inr, ℕ, ◌≤◌, [], ◌∷◌
 use Rattle.std.specs.Prelude.{nat_lt}
 use Rattle.std.specs.Bool.{then_some}
 use Rattle.std.specs.Option.{option_map, option_map_or}
-use Rattle.std.specs.List.Sorted.{IsStrictlySortedBy}
 use Rattle.std.proofs.lemmas.Bool.{ltb-false}
-use Rattle.adr_stamp.specs.Order.{object_order}
 use Rattle.adr_schema.specs.Numbered.{numbered}
 use Rattle.adr_schema.proofs.ExactCalls.{not_then}
 use Rattle.adr_vector.specs.Vector.{Cursors, IsVector, at, joined, first_gap, cursor_limit}
@@ -25,6 +23,7 @@ use Rattle.adr_model.specs.Store.{Held, Kept, Mode, Normal, Quarantined as IsQua
 use Rattle.adr_model.specs.Change.{Item, Change, updates_written, after}
 use Rattle.adr_model.specs.Formed.{AreRising, AreAlone, AreFormedRows, IsFormedStore, IsFormed}
 use Rattle.adr_model.specs.LocalLog.{IsOrdered}
+use Rattle.adr_model.specs.Sound.{AreClassesKnown}
 use Rattle.adr_model.specs.Serve.{Reply, is_quarantined}
 use Rattle.adr_model.specs.Write.{object_limit, link_limit, usn_limit, links_in}
 use Rattle.adr_model.specs.Take.{Taking, same_mark, kept_mark, shown_by_last, passes, mark_limit, take_items, taken_change, refusal_of, take}
@@ -33,17 +32,14 @@ use Rattle.adr_law_knowledge.proofs.Raised.{raised_up}
 use Rattle.adr_law_logs.proofs.Leaving.{each_mark}
 use Rattle.adr_law_taking.proofs.Items.{objects_within, links_within}
 use Rattle.adr_law_formed.specs.Spelled.{IsSpelledReply}
-use Rattle.adr_law_formed.specs.Follow.{CanFollow}
+use Rattle.adr_law_formed.specs.Bare.{AreBare}
+use Rattle.adr_law_formed.specs.Follow.{HasKnownClasses, CanFollow}
 use Rattle.adr_law_formed.specs.OnWay.{IsOnWay}
 use Rattle.adr_law_formed.proofs.ItemStep.{items_on_way}
 use Rattle.adr_law_formed.proofs.Ranges.{taken_rows_from}
 
 pub nothing_is_vector : IsVector []
 nothing_is_vector = record { rising = nil_rising; from_one = tt; few = omega arith }
-
-pub nothing_in_order : IsStrictlySortedBy object_order []
-unfolding IsStrictlySortedBy
-nothing_in_order = tt
 
 pub normal_where_not_quarantined : (m : Mode) → is_quarantined m ≡ false → m ≡ Normal
 normal_where_not_quarantined Normal e = refl
@@ -98,7 +94,7 @@ taken_so s r t behind none =
       marks = not_more Marks mark_limit (length behind.store.marks) n.7;
     }
 
-module _ (s : State) (r : Reply) (formed : IsFormed s) (spelled : IsSpelledReply r) where
+module _ (s : State) (r : Reply) (formed : IsFormed s) (classes : HasKnownClasses s) (spelled : IsSpelledReply r) where
   abbrev now : Taking
   now = take_items s r.items
 
@@ -117,7 +113,7 @@ module _ (s : State) (r : Reply) (formed : IsFormed s) (spelled : IsSpelledReply
 
   module _ (so : IsTakenSo s r now d) where
     way : IsOnWay s now
-    way = items_on_way s r.items formed spelled.items so.whole
+    way = items_on_way s r.items formed classes spelled.items so.whole
 
     -- the own cursor is the USN: what the last reply shows of it isn't more
     own : at d.store.vector s.inv ≡ now.usn
@@ -153,6 +149,9 @@ module _ (s : State) (r : Reply) (formed : IsFormed s) (spelled : IsSpelledReply
       };
     }
 
+    known : HasKnownClasses d
+    known = subst (λ rows. AreClassesKnown (numbered s.store.schema) (updates_of rows)) (sym way.made) way.classes
+
     follows : CanFollow s change
     follows = record {
       normal = so.normal;
@@ -163,14 +162,25 @@ module _ (s : State) (r : Reply) (formed : IsFormed s) (spelled : IsSpelledReply
       purged = nothing_is_vector;
       writes = way.follow so.objects so.links;
       removed = λ o m. absurd m;
-      in_order = nothing_in_order;
       formed = record { store = store; own = own };
+      classes = known;
     }
 
-pub taken_follows : (s : State) (r : Reply) (c : Change) → IsFormed s → IsSpelledReply r → take s r ≡ Ok c → CanFollow s c
-taken_follows s r c formed spelled e =
-    let g = answered (refusal_of s r (take_items s r.items) (after s (taken_change r (take_items s r.items)))) (taken_change r (take_items s r.items)) c e in
-    subst (CanFollow s) g.1 (follows s r formed spelled (taken_so s r (take_items s r.items) (after s (taken_change r (take_items s r.items))) g.0))
+module _ (s : State) (r : Reply) (c : Change) (formed : IsFormed s) (classes : HasKnownClasses s) (spelled : IsSpelledReply r) (e : take s r ≡ Ok c) where
+  abbrev made : Change
+  made = taken_change r (take_items s r.items)
+
+  no_refusal : (refusal_of s r (take_items s r.items) (after s made) ≡ None) × (made ≡ c)
+  no_refusal = answered (refusal_of s r (take_items s r.items) (after s made)) made c e
+
+  so : IsTakenSo s r (take_items s r.items) (after s made)
+  so = taken_so s r (take_items s r.items) (after s made) no_refusal.0
+
+  pub taken_follows : CanFollow s c
+  taken_follows = subst (CanFollow s) no_refusal.1 (follows s r formed classes spelled so)
+
+  pub taken_bare : Each (λ w. AreBare w.item.rows) c.writes
+  taken_bare = subst (λ (x : Change). Each (λ w. AreBare w.item.rows) x.writes) no_refusal.1 (way s r formed classes spelled so).bare
 
 -- what of a reply the change brings: its rows, its vector and its mark, under a USN within the limit
 pub taken_brings : (s : State) (r : Reply) (c : Change) → take s r ≡ Ok c

@@ -29,7 +29,7 @@ use Rattle.adr_law_collecting.proofs.Removing.{row_of_itself}
 use Rattle.adr_law_writing.proofs.Stamps.{row_held_is}
 use Rattle.adr_law_writing.proofs.Values.{plain_is_above}
 use Rattle.adr_law_formed.specs.Touched.{IsUnitFormed}
-use Rattle.adr_law_formed.specs.Test.{says_class, says_name, says_dead, keeps, is_kept_key, of_own, is_alive_formed, formed_by, is_object_formed}
+use Rattle.adr_law_formed.specs.Test.{is_class_known, says_name, says_dead, keeps, is_kept_key, of_own, is_alive_formed, formed_by, is_object_formed}
 use Rattle.adr_law_formed.proofs.WritesTested.{all_pass, passes_all}
 
 -- ---- what rows say
@@ -66,6 +66,14 @@ dead_is (IsPresent b) h = absurd (both_ways false refl h)
 some_is : (o : Option TableClass) → is_some o ≡ true → IsSome o
 some_is None h = absurd (both_ways false refl h)
 some_is (Some x) h = cc
+
+-- a class that is known
+known_is : (table : Table) (said : Said) → is_class_known table (class_said said) ≡ true → (c : ℕ) × (said ≡ Holds (Class c)) × IsSome (class_at table c)
+known_is table said h = by (class_said said) refl h
+  where
+    by : (o : Option ℕ) → class_said said ≡ o → is_class_known table o ≡ true → (c : ℕ) × (said ≡ Holds (Class c)) × IsSome (class_at table c)
+    by None e t = absurd (both_ways false refl t)
+    by (Some c) e t = let k = class_is said (Some c) e refl in let same : c ≡ k.0 = cc in (k.0, k.1, subst (λ d. IsSome (class_at table d)) same (some_is (class_at table c) t))
 
 is_some_of : (o : Option TableClass) → IsSome o → is_some o ≡ true
 is_some_of None h = absurd (cc)
@@ -148,17 +156,27 @@ module _ (schema : ℕ) (rows : List Held) (rising : AreRising rows) (o : Oid) w
       well_named = t.3;
     }
 
-    dead_tells : (d : Held) → IsThere deleted_attr d → says_class b.update.said ≡ true → says_dead d.update.said ≡ true → of_own rows o (λ u. is_kept_key u.key) ≡ true → IsUnitFormed table us o
+    classes : (c : ℕ) → b.update.said ≡ Holds (Class c) → IsSome (class_at table c) → Each (λ r. r.key ≡ RowOf o class_attr → (class : ℕ) → r.said ≡ Holds (Class class) → IsSome (class_at table class)) us
+    classes c says known r m is class tells =
+        let same : b.update ≡ r = one b.update (updated rows b at_b.0) r m (at_b.1 ∙ sym is) in
+        let agree : c ≡ class = cc in
+        subst (λ d. IsSome (class_at table d)) agree known
+
+    dead_tells : (d : Held) → IsThere deleted_attr d → is_class_known table (class_said b.update.said) ≡ true → says_dead d.update.said ≡ true → of_own rows o (λ u. is_kept_key u.key) ≡ true → IsUnitFormed table us o
     dead_tells d at_d class dead own = record {
       none = λ r m is. absurd (both_ways false refl (kept r 0 is m));
       births = births;
-      named = λ holds. let t = class_is b.update.said (class_said b.update.said) refl class in named t.0 t.1;
+      classes = classes known.0 known.1 known.2;
+      named = λ holds. named known.0 known.1;
       formed = λ holds. inl (record {
         dead = (d.update, updated rows d at_d.0, at_d.1, dead_is d.update.said dead);
         bare = λ attr above r m is. let le : attr ≤ deleted_attr = leb-true attr deleted_attr (and_parts (nat_le class_attr attr) (nat_le attr deleted_attr) (kept r attr is m)).1 in omega (arith, le, above);
       });
     }
       where
+        known : (c : ℕ) × (b.update.said ≡ Holds (Class c)) × IsSome (class_at table c)
+        known = known_is table b.update.said class
+
         kept : (r : Update) (attr : ℕ) → r.key ≡ RowOf o attr → Member r us → is_kept_key (RowOf o attr) ≡ true
         kept r attr is m = subst (λ k. is_kept_key k ≡ true) is (own_pass (λ u. is_kept_key u.key) own r attr is m)
 
@@ -166,6 +184,7 @@ module _ (schema : ℕ) (rows : List Held) (rising : AreRising rows) (o : Oid) w
     alive_tells lives c says h = record {
       none = λ r m is. zero_is (keeps_is c r 0 is (kept r 0 is m));
       births = births;
+      classes = classes c says (some_is (class_at table c) p.0);
       named = λ holds. named c says;
       formed = λ holds. inr ((λ t. let x = held_as rows t.0 t.1 in lives x.0 x.1 (ap (λ (u : Update). u.key) (sym x.2) ∙ t.2)), of_class);
     }
@@ -218,7 +237,7 @@ module _ (schema : ℕ) (rows : List Held) (rising : AreRising rows) (o : Oid) w
       by x (inl (b, m, k, e)) y (inl (n, mn, kn, g)) z (inl (d, md, kd, i)) h =
           let f : formed_by table rows o (Some b) (Some n) (Some d) ≡ true = subst (λ (w : Option Held). formed_by table rows o (Some b) (Some n) w ≡ true) i (subst (λ (w : Option Held). formed_by table rows o (Some b) w z ≡ true) g (subst (λ (w : Option Held). formed_by table rows o w y z ≡ true) e h)) in
           let p = and_parts (is_birth o b.update) _ f in
-          let q = and_parts (says_class b.update.said) _ p.1 in
+          let q = and_parts (is_class_known table (class_said b.update.said)) _ p.1 in
           let r = and_parts (says_name n.update.said) _ q.1 in
           let t = and_parts (says_dead d.update.said) _ r.1 in
           dead_tells b n (m, k) (mn, kn) p.0 r.0 d (md, kd) q.0 t.0 t.1
@@ -260,8 +279,9 @@ module _ (schema : ℕ) (rows : List Held) (rising : AreRising rows) (o : Oid) w
     name_passes : says_name name_row.0.update.said ≡ true
     name_passes = ap says_name name_row.2 ∙ ap is_none naming.well_named
 
-    class_passes : says_class class_row.0.update.said ≡ true
-    class_passes = ap says_class class_row.2
+    class_passes : is_class_known table (class_said class_row.0.update.said) ≡ true
+    class_passes = ap (λ said. is_class_known table (class_said said)) class_row.2
+        ∙ is_some_of (class_at table naming.class) (f.classes class_row.0.update (updated rows class_row.0 class_row.1.0) class_row.1.1 naming.class class_row.2)
 
     -- the test with the rows that are found
     with_rows : (z : Option Held) → row_held rows (RowOf o deleted_attr) ≡ z → formed_by table rows o (Some class_row.0) (Some name_row.0) z ≡ true → is_object_formed table rows o ≡ true

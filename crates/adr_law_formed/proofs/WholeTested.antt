@@ -1,14 +1,9 @@
 -- The whole test tells what can follow.
 use Rattle.std.proofs.Common.{◌≡◌, inl, inr, ℕ, List, [], ◌∷◌, Bool, true, false, Option, Some, None, refl, sym, ap, ◌∙◌, subst, not, ◌&&◌, ◌||◌, length}
 use Rattle.std.specs.Prelude.{nat_le, is_none}
-use Rattle.std.specs.List.{list_all, AllByRecursion}
-use Rattle.std.specs.List.Sorted.{IsStrictlySortedBy}
-use Rattle.std.specs.Ordering.{is_lt}
+use Rattle.std.specs.List.{list_all}
 use Rattle.std.specs.Option.{option_map_or}
-use Rattle.std.specs.declared.cmp.Ordering.{Ordering}
-use Rattle.std.specs.declared.cmp.Ordering.TheVariants.{Less, Equal, Greater}
 use Rattle.std.proofs.lemmas.Bool.{and_parts, and_from, both_ways, not-true, leb-true, le-leb}
-use Rattle.adr_stamp.specs.Order.{object_order}
 use Rattle.adr_stamp.specs.declared.Oid.{Oid}
 use Rattle.adr_stamp.specs.declared.LinkKey.{LinkKey}
 use Rattle.adr_stamp.specs.declared.Unit.{Unit as Named}
@@ -31,9 +26,9 @@ use Rattle.adr_law_steps.proofs.Order.{puts_rise}
 use Rattle.adr_law_taking.proofs.Tests.{IsFound, row_found, holds_where_tested, lacks_where_untested}
 use Rattle.adr_law_steps.proofs.Rising.{removals_rise}
 use Rattle.adr_law_writing.proofs.Stamps.{row_held_is}
-use Rattle.adr_law_formed.specs.Follow.{IsRemovable, CanFollow}
+use Rattle.adr_law_formed.specs.Follow.{IsRemovable, HasKnownClasses, CanFollow}
 use Rattle.adr_law_formed.specs.Touched.{IsUnitFormed, AreTouchedFormed, CanFollowByUnits}
-use Rattle.adr_law_formed.specs.Test.{IsSpelledChange, are_following, is_removable, rise, is_object_formed, is_touched_formed, can_follow}
+use Rattle.adr_law_formed.specs.Test.{IsSpelledChange, are_following, is_removable, is_object_formed, is_touched_formed, can_follow}
 use Rattle.adr_law_formed.proofs.TakenFollow.{normal_where_not_quarantined}
 use Rattle.adr_law_formed.proofs.WritesTested.{all_pass, passes_all, following_where_tested, tested_where_following}
 use Rattle.adr_law_formed.proofs.UnitTested.{unit_where_tested, tested_where_unit}
@@ -58,31 +53,6 @@ tested_where_removable rows purged o rising r =
     ∙ and_from (covers_birth purged o) (covers_update purged x.0.update) (le-leb o.birth.usn (at purged o.birth.inv) r.birth_purged)
     (subst (λ (u : Update). covers_update purged u ≡ true) x.2 (le-leb (usn_of r.death) (at purged (inv_of r.death)) r.death_purged))
 
--- ---- objects that rise
-
-less_is : (r : Ordering) → is_lt r ≡ true → r ≡ Less
-less_is Less h = refl
-less_is Equal h = absurd (both_ways false refl h)
-less_is Greater h = absurd (both_ways false refl h)
-
-below_where_tested : (o : Oid) (os : List Oid) → list_all (λ p. is_lt (object_order o p)) os ≡ true → AllByRecursion (λ p. object_order o p ≡ Less) os
-below_where_tested o [] h = tt
-below_where_tested o (p ∷ ps) h = let t = and_parts (is_lt (object_order o p)) _ h in (less_is (object_order o p) t.0, below_where_tested o ps t.1)
-
-tested_where_below : (o : Oid) (os : List Oid) → AllByRecursion (λ p. object_order o p ≡ Less) os → list_all (λ p. is_lt (object_order o p)) os ≡ true
-tested_where_below o [] all = refl
-tested_where_below o (p ∷ ps) all = and_from (is_lt (object_order o p)) _ (ap is_lt all.0) (tested_where_below o ps all.1)
-
-rise_where_tested : (os : List Oid) → rise os ≡ true → IsStrictlySortedBy object_order os
-unfolding IsStrictlySortedBy
-rise_where_tested [] h = tt
-rise_where_tested (o ∷ os) h = let t = and_parts (list_all (λ p. is_lt (object_order o p)) os) (rise os) h in (below_where_tested o os t.0, rise_where_tested os t.1)
-
-tested_where_rise : (os : List Oid) → IsStrictlySortedBy object_order os → rise os ≡ true
-unfolding IsStrictlySortedBy
-tested_where_rise [] s = refl
-tested_where_rise (o ∷ os) s = and_from (list_all (λ p. is_lt (object_order o p)) os) (rise os) (tested_where_below o os s.0) (tested_where_rise os s.1)
-
 -- ---- touched units
 
 module _ (schema : ℕ) (rows : List Held) (rising : AreRising rows) where
@@ -93,6 +63,7 @@ module _ (schema : ℕ) (rows : List Held) (rising : AreRising rows) where
   nothing_formed o absent = record {
     none = λ r m is. absent (r, 0, m, is);
     births = λ r m is. absurd (absent (r, class_attr, m, is));
+    classes = λ r m is. absurd (absent (r, class_attr, m, is));
     named = λ h. absurd (absent h);
     formed = λ h. absurd (absent h);
   }
@@ -156,18 +127,17 @@ module _ (s : State) (c : Change) (formed : IsFormed s) where
   rows_rise : AreRising (after s c).store.rows
   rows_rise = removals_rise c.removed (rows_after [] (held_of c.writes) s.store.rows) written_rise
 
-pub follows_where_tested : (s : State) (c : Change) → IsFormed s → IsSpelledChange s.store.usn c → can_follow s c ≡ true → CanFollow s c
-follows_where_tested s c formed spelled h =
+pub follows_where_tested : (s : State) (c : Change) → IsFormed s → HasKnownClasses s → IsSpelledChange s.store.usn c → can_follow s c ≡ true → CanFollow s c
+follows_where_tested s c formed known spelled h =
     let a = and_parts _ (list_all (λ (w : Written). is_touched_formed (numbered s.store.schema) (after s c).store.rows w.item.unit) c.writes) h in
     let b = and_parts _ (nat_le (length (after s c).store.marks) mark_limit) a.0 in
     let d = and_parts _ (nat_le (length (after s c).store.vector) cursor_limit) b.0 in
     let e = and_parts _ (at_most c.purged (after s c).store.vector) d.0 in
     let f = and_parts _ (nat_le (at c.joined s.inv) c.usn) e.0 in
-    let g = and_parts _ (rise c.removed) f.0 in
-    let i = and_parts _ (list_all (is_removable (rows_after [] (held_of c.writes) s.store.rows) (after s c).store.purged) c.removed) g.0 in
+    let i = and_parts _ (list_all (is_removable (rows_after [] (held_of c.writes) s.store.rows) (after s c).store.purged) c.removed) f.0 in
     let j = and_parts _ (are_following (numbered s.store.schema) s.store.vector s.store.rows c.writes) i.0 in
     let k = and_parts (not (is_quarantined s.mode)) (nat_le s.store.usn c.usn) j.0 in
-    units_are_enough s c formed (record {
+    units_are_enough s c formed known (record {
       normal = normal_where_not_quarantined s.mode (not-true (is_quarantined s.mode) k.0);
       rises = leb-true s.store.usn c.usn k.1;
       locals = spelled.locals;
@@ -176,7 +146,6 @@ follows_where_tested s c formed spelled h =
       purged = spelled.purged;
       writes = following_where_tested (numbered s.store.schema) s.store.vector s.store.rows c.writes spelled.items j.1;
       removed = λ o m. removable_where_tested (rows_after [] (held_of c.writes) s.store.rows) (after s c).store.purged o (all_pass (is_removable (rows_after [] (held_of c.writes) s.store.rows) (after s c).store.purged) c.removed i.1 o m);
-      in_order = rise_where_tested c.removed g.1;
       touched = touched_tells s.store.schema (after s c).store.rows (rows_rise s c formed) c a.1;
       own = leb-true (at c.joined s.inv) c.usn f.1;
       within = everywhere_from_at_most c.purged (after s c).store.vector e.1;
@@ -187,12 +156,11 @@ follows_where_tested s c formed spelled h =
 pub tested_where_follows : (s : State) (c : Change) → IsFormed s → CanFollow s c → can_follow s c ≡ true
 tested_where_follows s c formed can =
     let f : CanFollowByUnits s c = units_are_asked s c formed can in
-    and_from _ _ (and_from _ _ (and_from _ _ (and_from _ _ (and_from _ _ (and_from _ _ (and_from _ _ (and_from _ _ (and_from _ _
+    and_from _ _ (and_from _ _ (and_from _ _ (and_from _ _ (and_from _ _ (and_from _ _ (and_from _ _ (and_from _ _
     (ap (λ m. not (is_quarantined m)) f.normal)
     (le-leb s.store.usn c.usn f.rises))
     (tested_where_following (numbered s.store.schema) s.store.vector s.store.rows c.writes f.writes))
     (passes_all (is_removable (rows_after [] (held_of c.writes) s.store.rows) (after s c).store.purged) c.removed (λ o m. tested_where_removable (rows_after [] (held_of c.writes) s.store.rows) (after s c).store.purged o (written_rise s c formed) (f.removed o m))))
-    (tested_where_rise c.removed f.in_order))
     (le-leb (at c.joined s.inv) c.usn f.own))
     (at_most_from_everywhere c.purged (after s c).store.vector f.purged.rising f.within))
     (le-leb (length (after s c).store.vector) cursor_limit f.cursors))

@@ -23,7 +23,7 @@ use Rattle.adr_law_steps.proofs.Rows.{row_of_unit}
 use Rattle.adr_law_taking.proofs.Standings.{each_presence, IsThere, there_where_untested, lost_where_tested, of_attr, attr_itself, has_where_tested, tested_where_has, is_death}
 use Rattle.adr_law_formed.specs.Spelled.{IsOfAttr, IsSpelledItem}
 use Rattle.adr_law_formed.specs.Follow.{IsWhole, IsPlaced, MayFollow, AreFew, AreFollowing, behind_write}
-use Rattle.adr_law_formed.specs.Test.{is_bare, is_object_placed, is_placed, may_follow, are_few, are_following}
+use Rattle.adr_law_formed.specs.Test.{is_object_placed, is_placed, may_follow, are_few, are_following}
 use Rattle.adr_law_formed.proofs.Sorted.{one_of_key}
 use Rattle.adr_law_formed.proofs.Said.{says_content}
 
@@ -171,30 +171,14 @@ module _ (table : Table) (vector : Cursors) (rows : List Held) where
 
   -- ---- one write
 
-  bare_where_tested : (us : List Update) → is_bare us ≡ true → Each (λ d. IsDeath d → Each (λ u. is_reserved_row u.key ≡ true) us) us
-  bare_where_tested us h d m death = all_pass (λ (u : Update). is_reserved_row u.key) us (second (has_row deleted_attr us) (tested_where_has deleted_attr us d m (is_death d death)) h)
-    where
-      second : (b : Bool) → b ≡ true → (not b || list_all (λ (u : Update). is_reserved_row u.key) us) ≡ true → list_all (λ (u : Update). is_reserved_row u.key) us ≡ true
-      second true e h = h
-      second false e h = absurd (both_ways false refl e)
-
-  tested_where_bare : (us : List Update) → Each (λ d. IsDeath d → Each (λ u. is_reserved_row u.key ≡ true) us) us → is_bare us ≡ true
-  tested_where_bare us bare = by (has_row deleted_attr us) refl
-    where
-      by : (b : Bool) → has_row deleted_attr us ≡ b → (not b || list_all (λ (u : Update). is_reserved_row u.key) us) ≡ true
-      by false is = refl
-      by true is = let t = has_where_tested deleted_attr us is in passes_all (λ (u : Update). is_reserved_row u.key) us (bare t.0 t.1 (of_attr deleted_attr t.0.key t.2))
-
   follows_where_tested : (item : Item) → IsSpelledItem item × ((u : Update) × Member u item.rows) → may_follow table vector rows item ≡ true → MayFollow table vector rows item
   follows_where_tested item form h =
-      let p = and_parts (list_all (is_above rows) item.rows && is_bare item.rows) (is_placed table vector rows item.unit item.rows) h in
-      let q = and_parts (list_all (is_above rows) item.rows) (is_bare item.rows) p.0 in
-      record { some = form.1; form = form.0; greater = all_pass (is_above rows) item.rows q.0; bare = bare_where_tested item.rows q.1; placed = placed_where_tested item.unit item.rows form.0 p.1 }
+      let p = and_parts (list_all (is_above rows) item.rows) (is_placed table vector rows item.unit item.rows) h in
+      record { some = form.1; form = form.0; greater = all_pass (is_above rows) item.rows p.0; placed = placed_where_tested item.unit item.rows form.0 p.1 }
 
   tested_where_follows : (item : Item) → MayFollow table vector rows item → may_follow table vector rows item ≡ true
-  tested_where_follows item f = and_from (list_all (is_above rows) item.rows && is_bare item.rows) (is_placed table vector rows item.unit item.rows)
-      (and_from (list_all (is_above rows) item.rows) (is_bare item.rows) (passes_all (is_above rows) item.rows f.greater) (tested_where_bare item.rows f.bare))
-      (tested_where_placed item.unit item.rows f.form f.placed)
+  tested_where_follows item f = and_from (list_all (is_above rows) item.rows) (is_placed table vector rows item.unit item.rows)
+      (passes_all (is_above rows) item.rows f.greater) (tested_where_placed item.unit item.rows f.form f.placed)
 
 -- ---- all writes
 

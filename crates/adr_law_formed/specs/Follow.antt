@@ -1,8 +1,6 @@
 -- Which changes can follow a state: judged write by write, with the vector before the change.
 use Rattle.std.specs.Prelude.{◌≡◌, ◌⊎◌, ◌≤◌, ◌<◌, ℕ, List, [], ◌∷◌, length, true}
 use Rattle.std.specs.Option.{IfSome}
-use Rattle.std.specs.List.Sorted.{IsStrictlySortedBy}
-use Rattle.adr_stamp.specs.Order.{object_order}
 use Rattle.adr_stamp.specs.declared.Oid.{Oid}
 use Rattle.adr_stamp.specs.declared.Unit.{Unit as Named}
 use Rattle.adr_stamp.specs.declared.Unit.TheVariants.{Object, Link}
@@ -13,13 +11,14 @@ use Rattle.adr_vector.specs.Vector.{Cursors, IsVector, at}
 use Rattle.adr_model.specs.Member.{Member, Each}
 use Rattle.adr_model.specs.Update.{Update, LinkOf, Holds, ends, class_attr, name_attr}
 use Rattle.adr_model.specs.Live.{objects_of}
-use Rattle.adr_model.specs.Reflects.{Covers, CoversBirth, HoldsObject, IsTombstoned, IsDeathOf, IsDeath}
+use Rattle.adr_model.specs.Reflects.{Covers, CoversBirth, HoldsObject, IsTombstoned, IsDeathOf}
 use Rattle.adr_model.specs.Store.{Held, Normal, State, updates_of}
 use Rattle.adr_model.specs.Change.{Item, Written, Change, held_of, rows_after, after}
 use Rattle.adr_model.specs.Formed.{HasRow, IsFormed}
 use Rattle.adr_model.specs.LocalLog.{IsOrdered}
+use Rattle.adr_model.specs.Sound.{AreClassesKnown}
 use Rattle.adr_model.specs.Write.{object_limit, link_limit, links_in}
-use Rattle.adr_model.specs.Take.{is_above, is_reserved_row}
+use Rattle.adr_model.specs.Take.{is_above}
 use Rattle.adr_law_steps.specs.Forms.{HasKey}
 use Rattle.adr_law_formed.specs.Spelled.{IsSpelledItem}
 
@@ -45,13 +44,11 @@ abbrev pub IsPlaced : Table → Cursors → List Held → Named → List Update 
 IsPlaced table vector rows (Object o) us = IsObjectPlaced table vector rows o us
 IsPlaced table vector rows (Link l) us = Each (IsEndPlaced vector rows) (ends (LinkOf l))
 
--- one write: it has a row, is of the form of an item, each row is new or greater, a death is beside reserved rows alone, and its unit
--- may be written
+-- one write: it has a row, is of the form of an item, each row is new or greater, and its unit may be written
 pub record MayFollow (table : Table) (vector : Cursors) (rows : List Held) (item : Item) : Type 0 where
   pub some : (u : Update) × Member u item.rows
   pub form : IsSpelledItem item
   pub greater : Each (λ u. is_above rows u ≡ true) item.rows
-  pub bare : Each (λ d. IsDeath d → Each (λ u. is_reserved_row u.key ≡ true) item.rows) item.rows
   pub placed : IsPlaced table vector rows item.unit item.rows
 
 abbrev pub AreFew : List Held → Type 0
@@ -79,6 +76,12 @@ pub record IsRemovable (rows : List Held) (purged : Cursors) (o : Oid) : Type 0 
   pub birth_purged : CoversBirth (at purged) o
   pub death_purged : Covers (at purged) death
 
+-- the class of every object that is held is in the schema's table, dead or not
+abbrev pub HasKnownClasses : State → Type 0
+HasKnownClasses s = AreClassesKnown (numbered s.store.schema) (updates_of s.store.rows)
+
+-- a change can follow a state that is up: USNs and marks are in order, each write may follow at its turn, each removed object is dead
+-- and purged, and the state after it is formed, with known classes
 pub record CanFollow (s : State) (c : Change) : Type 0 where
   pub normal : s.mode ≡ Normal
   pub rises : s.store.usn ≤ c.usn
@@ -88,5 +91,5 @@ pub record CanFollow (s : State) (c : Change) : Type 0 where
   pub purged : IsVector c.purged
   pub writes : AreFollowing (numbered s.store.schema) s.store.vector s.store.rows c.writes
   pub removed : Each (IsRemovable (rows_after [] (held_of c.writes) s.store.rows) (after s c).store.purged) c.removed
-  pub in_order : IsStrictlySortedBy object_order c.removed
   pub formed : IsFormed (after s c)
+  pub classes : HasKnownClasses (after s c)

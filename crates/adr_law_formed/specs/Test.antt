@@ -2,8 +2,6 @@
 use Rattle.std.specs.Prelude.{Option, ℕ, List, [], ◌∷◌, length, Bool, true, false, not, ◌&&◌, ◌||◌, ◌==◌, nat_le, Some, None, is_none, is_some}
 use Rattle.std.specs.List.{list_all}
 use Rattle.std.specs.Option.{option_map_or, IfSome}
-use Rattle.std.specs.Ordering.{is_lt}
-use Rattle.adr_stamp.specs.Order.{object_order}
 use Rattle.adr_stamp.specs.declared.Oid.{Oid}
 use Rattle.adr_stamp.specs.declared.Unit.{Unit as Named}
 use Rattle.adr_stamp.specs.declared.Unit.TheVariants.{Object, Link}
@@ -22,7 +20,7 @@ use Rattle.adr_model.specs.Change.{Item, Written, Change, held_of, rows_after, a
 use Rattle.adr_model.specs.LocalLog.{IsOrdered}
 use Rattle.adr_model.specs.Serve.{is_quarantined}
 use Rattle.adr_model.specs.Write.{object_limit, link_limit, links_in}
-use Rattle.adr_model.specs.Take.{is_above, is_of_attr, is_reserved_row, has_row, lacks, is_lost_end, Presence, IsDead, IsHeld, IsGone, IsNew, presence_of, is_birth, class_said, mark_limit}
+use Rattle.adr_model.specs.Take.{is_above, is_of_attr, lacks, is_lost_end, Presence, IsDead, IsHeld, IsGone, IsNew, presence_of, is_birth, class_said, mark_limit}
 use Rattle.adr_law_formed.specs.Spelled.{IsSpelledItem}
 use Rattle.adr_law_formed.specs.Follow.{AreLocals, behind_write}
 
@@ -36,9 +34,6 @@ pub record IsSpelledChange (before : ℕ) (c : Change) : Type 0 where
 
 -- ---- one write at its turn
 
-abbrev pub is_bare : List Update → Bool
-is_bare us = not (has_row deleted_attr us) || list_all (λ u. is_reserved_row u.key) us
-
 -- an object that is written to is dead and only dies, or stands, or is new and comes whole
 abbrev pub is_object_placed : Table → List Update → Presence → Bool
 is_object_placed table us IsDead = list_all (λ u. is_of_attr deleted_attr u.key) us
@@ -51,7 +46,7 @@ is_placed table vector rows (Object o) us = is_object_placed table us (presence_
 is_placed table vector rows (Link l) us = not (is_lost_end vector rows l.from || is_lost_end vector rows l.to)
 
 abbrev pub may_follow : Table → Cursors → List Held → Item → Bool
-may_follow table vector rows item = list_all (is_above rows) item.rows && is_bare item.rows && is_placed table vector rows item.unit item.rows
+may_follow table vector rows item = list_all (is_above rows) item.rows && is_placed table vector rows item.unit item.rows
 
 abbrev pub are_few : List Held → Bool
 are_few rows = nat_le (length (objects_of (updates_of rows))) object_limit && nat_le (links_in rows) link_limit
@@ -66,14 +61,12 @@ abbrev pub is_removable : List Held → Cursors → Oid → Bool
 is_removable rows purged o =
     option_map_or (λ h. covers_birth purged o && covers_update purged h.update) (row_held rows (RowOf o deleted_attr)) false
 
-abbrev pub rise : List Oid → Bool
-rise [] = true
-rise (o ∷ os) = list_all (λ p. is_lt (object_order o p)) os && rise os
-
 -- ---- a touched unit behind the change
 
-abbrev pub says_class : Said → Bool
-says_class said = is_some (class_said said)
+-- whether a class is said, and the table has it
+abbrev pub is_class_known : Table → Option ℕ → Bool
+is_class_known table None = false
+is_class_known table (Some c) = is_some (class_at table c)
 
 abbrev pub says_name : Said → Bool
 says_name (Holds (Name text parent)) = is_none (name_fault text)
@@ -119,7 +112,7 @@ abbrev pub formed_by : Table → List Held → Oid → Option Held → Option He
 formed_by table rows o None n d = false
 formed_by table rows o (Some b) None d = false
 formed_by table rows o (Some b) (Some n) None = is_birth o b.update && (says_name n.update.said && is_alive_formed table rows o (class_said b.update.said))
-formed_by table rows o (Some b) (Some n) (Some d) = is_birth o b.update && (says_class b.update.said && (says_name n.update.said && (says_dead d.update.said && of_own rows o (λ u. is_kept_key u.key))))
+formed_by table rows o (Some b) (Some n) (Some d) = is_birth o b.update && (is_class_known table (class_said b.update.said) && (says_name n.update.said && (says_dead d.update.said && of_own rows o (λ u. is_kept_key u.key))))
 
 abbrev pub is_object_formed : Table → List Held → Oid → Bool
 is_object_formed table rows o = formed_by table rows o (row_held rows (RowOf o class_attr)) (row_held rows (RowOf o name_attr)) (row_held rows (RowOf o deleted_attr))
@@ -138,7 +131,6 @@ can_follow s c =
     && nat_le s.store.usn c.usn
     && are_following table s.store.vector s.store.rows c.writes
     && list_all (is_removable (rows_after [] (held_of c.writes) s.store.rows) d.store.purged) c.removed
-    && rise c.removed
     && nat_le (at c.joined s.inv) c.usn
     && at_most c.purged d.store.vector
     && nat_le (length d.store.vector) cursor_limit

@@ -1,16 +1,15 @@
 -- The forms after a change, asked of what it touches alone.
-use Rattle.std.specs.Prelude.{◌≡◌, ◌≤◌, List, [], length, true}
+use Rattle.std.specs.Prelude.{◌≡◌, ◌≤◌, ℕ, List, [], length, true, IsSome}
 use Rattle.std.specs.Option.{IfSome}
-use Rattle.std.specs.List.Sorted.{IsStrictlySortedBy}
-use Rattle.adr_stamp.specs.Order.{object_order}
 use Rattle.adr_stamp.specs.declared.Oid.{Oid}
 use Rattle.adr_stamp.specs.declared.LinkKey.{LinkKey}
 use Rattle.adr_stamp.specs.declared.Unit.TheVariants.{Object, Link}
-use Rattle.adr_schema.specs.Table.{Table, kind_at, is_forward}
+use Rattle.adr_schema.specs.declared.content.Content.TheVariants.{Class}
+use Rattle.adr_schema.specs.Table.{Table, class_at, kind_at, is_forward}
 use Rattle.adr_schema.specs.Numbered.{numbered}
 use Rattle.adr_vector.specs.Vector.{IsVector, at, cursor_limit}
 use Rattle.adr_model.specs.Member.{Member, Each}
-use Rattle.adr_model.specs.Update.{Update, RowOf, LinkOf, class_attr}
+use Rattle.adr_model.specs.Update.{Update, RowOf, LinkOf, Holds, class_attr}
 use Rattle.adr_model.specs.Reflects.{AtMost, HoldsObject}
 use Rattle.adr_model.specs.Store.{Normal, State, updates_of}
 use Rattle.adr_model.specs.Change.{Change, held_of, rows_after, after}
@@ -23,6 +22,7 @@ use Rattle.adr_law_formed.specs.Follow.{AreFollowing, AreLocals, IsRemovable}
 pub record IsUnitFormed (table : Table) (rows : List Update) (o : Oid) : Type 0 where
   pub none : Each (λ r. r.key ≡ RowOf o 0 → ⊥) rows
   pub births : Each (λ r. r.key ≡ RowOf o class_attr → is_birth o r ≡ true) rows
+  pub classes : Each (λ r. r.key ≡ RowOf o class_attr → (class : ℕ) → r.said ≡ Holds (Class class) → IsSome (class_at table class)) rows
   pub named : HoldsObject rows o → IsNamed rows o
   pub formed : HoldsObject rows o → IsObjectFormed table rows o
 
@@ -41,7 +41,6 @@ pub record CanFollowByUnits (s : State) (c : Change) : Type 0 where
   pub purged : IsVector c.purged
   pub writes : AreFollowing (numbered s.store.schema) s.store.vector s.store.rows c.writes
   pub removed : Each (IsRemovable (rows_after [] (held_of c.writes) s.store.rows) (after s c).store.purged) c.removed
-  pub in_order : IsStrictlySortedBy object_order c.removed
   pub touched : AreTouchedFormed (numbered s.store.schema) (updates_of (after s c).store.rows) c
   pub own : at c.joined s.inv ≤ c.usn
   pub within : AtMost (at c.purged) (at (after s c).store.vector)

@@ -10,7 +10,7 @@ ghost use Rattle.adr_model.specs.Formed.{AreRising, AreFormedRows, IsFormed};
 ghost use Rattle.adr_model.specs.Serve.{Reply};
 ghost use Rattle.adr_model.specs.Take.{rows_taken, item_refusal, take};
 ghost use Rattle.adr_law_formed.specs.Spelled.{IsSpelledItem, IsSpelledReply};
-ghost use Rattle.adr_law_formed.specs.Follow.{CanFollow};
+ghost use Rattle.adr_law_formed.specs.Follow.{HasKnownClasses, CanFollow};
 ghost use Rattle.adr_law_formed.specs.Taken.{IsGood};
 
 /// Of a spelled item that isn't refused nothing is written, or rows that may be put.
@@ -24,5 +24,5 @@ pub fn taken_items_may_be_put()
 /// one. Whether the reply is true doesn't matter.
 #[tactic(none)]
 pub fn taken_replies_follow()
-    ensures { (s : State) (r : Reply) (c : Change) → IsFormed s → IsSpelledReply r → take s r ≡ Ok c → CanFollow s c }
+    ensures { (s : State) (r : Reply) (c : Change) → IsFormed s → HasKnownClasses s → IsSpelledReply r → take s r ≡ Ok c → CanFollow s c }
 {}

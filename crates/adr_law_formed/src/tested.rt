@@ -9,7 +9,7 @@ ghost use Rattle.adr_model.specs.Store.{Held, State};
 ghost use Rattle.adr_model.specs.Change.{Written, Change};
 ghost use Rattle.adr_model.specs.Formed.{IsFormed};
 ghost use Rattle.adr_law_formed.specs.Spelled.{IsSpelledItem};
-ghost use Rattle.adr_law_formed.specs.Follow.{AreFollowing, CanFollow};
+ghost use Rattle.adr_law_formed.specs.Follow.{AreFollowing, HasKnownClasses, CanFollow};
 ghost use Rattle.adr_law_formed.specs.Test.{IsSpelledChange, are_following, can_follow};
 
 /// The test of writes that are spelled tells whether they follow.
@@ -24,6 +24,6 @@ pub fn writes_are_tested()
 /// follow passes.
 #[tactic(none)]
 pub fn changes_are_tested()
-    ensures tells { (s : State) (c : Change) → IsFormed s → IsSpelledChange s.store.usn c → can_follow s c ≡ true → CanFollow s c }
+    ensures tells { (s : State) (c : Change) → IsFormed s → HasKnownClasses s → IsSpelledChange s.store.usn c → can_follow s c ≡ true → CanFollow s c }
     ensures passes { (s : State) (c : Change) → IsFormed s → CanFollow s c → can_follow s c ≡ true }
 {}

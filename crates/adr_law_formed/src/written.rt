@@ -5,10 +5,10 @@ ghost use Rattle.adr_model.specs.Store.{State};
 ghost use Rattle.adr_model.specs.Change.{Change};
 ghost use Rattle.adr_model.specs.Formed.{IsFormed};
 ghost use Rattle.adr_model.specs.Write.{Write, IsWellGiven, write};
-ghost use Rattle.adr_law_formed.specs.Follow.{CanFollow};
+ghost use Rattle.adr_law_formed.specs.Follow.{HasKnownClasses, CanFollow};
 
 /// What a formed state writes for a client can follow it, and leaves a formed one.
 #[tactic(none)]
 pub fn writes_follow()
-    ensures { (s : State) (w : Write) (now : ℕ) (c : Change) → IsFormed s → IsWellGiven w → write s w now ≡ Ok c → CanFollow s c }
+    ensures { (s : State) (w : Write) (now : ℕ) (c : Change) → IsFormed s → HasKnownClasses s → IsWellGiven w → write s w now ≡ Ok c → CanFollow s c }
 {}
