@@ -209,14 +209,16 @@ module _ (s : State) (now lifetime : ℕ) (is : IsFormed s) (classes : HasKnownC
 
   follows : is_quarantined s.mode ≡ false → CanFollow s c
   follows normal = record {
-    normal = normal_where_not_quarantined s.mode normal;
-    rises = usn_rises;
-    locals = tt;
-    mark = tt;
-    joined = nothing_is_vector;
-    purged = covers;
-    writes = tt;
-    removed = removable;
+    goes_on = record {
+      normal = normal_where_not_quarantined s.mode normal;
+      rises = usn_rises;
+      locals = tt;
+      mark = tt;
+      joined = nothing_is_vector;
+      purged = covers;
+      writes = tt;
+      removed = removable;
+    };
     formed = record { store = formed; own = (let here = raised_here s.store.vector s.inv c.usn in omega (arith, here, is.own, usn_rises)) };
     classes = λ u m. classes u (update_stood os rows u m);
   }

@@ -50,7 +50,7 @@ use Rattle.adr_law_writing.proofs.Nodes.{object_is_live}
 use Rattle.adr_law_writing.proofs.Saids.{live_is_held}
 use Rattle.adr_law_writing.proofs.Refusals.{not_so}
 use Rattle.adr_law_writing.proofs.Sound.{may_write}
-use Rattle.adr_law_formed.specs.Bare.{AreBare}
+use Rattle.adr_law_formed.specs.Taken.{AreBare}
 use Rattle.adr_law_formed.specs.Follow.{HasKnownClasses, CanFollow}
 use Rattle.adr_law_formed.proofs.Sorted.{keys}
 use Rattle.adr_law_formed.proofs.ItemMay.{new_is_above}

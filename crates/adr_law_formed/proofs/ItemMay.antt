@@ -38,9 +38,9 @@ use Rattle.adr_law_taking.proofs.Tests.{IsFound, row_found, above_supersedes}
 use Rattle.adr_law_taking.proofs.Standings.{each_presence, IsThere, there_where_untested, of_attr, attr_itself, has_where_tested, left_from, reserved_is_left, bare_beside_death}
 use Rattle.adr_law_taking.proofs.ItemPut.{above_of_held, some_or_none}
 use Rattle.adr_law_writing.proofs.Saids.{death_well_said}
-use Rattle.adr_law_formed.specs.Spelled.{IsOfAttr, IsSpelledItem}
-use Rattle.adr_law_formed.specs.Follow.{IsPlaced, MayFollow}
-use Rattle.adr_law_formed.specs.Taken.{IsGood}
+use Rattle.adr_law_formed.specs.Spelled.{IsContentOfAttr, IsSpelledItem}
+use Rattle.adr_law_formed.specs.Follow.{MayWriteUnit, MayFollow}
+use Rattle.adr_law_formed.specs.Taken.{MayBeTaken}
 use Rattle.adr_law_formed.proofs.Sorted.{keys, filtered_rise, left_rise, one_of_key}
 use Rattle.adr_law_formed.proofs.Said.{says_content, neither, class_row_says, row_said}
 
@@ -78,12 +78,12 @@ module _ (schema : ℕ) (vector : Cursors) (rows : List Held) (rising : AreRisin
     }
 
     part_follows : (us : List Update) → (u : Update) × Member u us → Each (λ u. Member u xs) us → IsStrictlySortedBy key_order (keys us) → Each (λ u. is_above rows u ≡ true) us
-        → IsPlaced table vector rows unit us → MayFollow table vector rows (record { unit = unit; rows = us })
+        → MayWriteUnit table vector rows unit us → MayFollow table vector rows (record { unit = unit; rows = us })
     part_follows us some among rise above placed = record {
       some = some;
       form = record { of_unit = λ u m. spelled.of_unit u (among u m); rising = rise; says = λ u m. spelled.says u (among u m) };
       greater = above;
-      placed = placed;
+      unit = placed;
     }
 
   module _ (o : Oid) (xs : List Update) (spelled : IsSpelledItem (record { unit = Object o; rows = xs })) where
@@ -114,13 +114,13 @@ module _ (schema : ℕ) (vector : Cursors) (rows : List Held) (rising : AreRisin
     death_says : (u : Update) → Member u xs → u.key ≡ RowOf o deleted_attr → u.said ≡ Holds Dead
     death_says u m is = let t = says_content u.key u.said o deleted_attr is (spelled.says u m) in t.1 ∙ ap Holds (by t.0 t.2)
       where
-        by : (c : Content) → IsOfAttr deleted_attr c → c ≡ Dead
+        by : (c : Content) → IsContentOfAttr deleted_attr c → c ≡ Dead
         by (Class d) e = absurd (let f : deleted_attr ≡ class_attr = e in cc)
         by (Name text parent) e = absurd (let f : deleted_attr ≡ name_attr = e in cc)
         by Dead e = refl
         by (Values vs) e = absurd (e.2 refl)
 
-    dead_is_good : IsTombstoned (updates_of rows) o → (u : Update) × Member u (object_rows_taken rows xs IsDead) → IsGood schema vector rows (Object o) (object_rows_taken rows xs IsDead)
+    dead_is_good : IsTombstoned (updates_of rows) o → (u : Update) × Member u (object_rows_taken rows xs IsDead) → MayBeTaken schema vector rows (Object o) (object_rows_taken rows xs IsDead)
     dead_is_good (d, m, is) some = record {
       put = part_put (Object o) xs spelled (object_rows_taken rows xs IsDead) (λ u n. (from_dead u n).0) (λ u n. (from_dead u n).2) (λ e n death u k. reserved u k) (held_place holds);
       keeps = (
@@ -183,7 +183,7 @@ module _ (schema : ℕ) (vector : Cursors) (rows : List Held) (rising : AreRisin
             row_said schema here.class o u k.0 k.1 (spelled.says u t.0) (subst (λ c. row_fault table c u ≡ None) held_class (tested_is xs held_tested u t.0))
             (λ d is says. absurd (both_ways (is_of_attr class_attr u.key) t.1 (attr_itself o class_attr u.key is)))
 
-        held_is_good : (u : Update) × Member u (object_rows_taken rows xs IsHeld) → IsGood schema vector rows (Object o) (object_rows_taken rows xs IsHeld)
+        held_is_good : (u : Update) × Member u (object_rows_taken rows xs IsHeld) → MayBeTaken schema vector rows (Object o) (object_rows_taken rows xs IsHeld)
         held_is_good some = record {
           put = part_put (Object o) xs spelled (object_rows_taken rows xs IsHeld) (λ u n. (from_held u n).0) (λ u n. (from_held u n).2) (bare_beside_death (above_of_held rows xs)) (held_place holds);
           keeps = (here.class, inl (record { of_class = here.of_class; said = said_of_held; dead = λ t. absurd (alive t) }));
@@ -224,7 +224,7 @@ module _ (schema : ℕ) (vector : Cursors) (rows : List Held) (rising : AreRisin
         birth_says : (class : ℕ) × (birth.0.said ≡ Holds (Class class))
         birth_says = let t = says_content birth.0.key birth.0.said o class_attr birth.2 (spelled.says birth.0 birth.1) in by t.0 t.1 t.2
           where
-            by : (c : Content) → birth.0.said ≡ Holds c → IsOfAttr class_attr c → (class : ℕ) × (birth.0.said ≡ Holds (Class class))
+            by : (c : Content) → birth.0.said ≡ Holds c → IsContentOfAttr class_attr c → (class : ℕ) × (birth.0.said ≡ Holds (Class class))
             by (Class d) says e = (d, says)
             by (Name text parent) says e = absurd (let f : class_attr ≡ name_attr = e in cc)
             by Dead says e = absurd (let f : class_attr ≡ deleted_attr = e in cc)
@@ -287,7 +287,7 @@ module _ (schema : ℕ) (vector : Cursors) (rows : List Held) (rising : AreRisin
         new_place : (p : Oid) → Object o ≡ Object p → HoldsObject (updates_of rows) p ⊎ (CoversBirth (at vector) p → ⊥)
         new_place p e = inr (subst (λ q. CoversBirth (at vector) q → ⊥) (let f : o ≡ p = cc in f) missed)
 
-        new_is_good : (u : Update) × Member u (left_by_death xs) → IsGood schema vector rows (Object o) (left_by_death xs)
+        new_is_good : (u : Update) × Member u (left_by_death xs) → MayBeTaken schema vector rows (Object o) (left_by_death xs)
         new_is_good some = record {
           put = part_put (Object o) xs spelled (left_by_death xs) (left_from xs) new_above (bare_beside_death xs) new_place;
           keeps = (class, inr (record { absent = absent; known = known; said = said_of_new; of_class = reserved class_attr refl birth; of_name = reserved name_attr refl (key_of name_attr parts.1); whole = all }));
@@ -304,8 +304,8 @@ module _ (schema : ℕ) (vector : Cursors) (rows : List Held) (rising : AreRisin
               )));
         }
 
-      object_good : incomplete table vector rows item ≡ None → (u : Update) × Member u (rows_taken vector rows item) → IsGood schema vector rows (Object o) (rows_taken vector rows item)
-      object_good whole = each_presence vector rows o (λ (p : Presence). (u : Update) × Member u (object_rows_taken rows xs p) → IsGood schema vector rows (Object o) (object_rows_taken rows xs p))
+      object_good : incomplete table vector rows item ≡ None → (u : Update) × Member u (rows_taken vector rows item) → MayBeTaken schema vector rows (Object o) (rows_taken vector rows item)
+      object_good whole = each_presence vector rows o (λ (p : Presence). (u : Update) × Member u (object_rows_taken rows xs p) → MayBeTaken schema vector rows (Object o) (object_rows_taken rows xs p))
           dead_is_good held_is_good (λ absent covers some. absurd some.1) (λ absent missed. new_is_good absent missed whole)
 
   -- ---- links
@@ -327,7 +327,7 @@ module _ (schema : ℕ) (vector : Cursors) (rows : List Held) (rising : AreRisin
     is_forward_link u m none = is_so (is_forward (kind_at table l.attr)) (NotLink l.attr) (not_mapped BreaksSchema (not_link_refusal table l.attr)
         (subst (λ k. row_fault table None (record { key = k; stamp = u.stamp; said = u.said }) ≡ None) (link_key u m) none))
 
-    there_is_good : IsThere vector rows l.from → IsThere vector rows l.to → Each (λ u. row_fault table None u ≡ None) xs → (u : Update) × Member u (filter (is_above rows) xs) → IsGood schema vector rows (Link l) (filter (is_above rows) xs)
+    there_is_good : IsThere vector rows l.from → IsThere vector rows l.to → Each (λ u. row_fault table None u ≡ None) xs → (u : Update) × Member u (filter (is_above rows) xs) → MayBeTaken schema vector rows (Link l) (filter (is_above rows) xs)
     there_is_good from to none some = record {
       put = part_put (Link l) xs spelled (filter (is_above rows) xs) (λ v n. (kept v n).0) (λ v n. (kept v n).1) (λ d n death. absurd (no_death d (kept d n).0 death)) (λ o e. absurd (cc));
       keeps = (is_forward_link some.0 (kept some.0 some.1).0 (none some.0 (kept some.0 some.1).0), each_end);
@@ -339,11 +339,11 @@ module _ (schema : ℕ) (vector : Cursors) (rows : List Held) (rising : AreRisin
         each_end o (inr (inl e)) = subst (IsThere vector rows) (sym e) to
         each_end o (inr (inr m)) = absurd m
 
-    link_good : item_fault table vector rows link ≡ None → (u : Update) × Member u (rows_taken vector rows link) → IsGood schema vector rows (Link l) (rows_taken vector rows link)
+    link_good : item_fault table vector rows link ≡ None → (u : Update) × Member u (rows_taken vector rows link) → MayBeTaken schema vector rows (Link l) (rows_taken vector rows link)
     link_good fault = by (is_lost_end vector rows l.from) refl (is_lost_end vector rows l.to) refl fault
       where
         by : (b : Bool) → is_lost_end vector rows l.from ≡ b → (c : Bool) → is_lost_end vector rows l.to ≡ c → first_of (map (row_fault table None) (cond (b || c) [] xs)) ≡ None
-            → (u : Update) × Member u (cond (b || c) [] (filter (is_above rows) xs)) → IsGood schema vector rows (Link l) (cond (b || c) [] (filter (is_above rows) xs))
+            → (u : Update) × Member u (cond (b || c) [] (filter (is_above rows) xs)) → MayBeTaken schema vector rows (Link l) (cond (b || c) [] (filter (is_above rows) xs))
         by true is c to none some = absurd some.1
         by false is true to none some = absurd some.1
         by false is false to none some = there_is_good (there_where_untested vector rows l.from is) (there_where_untested vector rows l.to to)
@@ -351,17 +351,17 @@ module _ (schema : ℕ) (vector : Cursors) (rows : List Held) (rising : AreRisin
 
   good : (unit : Named) (xs : List Update) → IsSpelledItem (record { unit = unit; rows = xs }) → item_fault table vector rows (record { unit = unit; rows = xs }) ≡ None
       → incomplete table vector rows (record { unit = unit; rows = xs }) ≡ None
-      → (u : Update) × Member u (rows_taken vector rows (record { unit = unit; rows = xs })) → IsGood schema vector rows unit (rows_taken vector rows (record { unit = unit; rows = xs }))
+      → (u : Update) × Member u (rows_taken vector rows (record { unit = unit; rows = xs })) → MayBeTaken schema vector rows unit (rows_taken vector rows (record { unit = unit; rows = xs }))
   good (Object o) xs spelled fault whole = object_good o xs spelled fault whole
   good (Link l) xs spelled fault whole = link_good l xs spelled fault
 
 pub item_may : (schema : ℕ) (vector : Cursors) (rows : List Held) (place : ℕ) (i : Item) → AreRising rows → AreFormedRows (numbered schema) (updates_of rows) → IsSpelledItem i
-    → item_refusal (numbered schema) vector rows place i ≡ None → (rows_taken vector rows i ≡ []) ⊎ IsGood schema vector rows i.unit (rows_taken vector rows i)
+    → item_refusal (numbered schema) vector rows place i ≡ None → (rows_taken vector rows i ≡ []) ⊎ MayBeTaken schema vector rows i.unit (rows_taken vector rows i)
 item_may schema vector rows place i rising formed spelled none = by (some_or_none (rows_taken vector rows i))
   where
     parts : (option_map (BadItem place) (item_fault (numbered schema) vector rows i) ≡ None) × (incomplete (numbered schema) vector rows i ≡ None)
     parts = neither (option_map (BadItem place) (item_fault (numbered schema) vector rows i)) (incomplete (numbered schema) vector rows i) none
 
-    by : (rows_taken vector rows i ≡ []) ⊎ ((u : Update) × Member u (rows_taken vector rows i)) → (rows_taken vector rows i ≡ []) ⊎ IsGood schema vector rows i.unit (rows_taken vector rows i)
+    by : (rows_taken vector rows i ≡ []) ⊎ ((u : Update) × Member u (rows_taken vector rows i)) → (rows_taken vector rows i ≡ []) ⊎ MayBeTaken schema vector rows i.unit (rows_taken vector rows i)
     by (inl e) = inl e
     by (inr some) = inr (good schema vector rows rising formed i.unit i.rows spelled (not_mapped (BadItem place) (item_fault (numbered schema) vector rows i) parts.0) parts.1 some)

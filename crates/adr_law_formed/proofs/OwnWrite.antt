@@ -27,37 +27,37 @@ use Rattle.adr_law_knowledge.proofs.Raised.{raised_is_vector, raised_up}
 use Rattle.adr_law_writing.proofs.Rooms.{cursors_within, objects_within_limit, links_within_limit}
 use Rattle.adr_law_writing.proofs.Issues.{change_of}
 use Rattle.adr_law_writing.proofs.Forms.{rows_stay_formed, classes_stay}
-use Rattle.adr_law_formed.specs.Spelled.{SaysOf}
-use Rattle.adr_law_formed.specs.Follow.{IsPlaced, HasKnownClasses, CanFollow}
+use Rattle.adr_law_formed.specs.Spelled.{IsSaidOfKey}
+use Rattle.adr_law_formed.specs.Follow.{MayWriteUnit, HasKnownClasses, CanFollow}
 use Rattle.adr_law_formed.proofs.TakenFollow.{nothing_is_vector}
 
 -- ---- what rows say
 
-pub says_of_well_said : (schema class : ℕ) (o : Oid) (u : Update) (attr : ℕ) → u.key ≡ RowOf o attr → IsWellSaid (numbered schema) class o u → SaysOf u.key u.said
-says_of_well_said schema class o u attr is well = subst (λ k. SaysOf k u.said) (sym is) (by attr is)
+pub says_of_well_said : (schema class : ℕ) (o : Oid) (u : Update) (attr : ℕ) → u.key ≡ RowOf o attr → IsWellSaid (numbered schema) class o u → IsSaidOfKey u.key u.said
+says_of_well_said schema class o u attr is well = subst (λ k. IsSaidOfKey k u.said) (sym is) (by attr is)
   where
-    by : (a : ℕ) → u.key ≡ RowOf o a → SaysOf (RowOf o a) u.said
+    by : (a : ℕ) → u.key ≡ RowOf o a → IsSaidOfKey (RowOf o a) u.said
     by zero e = absurd (well.none e)
-    by (suc zero) e = subst (SaysOf (RowOf o 1)) (sym (well.of_class e).0) refl
-    by (suc (suc zero)) e = let t = well.of_name e in subst (SaysOf (RowOf o 2)) (sym t.2) refl
-    by (suc (suc (suc zero))) e = subst (SaysOf (RowOf o 3)) (sym (well.of_death e)) refl
+    by (suc zero) e = subst (IsSaidOfKey (RowOf o 1)) (sym (well.of_class e).0) refl
+    by (suc (suc zero)) e = let t = well.of_name e in subst (IsSaidOfKey (RowOf o 2)) (sym t.2) refl
+    by (suc (suc (suc zero))) e = subst (IsSaidOfKey (RowOf o 3)) (sym (well.of_death e)) refl
     by (suc (suc (suc (suc n)))) e = let t = well.of_values (suc (suc (suc (suc n)))) (omega arith) e in
-        subst (SaysOf (RowOf o (suc (suc (suc (suc n)))))) (sym t.1) ((λ f. omega (arith, f)), (λ f. omega (arith, f)), (λ f. omega (arith, f)))
+        subst (IsSaidOfKey (RowOf o (suc (suc (suc (suc n)))))) (sym t.1) ((λ f. omega (arith, f)), (λ f. omega (arith, f)), (λ f. omega (arith, f)))
 
 module _ (s : State) where
-  pub says_of_written : (unit : Named) (us : List Update) → MayWrite s unit us → Each (λ u. SaysOf u.key u.said) us
+  pub says_of_written : (unit : Named) (us : List Update) → MayWrite s unit us → Each (λ u. IsSaidOfKey u.key u.said) us
   says_of_written (Object o) us may u m = let k = row_of_unit u.key o (may.put.of_unit u m) in by may.fits.0 may.fits.1 k.0 k.1
     where
-      by : (class : ℕ) → Changes s o class us ⊎ Comes s o class us → (attr : ℕ) → u.key ≡ RowOf o attr → SaysOf u.key u.said
+      by : (class : ℕ) → Changes s o class us ⊎ Comes s o class us → (attr : ℕ) → u.key ≡ RowOf o attr → IsSaidOfKey u.key u.said
       by class (inl c) attr is = says_of_well_said s.store.schema class o u attr is (c.said u m)
       by class (inr c) attr is = says_of_well_said s.store.schema class o u attr is (c.0.said u m)
   says_of_written (Link l) us may u m = let t = may.fits.said u m in
-      subst (λ k. SaysOf k u.said) (sym (link_of_unit u.key l (may.put.of_unit u m))) (subst (SaysOf (LinkOf l)) (sym t.1) tt)
+      subst (λ k. IsSaidOfKey k u.said) (sym (link_of_unit u.key l (may.put.of_unit u m))) (subst (IsSaidOfKey (LinkOf l)) (sym t.1) tt)
 
   -- ---- where the rows are written
 
   pub new_placed : (o : Oid) (class : ℕ) (us : List Update) → (HoldsObject (updates_of s.store.rows) o ⊎ (CoversBirth (at s.store.vector) o → ⊥)) → MayCome (numbered s.store.schema) (updates_of s.store.rows) o class us
-      → IsPlaced (numbered s.store.schema) s.store.vector s.store.rows (Object o) us
+      → MayWriteUnit (numbered s.store.schema) s.store.vector s.store.rows (Object o) us
   new_placed o class us place comes = inr (inr (
     comes.absent,
     ⊎_elim (λ h. absurd (comes.absent h)) (λ m. m) place,
@@ -69,10 +69,10 @@ module _ (s : State) where
     },
   ))
 
-  pub live_placed : (o : Oid) (us : List Update) → IsHeldAlive (updates_of s.store.rows) o → IsPlaced (numbered s.store.schema) s.store.vector s.store.rows (Object o) us
+  pub live_placed : (o : Oid) (us : List Update) → IsHeldAlive (updates_of s.store.rows) o → MayWriteUnit (numbered s.store.schema) s.store.vector s.store.rows (Object o) us
   live_placed o us live = inr (inl (live.1, live.0))
 
-  pub link_placed : (l : LinkKey) (us : List Update) → MayWrite s (Link l) us → IsPlaced (numbered s.store.schema) s.store.vector s.store.rows (Link l) us
+  pub link_placed : (l : LinkKey) (us : List Update) → MayWrite s (Link l) us → MayWriteUnit (numbered s.store.schema) s.store.vector s.store.rows (Link l) us
   link_placed l us may o m = let h = may.fits.ends o m in (h.1, inl h.0)
 
   -- ---- the whole
@@ -118,20 +118,22 @@ module _ (s : State) where
     }
 
     pub written_follows : s.mode ≡ Normal → (u : Update) × Member u item.rows → IsStrictlySortedBy key_order (map (λ (u : Update). u.key) item.rows) → Each (λ u. is_above s.store.rows u ≡ true) item.rows
-        → IsPlaced (numbered s.store.schema) s.store.vector s.store.rows item.unit item.rows → CanFollow s (change_of s item)
+        → MayWriteUnit (numbered s.store.schema) s.store.vector s.store.rows item.unit item.rows → CanFollow s (change_of s item)
     written_follows normal some rise above placed = record {
-      normal = normal;
-      rises = omega arith;
-      locals = (omega arith, omega arith, tt);
-      mark = tt;
-      joined = nothing_is_vector;
-      purged = nothing_is_vector;
-      writes = (
-        record { some = some; form = record { of_unit = may.put.of_unit; rising = rise; says = says_of_written item.unit item.rows may }; greater = above; placed = placed },
-        (objects_within_limit s item.rows stands are item.unit may formed.store.limits.objects, links_within_limit s item.rows stands are item.unit may rising formed.store.limits.links),
-        tt,
-      );
-      removed = λ o m. absurd m;
+      goes_on = record {
+        normal = normal;
+        rises = omega arith;
+        locals = (omega arith, omega arith, tt);
+        mark = tt;
+        joined = nothing_is_vector;
+        purged = nothing_is_vector;
+        writes = (
+          record { some = some; form = record { of_unit = may.put.of_unit; rising = rise; says = says_of_written item.unit item.rows may }; greater = above; unit = placed },
+          (objects_within_limit s item.rows stands are item.unit may formed.store.limits.objects, links_within_limit s item.rows stands are item.unit may rising formed.store.limits.links),
+          tt,
+        );
+        removed = λ o m. absurd m;
+      };
       formed = record { store = store; own = (let here = raised_here s.store.vector s.inv (s.store.usn + 1) in omega (arith, here, formed.own)) };
       classes = classes_stay s item.rows stands are item.unit may known;
     }

@@ -1,26 +1,26 @@
 -- Writes that follow, one after the other: order, local USNs and live ends stay, and objects that aren't written to stay as they were.
-use Rattle.std.proofs.Common.{◌≡◌, ◌⊎◌, inl, inr, ⊎_elim, ℕ, ◌≤◌, ◌<◌, List, [], ◌∷◌, refl, sym, ap, ◌∙◌, subst, fold, arith, append-nil}
+use Rattle.std.proofs.Common.{◌≡◌, inl, inr, ⊎_elim, ℕ, ◌≤◌, ◌<◌, List, [], ◌∷◌, refl, sym, ap, ◌∙◌, subst, fold, arith, append-nil}
 use Rattle.adr_stamp.specs.declared.Oid.{Oid}
 use Rattle.adr_stamp.specs.declared.LinkKey.{LinkKey}
 use Rattle.adr_stamp.specs.declared.Unit.{Unit as Named}
 use Rattle.adr_stamp.specs.declared.Unit.TheVariants.{Object, Link}
 use Rattle.adr_schema.specs.Table.{Table}
-use Rattle.adr_vector.specs.Vector.{Cursors, at}
+use Rattle.adr_vector.specs.Vector.{Cursors}
 use Rattle.adr_model.specs.Member.{Member, Each}
-use Rattle.adr_model.specs.Update.{Update, RowOf, LinkOf, deleted_attr}
-use Rattle.adr_model.specs.Reflects.{CoversBirth, HoldsObject, IsTombstoned}
+use Rattle.adr_model.specs.Update.{Update, RowOf, LinkOf}
+use Rattle.adr_model.specs.Reflects.{IsTombstoned}
 use Rattle.adr_model.specs.Store.{Held, updates_of}
-use Rattle.adr_model.specs.Change.{Item, Written, put, held_of, rows_after}
+use Rattle.adr_model.specs.Change.{Written, put, held_of, rows_after}
 use Rattle.adr_model.specs.Formed.{AreRising, AreAlone}
 use Rattle.adr_model.proofs.Members.{mapped_member}
-use Rattle.adr_law_steps.specs.Puts.{held_at, under, MayPut, ArePut}
+use Rattle.adr_law_steps.specs.Puts.{held_at, under, ArePut}
 use Rattle.adr_law_steps.proofs.Rows.{no_link_row, same_link}
 use Rattle.adr_law_steps.proofs.Putting.{rising_are_put}
 use Rattle.adr_law_steps.proofs.Order.{puts_rise, stay_alone}
 use Rattle.adr_law_steps.proofs.FormedRows.{stood, link_goes_from, link_goes_to}
 use Rattle.adr_law_steps.proofs.FormedOther.{other_back, other_to, end_lives}
-use Rattle.adr_law_formed.specs.Spelled.{IsSpelledItem}
-use Rattle.adr_law_formed.specs.Follow.{IsPlaced, MayFollow, AreFew, AreFollowing, AreLocals, behind_write}
+use Rattle.adr_law_formed.specs.Spelled.{IsSpelledItem, AreLocalsRising}
+use Rattle.adr_law_formed.specs.Follow.{MayWriteUnit, MayFollow, AreWithinLimits, MayFollowInTurn, after_write}
 use Rattle.adr_law_formed.proofs.Writes.{in_turn}
 
 -- no link has a dead end
@@ -44,13 +44,13 @@ pub record IsInOrder (rows : List Held) (usn : ℕ) : Type 0 where
 pub record ArePassed (before after : List Held) (ws : List Written) (usn : ℕ) : Type 0 where
   pub order : IsInOrder after usn
   pub same : (q : Oid) → IsUntouched ws q → HasSame (updates_of before) (updates_of after) q
-  pub few : AreFew before → AreFew after
+  pub few : AreWithinLimits before → AreWithinLimits after
   pub spelled : Each (λ (w : Written). IsSpelledItem w.item) ws
 
 module _ (table : Table) (vector : Cursors) where
   module _ (rows : List Held) (usn : ℕ) (way : IsInOrder rows usn) (w : Written) (may : MayFollow table vector rows w.item) (above : usn < w.local) where
     abbrev next : List Held
-    next = behind_write rows w
+    next = after_write rows w
 
     next_is : fold put rows (under w.local w.item.rows) ≡ next
     next_is = ap (fold put rows) (sym (append-nil (under w.local w.item.rows)))
@@ -72,7 +72,7 @@ module _ (table : Table) (vector : Cursors) where
         new (Object o) e n = absurd (no_link_row r.key o l (may.form.of_unit r n ∙ e) is)
         new (Link k) e n =
             let same : l ≡ k = same_link r.key k l (may.form.of_unit r n ∙ e) is in
-            let placed : IsPlaced table vector rows (Link k) w.item.rows = subst (λ u. IsPlaced table vector rows u w.item.rows) e may.placed in
+            let placed : MayWriteUnit table vector rows (Link k) w.item.rows = subst (λ u. MayWriteUnit table vector rows u w.item.rows) e may.unit in
             subst (λ (j : LinkKey). (IsTombstoned (updates_of rows) j.from → ⊥) × (IsTombstoned (updates_of rows) j.to → ⊥)) (sym same) ((placed k.from (inl refl)).0, (placed k.to (inr (inl refl))).0)
 
     live : AreLinksLive (updates_of next)
@@ -96,16 +96,16 @@ module _ (table : Table) (vector : Cursors) where
   abbrev behind_all : List Held → List Written → List Held
   behind_all rows ws = rows_after [] (held_of ws) rows
 
-  pub all_pass : (ws : List Written) (rows : List Held) (usn last : ℕ) → IsInOrder rows usn → usn ≤ last → AreFollowing table vector rows ws → AreLocals usn last ws → ArePassed rows (behind_all rows ws) ws last
+  pub all_pass : (ws : List Written) (rows : List Held) (usn last : ℕ) → IsInOrder rows usn → usn ≤ last → MayFollowInTurn table vector rows ws → AreLocalsRising usn last ws → ArePassed rows (behind_all rows ws) ws last
   all_pass [] rows usn last way le follow locals = record {
     order = record { rising = way.rising; alone = way.alone; locals = λ h m. ((way.locals h m).0, omega (arith, (way.locals h m).1, le)); live = way.live };
     same = λ q none. record { to = λ r attr is m. m; back = λ r attr is m. m };
     few = λ few. few;
     spelled = λ w m. absurd m;
   }
-  all_pass (w ∷ ws) rows usn last way le follow locals = subst (λ after. ArePassed rows after (w ∷ ws) last) (sym (in_turn rows w ws)) (more (all_pass ws (behind_write rows w) w.local last (order rows usn way w follow.0 locals.0) locals.1 follow.2 locals.2))
+  all_pass (w ∷ ws) rows usn last way le follow locals = subst (λ after. ArePassed rows after (w ∷ ws) last) (sym (in_turn rows w ws)) (more (all_pass ws (after_write rows w) w.local last (order rows usn way w follow.0 locals.0) locals.1 follow.2 locals.2))
     where
-      more : ArePassed (behind_write rows w) (behind_all (behind_write rows w) ws) ws last → ArePassed rows (behind_all (behind_write rows w) ws) (w ∷ ws) last
+      more : ArePassed (after_write rows w) (behind_all (after_write rows w) ws) ws last → ArePassed rows (behind_all (after_write rows w) ws) (w ∷ ws) last
       more rest = record {
         order = rest.order;
         same = λ q none. both q (same rows usn way w follow.0 locals.0 q (none w (inl refl))) (rest.same q (λ v m. none v (inr m)));
@@ -113,8 +113,8 @@ module _ (table : Table) (vector : Cursors) where
         spelled = each;
       }
         where
-          both : (q : Oid) → HasSame (updates_of rows) (updates_of (behind_write rows w)) q → HasSame (updates_of (behind_write rows w)) (updates_of (behind_all (behind_write rows w) ws)) q
-              → HasSame (updates_of rows) (updates_of (behind_all (behind_write rows w) ws)) q
+          both : (q : Oid) → HasSame (updates_of rows) (updates_of (after_write rows w)) q → HasSame (updates_of (after_write rows w)) (updates_of (behind_all (after_write rows w) ws)) q
+              → HasSame (updates_of rows) (updates_of (behind_all (after_write rows w) ws)) q
           both q first second = record {
             to = λ r attr is m. second.to r attr is (first.to r attr is m);
             back = λ r attr is m. first.back r attr is (second.back r attr is m);

@@ -20,17 +20,17 @@ use Rattle.adr_law_steps.specs.Forms.{IsWellSaid}
 use Rattle.adr_law_knowledge.proofs.Refusing.{is_so, none_there, not_mapped}
 use Rattle.adr_law_writing.proofs.Saids.{class_well_said, name_well_said, death_well_said, values_well_said}
 use Rattle.adr_law_writing.proofs.Values.{plain_is_above}
-use Rattle.adr_law_formed.specs.Spelled.{IsOfAttr, SaysOf}
+use Rattle.adr_law_formed.specs.Spelled.{IsContentOfAttr, IsSaidOfKey}
 
 -- neither of two comes where none comes first
 pub neither : {A : Type 0} → (a b : Option A) → first_of (a ∷ b ∷ []) ≡ None → (a ≡ None) × (b ≡ None)
 neither a b e = let each = none_there (a ∷ b ∷ []) e in (each a (inl refl), each b (inr (inl refl)))
 
 -- a row of an object has content, and that of its attribute
-pub says_content : (k : Key) (said : Said) (o : Oid) (attr : ℕ) → k ≡ RowOf o attr → SaysOf k said → (c : Content) × (said ≡ Holds c) × IsOfAttr attr c
-says_content k said o attr is says = by said (subst (λ j. SaysOf j said) is says)
+pub says_content : (k : Key) (said : Said) (o : Oid) (attr : ℕ) → k ≡ RowOf o attr → IsSaidOfKey k said → (c : Content) × (said ≡ Holds c) × IsContentOfAttr attr c
+says_content k said o attr is says = by said (subst (λ j. IsSaidOfKey j said) is says)
   where
-    by : (said : Said) → SaysOf (RowOf o attr) said → (c : Content) × (said ≡ Holds c) × IsOfAttr attr c
+    by : (said : Said) → IsSaidOfKey (RowOf o attr) said → (c : Content) × (said ≡ Holds c) × IsContentOfAttr attr c
     by (Holds c) of = (c, refl, of)
     by (IsPresent b) of = absurd of
 
@@ -61,7 +61,7 @@ module _ (schema class : ℕ) (o : Oid) (u : Update) where
       let f = neither (then_some (not (is_birth o u)) WrongBirth) (broken (class_refusal table d)) (fault_of c class_attr (Class d) is says none) in
       (is_so (is_birth o u) WrongBirth f.0, known_where_not_refused table d (not_mapped BreaksSchema (class_refusal table d) f.1))
 
-  content_said : (attr : ℕ) (content : Content) → u.key ≡ RowOf o attr → u.said ≡ Holds content → IsOfAttr attr content → row_fault table (Some class) u ≡ None → SaysNoOther → IsWellSaid table class o u
+  content_said : (attr : ℕ) (content : Content) → u.key ≡ RowOf o attr → u.said ≡ Holds content → IsContentOfAttr attr content → row_fault table (Some class) u ≡ None → SaysNoOther → IsWellSaid table class o u
   content_said attr (Class d) is says of none other =
       let key : u.key ≡ RowOf o class_attr = is ∙ ap (λ a. RowOf o a) of in
       class_well_said table class o u key (says ∙ ap (λ n. Holds (Class n)) (other d key says)) (class_row_says (Some class) d key says none).0
@@ -75,5 +75,5 @@ module _ (schema class : ℕ) (o : Oid) (u : Update) where
       may : MayBeHeld table class attr vs
       may = may_be_held table class attr vs (not_mapped BreaksSchema (row_refusal table (Some class) attr vs) (fault_of (Some class) attr (Values vs) is says none))
 
-  pub row_said : (attr : ℕ) → u.key ≡ RowOf o attr → SaysOf u.key u.said → row_fault table (Some class) u ≡ None → SaysNoOther → IsWellSaid table class o u
+  pub row_said : (attr : ℕ) → u.key ≡ RowOf o attr → IsSaidOfKey u.key u.said → row_fault table (Some class) u ≡ None → SaysNoOther → IsWellSaid table class o u
   row_said attr is says none other = let t = says_content u.key u.said o attr is says in content_said attr t.0 is t.1 t.2 none other

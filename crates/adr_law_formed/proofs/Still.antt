@@ -17,12 +17,13 @@ use Rattle.adr_vector.proofs.Joining.{raised_here, rising-raised, from_one-raise
 use Rattle.adr_event.specs.declared.refusal.Table.TheVariants.{Cursors as CursorTable}
 use Rattle.adr_event.specs.declared.refusal.AdoptRefusal.TheVariants.{IdentifierUsed, Full}
 use Rattle.adr_model.specs.Update.{Identifier, inv_of, same_identifier, ends}
-use Rattle.adr_model.specs.Store.{Held, Kept, Normal, Store, State, updates_of}
+use Rattle.adr_model.specs.Store.{Held, Kept, Normal, Store, State, updates_of, empty_state}
 use Rattle.adr_model.specs.Formed.{IsFormedStore, IsFormed}
 use Rattle.adr_model.specs.Sound.{AreClassesKnown}
 use Rattle.adr_model.specs.Collect.{names_inv, woken, adopt_refusal, adopt, quarantine}
 use Rattle.adr_law_knowledge.proofs.Refusing.{answered}
 use Rattle.adr_law_knowledge.proofs.Raised.{raised_up}
+use Rattle.adr_law_logs.proofs.Empty.{empty_is_formed}
 use Rattle.adr_law_formed.specs.Follow.{HasKnownClasses, CanFollow}
 use Rattle.adr_law_formed.proofs.Said.{neither}
 use Rattle.adr_law_formed.proofs.TakenFollow.{nothing_is_vector}
@@ -48,14 +49,16 @@ with_vector s v formed vector up = record {
 
 pub quarantine_follows : (s : State) → IsFormed s → HasKnownClasses s → s.mode ≡ Normal → CanFollow s (quarantine s)
 quarantine_follows s formed classes normal = record {
-  normal = normal;
-  rises = omega arith;
-  locals = tt;
-  mark = tt;
-  joined = nothing_is_vector;
-  purged = nothing_is_vector;
-  writes = tt;
-  removed = λ o m. absurd m;
+  goes_on = record {
+    normal = normal;
+    rises = omega arith;
+    locals = tt;
+    mark = tt;
+    joined = nothing_is_vector;
+    purged = nothing_is_vector;
+    writes = tt;
+    removed = λ o m. absurd m;
+  };
   formed = record {
     store = with_vector s.store (raised s.store.vector s.inv s.store.usn) formed.store (subst IsVector (sym same) formed.store.vector) (raised_up s.store.vector s.inv s.store.usn);
     own = (let here = raised_here s.store.vector s.inv s.store.usn in omega (arith, here, formed.own));
@@ -107,3 +110,6 @@ adopted_is_formed image dsa inv s formed e =
 
 pub adopted_has_known_classes : (image : Store) (dsa inv : Identifier) (s : State) → AreClassesKnown (numbered image.schema) (updates_of image.rows) → adopt image dsa inv ≡ Ok s → HasKnownClasses s
 adopted_has_known_classes image dsa inv s classes e = subst HasKnownClasses (answered (adopt_refusal image inv (woken image dsa inv)) (woken image dsa inv) s e).1 classes
+
+pub new_is_formed : (dsa inv : Identifier) → IsFormed (empty_state dsa inv) × HasKnownClasses (empty_state dsa inv)
+new_is_formed dsa inv = (record { store = empty_is_formed; own = refl }, λ u m. absurd m)

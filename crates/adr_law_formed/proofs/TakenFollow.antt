@@ -7,7 +7,6 @@ use Rattle.std.proofs.lemmas.Bool.{ltb-false}
 use Rattle.adr_schema.specs.Numbered.{numbered}
 use Rattle.adr_schema.proofs.ExactCalls.{not_then}
 use Rattle.adr_vector.specs.Vector.{Cursors, IsVector, at, joined, first_gap, cursor_limit}
-use Rattle.adr_vector.proofs.Cursors.{nil_rising}
 use Rattle.adr_vector.proofs.Comparing.{everywhere_from_at_most, at_most_from_everywhere}
 use Rattle.adr_vector.proofs.Joining.{at-joined, raised_here, rising-raised, from_one-raised, rising-joined, from_one-joined}
 use Rattle.adr_event.specs.declared.refusal.Table.{Table}
@@ -29,17 +28,18 @@ use Rattle.adr_model.specs.Write.{object_limit, link_limit, usn_limit, links_in}
 use Rattle.adr_model.specs.Take.{Taking, same_mark, kept_mark, shown_by_last, passes, mark_limit, take_items, taken_change, refusal_of, take}
 use Rattle.adr_law_knowledge.proofs.Refusing.{none_there, answered}
 use Rattle.adr_law_knowledge.proofs.Raised.{raised_up}
+use Rattle.adr_law_logs.proofs.Empty.{empty_is_formed}
 use Rattle.adr_law_logs.proofs.Leaving.{each_mark}
 use Rattle.adr_law_taking.proofs.Items.{objects_within, links_within}
 use Rattle.adr_law_formed.specs.Spelled.{IsSpelledReply}
-use Rattle.adr_law_formed.specs.Bare.{AreBare}
+use Rattle.adr_law_formed.specs.Taken.{AreBare}
 use Rattle.adr_law_formed.specs.Follow.{HasKnownClasses, CanFollow}
-use Rattle.adr_law_formed.specs.OnWay.{IsOnWay}
+use Rattle.adr_law_formed.specs.SoFar.{IsFormedSoFar}
 use Rattle.adr_law_formed.proofs.ItemStep.{items_on_way}
-use Rattle.adr_law_formed.proofs.Ranges.{taken_rows_from}
+use Rattle.adr_law_formed.proofs.Whence.{taken_rows_from}
 
 pub nothing_is_vector : IsVector []
-nothing_is_vector = record { rising = nil_rising; from_one = tt; few = omega arith }
+nothing_is_vector = empty_is_formed.vector
 
 pub normal_where_not_quarantined : (m : Mode) → is_quarantined m ≡ false → m ≡ Normal
 normal_where_not_quarantined Normal e = refl
@@ -112,7 +112,7 @@ module _ (s : State) (r : Reply) (formed : IsFormed s) (classes : HasKnownClasse
   shown_is (Some v) = refl
 
   module _ (so : IsTakenSo s r now d) where
-    way : IsOnWay s now
+    way : IsFormedSoFar s now
     way = items_on_way s r.items formed classes spelled.items so.whole
 
     -- the own cursor is the USN: what the last reply shows of it isn't more
@@ -154,14 +154,16 @@ module _ (s : State) (r : Reply) (formed : IsFormed s) (classes : HasKnownClasse
 
     follows : CanFollow s change
     follows = record {
-      normal = so.normal;
-      rises = way.rises;
-      locals = way.spaced;
-      mark = spelled.to;
-      joined = spelled.last;
-      purged = nothing_is_vector;
-      writes = way.follow so.objects so.links;
-      removed = λ o m. absurd m;
+      goes_on = record {
+        normal = so.normal;
+        rises = way.rises;
+        locals = way.spaced;
+        mark = spelled.to;
+        joined = spelled.last;
+        purged = nothing_is_vector;
+        writes = way.follow so.objects so.links;
+        removed = λ o m. absurd m;
+      };
       formed = record { store = store; own = own };
       classes = known;
     }

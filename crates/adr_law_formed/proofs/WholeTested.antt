@@ -1,5 +1,5 @@
 -- The whole test tells what can follow.
-use Rattle.std.proofs.Common.{◌≡◌, inl, inr, ℕ, List, [], ◌∷◌, Bool, true, false, Option, Some, None, refl, sym, ap, ◌∙◌, subst, not, ◌&&◌, ◌||◌, length}
+use Rattle.std.proofs.Common.{◌≡◌, inl, inr, ℕ, List, [], Bool, true, false, Option, Some, None, refl, sym, ap, ◌∙◌, subst, not, ◌&&◌, ◌||◌, length}
 use Rattle.std.specs.Prelude.{nat_le, is_none}
 use Rattle.std.specs.List.{list_all}
 use Rattle.std.specs.Option.{option_map_or}
@@ -27,12 +27,13 @@ use Rattle.adr_law_taking.proofs.Tests.{IsFound, row_found, holds_where_tested, 
 use Rattle.adr_law_steps.proofs.Rising.{removals_rise}
 use Rattle.adr_law_writing.proofs.Stamps.{row_held_is}
 use Rattle.adr_law_formed.specs.Follow.{IsRemovable, HasKnownClasses, CanFollow}
-use Rattle.adr_law_formed.specs.Touched.{IsUnitFormed, AreTouchedFormed, CanFollowByUnits}
-use Rattle.adr_law_formed.specs.Test.{IsSpelledChange, are_following, is_removable, is_object_formed, is_touched_formed, can_follow}
+use Rattle.adr_law_formed.specs.Touched.{IsInForm, AreTouchedInForm, CanFollowByTouched}
+use Rattle.adr_law_formed.specs.Spelled.{IsSpelledChange}
+use Rattle.adr_law_formed.specs.Tested.{may_follow_in_turn, is_removable, is_object_formed, is_touched_formed, can_follow}
 use Rattle.adr_law_formed.proofs.TakenFollow.{normal_where_not_quarantined}
 use Rattle.adr_law_formed.proofs.WritesTested.{all_pass, passes_all, following_where_tested, tested_where_following}
 use Rattle.adr_law_formed.proofs.UnitTested.{unit_where_tested, tested_where_unit}
-use Rattle.adr_law_formed.proofs.ByUnits.{units_are_enough, units_are_asked}
+use Rattle.adr_law_formed.proofs.ByTouched.{touched_is_enough, touched_is_asked}
 
 -- ---- removed objects
 
@@ -59,7 +60,7 @@ module _ (schema : ℕ) (rows : List Held) (rising : AreRising rows) where
   abbrev table : Table
   table = numbered schema
 
-  nothing_formed : (o : Oid) → (HoldsObject (updates_of rows) o → ⊥) → IsUnitFormed table (updates_of rows) o
+  nothing_formed : (o : Oid) → (HoldsObject (updates_of rows) o → ⊥) → IsInForm table (updates_of rows) o
   nothing_formed o absent = record {
     none = λ r m is. absent (r, 0, m, is);
     births = λ r m is. absurd (absent (r, class_attr, m, is));
@@ -68,14 +69,14 @@ module _ (schema : ℕ) (rows : List Held) (rising : AreRising rows) where
     formed = λ h. absurd (absent h);
   }
 
-  object_tells : (o : Oid) → is_touched_formed table rows (Object o) ≡ true → IsUnitFormed table (updates_of rows) o
+  object_tells : (o : Oid) → is_touched_formed table rows (Object o) ≡ true → IsInForm table (updates_of rows) o
   object_tells o h = by (holds_object rows o) refl h
     where
-      by : (b : Bool) → holds_object rows o ≡ b → (not b || is_object_formed table rows o) ≡ true → IsUnitFormed table (updates_of rows) o
+      by : (b : Bool) → holds_object rows o ≡ b → (not b || is_object_formed table rows o) ≡ true → IsInForm table (updates_of rows) o
       by true is t = unit_where_tested schema rows rising o t
       by false is t = nothing_formed o (lacks_where_untested rows o is)
 
-  object_passes : (o : Oid) → IsUnitFormed table (updates_of rows) o → is_touched_formed table rows (Object o) ≡ true
+  object_passes : (o : Oid) → IsInForm table (updates_of rows) o → is_touched_formed table rows (Object o) ≡ true
   object_passes o f = by (holds_object rows o) refl
     where
       by : (b : Bool) → holds_object rows o ≡ b → (not b || is_object_formed table rows o) ≡ true
@@ -105,13 +106,13 @@ module _ (schema : ℕ) (rows : List Held) (rising : AreRising rows) where
       by p (inl (x, m, e, g)) = subst (λ (q : Option Held). (is_none q || is_forward (kind_at table l.attr)) ≡ true) (sym g) (f x.update (updated rows x m) e)
       by p (inr (none, g)) = subst (λ (q : Option Held). (is_none q || is_forward (kind_at table l.attr)) ≡ true) (sym g) refl
 
-  touched_tells : (c : Change) → list_all (λ (w : Written). is_touched_formed table rows w.item.unit) c.writes ≡ true → AreTouchedFormed table (updates_of rows) c
+  touched_tells : (c : Change) → list_all (λ (w : Written). is_touched_formed table rows w.item.unit) c.writes ≡ true → AreTouchedInForm table (updates_of rows) c
   touched_tells c h = record {
     objects = λ w m o e. object_tells o (subst (λ u. is_touched_formed table rows u ≡ true) e (all_pass (λ (v : Written). is_touched_formed table rows v.item.unit) c.writes h w m));
     links = λ w m l e. link_tells l (subst (λ u. is_touched_formed table rows u ≡ true) e (all_pass (λ (v : Written). is_touched_formed table rows v.item.unit) c.writes h w m));
   }
 
-  touched_passes : (c : Change) → AreTouchedFormed table (updates_of rows) c → list_all (λ (w : Written). is_touched_formed table rows w.item.unit) c.writes ≡ true
+  touched_passes : (c : Change) → AreTouchedInForm table (updates_of rows) c → list_all (λ (w : Written). is_touched_formed table rows w.item.unit) c.writes ≡ true
   touched_passes c f = passes_all (λ (w : Written). is_touched_formed table rows w.item.unit) c.writes (λ w m. by w m w.item.unit refl)
     where
       by : (w : Written) → Member w c.writes → (u : Named) → w.item.unit ≡ u → is_touched_formed table rows u ≡ true
@@ -135,17 +136,19 @@ follows_where_tested s c formed known spelled h =
     let e = and_parts _ (at_most c.purged (after s c).store.vector) d.0 in
     let f = and_parts _ (nat_le (at c.joined s.inv) c.usn) e.0 in
     let i = and_parts _ (list_all (is_removable (rows_after [] (held_of c.writes) s.store.rows) (after s c).store.purged) c.removed) f.0 in
-    let j = and_parts _ (are_following (numbered s.store.schema) s.store.vector s.store.rows c.writes) i.0 in
+    let j = and_parts _ (may_follow_in_turn (numbered s.store.schema) s.store.vector s.store.rows c.writes) i.0 in
     let k = and_parts (not (is_quarantined s.mode)) (nat_le s.store.usn c.usn) j.0 in
-    units_are_enough s c formed known (record {
-      normal = normal_where_not_quarantined s.mode (not-true (is_quarantined s.mode) k.0);
-      rises = leb-true s.store.usn c.usn k.1;
-      locals = spelled.locals;
-      mark = spelled.mark;
-      joined = spelled.joined;
-      purged = spelled.purged;
-      writes = following_where_tested (numbered s.store.schema) s.store.vector s.store.rows c.writes spelled.items j.1;
-      removed = λ o m. removable_where_tested (rows_after [] (held_of c.writes) s.store.rows) (after s c).store.purged o (all_pass (is_removable (rows_after [] (held_of c.writes) s.store.rows) (after s c).store.purged) c.removed i.1 o m);
+    touched_is_enough s c formed known (record {
+      goes_on = record {
+        normal = normal_where_not_quarantined s.mode (not-true (is_quarantined s.mode) k.0);
+        rises = leb-true s.store.usn c.usn k.1;
+        locals = spelled.locals;
+        mark = spelled.mark;
+        joined = spelled.joined;
+        purged = spelled.purged;
+        writes = following_where_tested (numbered s.store.schema) s.store.vector s.store.rows c.writes spelled.items j.1;
+        removed = λ o m. removable_where_tested (rows_after [] (held_of c.writes) s.store.rows) (after s c).store.purged o (all_pass (is_removable (rows_after [] (held_of c.writes) s.store.rows) (after s c).store.purged) c.removed i.1 o m);
+      };
       touched = touched_tells s.store.schema (after s c).store.rows (rows_rise s c formed) c a.1;
       own = leb-true (at c.joined s.inv) c.usn f.1;
       within = everywhere_from_at_most c.purged (after s c).store.vector e.1;
@@ -155,14 +158,14 @@ follows_where_tested s c formed known spelled h =
 
 pub tested_where_follows : (s : State) (c : Change) → IsFormed s → CanFollow s c → can_follow s c ≡ true
 tested_where_follows s c formed can =
-    let f : CanFollowByUnits s c = units_are_asked s c formed can in
+    let f : CanFollowByTouched s c = touched_is_asked s c formed can in
     and_from _ _ (and_from _ _ (and_from _ _ (and_from _ _ (and_from _ _ (and_from _ _ (and_from _ _ (and_from _ _
-    (ap (λ m. not (is_quarantined m)) f.normal)
-    (le-leb s.store.usn c.usn f.rises))
-    (tested_where_following (numbered s.store.schema) s.store.vector s.store.rows c.writes f.writes))
-    (passes_all (is_removable (rows_after [] (held_of c.writes) s.store.rows) (after s c).store.purged) c.removed (λ o m. tested_where_removable (rows_after [] (held_of c.writes) s.store.rows) (after s c).store.purged o (written_rise s c formed) (f.removed o m))))
+    (ap (λ m. not (is_quarantined m)) f.goes_on.normal)
+    (le-leb s.store.usn c.usn f.goes_on.rises))
+    (tested_where_following (numbered s.store.schema) s.store.vector s.store.rows c.writes f.goes_on.writes))
+    (passes_all (is_removable (rows_after [] (held_of c.writes) s.store.rows) (after s c).store.purged) c.removed (λ o m. tested_where_removable (rows_after [] (held_of c.writes) s.store.rows) (after s c).store.purged o (written_rise s c formed) (f.goes_on.removed o m))))
     (le-leb (at c.joined s.inv) c.usn f.own))
-    (at_most_from_everywhere c.purged (after s c).store.vector f.purged.rising f.within))
+    (at_most_from_everywhere c.purged (after s c).store.vector f.goes_on.purged.rising f.within))
     (le-leb (length (after s c).store.vector) cursor_limit f.cursors))
     (le-leb (length (after s c).store.marks) mark_limit f.marks))
     (touched_passes s.store.schema (after s c).store.rows (rows_rise s c formed) c f.touched)

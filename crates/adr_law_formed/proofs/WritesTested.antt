@@ -12,18 +12,18 @@ use Rattle.adr_schema.specs.Table.{Table, has, must_of}
 use Rattle.adr_vector.specs.Vector.{Cursors, at}
 use Rattle.adr_model.specs.Member.{Member, Each}
 use Rattle.adr_model.specs.Update.{RowOf, LinkOf, Update, Holds, ends, class_attr, name_attr, deleted_attr}
-use Rattle.adr_model.specs.Reflects.{CoversBirth, IsDeath, IsDeathOf, HoldsObject, IsTombstoned}
+use Rattle.adr_model.specs.Reflects.{CoversBirth, IsDeathOf, HoldsObject, IsTombstoned}
 use Rattle.adr_model.specs.Store.{Held, updates_of}
 use Rattle.adr_model.specs.Change.{Item, Written}
-use Rattle.adr_model.specs.Take.{is_above, is_of_attr, is_reserved_row, has_row, lacks, class_among, class_said, is_lost_end, Presence}
+use Rattle.adr_model.specs.Take.{is_above, is_of_attr, has_row, lacks, class_among, class_said, is_lost_end, Presence}
 use Rattle.adr_model.proofs.Members.{found, each_fails, none_passes, one_passes}
 use Rattle.adr_model.proofs.Members.{some_passes}
 use Rattle.adr_law_steps.specs.Forms.{HasKey}
 use Rattle.adr_law_steps.proofs.Rows.{row_of_unit}
-use Rattle.adr_law_taking.proofs.Standings.{each_presence, IsThere, there_where_untested, lost_where_tested, of_attr, attr_itself, has_where_tested, tested_where_has, is_death}
-use Rattle.adr_law_formed.specs.Spelled.{IsOfAttr, IsSpelledItem}
-use Rattle.adr_law_formed.specs.Follow.{IsWhole, IsPlaced, MayFollow, AreFew, AreFollowing, behind_write}
-use Rattle.adr_law_formed.specs.Test.{is_object_placed, is_placed, may_follow, are_few, are_following}
+use Rattle.adr_law_taking.proofs.Standings.{each_presence, IsThere, there_where_untested, lost_where_tested, of_attr, attr_itself, has_where_tested, tested_where_has}
+use Rattle.adr_law_formed.specs.Spelled.{IsContentOfAttr, IsSpelledItem}
+use Rattle.adr_law_formed.specs.Follow.{IsWhole, MayWriteUnit, MayFollow, AreWithinLimits, MayFollowInTurn, after_write}
+use Rattle.adr_law_formed.specs.Tested.{may_write_object, may_write_unit, may_follow, are_within_limits, may_follow_in_turn}
 use Rattle.adr_law_formed.proofs.Sorted.{one_of_key}
 use Rattle.adr_law_formed.proofs.Said.{says_content}
 
@@ -80,7 +80,7 @@ module _ (table : Table) (o : Oid) (us : List Update) (spelled : IsSpelledItem (
       made : HasKey us o class_attr → HasKey us o name_attr → IsWhole table o us
       made b n = by b_says.0 b_says.1 b_says.2
         where
-          b_says : (c : Content) × (b.0.said ≡ Holds c) × IsOfAttr class_attr c
+          b_says : (c : Content) × (b.0.said ≡ Holds c) × IsContentOfAttr class_attr c
           b_says = says_content b.0.key b.0.said o class_attr b.2 (spelled.says b.0 b.1)
 
           all : (class : ℕ) → b.0.said ≡ Holds (Class class) → (d : Bool) → has_row deleted_attr us ≡ d → (not d && list_any (λ attr. not (has_row attr us)) (must_of table (unwrap_or (class_among us) 0))) ≡ false
@@ -95,7 +95,7 @@ module _ (table : Table) (o : Oid) (us : List Update) (spelled : IsSpelledItem (
                   let r : has_row t.0 us ≡ true = not-false (has_row t.0 us) (each_fails (λ a. not (has_row a us)) (must_of table class) there t.0 t.1) in
                   key_of attr (subst (λ m. has_row m us ≡ true) (eqb-true t.0 attr t.2) r)
 
-          by : (c : Content) → b.0.said ≡ Holds c → IsOfAttr class_attr c → IsWhole table o us
+          by : (c : Content) → b.0.said ≡ Holds c → IsContentOfAttr class_attr c → IsWhole table o us
           by (Class class) says of = record { class = class; of_class = (b.0, b.1, b.2, says); of_name = n; whole = all class says (has_row deleted_attr us) refl p.1 }
           by (Name text parent) says of = absurd (let f : class_attr ≡ name_attr = of in cc)
           by Dead says of = absurd (let f : class_attr ≡ deleted_attr = of in cc)
@@ -120,8 +120,8 @@ module _ (table : Table) (o : Oid) (us : List Update) (spelled : IsSpelledItem (
 -- ---- where a write may go
 
 module _ (table : Table) (vector : Cursors) (rows : List Held) where
-  placed_where_tested : (unit : Named) (us : List Update) → IsSpelledItem (record { unit = unit; rows = us }) → is_placed table vector rows unit us ≡ true → IsPlaced table vector rows unit us
-  placed_where_tested (Object o) us spelled = each_presence vector rows o (λ (p : Presence). is_object_placed table us p ≡ true → IsPlaced table vector rows (Object o) us)
+  placed_where_tested : (unit : Named) (us : List Update) → IsSpelledItem (record { unit = unit; rows = us }) → may_write_unit table vector rows unit us ≡ true → MayWriteUnit table vector rows unit us
+  placed_where_tested (Object o) us spelled = each_presence vector rows o (λ (p : Presence). may_write_object table us p ≡ true → MayWriteUnit table vector rows (Object o) us)
       (λ t h. inl (t, λ u m. row_of_attr table o us spelled deleted_attr u m (all_pass (λ (v : Update). is_of_attr deleted_attr v.key) us h u m)))
       (λ alive holds h. inr (inl (alive, holds)))
       (λ absent covers h. absurd (both_ways false refl h))
@@ -140,8 +140,8 @@ module _ (table : Table) (vector : Cursors) (rows : List Held) where
       by false e = refl
       by true e = absurd (⊎_elim there.0 (λ t. ⊎_elim t.0 (λ m. m t.1) there.1) (lost_where_tested vector rows o e))
 
-  tested_where_placed : (unit : Named) (us : List Update) → IsSpelledItem (record { unit = unit; rows = us }) → IsPlaced table vector rows unit us → is_placed table vector rows unit us ≡ true
-  tested_where_placed (Object o) us spelled placed = each_presence vector rows o (λ (p : Presence). is_object_placed table us p ≡ true)
+  tested_where_placed : (unit : Named) (us : List Update) → IsSpelledItem (record { unit = unit; rows = us }) → MayWriteUnit table vector rows unit us → may_write_unit table vector rows unit us ≡ true
+  tested_where_placed (Object o) us spelled placed = each_presence vector rows o (λ (p : Presence). may_write_object table us p ≡ true)
       (λ t. where_dead t placed)
       (λ alive holds. refl)
       (λ absent covers. where_gone absent covers placed)
@@ -150,17 +150,17 @@ module _ (table : Table) (vector : Cursors) (rows : List Held) where
       holds_dead_one : IsTombstoned (updates_of rows) o → HoldsObject (updates_of rows) o
       holds_dead_one t = (t.0, deleted_attr, t.1, t.2)
 
-      where_dead : IsTombstoned (updates_of rows) o → IsPlaced table vector rows (Object o) us → list_all (λ (u : Update). is_of_attr deleted_attr u.key) us ≡ true
+      where_dead : IsTombstoned (updates_of rows) o → MayWriteUnit table vector rows (Object o) us → list_all (λ (u : Update). is_of_attr deleted_attr u.key) us ≡ true
       where_dead t (inl (u, only)) = passes_all (λ (u : Update). is_of_attr deleted_attr u.key) us (λ u m. attr_itself o deleted_attr u.key (only u m))
       where_dead t (inr (inl (alive, holds))) = absurd (alive t)
       where_dead t (inr (inr (absent, missed, whole))) = absurd (absent (holds_dead_one t))
 
-      where_gone : (HoldsObject (updates_of rows) o → ⊥) → CoversBirth (at vector) o → IsPlaced table vector rows (Object o) us → false ≡ true
+      where_gone : (HoldsObject (updates_of rows) o → ⊥) → CoversBirth (at vector) o → MayWriteUnit table vector rows (Object o) us → false ≡ true
       where_gone absent covers (inl (t, only)) = absurd (absent (holds_dead_one t))
       where_gone absent covers (inr (inl (alive, holds))) = absurd (absent holds)
       where_gone absent covers (inr (inr (gone, missed, whole))) = absurd (missed covers)
 
-      where_new : (HoldsObject (updates_of rows) o → ⊥) → IsPlaced table vector rows (Object o) us → not (lacks table us) ≡ true
+      where_new : (HoldsObject (updates_of rows) o → ⊥) → MayWriteUnit table vector rows (Object o) us → not (lacks table us) ≡ true
       where_new absent (inl (t, only)) = absurd (absent (holds_dead_one t))
       where_new absent (inr (inl (alive, holds))) = absurd (absent holds)
       where_new absent (inr (inr (gone, missed, whole))) = ap not (tested_where_whole table o us spelled whole)
@@ -173,31 +173,31 @@ module _ (table : Table) (vector : Cursors) (rows : List Held) where
 
   follows_where_tested : (item : Item) → IsSpelledItem item × ((u : Update) × Member u item.rows) → may_follow table vector rows item ≡ true → MayFollow table vector rows item
   follows_where_tested item form h =
-      let p = and_parts (list_all (is_above rows) item.rows) (is_placed table vector rows item.unit item.rows) h in
-      record { some = form.1; form = form.0; greater = all_pass (is_above rows) item.rows p.0; placed = placed_where_tested item.unit item.rows form.0 p.1 }
+      let p = and_parts (list_all (is_above rows) item.rows) (may_write_unit table vector rows item.unit item.rows) h in
+      record { some = form.1; form = form.0; greater = all_pass (is_above rows) item.rows p.0; unit = placed_where_tested item.unit item.rows form.0 p.1 }
 
   tested_where_follows : (item : Item) → MayFollow table vector rows item → may_follow table vector rows item ≡ true
-  tested_where_follows item f = and_from (list_all (is_above rows) item.rows) (is_placed table vector rows item.unit item.rows)
-      (passes_all (is_above rows) item.rows f.greater) (tested_where_placed item.unit item.rows f.form f.placed)
+  tested_where_follows item f = and_from (list_all (is_above rows) item.rows) (may_write_unit table vector rows item.unit item.rows)
+      (passes_all (is_above rows) item.rows f.greater) (tested_where_placed item.unit item.rows f.form f.unit)
 
 -- ---- all writes
 
-pub few_where_tested : (rows : List Held) → are_few rows ≡ true → AreFew rows
+pub few_where_tested : (rows : List Held) → are_within_limits rows ≡ true → AreWithinLimits rows
 few_where_tested rows h = let p = and_parts _ _ h in (leb-true _ _ p.0, leb-true _ _ p.1)
 
-pub tested_where_few : (rows : List Held) → AreFew rows → are_few rows ≡ true
+pub tested_where_few : (rows : List Held) → AreWithinLimits rows → are_within_limits rows ≡ true
 tested_where_few rows few = and_from _ _ (le-leb _ _ few.0) (le-leb _ _ few.1)
 
 pub following_where_tested : (table : Table) (vector : Cursors) (rows : List Held) (ws : List Written) → Each (λ (w : Written). IsSpelledItem w.item × ((u : Update) × Member u w.item.rows)) ws
-    → are_following table vector rows ws ≡ true → AreFollowing table vector rows ws
+    → may_follow_in_turn table vector rows ws ≡ true → MayFollowInTurn table vector rows ws
 following_where_tested table vector rows [] form h = tt
 following_where_tested table vector rows (w ∷ ws) form h =
-    let p = and_parts (may_follow table vector rows w.item && are_few (behind_write rows w)) (are_following table vector (behind_write rows w) ws) h in
-    let q = and_parts (may_follow table vector rows w.item) (are_few (behind_write rows w)) p.0 in
-    (follows_where_tested table vector rows w.item (form w (inl refl)) q.0, few_where_tested (behind_write rows w) q.1, following_where_tested table vector (behind_write rows w) ws (λ v m. form v (inr m)) p.1)
+    let p = and_parts (may_follow table vector rows w.item && are_within_limits (after_write rows w)) (may_follow_in_turn table vector (after_write rows w) ws) h in
+    let q = and_parts (may_follow table vector rows w.item) (are_within_limits (after_write rows w)) p.0 in
+    (follows_where_tested table vector rows w.item (form w (inl refl)) q.0, few_where_tested (after_write rows w) q.1, following_where_tested table vector (after_write rows w) ws (λ v m. form v (inr m)) p.1)
 
-pub tested_where_following : (table : Table) (vector : Cursors) (rows : List Held) (ws : List Written) → AreFollowing table vector rows ws → are_following table vector rows ws ≡ true
+pub tested_where_following : (table : Table) (vector : Cursors) (rows : List Held) (ws : List Written) → MayFollowInTurn table vector rows ws → may_follow_in_turn table vector rows ws ≡ true
 tested_where_following table vector rows [] f = refl
-tested_where_following table vector rows (w ∷ ws) f = and_from (may_follow table vector rows w.item && are_few (behind_write rows w)) (are_following table vector (behind_write rows w) ws)
-    (and_from (may_follow table vector rows w.item) (are_few (behind_write rows w)) (tested_where_follows table vector rows w.item f.0) (tested_where_few (behind_write rows w) f.1))
-    (tested_where_following table vector (behind_write rows w) ws f.2)
+tested_where_following table vector rows (w ∷ ws) f = and_from (may_follow table vector rows w.item && are_within_limits (after_write rows w)) (may_follow_in_turn table vector (after_write rows w) ws)
+    (and_from (may_follow table vector rows w.item) (are_within_limits (after_write rows w)) (tested_where_follows table vector rows w.item f.0) (tested_where_few (after_write rows w) f.1))
+    (tested_where_following table vector (after_write rows w) ws f.2)

@@ -29,9 +29,9 @@ use Rattle.adr_law_steps.proofs.FormedSame.{named_same, object_same}
 use Rattle.adr_law_steps.proofs.Rising.{removals_rise}
 use Rattle.adr_law_collecting.proofs.Removing.{stood_before, update_stood, update_stands, removed_is_absent, row_of_tells, stay_alone}
 use Rattle.adr_law_collecting.proofs.Sizes.{objects_fewer, links_fewer}
-use Rattle.adr_law_formed.specs.Spelled.{SaysOf}
-use Rattle.adr_law_formed.specs.Follow.{AreFew, HasKnownClasses, CanFollow}
-use Rattle.adr_law_formed.specs.Touched.{IsUnitFormed, CanFollowByUnits}
+use Rattle.adr_law_formed.specs.Spelled.{IsSaidOfKey}
+use Rattle.adr_law_formed.specs.Follow.{AreWithinLimits, HasKnownClasses, CanFollow}
+use Rattle.adr_law_formed.specs.Touched.{IsInForm, CanFollowByTouched}
 use Rattle.adr_law_formed.proofs.Passing.{IsUntouched, IsInOrder, ArePassed, all_pass}
 
 -- an object is written to, or isn't
@@ -45,7 +45,7 @@ touched_or_not (w ∷ ws) q = by (unit_or_not w.item.unit (Object q)) (touched_o
     by (inr other) (inl (v, m, e)) = inl (v, inr m, e)
     by (inr other) (inr none) = inr (λ v m e. ⊎_elim (λ is. other (ap (λ (z : Written). z.item.unit) (sym is) ∙ e)) (λ n. none v n e) m)
 
-module _ (s : State) (c : Change) (formed : IsFormed s) (known : HasKnownClasses s) (f : CanFollowByUnits s c) where
+module _ (s : State) (c : Change) (formed : IsFormed s) (known : HasKnownClasses s) (f : CanFollowByTouched s c) where
   abbrev table : Table
   table = numbered s.store.schema
 
@@ -70,7 +70,7 @@ module _ (s : State) (c : Change) (formed : IsFormed s) (known : HasKnownClasses
   }
 
   passed : ArePassed before written c.writes c.usn
-  passed = all_pass table s.store.vector c.writes before s.store.usn c.usn starts f.rises f.writes f.locals
+  passed = all_pass table s.store.vector c.writes before s.store.usn c.usn starts f.goes_on.rises f.goes_on.writes f.goes_on.locals
 
   stood : (r : Update) → Member r (updates_of now) → Member r (updates_of written)
   stood r m = update_stood c.removed written r m
@@ -88,7 +88,7 @@ module _ (s : State) (c : Change) (formed : IsFormed s) (known : HasKnownClasses
     held_before : HoldsObject (updates_of now) q → HoldsObject (updates_of before) q
     held_before (r, attr, m, is) = (r, attr, back r attr is m, is)
 
-    untouched_formed : IsUnitFormed table (updates_of now) q
+    untouched_formed : IsInForm table (updates_of now) q
     untouched_formed = record {
       none = λ r m is. formed.store.rows.none q r (back r 0 is m) is;
       births = λ r m is. formed.store.rows.births q r (back r class_attr is m) is;
@@ -97,7 +97,7 @@ module _ (s : State) (c : Change) (formed : IsFormed s) (known : HasKnownClasses
       formed = λ h. object_same (updates_of before) (updates_of now) q (to h) back table (formed.store.rows.objects q (held_before h));
     }
 
-  unit_formed : (q : Oid) → IsUnitFormed table (updates_of now) q
+  unit_formed : (q : Oid) → IsInForm table (updates_of now) q
   unit_formed q = ⊎_elim (λ t. f.touched.objects t.0 t.1 q t.2) (λ none. untouched_formed q none) (touched_or_not c.writes q)
 
   -- ---- links
@@ -130,7 +130,7 @@ module _ (s : State) (c : Change) (formed : IsFormed s) (known : HasKnownClasses
   classes : HasKnownClasses d
   classes r m class says = let h = held_as now r m in by h (change_from c.removed (held_of c.writes) before h.0 h.1)
     where
-      of_key : (w : Written) → Member w c.writes → unit_of r.key ≡ w.item.unit → (k : Key) → r.key ≡ k → SaysOf k (Holds (Class class)) → IsSome (class_at table class)
+      of_key : (w : Written) → Member w c.writes → unit_of r.key ≡ w.item.unit → (k : Key) → r.key ≡ k → IsSaidOfKey k (Holds (Class class)) → IsSome (class_at table class)
       of_key w n unit (RowOf o attr) is of = (f.touched.objects w n o (sym unit ∙ ap unit_of is)).classes r m (is ∙ ap (λ a. RowOf o a) of) class says
       of_key w n unit (LinkOf l) is of = absurd of
 
@@ -141,7 +141,7 @@ module _ (s : State) (c : Change) (formed : IsFormed s) (known : HasKnownClasses
           let e : r ≡ u.0 = same ∙ ap (λ (h : Held). h.update) u.2 in
           let form = passed.spelled t.0 t.1 in
           of_key t.0 t.1 (ap (λ (v : Update). unit_of v.key) e ∙ form.of_unit u.0 u.1) r.key refl
-          (subst (SaysOf r.key) says (subst (λ (v : Update). SaysOf v.key v.said) (sym e) (form.says u.0 u.1)))
+          (subst (IsSaidOfKey r.key) says (subst (λ (v : Update). IsSaidOfKey v.key v.said) (sym e) (form.says u.0 u.1)))
 
       by : (h : (h : Held) × Member h now × (r ≡ h.update)) → Member h.0 (held_of c.writes) ⊎ Member h.0 before → IsSome (class_at table class)
       by h (inl new) = written_so h.0 h.2 new
@@ -166,10 +166,10 @@ module _ (s : State) (c : Change) (formed : IsFormed s) (known : HasKnownClasses
   }
 
   higher : AtMost (at s.store.vector) (at d.store.vector)
-  higher i = omega (arith, at-joined c.joined s.store.vector i f.joined.rising, raised_up (joined s.store.vector c.joined) s.inv c.usn i)
+  higher i = omega (arith, at-joined c.joined s.store.vector i f.goes_on.joined.rising, raised_up (joined s.store.vector c.joined) s.inv c.usn i)
 
   purged_within : AtMost (at d.store.purged) (at d.store.vector)
-  purged_within i = omega (arith, at-joined c.purged s.store.purged i f.purged.rising, everywhere_from_at_most s.store.purged s.store.vector formed.store.purged_within i, higher i, f.within i)
+  purged_within i = omega (arith, at-joined c.purged s.store.purged i f.goes_on.purged.rising, everywhere_from_at_most s.store.purged s.store.vector formed.store.purged_within i, higher i, f.within i)
 
   purged : IsVector d.store.purged
   purged = record {
@@ -184,7 +184,7 @@ module _ (s : State) (c : Change) (formed : IsFormed s) (known : HasKnownClasses
       one : FromOne d.store.purged
       one = from_one-joined c.purged s.store.purged formed.store.purged.from_one
 
-  few : AreFew written
+  few : AreWithinLimits written
   few = passed.few (formed.store.limits.objects, formed.store.limits.links)
 
   store : IsFormedStore d.store
@@ -192,7 +192,7 @@ module _ (s : State) (c : Change) (formed : IsFormed s) (known : HasKnownClasses
     vector = vector;
     purged = purged;
     purged_within = at_most_from_everywhere d.store.purged d.store.vector purged.rising purged_within;
-    marks = each_mark (λ (k : Kept). IsOrdered k.mark) c.mark s.store.marks f.mark formed.store.marks;
+    marks = each_mark (λ (k : Kept). IsOrdered k.mark) c.mark s.store.marks f.goes_on.mark formed.store.marks;
     rising = removals_rise c.removed written passed.order.rising;
     locals = λ h m. passed.order.locals h (stood_before c.removed written h m);
     alone = stay_alone c.removed written passed.order.alone;
@@ -207,42 +207,28 @@ module _ (s : State) (c : Change) (formed : IsFormed s) (known : HasKnownClasses
   own : at d.store.vector s.inv ≡ c.usn
   own =
       let here = raised_here (joined s.store.vector c.joined) s.inv c.usn in
-      let both = at-joined c.joined s.store.vector s.inv f.joined.rising in
-      omega (arith, here, both, formed.own, f.rises, f.own)
+      let both = at-joined c.joined s.store.vector s.inv f.goes_on.joined.rising in
+      omega (arith, here, both, formed.own, f.goes_on.rises, f.own)
 
   follows : CanFollow s c
   follows = record {
-    normal = f.normal;
-    rises = f.rises;
-    locals = f.locals;
-    mark = f.mark;
-    joined = f.joined;
-    purged = f.purged;
-    writes = f.writes;
-    removed = f.removed;
-      formed = record { store = store; own = own };
+    goes_on = f.goes_on;
+    formed = record { store = store; own = own };
     classes = classes;
   }
 
-pub units_are_enough : (s : State) (c : Change) → IsFormed s → HasKnownClasses s → CanFollowByUnits s c → CanFollow s c
-units_are_enough s c formed known f = follows s c formed known f
+pub touched_is_enough : (s : State) (c : Change) → IsFormed s → HasKnownClasses s → CanFollowByTouched s c → CanFollow s c
+touched_is_enough s c formed known f = follows s c formed known f
 
-pub units_are_asked : (s : State) (c : Change) → IsFormed s → CanFollow s c → CanFollowByUnits s c
-units_are_asked s c formed f = record {
-  normal = f.normal;
-  rises = f.rises;
-  locals = f.locals;
-  mark = f.mark;
-  joined = f.joined;
-  purged = f.purged;
-  writes = f.writes;
-  removed = f.removed;
+pub touched_is_asked : (s : State) (c : Change) → IsFormed s → CanFollow s c → CanFollowByTouched s c
+touched_is_asked s c formed f = record {
+  goes_on = f.goes_on;
   touched = record {
     objects = λ w m o e. record { none = f.formed.store.rows.none o; births = f.formed.store.rows.births o; classes = λ r n is. f.classes r n; named = f.formed.store.rows.named o; formed = f.formed.store.rows.objects o };
     links = λ w m l e r n is. (f.formed.store.rows.links l r n is).forward;
   };
   own = own;
-  within = λ i. omega (arith, at-joined c.purged s.store.purged i f.purged.rising, everywhere_from_at_most (after s c).store.purged (after s c).store.vector f.formed.store.purged_within i);
+  within = λ i. omega (arith, at-joined c.purged s.store.purged i f.goes_on.purged.rising, everywhere_from_at_most (after s c).store.purged (after s c).store.vector f.formed.store.purged_within i);
   cursors = f.formed.store.vector.few;
   marks = f.formed.store.limits.marks;
 }
@@ -250,5 +236,5 @@ units_are_asked s c formed f = record {
     own : at c.joined s.inv ≤ c.usn
     own =
         let here = raised_here (joined s.store.vector c.joined) s.inv c.usn in
-        let both = at-joined c.joined s.store.vector s.inv f.joined.rising in
+        let both = at-joined c.joined s.store.vector s.inv f.goes_on.joined.rising in
         omega (arith, here, both, f.formed.own)

@@ -1,11 +1,11 @@
-use Rattle.adr_law_formed.proofs.Ranges.{whence_rows, whence_cursors, whence_purged, whence_marks, partners_rise}
-use Rattle.adr_law_formed.proofs.spelling.a_change_brings_what_comes.Goals as goal
+use Rattle.adr_law_formed.proofs.Whence.{whence_rows, whence_cursors, whence_purged, whence_marks, partners_rise}
+use Rattle.adr_law_formed.proofs.brought.what_stands_stood_or_came.Goals as goal
 
 pub returns-clause-rows : goal.returns-clause-rows
 returns-clause-rows c = whence_rows
 
-pub returns-clause-vector : goal.returns-clause-vector
-returns-clause-vector c = whence_cursors
+pub returns-clause-cursors : goal.returns-clause-cursors
+returns-clause-cursors c = whence_cursors
 
 pub returns-clause-purged : goal.returns-clause-purged
 returns-clause-purged c = whence_purged
