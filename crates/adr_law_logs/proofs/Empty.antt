@@ -11,7 +11,7 @@ use Rattle.adr_law_logs.specs.Later.{IsLater}
 use Rattle.adr_law_logs.proofs.Begun.{begun_later, begun_sound}
 use Rattle.adr_law_logs.proofs.Woken.{woken_state}
 
-empty_is_formed : IsFormedStore (empty_store 1)
+pub empty_is_formed : IsFormedStore (empty_store 1)
 unfolding IsStrictlySortedBy
 empty_is_formed = record {
   vector = record { rising = tt; from_one = tt; few = omega arith };

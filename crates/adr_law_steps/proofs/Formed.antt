@@ -40,15 +40,15 @@ module _ (schema usn : ℕ) (before after : List Held) (V : Numbers) (o : Oid) (
     named_itself = by case
       where
         by : MayChange table (updates_of before) o class us ⊎ MayCome table (updates_of before) o class us → IsNamed (updates_of after) o
-        by (inl c) = changed_named table usn before after o class us put said (must_above schema class) c (old.named o (c.of_class.0, class_attr, c.of_class.1, c.of_class.2))
-        by (inr c) = came_named table usn before after o class us put said (must_above schema class) c
+        by (inl c) = changed_named table usn before after o class us put may.bare said (must_above schema class) c (old.named o (c.of_class.0, class_attr, c.of_class.1, c.of_class.2))
+        by (inr c) = came_named table usn before after o class us put may.bare said (must_above schema class) c
 
     formed_itself : IsObjectFormed table (updates_of after) o
     formed_itself = by case
       where
         by : MayChange table (updates_of before) o class us ⊎ MayCome table (updates_of before) o class us → IsObjectFormed table (updates_of after) o
-        by (inl c) = changed_formed table usn before after o class us put said (must_above schema class) c rising (old.objects o (c.of_class.0, class_attr, c.of_class.1, c.of_class.2))
-        by (inr c) = came_formed table usn before after o class us put said (must_above schema class) c rising
+        by (inl c) = changed_formed table usn before after o class us put may.bare said (must_above schema class) c rising (old.objects o (c.of_class.0, class_attr, c.of_class.1, c.of_class.2))
+        by (inr c) = came_formed table usn before after o class us put may.bare said (must_above schema class) c rising
 
     module _ (q : Oid) (other : q ≡ o → ⊥) where
       apart : Object q ≡ Object o → ⊥
@@ -79,7 +79,7 @@ module _ (schema usn : ℕ) (before after : List Held) (V : Numbers) (o : Oid) (
     births q = by (object_or_not q o)
       where
         by : (q ≡ o) ⊎ (q ≡ o → ⊥) → Each (λ r. r.key ≡ RowOf q class_attr → is_birth q r ≡ true) (updates_of after)
-        by (inl e) = subst (λ z. Each (λ r. r.key ≡ RowOf z class_attr → is_birth z r ≡ true) (updates_of after)) (sym e) (births_put table usn before after o class us put said (must_above schema class) (old.births o))
+        by (inl e) = subst (λ z. Each (λ r. r.key ≡ RowOf z class_attr → is_birth z r ≡ true) (updates_of after)) (sym e) (births_put table usn before after o class us put may.bare said (must_above schema class) (old.births o))
         by (inr n) = births_other q n
 
     none : (q : Oid) → Each (λ r. r.key ≡ RowOf q 0 → ⊥) (updates_of after)
@@ -90,7 +90,7 @@ module _ (schema usn : ℕ) (before after : List Held) (V : Numbers) (o : Oid) (
       where
         by : Member r us ⊎ Member r (updates_of before) → IsLinkFormed table (updates_of after) l
         by (inl n) = absurd (no_link_row r.key o l (may.of_unit r n) is)
-        by (inr n) = let f : IsLinkFormed table (updates_of before) l = old.links l r n is in link_formed usn before after us put table r l m is f.forward f.from f.to
+        by (inr n) = let f : IsLinkFormed table (updates_of before) l = old.links l r n is in link_formed usn before after us put (Object o) may.of_unit table r l m is f.forward f.from f.to
 
   known : (c : ℕ) → c ≡ class → AreClassesKnown table (updates_of before) → IsSome (class_at table c)
   known c e old = by case

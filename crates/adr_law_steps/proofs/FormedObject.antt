@@ -10,7 +10,7 @@ use Rattle.adr_schema.specs.Table.{Table, has, must_of}
 use Rattle.adr_schema.specs.Names.{name_fault}
 use Rattle.adr_model.specs.Member.{Member, Each}
 use Rattle.adr_model.specs.Update.{Identifier, Key, RowOf, Update, Said, Holds, class_attr, name_attr, deleted_attr}
-use Rattle.adr_model.specs.Reflects.{IsTombstoned, IsDeathOf}
+use Rattle.adr_model.specs.Reflects.{IsTombstoned, IsDeath, IsDeathOf}
 use Rattle.adr_model.specs.Store.{Held, updates_of}
 use Rattle.adr_model.specs.Change.{goes_with}
 use Rattle.adr_model.specs.Take.{is_birth, is_reserved_row}
@@ -37,6 +37,7 @@ not_reserved : (o : Oid) (k : Key) (attr : ℕ) → deleted_attr < attr → k �
 not_reserved o k attr above is r = let t : nat_le attr deleted_attr ≡ true = (and_parts (nat_le class_attr attr) (nat_le attr deleted_attr) (ap is_reserved_row (sym is) ∙ r)).1 in absurd (grind (arith, nat_tests))
 
 module _ (table : Table) (usn : ℕ) (before after : List Held) (o : Oid) (class : ℕ) (us : List Update) (p : ArePut usn us before after)
+    (beside : Each (λ d. IsDeath d → Each (λ u. is_reserved_row u.key ≡ true) us) us)
     (said : Each (IsWellSaid table class o) us)
     (must : (attr : ℕ) → has (must_of table class) attr ≡ true → deleted_attr < attr) where
   -- a row that is put
@@ -80,7 +81,7 @@ module _ (table : Table) (usn : ℕ) (before after : List Held) (o : Oid) (class
   died : (d : Update) → Member d us → IsDeathOf o d → IsDeadFormed (updates_of after) o
   died d m is = record {
     dead = written_row deleted_attr (λ s. s ≡ Holds Dead) death_said (d, m, is);
-    bare = λ attr above r n own. let t : goes_with o r.key ≡ true = ap (goes_with o) own ∙ value_goes o attr above in let f : goes_with o r.key ≡ false = bare usn before after us p d r o m is n in cc;
+    bare = λ attr above r n own. let t : goes_with o r.key ≡ true = ap (goes_with o) own ∙ value_goes o attr above in ⊎_elim (λ i. not_reserved o r.key attr above own (beside d m (o, is) r i)) (λ f. let g : goes_with o r.key ≡ false = f in cc) (bare usn before after us p d r o m is n);
   }
 
   pub births_put : Each (λ r. r.key ≡ RowOf o class_attr → is_birth o r ≡ true) (updates_of before) → Each (λ r. r.key ≡ RowOf o class_attr → is_birth o r ≡ true) (updates_of after)

@@ -1,5 +1,5 @@
 -- Rows of objects of other units stay as they were, and links that stand have live ends.
-use Rattle.std.proofs.Common.{◌≡◌, ◌⊎◌, inl, inr, ⊎_elim, ℕ, List, true, false, sym, ap, ◌∙◌, subst}
+use Rattle.std.proofs.Common.{◌≡◌, ◌⊎◌, inl, inr, ⊎_elim, ℕ, List, true, sym, ap, ◌∙◌, subst}
 use Rattle.adr_stamp.specs.declared.Oid.{Oid}
 use Rattle.adr_stamp.specs.declared.LinkKey.{LinkKey}
 use Rattle.adr_stamp.specs.declared.Unit.{Unit as Named}
@@ -12,6 +12,7 @@ use Rattle.adr_model.specs.Store.{Held, updates_of}
 use Rattle.adr_model.specs.Change.{goes_with}
 use Rattle.adr_model.specs.Formed.{IsLinkFormed}
 use Rattle.adr_law_steps.specs.Puts.{ArePut, AreClosed}
+use Rattle.adr_law_steps.proofs.Rows.{no_link_row}
 use Rattle.adr_law_steps.proofs.FormedRows.{Fares, goes_of_object, link_goes_from, link_goes_to, stood, fares, bare}
 use Rattle.adr_law_steps.proofs.Putting.{objects_stay}
 
@@ -31,20 +32,23 @@ module _ (usn : ℕ) (before after : List Held) (us : List Update) (p : ArePut u
         by (inr (inl (d, q, n, death, g))) = let same : o ≡ q = goes_of_object q o attr (ap (goes_with q) (sym is) ∙ g) in absurd (none_of d deleted_attr (subst (λ z. IsDeathOf z d) (sym same) death) n)
         by (inr (inr n)) = n
 
-  -- an end of a link that stands is as live as it was
-  pub end_lives : (r : Update) (l : LinkKey) (o : Oid) → Member r (updates_of after) → r.key ≡ LinkOf l → goes_with o (LinkOf l) ≡ true → (IsTombstoned (updates_of before) o → ⊥) → IsTombstoned (updates_of after) o → ⊥
-  end_lives r l o m is g lives (d, n, death) = by (stood usn before after us p d n)
+  -- an end of a link that stands is as live as it was, where the rows are of one unit
+  pub end_lives : (unit : Named) → Each (λ u. unit_of u.key ≡ unit) us → (r : Update) (l : LinkKey) (o : Oid) → Member r (updates_of after) → r.key ≡ LinkOf l → goes_with o (LinkOf l) ≡ true → (IsTombstoned (updates_of before) o → ⊥) → IsTombstoned (updates_of after) o → ⊥
+  end_lives unit of_unit r l o m is g lives (d, n, death) = by (stood usn before after us p d n)
     where
       by : Member d us ⊎ Member d (updates_of before) → ⊥
-      by (inl i) = let t : goes_with o r.key ≡ true = ap (goes_with o) is ∙ g in let f : goes_with o r.key ≡ false = bare usn before after us p d r o i death m in cc
+      by (inl i) = ⊎_elim
+          (λ j. no_link_row r.key o l (of_unit r j ∙ sym (of_unit d i) ∙ ap unit_of death) is)
+          (λ f. let t : goes_with o r.key ≡ true = ap (goes_with o) is ∙ g in cc)
+          (bare usn before after us p d r o i death m)
       by (inr i) = lives (d, i, death)
 
-  pub link_formed : (table : Table) (r : Update) (l : LinkKey) → Member r (updates_of after) → r.key ≡ LinkOf l → is_forward (kind_at table l.attr) ≡ true
+  pub link_formed : (unit : Named) → Each (λ u. unit_of u.key ≡ unit) us → (table : Table) (r : Update) (l : LinkKey) → Member r (updates_of after) → r.key ≡ LinkOf l → is_forward (kind_at table l.attr) ≡ true
       → (IsTombstoned (updates_of before) l.from → ⊥) → (IsTombstoned (updates_of before) l.to → ⊥) → IsLinkFormed table (updates_of after) l
-  link_formed table r l m is forward from to = record {
+  link_formed unit of_unit table r l m is forward from to = record {
     forward = forward;
-    from = end_lives r l l.from m is (link_goes_from l) from;
-    to = end_lives r l l.to m is (link_goes_to l) to;
+    from = end_lives unit of_unit r l l.from m is (link_goes_from l) from;
+    to = end_lives unit of_unit r l l.to m is (link_goes_to l) to;
   }
 
   -- where each link that is put has ends that are held or weren't born, links stay closed

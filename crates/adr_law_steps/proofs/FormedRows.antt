@@ -1,5 +1,5 @@
 -- What stands after rows were put, as updates, and which of the rows are whose.
-use Rattle.std.proofs.Common.{◌≡◌, ◌⊎◌, inl, inr, ℕ, ◌<◌, List, Bool, true, false, refl, sym, ap, ◌∙◌, subst, if◌then◌else◌, arith}
+use Rattle.std.proofs.Common.{◌≡◌, ◌⊎◌, inl, inr, ⊎_elim, ℕ, ◌<◌, List, Bool, true, false, refl, sym, ap, ◌∙◌, subst, if◌then◌else◌, arith}
 use Rattle.std.specs.Prelude.{nat_lt}
 use Rattle.std.specs.List.{list_any}
 use Rattle.std.proofs.lemmas.Bool.{or_left, or_right}
@@ -73,5 +73,9 @@ module _ (usn : ℕ) (before after : List Held) (us : List Update) (p : ArePut u
       by x e (inr (inl (d, o, n, is, g))) = inr (inl (d, o, n, is, ap (λ (z : Update). goes_with o z.key) e ∙ g))
       by x e (inr (inr n)) = inr (inr (subst (λ (z : Update). Member z (updates_of after)) (sym e) (updated after x n)))
 
-  pub bare : (d r : Update) (o : Oid) → Member d us → IsDeathOf o d → Member r (updates_of after) → goes_with o r.key ≡ false
-  bare d r o m is n = let t = held_as after r n in ap (λ (u : Update). goes_with o u.key) t.2 ∙ p.bare d m o is t.0 t.1
+  -- with a death stands nothing that it takes, but for what is put with it
+  pub bare : (d r : Update) (o : Oid) → Member d us → IsDeathOf o d → Member r (updates_of after) → Member r us ⊎ (goes_with o r.key ≡ false)
+  bare d r o m is n = let t = held_as after r n in ⊎_elim
+      (λ i. let u = mapped_member (held_at usn) us t.0 i in inl (subst (λ (z : Update). Member z us) (sym (t.2 ∙ ap (λ (h : Held). h.update) u.2)) u.1))
+      (λ f. inr (ap (λ (u : Update). goes_with o u.key) t.2 ∙ f))
+      (p.bare d m o is t.0 t.1)

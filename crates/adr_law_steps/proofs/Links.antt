@@ -29,14 +29,14 @@ module _ (schema usn : ℕ) (before after : List Held) (V : Numbers) (l : LinkKe
   back o = other_back usn before after us put (Link l) may.of_unit o (apart o)
 
   linked_itself : (r : Update) → Member r (updates_of after) → r.key ≡ LinkOf l → IsLinkFormed (numbered schema) (updates_of after) l
-  linked_itself r m is = link_formed usn before after us put (numbered schema) r l m is forward (lives l.from (inl refl)) (lives l.to (inr (inl refl)))
+  linked_itself r m is = link_formed usn before after us put (Link l) may.of_unit (numbered schema) r l m is forward (lives l.from (inl refl)) (lives l.to (inr (inl refl)))
 
   linked : (k : LinkKey) → Each (λ r. r.key ≡ LinkOf k → IsLinkFormed (numbered schema) (updates_of after) k) (updates_of after)
   linked k r m is = by (stood usn before after us put r m)
     where
       by : Member r us ⊎ Member r (updates_of before) → IsLinkFormed (numbered schema) (updates_of after) k
       by (inl n) = let same : k ≡ l = same_link r.key l k (may.of_unit r n) is in subst (IsLinkFormed (numbered schema) (updates_of after)) (sym same) (linked_itself r m (is ∙ ap LinkOf same))
-      by (inr n) = let f : IsLinkFormed (numbered schema) (updates_of before) k = old.links k r n is in link_formed usn before after us put (numbered schema) r k m is f.forward f.from f.to
+      by (inr n) = let f : IsLinkFormed (numbered schema) (updates_of before) k = old.links k r n is in link_formed usn before after us put (Link l) may.of_unit (numbered schema) r k m is f.forward f.from f.to
 
   formed_links : AreFormedRows (numbered schema) (updates_of after)
   formed_links = record {

@@ -37,12 +37,15 @@ goes_whole o (RowOf p a) (LinkOf m) g e other = absurd (cc)
 goes_whole o (LinkOf m) (RowOf p a) g e other = absurd (cc)
 goes_whole o (LinkOf m) (LinkOf n) g e other = let same : m ≡ n = cc in subst (λ x. goes_with o (LinkOf x) ≡ true) same g
 
-module _ (last usn : ℕ) (before after : List Held) (V : Numbers) (unit : Named) (us : List Update)
-    (within : Each (λ x. x.local ≤ last) before) (new : last < usn) (may : MayPut (updates_of before) V unit us) (are : ArePut usn us before after) where
+module _ (last usn : ℕ) (before after : List Held) (unit : Named) (us : List Update)
+    (within : Each (λ x. x.local ≤ last) before) (new : last < usn) (of_unit : Each (λ u. unit_of u.key ≡ unit) us) (are : ArePut usn us before after) where
+  put_unit : (x : Held) → Member x (under usn us) → unit_of x.update.key ≡ unit
+  put_unit x m = let u = mapped_member (held_at usn) us x m in ap (λ (h : Held). unit_of h.update.key) u.2 ∙ of_unit u.0 u.1
+
   -- a row is put, or stood before
   whence : (x : Held) → Member x after → ((unit_of x.update.key ≡ unit) × (x.local ≡ usn)) ⊎ Member x before
   whence x m = ⊎_elim
-      (λ n. let u = mapped_member (held_at usn) us x n in inl (ap (λ (h : Held). unit_of h.update.key) u.2 ∙ may.of_unit u.0 u.1, ap (λ (h : Held). h.local) u.2))
+      (λ n. let u = mapped_member (held_at usn) us x n in inl (ap (λ (h : Held). unit_of h.update.key) u.2 ∙ of_unit u.0 u.1, ap (λ (h : Held). h.local) u.2))
       (λ n. inr n)
       (are.from x m)
 
@@ -50,7 +53,7 @@ module _ (last usn : ℕ) (before after : List Held) (V : Numbers) (unit : Named
   comes_last : (u : Update) → Member u us → last_local after unit ≡ usn
   comes_last u m = omega (
     arith,
-    within_last unit after (held_at usn u) (are.written u m) (may.of_unit u m),
+    within_last unit after (held_at usn u) (are.written u m) (of_unit u m),
     last_within unit after usn (λ y n e. ⊎_elim (λ t. omega (arith, t.1)) (λ i. omega (arith, within y i, new)) (whence y n)),
   )
 
@@ -61,11 +64,10 @@ module _ (last usn : ℕ) (before after : List Held) (V : Numbers) (unit : Named
       (λ x n e. by x e (are.kept x n))
     where
       by : (x : Held) → unit_of x.update.key ≡ unit_of h.update.key → IsReplaced us x ⊎ (IsStripped us x ⊎ Member x after) → Member x after
-      by x e (inl (u, n, same)) = absurd (other (sym e ∙ ap unit_of (sym same) ∙ may.of_unit u n))
+      by x e (inl (u, n, same)) = absurd (other (sym e ∙ ap unit_of (sym same) ∙ of_unit u n))
       by x e (inr (inl (d, o, n, is, g))) =
-          let stays : goes_with o h.update.key ≡ false = are.bare d n o is h m in
-          let goes : goes_with o h.update.key ≡ true = goes_whole o x.update.key h.update.key g e (λ same. other (same ∙ ap unit_of (sym is) ∙ may.of_unit d n)) in
-          absurd (cc)
+          let goes : goes_with o h.update.key ≡ true = goes_whole o x.update.key h.update.key g e (λ same. other (same ∙ ap unit_of (sym is) ∙ of_unit d n)) in
+          absurd (⊎_elim (λ i. other (put_unit h i)) (λ f. let stays : goes_with o h.update.key ≡ false = f in cc) (are.bare d n o is h m))
       by x e (inr (inr n)) = n
 
   -- where nothing is put all stays
@@ -99,7 +101,7 @@ module _ (last usn : ℕ) (before after : List Held) (V : Numbers) (unit : Named
           on (inl e) = inl (e, ap (last_local after) e ∙ comes_last v (subst (λ (ws : List Update). Member v ws) (sym some) (inl refl)))
           on (inr other) = inr (⊎_elim (λ t. absurd (other t.0)) (λ n. n) (whence h m), other_stays h m other)
 
-  stay_alone : AreAlone before → AreAlone after
+  pub stay_alone : AreAlone before → AreAlone after
   stay_alone alone h m g n e = by (how_it_stands h m) (how_it_stands g n)
     where
       old : (x : Held) → Member x before → last_local before (unit_of x.update.key) ≤ last
@@ -113,4 +115,4 @@ module _ (last usn : ℕ) (before after : List Held) (V : Numbers) (unit : Named
 
 pub puts_stay_alone : (last usn : ℕ) (before after : List Held) (V : Numbers) (unit : Named) (us : List Update) → AreAlone before → Each (λ x. x.local ≤ last) before → last < usn
     → MayPut (updates_of before) V unit us → ArePut usn us before after → AreAlone after
-puts_stay_alone last usn before after V unit us alone within new may are = stay_alone last usn before after V unit us within new may are alone
+puts_stay_alone last usn before after V unit us alone within new may are = stay_alone last usn before after unit us within new may.of_unit are alone

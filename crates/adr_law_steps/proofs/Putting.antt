@@ -1,19 +1,24 @@
 -- Rows of one unit that were put stand behind it, and nothing that was taken is lost.
-use Rattle.std.proofs.Common.{◌≡◌, ◌⊎◌, inl, inr, ⊎_elim, ℕ, List, [], ◌∷◌, true, false, refl, sym, ap, ◌∙◌, subst, arith, fold}
+use Rattle.std.proofs.Common.{◌≡◌, ◌⊎◌, inl, inr, ⊎_elim, ℕ, List, [], ◌∷◌, true, false, refl, sym, ap, ◌∙◌, subst, arith, fold, map}
+use Rattle.std.specs.List.Sorted.{IsStrictlySortedBy}
+use Rattle.std.specs.declared.cmp.Ordering.TheVariants.{Less}
 use Rattle.adr_stamp.specs.declared.Oid.{Oid}
 use Rattle.adr_stamp.specs.declared.Unit.{Unit as Named}
 use Rattle.adr_model.specs.Member.{Member, Each}
-use Rattle.adr_model.specs.Update.{RowOf, Update, ends, unit_of, deleted_attr}
+use Rattle.adr_model.specs.Update.{RowOf, Update, key_order, ends, unit_of, deleted_attr}
 use Rattle.adr_model.specs.Reflects.{Numbers, AtMost, Knowledge, IsDeath, IsDeathOf, HoldsAtLeast, HoldsObject, IsTombstoned, IsPurged}
 use Rattle.adr_model.specs.Store.{Held, updates_of}
 use Rattle.adr_model.specs.Change.{goes_with, put}
 use Rattle.adr_model.specs.Take.{is_reserved_row}
-use Rattle.adr_model.proofs.Members.{mapped_member}
+use Rattle.adr_model.proofs.Members.{member_mapped, mapped_member}
+use Rattle.adr_model.proofs.Keys.{keys_total}
 use Rattle.adr_law_knowledge.specs.Grows.{IsOutlived, Grows}
+use Rattle.adr_law_knowledge.specs.Rises.{Rises}
+use Rattle.adr_law_knowledge.proofs.Counting.{rises_from, one_of_each}
 use Rattle.adr_law_knowledge.proofs.Comparing.{supersedes_self}
 use Rattle.adr_law_knowledge.proofs.Knows.{only_end}
 use Rattle.adr_law_steps.specs.Puts.{held_at, under, MayPut, IsReplaced, IsStripped, ArePut}
-use Rattle.adr_law_steps.proofs.Rows.{updated, held_as, about, reserved_stays, death_stays, put_itself, put_keeps, put_bare, puts_from}
+use Rattle.adr_law_steps.proofs.Rows.{updated, held_as, row_of_unit, about, reserved_stays, below_death, death_stays, put_itself, put_keeps, put_bare, puts_from}
 
 -- ---- rows are put one after the other
 
@@ -22,6 +27,30 @@ Alone us = Each (λ u. Each (λ v. u.key ≡ v.key → u ≡ v) us) us
 
 abbrev Bare : List Update → Type 0
 Bare us = Each (λ d. IsDeath d → Each (λ u. is_reserved_row u.key ≡ true) us) us
+
+-- no row is taken by a death that is put after it
+abbrev AreInTurn : List Update → Type 0
+AreInTurn [] = Unit {0}
+AreInTurn (v ∷ us) = Each (λ d. (o : Oid) → IsDeathOf o d → goes_with o v.key ≡ false) us × AreInTurn us
+
+in_turn_where_bare : (us : List Update) → Bare us → AreInTurn us
+in_turn_where_bare [] bare = tt
+in_turn_where_bare (v ∷ us) bare = ((λ d m o is. reserved_stays o v.key (bare d (inr m) (o, is) v (inl refl))), in_turn_where_bare us (λ d i is x j. bare d (inr i) is x (inr j)))
+
+-- rows of one unit that rise by their keys: a death comes before all that it takes
+in_turn_where_rising : (unit : Named) (us : List Update) → Each (λ u. unit_of u.key ≡ unit) us → IsStrictlySortedBy key_order (map (λ (u : Update). u.key) us) → AreInTurn us
+in_turn_where_rising unit us of_unit rising = by us of_unit (rises_from key_order (map (λ (u : Update). u.key) us) rising)
+  where
+    before_death : (v d : Update) (o : Oid) → unit_of v.key ≡ unit_of d.key → key_order v.key d.key ≡ Less → IsDeathOf o d → goes_with o v.key ≡ false
+    before_death v d o same less is = let t = row_of_unit v.key o (same ∙ ap unit_of is) in subst (λ k. goes_with o k ≡ false) (sym t.1)
+        (below_death o t.0 (subst (λ k. key_order k (RowOf o deleted_attr) ≡ Less) t.1 (subst (λ k. key_order v.key k ≡ Less) is less)))
+
+    by : (us : List Update) → Each (λ u. unit_of u.key ≡ unit) us → Rises key_order (map (λ (u : Update). u.key) us) → AreInTurn us
+    by [] each rises = tt
+    by (v ∷ us) each rises = (
+      (λ d m o is. before_death v d o (each v (inl refl) ∙ sym (each d (inr m))) (rises.0 d.key (member_mapped (λ (u : Update). u.key) us d m)) is),
+      by us (λ u m. each u (inr m)) rises.1,
+    )
 
 module _ (usn : ℕ) where
   puts_keep : (us : List Update) (rows : List Held) (x : Held) → Member x rows → IsReplaced us x ⊎ (IsStripped us x ⊎ Member x (fold put rows (under usn us)))
@@ -36,37 +65,45 @@ module _ (usn : ℕ) where
       later (inr (inr p)) = inr (inr p)
 
   -- a row that is put isn't replaced by another one, and no death takes it
-  put_stands : (v : Update) (us : List Update) (rows : List Held) → Alone (v ∷ us) → Bare (v ∷ us) → Each (λ u. Member (held_at usn u) rows) us
+  put_stands : (v : Update) (us : List Update) (rows : List Held) → Alone (v ∷ us) → AreInTurn (v ∷ us) → Each (λ u. Member (held_at usn u) rows) us
       → IsReplaced us (held_at usn v) ⊎ (IsStripped us (held_at usn v) ⊎ Member (held_at usn v) rows) → Member (held_at usn v) rows
-  put_stands v us rows alone bare rest (inl (w, n, e)) = subst (λ x. Member (held_at usn x) rows) (alone w (inr n) v (inl refl) e) (rest w n)
-  put_stands v us rows alone bare rest (inr (inl (d, o, n, is, g))) = let f : goes_with o v.key ≡ false = reserved_stays o v.key (bare d (inr n) (o, is) v (inl refl)) in absurd (cc)
-  put_stands v us rows alone bare rest (inr (inr n)) = n
+  put_stands v us rows alone turn rest (inl (w, n, e)) = subst (λ x. Member (held_at usn x) rows) (alone w (inr n) v (inl refl) e) (rest w n)
+  put_stands v us rows alone turn rest (inr (inl (d, o, n, is, g))) = let f : goes_with o v.key ≡ false = turn.0 d n o is in absurd (cc)
+  put_stands v us rows alone turn rest (inr (inr n)) = n
 
-  puts_write : (us : List Update) (rows : List Held) → Alone us → Bare us → Each (λ u. Member (held_at usn u) (fold put rows (under usn us))) us
-  puts_write [] rows alone bare u m = absurd m
-  puts_write (v ∷ us) rows alone bare u m = by m (puts_write us (put rows (held_at usn v)) (λ x i y j. alone x (inr i) y (inr j)) (λ d i is x j. bare d (inr i) is x (inr j)))
+  puts_write : (us : List Update) (rows : List Held) → Alone us → AreInTurn us → Each (λ u. Member (held_at usn u) (fold put rows (under usn us))) us
+  puts_write [] rows alone turn u m = absurd m
+  puts_write (v ∷ us) rows alone turn u m = by m (puts_write us (put rows (held_at usn v)) (λ x i y j. alone x (inr i) y (inr j)) turn.1)
     where
       by : Member u (v ∷ us) → Each (λ w. Member (held_at usn w) (fold put (put rows (held_at usn v)) (under usn us))) us → Member (held_at usn u) (fold put (put rows (held_at usn v)) (under usn us))
       by (inl e) rest = subst (λ x. Member (held_at usn x) (fold put (put rows (held_at usn v)) (under usn us))) (sym e)
-          (put_stands v us (fold put (put rows (held_at usn v)) (under usn us)) alone bare rest (puts_keep us (put rows (held_at usn v)) (held_at usn v) (put_itself rows (held_at usn v))))
+          (put_stands v us (fold put (put rows (held_at usn v)) (under usn us)) alone turn rest (puts_keep us (put rows (held_at usn v)) (held_at usn v) (put_itself rows (held_at usn v))))
       by (inr n) rest = rest u n
 
-  -- with a death there is nothing that it takes
-  puts_bare : (us : List Update) (rows : List Held) → Bare us → Each (λ d. (o : Oid) → IsDeathOf o d → Each (λ x. goes_with o x.update.key ≡ false) (fold put rows (under usn us))) us
-  puts_bare [] rows bare d m o is x n = absurd m
-  puts_bare (v ∷ us) rows bare d (inr m) o is x n = puts_bare us (put rows (held_at usn v)) (λ c i e y j. bare c (inr i) e y (inr j)) d m o is x n
-  puts_bare (v ∷ us) rows bare d (inl same) o is x n = ⊎_elim
-      (λ i. let t = mapped_member (held_at usn) us x i in reserved_stays o x.update.key (ap (λ (h : Held). is_reserved_row h.update.key) t.2 ∙ bare d (inl same) (o, is) t.0 (inr t.1)))
-      (λ i. put_bare rows (held_at usn v) o (ap (λ (u : Update). u.key) (sym same) ∙ is) x i)
+  -- with a death there is nothing that it takes, but for what is put after it
+  puts_bare : (us : List Update) (rows : List Held) → Each (λ d. (o : Oid) → IsDeathOf o d → Each (λ x. Member x (under usn us) ⊎ (goes_with o x.update.key ≡ false)) (fold put rows (under usn us))) us
+  puts_bare [] rows d m o is x n = absurd m
+  puts_bare (v ∷ us) rows d (inr m) o is x n = ⊎_elim (λ i. inl (inr i)) (λ f. inr f) (puts_bare us (put rows (held_at usn v)) d m o is x n)
+  puts_bare (v ∷ us) rows d (inl same) o is x n = ⊎_elim
+      (λ i. inl (inr i))
+      (λ i. inr (put_bare rows (held_at usn v) o (ap (λ (u : Update). u.key) (sym same) ∙ is) x i))
       (puts_from (under usn us) (put rows (held_at usn v)) x n)
 
-pub are_put : (usn : ℕ) (before : List Held) (V : Numbers) (unit : Named) (us : List Update) → MayPut (updates_of before) V unit us → ArePut usn us before (fold put before (under usn us))
-are_put usn before V unit us may = record {
-  written = puts_write usn us before may.alone may.bare;
+put_in_turn : (usn : ℕ) (before : List Held) (us : List Update) → Alone us → AreInTurn us → ArePut usn us before (fold put before (under usn us))
+put_in_turn usn before us alone turn = record {
+  written = puts_write usn us before alone turn;
   from = puts_from (under usn us) before;
   kept = puts_keep usn us before;
-  bare = puts_bare usn us before may.bare;
+  bare = puts_bare usn us before;
 }
+
+pub are_put : (usn : ℕ) (before : List Held) (V : Numbers) (unit : Named) (us : List Update) → MayPut (updates_of before) V unit us → ArePut usn us before (fold put before (under usn us))
+are_put usn before V unit us may = put_in_turn usn before us may.alone (in_turn_where_bare us may.bare)
+
+pub rising_are_put : (usn : ℕ) (before : List Held) (unit : Named) (us : List Update) → Each (λ u. unit_of u.key ≡ unit) us → IsStrictlySortedBy key_order (map (λ (u : Update). u.key) us)
+    → ArePut usn us before (fold put before (under usn us))
+rising_are_put usn before unit us of_unit rising = put_in_turn usn before us (one_of_each key_order keys_total (λ (u : Update). u.key) us (rises_from key_order (map (λ (u : Update). u.key) us) rising))
+    (in_turn_where_rising unit us of_unit rising)
 
 -- ---- what was taken is kept
 

@@ -1,11 +1,13 @@
 -- Which rows stand after one was put, and what a row is about.
-use Rattle.std.proofs.Common.{◌≡◌, ◌⊎◌, inl, inr, ⊎_elim, List, [], ◌∷◌, Bool, true, false, Option, Some, None, refl, sym, ap, ◌∙◌, subst, arith, ◌==◌, ◌||◌, if◌then◌else◌, not, ℕ, fold}
+use Rattle.std.proofs.Common.{◌≡◌, ◌⊎◌, inl, inr, ⊎_elim, List, [], ◌∷◌, Bool, true, false, Option, Some, None, refl, sym, ap, ◌∙◌, subst, arith, ◌==◌, ◌||◌, if◌then◌else◌, not, ℕ, ◌<◌, fold}
 use Rattle.std.specs.Prelude.{nat_lt}
-use Rattle.std.specs.Ordering.{match_ordering}
+use Rattle.std.specs.Ordering.{match_ordering, nat_cmp, ordering_then}
 use Rattle.std.specs.declared.cmp.Ordering.{Ordering}
 use Rattle.std.specs.declared.cmp.Ordering.TheVariants.{Less, Equal, Greater}
 use Rattle.std.proofs.lemmas.Bool.{eqb-true, not-true}
 use Rattle.std.proofs.lemmas.Bool.Decides.{nat_tests}
+use Rattle.std.proofs.lemmas.Cmp.{ranked}
+use Rattle.adr_stamp.specs.Order.{object_order}
 use Rattle.adr_stamp.specs.declared.Oid.{Oid}
 use Rattle.adr_stamp.specs.declared.LinkKey.{LinkKey}
 use Rattle.adr_stamp.specs.declared.Unit.TheVariants.{Object, Link}
@@ -15,8 +17,9 @@ use Rattle.adr_model.specs.Reflects.{IsDeathOf}
 use Rattle.adr_model.specs.Store.{Held, with_row, updates_of, is_row_of}
 use Rattle.adr_model.specs.Change.{goes_with, killed_by, stripped, put}
 use Rattle.adr_model.specs.Take.{is_reserved_row}
-use Rattle.adr_model.proofs.Keys.{exact_keys, objects_tell}
+use Rattle.adr_model.proofs.Keys.{exact_keys, equal_order, objects_tell}
 use Rattle.adr_model.proofs.Members.{in_filter, of_filter, member_mapped, mapped_member}
+use Rattle.adr_law_knowledge.proofs.Comparing.{objects_same}
 
 -- ---- rows as updates
 
@@ -125,6 +128,20 @@ reserved_stays o (RowOf p a) r = by (same_object p o)
 
 pub death_stays : (o p : Oid) (k : Key) → k ≡ RowOf p deleted_attr → goes_with o k ≡ false
 death_stays o p k is = reserved_stays o k (ap is_reserved_row is)
+
+-- nor one that is in order before its death
+pub below_death : (o : Oid) (attr : ℕ) → key_order (RowOf o attr) (RowOf o deleted_attr) ≡ Less → goes_with o (RowOf o attr) ≡ false
+below_death o attr less = by (same_object o o)
+  where
+    before : nat_cmp attr deleted_attr ≡ Less
+    before = ap (λ r. ordering_then r (nat_cmp attr deleted_attr)) (sym (equal_order (object_order o o) (objects_same o o refl))) ∙ less
+
+    below : attr < deleted_attr
+    below = ranked attr deleted_attr Less (sym before)
+
+    by : (b : Bool) → (if b then nat_lt deleted_attr attr else false) ≡ false
+    by true = grind (arith, nat_tests, below)
+    by false = refl
 
 pub is_killed : (k : Key) (o : Oid) → killed_by k ≡ Some o → k ≡ RowOf o deleted_attr
 is_killed (LinkOf l) o e = cc

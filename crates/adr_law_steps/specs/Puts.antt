@@ -36,12 +36,12 @@ abbrev pub IsStripped : List Update → Held → Type 0
 IsStripped us x = (d : Update) × (o : Oid) × Member d us × IsDeathOf o d × (goes_with o x.update.key ≡ true)
 
 -- each of the rows stands; every other row that stands stood before; what doesn't stand any more was replaced or stripped; and
--- with a death nothing stands that it takes
+-- with a death nothing stands that it takes, but for what is put with it
 pub record ArePut (usn : ℕ) (us : List Update) (before after : List Held) : Type 0 where
   pub written : Each (λ u. Member (held_at usn u) after) us
   pub from : Each (λ x. Member x (under usn us) ⊎ Member x before) after
   pub kept : Each (λ x. IsReplaced us x ⊎ (IsStripped us x ⊎ Member x after)) before
-  pub bare : Each (λ d. (o : Oid) → IsDeathOf o d → Each (λ x. goes_with o x.update.key ≡ false) after) us
+  pub bare : Each (λ d. (o : Oid) → IsDeathOf o d → Each (λ x. Member x (under usn us) ⊎ (goes_with o x.update.key ≡ false)) after) us
 
 -- no link has an absent end whose birth is covered
 abbrev pub AreClosed : Numbers → List Update → Type 0

@@ -1,0 +1,236 @@
+-- A collection of a formed state: the change can follow it, and leaves a formed one.
+use Rattle.std.proofs.Common.{◌≡◌, ⊎_elim, ℕ, ◌≤◌, ◌+◌, List, [], ◌∷◌, Bool, true, false, ◌&&◌, Option, Some, None, refl, sym, ap, ◌∙◌, subst, arith, map, fold, filter_map, Ok}
+use Rattle.std.specs.Prelude.{nat_le, nat_lt}
+use Rattle.std.specs.Bool.{then_some}
+use Rattle.std.specs.List.{AllByRecursion, cons_option}
+use Rattle.std.specs.List.Sorted.{IsStrictlySortedBy}
+use Rattle.std.specs.Ordering.{nat_cmp, ordering_then}
+use Rattle.std.specs.declared.cmp.Ordering.{Ordering}
+use Rattle.std.specs.declared.cmp.Ordering.TheVariants.{Less, Equal, Greater}
+use Rattle.adr_stamp.specs.Order.{object_order}
+use Rattle.adr_stamp.specs.declared.Oid.{Oid}
+use Rattle.adr_schema.specs.Numbered.{numbered}
+use Rattle.adr_schema.proofs.ExactCalls.{not_then}
+use Rattle.adr_vector.specs.Vector.{Cursors, IsVector, at, raised}
+use Rattle.adr_vector.proofs.Cursors.{FromOne}
+use Rattle.adr_vector.proofs.Comparing.{at_most_from_everywhere}
+use Rattle.adr_vector.proofs.Joining.{raised_here, from_one-raised}
+use Rattle.adr_event.specs.declared.refusal.CollectRefusal.TheVariants.{Quarantined as IsQuarantined, UsnLimit}
+use Rattle.adr_model.specs.Member.{Member, Each}
+use Rattle.adr_model.specs.Update.{Key, RowOf, Update, inv_of, usn_of, key_order, deleted_attr}
+use Rattle.adr_model.specs.Reflects.{Numbers, AtMost, Covers, CoversBirth}
+use Rattle.adr_model.specs.Visible.{covers_update, covers_birth}
+use Rattle.adr_model.specs.Store.{Held, State, updates_of}
+use Rattle.adr_model.specs.Serve.{is_quarantined}
+use Rattle.adr_model.specs.Change.{Change, after, killed_by}
+use Rattle.adr_model.specs.Formed.{AreRising, IsFormedStore, IsFormed}
+use Rattle.adr_model.specs.Write.{usn_limit}
+use Rattle.adr_model.specs.Collect.{collected_by, deaths_to_collect, covering, collection, collect_refusal, collect}
+use Rattle.adr_model.proofs.Members.{mapped_member}
+use Rattle.adr_law_knowledge.proofs.Refusing.{answered}
+use Rattle.adr_law_knowledge.proofs.Raised.{raised_up, raised_is_vector, raised_replaces}
+use Rattle.adr_law_steps.proofs.Rows.{updated, is_killed}
+use Rattle.adr_law_steps.proofs.Rising.{removals_rise}
+use Rattle.adr_law_collecting.specs.Collectable.{IsCollectable}
+use Rattle.adr_law_knowledge.proofs.Fewer.{no_more_cursors}
+use Rattle.adr_law_collecting.proofs.Covering.{covering_within, covering_rises}
+use Rattle.adr_law_collecting.proofs.Deaths.{all_collectable}
+use Rattle.adr_law_collecting.proofs.Vectors.{purged_within, purged_covers, purged_is_vector}
+use Rattle.adr_law_collecting.proofs.Removing.{stood_before, update_stood, stay_alone}
+use Rattle.adr_law_collecting.proofs.Forms.{stay_formed}
+use Rattle.adr_law_collecting.proofs.Sizes.{objects_fewer, links_fewer}
+use Rattle.adr_law_collecting.proofs.Taken.{collect_is_collection, usn_of_collection}
+use Rattle.adr_law_formed.specs.Follow.{IsRemovable, HasKnownClasses, CanFollow}
+use Rattle.adr_law_formed.proofs.Said.{neither}
+use Rattle.adr_law_formed.proofs.TakenFollow.{nothing_is_vector, normal_where_not_quarantined}
+
+-- ---- the objects that go rise
+
+module _ (f : Held → Option (Oid × Update)) (dies : (h : Held) (d : Oid × Update) → f h ≡ Some d → h.update.key ≡ RowOf d.0 deleted_attr) where
+  abbrev gone : List Held → List Oid
+  gone rows = map (λ (d : Oid × Update). d.0) (filter_map f rows)
+
+  of_object : (o p : Oid) → key_order (RowOf o deleted_attr) (RowOf p deleted_attr) ≡ Less → object_order o p ≡ Less
+  of_object o p less = by (object_order o p) less
+    where
+      by : (c : Ordering) → ordering_then c (nat_cmp deleted_attr deleted_attr) ≡ Less → c ≡ Less
+      by Less e = refl
+      by Equal e = absurd (cc)
+      by Greater e = absurd (cc)
+
+  all_below : (o : Oid) (k : Key) → k ≡ RowOf o deleted_attr → (rows : List Held) → AllByRecursion (λ j. key_order k j ≡ Less) (map (λ (h : Held). h.update.key) rows) → AllByRecursion (λ p. object_order o p ≡ Less) (gone rows)
+  all_below o k is [] all = tt
+  all_below o k is (x ∷ xs) all = by (f x) refl (all_below o k is xs all.1)
+    where
+      by : (d : Option (Oid × Update)) → f x ≡ d → AllByRecursion (λ p. object_order o p ≡ Less) (gone xs) → AllByRecursion (λ p. object_order o p ≡ Less) (map (λ (t : Oid × Update). t.0) (cons_option d (filter_map f xs)))
+      by None e rest = rest
+      by (Some d) e rest = (of_object o d.0 (subst (λ j. key_order (RowOf o deleted_attr) j ≡ Less) (dies x d e) (subst (λ j. key_order j x.update.key ≡ Less) is all.0)), rest)
+
+  pub gone_rise : (rows : List Held) → IsStrictlySortedBy key_order (map (λ (h : Held). h.update.key) rows) → IsStrictlySortedBy object_order (gone rows)
+  unfolding IsStrictlySortedBy
+  gone_rise [] rising = tt
+  gone_rise (x ∷ xs) rising = by (f x) refl (gone_rise xs rising.1)
+    where
+      by : (d : Option (Oid × Update)) → f x ≡ d → IsStrictlySortedBy object_order (gone xs) → IsStrictlySortedBy object_order (map (λ (t : Oid × Update). t.0) (cons_option d (filter_map f xs)))
+      by None e rest = rest
+      by (Some d) e rest = (all_below d.0 x.update.key (dies x d e) xs rising.0, rest)
+
+-- ---- what covers them is a vector
+
+further_from_one : (ds : List (Oid × Update)) (v : Cursors) → FromOne v → FromOne (fold (λ w (d : Oid × Update). raised (raised w d.0.birth.inv d.0.birth.usn) (inv_of d.1) (usn_of d.1)) v ds)
+further_from_one [] v one = one
+further_from_one (d ∷ ds) v one = further_from_one ds (raised (raised v d.0.birth.inv d.0.birth.usn) (inv_of d.1) (usn_of d.1))
+    (from_one-raised (raised v d.0.birth.inv d.0.birth.usn) (inv_of d.1) (usn_of d.1) (from_one-raised v d.0.birth.inv d.0.birth.usn one))
+
+covering_from_one : (ds : List (Oid × Update)) → FromOne (covering ds)
+covering_from_one ds = further_from_one ds [] tt
+
+-- what a test of an object comes to, where it gives one
+passed : (b : Bool) (o p : Oid) → then_some b o ≡ Some p → o ≡ p
+passed true o p e = cc
+passed false o p e = absurd (cc)
+
+module _ (s : State) (now lifetime : ℕ) where
+  abbrev may_go : Update → Oid → Bool
+  may_go u o = covers_birth s.store.vector o && covers_update s.store.vector u && nat_le (u.stamp.stamp.time + lifetime) now
+
+  abbrev dead_of : Update → Option Oid → Option Oid
+  dead_of u None = None
+  dead_of u (Some o) = then_some (may_go u o) o
+
+  abbrev with_death : Update → Option Oid → Option (Oid × Update)
+  with_death u None = None
+  with_death u (Some o) = Some (o, u)
+
+  collected_dies : (u : Update) (o : Oid) → collected_by s.store.vector now lifetime u ≡ Some o → u.key ≡ RowOf o deleted_attr
+  collected_dies u o e = by (killed_by u.key) refl e
+    where
+      by : (k : Option Oid) → killed_by u.key ≡ k → dead_of u k ≡ Some o → u.key ≡ RowOf o deleted_attr
+      by None is e = absurd (cc)
+      by (Some p) is e = subst (λ q. u.key ≡ RowOf q deleted_attr) (passed (may_go u p) p o e) (is_killed u.key p is)
+
+  dies : (h : Held) (d : Oid × Update) → with_death h.update (collected_by s.store.vector now lifetime h.update) ≡ Some d → h.update.key ≡ RowOf d.0 deleted_attr
+  dies h d e = by (collected_by s.store.vector now lifetime h.update) refl e
+    where
+      by : (k : Option Oid) → collected_by s.store.vector now lifetime h.update ≡ k → with_death h.update k ≡ Some d → h.update.key ≡ RowOf d.0 deleted_attr
+      by None is e = absurd (cc)
+      by (Some o) is e = collected_dies h.update d.0 (is ∙ ap Some (let f : (o, h.update) ≡ d = cc in ap (λ (t : Oid × Update). t.0) f))
+
+module _ (s : State) (now lifetime : ℕ) (is : IsFormed s) (classes : HasKnownClasses s) where
+  abbrev dead : List (Oid × Update)
+  dead = deaths_to_collect s now lifetime
+
+  abbrev c : Change
+  c = collection s dead
+
+  abbrev d : State
+  d = after s c
+
+  abbrev rows : List Held
+  rows = s.store.rows
+
+  abbrev os : List Oid
+  os = map (λ (t : Oid × Update). t.0) dead
+
+  abbrev V : Numbers
+  V = at s.store.vector
+
+  collectable : Each (IsCollectable rows V) dead
+  collectable = all_collectable s now lifetime
+
+  covered : Each (λ t. CoversBirth V t.0 × Covers V t.1) dead
+  covered t m = let g = collectable t m in (g.birth, g.death)
+
+  up : AtMost V (at d.store.vector)
+  up = raised_up s.store.vector s.inv c.usn
+
+  -- a USN is only taken where a row is held, and so one was taken before
+  own_is_there : 1 ≤ c.usn → 1 ≤ V s.inv
+  own_is_there one = ⊎_elim
+      (λ t. omega (arith, one, t.1, is.own))
+      (λ t. let g = collectable t.0.0 t.0.1 in let local = is.store.locals g.held g.stands in omega (arith, local.0, local.1, is.own))
+      (usn_of_collection s dead)
+
+  usn_rises : s.store.usn ≤ c.usn
+  usn_rises = ⊎_elim (λ t. omega (arith, t.1)) (λ t. omega (arith, t.1)) (usn_of_collection s dead)
+
+  q_within : AtMost (at d.store.purged) V
+  q_within = purged_within s.store.purged s.store.vector dead is.store.purged is.store.purged_within is.store.vector covered
+
+  q_covers : Each (λ t. CoversBirth (at d.store.purged) t.0 × Covers (at d.store.purged) t.1) dead
+  q_covers = purged_covers s.store.purged s.store.vector dead is.store.purged is.store.purged_within is.store.vector covered
+
+  is_purged : IsVector d.store.purged
+  is_purged = purged_is_vector s.store.purged s.store.vector dead is.store.purged is.store.purged_within is.store.vector covered
+
+  formed : IsFormedStore d.store
+  formed = record {
+    vector = raised_is_vector s.store.vector s.inv c.usn is.store.vector (omega (arith, raised_replaces s.store.vector s.inv c.usn own_is_there is.store.vector, is.store.vector.few));
+    purged = is_purged;
+    purged_within = at_most_from_everywhere d.store.purged d.store.vector is_purged.rising (λ i. omega (arith, q_within i, up i));
+    marks = is.store.marks;
+    rising = removals_rise os rows is.store.rising;
+    locals = λ h m. let l = is.store.locals h (stood_before os rows h m) in (l.0, omega (arith, l.1, usn_rises));
+    alone = stay_alone os rows is.store.alone;
+    rows = stay_formed os rows (numbered s.store.schema) is.store.rows;
+    limits = record {
+      objects = omega (arith, objects_fewer os rows, is.store.limits.objects);
+      links = omega (arith, links_fewer os rows is.store.rising, is.store.limits.links);
+      marks = is.store.limits.marks;
+    };
+  }
+
+  removable : Each (IsRemovable rows d.store.purged) os
+  removable o m =
+      let t = mapped_member (λ (t : Oid × Update). t.0) dead o m in
+      subst (IsRemovable rows d.store.purged) (sym t.2) (of_death t.0 (collectable t.0 t.1) (q_covers t.0 t.1))
+    where
+      of_death : (t : Oid × Update) → IsCollectable rows V t → CoversBirth (at d.store.purged) t.0 × Covers (at d.store.purged) t.1 → IsRemovable rows d.store.purged t.0
+      of_death t g q = record {
+        death = t.1;
+        is_held = subst (λ v. Member v (updates_of rows)) g.is_held (updated rows g.held g.stands);
+        is_death = g.dies;
+        birth_purged = q.0;
+        death_purged = q.1;
+      }
+
+  -- what is purged is the covering of what was dead, a vector
+  covers : IsVector (covering dead)
+  covers = record {
+    rising = covering_rises dead;
+    from_one = covering_from_one dead;
+    few = omega (
+      arith,
+      is.store.vector.few,
+      no_more_cursors s.store.vector (covering dead) (covering_rises dead) (covering_from_one dead) is.store.vector.rising
+          (λ i some. omega (arith, some, covering_within dead V covered i)),
+    );
+  }
+
+  follows : is_quarantined s.mode ≡ false → CanFollow s c
+  follows normal = record {
+    goes_on = record {
+      normal = normal_where_not_quarantined s.mode normal;
+      rises = usn_rises;
+      locals = tt;
+      mark = tt;
+      joined = nothing_is_vector;
+      purged = covers;
+      writes = tt;
+      removed = removable;
+    };
+    formed = record { store = formed; own = (let here = raised_here s.store.vector s.inv c.usn in omega (arith, here, is.own, usn_rises)) };
+    classes = λ u m. classes u (update_stood os rows u m);
+  }
+
+pub collected_follows : (s : State) (now lifetime : ℕ) (c : Change) → IsFormed s → HasKnownClasses s → collect s now lifetime ≡ Ok c → CanFollow s c
+collected_follows s now lifetime c is classes e =
+    let change = collection s (deaths_to_collect s now lifetime) in
+    let g = answered (collect_refusal s change) change c e in
+    let n = neither (then_some (is_quarantined s.mode) IsQuarantined) (then_some (nat_lt usn_limit change.usn) UsnLimit) g.0 in
+    subst (CanFollow s) g.1 (follows s now lifetime is classes (not_then (is_quarantined s.mode) IsQuarantined n.0))
+
+-- what is removed rises by the objects' names
+pub collected_rise : (s : State) (now lifetime : ℕ) (c : Change) → AreRising s.store.rows → collect s now lifetime ≡ Ok c → IsStrictlySortedBy object_order c.removed
+collected_rise s now lifetime c rising e = subst (λ (x : Change). IsStrictlySortedBy object_order x.removed) (collect_is_collection s now lifetime c e)
+    (gone_rise (λ (h : Held). with_death s now lifetime h.update (collected_by s.store.vector now lifetime h.update)) (dies s now lifetime) s.store.rows rising)

@@ -1,0 +1,139 @@
+-- Rows that a formed state may write: the change can follow it, and leaves a formed one.
+use Rattle.std.proofs.Common.{◌≡◌, ◌⊎◌, inl, inr, ⊎_elim, ℕ, zero, suc, ◌≤◌, ◌+◌, List, [], true, refl, sym, ap, subst, fold, arith, append-nil, map}
+use Rattle.std.specs.List.Sorted.{IsStrictlySortedBy}
+use Rattle.adr_stamp.specs.declared.Oid.{Oid}
+use Rattle.adr_stamp.specs.declared.LinkKey.{LinkKey}
+use Rattle.adr_stamp.specs.declared.Unit.{Unit as Named}
+use Rattle.adr_stamp.specs.declared.Unit.TheVariants.{Object, Link}
+use Rattle.adr_schema.specs.Numbered.{numbered}
+use Rattle.adr_vector.specs.Vector.{at}
+use Rattle.adr_vector.proofs.Comparing.{everywhere_from_at_most, at_most_from_everywhere}
+use Rattle.adr_vector.proofs.Joining.{raised_here}
+use Rattle.adr_model.specs.Member.{Member, Each}
+use Rattle.adr_model.specs.Update.{RowOf, LinkOf, Update, key_order}
+use Rattle.adr_model.specs.Reflects.{CoversBirth, HoldsObject}
+use Rattle.adr_model.specs.Store.{Held, Normal, State, updates_of}
+use Rattle.adr_model.specs.Change.{Item, put, held_of, rows_after, after}
+use Rattle.adr_model.specs.Formed.{AreRising, IsFormedStore, IsFormed}
+use Rattle.adr_model.specs.Take.{is_above}
+use Rattle.adr_model.proofs.Members.{mapped_member}
+use Rattle.adr_law_steps.specs.Puts.{held_at, under, ArePut}
+use Rattle.adr_law_steps.specs.Forms.{IsWellSaid, MayCome}
+use Rattle.adr_law_steps.proofs.Rows.{row_of_unit, link_of_unit}
+use Rattle.adr_law_steps.proofs.Putting.{are_put}
+use Rattle.adr_law_steps.proofs.Order.{puts_rise, puts_stay_alone}
+use Rattle.adr_law_writing.specs.MayWrites.{MayWrite, Changes, Comes, IsHeldAlive}
+use Rattle.adr_law_knowledge.proofs.Raised.{raised_is_vector, raised_up}
+use Rattle.adr_law_writing.proofs.Rooms.{cursors_within, objects_within_limit, links_within_limit}
+use Rattle.adr_law_writing.proofs.Issues.{change_of}
+use Rattle.adr_law_writing.proofs.Forms.{rows_stay_formed, classes_stay}
+use Rattle.adr_law_formed.specs.Spelled.{IsSaidOfKey}
+use Rattle.adr_law_formed.specs.Follow.{MayWriteUnit, HasKnownClasses, CanFollow}
+use Rattle.adr_law_formed.proofs.TakenFollow.{nothing_is_vector}
+
+-- ---- what rows say
+
+pub says_of_well_said : (schema class : ℕ) (o : Oid) (u : Update) (attr : ℕ) → u.key ≡ RowOf o attr → IsWellSaid (numbered schema) class o u → IsSaidOfKey u.key u.said
+says_of_well_said schema class o u attr is well = subst (λ k. IsSaidOfKey k u.said) (sym is) (by attr is)
+  where
+    by : (a : ℕ) → u.key ≡ RowOf o a → IsSaidOfKey (RowOf o a) u.said
+    by zero e = absurd (well.none e)
+    by (suc zero) e = subst (IsSaidOfKey (RowOf o 1)) (sym (well.of_class e).0) refl
+    by (suc (suc zero)) e = let t = well.of_name e in subst (IsSaidOfKey (RowOf o 2)) (sym t.2) refl
+    by (suc (suc (suc zero))) e = subst (IsSaidOfKey (RowOf o 3)) (sym (well.of_death e)) refl
+    by (suc (suc (suc (suc n)))) e = let t = well.of_values (suc (suc (suc (suc n)))) (omega arith) e in
+        subst (IsSaidOfKey (RowOf o (suc (suc (suc (suc n)))))) (sym t.1) ((λ f. omega (arith, f)), (λ f. omega (arith, f)), (λ f. omega (arith, f)))
+
+module _ (s : State) where
+  pub says_of_written : (unit : Named) (us : List Update) → MayWrite s unit us → Each (λ u. IsSaidOfKey u.key u.said) us
+  says_of_written (Object o) us may u m = let k = row_of_unit u.key o (may.put.of_unit u m) in by may.fits.0 may.fits.1 k.0 k.1
+    where
+      by : (class : ℕ) → Changes s o class us ⊎ Comes s o class us → (attr : ℕ) → u.key ≡ RowOf o attr → IsSaidOfKey u.key u.said
+      by class (inl c) attr is = says_of_well_said s.store.schema class o u attr is (c.said u m)
+      by class (inr c) attr is = says_of_well_said s.store.schema class o u attr is (c.0.said u m)
+  says_of_written (Link l) us may u m = let t = may.fits.said u m in
+      subst (λ k. IsSaidOfKey k u.said) (sym (link_of_unit u.key l (may.put.of_unit u m))) (subst (IsSaidOfKey (LinkOf l)) (sym t.1) tt)
+
+  -- ---- where the rows are written
+
+  pub new_placed : (o : Oid) (class : ℕ) (us : List Update) → (HoldsObject (updates_of s.store.rows) o ⊎ (CoversBirth (at s.store.vector) o → ⊥)) → MayCome (numbered s.store.schema) (updates_of s.store.rows) o class us
+      → MayWriteUnit (numbered s.store.schema) s.store.vector s.store.rows (Object o) us
+  new_placed o class us place comes = inr (inr (
+    comes.absent,
+    ⊎_elim (λ h. absurd (comes.absent h)) (λ m. m) place,
+    record {
+      class = class;
+      of_class = let b = comes.of_class in (b.0, b.1, b.2, ((comes.said b.0 b.1).of_class b.2).0);
+      of_name = comes.of_name;
+      whole = comes.whole;
+    },
+  ))
+
+  pub live_placed : (o : Oid) (us : List Update) → IsHeldAlive (updates_of s.store.rows) o → MayWriteUnit (numbered s.store.schema) s.store.vector s.store.rows (Object o) us
+  live_placed o us live = inr (inl (live.1, live.0))
+
+  pub link_placed : (l : LinkKey) (us : List Update) → MayWrite s (Link l) us → MayWriteUnit (numbered s.store.schema) s.store.vector s.store.rows (Link l) us
+  link_placed l us may o m = let h = may.fits.ends o m in (h.1, inl h.0)
+
+  -- ---- the whole
+
+  module _ (item : Item) (formed : IsFormed s) (known : HasKnownClasses s) (may : MayWrite s item.unit item.rows) where
+    abbrev d : State
+    d = after s (change_of s item)
+
+    abbrev stands : List Held
+    stands = rows_after [] (held_of (change_of s item).writes) s.store.rows
+
+    stands_is : fold put s.store.rows (under (s.store.usn + 1) item.rows) ≡ stands
+    stands_is = ap (fold put s.store.rows) (sym (append-nil (under (s.store.usn + 1) item.rows)))
+
+    are : ArePut (s.store.usn + 1) item.rows s.store.rows stands
+    are = subst (ArePut (s.store.usn + 1) item.rows s.store.rows) stands_is (are_put (s.store.usn + 1) s.store.rows (at s.store.vector) item.unit item.rows may.put)
+
+    rising : AreRising stands
+    rising = subst AreRising stands_is (puts_rise s.store.rows (under (s.store.usn + 1) item.rows) formed.store.rising)
+
+    locals : Each (λ h. (1 ≤ h.local) × (h.local ≤ s.store.usn + 1)) stands
+    locals h m = ⊎_elim
+        (λ n. let u = mapped_member (held_at (s.store.usn + 1)) item.rows h n in let is : h.local ≡ s.store.usn + 1 = ap (λ (x : Held). x.local) u.2 in (omega (arith, is), omega (arith, is)))
+        (λ n. let old = formed.store.locals h n in (old.0, omega (arith, old.1)))
+        (are.from h m)
+
+    store : IsFormedStore d.store
+    store = record {
+      vector = raised_is_vector s.store.vector s.inv (s.store.usn + 1) formed.store.vector (cursors_within s item.unit item.rows formed may);
+      purged = formed.store.purged;
+      purged_within = at_most_from_everywhere s.store.purged d.store.vector formed.store.purged.rising
+          (λ i. omega (arith, everywhere_from_at_most s.store.purged s.store.vector formed.store.purged_within i, raised_up s.store.vector s.inv (s.store.usn + 1) i));
+      marks = formed.store.marks;
+      rising = rising;
+      locals = locals;
+      alone = puts_stay_alone s.store.usn (s.store.usn + 1) s.store.rows stands (at s.store.vector) item.unit item.rows formed.store.alone (λ x m. (formed.store.locals x m).1) (omega arith) may.put are;
+      rows = rows_stay_formed s item.rows stands are item.unit may formed.store.rising rising formed.store.rows;
+      limits = record {
+        objects = objects_within_limit s item.rows stands are item.unit may formed.store.limits.objects;
+        links = links_within_limit s item.rows stands are item.unit may rising formed.store.limits.links;
+        marks = formed.store.limits.marks;
+      };
+    }
+
+    pub written_follows : s.mode ≡ Normal → (u : Update) × Member u item.rows → IsStrictlySortedBy key_order (map (λ (u : Update). u.key) item.rows) → Each (λ u. is_above s.store.rows u ≡ true) item.rows
+        → MayWriteUnit (numbered s.store.schema) s.store.vector s.store.rows item.unit item.rows → CanFollow s (change_of s item)
+    written_follows normal some rise above placed = record {
+      goes_on = record {
+        normal = normal;
+        rises = omega arith;
+        locals = (omega arith, omega arith, tt);
+        mark = tt;
+        joined = nothing_is_vector;
+        purged = nothing_is_vector;
+        writes = (
+          record { some = some; form = record { of_unit = may.put.of_unit; rising = rise; says = says_of_written item.unit item.rows may }; greater = above; unit = placed },
+          (objects_within_limit s item.rows stands are item.unit may formed.store.limits.objects, links_within_limit s item.rows stands are item.unit may rising formed.store.limits.links),
+          tt,
+        );
+        removed = λ o m. absurd m;
+      };
+      formed = record { store = store; own = (let here = raised_here s.store.vector s.inv (s.store.usn + 1) in omega (arith, here, formed.own)) };
+      classes = classes_stay s item.rows stands are item.unit may known;
+    }

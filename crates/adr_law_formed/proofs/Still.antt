@@ -1,0 +1,115 @@
+-- A quarantine can follow a formed state, and a controller that is made of a formed image is formed.
+use Rattle.std.proofs.Common.{◌≡◌, ℕ, ◌≤◌, [], ◌∷◌, Bool, true, false, cond, ◌||◌, refl, sym, ap, subst, arith, length, Ok}
+use Rattle.std.specs.Prelude.{nat_lt}
+use Rattle.std.specs.List.{list_any}
+use Rattle.std.specs.Bool.{then_some}
+use Rattle.std.specs.Ordering.{is_eq}
+use Rattle.std.specs.BTreeMap.{insert_entry}
+use Rattle.std.proofs.lemmas.Bool.{le-leb, or_parts, both_ways, ltb-false}
+use Rattle.adr_stamp.specs.Order.{identifier_order}
+use Rattle.adr_stamp.specs.declared.Oid.{Oid}
+use Rattle.adr_schema.proofs.ExactCalls.{not_then}
+use Rattle.adr_schema.specs.Numbered.{numbered}
+use Rattle.adr_vector.specs.Vector.{Cursors, IsVector, at, raised, cursor_limit}
+use Rattle.adr_vector.proofs.Cursors.{same_from_test, test_itself}
+use Rattle.adr_vector.proofs.Comparing.{everywhere_from_at_most, at_most_from_everywhere}
+use Rattle.adr_vector.proofs.Joining.{raised_here, rising-raised, from_one-raised}
+use Rattle.adr_event.specs.declared.refusal.Table.TheVariants.{Cursors as CursorTable}
+use Rattle.adr_event.specs.declared.refusal.AdoptRefusal.TheVariants.{IdentifierUsed, Full}
+use Rattle.adr_model.specs.Update.{Identifier, inv_of, same_identifier, ends}
+use Rattle.adr_model.specs.Store.{Held, Kept, Normal, Store, State, updates_of, empty_state}
+use Rattle.adr_model.specs.Formed.{IsFormedStore, IsFormed}
+use Rattle.adr_model.specs.Sound.{AreClassesKnown}
+use Rattle.adr_model.specs.Collect.{names_inv, woken, adopt_refusal, adopt, quarantine}
+use Rattle.adr_law_knowledge.proofs.Refusing.{answered}
+use Rattle.adr_law_knowledge.proofs.Raised.{raised_up}
+use Rattle.adr_law_logs.proofs.Empty.{empty_is_formed}
+use Rattle.adr_law_formed.specs.Follow.{HasKnownClasses, CanFollow}
+use Rattle.adr_law_formed.proofs.Said.{neither}
+use Rattle.adr_law_formed.proofs.TakenFollow.{nothing_is_vector}
+
+-- a vector that has seen it already isn't raised
+not_raised : (v : Cursors) (inv : Identifier) (usn : ℕ) → usn ≤ at v inv → raised v inv usn ≡ v
+not_raised v inv usn le = ap (λ b. cond b v (insert_entry identifier_order v inv usn)) (le-leb usn (at v inv) le)
+
+-- a formed store keeps its forms under another vector that has seen as much
+with_vector : (s : Store) (v : Cursors) → IsFormedStore s → IsVector v → ((i : Identifier) → at s.vector i ≤ at v i)
+    → IsFormedStore (record { schema = s.schema; usn = s.usn; rows = s.rows; vector = v; purged = s.purged; marks = s.marks })
+with_vector s v formed vector up = record {
+  vector = vector;
+  purged = formed.purged;
+  purged_within = at_most_from_everywhere s.purged v formed.purged.rising (λ i. omega (arith, everywhere_from_at_most s.purged s.vector formed.purged_within i, up i));
+  marks = formed.marks;
+  rising = formed.rising;
+  locals = formed.locals;
+  alone = formed.alone;
+  rows = formed.rows;
+  limits = record { objects = formed.limits.objects; links = formed.limits.links; marks = formed.limits.marks };
+}
+
+pub quarantine_follows : (s : State) → IsFormed s → HasKnownClasses s → s.mode ≡ Normal → CanFollow s (quarantine s)
+quarantine_follows s formed classes normal = record {
+  goes_on = record {
+    normal = normal;
+    rises = omega arith;
+    locals = tt;
+    mark = tt;
+    joined = nothing_is_vector;
+    purged = nothing_is_vector;
+    writes = tt;
+    removed = λ o m. absurd m;
+  };
+  formed = record {
+    store = with_vector s.store (raised s.store.vector s.inv s.store.usn) formed.store (subst IsVector (sym same) formed.store.vector) (raised_up s.store.vector s.inv s.store.usn);
+    own = (let here = raised_here s.store.vector s.inv s.store.usn in omega (arith, here, formed.own));
+  };
+  classes = classes;
+}
+  where
+    same : raised s.store.vector s.inv s.store.usn ≡ s.store.vector
+    same = not_raised s.store.vector s.inv s.store.usn (omega (arith, formed.own))
+
+-- an identifier that no cursor names has none
+unnamed : (v : Cursors) (inv : Identifier) → list_any (λ (c : Identifier × ℕ). same_identifier c.0 inv) v ≡ false → at v inv ≡ 0
+unnamed [] inv none = refl
+unnamed (c ∷ cs) inv none = by (is_eq (identifier_order inv c.0)) refl (or_parts (same_identifier c.0 inv) (list_any (λ (d : Identifier × ℕ). same_identifier d.0 inv) cs) none) (unnamed cs inv)
+  where
+    by : (b : Bool) → is_eq (identifier_order inv c.0) ≡ b → (same_identifier c.0 inv ≡ false) × (list_any (λ (d : Identifier × ℕ). same_identifier d.0 inv) cs ≡ false)
+        → (list_any (λ (d : Identifier × ℕ). same_identifier d.0 inv) cs ≡ false → at cs inv ≡ 0) → cond b c.1 (at cs inv) ≡ 0
+    by true is p rest = absurd (both_ways (same_identifier c.0 inv) p.0 (subst (λ i. same_identifier i inv ≡ true) (same_from_test inv c.0 is) (test_itself inv)))
+    by false is p rest = rest p.1
+
+module _ (image : Store) (dsa inv : Identifier) (formed : IsFormedStore image) where
+  abbrev s : State
+  s = woken image dsa inv
+
+  is_new : names_inv image inv ≡ false → at image.vector inv ≡ 0
+  is_new none = unnamed image.vector inv
+      (or_parts (list_any (λ (c : Identifier × ℕ). same_identifier c.0 inv) image.vector) (list_any (λ (c : Identifier × ℕ). same_identifier c.0 inv) image.purged)
+      (or_parts (list_any (λ (c : Identifier × ℕ). same_identifier c.0 inv) image.vector || list_any (λ (c : Identifier × ℕ). same_identifier c.0 inv) image.purged)
+      (list_any (λ (h : Held). same_identifier (inv_of h.update) inv || list_any (λ (o : Oid). same_identifier o.birth.inv inv) (ends h.update.key)) image.rows)
+      (or_parts (list_any (λ (c : Identifier × ℕ). same_identifier c.0 inv) image.vector || list_any (λ (c : Identifier × ℕ). same_identifier c.0 inv) image.purged
+      || list_any (λ (h : Held). same_identifier (inv_of h.update) inv || list_any (λ (o : Oid). same_identifier o.birth.inv inv) (ends h.update.key)) image.rows)
+      (list_any (λ (k : Identifier × Kept). same_identifier k.1.inv inv) image.marks) none).0).0).0
+
+  woken_formed : names_inv image inv ≡ false → length (raised image.vector inv image.usn) ≤ cursor_limit → IsFormed s
+  woken_formed none few = record {
+    store = with_vector image (raised image.vector inv image.usn) formed
+        (record { rising = rising-raised image.vector inv image.usn formed.vector.rising; from_one = from_one-raised image.vector inv image.usn formed.vector.from_one; few = few })
+        (raised_up image.vector inv image.usn);
+    own = (let here = raised_here image.vector inv image.usn in omega (arith, here, is_new none));
+  }
+
+pub adopted_is_formed : (image : Store) (dsa inv : Identifier) (s : State) → IsFormedStore image → adopt image dsa inv ≡ Ok s → IsFormed s
+adopted_is_formed image dsa inv s formed e =
+    let length_after = length (raised image.vector inv image.usn) in
+    let g = answered (adopt_refusal image inv (woken image dsa inv)) (woken image dsa inv) s e in
+    let n = neither (then_some (names_inv image inv) IdentifierUsed) (then_some (nat_lt cursor_limit length_after) (Full CursorTable cursor_limit)) g.0 in
+    subst IsFormed g.1 (woken_formed image dsa inv formed (not_then (names_inv image inv) IdentifierUsed n.0)
+    (ltb-false cursor_limit length_after (not_then (nat_lt cursor_limit length_after) (Full CursorTable cursor_limit) n.1)))
+
+pub adopted_has_known_classes : (image : Store) (dsa inv : Identifier) (s : State) → AreClassesKnown (numbered image.schema) (updates_of image.rows) → adopt image dsa inv ≡ Ok s → HasKnownClasses s
+adopted_has_known_classes image dsa inv s classes e = subst HasKnownClasses (answered (adopt_refusal image inv (woken image dsa inv)) (woken image dsa inv) s e).1 classes
+
+pub new_is_formed : (dsa inv : Identifier) → IsFormed (empty_state dsa inv) × HasKnownClasses (empty_state dsa inv)
+new_is_formed dsa inv = (record { store = empty_is_formed; own = refl }, λ u m. absurd m)
