@@ -56,7 +56,8 @@ fn check_add(
 {
     check_object(state, object)?;
     check_place(alloc, state, object)?;
-    check_room(alloc, state)
+    check_room(state)?;
+    Ok(())
 }
 
 /// Tests that an object may be added wherever it is to stand.
@@ -84,13 +85,13 @@ fn check_place(
 }
 
 /// Tests that there is room for one more object.
-fn check_room(alloc: Global, state: &State) -> Result<(), Failure<WriteRefusal>>
-    ensures told { Tells result (room_refusal state.now) }
+fn check_room(state: &State) -> Result<(), WriteRefusal>
+    ensures told { result_err result ≡ room_refusal state.now }
     ensures room { OnOk result (state.now.store.usn < usn_limit) }
 {
     check_usn(state.usn())?;
     check_objects(state.rows())?;
-    check_cursors(alloc, state)
+    check_cursors(state)
 }
 
 /// The new object with its rows, under the next update sequence number.

@@ -12,16 +12,13 @@ ghost use Rattle.adr_model.specs.Store.{row_held, updates_of};
 ghost use Rattle.adr_model.specs.Write.{cursor_refusal, fixed_refusal, full_refusal, holds_guid, nodes_held, object_limit, object_refusal, of_schema, usn_limit, usn_refusal, version_limit, version_of, version_refusal, where_true};
 ghost use Rattle.adr_update.specs.Key.{key_of};
 ghost use Rattle.adr_state.specs.Mode.{mode_of};
-ghost use Rattle.adr_origin.specs.Telling.{Tells};
 
 use crate::live::node;
 use crate::stamps::version_of;
-use adr_event::{Failure, Table, WriteRefusal};
+use adr_event::{Table, WriteRefusal};
 use adr_schema::SchemaRefusal;
 use adr_state::{CURSOR_LIMIT, Key, Mode, OBJECT_LIMIT, Rows, State, USN_LIMIT, VERSION_LIMIT};
 use adr_update::is_fixed;
-use adr_vector::Full;
-use std::alloc::Global;
 use uuid::Uuid;
 
 /// Tests that a controller takes writes.
@@ -139,17 +136,16 @@ pub fn check_objects(rows: &Rows) -> Result<(), WriteRefusal>
 }
 
 /// Tests that there is room for the own cursor, which may be a new one.
-pub fn check_cursors(alloc: Global, state: &State) -> Result<(), Failure<WriteRefusal>>
+pub fn check_cursors(state: &State) -> Result<(), WriteRefusal>
     requires { state.now.store.usn < usn_limit }
-    ensures { Tells result (cursor_refusal state.now) }
+    ensures { result_err result ≡ cursor_refusal state.now }
 {
-    let mut vector = state.vector().copy(alloc)?;
-    match vector.raise(state.inv(), state.usn() + 1) {
-        Ok(()) => Ok(()),
-        Err(Failure::Refused(Full)) => Err(Failure::Refused(WriteRefusal::Full {
+    if state.vector().is_full_for(state.inv(), state.usn() + 1) {
+        Err(WriteRefusal::Full {
             table: Table::Cursors,
             limit: CURSOR_LIMIT,
-        })),
-        Err(Failure::NoMemory) => Err(Failure::NoMemory),
+        })
+    } else {
+        Ok(())
     }
 }

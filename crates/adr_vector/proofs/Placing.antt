@@ -16,7 +16,7 @@ use Rattle.std.proofs.lemmas.Map.Keys.{Less-from_sorted}
 use Rattle.std.proofs.lemmas.Map.Entries.{length-keys_of}
 use Rattle.std.proofs.lemmas.Map.Lookups.{exact_bytes}
 use Rattle.adr_stamp.specs.Order.{identifier_order}
-use Rattle.adr_vector.specs.Vector.{Cursors, at, raised, cursor_limit, IsVector}
+use Rattle.adr_vector.specs.Vector.{Cursors, at, covers, raised, cursor_limit, IsVector}
 use Rattle.adr_vector.specs.Place.{identifier_at, AreLessBefore, IsAt, IsGapFor}
 use Rattle.adr_vector.proofs.Cursors.{IsRising, FromOne, turned, turned_back, itself, below_all, at_below, head_below, tail_rising, rising-insert_entry, from_one-insert_entry}
 
@@ -144,3 +144,11 @@ raised_between cs inv usn i s h one = insert_gap cs inv usn i h ∙ raised_new c
 -- in a gap there is one cursor more
 pub length_between : (cs : Cursors) (inv : List ℕ) (usn i : ℕ) → IsRising cs → IsGapFor cs inv i → 1 ≤ usn → length (raised cs inv usn) ≡ length cs + 1
 length_between cs inv usn i s h one = ap length (sym (raised_between cs inv usn i s h one)) ∙ length-insert cs i (inv, usn) h.in_range
+
+-- at a cursor there is none more
+pub length_over : (cs : Cursors) (inv : List ℕ) (usn i : ℕ) → IsAt cs inv i → length (raised cs inv usn) ≡ length cs
+length_over cs inv usn i h = by (covers cs inv usn)
+  where
+    by : (b : Bool) → length (cond b cs (insert_entry identifier_order cs inv usn)) ≡ length cs
+    by true = refl
+    by false = ap length (sym (set_place cs inv usn i h)) ∙ length-set cs i (inv, usn)

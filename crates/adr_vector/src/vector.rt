@@ -1,6 +1,6 @@
 //! Up-to-dateness vectors.
 
-ghost use Rattle.std.specs.Prelude.{◌≡◌, ◌≢◌, ◌<◌, ◌≤◌, ◌↔◌, ℕ, List, [], length, max, IsTrue, IsNone, IfOk, IfErr, IfSome, OnOk, OnErr, IsErrOf, true};
+ghost use Rattle.std.specs.Prelude.{◌≡◌, ◌≢◌, ◌<◌, ◌≤◌, ◌↔◌, ℕ, List, [], length, max, nat_lt, IsTrue, IsNone, IfOk, IfErr, IfSome, OnOk, OnErr, IsErrOf, true};
 ghost use Rattle.std.specs.declared.cmp.Ordering.TheVariants.{Less};
 ghost use Rattle.adr_stamp.specs.Order.{identifier_order};
 ghost use Rattle.adr_vector.specs.Vector.{Cursors, IsVector, at, covers, at_most, first_gap, raised, joined, cursor_limit};
@@ -91,6 +91,16 @@ impl Vector {
         ensures { result ≡ covers self.now inv usn }
     {
         usn <= self.at(inv)
+    }
+
+    /// Whether there would be too many cursors with the number at one identifier brought up to this one.
+    pub fn is_full_for(&self, inv: Uuid, usn: u64) -> bool
+        ensures { result ≡ nat_lt cursor_limit (length (raised self.now inv usn)) }
+    {
+        match self.search(inv) {
+            Ok(_) => false,
+            Err(_) => usn > 0 && self.cursors.len() as u64 >= CURSOR_LIMIT,
+        }
     }
 
     /// The least identifier at which this vector is above the other, with the number of the other there and its own.
