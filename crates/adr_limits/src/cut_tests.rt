@@ -1,101 +1,64 @@
 //! Where a reply is cut by its bytes, which no line of a schedule can reach yet.
 
+use crate::holding::{controller, east, holding, list};
 use adr_cycle::{ask, serve};
+use adr_event::{Failure, ServeRefusal};
 use adr_packet::Reply;
-use adr_schema::{Content, Octets, Schema, Text, Value, Values};
-use adr_stamp::{Birth, LinkStamp, Oid, Stamp, Unit};
-use adr_state::{Change, Item, Key, Mode, NoMemory, Said, State, Update, Written};
-use adr_vector::Vector;
+use adr_schema::{Content, Octets, Value, Values};
+use adr_state::{Mode, NoMemory, State, Written};
+use adr_vector::Mark;
 use std::alloc::Global;
-use std::test::Fail;
-use uuid::Uuid;
+use std::process::Abort;
 
-fn id(number: u128) -> Uuid {
-    Uuid::from_u128(number)
-}
-
-/// The object that the controller's write of a USN made.
-fn object(usn: u64) -> Oid {
-    Oid {
-        guid: id(u128::from(usn)),
-        birth: Birth { inv: id(1), usn },
-    }
-}
-
-fn row(usn: u64, attr: u16, content: Content) -> Update {
-    let key = Key::Row {
-        object: object(usn),
-        attr,
-    };
-    let stamp = LinkStamp {
-        created: 0,
-        stamp: Stamp::first(50, id(1), usn),
-    };
-    Update::new(key, stamp, Said::Holds(content))
-}
-
-/// A MiB of octets.
-fn octets(alloc: Global) -> Result<Content, NoMemory> {
-    let mut octets = Vec::new(alloc);
-    octets.resize(1_048_576, 7)?;
-    let mut values = Vec::new(alloc);
-    values.push(Value::Octets(Octets::of(octets)))?;
+/// A description of so many octets.
+fn octets(alloc: Global, number: usize) -> Result<Content, NoMemory> {
+    let octets = vec![in alloc; 7; number]?;
+    let values = list(alloc, [Value::Octets(Octets::of(octets))])?;
     Ok(Content::Values(Values::of(values)))
 }
 
-/// The write of an object with a class, a name of one byte and a MiB of octets.
-fn write(alloc: Global, usn: u64) -> Result<Written, NoMemory> {
-    let name = Content::Name {
-        text: Text::from_string(String::from_str(alloc, "x")?),
-        parent: id(1),
-    };
-    let mut rows = Vec::new(alloc);
-    rows.push(row(usn, 1, Content::Class(5)))?;
-    rows.push(row(usn, 2, name))?;
-    rows.push(row(usn, 11, octets(alloc)?))?;
-    Ok(Written::new(usn, Item::new(Unit::Object(object(usn)), rows)))
+/// The write of a container with so many octets.
+fn written(alloc: Global, usn: u64, number: usize) -> Result<Written, NoMemory> {
+    east(alloc, usn, 1, octets(alloc, number)?)
 }
 
-fn controller(alloc: Global, dsa: u128, inv: u128) -> State {
-    State::new(alloc, id(dsa), id(inv), Schema::new(1).unwrap())
-}
-
-/// A controller with five such objects.
-fn five_objects(alloc: Global) -> Result<State, Fail> {
+/// The writes of five.
+fn five(alloc: Global, number: usize) -> Result<Vec<Written>, NoMemory> {
     let mut writes = Vec::new(alloc);
     for usn in 1..=5 {
-        writes.push(write(alloc, usn)?)?;
+        writes.push(written(alloc, usn, number)?)?;
     }
-    let none = Vector::new(alloc);
-    let change = Change::new(
-        5,
-        Mode::Normal,
-        None,
-        none,
-        Vector::new(alloc),
-        Vec::new(alloc),
-        writes,
-    );
-    let mut state = controller(alloc, 11, 1);
-    state.apply(&change)?;
-    Ok(state)
+    Ok(writes)
 }
 
-/// What a new controller is served of them.
-fn reply(alloc: Global) -> Result<Reply, Fail> {
-    let source = five_objects(alloc)?;
-    let request = ask(alloc, &controller(alloc, 12, 2), source.dsa(), 10)?;
-    Ok(serve(alloc, &source, &request)?)
+/// What a new controller is served that asks for ten items at most.
+fn reply(alloc: Global, source: &State) -> Result<Reply, Failure<ServeRefusal>> {
+    let request = ask(alloc, &controller(alloc, 2), source.dsa(), 10)?;
+    serve(alloc, source, &request)
 }
 
-/// An object has 43 bytes, and its rows 40, 57 and 1,048,618: four objects are the first that have 4 MiB.
+/// It as it is served of five containers: how many items, up to which mark, and whether these are all.
+fn served(rt: &impl Abort, alloc: Global, number: usize) -> (usize, Mark, bool) {
+    let writes = five(alloc, number).expect(rt, "memory");
+    let source = holding(rt, alloc, 5, Mode::Normal, writes);
+    let reply = reply(alloc, &source).expect(rt, "a reply");
+    (reply.items().len(), reply.to(), reply.last().is_some())
+}
+
+/// A container has 43 bytes and its rows 40, 60 and 42 beside the octets: with 1,048,391 of these it has a MiB.
 #[test]
-fn a_reply_is_cut_at_four_mebibytes(rt: HostRuntime) -> Result<(), Fail> {
-    let reply = reply(rt.alloc())?;
-    assert_eq!(rt; reply.items().len(), 4);
-    assert!(rt; reply.last().is_none());
-    assert_eq!(rt; reply.to().obj, 4);
-    assert_eq!(rt; reply.to().prop, 0);
-    assert_eq!(rt; reply.to().seen, 5);
-    Ok(())
+fn a_reply_is_cut_at_four_mebibytes(rt: HostRuntime) {
+    let alloc = rt.alloc();
+    let fourth = Mark {
+        obj: 4,
+        prop: 0,
+        seen: 5,
+    };
+    let last = Mark {
+        obj: 5,
+        prop: 5,
+        seen: 5,
+    };
+    assert_eq!(rt; served(&rt, alloc, 1_048_391), (4, fourth, false));
+    assert_eq!(rt; served(&rt, alloc, 1_048_390), (5, last, true));
 }

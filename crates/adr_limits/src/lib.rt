@@ -5,6 +5,8 @@
 #[cfg(test)]
 mod cut_tests;
 #[cfg(test)]
+mod holding;
+#[cfg(test)]
 mod origin_tests;
 #[cfg(test)]
 mod state_tests;

@@ -1,35 +1,39 @@
 //! What is answered where a vector would have too many cursors, which no clause tells from want of memory.
 
-use adr_schema::Schema;
-use adr_state::{Change, Failure, Full, Mode, State};
+use crate::holding::{change, controller, id};
+use adr_state::{Failure, Full, Mode, State};
 use adr_vector::{CURSOR_LIMIT, Vector};
-use std::test::Fail;
-use uuid::Uuid;
+use std::alloc::Global;
+use std::process::Abort;
 
-fn id(number: u128) -> Uuid {
-    Uuid::from_u128(number)
+/// Has a controller see one write of each of so many others, and make a write of its own.
+fn see(
+    rt: &impl Abort,
+    alloc: Global,
+    state: &mut State,
+    others: u64,
+) -> Result<(), Failure<Full>> {
+    let mut seen = Vector::new(alloc);
+    for other in 0..others {
+        seen.raise(id(u128::from(other)), 1).expect(rt, "a cursor");
+    }
+    let change = change(alloc, 1, Mode::Normal, seen, Vec::new(alloc));
+    state.apply(&change)
+}
+
+/// What it is answered, and whether it is as new then.
+fn answered(rt: &impl Abort, alloc: Global, others: u64) -> (Result<(), Failure<Full>>, bool) {
+    let mut state = controller(alloc, 20_000);
+    let answer = see(rt, alloc, &mut state, others);
+    (answer, state.usn() == 0 && state.vector().is_empty())
 }
 
 #[test]
-fn a_change_with_too_many_cursors_is_refused(rt: HostRuntime) -> Result<(), Fail> {
+fn a_change_with_too_many_cursors_is_refused(rt: HostRuntime) {
     let alloc = rt.alloc();
-    let mut state = State::new(alloc, id(20), id(20_000), Schema::new(1).unwrap());
-    let mut all = Vector::new(alloc);
-    for number in 0..CURSOR_LIMIT {
-        all.raise(id(u128::from(number)), 1)?;
-    }
-    let purged = Vector::new(alloc);
-    let change = Change::new(
-        1,
-        Mode::Normal,
-        None,
-        all,
-        purged,
-        vec![in alloc]?,
-        vec![in alloc]?,
+    assert_eq!(rt; answered(&rt, alloc, CURSOR_LIMIT - 1), (Ok(()), false));
+    assert_eq!(rt;
+        answered(&rt, alloc, CURSOR_LIMIT),
+        (Err(Failure::Refused(Full)), true)
     );
-    assert_eq!(rt; state.apply(&change), Err(Failure::Refused(Full)));
-    assert_eq!(rt; state.usn(), 0);
-    assert!(rt; state.vector().is_empty());
-    Ok(())
 }
