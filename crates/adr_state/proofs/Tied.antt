@@ -1,7 +1,5 @@
 -- The tree has the live objects of the rows after a change.
 use Rattle.std.proofs.Common.{◌≡◌, List, ap, ◌∙◌}
-use Rattle.adr_stamp.specs.declared.Oid.{Oid}
-use Rattle.adr_model.specs.Change.{rows_after}
 use Rattle.adr_model.specs.Formed.{AreRising}
 use Rattle.adr_model.specs.Place.{Node, node_at}
 use Rattle.adr_model.specs.Store.{Held, updates_of}

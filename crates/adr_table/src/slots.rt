@@ -49,7 +49,8 @@ impl Slots {
         }
     }
 
-    /// Makes a slot at a place, if there is none, and tells the local update sequence number of the row in it. Nobody sees it.
+    /// Makes a slot at a place, if there is none, and tells the local update sequence number of the row in it. Nobody sees
+    /// it.
     pub(crate) fn reserve(&mut self, place: Place) -> Result<Option<u64>, NoMemory>
         requires { IsTidy self.old }
         ensures seen { rows_seen self.new ≡ rows_seen self.old }

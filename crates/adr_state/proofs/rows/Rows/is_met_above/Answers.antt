@@ -1,4 +1,4 @@
-use Rattle.std.proofs.Common.{◌≡◌, List, length, sym, subst}
+use Rattle.std.proofs.Common.{◌≡◌, List, length, subst}
 use Rattle.std.specs.List.{list_any}
 use Rattle.adr_model.specs.Place.{Node, upward}
 use Rattle.adr_model.specs.Update.{same_identifier}

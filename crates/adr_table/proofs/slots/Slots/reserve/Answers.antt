@@ -1,7 +1,7 @@
 use Rattle.std.proofs.Common.{◌≡◌, refl, sym, ◌∙◌, None}
 use Rattle.std.specs.Prelude.{IsSome}
 use Rattle.std.specs.Map.{lookup}
-use Rattle.std.specs.BTreeMap.{insert_entry, is_at}
+use Rattle.std.specs.BTreeMap.{is_at}
 use Rattle.adr_table.specs.Place.{place_order, is_of_class, is_of_link}
 use Rattle.adr_table.specs.Slots.{seen, AreAtHome, flat, tally}
 use Rattle.adr_table.proofs.Seen.{Entries, made, home_still, new_none, slot_made, still_there}
