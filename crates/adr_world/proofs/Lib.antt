@@ -3,6 +3,7 @@ pub mod Commits
 pub mod Fits
 pub mod Calls
 pub mod Sends
+pub mod Pulls
 pub mod Turns
 pub mod Bindings
 pub mod Doors

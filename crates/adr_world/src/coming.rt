@@ -10,7 +10,7 @@ ghost use Rattle.adr_model.specs.Step.{gives, step};
 ghost use Rattle.adr_model.specs.Store.{empty_state};
 ghost use Rattle.adr_world.specs.Run.{IsTidy, replica_of, world_of};
 
-use crate::answers::answer;
+use crate::answers::Heading;
 use crate::controller::Controller;
 use crate::run::Run;
 use adr_event::{Answer, Outcome};
@@ -52,15 +52,15 @@ impl Run {
         ensures err { OnErr result (world_of self.new ≡ world_of self.old) }
         ensures tidy { IsTidy self.new.controllers.items }
     {
-        let made = answer(alloc, "controller", name, Outcome::Ok)?;
-        let name = name.copy(alloc)?;
         self.controllers.reserve(1)?;
+        let heading = Heading::new(alloc, "controller", name)?;
+        let name = name.copy(alloc)?;
         self.begin(Controller {
             name,
             state: new_state(alloc, dsa, inv),
             log_end: FIRST_END,
         });
-        Ok(made)
+        Ok(heading.of(Outcome::Ok))
     }
 
     /// A controller comes, where there is room for it.

@@ -8,7 +8,7 @@ ghost use Rattle.adr_model.specs.Step.{step};
 ghost use Rattle.adr_model.specs.World.{asks, serves_request};
 ghost use Rattle.adr_world.specs.Run.{IsSoundRun, IsTidy, world_of};
 
-use crate::answers::answer;
+use crate::answers::Heading;
 use crate::controller::controller_of;
 use crate::counts::served;
 use crate::refused::serve_refused;
@@ -36,10 +36,10 @@ impl Run {
         ensures err { OnErr result (world_of self.new ≡ world_of self.old) }
         ensures tidy { IsTidy self.new.controllers.items }
     {
+        let heading = Heading::new(alloc, "ask", name)?;
         let (outcome, request) = self.request(alloc, name, partner, max)?;
-        let made = answer(alloc, "ask", name, outcome)?;
         self.requests.bind(alloc, bound, request)?;
-        Ok(made)
+        Ok(heading.of(outcome))
     }
 
     /// What a controller that asks a partner is answered, and the request if there is one.
@@ -78,13 +78,13 @@ impl Run {
         ensures err { OnErr result (world_of self.new ≡ world_of self.old) }
         ensures tidy { IsTidy self.new.controllers.items }
     {
+        let heading = Heading::new(alloc, "serve", name)?;
         let Some(request) = self.requests.get(request) else {
-            return answer(alloc, "serve", name, Outcome::Absent);
+            return Ok(heading.of(Outcome::Absent));
         };
         let (outcome, reply) = self.reply(alloc, name, request)?;
-        let made = answer(alloc, "serve", name, outcome)?;
         self.replies.bind(alloc, bound, reply)?;
-        Ok(made)
+        Ok(heading.of(outcome))
     }
 
     /// What comes of a request, and the reply if it isn't refused. In a sound world no controller finds that it was put
