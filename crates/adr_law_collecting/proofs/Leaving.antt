@@ -1,17 +1,15 @@
 -- A collection leaves a sound state.
-use Rattle.std.proofs.Common.{◌≡◌, inl, inr, ⊎_elim, ℕ, ◌≤◌, List, [], map, Ok, sym, subst, arith}
+use Rattle.std.proofs.Common.{◌≡◌, inl, inr, ⊎_elim, ℕ, List, [], map, Ok, sym, subst, arith}
 use Rattle.adr_stamp.specs.declared.Oid.{Oid}
 use Rattle.adr_stamp.specs.declared.LinkKey.{LinkKey}
 use Rattle.adr_schema.specs.Numbered.{numbered}
-use Rattle.adr_vector.specs.Vector.{IsVector, at}
-use Rattle.adr_vector.proofs.Cursors.{nil_rising}
-use Rattle.adr_vector.proofs.Comparing.{at_most_from_everywhere}
+use Rattle.adr_vector.specs.Vector.{at}
 use Rattle.adr_model.specs.Member.{Member, Each}
 use Rattle.adr_model.specs.Update.{Update, LinkOf, ends}
 use Rattle.adr_model.specs.Reflects.{Numbers, AtMost, Covers, CoversBirth, HoldsObject, IsTombstoned, knowledge_of}
 use Rattle.adr_model.specs.Store.{Held, State, updates_of}
 use Rattle.adr_model.specs.Change.{Change, after}
-use Rattle.adr_model.specs.Formed.{IsLinkFormed, IsFormedStore, IsClosed}
+use Rattle.adr_model.specs.Formed.{IsLinkFormed, IsClosed}
 use Rattle.adr_model.specs.LocalLog.{Follows}
 use Rattle.adr_model.specs.Collect.{deaths_to_collect, collection, collect}
 use Rattle.adr_model.specs.Replica.{Book, ToCollect}
@@ -19,18 +17,16 @@ use Rattle.adr_model.specs.Sound.{last_of, IsSoundBook, IsSoundState}
 use Rattle.adr_model.proofs.Members.{member_left}
 use Rattle.adr_law_knowledge.specs.Grows.{Grows, Keeps}
 use Rattle.adr_law_knowledge.proofs.Knows.{grows_keeps}
-use Rattle.adr_law_knowledge.proofs.Raised.{raised_up, raised_is_vector, raised_replaces}
+use Rattle.adr_law_logs.proofs.Empty.{empty_is_formed}
 use Rattle.adr_law_logs.proofs.Frames.{born_before}
 use Rattle.adr_law_logs.specs.Settling.{Leaves}
-use Rattle.adr_law_steps.proofs.Rising.{removals_rise}
 use Rattle.adr_law_collecting.specs.Collectable.{IsCollectable}
-use Rattle.adr_law_collecting.proofs.Deaths.{all_collectable}
-use Rattle.adr_law_collecting.proofs.Vectors.{purged_up, purged_within, purged_covers, purged_is_vector}
-use Rattle.adr_law_collecting.proofs.Removing.{row_of_tells, stood_before, update_stood, update_stands, stay_alone}
-use Rattle.adr_law_collecting.proofs.Forms.{stay_formed, classes_stay_known}
-use Rattle.adr_law_collecting.proofs.Sizes.{objects_fewer, links_fewer}
+use Rattle.adr_law_collecting.proofs.Vectors.{purged_up}
+use Rattle.adr_law_collecting.proofs.Removing.{row_of_tells, update_stood, update_stands}
+use Rattle.adr_law_collecting.proofs.Forms.{classes_stay_known}
+use Rattle.adr_law_collecting.proofs.Formed.{collectable, covered, higher, covers, collection_formed}
 use Rattle.adr_law_collecting.proofs.Shrinking.{removal_grows, removed_is_dead}
-use Rattle.adr_law_collecting.proofs.Taken.{collect_is_collection, usn_of_collection, collection_follows}
+use Rattle.adr_law_collecting.proofs.Taken.{collect_is_collection, collection_follows}
 
 module _ (sc : Book) (s : State) (now lifetime : ℕ) (book : IsSoundBook sc) (state : IsSoundState sc s) where
   abbrev dead : List (Oid × Update)
@@ -61,37 +57,18 @@ module _ (sc : Book) (s : State) (now lifetime : ℕ) (book : IsSoundBook sc) (s
   Q = at d.store.purged
 
   gone : Each (IsCollectable rows V) dead
-  gone = all_collectable s now lifetime
-
-  covered : Each (λ t. CoversBirth V t.0 × Covers V t.1) dead
-  covered t m = let g = gone t m in (g.birth, g.death)
+  gone = collectable s now lifetime state.formed
 
   up : AtMost V W
-  up = raised_up s.store.vector s.inv c.usn
-
-  own : V s.inv ≡ s.store.usn
-  own = state.formed.own
-
-  -- a USN is only taken where a row is held, and so one was taken before
-  own_is_there : 1 ≤ c.usn → 1 ≤ V s.inv
-  own_is_there one = ⊎_elim
-      (λ t. omega (arith, one, t.1, own))
-      (λ t. let g = gone t.0.0 t.0.1 in let local = state.store.formed.locals g.held g.stands in omega (arith, local.0, local.1, own))
-      (usn_of_collection s dead)
-
-  usn_rises : s.store.usn ≤ c.usn
-  usn_rises = ⊎_elim (λ t. omega (arith, t.1)) (λ t. omega (arith, t.1)) (usn_of_collection s dead)
+  up = higher s now lifetime state.formed
 
   -- ---- what was taken stays so
 
   q_up : AtMost P Q
-  q_up = purged_up s.store.purged s.store.vector dead state.store.formed.purged state.store.formed.purged_within state.store.formed.vector covered
-
-  q_within : AtMost Q V
-  q_within = purged_within s.store.purged s.store.vector dead state.store.formed.purged state.store.formed.purged_within state.store.formed.vector covered
+  q_up = purged_up s.store.purged s.store.vector dead state.store.formed.purged state.store.formed.purged_within state.store.formed.vector (covered s now lifetime state.formed)
 
   q_covers : Each (λ t. CoversBirth Q t.0 × Covers Q t.1) dead
-  q_covers = purged_covers s.store.purged s.store.vector dead state.store.formed.purged state.store.formed.purged_within state.store.formed.vector covered
+  q_covers = covers s now lifetime state.formed
 
   grows : Grows sc.issued (knowledge_of s.store) (knowledge_of d.store)
   grows = removal_grows sc.issued rows V W P Q dead state.store.known gone up q_up q_covers
@@ -121,37 +98,15 @@ module _ (sc : Book) (s : State) (now lifetime : ℕ) (book : IsSoundBook sc) (s
       before : Member r (updates_of rows)
       before = update_stood os rows r m
 
-  -- ---- formed
-
-  formed : IsFormedStore d.store
-  formed = record {
-    vector = raised_is_vector s.store.vector s.inv c.usn state.store.formed.vector (omega (arith, raised_replaces s.store.vector s.inv c.usn own_is_there state.store.formed.vector, state.store.formed.vector.few));
-    purged = is_purged;
-    purged_within = at_most_from_everywhere d.store.purged d.store.vector is_purged.rising (λ i. omega (arith, q_within i, up i));
-    marks = state.store.formed.marks;
-    rising = removals_rise os rows state.store.formed.rising;
-    locals = λ h m. let l = state.store.formed.locals h (stood_before os rows h m) in (l.0, omega (arith, l.1, usn_rises));
-    alone = stay_alone os rows state.store.formed.alone;
-    rows = stay_formed os rows (numbered s.store.schema) state.store.formed.rows;
-    limits = record {
-      objects = omega (arith, objects_fewer os rows, state.store.formed.limits.objects);
-      links = omega (arith, links_fewer os rows state.store.formed.rising, state.store.formed.limits.links);
-      marks = state.store.formed.limits.marks;
-    };
-  }
-    where
-      is_purged : IsVector d.store.purged
-      is_purged = purged_is_vector s.store.purged s.store.vector dead state.store.formed.purged state.store.formed.purged_within state.store.formed.vector covered
-
   leaves : Leaves sc s (record { call = ToCollect now lifetime; change = c })
   leaves = record {
     keeps = keeps;
     known = λ u m. member_left sc.issued [] u (state.store.known u (update_stood os rows u m));
     issued = λ u m. absurd m;
-    joined = record { rising = nil_rising; from_one = tt; few = omega arith };
+    joined = empty_is_formed.vector;
     bounded = λ i. omega arith;
     carried = λ u m le. absurd (omega (arith, le, (book.once u m).0));
-    formed = formed;
+    formed = (collection_formed s now lifetime state.formed).store;
     closed = closed;
     classes = classes_stay_known os rows (numbered s.store.schema) state.store.classes;
     mark = tt;

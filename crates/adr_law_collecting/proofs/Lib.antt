@@ -6,4 +6,5 @@ pub mod Sizes
 pub mod Shrinking
 pub mod Taken
 pub mod Vectors
+pub mod Formed
 pub mod Leaving

@@ -1,5 +1,5 @@
 -- A collection of a formed state: the change can follow it, and leaves a formed one.
-use Rattle.std.proofs.Common.{◌≡◌, ⊎_elim, ℕ, ◌≤◌, ◌+◌, List, [], ◌∷◌, Bool, true, false, ◌&&◌, Option, Some, None, refl, sym, ap, ◌∙◌, subst, arith, map, fold, filter_map, Ok}
+use Rattle.std.proofs.Common.{◌≡◌, ℕ, ◌+◌, List, [], ◌∷◌, Bool, true, false, ◌&&◌, Option, Some, None, refl, sym, ap, ◌∙◌, subst, arith, map, fold, filter_map, Ok}
 use Rattle.std.specs.Prelude.{nat_le, nat_lt}
 use Rattle.std.specs.Bool.{then_some}
 use Rattle.std.specs.List.{AllByRecursion, cons_option}
@@ -9,40 +9,34 @@ use Rattle.std.specs.declared.cmp.Ordering.{Ordering}
 use Rattle.std.specs.declared.cmp.Ordering.TheVariants.{Less, Equal, Greater}
 use Rattle.adr_stamp.specs.Order.{object_order}
 use Rattle.adr_stamp.specs.declared.Oid.{Oid}
-use Rattle.adr_schema.specs.Numbered.{numbered}
 use Rattle.adr_schema.proofs.ExactCalls.{not_then}
 use Rattle.adr_vector.specs.Vector.{Cursors, IsVector, at, raised}
 use Rattle.adr_vector.proofs.Cursors.{FromOne}
-use Rattle.adr_vector.proofs.Comparing.{at_most_from_everywhere}
-use Rattle.adr_vector.proofs.Joining.{raised_here, from_one-raised}
+use Rattle.adr_vector.proofs.Joining.{from_one-raised}
 use Rattle.adr_event.specs.declared.refusal.CollectRefusal.TheVariants.{Quarantined as IsQuarantined, UsnLimit}
 use Rattle.adr_model.specs.Member.{Member, Each}
 use Rattle.adr_model.specs.Update.{Key, RowOf, Update, inv_of, usn_of, key_order, deleted_attr}
-use Rattle.adr_model.specs.Reflects.{Numbers, AtMost, Covers, CoversBirth}
+use Rattle.adr_model.specs.Reflects.{Covers, CoversBirth}
 use Rattle.adr_model.specs.Visible.{covers_update, covers_birth}
 use Rattle.adr_model.specs.Store.{Held, State, updates_of}
 use Rattle.adr_model.specs.Serve.{is_quarantined}
 use Rattle.adr_model.specs.Change.{Change, after, killed_by}
-use Rattle.adr_model.specs.Formed.{AreRising, IsFormedStore, IsFormed}
+use Rattle.adr_model.specs.Formed.{AreRising, IsFormed}
 use Rattle.adr_model.specs.Write.{usn_limit}
 use Rattle.adr_model.specs.Collect.{collected_by, deaths_to_collect, covering, collection, collect_refusal, collect}
 use Rattle.adr_model.proofs.Members.{mapped_member}
 use Rattle.adr_law_knowledge.proofs.Refusing.{answered}
-use Rattle.adr_law_knowledge.proofs.Raised.{raised_up, raised_is_vector, raised_replaces}
 use Rattle.adr_law_steps.proofs.Rows.{updated, is_killed}
-use Rattle.adr_law_steps.proofs.Rising.{removals_rise}
 use Rattle.adr_law_collecting.specs.Collectable.{IsCollectable}
 use Rattle.adr_law_knowledge.proofs.Fewer.{no_more_cursors}
 use Rattle.adr_law_collecting.proofs.Covering.{covering_within, covering_rises}
-use Rattle.adr_law_collecting.proofs.Deaths.{all_collectable}
-use Rattle.adr_law_collecting.proofs.Vectors.{purged_within, purged_covers, purged_is_vector}
-use Rattle.adr_law_collecting.proofs.Removing.{stood_before, update_stood, stay_alone}
-use Rattle.adr_law_collecting.proofs.Forms.{stay_formed}
-use Rattle.adr_law_collecting.proofs.Sizes.{objects_fewer, links_fewer}
-use Rattle.adr_law_collecting.proofs.Taken.{collect_is_collection, usn_of_collection}
+use Rattle.adr_law_collecting.proofs.Removing.{update_stood}
+use Rattle.adr_law_collecting.proofs.Taken.{collect_is_collection}
+use Rattle.adr_law_collecting.proofs.Formed.{collectable, covered, usn_rises, covers as purged_all, collection_formed}
 use Rattle.adr_law_formed.specs.Follow.{IsRemovable, HasKnownClasses, CanFollow}
 use Rattle.adr_law_formed.proofs.Said.{neither}
-use Rattle.adr_law_formed.proofs.TakenFollow.{nothing_is_vector, normal_where_not_quarantined}
+use Rattle.adr_law_taking.proofs.Passed.{normal_where_not_quarantined}
+use Rattle.adr_law_formed.proofs.TakenFollow.{nothing_is_vector}
 
 -- ---- the objects that go rise
 
@@ -132,60 +126,12 @@ module _ (s : State) (now lifetime : ℕ) (is : IsFormed s) (classes : HasKnownC
   abbrev os : List Oid
   os = map (λ (t : Oid × Update). t.0) dead
 
-  abbrev V : Numbers
-  V = at s.store.vector
-
-  collectable : Each (IsCollectable rows V) dead
-  collectable = all_collectable s now lifetime
-
-  covered : Each (λ t. CoversBirth V t.0 × Covers V t.1) dead
-  covered t m = let g = collectable t m in (g.birth, g.death)
-
-  up : AtMost V (at d.store.vector)
-  up = raised_up s.store.vector s.inv c.usn
-
-  -- a USN is only taken where a row is held, and so one was taken before
-  own_is_there : 1 ≤ c.usn → 1 ≤ V s.inv
-  own_is_there one = ⊎_elim
-      (λ t. omega (arith, one, t.1, is.own))
-      (λ t. let g = collectable t.0.0 t.0.1 in let local = is.store.locals g.held g.stands in omega (arith, local.0, local.1, is.own))
-      (usn_of_collection s dead)
-
-  usn_rises : s.store.usn ≤ c.usn
-  usn_rises = ⊎_elim (λ t. omega (arith, t.1)) (λ t. omega (arith, t.1)) (usn_of_collection s dead)
-
-  q_within : AtMost (at d.store.purged) V
-  q_within = purged_within s.store.purged s.store.vector dead is.store.purged is.store.purged_within is.store.vector covered
-
-  q_covers : Each (λ t. CoversBirth (at d.store.purged) t.0 × Covers (at d.store.purged) t.1) dead
-  q_covers = purged_covers s.store.purged s.store.vector dead is.store.purged is.store.purged_within is.store.vector covered
-
-  is_purged : IsVector d.store.purged
-  is_purged = purged_is_vector s.store.purged s.store.vector dead is.store.purged is.store.purged_within is.store.vector covered
-
-  formed : IsFormedStore d.store
-  formed = record {
-    vector = raised_is_vector s.store.vector s.inv c.usn is.store.vector (omega (arith, raised_replaces s.store.vector s.inv c.usn own_is_there is.store.vector, is.store.vector.few));
-    purged = is_purged;
-    purged_within = at_most_from_everywhere d.store.purged d.store.vector is_purged.rising (λ i. omega (arith, q_within i, up i));
-    marks = is.store.marks;
-    rising = removals_rise os rows is.store.rising;
-    locals = λ h m. let l = is.store.locals h (stood_before os rows h m) in (l.0, omega (arith, l.1, usn_rises));
-    alone = stay_alone os rows is.store.alone;
-    rows = stay_formed os rows (numbered s.store.schema) is.store.rows;
-    limits = record {
-      objects = omega (arith, objects_fewer os rows, is.store.limits.objects);
-      links = omega (arith, links_fewer os rows is.store.rising, is.store.limits.links);
-      marks = is.store.limits.marks;
-    };
-  }
-
   removable : Each (IsRemovable rows d.store.purged) os
   removable o m =
       let t = mapped_member (λ (t : Oid × Update). t.0) dead o m in
-      subst (IsRemovable rows d.store.purged) (sym t.2) (of_death t.0 (collectable t.0 t.1) (q_covers t.0 t.1))
+      subst (IsRemovable rows d.store.purged) (sym t.2) (of_death t.0 (collectable s now lifetime is t.0 t.1) (purged_all s now lifetime is t.0 t.1))
     where
-      of_death : (t : Oid × Update) → IsCollectable rows V t → CoversBirth (at d.store.purged) t.0 × Covers (at d.store.purged) t.1 → IsRemovable rows d.store.purged t.0
+      of_death : (t : Oid × Update) → IsCollectable rows (at s.store.vector) t → CoversBirth (at d.store.purged) t.0 × Covers (at d.store.purged) t.1 → IsRemovable rows d.store.purged t.0
       of_death t g q = record {
         death = t.1;
         is_held = subst (λ v. Member v (updates_of rows)) g.is_held (updated rows g.held g.stands);
@@ -203,7 +149,7 @@ module _ (s : State) (now lifetime : ℕ) (is : IsFormed s) (classes : HasKnownC
       arith,
       is.store.vector.few,
       no_more_cursors s.store.vector (covering dead) (covering_rises dead) (covering_from_one dead) is.store.vector.rising
-          (λ i some. omega (arith, some, covering_within dead V covered i)),
+          (λ i some. omega (arith, some, covering_within dead (at s.store.vector) (covered s now lifetime is) i)),
     );
   }
 
@@ -211,7 +157,7 @@ module _ (s : State) (now lifetime : ℕ) (is : IsFormed s) (classes : HasKnownC
   follows normal = record {
     goes_on = record {
       normal = normal_where_not_quarantined s.mode normal;
-      rises = usn_rises;
+      rises = usn_rises s now lifetime is;
       locals = tt;
       mark = tt;
       joined = nothing_is_vector;
@@ -219,7 +165,7 @@ module _ (s : State) (now lifetime : ℕ) (is : IsFormed s) (classes : HasKnownC
       writes = tt;
       removed = removable;
     };
-    formed = record { store = formed; own = (let here = raised_here s.store.vector s.inv c.usn in omega (arith, here, is.own, usn_rises)) };
+    formed = collection_formed s now lifetime is;
     classes = λ u m. classes u (update_stood os rows u m);
   }
 

@@ -54,7 +54,7 @@ use Rattle.adr_law_formed.specs.Taken.{AreBare}
 use Rattle.adr_law_formed.specs.Follow.{HasKnownClasses, CanFollow}
 use Rattle.adr_law_formed.proofs.Sorted.{keys}
 use Rattle.adr_law_formed.proofs.ItemMay.{new_is_above}
-use Rattle.adr_law_formed.proofs.TakenFollow.{normal_where_not_quarantined}
+use Rattle.adr_law_taking.proofs.Passed.{normal_where_not_quarantined}
 use Rattle.adr_law_formed.proofs.OwnWrite.{new_placed, live_placed, link_placed, written_follows}
 
 -- ---- a row that is written next is greater than the held one

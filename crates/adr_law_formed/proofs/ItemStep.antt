@@ -1,7 +1,6 @@
 -- What holds on the way still holds behind one more item, and so behind all.
-use Rattle.std.proofs.Common.{◌≡◌, ◌⊎◌, inl, inr, ⊎_elim, ℕ, ◌≤◌, ◌+◌, List, [], ◌∷◌, ◌++◌, Option, None, refl, sym, ap, ◌∙◌, subst, fold, arith, length}
+use Rattle.std.proofs.Common.{◌≡◌, ◌⊎◌, inl, inr, ⊎_elim, ℕ, ◌≤◌, ◌+◌, List, [], ◌∷◌, ◌++◌, Option, None, refl, sym, subst, fold, arith, length}
 use Rattle.std.proofs.lemmas.List.{append-nil}
-use Rattle.std.proofs.lemmas.Grind.{fold-append}
 use Rattle.adr_stamp.specs.declared.Unit.{Unit as Named}
 use Rattle.adr_stamp.specs.declared.Unit.TheVariants.{Object, Link}
 use Rattle.adr_schema.specs.declared.content.Content.TheVariants.{Class}
@@ -12,36 +11,29 @@ use Rattle.adr_model.specs.Member.{Member, Each}
 use Rattle.adr_model.specs.Update.{LinkOf, Holds, Update}
 use Rattle.adr_model.specs.Live.{objects_of}
 use Rattle.adr_model.specs.Store.{Held, State, updates_of}
-use Rattle.adr_model.specs.Change.{Item, Written, held_of, put, rows_after}
-use Rattle.adr_model.specs.Formed.{IsFormed, AreRising, AreAlone, AreFormedRows}
+use Rattle.adr_model.specs.Change.{Item, Written, put}
+use Rattle.adr_model.specs.Formed.{IsFormed}
 use Rattle.adr_model.specs.Sound.{AreClassesKnown}
 use Rattle.adr_model.specs.Write.{object_limit, link_limit, links_in}
 use Rattle.adr_model.specs.Take.{Taking, begin, rows_taken, item_refusal, take_item, take_items}
 use Rattle.adr_model.proofs.Members.{member_of_either}
 use Rattle.adr_law_steps.specs.Puts.{under, MayPut, ArePut}
 use Rattle.adr_law_steps.proofs.Putting.{are_put}
-use Rattle.adr_law_steps.proofs.Order.{puts_rise, puts_stay_alone}
-use Rattle.adr_law_steps.proofs.Formed.{objects_stay_formed, classes_stay_known}
+use Rattle.adr_law_steps.proofs.Formed.{classes_stay_known}
 use Rattle.adr_law_steps.proofs.FormedRows.{stood}
 use Rattle.adr_law_steps.proofs.Rows.{link_of_unit}
-use Rattle.adr_law_steps.proofs.Links.{links_stay_formed_by_puts}
 use Rattle.adr_law_taking.specs.OnTheWay.{KeepForms}
-use Rattle.adr_law_taking.proofs.ItemStep.{put_of_item, under_usn, goes_on}
+use Rattle.adr_law_taking.proofs.ItemStep.{put_of_item, goes_on, steady_step}
+use Rattle.adr_law_taking.proofs.Items.{begins_formed}
 use Rattle.adr_law_formed.specs.Spelled.{IsSaidOfKey, IsSpelledItem, AreLocalsRising}
 use Rattle.adr_law_formed.specs.Taken.{AreBare, MayBeTaken}
 use Rattle.adr_law_formed.specs.Follow.{MayFollow, AreWithinLimits, MayFollowInTurn, after_write, HasKnownClasses}
-use Rattle.adr_law_formed.specs.SoFar.{IsFormedSoFar}
+use Rattle.adr_law_formed.specs.SoFar.{FollowsSoFar}
 use Rattle.adr_law_formed.proofs.Said.{neither}
 use Rattle.adr_law_formed.proofs.ItemMay.{item_may}
-use Rattle.adr_law_formed.proofs.Writes.{held_of_both, one_more_follows, one_more_local}
+use Rattle.adr_law_formed.proofs.Writes.{one_more_follows, one_more_local}
 
--- rows that are put keep the forms
-pub rows_stay_formed : (schema usn : ℕ) (before after : List Held) (V : List ℕ → ℕ) (unit : Named) (us : List Update) → AreRising before → AreRising after → AreFormedRows (numbered schema) (updates_of before)
-    → MayPut (updates_of before) V unit us → ArePut usn us before after → KeepForms (numbered schema) V (updates_of before) unit us → AreFormedRows (numbered schema) (updates_of after)
-rows_stay_formed schema usn before after V (Object o) us was is formed put are keeps = objects_stay_formed schema usn before after V o keeps.0 us was is formed put are keeps.1
-rows_stay_formed schema usn before after V (Link l) us was is formed put are keeps = links_stay_formed_by_puts schema usn before after V l us formed put are keeps.0 (λ o m. (keeps.1 o m).0)
-
--- and classes stay known: a link row says none
+-- classes stay known where rows are put that keep the forms: a link row says none
 pub classes_stay : (schema usn : ℕ) (before after : List Held) (V : List ℕ → ℕ) (unit : Named) (us : List Update) → AreClassesKnown (numbered schema) (updates_of before)
     → MayPut (updates_of before) V unit us → ArePut usn us before after → KeepForms (numbered schema) V (updates_of before) unit us → Each (λ u. IsSaidOfKey u.key u.said) us → AreClassesKnown (numbered schema) (updates_of after)
 classes_stay schema usn before after V (Object o) us known put are keeps says = classes_stay_known schema usn before after V o keeps.0 us known put are keeps.1
@@ -50,17 +42,12 @@ classes_stay schema usn before after V (Link l) us known put are keeps says = λ
     no_class : (u : Update) → Member u us → (class : ℕ) → u.said ≡ Holds (Class class) → ⊥
     no_class u m class is = subst (IsSaidOfKey (LinkOf l)) is (subst (λ k. IsSaidOfKey k u.said) (link_of_unit u.key l (put.of_unit u m)) (says u m))
 
-module _ (s : State) (t : Taking) (way : IsFormedSoFar s t) (i : Item) (refusal : Option TakeRefusal) (place objects links : ℕ) (more_objects : t.objects ≤ objects) (more_links : t.links ≤ links) where
+module _ (s : State) (t : Taking) (way : FollowsSoFar s t) (i : Item) (refusal : Option TakeRefusal) (place objects links : ℕ) (more_objects : t.objects ≤ objects) (more_links : t.links ≤ links) where
   -- nothing is written
-  idle : IsFormedSoFar s (goes_on t i [] refusal place objects links)
+  idle : FollowsSoFar s (goes_on t i [] refusal place objects links)
   idle = record {
-    rising = way.rising;
-    formed = way.formed;
+    steady = steady_step s t way.steady i refusal place objects links [] (inl refl);
     classes = way.classes;
-    alone = way.alone;
-    locals = λ h m. ((way.locals h m).0, omega (arith, (way.locals h m).1));
-    made = ap (λ ws. rows_after [] (held_of ws) s.store.rows) (append-nil t.writes) ∙ way.made;
-    rises = omega (arith, way.rises);
     spaced = subst (AreLocalsRising s.store.usn (t.usn + 0)) (sym (append-nil t.writes)) (subst (λ n. AreLocalsRising s.store.usn n t.writes) (omega arith) way.spaced);
     bare = subst (Each (λ w. AreBare w.item.rows)) (sym (append-nil t.writes)) way.bare;
     follow = λ o l. subst (MayFollowInTurn (numbered s.store.schema) s.store.vector s.store.rows) (sym (append-nil t.writes)) (way.follow (omega (arith, o, more_objects)) (omega (arith, l, more_links)));
@@ -80,23 +67,13 @@ module _ (s : State) (t : Taking) (way : IsFormedSoFar s t) (i : Item) (refusal 
     are : ArePut (t.usn + 1) (u ∷ us) t.rows after
     are = are_put (t.usn + 1) t.rows (at s.store.vector) i.unit (u ∷ us) good.put
 
-    rise : AreRising after
-    rise = puts_rise t.rows (under (t.usn + 1) (u ∷ us)) way.rising
-
     same : behind.rows ≡ after
     same = put_of_item t.usn i (u ∷ us) t.rows
 
-    locals : Each (λ h. (1 ≤ h.local) × (h.local ≤ t.usn + 1)) after
-    locals h m = by (are.from h m)
-      where
-        by : Member h (under (t.usn + 1) (u ∷ us)) ⊎ Member h t.rows → (1 ≤ h.local) × (h.local ≤ t.usn + 1)
-        by (inl new) = let e = (under_usn (t.usn + 1) (u ∷ us) h new).1 in (omega (arith, e), omega (arith, e))
-        by (inr old) = let l = way.locals h old in (l.0, omega (arith, l.1))
-
     follow : objects ≤ object_limit → links ≤ link_limit → MayFollowInTurn (numbered s.store.schema) s.store.vector s.store.rows (t.writes ++ (write ∷ []))
     follow o l = one_more_follows (numbered s.store.schema) s.store.vector s.store.rows t.writes write (way.follow (omega (arith, o, more_objects)) (omega (arith, l, more_links)))
-        (subst (λ rows. MayFollow (numbered s.store.schema) s.store.vector rows write.item) (sym way.made) good.follows)
-        (subst (λ rows. AreWithinLimits (after_write rows write)) (sym way.made) (omega (arith, o, count_objects), omega (arith, l, count_links)))
+        (subst (λ rows. MayFollow (numbered s.store.schema) s.store.vector rows write.item) (sym way.steady.made) good.follows)
+        (subst (λ rows. AreWithinLimits (after_write rows write)) (sym way.steady.made) (omega (arith, o, count_objects), omega (arith, l, count_links)))
 
     bare : Each (λ w. AreBare w.item.rows) (t.writes ++ (write ∷ []))
     bare w m = ⊎_elim (λ n. way.bare w n) (λ n. new w n) (member_of_either t.writes (write ∷ []) w m)
@@ -105,25 +82,19 @@ module _ (s : State) (t : Taking) (way : IsFormedSoFar s t) (i : Item) (refusal 
         new w (inl e) = subst (λ (z : Written). AreBare z.item.rows) (sym e) good.put.bare
         new w (inr n) = absurd n
 
-    written : IsFormedSoFar s behind
+    written : FollowsSoFar s behind
     written = record {
-      rising = subst AreRising (sym same) rise;
-      formed = subst (λ rows. AreFormedRows (numbered s.store.schema) (updates_of rows)) (sym same)
-          (rows_stay_formed s.store.schema (t.usn + 1) t.rows after (at s.store.vector) i.unit (u ∷ us) way.rising rise way.formed good.put are good.keeps);
+      steady = steady_step s t way.steady i refusal place objects links (u ∷ us) (inr (good.put, good.keeps));
       classes = subst (λ rows. AreClassesKnown (numbered s.store.schema) (updates_of rows)) (sym same)
           (classes_stay s.store.schema (t.usn + 1) t.rows after (at s.store.vector) i.unit (u ∷ us) way.classes good.put are good.keeps good.follows.form.says);
-      alone = subst AreAlone (sym same) (puts_stay_alone t.usn (t.usn + 1) t.rows after (at s.store.vector) i.unit (u ∷ us) way.alone (λ h m. (way.locals h m).1) (omega arith) good.put are);
-      locals = subst (Each (λ h. (1 ≤ h.local) × (h.local ≤ t.usn + 1))) (sym same) locals;
-      made = ap (λ hs. fold put s.store.rows hs) (held_of_both t.writes (write ∷ [])) ∙ (fold-append put s.store.rows (held_of t.writes) (held_of (write ∷ [])) ∙ ap (λ rows. fold put rows (held_of (write ∷ []))) way.made);
-      rises = omega (arith, way.rises);
-      spaced = one_more_local s.store.usn t.usn t.writes write way.rises (omega arith) way.spaced;
+      spaced = one_more_local s.store.usn t.usn t.writes write way.steady.rises (omega arith) way.spaced;
       bare = bare;
       follow = follow;
     }
 
   pub step : (us : List Update) → (us ≡ []) ⊎ MayBeTaken s.store.schema s.store.vector t.rows i.unit us
       → length (objects_of (updates_of (goes_on t i us refusal place objects links).rows)) ≤ objects → links_in (goes_on t i us refusal place objects links).rows ≤ links
-      → IsFormedSoFar s (goes_on t i us refusal place objects links)
+      → FollowsSoFar s (goes_on t i us refusal place objects links)
   step [] e objects links = idle
   step (u ∷ us) (inl e) objects links = absurd (let f : u ∷ us ≡ [] = e in cc)
   step (u ∷ us) (inr good) objects links = written u us good objects links
@@ -135,30 +106,25 @@ module _ (s : State) where
   abbrev all : Taking → List Item → Taking
   all t is = fold (take_item (numbered s.store.schema) s.store.vector) t is
 
-  one_item : (t : Taking) (i : Item) → IsFormedSoFar s t → IsSpelledItem i → item_refusal (numbered s.store.schema) s.store.vector t.rows t.place i ≡ None → IsFormedSoFar s (taken t i)
+  one_item : (t : Taking) (i : Item) → FollowsSoFar s t → IsSpelledItem i → item_refusal (numbered s.store.schema) s.store.vector t.rows t.place i ≡ None → FollowsSoFar s (taken t i)
   one_item t i way spelled none =
       step s t way i (taken t i).refusal (taken t i).place (taken t i).objects (taken t i).links (omega arith) (omega arith) (rows_taken s.store.vector t.rows i)
-      (item_may s.store.schema s.store.vector t.rows t.place i way.rising way.formed spelled none) (omega arith) (omega arith)
+      (item_may s.store.schema s.store.vector t.rows t.place i way.steady.rising way.steady.formed spelled none) (omega arith) (omega arith)
 
-  all_on_way : (is : List Item) (t : Taking) → (t.refusal ≡ None → IsFormedSoFar s t) → Each IsSpelledItem is → (all t is).refusal ≡ None → IsFormedSoFar s (all t is)
+  all_on_way : (is : List Item) (t : Taking) → (t.refusal ≡ None → FollowsSoFar s t) → Each IsSpelledItem is → (all t is).refusal ≡ None → FollowsSoFar s (all t is)
   all_on_way [] t way spelled none = way none
   all_on_way (i ∷ is) t way spelled none = all_on_way is (taken t i) next (λ j m. spelled j (inr m)) none
     where
-      next : (taken t i).refusal ≡ None → IsFormedSoFar s (taken t i)
+      next : (taken t i).refusal ≡ None → FollowsSoFar s (taken t i)
       next e = let p = neither t.refusal (item_refusal (numbered s.store.schema) s.store.vector t.rows t.place i) e in one_item t i (way p.0) (spelled i (inl refl)) p.1
 
-  pub items_on_way : (is : List Item) → IsFormed s → HasKnownClasses s → Each IsSpelledItem is → (take_items s is).refusal ≡ None → IsFormedSoFar s (take_items s is)
+  pub items_on_way : (is : List Item) → IsFormed s → HasKnownClasses s → Each IsSpelledItem is → (take_items s is).refusal ≡ None → FollowsSoFar s (take_items s is)
   items_on_way is formed classes spelled none = all_on_way is (begin s) (λ e. starts) spelled none
     where
-      starts : IsFormedSoFar s (begin s)
+      starts : FollowsSoFar s (begin s)
       starts = record {
-        rising = formed.store.rising;
-        formed = formed.store.rows;
+        steady = begins_formed s formed;
         classes = classes;
-        alone = formed.store.alone;
-        locals = formed.store.locals;
-        made = refl;
-        rises = omega arith;
         spaced = tt;
         bare = λ w m. absurd m;
         follow = λ o l. tt;

@@ -1,5 +1,5 @@
 -- Rows that a formed state may write: the change can follow it, and leaves a formed one.
-use Rattle.std.proofs.Common.{◌≡◌, ◌⊎◌, inl, inr, ⊎_elim, ℕ, zero, suc, ◌≤◌, ◌+◌, List, [], true, refl, sym, ap, subst, fold, arith, append-nil, map}
+use Rattle.std.proofs.Common.{◌≡◌, ◌⊎◌, inl, inr, ⊎_elim, ℕ, zero, suc, ◌+◌, List, true, refl, sym, subst, arith, map}
 use Rattle.std.specs.List.Sorted.{IsStrictlySortedBy}
 use Rattle.adr_stamp.specs.declared.Oid.{Oid}
 use Rattle.adr_stamp.specs.declared.LinkKey.{LinkKey}
@@ -7,26 +7,21 @@ use Rattle.adr_stamp.specs.declared.Unit.{Unit as Named}
 use Rattle.adr_stamp.specs.declared.Unit.TheVariants.{Object, Link}
 use Rattle.adr_schema.specs.Numbered.{numbered}
 use Rattle.adr_vector.specs.Vector.{at}
-use Rattle.adr_vector.proofs.Comparing.{everywhere_from_at_most, at_most_from_everywhere}
-use Rattle.adr_vector.proofs.Joining.{raised_here}
 use Rattle.adr_model.specs.Member.{Member, Each}
 use Rattle.adr_model.specs.Update.{RowOf, LinkOf, Update, key_order}
 use Rattle.adr_model.specs.Reflects.{CoversBirth, HoldsObject}
-use Rattle.adr_model.specs.Store.{Held, Normal, State, updates_of}
-use Rattle.adr_model.specs.Change.{Item, put, held_of, rows_after, after}
-use Rattle.adr_model.specs.Formed.{AreRising, IsFormedStore, IsFormed}
+use Rattle.adr_model.specs.Store.{Normal, State, updates_of}
+use Rattle.adr_model.specs.Change.{Item}
+use Rattle.adr_model.specs.Formed.{IsFormed}
 use Rattle.adr_model.specs.Take.{is_above}
-use Rattle.adr_model.proofs.Members.{mapped_member}
-use Rattle.adr_law_steps.specs.Puts.{held_at, under, ArePut}
+use Rattle.adr_law_steps.specs.Puts.{ArePut}
 use Rattle.adr_law_steps.specs.Forms.{IsWellSaid, MayCome}
 use Rattle.adr_law_steps.proofs.Rows.{row_of_unit, link_of_unit}
-use Rattle.adr_law_steps.proofs.Putting.{are_put}
-use Rattle.adr_law_steps.proofs.Order.{puts_rise, puts_stay_alone}
 use Rattle.adr_law_writing.specs.MayWrites.{MayWrite, Changes, Comes, IsHeldAlive}
-use Rattle.adr_law_knowledge.proofs.Raised.{raised_is_vector, raised_up}
-use Rattle.adr_law_writing.proofs.Rooms.{cursors_within, objects_within_limit, links_within_limit}
+use Rattle.adr_law_writing.proofs.Rooms.{objects_within_limit, links_within_limit}
+use Rattle.adr_law_writing.proofs.Formed.{stands, are_written, written_rise, write_formed}
 use Rattle.adr_law_writing.proofs.Issues.{change_of}
-use Rattle.adr_law_writing.proofs.Forms.{rows_stay_formed, classes_stay}
+use Rattle.adr_law_writing.proofs.Forms.{classes_stay}
 use Rattle.adr_law_formed.specs.Spelled.{IsSaidOfKey}
 use Rattle.adr_law_formed.specs.Follow.{MayWriteUnit, HasKnownClasses, CanFollow}
 use Rattle.adr_law_formed.proofs.TakenFollow.{nothing_is_vector}
@@ -78,44 +73,11 @@ module _ (s : State) where
   -- ---- the whole
 
   module _ (item : Item) (formed : IsFormed s) (known : HasKnownClasses s) (may : MayWrite s item.unit item.rows) where
-    abbrev d : State
-    d = after s (change_of s item)
+    abbrev us : List Update
+    us = item.rows
 
-    abbrev stands : List Held
-    stands = rows_after [] (held_of (change_of s item).writes) s.store.rows
-
-    stands_is : fold put s.store.rows (under (s.store.usn + 1) item.rows) ≡ stands
-    stands_is = ap (fold put s.store.rows) (sym (append-nil (under (s.store.usn + 1) item.rows)))
-
-    are : ArePut (s.store.usn + 1) item.rows s.store.rows stands
-    are = subst (ArePut (s.store.usn + 1) item.rows s.store.rows) stands_is (are_put (s.store.usn + 1) s.store.rows (at s.store.vector) item.unit item.rows may.put)
-
-    rising : AreRising stands
-    rising = subst AreRising stands_is (puts_rise s.store.rows (under (s.store.usn + 1) item.rows) formed.store.rising)
-
-    locals : Each (λ h. (1 ≤ h.local) × (h.local ≤ s.store.usn + 1)) stands
-    locals h m = ⊎_elim
-        (λ n. let u = mapped_member (held_at (s.store.usn + 1)) item.rows h n in let is : h.local ≡ s.store.usn + 1 = ap (λ (x : Held). x.local) u.2 in (omega (arith, is), omega (arith, is)))
-        (λ n. let old = formed.store.locals h n in (old.0, omega (arith, old.1)))
-        (are.from h m)
-
-    store : IsFormedStore d.store
-    store = record {
-      vector = raised_is_vector s.store.vector s.inv (s.store.usn + 1) formed.store.vector (cursors_within s item.unit item.rows formed may);
-      purged = formed.store.purged;
-      purged_within = at_most_from_everywhere s.store.purged d.store.vector formed.store.purged.rising
-          (λ i. omega (arith, everywhere_from_at_most s.store.purged s.store.vector formed.store.purged_within i, raised_up s.store.vector s.inv (s.store.usn + 1) i));
-      marks = formed.store.marks;
-      rising = rising;
-      locals = locals;
-      alone = puts_stay_alone s.store.usn (s.store.usn + 1) s.store.rows stands (at s.store.vector) item.unit item.rows formed.store.alone (λ x m. (formed.store.locals x m).1) (omega arith) may.put are;
-      rows = rows_stay_formed s item.rows stands are item.unit may formed.store.rising rising formed.store.rows;
-      limits = record {
-        objects = objects_within_limit s item.rows stands are item.unit may formed.store.limits.objects;
-        links = links_within_limit s item.rows stands are item.unit may rising formed.store.limits.links;
-        marks = formed.store.limits.marks;
-      };
-    }
+    are : ArePut (s.store.usn + 1) us s.store.rows (stands s item)
+    are = are_written s item formed may
 
     pub written_follows : s.mode ≡ Normal → (u : Update) × Member u item.rows → IsStrictlySortedBy key_order (map (λ (u : Update). u.key) item.rows) → Each (λ u. is_above s.store.rows u ≡ true) item.rows
         → MayWriteUnit (numbered s.store.schema) s.store.vector s.store.rows item.unit item.rows → CanFollow s (change_of s item)
@@ -129,11 +91,11 @@ module _ (s : State) where
         purged = nothing_is_vector;
         writes = (
           record { some = some; form = record { of_unit = may.put.of_unit; rising = rise; says = says_of_written item.unit item.rows may }; greater = above; unit = placed },
-          (objects_within_limit s item.rows stands are item.unit may formed.store.limits.objects, links_within_limit s item.rows stands are item.unit may rising formed.store.limits.links),
+          (objects_within_limit s us (stands s item) are item.unit may formed.store.limits.objects, links_within_limit s us (stands s item) are item.unit may (written_rise s item formed may) formed.store.limits.links),
           tt,
         );
         removed = λ o m. absurd m;
       };
-      formed = record { store = store; own = (let here = raised_here s.store.vector s.inv (s.store.usn + 1) in omega (arith, here, formed.own)) };
-      classes = classes_stay s item.rows stands are item.unit may known;
+      formed = write_formed s item formed may;
+      classes = classes_stay s us (stands s item) are item.unit may known;
     }

@@ -12,11 +12,10 @@ use Rattle.adr_model.specs.Reflects.{IsTombstoned}
 use Rattle.adr_model.specs.Store.{Held, updates_of}
 use Rattle.adr_model.specs.Change.{Written, put, held_of, rows_after}
 use Rattle.adr_model.specs.Formed.{AreRising, AreAlone}
-use Rattle.adr_model.proofs.Members.{mapped_member}
-use Rattle.adr_law_steps.specs.Puts.{held_at, under, ArePut}
+use Rattle.adr_law_steps.specs.Puts.{under, ArePut}
 use Rattle.adr_law_steps.proofs.Rows.{no_link_row, same_link}
 use Rattle.adr_law_steps.proofs.Putting.{rising_are_put}
-use Rattle.adr_law_steps.proofs.Order.{puts_rise, stay_alone}
+use Rattle.adr_law_steps.proofs.Order.{puts_rise, stay_alone, puts_stay_within}
 use Rattle.adr_law_steps.proofs.FormedRows.{stood, link_goes_from, link_goes_to}
 use Rattle.adr_law_steps.proofs.FormedOther.{other_back, other_to, end_lives}
 use Rattle.adr_law_formed.specs.Spelled.{IsSpelledItem, AreLocalsRising}
@@ -58,12 +57,6 @@ module _ (table : Table) (vector : Cursors) where
     are : ArePut w.local w.item.rows rows next
     are = subst (ArePut w.local w.item.rows rows) next_is (rising_are_put w.local rows w.item.unit w.item.rows may.form.of_unit may.form.rising)
 
-    locals : Each (λ h. (1 ≤ h.local) × (h.local ≤ w.local)) next
-    locals h m = ⊎_elim
-        (λ n. let u = mapped_member (held_at w.local) w.item.rows h n in let is : h.local ≡ w.local = ap (λ (x : Held). x.local) u.2 in (omega (arith, is, above), omega (arith, is)))
-        (λ n. let old = way.locals h n in (old.0, omega (arith, old.1, above)))
-        (are.from h m)
-
     -- a link that is written has live ends, and the others keep theirs
     live_before : (r : Update) → Member r (updates_of next) → (l : LinkKey) → r.key ≡ LinkOf l → (IsTombstoned (updates_of rows) l.from → ⊥) × (IsTombstoned (updates_of rows) l.to → ⊥)
     live_before r m l is = ⊎_elim (λ n. new (w.item.unit) refl n) (λ n. way.live r n l is) (stood w.local rows next w.item.rows are r m)
@@ -83,7 +76,7 @@ module _ (table : Table) (vector : Cursors) where
     order = record {
       rising = subst AreRising next_is (puts_rise rows (under w.local w.item.rows) way.rising);
       alone = stay_alone usn w.local rows next w.item.unit w.item.rows (λ h m. (way.locals h m).1) above may.form.of_unit are way.alone;
-      locals = locals;
+      locals = puts_stay_within usn w.local rows next w.item.rows way.locals above are;
       live = live;
     }
 

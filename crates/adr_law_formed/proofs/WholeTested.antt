@@ -30,7 +30,7 @@ use Rattle.adr_law_formed.specs.Follow.{IsRemovable, HasKnownClasses, CanFollow}
 use Rattle.adr_law_formed.specs.Touched.{IsInForm, AreTouchedInForm, CanFollowByTouched}
 use Rattle.adr_law_formed.specs.Spelled.{IsSpelledChange}
 use Rattle.adr_law_formed.specs.Tested.{may_follow_in_turn, is_removable, is_object_formed, is_touched_formed, can_follow}
-use Rattle.adr_law_formed.proofs.TakenFollow.{normal_where_not_quarantined}
+use Rattle.adr_law_taking.proofs.Passed.{normal_where_not_quarantined}
 use Rattle.adr_law_formed.proofs.WritesTested.{all_pass, passes_all, following_where_tested, tested_where_following}
 use Rattle.adr_law_formed.proofs.UnitTested.{unit_where_tested, tested_where_unit}
 use Rattle.adr_law_formed.proofs.ByTouched.{touched_is_enough, touched_is_asked}

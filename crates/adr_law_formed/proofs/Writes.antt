@@ -1,22 +1,13 @@
 -- Writes one after the other: one more follows, under a new local USN.
-use Rattle.std.proofs.Common.{◌≡◌, ℕ, ◌≤◌, ◌<◌, List, [], ◌∷◌, ◌++◌, ap, ◌∙◌, subst, fold, map, arith}
-use Rattle.std.proofs.lemmas.List.{append-nil}
-use Rattle.std.proofs.lemmas.Grind.{fold-append, flat_map-append}
-use Rattle.adr_stamp.specs.declared.Unit.{Unit as Named}
+use Rattle.std.proofs.Common.{◌≡◌, ℕ, ◌≤◌, ◌<◌, List, [], ◌∷◌, ◌++◌, ap, ◌∙◌, subst, fold, arith}
+use Rattle.std.proofs.lemmas.Grind.{fold-append}
 use Rattle.adr_schema.specs.Table.{Table}
 use Rattle.adr_vector.specs.Vector.{Cursors}
-use Rattle.adr_model.specs.Update.{Update}
 use Rattle.adr_model.specs.Store.{Held}
 use Rattle.adr_model.specs.Change.{Written, held_of, put, rows_after}
-use Rattle.adr_law_steps.specs.Puts.{held_at, under}
+use Rattle.adr_law_taking.proofs.ItemStep.{held_of_both}
 use Rattle.adr_law_formed.specs.Spelled.{AreLocalsRising}
 use Rattle.adr_law_formed.specs.Follow.{MayFollow, AreWithinLimits, MayFollowInTurn, after_write}
-
-pub held_where_written : (usn : ℕ) (unit : Named) (us : List Update) → held_of (record { local = usn; item = record { unit = unit; rows = us } } ∷ []) ≡ under usn us
-held_where_written usn unit us = append-nil (under usn us)
-
-pub held_of_both : (ws vs : List Written) → held_of (ws ++ vs) ≡ held_of ws ++ held_of vs
-held_of_both ws vs = flat_map-append (λ (w : Written). map (held_at w.local) w.item.rows) ws vs
 
 -- the rows behind a write and the others are those of the others behind it
 pub in_turn : (rows : List Held) (w : Written) (ws : List Written) → rows_after [] (held_of (w ∷ ws)) rows ≡ rows_after [] (held_of ws) (after_write rows w)

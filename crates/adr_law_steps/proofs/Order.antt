@@ -116,3 +116,12 @@ module _ (last usn : ℕ) (before after : List Held) (unit : Named) (us : List U
 pub puts_stay_alone : (last usn : ℕ) (before after : List Held) (V : Numbers) (unit : Named) (us : List Update) → AreAlone before → Each (λ x. x.local ≤ last) before → last < usn
     → MayPut (updates_of before) V unit us → ArePut usn us before after → AreAlone after
 puts_stay_alone last usn before after V unit us alone within new may are = stay_alone last usn before after unit us within new may.of_unit are alone
+
+-- local USNs stay between one and the last one
+pub puts_stay_within : (last usn : ℕ) (before after : List Held) (us : List Update) → Each (λ x. (1 ≤ x.local) × (x.local ≤ last)) before → last < usn → ArePut usn us before after
+    → Each (λ x. (1 ≤ x.local) × (x.local ≤ usn)) after
+puts_stay_within last usn before after us within new are x m = by (are.from x m)
+  where
+    by : Member x (under usn us) ⊎ Member x before → (1 ≤ x.local) × (x.local ≤ usn)
+    by (inl n) = let is : x.local ≡ usn = ap (λ (h : Held). h.local) (mapped_member (held_at usn) us x n).2 in (omega (arith, is, new), omega (arith, is))
+    by (inr n) = let old = within x n in (old.0, omega (arith, old.1, new))

@@ -9,9 +9,10 @@ use Rattle.adr_vector.specs.Vector.{at}
 use Rattle.adr_event.specs.declared.refusal.TakeRefusal.{TakeRefusal}
 use Rattle.adr_model.specs.Member.{Member, Each}
 use Rattle.adr_model.specs.Update.{Update}
+use Rattle.adr_model.specs.Reflects.{Numbers}
 use Rattle.adr_model.specs.Store.{Held, State, updates_of}
 use Rattle.adr_model.specs.Change.{Item, Written, held_of, put, rows_after}
-use Rattle.adr_model.specs.Formed.{AreFormedRows, AreAlone}
+use Rattle.adr_model.specs.Formed.{AreRising, AreFormedRows, AreAlone}
 use Rattle.adr_model.specs.Serve.{Reply}
 use Rattle.adr_model.specs.Take.{Taking, writes_of}
 use Rattle.adr_model.specs.Replica.{Book}
@@ -20,10 +21,10 @@ use Rattle.adr_model.proofs.Members.{mapped_member, member_of_either}
 use Rattle.adr_law_knowledge.specs.Grows.{Grows}
 use Rattle.adr_law_knowledge.proofs.Knows.{grows_trans, grows_self}
 use Rattle.adr_law_steps.specs.Puts.{held_at, under, MayPut, ArePut, AreClosed}
-use Rattle.adr_law_taking.specs.OnTheWay.{IsTakeable, known_with, AreOnTheWay, IsOnTheWay, KeepForms}
+use Rattle.adr_law_taking.specs.OnTheWay.{IsTakeable, known_with, AreOnTheWay, IsOnTheWay, StaysFormed, KeepForms}
 use Rattle.adr_law_steps.proofs.Rows.{updated, held_as}
 use Rattle.adr_law_steps.proofs.Putting.{are_put, puts_grow}
-use Rattle.adr_law_steps.proofs.Order.{puts_rise, puts_stay_alone}
+use Rattle.adr_law_steps.proofs.Order.{puts_rise, puts_stay_alone, puts_stay_within}
 use Rattle.adr_law_steps.proofs.Formed.{objects_stay_formed, objects_stay_closed}
 use Rattle.adr_law_steps.proofs.Links.{links_stay_formed_by_puts, links_stay_closed}
 use Rattle.adr_law_taking.proofs.OnTheWay.{purged_within}
@@ -39,6 +40,12 @@ put_of_item usn i (u ∷ us) rows = ap (λ hs. fold put rows hs) (held_where_wri
 pub under_usn : (usn : ℕ) (us : List Update) (h : Held) → Member h (under usn us) → Member h.update us × (h.local ≡ usn)
 under_usn usn us h m = let t = mapped_member (held_at usn) us h m in
     (subst (λ (x : Held). Member x.update us) (sym t.2) t.1, ap (λ (x : Held). x.local) t.2)
+
+-- rows that are put keep the forms
+pub rows_stay_formed : (schema usn : ℕ) (before after : List Held) (V : Numbers) (unit : Named) (us : List Update) → AreRising before → AreRising after → AreFormedRows (numbered schema) (updates_of before)
+    → MayPut (updates_of before) V unit us → ArePut usn us before after → KeepForms (numbered schema) V (updates_of before) unit us → AreFormedRows (numbered schema) (updates_of after)
+rows_stay_formed schema usn before after V (Object o) us was is formed put are keeps = objects_stay_formed schema usn before after V o keeps.0 us was is formed put are keeps.1
+rows_stay_formed schema usn before after V (Link l) us was is formed put are keeps = links_stay_formed_by_puts schema usn before after V l us formed put are keeps.0 (λ o m. (keeps.1 o m).0)
 
 module _ (sc : Book) (s : State) (r : Reply) (may : IsTakeable sc s r) (rows : List Held) (way : AreOnTheWay sc s rows) (usn : ℕ) (unit : Named) (us : List Update)
     (issued : Each (λ u. Member u sc.issued) us)
@@ -59,10 +66,6 @@ module _ (sc : Book) (s : State) (r : Reply) (may : IsTakeable sc s r) (rows : L
   pub grows_by_puts : Grows sc.issued (known_with s rows) (known_with s next)
   grows_by_puts = puts_grow sc.issued usn rows next (at s.store.vector) (at s.store.purged) unit us puts are (purged_within sc s r may)
 
-  formed : (unit : Named) → MayPut (updates_of rows) (at s.store.vector) unit us → KeepForms (numbered s.store.schema) (at s.store.vector) (updates_of rows) unit us → AreFormedRows (numbered s.store.schema) (updates_of next)
-  formed (Object o) p k = objects_stay_formed s.store.schema usn rows next (at s.store.vector) o k.0 us way.rising (puts_rise rows (under usn us) way.rising) way.formed p are k.1
-  formed (Link l) p k = links_stay_formed_by_puts s.store.schema usn rows next (at s.store.vector) l us way.formed p are k.0 (λ o m. (k.1 o m).0)
-
   closed : (unit : Named) → MayPut (updates_of rows) (at s.store.vector) unit us → KeepForms (numbered s.store.schema) (at s.store.vector) (updates_of rows) unit us → AreClosed (at s.store.vector) (updates_of next)
   closed (Object o) p k = objects_stay_closed usn rows next (at s.store.vector) o us way.closed p are
   closed (Link l) p k = links_stay_closed usn rows next (at s.store.vector) l us way.closed p are (λ o m. (k.1 o m).1)
@@ -72,7 +75,7 @@ module _ (sc : Book) (s : State) (r : Reply) (may : IsTakeable sc s r) (rows : L
     rising = puts_rise rows (under usn us) way.rising;
     known = known;
     grows = grows_trans sc.issued _ (known_with s rows) (known_with s next) way.grows grows_by_puts;
-    formed = formed unit puts keeps;
+    formed = rows_stay_formed s.store.schema usn rows next (at s.store.vector) unit us way.rising (puts_rise rows (under usn us) way.rising) way.formed puts are keeps;
     closed = closed unit puts keeps;
   }
 
@@ -92,16 +95,62 @@ goes_on t i us refusal place objects links =
 pub held_of_both : (ws vs : List Written) → held_of (ws ++ vs) ≡ held_of ws ++ held_of vs
 held_of_both ws vs = flat_map-append (λ (w : Written). map (held_at w.local) w.item.rows) ws vs
 
+-- ---- whatever the reply is
+
+module _ (s : State) (t : Taking) (way : StaysFormed s t) (i : Item) (refusal : Option TakeRefusal) (place objects links : ℕ) where
+  -- nothing is written
+  steady_idle : StaysFormed s (goes_on t i [] refusal place objects links)
+  steady_idle = record {
+    rising = way.rising;
+    formed = way.formed;
+    alone = way.alone;
+    locals = λ h m. ((way.locals h m).0, omega (arith, (way.locals h m).1));
+    made = ap (λ ws. rows_after [] (held_of ws) s.store.rows) (append-nil t.writes) ∙ way.made;
+    rises = omega (arith, way.rises);
+  }
+
+  module _ (u : Update) (us : List Update)
+      (puts : MayPut (updates_of t.rows) (at s.store.vector) i.unit (u ∷ us)) (keeps : KeepForms (numbered s.store.schema) (at s.store.vector) (updates_of t.rows) i.unit (u ∷ us)) where
+    abbrev put_rows : List Held
+    put_rows = fold put t.rows (under (t.usn + 1) (u ∷ us))
+
+    put_are : ArePut (t.usn + 1) (u ∷ us) t.rows put_rows
+    put_are = are_put (t.usn + 1) t.rows (at s.store.vector) i.unit (u ∷ us) puts
+
+    put_rise : AreRising put_rows
+    put_rise = puts_rise t.rows (under (t.usn + 1) (u ∷ us)) way.rising
+
+    put_same : (goes_on t i (u ∷ us) refusal place objects links).rows ≡ put_rows
+    put_same = put_of_item t.usn i (u ∷ us) t.rows
+
+    steady_written : StaysFormed s (goes_on t i (u ∷ us) refusal place objects links)
+    steady_written = record {
+      rising = subst AreRising (sym put_same) put_rise;
+      formed = subst (λ rows. AreFormedRows (numbered s.store.schema) (updates_of rows)) (sym put_same)
+          (rows_stay_formed s.store.schema (t.usn + 1) t.rows put_rows (at s.store.vector) i.unit (u ∷ us) way.rising put_rise way.formed puts put_are keeps);
+      alone = subst AreAlone (sym put_same) (puts_stay_alone t.usn (t.usn + 1) t.rows put_rows (at s.store.vector) i.unit (u ∷ us) way.alone (λ h m. (way.locals h m).1) (omega arith) puts put_are);
+      locals = subst (Each (λ h. (1 ≤ h.local) × (h.local ≤ t.usn + 1))) (sym put_same) (puts_stay_within t.usn (t.usn + 1) t.rows put_rows (u ∷ us) way.locals (omega arith) put_are);
+      made = ap (λ hs. fold put s.store.rows hs) (held_of_both t.writes (writes_of t.usn i (u ∷ us)))
+          ∙ (fold-append put s.store.rows (held_of t.writes) (held_of (writes_of t.usn i (u ∷ us))) ∙ ap (λ rows. fold put rows (held_of (writes_of t.usn i (u ∷ us)))) way.made);
+      rises = omega (arith, way.rises);
+    }
+
+  pub steady_step : (us : List Update)
+      → (us ≡ []) ⊎ (MayPut (updates_of t.rows) (at s.store.vector) i.unit us × KeepForms (numbered s.store.schema) (at s.store.vector) (updates_of t.rows) i.unit us)
+      → StaysFormed s (goes_on t i us refusal place objects links)
+  steady_step [] e = steady_idle
+  steady_step (u ∷ us) (inl e) = absurd (let f : u ∷ us ≡ [] = e in cc)
+  steady_step (u ∷ us) (inr (puts, keeps)) = steady_written u us puts keeps
+
+-- ---- of a sound reply
+
 module _ (sc : Book) (s : State) (r : Reply) (may : IsTakeable sc s r) (t : Taking) (way : IsOnTheWay sc s r t) (i : Item) (refusal : Option TakeRefusal) (place objects links : ℕ) where
   -- nothing is written
   idle : IsOnTheWay sc s r (goes_on t i [] refusal place objects links)
   idle = record {
+    steady = steady_step s t way.steady i refusal place objects links [] (inl refl);
     rows = way.rows;
-    alone = way.alone;
-    locals = λ h m. ((way.locals h m).0, omega (arith, (way.locals h m).1));
-    made = ap (λ ws. rows_after [] (held_of ws) s.store.rows) (append-nil t.writes) ∙ way.made;
     sent = subst (λ ws. Each (λ h. IsSent r h.update) (held_of ws)) (sym (append-nil t.writes)) way.sent;
-    rises = omega (arith, way.rises);
     above = subst (λ ws. Each (λ h. s.store.usn < h.local) (held_of ws)) (sym (append-nil t.writes)) way.above;
     within = λ h m. omega (arith, way.within h (subst (λ ws. Member h (held_of ws)) (append-nil t.writes) m));
     idle = λ le. append-nil t.writes ∙ way.idle (omega (arith, le));
@@ -115,9 +164,6 @@ module _ (sc : Book) (s : State) (r : Reply) (may : IsTakeable sc s r) (t : Taki
     abbrev behind : Taking
     behind = goes_on t i (u ∷ us) refusal place objects links
 
-    are_written : ArePut (t.usn + 1) (u ∷ us) t.rows after
-    are_written = are_put (t.usn + 1) t.rows (at s.store.vector) i.unit (u ∷ us) puts
-
     same : behind.rows ≡ after
     same = put_of_item t.usn i (u ∷ us) t.rows
 
@@ -128,24 +174,14 @@ module _ (sc : Book) (s : State) (r : Reply) (may : IsTakeable sc s r) (t : Taki
         by (inl old) = inr old
         by (inr new) = inl (under_usn (t.usn + 1) (u ∷ us) h (subst (Member h) (held_where_written (t.usn + 1) i.unit (u ∷ us)) new))
 
-    locals : Each (λ h. (1 ≤ h.local) × (h.local ≤ t.usn + 1)) after
-    locals h m = by (are_written.from h m)
-      where
-        by : Member h (under (t.usn + 1) (u ∷ us)) ⊎ Member h t.rows → (1 ≤ h.local) × (h.local ≤ t.usn + 1)
-        by (inl new) = let e = (under_usn (t.usn + 1) (u ∷ us) h new).1 in (omega (arith, e), omega (arith, e))
-        by (inr old) = let l = way.locals h old in (l.0, omega (arith, l.1))
-
     written : IsOnTheWay sc s r behind
     written = record {
+      steady = steady_step s t way.steady i refusal place objects links (u ∷ us) (inr (puts, keeps));
       rows = subst (AreOnTheWay sc s) (sym same) (rows_step sc s r may t.rows way.rows (t.usn + 1) i.unit (u ∷ us) (λ v m. may.reply.known v (of_item v m)) puts keeps);
-      alone = subst AreAlone (sym same) (puts_stay_alone t.usn (t.usn + 1) t.rows after (at s.store.vector) i.unit (u ∷ us) way.alone (λ h m. (way.locals h m).1) (omega arith) puts are_written);
-      locals = subst (Each (λ h. (1 ≤ h.local) × (h.local ≤ t.usn + 1))) (sym same) locals;
-      made = ap (λ hs. fold put s.store.rows hs) (held_of_both t.writes (writes_of t.usn i (u ∷ us))) ∙ (fold-append put s.store.rows (held_of t.writes) (held_of (writes_of t.usn i (u ∷ us))) ∙ ap (λ rows. fold put rows (held_of (writes_of t.usn i (u ∷ us)))) way.made);
       sent = λ h m. ⊎_elim (λ new. of_item h.update new.0) (λ old. way.sent h old) (new_or_old h m);
-      rises = omega (arith, way.rises);
-      above = λ h m. ⊎_elim (λ new. omega (arith, new.1, way.rises)) (λ old. way.above h old) (new_or_old h m);
+      above = λ h m. ⊎_elim (λ new. omega (arith, new.1, way.steady.rises)) (λ old. way.above h old) (new_or_old h m);
       within = λ h m. ⊎_elim (λ new. omega (arith, new.1)) (λ old. omega (arith, way.within h old)) (new_or_old h m);
-      idle = λ le. absurd (omega (arith, le, way.rises));
+      idle = λ le. absurd (omega (arith, le, way.steady.rises));
     }
 
   pub step : (us : List Update) → Each (λ v. IsSent r v) us

@@ -7,6 +7,7 @@ use Rattle.adr_model.specs.Reflects.{knowledge_of, Reflects}
 use Rattle.adr_model.specs.Live.{objects_of}
 use Rattle.adr_model.specs.Store.{State, updates_of}
 use Rattle.adr_model.specs.Change.{Item}
+use Rattle.adr_model.specs.Formed.{IsFormed}
 use Rattle.adr_model.specs.Serve.{Reply}
 use Rattle.adr_model.specs.Write.{links_in}
 use Rattle.adr_model.specs.Take.{Taking, begin, rows_taken, take_item, take_items}
@@ -14,10 +15,20 @@ use Rattle.adr_model.specs.Replica.{Book}
 use Rattle.adr_model.specs.Sound.{IsSent}
 use Rattle.adr_law_knowledge.specs.Grows.{Grows}
 use Rattle.adr_law_knowledge.proofs.Knows.{grows_keeps, grows_self, grows_trans}
-use Rattle.adr_law_taking.specs.OnTheWay.{IsTakeable, known_with, IsOnTheWay}
+use Rattle.adr_law_taking.specs.OnTheWay.{IsTakeable, known_with, StaysFormed, IsOnTheWay}
 use Rattle.adr_law_taking.proofs.ItemPut.{MayWrite, taken_from, item_may}
 use Rattle.adr_law_taking.proofs.ItemStep.{step, step_grows, step_writes}
 use Rattle.adr_law_taking.proofs.ItemReflected.{item_reflected}
+
+pub begins_formed : (s : State) → IsFormed s → StaysFormed s (begin s)
+begins_formed s formed = record {
+  rising = formed.store.rising;
+  formed = formed.store.rows;
+  alone = formed.store.alone;
+  locals = formed.store.locals;
+  made = refl;
+  rises = omega arith;
+}
 
 module _ (sc : Book) (s : State) (r : Reply) (may : IsTakeable sc s r) where
   abbrev taken : Taking → Item → Taking
@@ -28,6 +39,7 @@ module _ (sc : Book) (s : State) (r : Reply) (may : IsTakeable sc s r) where
 
   pub starts : IsOnTheWay sc s r (begin s)
   starts = record {
+    steady = begins_formed s may.state.formed;
     rows = record {
       rising = may.state.store.formed.rising;
       known = may.state.store.known;
@@ -35,11 +47,7 @@ module _ (sc : Book) (s : State) (r : Reply) (may : IsTakeable sc s r) where
       formed = may.state.store.formed.rows;
       closed = λ u m l e. may.state.store.closed l u m e;
     };
-    alone = may.state.store.formed.alone;
-    locals = may.state.store.formed.locals;
-    made = refl;
     sent = λ h m. absurd m;
-    rises = omega arith;
     above = λ h m. absurd m;
     within = λ h m. absurd m;
     idle = λ le. refl;

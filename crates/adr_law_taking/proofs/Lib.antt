@@ -10,6 +10,7 @@ pub mod Items
 pub mod Granted
 pub mod Passed
 pub mod TakenKnowledge
+pub mod TakenFormed
 pub mod TakenLeaves
 pub mod RowPasses
 pub mod ItemWhole

@@ -27,10 +27,9 @@ use Rattle.adr_model.specs.Take.{Taking, begin, lacks, Presence, object_lacks, i
 use Rattle.adr_model.specs.Replica.{Book}
 use Rattle.adr_model.specs.Sound.{IsSoundBook, IsSoundState, IsSoundLast, IsSoundReply}
 use Rattle.adr_law_knowledge.proofs.Refusing.{unmet, where_it_is, none_is, first_is, tested_is, refused_by, mapped_is}
-use Rattle.adr_law_taking.specs.OnTheWay.{IsTakeable, IsOnTheWay}
+use Rattle.adr_law_taking.specs.OnTheWay.{IsTakeable, IsOnTheWay, stale, lags, other_schema, put_back}
 use Rattle.adr_law_taking.proofs.Standings.{each_presence}
 use Rattle.adr_law_taking.proofs.Granted.{takeable}
-use Rattle.adr_law_taking.proofs.Passed.{stale, lags, other_schema, put_back}
 use Rattle.adr_law_taking.proofs.Items.{starts, on_the_way}
 use Rattle.adr_law_taking.proofs.ItemWhole.{item_is_sound, item_is_whole}
 

@@ -60,7 +60,7 @@ module _ (sc : Book) (s : State) (r : Reply) (may : IsTakeable sc s r) where
   -- what is known with the rows behind the items is known behind the reply
   pub wider : Grows sc.issued (known_with s now.rows) (knowledge_of behind.store)
   wider = subst (λ rows. Grows sc.issued (known_with s now.rows) (record { rows = updates_of rows; vector = at behind.store.vector; purged = at s.store.purged }))
-      (sym (ends sc s r may).made)
+      (sym (ends sc s r may).steady.made)
       (more_covered sc.issued (updates_of now.rows) (at s.store.vector) (at behind.store.vector) (at s.store.purged) (at s.store.purged) higher (λ i. omega arith))
 
   pub taken_grows : Grows sc.issued (knowledge_of s.store) (knowledge_of behind.store)

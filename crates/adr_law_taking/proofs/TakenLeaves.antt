@@ -1,20 +1,16 @@
 -- What a reply that is taken leaves: a formed and closed store, and a change that follows in its log.
-use Rattle.std.proofs.Common.{◌≡◌, ◌⊎◌, inl, inr, ⊎_elim, ◌≤◌, [], refl, sym, subst, arith, length, Ok, Some}
+use Rattle.std.proofs.Common.{◌≡◌, ◌⊎◌, inl, inr, ⊎_elim, [], refl, sym, subst, arith, Ok}
 use Rattle.adr_stamp.specs.declared.Oid.{Oid}
 use Rattle.adr_schema.specs.Numbered.{numbered}
-use Rattle.adr_vector.specs.Vector.{IsVector, at, joined}
-use Rattle.adr_vector.proofs.Comparing.{at_most_from_everywhere}
-use Rattle.adr_vector.proofs.Joining.{rising-raised, from_one-raised, rising-joined, from_one-joined}
+use Rattle.adr_vector.specs.Vector.{at}
 use Rattle.adr_model.specs.Member.{Member, Each}
 use Rattle.adr_model.specs.Update.{Update, ends}
 use Rattle.adr_model.specs.Reflects.{CoversBirth, HoldsObject, knowledge_of}
-use Rattle.adr_model.specs.Store.{Held, Kept, State, updates_of}
+use Rattle.adr_model.specs.Store.{Held, State, updates_of}
 use Rattle.adr_model.specs.Change.{Change, after, held_of}
-use Rattle.adr_model.specs.Formed.{AreRising, AreAlone, AreFormedRows, IsFormedStore, IsClosed}
-use Rattle.adr_model.specs.LocalLog.{IsOrdered, Follows}
+use Rattle.adr_model.specs.Formed.{IsClosed}
+use Rattle.adr_model.specs.LocalLog.{Follows}
 use Rattle.adr_model.specs.Serve.{Reply}
-use Rattle.adr_model.specs.Write.{object_limit, link_limit, links_in}
-use Rattle.adr_model.specs.Live.{objects_of}
 use Rattle.adr_model.specs.Take.{Taking, take, take_items, taken_change}
 use Rattle.adr_model.specs.Replica.{Book, ToTake}
 use Rattle.adr_model.specs.Sound.{last_of, IsSoundBook, IsSoundState, IsSoundReply, IsSent, AreClassesKnown}
@@ -23,16 +19,16 @@ use Rattle.adr_law_knowledge.proofs.Knows.{covered_absent}
 use Rattle.adr_law_steps.specs.Puts.{AreClosed}
 use Rattle.adr_law_logs.specs.Later.{MayIssue}
 use Rattle.adr_law_logs.specs.Settling.{Leaves}
-use Rattle.adr_law_logs.proofs.Leaving.{each_mark}
 use Rattle.adr_law_logs.proofs.Units.{change_from}
 use Rattle.adr_law_taking.specs.OnTheWay.{IsTakeable, IsTaken, IsOnTheWay}
 use Rattle.adr_law_steps.proofs.Rows.{held_as, updated}
 use Rattle.adr_law_taking.proofs.Standings.{held_or_not}
 use Rattle.adr_law_taking.proofs.OnTheWay.{source_classes, purged_within}
 use Rattle.adr_law_taking.proofs.ItemRows.{in_source}
-use Rattle.adr_law_taking.proofs.Items.{ends as way_ends, objects_within, links_within}
+use Rattle.adr_law_taking.proofs.Items.{ends as way_ends}
+use Rattle.adr_law_taking.proofs.TakenFormed.{taken_formed}
 use Rattle.adr_law_taking.proofs.Passed.{is_taken}
-use Rattle.adr_law_taking.proofs.TakenKnowledge.{behind, brought, joins_vector, joins_bounded, higher, keeps, new_mark, carried, covered_now}
+use Rattle.adr_law_taking.proofs.TakenKnowledge.{behind, joins_vector, joins_bounded, keeps, new_mark, carried, covered_now}
 
 module _ (sc : Book) (s : State) (r : Reply) (c : Change) (t : IsTaken sc s r c) where
   abbrev may : IsTakeable sc s r
@@ -59,38 +55,14 @@ module _ (sc : Book) (s : State) (r : Reply) (c : Change) (t : IsTaken sc s r c)
       by h (inr old) = inl (subst (λ v. Member v (updates_of s.store.rows)) (sym h.2) (updated s.store.rows h.0 old))
 
   known : Each (λ u. Member u sc.issued) (updates_of d.store.rows)
-  known u m = subst (λ rows. Each (λ v. Member v sc.issued) (updates_of rows)) (sym way.made) way.rows.known u m
+  known u m = subst (λ rows. Each (λ v. Member v sc.issued) (updates_of rows)) (sym way.steady.made) way.rows.known u m
 
   -- a class that is said came with the reply or was known
   classes : AreClassesKnown (numbered s.store.schema) (updates_of d.store.rows)
   classes u m = ⊎_elim (λ old. may.state.store.classes u old) (λ sent. source_classes sc s r may u (in_source sc s r may sent.0 (may.reply.exact sent.0 sent.1) u sent.2)) (from u m)
 
-  vector : IsVector d.store.vector
-  vector = record {
-    rising = rising-raised (joined s.store.vector (brought sc s r may)) s.inv now.usn (rising-joined (brought sc s r may) s.store.vector may.state.store.formed.vector.rising);
-    from_one = from_one-raised (joined s.store.vector (brought sc s r may)) s.inv now.usn (from_one-joined (brought sc s r may) s.store.vector may.state.store.formed.vector.from_one);
-    few = t.cursors;
-  }
-
-  formed : IsFormedStore d.store
-  formed = record {
-    vector = vector;
-    purged = may.state.store.formed.purged;
-    purged_within = at_most_from_everywhere s.store.purged d.store.vector may.state.store.formed.purged.rising (λ i. omega (arith, purged_within sc s r may i, higher sc s r may i));
-    marks = each_mark (λ (k : Kept). IsOrdered k.mark) (Some (r.source, record { inv = r.inv; mark = r.to })) s.store.marks may.reply.to_ordered may.state.store.formed.marks;
-    rising = subst AreRising (sym way.made) way.rows.rising;
-    locals = subst (Each (λ (h : Held). (1 ≤ h.local) × (h.local ≤ now.usn))) (sym way.made) way.locals;
-    alone = subst AreAlone (sym way.made) way.alone;
-    rows = subst (λ rows. AreFormedRows (numbered s.store.schema) (updates_of rows)) (sym way.made) way.rows.formed;
-    limits = record {
-      objects = subst (λ rows. length (objects_of (updates_of rows)) ≤ object_limit) (sym way.made) (objects_within s r.items object_limit may.state.store.formed.limits.objects t.objects);
-      links = subst (λ rows. links_in rows ≤ link_limit) (sym way.made) (links_within s r.items link_limit may.state.store.formed.limits.links t.links);
-      marks = t.marks;
-    };
-  }
-
   closed_before : AreClosed (at s.store.vector) (updates_of d.store.rows)
-  closed_before = subst (λ rows. AreClosed (at s.store.vector) (updates_of rows)) (sym way.made) way.rows.closed
+  closed_before = subst (λ rows. AreClosed (at s.store.vector) (updates_of rows)) (sym way.steady.made) way.rows.closed
 
   -- an absent object whose birth the vector covers now was collected, so its birth was covered before
   covered_before : (o : Oid) (u : Update) → Member u sc.issued → Member o (ends u.key) → (HoldsObject (updates_of d.store.rows) o → ⊥) → CoversBirth (at d.store.vector) o → CoversBirth (at s.store.vector) o
@@ -116,7 +88,7 @@ module _ (sc : Book) (s : State) (r : Reply) (c : Change) (t : IsTaken sc s r c)
     joined = joins_vector sc s r may;
     bounded = joins_bounded sc s r may;
     carried = carried sc s r may;
-    formed = formed;
+    formed = (taken_formed s r may.state.formed may.reply.to_ordered (joins_vector sc s r may) way.steady t.passes).store;
     closed = closed;
     classes = classes;
     mark = new_mark sc s r may;
@@ -124,7 +96,7 @@ module _ (sc : Book) (s : State) (r : Reply) (c : Change) (t : IsTaken sc s r c)
 
   follows : Follows (last_of sc s.inv) change
   follows = record {
-    rises = omega (arith, way.rises, may.state.last);
+    rises = omega (arith, way.steady.rises, may.state.last);
     above = λ h m. omega (arith, way.above h m, may.state.last);
     within = way.within;
     idle = λ le. (way.idle (omega (arith, le, may.state.last)), refl);

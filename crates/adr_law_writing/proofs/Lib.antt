@@ -2,6 +2,7 @@ pub mod Writes
 pub mod Issues
 pub mod Rooms
 pub mod Forms
+pub mod Formed
 pub mod Left
 pub mod Refusals
 pub mod Nodes
