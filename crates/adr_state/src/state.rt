@@ -141,6 +141,7 @@ impl State {
         ensures full { IsErrOf result full → IsOverfull (after self.old change.now) }
         ensures err { OnErr result (self.new ≡ self.old) }
     {
+        // What can fail comes first, and leaves everything as it was.
         let alloc = self.alloc;
         let vector = self.vector_after(alloc, change)?;
         let purged = self.purged_after(alloc, change)?;
