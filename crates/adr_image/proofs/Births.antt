@@ -41,9 +41,9 @@ source os ls u m =
     let h = mapped_member (λ (x : Held). x.update) (rows_of (os, ls)) u m in
     ⊎_elim
     (λ a.
-      let o = flat_member rows_of_object os h.0 a in
-      let r = mapped_member (held_of o.0.0) o.0.1 h.0 o.2 in
-      inl (o.0, o.1, r.0, r.1, h.2 ∙ ap (λ (x : Held). x.update) r.2))
+    let o = flat_member rows_of_object os h.0 a in
+    let r = mapped_member (held_of o.0.0) o.0.1 h.0 o.2 in
+    inl (o.0, o.1, r.0, r.1, h.2 ∙ ap (λ (x : Held). x.update) r.2))
     (λ b. let l = mapped_member link_of ls h.0 b in inr (l.0, l.1, h.2 ∙ ap (λ (x : Held). x.update) l.2))
     (member_of_either (flat_map rows_of_object os) (map link_of ls) h.0 h.1)
 

@@ -38,9 +38,10 @@ mapped_more [] w = refl
 mapped_more (v ∷ vs) w = ap (λ (us : List Written). written_of v ∷ us) (mapped_more vs w)
 
 pub keeps_write : (before : ℕ) (items : List Written) (last : ℕ) (written : Written) (ws : List Write) (w : Write) → KeepsWrites before (items, last) ws → written ≡ written_of w → KeepsWrites before (items ++ written ∷ [], written.local) (ws ++ w ∷ [])
-keeps_write before items last written ws w keeps is =
-    (ap (λ (us : List Written). us ++ written ∷ []) keeps.0 ∙ ap (λ (v : Written). map written_of ws ++ v ∷ []) is ∙ sym (mapped_more ws w),
-    fold-append next_local (Some before) ws (w ∷ []) ∙ ap (λ (v : Written). Some v.local) (sym is))
+keeps_write before items last written ws w keeps is = (
+  ap (λ (us : List Written). us ++ written ∷ []) keeps.0 ∙ ap (λ (v : Written). map written_of ws ++ v ∷ []) is ∙ sym (mapped_more ws w),
+  fold-append next_local (Some before) ws (w ∷ []) ∙ ap (λ (v : Written). Some v.local) (sym is),
+)
 
 -- ---- a body, field by field
 

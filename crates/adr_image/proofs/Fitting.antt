@@ -59,7 +59,7 @@ few low high (h ∷ hs) fits s from below =
     let first = below h (inl refl) in
     let least = from h (inl refl) in
     let rest = few (h.1.0 + 1) high hs (omega (arith, first)) s.1
-        (λ g m. let less = less_is h.1.0 g.1.0 (each_below nat_cmp (λ (y : HeldRow). y.1.0) nat_cmp_total h.1.0 hs s.0 g m) in omega (arith, less)) (λ g m. below g (inr m)) in
+    (λ g m. let less = less_is h.1.0 g.1.0 (each_below nat_cmp (λ (y : HeldRow). y.1.0) nat_cmp_total h.1.0 hs s.0 g m) in omega (arith, less)) (λ g m. below g (inr m)) in
     omega (arith, rest, least)
 
 each_has_rows : (os : List Rows) → AreTidy os → Each (λ (x : Rows). x.1 ≡ [] → ⊥) os
@@ -109,7 +109,7 @@ module _ (usn : ℕ) (table : Table) (o : Oid) (live : Bool) (n : ℕ) where
   rows_read b (h ∷ hs) alive known turn above each =
       let now = each h (inl refl) in
       let rest = rows_read (with_held b h) hs (stays_alive table live n o b h.0 h.1.0 h.1.1 h.1.2 now.1 alive) (class_stays n b h.0 h.1.0 h.1.1 h.1.2 now.0.1.1.1 above.0 known)
-          (subst (λ (last : Option ℕ). InTurn (λ (g : HeldRow). g.1.0) NextAttr last hs) (sym (attr_told b h.0 h.1.0 h.1.1 h.1.2)) turn.1) above.1 (λ g i. each g (inr i)) in
+      (subst (λ (last : Option ℕ). InTurn (λ (g : HeldRow). g.1.0) NextAttr last hs) (sym (attr_told b h.0 h.1.0 h.1.1 h.1.2)) turn.1) above.1 (λ g i. each g (inr i)) in
       ((((now.0.0, (now.0.1, turn.0)), fine_allowed table live n o b h.1.0 h.1.1 h.1.2 alive known now.1), rest.0), rest.1)
 
   -- the class row comes first
@@ -122,8 +122,8 @@ module _ (usn : ℕ) (table : Table) (o : Oid) (live : Bool) (n : ℕ) where
       let known : (with_held no_rows c).class ≡ Some n = ap (λ (d : Content). (with_held no_rows (c.0, (c.1.0, c.1.1, d))).class) is in
       let alive : (with_held no_rows c).dead ≡ false = ap (λ (d : Content). (with_held no_rows (c.0, (c.1.0, c.1.1, d))).dead) is in
       let rest = rows_read (with_held no_rows c) hs (λ e. alive) known
-          (subst (λ (last : Option ℕ). InTurn (λ (g : HeldRow). g.1.0) NextAttr last hs) (sym (attr_told no_rows c.0 c.1.0 c.1.1 c.1.2)) (unchain nat_cmp (λ (g : HeldRow). g.1.0) (Some c.1.0) hs s.1 s.0))
-          (subst (λ (i : ℕ). AllByRecursion (λ k. nat_cmp i k ≡ Less) (attrs hs)) one s.0) (λ g i. each g (inr i)) in
+      (subst (λ (last : Option ℕ). InTurn (λ (g : HeldRow). g.1.0) NextAttr last hs) (sym (attr_told no_rows c.0 c.1.0 c.1.1 c.1.2)) (unchain nat_cmp (λ (g : HeldRow). g.1.0) (Some c.1.0) hs s.1 s.0))
+      (subst (λ (i : ℕ). AllByRecursion (λ k. nat_cmp i k ≡ Less) (attrs hs)) one s.0) (λ g i. each g (inr i)) in
       ((((now.0.0, (now.0.1, refl)), allowed), rest.0), rest.1)
 
 -- ---- stores that are formed and spelled, taken apart
@@ -337,7 +337,7 @@ module _ (schema usn : ℕ) (os : List Rows) (ls : List HeldLink) (r : IsRight s
           let keeps = live.1 c.class ((held_of x.0 c.row).update, is_update x m c.row c.there, ap (RowOf x.0) c.one, ap Holds c.is) in
           let read = object_is_read x m c true (fine_live x m c.class live.0 keeps) in
           let musts : list_all (λ attr. has_attr attr x.1) (must_of table c.class) ≡ true =
-              all_pass (λ attr. has_attr attr x.1) (must_of table c.class) (λ attr i. let w = keeps.whole attr (one_passes (λ (k : ℕ). eqb k attr) (must_of table c.class) attr i (eq-eqb attr attr refl)) in there_is x m attr w.0 w.1 w.2) in
+          all_pass (λ attr. has_attr attr x.1) (must_of table c.class) (λ attr i. let w = keeps.whole attr (one_passes (λ (k : ℕ). eqb k attr) (must_of table c.class) attr i (eq-eqb attr attr refl)) in there_is x m attr w.0 w.1 w.2) in
           record {
             rows = (count_in_range x m, read.0);
             classed = has_class x m c;

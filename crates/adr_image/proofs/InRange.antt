@@ -139,9 +139,10 @@ module _ (schema usn : ℕ) (os : List Rows) (ls : List HeldLink) (r : IsRight s
   objects_along e [] within turn d used = tt
   objects_along e (x ∷ xs) within turn d used =
       let m = within x (inl refl) in
-      let w = object_right schema usn os ls r x m in
-      ((((name_in_range schema usn os ls r x m, turn.0), w.rows), whole_object e.used x w (free x xs e.used m used)),
-      objects_along (with_rows e x) xs (λ y i. within y (inr i)) turn.1 d.1 (more_used x xs e.used m d.0 used))
+      let w = object_right schema usn os ls r x m in (
+        (((name_in_range schema usn os ls r x m, turn.0), w.rows), whole_object e.used x w (free x xs e.used m used)),
+        objects_along (with_rows e x) xs (λ y i. within y (inr i)) turn.1 d.1 (more_used x xs e.used m d.0 used),
+      )
 
   none_used : (xs : List Rows) → Used [] xs
   none_used xs n h = absurd (cc)
@@ -195,11 +196,16 @@ module _ (schema usn : ℕ) (os : List Rows) (ls : List HeldLink) (r : IsRight s
       let s = r.spelled (link_of l) held in
       let n = r.locals (link_of l) held in
       let fits = r.small in
-      let f = r.rows.links l.1.0 (link_of l).update (member_mapped (λ (y : Held). y.update) rows (link_of l) held) refl in
-      ((((((n.0, omega (arith, n.1, fits)), le-leb l.0 usn n.1), ap not (free_link l xs k.used m used)),
-      (((s.0, ap not (not_dead l.1.0.from f.from)), ((s.1, f.forward), s.2)), and_from (is_above link_order k.last l.1.0) (not (is_among (dead_of os) l.1.0.to)) turn.0 (ap not (not_dead l.1.0.to f.to)))),
-      (s.3, s.4)),
-      links_along (with_link k l) xs (λ y i. within y (inr i)) turn.1 d.1 (more_taken l xs k.used m d.0 used))
+      let f = r.rows.links l.1.0 (link_of l).update (member_mapped (λ (y : Held). y.update) rows (link_of l) held) refl in (
+        (
+          (
+            (((n.0, omega (arith, n.1, fits)), le-leb l.0 usn n.1), ap not (free_link l xs k.used m used)),
+            (((s.0, ap not (not_dead l.1.0.from f.from)), ((s.1, f.forward), s.2)), and_from (is_above link_order k.last l.1.0) (not (is_among (dead_of os) l.1.0.to)) turn.0 (ap not (not_dead l.1.0.to f.to))),
+          ),
+          (s.3, s.4),
+        ),
+        links_along (with_link k l) xs (λ y i. within y (inr i)) turn.1 d.1 (more_taken l xs k.used m d.0 used),
+      )
 
   all_links : Along with_link (IsLinkIn usn table (dead_of os)) (no_links os) ls
   all_links = links_along (no_links os) ls (λ l m. m) (unchain link_order (λ (l : HeldLink). l.1.0) None ls links_in_order tt) (all_links_differ ls links_in_order) first_taken
@@ -231,9 +237,10 @@ marked : (last : Option Identifier) (ks : List Marked) → InTurn (λ (k : Marke
 marked last [] turn spelled ordered = tt
 marked last (k ∷ ks) turn spelled ordered =
     let s = spelled k (inl refl) in
-    let o = ordered k (inl refl) in
-    (((s.0, turn.0), (s.1.0, (s.1.1, and_from (leb k.1.mark.prop k.1.mark.obj) (leb k.1.mark.obj k.1.mark.seen) (le-leb k.1.mark.prop k.1.mark.obj o.prop) (le-leb k.1.mark.obj k.1.mark.seen o.obj)))),
-    marked (Some k.0) ks turn.1 (λ x m. spelled x (inr m)) (λ x m. ordered x (inr m)))
+    let o = ordered k (inl refl) in (
+      ((s.0, turn.0), (s.1.0, (s.1.1, and_from (leb k.1.mark.prop k.1.mark.obj) (leb k.1.mark.obj k.1.mark.seen) (le-leb k.1.mark.prop k.1.mark.obj o.prop) (le-leb k.1.mark.obj k.1.mark.seen o.obj)))),
+      marked (Some k.0) ks turn.1 (λ x m. spelled x (inr m)) (λ x m. ordered x (inr m)),
+    )
 
 number_of_schema : (n : ℕ) → is_some (schema_table n) ≡ true → IsU32 n
 unfolding schema_1

@@ -175,10 +175,12 @@ module _ {K S E : Type 0} (step : S → E → S) (element : S → Reading E) (st
   pub goes_further : (i : ℕ) (k j : K) (rest after : Rest) → i < count → IsAmid i k rest → ((front : List E) → Keeps k front → (e : E) × (element (fold step start front) rest ≡ Ok (e, after)) × Keeps j (front ++ e ∷ []))
       → IsAmid (i + 1) j after
   goes_further i k j rest after lt amid next =
-      let one = next amid.0 amid.1 in
-      (amid.0 ++ one.0 ∷ [], one.2,
-      ap (λ (known : S). with_front (amid.0 ++ one.0 ∷ []) (gathered_at step element (count - (i + 1)) known after)) (fold-append step start amid.0 (one.0 ∷ []))
-      ∙ goes_on step element amid.0 count i (fold step start amid.0) rest total one.0 after lt one.1 amid.2)
+      let one = next amid.0 amid.1 in (
+        amid.0 ++ one.0 ∷ [],
+        one.2,
+        ap (λ (known : S). with_front (amid.0 ++ one.0 ∷ []) (gathered_at step element (count - (i + 1)) known after)) (fold-append step start amid.0 (one.0 ∷ []))
+            ∙ goes_on step element amid.0 count i (fold step start amid.0) rest total one.0 after lt one.1 amid.2,
+      )
 
   pub breaks_off : (e : Failure Malformed) (i : ℕ) (k : K) (rest : Rest) → i < count → IsAmid i k rest → ((front : List E) → Keeps k front → Refuses e (element (fold step start front) rest)) → Refuses e total
   breaks_off e i k rest lt amid refused = ends step element amid.0 count i (fold step start amid.0) rest total e lt (refused amid.0 amid.1) amid.2

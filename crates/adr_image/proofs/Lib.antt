@@ -21,4 +21,4 @@ pub mod Counted
 pub mod Steps
 pub mod Writing
 pub mod Changing
-pub mod Bodies
+pub mod Recorded

@@ -62,7 +62,7 @@ one_birth o (h ∷ hs) rest s = by (eqb h.1.0 1) refl (one_birth o hs rest s.1)
     by true e rec =
         let none = later o hs rest (subst (λ (i : ℕ). AllByRecursion (λ c. nat_cmp i c ≡ Less) (map (λ (h : HeldRow). h.1.0) hs)) (eqb-true h.1.0 1 e) s.0) in
         let same : length (births (map (held_of o) (h ∷ hs) ++ rest)) ≡ 1 + length (births rest) =
-            ap (λ (b : Bool). length (cons_option (cond b (Some o) None) (births (map (held_of o) hs ++ rest)))) e ∙ ap (λ (os : List Oid). length (o ∷ os)) none ∙ one_plus (length (births rest)) in
+        ap (λ (b : Bool). length (cons_option (cond b (Some o) None) (births (map (held_of o) hs ++ rest)))) e ∙ ap (λ (os : List Oid). length (o ∷ os)) none ∙ one_plus (length (births rest)) in
         omega (arith, same)
       where
         one_plus : (n : ℕ) → suc n ≡ 1 + n

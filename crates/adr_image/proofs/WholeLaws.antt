@@ -205,6 +205,7 @@ parts_only bytes p fits e =
     let v = versioned_ok parts_at (version_at (from 0 bytes)) p e in
     let first = version_spelled.only 0 bytes 1 v.0 fits v.1 in
     let d = ended_ok (parts_at v.0) p v.2 in
-    let second = parts_spelled.only v.0.place v.0.bytes p d.0 (rest_bytes IsU16 head 0 bytes 1 v.0 first fits) d.1 in
-    (second.in_range,
-    first.spelled_so ∙ ap (λ (w : List ℕ). head 1 ++ w) (second.spelled_so ∙ ap (λ (w : List ℕ). body p ++ w) d.2 ∙ append-nil (body p)) ∙ append_assoc magic (u16 1) (body p))
+    let second = parts_spelled.only v.0.place v.0.bytes p d.0 (rest_bytes IsU16 head 0 bytes 1 v.0 first fits) d.1 in (
+      second.in_range,
+      first.spelled_so ∙ ap (λ (w : List ℕ). head 1 ++ w) (second.spelled_so ∙ ap (λ (w : List ℕ). body p ++ w) d.2 ∙ append-nil (body p)) ∙ append_assoc magic (u16 1) (body p),
+    )

@@ -71,7 +71,7 @@ told_links : (ls : List HeldLink) → flat_map held (map link_of ls) ≡ flat_ma
 told_links [] = refl
 told_links (l ∷ ls) = ap (λ (bytes : List ℕ). held_link l ++ bytes) (told_links ls)
 
-mapped_long : {A B : Type 0} (f : A → B) (xs : List A) → length (map f xs) ≡ length xs
+pub mapped_long : {A B : Type 0} (f : A → B) (xs : List A) → length (map f xs) ≡ length xs
 mapped_long f [] = refl
 mapped_long f (x ∷ xs) = ap suc (mapped_long f xs)
 
@@ -124,9 +124,12 @@ goes os ls before now after rest others o first written behind way = by way.0 wa
     by (x ∷ xs) tidy e all =
         let found : Some x.0 ≡ Some o = sym (first_is x xs ls tidy) ∙ sym (ap first_object e) ∙ first in
         let same : x.0 ≡ o = cc in
-        let next = subst (λ (p : Oid). IsNext x xs ls p rest) same (subst (IsNext x xs ls x.0) (sym e) (next_is x xs ls tidy)) in
-        (xs, tidy.2, behind ∙ next.others,
-        ap (λ (bytes : List ℕ). bytes ++ flat_map object xs) (written ∙ ap (λ (bytes : List ℕ). now ++ bytes) next.written) ∙ append_assoc now (object x) (flat_map object xs) ∙ all)
+        let next = subst (λ (p : Oid). IsNext x xs ls p rest) same (subst (IsNext x xs ls x.0) (sym e) (next_is x xs ls tidy)) in (
+          xs,
+          tidy.2,
+          behind ∙ next.others,
+          ap (λ (bytes : List ℕ). bytes ++ flat_map object xs) (written ∙ ap (λ (bytes : List ℕ). now ++ bytes) next.written) ∙ append_assoc now (object x) (flat_map object xs) ∙ all,
+        )
 
 pub ends : (os : List Rows) (ls : List HeldLink) (before now : List ℕ) (rest : List Held) → first_object rest ≡ None → IsUnderWay os ls before now rest → (now ≡ before ++ flat_map object os) × (rest ≡ map link_of ls)
 ends os ls before now rest none way = by way.0 way.1 way.2 way.3
@@ -150,7 +153,7 @@ falls (h ∷ hs) o first = by h.update.key first
 
 -- ---- lengths and counts
 
-content_short : (attr : ℕ) (c : Content) → IsContent attr c → IsShortContent c
+pub content_short : (attr : ℕ) (c : Content) → IsContent attr c → IsShortContent c
 content_short attr (Class n) q = tt
 content_short attr (Name t parent) q = q.1.1.0
 content_short attr Dead q = tt

@@ -31,7 +31,10 @@ fn update_of(object: &Oid, row: Row) -> Update
 {
     let (attr, stamp, content) = row;
     Update::new(
-        Key::Row { object: *object, attr },
+        Key::Row {
+            object: *object,
+            attr,
+        },
         LinkStamp { created: 0, stamp },
         Said::Holds(content),
     )

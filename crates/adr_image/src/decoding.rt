@@ -54,7 +54,9 @@ fn malformed(refusal: WireRefusal) -> Failure<DecodeRefusal>
     ensures { result ≡ as_decoding refusal }
 {
     match refusal {
-        Failure::Refused(Malformed { place }) => Failure::Refused(DecodeRefusal::Malformed { place }),
+        Failure::Refused(Malformed { place }) => Failure::Refused(DecodeRefusal::Malformed {
+            place,
+        }),
         Failure::NoMemory => Failure::NoMemory,
     }
 }

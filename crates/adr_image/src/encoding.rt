@@ -37,7 +37,9 @@ pub fn write_told(
         (Key::Row { attr, .. }, Said::Holds(content)) => {
             writer.write_row_of(*attr, &stamp.stamp, content)
         }
-        (Key::Link(link), Said::IsPresent(present)) => writer.write_link(&(*link, *stamp, *present)),
+        (Key::Link(link), Said::IsPresent(present)) => writer.write_link(&(
+            *link, *stamp, *present,
+        )),
         _ => Ok(()),
     }
 }

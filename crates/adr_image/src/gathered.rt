@@ -33,7 +33,10 @@ fn held_row(object: &Oid, row: HeldRow) -> Held
 {
     let (local, (attr, stamp, content)) = row;
     let update = Update::new(
-        Key::Row { object: *object, attr },
+        Key::Row {
+            object: *object,
+            attr,
+        },
         LinkStamp { created: 0, stamp },
         Said::Holds(content),
     );
@@ -94,7 +97,7 @@ impl Objects {
         requires { usn ≤ usn_limit }
         ensures { (os : List form.Rows) → KeepsObjects self.old os
             → GivesSeen (λ _ o. KeepsObjects self.new (os ++ o ∷ [])) result reader.new
-                (form.object_at usn schema.now (fold form.with_rows form.no_objects os) reader.old) }
+            (form.object_at usn schema.now (fold form.with_rows form.no_objects os) reader.old) }
     {
         let (object, rows) = read_object(reader, alloc, usn, schema, &self.last, &self.used)?;
         self.take(&object, rows)?;
@@ -181,7 +184,7 @@ impl Links {
     ) -> Result<(), WireRefusal>
         ensures { (os : List form.Rows) (ls : List form.HeldLink) → KeepsLinks os self.old ls
             → GivesSeen (λ _ l. KeepsLinks os self.new (ls ++ l ∷ [])) result reader.new
-                (form.link_at usn schema.now (dead_of os) (fold form.with_link (no_links os) ls) reader.old) }
+            (form.link_at usn schema.now (dead_of os) (fold form.with_link (no_links os) ls) reader.old) }
     {
         let link = self.read_link(reader, usn, schema)?;
         self.take(&link)?;
@@ -198,7 +201,7 @@ impl Links {
     ) -> Result<Links, WireRefusal>
         ensures { (os : List form.Rows) → KeepsLinks os self []
             → GivesSeen (KeepsLinks os) result reader.new
-                (gathered_at form.with_link (form.link_at usn schema.now (dead_of os)) count (no_links os) reader.old) }
+            (gathered_at form.with_link (form.link_at usn schema.now (dead_of os)) count (no_links os) reader.old) }
     {
         let mut links = self;
         for _ in 0..count {

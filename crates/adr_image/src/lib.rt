@@ -27,6 +27,6 @@ pub use decoding::decode;
 pub use dormant::Dormant;
 pub use encoding::encode;
 pub use laws::{
-    bodies_have_one_spelling, changes_have_one_spelling, images_are_as_long_as_counted, images_have_one_spelling,
-    parts_have_one_spelling, worked_images,
+    bodies_have_one_spelling, changes_have_one_spelling, images_are_as_long_as_counted,
+    images_have_one_spelling, parts_have_one_spelling, worked_images,
 };

@@ -125,7 +125,7 @@ impl Links {
     ) -> Result<(u64, LinkKey), WireRefusal>
         ensures { Tells result reader.new
             (form.local_and_key (form.passes schema.now any) usn self.now.dead.keys
-                (record { last = self.now.last; used = self.now.used.keys }) reader.old) }
+            (record { last = self.now.last; used = self.now.used.keys }) reader.old) }
     {
         let owner = reader.place();
         let local = self.read_own_local(reader, usn)?;
@@ -143,7 +143,7 @@ impl Links {
     ) -> Result<HeldLink, WireRefusal>
         ensures { Tells result reader.new
             (form.link_behind schema.now usn self.now.dead.keys
-                (record { last = self.now.last; used = self.now.used.keys }) reader.old) }
+            (record { last = self.now.last; used = self.now.used.keys }) reader.old) }
     {
         let (local, key) = self.read_local_and_key(reader, usn, schema, false)?;
         let stamp = reader.read_link_stamp()?;
@@ -155,7 +155,7 @@ impl Links {
     fn is_refused_at_first(&self, start: &Reader<'_>, usn: u64, schema: &Schema) -> bool
         ensures { result ≡ is_refused_at start.now.place
             (form.local_and_key (λ _. true) usn self.now.dead.keys
-                (record { last = self.now.last; used = self.now.used.keys }) start.now) }
+            (record { last = self.now.last; used = self.now.used.keys }) start.now) }
     {
         let place = start.place();
         let mut reader = start.again();
@@ -176,7 +176,7 @@ impl Links {
     ) -> Result<HeldLink, WireRefusal>
         ensures { Tells result reader.new
             (form.link_at usn schema.now self.now.dead.keys
-                (record { last = self.now.last; used = self.now.used.keys }) reader.old) }
+            (record { last = self.now.last; used = self.now.used.keys }) reader.old) }
     {
         let start = reader.again();
         let read = self.read_link_strictly(reader, usn, schema);

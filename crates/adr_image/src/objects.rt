@@ -10,7 +10,7 @@ ghost use Rattle.adr_wire.specs.Gathering.{is_refused_at};
 ghost use Rattle.adr_image.specs.Image as form;
 
 use crate::known::is_used;
-use crate::rows::{read_held_rows, with_held, Before};
+use crate::rows::{Before, read_held_rows, with_held};
 use adr_schema::{Content, Schema};
 use adr_stamp::{Oid, Stamp};
 use adr_wire::{Failure, Malformed, NoMemory, Reader, WireRefusal};

@@ -6,7 +6,7 @@ ghost use Rattle.adr_wire.specs.Reading.{Gives, GivesAs, Tells, is_above};
 ghost use Rattle.adr_wire.specs.Gathering.{gathered_at};
 ghost use Rattle.adr_image.specs.Image as form;
 
-use adr_schema::{check_name, Content, Schema, Value};
+use adr_schema::{Content, Schema, Value, check_name};
 use adr_stamp::{Oid, Stamp};
 use adr_wire::{Failure, Malformed, Reader, WireRefusal};
 use std::alloc::Global;
@@ -75,12 +75,7 @@ fn carries_birth(oid: &Oid, stamp: &Stamp) -> bool
 }
 
 /// Whether the object may have this row behind those before it.
-pub fn is_allowed(
-    schema: &Schema,
-    oid: &Oid,
-    before: Before,
-    row: &(u16, Stamp, Content),
-) -> bool
+pub fn is_allowed(schema: &Schema, oid: &Oid, before: Before, row: &(u16, Stamp, Content)) -> bool
     ensures { result ≡ form.is_allowed schema.now oid.now before row.now }
 {
     match &row.2 {
@@ -92,7 +87,9 @@ pub fn is_allowed(
         Content::Values(values) => {
             !before.dead
                 && row.0 >= 1
-                && schema.check_values(before.class, row.0, values.items()).is_ok()
+                && schema
+                    .check_values(before.class, row.0, values.items())
+                    .is_ok()
         }
     }
 }
@@ -103,10 +100,26 @@ pub fn with_held(before: Before, row: &(u64, (u16, Stamp, Content))) -> Before
 {
     let attr = Some(row.1.0);
     match &row.1.2 {
-        Content::Class(class) => Before { attr, class: Some(*class), dead: before.dead },
-        Content::Name { text: _, parent: _ } => Before { attr, class: before.class, dead: before.dead },
-        Content::Dead => Before { attr, class: before.class, dead: true },
-        Content::Values(_) => Before { attr, class: before.class, dead: before.dead },
+        Content::Class(class) => Before {
+            attr,
+            class: Some(*class),
+            dead: before.dead,
+        },
+        Content::Name { text: _, parent: _ } => Before {
+            attr,
+            class: before.class,
+            dead: before.dead,
+        },
+        Content::Dead => Before {
+            attr,
+            class: before.class,
+            dead: true,
+        },
+        Content::Values(_) => Before {
+            attr,
+            class: before.class,
+            dead: before.dead,
+        },
     }
 }
 

@@ -31,5 +31,5 @@ loop-preserved c =
 pub returns : goal.returns
 returns c =
     let w = arrives next_local write_above (Some c.args.before) (KeepsWrites c.args.before) c.args.count (elements_at (λ w. w.0) write_above c.args.count (Some c.args.before) c.args.reader.now)
-        c.loop.counter (c.loop.writes.items, c.loop.last) c.loop.reader c.loop-test.false c.loop.invariant in
+    c.loop.counter (c.loop.writes.items, c.loop.last) c.loop.reader c.loop-test.false c.loop.invariant in
     (w.0, w.1, w.2.0)

@@ -48,9 +48,10 @@ read_rows-requires c = usn_fits c.read_schema.new.reader c.in_ok-usn.usn c.read_
 pub returns : goal.returns
 returns c =
     let w = c.in_ok-rows.ensures in
-    let tail = ap (λ (t : Table). tail_at c.in_ok-usn.usn t c.read_marks.new.reader) (sym c.in_ok-schema.ensures.table) ∙ w.1 in
-    (parts_of (c.in_ok-schema.schema.number, (c.in_ok-usn.usn, (c.in_ok-vector.vector, (c.in_ok-purged.purged, (c.in_ok-marks.marks.items, w.0))))),
-    all_read c.args.reader.now c.read_schema.new.reader c.read_usn0.new.self c.read_vector.new.self c.read_purged.new.reader c.read_marks.new.reader c.read_rows.new.reader
-        c.in_ok-schema.schema.number c.in_ok-usn.usn c.in_ok-vector.vector c.in_ok-purged.purged c.in_ok-marks.marks.items w.0
-        c.in_ok-schema.ensures.number c.in_ok-usn.ensures c.in_ok-vector.ensures c.in_ok-purged.ensures c.in_ok-marks.ensures tail,
-    ap (λ (rows : List Held). let s : Store = record { schema = c.in_ok-schema.schema.number; usn = c.in_ok-usn.usn; rows = rows; vector = c.in_ok-vector.vector; purged = c.in_ok-purged.purged; marks = c.in_ok-marks.marks.items } in s) w.2)
+    let tail = ap (λ (t : Table). tail_at c.in_ok-usn.usn t c.read_marks.new.reader) (sym c.in_ok-schema.ensures.table) ∙ w.1 in (
+      parts_of (c.in_ok-schema.schema.number, (c.in_ok-usn.usn, (c.in_ok-vector.vector, (c.in_ok-purged.purged, (c.in_ok-marks.marks.items, w.0))))),
+      all_read c.args.reader.now c.read_schema.new.reader c.read_usn0.new.self c.read_vector.new.self c.read_purged.new.reader c.read_marks.new.reader c.read_rows.new.reader
+          c.in_ok-schema.schema.number c.in_ok-usn.usn c.in_ok-vector.vector c.in_ok-purged.purged c.in_ok-marks.marks.items w.0
+          c.in_ok-schema.ensures.number c.in_ok-usn.ensures c.in_ok-vector.ensures c.in_ok-purged.ensures c.in_ok-marks.ensures tail,
+      ap (λ (rows : List Held). let s : Store = record { schema = c.in_ok-schema.schema.number; usn = c.in_ok-usn.usn; rows = rows; vector = c.in_ok-vector.vector; purged = c.in_ok-purged.purged; marks = c.in_ok-marks.marks.items } in s) w.2,
+    )

@@ -16,5 +16,5 @@ pub returns : goal.returns
 returns c =
     let way = c.in_ok-links.ensures (apart c.args.rows.now).0 (apart c.args.rows.now).1 c.requires.tidy c.requires.joined in
     on_ok_then c.write_each.result c.write_each.ensures (λ all.
-        rows_written c.args.writer.now c.write_u32.new.self c.write_objects.new.writer c.write_u32-2.new.self c.write_each.new.writer (apart c.args.rows.now).0 (apart c.args.rows.now).1 c.births.result c.in_ok-links.links.now
-        c.in_ok-write_u32.ensures.ok (c.births.ensures ∙ c.requires.births) way.0 way.1 c.in_ok-write_u32-2.ensures.ok all)
+    rows_written c.args.writer.now c.write_u32.new.self c.write_objects.new.writer c.write_u32-2.new.self c.write_each.new.writer (apart c.args.rows.now).0 (apart c.args.rows.now).1 c.births.result c.in_ok-links.links.now
+    c.in_ok-write_u32.ensures.ok (c.births.ensures ∙ c.requires.births) way.0 way.1 c.in_ok-write_u32-2.ensures.ok all)

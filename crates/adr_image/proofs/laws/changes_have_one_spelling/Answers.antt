@@ -1,4 +1,4 @@
-use Rattle.adr_image.proofs.Bodies.{change_again, change_long, change_only, change_short}
+use Rattle.adr_image.proofs.Recorded.{change_again, change_long, change_only, change_short}
 use Rattle.adr_image.proofs.laws.changes_have_one_spelling.Goals as goal
 
 pub returns-clause-again : goal.returns-clause-again

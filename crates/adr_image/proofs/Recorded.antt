@@ -50,11 +50,11 @@ flag_told false = refl
 pub bytes_are : (b : Body) → change_bytes (change_of b) ≡ body b
 bytes_are b =
     ap (λ (f : Bool). u64 b.0 ++ (flag f ++ (mark_if b.1.1.0 ++ (vector b.1.1.1.0 ++ (vector b.1.1.1.1.0
-        ++ ((u32 (length b.1.1.1.1.1.0) ++ flat_map oid b.1.1.1.1.1.0) ++ (u32 (length (map written_of b.1.1.1.1.1.1)) ++ flat_map written_bytes (map written_of b.1.1.1.1.1.1)))))))) (flag_told b.1.0)
+    ++ ((u32 (length b.1.1.1.1.1.0) ++ flat_map oid b.1.1.1.1.1.0) ++ (u32 (length (map written_of b.1.1.1.1.1.1)) ++ flat_map written_bytes (map written_of b.1.1.1.1.1.1)))))))) (flag_told b.1.0)
     ∙ ap (λ (n : ℕ). u64 b.0 ++ (flag b.1.0 ++ (mark_if b.1.1.0 ++ (vector b.1.1.1.0 ++ (vector b.1.1.1.1.0
-        ++ ((u32 (length b.1.1.1.1.1.0) ++ flat_map oid b.1.1.1.1.1.0) ++ (u32 n ++ flat_map written_bytes (map written_of b.1.1.1.1.1.1)))))))) (mapped_long written_of b.1.1.1.1.1.1)
+    ++ ((u32 (length b.1.1.1.1.1.0) ++ flat_map oid b.1.1.1.1.1.0) ++ (u32 n ++ flat_map written_bytes (map written_of b.1.1.1.1.1.1)))))))) (mapped_long written_of b.1.1.1.1.1.1)
     ∙ ap (λ (bytes : List ℕ). u64 b.0 ++ (flag b.1.0 ++ (mark_if b.1.1.0 ++ (vector b.1.1.1.0 ++ (vector b.1.1.1.1.0
-        ++ ((u32 (length b.1.1.1.1.1.0) ++ flat_map oid b.1.1.1.1.1.0) ++ (u32 (length b.1.1.1.1.1.1) ++ bytes))))))) (writes_told b.1.1.1.1.1.1)
+    ++ ((u32 (length b.1.1.1.1.1.0) ++ flat_map oid b.1.1.1.1.1.0) ++ (u32 (length b.1.1.1.1.1.1) ++ bytes))))))) (writes_told b.1.1.1.1.1.1)
 
 -- ---- what is written is read again, and what is read was written so
 
@@ -72,9 +72,10 @@ change_only before bytes c fits e = by (body_at before (from 0 bytes)) refl e
     whole b rest true end r h =
         let was : Was (IsBody before) body 0 bytes b rest = (body_spelled before).only 0 bytes b rest fits r in
         let none = nil_from_length rest.bytes (eqb-true (length rest.bytes) 0 end) in
-        let says : change_of b ≡ c = cc in
-        (record { body = b; in_range = was.in_range; says = sym says },
-        was.spelled_so ∙ ap (λ (w : List ℕ). body b ++ w) none ∙ append-nil (body b) ∙ sym (bytes_are b) ∙ ap change_bytes says)
+        let says : change_of b ≡ c = cc in (
+          record { body = b; in_range = was.in_range; says = sym says },
+          was.spelled_so ∙ ap (λ (w : List ℕ). body b ++ w) none ∙ append-nil (body b) ∙ sym (bytes_are b) ∙ ap change_bytes says,
+        )
     whole b rest false end r h = absurd (cc)
 
     by : (r : Read Body) → body_at before (from 0 bytes) ≡ r → whole_change r ≡ Some c → IsSpelledChange before c × (bytes ≡ change_bytes c)

@@ -1,0 +1,151 @@
+//! An image of two objects and a link, byte for byte, and changes of one byte of it.
+
+use adr_image::{DecodeRefusal, Failure, decode, decode_change, encode, encode_change};
+use adr_state::{Change, Mode, Vector};
+use std::alloc::Global;
+use std::test::Fail;
+
+const ROOT: &[u8] = &[0, 0, 0, 0, 0, 0, 0, 0, 0, 0, 0, 0, 0, 0, 0, 0x01];
+
+const G: &[u8] = &[0, 0, 0, 0, 0, 0, 0, 0, 0, 0, 0, 0, 0, 0, 0, 0x10];
+
+const H: &[u8] = &[0, 0, 0, 0, 0, 0, 0, 0, 0, 0, 0, 0, 0, 0, 0, 0x11];
+
+const A: &[u8] = &[0, 0, 0, 0, 0, 0, 0, 0, 0, 0, 0, 0, 0, 0, 0, 0xa0];
+
+const B: &[u8] = &[0, 0, 0, 0, 0, 0, 0, 0, 0, 0, 0, 0, 0, 0, 0, 0xb0];
+
+const NONE: &[u8] = &[0, 0, 0, 0];
+
+const ONE: &[u8] = &[0, 0, 0, 1];
+
+const TWO: &[u8] = &[0, 0, 0, 2];
+
+const LONG_0: &[u8] = &[0, 0, 0, 0, 0, 0, 0, 0];
+
+const LONG_1: &[u8] = &[0, 0, 0, 0, 0, 0, 0, 1];
+
+const LONG_2: &[u8] = &[0, 0, 0, 0, 0, 0, 0, 2];
+
+const LONG_3: &[u8] = &[0, 0, 0, 0, 0, 0, 0, 3];
+
+const LONG_5: &[u8] = &[0, 0, 0, 0, 0, 0, 0, 5];
+
+/// Two containers, each named by a letter, and a link from the first to the second.
+#[rattlefmt::skip]
+const IMAGE: [&[u8]; 62] = [
+    b"ADIM", &[0, 1], ONE, LONG_5,
+    ONE, A, LONG_5, NONE,
+    ONE, B, A, LONG_3, LONG_2, LONG_5,
+    TWO,
+    G, A, LONG_1, &[0, 2],
+    LONG_1, &[0, 1], ONE, LONG_0, A, LONG_1, &[0, 4],
+    LONG_1, &[0, 2], ONE, LONG_0, A, LONG_1, ROOT, b"\0\x01x",
+    H, A, LONG_2, &[0, 2],
+    LONG_2, &[0, 1], ONE, LONG_0, A, LONG_2, &[0, 4],
+    LONG_2, &[0, 2], ONE, LONG_0, A, LONG_2, ROOT, b"\0\x01y",
+    ONE,
+    LONG_3, G, A, LONG_1, &[0, 30], H, A, LONG_2,
+];
+
+/// When the link was made, its stamp, and that it is present.
+const BEHIND: [&[u8]; 6] = [LONG_0, ONE, LONG_0, A, LONG_3, &[1]];
+
+fn image(alloc: Global) -> Result<Vec<u8>, Fail> {
+    let mut bytes = IMAGE.concat(alloc)?;
+    bytes.extend_from_slice(&BEHIND.concat(alloc)?)?;
+    Ok(bytes)
+}
+
+#[test]
+fn an_image_is_read_and_written_again(rt: HostRuntime) -> Result<(), Fail> {
+    let alloc = rt.alloc();
+    let bytes = image(alloc)?;
+    assert_eq!(rt; bytes.len(), 563);
+    let read = decode(alloc, &bytes)?;
+    assert_eq!(rt; read.rows().len(), 5);
+    let written = encode(alloc, read.contents())?;
+    assert_eq!(rt; written.as_slice(), bytes.as_slice());
+    Ok(())
+}
+
+/// A byte that is put at a place, and where the image is refused then.
+#[rattlefmt::skip]
+const REFUSED: [(usize, u8, u64); 23] = [
+    (0, 0x42, 0), (9, 2, 6), (10, 0x80, 10), (18, 1, 18), (45, 0, 38),
+    (93, 6, 86), (101, 4, 86), (111, 5, 110), (153, 0, 146),
+    // rows: a local USN above the USN, an attribute out of order, a version of 0
+    (163, 6, 156), (213, 1, 204), (169, 0, 166),
+    // objects: an unknown class, another birth, a control byte in a name, a name that is not above the last one
+    (203, 9, 114), (201, 2, 114), (268, 7, 114), (284, 0x0f, 269),
+    // links: a local USN that is used, one above the USN, no forward link, no birth, a flag of 2
+    (435, 1, 428), (435, 6, 428), (477, 31, 476), (475, 0, 468), (562, 2, 562),
+    // too few links, and one too many
+    (427, 2, 563), (427, 0, 428),
+];
+
+#[test]
+fn an_image_is_refused_at_the_least_place(rt: HostRuntime) -> Result<(), Fail> {
+    let alloc = rt.alloc();
+    for (at, byte, place) in REFUSED {
+        let mut bytes = image(alloc)?;
+        bytes[at] = byte;
+        let refused = Failure::Refused(DecodeRefusal::Malformed { place });
+        assert_eq!(rt; decode(alloc, &bytes).err(), Some(refused));
+    }
+    Ok(())
+}
+
+#[test]
+fn of_two_faults_the_least_place_counts(rt: HostRuntime) -> Result<(), Fail> {
+    let alloc = rt.alloc();
+    let mut bytes = image(alloc)?;
+    bytes[163] = 6;
+    bytes[203] = 9;
+    let refused = Failure::Refused(DecodeRefusal::Malformed { place: 114 });
+    assert_eq!(rt; decode(alloc, &bytes).err(), Some(refused));
+    bytes[5] = 2;
+    let other = Failure::Refused(DecodeRefusal::WrongVersion { found: 2 });
+    assert_eq!(rt; decode(alloc, &bytes).err(), Some(other));
+    Ok(())
+}
+
+/// A change that writes a link under the USN 3.
+#[rattlefmt::skip]
+const BODY: [&[u8]; 14] = [
+    LONG_3, &[0, 0], NONE, NONE, NONE, ONE,
+    LONG_3, &[2], G, A, LONG_1, &[0, 30], H, A,
+];
+
+/// The rest of it.
+const TAIL: [&[u8]; 7] = [LONG_2, LONG_0, ONE, LONG_0, A, LONG_3, &[1]];
+
+#[test]
+fn a_change_is_read_behind_its_usn(rt: HostRuntime) -> Result<(), Fail> {
+    let alloc = rt.alloc();
+    let mut bytes = BODY.concat(alloc)?;
+    bytes.extend_from_slice(&TAIL.concat(alloc)?)?;
+    let Some(change) = decode_change(alloc, 2, &bytes)? else {
+        return Err(Fail::new("no change"));
+    };
+    assert_eq!(rt; change.usn(), 3);
+    assert_eq!(rt; change.writes().len(), 1);
+    assert!(rt; decode_change(alloc, 3, &bytes)?.is_none());
+    bytes.push(0)?;
+    assert!(rt; decode_change(alloc, 2, &bytes)?.is_none());
+    Ok(())
+}
+
+/// A quarantine at the USN 5.
+const QUARANTINE: [&[u8]; 6] = [LONG_5, &[1, 0], NONE, NONE, NONE, NONE];
+
+#[test]
+fn a_change_is_written_as_its_bytes(rt: HostRuntime) -> Result<(), Fail> {
+    let alloc = rt.alloc();
+    let (joined, purged) = (Vector::new(alloc), Vector::new(alloc));
+    let (removed, writes) = (Vec::new(alloc), Vec::new(alloc));
+    let change = Change::new(5, Mode::Quarantined, None, joined, purged, removed, writes);
+    let bytes = encode_change(alloc, &change)?;
+    assert_eq!(rt; bytes.as_slice(), QUARANTINE.concat(alloc)?.as_slice());
+    Ok(())
+}
