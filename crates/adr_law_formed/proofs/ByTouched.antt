@@ -35,17 +35,20 @@ use Rattle.adr_law_formed.specs.Touched.{IsInForm, CanFollowByTouched}
 use Rattle.adr_law_formed.proofs.Passing.{IsUntouched, IsInOrder, ArePassed, all_pass}
 
 -- an object is written to, or isn't
-touched_or_not : (ws : List Written) (q : Oid) → ((w : Written) × Member w ws × (w.item.unit ≡ Object q)) ⊎ IsUntouched ws q
+touched_or_not : (ws : List Written) (q : Oid)
+    → ((w : Written) × Member w ws × (w.item.unit ≡ Object q)) ⊎ IsUntouched ws q
 touched_or_not [] q = inr (λ w m. absurd m)
 touched_or_not (w ∷ ws) q = by (unit_or_not w.item.unit (Object q)) (touched_or_not ws q)
   where
-    by : (w.item.unit ≡ Object q) ⊎ (w.item.unit ≡ Object q → ⊥) → ((v : Written) × Member v ws × (v.item.unit ≡ Object q)) ⊎ IsUntouched ws q
+    by : (w.item.unit ≡ Object q) ⊎ (w.item.unit ≡ Object q → ⊥)
+        → ((v : Written) × Member v ws × (v.item.unit ≡ Object q)) ⊎ IsUntouched ws q
         → ((v : Written) × Member v (w ∷ ws) × (v.item.unit ≡ Object q)) ⊎ IsUntouched (w ∷ ws) q
     by (inl e) rest = inl (w, inl refl, e)
     by (inr other) (inl (v, m, e)) = inl (v, inr m, e)
     by (inr other) (inr none) = inr (λ v m e. ⊎_elim (λ is. other (ap (λ (z : Written). z.item.unit) (sym is) ∙ e)) (λ n. none v n e) m)
 
-module _ (s : State) (c : Change) (formed : IsFormed s) (known : HasKnownClasses s) (f : CanFollowByTouched s c) where
+module _ (s : State) (c : Change) (formed : IsFormed s) (known : HasKnownClasses s)
+    (f : CanFollowByTouched s c) where
   abbrev table : Table
   table = numbered s.store.schema
 
@@ -78,10 +81,12 @@ module _ (s : State) (c : Change) (formed : IsFormed s) (known : HasKnownClasses
   -- ---- objects
 
   module _ (q : Oid) (none : IsUntouched c.writes q) where
-    back : (r : Update) (attr : ℕ) → r.key ≡ RowOf q attr → Member r (updates_of now) → Member r (updates_of before)
+    back : (r : Update) (attr : ℕ) → r.key ≡ RowOf q attr → Member r (updates_of now)
+        → Member r (updates_of before)
     back r attr is m = (passed.same q none).back r attr is (stood r m)
 
-    to : HoldsObject (updates_of now) q → (r : Update) (attr : ℕ) → r.key ≡ RowOf q attr → Member r (updates_of before) → Member r (updates_of now)
+    to : HoldsObject (updates_of now) q → (r : Update) (attr : ℕ) → r.key ≡ RowOf q attr
+        → Member r (updates_of before) → Member r (updates_of now)
     to held r attr is m = update_stands c.removed written r ((passed.same q none).to r attr is m)
         (λ p n row. removed_is_absent c.removed written p n (subst (HoldsObject (updates_of now)) (row_of_tells q p attr r.key is row) held))
 
@@ -103,23 +108,27 @@ module _ (s : State) (c : Change) (formed : IsFormed s) (known : HasKnownClasses
   -- ---- links
 
   -- a row that is written is of the unit of its write
-  of_write : (x : Held) → Member x (held_of c.writes) → (w : Written) × Member w c.writes × (unit_of x.update.key ≡ w.item.unit)
+  of_write : (x : Held) → Member x (held_of c.writes)
+      → (w : Written) × Member w c.writes × (unit_of x.update.key ≡ w.item.unit)
   of_write x m =
       let t = flat_member (λ (w : Written). map (held_at w.local) w.item.rows) c.writes x m in
       let u = mapped_member (held_at t.0.local) t.0.item.rows x t.2 in
       (t.0, t.1, ap (λ (h : Held). unit_of h.update.key) u.2 ∙ (passed.spelled t.0 t.1).of_unit u.0 u.1)
 
-  forward : (r : Update) (l : LinkKey) → Member r (updates_of now) → r.key ≡ LinkOf l → is_forward (kind_at table l.attr) ≡ true
+  forward : (r : Update) (l : LinkKey) → Member r (updates_of now) → r.key ≡ LinkOf l
+      → is_forward (kind_at table l.attr) ≡ true
   forward r l m is = let h = held_as now r m in by h (change_from c.removed (held_of c.writes) before h.0 h.1)
     where
-      by : (h : (h : Held) × Member h now × (r ≡ h.update)) → Member h.0 (held_of c.writes) ⊎ Member h.0 before → is_forward (kind_at table l.attr) ≡ true
+      by : (h : (h : Held) × Member h now × (r ≡ h.update))
+          → Member h.0 (held_of c.writes) ⊎ Member h.0 before → is_forward (kind_at table l.attr) ≡ true
       by h (inl new) =
           let w = of_write h.0 new in
           let unit : w.0.item.unit ≡ Link l = sym w.2 ∙ ap (λ (u : Update). unit_of u.key) (sym h.2) ∙ ap unit_of is in
           f.touched.links w.0 w.1 l unit r m is
       by h (inr old) = (formed.store.rows.links l r (subst (λ u. Member u (updates_of before)) (sym h.2) (updated before h.0 old)) is).forward
 
-  links : (l : LinkKey) → Each (λ r. r.key ≡ LinkOf l → IsLinkFormed table (updates_of now) l) (updates_of now)
+  links : (l : LinkKey)
+      → Each (λ r. r.key ≡ LinkOf l → IsLinkFormed table (updates_of now) l) (updates_of now)
   links l r m is =
       let live = passed.order.live r (stood r m) l is in
       record { forward = forward r l m is; from = λ t. live.0 (t.0, stood t.0 t.1, t.2); to = λ t. live.1 (t.0, stood t.0 t.1, t.2) }
@@ -130,7 +139,8 @@ module _ (s : State) (c : Change) (formed : IsFormed s) (known : HasKnownClasses
   classes : HasKnownClasses d
   classes r m class says = let h = held_as now r m in by h (change_from c.removed (held_of c.writes) before h.0 h.1)
     where
-      of_key : (w : Written) → Member w c.writes → unit_of r.key ≡ w.item.unit → (k : Key) → r.key ≡ k → IsSaidOfKey k (Holds (Class class)) → IsSome (class_at table class)
+      of_key : (w : Written) → Member w c.writes → unit_of r.key ≡ w.item.unit → (k : Key) → r.key ≡ k
+          → IsSaidOfKey k (Holds (Class class)) → IsSome (class_at table class)
       of_key w n unit (RowOf o attr) is of = (f.touched.objects w n o (sym unit ∙ ap unit_of is)).classes r m (is ∙ ap (λ a. RowOf o a) of) class says
       of_key w n unit (LinkOf l) is of = absurd of
 
@@ -143,7 +153,8 @@ module _ (s : State) (c : Change) (formed : IsFormed s) (known : HasKnownClasses
           of_key t.0 t.1 (ap (λ (v : Update). unit_of v.key) e ∙ form.of_unit u.0 u.1) r.key refl
           (subst (IsSaidOfKey r.key) says (subst (λ (v : Update). IsSaidOfKey v.key v.said) (sym e) (form.says u.0 u.1)))
 
-      by : (h : (h : Held) × Member h now × (r ≡ h.update)) → Member h.0 (held_of c.writes) ⊎ Member h.0 before → IsSome (class_at table class)
+      by : (h : (h : Held) × Member h now × (r ≡ h.update))
+          → Member h.0 (held_of c.writes) ⊎ Member h.0 before → IsSome (class_at table class)
       by h (inl new) = written_so h.0 h.2 new
       by h (inr old) = known r (subst (λ u. Member u (updates_of before)) (sym h.2) (updated before h.0 old)) class says
 
@@ -217,7 +228,8 @@ module _ (s : State) (c : Change) (formed : IsFormed s) (known : HasKnownClasses
     classes = classes;
   }
 
-pub touched_is_enough : (s : State) (c : Change) → IsFormed s → HasKnownClasses s → CanFollowByTouched s c → CanFollow s c
+pub touched_is_enough : (s : State) (c : Change) → IsFormed s → HasKnownClasses s → CanFollowByTouched s c
+    → CanFollow s c
 touched_is_enough s c formed known f = follows s c formed known f
 
 pub touched_is_asked : (s : State) (c : Change) → IsFormed s → CanFollow s c → CanFollowByTouched s c

@@ -40,11 +40,13 @@ use Rattle.adr_law_formed.proofs.TakenFollow.{nothing_is_vector}
 
 -- ---- the objects that go rise
 
-module _ (f : Held → Option (Oid × Update)) (dies : (h : Held) (d : Oid × Update) → f h ≡ Some d → h.update.key ≡ RowOf d.0 deleted_attr) where
+module _ (f : Held → Option (Oid × Update))
+    (dies : (h : Held) (d : Oid × Update) → f h ≡ Some d → h.update.key ≡ RowOf d.0 deleted_attr) where
   abbrev gone : List Held → List Oid
   gone rows = map (λ (d : Oid × Update). d.0) (filter_map f rows)
 
-  of_object : (o p : Oid) → key_order (RowOf o deleted_attr) (RowOf p deleted_attr) ≡ Less → object_order o p ≡ Less
+  of_object : (o p : Oid) → key_order (RowOf o deleted_attr) (RowOf p deleted_attr) ≡ Less
+      → object_order o p ≡ Less
   of_object o p less = by (object_order o p) less
     where
       by : (c : Ordering) → ordering_then c (nat_cmp deleted_attr deleted_attr) ≡ Less → c ≡ Less
@@ -52,26 +54,35 @@ module _ (f : Held → Option (Oid × Update)) (dies : (h : Held) (d : Oid × Up
       by Equal e = absurd (cc)
       by Greater e = absurd (cc)
 
-  all_below : (o : Oid) (k : Key) → k ≡ RowOf o deleted_attr → (rows : List Held) → AllByRecursion (λ j. key_order k j ≡ Less) (map (λ (h : Held). h.update.key) rows) → AllByRecursion (λ p. object_order o p ≡ Less) (gone rows)
+  all_below : (o : Oid) (k : Key) → k ≡ RowOf o deleted_attr → (rows : List Held)
+      → AllByRecursion (λ j. key_order k j ≡ Less) (map (λ (h : Held). h.update.key) rows)
+      → AllByRecursion (λ p. object_order o p ≡ Less) (gone rows)
   all_below o k is [] all = tt
   all_below o k is (x ∷ xs) all = by (f x) refl (all_below o k is xs all.1)
     where
-      by : (d : Option (Oid × Update)) → f x ≡ d → AllByRecursion (λ p. object_order o p ≡ Less) (gone xs) → AllByRecursion (λ p. object_order o p ≡ Less) (map (λ (t : Oid × Update). t.0) (cons_option d (filter_map f xs)))
+      by : (d : Option (Oid × Update)) → f x ≡ d → AllByRecursion (λ p. object_order o p ≡ Less) (gone xs)
+          → AllByRecursion (λ p. object_order o p ≡ Less)
+          (map (λ (t : Oid × Update). t.0) (cons_option d (filter_map f xs)))
       by None e rest = rest
       by (Some d) e rest = (of_object o d.0 (subst (λ j. key_order (RowOf o deleted_attr) j ≡ Less) (dies x d e) (subst (λ j. key_order j x.update.key ≡ Less) is all.0)), rest)
 
-  pub gone_rise : (rows : List Held) → IsStrictlySortedBy key_order (map (λ (h : Held). h.update.key) rows) → IsStrictlySortedBy object_order (gone rows)
+  pub gone_rise : (rows : List Held) → IsStrictlySortedBy key_order (map (λ (h : Held). h.update.key) rows)
+      → IsStrictlySortedBy object_order (gone rows)
   unfolding IsStrictlySortedBy
   gone_rise [] rising = tt
   gone_rise (x ∷ xs) rising = by (f x) refl (gone_rise xs rising.1)
     where
-      by : (d : Option (Oid × Update)) → f x ≡ d → IsStrictlySortedBy object_order (gone xs) → IsStrictlySortedBy object_order (map (λ (t : Oid × Update). t.0) (cons_option d (filter_map f xs)))
+      by : (d : Option (Oid × Update)) → f x ≡ d → IsStrictlySortedBy object_order (gone xs)
+          → IsStrictlySortedBy object_order
+          (map (λ (t : Oid × Update). t.0) (cons_option d (filter_map f xs)))
       by None e rest = rest
       by (Some d) e rest = (all_below d.0 x.update.key (dies x d e) xs rising.0, rest)
 
 -- ---- what covers them is a vector
 
-further_from_one : (ds : List (Oid × Update)) (v : Cursors) → FromOne v → FromOne (fold (λ w (d : Oid × Update). raised (raised w d.0.birth.inv d.0.birth.usn) (inv_of d.1) (usn_of d.1)) v ds)
+further_from_one : (ds : List (Oid × Update)) (v : Cursors) → FromOne v
+    → FromOne
+    (fold (λ w (d : Oid × Update). raised (raised w d.0.birth.inv d.0.birth.usn) (inv_of d.1) (usn_of d.1)) v ds)
 further_from_one [] v one = one
 further_from_one (d ∷ ds) v one = further_from_one ds (raised (raised v d.0.birth.inv d.0.birth.usn) (inv_of d.1) (usn_of d.1))
     (from_one-raised (raised v d.0.birth.inv d.0.birth.usn) (inv_of d.1) (usn_of d.1) (from_one-raised v d.0.birth.inv d.0.birth.usn one))
@@ -96,17 +107,21 @@ module _ (s : State) (now lifetime : ℕ) where
   with_death u None = None
   with_death u (Some o) = Some (o, u)
 
-  collected_dies : (u : Update) (o : Oid) → collected_by s.store.vector now lifetime u ≡ Some o → u.key ≡ RowOf o deleted_attr
+  collected_dies : (u : Update) (o : Oid) → collected_by s.store.vector now lifetime u ≡ Some o
+      → u.key ≡ RowOf o deleted_attr
   collected_dies u o e = by (killed_by u.key) refl e
     where
       by : (k : Option Oid) → killed_by u.key ≡ k → dead_of u k ≡ Some o → u.key ≡ RowOf o deleted_attr
       by None is e = absurd (cc)
       by (Some p) is e = subst (λ q. u.key ≡ RowOf q deleted_attr) (passed (may_go u p) p o e) (is_killed u.key p is)
 
-  dies : (h : Held) (d : Oid × Update) → with_death h.update (collected_by s.store.vector now lifetime h.update) ≡ Some d → h.update.key ≡ RowOf d.0 deleted_attr
+  dies : (h : Held) (d : Oid × Update)
+      → with_death h.update (collected_by s.store.vector now lifetime h.update) ≡ Some d
+      → h.update.key ≡ RowOf d.0 deleted_attr
   dies h d e = by (collected_by s.store.vector now lifetime h.update) refl e
     where
-      by : (k : Option Oid) → collected_by s.store.vector now lifetime h.update ≡ k → with_death h.update k ≡ Some d → h.update.key ≡ RowOf d.0 deleted_attr
+      by : (k : Option Oid) → collected_by s.store.vector now lifetime h.update ≡ k
+          → with_death h.update k ≡ Some d → h.update.key ≡ RowOf d.0 deleted_attr
       by None is e = absurd (cc)
       by (Some o) is e = collected_dies h.update d.0 (is ∙ ap Some (let f : (o, h.update) ≡ d = cc in ap (λ (t : Oid × Update). t.0) f))
 
@@ -131,7 +146,9 @@ module _ (s : State) (now lifetime : ℕ) (is : IsFormed s) (classes : HasKnownC
       let t = mapped_member (λ (t : Oid × Update). t.0) dead o m in
       subst (IsRemovable rows d.store.purged) (sym t.2) (of_death t.0 (collectable s now lifetime is t.0 t.1) (purged_all s now lifetime is t.0 t.1))
     where
-      of_death : (t : Oid × Update) → IsCollectable rows (at s.store.vector) t → CoversBirth (at d.store.purged) t.0 × Covers (at d.store.purged) t.1 → IsRemovable rows d.store.purged t.0
+      of_death : (t : Oid × Update) → IsCollectable rows (at s.store.vector) t
+          → CoversBirth (at d.store.purged) t.0 × Covers (at d.store.purged) t.1
+          → IsRemovable rows d.store.purged t.0
       of_death t g q = record {
         death = t.1;
         is_held = subst (λ v. Member v (updates_of rows)) g.is_held (updated rows g.held g.stands);
@@ -169,7 +186,8 @@ module _ (s : State) (now lifetime : ℕ) (is : IsFormed s) (classes : HasKnownC
     classes = λ u m. classes u (update_stood os rows u m);
   }
 
-pub collected_follows : (s : State) (now lifetime : ℕ) (c : Change) → IsFormed s → HasKnownClasses s → collect s now lifetime ≡ Ok c → CanFollow s c
+pub collected_follows : (s : State) (now lifetime : ℕ) (c : Change) → IsFormed s → HasKnownClasses s
+    → collect s now lifetime ≡ Ok c → CanFollow s c
 collected_follows s now lifetime c is classes e =
     let change = collection s (deaths_to_collect s now lifetime) in
     let g = answered (collect_refusal s change) change c e in
@@ -177,6 +195,7 @@ collected_follows s now lifetime c is classes e =
     subst (CanFollow s) g.1 (follows s now lifetime is classes (not_then (is_quarantined s.mode) IsQuarantined n.0))
 
 -- what is removed rises by the objects' names
-pub collected_rise : (s : State) (now lifetime : ℕ) (c : Change) → AreRising s.store.rows → collect s now lifetime ≡ Ok c → IsStrictlySortedBy object_order c.removed
+pub collected_rise : (s : State) (now lifetime : ℕ) (c : Change) → AreRising s.store.rows
+    → collect s now lifetime ≡ Ok c → IsStrictlySortedBy object_order c.removed
 collected_rise s now lifetime c rising e = subst (λ (x : Change). IsStrictlySortedBy object_order x.removed) (collect_is_collection s now lifetime c e)
     (gone_rise (λ (h : Held). with_death s now lifetime h.update (collected_by s.store.vector now lifetime h.update)) (dies s now lifetime) s.store.rows rising)

@@ -59,10 +59,12 @@ use Rattle.adr_law_formed.proofs.OwnWrite.{new_placed, live_placed, link_placed,
 
 -- ---- a row that is written next is greater than the held one
 
-next_is_greater : (s : State) (now : ℕ) (key : Key) (said : Said) → is_above s.store.rows (written s now key said) ≡ true
+next_is_greater : (s : State) (now : ℕ) (key : Key) (said : Said)
+    → is_above s.store.rows (written s now key said) ≡ true
 next_is_greater s now key said = by (row_found s.store.rows key)
   where
-    by : IsFound s.store.rows key (row_held s.store.rows key) → is_above s.store.rows (written s now key said) ≡ true
+    by : IsFound s.store.rows key (row_held s.store.rows key)
+        → is_above s.store.rows (written s now key said) ≡ true
     by (inr (none, f)) = ap (λ (o : Option Held). option_map_or (λ h. is_older h.update (written s now key said)) o true) f
     by (inl (x, m, e, f)) =
         ap (λ (o : Option Held). option_map_or (λ h. is_older h.update (written s now key said)) o true) f
@@ -84,17 +86,21 @@ module _ (o : Oid) where
       object_itself = equal_order (object_order o o) (objects_same o o refl)
 
   module _ (made : Given → Update) (is : (g : Given) → (made g).key ≡ RowOf o g.0) where
-    all_after : (a : ℕ) (k : Key) → k ≡ RowOf o a → (gs : List Given) → AllByRecursion (λ b. nat_cmp a b ≡ Less) (attributes gs) → AllByRecursion (λ j. key_order k j ≡ Less) (keys (map made gs))
+    all_after : (a : ℕ) (k : Key) → k ≡ RowOf o a → (gs : List Given)
+        → AllByRecursion (λ b. nat_cmp a b ≡ Less) (attributes gs)
+        → AllByRecursion (λ j. key_order k j ≡ Less) (keys (map made gs))
     all_after a k e [] all = tt
     all_after a k e (g ∷ gs) all = (subst (λ j. key_order j (made g).key ≡ Less) (sym e) (subst (λ j. key_order (RowOf o a) j ≡ Less) (sym (is g)) (by_attr a g.0 all.0)), all_after a k e gs all.1)
 
-    pub given_rise : (gs : List Given) → IsStrictlySortedBy nat_cmp (attributes gs) → IsStrictlySortedBy key_order (keys (map made gs))
+    pub given_rise : (gs : List Given) → IsStrictlySortedBy nat_cmp (attributes gs)
+        → IsStrictlySortedBy key_order (keys (map made gs))
     unfolding IsStrictlySortedBy
     given_rise [] rising = tt
     given_rise (g ∷ gs) rising = (all_after g.0 (made g).key (is g) gs rising.0, given_rise gs rising.1)
 
   -- all of a list above one
-  all_above : (a : ℕ) (gs : List Given) → Each (λ (g : Given). nat_cmp a g.0 ≡ Less) gs → AllByRecursion (λ b. nat_cmp a b ≡ Less) (attributes gs)
+  all_above : (a : ℕ) (gs : List Given) → Each (λ (g : Given). nat_cmp a g.0 ≡ Less) gs
+      → AllByRecursion (λ b. nat_cmp a b ≡ Less) (attributes gs)
   all_above a [] each = tt
   all_above a (g ∷ gs) each = (each g (inl refl), all_above a gs (λ h m. each h (inr m)))
 
@@ -102,7 +108,8 @@ below : (a b : ℕ) → a < b → nat_cmp a b ≡ Less
 below a b less = sym (nat_cmp_is a b Less less)
 
 -- a row of values isn't reserved
-values_above : (schema class : ℕ) (o : Oid) (u : Update) (attr : ℕ) (vs : List Datum) → u.key ≡ RowOf o attr → u.said ≡ Holds (Values vs) → IsWellSaid (numbered schema) class o u → deleted_attr < attr
+values_above : (schema class : ℕ) (o : Oid) (u : Update) (attr : ℕ) (vs : List Datum) → u.key ≡ RowOf o attr
+    → u.said ≡ Holds (Values vs) → IsWellSaid (numbered schema) class o u → deleted_attr < attr
 values_above schema class o u attr vs is says well = by attr is
   where
     by : (a : ℕ) → u.key ≡ RowOf o a → deleted_attr < a
@@ -120,14 +127,16 @@ module _ (s : State) (formed : IsFormed s) (known : HasKnownClasses s) where
   abbrev rows : List Update
   rows = updates_of s.store.rows
 
-  live : (guid : Identifier) → object_refusal rows (nodes_held rows) guid ≡ None → IsHeldAlive rows (object_of (nodes_held rows) guid)
+  live : (guid : Identifier) → object_refusal rows (nodes_held rows) guid ≡ None
+      → IsHeldAlive rows (object_of (nodes_held rows) guid)
   live guid none = live_is_held rows _ _ (object_is_live (numbered s.store.schema) rows formed.store.rows (one_update s.store.rows formed.store.rising) guid none)
 
   normal : where_true (is_quarantined s.mode) Quarantined ≡ None → s.mode ≡ Normal
   normal none = normal_where_not_quarantined s.mode (not_so (is_quarantined s.mode) Quarantined none)
 
   -- a row written next of a live object
-  one_row : (now attr : ℕ) (content : Content) (o : Oid) → MayWrite s (Object o) (next_row s now o attr content ∷ []) → IsHeldAlive rows o → s.mode ≡ Normal
+  one_row : (now attr : ℕ) (content : Content) (o : Oid)
+      → MayWrite s (Object o) (next_row s now o attr content ∷ []) → IsHeldAlive rows o → s.mode ≡ Normal
       → CanFollow s (change_of s (record { unit = Object o; rows = next_row s now o attr content ∷ [] }))
   one_row now attr content o may alive is_normal = written_follows s (record { unit = Object o; rows = next_row s now o attr content ∷ [] }) formed known may is_normal
       (next_row s now o attr content, inl refl) (one_rises (RowOf o attr)) above (live_placed s o (next_row s now o attr content ∷ []) alive)
@@ -137,7 +146,8 @@ module _ (s : State) (formed : IsFormed s) (known : HasKnownClasses s) where
       above u (inr m) = absurd m
 
   -- a link row written next
-  one_link : (now : ℕ) (l : LinkKey) (present : Bool) → MayWrite s (Link l) (written s now (LinkOf l) (IsPresent present) ∷ []) → s.mode ≡ Normal
+  one_link : (now : ℕ) (l : LinkKey) (present : Bool)
+      → MayWrite s (Link l) (written s now (LinkOf l) (IsPresent present) ∷ []) → s.mode ≡ Normal
       → CanFollow s (change_of s (record { unit = Link l; rows = written s now (LinkOf l) (IsPresent present) ∷ [] }))
   one_link now l present may is_normal = written_follows s (record { unit = Link l; rows = written s now (LinkOf l) (IsPresent present) ∷ [] }) formed known may is_normal
       (written s now (LinkOf l) (IsPresent present), inl refl) (one_rises (LinkOf l)) above (link_placed s l (written s now (LinkOf l) (IsPresent present) ∷ []) may)
@@ -147,8 +157,11 @@ module _ (s : State) (formed : IsFormed s) (known : HasKnownClasses s) where
       above u (inr m) = absurd m
 
   -- values of a live object
-  some_values : (now : ℕ) (o : Oid) (values : List Given) → MayWrite s (Object o) (map (λ (g : Given). next_row s now o g.0 (Values g.1)) values) → IsHeldAlive rows o → s.mode ≡ Normal
-      → AreInOrder values → (g : Given) × Member g values → CanFollow s (change_of s (record { unit = Object o; rows = map (λ (g : Given). next_row s now o g.0 (Values g.1)) values }))
+  some_values : (now : ℕ) (o : Oid) (values : List Given)
+      → MayWrite s (Object o) (map (λ (g : Given). next_row s now o g.0 (Values g.1)) values)
+      → IsHeldAlive rows o → s.mode ≡ Normal
+      → AreInOrder values → (g : Given) × Member g values
+      → CanFollow s (change_of s (record { unit = Object o; rows = map (λ (g : Given). next_row s now o g.0 (Values g.1)) values }))
   some_values now o values may alive is_normal order some = written_follows s (record { unit = Object o; rows = us }) formed known may is_normal
       (made some.0, member_mapped made values some.0 some.1) (given_rise o made (λ g. refl) values order) above (live_placed s o us alive)
     where
@@ -162,7 +175,8 @@ module _ (s : State) (formed : IsFormed s) (known : HasKnownClasses s) where
       above u m = let g = mapped_member made values u m in subst (λ v. is_above s.store.rows v ≡ true) (sym g.2) (next_is_greater s now (RowOf o g.0.0) (Holds (Values g.0.1)))
 
   -- a new object
-  module _ (now : ℕ) (guid : Identifier) (class : ℕ) (parent : Identifier) (text : List ℕ) (values : List Given) where
+  module _ (now : ℕ) (guid : Identifier) (class : ℕ) (parent : Identifier) (text : List ℕ)
+      (values : List Given) where
     abbrev o : Oid
     o = new_object s guid
 
@@ -205,7 +219,8 @@ module _ (s : State) (formed : IsFormed s) (known : HasKnownClasses s) where
       above : Each (λ u. is_above s.store.rows u ≡ true) us
       above u m = let k = row_of_unit u.key o (may.put.of_unit u m) in new_is_above s.store.rows u (λ h n e. absent (h.update, k.0, updated s.store.rows h n, e ∙ k.1))
 
-      new_follows : s.mode ≡ Normal → AreInOrder values → CanFollow s (change_of s (record { unit = Object o; rows = us }))
+      new_follows : s.mode ≡ Normal → AreInOrder values
+          → CanFollow s (change_of s (record { unit = Object o; rows = us }))
       new_follows is_normal order = written_follows s (record { unit = Object o; rows = us }) formed known may is_normal (row o stamp class_attr (Class class), inl refl) (rise order) above
           (new_placed s o comes.0 us (may.put.place o refl) comes.1)
 
@@ -271,10 +286,12 @@ module _ (s : State) (formed : IsFormed s) (known : HasKnownClasses s) where
       ∷ usn_refusal (s.store.usn + 1)
       ∷ []
 
-  normal_link : (from : Identifier) (attr : ℕ) (to : Identifier) (wrong : Bool → Option WriteRefusal) → any_link_refusal s from attr to wrong ≡ None → s.mode ≡ Normal
+  normal_link : (from : Identifier) (attr : ℕ) (to : Identifier) (wrong : Bool → Option WriteRefusal)
+      → any_link_refusal s from attr to wrong ≡ None → s.mode ≡ Normal
   normal_link from attr to wrong none = normal (none_there (of_any_link from attr to wrong) none _ (inl refl))
 
-  each_write : (w : Write) (now : ℕ) → IsWellGiven w → write_refusal s w ≡ None → CanFollow s (own_change s (items_written s w now))
+  each_write : (w : Write) (now : ℕ) → IsWellGiven w → write_refusal s w ≡ None
+      → CanFollow s (own_change s (items_written s w now))
   each_write (AddObject guid class parent text values) now given none = new_follows now guid class parent text values (may_write s (AddObject guid class parent text values) now formed given none)
       (or_parts (is_fixed guid) (holds_guid rows guid) (not_so (is_fixed guid || holds_guid rows guid) (GuidThere guid) (none_there (of_add guid class parent text values) none _ (inr (inl refl))))).1
       (normal (none_there (of_add guid class parent text values) none _ (inl refl))) given
@@ -291,12 +308,14 @@ module _ (s : State) (formed : IsFormed s) (known : HasKnownClasses s) where
   each_write (RemoveLink from attr to) now given none = one_link now (link_of (nodes_held rows) from attr to) false (may_write s (RemoveLink from attr to) now formed given none)
       (normal_link from attr to (λ linked. where_true (not linked) LinkNotThere) none)
 
-pub write_follows : (s : State) (w : Write) (now : ℕ) (c : Change) → IsFormed s → HasKnownClasses s → IsWellGiven w → write s w now ≡ Ok c → CanFollow s c
+pub write_follows : (s : State) (w : Write) (now : ℕ) (c : Change) → IsFormed s → HasKnownClasses s
+    → IsWellGiven w → write s w now ≡ Ok c → CanFollow s c
 write_follows s w now c formed known given e =
     let t = answered (write_refusal s w) (own_change s (items_written s w now)) c e in
     subst (CanFollow s) t.1 (each_write s formed known w now given t.0)
 
-pub write_is_bare : (s : State) (w : Write) (now : ℕ) (c : Change) → IsFormed s → IsWellGiven w → write s w now ≡ Ok c → Each (λ w. AreBare w.item.rows) c.writes
+pub write_is_bare : (s : State) (w : Write) (now : ℕ) (c : Change) → IsFormed s → IsWellGiven w
+    → write s w now ≡ Ok c → Each (λ w. AreBare w.item.rows) c.writes
 write_is_bare s w now c formed given e =
     let t = answered (write_refusal s w) (own_change s (items_written s w now)) c e in
     subst (λ (x : Change). Each (λ (v : Written). AreBare v.item.rows) x.writes) t.1 (alone t.0)

@@ -1,4 +1,5 @@
--- Of an item that is spelled and isn't refused nothing is written, or rows that may be put, keep the forms and can follow.
+-- Of an item that is spelled and isn't refused nothing is written, or rows that may be put, keep the forms
+-- and can follow.
 use Rattle.std.proofs.Common.{◌≡◌, ◌⊎◌, inl, inr, ℕ, List, [], Bool, true, false, cond, Option, Some, None, IsSome, unwrap_or, refl, sym, ap, ◌∙◌, subst, map, filter, not, ◌&&◌, ◌||◌, ◌==◌}
 use Rattle.std.specs.List.{list_any}
 use Rattle.std.specs.Bool.{then_some}
@@ -48,27 +49,32 @@ class_of_said : (said : Said) (class : ℕ) → said ≡ Holds (Class class) →
 class_of_said said class e = ap class_said e
 
 -- a row of no key that is held is above
-pub new_is_above : (rows : List Held) (u : Update) → Each (λ (h : Held). h.update.key ≡ u.key → ⊥) rows → is_above rows u ≡ true
+pub new_is_above : (rows : List Held) (u : Update) → Each (λ (h : Held). h.update.key ≡ u.key → ⊥) rows
+    → is_above rows u ≡ true
 new_is_above rows u none = by (row_found rows u.key)
   where
     by : IsFound rows u.key (row_held rows u.key) → is_above rows u ≡ true
     by (inl (h, m, e, f)) = absurd (none h m e)
     by (inr (others, f)) = ap (λ (p : Option Held). option_map_or (λ y. is_older y.update u) p true) f
 
-module _ (schema : ℕ) (vector : Cursors) (rows : List Held) (rising : AreRising rows) (formed : AreFormedRows (numbered schema) (updates_of rows)) where
+module _ (schema : ℕ) (vector : Cursors) (rows : List Held) (rising : AreRising rows)
+    (formed : AreFormedRows (numbered schema) (updates_of rows)) where
   abbrev table : Table
   table = numbered schema
 
   one_row : Each (λ x. Each (λ y. x.update.key ≡ y.update.key → x ≡ y) rows) rows
   one_row = one_held_of_key rows rising
 
-  module _ (unit : Named) (xs : List Update) (spelled : IsSpelledItem (record { unit = unit; rows = xs })) where
+  module _ (unit : Named) (xs : List Update)
+      (spelled : IsSpelledItem (record { unit = unit; rows = xs })) where
     one : Each (λ u. Each (λ v. u.key ≡ v.key → u ≡ v) xs) xs
     one = one_of_key xs spelled.rising
 
     -- some rows of the item, in order, above what is held
-    part_put : (us : List Update) → Each (λ u. Member u xs) us → Each (λ u. is_above rows u ≡ true) us → Each (λ d. IsDeath d → Each (λ u. is_reserved_row u.key ≡ true) us) us
-        → ((o : Oid) → unit ≡ Object o → HoldsObject (updates_of rows) o ⊎ (CoversBirth (at vector) o → ⊥)) → MayPut (updates_of rows) (at vector) unit us
+    part_put : (us : List Update) → Each (λ u. Member u xs) us → Each (λ u. is_above rows u ≡ true) us
+        → Each (λ d. IsDeath d → Each (λ u. is_reserved_row u.key ≡ true) us) us
+        → ((o : Oid) → unit ≡ Object o → HoldsObject (updates_of rows) o ⊎ (CoversBirth (at vector) o → ⊥))
+        → MayPut (updates_of rows) (at vector) unit us
     part_put us among above bare place = record {
       of_unit = λ u m. spelled.of_unit u (among u m);
       alone = λ u m v n e. one u (among u m) v (among v n) e;
@@ -77,8 +83,10 @@ module _ (schema : ℕ) (vector : Cursors) (rows : List Held) (rising : AreRisin
       place = place;
     }
 
-    part_follows : (us : List Update) → (u : Update) × Member u us → Each (λ u. Member u xs) us → IsStrictlySortedBy key_order (keys us) → Each (λ u. is_above rows u ≡ true) us
-        → MayWriteUnit table vector rows unit us → MayFollow table vector rows (record { unit = unit; rows = us })
+    part_follows : (us : List Update) → (u : Update) × Member u us → Each (λ u. Member u xs) us
+        → IsStrictlySortedBy key_order (keys us) → Each (λ u. is_above rows u ≡ true) us
+        → MayWriteUnit table vector rows unit us
+        → MayFollow table vector rows (record { unit = unit; rows = us })
     part_follows us some among rise above placed = record {
       some = some;
       form = record { of_unit = λ u m. spelled.of_unit u (among u m); rising = rise; says = λ u m. spelled.says u (among u m) };
@@ -86,7 +94,8 @@ module _ (schema : ℕ) (vector : Cursors) (rows : List Held) (rising : AreRisin
       unit = placed;
     }
 
-  module _ (o : Oid) (xs : List Update) (spelled : IsSpelledItem (record { unit = Object o; rows = xs })) where
+  module _ (o : Oid) (xs : List Update)
+      (spelled : IsSpelledItem (record { unit = Object o; rows = xs })) where
     abbrev item : Item
     item = record { unit = Object o; rows = xs }
 
@@ -99,12 +108,14 @@ module _ (schema : ℕ) (vector : Cursors) (rows : List Held) (rising : AreRisin
         same_attr : (p : Oid) (a : ℕ) → RowOf o a ≡ RowOf p attr → a ≡ attr
         same_attr p a e = cc
 
-    held_place : HoldsObject (updates_of rows) o → (p : Oid) → Object o ≡ Object p → HoldsObject (updates_of rows) p ⊎ (CoversBirth (at vector) p → ⊥)
+    held_place : HoldsObject (updates_of rows) o → (p : Oid) → Object o ≡ Object p
+        → HoldsObject (updates_of rows) p ⊎ (CoversBirth (at vector) p → ⊥)
     held_place holds p e = inl (subst (HoldsObject (updates_of rows)) (let f : o ≡ p = cc in f) holds)
 
     -- ---- the object is held dead
 
-    from_dead : (u : Update) → Member u (object_rows_taken rows xs IsDead) → Member u xs × (u.key ≡ RowOf o deleted_attr) × (is_above rows u ≡ true)
+    from_dead : (u : Update) → Member u (object_rows_taken rows xs IsDead)
+        → Member u xs × (u.key ≡ RowOf o deleted_attr) × (is_above rows u ≡ true)
     from_dead u m =
         let t = of_filter (λ (v : Update). is_of_attr deleted_attr v.key && is_above rows v) xs u m in
         let b = and_parts (is_of_attr deleted_attr u.key) (is_above rows u) t.1 in
@@ -120,7 +131,9 @@ module _ (schema : ℕ) (vector : Cursors) (rows : List Held) (rising : AreRisin
         by Dead e = refl
         by (Values vs) e = absurd (e.2 refl)
 
-    dead_is_good : IsTombstoned (updates_of rows) o → (u : Update) × Member u (object_rows_taken rows xs IsDead) → MayBeTaken schema vector rows (Object o) (object_rows_taken rows xs IsDead)
+    dead_is_good : IsTombstoned (updates_of rows) o
+        → (u : Update) × Member u (object_rows_taken rows xs IsDead)
+        → MayBeTaken schema vector rows (Object o) (object_rows_taken rows xs IsDead)
     dead_is_good (d, m, is) some = record {
       put = part_put (Object o) xs spelled (object_rows_taken rows xs IsDead) (λ u n. (from_dead u n).0) (λ u n. (from_dead u n).2) (λ e n death u k. reserved u k) (held_place holds);
       keeps = (
@@ -147,7 +160,8 @@ module _ (schema : ℕ) (vector : Cursors) (rows : List Held) (rising : AreRisin
     -- ---- the rows that are looked at
 
     module _ (fault : item_fault table vector rows item ≡ None) where
-      tested_is : (ts : List Update) → rows_tested vector rows item ≡ ts → Each (λ u. row_fault table (class_of_item rows item) u ≡ None) ts
+      tested_is : (ts : List Update) → rows_tested vector rows item ≡ ts
+          → Each (λ u. row_fault table (class_of_item rows item) u ≡ None) ts
       tested_is ts e u m = none_there (map (row_fault table (class_of_item rows item)) (rows_tested vector rows item)) fault (row_fault table (class_of_item rows item) u)
           (member_mapped (row_fault table (class_of_item rows item)) (rows_tested vector rows item) u (subst (Member u) (sym e) m))
 
@@ -163,14 +177,16 @@ module _ (schema : ℕ) (vector : Cursors) (rows : List Held) (rising : AreRisin
         held_class : class_of_item rows item ≡ Some here.class
         held_class = by (row_found rows (RowOf o class_attr))
           where
-            by : IsFound rows (RowOf o class_attr) (row_held rows (RowOf o class_attr)) → class_of_item rows item ≡ Some here.class
+            by : IsFound rows (RowOf o class_attr) (row_held rows (RowOf o class_attr))
+                → class_of_item rows item ≡ Some here.class
             by (inl (h, m, e, f)) =
                 let same : here.of_class.0 ≡ h.update = one_update rows rising here.of_class.0 here.of_class.1 h.update (updated rows h m) (here.of_class.2 ∙ sym e) in
                 ap (λ (p : Option Held). option_or (option_and_then (λ x. class_said x.update.said) p) (class_among xs)) f
                 ∙ ap (λ (c : Option ℕ). option_or c (class_among xs)) (class_of_said h.update.said here.class (ap (λ (u : Update). u.said) (sym same) ∙ here.of_class.3))
             by (inr (none, f)) = let h = held_as rows here.of_class.0 here.of_class.1 in absurd (none h.0 h.1 (ap (λ (u : Update). u.key) (sym h.2) ∙ here.of_class.2))
 
-        from_held : (u : Update) → Member u (object_rows_taken rows xs IsHeld) → Member u xs × (is_of_attr class_attr u.key ≡ false) × (is_above rows u ≡ true)
+        from_held : (u : Update) → Member u (object_rows_taken rows xs IsHeld)
+            → Member u xs × (is_of_attr class_attr u.key ≡ false) × (is_above rows u ≡ true)
         from_held u m =
             let t = of_filter (λ (v : Update). not (is_of_attr class_attr v.key) && is_above rows v) xs u (left_from (above_of_held rows xs) u m) in
             let b = and_parts (not (is_of_attr class_attr u.key)) (is_above rows u) t.1 in
@@ -183,7 +199,8 @@ module _ (schema : ℕ) (vector : Cursors) (rows : List Held) (rising : AreRisin
             row_said schema here.class o u k.0 k.1 (spelled.says u t.0) (subst (λ c. row_fault table c u ≡ None) held_class (tested_is xs held_tested u t.0))
             (λ d is says. absurd (both_ways (is_of_attr class_attr u.key) t.1 (attr_itself o class_attr u.key is)))
 
-        held_is_good : (u : Update) × Member u (object_rows_taken rows xs IsHeld) → MayBeTaken schema vector rows (Object o) (object_rows_taken rows xs IsHeld)
+        held_is_good : (u : Update) × Member u (object_rows_taken rows xs IsHeld)
+            → MayBeTaken schema vector rows (Object o) (object_rows_taken rows xs IsHeld)
         held_is_good some = record {
           put = part_put (Object o) xs spelled (object_rows_taken rows xs IsHeld) (λ u n. (from_held u n).0) (λ u n. (from_held u n).2) (bare_beside_death (above_of_held rows xs)) (held_place holds);
           keeps = (here.class, inl (record { of_class = here.of_class; said = said_of_held; dead = λ t. absurd (alive t) }));
@@ -194,7 +211,8 @@ module _ (schema : ℕ) (vector : Cursors) (rows : List Held) (rising : AreRisin
 
       -- ---- the object is new
 
-      module _ (absent : HoldsObject (updates_of rows) o → ⊥) (missed : CoversBirth (at vector) o → ⊥) (whole : incomplete table vector rows item ≡ None) where
+      module _ (absent : HoldsObject (updates_of rows) o → ⊥) (missed : CoversBirth (at vector) o → ⊥)
+          (whole : incomplete table vector rows item ≡ None) where
         new_tested : rows_tested vector rows item ≡ left_by_death xs
         new_tested = each_presence vector rows o (λ (p : Presence). object_rows_tested xs p ≡ left_by_death xs)
             (λ t. absurd (absent (t.0, deleted_attr, t.1, t.2))) (λ _ holds. absurd (absent holds)) (λ _ covers. absurd (missed covers)) (λ _ _. refl)
@@ -215,7 +233,8 @@ module _ (schema : ℕ) (vector : Cursors) (rows : List Held) (rising : AreRisin
         key_of : (attr : ℕ) → has_row attr xs ≡ true → HasKey xs o attr
         key_of attr h = let t = has_where_tested attr xs h in (t.0, t.1, row_of_attr attr t.0 t.1 t.2)
 
-        reserved : (attr : ℕ) → is_reserved_row (RowOf o attr) ≡ true → HasKey xs o attr → HasKey (left_by_death xs) o attr
+        reserved : (attr : ℕ) → is_reserved_row (RowOf o attr) ≡ true → HasKey xs o attr
+            → HasKey (left_by_death xs) o attr
         reserved attr is (u, m, e) = (u, reserved_is_left xs u m (ap is_reserved_row e ∙ is), e)
 
         birth : HasKey xs o class_attr
@@ -224,7 +243,8 @@ module _ (schema : ℕ) (vector : Cursors) (rows : List Held) (rising : AreRisin
         birth_says : (class : ℕ) × (birth.0.said ≡ Holds (Class class))
         birth_says = let t = says_content birth.0.key birth.0.said o class_attr birth.2 (spelled.says birth.0 birth.1) in by t.0 t.1 t.2
           where
-            by : (c : Content) → birth.0.said ≡ Holds c → IsContentOfAttr class_attr c → (class : ℕ) × (birth.0.said ≡ Holds (Class class))
+            by : (c : Content) → birth.0.said ≡ Holds c → IsContentOfAttr class_attr c
+                → (class : ℕ) × (birth.0.said ≡ Holds (Class class))
             by (Class d) says e = (d, says)
             by (Name text parent) says e = absurd (let f : class_attr ≡ name_attr = e in cc)
             by Dead says e = absurd (let f : class_attr ≡ deleted_attr = e in cc)
@@ -243,7 +263,8 @@ module _ (schema : ℕ) (vector : Cursors) (rows : List Held) (rising : AreRisin
         new_class : class_of_item rows item ≡ Some class
         new_class = by (row_found rows (RowOf o class_attr))
           where
-            by : IsFound rows (RowOf o class_attr) (row_held rows (RowOf o class_attr)) → class_of_item rows item ≡ Some class
+            by : IsFound rows (RowOf o class_attr) (row_held rows (RowOf o class_attr))
+                → class_of_item rows item ≡ Some class
             by (inl (h, m, e, f)) = absurd (absent (h.update, class_attr, updated rows h m, e))
             by (inr (none, f)) = ap (λ (p : Option Held). option_or (option_and_then (λ x. class_said x.update.said) p) (class_among xs)) f ∙ said_class
 
@@ -266,7 +287,9 @@ module _ (schema : ℕ) (vector : Cursors) (rows : List Held) (rising : AreRisin
         all : ((d : Update) × Member d (left_by_death xs) × IsDeathOf o d) ⊎ ((attr : ℕ) → has (must_of table class) attr ≡ true → HasKey (left_by_death xs) o attr)
         all = by (has_row deleted_attr xs) refl parts.2
           where
-            by : (b : Bool) → has_row deleted_attr xs ≡ b → (not b && list_any (λ attr. not (has_row attr xs)) (must_of table (unwrap_or (class_among xs) 0))) ≡ false
+            by : (b : Bool) → has_row deleted_attr xs ≡ b
+                →
+                (not b && list_any (λ attr. not (has_row attr xs)) (must_of table (unwrap_or (class_among xs) 0))) ≡ false
                 → ((d : Update) × Member d (left_by_death xs) × IsDeathOf o d) ⊎ ((attr : ℕ) → has (must_of table class) attr ≡ true → HasKey (left_by_death xs) o attr)
             by true is none = inl (reserved deleted_attr refl (key_of deleted_attr is))
             by false is none = inr must
@@ -284,10 +307,12 @@ module _ (schema : ℕ) (vector : Cursors) (rows : List Held) (rising : AreRisin
         new_above : Each (λ u. is_above rows u ≡ true) (left_by_death xs)
         new_above u m = let k = row_key u (left_from xs u m) in new_is_above rows u (λ h n e. absent (h.update, k.0, updated rows h n, e ∙ k.1))
 
-        new_place : (p : Oid) → Object o ≡ Object p → HoldsObject (updates_of rows) p ⊎ (CoversBirth (at vector) p → ⊥)
+        new_place : (p : Oid) → Object o ≡ Object p
+            → HoldsObject (updates_of rows) p ⊎ (CoversBirth (at vector) p → ⊥)
         new_place p e = inr (subst (λ q. CoversBirth (at vector) q → ⊥) (let f : o ≡ p = cc in f) missed)
 
-        new_is_good : (u : Update) × Member u (left_by_death xs) → MayBeTaken schema vector rows (Object o) (left_by_death xs)
+        new_is_good : (u : Update) × Member u (left_by_death xs)
+            → MayBeTaken schema vector rows (Object o) (left_by_death xs)
         new_is_good some = record {
           put = part_put (Object o) xs spelled (left_by_death xs) (left_from xs) new_above (bare_beside_death xs) new_place;
           keeps = (class, inr (record { absent = absent; known = known; said = said_of_new; of_class = reserved class_attr refl birth; of_name = reserved name_attr refl (key_of name_attr parts.1); whole = all }));
@@ -304,13 +329,16 @@ module _ (schema : ℕ) (vector : Cursors) (rows : List Held) (rising : AreRisin
               )));
         }
 
-      object_good : incomplete table vector rows item ≡ None → (u : Update) × Member u (rows_taken vector rows item) → MayBeTaken schema vector rows (Object o) (rows_taken vector rows item)
+      object_good : incomplete table vector rows item ≡ None
+          → (u : Update) × Member u (rows_taken vector rows item)
+          → MayBeTaken schema vector rows (Object o) (rows_taken vector rows item)
       object_good whole = each_presence vector rows o (λ (p : Presence). (u : Update) × Member u (object_rows_taken rows xs p) → MayBeTaken schema vector rows (Object o) (object_rows_taken rows xs p))
           dead_is_good held_is_good (λ absent covers some. absurd some.1) (λ absent missed. new_is_good absent missed whole)
 
   -- ---- links
 
-  module _ (l : LinkKey) (xs : List Update) (spelled : IsSpelledItem (record { unit = Link l; rows = xs })) where
+  module _ (l : LinkKey) (xs : List Update)
+      (spelled : IsSpelledItem (record { unit = Link l; rows = xs })) where
     abbrev link : Item
     link = record { unit = Link l; rows = xs }
 
@@ -323,11 +351,14 @@ module _ (schema : ℕ) (vector : Cursors) (rows : List Held) (rising : AreRisin
     kept : (u : Update) → Member u (filter (is_above rows) xs) → Member u xs × (is_above rows u ≡ true)
     kept u m = of_filter (is_above rows) xs u m
 
-    is_forward_link : (u : Update) → Member u xs → row_fault table None u ≡ None → is_forward (kind_at table l.attr) ≡ true
+    is_forward_link : (u : Update) → Member u xs → row_fault table None u ≡ None
+        → is_forward (kind_at table l.attr) ≡ true
     is_forward_link u m none = is_so (is_forward (kind_at table l.attr)) (NotLink l.attr) (not_mapped BreaksSchema (not_link_refusal table l.attr)
         (subst (λ k. row_fault table None (record { key = k; stamp = u.stamp; said = u.said }) ≡ None) (link_key u m) none))
 
-    there_is_good : IsThere vector rows l.from → IsThere vector rows l.to → Each (λ u. row_fault table None u ≡ None) xs → (u : Update) × Member u (filter (is_above rows) xs) → MayBeTaken schema vector rows (Link l) (filter (is_above rows) xs)
+    there_is_good : IsThere vector rows l.from → IsThere vector rows l.to
+        → Each (λ u. row_fault table None u ≡ None) xs → (u : Update) × Member u (filter (is_above rows) xs)
+        → MayBeTaken schema vector rows (Link l) (filter (is_above rows) xs)
     there_is_good from to none some = record {
       put = part_put (Link l) xs spelled (filter (is_above rows) xs) (λ v n. (kept v n).0) (λ v n. (kept v n).1) (λ d n death. absurd (no_death d (kept d n).0 death)) (λ o e. absurd (cc));
       keeps = (is_forward_link some.0 (kept some.0 some.1).0 (none some.0 (kept some.0 some.1).0), each_end);
@@ -339,29 +370,38 @@ module _ (schema : ℕ) (vector : Cursors) (rows : List Held) (rising : AreRisin
         each_end o (inr (inl e)) = subst (IsThere vector rows) (sym e) to
         each_end o (inr (inr m)) = absurd m
 
-    link_good : item_fault table vector rows link ≡ None → (u : Update) × Member u (rows_taken vector rows link) → MayBeTaken schema vector rows (Link l) (rows_taken vector rows link)
+    link_good : item_fault table vector rows link ≡ None
+        → (u : Update) × Member u (rows_taken vector rows link)
+        → MayBeTaken schema vector rows (Link l) (rows_taken vector rows link)
     link_good fault = by (is_lost_end vector rows l.from) refl (is_lost_end vector rows l.to) refl fault
       where
-        by : (b : Bool) → is_lost_end vector rows l.from ≡ b → (c : Bool) → is_lost_end vector rows l.to ≡ c → first_of (map (row_fault table None) (cond (b || c) [] xs)) ≡ None
-            → (u : Update) × Member u (cond (b || c) [] (filter (is_above rows) xs)) → MayBeTaken schema vector rows (Link l) (cond (b || c) [] (filter (is_above rows) xs))
+        by : (b : Bool) → is_lost_end vector rows l.from ≡ b → (c : Bool) → is_lost_end vector rows l.to ≡ c
+            → first_of (map (row_fault table None) (cond (b || c) [] xs)) ≡ None
+            → (u : Update) × Member u (cond (b || c) [] (filter (is_above rows) xs))
+            → MayBeTaken schema vector rows (Link l) (cond (b || c) [] (filter (is_above rows) xs))
         by true is c to none some = absurd some.1
         by false is true to none some = absurd some.1
         by false is false to none some = there_is_good (there_where_untested vector rows l.from is) (there_where_untested vector rows l.to to)
             (λ u m. none_there (map (row_fault table None) xs) none (row_fault table None u) (member_mapped (row_fault table None) xs u m)) some
 
-  good : (unit : Named) (xs : List Update) → IsSpelledItem (record { unit = unit; rows = xs }) → item_fault table vector rows (record { unit = unit; rows = xs }) ≡ None
+  good : (unit : Named) (xs : List Update) → IsSpelledItem (record { unit = unit; rows = xs })
+      → item_fault table vector rows (record { unit = unit; rows = xs }) ≡ None
       → incomplete table vector rows (record { unit = unit; rows = xs }) ≡ None
-      → (u : Update) × Member u (rows_taken vector rows (record { unit = unit; rows = xs })) → MayBeTaken schema vector rows unit (rows_taken vector rows (record { unit = unit; rows = xs }))
+      → (u : Update) × Member u (rows_taken vector rows (record { unit = unit; rows = xs }))
+      → MayBeTaken schema vector rows unit (rows_taken vector rows (record { unit = unit; rows = xs }))
   good (Object o) xs spelled fault whole = object_good o xs spelled fault whole
   good (Link l) xs spelled fault whole = link_good l xs spelled fault
 
-pub item_may : (schema : ℕ) (vector : Cursors) (rows : List Held) (place : ℕ) (i : Item) → AreRising rows → AreFormedRows (numbered schema) (updates_of rows) → IsSpelledItem i
-    → item_refusal (numbered schema) vector rows place i ≡ None → (rows_taken vector rows i ≡ []) ⊎ MayBeTaken schema vector rows i.unit (rows_taken vector rows i)
+pub item_may : (schema : ℕ) (vector : Cursors) (rows : List Held) (place : ℕ) (i : Item) → AreRising rows
+    → AreFormedRows (numbered schema) (updates_of rows) → IsSpelledItem i
+    → item_refusal (numbered schema) vector rows place i ≡ None
+    → (rows_taken vector rows i ≡ []) ⊎ MayBeTaken schema vector rows i.unit (rows_taken vector rows i)
 item_may schema vector rows place i rising formed spelled none = by (some_or_none (rows_taken vector rows i))
   where
     parts : (option_map (BadItem place) (item_fault (numbered schema) vector rows i) ≡ None) × (incomplete (numbered schema) vector rows i ≡ None)
     parts = neither (option_map (BadItem place) (item_fault (numbered schema) vector rows i)) (incomplete (numbered schema) vector rows i) none
 
-    by : (rows_taken vector rows i ≡ []) ⊎ ((u : Update) × Member u (rows_taken vector rows i)) → (rows_taken vector rows i ≡ []) ⊎ MayBeTaken schema vector rows i.unit (rows_taken vector rows i)
+    by : (rows_taken vector rows i ≡ []) ⊎ ((u : Update) × Member u (rows_taken vector rows i))
+        → (rows_taken vector rows i ≡ []) ⊎ MayBeTaken schema vector rows i.unit (rows_taken vector rows i)
     by (inl e) = inl e
     by (inr some) = inr (good schema vector rows rising formed i.unit i.rows spelled (not_mapped (BadItem place) (item_fault (numbered schema) vector rows i) parts.0) parts.1 some)

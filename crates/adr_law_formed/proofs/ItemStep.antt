@@ -34,15 +34,19 @@ use Rattle.adr_law_formed.proofs.ItemMay.{item_may}
 use Rattle.adr_law_formed.proofs.Writes.{one_more_follows, one_more_local}
 
 -- classes stay known where rows are put that keep the forms: a link row says none
-pub classes_stay : (schema usn : ℕ) (before after : List Held) (V : List ℕ → ℕ) (unit : Named) (us : List Update) → AreClassesKnown (numbered schema) (updates_of before)
-    → MayPut (updates_of before) V unit us → ArePut usn us before after → KeepForms (numbered schema) V (updates_of before) unit us → Each (λ u. IsSaidOfKey u.key u.said) us → AreClassesKnown (numbered schema) (updates_of after)
+pub classes_stay : (schema usn : ℕ) (before after : List Held) (V : List ℕ → ℕ) (unit : Named) (us : List Update)
+    → AreClassesKnown (numbered schema) (updates_of before)
+    → MayPut (updates_of before) V unit us → ArePut usn us before after
+    → KeepForms (numbered schema) V (updates_of before) unit us → Each (λ u. IsSaidOfKey u.key u.said) us
+    → AreClassesKnown (numbered schema) (updates_of after)
 classes_stay schema usn before after V (Object o) us known put are keeps says = classes_stay_known schema usn before after V o keeps.0 us known put are keeps.1
 classes_stay schema usn before after V (Link l) us known put are keeps says = λ u m class is. ⊎_elim (λ n. absurd (no_class u n class is)) (λ n. known u n class is) (stood usn before after us are u m)
   where
     no_class : (u : Update) → Member u us → (class : ℕ) → u.said ≡ Holds (Class class) → ⊥
     no_class u m class is = subst (IsSaidOfKey (LinkOf l)) is (subst (λ k. IsSaidOfKey k u.said) (link_of_unit u.key l (put.of_unit u m)) (says u m))
 
-module _ (s : State) (t : Taking) (way : FollowsSoFar s t) (i : Item) (refusal : Option TakeRefusal) (place objects links : ℕ) (more_objects : t.objects ≤ objects) (more_links : t.links ≤ links) where
+module _ (s : State) (t : Taking) (way : FollowsSoFar s t) (i : Item) (refusal : Option TakeRefusal)
+    (place objects links : ℕ) (more_objects : t.objects ≤ objects) (more_links : t.links ≤ links) where
   -- nothing is written
   idle : FollowsSoFar s (goes_on t i [] refusal place objects links)
   idle = record {
@@ -70,7 +74,8 @@ module _ (s : State) (t : Taking) (way : FollowsSoFar s t) (i : Item) (refusal :
     same : behind.rows ≡ after
     same = put_of_item t.usn i (u ∷ us) t.rows
 
-    follow : objects ≤ object_limit → links ≤ link_limit → MayFollowInTurn (numbered s.store.schema) s.store.vector s.store.rows (t.writes ++ (write ∷ []))
+    follow : objects ≤ object_limit → links ≤ link_limit
+        → MayFollowInTurn (numbered s.store.schema) s.store.vector s.store.rows (t.writes ++ (write ∷ []))
     follow o l = one_more_follows (numbered s.store.schema) s.store.vector s.store.rows t.writes write (way.follow (omega (arith, o, more_objects)) (omega (arith, l, more_links)))
         (subst (λ rows. MayFollow (numbered s.store.schema) s.store.vector rows write.item) (sym way.steady.made) good.follows)
         (subst (λ rows. AreWithinLimits (after_write rows write)) (sym way.steady.made) (omega (arith, o, count_objects), omega (arith, l, count_links)))
@@ -93,7 +98,8 @@ module _ (s : State) (t : Taking) (way : FollowsSoFar s t) (i : Item) (refusal :
     }
 
   pub step : (us : List Update) → (us ≡ []) ⊎ MayBeTaken s.store.schema s.store.vector t.rows i.unit us
-      → length (objects_of (updates_of (goes_on t i us refusal place objects links).rows)) ≤ objects → links_in (goes_on t i us refusal place objects links).rows ≤ links
+      → length (objects_of (updates_of (goes_on t i us refusal place objects links).rows)) ≤ objects
+      → links_in (goes_on t i us refusal place objects links).rows ≤ links
       → FollowsSoFar s (goes_on t i us refusal place objects links)
   step [] e objects links = idle
   step (u ∷ us) (inl e) objects links = absurd (let f : u ∷ us ≡ [] = e in cc)
@@ -106,19 +112,23 @@ module _ (s : State) where
   abbrev all : Taking → List Item → Taking
   all t is = fold (take_item (numbered s.store.schema) s.store.vector) t is
 
-  one_item : (t : Taking) (i : Item) → FollowsSoFar s t → IsSpelledItem i → item_refusal (numbered s.store.schema) s.store.vector t.rows t.place i ≡ None → FollowsSoFar s (taken t i)
+  one_item : (t : Taking) (i : Item) → FollowsSoFar s t → IsSpelledItem i
+      → item_refusal (numbered s.store.schema) s.store.vector t.rows t.place i ≡ None
+      → FollowsSoFar s (taken t i)
   one_item t i way spelled none =
       step s t way i (taken t i).refusal (taken t i).place (taken t i).objects (taken t i).links (omega arith) (omega arith) (rows_taken s.store.vector t.rows i)
       (item_may s.store.schema s.store.vector t.rows t.place i way.steady.rising way.steady.formed spelled none) (omega arith) (omega arith)
 
-  all_on_way : (is : List Item) (t : Taking) → (t.refusal ≡ None → FollowsSoFar s t) → Each IsSpelledItem is → (all t is).refusal ≡ None → FollowsSoFar s (all t is)
+  all_on_way : (is : List Item) (t : Taking) → (t.refusal ≡ None → FollowsSoFar s t) → Each IsSpelledItem is
+      → (all t is).refusal ≡ None → FollowsSoFar s (all t is)
   all_on_way [] t way spelled none = way none
   all_on_way (i ∷ is) t way spelled none = all_on_way is (taken t i) next (λ j m. spelled j (inr m)) none
     where
       next : (taken t i).refusal ≡ None → FollowsSoFar s (taken t i)
       next e = let p = neither t.refusal (item_refusal (numbered s.store.schema) s.store.vector t.rows t.place i) e in one_item t i (way p.0) (spelled i (inl refl)) p.1
 
-  pub items_on_way : (is : List Item) → IsFormed s → HasKnownClasses s → Each IsSpelledItem is → (take_items s is).refusal ≡ None → FollowsSoFar s (take_items s is)
+  pub items_on_way : (is : List Item) → IsFormed s → HasKnownClasses s → Each IsSpelledItem is
+      → (take_items s is).refusal ≡ None → FollowsSoFar s (take_items s is)
   items_on_way is formed classes spelled none = all_on_way is (begin s) (λ e. starts) spelled none
     where
       starts : FollowsSoFar s (begin s)

@@ -28,7 +28,8 @@ use Rattle.adr_law_formed.proofs.TakenFollow.{nothing_is_vector}
 
 -- ---- what rows say
 
-pub says_of_well_said : (schema class : ℕ) (o : Oid) (u : Update) (attr : ℕ) → u.key ≡ RowOf o attr → IsWellSaid (numbered schema) class o u → IsSaidOfKey u.key u.said
+pub says_of_well_said : (schema class : ℕ) (o : Oid) (u : Update) (attr : ℕ) → u.key ≡ RowOf o attr
+    → IsWellSaid (numbered schema) class o u → IsSaidOfKey u.key u.said
 says_of_well_said schema class o u attr is well = subst (λ k. IsSaidOfKey k u.said) (sym is) (by attr is)
   where
     by : (a : ℕ) → u.key ≡ RowOf o a → IsSaidOfKey (RowOf o a) u.said
@@ -40,10 +41,12 @@ says_of_well_said schema class o u attr is well = subst (λ k. IsSaidOfKey k u.s
         subst (IsSaidOfKey (RowOf o (suc (suc (suc (suc n)))))) (sym t.1) ((λ f. omega (arith, f)), (λ f. omega (arith, f)), (λ f. omega (arith, f)))
 
 module _ (s : State) where
-  pub says_of_written : (unit : Named) (us : List Update) → MayWrite s unit us → Each (λ u. IsSaidOfKey u.key u.said) us
+  pub says_of_written : (unit : Named) (us : List Update) → MayWrite s unit us
+      → Each (λ u. IsSaidOfKey u.key u.said) us
   says_of_written (Object o) us may u m = let k = row_of_unit u.key o (may.put.of_unit u m) in by may.fits.0 may.fits.1 k.0 k.1
     where
-      by : (class : ℕ) → Changes s o class us ⊎ Comes s o class us → (attr : ℕ) → u.key ≡ RowOf o attr → IsSaidOfKey u.key u.said
+      by : (class : ℕ) → Changes s o class us ⊎ Comes s o class us → (attr : ℕ) → u.key ≡ RowOf o attr
+          → IsSaidOfKey u.key u.said
       by class (inl c) attr is = says_of_well_said s.store.schema class o u attr is (c.said u m)
       by class (inr c) attr is = says_of_well_said s.store.schema class o u attr is (c.0.said u m)
   says_of_written (Link l) us may u m = let t = may.fits.said u m in
@@ -51,7 +54,9 @@ module _ (s : State) where
 
   -- ---- where the rows are written
 
-  pub new_placed : (o : Oid) (class : ℕ) (us : List Update) → (HoldsObject (updates_of s.store.rows) o ⊎ (CoversBirth (at s.store.vector) o → ⊥)) → MayCome (numbered s.store.schema) (updates_of s.store.rows) o class us
+  pub new_placed : (o : Oid) (class : ℕ) (us : List Update)
+      → (HoldsObject (updates_of s.store.rows) o ⊎ (CoversBirth (at s.store.vector) o → ⊥))
+      → MayCome (numbered s.store.schema) (updates_of s.store.rows) o class us
       → MayWriteUnit (numbered s.store.schema) s.store.vector s.store.rows (Object o) us
   new_placed o class us place comes = inr (inr (
     comes.absent,
@@ -64,23 +69,29 @@ module _ (s : State) where
     },
   ))
 
-  pub live_placed : (o : Oid) (us : List Update) → IsHeldAlive (updates_of s.store.rows) o → MayWriteUnit (numbered s.store.schema) s.store.vector s.store.rows (Object o) us
+  pub live_placed : (o : Oid) (us : List Update) → IsHeldAlive (updates_of s.store.rows) o
+      → MayWriteUnit (numbered s.store.schema) s.store.vector s.store.rows (Object o) us
   live_placed o us live = inr (inl (live.1, live.0))
 
-  pub link_placed : (l : LinkKey) (us : List Update) → MayWrite s (Link l) us → MayWriteUnit (numbered s.store.schema) s.store.vector s.store.rows (Link l) us
+  pub link_placed : (l : LinkKey) (us : List Update) → MayWrite s (Link l) us
+      → MayWriteUnit (numbered s.store.schema) s.store.vector s.store.rows (Link l) us
   link_placed l us may o m = let h = may.fits.ends o m in (h.1, inl h.0)
 
   -- ---- the whole
 
-  module _ (item : Item) (formed : IsFormed s) (known : HasKnownClasses s) (may : MayWrite s item.unit item.rows) where
+  module _ (item : Item) (formed : IsFormed s) (known : HasKnownClasses s)
+      (may : MayWrite s item.unit item.rows) where
     abbrev us : List Update
     us = item.rows
 
     are : ArePut (s.store.usn + 1) us s.store.rows (stands s item)
     are = are_written s item formed may
 
-    pub written_follows : s.mode ≡ Normal → (u : Update) × Member u item.rows → IsStrictlySortedBy key_order (map (λ (u : Update). u.key) item.rows) → Each (λ u. is_above s.store.rows u ≡ true) item.rows
-        → MayWriteUnit (numbered s.store.schema) s.store.vector s.store.rows item.unit item.rows → CanFollow s (change_of s item)
+    pub written_follows : s.mode ≡ Normal → (u : Update) × Member u item.rows
+        → IsStrictlySortedBy key_order (map (λ (u : Update). u.key) item.rows)
+        → Each (λ u. is_above s.store.rows u ≡ true) item.rows
+        → MayWriteUnit (numbered s.store.schema) s.store.vector s.store.rows item.unit item.rows
+        → CanFollow s (change_of s item)
     written_follows normal some rise above placed = record {
       goes_on = record {
         normal = normal;

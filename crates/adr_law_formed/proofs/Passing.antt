@@ -1,4 +1,5 @@
--- Writes that follow, one after the other: order, local USNs and live ends stay, and objects that aren't written to stay as they were.
+-- Writes that follow, one after the other: order, local USNs and live ends stay, and objects that aren't
+-- written to stay as they were.
 use Rattle.std.proofs.Common.{◌≡◌, inl, inr, ⊎_elim, ℕ, ◌≤◌, ◌<◌, List, [], ◌∷◌, refl, sym, ap, ◌∙◌, subst, fold, arith, append-nil}
 use Rattle.adr_stamp.specs.declared.Oid.{Oid}
 use Rattle.adr_stamp.specs.declared.LinkKey.{LinkKey}
@@ -47,7 +48,8 @@ pub record ArePassed (before after : List Held) (ws : List Written) (usn : ℕ) 
   pub spelled : Each (λ (w : Written). IsSpelledItem w.item) ws
 
 module _ (table : Table) (vector : Cursors) where
-  module _ (rows : List Held) (usn : ℕ) (way : IsInOrder rows usn) (w : Written) (may : MayFollow table vector rows w.item) (above : usn < w.local) where
+  module _ (rows : List Held) (usn : ℕ) (way : IsInOrder rows usn) (w : Written)
+      (may : MayFollow table vector rows w.item) (above : usn < w.local) where
     abbrev next : List Held
     next = after_write rows w
 
@@ -58,10 +60,12 @@ module _ (table : Table) (vector : Cursors) where
     are = subst (ArePut w.local w.item.rows rows) next_is (rising_are_put w.local rows w.item.unit w.item.rows may.form.of_unit may.form.rising)
 
     -- a link that is written has live ends, and the others keep theirs
-    live_before : (r : Update) → Member r (updates_of next) → (l : LinkKey) → r.key ≡ LinkOf l → (IsTombstoned (updates_of rows) l.from → ⊥) × (IsTombstoned (updates_of rows) l.to → ⊥)
+    live_before : (r : Update) → Member r (updates_of next) → (l : LinkKey) → r.key ≡ LinkOf l
+        → (IsTombstoned (updates_of rows) l.from → ⊥) × (IsTombstoned (updates_of rows) l.to → ⊥)
     live_before r m l is = ⊎_elim (λ n. new (w.item.unit) refl n) (λ n. way.live r n l is) (stood w.local rows next w.item.rows are r m)
       where
-        new : (unit : Named) → w.item.unit ≡ unit → Member r w.item.rows → (IsTombstoned (updates_of rows) l.from → ⊥) × (IsTombstoned (updates_of rows) l.to → ⊥)
+        new : (unit : Named) → w.item.unit ≡ unit → Member r w.item.rows
+            → (IsTombstoned (updates_of rows) l.from → ⊥) × (IsTombstoned (updates_of rows) l.to → ⊥)
         new (Object o) e n = absurd (no_link_row r.key o l (may.form.of_unit r n ∙ e) is)
         new (Link k) e n =
             let same : l ≡ k = same_link r.key k l (may.form.of_unit r n ∙ e) is in
@@ -89,7 +93,9 @@ module _ (table : Table) (vector : Cursors) where
   abbrev behind_all : List Held → List Written → List Held
   behind_all rows ws = rows_after [] (held_of ws) rows
 
-  pub all_pass : (ws : List Written) (rows : List Held) (usn last : ℕ) → IsInOrder rows usn → usn ≤ last → MayFollowInTurn table vector rows ws → AreLocalsRising usn last ws → ArePassed rows (behind_all rows ws) ws last
+  pub all_pass : (ws : List Written) (rows : List Held) (usn last : ℕ) → IsInOrder rows usn → usn ≤ last
+      → MayFollowInTurn table vector rows ws → AreLocalsRising usn last ws
+      → ArePassed rows (behind_all rows ws) ws last
   all_pass [] rows usn last way le follow locals = record {
     order = record { rising = way.rising; alone = way.alone; locals = λ h m. ((way.locals h m).0, omega (arith, (way.locals h m).1, le)); live = way.live };
     same = λ q none. record { to = λ r attr is m. m; back = λ r attr is m. m };
@@ -98,7 +104,8 @@ module _ (table : Table) (vector : Cursors) where
   }
   all_pass (w ∷ ws) rows usn last way le follow locals = subst (λ after. ArePassed rows after (w ∷ ws) last) (sym (in_turn rows w ws)) (more (all_pass ws (after_write rows w) w.local last (order rows usn way w follow.0 locals.0) locals.1 follow.2 locals.2))
     where
-      more : ArePassed (after_write rows w) (behind_all (after_write rows w) ws) ws last → ArePassed rows (behind_all (after_write rows w) ws) (w ∷ ws) last
+      more : ArePassed (after_write rows w) (behind_all (after_write rows w) ws) ws last
+          → ArePassed rows (behind_all (after_write rows w) ws) (w ∷ ws) last
       more rest = record {
         order = rest.order;
         same = λ q none. both q (same rows usn way w follow.0 locals.0 q (none w (inl refl))) (rest.same q (λ v m. none v (inr m)));
@@ -106,7 +113,8 @@ module _ (table : Table) (vector : Cursors) where
         spelled = each;
       }
         where
-          both : (q : Oid) → HasSame (updates_of rows) (updates_of (after_write rows w)) q → HasSame (updates_of (after_write rows w)) (updates_of (behind_all (after_write rows w) ws)) q
+          both : (q : Oid) → HasSame (updates_of rows) (updates_of (after_write rows w)) q
+              → HasSame (updates_of (after_write rows w)) (updates_of (behind_all (after_write rows w) ws)) q
               → HasSame (updates_of rows) (updates_of (behind_all (after_write rows w) ws)) q
           both q first second = record {
             to = λ r attr is m. second.to r attr is (first.to r attr is m);

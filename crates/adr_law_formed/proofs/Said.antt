@@ -27,14 +27,17 @@ pub neither : {A : Type 0} → (a b : Option A) → first_of (a ∷ b ∷ []) �
 neither a b e = let each = none_there (a ∷ b ∷ []) e in (each a (inl refl), each b (inr (inl refl)))
 
 -- a row of an object has content, and that of its attribute
-pub says_content : (k : Key) (said : Said) (o : Oid) (attr : ℕ) → k ≡ RowOf o attr → IsSaidOfKey k said → (c : Content) × (said ≡ Holds c) × IsContentOfAttr attr c
+pub says_content : (k : Key) (said : Said) (o : Oid) (attr : ℕ) → k ≡ RowOf o attr → IsSaidOfKey k said
+    → (c : Content) × (said ≡ Holds c) × IsContentOfAttr attr c
 says_content k said o attr is says = by said (subst (λ j. IsSaidOfKey j said) is says)
   where
-    by : (said : Said) → IsSaidOfKey (RowOf o attr) said → (c : Content) × (said ≡ Holds c) × IsContentOfAttr attr c
+    by : (said : Said) → IsSaidOfKey (RowOf o attr) said
+        → (c : Content) × (said ≡ Holds c) × IsContentOfAttr attr c
     by (Holds c) of = (c, refl, of)
     by (IsPresent b) of = absurd of
 
-known_where_not_refused : (table : Table) (class : ℕ) → class_refusal table class ≡ None → IsSome (class_at table class)
+known_where_not_refused : (table : Table) (class : ℕ) → class_refusal table class ≡ None
+    → IsSome (class_at table class)
 known_where_not_refused table class h = by (class_at table class) h
   where
     by : (o : Option TableClass) → then_some (is_none o) UnknownClass ≡ None → IsSome o
@@ -49,19 +52,23 @@ module _ (schema class : ℕ) (o : Oid) (u : Update) where
   abbrev pub SaysNoOther : Type 0
   SaysNoOther = (d : ℕ) → u.key ≡ RowOf o class_attr → u.said ≡ Holds (Class d) → d ≡ class
 
-  fault_of : (c : Option ℕ) (attr : ℕ) (content : Content) → u.key ≡ RowOf o attr → u.said ≡ Holds content → row_fault table c u ≡ None
+  fault_of : (c : Option ℕ) (attr : ℕ) (content : Content) → u.key ≡ RowOf o attr → u.said ≡ Holds content
+      → row_fault table c u ≡ None
       → row_fault table c (record { key = RowOf o attr; stamp = u.stamp; said = Holds content }) ≡ None
   fault_of c attr content is says none =
       subst (λ k. row_fault table c (record { key = k; stamp = u.stamp; said = Holds content }) ≡ None) is
       (subst (λ said. row_fault table c (record { key = u.key; stamp = u.stamp; said = said }) ≡ None) says none)
 
   -- a class row is a birth, and its class is known
-  pub class_row_says : (c : Option ℕ) (d : ℕ) → u.key ≡ RowOf o class_attr → u.said ≡ Holds (Class d) → row_fault table c u ≡ None → (is_birth o u ≡ true) × IsSome (class_at table d)
+  pub class_row_says : (c : Option ℕ) (d : ℕ) → u.key ≡ RowOf o class_attr → u.said ≡ Holds (Class d)
+      → row_fault table c u ≡ None → (is_birth o u ≡ true) × IsSome (class_at table d)
   class_row_says c d is says none =
       let f = neither (then_some (not (is_birth o u)) WrongBirth) (broken (class_refusal table d)) (fault_of c class_attr (Class d) is says none) in
       (is_so (is_birth o u) WrongBirth f.0, known_where_not_refused table d (not_mapped BreaksSchema (class_refusal table d) f.1))
 
-  content_said : (attr : ℕ) (content : Content) → u.key ≡ RowOf o attr → u.said ≡ Holds content → IsContentOfAttr attr content → row_fault table (Some class) u ≡ None → SaysNoOther → IsWellSaid table class o u
+  content_said : (attr : ℕ) (content : Content) → u.key ≡ RowOf o attr → u.said ≡ Holds content
+      → IsContentOfAttr attr content → row_fault table (Some class) u ≡ None → SaysNoOther
+      → IsWellSaid table class o u
   content_said attr (Class d) is says of none other =
       let key : u.key ≡ RowOf o class_attr = is ∙ ap (λ a. RowOf o a) of in
       class_well_said table class o u key (says ∙ ap (λ n. Holds (Class n)) (other d key says)) (class_row_says (Some class) d key says none).0
@@ -75,5 +82,6 @@ module _ (schema class : ℕ) (o : Oid) (u : Update) where
       may : MayBeHeld table class attr vs
       may = may_be_held table class attr vs (not_mapped BreaksSchema (row_refusal table (Some class) attr vs) (fault_of (Some class) attr (Values vs) is says none))
 
-  pub row_said : (attr : ℕ) → u.key ≡ RowOf o attr → IsSaidOfKey u.key u.said → row_fault table (Some class) u ≡ None → SaysNoOther → IsWellSaid table class o u
+  pub row_said : (attr : ℕ) → u.key ≡ RowOf o attr → IsSaidOfKey u.key u.said
+      → row_fault table (Some class) u ≡ None → SaysNoOther → IsWellSaid table class o u
   row_said attr is says none other = let t = says_content u.key u.said o attr is says in content_said attr t.0 is t.1 t.2 none other

@@ -33,7 +33,8 @@ not_raised : (v : Cursors) (inv : Identifier) (usn : ℕ) → usn ≤ at v inv �
 not_raised v inv usn le = ap (λ b. cond b v (insert_entry identifier_order v inv usn)) (le-leb usn (at v inv) le)
 
 -- a formed store keeps its forms under another vector that has seen as much
-with_vector : (s : Store) (v : Cursors) → IsFormedStore s → IsVector v → ((i : Identifier) → at s.vector i ≤ at v i)
+with_vector : (s : Store) (v : Cursors) → IsFormedStore s → IsVector v
+    → ((i : Identifier) → at s.vector i ≤ at v i)
     → IsFormedStore (record { schema = s.schema; usn = s.usn; rows = s.rows; vector = v; purged = s.purged; marks = s.marks })
 with_vector s v formed vector up = record {
   vector = vector;
@@ -47,7 +48,8 @@ with_vector s v formed vector up = record {
   limits = record { objects = formed.limits.objects; links = formed.limits.links; marks = formed.limits.marks };
 }
 
-pub quarantine_follows : (s : State) → IsFormed s → HasKnownClasses s → s.mode ≡ Normal → CanFollow s (quarantine s)
+pub quarantine_follows : (s : State) → IsFormed s → HasKnownClasses s → s.mode ≡ Normal
+    → CanFollow s (quarantine s)
 quarantine_follows s formed classes normal = record {
   goes_on = record {
     normal = normal;
@@ -70,12 +72,15 @@ quarantine_follows s formed classes normal = record {
     same = not_raised s.store.vector s.inv s.store.usn (omega (arith, formed.own))
 
 -- an identifier that no cursor names has none
-unnamed : (v : Cursors) (inv : Identifier) → list_any (λ (c : Identifier × ℕ). same_identifier c.0 inv) v ≡ false → at v inv ≡ 0
+unnamed : (v : Cursors) (inv : Identifier)
+    → list_any (λ (c : Identifier × ℕ). same_identifier c.0 inv) v ≡ false → at v inv ≡ 0
 unnamed [] inv none = refl
 unnamed (c ∷ cs) inv none = by (is_eq (identifier_order inv c.0)) refl (or_parts (same_identifier c.0 inv) (list_any (λ (d : Identifier × ℕ). same_identifier d.0 inv) cs) none) (unnamed cs inv)
   where
-    by : (b : Bool) → is_eq (identifier_order inv c.0) ≡ b → (same_identifier c.0 inv ≡ false) × (list_any (λ (d : Identifier × ℕ). same_identifier d.0 inv) cs ≡ false)
-        → (list_any (λ (d : Identifier × ℕ). same_identifier d.0 inv) cs ≡ false → at cs inv ≡ 0) → cond b c.1 (at cs inv) ≡ 0
+    by : (b : Bool) → is_eq (identifier_order inv c.0) ≡ b
+        → (same_identifier c.0 inv ≡ false) × (list_any (λ (d : Identifier × ℕ). same_identifier d.0 inv) cs ≡ false)
+        → (list_any (λ (d : Identifier × ℕ). same_identifier d.0 inv) cs ≡ false → at cs inv ≡ 0)
+        → cond b c.1 (at cs inv) ≡ 0
     by true is p rest = absurd (both_ways (same_identifier c.0 inv) p.0 (subst (λ i. same_identifier i inv ≡ true) (same_from_test inv c.0 is) (test_itself inv)))
     by false is p rest = rest p.1
 
@@ -92,7 +97,8 @@ module _ (image : Store) (dsa inv : Identifier) (formed : IsFormedStore image) w
       || list_any (λ (h : Held). same_identifier (inv_of h.update) inv || list_any (λ (o : Oid). same_identifier o.birth.inv inv) (ends h.update.key)) image.rows)
       (list_any (λ (k : Identifier × Kept). same_identifier k.1.inv inv) image.marks) none).0).0).0
 
-  woken_formed : names_inv image inv ≡ false → length (raised image.vector inv image.usn) ≤ cursor_limit → IsFormed s
+  woken_formed : names_inv image inv ≡ false → length (raised image.vector inv image.usn) ≤ cursor_limit
+      → IsFormed s
   woken_formed none few = record {
     store = with_vector image (raised image.vector inv image.usn) formed
         (record { rising = rising-raised image.vector inv image.usn formed.vector.rising; from_one = from_one-raised image.vector inv image.usn formed.vector.from_one; few = few })
@@ -100,7 +106,8 @@ module _ (image : Store) (dsa inv : Identifier) (formed : IsFormedStore image) w
     own = (let here = raised_here image.vector inv image.usn in omega (arith, here, is_new none));
   }
 
-pub adopted_is_formed : (image : Store) (dsa inv : Identifier) (s : State) → IsFormedStore image → adopt image dsa inv ≡ Ok s → IsFormed s
+pub adopted_is_formed : (image : Store) (dsa inv : Identifier) (s : State) → IsFormedStore image
+    → adopt image dsa inv ≡ Ok s → IsFormed s
 adopted_is_formed image dsa inv s formed e =
     let length_after = length (raised image.vector inv image.usn) in
     let g = answered (adopt_refusal image inv (woken image dsa inv)) (woken image dsa inv) s e in
@@ -108,8 +115,11 @@ adopted_is_formed image dsa inv s formed e =
     subst IsFormed g.1 (woken_formed image dsa inv formed (not_then (names_inv image inv) IdentifierUsed n.0)
     (ltb-false cursor_limit length_after (not_then (nat_lt cursor_limit length_after) (Full CursorTable cursor_limit) n.1)))
 
-pub adopted_has_known_classes : (image : Store) (dsa inv : Identifier) (s : State) → AreClassesKnown (numbered image.schema) (updates_of image.rows) → adopt image dsa inv ≡ Ok s → HasKnownClasses s
+pub adopted_has_known_classes : (image : Store) (dsa inv : Identifier) (s : State)
+    → AreClassesKnown (numbered image.schema) (updates_of image.rows) → adopt image dsa inv ≡ Ok s
+    → HasKnownClasses s
 adopted_has_known_classes image dsa inv s classes e = subst HasKnownClasses (answered (adopt_refusal image inv (woken image dsa inv)) (woken image dsa inv) s e).1 classes
 
-pub new_is_formed : (dsa inv : Identifier) → IsFormed (empty_state dsa inv) × HasKnownClasses (empty_state dsa inv)
+pub new_is_formed : (dsa inv : Identifier)
+    → IsFormed (empty_state dsa inv) × HasKnownClasses (empty_state dsa inv)
 new_is_formed dsa inv = (record { store = empty_is_formed; own = refl }, λ u m. absurd m)

@@ -24,7 +24,8 @@ use Rattle.adr_law_formed.proofs.Whence.{taken_rows_from}
 pub nothing_is_vector : IsVector []
 nothing_is_vector = empty_is_formed.vector
 
-module _ (s : State) (r : Reply) (c : Change) (formed : IsFormed s) (classes : HasKnownClasses s) (spelled : IsSpelledReply r) (e : take s r ≡ Ok c) where
+module _ (s : State) (r : Reply) (c : Change) (formed : IsFormed s) (classes : HasKnownClasses s)
+    (spelled : IsSpelledReply r) (e : take s r ≡ Ok c) where
   passes : Passes s r (taken_items s r) (state_behind s r)
   passes = (passed s r c e).0
 

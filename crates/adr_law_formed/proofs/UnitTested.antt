@@ -34,7 +34,8 @@ use Rattle.adr_law_formed.proofs.WritesTested.{all_pass, passes_all}
 
 -- ---- what rows say
 
-class_is : (said : Said) (o : Option ℕ) → class_said said ≡ o → is_some o ≡ true → (c : ℕ) × (said ≡ Holds (Class c)) × (o ≡ Some c)
+class_is : (said : Said) (o : Option ℕ) → class_said said ≡ o → is_some o ≡ true
+    → (c : ℕ) × (said ≡ Holds (Class c)) × (o ≡ Some c)
 class_is (Holds (Class c)) o e h = (c, refl, sym e)
 class_is (Holds (Name text parent)) None e h = absurd (both_ways false refl h)
 class_is (Holds (Name text parent)) (Some c) e h = absurd (cc)
@@ -49,7 +50,8 @@ none_is : {A : Type 0} → (o : Option A) → is_none o ≡ true → o ≡ None
 none_is None h = refl
 none_is (Some x) h = absurd (both_ways false refl h)
 
-name_is : (said : Said) → says_allowed_name said ≡ true → (text : List ℕ) × (parent : Identifier) × (said ≡ Holds (Name text parent)) × (name_fault text ≡ None)
+name_is : (said : Said) → says_allowed_name said ≡ true
+    → (text : List ℕ) × (parent : Identifier) × (said ≡ Holds (Name text parent)) × (name_fault text ≡ None)
 name_is (Holds (Name text parent)) h = (text, parent, refl, none_is (name_fault text) h)
 name_is (Holds (Class c)) h = absurd (both_ways false refl h)
 name_is (Holds Dead) h = absurd (both_ways false refl h)
@@ -68,10 +70,12 @@ some_is None h = absurd (both_ways false refl h)
 some_is (Some x) h = cc
 
 -- a class that is known
-known_is : (table : Table) (said : Said) → is_class_known table (class_said said) ≡ true → (c : ℕ) × (said ≡ Holds (Class c)) × IsSome (class_at table c)
+known_is : (table : Table) (said : Said) → is_class_known table (class_said said) ≡ true
+    → (c : ℕ) × (said ≡ Holds (Class c)) × IsSome (class_at table c)
 known_is table said h = by (class_said said) refl h
   where
-    by : (o : Option ℕ) → class_said said ≡ o → is_class_known table o ≡ true → (c : ℕ) × (said ≡ Holds (Class c)) × IsSome (class_at table c)
+    by : (o : Option ℕ) → class_said said ≡ o → is_class_known table o ≡ true
+        → (c : ℕ) × (said ≡ Holds (Class c)) × IsSome (class_at table c)
     by None e t = absurd (both_ways false refl t)
     by (Some c) e t = let k = class_is said (Some c) e refl in let same : c ≡ k.0 = cc in (k.0, k.1, subst (λ d. IsSome (class_at table d)) same (some_is (class_at table c) t))
 
@@ -98,7 +102,8 @@ module _ (schema : ℕ) (rows : List Held) (rising : AreRising rows) (o : Oid) w
 
   -- ---- all rows of the object
 
-  own_pass : (test : Update → Bool) → all_of_object rows o test ≡ true → (r : Update) (attr : ℕ) → r.key ≡ RowOf o attr → Member r us → test r ≡ true
+  own_pass : (test : Update → Bool) → all_of_object rows o test ≡ true → (r : Update) (attr : ℕ)
+      → r.key ≡ RowOf o attr → Member r us → test r ≡ true
   own_pass test h r attr is m =
       let x = held_as rows r m in
       subst (λ (u : Update). test u ≡ true) (sym x.2)
@@ -108,18 +113,24 @@ module _ (schema : ℕ) (rows : List Held) (rising : AreRising rows) (o : Oid) w
       second true e c t = t
       second false e c t = absurd (both_ways false refl e)
 
-  own_passes : (test : Update → Bool) → ((r : Update) (attr : ℕ) → r.key ≡ RowOf o attr → Member r us → test r ≡ true) → all_of_object rows o test ≡ true
+  own_passes : (test : Update → Bool)
+      → ((r : Update) (attr : ℕ) → r.key ≡ RowOf o attr → Member r us → test r ≡ true)
+      → all_of_object rows o test ≡ true
   own_passes test each = passes_all (λ (y : Held). not (is_row_of o y.update.key) || test y.update) rows (λ x m. by x m (is_row_of o x.update.key) refl)
     where
-      by : (x : Held) → Member x rows → (b : Bool) → is_row_of o x.update.key ≡ b → (not b || test x.update) ≡ true
+      by : (x : Held) → Member x rows → (b : Bool) → is_row_of o x.update.key ≡ b
+          → (not b || test x.update) ≡ true
       by x m false is = refl
       by x m true is = let k = row_is_of o x.update.key is in each x.update k.0 k.1 (updated rows x m)
 
   -- a row of a live object has its class, its name or values that may be held
-  fits_is : (c : ℕ) (u : Update) (attr : ℕ) → u.key ≡ RowOf o attr → fits_class table c u ≡ true → (attr ≡ class_attr) ⊎ ((attr ≡ name_attr) ⊎ ((vs : List Datum) × (u.said ≡ Holds (Values vs)) × MayBeHeld table c attr vs))
+  fits_is : (c : ℕ) (u : Update) (attr : ℕ) → u.key ≡ RowOf o attr → fits_class table c u ≡ true
+      → (attr ≡ class_attr) ⊎ ((attr ≡ name_attr) ⊎ ((vs : List Datum) × (u.said ≡ Holds (Values vs)) × MayBeHeld table c attr vs))
   fits_is c u attr is h = by u.said (subst (λ k. fits_class table c (record { key = k; stamp = u.stamp; said = u.said }) ≡ true) is h)
     where
-      by : (said : Said) → fits_class table c (record { key = RowOf o attr; stamp = u.stamp; said = said }) ≡ true → (attr ≡ class_attr) ⊎ ((attr ≡ name_attr) ⊎ ((vs : List Datum) × (said ≡ Holds (Values vs)) × MayBeHeld table c attr vs))
+      by : (said : Said)
+          → fits_class table c (record { key = RowOf o attr; stamp = u.stamp; said = said }) ≡ true
+          → (attr ≡ class_attr) ⊎ ((attr ≡ name_attr) ⊎ ((vs : List Datum) × (said ≡ Holds (Values vs)) × MayBeHeld table c attr vs))
       by (Holds (Class d)) t = inl (eqb-true attr class_attr t)
       by (Holds (Name text parent)) t = inr (inl (eqb-true attr name_attr t))
       by (Holds Dead) t = absurd (both_ways false refl t)
@@ -129,7 +140,8 @@ module _ (schema : ℕ) (rows : List Held) (rising : AreRising rows) (o : Oid) w
   abbrev Values_of : ℕ → ℕ → Said → Type 0
   Values_of c attr said = (vs : List Datum) × (said ≡ Holds (Values vs)) × MayBeHeld table c attr vs
 
-  values_are : (c : ℕ) (u : Update) (attr : ℕ) → deleted_attr < attr → u.key ≡ RowOf o attr → fits_class table c u ≡ true → Values_of c attr u.said
+  values_are : (c : ℕ) (u : Update) (attr : ℕ) → deleted_attr < attr → u.key ≡ RowOf o attr
+      → fits_class table c u ≡ true → Values_of c attr u.said
   values_are c u attr above is h = by (fits_is c u attr is h)
     where
       by : (attr ≡ class_attr) ⊎ ((attr ≡ name_attr) ⊎ Values_of c attr u.said) → Values_of c attr u.said
@@ -142,7 +154,8 @@ module _ (schema : ℕ) (rows : List Held) (rising : AreRising rows) (o : Oid) w
   abbrev IsThere : ℕ → Held → Type 0
   IsThere attr h = Member h rows × (h.update.key ≡ RowOf o attr)
 
-  module _ (b n : Held) (at_b : IsThere class_attr b) (at_n : IsThere name_attr n) (born : is_birth o b.update ≡ true) (name : says_allowed_name n.update.said ≡ true) where
+  module _ (b n : Held) (at_b : IsThere class_attr b) (at_n : IsThere name_attr n)
+      (born : is_birth o b.update ≡ true) (name : says_allowed_name n.update.said ≡ true) where
     births : Each (λ r. r.key ≡ RowOf o class_attr → is_birth o r ≡ true) us
     births r m is = subst (λ (u : Update). is_birth o u ≡ true) (one b.update (updated rows b at_b.0) r m (at_b.1 ∙ sym is)) born
 
@@ -156,13 +169,16 @@ module _ (schema : ℕ) (rows : List Held) (rising : AreRising rows) (o : Oid) w
       well_named = t.3;
     }
 
-    classes : (c : ℕ) → b.update.said ≡ Holds (Class c) → IsSome (class_at table c) → Each (λ r. r.key ≡ RowOf o class_attr → (class : ℕ) → r.said ≡ Holds (Class class) → IsSome (class_at table class)) us
+    classes : (c : ℕ) → b.update.said ≡ Holds (Class c) → IsSome (class_at table c)
+        → Each (λ r. r.key ≡ RowOf o class_attr → (class : ℕ) → r.said ≡ Holds (Class class) → IsSome (class_at table class)) us
     classes c says known r m is class tells =
         let same : b.update ≡ r = one b.update (updated rows b at_b.0) r m (at_b.1 ∙ sym is) in
         let agree : c ≡ class = cc in
         subst (λ d. IsSome (class_at table d)) agree known
 
-    dead_tells : (d : Held) → IsThere deleted_attr d → is_class_known table (class_said b.update.said) ≡ true → says_dead d.update.said ≡ true → all_of_object rows o (λ u. is_reserved_row u.key) ≡ true → IsInForm table us o
+    dead_tells : (d : Held) → IsThere deleted_attr d → is_class_known table (class_said b.update.said) ≡ true
+        → says_dead d.update.said ≡ true → all_of_object rows o (λ u. is_reserved_row u.key) ≡ true
+        → IsInForm table us o
     dead_tells d at_d class dead own = record {
       none = λ r m is. absurd (both_ways false refl (kept r 0 is m));
       births = births;
@@ -177,10 +193,12 @@ module _ (schema : ℕ) (rows : List Held) (rising : AreRising rows) (o : Oid) w
         known : (c : ℕ) × (b.update.said ≡ Holds (Class c)) × IsSome (class_at table c)
         known = known_is table b.update.said class
 
-        kept : (r : Update) (attr : ℕ) → r.key ≡ RowOf o attr → Member r us → is_reserved_row (RowOf o attr) ≡ true
+        kept : (r : Update) (attr : ℕ) → r.key ≡ RowOf o attr → Member r us
+            → is_reserved_row (RowOf o attr) ≡ true
         kept r attr is m = subst (λ k. is_reserved_row k ≡ true) is (own_pass (λ u. is_reserved_row u.key) own r attr is m)
 
-    alive_tells : Each (λ (h : Held). h.update.key ≡ RowOf o deleted_attr → ⊥) rows → (c : ℕ) → b.update.said ≡ Holds (Class c) → is_alive_formed table rows o (Some c) ≡ true → IsInForm table us o
+    alive_tells : Each (λ (h : Held). h.update.key ≡ RowOf o deleted_attr → ⊥) rows → (c : ℕ)
+        → b.update.said ≡ Holds (Class c) → is_alive_formed table rows o (Some c) ≡ true → IsInForm table us o
     alive_tells lives c says h = record {
       none = λ r m is. zero_is (fits_is c r 0 is (kept r 0 is m));
       births = births;
@@ -209,7 +227,8 @@ module _ (schema : ℕ) (rows : List Held) (rising : AreRising rows) (o : Oid) w
             t : (a : ℕ) × Member a (must_of table c) × ((a == attr) ≡ true)
             t = some_passes (λ a. a == attr) (must_of table c) must
 
-            by : IsFound rows (RowOf o attr) (row_held rows (RowOf o attr)) → is_some (row_held rows (RowOf o attr)) ≡ true → HasRow us o attr IsFilled
+            by : IsFound rows (RowOf o attr) (row_held rows (RowOf o attr))
+                → is_some (row_held rows (RowOf o attr)) ≡ true → HasRow us o attr IsFilled
             by (inl (x, m, e, f)) is =
                 let v = values_are c x.update attr (must_above schema c attr must) e (kept x.update attr e (updated rows x m)) in
                 (x.update, updated rows x m, e, filled_is v.0 x.update.said v.1 (v.2.filled must))
@@ -222,7 +241,8 @@ module _ (schema : ℕ) (rows : List Held) (rising : AreRising rows) (o : Oid) w
           whole = there;
         }
 
-        of_class : (other : ℕ) → HasRow us o class_attr (λ said. said ≡ Holds (Class other)) → KeepsSchema table us o other
+        of_class : (other : ℕ) → HasRow us o class_attr (λ said. said ≡ Holds (Class other))
+            → KeepsSchema table us o other
         of_class other (r, m, is, tells) =
             let same : b.update ≡ r = one b.update (updated rows b at_b.0) r m (at_b.1 ∙ sym is) in
             let agree : c ≡ other = cc in
@@ -231,7 +251,9 @@ module _ (schema : ℕ) (rows : List Held) (rising : AreRising rows) (o : Oid) w
   pub unit_where_tested : is_object_formed table rows o ≡ true → IsInForm table us o
   unit_where_tested h = by (row_held rows (RowOf o class_attr)) (row_found rows (RowOf o class_attr)) (row_held rows (RowOf o name_attr)) (row_found rows (RowOf o name_attr)) (row_held rows (RowOf o deleted_attr)) (row_found rows (RowOf o deleted_attr)) h
     where
-      by : (x : Option Held) → IsFound rows (RowOf o class_attr) x → (y : Option Held) → IsFound rows (RowOf o name_attr) y → (z : Option Held) → IsFound rows (RowOf o deleted_attr) z → is_formed_by table rows o x y z ≡ true → IsInForm table us o
+      by : (x : Option Held) → IsFound rows (RowOf o class_attr) x → (y : Option Held)
+          → IsFound rows (RowOf o name_attr) y → (z : Option Held) → IsFound rows (RowOf o deleted_attr) z
+          → is_formed_by table rows o x y z ≡ true → IsInForm table us o
       by x (inr (none, e)) y n z d h = absurd (let f : is_formed_by table rows o None y z ≡ true = subst (λ (w : Option Held). is_formed_by table rows o w y z ≡ true) e h in both_ways false refl f)
       by x (inl (b, m, k, e)) y (inr (none, g)) z d h = absurd (let f : is_formed_by table rows o (Some b) None z ≡ true = subst (λ (w : Option Held). is_formed_by table rows o (Some b) w z ≡ true) g (subst (λ (w : Option Held). is_formed_by table rows o w y z ≡ true) e h) in both_ways false refl f)
       by x (inl (b, m, k, e)) y (inl (n, mn, kn, g)) z (inl (d, md, kd, i)) h =
@@ -247,7 +269,8 @@ module _ (schema : ℕ) (rows : List Held) (rising : AreRising rows) (o : Oid) w
           let q = and_parts (says_allowed_name n.update.said) _ p.1 in
           on (class_said b.update.said) refl q.1 p.0 q.0
         where
-          on : (c : Option ℕ) → class_said b.update.said ≡ c → is_alive_formed table rows o c ≡ true → is_birth o b.update ≡ true → says_allowed_name n.update.said ≡ true → IsInForm table us o
+          on : (c : Option ℕ) → class_said b.update.said ≡ c → is_alive_formed table rows o c ≡ true
+              → is_birth o b.update ≡ true → says_allowed_name n.update.said ≡ true → IsInForm table us o
           on None is h born name = absurd (both_ways false refl h)
           on (Some c) is h born name =
               let t = class_is b.update.said (Some c) is refl in
@@ -257,7 +280,8 @@ module _ (schema : ℕ) (rows : List Held) (rising : AreRising rows) (o : Oid) w
   -- ---- what is formed passes
 
   -- the row of an attribute, where there is one
-  row_of : (P : Said → Type 0) (attr : ℕ) → HasRow us o attr P → (h : Held) × IsThere attr h × P h.update.said × (row_held rows (RowOf o attr) ≡ Some h)
+  row_of : (P : Said → Type 0) (attr : ℕ) → HasRow us o attr P
+      → (h : Held) × IsThere attr h × P h.update.said × (row_held rows (RowOf o attr) ≡ Some h)
   row_of P attr (u, m, e, says) =
       let x = held_as rows u m in
       let k : x.0.update.key ≡ RowOf o attr = ap (λ (v : Update). v.key) (sym x.2) ∙ e in
@@ -284,7 +308,9 @@ module _ (schema : ℕ) (rows : List Held) (rising : AreRising rows) (o : Oid) w
         ∙ is_some_of (class_at table naming.class) (f.classes class_row.0.update (updated rows class_row.0 class_row.1.0) class_row.1.1 naming.class class_row.2)
 
     -- the test with the rows that are found
-    with_rows : (z : Option Held) → row_held rows (RowOf o deleted_attr) ≡ z → is_formed_by table rows o (Some class_row.0) (Some name_row.0) z ≡ true → is_object_formed table rows o ≡ true
+    with_rows : (z : Option Held) → row_held rows (RowOf o deleted_attr) ≡ z
+        → is_formed_by table rows o (Some class_row.0) (Some name_row.0) z ≡ true
+        → is_object_formed table rows o ≡ true
     with_rows z e h =
         subst (λ (w : Option Held). is_formed_by table rows o w (row_held rows (RowOf o name_attr)) (row_held rows (RowOf o deleted_attr)) ≡ true) (sym class_row.3)
         (subst (λ (w : Option Held). is_formed_by table rows o (Some class_row.0) w (row_held rows (RowOf o deleted_attr)) ≡ true) (sym name_row.3)
@@ -305,7 +331,8 @@ module _ (schema : ℕ) (rows : List Held) (rising : AreRising rows) (o : Oid) w
             by (suc (suc (suc zero))) e = refl
             by (suc (suc (suc (suc n)))) e = absurd (dead.bare (suc (suc (suc (suc n)))) (omega arith) r m e)
 
-    alive_passes : (IsTombstoned us o → ⊥) → KeepsSchema table us o naming.class → is_object_formed table rows o ≡ true
+    alive_passes : (IsTombstoned us o → ⊥) → KeepsSchema table us o naming.class
+        → is_object_formed table rows o ≡ true
     alive_passes lives keep = with_rows None none (and_from _ _ born (and_from _ _ name_passes
         (subst (λ (c : Option ℕ). is_alive_formed table rows o c ≡ true) (sym (ap class_said class_row.2))
         (and_from _ _ (is_some_of (class_at table naming.class) keep.known) (and_from _ _ (own_passes (fits_class table naming.class) kept) (passes_all (λ a. is_some (row_held rows (RowOf o a))) (must_of table naming.class) there))))))
@@ -313,7 +340,8 @@ module _ (schema : ℕ) (rows : List Held) (rising : AreRising rows) (o : Oid) w
         none : row_held rows (RowOf o deleted_attr) ≡ None
         none = by (row_found rows (RowOf o deleted_attr))
           where
-            by : IsFound rows (RowOf o deleted_attr) (row_held rows (RowOf o deleted_attr)) → row_held rows (RowOf o deleted_attr) ≡ None
+            by : IsFound rows (RowOf o deleted_attr) (row_held rows (RowOf o deleted_attr))
+                → row_held rows (RowOf o deleted_attr) ≡ None
             by (inl (x, m, e, g)) = absurd (lives (x.update, updated rows x m, e))
             by (inr (other, g)) = g
 
@@ -321,20 +349,25 @@ module _ (schema : ℕ) (rows : List Held) (rising : AreRising rows) (o : Oid) w
         there a m = let t = row_of IsFilled a (keep.whole a (one_passes (λ n. n == a) (must_of table naming.class) a m (eq-eqb a a refl))) in ap is_some t.3
 
         -- what must be there isn't empty
-        full : (attr : ℕ) (r : Update) (vs : List Datum) → Member r us → r.key ≡ RowOf o attr → r.said ≡ Holds (Values vs) → has (must_of table naming.class) attr ≡ true → vs ≡ [] → ⊥
+        full : (attr : ℕ) (r : Update) (vs : List Datum) → Member r us → r.key ≡ RowOf o attr
+            → r.said ≡ Holds (Values vs) → has (must_of table naming.class) attr ≡ true → vs ≡ [] → ⊥
         full attr r vs m is says must empty =
             let t = keep.whole attr must in
             let same : r ≡ t.0 = one r m t.0 t.1 (is ∙ sym t.2) in
             let both : Holds (Values vs) ≡ Holds (Values (t.3.0 ∷ t.3.1)) = sym says ∙ ap (λ (u : Update). u.said) same ∙ t.3.2 in
             absurd (let g : vs ≡ t.3.0 ∷ t.3.1 = cc in let k : t.3.0 ∷ t.3.1 ≡ [] = sym g ∙ empty in cc)
 
-        passes : (attr : ℕ) (stamp : LinkStamp) (said content : Said) → said ≡ content → fits_class table naming.class (record { key = RowOf o attr; stamp = stamp; said = content }) ≡ true → fits_class table naming.class (record { key = RowOf o attr; stamp = stamp; said = said }) ≡ true
+        passes : (attr : ℕ) (stamp : LinkStamp) (said content : Said) → said ≡ content
+            → fits_class table naming.class (record { key = RowOf o attr; stamp = stamp; said = content }) ≡ true
+            → fits_class table naming.class (record { key = RowOf o attr; stamp = stamp; said = said }) ≡ true
         passes attr stamp said content e h = subst (λ s. fits_class table naming.class (record { key = RowOf o attr; stamp = stamp; said = s }) ≡ true) (sym e) h
 
-        kept : (r : Update) (attr : ℕ) → r.key ≡ RowOf o attr → Member r us → fits_class table naming.class r ≡ true
+        kept : (r : Update) (attr : ℕ) → r.key ≡ RowOf o attr → Member r us
+            → fits_class table naming.class r ≡ true
         kept r attr is m = subst (λ k. fits_class table naming.class (record { key = k; stamp = r.stamp; said = r.said }) ≡ true) (sym is) (by attr is)
           where
-            by : (a : ℕ) → r.key ≡ RowOf o a → fits_class table naming.class (record { key = RowOf o a; stamp = r.stamp; said = r.said }) ≡ true
+            by : (a : ℕ) → r.key ≡ RowOf o a
+                → fits_class table naming.class (record { key = RowOf o a; stamp = r.stamp; said = r.said }) ≡ true
             by zero e = absurd (f.none r m e)
             by (suc zero) e = passes 1 r.stamp r.said (Holds (Class naming.class)) (ap (λ (u : Update). u.said) (one r m class_row.0.update (updated rows class_row.0 class_row.1.0) (e ∙ sym class_row.1.1)) ∙ class_row.2) refl
             by (suc (suc zero)) e = passes 2 r.stamp r.said (Holds (Name naming.text naming.parent)) (ap (λ (u : Update). u.said) (one r m name_row.0.update (updated rows name_row.0 name_row.1.0) (e ∙ sym name_row.1.1)) ∙ name_row.2) refl

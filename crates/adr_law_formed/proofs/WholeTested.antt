@@ -37,16 +37,19 @@ use Rattle.adr_law_formed.proofs.ByTouched.{touched_is_enough, touched_is_asked}
 
 -- ---- removed objects
 
-removable_where_tested : (rows : List Held) (purged : Cursors) (o : Oid) → is_removable rows purged o ≡ true → IsRemovable rows purged o
+removable_where_tested : (rows : List Held) (purged : Cursors) (o : Oid) → is_removable rows purged o ≡ true
+    → IsRemovable rows purged o
 removable_where_tested rows purged o h = by (row_found rows (RowOf o deleted_attr)) h
   where
-    by : IsFound rows (RowOf o deleted_attr) (row_held rows (RowOf o deleted_attr)) → is_removable rows purged o ≡ true → IsRemovable rows purged o
+    by : IsFound rows (RowOf o deleted_attr) (row_held rows (RowOf o deleted_attr))
+        → is_removable rows purged o ≡ true → IsRemovable rows purged o
     by (inr (none, f)) t = absurd (both_ways (is_removable rows purged o) (ap (λ (p : Option Held). option_map_or (λ x. covers_birth purged o && covers_update purged x.update) p false) f) t)
     by (inl (x, m, e, f)) t =
         let p = and_parts (covers_birth purged o) (covers_update purged x.update) (sym (ap (λ (q : Option Held). option_map_or (λ y. covers_birth purged o && covers_update purged y.update) q false) f) ∙ t) in
         record { death = x.update; is_held = updated rows x m; is_death = e; birth_purged = leb-true o.birth.usn (at purged o.birth.inv) p.0; death_purged = leb-true (usn_of x.update) (at purged (inv_of x.update)) p.1 }
 
-tested_where_removable : (rows : List Held) (purged : Cursors) (o : Oid) → AreRising rows → IsRemovable rows purged o → is_removable rows purged o ≡ true
+tested_where_removable : (rows : List Held) (purged : Cursors) (o : Oid) → AreRising rows
+    → IsRemovable rows purged o → is_removable rows purged o ≡ true
 tested_where_removable rows purged o rising r =
     let x = held_as rows r.death r.is_held in
     let key = ap (λ (u : Update). u.key) (sym x.2) ∙ r.is_death in
@@ -69,14 +72,17 @@ module _ (schema : ℕ) (rows : List Held) (rising : AreRising rows) where
     formed = λ h. absurd (absent h);
   }
 
-  object_tells : (o : Oid) → is_touched_formed table rows (Object o) ≡ true → IsInForm table (updates_of rows) o
+  object_tells : (o : Oid) → is_touched_formed table rows (Object o) ≡ true
+      → IsInForm table (updates_of rows) o
   object_tells o h = by (holds_object rows o) refl h
     where
-      by : (b : Bool) → holds_object rows o ≡ b → (not b || is_object_formed table rows o) ≡ true → IsInForm table (updates_of rows) o
+      by : (b : Bool) → holds_object rows o ≡ b → (not b || is_object_formed table rows o) ≡ true
+          → IsInForm table (updates_of rows) o
       by true is t = unit_where_tested schema rows rising o t
       by false is t = nothing_formed o (lacks_where_untested rows o is)
 
-  object_passes : (o : Oid) → IsInForm table (updates_of rows) o → is_touched_formed table rows (Object o) ≡ true
+  object_passes : (o : Oid) → IsInForm table (updates_of rows) o
+      → is_touched_formed table rows (Object o) ≡ true
   object_passes o f = by (holds_object rows o) refl
     where
       by : (b : Bool) → holds_object rows o ≡ b → (not b || is_object_formed table rows o) ≡ true
@@ -95,27 +101,33 @@ module _ (schema : ℕ) (rows : List Held) (rising : AreRising rows) where
       held : row_held rows (LinkOf l) ≡ Some x.0
       held = row_held_is rows rising (LinkOf l) x.0 x.1 (ap (λ (u : Update). u.key) (sym x.2) ∙ is)
 
-      by : (p : Option Held) → p ≡ Some x.0 → (is_none p || is_forward (kind_at table l.attr)) ≡ true → is_forward (kind_at table l.attr) ≡ true
+      by : (p : Option Held) → p ≡ Some x.0 → (is_none p || is_forward (kind_at table l.attr)) ≡ true
+          → is_forward (kind_at table l.attr) ≡ true
       by None e t = absurd (cc)
       by (Some y) e t = t
 
   link_passes : (l : LinkKey) → IsForwardLink l → is_touched_formed table rows (Link l) ≡ true
   link_passes l f = by (row_held rows (LinkOf l)) (row_found rows (LinkOf l))
     where
-      by : (p : Option Held) → IsFound rows (LinkOf l) p → (is_none p || is_forward (kind_at table l.attr)) ≡ true
+      by : (p : Option Held) → IsFound rows (LinkOf l) p
+          → (is_none p || is_forward (kind_at table l.attr)) ≡ true
       by p (inl (x, m, e, g)) = subst (λ (q : Option Held). (is_none q || is_forward (kind_at table l.attr)) ≡ true) (sym g) (f x.update (updated rows x m) e)
       by p (inr (none, g)) = subst (λ (q : Option Held). (is_none q || is_forward (kind_at table l.attr)) ≡ true) (sym g) refl
 
-  touched_tells : (c : Change) → list_all (λ (w : Written). is_touched_formed table rows w.item.unit) c.writes ≡ true → AreTouchedInForm table (updates_of rows) c
+  touched_tells : (c : Change)
+      → list_all (λ (w : Written). is_touched_formed table rows w.item.unit) c.writes ≡ true
+      → AreTouchedInForm table (updates_of rows) c
   touched_tells c h = record {
     objects = λ w m o e. object_tells o (subst (λ u. is_touched_formed table rows u ≡ true) e (all_pass (λ (v : Written). is_touched_formed table rows v.item.unit) c.writes h w m));
     links = λ w m l e. link_tells l (subst (λ u. is_touched_formed table rows u ≡ true) e (all_pass (λ (v : Written). is_touched_formed table rows v.item.unit) c.writes h w m));
   }
 
-  touched_passes : (c : Change) → AreTouchedInForm table (updates_of rows) c → list_all (λ (w : Written). is_touched_formed table rows w.item.unit) c.writes ≡ true
+  touched_passes : (c : Change) → AreTouchedInForm table (updates_of rows) c
+      → list_all (λ (w : Written). is_touched_formed table rows w.item.unit) c.writes ≡ true
   touched_passes c f = passes_all (λ (w : Written). is_touched_formed table rows w.item.unit) c.writes (λ w m. by w m w.item.unit refl)
     where
-      by : (w : Written) → Member w c.writes → (u : Named) → w.item.unit ≡ u → is_touched_formed table rows u ≡ true
+      by : (w : Written) → Member w c.writes → (u : Named) → w.item.unit ≡ u
+          → is_touched_formed table rows u ≡ true
       by w m (Object o) e = object_passes o (f.objects w m o e)
       by w m (Link l) e = link_passes l (f.links w m l e)
 
@@ -128,7 +140,8 @@ module _ (s : State) (c : Change) (formed : IsFormed s) where
   rows_rise : AreRising (after s c).store.rows
   rows_rise = removals_rise c.removed (rows_after [] (held_of c.writes) s.store.rows) written_rise
 
-pub follows_where_tested : (s : State) (c : Change) → IsFormed s → HasKnownClasses s → IsSpelledChange s.store.usn c → can_follow s c ≡ true → CanFollow s c
+pub follows_where_tested : (s : State) (c : Change) → IsFormed s → HasKnownClasses s
+    → IsSpelledChange s.store.usn c → can_follow s c ≡ true → CanFollow s c
 follows_where_tested s c formed known spelled h =
     let a = and_parts _ (list_all (λ (w : Written). is_touched_formed (numbered s.store.schema) (after s c).store.rows w.item.unit) c.writes) h in
     let b = and_parts _ (nat_le (length (after s c).store.marks) mark_limit) a.0 in

@@ -41,7 +41,8 @@ module _ {A : Type 0} (test : A → Bool) where
 
 -- ---- a whole object
 
-module _ (table : Table) (o : Oid) (us : List Update) (spelled : IsSpelledItem (record { unit = Object o; rows = us })) where
+module _ (table : Table) (o : Oid) (us : List Update)
+    (spelled : IsSpelledItem (record { unit = Object o; rows = us })) where
   row_of_attr : (attr : ℕ) (u : Update) → Member u us → is_of_attr attr u.key ≡ true → u.key ≡ RowOf o attr
   row_of_attr attr u m is = let k = row_of_unit u.key o (spelled.of_unit u m) in let d = of_attr attr u.key is in k.1 ∙ ap (λ a. RowOf o a) (same_attr d.0 k.0 (sym k.1 ∙ d.1))
     where
@@ -55,7 +56,8 @@ module _ (table : Table) (o : Oid) (us : List Update) (spelled : IsSpelledItem (
   has_key attr (u, m, e) = tested_where_has attr us u m (attr_itself o attr u.key e)
 
   -- what its class row says is its class
-  class_is : (b : HasKey us o class_attr) (class : ℕ) → b.0.said ≡ Holds (Class class) → class_among us ≡ Some class
+  class_is : (b : HasKey us o class_attr) (class : ℕ) → b.0.said ≡ Holds (Class class)
+      → class_among us ≡ Some class
   class_is b class says =
       ap (λ (p : Option Update). option_and_then (λ u. class_said u.said) p)
       (found (λ (u : Update). is_of_attr class_attr u.key) us b.0 b.1 (attr_itself o class_attr b.0.key b.2)
@@ -83,7 +85,9 @@ module _ (table : Table) (o : Oid) (us : List Update) (spelled : IsSpelledItem (
           b_says : (c : Content) × (b.0.said ≡ Holds c) × IsContentOfAttr class_attr c
           b_says = says_content b.0.key b.0.said o class_attr b.2 (spelled.says b.0 b.1)
 
-          all : (class : ℕ) → b.0.said ≡ Holds (Class class) → (d : Bool) → has_row deleted_attr us ≡ d → (not d && list_any (λ attr. not (has_row attr us)) (must_of table (unwrap_or (class_among us) 0))) ≡ false
+          all : (class : ℕ) → b.0.said ≡ Holds (Class class) → (d : Bool) → has_row deleted_attr us ≡ d
+              →
+              (not d && list_any (λ attr. not (has_row attr us)) (must_of table (unwrap_or (class_among us) 0))) ≡ false
               → ((d : Update) × Member d us × IsDeathOf o d) ⊎ ((attr : ℕ) → has (must_of table class) attr ≡ true → HasKey us o attr)
           all class says true is none = inl (key_of deleted_attr is)
           all class says false is none = inr must
@@ -104,13 +108,15 @@ module _ (table : Table) (o : Oid) (us : List Update) (spelled : IsSpelledItem (
   tested_where_whole : IsWhole table o us → lacks table us ≡ false
   tested_where_whole whole = by (has_row class_attr us) (has_key class_attr (whole.of_class.0, whole.of_class.1, whole.of_class.2)) (has_row name_attr us) (has_key name_attr whole.of_name) (has_row deleted_attr us) refl whole.whole
     where
-      must : has_row deleted_attr us ≡ false → ((d : Update) × Member d us × IsDeathOf o d) ⊎ ((attr : ℕ) → has (must_of table whole.class) attr ≡ true → HasKey us o attr)
+      must : has_row deleted_attr us ≡ false
+          → ((d : Update) × Member d us × IsDeathOf o d) ⊎ ((attr : ℕ) → has (must_of table whole.class) attr ≡ true → HasKey us o attr)
           → list_any (λ attr. not (has_row attr us)) (must_of table (unwrap_or (class_among us) 0)) ≡ false
       must alive (inl death) = absurd (both_ways (has_row deleted_attr us) alive (has_key deleted_attr death))
       must alive (inr all) = subst (λ (c : Option ℕ). list_any (λ attr. not (has_row attr us)) (must_of table (unwrap_or c 0)) ≡ false) (sym (class_is (whole.of_class.0, whole.of_class.1, whole.of_class.2) whole.class whole.of_class.3))
           (none_passes (λ attr. not (has_row attr us)) (must_of table whole.class) (λ attr m. ap not (has_key attr (all attr (one_passes (λ n. n == attr) (must_of table whole.class) attr m (eq-eqb attr attr refl))))))
 
-      by : (c : Bool) → c ≡ true → (n : Bool) → n ≡ true → (d : Bool) → has_row deleted_attr us ≡ d → ((d : Update) × Member d us × IsDeathOf o d) ⊎ ((attr : ℕ) → has (must_of table whole.class) attr ≡ true → HasKey us o attr)
+      by : (c : Bool) → c ≡ true → (n : Bool) → n ≡ true → (d : Bool) → has_row deleted_attr us ≡ d
+          → ((d : Update) × Member d us × IsDeathOf o d) ⊎ ((attr : ℕ) → has (must_of table whole.class) attr ≡ true → HasKey us o attr)
           → (not c || not n || (not d && list_any (λ attr. not (has_row attr us)) (must_of table (unwrap_or (class_among us) 0)))) ≡ false
       by true e true f true dead all = refl
       by true e true f false alive all = must alive all
@@ -120,7 +126,8 @@ module _ (table : Table) (o : Oid) (us : List Update) (spelled : IsSpelledItem (
 -- ---- where a write may go
 
 module _ (table : Table) (vector : Cursors) (rows : List Held) where
-  placed_where_tested : (unit : Named) (us : List Update) → IsSpelledItem (record { unit = unit; rows = us }) → may_write_unit table vector rows unit us ≡ true → MayWriteUnit table vector rows unit us
+  placed_where_tested : (unit : Named) (us : List Update) → IsSpelledItem (record { unit = unit; rows = us })
+      → may_write_unit table vector rows unit us ≡ true → MayWriteUnit table vector rows unit us
   placed_where_tested (Object o) us spelled = each_presence vector rows o (λ (p : Presence). may_write_object table us p ≡ true → MayWriteUnit table vector rows (Object o) us)
       (λ t h. inl (t, λ u m. row_of_attr table o us spelled deleted_attr u m (all_pass (λ (v : Update). is_of_attr deleted_attr v.key) us h u m)))
       (λ alive holds h. inr (inl (alive, holds)))
@@ -128,7 +135,8 @@ module _ (table : Table) (vector : Cursors) (rows : List Held) where
       (λ absent missed h. inr (inr (absent, missed, whole_where_tested table o us spelled (not-true (lacks table us) h))))
   placed_where_tested (Link l) us spelled = λ h o m. by o (or_parts (is_lost_end vector rows l.from) (is_lost_end vector rows l.to) (not-true (is_lost_end vector rows l.from || is_lost_end vector rows l.to) h)) m
     where
-      by : (o : Oid) → (is_lost_end vector rows l.from ≡ false) × (is_lost_end vector rows l.to ≡ false) → Member o (ends (LinkOf l)) → IsThere vector rows o
+      by : (o : Oid) → (is_lost_end vector rows l.from ≡ false) × (is_lost_end vector rows l.to ≡ false)
+          → Member o (ends (LinkOf l)) → IsThere vector rows o
       by o p (inl e) = subst (IsThere vector rows) (sym e) (there_where_untested vector rows l.from p.0)
       by o p (inr (inl e)) = subst (IsThere vector rows) (sym e) (there_where_untested vector rows l.to p.1)
       by o p (inr (inr n)) = absurd n
@@ -140,7 +148,8 @@ module _ (table : Table) (vector : Cursors) (rows : List Held) where
       by false e = refl
       by true e = absurd (⊎_elim there.0 (λ t. ⊎_elim t.0 (λ m. m t.1) there.1) (lost_where_tested vector rows o e))
 
-  tested_where_placed : (unit : Named) (us : List Update) → IsSpelledItem (record { unit = unit; rows = us }) → MayWriteUnit table vector rows unit us → may_write_unit table vector rows unit us ≡ true
+  tested_where_placed : (unit : Named) (us : List Update) → IsSpelledItem (record { unit = unit; rows = us })
+      → MayWriteUnit table vector rows unit us → may_write_unit table vector rows unit us ≡ true
   tested_where_placed (Object o) us spelled placed = each_presence vector rows o (λ (p : Presence). may_write_object table us p ≡ true)
       (λ t. where_dead t placed)
       (λ alive holds. refl)
@@ -150,17 +159,20 @@ module _ (table : Table) (vector : Cursors) (rows : List Held) where
       holds_dead_one : IsTombstoned (updates_of rows) o → HoldsObject (updates_of rows) o
       holds_dead_one t = (t.0, deleted_attr, t.1, t.2)
 
-      where_dead : IsTombstoned (updates_of rows) o → MayWriteUnit table vector rows (Object o) us → list_all (λ (u : Update). is_of_attr deleted_attr u.key) us ≡ true
+      where_dead : IsTombstoned (updates_of rows) o → MayWriteUnit table vector rows (Object o) us
+          → list_all (λ (u : Update). is_of_attr deleted_attr u.key) us ≡ true
       where_dead t (inl (u, only)) = passes_all (λ (u : Update). is_of_attr deleted_attr u.key) us (λ u m. attr_itself o deleted_attr u.key (only u m))
       where_dead t (inr (inl (alive, holds))) = absurd (alive t)
       where_dead t (inr (inr (absent, missed, whole))) = absurd (absent (holds_dead_one t))
 
-      where_gone : (HoldsObject (updates_of rows) o → ⊥) → CoversBirth (at vector) o → MayWriteUnit table vector rows (Object o) us → false ≡ true
+      where_gone : (HoldsObject (updates_of rows) o → ⊥) → CoversBirth (at vector) o
+          → MayWriteUnit table vector rows (Object o) us → false ≡ true
       where_gone absent covers (inl (t, only)) = absurd (absent (holds_dead_one t))
       where_gone absent covers (inr (inl (alive, holds))) = absurd (absent holds)
       where_gone absent covers (inr (inr (gone, missed, whole))) = absurd (missed covers)
 
-      where_new : (HoldsObject (updates_of rows) o → ⊥) → MayWriteUnit table vector rows (Object o) us → not (lacks table us) ≡ true
+      where_new : (HoldsObject (updates_of rows) o → ⊥) → MayWriteUnit table vector rows (Object o) us
+          → not (lacks table us) ≡ true
       where_new absent (inl (t, only)) = absurd (absent (holds_dead_one t))
       where_new absent (inr (inl (alive, holds))) = absurd (absent holds)
       where_new absent (inr (inr (gone, missed, whole))) = ap not (tested_where_whole table o us spelled whole)
@@ -171,12 +183,14 @@ module _ (table : Table) (vector : Cursors) (rows : List Held) where
 
   -- ---- one write
 
-  follows_where_tested : (item : Item) → IsSpelledItem item × ((u : Update) × Member u item.rows) → may_follow table vector rows item ≡ true → MayFollow table vector rows item
+  follows_where_tested : (item : Item) → IsSpelledItem item × ((u : Update) × Member u item.rows)
+      → may_follow table vector rows item ≡ true → MayFollow table vector rows item
   follows_where_tested item form h =
       let p = and_parts (list_all (is_above rows) item.rows) (may_write_unit table vector rows item.unit item.rows) h in
       record { some = form.1; form = form.0; greater = all_pass (is_above rows) item.rows p.0; unit = placed_where_tested item.unit item.rows form.0 p.1 }
 
-  tested_where_follows : (item : Item) → MayFollow table vector rows item → may_follow table vector rows item ≡ true
+  tested_where_follows : (item : Item) → MayFollow table vector rows item
+      → may_follow table vector rows item ≡ true
   tested_where_follows item f = and_from (list_all (is_above rows) item.rows) (may_write_unit table vector rows item.unit item.rows)
       (passes_all (is_above rows) item.rows f.greater) (tested_where_placed item.unit item.rows f.form f.unit)
 
@@ -188,7 +202,8 @@ few_where_tested rows h = let p = and_parts _ _ h in (leb-true _ _ p.0, leb-true
 pub tested_where_few : (rows : List Held) → AreWithinLimits rows → are_within_limits rows ≡ true
 tested_where_few rows few = and_from _ _ (le-leb _ _ few.0) (le-leb _ _ few.1)
 
-pub following_where_tested : (table : Table) (vector : Cursors) (rows : List Held) (ws : List Written) → Each (λ (w : Written). IsSpelledItem w.item × ((u : Update) × Member u w.item.rows)) ws
+pub following_where_tested : (table : Table) (vector : Cursors) (rows : List Held) (ws : List Written)
+    → Each (λ (w : Written). IsSpelledItem w.item × ((u : Update) × Member u w.item.rows)) ws
     → may_follow_in_turn table vector rows ws ≡ true → MayFollowInTurn table vector rows ws
 following_where_tested table vector rows [] form h = tt
 following_where_tested table vector rows (w ∷ ws) form h =
@@ -196,7 +211,8 @@ following_where_tested table vector rows (w ∷ ws) form h =
     let q = and_parts (may_follow table vector rows w.item) (are_within_limits (after_write rows w)) p.0 in
     (follows_where_tested table vector rows w.item (form w (inl refl)) q.0, few_where_tested (after_write rows w) q.1, following_where_tested table vector (after_write rows w) ws (λ v m. form v (inr m)) p.1)
 
-pub tested_where_following : (table : Table) (vector : Cursors) (rows : List Held) (ws : List Written) → MayFollowInTurn table vector rows ws → may_follow_in_turn table vector rows ws ≡ true
+pub tested_where_following : (table : Table) (vector : Cursors) (rows : List Held) (ws : List Written)
+    → MayFollowInTurn table vector rows ws → may_follow_in_turn table vector rows ws ≡ true
 tested_where_following table vector rows [] f = refl
 tested_where_following table vector rows (w ∷ ws) f = and_from (may_follow table vector rows w.item && are_within_limits (after_write rows w)) (may_follow_in_turn table vector (after_write rows w) ws)
     (and_from (may_follow table vector rows w.item) (are_within_limits (after_write rows w)) (tested_where_follows table vector rows w.item f.0) (tested_where_few (after_write rows w) f.1))

@@ -1,4 +1,4 @@
--- Which changes can follow a state. Each write is judged at its turn, with the vector before the change; what the change leaves is judged behind all of it.
+-- Which changes can follow a state: each write is judged at its turn, what is left behind the whole change.
 use Rattle.std.specs.Prelude.{◌≡◌, ◌⊎◌, ◌≤◌, List, [], ◌∷◌, length, true, ℕ}
 use Rattle.std.specs.Option.{IfSome}
 use Rattle.adr_stamp.specs.declared.Oid.{Oid}
@@ -29,7 +29,9 @@ pub record IsWhole (table : Table) (o : Oid) (us : List Update) : Type 0 where
   pub class : ℕ
   pub of_class : HasRow us o class_attr (λ said. said ≡ Holds (Class class))
   pub of_name : HasKey us o name_attr
-  pub whole : ((d : Update) × Member d us × IsDeathOf o d) ⊎ ((attr : ℕ) → has (must_of table class) attr ≡ true → HasKey us o attr)
+  pub whole :
+      ((d : Update) × Member d us × IsDeathOf o d)
+      ⊎ ((attr : ℕ) → has (must_of table class) attr ≡ true → HasKey us o attr)
 
 -- an object that is written to is dead and only dies, or stands, or is new and comes whole
 abbrev pub MayWriteObject : Table → Cursors → List Held → Oid → List Update → Type 0
@@ -41,13 +43,15 @@ MayWriteObject table vector rows o us =
 -- an end of a link isn't dead, and is held or wasn't seen
 abbrev pub IsEndThere : Cursors → List Held → Oid → Type 0
 IsEndThere vector rows o =
-    (IsTombstoned (updates_of rows) o → ⊥) × (HoldsObject (updates_of rows) o ⊎ (CoversBirth (at vector) o → ⊥))
+    (IsTombstoned (updates_of rows) o → ⊥)
+    × (HoldsObject (updates_of rows) o ⊎ (CoversBirth (at vector) o → ⊥))
 
 abbrev pub MayWriteUnit : Table → Cursors → List Held → Named → List Update → Type 0
 MayWriteUnit table vector rows (Object o) us = MayWriteObject table vector rows o us
 MayWriteUnit table vector rows (Link l) us = Each (IsEndThere vector rows) (ends (LinkOf l))
 
--- one write: it has a row, is of the form of an item, each row is new or greater than the held one, and its unit may be written to
+-- one write, judged by the rows that stand at its turn and by the vector before the change: it has a row and the form of
+-- an item, each row is new or greater than the held one, and its unit may be written to
 pub record MayFollow (table : Table) (vector : Cursors) (rows : List Held) (item : Item) : Type 0 where
   pub some : (u : Update) × Member u item.rows
   pub form : IsSpelledItem item
@@ -72,7 +76,8 @@ MayFollowInTurn table vector rows (w ∷ ws) =
 
 -- ---- the whole change
 
--- a removed object is held dead, and its birth and its death are purged: so they are covered, since no more is purged than covered
+-- a removed object is held dead, and its birth and its death are purged: so they are covered, since no more is purged
+-- than is covered
 pub record IsRemovable (rows : List Held) (purged : Cursors) (o : Oid) : Type 0 where
   pub death : Update
   pub is_held : Member death (updates_of rows)
@@ -80,8 +85,8 @@ pub record IsRemovable (rows : List Held) (purged : Cursors) (o : Oid) : Type 0 
   pub birth_purged : CoversBirth (at purged) o
   pub death_purged : Covers (at purged) death
 
--- a change goes on from a state that is up: USNs rise, marks and vectors are in order, each write may follow, and each removed
--- object is dead behind the writes
+-- a change goes on from a state that is up: USNs rise, marks and vectors are in order, each write may follow, and each
+-- removed object is dead behind the writes
 pub record GoesOn (s : State) (c : Change) : Type 0 where
   pub normal : s.mode ≡ Normal
   pub rises : s.store.usn ≤ c.usn
@@ -90,7 +95,8 @@ pub record GoesOn (s : State) (c : Change) : Type 0 where
   pub joined : IsVector c.joined
   pub purged : IsVector c.purged
   pub writes : MayFollowInTurn (numbered s.store.schema) s.store.vector s.store.rows c.writes
-  pub removed : Each (IsRemovable (rows_after [] (held_of c.writes) s.store.rows) (after s c).store.purged) c.removed
+  pub removed :
+      Each (IsRemovable (rows_after [] (held_of c.writes) s.store.rows) (after s c).store.purged) c.removed
 
 -- the class of every object that is held is in the schema's table, also of a dead one
 abbrev pub HasKnownClasses : State → Type 0

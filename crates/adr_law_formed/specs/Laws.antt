@@ -28,19 +28,23 @@ abbrev pub NewIsFormed : Type 0
 NewIsFormed = (dsa inv : Identifier) → IsFormed (empty_state dsa inv) × HasKnownClasses (empty_state dsa inv)
 
 abbrev pub AdoptedIsFormed : Type 0
-AdoptedIsFormed = (image : Store) (dsa inv : Identifier) (s : State) → IsFormedStore image → adopt image dsa inv ≡ Ok s → IsFormed s
+AdoptedIsFormed =
+    (image : Store) (dsa inv : Identifier) (s : State) → IsFormedStore image → adopt image dsa inv ≡ Ok s
+    → IsFormed s
 
 abbrev pub AdoptedHasKnownClasses : Type 0
 AdoptedHasKnownClasses =
-    (image : Store) (dsa inv : Identifier) (s : State) → AreClassesKnown (numbered image.schema) (updates_of image.rows)
-    → adopt image dsa inv ≡ Ok s → HasKnownClasses s
+    (image : Store) (dsa inv : Identifier) (s : State)
+    → AreClassesKnown (numbered image.schema) (updates_of image.rows) → adopt image dsa inv ≡ Ok s
+    → HasKnownClasses s
 
 -- ---- what calls change
 
 -- whether the reply is true doesn't matter
 abbrev pub TakenFollows : Type 0
 TakenFollows =
-    (s : State) (r : Reply) (c : Change) → IsFormed s → HasKnownClasses s → IsSpelledReply r → take s r ≡ Ok c → CanFollow s c
+    (s : State) (r : Reply) (c : Change) → IsFormed s → HasKnownClasses s → IsSpelledReply r → take s r ≡ Ok c
+    → CanFollow s c
 
 abbrev pub WrittenFollows : Type 0
 WrittenFollows =
@@ -49,10 +53,12 @@ WrittenFollows =
 
 abbrev pub CollectedFollows : Type 0
 CollectedFollows =
-    (s : State) (now lifetime : ℕ) (c : Change) → IsFormed s → HasKnownClasses s → collect s now lifetime ≡ Ok c → CanFollow s c
+    (s : State) (now lifetime : ℕ) (c : Change) → IsFormed s → HasKnownClasses s → collect s now lifetime ≡ Ok c
+    → CanFollow s c
 
 abbrev pub QuarantineFollows : Type 0
-QuarantineFollows = (s : State) → IsFormed s → HasKnownClasses s → s.mode ≡ Normal → CanFollow s (quarantine s)
+QuarantineFollows =
+    (s : State) → IsFormed s → HasKnownClasses s → s.mode ≡ Normal → CanFollow s (quarantine s)
 
 -- of a spelled item that isn't refused nothing is taken, or rows that may be
 abbrev pub ItemsMayBeTaken : Type 0
@@ -83,7 +89,8 @@ CollectedRises =
 
 -- it is enough to look at what a change touches, and no more is asked so
 abbrev pub TouchedIsEnough : Type 0
-TouchedIsEnough = (s : State) (c : Change) → IsFormed s → HasKnownClasses s → CanFollowByTouched s c → CanFollow s c
+TouchedIsEnough =
+    (s : State) (c : Change) → IsFormed s → HasKnownClasses s → CanFollowByTouched s c → CanFollow s c
 
 abbrev pub TouchedIsAsked : Type 0
 TouchedIsAsked = (s : State) (c : Change) → IsFormed s → CanFollow s c → CanFollowByTouched s c
@@ -113,21 +120,25 @@ ChangesPass = (s : State) (c : Change) → IsFormed s → CanFollow s c → can_
 abbrev pub RowsStoodOrCame : Type 0
 RowsStoodOrCame =
     (s : State) (c : Change)
-    → Each (λ u. Member u (updates_of s.store.rows) ⊎ Member u (updates_written c)) (updates_of (after s c).store.rows)
+    → Each (λ u. Member u (updates_of s.store.rows) ⊎ Member u (updates_written c))
+    (updates_of (after s c).store.rows)
 
 -- a cursor stood, was joined, or is the own one
 abbrev pub CursorsStoodOrCame : Type 0
 CursorsStoodOrCame =
     (s : State) (c : Change)
-    → Each (λ e. Member e s.store.vector ⊎ (Member e c.joined ⊎ ((e ≡ (s.inv, c.usn)) × (1 ≤ c.usn)))) (after s c).store.vector
+    → Each (λ e. Member e s.store.vector ⊎ (Member e c.joined ⊎ ((e ≡ (s.inv, c.usn)) × (1 ≤ c.usn))))
+    (after s c).store.vector
 
 abbrev pub PurgedStoodOrCame : Type 0
 PurgedStoodOrCame =
-    (s : State) (c : Change) → Each (λ e. Member e s.store.purged ⊎ Member e c.purged) (after s c).store.purged
+    (s : State) (c : Change)
+    → Each (λ e. Member e s.store.purged ⊎ Member e c.purged) (after s c).store.purged
 
 abbrev pub MarksStoodOrCame : Type 0
 MarksStoodOrCame =
-    (s : State) (c : Change) → Each (λ k. Member k s.store.marks ⊎ (c.mark ≡ Some k)) (after s c).store.marks
+    (s : State) (c : Change)
+    → Each (λ k. Member k s.store.marks ⊎ (c.mark ≡ Some k)) (after s c).store.marks
 
 -- partners of marks rise
 abbrev pub ArePartnersRising : List (Identifier × Kept) → Type 0

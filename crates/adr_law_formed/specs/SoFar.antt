@@ -11,7 +11,8 @@ use Rattle.adr_law_formed.specs.Spelled.{AreLocalsRising}
 use Rattle.adr_law_formed.specs.Follow.{MayFollowInTurn}
 use Rattle.adr_law_formed.specs.Taken.{AreBare}
 
--- so far rows stay formed with known classes, and the writes follow one after the other where no table went over its limit
+-- so far rows stay formed with known classes, and the writes follow one after the other where no table went over its
+-- limit
 pub record FollowsSoFar (s : State) (t : Taking) : Type 0 where
   pub steady : StaysFormed s t
   pub classes : AreClassesKnown (numbered s.store.schema) (updates_of t.rows)

@@ -18,7 +18,8 @@ abbrev pub IsContentOfAttr : ℕ → Content → Type 0
 IsContentOfAttr attr (Class class) = attr ≡ class_attr
 IsContentOfAttr attr (Name text parent) = attr ≡ name_attr
 IsContentOfAttr attr Dead = attr ≡ deleted_attr
-IsContentOfAttr attr (Values vs) = (attr ≡ class_attr → ⊥) × (attr ≡ name_attr → ⊥) × (attr ≡ deleted_attr → ⊥)
+IsContentOfAttr attr (Values vs) =
+    (attr ≡ class_attr → ⊥) × (attr ≡ name_attr → ⊥) × (attr ≡ deleted_attr → ⊥)
 
 -- what a row of a key says
 abbrev pub IsSaidOfKey : Key → Said → Type 0

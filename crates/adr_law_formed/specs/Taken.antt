@@ -13,11 +13,13 @@ use Rattle.adr_law_taking.specs.OnTheWay.{KeepForms}
 use Rattle.adr_law_formed.specs.Follow.{MayFollow}
 
 -- rows may be put, keep the forms, and may follow
-pub record MayBeTaken (schema : ℕ) (vector : Cursors) (rows : List Held) (unit : Named) (us : List Update) : Type 0 where
+pub record MayBeTaken (schema : ℕ) (vector : Cursors) (rows : List Held) (unit : Named) (us : List Update)
+    : Type 0 where
   pub put : MayPut (updates_of rows) (at vector) unit us
   pub keeps : KeepForms (numbered schema) (at vector) (updates_of rows) unit us
   pub follows : MayFollow (numbered schema) vector rows (record { unit = unit; rows = us })
 
--- beside a death there are only class, name and deleted rows. Calls write so; a record that is read isn't asked for it
+-- beside a death there are only class, name and deleted rows. Calls write so; a record that is read isn't asked for
+-- it
 abbrev pub AreBare : List Update → Type 0
 AreBare us = Each (λ d. IsDeath d → Each (λ u. is_reserved_row u.key ≡ true) us) us

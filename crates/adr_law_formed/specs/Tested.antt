@@ -32,7 +32,8 @@ may_write_object table us IsNew = not (lacks table us)
 
 abbrev pub may_write_unit : Table → Cursors → List Held → Named → List Update → Bool
 may_write_unit table vector rows (Object o) us = may_write_object table us (presence_of vector rows o)
-may_write_unit table vector rows (Link l) us = not (is_lost_end vector rows l.from || is_lost_end vector rows l.to)
+may_write_unit table vector rows (Link l) us =
+    not (is_lost_end vector rows l.from || is_lost_end vector rows l.to)
 
 abbrev pub may_follow : Table → Cursors → List Held → Item → Bool
 may_follow table vector rows item =
@@ -52,7 +53,8 @@ may_follow_in_turn table vector rows (w ∷ ws) =
 
 abbrev pub is_removable : List Held → Cursors → Oid → Bool
 is_removable rows purged o =
-    option_map_or (λ h. covers_birth purged o && covers_update purged h.update) (row_held rows (RowOf o deleted_attr)) false
+    option_map_or (λ h. covers_birth purged o && covers_update purged h.update)
+    (row_held rows (RowOf o deleted_attr)) false
 
 -- ---- a touched unit behind the change
 
@@ -96,27 +98,32 @@ abbrev pub is_alive_formed : Table → List Held → Oid → Option ℕ → Bool
 is_alive_formed table rows o None = false
 is_alive_formed table rows o (Some c) =
     is_some (class_at table c)
-    && (all_of_object rows o (fits_class table c) && list_all (λ attr. is_some (row_held rows (RowOf o attr))) (must_of table c))
+    && (all_of_object rows o (fits_class table c)
+    && list_all (λ attr. is_some (row_held rows (RowOf o attr))) (must_of table c))
 
 -- by the class row, the name row and the deleted row
 abbrev pub is_formed_by : Table → List Held → Oid → Option Held → Option Held → Option Held → Bool
 is_formed_by table rows o None n d = false
 is_formed_by table rows o (Some b) None d = false
 is_formed_by table rows o (Some b) (Some n) None =
-    is_birth o b.update && (says_allowed_name n.update.said && is_alive_formed table rows o (class_said b.update.said))
+    is_birth o b.update
+    && (says_allowed_name n.update.said && is_alive_formed table rows o (class_said b.update.said))
 is_formed_by table rows o (Some b) (Some n) (Some d) =
     is_birth o b.update
     && (is_class_known table (class_said b.update.said)
-    && (says_allowed_name n.update.said && (says_dead d.update.said && all_of_object rows o (λ u. is_reserved_row u.key))))
+    && (says_allowed_name n.update.said
+    && (says_dead d.update.said && all_of_object rows o (λ u. is_reserved_row u.key))))
 
 abbrev pub is_object_formed : Table → List Held → Oid → Bool
 is_object_formed table rows o =
-    is_formed_by table rows o (row_held rows (RowOf o class_attr)) (row_held rows (RowOf o name_attr)) (row_held rows (RowOf o deleted_attr))
+    is_formed_by table rows o (row_held rows (RowOf o class_attr)) (row_held rows (RowOf o name_attr))
+    (row_held rows (RowOf o deleted_attr))
 
 -- an object that isn't held, or is formed; a link that doesn't stand, or is a forward one
 abbrev pub is_touched_formed : Table → List Held → Named → Bool
 is_touched_formed table rows (Object o) = not (holds_object rows o) || is_object_formed table rows o
-is_touched_formed table rows (Link l) = is_none (row_held rows (LinkOf l)) || is_forward (kind_at table l.attr)
+is_touched_formed table rows (Link l) =
+    is_none (row_held rows (LinkOf l)) || is_forward (kind_at table l.attr)
 
 -- ---- the whole
 

@@ -20,13 +20,16 @@ use Rattle.adr_law_formed.specs.Follow.{GoesOn}
 pub record IsInForm (table : Table) (rows : List Update) (o : Oid) : Type 0 where
   pub none : Each (λ r. r.key ≡ RowOf o 0 → ⊥) rows
   pub births : Each (λ r. r.key ≡ RowOf o class_attr → is_birth o r ≡ true) rows
-  pub classes : Each (λ r. r.key ≡ RowOf o class_attr → (class : ℕ) → r.said ≡ Holds (Class class) → IsSome (class_at table class)) rows
+  pub classes :
+      Each (λ r. r.key ≡ RowOf o class_attr → (class : ℕ) → r.said ≡ Holds (Class class) → IsSome (class_at table class))
+      rows
   pub named : HoldsObject rows o → IsNamed rows o
   pub formed : HoldsObject rows o → IsObjectFormed table rows o
 
 -- a link that stands is a forward one
 abbrev pub IsLinkForward : Table → List Update → LinkKey → Type 0
-IsLinkForward table rows l = (r : Update) → Member r rows → r.key ≡ LinkOf l → is_forward (kind_at table l.attr) ≡ true
+IsLinkForward table rows l =
+    (r : Update) → Member r rows → r.key ≡ LinkOf l → is_forward (kind_at table l.attr) ≡ true
 
 -- each object that is written to is in form, and each link that is written and stands is a forward one
 pub record AreTouchedInForm (table : Table) (rows : List Update) (c : Change) : Type 0 where
