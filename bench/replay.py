@@ -1,12 +1,14 @@
 #!/usr/bin/env python3
 """Replays generated schedules at a size and at twice the size, and prints time, ratio and memory.
 
-Usage: bench/replay.py [WORD..]        (only the works whose names have one of these words; else all)
+Usage: bench/replay.py [--count] [WORD..]        (only the works whose names have one of these words; else all)
 
 The time is that of the processor. That of a work is the time of its whole schedule less that of the lines before it, each
-the least of three runs.
+the least of three runs. With --count the instructions are counted (by valgrind) at a tenth of the sizes, in place of time
+and memory: a count is the same from run to run, whatever else the machine does.
 """
 import os
+import re
 import subprocess
 import sys
 import tempfile
@@ -144,6 +146,21 @@ def measured(lines):
     return best, most
 
 
+def counted(lines):
+    """Millions of instructions of one replay of these lines."""
+    tool = ["valgrind", "--tool=cachegrind", "--cache-sim=no", "--cachegrind-out-file=/dev/null"]
+    text = "\n".join(lines).encode() + b"\n"
+    run = subprocess.run(tool + [f"{TOP}/crates/adrep/out/adrep", "replay"], input=text, capture_output=True, check=True)
+    refs = re.search(rb"I +refs: +([0-9,]+)", run.stderr)
+    return int(refs.group(1).replace(b",", b"")) / 1e6
+
+
+def count(made, size):
+    """Millions of instructions of a work at a size, without the lines before it."""
+    before, lines = made(size)
+    return counted(before + lines) - counted(before)
+
+
 def work(made, size):
     """Seconds and MiB of a work at a size, without the lines before it."""
     before, lines = made(size)
@@ -157,9 +174,22 @@ def whole_run(name, lines):
     print(f"{name:40} {seconds:9.2f} s {memory:7.0f} MiB", flush=True)
 
 
+def count_all(words):
+    print(f"{'work':40} {'n':>7} {'millions':>9} {'at 2n':>9} {'ratio':>6}")
+    for name, made, size in WORKS:
+        if words and not any(word in name for word in words):
+            continue
+        size //= 10
+        once, twice = count(made, size), count(made, 2 * size)
+        print(f"{name:40} {size:7} {once:9.1f} {twice:9.1f} {twice / once:6.2f}", flush=True)
+
+
 def main():
-    words = sys.argv[1:]
+    words = [word for word in sys.argv[1:] if word != "--count"]
     subprocess.run([f"{TOP}/adrep", "replay"], input=b"", check=True)  # builds the program
+    if "--count" in sys.argv[1:]:
+        count_all(words)
+        return
     print(f"{'work':40} {'n':>7} {'seconds':>9} {'at 2n':>9} {'ratio':>6} {'MiB':>6} {'at 2n':>6}")
     for name, made, size in WORKS:
         if words and not any(word in name for word in words):
