@@ -37,11 +37,16 @@ fn reply(alloc: Global, source: &State) -> Result<Reply, Failure<ServeRefusal>> 
     serve(alloc, source, &request)
 }
 
-/// It as it is served of five containers: how many items, up to which mark, and whether these are all.
-fn served(rt: &impl Abort, alloc: Global, number: usize) -> (usize, Mark, bool) {
+/// The first reply of a controller with five containers.
+fn first(rt: &impl Abort, alloc: Global, number: usize) -> Reply {
     let writes = five(alloc, number).expect(rt, "memory");
     let source = holding(rt, alloc, 5, Mode::Normal, writes);
-    let reply = reply(alloc, &source).expect(rt, "a reply");
+    reply(alloc, &source).expect(rt, "a reply")
+}
+
+/// How many items it has, up to which mark it goes, and whether nothing is left.
+fn served(rt: &impl Abort, alloc: Global, number: usize) -> (usize, Mark, bool) {
+    let reply = first(rt, alloc, number);
     (reply.items().len(), reply.to(), reply.last().is_some())
 }
 

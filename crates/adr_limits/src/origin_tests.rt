@@ -75,10 +75,6 @@ fn made(rt: &impl Abort, alloc: Global, state: &State, write: Write) -> Made {
 /// What a client is told of a write: its USN, or why it is refused.
 type Told = Result<u64, WriteRefusal>;
 
-const NONE_LEFT: Told = Err(WriteRefusal::UsnLimit);
-
-const SHUT: Told = Err(WriteRefusal::Quarantined);
-
 fn told(rt: &impl Abort, made: Made) -> Told {
     match made {
         Ok(change) => Ok(change.usn()),
@@ -94,66 +90,63 @@ fn held(alloc: Global, version: u32) -> Result<Vec<Written>, NoMemory> {
     list(alloc, [written])
 }
 
-/// A controller with it.
-fn source(rt: &impl Abort, alloc: Global, version: u32, usn: u64, mode: Mode) -> State {
+/// Each write to a controller that holds it, at a USN and in a mode, is told what stands beside the write.
+fn check(
+    rt: &impl Abort,
+    alloc: Global,
+    version: u32,
+    usn: u64,
+    mode: Mode,
+    cases: &[(Write, Told)],
+) {
     let writes = held(alloc, version).expect(rt, "memory");
-    holding(rt, alloc, usn, mode, writes)
-}
-
-/// Each write is told what stands beside it.
-fn tells(rt: &impl Abort, alloc: Global, state: &State, cases: &[(Write, Told)]) {
+    let state = holding(rt, alloc, usn, mode, writes);
     for (write, answer) in cases {
         assert_eq!(rt;
-            told(rt, made(rt, alloc, state, *write)),
+            told(rt, made(rt, alloc, &state, *write)),
             *answer,
             "{write:?}"
         );
     }
 }
 
+const LAST_VERSION: [(Write, Told); 3] = [
+    (
+        Write::Describe,
+        Err(WriteRefusal::VersionLimit { attr: 12 }),
+    ),
+    (Write::Rename, Err(WriteRefusal::VersionLimit { attr: 2 })),
+    (Write::Delete, Ok(2)),
+];
+
 #[test]
 fn the_last_version_stays(rt: HostRuntime) {
-    let alloc = rt.alloc();
-    let state = source(&rt, alloc, u32::MAX, 1, Mode::Normal);
-    let cases = [
-        (
-            Write::Describe,
-            Err(WriteRefusal::VersionLimit { attr: 12 }),
-        ),
-        (Write::Rename, Err(WriteRefusal::VersionLimit { attr: 2 })),
-        (Write::Delete, Ok(2)),
-    ];
-    tells(&rt, alloc, &state, &cases);
+    check(&rt, rt.alloc(), u32::MAX, 1, Mode::Normal, &LAST_VERSION);
 }
+
+const NONE_LEFT: [(Write, Told); 4] = [
+    (Write::Add, Err(WriteRefusal::UsnLimit)),
+    (Write::Describe, Err(WriteRefusal::UsnLimit)),
+    (Write::Rename, Err(WriteRefusal::UsnLimit)),
+    (Write::Delete, Err(WriteRefusal::UsnLimit)),
+];
+
+const ONE_LEFT: [(Write, Told); 1] = [(Write::Delete, Ok(LAST_USN))];
 
 #[test]
 fn the_last_usn_stays(rt: HostRuntime) {
     let alloc = rt.alloc();
-    let state = source(&rt, alloc, 1, LAST_USN, Mode::Normal);
-    let cases = [
-        (Write::Add, NONE_LEFT),
-        (Write::Describe, NONE_LEFT),
-        (Write::Rename, NONE_LEFT),
-        (Write::Delete, NONE_LEFT),
-    ];
-    tells(&rt, alloc, &state, &cases);
+    check(&rt, alloc, 1, LAST_USN - 1, Mode::Normal, &ONE_LEFT);
+    check(&rt, alloc, 1, LAST_USN, Mode::Normal, &NONE_LEFT);
 }
 
-#[test]
-fn one_usn_is_left(rt: HostRuntime) {
-    let alloc = rt.alloc();
-    let state = source(&rt, alloc, 1, LAST_USN - 1, Mode::Normal);
-    tells(&rt, alloc, &state, &[(Write::Delete, Ok(LAST_USN))]);
-}
+const SHUT: [(Write, Told); 3] = [
+    (Write::Add, Err(WriteRefusal::Quarantined)),
+    (Write::Rename, Err(WriteRefusal::Quarantined)),
+    (Write::Link, Err(WriteRefusal::Quarantined)),
+];
 
 #[test]
 fn a_database_that_was_put_back_takes_no_write(rt: HostRuntime) {
-    let alloc = rt.alloc();
-    let state = source(&rt, alloc, 1, 1, Mode::Quarantined);
-    let cases = [
-        (Write::Add, SHUT),
-        (Write::Rename, SHUT),
-        (Write::Link, SHUT),
-    ];
-    tells(&rt, alloc, &state, &cases);
+    check(&rt, rt.alloc(), 1, 1, Mode::Quarantined, &SHUT);
 }

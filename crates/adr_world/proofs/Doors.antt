@@ -1,10 +1,7 @@
 -- What is claimed of a line follows of what it does.
-use Rattle.std.proofs.Common.{◌≡◌, ◌⊎◌, inl, inr, ℕ, List, Bool, false, sym, ap, subst}
-use Rattle.adr_event.specs.declared.answer.Answer.{Answer}
+use Rattle.std.proofs.Common.{◌≡◌, inl, inr, ℕ, false, sym, ap, subst}
 use Rattle.adr_event.specs.declared.event.Event.{Event}
 use Rattle.adr_event.specs.declared.event.Event.TheVariants as events
-use Rattle.adr_model.specs.Member.{Member}
-use Rattle.adr_model.specs.Replica.{Replica}
 use Rattle.adr_model.specs.World.{World, Name}
 use Rattle.adr_model.specs.Cycles.{Pulled, pull, cycle}
 use Rattle.adr_model.specs.Step.{step}

@@ -1,5 +1,5 @@
 -- A line is what its turns come to.
-use Rattle.std.proofs.Common.{◌≤◌, ◌∙◌, List, [], ◌++◌, sym, ap, subst, arith}
+use Rattle.std.proofs.Common.{◌≤◌, List, [], ◌++◌, sym, ap, subst, arith}
 use Rattle.std.specs.Prelude.{flat_map}
 use Rattle.adr_event.specs.declared.answer.Answer.{Answer}
 use Rattle.adr_io.specs.Told.{Adds, AddsFront}
