@@ -84,7 +84,8 @@ further_from_one : (ds : List (Oid × Update)) (v : Cursors) → FromOne v
     → FromOne
     (fold (λ w (d : Oid × Update). raised (raised w d.0.birth.inv d.0.birth.usn) (inv_of d.1) (usn_of d.1)) v ds)
 further_from_one [] v one = one
-further_from_one (d ∷ ds) v one = further_from_one ds (raised (raised v d.0.birth.inv d.0.birth.usn) (inv_of d.1) (usn_of d.1))
+further_from_one (d ∷ ds) v one = further_from_one ds
+    (raised (raised v d.0.birth.inv d.0.birth.usn) (inv_of d.1) (usn_of d.1))
     (from_one-raised (raised v d.0.birth.inv d.0.birth.usn) (inv_of d.1) (usn_of d.1) (from_one-raised v d.0.birth.inv d.0.birth.usn one))
 
 covering_from_one : (ds : List (Oid × Update)) → FromOne (covering ds)
@@ -97,7 +98,8 @@ passed false o p e = absurd (cc)
 
 module _ (s : State) (now lifetime : ℕ) where
   abbrev may_go : Update → Oid → Bool
-  may_go u o = covers_birth s.store.vector o && covers_update s.store.vector u && nat_le (u.stamp.stamp.time + lifetime) now
+  may_go u o = covers_birth s.store.vector o && covers_update s.store.vector u && nat_le
+      (u.stamp.stamp.time + lifetime) now
 
   abbrev dead_of : Update → Option Oid → Option Oid
   dead_of u None = None
@@ -113,7 +115,8 @@ module _ (s : State) (now lifetime : ℕ) where
     where
       by : (k : Option Oid) → killed_by u.key ≡ k → dead_of u k ≡ Some o → u.key ≡ RowOf o deleted_attr
       by None is e = absurd (cc)
-      by (Some p) is e = subst (λ q. u.key ≡ RowOf q deleted_attr) (passed (may_go u p) p o e) (is_killed u.key p is)
+      by (Some p) is e = subst (λ q. u.key ≡ RowOf q deleted_attr) (passed (may_go u p) p o e)
+          (is_killed u.key p is)
 
   dies : (h : Held) (d : Oid × Update)
       → with_death h.update (collected_by s.store.vector now lifetime h.update) ≡ Some d
@@ -123,7 +126,8 @@ module _ (s : State) (now lifetime : ℕ) where
       by : (k : Option Oid) → collected_by s.store.vector now lifetime h.update ≡ k
           → with_death h.update k ≡ Some d → h.update.key ≡ RowOf d.0 deleted_attr
       by None is e = absurd (cc)
-      by (Some o) is e = collected_dies h.update d.0 (is ∙ ap Some (let f : (o, h.update) ≡ d = cc in ap (λ (t : Oid × Update). t.0) f))
+      by (Some o) is e = collected_dies h.update d.0
+          (is ∙ ap Some (let f : (o, h.update) ≡ d = cc in ap (λ (t : Oid × Update). t.0) f))
 
 module _ (s : State) (now lifetime : ℕ) (is : IsFormed s) (classes : HasKnownClasses s) where
   abbrev dead : List (Oid × Update)
@@ -197,5 +201,6 @@ collected_follows s now lifetime c is classes e =
 -- what is removed rises by the objects' names
 pub collected_rise : (s : State) (now lifetime : ℕ) (c : Change) → AreRising s.store.rows
     → collect s now lifetime ≡ Ok c → IsStrictlySortedBy object_order c.removed
-collected_rise s now lifetime c rising e = subst (λ (x : Change). IsStrictlySortedBy object_order x.removed) (collect_is_collection s now lifetime c e)
+collected_rise s now lifetime c rising e = subst (λ (x : Change). IsStrictlySortedBy object_order x.removed)
+    (collect_is_collection s now lifetime c e)
     (gone_rise (λ (h : Held). with_death s now lifetime h.update (collected_by s.store.vector now lifetime h.update)) (dies s now lifetime) s.store.rows rising)
