@@ -31,11 +31,11 @@ module _ (s : State) (now lifetime : ℕ) where
   dead_of u None = None
   dead_of u (Some o) = then_some (may_go u o) o
 
-  abbrev with_death : Update → Option Oid → Option (Oid × Update)
+  abbrev pub with_death : Update → Option Oid → Option (Oid × Update)
   with_death u None = None
   with_death u (Some o) = Some (o, u)
 
-  collected_dies : (u : Update) (o : Oid) → collected_by vector now lifetime u ≡ Some o → (u.key ≡ RowOf o deleted_attr) × (may_go u o ≡ true)
+  pub collected_dies : (u : Update) (o : Oid) → collected_by vector now lifetime u ≡ Some o → (u.key ≡ RowOf o deleted_attr) × (may_go u o ≡ true)
   collected_dies u o e = by (killed_by u.key) refl e
     where
       by : (k : Option Oid) → killed_by u.key ≡ k → dead_of u k ≡ Some o → (u.key ≡ RowOf o deleted_attr) × (may_go u o ≡ true)

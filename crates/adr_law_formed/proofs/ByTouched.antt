@@ -45,7 +45,8 @@ touched_or_not (w ∷ ws) q = by (unit_or_not w.item.unit (Object q)) (touched_o
         → ((v : Written) × Member v (w ∷ ws) × (v.item.unit ≡ Object q)) ⊎ IsUntouched (w ∷ ws) q
     by (inl e) rest = inl (w, inl refl, e)
     by (inr other) (inl (v, m, e)) = inl (v, inr m, e)
-    by (inr other) (inr none) = inr (λ v m e. ⊎_elim (λ is. other (ap (λ (z : Written). z.item.unit) (sym is) ∙ e)) (λ n. none v n e) m)
+    by (inr other) (inr none) = inr
+        (λ v m e. ⊎_elim (λ is. other (ap (λ (z : Written). z.item.unit) (sym is) ∙ e)) (λ n. none v n e) m)
 
 module _ (s : State) (c : Change) (formed : IsFormed s) (known : HasKnownClasses s)
     (f : CanFollowByTouched s c) where
@@ -98,12 +99,15 @@ module _ (s : State) (c : Change) (formed : IsFormed s) (known : HasKnownClasses
       none = λ r m is. formed.store.rows.none q r (back r 0 is m) is;
       births = λ r m is. formed.store.rows.births q r (back r class_attr is m) is;
       classes = λ r m is class says. known r (back r class_attr is m) class says;
-      named = λ h. named_same (updates_of before) (updates_of now) q (to h) (formed.store.rows.named q (held_before h));
-      formed = λ h. object_same (updates_of before) (updates_of now) q (to h) back table (formed.store.rows.objects q (held_before h));
+      named = λ h. named_same (updates_of before) (updates_of now) q (to h)
+          (formed.store.rows.named q (held_before h));
+      formed = λ h. object_same (updates_of before) (updates_of now) q (to h) back table
+          (formed.store.rows.objects q (held_before h));
     }
 
   unit_formed : (q : Oid) → IsInForm table (updates_of now) q
-  unit_formed q = ⊎_elim (λ t. f.touched.objects t.0 t.1 q t.2) (λ none. untouched_formed q none) (touched_or_not c.writes q)
+  unit_formed q = ⊎_elim (λ t. f.touched.objects t.0 t.1 q t.2) (λ none. untouched_formed q none)
+      (touched_or_not c.writes q)
 
   -- ---- links
 
@@ -137,11 +141,13 @@ module _ (s : State) (c : Change) (formed : IsFormed s) (known : HasKnownClasses
 
   -- a row that says a class stood before, or was written and is the class row of its object
   classes : HasKnownClasses d
-  classes r m class says = let h = held_as now r m in by h (change_from c.removed (held_of c.writes) before h.0 h.1)
+  classes r m class says = let h = held_as now r m in by h
+      (change_from c.removed (held_of c.writes) before h.0 h.1)
     where
       of_key : (w : Written) → Member w c.writes → unit_of r.key ≡ w.item.unit → (k : Key) → r.key ≡ k
           → IsSaidOfKey k (Holds (Class class)) → IsSome (class_at table class)
-      of_key w n unit (RowOf o attr) is of = (f.touched.objects w n o (sym unit ∙ ap unit_of is)).classes r m (is ∙ ap (λ a. RowOf o a) of) class says
+      of_key w n unit (RowOf o attr) is of = (f.touched.objects w n o (sym unit ∙ ap unit_of is)).classes r m
+          (is ∙ ap (λ a. RowOf o a) of) class says
       of_key w n unit (LinkOf l) is of = absurd of
 
       written_so : (x : Held) → r ≡ x.update → Member x (held_of c.writes) → IsSome (class_at table class)
@@ -156,7 +162,8 @@ module _ (s : State) (c : Change) (formed : IsFormed s) (known : HasKnownClasses
       by : (h : (h : Held) × Member h now × (r ≡ h.update))
           → Member h.0 (held_of c.writes) ⊎ Member h.0 before → IsSome (class_at table class)
       by h (inl new) = written_so h.0 h.2 new
-      by h (inr old) = known r (subst (λ u. Member u (updates_of before)) (sym h.2) (updated before h.0 old)) class says
+      by h (inr old) = known r
+          (subst (λ u. Member u (updates_of before)) (sym h.2) (updated before h.0 old)) class says
 
   rows : AreFormedRows table (updates_of now)
   rows = record {
@@ -171,22 +178,27 @@ module _ (s : State) (c : Change) (formed : IsFormed s) (known : HasKnownClasses
 
   vector : IsVector d.store.vector
   vector = record {
-    rising = rising-raised (joined s.store.vector c.joined) s.inv c.usn (rising-joined c.joined s.store.vector formed.store.vector.rising);
-    from_one = from_one-raised (joined s.store.vector c.joined) s.inv c.usn (from_one-joined c.joined s.store.vector formed.store.vector.from_one);
+    rising = rising-raised (joined s.store.vector c.joined) s.inv c.usn
+        (rising-joined c.joined s.store.vector formed.store.vector.rising);
+    from_one = from_one-raised (joined s.store.vector c.joined) s.inv c.usn
+        (from_one-joined c.joined s.store.vector formed.store.vector.from_one);
     few = f.cursors;
   }
 
   higher : AtMost (at s.store.vector) (at d.store.vector)
-  higher i = omega (arith, at-joined c.joined s.store.vector i f.goes_on.joined.rising, raised_up (joined s.store.vector c.joined) s.inv c.usn i)
+  higher i = omega
+      (arith, at-joined c.joined s.store.vector i f.goes_on.joined.rising, raised_up (joined s.store.vector c.joined) s.inv c.usn i)
 
   purged_within : AtMost (at d.store.purged) (at d.store.vector)
-  purged_within i = omega (arith, at-joined c.purged s.store.purged i f.goes_on.purged.rising, everywhere_from_at_most s.store.purged s.store.vector formed.store.purged_within i, higher i, f.within i)
+  purged_within i = omega
+      (arith, at-joined c.purged s.store.purged i f.goes_on.purged.rising, everywhere_from_at_most s.store.purged s.store.vector formed.store.purged_within i, higher i, f.within i)
 
   purged : IsVector d.store.purged
   purged = record {
     rising = rise;
     from_one = one;
-    few = omega (arith, f.cursors, no_more_cursors d.store.vector d.store.purged rise one vector.rising (λ i some. omega (arith, some, purged_within i)));
+    few = omega
+        (arith, f.cursors, no_more_cursors d.store.vector d.store.purged rise one vector.rising (λ i some. omega (arith, some, purged_within i)));
   }
     where
       rise : IsRising d.store.purged
@@ -240,7 +252,8 @@ touched_is_asked s c formed f = record {
     links = λ w m l e r n is. (f.formed.store.rows.links l r n is).forward;
   };
   own = own;
-  within = λ i. omega (arith, at-joined c.purged s.store.purged i f.goes_on.purged.rising, everywhere_from_at_most (after s c).store.purged (after s c).store.vector f.formed.store.purged_within i);
+  within = λ i. omega
+      (arith, at-joined c.purged s.store.purged i f.goes_on.purged.rising, everywhere_from_at_most (after s c).store.purged (after s c).store.vector f.formed.store.purged_within i);
   cursors = f.formed.store.vector.few;
   marks = f.formed.store.limits.marks;
 }

@@ -1,6 +1,6 @@
 -- A collection of a formed state: the change can follow it, and leaves a formed one.
-use Rattle.std.proofs.Common.{◌≡◌, ℕ, ◌+◌, List, [], ◌∷◌, Bool, true, false, ◌&&◌, Option, Some, None, refl, sym, ap, ◌∙◌, subst, arith, map, fold, filter_map, Ok}
-use Rattle.std.specs.Prelude.{nat_le, nat_lt}
+use Rattle.std.proofs.Common.{◌≡◌, ℕ, List, [], ◌∷◌, false, Option, Some, None, refl, sym, ap, ◌∙◌, subst, arith, map, fold, filter_map, Ok}
+use Rattle.std.specs.Prelude.{nat_lt}
 use Rattle.std.specs.Bool.{then_some}
 use Rattle.std.specs.List.{AllByRecursion, cons_option}
 use Rattle.std.specs.List.Sorted.{IsStrictlySortedBy}
@@ -17,21 +17,21 @@ use Rattle.adr_event.specs.declared.refusal.CollectRefusal.TheVariants.{Quaranti
 use Rattle.adr_model.specs.Member.{Member, Each}
 use Rattle.adr_model.specs.Update.{Key, RowOf, Update, inv_of, usn_of, key_order, deleted_attr}
 use Rattle.adr_model.specs.Reflects.{Covers, CoversBirth}
-use Rattle.adr_model.specs.Visible.{covers_update, covers_birth}
 use Rattle.adr_model.specs.Store.{Held, State, updates_of}
 use Rattle.adr_model.specs.Serve.{is_quarantined}
-use Rattle.adr_model.specs.Change.{Change, after, killed_by}
+use Rattle.adr_model.specs.Change.{Change, after}
 use Rattle.adr_model.specs.Formed.{AreRising, IsFormed}
 use Rattle.adr_model.specs.Write.{usn_limit}
 use Rattle.adr_model.specs.Collect.{collected_by, deaths_to_collect, covering, collection, collect_refusal, collect}
 use Rattle.adr_model.proofs.Members.{mapped_member}
 use Rattle.adr_law_knowledge.proofs.Refusing.{answered}
-use Rattle.adr_law_steps.proofs.Rows.{updated, is_killed}
+use Rattle.adr_law_steps.proofs.Rows.{updated}
 use Rattle.adr_law_collecting.specs.Collectable.{IsCollectable}
 use Rattle.adr_law_knowledge.proofs.Fewer.{no_more_cursors}
 use Rattle.adr_law_collecting.proofs.Covering.{covering_within, covering_rises}
 use Rattle.adr_law_collecting.proofs.Removing.{update_stood}
 use Rattle.adr_law_collecting.proofs.Taken.{collect_is_collection}
+use Rattle.adr_law_collecting.proofs.Deaths.{with_death, collected_dies}
 use Rattle.adr_law_collecting.proofs.Formed.{collectable, covered, usn_rises, covers as purged_all, collection_formed}
 use Rattle.adr_law_formed.specs.Follow.{IsRemovable, HasKnownClasses, CanFollow}
 use Rattle.adr_law_formed.proofs.Said.{neither}
@@ -84,46 +84,24 @@ further_from_one : (ds : List (Oid × Update)) (v : Cursors) → FromOne v
     → FromOne
     (fold (λ w (d : Oid × Update). raised (raised w d.0.birth.inv d.0.birth.usn) (inv_of d.1) (usn_of d.1)) v ds)
 further_from_one [] v one = one
-further_from_one (d ∷ ds) v one = further_from_one ds (raised (raised v d.0.birth.inv d.0.birth.usn) (inv_of d.1) (usn_of d.1))
+further_from_one (d ∷ ds) v one = further_from_one ds
+    (raised (raised v d.0.birth.inv d.0.birth.usn) (inv_of d.1) (usn_of d.1))
     (from_one-raised (raised v d.0.birth.inv d.0.birth.usn) (inv_of d.1) (usn_of d.1) (from_one-raised v d.0.birth.inv d.0.birth.usn one))
 
 covering_from_one : (ds : List (Oid × Update)) → FromOne (covering ds)
 covering_from_one ds = further_from_one ds [] tt
 
--- what a test of an object comes to, where it gives one
-passed : (b : Bool) (o p : Oid) → then_some b o ≡ Some p → o ≡ p
-passed true o p e = cc
-passed false o p e = absurd (cc)
-
 module _ (s : State) (now lifetime : ℕ) where
-  abbrev may_go : Update → Oid → Bool
-  may_go u o = covers_birth s.store.vector o && covers_update s.store.vector u && nat_le (u.stamp.stamp.time + lifetime) now
-
-  abbrev dead_of : Update → Option Oid → Option Oid
-  dead_of u None = None
-  dead_of u (Some o) = then_some (may_go u o) o
-
-  abbrev with_death : Update → Option Oid → Option (Oid × Update)
-  with_death u None = None
-  with_death u (Some o) = Some (o, u)
-
-  collected_dies : (u : Update) (o : Oid) → collected_by s.store.vector now lifetime u ≡ Some o
-      → u.key ≡ RowOf o deleted_attr
-  collected_dies u o e = by (killed_by u.key) refl e
-    where
-      by : (k : Option Oid) → killed_by u.key ≡ k → dead_of u k ≡ Some o → u.key ≡ RowOf o deleted_attr
-      by None is e = absurd (cc)
-      by (Some p) is e = subst (λ q. u.key ≡ RowOf q deleted_attr) (passed (may_go u p) p o e) (is_killed u.key p is)
-
   dies : (h : Held) (d : Oid × Update)
-      → with_death h.update (collected_by s.store.vector now lifetime h.update) ≡ Some d
+      → with_death s now lifetime h.update (collected_by s.store.vector now lifetime h.update) ≡ Some d
       → h.update.key ≡ RowOf d.0 deleted_attr
   dies h d e = by (collected_by s.store.vector now lifetime h.update) refl e
     where
       by : (k : Option Oid) → collected_by s.store.vector now lifetime h.update ≡ k
-          → with_death h.update k ≡ Some d → h.update.key ≡ RowOf d.0 deleted_attr
+          → with_death s now lifetime h.update k ≡ Some d → h.update.key ≡ RowOf d.0 deleted_attr
       by None is e = absurd (cc)
-      by (Some o) is e = collected_dies h.update d.0 (is ∙ ap Some (let f : (o, h.update) ≡ d = cc in ap (λ (t : Oid × Update). t.0) f))
+      by (Some o) is e = (collected_dies s now lifetime h.update d.0
+          (is ∙ ap Some (let f : (o, h.update) ≡ d = cc in ap (λ (t : Oid × Update). t.0) f))).0
 
 module _ (s : State) (now lifetime : ℕ) (is : IsFormed s) (classes : HasKnownClasses s) where
   abbrev dead : List (Oid × Update)
@@ -197,5 +175,6 @@ collected_follows s now lifetime c is classes e =
 -- what is removed rises by the objects' names
 pub collected_rise : (s : State) (now lifetime : ℕ) (c : Change) → AreRising s.store.rows
     → collect s now lifetime ≡ Ok c → IsStrictlySortedBy object_order c.removed
-collected_rise s now lifetime c rising e = subst (λ (x : Change). IsStrictlySortedBy object_order x.removed) (collect_is_collection s now lifetime c e)
+collected_rise s now lifetime c rising e = subst (λ (x : Change). IsStrictlySortedBy object_order x.removed)
+    (collect_is_collection s now lifetime c e)
     (gone_rise (λ (h : Held). with_death s now lifetime h.update (collected_by s.store.vector now lifetime h.update)) (dies s now lifetime) s.store.rows rising)

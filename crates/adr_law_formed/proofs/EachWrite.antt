@@ -65,7 +65,8 @@ next_is_greater s now key said = by (row_found s.store.rows key)
   where
     by : IsFound s.store.rows key (row_held s.store.rows key)
         → is_above s.store.rows (written s now key said) ≡ true
-    by (inr (none, f)) = ap (λ (o : Option Held). option_map_or (λ h. is_older h.update (written s now key said)) o true) f
+    by (inr (none, f)) = ap
+        (λ (o : Option Held). option_map_or (λ h. is_older h.update (written s now key said)) o true) f
     by (inl (x, m, e, f)) =
         ap (λ (o : Option Held). option_map_or (λ h. is_older h.update (written s now key said)) o true) f
         ∙ older_by_version x.update (written s now key said)
@@ -114,9 +115,12 @@ values_above schema class o u attr vs is says well = by attr is
   where
     by : (a : ℕ) → u.key ≡ RowOf o a → deleted_attr < a
     by zero e = absurd (well.none e)
-    by (suc zero) e = absurd (let f : Holds (Values vs) ≡ Holds (Class class) = sym says ∙ (well.of_class e).0 in cc)
-    by (suc (suc zero)) e = absurd (let t = well.of_name e in let f : Holds (Values vs) ≡ Holds (Name t.0 t.1) = sym says ∙ t.2 in cc)
-    by (suc (suc (suc zero))) e = absurd (let f : Holds (Values vs) ≡ Holds Dead = sym says ∙ well.of_death e in cc)
+    by (suc zero) e = absurd
+        (let f : Holds (Values vs) ≡ Holds (Class class) = sym says ∙ (well.of_class e).0 in cc)
+    by (suc (suc zero)) e = absurd
+        (let t = well.of_name e in let f : Holds (Values vs) ≡ Holds (Name t.0 t.1) = sym says ∙ t.2 in cc)
+    by (suc (suc (suc zero))) e = absurd
+        (let f : Holds (Values vs) ≡ Holds Dead = sym says ∙ well.of_death e in cc)
     by (suc (suc (suc (suc n)))) e = omega arith
 
 some_or_none : {A : Type 0} (xs : List A) → (xs ≡ []) ⊎ ((x : A) × Member x xs)
@@ -129,7 +133,8 @@ module _ (s : State) (formed : IsFormed s) (known : HasKnownClasses s) where
 
   live : (guid : Identifier) → object_refusal rows (nodes_held rows) guid ≡ None
       → IsHeldAlive rows (object_of (nodes_held rows) guid)
-  live guid none = live_is_held rows _ _ (object_is_live (numbered s.store.schema) rows formed.store.rows (one_update s.store.rows formed.store.rising) guid none)
+  live guid none = live_is_held rows _ _
+      (object_is_live (numbered s.store.schema) rows formed.store.rows (one_update s.store.rows formed.store.rising) guid none)
 
   normal : where_true (is_quarantined s.mode) Quarantined ≡ None → s.mode ≡ Normal
   normal none = normal_where_not_quarantined s.mode (not_so (is_quarantined s.mode) Quarantined none)
@@ -138,22 +143,28 @@ module _ (s : State) (formed : IsFormed s) (known : HasKnownClasses s) where
   one_row : (now attr : ℕ) (content : Content) (o : Oid)
       → MayWrite s (Object o) (next_row s now o attr content ∷ []) → IsHeldAlive rows o → s.mode ≡ Normal
       → CanFollow s (change_of s (record { unit = Object o; rows = next_row s now o attr content ∷ [] }))
-  one_row now attr content o may alive is_normal = written_follows s (record { unit = Object o; rows = next_row s now o attr content ∷ [] }) formed known may is_normal
-      (next_row s now o attr content, inl refl) (one_rises (RowOf o attr)) above (live_placed s o (next_row s now o attr content ∷ []) alive)
+  one_row now attr content o may alive is_normal = written_follows s
+      (record { unit = Object o; rows = next_row s now o attr content ∷ [] }) formed known may is_normal
+      (next_row s now o attr content, inl refl) (one_rises (RowOf o attr)) above
+      (live_placed s o (next_row s now o attr content ∷ []) alive)
     where
       above : Each (λ u. is_above s.store.rows u ≡ true) (next_row s now o attr content ∷ [])
-      above u (inl e) = subst (λ v. is_above s.store.rows v ≡ true) (sym e) (next_is_greater s now (RowOf o attr) (Holds content))
+      above u (inl e) = subst (λ v. is_above s.store.rows v ≡ true) (sym e)
+          (next_is_greater s now (RowOf o attr) (Holds content))
       above u (inr m) = absurd m
 
   -- a link row written next
   one_link : (now : ℕ) (l : LinkKey) (present : Bool)
       → MayWrite s (Link l) (written s now (LinkOf l) (IsPresent present) ∷ []) → s.mode ≡ Normal
       → CanFollow s (change_of s (record { unit = Link l; rows = written s now (LinkOf l) (IsPresent present) ∷ [] }))
-  one_link now l present may is_normal = written_follows s (record { unit = Link l; rows = written s now (LinkOf l) (IsPresent present) ∷ [] }) formed known may is_normal
-      (written s now (LinkOf l) (IsPresent present), inl refl) (one_rises (LinkOf l)) above (link_placed s l (written s now (LinkOf l) (IsPresent present) ∷ []) may)
+  one_link now l present may is_normal = written_follows s
+      (record { unit = Link l; rows = written s now (LinkOf l) (IsPresent present) ∷ [] }) formed known may is_normal
+      (written s now (LinkOf l) (IsPresent present), inl refl) (one_rises (LinkOf l)) above
+      (link_placed s l (written s now (LinkOf l) (IsPresent present) ∷ []) may)
     where
       above : Each (λ u. is_above s.store.rows u ≡ true) (written s now (LinkOf l) (IsPresent present) ∷ [])
-      above u (inl e) = subst (λ v. is_above s.store.rows v ≡ true) (sym e) (next_is_greater s now (LinkOf l) (IsPresent present))
+      above u (inl e) = subst (λ v. is_above s.store.rows v ≡ true) (sym e)
+          (next_is_greater s now (LinkOf l) (IsPresent present))
       above u (inr m) = absurd m
 
   -- values of a live object
@@ -162,8 +173,10 @@ module _ (s : State) (formed : IsFormed s) (known : HasKnownClasses s) where
       → IsHeldAlive rows o → s.mode ≡ Normal
       → AreInOrder values → (g : Given) × Member g values
       → CanFollow s (change_of s (record { unit = Object o; rows = map (λ (g : Given). next_row s now o g.0 (Values g.1)) values }))
-  some_values now o values may alive is_normal order some = written_follows s (record { unit = Object o; rows = us }) formed known may is_normal
-      (made some.0, member_mapped made values some.0 some.1) (given_rise o made (λ g. refl) values order) above (live_placed s o us alive)
+  some_values now o values may alive is_normal order some = written_follows s
+      (record { unit = Object o; rows = us }) formed known may is_normal
+      (made some.0, member_mapped made values some.0 some.1)
+      (given_rise o made (λ g. refl) values order) above (live_placed s o us alive)
     where
       made : Given → Update
       made g = next_row s now o g.0 (Values g.1)
@@ -172,7 +185,8 @@ module _ (s : State) (formed : IsFormed s) (known : HasKnownClasses s) where
       us = map made values
 
       above : Each (λ u. is_above s.store.rows u ≡ true) us
-      above u m = let g = mapped_member made values u m in subst (λ v. is_above s.store.rows v ≡ true) (sym g.2) (next_is_greater s now (RowOf o g.0.0) (Holds (Values g.0.1)))
+      above u m = let g = mapped_member made values u m in subst (λ v. is_above s.store.rows v ≡ true)
+          (sym g.2) (next_is_greater s now (RowOf o g.0.0) (Holds (Values g.0.1)))
 
   -- a new object
   module _ (now : ℕ) (guid : Identifier) (class : ℕ) (parent : Identifier) (text : List ℕ)
@@ -203,11 +217,13 @@ module _ (s : State) (formed : IsFormed s) (known : HasKnownClasses s) where
       comes = by may.fits.0 may.fits.1
         where
           by : (c : ℕ) → Changes s o c us ⊎ Comes s o c us → Come
-          by c (inl changes) = absurd (absent (changes.of_class.0, class_attr, changes.of_class.1, changes.of_class.2))
+          by c (inl changes) = absurd
+              (absent (changes.of_class.0, class_attr, changes.of_class.1, changes.of_class.2))
           by c (inr come) = (c, come.0)
 
       plain : Each (λ (g : Given). deleted_attr < g.0) values
-      plain g m = values_above s.store.schema comes.0 o (value_row g) g.0 g.1 refl refl (comes.1.said (value_row g) (inr (inr (member_mapped value_row values g m))))
+      plain g m = values_above s.store.schema comes.0 o (value_row g) g.0 g.1 refl refl
+          (comes.1.said (value_row g) (inr (inr (member_mapped value_row values g m))))
 
       rise : AreInOrder values → IsStrictlySortedBy key_order (keys us)
       unfolding IsStrictlySortedBy
@@ -217,11 +233,14 @@ module _ (s : State) (formed : IsFormed s) (known : HasKnownClasses s) where
       )
 
       above : Each (λ u. is_above s.store.rows u ≡ true) us
-      above u m = let k = row_of_unit u.key o (may.put.of_unit u m) in new_is_above s.store.rows u (λ h n e. absent (h.update, k.0, updated s.store.rows h n, e ∙ k.1))
+      above u m = let k = row_of_unit u.key o (may.put.of_unit u m) in new_is_above s.store.rows u
+          (λ h n e. absent (h.update, k.0, updated s.store.rows h n, e ∙ k.1))
 
       new_follows : s.mode ≡ Normal → AreInOrder values
           → CanFollow s (change_of s (record { unit = Object o; rows = us }))
-      new_follows is_normal order = written_follows s (record { unit = Object o; rows = us }) formed known may is_normal (row o stamp class_attr (Class class), inl refl) (rise order) above
+      new_follows is_normal order = written_follows s
+          (record { unit = Object o; rows = us }) formed known may is_normal
+          (row o stamp class_attr (Class class), inl refl) (rise order) above
           (new_placed s o comes.0 us (may.put.place o refl) comes.1)
 
   -- ---- the refusals, call by call
@@ -292,20 +311,30 @@ module _ (s : State) (formed : IsFormed s) (known : HasKnownClasses s) where
 
   each_write : (w : Write) (now : ℕ) → IsWellGiven w → write_refusal s w ≡ None
       → CanFollow s (own_change s (items_written s w now))
-  each_write (AddObject guid class parent text values) now given none = new_follows now guid class parent text values (may_write s (AddObject guid class parent text values) now formed given none)
+  each_write (AddObject guid class parent text values) now given none = new_follows now guid class parent text values
+      (may_write s (AddObject guid class parent text values) now formed given none)
       (or_parts (is_fixed guid) (holds_guid rows guid) (not_so (is_fixed guid || holds_guid rows guid) (GuidThere guid) (none_there (of_add guid class parent text values) none _ (inr (inl refl))))).1
       (normal (none_there (of_add guid class parent text values) none _ (inl refl))) given
-  each_write (Modify guid values) now given none = some_values now (object_of (nodes_held rows) guid) values (may_write s (Modify guid values) now formed given none)
-      (live guid (none_there (of_modify guid values) none _ (inr (inr (inl refl))))) (normal (none_there (of_modify guid values) none _ (inl refl))) given.0
+  each_write (Modify guid values) now given none = some_values now (object_of (nodes_held rows) guid) values
+      (may_write s (Modify guid values) now formed given none)
+      (live guid (none_there (of_modify guid values) none _ (inr (inr (inl refl)))))
+      (normal (none_there (of_modify guid values) none _ (inl refl))) given.0
       (⊎_elim (λ e. absurd (given.1 e)) (λ t. t) (some_or_none values))
-  each_write (Rename guid parent text) now given none = one_row now name_attr (Name text parent) (object_of (nodes_held rows) guid) (may_write s (Rename guid parent text) now formed given none)
-      (live guid (none_there (of_rename guid parent text) none _ (inr (inr (inl refl))))) (normal (none_there (of_rename guid parent text) none _ (inl refl)))
-  each_write (Delete guid) now given none = one_row now deleted_attr Dead (object_of (nodes_held rows) guid) (may_write s (Delete guid) now formed given none)
-      (live guid (none_there (of_delete guid) none _ (inr (inr (inl refl))))) (normal (none_there (of_delete guid) none _ (inl refl)))
-  each_write (AddLink from attr to) now given none = one_link now (link_of (nodes_held rows) from attr to) true (may_write s (AddLink from attr to) now formed given none)
+  each_write (Rename guid parent text) now given none = one_row now name_attr (Name text parent)
+      (object_of (nodes_held rows) guid) (may_write s (Rename guid parent text) now formed given none)
+      (live guid (none_there (of_rename guid parent text) none _ (inr (inr (inl refl)))))
+      (normal (none_there (of_rename guid parent text) none _ (inl refl)))
+  each_write (Delete guid) now given none = one_row now deleted_attr Dead (object_of (nodes_held rows) guid)
+      (may_write s (Delete guid) now formed given none)
+      (live guid (none_there (of_delete guid) none _ (inr (inr (inl refl)))))
+      (normal (none_there (of_delete guid) none _ (inl refl)))
+  each_write (AddLink from attr to) now given none = one_link now
+      (link_of (nodes_held rows) from attr to) true (may_write s (AddLink from attr to) now formed given none)
       (normal_link from attr to (λ linked. where_true linked LinkThere)
       (none_there (any_link_refusal s from attr to (λ linked. where_true linked LinkThere) ∷ full_refusal Links link_limit (links_in s.store.rows + more_links s from attr to) ∷ []) none _ (inl refl)))
-  each_write (RemoveLink from attr to) now given none = one_link now (link_of (nodes_held rows) from attr to) false (may_write s (RemoveLink from attr to) now formed given none)
+  each_write (RemoveLink from attr to) now given none = one_link now
+      (link_of (nodes_held rows) from attr to) false
+      (may_write s (RemoveLink from attr to) now formed given none)
       (normal_link from attr to (λ linked. where_true (not linked) LinkNotThere) none)
 
 pub write_follows : (s : State) (w : Write) (now : ℕ) (c : Change) → IsFormed s → HasKnownClasses s
@@ -321,5 +350,6 @@ write_is_bare s w now c formed given e =
     subst (λ (x : Change). Each (λ (v : Written). AreBare v.item.rows) x.writes) t.1 (alone t.0)
   where
     alone : write_refusal s w ≡ None → Each (λ (v : Written). AreBare v.item.rows) (items_written s w now)
-    alone none v (inl is) = subst (λ (z : Written). AreBare z.item.rows) (sym is) (may_write s w now formed given none).put.bare
+    alone none v (inl is) = subst (λ (z : Written). AreBare z.item.rows) (sym is)
+        (may_write s w now formed given none).put.bare
     alone none v (inr m) = absurd m

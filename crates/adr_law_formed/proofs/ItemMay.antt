@@ -103,7 +103,8 @@ module _ (schema : ℕ) (vector : Cursors) (rows : List Held) (rising : AreRisin
     row_key u m = row_of_unit u.key o (spelled.of_unit u m)
 
     row_of_attr : (attr : ℕ) (u : Update) → Member u xs → is_of_attr attr u.key ≡ true → u.key ≡ RowOf o attr
-    row_of_attr attr u m is = let k = row_key u m in let d = of_attr attr u.key is in k.1 ∙ ap (λ a. RowOf o a) (same_attr d.0 k.0 (sym k.1 ∙ d.1))
+    row_of_attr attr u m is = let k = row_key u m in let d = of_attr attr u.key is in k.1 ∙ ap
+        (λ a. RowOf o a) (same_attr d.0 k.0 (sym k.1 ∙ d.1))
       where
         same_attr : (p : Oid) (a : ℕ) → RowOf o a ≡ RowOf p attr → a ≡ attr
         same_attr p a e = cc
@@ -123,7 +124,8 @@ module _ (schema : ℕ) (vector : Cursors) (rows : List Held) (rising : AreRisin
 
     -- a deleted row says that
     death_says : (u : Update) → Member u xs → u.key ≡ RowOf o deleted_attr → u.said ≡ Holds Dead
-    death_says u m is = let t = says_content u.key u.said o deleted_attr is (spelled.says u m) in t.1 ∙ ap Holds (by t.0 t.2)
+    death_says u m is = let t = says_content u.key u.said o deleted_attr is (spelled.says u m) in t.1
+        ∙ ap Holds (by t.0 t.2)
       where
         by : (c : Content) → IsContentOfAttr deleted_attr c → c ≡ Dead
         by (Class d) e = absurd (let f : deleted_attr ≡ class_attr = e in cc)
@@ -135,16 +137,21 @@ module _ (schema : ℕ) (vector : Cursors) (rows : List Held) (rising : AreRisin
         → (u : Update) × Member u (object_rows_taken rows xs IsDead)
         → MayBeTaken schema vector rows (Object o) (object_rows_taken rows xs IsDead)
     dead_is_good (d, m, is) some = record {
-      put = part_put (Object o) xs spelled (object_rows_taken rows xs IsDead) (λ u n. (from_dead u n).0) (λ u n. (from_dead u n).2) (λ e n death u k. reserved u k) (held_place holds);
+      put = part_put (Object o) xs spelled (object_rows_taken rows xs IsDead) (λ u n. (from_dead u n).0)
+          (λ u n. (from_dead u n).2) (λ e n death u k. reserved u k) (held_place holds);
       keeps = (
         named.class,
         inl (record {
           of_class = named.of_class;
-          said = λ u n. let t = from_dead u n in death_well_said table named.class o u t.1 (death_says u t.0 t.1);
+          said = λ u n. let t = from_dead u n in death_well_said table named.class o u t.1
+              (death_says u t.0 t.1);
           dead = λ t u n. reserved u n;
         }),
       );
-      follows = part_follows (Object o) xs spelled (object_rows_taken rows xs IsDead) some (λ u n. (from_dead u n).0) (filtered_rise (λ (v : Update). is_of_attr deleted_attr v.key && is_above rows v) xs spelled.rising) (λ u n. (from_dead u n).2)
+      follows = part_follows (Object o) xs spelled (object_rows_taken rows xs IsDead) some
+          (λ u n. (from_dead u n).0)
+          (filtered_rise (λ (v : Update). is_of_attr deleted_attr v.key && is_above rows v) xs spelled.rising)
+          (λ u n. (from_dead u n).2)
           (inl ((d, m, is), λ u n. (from_dead u n).1));
     }
       where
@@ -162,7 +169,9 @@ module _ (schema : ℕ) (vector : Cursors) (rows : List Held) (rising : AreRisin
     module _ (fault : item_fault table vector rows item ≡ None) where
       tested_is : (ts : List Update) → rows_tested vector rows item ≡ ts
           → Each (λ u. row_fault table (class_of_item rows item) u ≡ None) ts
-      tested_is ts e u m = none_there (map (row_fault table (class_of_item rows item)) (rows_tested vector rows item)) fault (row_fault table (class_of_item rows item) u)
+      tested_is ts e u m = none_there
+          (map (row_fault table (class_of_item rows item)) (rows_tested vector rows item)) fault
+          (row_fault table (class_of_item rows item) u)
           (member_mapped (row_fault table (class_of_item rows item)) (rows_tested vector rows item) u (subst (Member u) (sym e) m))
 
       -- ---- the object is held
@@ -172,7 +181,9 @@ module _ (schema : ℕ) (vector : Cursors) (rows : List Held) (rising : AreRisin
         here = formed.named o holds
 
         held_tested : rows_tested vector rows item ≡ xs
-        held_tested = each_presence vector rows o (λ (p : Presence). object_rows_tested xs p ≡ xs) (λ t. absurd (alive t)) (λ _ _. refl) (λ absent _. absurd (absent holds)) (λ absent _. absurd (absent holds))
+        held_tested = each_presence vector rows o (λ (p : Presence). object_rows_tested xs p ≡ xs)
+            (λ t. absurd (alive t)) (λ _ _. refl) (λ absent _. absurd (absent holds))
+            (λ absent _. absurd (absent holds))
 
         held_class : class_of_item rows item ≡ Some here.class
         held_class = by (row_found rows (RowOf o class_attr))
@@ -182,8 +193,10 @@ module _ (schema : ℕ) (vector : Cursors) (rows : List Held) (rising : AreRisin
             by (inl (h, m, e, f)) =
                 let same : here.of_class.0 ≡ h.update = one_update rows rising here.of_class.0 here.of_class.1 h.update (updated rows h m) (here.of_class.2 ∙ sym e) in
                 ap (λ (p : Option Held). option_or (option_and_then (λ x. class_said x.update.said) p) (class_among xs)) f
-                ∙ ap (λ (c : Option ℕ). option_or c (class_among xs)) (class_of_said h.update.said here.class (ap (λ (u : Update). u.said) (sym same) ∙ here.of_class.3))
-            by (inr (none, f)) = let h = held_as rows here.of_class.0 here.of_class.1 in absurd (none h.0 h.1 (ap (λ (u : Update). u.key) (sym h.2) ∙ here.of_class.2))
+                ∙ ap (λ (c : Option ℕ). option_or c (class_among xs))
+                (class_of_said h.update.said here.class (ap (λ (u : Update). u.said) (sym same) ∙ here.of_class.3))
+            by (inr (none, f)) = let h = held_as rows here.of_class.0 here.of_class.1 in absurd
+                (none h.0 h.1 (ap (λ (u : Update). u.key) (sym h.2) ∙ here.of_class.2))
 
         from_held : (u : Update) → Member u (object_rows_taken rows xs IsHeld)
             → Member u xs × (is_of_attr class_attr u.key ≡ false) × (is_above rows u ≡ true)
@@ -202,10 +215,13 @@ module _ (schema : ℕ) (vector : Cursors) (rows : List Held) (rising : AreRisin
         held_is_good : (u : Update) × Member u (object_rows_taken rows xs IsHeld)
             → MayBeTaken schema vector rows (Object o) (object_rows_taken rows xs IsHeld)
         held_is_good some = record {
-          put = part_put (Object o) xs spelled (object_rows_taken rows xs IsHeld) (λ u n. (from_held u n).0) (λ u n. (from_held u n).2) (bare_beside_death (above_of_held rows xs)) (held_place holds);
+          put = part_put (Object o) xs spelled (object_rows_taken rows xs IsHeld) (λ u n. (from_held u n).0)
+              (λ u n. (from_held u n).2) (bare_beside_death (above_of_held rows xs)) (held_place holds);
           keeps = (here.class, inl (record { of_class = here.of_class; said = said_of_held; dead = λ t. absurd (alive t) }));
-          follows = part_follows (Object o) xs spelled (object_rows_taken rows xs IsHeld) some (λ u n. (from_held u n).0)
-              (left_rise (above_of_held rows xs) (filtered_rise (λ (v : Update). not (is_of_attr class_attr v.key) && is_above rows v) xs spelled.rising)) (λ u n. (from_held u n).2)
+          follows = part_follows (Object o) xs spelled (object_rows_taken rows xs IsHeld) some
+              (λ u n. (from_held u n).0)
+              (left_rise (above_of_held rows xs) (filtered_rise (λ (v : Update). not (is_of_attr class_attr v.key) && is_above rows v) xs spelled.rising))
+              (λ u n. (from_held u n).2)
               (inr (inl (alive, holds)));
         }
 
@@ -214,13 +230,16 @@ module _ (schema : ℕ) (vector : Cursors) (rows : List Held) (rising : AreRisin
       module _ (absent : HoldsObject (updates_of rows) o → ⊥) (missed : CoversBirth (at vector) o → ⊥)
           (whole : incomplete table vector rows item ≡ None) where
         new_tested : rows_tested vector rows item ≡ left_by_death xs
-        new_tested = each_presence vector rows o (λ (p : Presence). object_rows_tested xs p ≡ left_by_death xs)
-            (λ t. absurd (absent (t.0, deleted_attr, t.1, t.2))) (λ _ holds. absurd (absent holds)) (λ _ covers. absurd (missed covers)) (λ _ _. refl)
+        new_tested = each_presence vector rows o
+            (λ (p : Presence). object_rows_tested xs p ≡ left_by_death xs)
+            (λ t. absurd (absent (t.0, deleted_attr, t.1, t.2))) (λ _ holds. absurd (absent holds))
+            (λ _ covers. absurd (missed covers)) (λ _ _. refl)
 
         lacks_nothing : lacks table xs ≡ false
         lacks_nothing = not_then (lacks table xs) (Incomplete o)
             (sym (each_presence vector rows o (λ (p : Presence). then_some (object_lacks table xs p) (Incomplete o) ≡ then_some (lacks table xs) (Incomplete o))
-            (λ t. absurd (absent (t.0, deleted_attr, t.1, t.2))) (λ _ holds. absurd (absent holds)) (λ _ covers. absurd (missed covers)) (λ _ _. refl)) ∙ whole)
+            (λ t. absurd (absent (t.0, deleted_attr, t.1, t.2))) (λ _ holds. absurd (absent holds))
+            (λ _ covers. absurd (missed covers)) (λ _ _. refl)) ∙ whole)
 
         -- what isn't lacked
         parts : (has_row class_attr xs ≡ true) × (has_row name_attr xs ≡ true) × ((not (has_row deleted_attr xs) && list_any (λ attr. not (has_row attr xs)) (must_of table (unwrap_or (class_among xs) 0))) ≡ false)
@@ -266,7 +285,9 @@ module _ (schema : ℕ) (vector : Cursors) (rows : List Held) (rising : AreRisin
             by : IsFound rows (RowOf o class_attr) (row_held rows (RowOf o class_attr))
                 → class_of_item rows item ≡ Some class
             by (inl (h, m, e, f)) = absurd (absent (h.update, class_attr, updated rows h m, e))
-            by (inr (none, f)) = ap (λ (p : Option Held). option_or (option_and_then (λ x. class_said x.update.said) p) (class_among xs)) f ∙ said_class
+            by (inr (none, f)) = ap
+                (λ (p : Option Held). option_or (option_and_then (λ x. class_said x.update.said) p) (class_among xs)) f
+                ∙ said_class
 
         said_of_new : Each (IsWellSaid table class o) (left_by_death xs)
         said_of_new u m =
@@ -295,7 +316,8 @@ module _ (schema : ℕ) (vector : Cursors) (rows : List Held) (rising : AreRisin
             by false is none = inr must
               where
                 there : list_any (λ attr. not (has_row attr xs)) (must_of table class) ≡ false
-                there = subst (λ (c : Option ℕ). list_any (λ attr. not (has_row attr xs)) (must_of table (unwrap_or c 0)) ≡ false) said_class none
+                there = subst
+                    (λ (c : Option ℕ). list_any (λ attr. not (has_row attr xs)) (must_of table (unwrap_or c 0)) ≡ false) said_class none
 
                 must : (attr : ℕ) → has (must_of table class) attr ≡ true → HasKey (left_by_death xs) o attr
                 must attr h =
@@ -305,7 +327,8 @@ module _ (schema : ℕ) (vector : Cursors) (rows : List Held) (rising : AreRisin
                     (k.0, subst (λ b. Member k.0 (cond b (filter (λ (v : Update). is_reserved_row v.key) xs) xs)) (sym is) k.1, k.2)
 
         new_above : Each (λ u. is_above rows u ≡ true) (left_by_death xs)
-        new_above u m = let k = row_key u (left_from xs u m) in new_is_above rows u (λ h n e. absent (h.update, k.0, updated rows h n, e ∙ k.1))
+        new_above u m = let k = row_key u (left_from xs u m) in new_is_above rows u
+            (λ h n e. absent (h.update, k.0, updated rows h n, e ∙ k.1))
 
         new_place : (p : Oid) → Object o ≡ Object p
             → HoldsObject (updates_of rows) p ⊎ (CoversBirth (at vector) p → ⊥)
@@ -314,9 +337,11 @@ module _ (schema : ℕ) (vector : Cursors) (rows : List Held) (rising : AreRisin
         new_is_good : (u : Update) × Member u (left_by_death xs)
             → MayBeTaken schema vector rows (Object o) (left_by_death xs)
         new_is_good some = record {
-          put = part_put (Object o) xs spelled (left_by_death xs) (left_from xs) new_above (bare_beside_death xs) new_place;
+          put = part_put (Object o) xs spelled (left_by_death xs) (left_from xs) new_above
+              (bare_beside_death xs) new_place;
           keeps = (class, inr (record { absent = absent; known = known; said = said_of_new; of_class = reserved class_attr refl birth; of_name = reserved name_attr refl (key_of name_attr parts.1); whole = all }));
-          follows = part_follows (Object o) xs spelled (left_by_death xs) some (left_from xs) (left_rise xs spelled.rising) new_above
+          follows = part_follows (Object o) xs spelled (left_by_death xs) some (left_from xs)
+              (left_rise xs spelled.rising) new_above
               (inr (inr (
                 absent,
                 missed,
@@ -332,7 +357,8 @@ module _ (schema : ℕ) (vector : Cursors) (rows : List Held) (rising : AreRisin
       object_good : incomplete table vector rows item ≡ None
           → (u : Update) × Member u (rows_taken vector rows item)
           → MayBeTaken schema vector rows (Object o) (rows_taken vector rows item)
-      object_good whole = each_presence vector rows o (λ (p : Presence). (u : Update) × Member u (object_rows_taken rows xs p) → MayBeTaken schema vector rows (Object o) (object_rows_taken rows xs p))
+      object_good whole = each_presence vector rows o
+          (λ (p : Presence). (u : Update) × Member u (object_rows_taken rows xs p) → MayBeTaken schema vector rows (Object o) (object_rows_taken rows xs p))
           dead_is_good held_is_good (λ absent covers some. absurd some.1) (λ absent missed. new_is_good absent missed whole)
 
   -- ---- links
@@ -353,16 +379,19 @@ module _ (schema : ℕ) (vector : Cursors) (rows : List Held) (rising : AreRisin
 
     is_forward_link : (u : Update) → Member u xs → row_fault table None u ≡ None
         → is_forward (kind_at table l.attr) ≡ true
-    is_forward_link u m none = is_so (is_forward (kind_at table l.attr)) (NotLink l.attr) (not_mapped BreaksSchema (not_link_refusal table l.attr)
+    is_forward_link u m none = is_so (is_forward (kind_at table l.attr)) (NotLink l.attr)
+        (not_mapped BreaksSchema (not_link_refusal table l.attr)
         (subst (λ k. row_fault table None (record { key = k; stamp = u.stamp; said = u.said }) ≡ None) (link_key u m) none))
 
     there_is_good : IsThere vector rows l.from → IsThere vector rows l.to
         → Each (λ u. row_fault table None u ≡ None) xs → (u : Update) × Member u (filter (is_above rows) xs)
         → MayBeTaken schema vector rows (Link l) (filter (is_above rows) xs)
     there_is_good from to none some = record {
-      put = part_put (Link l) xs spelled (filter (is_above rows) xs) (λ v n. (kept v n).0) (λ v n. (kept v n).1) (λ d n death. absurd (no_death d (kept d n).0 death)) (λ o e. absurd (cc));
+      put = part_put (Link l) xs spelled (filter (is_above rows) xs) (λ v n. (kept v n).0)
+          (λ v n. (kept v n).1) (λ d n death. absurd (no_death d (kept d n).0 death)) (λ o e. absurd (cc));
       keeps = (is_forward_link some.0 (kept some.0 some.1).0 (none some.0 (kept some.0 some.1).0), each_end);
-      follows = part_follows (Link l) xs spelled (filter (is_above rows) xs) some (λ v n. (kept v n).0) (filtered_rise (is_above rows) xs spelled.rising) (λ v n. (kept v n).1) each_end;
+      follows = part_follows (Link l) xs spelled (filter (is_above rows) xs) some (λ v n. (kept v n).0)
+          (filtered_rise (is_above rows) xs spelled.rising) (λ v n. (kept v n).1) each_end;
     }
       where
         each_end : Each (λ o. IsThere vector rows o) (ends (LinkOf l))
@@ -381,7 +410,8 @@ module _ (schema : ℕ) (vector : Cursors) (rows : List Held) (rising : AreRisin
             → MayBeTaken schema vector rows (Link l) (cond (b || c) [] (filter (is_above rows) xs))
         by true is c to none some = absurd some.1
         by false is true to none some = absurd some.1
-        by false is false to none some = there_is_good (there_where_untested vector rows l.from is) (there_where_untested vector rows l.to to)
+        by false is false to none some = there_is_good (there_where_untested vector rows l.from is)
+            (there_where_untested vector rows l.to to)
             (λ u m. none_there (map (row_fault table None) xs) none (row_fault table None u) (member_mapped (row_fault table None) xs u m)) some
 
   good : (unit : Named) (xs : List Update) → IsSpelledItem (record { unit = unit; rows = xs })
@@ -399,9 +429,11 @@ pub item_may : (schema : ℕ) (vector : Cursors) (rows : List Held) (place : ℕ
 item_may schema vector rows place i rising formed spelled none = by (some_or_none (rows_taken vector rows i))
   where
     parts : (option_map (BadItem place) (item_fault (numbered schema) vector rows i) ≡ None) × (incomplete (numbered schema) vector rows i ≡ None)
-    parts = neither (option_map (BadItem place) (item_fault (numbered schema) vector rows i)) (incomplete (numbered schema) vector rows i) none
+    parts = neither (option_map (BadItem place) (item_fault (numbered schema) vector rows i))
+        (incomplete (numbered schema) vector rows i) none
 
     by : (rows_taken vector rows i ≡ []) ⊎ ((u : Update) × Member u (rows_taken vector rows i))
         → (rows_taken vector rows i ≡ []) ⊎ MayBeTaken schema vector rows i.unit (rows_taken vector rows i)
     by (inl e) = inl e
-    by (inr some) = inr (good schema vector rows rising formed i.unit i.rows spelled (not_mapped (BadItem place) (item_fault (numbered schema) vector rows i) parts.0) parts.1 some)
+    by (inr some) = inr
+        (good schema vector rows rising formed i.unit i.rows spelled (not_mapped (BadItem place) (item_fault (numbered schema) vector rows i) parts.0) parts.1 some)

@@ -40,10 +40,12 @@ pub classes_stay : (schema usn : ℕ) (before after : List Held) (V : List ℕ �
     → KeepForms (numbered schema) V (updates_of before) unit us → Each (λ u. IsSaidOfKey u.key u.said) us
     → AreClassesKnown (numbered schema) (updates_of after)
 classes_stay schema usn before after V (Object o) us known put are keeps says = classes_stay_known schema usn before after V o keeps.0 us known put are keeps.1
-classes_stay schema usn before after V (Link l) us known put are keeps says = λ u m class is. ⊎_elim (λ n. absurd (no_class u n class is)) (λ n. known u n class is) (stood usn before after us are u m)
+classes_stay schema usn before after V (Link l) us known put are keeps says = λ u m class is. ⊎_elim
+    (λ n. absurd (no_class u n class is)) (λ n. known u n class is) (stood usn before after us are u m)
   where
     no_class : (u : Update) → Member u us → (class : ℕ) → u.said ≡ Holds (Class class) → ⊥
-    no_class u m class is = subst (IsSaidOfKey (LinkOf l)) is (subst (λ k. IsSaidOfKey k u.said) (link_of_unit u.key l (put.of_unit u m)) (says u m))
+    no_class u m class is = subst (IsSaidOfKey (LinkOf l)) is
+        (subst (λ k. IsSaidOfKey k u.said) (link_of_unit u.key l (put.of_unit u m)) (says u m))
 
 module _ (s : State) (t : Taking) (way : FollowsSoFar s t) (i : Item) (refusal : Option TakeRefusal)
     (place objects links : ℕ) (more_objects : t.objects ≤ objects) (more_links : t.links ≤ links) where
@@ -52,13 +54,17 @@ module _ (s : State) (t : Taking) (way : FollowsSoFar s t) (i : Item) (refusal :
   idle = record {
     steady = steady_step s t way.steady i refusal place objects links [] (inl refl);
     classes = way.classes;
-    spaced = subst (AreLocalsRising s.store.usn (t.usn + 0)) (sym (append-nil t.writes)) (subst (λ n. AreLocalsRising s.store.usn n t.writes) (omega arith) way.spaced);
+    spaced = subst (AreLocalsRising s.store.usn (t.usn + 0)) (sym (append-nil t.writes))
+        (subst (λ n. AreLocalsRising s.store.usn n t.writes) (omega arith) way.spaced);
     bare = subst (Each (λ w. AreBare w.item.rows)) (sym (append-nil t.writes)) way.bare;
-    follow = λ o l. subst (MayFollowInTurn (numbered s.store.schema) s.store.vector s.store.rows) (sym (append-nil t.writes)) (way.follow (omega (arith, o, more_objects)) (omega (arith, l, more_links)));
+    follow = λ o l. subst (MayFollowInTurn (numbered s.store.schema) s.store.vector s.store.rows)
+        (sym (append-nil t.writes))
+        (way.follow (omega (arith, o, more_objects)) (omega (arith, l, more_links)));
   }
 
   module _ (u : Update) (us : List Update) (good : MayBeTaken s.store.schema s.store.vector t.rows i.unit (u ∷ us))
-      (count_objects : length (objects_of (updates_of (goes_on t i (u ∷ us) refusal place objects links).rows)) ≤ objects) (count_links : links_in (goes_on t i (u ∷ us) refusal place objects links).rows ≤ links) where
+      (count_objects : length (objects_of (updates_of (goes_on t i (u ∷ us) refusal place objects links).rows)) ≤ objects)
+      (count_links : links_in (goes_on t i (u ∷ us) refusal place objects links).rows ≤ links) where
     abbrev after : List Held
     after = fold put t.rows (under (t.usn + 1) (u ∷ us))
 
@@ -76,7 +82,8 @@ module _ (s : State) (t : Taking) (way : FollowsSoFar s t) (i : Item) (refusal :
 
     follow : objects ≤ object_limit → links ≤ link_limit
         → MayFollowInTurn (numbered s.store.schema) s.store.vector s.store.rows (t.writes ++ (write ∷ []))
-    follow o l = one_more_follows (numbered s.store.schema) s.store.vector s.store.rows t.writes write (way.follow (omega (arith, o, more_objects)) (omega (arith, l, more_links)))
+    follow o l = one_more_follows (numbered s.store.schema) s.store.vector s.store.rows t.writes write
+        (way.follow (omega (arith, o, more_objects)) (omega (arith, l, more_links)))
         (subst (λ rows. MayFollow (numbered s.store.schema) s.store.vector rows write.item) (sym way.steady.made) good.follows)
         (subst (λ rows. AreWithinLimits (after_write rows write)) (sym way.steady.made) (omega (arith, o, count_objects), omega (arith, l, count_links)))
 
@@ -117,7 +124,8 @@ module _ (s : State) where
       → FollowsSoFar s (taken t i)
   one_item t i way spelled none =
       step s t way i (taken t i).refusal (taken t i).place (taken t i).objects (taken t i).links (omega arith) (omega arith) (rows_taken s.store.vector t.rows i)
-      (item_may s.store.schema s.store.vector t.rows t.place i way.steady.rising way.steady.formed spelled none) (omega arith) (omega arith)
+      (item_may s.store.schema s.store.vector t.rows t.place i way.steady.rising way.steady.formed spelled none)
+      (omega arith) (omega arith)
 
   all_on_way : (is : List Item) (t : Taking) → (t.refusal ≡ None → FollowsSoFar s t) → Each IsSpelledItem is
       → (all t is).refusal ≡ None → FollowsSoFar s (all t is)
@@ -125,7 +133,8 @@ module _ (s : State) where
   all_on_way (i ∷ is) t way spelled none = all_on_way is (taken t i) next (λ j m. spelled j (inr m)) none
     where
       next : (taken t i).refusal ≡ None → FollowsSoFar s (taken t i)
-      next e = let p = neither t.refusal (item_refusal (numbered s.store.schema) s.store.vector t.rows t.place i) e in one_item t i (way p.0) (spelled i (inl refl)) p.1
+      next e = let p = neither t.refusal (item_refusal (numbered s.store.schema) s.store.vector t.rows t.place i) e in one_item t i
+          (way p.0) (spelled i (inl refl)) p.1
 
   pub items_on_way : (is : List Item) → IsFormed s → HasKnownClasses s → Each IsSpelledItem is
       → (take_items s is).refusal ≡ None → FollowsSoFar s (take_items s is)

@@ -25,7 +25,8 @@ use Rattle.adr_law_formed.proofs.Writes.{in_turn}
 
 -- no link has a dead end
 abbrev pub AreLinksLive : List Update → Type 0
-AreLinksLive rows = Each (λ r. (l : LinkKey) → r.key ≡ LinkOf l → (IsTombstoned rows l.from → ⊥) × (IsTombstoned rows l.to → ⊥)) rows
+AreLinksLive rows = Each
+    (λ r. (l : LinkKey) → r.key ≡ LinkOf l → (IsTombstoned rows l.from → ⊥) × (IsTombstoned rows l.to → ⊥)) rows
 
 -- an object has the same rows
 pub record HasSame (before after : List Update) (q : Oid) : Type 0 where
@@ -57,12 +58,14 @@ module _ (table : Table) (vector : Cursors) where
     next_is = ap (fold put rows) (sym (append-nil (under w.local w.item.rows)))
 
     are : ArePut w.local w.item.rows rows next
-    are = subst (ArePut w.local w.item.rows rows) next_is (rising_are_put w.local rows w.item.unit w.item.rows may.form.of_unit may.form.rising)
+    are = subst (ArePut w.local w.item.rows rows) next_is
+        (rising_are_put w.local rows w.item.unit w.item.rows may.form.of_unit may.form.rising)
 
     -- a link that is written has live ends, and the others keep theirs
     live_before : (r : Update) → Member r (updates_of next) → (l : LinkKey) → r.key ≡ LinkOf l
         → (IsTombstoned (updates_of rows) l.from → ⊥) × (IsTombstoned (updates_of rows) l.to → ⊥)
-    live_before r m l is = ⊎_elim (λ n. new (w.item.unit) refl n) (λ n. way.live r n l is) (stood w.local rows next w.item.rows are r m)
+    live_before r m l is = ⊎_elim (λ n. new (w.item.unit) refl n) (λ n. way.live r n l is)
+        (stood w.local rows next w.item.rows are r m)
       where
         new : (unit : Named) → w.item.unit ≡ unit → Member r w.item.rows
             → (IsTombstoned (updates_of rows) l.from → ⊥) × (IsTombstoned (updates_of rows) l.to → ⊥)
@@ -79,7 +82,8 @@ module _ (table : Table) (vector : Cursors) where
     order : IsInOrder next w.local
     order = record {
       rising = subst AreRising next_is (puts_rise rows (under w.local w.item.rows) way.rising);
-      alone = stay_alone usn w.local rows next w.item.unit w.item.rows (λ h m. (way.locals h m).1) above may.form.of_unit are way.alone;
+      alone = stay_alone usn w.local rows next w.item.unit w.item.rows
+          (λ h m. (way.locals h m).1) above may.form.of_unit are way.alone;
       locals = puts_stay_within usn w.local rows next w.item.rows way.locals above are;
       live = live;
     }
@@ -102,13 +106,16 @@ module _ (table : Table) (vector : Cursors) where
     few = λ few. few;
     spelled = λ w m. absurd m;
   }
-  all_pass (w ∷ ws) rows usn last way le follow locals = subst (λ after. ArePassed rows after (w ∷ ws) last) (sym (in_turn rows w ws)) (more (all_pass ws (after_write rows w) w.local last (order rows usn way w follow.0 locals.0) locals.1 follow.2 locals.2))
+  all_pass (w ∷ ws) rows usn last way le follow locals = subst (λ after. ArePassed rows after (w ∷ ws) last)
+      (sym (in_turn rows w ws))
+      (more (all_pass ws (after_write rows w) w.local last (order rows usn way w follow.0 locals.0) locals.1 follow.2 locals.2))
     where
       more : ArePassed (after_write rows w) (behind_all (after_write rows w) ws) ws last
           → ArePassed rows (behind_all (after_write rows w) ws) (w ∷ ws) last
       more rest = record {
         order = rest.order;
-        same = λ q none. both q (same rows usn way w follow.0 locals.0 q (none w (inl refl))) (rest.same q (λ v m. none v (inr m)));
+        same = λ q none. both q (same rows usn way w follow.0 locals.0 q (none w (inl refl)))
+            (rest.same q (λ v m. none v (inr m)));
         few = λ few. rest.few follow.1;
         spelled = each;
       }

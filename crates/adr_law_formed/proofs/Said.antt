@@ -75,12 +75,14 @@ module _ (schema class : ℕ) (o : Oid) (u : Update) where
   content_said attr (Name text parent) is says of none other =
       name_well_said table class o u text parent (is ∙ ap (λ a. RowOf o a) of) says
       (not_mapped BadName (name_fault text) (not_mapped BreaksSchema (name_refusal text) (fault_of (Some class) attr (Name text parent) is says none)))
-  content_said attr Dead is says of none other = death_well_said table class o u (is ∙ ap (λ a. RowOf o a) of) says
+  content_said attr Dead is says of none other = death_well_said table class o u
+      (is ∙ ap (λ a. RowOf o a) of) says
   content_said attr (Values vs) is says of none other =
       values_well_said table class o u attr vs (plain_is_above schema attr may.allowed.syntax may.allowed.most may.allowed.plain) is says may
     where
       may : MayBeHeld table class attr vs
-      may = may_be_held table class attr vs (not_mapped BreaksSchema (row_refusal table (Some class) attr vs) (fault_of (Some class) attr (Values vs) is says none))
+      may = may_be_held table class attr vs
+          (not_mapped BreaksSchema (row_refusal table (Some class) attr vs) (fault_of (Some class) attr (Values vs) is says none))
 
   pub row_said : (attr : ℕ) → u.key ≡ RowOf o attr → IsSaidOfKey u.key u.said
       → row_fault table (Some class) u ≡ None → SaysNoOther → IsWellSaid table class o u

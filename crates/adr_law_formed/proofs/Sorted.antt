@@ -45,4 +45,5 @@ left_rise us rising = by (has_row deleted_attr us)
 
 pub one_of_key : (us : List Update) → IsStrictlySortedBy key_order (keys us)
     → Each (λ u. Each (λ v. u.key ≡ v.key → u ≡ v) us) us
-one_of_key us rising = one_of_each key_order keys_total (λ (u : Update). u.key) us (rises_from key_order (keys us) rising)
+one_of_key us rising = one_of_each key_order keys_total (λ (u : Update). u.key) us
+    (rises_from key_order (keys us) rising)

@@ -30,7 +30,8 @@ use Rattle.adr_law_formed.proofs.TakenFollow.{nothing_is_vector}
 
 -- a vector that has seen it already isn't raised
 not_raised : (v : Cursors) (inv : Identifier) (usn : ℕ) → usn ≤ at v inv → raised v inv usn ≡ v
-not_raised v inv usn le = ap (λ b. cond b v (insert_entry identifier_order v inv usn)) (le-leb usn (at v inv) le)
+not_raised v inv usn le = ap (λ b. cond b v (insert_entry identifier_order v inv usn))
+    (le-leb usn (at v inv) le)
 
 -- a formed store keeps its forms under another vector that has seen as much
 with_vector : (s : Store) (v : Cursors) → IsFormedStore s → IsVector v
@@ -39,7 +40,8 @@ with_vector : (s : Store) (v : Cursors) → IsFormedStore s → IsVector v
 with_vector s v formed vector up = record {
   vector = vector;
   purged = formed.purged;
-  purged_within = at_most_from_everywhere s.purged v formed.purged.rising (λ i. omega (arith, everywhere_from_at_most s.purged s.vector formed.purged_within i, up i));
+  purged_within = at_most_from_everywhere s.purged v formed.purged.rising
+      (λ i. omega (arith, everywhere_from_at_most s.purged s.vector formed.purged_within i, up i));
   marks = formed.marks;
   rising = formed.rising;
   locals = formed.locals;
@@ -62,7 +64,8 @@ quarantine_follows s formed classes normal = record {
     removed = λ o m. absurd m;
   };
   formed = record {
-    store = with_vector s.store (raised s.store.vector s.inv s.store.usn) formed.store (subst IsVector (sym same) formed.store.vector) (raised_up s.store.vector s.inv s.store.usn);
+    store = with_vector s.store (raised s.store.vector s.inv s.store.usn) formed.store
+        (subst IsVector (sym same) formed.store.vector) (raised_up s.store.vector s.inv s.store.usn);
     own = (let here = raised_here s.store.vector s.inv s.store.usn in omega (arith, here, formed.own));
   };
   classes = classes;
@@ -75,13 +78,16 @@ quarantine_follows s formed classes normal = record {
 unnamed : (v : Cursors) (inv : Identifier)
     → list_any (λ (c : Identifier × ℕ). same_identifier c.0 inv) v ≡ false → at v inv ≡ 0
 unnamed [] inv none = refl
-unnamed (c ∷ cs) inv none = by (is_eq (identifier_order inv c.0)) refl (or_parts (same_identifier c.0 inv) (list_any (λ (d : Identifier × ℕ). same_identifier d.0 inv) cs) none) (unnamed cs inv)
+unnamed (c ∷ cs) inv none = by (is_eq (identifier_order inv c.0)) refl
+    (or_parts (same_identifier c.0 inv) (list_any (λ (d : Identifier × ℕ). same_identifier d.0 inv) cs) none)
+    (unnamed cs inv)
   where
     by : (b : Bool) → is_eq (identifier_order inv c.0) ≡ b
         → (same_identifier c.0 inv ≡ false) × (list_any (λ (d : Identifier × ℕ). same_identifier d.0 inv) cs ≡ false)
         → (list_any (λ (d : Identifier × ℕ). same_identifier d.0 inv) cs ≡ false → at cs inv ≡ 0)
         → cond b c.1 (at cs inv) ≡ 0
-    by true is p rest = absurd (both_ways (same_identifier c.0 inv) p.0 (subst (λ i. same_identifier i inv ≡ true) (same_from_test inv c.0 is) (test_itself inv)))
+    by true is p rest = absurd
+        (both_ways (same_identifier c.0 inv) p.0 (subst (λ i. same_identifier i inv ≡ true) (same_from_test inv c.0 is) (test_itself inv)))
     by false is p rest = rest p.1
 
 module _ (image : Store) (dsa inv : Identifier) (formed : IsFormedStore image) where
@@ -118,7 +124,8 @@ adopted_is_formed image dsa inv s formed e =
 pub adopted_has_known_classes : (image : Store) (dsa inv : Identifier) (s : State)
     → AreClassesKnown (numbered image.schema) (updates_of image.rows) → adopt image dsa inv ≡ Ok s
     → HasKnownClasses s
-adopted_has_known_classes image dsa inv s classes e = subst HasKnownClasses (answered (adopt_refusal image inv (woken image dsa inv)) (woken image dsa inv) s e).1 classes
+adopted_has_known_classes image dsa inv s classes e = subst HasKnownClasses
+    (answered (adopt_refusal image inv (woken image dsa inv)) (woken image dsa inv) s e).1 classes
 
 pub new_is_formed : (dsa inv : Identifier)
     → IsFormed (empty_state dsa inv) × HasKnownClasses (empty_state dsa inv)

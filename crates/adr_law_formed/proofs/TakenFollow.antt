@@ -48,7 +48,8 @@ module _ (s : State) (r : Reply) (c : Change) (formed : IsFormed s) (classes : H
       removed = λ o m. absurd m;
     };
     formed = taken_formed s r formed spelled.to spelled.last way.steady passes;
-    classes = subst (λ rows. AreClassesKnown (numbered s.store.schema) (updates_of rows)) (sym way.steady.made) way.classes;
+    classes = subst (λ rows. AreClassesKnown (numbered s.store.schema) (updates_of rows))
+        (sym way.steady.made) way.classes;
   }
 
   pub taken_follows : CanFollow s c
@@ -59,7 +60,8 @@ module _ (s : State) (r : Reply) (c : Change) (formed : IsFormed s) (classes : H
 
 -- what of a reply the change brings: its rows, its vector and its mark, under a USN within the limit
 pub taken_brings : (s : State) (r : Reply) (c : Change) → take s r ≡ Ok c
-    → Each (λ u. (i : Item) × Member i r.items × Member u i.rows) (updates_written c) × (c.usn ≤ usn_limit) × (c.joined ≡ unwrap_or r.last []) × (c.mark ≡ Some (r.source, record { inv = r.inv; mark = r.to })) × (c.purged ≡ [])
+    → Each (λ u. (i : Item) × Member i r.items × Member u i.rows) (updates_written c) × (c.usn ≤ usn_limit) × (c.joined ≡ unwrap_or r.last []) × (c.mark ≡ Some (r.source, record { inv = r.inv; mark = r.to })) ×
+    (c.purged ≡ [])
 taken_brings s r c e =
     let p = passed s r c e in
     subst (λ (x : Change). Each (λ u. (i : Item) × Member i r.items × Member u i.rows) (updates_written x) × (x.usn ≤ usn_limit) × (x.joined ≡ unwrap_or r.last []) × (x.mark ≡ Some (r.source, record { inv = r.inv; mark = r.to })) × (x.purged ≡ [])) p.1

@@ -116,7 +116,8 @@ module _ (schema : ℕ) (rows : List Held) (rising : AreRising rows) (o : Oid) w
   own_passes : (test : Update → Bool)
       → ((r : Update) (attr : ℕ) → r.key ≡ RowOf o attr → Member r us → test r ≡ true)
       → all_of_object rows o test ≡ true
-  own_passes test each = passes_all (λ (y : Held). not (is_row_of o y.update.key) || test y.update) rows (λ x m. by x m (is_row_of o x.update.key) refl)
+  own_passes test each = passes_all (λ (y : Held). not (is_row_of o y.update.key) || test y.update) rows
+      (λ x m. by x m (is_row_of o x.update.key) refl)
     where
       by : (x : Held) → Member x rows → (b : Bool) → is_row_of o x.update.key ≡ b
           → (not b || test x.update) ≡ true
@@ -126,7 +127,8 @@ module _ (schema : ℕ) (rows : List Held) (rising : AreRising rows) (o : Oid) w
   -- a row of a live object has its class, its name or values that may be held
   fits_is : (c : ℕ) (u : Update) (attr : ℕ) → u.key ≡ RowOf o attr → fits_class table c u ≡ true
       → (attr ≡ class_attr) ⊎ ((attr ≡ name_attr) ⊎ ((vs : List Datum) × (u.said ≡ Holds (Values vs)) × MayBeHeld table c attr vs))
-  fits_is c u attr is h = by u.said (subst (λ k. fits_class table c (record { key = k; stamp = u.stamp; said = u.said }) ≡ true) is h)
+  fits_is c u attr is h = by u.said
+      (subst (λ k. fits_class table c (record { key = k; stamp = u.stamp; said = u.said }) ≡ true) is h)
     where
       by : (said : Said)
           → fits_class table c (record { key = RowOf o attr; stamp = u.stamp; said = said }) ≡ true
@@ -134,7 +136,8 @@ module _ (schema : ℕ) (rows : List Held) (rising : AreRising rows) (o : Oid) w
       by (Holds (Class d)) t = inl (eqb-true attr class_attr t)
       by (Holds (Name text parent)) t = inr (inl (eqb-true attr name_attr t))
       by (Holds Dead) t = absurd (both_ways false refl t)
-      by (Holds (Values vs)) t = inr (inr (vs, refl, may_be_held table c attr vs (none_is (row_refusal table (Some c) attr vs) t)))
+      by (Holds (Values vs)) t = inr
+          (inr (vs, refl, may_be_held table c attr vs (none_is (row_refusal table (Some c) attr vs) t)))
       by (IsPresent b) t = absurd (both_ways false refl t)
 
   abbrev Values_of : ℕ → ℕ → Said → Type 0
@@ -157,7 +160,8 @@ module _ (schema : ℕ) (rows : List Held) (rising : AreRising rows) (o : Oid) w
   module _ (b n : Held) (at_b : IsThere class_attr b) (at_n : IsThere name_attr n)
       (born : is_birth o b.update ≡ true) (name : says_allowed_name n.update.said ≡ true) where
     births : Each (λ r. r.key ≡ RowOf o class_attr → is_birth o r ≡ true) us
-    births r m is = subst (λ (u : Update). is_birth o u ≡ true) (one b.update (updated rows b at_b.0) r m (at_b.1 ∙ sym is)) born
+    births r m is = subst (λ (u : Update). is_birth o u ≡ true)
+        (one b.update (updated rows b at_b.0) r m (at_b.1 ∙ sym is)) born
 
     named : (c : ℕ) → b.update.said ≡ Holds (Class c) → IsNamed us o
     named c says = let t = name_is n.update.said name in record {
@@ -186,7 +190,8 @@ module _ (schema : ℕ) (rows : List Held) (rising : AreRising rows) (o : Oid) w
       named = λ holds. named known.0 known.1;
       formed = λ holds. inl (record {
         dead = (d.update, updated rows d at_d.0, at_d.1, dead_is d.update.said dead);
-        bare = λ attr above r m is. let le : attr ≤ deleted_attr = leb-true attr deleted_attr (and_parts (nat_le class_attr attr) (nat_le attr deleted_attr) (kept r attr is m)).1 in omega (arith, le, above);
+        bare = λ attr above r m is. let le : attr ≤ deleted_attr = leb-true attr deleted_attr (and_parts (nat_le class_attr attr) (nat_le attr deleted_attr) (kept r attr is m)).1 in omega
+            (arith, le, above);
       });
     }
       where
@@ -195,7 +200,8 @@ module _ (schema : ℕ) (rows : List Held) (rising : AreRising rows) (o : Oid) w
 
         kept : (r : Update) (attr : ℕ) → r.key ≡ RowOf o attr → Member r us
             → is_reserved_row (RowOf o attr) ≡ true
-        kept r attr is m = subst (λ k. is_reserved_row k ≡ true) is (own_pass (λ u. is_reserved_row u.key) own r attr is m)
+        kept r attr is m = subst (λ k. is_reserved_row k ≡ true) is
+            (own_pass (λ u. is_reserved_row u.key) own r attr is m)
 
     alive_tells : Each (λ (h : Held). h.update.key ≡ RowOf o deleted_attr → ⊥) rows → (c : ℕ)
         → b.update.said ≡ Holds (Class c) → is_alive_formed table rows o (Some c) ≡ true → IsInForm table us o
@@ -204,7 +210,8 @@ module _ (schema : ℕ) (rows : List Held) (rising : AreRising rows) (o : Oid) w
       births = births;
       classes = classes c says (some_is (class_at table c) p.0);
       named = λ holds. named c says;
-      formed = λ holds. inr ((λ t. let x = held_as rows t.0 t.1 in lives x.0 x.1 (ap (λ (u : Update). u.key) (sym x.2) ∙ t.2)), of_class);
+      formed = λ holds. inr
+          ((λ t. let x = held_as rows t.0 t.1 in lives x.0 x.1 (ap (λ (u : Update). u.key) (sym x.2) ∙ t.2)), of_class);
     }
       where
         p : (is_some (class_at table c) ≡ true) × ((all_of_object rows o (fits_class table c) && list_all (λ attr. is_some (row_held rows (RowOf o attr))) (must_of table c)) ≡ true)
@@ -219,10 +226,12 @@ module _ (schema : ℕ) (rows : List Held) (rising : AreRising rows) (o : Oid) w
         zero_is : {said : Said} → (0 ≡ class_attr) ⊎ ((0 ≡ name_attr) ⊎ Values_of c 0 said) → ⊥
         zero_is (inl e) = omega (arith, e)
         zero_is (inr (inl e)) = omega (arith, e)
-        zero_is (inr (inr t)) = let above = plain_is_above schema 0 t.2.allowed.syntax t.2.allowed.most t.2.allowed.plain in omega (arith, above)
+        zero_is (inr (inr t)) = let above = plain_is_above schema 0 t.2.allowed.syntax t.2.allowed.most t.2.allowed.plain in omega
+            (arith, above)
 
         there : (attr : ℕ) → has (must_of table c) attr ≡ true → HasRow us o attr IsFilled
-        there attr must = by (row_found rows (RowOf o attr)) (subst (λ a. is_some (row_held rows (RowOf o a)) ≡ true) (eqb-true t.0 attr t.2) (all_pass (λ a. is_some (row_held rows (RowOf o a))) (must_of table c) q.1 t.0 t.1))
+        there attr must = by (row_found rows (RowOf o attr))
+            (subst (λ a. is_some (row_held rows (RowOf o a)) ≡ true) (eqb-true t.0 attr t.2) (all_pass (λ a. is_some (row_held rows (RowOf o a))) (must_of table c) q.1 t.0 t.1))
           where
             t : (a : ℕ) × Member a (must_of table c) × ((a == attr) ≡ true)
             t = some_passes (λ a. a == attr) (must_of table c) must
@@ -232,7 +241,8 @@ module _ (schema : ℕ) (rows : List Held) (rising : AreRising rows) (o : Oid) w
             by (inl (x, m, e, f)) is =
                 let v = values_are c x.update attr (must_above schema c attr must) e (kept x.update attr e (updated rows x m)) in
                 (x.update, updated rows x m, e, filled_is v.0 x.update.said v.1 (v.2.filled must))
-            by (inr (none, f)) is = absurd (both_ways (is_some (row_held rows (RowOf o attr))) (ap is_some f) is)
+            by (inr (none, f)) is = absurd
+                (both_ways (is_some (row_held rows (RowOf o attr))) (ap is_some f) is)
 
         keep : KeepsSchema table us o c
         keep = record {
@@ -249,13 +259,17 @@ module _ (schema : ℕ) (rows : List Held) (rising : AreRising rows) (o : Oid) w
             subst (KeepsSchema table us o) agree keep
 
   pub unit_where_tested : is_object_formed table rows o ≡ true → IsInForm table us o
-  unit_where_tested h = by (row_held rows (RowOf o class_attr)) (row_found rows (RowOf o class_attr)) (row_held rows (RowOf o name_attr)) (row_found rows (RowOf o name_attr)) (row_held rows (RowOf o deleted_attr)) (row_found rows (RowOf o deleted_attr)) h
+  unit_where_tested h = by (row_held rows (RowOf o class_attr)) (row_found rows (RowOf o class_attr))
+      (row_held rows (RowOf o name_attr)) (row_found rows (RowOf o name_attr))
+      (row_held rows (RowOf o deleted_attr)) (row_found rows (RowOf o deleted_attr)) h
     where
       by : (x : Option Held) → IsFound rows (RowOf o class_attr) x → (y : Option Held)
           → IsFound rows (RowOf o name_attr) y → (z : Option Held) → IsFound rows (RowOf o deleted_attr) z
           → is_formed_by table rows o x y z ≡ true → IsInForm table us o
-      by x (inr (none, e)) y n z d h = absurd (let f : is_formed_by table rows o None y z ≡ true = subst (λ (w : Option Held). is_formed_by table rows o w y z ≡ true) e h in both_ways false refl f)
-      by x (inl (b, m, k, e)) y (inr (none, g)) z d h = absurd (let f : is_formed_by table rows o (Some b) None z ≡ true = subst (λ (w : Option Held). is_formed_by table rows o (Some b) w z ≡ true) g (subst (λ (w : Option Held). is_formed_by table rows o w y z ≡ true) e h) in both_ways false refl f)
+      by x (inr (none, e)) y n z d h = absurd
+          (let f : is_formed_by table rows o None y z ≡ true = subst (λ (w : Option Held). is_formed_by table rows o w y z ≡ true) e h in both_ways false refl f)
+      by x (inl (b, m, k, e)) y (inr (none, g)) z d h = absurd
+          (let f : is_formed_by table rows o (Some b) None z ≡ true = subst (λ (w : Option Held). is_formed_by table rows o (Some b) w z ≡ true) g (subst (λ (w : Option Held). is_formed_by table rows o w y z ≡ true) e h) in both_ways false refl f)
       by x (inl (b, m, k, e)) y (inl (n, mn, kn, g)) z (inl (d, md, kd, i)) h =
           let f : is_formed_by table rows o (Some b) (Some n) (Some d) ≡ true = subst (λ (w : Option Held). is_formed_by table rows o (Some b) (Some n) w ≡ true) i (subst (λ (w : Option Held). is_formed_by table rows o (Some b) w z ≡ true) g (subst (λ (w : Option Held). is_formed_by table rows o w y z ≡ true) e h)) in
           let p = and_parts (is_birth o b.update) _ f in
@@ -305,7 +319,8 @@ module _ (schema : ℕ) (rows : List Held) (rising : AreRising rows) (o : Oid) w
 
     class_passes : is_class_known table (class_said class_row.0.update.said) ≡ true
     class_passes = ap (λ said. is_class_known table (class_said said)) class_row.2
-        ∙ is_some_of (class_at table naming.class) (f.classes class_row.0.update (updated rows class_row.0 class_row.1.0) class_row.1.1 naming.class class_row.2)
+        ∙ is_some_of (class_at table naming.class)
+        (f.classes class_row.0.update (updated rows class_row.0 class_row.1.0) class_row.1.1 naming.class class_row.2)
 
     -- the test with the rows that are found
     with_rows : (z : Option Held) → row_held rows (RowOf o deleted_attr) ≡ z
@@ -360,17 +375,23 @@ module _ (schema : ℕ) (rows : List Held) (rising : AreRising rows) (o : Oid) w
         passes : (attr : ℕ) (stamp : LinkStamp) (said content : Said) → said ≡ content
             → fits_class table naming.class (record { key = RowOf o attr; stamp = stamp; said = content }) ≡ true
             → fits_class table naming.class (record { key = RowOf o attr; stamp = stamp; said = said }) ≡ true
-        passes attr stamp said content e h = subst (λ s. fits_class table naming.class (record { key = RowOf o attr; stamp = stamp; said = s }) ≡ true) (sym e) h
+        passes attr stamp said content e h = subst
+            (λ s. fits_class table naming.class (record { key = RowOf o attr; stamp = stamp; said = s }) ≡ true)
+            (sym e) h
 
         kept : (r : Update) (attr : ℕ) → r.key ≡ RowOf o attr → Member r us
             → fits_class table naming.class r ≡ true
-        kept r attr is m = subst (λ k. fits_class table naming.class (record { key = k; stamp = r.stamp; said = r.said }) ≡ true) (sym is) (by attr is)
+        kept r attr is m = subst
+            (λ k. fits_class table naming.class (record { key = k; stamp = r.stamp; said = r.said }) ≡ true)
+            (sym is) (by attr is)
           where
             by : (a : ℕ) → r.key ≡ RowOf o a
                 → fits_class table naming.class (record { key = RowOf o a; stamp = r.stamp; said = r.said }) ≡ true
             by zero e = absurd (f.none r m e)
-            by (suc zero) e = passes 1 r.stamp r.said (Holds (Class naming.class)) (ap (λ (u : Update). u.said) (one r m class_row.0.update (updated rows class_row.0 class_row.1.0) (e ∙ sym class_row.1.1)) ∙ class_row.2) refl
-            by (suc (suc zero)) e = passes 2 r.stamp r.said (Holds (Name naming.text naming.parent)) (ap (λ (u : Update). u.said) (one r m name_row.0.update (updated rows name_row.0 name_row.1.0) (e ∙ sym name_row.1.1)) ∙ name_row.2) refl
+            by (suc zero) e = passes 1 r.stamp r.said (Holds (Class naming.class))
+                (ap (λ (u : Update). u.said) (one r m class_row.0.update (updated rows class_row.0 class_row.1.0) (e ∙ sym class_row.1.1)) ∙ class_row.2) refl
+            by (suc (suc zero)) e = passes 2 r.stamp r.said (Holds (Name naming.text naming.parent))
+                (ap (λ (u : Update). u.said) (one r m name_row.0.update (updated rows name_row.0 name_row.1.0) (e ∙ sym name_row.1.1)) ∙ name_row.2) refl
             by (suc (suc (suc zero))) e = absurd (lives (r, m, e))
             by (suc (suc (suc (suc n)))) e =
                 let a = suc (suc (suc (suc n))) in
@@ -379,4 +400,5 @@ module _ (schema : ℕ) (rows : List Held) (rising : AreRising rows) (o : Oid) w
                 passes a r.stamp r.said (Holds (Values t.0)) t.1 (ap is_none (not_refused_held table naming.class a t.0 may))
 
     pub tested_where_unit : is_object_formed table rows o ≡ true
-    tested_where_unit = ⊎_elim dead_passes (λ alive. alive_passes alive.0 (alive.1 naming.class naming.of_class)) (f.formed holds)
+    tested_where_unit = ⊎_elim dead_passes
+        (λ alive. alive_passes alive.0 (alive.1 naming.class naming.of_class)) (f.formed holds)

@@ -31,7 +31,8 @@ use Rattle.adr_law_taking.proofs.ItemPut.{taken_from}
 
 pub rows_from : (P : Update → Type 0) (s : State) (c : Change) → Each P (updates_of s.store.rows)
     → Each P (updates_written c) → Each P (updates_of (after s c).store.rows)
-rows_from P s c old new u m = let h = held_as (after s c).store.rows u m in by h (change_from c.removed (held_of c.writes) s.store.rows h.0 h.1)
+rows_from P s c old new u m = let h = held_as (after s c).store.rows u m in by h
+    (change_from c.removed (held_of c.writes) s.store.rows h.0 h.1)
   where
     by : (h : (h : Held) × Member h (after s c).store.rows × (u ≡ h.update))
         → Member h.0 (held_of c.writes) ⊎ Member h.0 s.store.rows → P u
@@ -51,15 +52,20 @@ raised_from v inv usn e m = by (covers v inv usn) refl m
     by : (b : Bool) → covers v inv usn ≡ b → Member e (cond b v (insert_entry identifier_order v inv usn))
         → ((e ≡ (inv, usn)) × (1 ≤ usn)) ⊎ Member e v
     by true is n = inr n
-    by false is n = let less = leb-false usn (at v inv) is in ⊎_elim (λ same. inl (same, omega (arith, less))) (λ old. inr old) (entry_from identifier_order exact_bytes v inv usn e n)
+    by false is n = let less = leb-false usn (at v inv) is in ⊎_elim (λ same. inl (same, omega (arith, less)))
+        (λ old. inr old) (entry_from identifier_order exact_bytes v inv usn e n)
 
 joined_from : (w v : Cursors) (e : Identifier × ℕ) → Member e (joined v w) → Member e w ⊎ Member e v
 joined_from [] v e m = inr m
-joined_from (c ∷ w) v e m = ⊎_elim (λ n. inl (inr n)) (λ n. ⊎_elim (λ t. inl (inl t.0)) (λ o. inr o) (raised_from v c.0 c.1 e n)) (joined_from w (raised v c.0 c.1) e m)
+joined_from (c ∷ w) v e m = ⊎_elim (λ n. inl (inr n))
+    (λ n. ⊎_elim (λ t. inl (inl t.0)) (λ o. inr o) (raised_from v c.0 c.1 e n))
+    (joined_from w (raised v c.0 c.1) e m)
 
 pub cursors_from : (P : Identifier × ℕ → Type 0) (s : State) (c : Change) → Each P s.store.vector
     → Each P c.joined → (1 ≤ c.usn → P (s.inv, c.usn)) → Each P (after s c).store.vector
-cursors_from P s c old new own e m = ⊎_elim (λ t. subst P (sym t.0) (own t.1)) (λ n. ⊎_elim (new e) (old e) (joined_from c.joined s.store.vector e n)) (raised_from (joined s.store.vector c.joined) s.inv c.usn e m)
+cursors_from P s c old new own e m = ⊎_elim (λ t. subst P (sym t.0) (own t.1))
+    (λ n. ⊎_elim (new e) (old e) (joined_from c.joined s.store.vector e n))
+    (raised_from (joined s.store.vector c.joined) s.inv c.usn e m)
 
 pub purged_from : (P : Identifier × ℕ → Type 0) (s : State) (c : Change) → Each P s.store.purged
     → Each P c.purged → Each P (after s c).store.purged
@@ -76,7 +82,8 @@ marks_from P s c old new = by c.mark new
   where
     by : (o : Option (Identifier × Kept)) → IfSome o P → Each P (with_mark o s.store.marks)
     by None n k m = old k m
-    by (Some x) n k m = ⊎_elim (λ same. subst P (sym same) n) (old k) (entry_from identifier_order exact_bytes s.store.marks x.0 x.1 k m)
+    by (Some x) n k m = ⊎_elim (λ same. subst P (sym same) n) (old k)
+        (entry_from identifier_order exact_bytes s.store.marks x.0 x.1 k m)
 
 below_inserted : (a : Identifier) (ks : List (Identifier × Kept)) (id : Identifier) (k : Kept)
     → identifier_order a id ≡ Less → AllByRecursion (λ b. identifier_order a b ≡ Less) (partners ks)
@@ -158,20 +165,25 @@ module _ (s : State) (P : Update → Type 0) where
 pub whence_rows : (s : State) (c : Change)
     → Each (λ u. Member u (updates_of s.store.rows) ⊎ Member u (updates_written c))
     (updates_of (after s c).store.rows)
-whence_rows s c = rows_from (λ u. Member u (updates_of s.store.rows) ⊎ Member u (updates_written c)) s c (λ u m. inl m) (λ u m. inr m)
+whence_rows s c = rows_from (λ u. Member u (updates_of s.store.rows) ⊎ Member u (updates_written c)) s c
+    (λ u m. inl m) (λ u m. inr m)
 
 pub whence_cursors : (s : State) (c : Change)
     → Each (λ e. Member e s.store.vector ⊎ (Member e c.joined ⊎ ((e ≡ (s.inv, c.usn)) × (1 ≤ c.usn))))
     (after s c).store.vector
-whence_cursors s c = cursors_from (λ e. Member e s.store.vector ⊎ (Member e c.joined ⊎ ((e ≡ (s.inv, c.usn)) × (1 ≤ c.usn)))) s c (λ e m. inl m) (λ e m. inr (inl m)) (λ one. inr (inr (refl, one)))
+whence_cursors s c = cursors_from
+    (λ e. Member e s.store.vector ⊎ (Member e c.joined ⊎ ((e ≡ (s.inv, c.usn)) × (1 ≤ c.usn)))) s c
+    (λ e m. inl m) (λ e m. inr (inl m)) (λ one. inr (inr (refl, one)))
 
 pub whence_purged : (s : State) (c : Change)
     → Each (λ e. Member e s.store.purged ⊎ Member e c.purged) (after s c).store.purged
-whence_purged s c = purged_from (λ e. Member e s.store.purged ⊎ Member e c.purged) s c (λ e m. inl m) (λ e m. inr m)
+whence_purged s c = purged_from (λ e. Member e s.store.purged ⊎ Member e c.purged) s c (λ e m. inl m)
+    (λ e m. inr m)
 
 pub whence_marks : (s : State) (c : Change)
     → Each (λ k. Member k s.store.marks ⊎ (c.mark ≡ Some k)) (after s c).store.marks
-whence_marks s c = marks_from (λ k. Member k s.store.marks ⊎ (c.mark ≡ Some k)) s c (λ k m. inl m) (brought c.mark refl)
+whence_marks s c = marks_from (λ k. Member k s.store.marks ⊎ (c.mark ≡ Some k)) s c (λ k m. inl m)
+    (brought c.mark refl)
   where
     brought : (o : Option (Identifier × Kept)) → c.mark ≡ o
         → IfSome o (λ k. Member k s.store.marks ⊎ (c.mark ≡ Some k))

@@ -43,7 +43,8 @@ removable_where_tested rows purged o h = by (row_found rows (RowOf o deleted_att
   where
     by : IsFound rows (RowOf o deleted_attr) (row_held rows (RowOf o deleted_attr))
         → is_removable rows purged o ≡ true → IsRemovable rows purged o
-    by (inr (none, f)) t = absurd (both_ways (is_removable rows purged o) (ap (λ (p : Option Held). option_map_or (λ x. covers_birth purged o && covers_update purged x.update) p false) f) t)
+    by (inr (none, f)) t = absurd
+        (both_ways (is_removable rows purged o) (ap (λ (p : Option Held). option_map_or (λ x. covers_birth purged o && covers_update purged x.update) p false) f) t)
     by (inl (x, m, e, f)) t =
         let p = and_parts (covers_birth purged o) (covers_update purged x.update) (sym (ap (λ (q : Option Held). option_map_or (λ y. covers_birth purged o && covers_update purged y.update) q false) f) ∙ t) in
         record { death = x.update; is_held = updated rows x m; is_death = e; birth_purged = leb-true o.birth.usn (at purged o.birth.inv) p.0; death_purged = leb-true (usn_of x.update) (at purged (inv_of x.update)) p.1 }
@@ -54,7 +55,8 @@ tested_where_removable rows purged o rising r =
     let x = held_as rows r.death r.is_held in
     let key = ap (λ (u : Update). u.key) (sym x.2) ∙ r.is_death in
     ap (λ (p : Option Held). option_map_or (λ y. covers_birth purged o && covers_update purged y.update) p false) (row_held_is rows rising (RowOf o deleted_attr) x.0 x.1 key)
-    ∙ and_from (covers_birth purged o) (covers_update purged x.0.update) (le-leb o.birth.usn (at purged o.birth.inv) r.birth_purged)
+    ∙ and_from (covers_birth purged o) (covers_update purged x.0.update)
+    (le-leb o.birth.usn (at purged o.birth.inv) r.birth_purged)
     (subst (λ (u : Update). covers_update purged u ≡ true) x.2 (le-leb (usn_of r.death) (at purged (inv_of r.death)) r.death_purged))
 
 -- ---- touched units
@@ -90,7 +92,8 @@ module _ (schema : ℕ) (rows : List Held) (rising : AreRising rows) where
       by false is = refl
 
   abbrev IsForwardLink : LinkKey → Type 0
-  IsForwardLink l = (r : Update) → Member r (updates_of rows) → r.key ≡ LinkOf l → is_forward (kind_at table l.attr) ≡ true
+  IsForwardLink l = (r : Update) → Member r (updates_of rows) → r.key ≡ LinkOf l → is_forward
+      (kind_at table l.attr) ≡ true
 
   link_tells : (l : LinkKey) → is_touched_formed table rows (Link l) ≡ true → IsForwardLink l
   link_tells l h r m is = by (row_held rows (LinkOf l)) held h
@@ -111,20 +114,26 @@ module _ (schema : ℕ) (rows : List Held) (rising : AreRising rows) where
     where
       by : (p : Option Held) → IsFound rows (LinkOf l) p
           → (is_none p || is_forward (kind_at table l.attr)) ≡ true
-      by p (inl (x, m, e, g)) = subst (λ (q : Option Held). (is_none q || is_forward (kind_at table l.attr)) ≡ true) (sym g) (f x.update (updated rows x m) e)
-      by p (inr (none, g)) = subst (λ (q : Option Held). (is_none q || is_forward (kind_at table l.attr)) ≡ true) (sym g) refl
+      by p (inl (x, m, e, g)) = subst
+          (λ (q : Option Held). (is_none q || is_forward (kind_at table l.attr)) ≡ true) (sym g)
+          (f x.update (updated rows x m) e)
+      by p (inr (none, g)) = subst
+          (λ (q : Option Held). (is_none q || is_forward (kind_at table l.attr)) ≡ true) (sym g) refl
 
   touched_tells : (c : Change)
       → list_all (λ (w : Written). is_touched_formed table rows w.item.unit) c.writes ≡ true
       → AreTouchedInForm table (updates_of rows) c
   touched_tells c h = record {
-    objects = λ w m o e. object_tells o (subst (λ u. is_touched_formed table rows u ≡ true) e (all_pass (λ (v : Written). is_touched_formed table rows v.item.unit) c.writes h w m));
-    links = λ w m l e. link_tells l (subst (λ u. is_touched_formed table rows u ≡ true) e (all_pass (λ (v : Written). is_touched_formed table rows v.item.unit) c.writes h w m));
+    objects = λ w m o e. object_tells o
+        (subst (λ u. is_touched_formed table rows u ≡ true) e (all_pass (λ (v : Written). is_touched_formed table rows v.item.unit) c.writes h w m));
+    links = λ w m l e. link_tells l
+        (subst (λ u. is_touched_formed table rows u ≡ true) e (all_pass (λ (v : Written). is_touched_formed table rows v.item.unit) c.writes h w m));
   }
 
   touched_passes : (c : Change) → AreTouchedInForm table (updates_of rows) c
       → list_all (λ (w : Written). is_touched_formed table rows w.item.unit) c.writes ≡ true
-  touched_passes c f = passes_all (λ (w : Written). is_touched_formed table rows w.item.unit) c.writes (λ w m. by w m w.item.unit refl)
+  touched_passes c f = passes_all (λ (w : Written). is_touched_formed table rows w.item.unit) c.writes
+      (λ w m. by w m w.item.unit refl)
     where
       by : (w : Written) → Member w c.writes → (u : Named) → w.item.unit ≡ u
           → is_touched_formed table rows u ≡ true
@@ -159,8 +168,11 @@ follows_where_tested s c formed known spelled h =
         mark = spelled.mark;
         joined = spelled.joined;
         purged = spelled.purged;
-        writes = following_where_tested (numbered s.store.schema) s.store.vector s.store.rows c.writes spelled.items j.1;
-        removed = λ o m. removable_where_tested (rows_after [] (held_of c.writes) s.store.rows) (after s c).store.purged o (all_pass (is_removable (rows_after [] (held_of c.writes) s.store.rows) (after s c).store.purged) c.removed i.1 o m);
+        writes = following_where_tested
+            (numbered s.store.schema) s.store.vector s.store.rows c.writes spelled.items j.1;
+        removed = λ o m. removable_where_tested (rows_after [] (held_of c.writes) s.store.rows)
+            (after s c).store.purged o
+            (all_pass (is_removable (rows_after [] (held_of c.writes) s.store.rows) (after s c).store.purged) c.removed i.1 o m);
       };
       touched = touched_tells s.store.schema (after s c).store.rows (rows_rise s c formed) c a.1;
       own = leb-true (at c.joined s.inv) c.usn f.1;

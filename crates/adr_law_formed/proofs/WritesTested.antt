@@ -37,14 +37,16 @@ module _ {A : Type 0} (test : A → Bool) where
 
   pub passes_all : (xs : List A) → Each (λ x. test x ≡ true) xs → list_all test xs ≡ true
   passes_all [] each = refl
-  passes_all (y ∷ ys) each = and_from (test y) (list_all test ys) (each y (inl refl)) (passes_all ys (λ x m. each x (inr m)))
+  passes_all (y ∷ ys) each = and_from (test y) (list_all test ys) (each y (inl refl))
+      (passes_all ys (λ x m. each x (inr m)))
 
 -- ---- a whole object
 
 module _ (table : Table) (o : Oid) (us : List Update)
     (spelled : IsSpelledItem (record { unit = Object o; rows = us })) where
   row_of_attr : (attr : ℕ) (u : Update) → Member u us → is_of_attr attr u.key ≡ true → u.key ≡ RowOf o attr
-  row_of_attr attr u m is = let k = row_of_unit u.key o (spelled.of_unit u m) in let d = of_attr attr u.key is in k.1 ∙ ap (λ a. RowOf o a) (same_attr d.0 k.0 (sym k.1 ∙ d.1))
+  row_of_attr attr u m is = let k = row_of_unit u.key o (spelled.of_unit u m) in let d = of_attr attr u.key is in k.1
+      ∙ ap (λ a. RowOf o a) (same_attr d.0 k.0 (sym k.1 ∙ d.1))
     where
       same_attr : (p : Oid) (a : ℕ) → RowOf o a ≡ RowOf p attr → a ≡ attr
       same_attr p a e = cc
@@ -68,7 +70,8 @@ module _ (table : Table) (o : Oid) (us : List Update)
   whole_where_tested none = made (key_of class_attr class_there) (key_of name_attr name_there)
     where
       p : ((not (has_row class_attr us) || not (has_row name_attr us)) ≡ false) × ((not (has_row deleted_attr us) && list_any (λ attr. not (has_row attr us)) (must_of table (unwrap_or (class_among us) 0))) ≡ false)
-      p = or_parts (not (has_row class_attr us) || not (has_row name_attr us)) (not (has_row deleted_attr us) && list_any (λ attr. not (has_row attr us)) (must_of table (unwrap_or (class_among us) 0))) none
+      p = or_parts (not (has_row class_attr us) || not (has_row name_attr us))
+          (not (has_row deleted_attr us) && list_any (λ attr. not (has_row attr us)) (must_of table (unwrap_or (class_among us) 0))) none
 
       q : (not (has_row class_attr us) ≡ false) × (not (has_row name_attr us) ≡ false)
       q = or_parts (not (has_row class_attr us)) (not (has_row name_attr us)) p.0
@@ -106,13 +109,17 @@ module _ (table : Table) (o : Oid) (us : List Update)
           by (Values vs) says of = absurd (of.0 refl)
 
   tested_where_whole : IsWhole table o us → lacks table us ≡ false
-  tested_where_whole whole = by (has_row class_attr us) (has_key class_attr (whole.of_class.0, whole.of_class.1, whole.of_class.2)) (has_row name_attr us) (has_key name_attr whole.of_name) (has_row deleted_attr us) refl whole.whole
+  tested_where_whole whole = by (has_row class_attr us)
+      (has_key class_attr (whole.of_class.0, whole.of_class.1, whole.of_class.2)) (has_row name_attr us)
+      (has_key name_attr whole.of_name) (has_row deleted_attr us) refl whole.whole
     where
       must : has_row deleted_attr us ≡ false
           → ((d : Update) × Member d us × IsDeathOf o d) ⊎ ((attr : ℕ) → has (must_of table whole.class) attr ≡ true → HasKey us o attr)
           → list_any (λ attr. not (has_row attr us)) (must_of table (unwrap_or (class_among us) 0)) ≡ false
       must alive (inl death) = absurd (both_ways (has_row deleted_attr us) alive (has_key deleted_attr death))
-      must alive (inr all) = subst (λ (c : Option ℕ). list_any (λ attr. not (has_row attr us)) (must_of table (unwrap_or c 0)) ≡ false) (sym (class_is (whole.of_class.0, whole.of_class.1, whole.of_class.2) whole.class whole.of_class.3))
+      must alive (inr all) = subst
+          (λ (c : Option ℕ). list_any (λ attr. not (has_row attr us)) (must_of table (unwrap_or c 0)) ≡ false)
+          (sym (class_is (whole.of_class.0, whole.of_class.1, whole.of_class.2) whole.class whole.of_class.3))
           (none_passes (λ attr. not (has_row attr us)) (must_of table whole.class) (λ attr m. ap not (has_key attr (all attr (one_passes (λ n. n == attr) (must_of table whole.class) attr m (eq-eqb attr attr refl))))))
 
       by : (c : Bool) → c ≡ true → (n : Bool) → n ≡ true → (d : Bool) → has_row deleted_attr us ≡ d
@@ -128,12 +135,14 @@ module _ (table : Table) (o : Oid) (us : List Update)
 module _ (table : Table) (vector : Cursors) (rows : List Held) where
   placed_where_tested : (unit : Named) (us : List Update) → IsSpelledItem (record { unit = unit; rows = us })
       → may_write_unit table vector rows unit us ≡ true → MayWriteUnit table vector rows unit us
-  placed_where_tested (Object o) us spelled = each_presence vector rows o (λ (p : Presence). may_write_object table us p ≡ true → MayWriteUnit table vector rows (Object o) us)
+  placed_where_tested (Object o) us spelled = each_presence vector rows o
+      (λ (p : Presence). may_write_object table us p ≡ true → MayWriteUnit table vector rows (Object o) us)
       (λ t h. inl (t, λ u m. row_of_attr table o us spelled deleted_attr u m (all_pass (λ (v : Update). is_of_attr deleted_attr v.key) us h u m)))
       (λ alive holds h. inr (inl (alive, holds)))
       (λ absent covers h. absurd (both_ways false refl h))
       (λ absent missed h. inr (inr (absent, missed, whole_where_tested table o us spelled (not-true (lacks table us) h))))
-  placed_where_tested (Link l) us spelled = λ h o m. by o (or_parts (is_lost_end vector rows l.from) (is_lost_end vector rows l.to) (not-true (is_lost_end vector rows l.from || is_lost_end vector rows l.to) h)) m
+  placed_where_tested (Link l) us spelled = λ h o m. by o
+      (or_parts (is_lost_end vector rows l.from) (is_lost_end vector rows l.to) (not-true (is_lost_end vector rows l.from || is_lost_end vector rows l.to) h)) m
     where
       by : (o : Oid) → (is_lost_end vector rows l.from ≡ false) × (is_lost_end vector rows l.to ≡ false)
           → Member o (ends (LinkOf l)) → IsThere vector rows o
@@ -146,11 +155,13 @@ module _ (table : Table) (vector : Cursors) (rows : List Held) where
     where
       by : (b : Bool) → is_lost_end vector rows o ≡ b → b ≡ false
       by false e = refl
-      by true e = absurd (⊎_elim there.0 (λ t. ⊎_elim t.0 (λ m. m t.1) there.1) (lost_where_tested vector rows o e))
+      by true e = absurd
+          (⊎_elim there.0 (λ t. ⊎_elim t.0 (λ m. m t.1) there.1) (lost_where_tested vector rows o e))
 
   tested_where_placed : (unit : Named) (us : List Update) → IsSpelledItem (record { unit = unit; rows = us })
       → MayWriteUnit table vector rows unit us → may_write_unit table vector rows unit us ≡ true
-  tested_where_placed (Object o) us spelled placed = each_presence vector rows o (λ (p : Presence). may_write_object table us p ≡ true)
+  tested_where_placed (Object o) us spelled placed = each_presence vector rows o
+      (λ (p : Presence). may_write_object table us p ≡ true)
       (λ t. where_dead t placed)
       (λ alive holds. refl)
       (λ absent covers. where_gone absent covers placed)
@@ -161,7 +172,8 @@ module _ (table : Table) (vector : Cursors) (rows : List Held) where
 
       where_dead : IsTombstoned (updates_of rows) o → MayWriteUnit table vector rows (Object o) us
           → list_all (λ (u : Update). is_of_attr deleted_attr u.key) us ≡ true
-      where_dead t (inl (u, only)) = passes_all (λ (u : Update). is_of_attr deleted_attr u.key) us (λ u m. attr_itself o deleted_attr u.key (only u m))
+      where_dead t (inl (u, only)) = passes_all (λ (u : Update). is_of_attr deleted_attr u.key) us
+          (λ u m. attr_itself o deleted_attr u.key (only u m))
       where_dead t (inr (inl (alive, holds))) = absurd (alive t)
       where_dead t (inr (inr (absent, missed, whole))) = absurd (absent (holds_dead_one t))
 
@@ -175,8 +187,10 @@ module _ (table : Table) (vector : Cursors) (rows : List Held) where
           → not (lacks table us) ≡ true
       where_new absent (inl (t, only)) = absurd (absent (holds_dead_one t))
       where_new absent (inr (inl (alive, holds))) = absurd (absent holds)
-      where_new absent (inr (inr (gone, missed, whole))) = ap not (tested_where_whole table o us spelled whole)
-  tested_where_placed (Link l) us spelled placed = ap not (both (is_lost_end vector rows l.from) (is_lost_end vector rows l.to) (not_lost l.from (placed l.from (inl refl))) (not_lost l.to (placed l.to (inr (inl refl)))))
+      where_new absent (inr (inr (gone, missed, whole))) = ap not
+          (tested_where_whole table o us spelled whole)
+  tested_where_placed (Link l) us spelled placed = ap not
+      (both (is_lost_end vector rows l.from) (is_lost_end vector rows l.to) (not_lost l.from (placed l.from (inl refl))) (not_lost l.to (placed l.to (inr (inl refl)))))
     where
       both : (a b : Bool) → a ≡ false → b ≡ false → (a || b) ≡ false
       both a b e f = ap (λ x. x || b) e ∙ f
@@ -191,7 +205,8 @@ module _ (table : Table) (vector : Cursors) (rows : List Held) where
 
   tested_where_follows : (item : Item) → MayFollow table vector rows item
       → may_follow table vector rows item ≡ true
-  tested_where_follows item f = and_from (list_all (is_above rows) item.rows) (may_write_unit table vector rows item.unit item.rows)
+  tested_where_follows item f = and_from (list_all (is_above rows) item.rows)
+      (may_write_unit table vector rows item.unit item.rows)
       (passes_all (is_above rows) item.rows f.greater) (tested_where_placed item.unit item.rows f.form f.unit)
 
 -- ---- all writes
@@ -214,6 +229,8 @@ following_where_tested table vector rows (w ∷ ws) form h =
 pub tested_where_following : (table : Table) (vector : Cursors) (rows : List Held) (ws : List Written)
     → MayFollowInTurn table vector rows ws → may_follow_in_turn table vector rows ws ≡ true
 tested_where_following table vector rows [] f = refl
-tested_where_following table vector rows (w ∷ ws) f = and_from (may_follow table vector rows w.item && are_within_limits (after_write rows w)) (may_follow_in_turn table vector (after_write rows w) ws)
+tested_where_following table vector rows (w ∷ ws) f = and_from
+    (may_follow table vector rows w.item && are_within_limits (after_write rows w))
+    (may_follow_in_turn table vector (after_write rows w) ws)
     (and_from (may_follow table vector rows w.item) (are_within_limits (after_write rows w)) (tested_where_follows table vector rows w.item f.0) (tested_where_few (after_write rows w) f.1))
     (tested_where_following table vector (after_write rows w) ws f.2)
