@@ -204,4 +204,5 @@ def main():
         print(f"{'20,000 members of one group':40} {work(one_group, 20000)[0]:9.2f} s")
 
 
-main()
+if __name__ == "__main__":
+    main()
