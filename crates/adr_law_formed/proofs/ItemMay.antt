@@ -1,11 +1,10 @@
 -- Of an item that is spelled and isn't refused nothing is written, or rows that may be put, keep the forms
 -- and can follow.
-use Rattle.std.proofs.Common.{◌≡◌, ◌⊎◌, inl, inr, ℕ, List, [], Bool, true, false, cond, Option, Some, None, IsSome, unwrap_or, refl, sym, ap, ◌∙◌, subst, map, filter, not, ◌&&◌, ◌||◌, ◌==◌}
-use Rattle.std.specs.List.{list_any}
+use Rattle.std.proofs.Common.{◌≡◌, ◌⊎◌, inl, inr, ℕ, List, [], Bool, true, false, cond, Option, Some, None, IsSome, refl, sym, ap, ◌∙◌, subst, map, filter, not, ◌&&◌, ◌||◌}
 use Rattle.std.specs.Bool.{then_some}
 use Rattle.std.specs.Option.{option_map, option_map_or, option_and_then, option_or}
 use Rattle.std.specs.List.Sorted.{IsStrictlySortedBy}
-use Rattle.std.proofs.lemmas.Bool.{and_parts, or_parts, both_ways, eqb-true, not-false, not-true}
+use Rattle.std.proofs.lemmas.Bool.{and_parts, both_ways, not-true}
 use Rattle.adr_stamp.specs.declared.Oid.{Oid}
 use Rattle.adr_stamp.specs.declared.LinkKey.{LinkKey}
 use Rattle.adr_stamp.specs.declared.Unit.{Unit as Named}
@@ -28,21 +27,21 @@ use Rattle.adr_model.specs.Store.{Held, updates_of, row_held}
 use Rattle.adr_model.specs.Change.{Item}
 use Rattle.adr_model.specs.Formed.{AreRising, AreFormedRows, IsNamed}
 use Rattle.adr_model.specs.Take.{is_above, is_of_attr, is_reserved_row, has_row, left_by_death, is_lost_end, Presence, IsDead, IsHeld, object_rows_taken, object_rows_tested, object_lacks, rows_taken, rows_tested, row_fault, class_said, class_among, class_of_item, item_fault, lacks, incomplete, item_refusal}
-use Rattle.adr_model.proofs.Members.{of_filter, found, member_mapped, each_fails}
+use Rattle.adr_model.proofs.Members.{of_filter, member_mapped}
 use Rattle.adr_law_knowledge.proofs.Refusing.{none_there, not_mapped, is_so}
-use Rattle.adr_model.proofs.Members.{some_passes}
 use Rattle.adr_law_steps.specs.Puts.{MayPut}
 use Rattle.adr_law_steps.specs.Forms.{HasKey, IsWellSaid}
 use Rattle.adr_law_steps.proofs.Rows.{updated, held_as, row_of_unit, link_of_unit}
 use Rattle.adr_law_steps.proofs.Rising.{one_of_key as one_held_of_key, one_update}
 use Rattle.adr_law_taking.proofs.Tests.{IsFound, row_found, above_supersedes}
-use Rattle.adr_law_taking.proofs.Standings.{each_presence, IsThere, there_where_untested, of_attr, attr_itself, has_where_tested, left_from, reserved_is_left, bare_beside_death}
+use Rattle.adr_law_taking.proofs.Standings.{each_presence, IsThere, there_where_untested, attr_itself, left_from, reserved_is_left, bare_beside_death}
 use Rattle.adr_law_taking.proofs.ItemPut.{above_of_held, some_or_none}
 use Rattle.adr_law_writing.proofs.Saids.{death_well_said}
 use Rattle.adr_law_formed.specs.Spelled.{IsContentOfAttr, IsSpelledItem}
-use Rattle.adr_law_formed.specs.Follow.{MayWriteUnit, MayFollow}
+use Rattle.adr_law_formed.specs.Follow.{IsWhole, MayWriteUnit, MayFollow}
 use Rattle.adr_law_formed.specs.Taken.{MayBeTaken}
 use Rattle.adr_law_formed.proofs.Sorted.{keys, filtered_rise, left_rise, one_of_key}
+use Rattle.adr_law_formed.proofs.Whole.{row_of_attr, key_of, class_is, whole_where_tested}
 use Rattle.adr_law_formed.proofs.Said.{says_content, neither, class_row_says, row_said}
 
 class_of_said : (said : Said) (class : ℕ) → said ≡ Holds (Class class) → class_said said ≡ Some class
@@ -102,13 +101,6 @@ module _ (schema : ℕ) (vector : Cursors) (rows : List Held) (rising : AreRisin
     row_key : (u : Update) → Member u xs → (attr : ℕ) × (u.key ≡ RowOf o attr)
     row_key u m = row_of_unit u.key o (spelled.of_unit u m)
 
-    row_of_attr : (attr : ℕ) (u : Update) → Member u xs → is_of_attr attr u.key ≡ true → u.key ≡ RowOf o attr
-    row_of_attr attr u m is = let k = row_key u m in let d = of_attr attr u.key is in k.1 ∙ ap
-        (λ a. RowOf o a) (same_attr d.0 k.0 (sym k.1 ∙ d.1))
-      where
-        same_attr : (p : Oid) (a : ℕ) → RowOf o a ≡ RowOf p attr → a ≡ attr
-        same_attr p a e = cc
-
     held_place : HoldsObject (updates_of rows) o → (p : Oid) → Object o ≡ Object p
         → HoldsObject (updates_of rows) p ⊎ (CoversBirth (at vector) p → ⊥)
     held_place holds p e = inl (subst (HoldsObject (updates_of rows)) (let f : o ≡ p = cc in f) holds)
@@ -120,7 +112,7 @@ module _ (schema : ℕ) (vector : Cursors) (rows : List Held) (rising : AreRisin
     from_dead u m =
         let t = of_filter (λ (v : Update). is_of_attr deleted_attr v.key && is_above rows v) xs u m in
         let b = and_parts (is_of_attr deleted_attr u.key) (is_above rows u) t.1 in
-        (t.0, row_of_attr deleted_attr u t.0 b.0, b.1)
+        (t.0, row_of_attr table o xs spelled deleted_attr u t.0 b.0, b.1)
 
     -- a deleted row says that
     death_says : (u : Update) → Member u xs → u.key ≡ RowOf o deleted_attr → u.said ≡ Holds Dead
@@ -241,43 +233,24 @@ module _ (schema : ℕ) (vector : Cursors) (rows : List Held) (rising : AreRisin
             (λ t. absurd (absent (t.0, deleted_attr, t.1, t.2))) (λ _ holds. absurd (absent holds))
             (λ _ covers. absurd (missed covers)) (λ _ _. refl)) ∙ whole)
 
-        -- what isn't lacked
-        parts : (has_row class_attr xs ≡ true) × (has_row name_attr xs ≡ true) × ((not (has_row deleted_attr xs) && list_any (λ attr. not (has_row attr xs)) (must_of table (unwrap_or (class_among xs) 0))) ≡ false)
-        parts =
-            let p = or_parts (not (has_row class_attr xs) || not (has_row name_attr xs)) (not (has_row deleted_attr xs) && list_any (λ attr. not (has_row attr xs)) (must_of table (unwrap_or (class_among xs) 0))) lacks_nothing in
-            let q = or_parts (not (has_row class_attr xs)) (not (has_row name_attr xs)) p.0 in
-            (not-false (has_row class_attr xs) q.0, not-false (has_row name_attr xs) q.1, p.1)
-
-        -- a row of an attribute that is there
-        key_of : (attr : ℕ) → has_row attr xs ≡ true → HasKey xs o attr
-        key_of attr h = let t = has_where_tested attr xs h in (t.0, t.1, row_of_attr attr t.0 t.1 t.2)
+        comes : IsWhole table o xs
+        comes = whole_where_tested table o xs spelled lacks_nothing
 
         reserved : (attr : ℕ) → is_reserved_row (RowOf o attr) ≡ true → HasKey xs o attr
             → HasKey (left_by_death xs) o attr
         reserved attr is (u, m, e) = (u, reserved_is_left xs u m (ap is_reserved_row e ∙ is), e)
 
-        birth : HasKey xs o class_attr
-        birth = key_of class_attr parts.0
-
-        birth_says : (class : ℕ) × (birth.0.said ≡ Holds (Class class))
-        birth_says = let t = says_content birth.0.key birth.0.said o class_attr birth.2 (spelled.says birth.0 birth.1) in by t.0 t.1 t.2
-          where
-            by : (c : Content) → birth.0.said ≡ Holds c → IsContentOfAttr class_attr c
-                → (class : ℕ) × (birth.0.said ≡ Holds (Class class))
-            by (Class d) says e = (d, says)
-            by (Name text parent) says e = absurd (let f : class_attr ≡ name_attr = e in cc)
-            by Dead says e = absurd (let f : class_attr ≡ deleted_attr = e in cc)
-            by (Values vs) says e = absurd (e.0 refl)
-
         abbrev class : ℕ
-        class = birth_says.0
+        class = comes.class
+
+        abbrev birth : HasKey xs o class_attr
+        birth = (comes.of_class.0, comes.of_class.1, comes.of_class.2)
+
+        birth_says : birth.0.said ≡ Holds (Class class)
+        birth_says = comes.of_class.3
 
         said_class : class_among xs ≡ Some class
-        said_class =
-            ap (λ (p : Option Update). option_and_then (λ u. class_said u.said) p)
-            (found (λ (u : Update). is_of_attr class_attr u.key) xs birth.0 birth.1 (attr_itself o class_attr birth.0.key birth.2)
-            (λ u m is. one (Object o) xs spelled u m birth.0 birth.1 (row_of_attr class_attr u m is ∙ sym birth.2)))
-            ∙ class_of_said birth.0.said class birth_says.1
+        said_class = class_is table o xs spelled birth class birth_says
 
         new_class : class_of_item rows item ≡ Some class
         new_class = by (row_found rows (RowOf o class_attr))
@@ -297,34 +270,26 @@ module _ (schema : ℕ) (vector : Cursors) (rows : List Held) (rising : AreRisin
             (λ d is says. same d (ap (λ (v : Update). v.said) (one (Object o) xs spelled birth.0 birth.1 u n (birth.2 ∙ sym is)) ∙ says))
           where
             same : (d : ℕ) → birth.0.said ≡ Holds (Class d) → d ≡ class
-            same d e = let f : Holds (Class d) ≡ Holds (Class class) = sym e ∙ birth_says.1 in cc
+            same d e = let f : Holds (Class d) ≡ Holds (Class class) = sym e ∙ birth_says in cc
 
         birth_left : Member birth.0 (left_by_death xs)
         birth_left = reserved_is_left xs birth.0 birth.1 (ap is_reserved_row birth.2)
 
         known : IsSome (class_at table class)
-        known = (class_row_says schema class o birth.0 (class_of_item rows item) class birth.2 birth_says.1 (tested_is (left_by_death xs) new_tested birth.0 birth_left)).1
+        known = (class_row_says schema class o birth.0 (class_of_item rows item) class birth.2 birth_says (tested_is (left_by_death xs) new_tested birth.0 birth_left)).1
 
-        all : ((d : Update) × Member d (left_by_death xs) × IsDeathOf o d) ⊎ ((attr : ℕ) → has (must_of table class) attr ≡ true → HasKey (left_by_death xs) o attr)
-        all = by (has_row deleted_attr xs) refl parts.2
+        all : ((d : Update) × Member d (left_by_death xs) × IsDeathOf o d)
+            ⊎ ((attr : ℕ) → has (must_of table class) attr ≡ true → HasKey (left_by_death xs) o attr)
+        all = by (has_row deleted_attr xs) refl comes.whole
           where
             by : (b : Bool) → has_row deleted_attr xs ≡ b
-                →
-                (not b && list_any (λ attr. not (has_row attr xs)) (must_of table (unwrap_or (class_among xs) 0))) ≡ false
-                → ((d : Update) × Member d (left_by_death xs) × IsDeathOf o d) ⊎ ((attr : ℕ) → has (must_of table class) attr ≡ true → HasKey (left_by_death xs) o attr)
-            by true is none = inl (reserved deleted_attr refl (key_of deleted_attr is))
-            by false is none = inr must
-              where
-                there : list_any (λ attr. not (has_row attr xs)) (must_of table class) ≡ false
-                there = subst
-                    (λ (c : Option ℕ). list_any (λ attr. not (has_row attr xs)) (must_of table (unwrap_or c 0)) ≡ false) said_class none
-
-                must : (attr : ℕ) → has (must_of table class) attr ≡ true → HasKey (left_by_death xs) o attr
-                must attr h =
-                    let t = some_passes (λ n. n == attr) (must_of table class) h in
-                    let p : has_row t.0 xs ≡ true = not-false (has_row t.0 xs) (each_fails (λ a. not (has_row a xs)) (must_of table class) there t.0 t.1) in
-                    let k = key_of attr (subst (λ n. has_row n xs ≡ true) (eqb-true t.0 attr t.2) p) in
-                    (k.0, subst (λ b. Member k.0 (cond b (filter (λ (v : Update). is_reserved_row v.key) xs) xs)) (sym is) k.1, k.2)
+                → ((d : Update) × Member d xs × IsDeathOf o d) ⊎ ((attr : ℕ) → has (must_of table class) attr ≡ true → HasKey xs o attr)
+                → ((d : Update) × Member d (left_by_death xs) × IsDeathOf o d)
+                ⊎ ((attr : ℕ) → has (must_of table class) attr ≡ true → HasKey (left_by_death xs) o attr)
+            by b is (inl death) = inl (reserved deleted_attr refl death)
+            by true is (inr must) = inl (reserved deleted_attr refl (key_of table o xs spelled deleted_attr is))
+            by false is (inr must) = inr (λ attr h. let k = must attr h in
+                (k.0, subst (λ b. Member k.0 (cond b (filter (λ (v : Update). is_reserved_row v.key) xs) xs)) (sym is) k.1, k.2))
 
         new_above : Each (λ u. is_above rows u ≡ true) (left_by_death xs)
         new_above u m = let k = row_key u (left_from xs u m) in new_is_above rows u
@@ -339,7 +304,7 @@ module _ (schema : ℕ) (vector : Cursors) (rows : List Held) (rising : AreRisin
         new_is_good some = record {
           put = part_put (Object o) xs spelled (left_by_death xs) (left_from xs) new_above
               (bare_beside_death xs) new_place;
-          keeps = (class, inr (record { absent = absent; known = known; said = said_of_new; of_class = reserved class_attr refl birth; of_name = reserved name_attr refl (key_of name_attr parts.1); whole = all }));
+          keeps = (class, inr (record { absent = absent; known = known; said = said_of_new; of_class = reserved class_attr refl birth; of_name = reserved name_attr refl comes.of_name; whole = all }));
           follows = part_follows (Object o) xs spelled (left_by_death xs) some (left_from xs)
               (left_rise xs spelled.rising) new_above
               (inr (inr (
@@ -347,8 +312,8 @@ module _ (schema : ℕ) (vector : Cursors) (rows : List Held) (rising : AreRisin
                 missed,
                 record {
                   class = class;
-                  of_class = (birth.0, birth_left, birth.2, birth_says.1);
-                  of_name = reserved name_attr refl (key_of name_attr parts.1);
+                  of_class = (birth.0, birth_left, birth.2, birth_says);
+                  of_name = reserved name_attr refl comes.of_name;
                   whole = all;
                 },
               )));
