@@ -4,7 +4,7 @@ use Rattle.std.specs.Str.{bytes_eq}
 use Rattle.std.proofs.lemmas.Bool.{eqb-true}
 use Rattle.adr_wire.specs.Fields.{u16, u16_at}
 use Rattle.adr_wire.specs.Ranges.{IsU16}
-use Rattle.adr_wire.specs.Reading.{Rest, Read, Reading, ◌>>=◌, as_at, bytes_at, then_at, where_at}
+use Rattle.adr_wire.specs.Reading.{Rest, Read, Reading, ◌>>=◌, bytes_at, then_at, where_at}
 use Rattle.adr_wire.specs.Spelling.{IsSpelling}
 use Rattle.adr_wire.proofs.Combining.{HasLength, as_they_are, bytes_spelled, made, pair, passed}
 use Rattle.adr_wire.proofs.FieldLaws.{u16_spelled}

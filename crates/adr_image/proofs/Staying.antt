@@ -1,8 +1,8 @@
 -- A spelled store stays spelled by what a body in range says.
-use Rattle.std.proofs.Common.{◌≡◌, ℕ, ◌<◌, ◌≤◌, ◌^◌, Bool, true, false, cond, leb, List, [], ◌∷◌, ◌++◌, map, fold, Option, Some, None, refl, sym, ap, subst, ◌∙◌, inl, inr, ⊎_elim, arith}
-use Rattle.std.specs.Prelude.{◌⊎◌, filter}
+use Rattle.std.proofs.Common.{◌≡◌, ℕ, ◌<◌, ◌^◌, Bool, true, false, cond, List, [], ◌∷◌, map, fold, Option, Some, None, refl, sym, ap, subst, ◌∙◌, inl, inr, ⊎_elim, arith}
+use Rattle.std.specs.Prelude.{◌⊎◌}
 use Rattle.std.specs.BTreeMap.{insert_entry}
-use Rattle.std.specs.List.{flat_map, AllByRecursion}
+use Rattle.std.specs.List.{AllByRecursion}
 use Rattle.std.specs.List.Sorted.{IsStrictlySortedBy}
 use Rattle.std.specs.Ordering.{match_ordering, ordering_reverse}
 use Rattle.std.specs.Cmp.{IsTotalOrder}
@@ -14,7 +14,7 @@ use Rattle.adr_stamp.specs.declared.Oid.{Oid}
 use Rattle.adr_stamp.specs.Order.{identifier_order}
 use Rattle.adr_schema.specs.Numbered.{numbered}
 use Rattle.adr_vector.specs.Vector.{Cursors, at, covers, raised, joined}
-use Rattle.adr_wire.specs.Composites.{LinkItem, Row}
+use Rattle.adr_wire.specs.Composites.{Row}
 use Rattle.adr_wire.specs.Pieces.{Piece, OfRows, OfLink, IsPiece}
 use Rattle.adr_wire.specs.Ranges.{InTurn, IsCursor, IsId, IsMark, IsOid, IsRowAbove, IsUsn}
 use Rattle.adr_law_lengths.specs.Written.{update_of}
@@ -28,7 +28,6 @@ use Rattle.adr_table.proofs.LocalsKept.{of_with_row}
 use Rattle.adr_image.specs.Body.{IsMarkIf, IsWrite, Write}
 use Rattle.adr_image.specs.Changes.{HasBody, item_of, written_of}
 use Rattle.adr_image.specs.Image.{Marked}
-use Rattle.adr_image.specs.Ranged.{IsMarked}
 use Rattle.adr_image.specs.Stored.{IsSpelled, IsSpelledRow}
 use Rattle.adr_image.proofs.Alone.{in_all}
 use Rattle.adr_image.proofs.Storing.{all_above}

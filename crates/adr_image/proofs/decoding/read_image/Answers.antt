@@ -1,4 +1,4 @@
-use Rattle.std.proofs.Common.{◌≡◌, Ok, ap, sym, ◌∙◌}
+use Rattle.std.proofs.Common.{Ok, ap, sym, ◌∙◌}
 use Rattle.adr_wire.specs.Reading.{Read}
 use Rattle.adr_model.specs.Store.{Store}
 use Rattle.adr_image.proofs.Placed.{image_placed}
