@@ -1,14 +1,11 @@
 -- The image of a store is as long as is counted of the store.
-use Rattle.std.proofs.Common.{◌≡◌, ℕ, suc, ◌+◌, ◌*◌, List, [], ◌∷◌, ◌++◌, length, map, fold, refl, sym, ap, ◌∙◌, arith}
+use Rattle.std.proofs.Common.{◌≡◌, ℕ, ◌+◌, ◌*◌, List, [], ◌∷◌, ◌++◌, length, map, fold, ap, ◌∙◌, arith}
 use Rattle.adr_stamp.specs.declared.Oid.{Oid}
-use Rattle.adr_model.specs.Update.{Holds}
-use Rattle.adr_model.specs.Live.{objects_of}
 use Rattle.adr_model.specs.Lengths.{row_length, image_length}
-use Rattle.adr_model.specs.Serve.{content_length}
-use Rattle.adr_model.specs.Store.{Held, Store, updates_of}
+use Rattle.adr_model.specs.Store.{Held, Store}
 use Rattle.adr_model.specs.Formed.{IsFormedStore}
 use Rattle.adr_image.specs.Image.{HeldRow, Rows, HeldLink}
-use Rattle.adr_image.specs.Lengths.{total, held_length, object_length, parts_length}
+use Rattle.adr_image.specs.Lengths.{total, held_length, object_length}
 use Rattle.adr_image.specs.Stored.{held_of, link_of, rows_of, apart, parts_in, image, IsSpelled}
 use Rattle.adr_image.proofs.InRange.{in_range, same_rows, objects_counted}
 use Rattle.adr_image.proofs.Long.{image_long}

@@ -1,6 +1,6 @@
 -- A formed and spelled store, taken apart: each object has its rows in range, allowed and whole.
-use Rattle.std.proofs.Common.{◌≡◌, ℕ, suc, ◌+◌, ◌<◌, ◌≤◌, ◌^◌, Bool, true, false, cond, eqb, leb, List, [], ◌∷◌, ◌++◌, length, map, fold, Option, Some, None, refl, sym, ap, subst, ◌∙◌, inl, inr, ⊎_elim, arith}
-use Rattle.std.specs.Prelude.{not, ◌&&◌, ◌⊎◌, is_none, is_some, unwrap_or}
+use Rattle.std.proofs.Common.{◌≡◌, ℕ, ◌+◌, ◌<◌, ◌≤◌, ◌^◌, Bool, true, false, cond, eqb, leb, List, [], ◌∷◌, length, map, fold, Option, Some, None, refl, sym, ap, subst, ◌∙◌, inl, inr, ⊎_elim, arith}
+use Rattle.std.specs.Prelude.{not, ◌&&◌, is_none, is_some, unwrap_or}
 use Rattle.std.specs.List.{flat_map, list_all, AllByRecursion}
 use Rattle.std.specs.List.Sorted.{IsStrictlySortedBy}
 use Rattle.std.specs.Ordering.{nat_cmp}
@@ -14,7 +14,7 @@ use Rattle.adr_stamp.specs.contracts.OidOrd.TheImpl.Laws.{total-law as objects_t
 use Rattle.adr_schema.specs.declared.content.Value.{Value as Datum}
 use Rattle.adr_schema.specs.declared.content.Content.{Content}
 use Rattle.adr_schema.specs.declared.content.Content.TheVariants.{Class, Name, Dead, Values}
-use Rattle.adr_schema.specs.Table.{Table, has, class_at, must_of}
+use Rattle.adr_schema.specs.Table.{Table, class_at, must_of}
 use Rattle.adr_schema.specs.Allowed.{IsAllowed, MayBeHeld}
 use Rattle.adr_schema.specs.Names.{name_fault}
 use Rattle.adr_schema.specs.Numbered.{numbered}
@@ -24,7 +24,7 @@ use Rattle.adr_wire.specs.Reading.{is_above}
 use Rattle.adr_wire.specs.Ranges.{IsU16, IsOid, IsRow, IsContent, InTurn}
 use Rattle.adr_wire.specs.Gathering.{Along}
 use Rattle.adr_model.specs.Member.{Member, Each}
-use Rattle.adr_model.specs.Update.{Key, RowOf, LinkOf, Update, Said, Holds, IsPresent}
+use Rattle.adr_model.specs.Update.{Key, RowOf, Update, Said, Holds, IsPresent}
 use Rattle.adr_model.specs.Store.{Held, updates_of}
 use Rattle.adr_model.specs.Reflects.{HoldsObject, IsTombstoned}
 use Rattle.adr_model.specs.Formed.{AreRising, AreAlone, AreFormedRows, HasRow, KeepsSchema, IsDeadFormed}

@@ -15,7 +15,7 @@ use Rattle.adr_model.specs.Store.{Kept}
 use Rattle.adr_model.specs.Live.{is_among}
 use Rattle.adr_wire.specs.Reading.{Rest, Reading, ◌>>=◌, as_at, where_at, then_at, is_above}
 use Rattle.adr_wire.specs.Fields.{u16_at, id_at, flag_at, usn_at, u16, u64, id, flag}
-use Rattle.adr_wire.specs.Composites.{mark_at, mark, oid_at, oid, stamp, row_of, row, link_stamp_at, link_stamp, link_key}
+use Rattle.adr_wire.specs.Composites.{mark_at, mark, oid_at, oid, row_of, row, link_stamp_at, link_stamp, link_key}
 use Rattle.adr_wire.specs.Spelling.{IsSpelling}
 use Rattle.adr_wire.specs.Ranges.{IsU16, IsU64, IsId, IsUsn, IsFlag, IsMark, IsOid, IsStamp, IsRowAbove}
 use Rattle.adr_wire.proofs.Combining.{bind_ok, made, in_range_too, passed, both, pair, followed}

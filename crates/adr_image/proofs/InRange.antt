@@ -1,12 +1,11 @@
 -- A formed and spelled store, taken apart, is in range: it has an image.
-use Rattle.std.proofs.Common.{◌≡◌, ℕ, suc, ◌<◌, ◌≤◌, ◌^◌, Bool, true, false, cond, eqb, leb, IsSome, List, [], ◌∷◌, ◌++◌, length, map, fold, Option, Some, None, Ok, refl, sym, ap, subst, ◌∙◌, inl, inr, ⊎_elim, arith}
-use Rattle.std.specs.Prelude.{not, ◌&&◌, ◌||◌, ◌⊎◌, is_some, filter, unwrap_or}
+use Rattle.std.proofs.Common.{◌≡◌, ℕ, ◌<◌, ◌≤◌, ◌^◌, Bool, true, false, cond, eqb, leb, List, [], ◌∷◌, ◌++◌, length, map, fold, Option, Some, None, Ok, refl, sym, ap, subst, ◌∙◌, inl, inr, ⊎_elim, arith}
+use Rattle.std.specs.Prelude.{not, ◌&&◌, ◌⊎◌, is_some, filter, unwrap_or}
 use Rattle.std.specs.List.{flat_map, list_all, AllByRecursion, cons_option}
 use Rattle.std.specs.List.Sorted.{IsStrictlySortedBy}
-use Rattle.std.specs.Ordering.{is_eq, nat_cmp}
+use Rattle.std.specs.Ordering.{is_eq}
 use Rattle.std.specs.BTreeSet.{insert_key}
-use Rattle.std.specs.declared.cmp.Ordering.TheVariants.{Less}
-use Rattle.std.proofs.lemmas.Bool.{eqb-true, eq-eqb, le-leb, and_from, and_parts, or_cases, both_ways}
+use Rattle.std.proofs.lemmas.Bool.{eqb-true, eq-eqb, le-leb, and_from, or_cases, both_ways}
 use Rattle.std.proofs.lemmas.List.{length-map}
 use Rattle.std.proofs.lemmas.Cmp.{tied_itself}
 use Rattle.adr_stamp.specs.declared.Oid.{Oid}
@@ -17,35 +16,34 @@ use Rattle.adr_stamp.specs.Order.{identifier_order, object_order, link_order}
 use Rattle.adr_stamp.specs.contracts.OidOrd.TheImpl.Laws.{total-law as objects_total}
 use Rattle.adr_stamp.specs.contracts.LinkKeyOrd.TheImpl.Laws.{total-law as links_total}
 use Rattle.adr_stamp.proofs.Exact.{exact_objects}
-use Rattle.adr_schema.specs.Table.{Table, has, must_of, kind_at, is_forward}
+use Rattle.adr_schema.specs.Table.{Table, has, must_of}
 use Rattle.adr_schema.specs.Schemas.{schema_table, schema_1}
 use Rattle.adr_schema.specs.Numbered.{numbered}
-use Rattle.adr_vector.specs.declared.mark.Mark.{Mark}
 use Rattle.adr_wire.specs.Reading.{is_above}
 use Rattle.adr_wire.specs.Ranges.{IsU32, IsId, IsMark, InTurn}
 use Rattle.adr_wire.specs.Gathering.{Along}
 use Rattle.adr_model.specs.Member.{Member, Each}
-use Rattle.adr_model.specs.Update.{Identifier, Key, RowOf, LinkOf, Update, same_object}
+use Rattle.adr_model.specs.Update.{Identifier, RowOf, Update, same_object}
 use Rattle.adr_model.specs.Live.{is_among, objects_of}
 use Rattle.adr_model.specs.LocalLog.{IsOrdered}
 use Rattle.adr_model.specs.Reflects.{IsTombstoned}
 use Rattle.adr_model.specs.Serve.{last_local}
-use Rattle.adr_model.specs.Store.{Held, Kept, Store, updates_of}
+use Rattle.adr_model.specs.Store.{Held, Store, updates_of}
 use Rattle.adr_model.specs.Formed.{AreRising, AreAlone, AreFormedRows, IsFormedStore}
 use Rattle.adr_model.specs.Take.{mark_limit}
 use Rattle.adr_model.specs.Write.{object_limit, link_limit, links_in}
 use Rattle.adr_model.proofs.Keys.{objects_tell}
-use Rattle.adr_model.proofs.Members.{member_right, member_mapped, of_filter, some_passes, mapped_member, one_passes}
-use Rattle.adr_law_tree.proofs.Rising.{each_below, keys_that_rise}
-use Rattle.adr_image.specs.Image.{HeldRow, Rows, HeldLink, Marked, has_attr, is_dead, last_of, told_by, Earlier, no_objects, with_rows, is_whole, Linked, with_link, is_ordered}
-use Rattle.adr_image.specs.Whole.{Parts, dead_of, no_links}
-use Rattle.adr_image.specs.Ranged.{IsObjectIn, AreObjects, IsKeyIn, IsForward, IsLinkIn, AreLinks, IsMarked, AreMarks, IsCount, AreParts}
+use Rattle.adr_model.proofs.Members.{member_right, member_mapped, of_filter, some_passes, mapped_member}
+use Rattle.adr_law_tree.proofs.Rising.{keys_that_rise}
+use Rattle.adr_image.specs.Image.{HeldRow, Rows, HeldLink, Marked, has_attr, is_dead, last_of, told_by, Earlier, no_objects, with_rows, is_whole, Linked, with_link}
+use Rattle.adr_image.specs.Whole.{dead_of, no_links}
+use Rattle.adr_image.specs.Ranged.{IsObjectIn, IsLinkIn, IsMarked, IsCount, AreParts}
 use Rattle.adr_image.specs.Stored.{held_of, link_of, rows_of_object, rows_of, apart, parts_in, image, decoded, IsSpelledRow, IsSpelled}
 use Rattle.adr_image.proofs.Names.{object_itself}
 use Rattle.adr_image.proofs.Parting.{joined_again}
 use Rattle.adr_image.proofs.Storing.{image_again}
-use Rattle.adr_image.proofs.Formed.{attrs, names, links}
-use Rattle.adr_image.proofs.Alone.{AllDiffer, Differ, in_all, last_of_object, last_of_link, all_links_differ, AllDifferLinks, DifferLinks}
+use Rattle.adr_image.proofs.Formed.{names, links}
+use Rattle.adr_image.proofs.Alone.{AllDiffer, Differ, last_of_object, last_of_link, all_links_differ, AllDifferLinks, DifferLinks}
 use Rattle.adr_image.proofs.Limits.{births, later, no_births, links_are}
 use Rattle.adr_image.proofs.Taking.{apart_tidy, unchain, each_rises, links_rise, names_in_turn, NextName, split}
 use Rattle.adr_image.proofs.Fitting.{IsRight, IsObjectRight, names_rise, differ, some_row, is_held, name_in_range, object_right, birth_row, FirstRow}

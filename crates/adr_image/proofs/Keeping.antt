@@ -1,7 +1,7 @@
 -- What is kept of the units read so far is all that the next one needs of them.
-use Rattle.std.proofs.Common.{◌≡◌, ℕ, zero, suc, ◌+◌, ◌-◌, ◌<◌, ◌≤◌, Bool, true, false, cond, eqb, List, [], ◌∷◌, ◌++◌, length, map, fold, Option, Some, None, Result, Ok, Err, refl, sym, ap, subst, ◌∙◌, append_assoc, append-nil, arith}
+use Rattle.std.proofs.Common.{◌≡◌, ℕ, ◌+◌, ◌-◌, ◌<◌, ◌≤◌, Bool, true, false, cond, eqb, List, [], ◌∷◌, ◌++◌, map, fold, Option, Some, None, Result, Ok, Err, refl, sym, ap, ◌∙◌, append_assoc, append-nil, arith}
 use Rattle.std.specs.Prelude.{OnOk, not, ◌&&◌, ◌||◌, filter, unwrap_or}
-use Rattle.std.specs.List.{flat_map, list_all, list_any}
+use Rattle.std.specs.List.{flat_map, list_all}
 use Rattle.std.specs.Ordering.{nat_cmp}
 use Rattle.std.specs.BTreeSet.{insert_key}
 use Rattle.std.proofs.lemmas.Grind.{flat_map-append}
@@ -14,7 +14,7 @@ use Rattle.adr_stamp.specs.Order.{object_order, link_order}
 use Rattle.adr_stamp.proofs.Exact.{exact_objects}
 use Rattle.adr_schema.specs.Table.{Table, has, kind_at, is_forward, must_of}
 use Rattle.adr_wire.specs.declared.refusal.Malformed.{Malformed}
-use Rattle.adr_wire.specs.Reading.{Rest, Read, Reading, ◌>>=◌, Refuses, as_at, where_at, then_at, is_above}
+use Rattle.adr_wire.specs.Reading.{Rest, Read, Reading, Refuses, as_at, where_at, then_at, is_above}
 use Rattle.adr_wire.specs.Fields.{u16_at, flag_at}
 use Rattle.adr_wire.specs.Composites.{oid_at, link_stamp_at}
 use Rattle.adr_wire.specs.Gathering.{passing_at, gathered_at, sooner}
@@ -26,9 +26,9 @@ use Rattle.adr_model.specs.Write.{usn_limit}
 use Rattle.adr_law_tree.proofs.Kept.{any_folded}
 use Rattle.adr_image.specs.declared.gathered.Objects.{Objects}
 use Rattle.adr_image.specs.declared.links.Links.{Links}
-use Rattle.adr_image.specs.Image.{HeldRow, Rows, HeldLink, local_at, no_rows, with_held, held_row_at, has_attr, told_by, last_of, is_whole, Earlier, no_objects, with_rows, named_at, object_with, object_at, is_dead, Linked, with_link, key_with, local_and_key, link_behind, link_at}
+use Rattle.adr_image.specs.Image.{HeldRow, Rows, HeldLink, local_at, no_rows, with_held, held_row_at, has_attr, told_by, last_of, Earlier, no_objects, with_rows, named_at, object_with, object_at, is_dead, Linked, with_link, key_with, local_and_key, link_behind, link_at}
 use Rattle.adr_image.specs.Whole.{dead_of, no_links}
-use Rattle.adr_image.specs.Stored.{held_of, link_of, rows_of_object, rows_of}
+use Rattle.adr_image.specs.Stored.{link_of, rows_of_object}
 use Rattle.adr_image.specs.Seen.{IsDeadToo, KeepsObjects, KeepsLinks}
 
 -- ---- readings look at what was used, and at who is dead, by tests alone

@@ -22,3 +22,5 @@ pub mod Steps
 pub mod Writing
 pub mod Changing
 pub mod Recorded
+pub mod Staying
+pub mod Placed

@@ -1,5 +1,5 @@
 -- How long the parts of an image are.
-use Rattle.std.proofs.Common.{◌≡◌, ℕ, ◌+◌, ◌*◌, Bool, List, [], ◌∷◌, ◌++◌, length, Option, Some, None, refl, arith}
+use Rattle.std.proofs.Common.{◌≡◌, ℕ, ◌*◌, Bool, List, [], ◌∷◌, ◌++◌, length, Option, Some, None, refl, arith}
 use Rattle.std.specs.List.{flat_map, AllByRecursion}
 use Rattle.std.proofs.lemmas.List.{length-append}
 use Rattle.adr_stamp.specs.declared.Oid.{Oid}
@@ -14,7 +14,7 @@ use Rattle.adr_law_lengths.proofs.Lengths.{content_long}
 use Rattle.adr_image.specs.declared.rows.Before.{Before}
 use Rattle.adr_wire.specs.Gathering.{Along}
 use Rattle.adr_image.specs.Image.{HeldRow, Rows, HeldLink, Marked, held_row, object, held_link, kept, no_rows, with_held, Earlier, no_objects, with_rows, Linked, with_link}
-use Rattle.adr_image.specs.Whole.{Parts, image_of, dead_of, no_links, marks, objects, links}
+use Rattle.adr_image.specs.Whole.{Parts, image_of, dead_of, no_links}
 use Rattle.adr_image.specs.Ranged.{IsHeldRow, IsObjectIn, IsLinkIn, IsMarked, AreParts}
 use Rattle.adr_model.specs.Serve.{vector_length}
 use Rattle.adr_image.specs.Lengths.{total, held_length, object_length, parts_length}

@@ -1,6 +1,6 @@
 -- Parts that are in range make a store whose objects are named, and whose dead objects are bare.
 use Rattle.std.proofs.Common.{◌≡◌, ℕ, ◌<◌, Bool, true, false, cond, eqb, leb, ltb, IsSome, List, [], ◌∷◌, map, fold, Option, Some, None, refl, sym, ap, subst, ◌∙◌, inl, inr, ⊎_elim, arith}
-use Rattle.std.specs.Prelude.{not, ◌&&◌, ◌||◌, ◌⊎◌, is_none, is_some, unwrap_or}
+use Rattle.std.specs.Prelude.{not, ◌&&◌, ◌||◌, is_none, is_some, unwrap_or}
 use Rattle.std.specs.List.{flat_map, list_any, list_all, find, AllByRecursion}
 use Rattle.std.specs.List.Sorted.{IsStrictlySortedBy}
 use Rattle.std.specs.Ordering.{nat_cmp}

@@ -1,7 +1,7 @@
 -- A change has the bytes of its body, and is as long as is counted.
-use Rattle.std.proofs.Common.{◌≡◌, ℕ, zero, suc, ◌+◌, ◌*◌, ◌<◌, ◌^◌, Bool, true, false, cond, eqb, List, [], ◌∷◌, ◌++◌, length, get_or, map, fold, Option, Some, None, Result, Ok, Err, refl, sym, ap, subst, ◌∙◌, append_assoc, append-nil, arith}
+use Rattle.std.proofs.Common.{◌≡◌, ℕ, zero, suc, ◌+◌, ◌*◌, ◌<◌, Bool, true, false, cond, eqb, List, [], ◌∷◌, ◌++◌, length, get_or, map, fold, Option, Some, None, Ok, Err, refl, sym, ap, subst, ◌∙◌, append-nil, arith}
 use Rattle.std.specs.Prelude.{All, is_some}
-use Rattle.std.specs.List.{flat_map, AllByRecursion}
+use Rattle.std.specs.List.{flat_map}
 use Rattle.std.proofs.lemmas.Bool.{eqb-true}
 use Rattle.std.proofs.lemmas.List.{length-append, nil_from_length}
 use Rattle.adr_stamp.specs.declared.Oid.{Oid}
@@ -20,7 +20,7 @@ use Rattle.adr_model.specs.Serve.{is_quarantined, item_length}
 use Rattle.adr_model.specs.Update.{Update}
 use Rattle.adr_image.specs.Body.{Body, Write, IsWrite, body, body_at, mark_if, one_name, write, IsBody, IsMarkIf}
 use Rattle.adr_image.specs.Image.{Marked}
-use Rattle.adr_image.specs.Changes.{item_of, written_of, mode_of_flag, change_of, whole_change, decoded_change, update_bytes, unit_bytes, written_bytes, change_bytes, AreShort, IsShortChange, IsSpelledChange}
+use Rattle.adr_image.specs.Changes.{item_of, written_of, mode_of_flag, change_of, whole_change, decoded_change, update_bytes, unit_bytes, written_bytes, change_bytes, AreShort, IsShortChange, HasBody}
 use Rattle.adr_image.specs.Written.{IsShortSaid}
 use Rattle.adr_image.proofs.BodyLaws.{body_spelled}
 use Rattle.adr_image.proofs.Long.{oid_long, kept_long, vector_long}
@@ -62,13 +62,13 @@ body_again : (before : ℕ) (b : Body) → IsBody before b → decoded_change be
 body_again before b q =
     ap whole_change (ap (λ (bytes : List ℕ). body_at before (from 0 bytes)) (bytes_are b ∙ sym (append-nil (body b))) ∙ (body_spelled before).again 0 b [] q)
 
-pub change_again : (before : ℕ) (c : Change) → IsSpelledChange before c → decoded_change before (change_bytes c) ≡ Some c
+pub change_again : (before : ℕ) (c : Change) → HasBody before c → decoded_change before (change_bytes c) ≡ Some c
 change_again before c q = subst (λ (d : Change). decoded_change before (change_bytes d) ≡ Some d) (sym q.says) (body_again before q.body q.in_range)
 
-pub change_only : (before : ℕ) (bytes : List ℕ) (c : Change) → AreBytes bytes → decoded_change before bytes ≡ Some c → IsSpelledChange before c × (bytes ≡ change_bytes c)
+pub change_only : (before : ℕ) (bytes : List ℕ) (c : Change) → AreBytes bytes → decoded_change before bytes ≡ Some c → HasBody before c × (bytes ≡ change_bytes c)
 change_only before bytes c fits e = by (body_at before (from 0 bytes)) refl e
   where
-    whole : (b : Body) (rest : Rest) (t : Bool) → eqb (length rest.bytes) 0 ≡ t → body_at before (from 0 bytes) ≡ Ok (b, rest) → cond t (Some (change_of b)) None ≡ Some c → IsSpelledChange before c × (bytes ≡ change_bytes c)
+    whole : (b : Body) (rest : Rest) (t : Bool) → eqb (length rest.bytes) 0 ≡ t → body_at before (from 0 bytes) ≡ Ok (b, rest) → cond t (Some (change_of b)) None ≡ Some c → HasBody before c × (bytes ≡ change_bytes c)
     whole b rest true end r h =
         let was : Was (IsBody before) body 0 bytes b rest = (body_spelled before).only 0 bytes b rest fits r in
         let none = nil_from_length rest.bytes (eqb-true (length rest.bytes) 0 end) in
@@ -78,7 +78,7 @@ change_only before bytes c fits e = by (body_at before (from 0 bytes)) refl e
         )
     whole b rest false end r h = absurd (cc)
 
-    by : (r : Read Body) → body_at before (from 0 bytes) ≡ r → whole_change r ≡ Some c → IsSpelledChange before c × (bytes ≡ change_bytes c)
+    by : (r : Read Body) → body_at before (from 0 bytes) ≡ r → whole_change r ≡ Some c → HasBody before c × (bytes ≡ change_bytes c)
     by (Ok x) r h = whole x.0 x.1 (eqb (length x.1.bytes) 0) refl r h
     by (Err place) r h = absurd (cc)
 
@@ -146,9 +146,9 @@ body_long before b q =
     let writes = writes_long 0 (Some before) b.1.1.1.1.1.1 q.1.1.1.1.1.1.1 in
     simp length-append (omega (arith, mark, joined, purged, removed, writes))
 
-pub change_short : (before : ℕ) (c : Change) → IsSpelledChange before c → IsShortChange c
+pub change_short : (before : ℕ) (c : Change) → HasBody before c → IsShortChange c
 change_short before c q = subst IsShortChange (sym q.says) (body_short before q.body q.in_range)
 
-pub change_long : (before : ℕ) (c : Change) → IsSpelledChange before c → length (change_bytes c) ≡ change_length c
+pub change_long : (before : ℕ) (c : Change) → HasBody before c → length (change_bytes c) ≡ change_length c
 change_long before c q =
     subst (λ (d : Change). length (change_bytes d) ≡ change_length d) (sym q.says) (ap (λ (bytes : List ℕ). length bytes) (bytes_are q.body) ∙ body_long before q.body q.in_range)

@@ -1,6 +1,6 @@
 -- What is read of an image is formed and spelled.
 use Rattle.std.proofs.Common.{◌≡◌, ℕ, true, List, [], ◌∷◌, map, Option, Some, None, Ok, refl, sym, ap, subst, inl, inr, ⊎_elim}
-use Rattle.std.specs.Prelude.{◌⊎◌, is_some}
+use Rattle.std.specs.Prelude.{is_some}
 use Rattle.std.specs.List.{flat_map}
 use Rattle.std.proofs.lemmas.Cmp.{nat_list_cmp_total}
 use Rattle.adr_stamp.specs.Order.{identifier_order}

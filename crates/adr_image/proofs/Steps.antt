@@ -5,14 +5,14 @@ use Rattle.adr_failure.specs.declared.Failure.{Failure}
 use Rattle.adr_schema.specs.Numbered.{numbered}
 use Rattle.adr_vector.specs.Vector.{Cursors, at_most}
 use Rattle.adr_wire.specs.declared.refusal.Malformed.{Malformed}
-use Rattle.adr_wire.specs.Reading.{Rest, Read, Reading, ◌>>=◌, Refuses, as_at, where_at, then_at}
+use Rattle.adr_wire.specs.Reading.{Rest, Read, Reading, ◌>>=◌, Refuses, where_at, then_at}
 use Rattle.adr_wire.specs.Fields.{u32_at, u64_at, is_usn0, usn0_at}
 use Rattle.adr_wire.specs.Composites.{vector_at}
 use Rattle.adr_wire.proofs.Combining.{bind_ok, passed_ok}
 use Rattle.adr_wire.proofs.Loops.{refuses_then, refuses_is}
 use Rattle.adr_model.specs.Write.{usn_limit}
-use Rattle.adr_image.specs.Image.{Rows, HeldLink, Marked}
-use Rattle.adr_image.specs.Whole.{Parts, marks_at, tuple_at, parts_of, parts_at}
+use Rattle.adr_image.specs.Image.{Marked}
+use Rattle.adr_image.specs.Whole.{marks_at, tuple_at, parts_of, parts_at}
 use Rattle.adr_image.proofs.WholeLaws.{is_known, Tail, tail_at, three_at, four_at, five_at, six_at}
 
 pub then_ok : {A B : Type 0} (a : Reading A) (b : A → Reading B) (rest mid end : Rest) (x : A) (y : B) → a rest ≡ Ok (x, mid) → b x mid ≡ Ok (y, end) → then_at a b rest ≡ Ok ((x, y), end)

@@ -41,7 +41,7 @@ module _ {K : Type 0} (R : K → K → Ordering) (total : IsTotalOrder R) where
   AboveAll None ks = Unit {0}
   AboveAll (Some k) ks = AllByRecursion (λ x. R k x ≡ Less) ks
 
-  all_above : (j k : K) (ks : List K) → R j k ≡ Less → AllByRecursion (λ x. R k x ≡ Less) ks → AllByRecursion (λ x. R j x ≡ Less) ks
+  pub all_above : (j k : K) (ks : List K) → R j k ≡ Less → AllByRecursion (λ x. R k x ≡ Less) ks → AllByRecursion (λ x. R j x ≡ Less) ks
   all_above j k [] less all = tt
   all_above j k (x ∷ xs) less all = (total.trans j k x less all.0, all_above j k xs less all.1)
 

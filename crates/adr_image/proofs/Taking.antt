@@ -8,7 +8,6 @@ use Rattle.std.specs.declared.cmp.Ordering.TheVariants.{Less, Equal, Greater}
 use Rattle.std.proofs.lemmas.Bool.{ltb-true}
 use Rattle.std.proofs.lemmas.Cmp.{tied_itself}
 use Rattle.adr_stamp.specs.declared.Oid.{Oid}
-use Rattle.adr_stamp.specs.declared.LinkKey.{LinkKey}
 use Rattle.adr_stamp.specs.declared.LinkStamp.{LinkStamp}
 use Rattle.adr_stamp.specs.Order.{object_order, link_order}
 use Rattle.adr_stamp.specs.contracts.OidOrd.TheImpl.Laws.{total-law as objects_total}

@@ -14,7 +14,7 @@ use Rattle.adr_wire.specs.Fields.{u16_at, u32_at, usn0_at, u16, u32, u64}
 use Rattle.adr_wire.specs.Composites.{vector_at, vector}
 use Rattle.adr_wire.specs.declared.refusal.DecodeRefusal.{DecodeRefusal}
 use Rattle.adr_wire.specs.declared.refusal.DecodeRefusal.TheVariants.{Malformed, WrongVersion}
-use Rattle.adr_wire.specs.Spelling.{AreBytes, behind, IsSpelling}
+use Rattle.adr_wire.specs.Spelling.{AreBytes, IsSpelling}
 use Rattle.adr_wire.specs.Ranges.{IsU16, IsU32, IsUsn0, IsCursors}
 use Rattle.adr_wire.proofs.Combining.{from, rest_bytes, made, passed, both, pair, counted, bytes_spelled, HasLength, as_they_are}
 use Rattle.adr_wire.proofs.FieldLaws.{u16_spelled, u32_spelled, usn0_spelled}
@@ -152,10 +152,10 @@ parts_spelled =
 abbrev head : ℕ → List ℕ
 head v = magic ++ u16 v
 
-abbrev IsMagic : List ℕ → Type 0
+abbrev pub IsMagic : List ℕ → Type 0
 IsMagic m = HasLength 4 m × (bytes_eq magic m ≡ true)
 
-magic_is : (m : List ℕ) → bytes_eq magic m ≡ true → magic ≡ m
+pub magic_is : (m : List ℕ) → bytes_eq magic m ≡ true → magic ≡ m
 magic_is m e = (bytes_eq-Decides magic m).0 e
 
 version_spelled : IsSpelling IsU16 head version_at

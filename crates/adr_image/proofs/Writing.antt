@@ -1,5 +1,5 @@
 -- What a store's rows are as objects and links is what an image has of them.
-use Rattle.std.proofs.Common.{◌≡◌, ℕ, zero, suc, ◌+◌, ◌-◌, ◌<◌, ◌≤◌, ◌^◌, Bool, true, false, cond, List, [], ◌∷◌, ◌++◌, length, map, take, drop, get_or, Option, Some, None, refl, sym, ap, subst, ◌∙◌, inl, inr, append_assoc, append-nil, arith}
+use Rattle.std.proofs.Common.{◌≡◌, ℕ, zero, suc, ◌+◌, ◌<◌, ◌≤◌, ◌^◌, Bool, true, false, cond, List, [], ◌∷◌, ◌++◌, length, map, take, drop, Some, None, refl, sym, ap, subst, ◌∙◌, inl, inr, append_assoc, append-nil, arith}
 use Rattle.std.specs.Prelude.{All}
 use Rattle.std.specs.List.{flat_map, filter_map, cons_option, AllByRecursion}
 use Rattle.std.specs.List.Sorted.{IsStrictlySortedBy}
@@ -20,7 +20,7 @@ use Rattle.adr_wire.specs.Fields.{u16, u32}
 use Rattle.adr_wire.specs.Ranges.{IsContent, IsValue}
 use Rattle.adr_schema.specs.declared.content.Value.{Value as Item}
 use Rattle.adr_schema.specs.declared.content.Value.TheVariants.{Text, Number, Flag, Octets, Ref}
-use Rattle.adr_model.specs.Member.{Member, Each}
+use Rattle.adr_model.specs.Member.{Each}
 use Rattle.adr_model.specs.Update.{Key, RowOf, LinkOf, Said, Holds, IsPresent, key_order, same_object}
 use Rattle.adr_model.specs.Store.{Held, Store, is_row_of}
 use Rattle.adr_model.specs.Formed.{IsFormedStore}
@@ -29,8 +29,8 @@ use Rattle.adr_model.proofs.Keys.{objects_tell}
 use Rattle.adr_model.proofs.Members.{member_mapped}
 use Rattle.adr_image.specs.Image.{HeldRow, Rows, HeldLink, held_row, object, held_link}
 use Rattle.adr_image.specs.Whole.{objects, links}
-use Rattle.adr_image.specs.Stored.{AreTidy, IsNotFirst, held_of, link_of, rows_of_object, rows_of, apart, IsSpelled, IsSpelledRow}
-use Rattle.adr_image.specs.Written.{told, held, IsShortSaid, own_rows, object_of, first_object, next_object, HaveFewRows, IsWritten, IsWritable}
+use Rattle.adr_image.specs.Stored.{AreTidy, IsNotFirst, held_of, link_of, rows_of_object, rows_of, IsSpelled, IsSpelledRow}
+use Rattle.adr_image.specs.Written.{held, IsShortSaid, own_rows, object_of, first_object, next_object, HaveFewRows, IsWritable}
 use Rattle.adr_image.proofs.Names.{object_itself}
 use Rattle.adr_image.proofs.Formed.{keys}
 use Rattle.adr_image.proofs.Limits.{births}

@@ -1,7 +1,6 @@
 -- A change as the body of a journal's record, and back.
-use Rattle.std.specs.Prelude.{if◌then◌else◌, ◌≡◌, ◌<◌, ◌^◌, ℕ, List, [], ◌∷◌, ◌++◌, All, Bool, true, false, ◌==◌, length, map, Option, Some, None, Result, Ok, Err}
+use Rattle.std.specs.Prelude.{if◌then◌else◌, ◌≡◌, ◌<◌, ◌^◌, ℕ, List, ◌++◌, All, Bool, true, false, ◌==◌, length, map, Option, Some, None, Ok, Err}
 use Rattle.std.specs.List.{flat_map}
-use Rattle.adr_stamp.specs.declared.Oid.{Oid}
 use Rattle.adr_stamp.specs.declared.Unit.{Unit as Named}
 use Rattle.adr_stamp.specs.declared.Unit.TheVariants.{Object, Link}
 use Rattle.adr_wire.specs.Composites.{oid, vector}
@@ -79,8 +78,8 @@ pub record IsShortChange (c : Change) : Type 0 where
   pub few : length c.writes < 2 ^ 32
   pub short : All (λ (w : Written). AreShort w.item.rows) c.writes
 
--- a change that is that of a body in range, behind this USN
-pub record IsSpelledChange (before : ℕ) (c : Change) : Type 0 where
+-- a change that a body in range says, behind this USN
+pub record HasBody (before : ℕ) (c : Change) : Type 0 where
   pub body : Body
   pub in_range : IsBody before body
   pub says : c ≡ change_of body

@@ -1,10 +1,11 @@
 //! Images are read.
 
-ghost use Rattle.std.specs.Prelude.{◌≡◌, IfErr, IfOk};
+ghost use Rattle.std.specs.Prelude.{◌≡◌, ◌==◌, IfErr, IfOk};
 ghost use Rattle.std.specs.Str.{bytes_eq};
-ghost use Rattle.adr_wire.specs.Reading.{Tells, bytes_at, where_at};
+ghost use Rattle.adr_wire.specs.Fields.{u16_at};
+ghost use Rattle.adr_wire.specs.Reading.{Gives, Tells, bytes_at, where_at};
 ghost use Rattle.adr_image.specs.Seen.{Ends, IsRefusedSo, as_decoding};
-ghost use Rattle.adr_image.specs.Stored.{decoded};
+ghost use Rattle.adr_image.specs.Stored.{decoded, image_at};
 ghost use Rattle.adr_image.specs.Whole.{magic, parts_at, version_at};
 
 use crate::contents::{Contents, read_contents};
@@ -49,6 +50,29 @@ fn read_to_end(reader: &mut Reader<'_>, alloc: Global) -> Result<Contents, WireR
     Ok(contents)
 }
 
+/// The version of an image that stands in other bytes; one that isn't read is refused at its place.
+fn read_own_version(reader: &mut Reader<'_>) -> Result<u16, WireRefusal>
+    ensures { Tells result reader.new (where_at (λ version. version == 1) u16_at reader.old) }
+{
+    let place = reader.place();
+    let version = reader.read_u16()?;
+    if version != VERSION {
+        return Err(Failure::Refused(Malformed { place }));
+    }
+    Ok(version)
+}
+
+/// Reads an image that stands in other bytes.
+#[tactic(auto, unfolding(crate::specs::Stored::image_at))]
+pub fn read_image(reader: &mut Reader<'_>, alloc: Global) -> Result<Contents, WireRefusal>
+    ensures { Gives result reader.new (image_at reader.old) }
+{
+    read_magic(reader)?;
+    read_own_version(reader)?;
+    let contents = read_contents(reader, alloc)?;
+    Ok(contents)
+}
+
 /// A refusal of bytes of the right version.
 fn malformed(refusal: WireRefusal) -> Failure<DecodeRefusal>
     ensures { result ≡ as_decoding refusal }
@@ -62,7 +86,7 @@ fn malformed(refusal: WireRefusal) -> Failure<DecodeRefusal>
 }
 
 /// What an image says.
-fn read_image(alloc: Global, bytes: &[u8]) -> Result<Contents, Failure<DecodeRefusal>>
+fn read_whole(alloc: Global, bytes: &[u8]) -> Result<Contents, Failure<DecodeRefusal>>
     ensures read { IfOk result (λ contents. decoded bytes.now ≡ Ok contents) }
     ensures refused { IfErr result (IsRefusedSo (decoded bytes.now)) }
 {
@@ -80,12 +104,12 @@ fn read_image(alloc: Global, bytes: &[u8]) -> Result<Contents, Failure<DecodeRef
     }
 }
 
-/// Reads an image. Where it is refused, `Malformed` names the first byte of the field, list or unit that breaks the form.
+/// Reads an image. `Malformed` names the first byte of the field, count, mark, row, object or link that breaks its form.
 pub fn decode(alloc: Global, bytes: &[u8]) -> Result<Dormant, Failure<DecodeRefusal>>
     ensures read { IfOk result (λ image. decoded bytes.now ≡ Ok image) }
     ensures refused { IfErr result (IsRefusedSo (decoded bytes.now)) }
 {
-    match read_image(alloc, bytes) {
+    match read_whole(alloc, bytes) {
         Ok(contents) => Ok(Dormant::of(contents)),
         Err(refusal) => Err(refusal),
     }

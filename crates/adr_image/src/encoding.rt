@@ -178,20 +178,30 @@ fn write_marks(writer: &mut Writer, marks: &[(Uuid, Kept)]) -> Result<(), NoMemo
     write_each_mark(writer, marks)
 }
 
-/// Writes a database as an image.
-pub fn encode(alloc: Global, contents: &Contents) -> Result<Vec<u8>, NoMemory>
+/// Writes the image of a database.
+pub fn write_image(writer: &mut Writer, contents: &Contents) -> Result<(), NoMemory>
     requires formed { IsFormedStore contents.now }
     requires spelled { IsSpelled contents.now }
-    ensures { IfOk result (λ bytes. bytes.items ≡ image contents.now) }
+    ensures { OnOk result (writer.new ≡ writer.old ++ image contents.now) }
 {
-    let mut writer = Writer::new(alloc);
     writer.write_bytes(&MAGIC)?;
     writer.write_u16(&VERSION)?;
     writer.write_u32(&contents.schema.number())?;
     writer.write_usn0(&contents.usn)?;
     writer.write_vector(&contents.vector)?;
     writer.write_vector(&contents.purged)?;
-    write_marks(&mut writer, &contents.marks)?;
-    write_rows(&mut writer, &contents.rows)?;
+    write_marks(writer, &contents.marks)?;
+    write_rows(writer, &contents.rows)?;
+    Ok(())
+}
+
+/// The image of a database.
+pub fn encode(alloc: Global, contents: &Contents) -> Result<Vec<u8>, NoMemory>
+    requires formed { IsFormedStore contents.now }
+    requires spelled { IsSpelled contents.now }
+    ensures { IfOk result (λ bytes. bytes.items ≡ image contents.now) }
+{
+    let mut writer = Writer::new(alloc);
+    write_image(&mut writer, contents)?;
     Ok(writer.into_bytes())
 }

@@ -2,16 +2,19 @@
 
 ghost use Rattle.std.specs.Prelude.{◌≡◌, ℕ, List, Ok, Err, Some, length, take};
 ghost use Rattle.adr_wire.specs.declared.refusal.DecodeRefusal.TheVariants.{Malformed};
+ghost use Rattle.adr_schema.specs.Numbered.{numbered};
+ghost use Rattle.adr_wire.specs.Ranges.{IsId};
 ghost use Rattle.adr_wire.specs.Spelling.{AreBytes, IsSpelling};
 ghost use Rattle.adr_model.specs.Formed.{IsFormedStore};
-ghost use Rattle.adr_model.specs.Change.{Change};
+ghost use Rattle.adr_model.specs.Change.{Change, after};
 ghost use Rattle.adr_model.specs.Lengths.{change_length, image_length};
-ghost use Rattle.adr_model.specs.Store.{Store};
+ghost use Rattle.adr_model.specs.Sound.{AreClassesKnown};
+ghost use Rattle.adr_model.specs.Store.{State, Store, empty_store, updates_of};
 ghost use Rattle.adr_image.specs.Body.{IsBody, body, body_at};
-ghost use Rattle.adr_image.specs.Changes.{IsShortChange, IsSpelledChange, change_bytes, decoded_change};
+ghost use Rattle.adr_image.specs.Changes.{IsShortChange, HasBody, change_bytes, decoded_change};
 ghost use Rattle.adr_image.specs.Lengths.{parts_length};
 ghost use Rattle.adr_image.specs.Ranged.{AreParts};
-ghost use Rattle.adr_image.specs.Stored.{IsSpelled, decoded, image, parts_in};
+ghost use Rattle.adr_image.specs.Stored.{IsSpelled, decoded, image, image_at, parts_in};
 ghost use Rattle.adr_image.specs.Whole.{Parts, image_of, read_parts};
 ghost use Rattle.adr_image.specs.Worked.{empty_image, empty_parts};
 
@@ -28,6 +31,7 @@ pub fn images_have_one_spelling()
         → IsFormedStore s × IsSpelled s × (bytes ≡ image s) }
     ensures again { (s : Store) → IsFormedStore s → IsSpelled s → decoded (image s) ≡ Ok s }
     ensures in_range { (s : Store) → IsFormedStore s → IsSpelled s → AreParts (parts_in s) }
+    ensures placed { IsSpelling (λ s. IsFormedStore s × IsSpelled s) image image_at }
 {}
 
 /// An image is as long as is counted of its store.
@@ -44,12 +48,20 @@ pub fn bodies_have_one_spelling()
 /// A change that is that of a body in range is read again from its bytes, and what is read as a change was written so. Its
 /// bytes can be written, and are as many as is counted.
 pub fn changes_have_one_spelling()
-    ensures again { (before : ℕ) (c : Change) → IsSpelledChange before c
+    ensures again { (before : ℕ) (c : Change) → HasBody before c
         → decoded_change before (change_bytes c) ≡ Some c }
     ensures only { (before : ℕ) (bytes : List ℕ) (c : Change) → AreBytes bytes → decoded_change before bytes ≡ Some c
-        → IsSpelledChange before c × (bytes ≡ change_bytes c) }
-    ensures short { (before : ℕ) (c : Change) → IsSpelledChange before c → IsShortChange c }
-    ensures long { (before : ℕ) (c : Change) → IsSpelledChange before c → length (change_bytes c) ≡ change_length c }
+        → HasBody before c × (bytes ≡ change_bytes c) }
+    ensures short { (before : ℕ) (c : Change) → HasBody before c → IsShortChange c }
+    ensures long { (before : ℕ) (c : Change) → HasBody before c → length (change_bytes c) ≡ change_length c }
+{}
+
+/// The store of a new controller is spelled, and a spelled store stays so by a change that a body in range says and that
+/// leaves known classes.
+pub fn stores_stay_spelled()
+    ensures begin { IsSpelled (empty_store 1) }
+    ensures stay { (s : State) (c : Change) → IsId s.inv → IsSpelled s.store → HasBody s.store.usn c
+        → AreClassesKnown (numbered s.store.schema) (updates_of (after s c).store.rows) → IsSpelled (after s c).store }
 {}
 
 /// The image of an empty controller has 38 bytes, and without the last one it is refused at the field that is cut.

@@ -23,10 +23,10 @@ pub use adr_wire::{DecodeRefusal, Failure, NoMemory};
 pub use bodies::encode_change;
 pub use changes::decode_change;
 pub use contents::Contents;
-pub use decoding::decode;
+pub use decoding::{decode, read_image};
 pub use dormant::Dormant;
-pub use encoding::encode;
+pub use encoding::{encode, write_image};
 pub use laws::{
     bodies_have_one_spelling, changes_have_one_spelling, images_are_as_long_as_counted,
-    images_have_one_spelling, parts_have_one_spelling, worked_images,
+    images_have_one_spelling, parts_have_one_spelling, stores_stay_spelled, worked_images,
 };

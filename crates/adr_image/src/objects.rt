@@ -13,6 +13,7 @@ use crate::known::is_used;
 use crate::rows::{Before, read_held_rows, with_held};
 use adr_schema::{Content, Schema};
 use adr_stamp::{Oid, Stamp};
+use adr_update::USN_LIMIT;
 use adr_wire::{Failure, Malformed, NoMemory, Reader, WireRefusal};
 use std::alloc::{AllocError, Global};
 use std::collections::BTreeSet;
@@ -108,7 +109,9 @@ pub fn read_object_with(
     last: Option<Oid>,
     used: &BTreeSet<u64>,
 ) -> Result<(Oid, Vec<HeldRow>), WireRefusal>
-    ensures { GivesAs (λ object. (object.0, object.1.items)) result reader.new (form.object_with (form.local_at usn) schema.now (record { last = last; used = used.now.keys }) reader.old) }
+    ensures { GivesAs (λ object. (object.0, object.1.items)) result reader.new
+        (form.object_with (form.local_at usn) schema.now
+        (record { last = last; used = used.now.keys }) reader.old) }
 {
     let place = reader.place();
     let oid = read_next_oid(reader, last)?;
@@ -128,11 +131,13 @@ fn is_refused_at_first(
     last: &Option<Oid>,
     used: &BTreeSet<u64>,
 ) -> Result<bool, NoMemory>
-    ensures { IfOk result (λ b. b ≡ is_refused_at start.now.place (form.object_with (form.local_at usn_limit) schema.now (record { last = last.now; used = used.now.keys }) start.now)) }
+    ensures { IfOk result (λ b. b ≡ is_refused_at start.now.place
+        (form.object_with (form.local_at usn_limit) schema.now
+        (record { last = last.now; used = used.now.keys }) start.now)) }
 {
     let place = start.place();
     let mut reader = start.again();
-    match read_object_with(&mut reader, alloc, LIMIT, schema, *last, used) {
+    match read_object_with(&mut reader, alloc, USN_LIMIT, schema, *last, used) {
         Ok(_) => Ok(false),
         Err(Failure::Refused(Malformed { place: fault })) => Ok(fault == place),
         Err(Failure::NoMemory) => Err(AllocError),
@@ -150,7 +155,8 @@ pub fn read_object(
     used: &BTreeSet<u64>,
 ) -> Result<(Oid, Vec<HeldRow>), WireRefusal>
     requires { usn ≤ usn_limit }
-    ensures { GivesAs (λ object. (object.0, object.1.items)) result reader.new (form.object_at usn schema.now (record { last = last.now; used = used.now.keys }) reader.old) }
+    ensures { GivesAs (λ object. (object.0, object.1.items)) result reader.new
+        (form.object_at usn schema.now (record { last = last.now; used = used.now.keys }) reader.old) }
 {
     let start = reader.again();
     let read = read_object_with(reader, alloc, usn, schema, *last, used);
@@ -164,6 +170,3 @@ pub fn read_object(
     }
     read
 }
-
-/// The greatest USN.
-const LIMIT: u64 = 9_223_372_036_854_775_807;

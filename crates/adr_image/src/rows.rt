@@ -134,7 +134,8 @@ pub fn read_held_row(
     oid: &Oid,
     before: Before,
 ) -> Result<(u64, (u16, Stamp, Content)), WireRefusal>
-    ensures { Gives result reader.new (form.held_row_at (form.local_at usn) owner schema.now oid.now before reader.old) }
+    ensures { Gives result reader.new
+        (form.held_row_at (form.local_at usn) owner schema.now oid.now before reader.old) }
 {
     let place = reader.place();
     let local = read_local(reader, usn)?;
@@ -155,7 +156,9 @@ pub fn read_held_rows(
     oid: &Oid,
     count: u16,
 ) -> Result<Vec<(u64, (u16, Stamp, Content))>, WireRefusal>
-    ensures { GivesAs (λ rows. rows.items) result reader.new (gathered_at form.with_held (form.held_row_at (form.local_at usn) owner schema.now oid.now) count form.no_rows reader.old) }
+    ensures { GivesAs (λ rows. rows.items) result reader.new
+        (gathered_at form.with_held (form.held_row_at (form.local_at usn) owner schema.now oid.now)
+        count form.no_rows reader.old) }
 {
     let mut rows = Vec::new(alloc);
     let mut before = Before {

@@ -1,13 +1,11 @@
-use Rattle.std.proofs.Common.{◌≡◌, List, Option, is_some, sym, ap, subst, ◌∙◌}
+use Rattle.std.proofs.Common.{List, sym, ap, subst, ◌∙◌}
 use Rattle.std.proofs.lemmas.Result.{err_from_is_err_and}
-use Rattle.adr_schema.specs.Schemas.{schema_table}
 use Rattle.adr_schema.specs.Table.{Table}
 use Rattle.adr_wire.specs.Fields.{u32_at, usn0_at}
 use Rattle.adr_wire.specs.Reading.{Refuses, where_at}
 use Rattle.adr_wire.proofs.Loops.{names_refuses}
 use Rattle.adr_model.specs.Store.{Held, Store}
 use Rattle.adr_image.specs.Whole.{parts_of}
-use Rattle.adr_image.specs.Stored.{rows_of}
 use Rattle.adr_image.proofs.WholeLaws.{is_known, tail_at}
 use Rattle.adr_image.proofs.Steps.{at_schema, at_usn, at_vector, at_purged, at_marks, at_rows, all_read, usn_fits}
 use Rattle.adr_image.proofs.contents.read_contents.Goals as goal

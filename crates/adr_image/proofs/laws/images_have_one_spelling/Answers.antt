@@ -1,4 +1,5 @@
 use Rattle.adr_image.proofs.InRange.{in_range, image_read}
+use Rattle.adr_image.proofs.Placed.{image_spelled}
 use Rattle.adr_image.proofs.Spelled.{read_is_formed}
 use Rattle.adr_image.proofs.laws.images_have_one_spelling.Goals as goal
 
@@ -10,3 +11,6 @@ returns-clause-again c = λ s f q. image_read s f q
 
 pub returns-clause-in_range : goal.returns-clause-in_range
 returns-clause-in_range c = λ s f q. in_range s f q
+
+pub returns-clause-placed : goal.returns-clause-placed
+returns-clause-placed c = image_spelled

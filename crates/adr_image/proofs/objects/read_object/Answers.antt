@@ -1,5 +1,3 @@
-use Rattle.std.proofs.Common.{true}
-use Rattle.std.specs.Prelude.{is_ok}
 use Rattle.adr_image.specs.Image.{local_at, object_with, object_at}
 use Rattle.adr_image.proofs.Looks.{given_too, ok_too}
 use Rattle.adr_image.proofs.objects.read_object.Goals as goal

@@ -1,4 +1,3 @@
-use Rattle.std.proofs.Common.{◌-◌}
 use Rattle.std.proofs.lemmas.Result.{err_from_is_err_and}
 use Rattle.adr_wire.specs.Gathering.{gathered_at}
 use Rattle.adr_image.specs.Image.{local_at, held_row_at, with_held, no_rows}

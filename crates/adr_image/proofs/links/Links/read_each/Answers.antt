@@ -4,7 +4,7 @@ use Rattle.adr_wire.specs.Gathering.{gathered_at}
 use Rattle.adr_image.specs.Image.{with_link, link_at}
 use Rattle.adr_image.specs.Whole.{dead_of, no_links}
 use Rattle.adr_image.specs.Seen.{KeepsLinks}
-use Rattle.adr_image.proofs.Keeping.{sets_out, goes_further, breaks_off, arrives}
+use Rattle.adr_image.proofs.Keeping.{sets_out, goes_further, breaks_off}
 use Rattle.adr_image.proofs.links.Links.read_each.Goals as goal
 
 pub loop-init : goal.loop-init

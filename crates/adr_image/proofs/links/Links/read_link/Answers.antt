@@ -1,4 +1,3 @@
-use Rattle.std.proofs.Common.{◌≡◌, true}
 use Rattle.adr_image.specs.Image.{link_behind, link_at}
 use Rattle.adr_image.proofs.Looks.{told_too, link_ok_too}
 use Rattle.adr_image.proofs.links.Links.read_link.Goals as goal

@@ -2,7 +2,7 @@ use Rattle.std.proofs.Common.{◌≡◌, ap, subst}
 use Rattle.adr_model.specs.Store.{Store}
 use Rattle.adr_image.specs.Written.{IsWritable}
 use Rattle.adr_image.proofs.Writing.{writable}
-use Rattle.adr_image.proofs.encoding.encode.Goals as goal
+use Rattle.adr_image.proofs.encoding.write_image.Goals as goal
 
 pub write_rows-requires : goal.write_rows-requires
 write_rows-requires c =
