@@ -16,14 +16,14 @@ returns c =
     let d = c.args.change.now in
     let begun : c.new-told.result ≡ s.store.rows = c.new-told.ensures ∙ c.rows.ensures in
     let judged =
-        ap (λ (table : Table). may_follow_in_turn table c.vector.result.now c.new-told.result c.writes.result.now) c.schema-schema.ensures.table
-        ∙ ap₂ (λ (v : Cursors) (hs : List Held). may_follow_in_turn (numbered s.store.schema) v hs c.writes.result.now) c.vector.ensures begun
-        ∙ ap (λ (ws : List Written). may_follow_in_turn (numbered s.store.schema) s.store.vector s.store.rows ws) c.writes.ensures in
+    ap (λ (table : Table). may_follow_in_turn table c.vector.result.now c.new-told.result c.writes.result.now) c.schema-schema.ensures.table
+    ∙ ap₂ (λ (v : Cursors) (hs : List Held). may_follow_in_turn (numbered s.store.schema) v hs c.writes.result.now) c.vector.ensures begun
+    ∙ ap (λ (ws : List Written). may_follow_in_turn (numbered s.store.schema) s.store.vector s.store.rows ws) c.writes.ensures in
     let may : writes_follow s d ≡ true = sym (c.in_ok-may_follow_in_turn.ensures.may ∙ judged) ∙ c.if-not-branch.false in
     let put : c.may_follow_in_turn.new.told ≡ rows_after [] (held_of d.writes) s.store.rows =
-        c.in_ok-may_follow_in_turn.ensures.put c.if-not-branch.false ∙ ap₂ (λ (ws : List Written) (hs : List Held). rows_after [] (held_of ws) hs) c.writes.ensures begun in
+    c.in_ok-may_follow_in_turn.ensures.put c.if-not-branch.false ∙ ap₂ (λ (ws : List Written) (hs : List Held). rows_after [] (held_of ws) hs) c.writes.ensures begun in
     let removed : are_removable s d ≡ true =
-        sym (c.are_removable.ensures ∙ ap₂ (λ (hs : List Held) (v : Cursors). list_all (is_removable hs (joined v d.purged)) d.removed) put c.purged.ensures) ∙ c.if-not-are_removable.false in
+    sym (c.are_removable.ensures ∙ ap₂ (λ (hs : List Held) (v : Cursors). list_all (is_removable hs (joined v d.purged)) d.removed) put c.purged.ensures) ∙ c.if-not-are_removable.false in
     IfOk-weaker c.are_touched_formed.result _ _
     (λ formed e.
     e

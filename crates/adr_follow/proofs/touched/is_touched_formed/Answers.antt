@@ -18,7 +18,7 @@ returns-then-contains c os is =
     let told = c.args.told.now in
     let found = c.contains.ensures ∙ among_set o c.args.removed.now.keys os is in
     elim c.then-contains.branch [
-      then-contains-via-then-contains w ↦ removed_formed c.args.schema os told o (sym found ∙ w.if-contains.true) ∙ ap (is_touched_formed c.args.schema (fold without_object told os)) (sym c.in-Object.is)
+      | then-contains-via-then-contains w ↦ removed_formed c.args.schema os told o (sym found ∙ w.if-contains.true) ∙ ap (is_touched_formed c.args.schema (fold without_object told os)) (sym c.in-Object.is)
       | then-contains-via-else-contains+then-not-holds w ↦ absent_formed c.args.schema os told o (sym found ∙ w.if-contains.false) (sym w.holds.ensures ∙ w.if-not-holds.true) ∙ ap (is_touched_formed c.args.schema (fold without_object told os)) (sym c.in-Object.is)
     ]
 
