@@ -1,3 +1,4 @@
 mod Steps
 mod Heads
 mod Found
+mod InMemory

@@ -1,32 +1,32 @@
 //! A journal on a disk.
 
-ghost use Rattle.std.specs.Prelude.{◌≡◌, ◌≤◌, ◌<◌, [], ◌∷◌, ◌++◌, true, false, IfOk};
-ghost use Rattle.std.specs.Option.{ForSome};
-ghost use Rattle.adr_disk.specs.Disk.{Only};
-ghost use Rattle.adr_model.specs.Lengths.{log_limit, log_end_after};
+ghost use Rattle.std.specs.Prelude.{◌≡◌, [], false};
+ghost use Rattle.std.specs.Option.{ForSome, option_map};
+ghost use Rattle.adr_disk.specs.Disk.{Among, Only};
+ghost use Rattle.adr_law_journal.specs.Log.{start_of};
+ghost use Rattle.adr_law_journal.specs.Kept.{Finds};
 
 use crate::form::Form;
 use crate::formatting::write_log;
 use crate::keeper::{Keeper, KeeperRefusal, StartRefusal};
 use crate::reading::read_synced;
-use crate::recording::{CLOSED, spelled, write_record};
+use crate::recording::{begun, has_room, spelled, write_record};
 use crate::replaying::replay;
 use adr_disk::Disk;
-use adr_failure::NoMemory;
 use adr_io::Fault;
-use adr_state::{Change, LOG_LIMIT, State, log_end_after};
+use adr_state::{Change, State};
 use std::alloc::Global;
 use std::marker::PhantomData;
 
 /// A log on a disk, in bytes of a form. `end` is the place behind its closed gate, 0 before it is formatted or started;
-/// `record` is what the next commit writes.
+/// `prepared` is what the next commit writes.
 #[derive(Drop)]
 pub struct Journal<D, F> {
     pub(crate) alloc: Global,
     pub(crate) disk: D,
     pub(crate) end: u64,
     pub(crate) failed: bool,
-    pub(crate) record: Vec<u8>,
+    pub(crate) prepared: Vec<u8>,
     pub(crate) form: PhantomData<F>,
 }
 
@@ -35,41 +35,34 @@ impl<D: Disk, F: Form> Journal<D, F> {
     pub fn new(alloc: Global, disk: D) -> Journal<D, F>
         ensures empty { ForSome (D.content disk) (λ there. there ≡ []) → ForSome (D.content disk) (λ there. Only there (D.may_leave disk))
             → ⟦<Journal<D, F> as Keeper>⟧.is_empty result }
-        ensures running { ⟦<Journal<D, F> as Keeper>⟧.is_failed result ≡ false }
+        ensures up { ⟦<Journal<D, F> as Keeper>⟧.is_failed result ≡ false }
+        ensures told { ⟦<Journal<D, F> as Keeper>⟧.told result ≡ option_map (start_of F.head F.following) (D.content disk) }
+    {
+        Journal::over(alloc, disk)
+    }
+
+    pub(crate) fn over(alloc: Global, disk: D) -> Journal<D, F>
+        ensures disk { result.disk ≡ disk }
+        ensures end { result.end ≡ 0 }
+        ensures up { result.failed ≡ false }
     {
         Journal {
             alloc,
             disk,
             end: 0,
             failed: false,
-            record: Vec::new(alloc),
+            prepared: Vec::new(alloc),
             form: PhantomData,
         }
     }
 
     /// Its disk.
-    pub fn into_disk(self) -> D {
-        self.disk
-    }
-}
-
-/// What a new log begins with, behind its first gate: the head of a state, and a closed gate.
-fn begun<F: Form>(alloc: Global, state: &State) -> Result<Vec<u8>, NoMemory>
-    requires { F.can_begin state.now }
-    ensures { IfOk result (λ bytes. bytes.items ≡ F.head_of state.now ++ 0 ∷ []) }
-{
-    let mut written = F::write_head(alloc, state)?;
-    written.push(CLOSED)?;
-    Ok(written)
-}
-
-impl<D: Disk, F: Form> Journal<D, F> {
-    /// Whether the log has room for a change's record.
-    fn has_room(&self, change: &Change) -> bool
-        ensures room { result ≡ true → log_end_after self.now.end change.now ≤ log_limit }
-        ensures none { result ≡ false → log_limit < log_end_after self.now.end change.now }
+    pub fn into_disk(self) -> D
+        ensures told { option_map (start_of F.head F.following) (D.content result) ≡ ⟦<Journal<D, F> as Keeper>⟧.told self }
+        ensures left { Among (⟦<Journal<D, F> as Keeper>⟧.may_leave self) (Finds F.head F.following (D.may_leave result)) }
+        ensures faults { D.faults result ≡ ⟦<Journal<D, F> as Keeper>⟧.faults self }
     {
-        self.end <= LOG_LIMIT && log_end_after(self.end, change).is_some()
+        self.disk
     }
 }
 
@@ -92,7 +85,7 @@ impl<D: Disk, F: Form> Keeper for Journal<D, F> {
 
     ghost is_at = { λ j f. j.failed ≡ false → IsAt F.head F.following D.content D.may_leave j.disk j.end f };
 
-    ghost is_prepared = { λ j c. IsPrepared D.spare_calls D.spare_bytes j.disk j.end j.record.items (F.body_of c) };
+    ghost is_prepared = { λ j c. IsPrepared D.spare_calls D.spare_bytes j.disk j.end j.prepared.items (F.body_of c) };
 
     ghost told = { λ j. option_map (start_of F.head F.following) (D.content j.disk) };
 
@@ -153,7 +146,7 @@ impl<D: Disk, F: Form> Keeper for Journal<D, F> {
         if self.failed {
             return Err(KeeperRefusal::Failed);
         }
-        if !self.has_room(change) {
+        if !has_room(self.end, change) {
             return Err(KeeperRefusal::Full);
         }
         let Ok(written) = spelled::<F>(self.alloc, change) else {
@@ -161,7 +154,7 @@ impl<D: Disk, F: Form> Keeper for Journal<D, F> {
         };
         match self.disk.reserve(4, written.len() as u64 + 1) {
             Ok(()) => {
-                self.record = written;
+                self.prepared = written;
                 Ok(())
             }
             Err(Fault::Failed) => {
@@ -173,9 +166,9 @@ impl<D: Disk, F: Form> Keeper for Journal<D, F> {
     }
 
     fn commit(&mut self, _change: &Change) -> Result<(), KeeperRefusal> {
-        match write_record(&mut self.disk, self.end, &self.record) {
+        match write_record(&mut self.disk, self.end, &self.prepared) {
             Ok(()) => {
-                self.end += self.record.len() as u64;
+                self.end += self.prepared.len() as u64;
                 Ok(())
             }
             Err(_) => {

@@ -89,6 +89,7 @@ pub trait Keeper {
             → (faults self.old < faults self.new) × (is_failed self.new ≡ true) }
         ensures no_memory { IsErrOf result KeeperRefusal.NoMemory
             → Keeps told may_leave moment left_since self.old self.new }
+        ensures told { IsSome (told self.new) ↔ IsSome (told self.old) }
 
         // Whatever it answers, what a start finds after a crash at any moment of the call, and after one from then on.
         ensures any_moment { IfSome (told self.old) (λ _.
@@ -125,6 +126,7 @@ pub trait Keeper {
         ensures err { OnErr result ((f : Found Defined) → is_at self.old f → is_at self.new f) }
         ensures fault { OnErr result (IsErrOf result KeeperRefusal.DiskFault
             × (faults self.old < faults self.new) × (is_failed self.new ≡ true)) }
+        ensures told { IsSome (told self.new) ↔ IsSome (told self.old) }
 
         // Whatever it answers, what a start finds after a crash at any moment of the call, and after one from then on.
         ensures any_moment { (f : Found Defined) → is_at self.old f → can_follow f.state change.now → IfSome (told self.old) (λ _.
@@ -141,6 +143,8 @@ pub trait Keeper {
         ensures damaged { IfErr result (λ e. IsDamageOf e (told self.old)) }
         ensures fault { IsErrOf result StartRefusal.DiskFault
             → (faults self.old < faults self.new) × (is_failed self.new ≡ true) }
+        ensures stays { OnErr result (IsErrOf result StartRefusal.DiskFault ⊎ (is_failed self.new ≡ is_failed self.old)) }
+        ensures told { IsSome (told self.new) ↔ IsSome (told self.old) }
 
         // After a crash at any moment of the call, a start finds what one might have found before it.
         ensures any_moment { LeavesOnly moment left_since self.old self.new (may_leave self.old) }

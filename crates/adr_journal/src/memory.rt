@@ -1,10 +1,42 @@
 //! A journal on a disk in memory, under a plan.
 
+ghost use Rattle.std.specs.Prelude.{◌≡◌, false, None, IfOk};
+
 use crate::form::Form;
 use crate::journal::Journal;
+use crate::keeper::Keeper;
 use crate::planned::PlannedKeeper;
 use adr_disk::{Crash, MemDisk};
 use adr_failure::NoMemory;
+use std::alloc::Global;
+
+impl<F: Form> Journal<MemDisk, F> {
+    /// A journal on an empty disk, without a plan.
+    pub fn in_memory(alloc: Global) -> Journal<MemDisk, F>
+        ensures empty { ⟦<Journal<MemDisk, F> as Keeper>⟧.is_empty result }
+        ensures up { ⟦<Journal<MemDisk, F> as Keeper>⟧.is_failed result ≡ false }
+        ensures running { ⟦<Journal<MemDisk, F> as PlannedKeeper>⟧.is_down result ≡ false }
+        ensures plan { ⟦<Journal<MemDisk, F> as PlannedKeeper>⟧.plan result ≡ None }
+    {
+        Journal::over(alloc, MemDisk::new(alloc))
+    }
+
+    /// A journal on a disk with these bytes, all of them synced, without a plan.
+    pub fn with_bytes(alloc: Global, bytes: Vec<u8>) -> Result<Journal<MemDisk, F>, NoMemory>
+        ensures read { IfOk result (λ j. ⟦<Journal<MemDisk, F> as PlannedKeeper>⟧.read j
+            ≡ ⟦<Journal<MemDisk, F> as PlannedKeeper>⟧.found_in bytes.items) }
+        ensures safe { IfOk result (λ j. ⟦<Journal<MemDisk, F> as PlannedKeeper>⟧.safe j
+            ≡ ⟦<Journal<MemDisk, F> as PlannedKeeper>⟧.found_in bytes.items) }
+        ensures torn { IfOk result (λ j. ⟦<Journal<MemDisk, F> as PlannedKeeper>⟧.torn j
+            ≡ ⟦<Journal<MemDisk, F> as PlannedKeeper>⟧.found_in bytes.items) }
+        ensures up { IfOk result (λ j. ⟦<Journal<MemDisk, F> as Keeper>⟧.is_failed j ≡ false) }
+        ensures running { IfOk result (λ j. ⟦<Journal<MemDisk, F> as PlannedKeeper>⟧.is_down j ≡ false) }
+        ensures plan { IfOk result (λ j. ⟦<Journal<MemDisk, F> as PlannedKeeper>⟧.plan j ≡ None) }
+    {
+        let disk = MemDisk::of(alloc, bytes)?;
+        Ok(Journal::over(alloc, disk))
+    }
+}
 
 impl<F: Form> PlannedKeeper for Journal<MemDisk, F> {
     ghost use Rattle.adr_disk.specs.Memory.{read_of, left_by};
@@ -32,7 +64,7 @@ impl<F: Form> PlannedKeeper for Journal<MemDisk, F> {
     ghost prepares_unmet = { λ k new e r up has ran. prepares_so F.head F.following (λ j. j.disk) k new e r up has ran };
 
     ghost commits_as_planned = { λ k new c e book r p at running prepared follows up same has of_p ran.
-        commits_so F.head F.following (λ j. j.disk) k new k.end (F.body_of c) k.record.items c book r p (at running)
+        commits_so F.head F.following (λ j. j.disk) k new k.end (F.body_of c) k.prepared.items c book r p (at running)
         prepared.room prepared.is (F.body_follows r.safe c follows) (F.body_length r.safe c follows) up same has of_p e ran };
 
     ghost starts_as_planned = { λ k new e book r up has ran. starts_so F.head F.following (λ j. j.disk) k new book r up has e ran };

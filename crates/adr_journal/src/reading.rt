@@ -1,6 +1,6 @@
 //! Reads a whole disk.
 
-ghost use Rattle.std.specs.Prelude.{◌≡◌, ◌≤◌, ◌<◌, ◌^◌, Some, IfOk, IfSome, OnOk, IsErrOf, length};
+ghost use Rattle.std.specs.Prelude.{◌≡◌, ◌≤◌, ◌<◌, ◌^◌, ◌↔◌, Some, IsSome, IfOk, IfSome, OnOk, IsErrOf, length};
 ghost use Rattle.adr_disk.specs.Disk.{Among, Only, Keeps, LeavesOnly, ended};
 ghost use Rattle.adr_journal.specs.Ran.{Reads, ReadsSynced};
 
@@ -28,6 +28,7 @@ fn read_all<D: Disk>(alloc: Global, disk: &mut D) -> Result<Vec<u8>, Fault>
 /// All bytes of a disk, which are then synced.
 pub(crate) fn read_synced<D: Disk>(alloc: Global, disk: &mut D) -> Result<Vec<u8>, Fault>
     ensures bytes { IfOk result (λ bytes. IfSome (D.content disk.old) (λ there. bytes.items ≡ there)) }
+    ensures told { IsSome (D.content disk.new) ↔ IsSome (D.content disk.old) }
     ensures same { OnOk result (D.content disk.new ≡ D.content disk.old) }
     ensures synced { OnOk result (IfSome (D.content disk.old) (λ there. Only there (D.may_leave disk.new))) }
 

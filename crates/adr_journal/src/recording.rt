@@ -1,10 +1,11 @@
-//! Writes a record.
+//! Spells what a log begins with and its records, and writes a record.
 
-ghost use Rattle.std.specs.Prelude.{◌≡◌, ◌⊎◌, ◌↔◌, ℕ, ◌+◌, ◌≤◌, ◌<◌, ◌^◌, List, Option, Some, IsSome, Ok, IfOk, IfSome, OnOk, IsErrOf, length};
+ghost use Rattle.std.specs.Prelude.{◌≡◌, ◌⊎◌, ◌↔◌, ℕ, ◌+◌, ◌≤◌, ◌<◌, ◌^◌, List, [], ◌∷◌, ◌++◌, true, false, Option, Some, IsSome, Ok, IfOk, IfSome, OnOk, IsErrOf, length};
 ghost use Rattle.std.specs.Option.{ForSome};
 ghost use Rattle.adr_wire.specs.Reading.{Reading};
 ghost use Rattle.adr_disk.specs.Disk.{Among, Only, LeavesOnly, Counts, ended};
 ghost use Rattle.adr_model.specs.Store.{State as Defined};
+ghost use Rattle.adr_model.specs.Lengths.{log_limit, log_end_after};
 ghost use Rattle.adr_law_journal.specs.Log.{found, Following, start_of, record_of, end_behind};
 ghost use Rattle.adr_law_journal.specs.Kept.{IsEither, IsSettled};
 ghost use Rattle.adr_law_journal.specs.Commits.{Commits};
@@ -14,13 +15,31 @@ use crate::form::Form;
 use adr_disk::{Disk, write_through};
 use adr_failure::NoMemory;
 use adr_io::Fault;
-use adr_state::Change;
+use adr_state::{Change, LOG_LIMIT, State, log_end_after};
 use std::alloc::Global;
 
 /// A gate that is open; every other byte is a closed one.
 pub(crate) const OPEN: u8 = 0xC3;
 
 pub(crate) const CLOSED: u8 = 0;
+
+/// Whether a log that ends here has room for a change's record.
+pub(crate) fn has_room(end: u64, change: &Change) -> bool
+    ensures room { result ≡ true → log_end_after end change.now ≤ log_limit }
+    ensures none { result ≡ false → log_limit < log_end_after end change.now }
+{
+    end <= LOG_LIMIT && log_end_after(end, change).is_some()
+}
+
+/// What stands behind the first gate of a new log: the head of a state, and a closed gate.
+pub(crate) fn begun<F: Form>(alloc: Global, state: &State) -> Result<Vec<u8>, NoMemory>
+    requires { F.can_begin state.now }
+    ensures { IfOk result (λ bytes. bytes.items ≡ F.head_of state.now ++ 0 ∷ []) }
+{
+    let mut written = F::write_head(alloc, state)?;
+    written.push(CLOSED)?;
+    Ok(written)
+}
 
 /// A change's body behind its length, and the next gate, which is closed.
 #[tactic(auto, unfolding(adr_wire::specs::Fields::u32))]

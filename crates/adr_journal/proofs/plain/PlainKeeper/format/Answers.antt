@@ -1,0 +1,19 @@
+use Rattle.std.proofs.Common.{◌≡◌, ◌+◌, ◌++◌, [], ◌∷◌, ℕ, List, length, sym, ◌∙◌, ap, subst, arith}
+use Rattle.adr_model.specs.Lengths.{new_log_end}
+use Rattle.adr_law_journal.specs.Log.{IsAtRest}
+use Rattle.adr_journal.proofs.Heads.{begun_rests, begun_long}
+use Rattle.adr_journal.proofs.plain.PlainKeeper.format.Goals as goal
+
+pub returns-clause-ok : goal.returns-clause-ok
+returns-clause-ok g c =
+    let f = g.F.Form in
+    let law = g.met.F.Form in
+    let s = c.args.state.now in
+    let is : c.deref.result.now ≡ f.head_of s ++ 0 ∷ [] = c.deref.ensures.value ∙ c.in-Ok.ensures in
+    let long = begun_long f.head f.following f.can_begin f.head_of law.spells_head law.head_length s c.requires.begins c.deref.result.now is in
+    let rests = begun_rests f.head f.following f.can_begin f.head_of law.spells_head law.head_length s c.requires.begins c.deref.result.now is in
+    let ends : new_log_end s ≡ c.len.result = sym long ∙ omega (arith, c.len.ensures, c.in-Ok-opened.log.ok, ap length c.in-Ok-opened.ensures) in
+    record {
+      ends = ends;
+      rests = subst (λ (n : ℕ). IsAtRest f.head f.following s n c.in-Ok-opened.log.items) ends (subst (λ (l : List ℕ). IsAtRest f.head f.following s (new_log_end s) l) (sym c.in-Ok-opened.ensures) rests);
+    }
