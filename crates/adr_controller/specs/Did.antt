@@ -1,0 +1,97 @@
+-- What committing a change does to a controller.
+use Rattle.std.specs.Prelude.{◌≡◌, ◌⊎◌, ◌<◌, ◌≤◌, ℕ, false, Option, Some, None, IfSome, Result, Ok, Err}
+use Rattle.adr_failure.specs.declared.Failure.{Failure}
+use Rattle.adr_failure.specs.declared.Failure.TheVariants as failures
+use Rattle.adr_disk.specs.Disk.{Among, Keeps, LeavesOnly}
+use Rattle.adr_model.specs.Store.{State}
+use Rattle.adr_model.specs.Change.{Change, after}
+use Rattle.adr_model.specs.Lengths.{log_limit, log_end_after}
+use Rattle.adr_law_journal.specs.Log.{Found, found, Started}
+use Rattle.adr_journal.specs.declared.keeper.Keeper.{Ghosts}
+use Rattle.adr_journal.specs.declared.keeper.KeeperRefusal.{KeeperRefusal}
+use Rattle.adr_journal.specs.declared.keeper.KeeperRefusal.TheVariants as keeps
+use Rattle.adr_controller.specs.Running.{Running}
+use Rattle.adr_controller.specs.declared.refusal.Hindrance.{Hindrance}
+use Rattle.adr_controller.specs.declared.refusal.Hindrance.TheVariants.{Down, Failed, Full, DiskFault, NoMemory}
+use Rattle.adr_controller.specs.declared.refusal.CallRefusal.{CallRefusal}
+use Rattle.adr_controller.specs.declared.refusal.CallRefusal.TheVariants.{Refused, Hindered}
+
+-- ---- how a call ended
+
+-- with its answer, or hindered
+abbrev pub hindrance_of : {T : Type 0} → Result T Hindrance → Option Hindrance
+hindrance_of (Ok _) = None
+hindrance_of (Err hindrance) = Some hindrance
+
+-- and a call that may also be refused
+abbrev pub call_hindrance : {T R : Type 0} → Result T (CallRefusal R) → Option Hindrance
+call_hindrance (Ok _) = None
+call_hindrance (Err (Refused refusal)) = None
+call_hindrance (Err (Hindered hindrance)) = Some hindrance
+
+-- what a refusal of a keeper is to its controller
+abbrev pub kept_as : KeeperRefusal → Hindrance
+kept_as keeps.DiskFault = DiskFault
+kept_as keeps.Failed = Failed
+kept_as keeps.Full = Full
+kept_as keeps.NoMemory = NoMemory
+
+abbrev pub kept_hindrance : {T : Type 0} → Result T KeeperRefusal → Option Hindrance
+kept_hindrance (Ok _) = None
+kept_hindrance (Err refusal) = Some (kept_as refusal)
+
+-- a pure call that didn't answer
+abbrev pub of_failure : {R : Type 0} → Failure R → CallRefusal R
+of_failure (failures.Refused refusal) = Refused refusal
+of_failure failures.NoMemory = Hindered NoMemory
+
+-- ---- what a start finds
+
+-- this state, wherever its log ends
+abbrev pub FindsState : State → Started State → Type 0
+FindsState s t = (end : ℕ) × (t ≡ Ok (found s end))
+
+-- the one or the other
+abbrev pub FindsEither : State → State → Started State → Type 0
+FindsEither before after t = FindsState before t ⊎ FindsState after t
+
+-- ---- what the keeper was asked for
+
+-- it was made ready for a change, and stands for what it stood for
+pub record MadeReady {K : Type 0} (k : Ghosts K) (old : K) (c : Change) (ready : K) : Type 0 where
+  pub prepared : k.prepares old None ready
+  pub is_prepared : k.is_prepared ready c
+  pub running : k.is_failed ready ≡ false
+  pub at : (f : Found State) → k.is_at old f → k.is_at ready f
+
+-- it was made ready, and then committed; as far as that came
+abbrev pub Ran : {K : Type 0} → Ghosts K → K → Change → Option Hindrance → K → Type 0
+Ran {K} k old c None new = (ready : K) × MadeReady k old c ready × k.commits ready c None new
+Ran {K} k old c (Some DiskFault) new =
+    k.prepares old (Some keeps.DiskFault) new ⊎ ((ready : K) × MadeReady k old c ready × k.commits ready c (Some keeps.DiskFault) new)
+Ran k old c (Some NoMemory) new = (new ≡ old) ⊎ (k.prepares old (Some keeps.NoMemory) new ⊎ k.prepares old None new)
+Ran k old c (Some Full) new = new ≡ old
+Ran k old c (Some Failed) new = new ≡ old
+Ran k old c (Some Down) new = new ≡ old
+
+-- ---- a commit
+
+-- A change of a controller's state is committed, or hindered: what each leaves.
+pub record Commits {K : Type 0} (k : Ghosts K) (s : State) (c : Change) (old new : Running K) (how : Option Hindrance) : Type 0 where
+  pub done : how ≡ None → new.state ≡ Some (after s c)
+  pub full : how ≡ Some Full → new ≡ old
+  pub no_memory : how ≡ Some NoMemory → (new.state ≡ old.state) × Keeps k.told k.may_leave k.moment k.left_since old.keeper new.keeper
+  pub fault : how ≡ Some DiskFault → (new.state ≡ None) × (k.faults old.keeper < k.faults new.keeper)
+  pub still_up : new.down ≡ false
+
+  -- where the log would end beyond its limit it is full, and else it is not
+  pub within : (how ≡ None) ⊎ (how ≡ Some DiskFault) → (end : ℕ) → k.is_at old.keeper (found s end) → log_end_after end c ≤ log_limit
+  pub beyond : how ≡ Some Full → (end : ℕ) → k.is_at old.keeper (found s end) → log_limit < log_end_after end c
+
+  -- whatever was answered, a start finds the state before or after: after a crash at any moment of the call, or from then on
+  pub any_moment : IfSome (k.told old.keeper) (λ _. LeavesOnly k.moment k.left_since old.keeper new.keeper (FindsEither s (after s c)))
+  pub left : IfSome (k.told old.keeper) (λ _. Among (FindsEither s (after s c)) (k.may_leave new.keeper))
+  pub acknowledged : how ≡ None → IfSome (k.told old.keeper) (λ _. Among (FindsState (after s c)) (k.may_leave new.keeper))
+
+  -- what the keeper was asked for
+  pub ran : Ran k old.keeper c how new.keeper

@@ -1,0 +1,13 @@
+//! A controller: a keeper, the state that it stands for in memory, and whether the controller was stopped. Each call
+//! that changes it is a pure call, whose change the keeper commits.
+//!
+//! It stands on the keepers of `adr_journal`, on the state of `adr_state`, and on the pure calls that make a change of a
+//! state. It knows nothing of the other controllers of a world, of lines, or of the bytes of messages.
+#![tactic(auto)]
+
+mod controller;
+mod keeping;
+mod refusal;
+
+pub use controller::Controller;
+pub use refusal::{CallRefusal, Hindrance};
