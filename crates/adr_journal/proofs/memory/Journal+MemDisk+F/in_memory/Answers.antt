@@ -1,4 +1,4 @@
-use Rattle.std.proofs.Common.{◌≡◌, ◌∙◌, ap}
+use Rattle.std.proofs.Common.{◌∙◌, ap}
 use Rattle.adr_disk.specs.Memory.{DiskState}
 use Rattle.adr_law_journal.specs.Replicas.{plan_of}
 use Rattle.adr_journal.proofs.memory.Journal+MemDisk+F.in_memory.Goals as goal

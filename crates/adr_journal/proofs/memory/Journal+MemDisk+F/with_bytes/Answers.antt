@@ -1,4 +1,4 @@
-use Rattle.std.proofs.Common.{◌≡◌, ◌∙◌, ap}
+use Rattle.std.proofs.Common.{◌∙◌, ap}
 use Rattle.adr_disk.specs.declared.memory.Crash.TheVariants.{Torn}
 use Rattle.adr_disk.specs.Memory.{DiskState, Surface, read_of, left_by}
 use Rattle.adr_law_journal.specs.Log.{start_of}

@@ -1,5 +1,4 @@
-use Rattle.std.proofs.Common.{◌≡◌, inr, ◌∙◌, ap, arith}
-use Rattle.adr_law_journal.specs.Log.{start_of}
+use Rattle.std.proofs.Common.{inr, ◌∙◌, ap, arith}
 use Rattle.adr_journal.specs.Ended.{found_after}
 use Rattle.adr_journal.specs.Laws.{log_tells}
 use Rattle.adr_journal.proofs.InMemory.{taken_in}

@@ -1,4 +1,4 @@
-use Rattle.std.proofs.Common.{◌≡◌, ◌+◌, ◌++◌, [], ◌∷◌, ℕ, List, length, sym, ◌∙◌, ap, subst, arith}
+use Rattle.std.proofs.Common.{◌≡◌, ◌++◌, [], ◌∷◌, ℕ, List, length, sym, ◌∙◌, ap, subst, arith}
 use Rattle.adr_model.specs.Lengths.{new_log_end}
 use Rattle.adr_law_journal.specs.Log.{IsAtRest}
 use Rattle.adr_journal.proofs.Heads.{begun_rests, begun_long}

@@ -1,4 +1,4 @@
-use Rattle.std.proofs.Common.{◌≡◌, ℕ, List, refl, subst}
+use Rattle.std.proofs.Common.{ℕ, List, refl, subst}
 use Rattle.adr_law_journal.specs.Log.{IsAtRest}
 use Rattle.adr_law_journal.proofs.Logs.{at_rest_stands}
 use Rattle.adr_journal.proofs.plain.PlainKeeper.start.Goals as goal
