@@ -1,49 +1,17 @@
 -- What committing a change does to a controller.
-use Rattle.std.specs.Prelude.{◌≡◌, ◌⊎◌, ◌<◌, ◌≤◌, ℕ, false, Option, Some, None, IfSome, Result, Ok, Err}
-use Rattle.adr_failure.specs.declared.Failure.{Failure}
-use Rattle.adr_failure.specs.declared.Failure.TheVariants as failures
+use Rattle.std.specs.Prelude.{◌≡◌, ◌⊎◌, ◌↔◌, ◌<◌, ◌≤◌, ℕ, true, false, Option, Some, None, IfSome, Result, Ok, Err}
 use Rattle.adr_disk.specs.Disk.{Among, Keeps, LeavesOnly}
 use Rattle.adr_model.specs.Store.{State}
 use Rattle.adr_model.specs.Change.{Change, after}
 use Rattle.adr_model.specs.Lengths.{log_limit, log_end_after}
 use Rattle.adr_law_journal.specs.Log.{Found, found, Started}
 use Rattle.adr_journal.specs.declared.keeper.Keeper.{Ghosts}
-use Rattle.adr_journal.specs.declared.keeper.KeeperRefusal.{KeeperRefusal}
 use Rattle.adr_journal.specs.declared.keeper.KeeperRefusal.TheVariants as keeps
 use Rattle.adr_controller.specs.Running.{Running}
+use Rattle.adr_controller.specs.Ended.{call_hindrance}
 use Rattle.adr_controller.specs.declared.refusal.Hindrance.{Hindrance}
 use Rattle.adr_controller.specs.declared.refusal.Hindrance.TheVariants.{Down, Failed, Full, DiskFault, NoMemory}
 use Rattle.adr_controller.specs.declared.refusal.CallRefusal.{CallRefusal}
-use Rattle.adr_controller.specs.declared.refusal.CallRefusal.TheVariants.{Refused, Hindered}
-
--- ---- how a call ended
-
--- with its answer, or hindered
-abbrev pub hindrance_of : {T : Type 0} → Result T Hindrance → Option Hindrance
-hindrance_of (Ok _) = None
-hindrance_of (Err hindrance) = Some hindrance
-
--- and a call that may also be refused
-abbrev pub call_hindrance : {T R : Type 0} → Result T (CallRefusal R) → Option Hindrance
-call_hindrance (Ok _) = None
-call_hindrance (Err (Refused refusal)) = None
-call_hindrance (Err (Hindered hindrance)) = Some hindrance
-
--- what a refusal of a keeper is to its controller
-abbrev pub kept_as : KeeperRefusal → Hindrance
-kept_as keeps.DiskFault = DiskFault
-kept_as keeps.Failed = Failed
-kept_as keeps.Full = Full
-kept_as keeps.NoMemory = NoMemory
-
-abbrev pub kept_hindrance : {T : Type 0} → Result T KeeperRefusal → Option Hindrance
-kept_hindrance (Ok _) = None
-kept_hindrance (Err refusal) = Some (kept_as refusal)
-
--- a pure call that didn't answer
-abbrev pub of_failure : {R : Type 0} → Failure R → CallRefusal R
-of_failure (failures.Refused refusal) = Refused refusal
-of_failure failures.NoMemory = Hindered NoMemory
 
 -- ---- what a start finds
 
@@ -95,3 +63,13 @@ pub record Commits {K : Type 0} (k : Ghosts K) (s : State) (c : Change) (old new
 
   -- what the keeper was asked for
   pub ran : Ran k old.keeper c how new.keeper
+
+-- ---- a call
+
+-- A call of a controller that commits the change which it makes of the state, if it makes one.
+pub record Calls {K T R : Type 0} (k : Ghosts K) (changes : State → Option Change) (old new : Running K) (result : Result T (CallRefusal R)) : Type 0 where
+  pub down : (call_hindrance result ≡ Some Down) ↔ (old.down ≡ true)
+  pub failed : (call_hindrance result ≡ Some Failed) ↔ ((old.down ≡ false) × (old.state ≡ None))
+  pub stays : old.state ≡ None → new ≡ old
+  pub unchanged : (s : State) → old.state ≡ Some s → changes s ≡ None → new ≡ old
+  pub commits : (s : State) (c : Change) → old.state ≡ Some s → changes s ≡ Some c → Commits k s c old new (call_hindrance result)

@@ -8,7 +8,8 @@ ghost use Rattle.adr_law_journal.specs.Log.{found};
 ghost use Rattle.adr_state.specs.Refusal.{IsOverfull};
 ghost use Rattle.adr_controller.specs.Running.{IsUp};
 ghost use Rattle.adr_controller.specs.Able.{CanCommit};
-ghost use Rattle.adr_controller.specs.Did.{FindsEither, FindsState, Ran, kept_hindrance};
+ghost use Rattle.adr_controller.specs.Ended.{kept_hindrance};
+ghost use Rattle.adr_controller.specs.Did.{FindsEither, FindsState, Ran};
 
 use adr_failure::{Failure, NoMemory};
 use adr_journal::{Keeper, KeeperRefusal};

@@ -1,10 +1,12 @@
 //! Why a call of a controller didn't answer.
 
 ghost use Rattle.std.specs.Prelude.{◌≡◌};
-ghost use Rattle.adr_controller.specs.declared.refusal.CallRefusal.TheVariants.{Refused as refused, Hindered as hindered};
-ghost use Rattle.adr_controller.specs.Did.{of_failure};
+ghost use Rattle.adr_controller.specs.declared.refusal.CallRefusal.TheVariants.{Hindered as hindered};
+ghost use Rattle.adr_controller.specs.declared.refusal.Hindrance.TheVariants.{NoMemory as no_memory};
+ghost use Rattle.adr_controller.specs.Ended.{of_failure};
 
-use adr_failure::{Failure, NoMemory};
+use adr_failure::Failure;
+use std::alloc::AllocError;
 
 /// What keeps a controller from making a call, whatever the call.
 #[derive(Clone, Copy, Debug, PartialEq, Eq)]
@@ -27,6 +29,14 @@ pub enum CallRefusal<R> {
     Hindered(Hindrance),
 }
 
+impl From<AllocError> for Hindrance {
+    ghost from_gives = { λ _ e. e ≡ no_memory };
+
+    fn from(_e: AllocError) -> Hindrance {
+        Hindrance::NoMemory
+    }
+}
+
 impl<R> From<Hindrance> for CallRefusal<R> {
     ghost from_gives = { λ hindrance e. e ≡ hindered hindrance };
 
@@ -35,10 +45,10 @@ impl<R> From<Hindrance> for CallRefusal<R> {
     }
 }
 
-impl<R> From<NoMemory> for CallRefusal<R> {
-    ghost from_gives = { λ _ e. e ≡ hindered Hindrance.NoMemory };
+impl<R> From<AllocError> for CallRefusal<R> {
+    ghost from_gives = { λ _ e. e ≡ hindered no_memory };
 
-    fn from(_e: NoMemory) -> CallRefusal<R> {
+    fn from(_e: AllocError) -> CallRefusal<R> {
         CallRefusal::Hindered(Hindrance::NoMemory)
     }
 }
