@@ -19,6 +19,22 @@ pub at_told : {A : Type 0} (o : Option A) (P : Type 0) (x : A) → o ≡ Some x 
 at_told None P x is p = absurd (cc is)
 at_told (Some y) P x is p = p
 
+pub is_some_of : {A : Type 0} (o : Option A) (x : A) → o ≡ Some x → IsSome o
+is_some_of None x is = absurd (cc is)
+is_some_of (Some y) x is = refl
+
+pub none_of : {A : Type 0} (o : Option A) → ((x : A) → o ≡ Some x → ⊥) → o ≡ None
+none_of None h = refl
+none_of (Some x) h = absurd (h x refl)
+
+the_one : {A : Type 0} → A → Option A → A
+the_one a None = a
+the_one a (Some b) = b
+
+pub some_same : {A : Type 0} (a b : A) → Some a ≡ Some b → a ≡ b
+unfolding the_one
+some_same a b is = ap (the_one a) is
+
 either_so : (s t : State) (before after : ℕ) (x : Started State) → IsEither (found s before) (found t after) x → FindsEither s t x
 either_so s t before after x (inl is) = inl (before, is)
 either_so s t before after x (inr is) = inr (after, is)

@@ -1,5 +1,6 @@
 -- Which changes a controller can commit.
-use Rattle.std.specs.Prelude.{◌≡◌, ℕ, Option, Some, None, Result, Ok, Err}
+use Rattle.std.specs.Prelude.{◌≡◌, ℕ, Bool, true, false, Option, Some, None, Result, Ok, Err}
+use Rattle.std.specs.Bool.{then_some}
 use Rattle.adr_event.specs.declared.event.Event.{Event}
 use Rattle.adr_event.specs.declared.refusal.ServeRefusal.{ServeRefusal}
 use Rattle.adr_event.specs.declared.refusal.ServeRefusal.TheVariants as serves
@@ -28,33 +29,34 @@ AllFollow k changes = (s : State) (c : Change) → k.is_formed s → changes s �
 
 -- ---- what calls make of a state
 
--- the change of an event that is a client's write
-abbrev pub written_in : Event → ℕ → State → Option Change
-written_in event now s = by (write_of event)
-  where
-    by : Option ClientWrite → Option Change
-    by None = None
-    by (Some w) = change_in (write s w.what now)
+-- the change of a client's write, if there is one
+abbrev pub change_of_write : ℕ → State → Option ClientWrite → Option Change
+change_of_write now s None = None
+change_of_write now s (Some w) = change_in (write s w.what now)
 
--- a controller that shows that it was put back is quarantined
-abbrev pub quarantined_by : State → ServeRefusal → Option Change
-quarantined_by s (serves.RolledBack inv mine shown) = Some (quarantine s)
-quarantined_by s _ = None
+abbrev pub written_in : Event → ℕ → State → Option Change
+written_in event now s = change_of_write now s (write_of event)
+
+-- a refused request, and a refused reply, that shows a controller that it was put back
+abbrev pub request_shows : ServeRefusal → Bool
+request_shows (serves.RolledBack inv mine shown) = true
+request_shows _ = false
+
+abbrev pub reply_shows : TakeRefusal → Bool
+reply_shows (takes.RolledBack inv mine shown) = true
+reply_shows _ = false
+
+-- the controller is then quarantined
+abbrev pub change_of_served : State → Result Reply ServeRefusal → Option Change
+change_of_served s (Ok reply) = None
+change_of_served s (Err refusal) = then_some (request_shows refusal) (quarantine s)
 
 abbrev pub served_in : Request → State → Option Change
-served_in request s = by (serve s request)
-  where
-    by : Result Reply ServeRefusal → Option Change
-    by (Ok reply) = None
-    by (Err refusal) = quarantined_by s refusal
+served_in request s = change_of_served s (serve s request)
 
-abbrev pub quarantined_at : State → TakeRefusal → Option Change
-quarantined_at s (takes.RolledBack inv mine shown) = Some (quarantine s)
-quarantined_at s _ = None
+abbrev pub change_of_taken : State → Result Change TakeRefusal → Option Change
+change_of_taken s (Ok c) = Some c
+change_of_taken s (Err refusal) = then_some (reply_shows refusal) (quarantine s)
 
 abbrev pub taken_in : Reply → State → Option Change
-taken_in reply s = by (take s reply)
-  where
-    by : Result Change TakeRefusal → Option Change
-    by (Ok c) = Some c
-    by (Err refusal) = quarantined_at s refusal
+taken_in reply s = change_of_taken s (take s reply)

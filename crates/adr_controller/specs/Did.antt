@@ -1,17 +1,17 @@
 -- What committing a change does to a controller.
-use Rattle.std.specs.Prelude.{◌≡◌, ◌⊎◌, ◌↔◌, ◌<◌, ◌≤◌, ℕ, true, false, Option, Some, None, IfSome, Result, Ok, Err}
+use Rattle.std.specs.Prelude.{◌≡◌, ◌⊎◌, ◌↔◌, ◌<◌, ◌≤◌, ℕ, true, false, Option, Some, None, IfSome, Bool, Ok}
 use Rattle.adr_disk.specs.Disk.{Among, Keeps, LeavesOnly}
 use Rattle.adr_model.specs.Store.{State}
 use Rattle.adr_model.specs.Change.{Change, after}
 use Rattle.adr_model.specs.Lengths.{log_limit, log_end_after}
+use Rattle.adr_model.specs.Replica.{Replica}
 use Rattle.adr_law_journal.specs.Log.{Found, found, Started}
+use Rattle.adr_journal.specs.Planned.{CommitsAs}
 use Rattle.adr_journal.specs.declared.keeper.Keeper.{Ghosts}
 use Rattle.adr_journal.specs.declared.keeper.KeeperRefusal.TheVariants as keeps
 use Rattle.adr_controller.specs.Running.{Running}
-use Rattle.adr_controller.specs.Ended.{call_hindrance}
 use Rattle.adr_controller.specs.declared.refusal.Hindrance.{Hindrance}
 use Rattle.adr_controller.specs.declared.refusal.Hindrance.TheVariants.{Down, Failed, Full, DiskFault, NoMemory}
-use Rattle.adr_controller.specs.declared.refusal.CallRefusal.{CallRefusal}
 
 -- ---- what a start finds
 
@@ -67,9 +67,17 @@ pub record Commits {K : Type 0} (k : Ghosts K) (s : State) (c : Change) (old new
 -- ---- a call
 
 -- A call of a controller that commits the change which it makes of the state, if it makes one.
-pub record Calls {K T R : Type 0} (k : Ghosts K) (changes : State → Option Change) (old new : Running K) (result : Result T (CallRefusal R)) : Type 0 where
-  pub down : (call_hindrance result ≡ Some Down) ↔ (old.down ≡ true)
-  pub failed : (call_hindrance result ≡ Some Failed) ↔ ((old.down ≡ false) × (old.state ≡ None))
+pub record Calls {K : Type 0} (k : Ghosts K) (changes : State → Option Change) (old new : Running K) (how : Option Hindrance) : Type 0 where
+  pub down : (how ≡ Some Down) ↔ (old.down ≡ true)
+  pub failed : (how ≡ Some Failed) ↔ ((old.down ≡ false) × (old.state ≡ None))
   pub stays : old.state ≡ None → new ≡ old
   pub unchanged : (s : State) → old.state ≡ Some s → changes s ≡ None → new ≡ old
-  pub commits : (s : State) (c : Change) → old.state ≡ Some s → changes s ≡ Some c → Commits k s c old new (call_hindrance result)
+  pub commits : (s : State) (c : Change) → old.state ≡ Some s → changes s ≡ Some c → Commits k s c old new how
+
+-- ---- a replica beside it
+
+-- it goes where a commit takes the replica; where none was made it stays as it was
+abbrev pub GoesAs : {K : Type 0} → (K → Replica → Type 0) → (K → Bool) → Option Hindrance → Replica → Replica → K → Type 0
+GoesAs has is_down None before after new = CommitsAs has is_down None after new
+GoesAs has is_down (Some DiskFault) before after new = CommitsAs has is_down (Some keeps.DiskFault) after new
+GoesAs has is_down (Some hindrance) before after new = has new before × (is_down new ≡ false)

@@ -135,7 +135,7 @@ impl<K: Keeper> Controller<K> {
 
     /// Its keeper.
     pub fn into_keeper(self) -> K
-        ensures { result ≡ self.entry.keeper }
+        ensures { result ≡ self.keeper }
     {
         self.keeper
     }
@@ -145,6 +145,7 @@ impl<K: Keeper> Controller<K> {
         ensures ok { IfOk result (λ s. (self.now.state ≡ Some s.now) × (self.now.down ≡ false) × K.is_formed s.now) }
         ensures err { IfErr result (λ h. ((h ≡ Hindrance.Down) × (self.now.down ≡ true) × (self.now.state ≡ None))
             ⊎ ((h ≡ Hindrance.Failed) × (self.now.down ≡ false) × (self.now.state ≡ None))) }
+        ensures in_order { IsInOrder K.Keeper self.now }
     {
         if self.down {
             return Err(Hindrance::Down);
@@ -158,8 +159,8 @@ impl<K: Keeper> Controller<K> {
     /// Commits a change of the state, to the keeper and in memory.
     pub fn commit(&mut self, change: &Change) -> Result<(), Hindrance>
         requires { ForSome self.old.state (λ s. CanCommit K.Keeper s change.now) }
-        ensures down { IsErrOf result Hindrance.Down ↔ (self.old.down ≡ true) }
-        ensures failed { IsErrOf result Hindrance.Failed ↔ ((self.old.down ≡ false) × (self.old.state ≡ None)) }
+        ensures down { (hindrance_of result ≡ Some Hindrance.Down) ↔ (self.old.down ≡ true) }
+        ensures failed { (hindrance_of result ≡ Some Hindrance.Failed) ↔ ((self.old.down ≡ false) × (self.old.state ≡ None)) }
         ensures stays { self.old.state ≡ None → self.new ≡ self.old }
         ensures commits { (s : Defined) → self.old.state ≡ Some s
             → Commits K.Keeper s change.now self.old self.new (hindrance_of result) }

@@ -18,4 +18,5 @@ pub use adr_packet::{Reply, Request};
 pub use adr_state::{Change, State};
 pub use controller::Controller;
 pub use messages::Taken;
+pub use planned::commits_go_as_planned;
 pub use refusal::{CallRefusal, Hindrance};

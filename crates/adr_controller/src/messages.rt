@@ -1,6 +1,6 @@
 //! Messages between controllers.
 
-ghost use Rattle.std.specs.Prelude.{◌≡◌, ◌⊎◌, ◌≤◌, true, false, Some, None, Ok, Err, IfOk, IfErr, IfSome, IsErrOf, length};
+ghost use Rattle.std.specs.Prelude.{◌≡◌, ◌⊎◌, ◌≤◌, true, false, None, Some, Ok, Err, IfOk, IfErr, IsErrOf, IsSome, length};
 ghost use Rattle.std.specs.Option.{ForSome};
 ghost use Rattle.adr_event.specs.declared.refusal.ServeRefusal.{ServeRefusal};
 ghost use Rattle.adr_event.specs.declared.refusal.TakeRefusal.{TakeRefusal};
@@ -10,7 +10,9 @@ ghost use Rattle.adr_model.specs.Collect.{quarantine};
 ghost use Rattle.adr_model.specs.Serve.{ask, serve};
 ghost use Rattle.adr_model.specs.Take.{take};
 ghost use Rattle.adr_model.specs.Write.{usn_limit};
-ghost use Rattle.adr_controller.specs.Able.{AllFollow, served_in, taken_in};
+ghost use Rattle.std.specs.Bool.{then_some};
+ghost use Rattle.adr_controller.specs.Able.{AllFollow, CanCommit, reply_shows, request_shows, served_in, taken_in};
+ghost use Rattle.adr_controller.specs.Ended.{call_hindrance, hindrance_of};
 ghost use Rattle.adr_controller.specs.Did.{Calls};
 
 use crate::controller::Controller;
@@ -55,6 +57,20 @@ fn told_of(reply: &Reply, change: &Change) -> Result<Taken, NoMemory>
     })
 }
 
+/// Whether a refused request shows that the controller was put back.
+fn request_shows(refusal: ServeRefusal) -> bool
+    ensures { result ≡ request_shows refusal }
+{
+    matches!(refusal, ServeRefusal::RolledBack { .. })
+}
+
+/// Whether a refused reply shows that the controller was put back.
+fn reply_shows(refusal: TakeRefusal) -> bool
+    ensures { result ≡ reply_shows refusal }
+{
+    matches!(refusal, TakeRefusal::RolledBack { .. })
+}
+
 /// The change of a controller that is quarantined.
 fn quarantine(alloc: Global, state: &State) -> Change
     ensures { result ≡ quarantine state.now }
@@ -71,6 +87,20 @@ fn quarantine(alloc: Global, state: &State) -> Change
 }
 
 impl<K: Keeper> Controller<K> {
+    /// Quarantines the controller, which is up, if it was shown that it was put back.
+    fn quarantine_if(&mut self, alloc: Global, put_back: bool) -> Result<(), Hindrance>
+        requires up { IsSome self.old.state }
+        requires follows { ForSome self.old.state (λ s. put_back ≡ true → CanCommit K.Keeper s (quarantine s)) }
+        ensures { Calls K.Keeper (λ s. then_some put_back (quarantine s)) self.old self.new (hindrance_of result) }
+    {
+        let state = self.running()?;
+        if !put_back {
+            return Ok(());
+        }
+        let change = quarantine(alloc, state);
+        self.commit(&change)
+    }
+
     /// What it asks a partner: the changes behind the mark that it has of the partner, at most `max` items in one reply.
     pub fn ask(&self, alloc: Global, partner: Uuid, max: u32) -> Result<Request, Hindrance>
         ensures ok { IfOk result (λ request. (s : Defined) × (self.now.state ≡ Some s) × (request ≡ ask s partner max)) }
@@ -92,18 +122,16 @@ impl<K: Keeper> Controller<K> {
         ensures served { IfOk result (λ reply. (s : Defined) → self.old.state ≡ Some s → serve s request.now ≡ Ok reply) }
         ensures refused { (s : Defined) (refusal : ServeRefusal) → self.old.state ≡ Some s
             → IsErrOf result (CallRefusal.Refused refusal) → serve s request.now ≡ Err refusal }
-        ensures calls { Calls K.Keeper (served_in request.now) self.old self.new result }
+        ensures calls { Calls K.Keeper (served_in request.now) self.old self.new (call_hindrance result) }
     {
         let state = self.running()?;
         match serve(alloc, state, request) {
             Ok(reply) => Ok(reply),
-            Err(Failure::Refused(ServeRefusal::RolledBack { inv, mine, shown })) => {
-                let change = quarantine(alloc, state);
-                self.commit(&change)?;
-                Err(CallRefusal::Refused(ServeRefusal::RolledBack { inv, mine, shown }))
-            }
-            Err(Failure::Refused(refusal)) => Err(CallRefusal::Refused(refusal)),
             Err(Failure::NoMemory) => Err(CallRefusal::Hindered(Hindrance::NoMemory)),
+            Err(Failure::Refused(refusal)) => {
+                self.quarantine_if(alloc, request_shows(refusal))?;
+                Err(CallRefusal::Refused(refusal))
+            }
         }
     }
 
@@ -120,7 +148,7 @@ impl<K: Keeper> Controller<K> {
             × (taken ≡ record { items = length reply.now.items; wrote = length c.writes; usn = c.usn })) }
         ensures refused { (s : Defined) (refusal : TakeRefusal) → self.old.state ≡ Some s
             → IsErrOf result (CallRefusal.Refused refusal) → take s reply.now ≡ Err refusal }
-        ensures calls { Calls K.Keeper (taken_in reply.now) self.old self.new result }
+        ensures calls { Calls K.Keeper (taken_in reply.now) self.old self.new (call_hindrance result) }
     {
         let state = self.running()?;
         match take(alloc, state, reply) {
@@ -129,13 +157,11 @@ impl<K: Keeper> Controller<K> {
                 self.commit(&change)?;
                 Ok(taken)
             }
-            Err(Failure::Refused(TakeRefusal::RolledBack { inv, mine, shown })) => {
-                let change = quarantine(alloc, state);
-                self.commit(&change)?;
-                Err(CallRefusal::Refused(TakeRefusal::RolledBack { inv, mine, shown }))
-            }
-            Err(Failure::Refused(refusal)) => Err(CallRefusal::Refused(refusal)),
             Err(Failure::NoMemory) => Err(CallRefusal::Hindered(Hindrance::NoMemory)),
+            Err(Failure::Refused(refusal)) => {
+                self.quarantine_if(alloc, reply_shows(refusal))?;
+                Err(CallRefusal::Refused(refusal))
+            }
         }
     }
 }

@@ -1,14 +1,17 @@
 //! A controller over a keeper under a plan.
 
-ghost use Rattle.std.specs.Prelude.{◌≡◌, ◌⊎◌, true, false, Some, None, IfOk};
-ghost use Rattle.adr_model.specs.Replica.{Stops, Fails};
+ghost use Rattle.std.specs.Prelude.{◌≡◌, ◌⊎◌, true, false, Option, Some, None, IfOk};
+ghost use Rattle.adr_model.specs.Change.{Change as Changes};
+ghost use Rattle.adr_model.specs.Replica.{Book, Fails, Pending, Replica, Stops};
+ghost use Rattle.adr_law_journal.specs.Replicas.{Has, committed, read_found, safe_found};
 ghost use Rattle.adr_journal.specs.Planned.{left_found, Same};
-ghost use Rattle.adr_controller.specs.Running.{Running};
+ghost use Rattle.adr_controller.specs.declared.refusal.Hindrance.{Hindrance};
+ghost use Rattle.adr_controller.specs.Did.{GoesAs, Ran};
 
 use crate::controller::Controller;
 use adr_disk::Crash;
 use adr_failure::NoMemory;
-use adr_journal::PlannedKeeper;
+use adr_journal::{Keeper, PlannedKeeper};
 
 impl<K: PlannedKeeper> Controller<K> {
     /// Lets so many writes and syncs of its disk pass, and crashes within the next.
@@ -70,3 +73,13 @@ impl<K: PlannedKeeper> Controller<K> {
         self.keeper.bytes()
     }
 }
+
+/// What a commit of a controller asks of its keeper takes what is read, what is safe and the plan where a commit takes a
+/// replica.
+#[tactic(none)]
+pub fn commits_go_as_planned<K: PlannedKeeper>()
+    ensures { (old new : K) (c : Changes) (how : Option Hindrance) (book : Book) (r : Replica) (p : Pending)
+        → K.is_at old (safe_found r) → K.is_failed old ≡ false → K.can_follow r.safe c → K.is_down old ≡ false → read_found r ≡ safe_found r
+        → Has K.read K.safe K.torn K.plan old r → p.change ≡ c → Ran ⟦<K as Keeper>⟧ old c how new
+        → GoesAs (Has K.read K.safe K.torn K.plan) K.is_down how r (committed book r p) new }
+{}

@@ -7,6 +7,7 @@ ghost use Rattle.adr_model.specs.Change.{Change as Changes};
 ghost use Rattle.adr_model.specs.Step.{ClientWrite, write_of};
 ghost use Rattle.adr_model.specs.Write.{usn_limit, write};
 ghost use Rattle.adr_controller.specs.Able.{AllFollow, written_in};
+ghost use Rattle.adr_controller.specs.Ended.{call_hindrance};
 ghost use Rattle.adr_controller.specs.Did.{Calls};
 
 use crate::controller::Controller;
@@ -89,7 +90,7 @@ impl<K: Keeper> Controller<K> {
             → (c : Changes) × (write s w.what now ≡ Ok c) × (usn ≡ c.usn)) }
         ensures refused { (s : Defined) (w : ClientWrite) (refusal : WriteRefusal) → self.old.state ≡ Some s → write_of event.now ≡ Some w
             → IsErrOf result (CallRefusal.Refused refusal) → write s w.what now ≡ Err refusal }
-        ensures calls { Calls K.Keeper (written_in event.now now) self.old self.new result }
+        ensures calls { Calls K.Keeper (written_in event.now now) self.old self.new (call_hindrance result) }
     {
         let state = self.running()?;
         let change = change_of(alloc, state, event, now)?;
