@@ -55,13 +55,14 @@ module _ {K : Type 0} (head : Reading State) (following : Following State) (disk
 
   -- ---- before a commit
 
-  pub prepares_so : (k new : K) (e : Option KeeperRefusal) (r : Replica) → is_stopped k ≡ false → has k r → Prepares Does (disk k) e (disk new) → has new r × (is_stopped new ≡ false)
-  prepares_so k new None r up h ran = (has_it new r (same_on r (disk k) (disk new) ran.1 (on_it k r h)), ran.1.stopped ∙ up)
+  pub prepares_so : (k new : K) (e : Option KeeperRefusal) (r : Replica) → is_stopped k ≡ false → has k r → Prepares Does (disk k) e (disk new)
+      → has new r × (is_stopped new ≡ false) × (e ≡ Some DiskFault → ⊥)
+  prepares_so k new None r up h ran = (has_it new r (same_on r (disk k) (disk new) ran.1 (on_it k r h)), ran.1.stopped ∙ up, λ is. cc is)
   prepares_so k new (Some DiskFault) r up h ran = absurd (no_look (disk k) (disk new) up ran)
-  prepares_so k new (Some NoMemory) r up h (inl is) = (has_it new r (subst (IsOn head following r) (sym is) (on_it k r h)), ap (λ (d : DiskState). d.stopped) is ∙ up)
-  prepares_so k new (Some NoMemory) r up h (inr ran) = (has_it new r (same_on r (disk k) (disk new) ran (on_it k r h)), ran.stopped ∙ up)
-  prepares_so k new (Some Full) r up h is = (has_it new r (subst (IsOn head following r) (sym is) (on_it k r h)), ap (λ (d : DiskState). d.stopped) is ∙ up)
-  prepares_so k new (Some Failed) r up h is = (has_it new r (subst (IsOn head following r) (sym is) (on_it k r h)), ap (λ (d : DiskState). d.stopped) is ∙ up)
+  prepares_so k new (Some NoMemory) r up h (inl is) = (has_it new r (subst (IsOn head following r) (sym is) (on_it k r h)), ap (λ (d : DiskState). d.stopped) is ∙ up, λ is. cc is)
+  prepares_so k new (Some NoMemory) r up h (inr ran) = (has_it new r (same_on r (disk k) (disk new) ran (on_it k r h)), ran.stopped ∙ up, λ is. cc is)
+  prepares_so k new (Some Full) r up h is = (has_it new r (subst (IsOn head following r) (sym is) (on_it k r h)), ap (λ (d : DiskState). d.stopped) is ∙ up, λ is. cc is)
+  prepares_so k new (Some Failed) r up h is = (has_it new r (subst (IsOn head following r) (sym is) (on_it k r h)), ap (λ (d : DiskState). d.stopped) is ∙ up, λ is. cc is)
 
   -- ---- a commit
 

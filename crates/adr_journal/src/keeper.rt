@@ -1,6 +1,6 @@
 //! What keeps a state.
 
-ghost use Rattle.std.specs.Prelude.{◌≡◌, ◌⊎◌, ◌↔◌, ℕ, ◌<◌, Bool, true, false, Option, Some, IsSome, Ok, IfOk, IfErr, OnOk, OnErr, IsErrOf, IfSome, ⊤};
+ghost use Rattle.std.specs.Prelude.{◌≡◌, ◌⊎◌, ◌↔◌, ℕ, ◌≤◌, ◌<◌, Bool, true, false, Option, Some, IsSome, Ok, IfOk, IfErr, OnOk, OnErr, IsErrOf, IfSome, ⊤};
 ghost use Rattle.adr_disk.specs.Disk.{Among, Keeps, LeavesOnly};
 ghost use Rattle.adr_model.specs.Store.{State as Defined};
 ghost use Rattle.adr_model.specs.Change.{Change as Changes, after};
@@ -105,6 +105,7 @@ pub trait Keeper {
         ensures up { OnOk result (is_failed self.new ≡ false) }
         ensures at { (f : Found Defined) → is_at self.old f → is_at self.new f }
         ensures keeps { Keeps told may_leave moment left_since self.old self.new }
+        ensures later { faults self.old ≤ faults self.new }
         ensures failed { IsErrOf result KeeperRefusal.Failed ↔ (is_failed self.old ≡ true) }
         ensures full { (f : Found Defined) → is_at self.old f → (IsErrOf result KeeperRefusal.Full
             ↔ ((is_failed self.old ≡ false) × (log_limit < log_end_after f.log_end change.now))) }

@@ -80,7 +80,8 @@ pub trait PlannedKeeper: Keeper {
 
     /// What makes ready for a commit meets no plan.
     ghost prepares_unmet: { (k new : Self) (e : Option Refusal) (r : Replica) → is_down k ≡ false → Has read safe torn plan k r
-        → Self.prepares k e new → Has read safe torn plan new r × (is_down new ≡ false) };
+        → Self.prepares k e new
+        → Has read safe torn plan new r × (is_down new ≡ false) × (e ≡ Some Refusal.DiskFault → ⊥) };
 
     /// A commit does to what is read, to what is safe and to the plan what it does to a replica.
     ghost commits_as_planned: { (k new : Self) (c : Changes) (e : Option Refusal) (book : Book) (r : Replica) (p : Pending)

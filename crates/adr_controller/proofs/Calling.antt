@@ -1,0 +1,115 @@
+-- A call of a controller, by what it committed.
+use Rattle.std.proofs.Common.{◌≡◌, ◌⊎◌, inl, inr, ⊎_elim, ◌∙◌, sym, ap, subst, refl, ℕ, Bool, true, false, Option, Some, None, IfSome, IsSome, Result, Ok, Err}
+use Rattle.std.specs.Prelude.{◌↔◌, IsErrOf}
+use Rattle.adr_failure.specs.declared.Failure.{Failure}
+use Rattle.adr_failure.specs.declared.Failure.TheVariants as failures
+use Rattle.adr_event.specs.declared.refusal.WriteRefusal.{WriteRefusal}
+use Rattle.adr_disk.specs.Disk.{Keeps, LeavesOnly}
+use Rattle.adr_disk.proofs.Moments.{started}
+use Rattle.adr_model.specs.Store.{State}
+use Rattle.adr_model.specs.Change.{Change, after}
+use Rattle.adr_model.specs.Replica.{change_in}
+use Rattle.adr_model.specs.Step.{ClientWrite}
+use Rattle.adr_model.specs.Write.{write}
+use Rattle.adr_law_journal.specs.Log.{Found, found, Started}
+use Rattle.adr_journal.specs.declared.keeper.Keeper.{Ghosts}
+use Rattle.adr_controller.specs.declared.refusal.Hindrance.{Hindrance}
+use Rattle.adr_controller.specs.declared.refusal.Hindrance.TheVariants.{Down, Failed, Full, DiskFault, NoMemory}
+use Rattle.adr_controller.specs.declared.refusal.CallRefusal.{CallRefusal}
+use Rattle.adr_controller.specs.declared.refusal.CallRefusal.TheVariants.{Refused, Hindered}
+use Rattle.adr_controller.specs.Running.{Running, IsUp, IsInOrder}
+use Rattle.adr_controller.specs.Able.{change_of_write}
+use Rattle.adr_controller.specs.Ended.{hindrance_of, call_hindrance, of_failure}
+use Rattle.adr_controller.specs.Did.{FindsState, FindsEither, Ran, Commits, Calls}
+use Rattle.adr_controller.proofs.Kept.{if_told, is_some_of, some_same}
+
+same_keeps : {D C O : Type 0} (content : D → Option C) (may_leave : D → O → Type 0) (moment : D → ℕ) (left_since : D → ℕ → O → Type 0) (d : D) → Keeps content may_leave moment left_since d d
+same_keeps content may_leave moment left_since d = record {
+  content_stays = refl;
+  no_more = λ x h. h;
+  no_fewer = λ x h. h;
+  moment_stays = refl;
+  past_stays = λ t x h. h;
+  past_kept = λ t x h. h;
+}
+
+module _ {K : Type 0} (k : Ghosts K) where
+  -- the change that was committed, told as what a call makes of the state
+  pub as_made : (changes other : State → Option Change) (old new : Running K) (how : Option Hindrance) → ((s : State) → old.state ≡ Some s → changes s ≡ other s) → Calls k changes old new how → Calls k other old new how
+  as_made changes other old new how same calls = record {
+    down = calls.down;
+    failed = calls.failed;
+    stays = calls.stays;
+    unchanged = λ s is none. calls.unchanged s is (same s is ∙ none);
+    commits = λ s c is makes. calls.commits s c is (same s is ∙ makes);
+  }
+
+  pub committed_so : (c : Change) (old new : Running K) (how : Option Hindrance) → (how ≡ Some Down) ↔ (old.down ≡ true) → (how ≡ Some Failed) ↔ ((old.down ≡ false) × (old.state ≡ None)) → (old.state ≡ None → new ≡ old)
+      → ((s : State) → old.state ≡ Some s → Commits k s c old new how) → Calls k (λ s. Some c) old new how
+  committed_so c old new how down failed stays commits = record {
+    down = down;
+    failed = failed;
+    stays = stays;
+    unchanged = λ s is none. absurd (cc none);
+    commits = λ s d is makes. subst (λ e. Commits k s e old new how) (some_same c d makes) (commits s is);
+  }
+
+  -- nothing was committed: memory was wanting, or the call makes no change
+  module _ (leaves : (keeper : K) (f : Found State) (t : Started State) → k.is_at keeper f → k.is_failed keeper ≡ false → IsSome (k.told keeper) → k.may_leave keeper t → t ≡ Ok f)
+      (only_now : (keeper : K) (t : Started State) → k.left_since keeper (k.moment keeper) t → k.may_leave keeper t)
+      (old : Running K) (order : IsInOrder k old) where
+    finds : (s t : State) → old.state ≡ Some s → (x : Started State) → IsSome (k.told old.keeper) → k.may_leave old.keeper x → FindsEither s t x
+    finds s t is x told left = let up = (order.up s is).0 in inl (up.log_end, leaves old.keeper (found s up.log_end) x up.at up.running told left)
+
+    wanted_memory : (s : State) (c : Change) → old.state ≡ Some s → (how : Option Hindrance) → how ≡ Some NoMemory → Commits k s c old old how
+    wanted_memory s c is how wants = record {
+      done = λ h. absurd (cc (wants, h));
+      full = λ h. refl;
+      no_memory = λ h. (refl, same_keeps k.told k.may_leave k.moment k.left_since old.keeper);
+      fault = λ h. absurd (cc (wants, h));
+      still_up = (order.up s is).1;
+      within = λ h end at. absurd (⊎_elim (λ (n : how ≡ None). let no : ⊥ = cc (wants, n) in no) (λ (f : how ≡ Some DiskFault). let no : ⊥ = cc (wants, f) in no) h);
+      beyond = λ h. absurd (cc (wants, h));
+      any_moment = if_told (k.told old.keeper) (λ _. LeavesOnly k.moment k.left_since old.keeper old.keeper (FindsEither s (after s c))) (λ t tells.
+        started k.moment k.left_since old.keeper (FindsEither s (after s c)) (λ x left. finds s (after s c) is x (is_some_of (k.told old.keeper) t tells) (only_now old.keeper x left)));
+      left = if_told (k.told old.keeper) _ (λ t tells x left. finds s (after s c) is x (is_some_of (k.told old.keeper) t tells) left);
+      acknowledged = λ h. absurd (cc (wants, h));
+      ran = subst (λ h. Ran k old.keeper c h old.keeper) (sym wants) (inl refl);
+    }
+
+    pub unmade : (changes : State → Option Change) (s : State) → old.state ≡ Some s → (how : Option Hindrance) → (how ≡ Some NoMemory) ⊎ ((how ≡ None) × (changes s ≡ None)) → Calls k changes old old how
+    unmade changes s is how (inl wants) = record {
+      down = (λ h. absurd (cc (wants, h)), λ d. absurd (cc ((order.up s is).1, d)));
+      failed = (λ h. absurd (cc (wants, h)), λ n. absurd (cc (is, n.1)));
+      stays = λ none. refl;
+      unchanged = λ t ist none. refl;
+      commits = λ t c ist makes. wanted_memory t c ist how wants;
+    }
+    unmade changes s is how (inr (done, none)) = record {
+      down = (λ h. absurd (cc (done, h)), λ d. absurd (cc ((order.up s is).1, d)));
+      failed = (λ h. absurd (cc (done, h)), λ n. absurd (cc (is, n.1)));
+      stays = λ none. refl;
+      unchanged = λ t ist none. refl;
+      commits = λ t c ist makes. absurd (cc (none, makes, ap changes (some_same s t (sym is ∙ ist))));
+    }
+
+-- a pure call that gave nothing
+pub failed_so : {T R : Type 0} (e : Failure R) (made : Option Change) (result : Result T (CallRefusal R)) (y : CallRefusal R) → result ≡ Err y → y ≡ of_failure e → ((r : R) → e ≡ failures.Refused r → made ≡ None)
+    → (call_hindrance result ≡ Some NoMemory) ⊎ ((call_hindrance result ≡ None) × (made ≡ None))
+failed_so {T} {R} (failures.Refused r) made result y is gives none = inr (ap (call_hindrance {T = T} {R = R}) (is ∙ ap (λ e. let x : Result T (CallRefusal R) = Err e in x) gives), none r refl)
+failed_so {T} {R} failures.NoMemory made result y is gives none = inl (ap (call_hindrance {T = T} {R = R}) (is ∙ ap (λ e. let x : Result T (CallRefusal R) = Err e in x) gives))
+
+-- how a call ended that was hindered
+pub hindered_so : {T R : Type 0} (h : Hindrance) (result : Result T (CallRefusal R)) (y : CallRefusal R) → result ≡ Err y → y ≡ Hindered h → Some h ≡ call_hindrance result
+hindered_so {T} {R} h result y is gives = sym (ap (call_hindrance {T = T} {R = R}) (is ∙ ap (λ e. let x : Result T (CallRefusal R) = Err e in x) gives))
+
+-- what a client's write makes
+pub write_makes : (now : ℕ) (s : State) (w : Option ClientWrite) (c : Change) → IsSome w → IfSome w (λ w. write s w.what now ≡ Ok c) → Some c ≡ change_of_write now s w
+write_makes now s None c some makes = absurd (cc some)
+write_makes now s (Some w) c some makes = sym (ap change_in makes)
+
+-- and where it is refused it makes nothing
+pub write_refuses : (now : ℕ) (s : State) (w : Option ClientWrite) (r : WriteRefusal) (e : Failure WriteRefusal) → e ≡ failures.Refused r → IsSome w
+    → IfSome w (λ w. (refusal : WriteRefusal) → IsErrOf {T = Change} (Err e) (failures.Refused refusal) → write s w.what now ≡ Err refusal) → change_of_write now s w ≡ None
+write_refuses now s None r e is some refuses = absurd (cc some)
+write_refuses now s (Some w) r e is some refuses = ap change_in (refuses r (ap (λ e. let x : Result Change (Failure WriteRefusal) = Err e in x) is))

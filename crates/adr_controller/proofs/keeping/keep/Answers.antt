@@ -1,0 +1,34 @@
+use Rattle.std.proofs.Common.{◌≡◌, ◌∙◌, ap, sym, subst, Option, Some, IfSome, false}
+use Rattle.adr_disk.specs.Disk.{Among}
+use Rattle.adr_model.specs.Change.{after}
+use Rattle.adr_model.specs.Lengths.{log_end_after}
+use Rattle.adr_law_journal.specs.Log.{Found, found}
+use Rattle.adr_journal.specs.Ended.{found_after}
+use Rattle.adr_controller.specs.Did.{FindsEither, FindsState}
+use Rattle.adr_controller.proofs.Kept.{if_told, on_ok, at_told, is_some_of, among_states}
+use Rattle.adr_controller.proofs.keeping.keep.Goals as goal
+
+pub returns-clause-left : goal.returns-clause-left
+returns-clause-left g c =
+    let k = g.K.Keeper in
+    let s = c.args.state.now in
+    let d = c.args.change.now in
+    let end = c.requires.up.log_end in
+    let stays = c.in_ok-prepare.ensures.keeps.content_stays in
+    if_told (k.told c.args.keeper.now) _ (λ t is.
+    among_states s (after s d) end (log_end_after end d) (k.may_leave c.commit.new.self)
+    (at_told (k.told c.prepare.new.self) _ t (stays ∙ is) (c.commit.ensures.left (found s end) (c.in_ok-prepare.ensures.at (found s end) c.requires.up.at) c.requires.able.follows)))
+
+pub returns-clause-acknowledged : goal.returns-clause-acknowledged
+returns-clause-acknowledged g c =
+    let k = g.K.Keeper in
+    let law = g.met.K.Keeper in
+    let s = c.args.state.now in
+    let d = c.args.change.now in
+    let end = c.requires.up.log_end in
+    let f : Found _ = found s end in
+    let new = c.commit.new.self in
+    on_ok c.commit.result _ _ _ c.commit.ensures.ok c.commit.ensures.up (λ at up.
+    if_told (k.told c.args.keeper.now) _ (λ t is x left.
+    let told = c.commit.ensures.told.1 (is_some_of (k.told c.prepare.new.self) t (c.in_ok-prepare.ensures.keeps.content_stays ∙ is)) in
+    (log_end_after end d, law.leaves new (found_after f d) x (at f (c.in_ok-prepare.ensures.at f c.requires.up.at) c.requires.able.follows) up told left)))

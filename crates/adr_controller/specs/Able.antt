@@ -1,0 +1,62 @@
+-- Which changes a controller can commit.
+use Rattle.std.specs.Prelude.{◌≡◌, ℕ, Bool, true, false, Option, Some, None, Result, Ok, Err}
+use Rattle.std.specs.Bool.{then_some}
+use Rattle.adr_event.specs.declared.event.Event.{Event}
+use Rattle.adr_event.specs.declared.refusal.ServeRefusal.{ServeRefusal}
+use Rattle.adr_event.specs.declared.refusal.ServeRefusal.TheVariants as serves
+use Rattle.adr_event.specs.declared.refusal.TakeRefusal.{TakeRefusal}
+use Rattle.adr_event.specs.declared.refusal.TakeRefusal.TheVariants as takes
+use Rattle.adr_model.specs.Store.{State}
+use Rattle.adr_model.specs.Change.{Change, after}
+use Rattle.adr_model.specs.Serve.{Request, Reply, serve}
+use Rattle.adr_model.specs.Take.{take}
+use Rattle.adr_model.specs.Write.{write}
+use Rattle.adr_model.specs.Collect.{quarantine}
+use Rattle.adr_model.specs.Replica.{change_in}
+use Rattle.adr_model.specs.Step.{ClientWrite, write_of}
+use Rattle.adr_state.specs.Refusal.{IsOverfull}
+use Rattle.adr_journal.specs.declared.keeper.Keeper.{Ghosts}
+
+-- its keeper takes the change behind this state, and the state after it fits into memory and is as all that are kept
+pub record CanCommit {K : Type 0} (k : Ghosts K) (s : State) (c : Change) : Type 0 where
+  pub follows : k.can_follow s c
+  pub fits : ¬ IsOverfull (after s c)
+  pub formed : k.is_formed (after s c)
+
+-- each change that is made so of a state that is kept can be committed behind it
+abbrev pub AllFollow : {K : Type 0} → Ghosts K → (State → Option Change) → Type 0
+AllFollow k changes = (s : State) (c : Change) → k.is_formed s → changes s ≡ Some c → CanCommit k s c
+
+-- ---- what calls make of a state
+
+-- the change of a client's write, if there is one
+abbrev pub change_of_write : ℕ → State → Option ClientWrite → Option Change
+change_of_write now s None = None
+change_of_write now s (Some w) = change_in (write s w.what now)
+
+abbrev pub written_in : Event → ℕ → State → Option Change
+written_in event now s = change_of_write now s (write_of event)
+
+-- a refused request, and a refused reply, that shows a controller that it was put back
+abbrev pub request_shows : ServeRefusal → Bool
+request_shows (serves.RolledBack inv mine shown) = true
+request_shows _ = false
+
+abbrev pub reply_shows : TakeRefusal → Bool
+reply_shows (takes.RolledBack inv mine shown) = true
+reply_shows _ = false
+
+-- the controller is then quarantined
+abbrev pub change_of_served : State → Result Reply ServeRefusal → Option Change
+change_of_served s (Ok reply) = None
+change_of_served s (Err refusal) = then_some (request_shows refusal) (quarantine s)
+
+abbrev pub served_in : Request → State → Option Change
+served_in request s = change_of_served s (serve s request)
+
+abbrev pub change_of_taken : State → Result Change TakeRefusal → Option Change
+change_of_taken s (Ok c) = Some c
+change_of_taken s (Err refusal) = then_some (reply_shows refusal) (quarantine s)
+
+abbrev pub taken_in : Reply → State → Option Change
+taken_in reply s = change_of_taken s (take s reply)

@@ -1,0 +1,4 @@
+pub mod Running
+pub mod Able
+pub mod Ended
+pub mod Did

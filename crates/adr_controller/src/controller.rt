@@ -1,0 +1,185 @@
+//! A controller over its keeper.
+
+ghost use Rattle.std.specs.Prelude.{◌≡◌, ◌⊎◌, ◌↔◌, ◌<◌, true, false, Some, None, Ok, IfOk, IfErr, IfSome, IsErrOf, OnErr, OnOk, MatchOption};
+ghost use Rattle.std.specs.Option.{ForSome};
+ghost use Rattle.adr_disk.specs.Disk.{Among, Keeps, LeavesOnly};
+ghost use Rattle.adr_model.specs.Store.{State as Defined};
+ghost use Rattle.adr_model.specs.Lengths.{new_log_end};
+ghost use Rattle.adr_law_journal.specs.Log.{found};
+ghost use Rattle.adr_journal.specs.Ended.{ended_start, IsNewOrNone, IsDamageOf};
+ghost use Rattle.adr_controller.specs.Running.{IsInOrder, IsStarted};
+ghost use Rattle.adr_controller.specs.Able.{CanCommit};
+ghost use Rattle.adr_controller.specs.Ended.{handed_back, hindrance_of, keeper_of};
+ghost use Rattle.adr_controller.specs.Did.{Commits};
+
+use crate::keeping::keep;
+use crate::refusal::Hindrance;
+use adr_journal::{Keeper, KeeperRefusal, StartRefusal};
+use adr_state::{Change, State};
+use std::marker::Model;
+
+/// A keeper with the state that it stands for; none while the controller is stopped, or its keeper failed.
+#[derive(Drop)]
+pub struct Controller<K: Keeper> {
+    pub(crate) keeper: K,
+    pub(crate) state: Option<State>,
+    pub(crate) down: bool,
+}
+
+impl<K: Keeper> Model for Controller<K> {
+    ghost use Rattle.adr_controller.specs.Running.{Running, IsInOrder};
+
+    ghost Value = { Running K };
+
+    ghost view = { λ c. record { keeper = c.keeper; state = c.state; down = c.down } };
+
+    ghost invariant = { λ c. IsInOrder K.Keeper (record { keeper = c.keeper; state = c.state; down = c.down }) };
+}
+
+impl<K: Keeper> Controller<K> {
+    /// Formats a keeper with a state, which a controller then has. A keeper that couldn't be formatted comes back.
+    pub fn format(mut keeper: K, state: State) -> Result<Controller<K>, (KeeperRefusal, K)>
+        requires empty { K.is_empty keeper }
+        requires begins { K.can_begin state }
+        requires formed { K.is_formed state }
+        ensures ok { IfOk result (λ c. (c.state ≡ Some state) × (c.down ≡ false)
+            × K.is_at c.keeper (found state (new_log_end state))) }
+        ensures refused { IfErr result (λ e. (e.0 ≡ KeeperRefusal.DiskFault) ⊎ (e.0 ≡ KeeperRefusal.NoMemory)) }
+        ensures fault { IfErr result (λ e. e.0 ≡ KeeperRefusal.DiskFault
+            → (K.faults keeper < K.faults e.1) × (K.is_failed e.1 ≡ true)) }
+        ensures no_memory { IfErr result (λ e. e.0 ≡ KeeperRefusal.NoMemory
+            → Keeps K.told K.may_leave K.moment K.left_since keeper e.1) }
+
+        // Whatever it answers, what a start finds after a crash at any moment of the call, and after one from then on.
+        ensures any_moment { IfSome (K.told keeper) (λ _.
+            LeavesOnly K.moment K.left_since keeper (keeper_of result) (IsNewOrNone state)) }
+        ensures left { IfSome (K.told keeper) (λ _. Among (IsNewOrNone state) (K.may_leave (keeper_of result))) }
+        ensures formats { K.formats keeper (handed_back result) (keeper_of result) }
+    {
+        match keeper.format(&state) {
+            Ok(()) => Ok(Controller {
+                keeper,
+                state: Some(state),
+                down: false,
+            }),
+            Err(refusal) => Err((refusal, keeper)),
+        }
+    }
+
+    /// Starts a keeper, whose state a controller then has. A keeper that couldn't be started comes back.
+    pub fn resume(mut keeper: K) -> Result<Controller<K>, (StartRefusal, K)>
+        ensures ok { IfOk result (λ c. IsStarted K.Keeper keeper c) }
+        ensures damaged { IfErr result (λ e. IsDamageOf e.0 (K.told keeper)) }
+        ensures fault { IfErr result (λ e. e.0 ≡ StartRefusal.DiskFault → K.faults keeper < K.faults e.1) }
+
+        // After a crash at any moment of the call, a start finds what one might have found before it.
+        ensures any_moment { LeavesOnly K.moment K.left_since keeper (keeper_of result) (K.may_leave keeper) }
+        ensures left { Among (K.may_leave keeper) (K.may_leave (keeper_of result)) }
+        ensures starts { K.starts keeper (handed_back result) (keeper_of result) }
+    {
+        match keeper.start() {
+            Ok(state) => Ok(Controller {
+                keeper,
+                state: Some(state),
+                down: false,
+            }),
+            Err(refusal) => Err((refusal, keeper)),
+        }
+    }
+
+    /// Starts the controller again. Where that fails, it is as down or failed as before.
+    pub fn start(&mut self) -> Result<(), StartRefusal>
+        requires { (self.old.down ≡ true) ⊎ (self.old.state ≡ None) }
+        ensures ok { OnOk result (IsStarted K.Keeper self.old.keeper self.new) }
+        ensures err { OnErr result ((self.new.state ≡ None) × (self.new.down ≡ self.old.down)) }
+        ensures damaged { IfErr result (λ e. IsDamageOf e (K.told self.old.keeper)) }
+        ensures fault { IsErrOf result StartRefusal.DiskFault → K.faults self.old.keeper < K.faults self.new.keeper }
+
+        // After a crash at any moment of the call, a start finds what one might have found before it.
+        ensures any_moment { LeavesOnly K.moment K.left_since self.old.keeper self.new.keeper (K.may_leave self.old.keeper) }
+        ensures left { Among (K.may_leave self.old.keeper) (K.may_leave self.new.keeper) }
+        ensures starts { K.starts self.old.keeper (ended_start result) self.new.keeper }
+    {
+        match self.keeper.start() {
+            Ok(state) => {
+                self.state = Some(state);
+                self.down = false;
+                Ok(())
+            }
+            Err(refusal) => Err(refusal),
+        }
+    }
+
+    /// Stops the controller, which lets go of the state in memory.
+    pub fn stop(&mut self)
+        ensures { self.new ≡ record { keeper = self.old.keeper; state = None; down = true } }
+    {
+        self.state = None;
+        self.down = true;
+    }
+
+    /// The state; none while the controller is down or failed.
+    pub fn state(&self) -> Option<&State>
+        ensures state { MatchOption result (self.now.state ≡ None) (λ s. self.now.state ≡ Some s.now) }
+        ensures in_order { IsInOrder K.Keeper self.now }
+    {
+        self.state.as_ref()
+    }
+
+    /// Whether it was stopped, and not started since.
+    pub fn is_down(&self) -> bool
+        ensures { result ≡ self.now.down }
+    {
+        self.down
+    }
+
+    /// Its keeper.
+    pub fn into_keeper(self) -> K
+        ensures { result ≡ self.keeper }
+    {
+        self.keeper
+    }
+
+    /// The state, or what keeps the controller from answering.
+    pub(crate) fn running(&self) -> Result<&State, Hindrance>
+        ensures ok { IfOk result (λ s. (self.now.state ≡ Some s.now) × (self.now.down ≡ false) × K.is_formed s.now) }
+        ensures err { IfErr result (λ h. ((h ≡ Hindrance.Down) × (self.now.down ≡ true) × (self.now.state ≡ None))
+            ⊎ ((h ≡ Hindrance.Failed) × (self.now.down ≡ false) × (self.now.state ≡ None))) }
+        ensures in_order { IsInOrder K.Keeper self.now }
+    {
+        if self.down {
+            return Err(Hindrance::Down);
+        }
+        match &self.state {
+            Some(state) => Ok(state),
+            None => Err(Hindrance::Failed),
+        }
+    }
+
+    /// Commits a change of the state, to the keeper and in memory.
+    pub fn commit(&mut self, change: &Change) -> Result<(), Hindrance>
+        requires { ForSome self.old.state (λ s. CanCommit K.Keeper s change.now) }
+        ensures down { (hindrance_of result ≡ Some Hindrance.Down) ↔ (self.old.down ≡ true) }
+        ensures failed { (hindrance_of result ≡ Some Hindrance.Failed) ↔ ((self.old.down ≡ false) × (self.old.state ≡ None)) }
+        ensures stays { self.old.state ≡ None → self.new ≡ self.old }
+        ensures commits { (s : Defined) → self.old.state ≡ Some s
+            → Commits K.Keeper s change.now self.old self.new (hindrance_of result) }
+    {
+        if self.down {
+            return Err(Hindrance::Down);
+        }
+        let Some(state) = &mut self.state else {
+            return Err(Hindrance::Failed);
+        };
+        match keep(&mut self.keeper, state, change) {
+            Ok(()) => Ok(()),
+            Err(KeeperRefusal::DiskFault) => {
+                self.state = None;
+                Err(Hindrance::DiskFault)
+            }
+            Err(KeeperRefusal::Full) => Err(Hindrance::Full),
+            Err(KeeperRefusal::NoMemory) => Err(Hindrance::NoMemory),
+            Err(KeeperRefusal::Failed) => unreachable!(),
+        }
+    }
+}

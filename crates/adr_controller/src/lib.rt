@@ -1,0 +1,22 @@
+//! A controller: a keeper, the state that it stands for in memory, and whether the controller was stopped. Each call
+//! that changes it is a pure call, whose change the keeper commits.
+//!
+//! It stands on the keepers of `adr_journal`, on the state of `adr_state`, and on the pure calls that make a change of a
+//! state. It knows nothing of the other controllers of a world, of names, or of the bytes of messages.
+#![tactic(auto)]
+
+mod controller;
+mod keeping;
+mod messages;
+mod planned;
+mod refusal;
+mod writing;
+
+pub use adr_event::{Event, ServeRefusal, TakeRefusal, WriteRefusal};
+pub use adr_journal::{Keeper, KeeperRefusal, PlannedKeeper, StartRefusal};
+pub use adr_packet::{Reply, Request};
+pub use adr_state::{Change, State};
+pub use controller::Controller;
+pub use messages::Taken;
+pub use planned::commits_go_as_planned;
+pub use refusal::{CallRefusal, Hindrance};

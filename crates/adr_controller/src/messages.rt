@@ -1,0 +1,167 @@
+//! Messages between controllers.
+
+ghost use Rattle.std.specs.Prelude.{◌≡◌, ◌⊎◌, ◌≤◌, true, false, None, Some, Ok, Err, IfOk, IfErr, IsErrOf, IsSome, length};
+ghost use Rattle.std.specs.Option.{ForSome};
+ghost use Rattle.adr_event.specs.declared.refusal.ServeRefusal.{ServeRefusal};
+ghost use Rattle.adr_event.specs.declared.refusal.TakeRefusal.{TakeRefusal};
+ghost use Rattle.adr_model.specs.Store.{State as Defined};
+ghost use Rattle.adr_model.specs.Change.{Change as Changes};
+ghost use Rattle.adr_model.specs.Collect.{quarantine};
+ghost use Rattle.adr_model.specs.Serve.{ask, serve};
+ghost use Rattle.adr_model.specs.Take.{take};
+ghost use Rattle.adr_model.specs.Write.{usn_limit};
+ghost use Rattle.std.specs.Bool.{then_some};
+ghost use Rattle.adr_controller.specs.Able.{AllFollow, CanCommit, reply_shows, request_shows, served_in, taken_in};
+ghost use Rattle.adr_controller.specs.Ended.{call_hindrance, hindrance_of};
+ghost use Rattle.adr_controller.specs.Did.{Calls};
+
+use crate::controller::Controller;
+use crate::refusal::{CallRefusal, Hindrance};
+use adr_cycle::{ask, serve};
+use adr_event::{Failure, ServeRefusal, TakeRefusal};
+use adr_failure::NoMemory;
+use adr_journal::Keeper;
+use adr_packet::{Reply, Request};
+use adr_state::{Change, Mode, State, Vector};
+use adr_take::take;
+use std::alloc::{AllocError, Global};
+use uuid::Uuid;
+
+/// What comes of a reply that was taken: how many items it had, how many of them were written, and the USN then.
+#[derive(Clone, Copy, Debug, PartialEq, Eq)]
+pub struct Taken {
+    pub items: u32,
+    pub wrote: u32,
+    pub usn: u64,
+}
+
+/// A count that needs more than 32 bits counts as want of memory.
+fn count(number: usize) -> Result<u32, NoMemory>
+    ensures { IfOk result (λ count. count ≡ number) }
+{
+    match u32::try_from(number) {
+        Ok(count) => Ok(count),
+        Err(_) => Err(AllocError),
+    }
+}
+
+/// What is told of a reply whose change is this.
+fn told_of(reply: &Reply, change: &Change) -> Result<Taken, NoMemory>
+    ensures { IfOk result (λ taken.
+        taken ≡ record { items = length reply.now.items; wrote = length change.now.writes; usn = change.now.usn }) }
+{
+    Ok(Taken {
+        items: count(reply.items().len())?,
+        wrote: count(change.writes().len())?,
+        usn: change.usn(),
+    })
+}
+
+/// Whether a refused request shows that the controller was put back.
+fn request_shows(refusal: ServeRefusal) -> bool
+    ensures { result ≡ request_shows refusal }
+{
+    matches!(refusal, ServeRefusal::RolledBack { .. })
+}
+
+/// Whether a refused reply shows that the controller was put back.
+fn reply_shows(refusal: TakeRefusal) -> bool
+    ensures { result ≡ reply_shows refusal }
+{
+    matches!(refusal, TakeRefusal::RolledBack { .. })
+}
+
+/// The change of a controller that is quarantined.
+fn quarantine(alloc: Global, state: &State) -> Change
+    ensures { result ≡ quarantine state.now }
+{
+    Change::new(
+        state.usn(),
+        Mode::Quarantined,
+        None,
+        Vector::new(alloc),
+        Vector::new(alloc),
+        Vec::new(alloc),
+        Vec::new(alloc),
+    )
+}
+
+impl<K: Keeper> Controller<K> {
+    /// Quarantines the controller, which is up, if it was shown that it was put back.
+    fn quarantine_if(&mut self, alloc: Global, put_back: bool) -> Result<(), Hindrance>
+        requires up { IsSome self.old.state }
+        requires follows { ForSome self.old.state (λ s. put_back ≡ true → CanCommit K.Keeper s (quarantine s)) }
+        ensures { Calls K.Keeper (λ s. then_some put_back (quarantine s)) self.old self.new (hindrance_of result) }
+    {
+        let state = self.running()?;
+        if !put_back {
+            return Ok(());
+        }
+        let change = quarantine(alloc, state);
+        self.commit(&change)
+    }
+
+    /// What it asks a partner: the changes behind the mark that it has of the partner, at most `max` items in one reply.
+    pub fn ask(&self, alloc: Global, partner: Uuid, max: u32) -> Result<Request, Hindrance>
+        ensures ok { IfOk result (λ request. (s : Defined) × (self.now.state ≡ Some s) × (request ≡ ask s partner max)) }
+        ensures err { IfErr result (λ h. ((h ≡ Hindrance.Down) × (self.now.down ≡ true))
+            ⊎ (((h ≡ Hindrance.Failed) × (self.now.down ≡ false) × (self.now.state ≡ None)) ⊎ (h ≡ Hindrance.NoMemory))) }
+        ensures up { (s : Defined) → self.now.state ≡ Some s → IfErr result (λ h. h ≡ Hindrance.NoMemory) }
+    {
+        let state = self.running()?;
+        Ok(ask(alloc, state, partner, max)?)
+    }
+
+    /// What a request is answered. A controller that shows that it was put back is quarantined before it refuses.
+    pub fn serve(
+        &mut self,
+        alloc: Global,
+        request: &Request,
+    ) -> Result<Reply, CallRefusal<ServeRefusal>>
+        requires follows { AllFollow K.Keeper (served_in request.now) }
+        ensures served { IfOk result (λ reply. (s : Defined) → self.old.state ≡ Some s → serve s request.now ≡ Ok reply) }
+        ensures refused { (s : Defined) (refusal : ServeRefusal) → self.old.state ≡ Some s
+            → IsErrOf result (CallRefusal.Refused refusal) → serve s request.now ≡ Err refusal }
+        ensures calls { Calls K.Keeper (served_in request.now) self.old self.new (call_hindrance result) }
+    {
+        let state = self.running()?;
+        match serve(alloc, state, request) {
+            Ok(reply) => Ok(reply),
+            Err(Failure::NoMemory) => Err(CallRefusal::Hindered(Hindrance::NoMemory)),
+            Err(Failure::Refused(refusal)) => {
+                self.quarantine_if(alloc, request_shows(refusal))?;
+                Err(CallRefusal::Refused(refusal))
+            }
+        }
+    }
+
+    /// Takes a reply. A controller that finds that it was put back is quarantined before it refuses.
+    pub fn take(
+        &mut self,
+        alloc: Global,
+        reply: &Reply,
+    ) -> Result<Taken, CallRefusal<TakeRefusal>>
+        requires usn { ForSome self.old.state (λ s. s.store.usn ≤ usn_limit) }
+        requires follows { AllFollow K.Keeper (taken_in reply.now) }
+        ensures taken { IfOk result (λ taken. (s : Defined) → self.old.state ≡ Some s
+            → (c : Changes) × (take s reply.now ≡ Ok c)
+            × (taken ≡ record { items = length reply.now.items; wrote = length c.writes; usn = c.usn })) }
+        ensures refused { (s : Defined) (refusal : TakeRefusal) → self.old.state ≡ Some s
+            → IsErrOf result (CallRefusal.Refused refusal) → take s reply.now ≡ Err refusal }
+        ensures calls { Calls K.Keeper (taken_in reply.now) self.old self.new (call_hindrance result) }
+    {
+        let state = self.running()?;
+        match take(alloc, state, reply) {
+            Ok(change) => {
+                let taken = told_of(reply, &change)?;
+                self.commit(&change)?;
+                Ok(taken)
+            }
+            Err(Failure::NoMemory) => Err(CallRefusal::Hindered(Hindrance::NoMemory)),
+            Err(Failure::Refused(refusal)) => {
+                self.quarantine_if(alloc, reply_shows(refusal))?;
+                Err(CallRefusal::Refused(refusal))
+            }
+        }
+    }
+}

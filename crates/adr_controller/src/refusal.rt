@@ -1,0 +1,65 @@
+//! Why a call of a controller didn't answer.
+
+ghost use Rattle.std.specs.Prelude.{◌≡◌};
+ghost use Rattle.adr_controller.specs.declared.refusal.CallRefusal.TheVariants.{Hindered as hindered};
+ghost use Rattle.adr_controller.specs.declared.refusal.Hindrance.TheVariants.{NoMemory as no_memory};
+ghost use Rattle.adr_controller.specs.Ended.{of_failure};
+
+use adr_failure::Failure;
+use std::alloc::AllocError;
+
+/// What keeps a controller from making a call, whatever the call.
+#[derive(Clone, Copy, Debug, PartialEq, Eq)]
+pub enum Hindrance {
+    /// It was stopped, and not started since.
+    Down,
+    /// A call of its disk failed, and no start has succeeded since.
+    Failed,
+    /// Its log would end beyond its limit.
+    Full,
+    /// A call of its disk failed within this call.
+    DiskFault,
+    NoMemory,
+}
+
+/// Why a call of a controller didn't answer: its state refused the call, or the controller couldn't make it.
+#[derive(Clone, Copy, Debug, Drop, PartialEq, Eq)]
+pub enum CallRefusal<R> {
+    Refused(R),
+    Hindered(Hindrance),
+}
+
+impl From<AllocError> for Hindrance {
+    ghost from_gives = { λ _ e. e ≡ no_memory };
+
+    fn from(_e: AllocError) -> Hindrance {
+        Hindrance::NoMemory
+    }
+}
+
+impl<R> From<Hindrance> for CallRefusal<R> {
+    ghost from_gives = { λ hindrance e. e ≡ hindered hindrance };
+
+    fn from(hindrance: Hindrance) -> CallRefusal<R> {
+        CallRefusal::Hindered(hindrance)
+    }
+}
+
+impl<R> From<AllocError> for CallRefusal<R> {
+    ghost from_gives = { λ _ e. e ≡ hindered no_memory };
+
+    fn from(_e: AllocError) -> CallRefusal<R> {
+        CallRefusal::Hindered(Hindrance::NoMemory)
+    }
+}
+
+impl<R> From<Failure<R>> for CallRefusal<R> {
+    ghost from_gives = { λ failure e. e ≡ of_failure failure };
+
+    fn from(failure: Failure<R>) -> CallRefusal<R> {
+        match failure {
+            Failure::Refused(refusal) => CallRefusal::Refused(refusal),
+            Failure::NoMemory => CallRefusal::Hindered(Hindrance::NoMemory),
+        }
+    }
+}
