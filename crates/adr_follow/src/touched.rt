@@ -25,15 +25,15 @@ use adr_told::{Told, class_said, is_birth};
 use std::alloc::Global;
 use std::collections::BTreeSet;
 
-/// Whether the objects and links that a change writes to are formed once its other objects are removed.
+/// Whether the objects and links that a change writes to are formed, or aren't held, once it has removed objects.
 pub fn are_touched_formed(
     alloc: Global,
     schema: Schema,
     told: &Told,
     change: &Change,
 ) -> Result<bool, NoMemory>
-    ensures { IfOk result (λ are. are
-        ≡ list_all (λ (w : Wrote). is_touched_formed schema (fold without_object told.now change.now.removed) w.item.unit) change.now.writes) }
+    ensures { let rows = fold without_object told.now change.now.removed in IfOk result (λ are. are
+        ≡ list_all (λ (w : Wrote). is_touched_formed schema rows w.item.unit) change.now.writes) }
 {
     let removed = set_of(alloc, change.removed())?;
     for written in change.writes() {
@@ -44,7 +44,7 @@ pub fn are_touched_formed(
     Ok(true)
 }
 
-/// Whether an object isn't held once others are removed, or is formed, or a link doesn't stand, or is a forward one.
+/// Whether an object is formed, or isn't held once objects are removed; whether a link is a forward one, or doesn't stand.
 fn is_touched_formed(
     alloc: Global,
     schema: Schema,

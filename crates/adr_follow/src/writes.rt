@@ -30,7 +30,8 @@ pub fn may_follow_in_turn(
     writes: &[Written],
 ) -> Result<bool, NoMemory>
     ensures may { IfOk result (λ may. may ≡ may_follow_in_turn schema vector.now told.old writes.now) }
-    ensures put { IfOk result (λ may. IsTrue may → told.new ≡ rows_after [] (held_of writes.now) told.old) }
+    ensures put { IfOk result (λ may. IsTrue may
+        → told.new ≡ rows_after [] (held_of writes.now) told.old) }
 {
     for written in writes {
         if !follows(alloc, schema, vector, told, written)? {

@@ -16,6 +16,6 @@ pub use adr_state::NoMemory;
 pub use cursors::len_after;
 pub use faults::{first_fault, is_birth, lacks};
 pub use keys::{class_among, class_said, has_row, is_of_attr, is_reserved};
-pub use presence::{Presence, has_lost_end, is_above};
+pub use presence::{Presence, is_above};
 pub use standing::{Standing, new_object, standing_of};
 pub use told::Told;
