@@ -16,8 +16,8 @@ use adr_state::{Change, State};
 use adr_told::Told;
 use std::alloc::Global;
 
-/// Whether a change that was read can follow a state. Of the state it looks at what the change touches alone, and at the
-/// links of the objects that it kills.
+/// Whether a change that was read can follow a state. The time that it takes goes by what the change writes, not by what
+/// the state holds.
 pub fn can_follow(alloc: Global, state: &State, change: &Change) -> Result<bool, NoMemory>
     ensures told { IfOk result (λ can. can ≡ can_follow state.now change.now) }
 

@@ -1,4 +1,4 @@
-use Rattle.std.proofs.Common.{◌≡◌, List, [], true, sym, ap, ap₂, ◌∙◌, fold}
+use Rattle.std.proofs.Common.{◌≡◌, List, [], Bool, true, sym, ap, ap₂, ◌∙◌, fold}
 use Rattle.std.specs.List.{list_all}
 use Rattle.std.proofs.lemmas.Result.{IfOk-weaker}
 use Rattle.adr_schema.specs.Numbered.{numbered}
@@ -7,7 +7,7 @@ use Rattle.adr_vector.specs.Vector.{Cursors, joined}
 use Rattle.adr_model.specs.Store.{Held}
 use Rattle.adr_model.specs.Change.{Written, held_of, rows_after, without_object}
 use Rattle.adr_law_formed.specs.Tested.{is_removable, is_touched_formed, may_follow_in_turn}
-use Rattle.adr_follow.proofs.Parts.{are_removable, last_decides, writes_follow}
+use Rattle.adr_follow.proofs.Parts.{are_removable, are_touched_formed, last_decides, writes_follow}
 use Rattle.adr_follow.proofs.follow.passes.Goals as goal
 
 pub returns : goal.returns
