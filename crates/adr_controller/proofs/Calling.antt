@@ -1,6 +1,7 @@
 -- A call of a controller, by what it committed.
 use Rattle.std.proofs.Common.{◌≡◌, ◌⊎◌, inl, inr, ⊎_elim, ◌∙◌, sym, ap, subst, refl, ℕ, Bool, true, false, Option, Some, None, IfSome, IsSome, Result, Ok, Err}
 use Rattle.std.specs.Prelude.{◌↔◌, IsErrOf}
+use Rattle.std.specs.Bool.{then_some}
 use Rattle.adr_failure.specs.declared.Failure.{Failure}
 use Rattle.adr_failure.specs.declared.Failure.TheVariants as failures
 use Rattle.adr_event.specs.declared.refusal.WriteRefusal.{WriteRefusal}
@@ -8,6 +9,7 @@ use Rattle.adr_disk.specs.Disk.{Keeps, LeavesOnly}
 use Rattle.adr_disk.proofs.Moments.{started}
 use Rattle.adr_model.specs.Store.{State}
 use Rattle.adr_model.specs.Change.{Change, after}
+use Rattle.adr_model.specs.Collect.{quarantine}
 use Rattle.adr_model.specs.Replica.{change_in}
 use Rattle.adr_model.specs.Step.{ClientWrite}
 use Rattle.adr_model.specs.Write.{write}
@@ -113,3 +115,8 @@ pub write_refuses : (now : ℕ) (s : State) (w : Option ClientWrite) (r : WriteR
     → IfSome w (λ w. (refusal : WriteRefusal) → IsErrOf {T = Change} (Err e) (failures.Refused refusal) → write s w.what now ≡ Err refusal) → change_of_write now s w ≡ None
 write_refuses now s None r e is some refuses = absurd (cc some)
 write_refuses now s (Some w) r e is some refuses = ap change_in (refuses r (ap (λ e. let x : Result Change (Failure WriteRefusal) = Err e in x) is))
+
+-- the change of a quarantine, where it is asked for
+pub quarantines : (c : Change) (s x : State) (asked : Bool) → c ≡ quarantine s → s ≡ x → asked ≡ true → Some c ≡ then_some asked (quarantine x)
+quarantines c s x true is same asked = ap Some (is ∙ ap quarantine same)
+quarantines c s x false is same asked = absurd (cc asked)

@@ -17,10 +17,13 @@ hindrance_of (Ok _) = None
 hindrance_of (Err hindrance) = Some hindrance
 
 -- a call that may also be refused
+abbrev pub hindrance_in : {R : Type 0} → CallRefusal R → Option Hindrance
+hindrance_in (Refused refusal) = None
+hindrance_in (Hindered hindrance) = Some hindrance
+
 abbrev pub call_hindrance : {T R : Type 0} → Result T (CallRefusal R) → Option Hindrance
 call_hindrance (Ok _) = None
-call_hindrance (Err (Refused refusal)) = None
-call_hindrance (Err (Hindered hindrance)) = Some hindrance
+call_hindrance (Err refusal) = hindrance_in refusal
 
 -- what a refusal of a keeper is to its controller
 abbrev pub kept_as : KeeperRefusal → Hindrance

@@ -12,7 +12,7 @@ ghost use Rattle.adr_model.specs.Take.{take};
 ghost use Rattle.adr_model.specs.Write.{usn_limit};
 ghost use Rattle.std.specs.Bool.{then_some};
 ghost use Rattle.adr_controller.specs.Able.{AllFollow, CanCommit, reply_shows, request_shows, served_in, taken_in};
-ghost use Rattle.adr_controller.specs.Ended.{call_hindrance, hindrance_of};
+ghost use Rattle.adr_controller.specs.Ended.{call_hindrance, hindrance_in, hindrance_of};
 ghost use Rattle.adr_controller.specs.Did.{Calls};
 
 use crate::controller::Controller;
@@ -58,15 +58,15 @@ fn told_of(reply: &Reply, change: &Change) -> Result<Taken, NoMemory>
 }
 
 /// Whether a refused request shows that the controller was put back.
-fn request_shows(refusal: ServeRefusal) -> bool
-    ensures { result ≡ request_shows refusal }
+fn request_shows(refusal: &ServeRefusal) -> bool
+    ensures { result ≡ request_shows refusal.now }
 {
     matches!(refusal, ServeRefusal::RolledBack { .. })
 }
 
 /// Whether a refused reply shows that the controller was put back.
-fn reply_shows(refusal: TakeRefusal) -> bool
-    ensures { result ≡ reply_shows refusal }
+fn reply_shows(refusal: &TakeRefusal) -> bool
+    ensures { result ≡ reply_shows refusal.now }
 {
     matches!(refusal, TakeRefusal::RolledBack { .. })
 }
@@ -101,6 +101,32 @@ impl<K: Keeper> Controller<K> {
         self.commit(&change)
     }
 
+    /// Refuses a request. A controller that it shows to be put back is quarantined before.
+    fn refuse_request(&mut self, alloc: Global, refusal: ServeRefusal) -> CallRefusal<ServeRefusal>
+        requires up { IsSome self.old.state }
+        requires follows { ForSome self.old.state (λ s. request_shows refusal ≡ true → CanCommit K.Keeper s (quarantine s)) }
+        ensures refused { (r : ServeRefusal) → result ≡ CallRefusal.Refused r → r ≡ refusal }
+        ensures calls { Calls K.Keeper (λ s. then_some (request_shows refusal) (quarantine s)) self.old self.new (hindrance_in result) }
+    {
+        match self.quarantine_if(alloc, request_shows(&refusal)) {
+            Ok(()) => CallRefusal::Refused(refusal),
+            Err(hindrance) => CallRefusal::Hindered(hindrance),
+        }
+    }
+
+    /// Refuses a reply. A controller that it shows to be put back is quarantined before.
+    fn refuse_reply(&mut self, alloc: Global, refusal: TakeRefusal) -> CallRefusal<TakeRefusal>
+        requires up { IsSome self.old.state }
+        requires follows { ForSome self.old.state (λ s. reply_shows refusal ≡ true → CanCommit K.Keeper s (quarantine s)) }
+        ensures refused { (r : TakeRefusal) → result ≡ CallRefusal.Refused r → r ≡ refusal }
+        ensures calls { Calls K.Keeper (λ s. then_some (reply_shows refusal) (quarantine s)) self.old self.new (hindrance_in result) }
+    {
+        match self.quarantine_if(alloc, reply_shows(&refusal)) {
+            Ok(()) => CallRefusal::Refused(refusal),
+            Err(hindrance) => CallRefusal::Hindered(hindrance),
+        }
+    }
+
     /// What it asks a partner: the changes behind the mark that it has of the partner, at most `max` items in one reply.
     pub fn ask(&self, alloc: Global, partner: Uuid, max: u32) -> Result<Request, Hindrance>
         ensures ok { IfOk result (λ request. (s : Defined) × (self.now.state ≡ Some s) × (request ≡ ask s partner max)) }
@@ -128,10 +154,7 @@ impl<K: Keeper> Controller<K> {
         match serve(alloc, state, request) {
             Ok(reply) => Ok(reply),
             Err(Failure::NoMemory) => Err(CallRefusal::Hindered(Hindrance::NoMemory)),
-            Err(Failure::Refused(refusal)) => {
-                self.quarantine_if(alloc, request_shows(refusal))?;
-                Err(CallRefusal::Refused(refusal))
-            }
+            Err(Failure::Refused(refusal)) => Err(self.refuse_request(alloc, refusal)),
         }
     }
 
@@ -158,10 +181,7 @@ impl<K: Keeper> Controller<K> {
                 Ok(taken)
             }
             Err(Failure::NoMemory) => Err(CallRefusal::Hindered(Hindrance::NoMemory)),
-            Err(Failure::Refused(refusal)) => {
-                self.quarantine_if(alloc, reply_shows(refusal))?;
-                Err(CallRefusal::Refused(refusal))
-            }
+            Err(Failure::Refused(refusal)) => Err(self.refuse_reply(alloc, refusal)),
         }
     }
 }
