@@ -66,6 +66,7 @@ module _ {K : Type 0} (k : Ghosts K) where
     wanted_memory : (s : State) (c : Change) → old.state ≡ Some s → (how : Option Hindrance) → how ≡ Some NoMemory → Commits k s c old old how
     wanted_memory s c is how wants = record {
       done = λ h. absurd (cc (wants, h));
+      stands = λ h end at. absurd (cc (wants, h));
       full = λ h. refl;
       no_memory = λ h. (refl, same_keeps k.told k.may_leave k.moment k.left_since old.keeper);
       fault = λ h. absurd (cc (wants, h));
@@ -73,7 +74,7 @@ module _ {K : Type 0} (k : Ghosts K) where
       within = λ h end at. absurd (⊎_elim (λ (n : how ≡ None). let no : ⊥ = cc (wants, n) in no) (λ (f : how ≡ Some DiskFault). let no : ⊥ = cc (wants, f) in no) h);
       beyond = λ h. absurd (cc (wants, h));
       any_moment = if_told (k.told old.keeper) (λ _. LeavesOnly k.moment k.left_since old.keeper old.keeper (FindsEither s (after s c))) (λ t tells.
-        started k.moment k.left_since old.keeper (FindsEither s (after s c)) (λ x left. finds s (after s c) is x (is_some_of (k.told old.keeper) t tells) (only_now old.keeper x left)));
+          started k.moment k.left_since old.keeper (FindsEither s (after s c)) (λ x left. finds s (after s c) is x (is_some_of (k.told old.keeper) t tells) (only_now old.keeper x left)));
       left = if_told (k.told old.keeper) _ (λ t tells x left. finds s (after s c) is x (is_some_of (k.told old.keeper) t tells) left);
       acknowledged = λ h. absurd (cc (wants, h));
       ran = subst (λ h. Ran k old.keeper c h old.keeper) (sym wants) (inl refl);
