@@ -16,13 +16,13 @@ use Rattle.adr_model.specs.Write.{write}
 use Rattle.adr_law_journal.specs.Log.{Found, found, Started}
 use Rattle.adr_journal.specs.declared.keeper.Keeper.{Ghosts}
 use Rattle.adr_controller.specs.declared.refusal.Hindrance.{Hindrance}
-use Rattle.adr_controller.specs.declared.refusal.Hindrance.TheVariants.{Down, Failed, Full, DiskFault, NoMemory}
+use Rattle.adr_controller.specs.declared.refusal.Hindrance.TheVariants.{Down, Failed, DiskFault, NoMemory}
 use Rattle.adr_controller.specs.declared.refusal.CallRefusal.{CallRefusal}
-use Rattle.adr_controller.specs.declared.refusal.CallRefusal.TheVariants.{Refused, Hindered}
-use Rattle.adr_controller.specs.Running.{Running, IsUp, IsInOrder}
+use Rattle.adr_controller.specs.declared.refusal.CallRefusal.TheVariants.{Hindered}
+use Rattle.adr_controller.specs.Running.{Running, IsInOrder}
 use Rattle.adr_controller.specs.Able.{change_of_write}
-use Rattle.adr_controller.specs.Ended.{hindrance_of, call_hindrance, of_failure}
-use Rattle.adr_controller.specs.Did.{FindsState, FindsEither, Ran, Commits, Calls}
+use Rattle.adr_controller.specs.Ended.{call_hindrance, of_failure}
+use Rattle.adr_controller.specs.Did.{FindsEither, Ran, Commits, Calls}
 use Rattle.adr_controller.proofs.Kept.{if_told, is_some_of, some_same}
 
 same_keeps : {D C O : Type 0} (content : D → Option C) (may_leave : D → O → Type 0) (moment : D → ℕ) (left_since : D → ℕ → O → Type 0) (d : D) → Keeps content may_leave moment left_since d d

@@ -1,11 +1,11 @@
 -- What a start finds after a commit, told by states.
 use Rattle.std.proofs.Common.{◌≡◌, inl, inr, ℕ, Option, Some, None, IfSome, Result, Ok, Err, refl, sym, ◌∙◌, ap}
-use Rattle.std.specs.Prelude.{OnOk, OnErr, IsErrOf, IsSome, false}
+use Rattle.std.specs.Prelude.{OnOk, IsSome}
 use Rattle.adr_disk.specs.Disk.{Among}
 use Rattle.adr_model.specs.Store.{State}
-use Rattle.adr_law_journal.specs.Log.{Found, found, Started}
+use Rattle.adr_law_journal.specs.Log.{found, Started}
 use Rattle.adr_law_journal.specs.Kept.{IsEither}
-use Rattle.adr_controller.specs.Did.{FindsState, FindsEither}
+use Rattle.adr_controller.specs.Did.{FindsEither}
 
 pub if_told : {A : Type 0} (o : Option A) (P : A → Type 0) → ((x : A) → o ≡ Some x → P x) → IfSome o P
 if_told None P h = tt

@@ -4,7 +4,6 @@ use Rattle.adr_failure.specs.declared.Failure.{Failure}
 use Rattle.adr_failure.specs.declared.Failure.TheVariants as failures
 use Rattle.adr_journal.specs.declared.keeper.KeeperRefusal.{KeeperRefusal}
 use Rattle.adr_journal.specs.declared.keeper.KeeperRefusal.TheVariants as keeps
-use Rattle.adr_journal.specs.declared.keeper.StartRefusal.{StartRefusal}
 use Rattle.adr_controller.specs.Running.{Running}
 use Rattle.adr_controller.specs.declared.refusal.Hindrance.{Hindrance}
 use Rattle.adr_controller.specs.declared.refusal.Hindrance.TheVariants.{Failed, Full, DiskFault, NoMemory}

@@ -1,4 +1,4 @@
-use Rattle.std.proofs.Common.{◌≡◌, inl, refl, sym, ◌∙◌, ap, subst, Some, None, Ok, Err}
+use Rattle.std.proofs.Common.{◌≡◌, inl, refl, sym, ◌∙◌, ap, subst, Some, Err}
 use Rattle.std.specs.Bool.{then_some}
 use Rattle.adr_model.specs.Collect.{quarantine}
 use Rattle.adr_model.specs.Serve.{serve}

@@ -1,10 +1,7 @@
-use Rattle.std.proofs.Common.{◌≡◌, ◌⊎◌, inl, inr, refl, sym, ◌∙◌, ap, subst, Option, Some, None, IfSome, IsSome, Result, Ok, Err}
+use Rattle.std.proofs.Common.{◌≡◌, sym, ◌∙◌, subst, Some, None}
 use Rattle.std.proofs.lemmas.Result.{err_from_is_err_and}
-use Rattle.adr_model.specs.Change.{Change}
-use Rattle.adr_model.specs.Step.{write_of, ClientWrite}
-use Rattle.adr_model.specs.Store.{State}
+use Rattle.adr_model.specs.Step.{write_of}
 use Rattle.adr_controller.specs.Able.{CanCommit, written_in}
-use Rattle.adr_controller.specs.Ended.{hindrance_of}
 use Rattle.adr_controller.specs.Did.{Calls}
 use Rattle.adr_controller.proofs.Kept.{some_same}
 use Rattle.adr_controller.proofs.Calling.{as_made, committed_so, unmade, failed_so, hindered_so, write_makes, write_refuses}
