@@ -1,6 +1,7 @@
 -- A call of a controller, by what it committed.
 use Rattle.std.proofs.Common.{◌≡◌, ◌⊎◌, inl, inr, ⊎_elim, ◌∙◌, sym, ap, subst, refl, ℕ, Bool, true, false, Option, Some, None, IfSome, IsSome, Result, Ok, Err}
 use Rattle.std.specs.Prelude.{◌↔◌, IsErrOf}
+use Rattle.std.specs.Bool.{then_some}
 use Rattle.adr_failure.specs.declared.Failure.{Failure}
 use Rattle.adr_failure.specs.declared.Failure.TheVariants as failures
 use Rattle.adr_event.specs.declared.refusal.WriteRefusal.{WriteRefusal}
@@ -8,19 +9,20 @@ use Rattle.adr_disk.specs.Disk.{Keeps, LeavesOnly}
 use Rattle.adr_disk.proofs.Moments.{started}
 use Rattle.adr_model.specs.Store.{State}
 use Rattle.adr_model.specs.Change.{Change, after}
+use Rattle.adr_model.specs.Collect.{quarantine}
 use Rattle.adr_model.specs.Replica.{change_in}
 use Rattle.adr_model.specs.Step.{ClientWrite}
 use Rattle.adr_model.specs.Write.{write}
 use Rattle.adr_law_journal.specs.Log.{Found, found, Started}
 use Rattle.adr_journal.specs.declared.keeper.Keeper.{Ghosts}
 use Rattle.adr_controller.specs.declared.refusal.Hindrance.{Hindrance}
-use Rattle.adr_controller.specs.declared.refusal.Hindrance.TheVariants.{Down, Failed, Full, DiskFault, NoMemory}
+use Rattle.adr_controller.specs.declared.refusal.Hindrance.TheVariants.{Down, Failed, DiskFault, NoMemory}
 use Rattle.adr_controller.specs.declared.refusal.CallRefusal.{CallRefusal}
-use Rattle.adr_controller.specs.declared.refusal.CallRefusal.TheVariants.{Refused, Hindered}
-use Rattle.adr_controller.specs.Running.{Running, IsUp, IsInOrder}
+use Rattle.adr_controller.specs.declared.refusal.CallRefusal.TheVariants.{Hindered}
+use Rattle.adr_controller.specs.Running.{Running, IsInOrder}
 use Rattle.adr_controller.specs.Able.{change_of_write}
-use Rattle.adr_controller.specs.Ended.{hindrance_of, call_hindrance, of_failure}
-use Rattle.adr_controller.specs.Did.{FindsState, FindsEither, Ran, Commits, Calls}
+use Rattle.adr_controller.specs.Ended.{call_hindrance, of_failure}
+use Rattle.adr_controller.specs.Did.{FindsEither, Ran, Commits, Calls}
 use Rattle.adr_controller.proofs.Kept.{if_told, is_some_of, some_same}
 
 same_keeps : {D C O : Type 0} (content : D → Option C) (may_leave : D → O → Type 0) (moment : D → ℕ) (left_since : D → ℕ → O → Type 0) (d : D) → Keeps content may_leave moment left_since d d
@@ -64,6 +66,7 @@ module _ {K : Type 0} (k : Ghosts K) where
     wanted_memory : (s : State) (c : Change) → old.state ≡ Some s → (how : Option Hindrance) → how ≡ Some NoMemory → Commits k s c old old how
     wanted_memory s c is how wants = record {
       done = λ h. absurd (cc (wants, h));
+      stands = λ h end at. absurd (cc (wants, h));
       full = λ h. refl;
       no_memory = λ h. (refl, same_keeps k.told k.may_leave k.moment k.left_since old.keeper);
       fault = λ h. absurd (cc (wants, h));
@@ -71,7 +74,7 @@ module _ {K : Type 0} (k : Ghosts K) where
       within = λ h end at. absurd (⊎_elim (λ (n : how ≡ None). let no : ⊥ = cc (wants, n) in no) (λ (f : how ≡ Some DiskFault). let no : ⊥ = cc (wants, f) in no) h);
       beyond = λ h. absurd (cc (wants, h));
       any_moment = if_told (k.told old.keeper) (λ _. LeavesOnly k.moment k.left_since old.keeper old.keeper (FindsEither s (after s c))) (λ t tells.
-        started k.moment k.left_since old.keeper (FindsEither s (after s c)) (λ x left. finds s (after s c) is x (is_some_of (k.told old.keeper) t tells) (only_now old.keeper x left)));
+          started k.moment k.left_since old.keeper (FindsEither s (after s c)) (λ x left. finds s (after s c) is x (is_some_of (k.told old.keeper) t tells) (only_now old.keeper x left)));
       left = if_told (k.told old.keeper) _ (λ t tells x left. finds s (after s c) is x (is_some_of (k.told old.keeper) t tells) left);
       acknowledged = λ h. absurd (cc (wants, h));
       ran = subst (λ h. Ran k old.keeper c h old.keeper) (sym wants) (inl refl);
@@ -113,3 +116,8 @@ pub write_refuses : (now : ℕ) (s : State) (w : Option ClientWrite) (r : WriteR
     → IfSome w (λ w. (refusal : WriteRefusal) → IsErrOf {T = Change} (Err e) (failures.Refused refusal) → write s w.what now ≡ Err refusal) → change_of_write now s w ≡ None
 write_refuses now s None r e is some refuses = absurd (cc some)
 write_refuses now s (Some w) r e is some refuses = ap change_in (refuses r (ap (λ e. let x : Result Change (Failure WriteRefusal) = Err e in x) is))
+
+-- the change of a quarantine, where it is asked for
+pub quarantines : (c : Change) (s x : State) (asked : Bool) → c ≡ quarantine s → s ≡ x → asked ≡ true → Some c ≡ then_some asked (quarantine x)
+quarantines c s x true is same asked = ap Some (is ∙ ap quarantine same)
+quarantines c s x false is same asked = absurd (cc asked)

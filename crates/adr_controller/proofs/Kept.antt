@@ -1,11 +1,11 @@
 -- What a start finds after a commit, told by states.
-use Rattle.std.proofs.Common.{◌≡◌, inl, inr, ℕ, Option, Some, None, IfSome, Result, Ok, Err, refl, ap, subst}
-use Rattle.std.specs.Prelude.{OnOk, OnErr, IsErrOf, IsSome, false}
+use Rattle.std.proofs.Common.{◌≡◌, inl, inr, ℕ, Option, Some, None, IfSome, Result, Ok, Err, refl, sym, ◌∙◌, ap}
+use Rattle.std.specs.Prelude.{OnOk, IsSome}
 use Rattle.adr_disk.specs.Disk.{Among}
 use Rattle.adr_model.specs.Store.{State}
-use Rattle.adr_law_journal.specs.Log.{Found, found, Started}
+use Rattle.adr_law_journal.specs.Log.{found, Started}
 use Rattle.adr_law_journal.specs.Kept.{IsEither}
-use Rattle.adr_controller.specs.Did.{FindsState, FindsEither}
+use Rattle.adr_controller.specs.Did.{FindsEither}
 
 pub if_told : {A : Type 0} (o : Option A) (P : A → Type 0) → ((x : A) → o ≡ Some x → P x) → IfSome o P
 if_told None P h = tt
@@ -34,6 +34,14 @@ the_one a (Some b) = b
 pub some_same : {A : Type 0} (a b : A) → Some a ≡ Some b → a ≡ b
 unfolding the_one
 some_same a b is = ap (the_one a) is
+
+the_err : {T E : Type 0} → E → Result T E → E
+the_err a (Ok x) = a
+the_err a (Err b) = b
+
+pub err_same : {T E : Type 0} (a b : E) (r : Result T E) → r ≡ Err a → r ≡ Err b → a ≡ b
+unfolding the_err
+err_same a b r isa isb = ap (the_err a) (sym isa ∙ isb)
 
 either_so : (s t : State) (before after : ℕ) (x : Started State) → IsEither (found s before) (found t after) x → FindsEither s t x
 either_so s t before after x (inl is) = inl (before, is)

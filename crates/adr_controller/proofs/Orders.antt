@@ -1,5 +1,5 @@
 -- What holds of a controller in order.
-use Rattle.std.proofs.Common.{◌≡◌, ◌∙◌, true, false, Option, Some, None}
+use Rattle.std.proofs.Common.{◌≡◌, ◌∙◌, true, None}
 use Rattle.adr_model.specs.Store.{State}
 use Rattle.adr_law_journal.specs.Log.{Found, found}
 use Rattle.adr_journal.specs.declared.keeper.Keeper.{Ghosts}

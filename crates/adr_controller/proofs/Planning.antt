@@ -13,10 +13,10 @@ use Rattle.adr_controller.specs.Did.{Ran, GoesAs}
 
 module _ {K : Type 0} (k : Ghosts K) (has : K → Replica → Type 0) (is_down : K → Bool)
     (prepares : (old new : K) (e : Option KeeperRefusal) (r : Replica) → is_down old ≡ false → has old r → k.prepares old e new
-      → has new r × (is_down new ≡ false) × (e ≡ Some keeps.DiskFault → ⊥))
+    → has new r × (is_down new ≡ false) × (e ≡ Some keeps.DiskFault → ⊥))
     (commits : (old new : K) (c : Change) (e : Option KeeperRefusal) (book : Book) (r : Replica) (p : Pending)
-      → k.is_at old (safe_found r) → k.is_failed old ≡ false → k.is_prepared old c → k.can_follow r.safe c → is_down old ≡ false → read_found r ≡ safe_found r → has old r → p.change ≡ c
-      → k.commits old c e new → CommitsAs has is_down e (committed book r p) new)
+    → k.is_at old (safe_found r) → k.is_failed old ≡ false → k.is_prepared old c → k.can_follow r.safe c → is_down old ≡ false → read_found r ≡ safe_found r → has old r → p.change ≡ c
+    → k.commits old c e new → CommitsAs has is_down e (committed book r p) new)
     (old new : K) (c : Change) (book : Book) (r : Replica) (p : Pending)
     (at : k.is_at old (safe_found r)) (follows : k.can_follow r.safe c) (up : is_down old ≡ false) (same : read_found r ≡ safe_found r) (h : has old r) (of_p : p.change ≡ c) where
   stays_so : new ≡ old → has new r × (is_down new ≡ false)

@@ -46,17 +46,20 @@ abbrev pub reply_shows : TakeRefusal → Bool
 reply_shows (takes.RolledBack inv mine shown) = true
 reply_shows _ = false
 
--- the controller is then quarantined
+-- it is then quarantined
+abbrev pub quarantine_in : Bool → State → Option Change
+quarantine_in shown s = then_some shown (quarantine s)
+
 abbrev pub change_of_served : State → Result Reply ServeRefusal → Option Change
 change_of_served s (Ok reply) = None
-change_of_served s (Err refusal) = then_some (request_shows refusal) (quarantine s)
+change_of_served s (Err refusal) = quarantine_in (request_shows refusal) s
 
 abbrev pub served_in : Request → State → Option Change
 served_in request s = change_of_served s (serve s request)
 
 abbrev pub change_of_taken : State → Result Change TakeRefusal → Option Change
 change_of_taken s (Ok c) = Some c
-change_of_taken s (Err refusal) = then_some (reply_shows refusal) (quarantine s)
+change_of_taken s (Err refusal) = quarantine_in (reply_shows refusal) s
 
 abbrev pub taken_in : Reply → State → Option Change
 taken_in reply s = change_of_taken s (take s reply)

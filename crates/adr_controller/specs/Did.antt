@@ -25,6 +25,10 @@ FindsEither before after t = FindsState before t ⊎ FindsState after t
 
 -- ---- what the keeper was asked for
 
+-- nothing has changed of what a start finds, now and after a crash
+abbrev pub KeepsAll : {K : Type 0} → Ghosts K → K → K → Type 0
+KeepsAll k old new = Keeps k.told k.may_leave k.moment k.left_since old new
+
 -- it was made ready for a change, and stands for what it stood for
 pub record MadeReady {K : Type 0} (k : Ghosts K) (old : K) (c : Change) (ready : K) : Type 0 where
   pub prepared : k.prepares old None ready
@@ -36,8 +40,10 @@ pub record MadeReady {K : Type 0} (k : Ghosts K) (old : K) (c : Change) (ready :
 abbrev pub Ran : {K : Type 0} → Ghosts K → K → Change → Option Hindrance → K → Type 0
 Ran {K} k old c None new = (ready : K) × MadeReady k old c ready × k.commits ready c None new
 Ran {K} k old c (Some DiskFault) new =
-    k.prepares old (Some keeps.DiskFault) new ⊎ ((ready : K) × MadeReady k old c ready × k.commits ready c (Some keeps.DiskFault) new)
-Ran k old c (Some NoMemory) new = (new ≡ old) ⊎ (k.prepares old (Some keeps.NoMemory) new ⊎ k.prepares old None new)
+    k.prepares old (Some keeps.DiskFault) new
+    ⊎ ((ready : K) × MadeReady k old c ready × k.commits ready c (Some keeps.DiskFault) new)
+Ran k old c (Some NoMemory) new =
+    (new ≡ old) ⊎ (k.prepares old (Some keeps.NoMemory) new ⊎ k.prepares old None new)
 Ran k old c (Some Full) new = new ≡ old
 Ran k old c (Some Failed) new = new ≡ old
 Ran k old c (Some Down) new = new ≡ old
@@ -45,39 +51,51 @@ Ran k old c (Some Down) new = new ≡ old
 -- ---- a commit
 
 -- A change of a controller's state is committed, or hindered: what each leaves.
-pub record Commits {K : Type 0} (k : Ghosts K) (s : State) (c : Change) (old new : Running K) (how : Option Hindrance) : Type 0 where
+pub record Commits {K : Type 0} (k : Ghosts K) (s : State) (c : Change) (old new : Running K) (how : Option Hindrance)
+    : Type 0 where
   pub done : how ≡ None → new.state ≡ Some (after s c)
+  pub stands :
+      how ≡ None → (end : ℕ) → k.is_at old.keeper (found s end)
+      → k.is_at new.keeper (found (after s c) (log_end_after end c))
   pub full : how ≡ Some Full → new ≡ old
-  pub no_memory : how ≡ Some NoMemory → (new.state ≡ old.state) × Keeps k.told k.may_leave k.moment k.left_since old.keeper new.keeper
+  pub no_memory : how ≡ Some NoMemory → (new.state ≡ old.state) × KeepsAll k old.keeper new.keeper
   pub fault : how ≡ Some DiskFault → (new.state ≡ None) × (k.faults old.keeper < k.faults new.keeper)
   pub still_up : new.down ≡ false
-
   -- where the log would end beyond its limit it is full, and else it is not
-  pub within : (how ≡ None) ⊎ (how ≡ Some DiskFault) → (end : ℕ) → k.is_at old.keeper (found s end) → log_end_after end c ≤ log_limit
-  pub beyond : how ≡ Some Full → (end : ℕ) → k.is_at old.keeper (found s end) → log_limit < log_end_after end c
-
-  -- whatever was answered, a start finds the state before or after: after a crash at any moment of the call, or from then on
-  pub any_moment : IfSome (k.told old.keeper) (λ _. LeavesOnly k.moment k.left_since old.keeper new.keeper (FindsEither s (after s c)))
+  pub within :
+      (how ≡ None) ⊎ (how ≡ Some DiskFault) → (end : ℕ) → k.is_at old.keeper (found s end)
+      → log_end_after end c ≤ log_limit
+  pub beyond :
+      how ≡ Some Full → (end : ℕ) → k.is_at old.keeper (found s end) → log_limit < log_end_after end c
+  -- whatever was answered, a start finds the state before or the one after: behind a crash at any moment of the call,
+  -- and behind one from then on
+  pub any_moment :
+      IfSome (k.told old.keeper) (λ _.
+      LeavesOnly k.moment k.left_since old.keeper new.keeper (FindsEither s (after s c)))
   pub left : IfSome (k.told old.keeper) (λ _. Among (FindsEither s (after s c)) (k.may_leave new.keeper))
-  pub acknowledged : how ≡ None → IfSome (k.told old.keeper) (λ _. Among (FindsState (after s c)) (k.may_leave new.keeper))
-
+  -- and once it is acknowledged, the one after
+  pub acknowledged :
+      how ≡ None → IfSome (k.told old.keeper) (λ _. Among (FindsState (after s c)) (k.may_leave new.keeper))
   -- what the keeper was asked for
   pub ran : Ran k old.keeper c how new.keeper
 
 -- ---- a call
 
 -- A call of a controller that commits the change which it makes of the state, if it makes one.
-pub record Calls {K : Type 0} (k : Ghosts K) (changes : State → Option Change) (old new : Running K) (how : Option Hindrance) : Type 0 where
+pub record Calls {K : Type 0} (k : Ghosts K) (changes : State → Option Change) (old new : Running K)
+    (how : Option Hindrance) : Type 0 where
   pub down : (how ≡ Some Down) ↔ (old.down ≡ true)
   pub failed : (how ≡ Some Failed) ↔ ((old.down ≡ false) × (old.state ≡ None))
   pub stays : old.state ≡ None → new ≡ old
   pub unchanged : (s : State) → old.state ≡ Some s → changes s ≡ None → new ≡ old
-  pub commits : (s : State) (c : Change) → old.state ≡ Some s → changes s ≡ Some c → Commits k s c old new how
+  pub commits :
+      (s : State) (c : Change) → old.state ≡ Some s → changes s ≡ Some c → Commits k s c old new how
 
 -- ---- a replica beside it
 
 -- it goes where a commit takes the replica; where none was made it stays as it was
-abbrev pub GoesAs : {K : Type 0} → (K → Replica → Type 0) → (K → Bool) → Option Hindrance → Replica → Replica → K → Type 0
+abbrev pub GoesAs :
+    {K : Type 0} → (K → Replica → Type 0) → (K → Bool) → Option Hindrance → Replica → Replica → K → Type 0
 GoesAs has is_down None before after new = CommitsAs has is_down None after new
 GoesAs has is_down (Some DiskFault) before after new = CommitsAs has is_down (Some keeps.DiskFault) after new
 GoesAs has is_down (Some hindrance) before after new = has new before × (is_down new ≡ false)

@@ -4,7 +4,6 @@ use Rattle.adr_failure.specs.declared.Failure.{Failure}
 use Rattle.adr_failure.specs.declared.Failure.TheVariants as failures
 use Rattle.adr_journal.specs.declared.keeper.KeeperRefusal.{KeeperRefusal}
 use Rattle.adr_journal.specs.declared.keeper.KeeperRefusal.TheVariants as keeps
-use Rattle.adr_journal.specs.declared.keeper.StartRefusal.{StartRefusal}
 use Rattle.adr_controller.specs.Running.{Running}
 use Rattle.adr_controller.specs.declared.refusal.Hindrance.{Hindrance}
 use Rattle.adr_controller.specs.declared.refusal.Hindrance.TheVariants.{Failed, Full, DiskFault, NoMemory}
@@ -17,10 +16,13 @@ hindrance_of (Ok _) = None
 hindrance_of (Err hindrance) = Some hindrance
 
 -- a call that may also be refused
+abbrev pub hindrance_in : {R : Type 0} → CallRefusal R → Option Hindrance
+hindrance_in (Refused refusal) = None
+hindrance_in (Hindered hindrance) = Some hindrance
+
 abbrev pub call_hindrance : {T R : Type 0} → Result T (CallRefusal R) → Option Hindrance
 call_hindrance (Ok _) = None
-call_hindrance (Err (Refused refusal)) = None
-call_hindrance (Err (Hindered hindrance)) = Some hindrance
+call_hindrance (Err refusal) = hindrance_in refusal
 
 -- what a refusal of a keeper is to its controller
 abbrev pub kept_as : KeeperRefusal → Hindrance

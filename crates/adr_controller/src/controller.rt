@@ -2,7 +2,7 @@
 
 ghost use Rattle.std.specs.Prelude.{◌≡◌, ◌⊎◌, ◌↔◌, ◌<◌, true, false, Some, None, Ok, IfOk, IfErr, IfSome, IsErrOf, OnErr, OnOk, MatchOption};
 ghost use Rattle.std.specs.Option.{ForSome};
-ghost use Rattle.adr_disk.specs.Disk.{Among, Keeps, LeavesOnly};
+ghost use Rattle.adr_disk.specs.Disk.{Among, LeavesOnly};
 ghost use Rattle.adr_model.specs.Store.{State as Defined};
 ghost use Rattle.adr_model.specs.Lengths.{new_log_end};
 ghost use Rattle.adr_law_journal.specs.Log.{found};
@@ -10,7 +10,7 @@ ghost use Rattle.adr_journal.specs.Ended.{ended_start, IsNewOrNone, IsDamageOf};
 ghost use Rattle.adr_controller.specs.Running.{IsInOrder, IsStarted};
 ghost use Rattle.adr_controller.specs.Able.{CanCommit};
 ghost use Rattle.adr_controller.specs.Ended.{handed_back, hindrance_of, keeper_of};
-ghost use Rattle.adr_controller.specs.Did.{Commits};
+ghost use Rattle.adr_controller.specs.Did.{Commits, KeepsAll};
 
 use crate::keeping::keep;
 use crate::refusal::Hindrance;
@@ -44,16 +44,18 @@ impl<K: Keeper> Controller<K> {
         requires formed { K.is_formed state }
         ensures ok { IfOk result (λ c. (c.state ≡ Some state) × (c.down ≡ false)
             × K.is_at c.keeper (found state (new_log_end state))) }
-        ensures refused { IfErr result (λ e. (e.0 ≡ KeeperRefusal.DiskFault) ⊎ (e.0 ≡ KeeperRefusal.NoMemory)) }
+        ensures refused { IfErr result (λ e.
+            (e.0 ≡ KeeperRefusal.DiskFault) ⊎ (e.0 ≡ KeeperRefusal.NoMemory)) }
         ensures fault { IfErr result (λ e. e.0 ≡ KeeperRefusal.DiskFault
             → (K.faults keeper < K.faults e.1) × (K.is_failed e.1 ≡ true)) }
         ensures no_memory { IfErr result (λ e. e.0 ≡ KeeperRefusal.NoMemory
-            → Keeps K.told K.may_leave K.moment K.left_since keeper e.1) }
+            → KeepsAll K.Keeper keeper e.1) }
 
         // Whatever it answers, what a start finds after a crash at any moment of the call, and after one from then on.
         ensures any_moment { IfSome (K.told keeper) (λ _.
             LeavesOnly K.moment K.left_since keeper (keeper_of result) (IsNewOrNone state)) }
-        ensures left { IfSome (K.told keeper) (λ _. Among (IsNewOrNone state) (K.may_leave (keeper_of result))) }
+        ensures left { IfSome (K.told keeper) (λ _.
+            Among (IsNewOrNone state) (K.may_leave (keeper_of result))) }
         ensures formats { K.formats keeper (handed_back result) (keeper_of result) }
     {
         match keeper.format(&state) {
@@ -70,10 +72,12 @@ impl<K: Keeper> Controller<K> {
     pub fn resume(mut keeper: K) -> Result<Controller<K>, (StartRefusal, K)>
         ensures ok { IfOk result (λ c. IsStarted K.Keeper keeper c) }
         ensures damaged { IfErr result (λ e. IsDamageOf e.0 (K.told keeper)) }
-        ensures fault { IfErr result (λ e. e.0 ≡ StartRefusal.DiskFault → K.faults keeper < K.faults e.1) }
+        ensures fault { IfErr result (λ e.
+            e.0 ≡ StartRefusal.DiskFault → K.faults keeper < K.faults e.1) }
 
         // After a crash at any moment of the call, a start finds what one might have found before it.
-        ensures any_moment { LeavesOnly K.moment K.left_since keeper (keeper_of result) (K.may_leave keeper) }
+        ensures any_moment { let kept = keeper_of result in
+            LeavesOnly K.moment K.left_since keeper kept (K.may_leave keeper) }
         ensures left { Among (K.may_leave keeper) (K.may_leave (keeper_of result)) }
         ensures starts { K.starts keeper (handed_back result) (keeper_of result) }
     {
@@ -93,10 +97,12 @@ impl<K: Keeper> Controller<K> {
         ensures ok { OnOk result (IsStarted K.Keeper self.old.keeper self.new) }
         ensures err { OnErr result ((self.new.state ≡ None) × (self.new.down ≡ self.old.down)) }
         ensures damaged { IfErr result (λ e. IsDamageOf e (K.told self.old.keeper)) }
-        ensures fault { IsErrOf result StartRefusal.DiskFault → K.faults self.old.keeper < K.faults self.new.keeper }
+        ensures fault { IsErrOf result StartRefusal.DiskFault
+            → K.faults self.old.keeper < K.faults self.new.keeper }
 
         // After a crash at any moment of the call, a start finds what one might have found before it.
-        ensures any_moment { LeavesOnly K.moment K.left_since self.old.keeper self.new.keeper (K.may_leave self.old.keeper) }
+        ensures any_moment { let before = K.may_leave self.old.keeper in
+            LeavesOnly K.moment K.left_since self.old.keeper self.new.keeper before }
         ensures left { Among (K.may_leave self.old.keeper) (K.may_leave self.new.keeper) }
         ensures starts { K.starts self.old.keeper (ended_start result) self.new.keeper }
     {
@@ -142,8 +148,10 @@ impl<K: Keeper> Controller<K> {
 
     /// The state, or what keeps the controller from answering.
     pub(crate) fn running(&self) -> Result<&State, Hindrance>
-        ensures ok { IfOk result (λ s. (self.now.state ≡ Some s.now) × (self.now.down ≡ false) × K.is_formed s.now) }
-        ensures err { IfErr result (λ h. ((h ≡ Hindrance.Down) × (self.now.down ≡ true) × (self.now.state ≡ None))
+        ensures ok { IfOk result (λ s.
+            (self.now.state ≡ Some s.now) × (self.now.down ≡ false) × K.is_formed s.now) }
+        ensures err { IfErr result (λ h.
+            ((h ≡ Hindrance.Down) × (self.now.down ≡ true) × (self.now.state ≡ None))
             ⊎ ((h ≡ Hindrance.Failed) × (self.now.down ≡ false) × (self.now.state ≡ None))) }
         ensures in_order { IsInOrder K.Keeper self.now }
     {
@@ -160,7 +168,8 @@ impl<K: Keeper> Controller<K> {
     pub fn commit(&mut self, change: &Change) -> Result<(), Hindrance>
         requires { ForSome self.old.state (λ s. CanCommit K.Keeper s change.now) }
         ensures down { (hindrance_of result ≡ Some Hindrance.Down) ↔ (self.old.down ≡ true) }
-        ensures failed { (hindrance_of result ≡ Some Hindrance.Failed) ↔ ((self.old.down ≡ false) × (self.old.state ≡ None)) }
+        ensures failed { (hindrance_of result ≡ Some Hindrance.Failed)
+            ↔ ((self.old.down ≡ false) × (self.old.state ≡ None)) }
         ensures stays { self.old.state ≡ None → self.new ≡ self.old }
         ensures commits { (s : Defined) → self.old.state ≡ Some s
             → Commits K.Keeper s change.now self.old self.new (hindrance_of result) }

@@ -42,6 +42,8 @@ pub(crate) fn keep<K: Keeper>(
     ensures stays { OnErr result (IsErrOf result KeeperRefusal.DiskFault ⊎ (state.new ≡ state.old)) }
     ensures up { OnErr result (IsErrOf result KeeperRefusal.DiskFault ⊎ IsUp K.Keeper keeper.new state.new) }
     ensures goes_on { OnOk result (IsUp K.Keeper keeper.new state.new) }
+    ensures stands { (end : ℕ) → K.is_at keeper.old (found state.old end)
+        → OnOk result (K.is_at keeper.new (found (after state.old change.now) (log_end_after end change.now))) }
     ensures never_failed { IsErrOf result KeeperRefusal.Failed → ⊥ }
     ensures full { IsErrOf result KeeperRefusal.Full → keeper.new ≡ keeper.old }
     ensures no_memory { IsErrOf result KeeperRefusal.NoMemory
@@ -58,8 +60,8 @@ pub(crate) fn keep<K: Keeper>(
         → IsErrOf result KeeperRefusal.Full → log_limit < log_end_after end change.now }
 
     // Whatever it answers, what a start finds after a crash at any moment of the call, and after one from then on.
-    ensures any_moment { IfSome (K.told keeper.old) (λ _.
-        LeavesOnly K.moment K.left_since keeper.old keeper.new (FindsEither state.old (after state.old change.now))) }
+    ensures any_moment { let finds = FindsEither state.old (after state.old change.now) in
+        IfSome (K.told keeper.old) (λ _. LeavesOnly K.moment K.left_since keeper.old keeper.new finds) }
     ensures left { IfSome (K.told keeper.old) (λ _.
         Among (FindsEither state.old (after state.old change.now)) (K.may_leave keeper.new)) }
     ensures acknowledged { OnOk result (IfSome (K.told keeper.old) (λ _.

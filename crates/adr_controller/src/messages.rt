@@ -1,6 +1,6 @@
 //! Messages between controllers.
 
-ghost use Rattle.std.specs.Prelude.{◌≡◌, ◌⊎◌, ◌≤◌, true, false, None, Some, Ok, Err, IfOk, IfErr, IsErrOf, IsSome, length};
+ghost use Rattle.std.specs.Prelude.{◌≡◌, ◌↔◌, ◌≤◌, true, false, Some, None, Ok, Err, IfOk, IfErr, IsErrOf, IsSome, length};
 ghost use Rattle.std.specs.Option.{ForSome};
 ghost use Rattle.adr_event.specs.declared.refusal.ServeRefusal.{ServeRefusal};
 ghost use Rattle.adr_event.specs.declared.refusal.TakeRefusal.{TakeRefusal};
@@ -10,9 +10,8 @@ ghost use Rattle.adr_model.specs.Collect.{quarantine};
 ghost use Rattle.adr_model.specs.Serve.{ask, serve};
 ghost use Rattle.adr_model.specs.Take.{take};
 ghost use Rattle.adr_model.specs.Write.{usn_limit};
-ghost use Rattle.std.specs.Bool.{then_some};
-ghost use Rattle.adr_controller.specs.Able.{AllFollow, CanCommit, reply_shows, request_shows, served_in, taken_in};
-ghost use Rattle.adr_controller.specs.Ended.{call_hindrance, hindrance_of};
+ghost use Rattle.adr_controller.specs.Able.{AllFollow, CanCommit, quarantine_in, reply_shows, request_shows, served_in, taken_in};
+ghost use Rattle.adr_controller.specs.Ended.{call_hindrance, hindrance_in, hindrance_of};
 ghost use Rattle.adr_controller.specs.Did.{Calls};
 
 use crate::controller::Controller;
@@ -48,7 +47,11 @@ fn count(number: usize) -> Result<u32, NoMemory>
 /// What is told of a reply whose change is this.
 fn told_of(reply: &Reply, change: &Change) -> Result<Taken, NoMemory>
     ensures { IfOk result (λ taken.
-        taken ≡ record { items = length reply.now.items; wrote = length change.now.writes; usn = change.now.usn }) }
+        taken ≡ record {
+          items = length reply.now.items;
+          wrote = length change.now.writes;
+          usn = change.now.usn;
+        }) }
 {
     Ok(Taken {
         items: count(reply.items().len())?,
@@ -58,15 +61,15 @@ fn told_of(reply: &Reply, change: &Change) -> Result<Taken, NoMemory>
 }
 
 /// Whether a refused request shows that the controller was put back.
-fn request_shows(refusal: ServeRefusal) -> bool
-    ensures { result ≡ request_shows refusal }
+fn request_shows(refusal: &ServeRefusal) -> bool
+    ensures { result ≡ request_shows refusal.now }
 {
     matches!(refusal, ServeRefusal::RolledBack { .. })
 }
 
 /// Whether a refused reply shows that the controller was put back.
-fn reply_shows(refusal: TakeRefusal) -> bool
-    ensures { result ≡ reply_shows refusal }
+fn reply_shows(refusal: &TakeRefusal) -> bool
+    ensures { result ≡ reply_shows refusal.now }
 {
     matches!(refusal, TakeRefusal::RolledBack { .. })
 }
@@ -90,8 +93,9 @@ impl<K: Keeper> Controller<K> {
     /// Quarantines the controller, which is up, if it was shown that it was put back.
     fn quarantine_if(&mut self, alloc: Global, put_back: bool) -> Result<(), Hindrance>
         requires up { IsSome self.old.state }
-        requires follows { ForSome self.old.state (λ s. put_back ≡ true → CanCommit K.Keeper s (quarantine s)) }
-        ensures { Calls K.Keeper (λ s. then_some put_back (quarantine s)) self.old self.new (hindrance_of result) }
+        requires follows { ForSome self.old.state (λ s.
+            put_back ≡ true → CanCommit K.Keeper s (quarantine s)) }
+        ensures { Calls K.Keeper (quarantine_in put_back) self.old self.new (hindrance_of result) }
     {
         let state = self.running()?;
         if !put_back {
@@ -101,12 +105,43 @@ impl<K: Keeper> Controller<K> {
         self.commit(&change)
     }
 
+    /// Refuses a request. A controller that it shows to be put back is quarantined before.
+    fn refuse_request(&mut self, alloc: Global, refusal: ServeRefusal) -> CallRefusal<ServeRefusal>
+        requires up { IsSome self.old.state }
+        requires follows { ForSome self.old.state (λ s.
+            request_shows refusal ≡ true → CanCommit K.Keeper s (quarantine s)) }
+        ensures refused { (r : ServeRefusal) → result ≡ CallRefusal.Refused r → r ≡ refusal }
+        ensures calls { Calls K.Keeper (quarantine_in (request_shows refusal)) self.old self.new (hindrance_in result) }
+    {
+        match self.quarantine_if(alloc, request_shows(&refusal)) {
+            Ok(()) => CallRefusal::Refused(refusal),
+            Err(hindrance) => CallRefusal::Hindered(hindrance),
+        }
+    }
+
+    /// Refuses a reply. A controller that it shows to be put back is quarantined before.
+    fn refuse_reply(&mut self, alloc: Global, refusal: TakeRefusal) -> CallRefusal<TakeRefusal>
+        requires up { IsSome self.old.state }
+        requires follows { ForSome self.old.state (λ s.
+            reply_shows refusal ≡ true → CanCommit K.Keeper s (quarantine s)) }
+        ensures refused { (r : TakeRefusal) → result ≡ CallRefusal.Refused r → r ≡ refusal }
+        ensures calls { Calls K.Keeper (quarantine_in (reply_shows refusal)) self.old self.new (hindrance_in result) }
+    {
+        match self.quarantine_if(alloc, reply_shows(&refusal)) {
+            Ok(()) => CallRefusal::Refused(refusal),
+            Err(hindrance) => CallRefusal::Hindered(hindrance),
+        }
+    }
+
     /// What it asks a partner: the changes behind the mark that it has of the partner, at most `max` items in one reply.
     pub fn ask(&self, alloc: Global, partner: Uuid, max: u32) -> Result<Request, Hindrance>
-        ensures ok { IfOk result (λ request. (s : Defined) × (self.now.state ≡ Some s) × (request ≡ ask s partner max)) }
-        ensures err { IfErr result (λ h. ((h ≡ Hindrance.Down) × (self.now.down ≡ true))
-            ⊎ (((h ≡ Hindrance.Failed) × (self.now.down ≡ false) × (self.now.state ≡ None)) ⊎ (h ≡ Hindrance.NoMemory))) }
-        ensures up { (s : Defined) → self.now.state ≡ Some s → IfErr result (λ h. h ≡ Hindrance.NoMemory) }
+        ensures ok { IfOk result (λ request.
+            (s : Defined) × (self.now.state ≡ Some s) × (request ≡ ask s partner max)) }
+        ensures down { (hindrance_of result ≡ Some Hindrance.Down) ↔ (self.now.down ≡ true) }
+        ensures failed { (hindrance_of result ≡ Some Hindrance.Failed)
+            ↔ ((self.now.down ≡ false) × (self.now.state ≡ None)) }
+        ensures up { (s : Defined) → self.now.state ≡ Some s
+            → IfErr result (λ hindrance. hindrance ≡ Hindrance.NoMemory) }
     {
         let state = self.running()?;
         Ok(ask(alloc, state, partner, max)?)
@@ -119,7 +154,8 @@ impl<K: Keeper> Controller<K> {
         request: &Request,
     ) -> Result<Reply, CallRefusal<ServeRefusal>>
         requires follows { AllFollow K.Keeper (served_in request.now) }
-        ensures served { IfOk result (λ reply. (s : Defined) → self.old.state ≡ Some s → serve s request.now ≡ Ok reply) }
+        ensures served { IfOk result (λ reply.
+            (s : Defined) → self.old.state ≡ Some s → serve s request.now ≡ Ok reply) }
         ensures refused { (s : Defined) (refusal : ServeRefusal) → self.old.state ≡ Some s
             → IsErrOf result (CallRefusal.Refused refusal) → serve s request.now ≡ Err refusal }
         ensures calls { Calls K.Keeper (served_in request.now) self.old self.new (call_hindrance result) }
@@ -128,19 +164,12 @@ impl<K: Keeper> Controller<K> {
         match serve(alloc, state, request) {
             Ok(reply) => Ok(reply),
             Err(Failure::NoMemory) => Err(CallRefusal::Hindered(Hindrance::NoMemory)),
-            Err(Failure::Refused(refusal)) => {
-                self.quarantine_if(alloc, request_shows(refusal))?;
-                Err(CallRefusal::Refused(refusal))
-            }
+            Err(Failure::Refused(refusal)) => Err(self.refuse_request(alloc, refusal)),
         }
     }
 
     /// Takes a reply. A controller that finds that it was put back is quarantined before it refuses.
-    pub fn take(
-        &mut self,
-        alloc: Global,
-        reply: &Reply,
-    ) -> Result<Taken, CallRefusal<TakeRefusal>>
+    pub fn take(&mut self, alloc: Global, reply: &Reply) -> Result<Taken, CallRefusal<TakeRefusal>>
         requires usn { ForSome self.old.state (λ s. s.store.usn ≤ usn_limit) }
         requires follows { AllFollow K.Keeper (taken_in reply.now) }
         ensures taken { IfOk result (λ taken. (s : Defined) → self.old.state ≡ Some s
@@ -158,10 +187,7 @@ impl<K: Keeper> Controller<K> {
                 Ok(taken)
             }
             Err(Failure::NoMemory) => Err(CallRefusal::Hindered(Hindrance::NoMemory)),
-            Err(Failure::Refused(refusal)) => {
-                self.quarantine_if(alloc, reply_shows(refusal))?;
-                Err(CallRefusal::Refused(refusal))
-            }
+            Err(Failure::Refused(refusal)) => Err(self.refuse_reply(alloc, refusal)),
         }
     }
 }

@@ -36,7 +36,8 @@ impl<K: PlannedKeeper> Controller<K> {
 
     /// Crashes now, and drops a plan. It is down from then on.
     pub fn crash(&mut self, how: Crash)
-        ensures read { K.read self.new.keeper ≡ left_found how (K.read self.old.keeper) (K.safe self.old.keeper) (K.torn self.old.keeper) }
+        ensures read { let was = self.old.keeper in
+            K.read self.new.keeper ≡ left_found how (K.read was) (K.safe was) (K.torn was) }
         ensures safe { K.safe self.new.keeper ≡ K.read self.new.keeper }
         ensures torn { K.torn self.new.keeper ≡ K.read self.new.keeper }
         ensures plan { K.plan self.new.keeper ≡ None }
@@ -79,7 +80,8 @@ impl<K: PlannedKeeper> Controller<K> {
 #[tactic(none)]
 pub fn commits_go_as_planned<K: PlannedKeeper>()
     ensures { (old new : K) (c : Changes) (how : Option Hindrance) (book : Book) (r : Replica) (p : Pending)
-        → K.is_at old (safe_found r) → K.is_failed old ≡ false → K.can_follow r.safe c → K.is_down old ≡ false → read_found r ≡ safe_found r
-        → Has K.read K.safe K.torn K.plan old r → p.change ≡ c → Ran ⟦<K as Keeper>⟧ old c how new
+        → K.is_at old (safe_found r) → K.is_failed old ≡ false → K.can_follow r.safe c
+        → K.is_down old ≡ false → read_found r ≡ safe_found r → Has K.read K.safe K.torn K.plan old r
+        → p.change ≡ c → Ran ⟦<K as Keeper>⟧ old c how new
         → GoesAs (Has K.read K.safe K.torn K.plan) K.is_down how r (committed book r p) new }
 {}

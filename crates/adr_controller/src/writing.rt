@@ -86,9 +86,11 @@ impl<K: Keeper> Controller<K> {
     ) -> Result<u64, CallRefusal<WriteRefusal>>
         requires write { IsSome (write_of event.now) }
         requires follows { AllFollow K.Keeper (written_in event.now now) }
-        ensures written { IfOk result (λ usn. (s : Defined) (w : ClientWrite) → self.old.state ≡ Some s → write_of event.now ≡ Some w
+        ensures written { IfOk result (λ usn.
+            (s : Defined) (w : ClientWrite) → self.old.state ≡ Some s → write_of event.now ≡ Some w
             → (c : Changes) × (write s w.what now ≡ Ok c) × (usn ≡ c.usn)) }
-        ensures refused { (s : Defined) (w : ClientWrite) (refusal : WriteRefusal) → self.old.state ≡ Some s → write_of event.now ≡ Some w
+        ensures refused { (s : Defined) (w : ClientWrite) (refusal : WriteRefusal)
+            → self.old.state ≡ Some s → write_of event.now ≡ Some w
             → IsErrOf result (CallRefusal.Refused refusal) → write s w.what now ≡ Err refusal }
         ensures calls { Calls K.Keeper (written_in event.now now) self.old self.new (call_hindrance result) }
     {

@@ -1,10 +1,8 @@
-use Rattle.std.proofs.Common.{◌≡◌, ◌∙◌, ap, sym, subst, Option, Some, IfSome, false}
-use Rattle.adr_disk.specs.Disk.{Among}
+use Rattle.std.proofs.Common.{◌∙◌}
 use Rattle.adr_model.specs.Change.{after}
 use Rattle.adr_model.specs.Lengths.{log_end_after}
 use Rattle.adr_law_journal.specs.Log.{Found, found}
 use Rattle.adr_journal.specs.Ended.{found_after}
-use Rattle.adr_controller.specs.Did.{FindsEither, FindsState}
 use Rattle.adr_controller.proofs.Kept.{if_told, on_ok, at_told, is_some_of, among_states}
 use Rattle.adr_controller.proofs.keeping.keep.Goals as goal
 

@@ -1,4 +1,4 @@
-use Rattle.std.proofs.Common.{◌≡◌, ◌∙◌, sym, ap, subst, true, Some}
+use Rattle.std.proofs.Common.{◌≡◌, ◌∙◌, sym, ap, subst, true}
 use Rattle.adr_controller.specs.Running.{IsInOrder}
 use Rattle.adr_controller.proofs.controller.Controller.commit.Goals as goal
 

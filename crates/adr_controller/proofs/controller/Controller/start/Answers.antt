@@ -1,4 +1,4 @@
-use Rattle.std.proofs.Common.{◌≡◌, ⊎_elim, ◌∙◌, ap, subst, None, Option}
+use Rattle.std.proofs.Common.{⊎_elim, ◌∙◌, ap, subst}
 use Rattle.adr_controller.specs.Running.{IsInOrder}
 use Rattle.adr_controller.proofs.Orders.{none_when_down}
 use Rattle.adr_controller.proofs.controller.Controller.start.Goals as goal

@@ -1,10 +1,7 @@
-use Rattle.std.proofs.Common.{◌≡◌, ◌⊎◌, inl, inr, refl, sym, ◌∙◌, ap, subst, Option, Some, None, IfSome, IsSome, Result, Ok, Err}
+use Rattle.std.proofs.Common.{◌≡◌, sym, ◌∙◌, subst, Some, None}
 use Rattle.std.proofs.lemmas.Result.{err_from_is_err_and}
-use Rattle.adr_model.specs.Change.{Change}
-use Rattle.adr_model.specs.Step.{write_of, ClientWrite}
-use Rattle.adr_model.specs.Store.{State}
+use Rattle.adr_model.specs.Step.{write_of}
 use Rattle.adr_controller.specs.Able.{CanCommit, written_in}
-use Rattle.adr_controller.specs.Ended.{hindrance_of}
 use Rattle.adr_controller.specs.Did.{Calls}
 use Rattle.adr_controller.proofs.Kept.{some_same}
 use Rattle.adr_controller.proofs.Calling.{as_made, committed_so, unmade, failed_so, hindered_so, write_makes, write_refuses}
@@ -39,7 +36,7 @@ returns-in_err-commit-clause-calls g c =
     subst (λ h. Calls k (written_in c.args.event.now c.args.now) old new h) (hindered_so c.in_err-commit.field-0.0 c.from_residual-in_err-commit.result p.0 p.1 p.2)
     (as_made k (λ s. Some change) (written_in c.args.event.now c.args.now) old new how
     (λ x is. subst (λ s. Some change ≡ written_in c.args.event.now c.args.now s) (some_same s x (sym c.in_ok-state.ensures.ok.0 ∙ is))
-      (write_makes c.args.now s (write_of c.args.event.now) change c.requires.write c.in_ok-change.ensures.ok))
+    (write_makes c.args.now s (write_of c.args.event.now) change c.requires.write c.in_ok-change.ensures.ok))
     (committed_so k change old new how made.down made.failed made.stays made.commits))
 
 pub returns-clause-calls : goal.returns-clause-calls
@@ -52,5 +49,5 @@ returns-clause-calls g c =
     let made = c.in_ok-commit.ensures in
     as_made k (λ s. Some change) (written_in c.args.event.now c.args.now) old new None
     (λ x is. subst (λ s. Some change ≡ written_in c.args.event.now c.args.now s) (some_same s x (sym c.in_ok-state.ensures.ok.0 ∙ is))
-      (write_makes c.args.now s (write_of c.args.event.now) change c.requires.write c.in_ok-change.ensures.ok))
+    (write_makes c.args.now s (write_of c.args.event.now) change c.requires.write c.in_ok-change.ensures.ok))
     (committed_so k change old new None made.down made.failed made.stays made.commits)
