@@ -7,6 +7,7 @@ ghost use Rattle.adr_model.specs.Change.{held_of};
 ghost use Rattle.adr_model.specs.Collect.{woken};
 ghost use Rattle.adr_model.specs.Formed.{IsFormedStore};
 ghost use Rattle.adr_image.specs.Stored.{IsSpelled};
+ghost use Rattle.adr_state.specs.Refusal.{IsOverfull};
 ghost use Rattle.adr_records.specs.Woken.{MakesAll, keeping, keeping_all, with_marks};
 
 use adr_failure::{Failure, NoMemory};
@@ -61,8 +62,9 @@ fn wake_without_marks(
     dsa: Uuid,
     inv: Uuid,
 ) -> Result<State, Failure<Full>>
-    requires formed { IsFormedStore contents.now }
+    requires { IsFormedStore contents.now }
     ensures ok { IfOk result (λ state. state ≡ with_marks [] (woken contents.now dsa inv)) }
+    ensures room { IfOk result (λ state. ¬ IsOverfull state) }
     ensures full { IsErrOf result full → cursor_limit < length (raised contents.now.vector inv contents.now.usn) }
 {
     let change = first_change(alloc, contents)?;
@@ -75,7 +77,7 @@ fn wake_without_marks(
 fn keep(alloc: Global, state: &mut State, mark: (Uuid, Kept)) -> Result<(), Failure<Full>>
     requires { state.old.store.usn ≤ at state.old.store.vector state.old.inv }
     ensures ok { OnOk result (state.new ≡ keeping mark state.old) }
-    ensures full { IsErrOf result full → cursor_limit < length state.old.store.vector }
+    ensures full { IsErrOf result full → IsOverfull state.old }
 {
     let change = Change::new(
         state.usn(),
@@ -93,7 +95,7 @@ fn keep(alloc: Global, state: &mut State, mark: (Uuid, Kept)) -> Result<(), Fail
 fn keep_each(alloc: Global, state: &mut State, marks: &[(Uuid, Kept)]) -> Result<(), Failure<Full>>
     requires { state.old.store.usn ≤ at state.old.store.vector state.old.inv }
     ensures ok { OnOk result (state.new ≡ keeping_all marks.now state.old) }
-    ensures full { IsErrOf result full → cursor_limit < length state.old.store.vector }
+    ensures full { IsErrOf result full → IsOverfull state.old }
 {
     for mark in marks {
         keep(alloc, state, *mark)?;

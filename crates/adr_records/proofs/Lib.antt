@@ -1,0 +1,3 @@
+mod Framing
+mod Anew
+mod Making
