@@ -1,5 +1,6 @@
 -- An image in a file is read as what stands in so many bytes.
 use Rattle.std.proofs.Common.{◌≡◌, ℕ, ◌+◌, ◌-◌, ◌<◌, ◌≤◌, Bool, true, false, cond, eqb, ltb, min, List, [], length, take, drop, Ok, Err, refl, sym, ap, subst, ◌∙◌, arith, inl, inr}
+use Rattle.std.specs.Prelude.{◌⊎◌}
 use Rattle.std.proofs.lemmas.Bool.{cases_lt, le-ltb, lt-ltb}
 use Rattle.std.proofs.lemmas.List.{drop-take, length-drop, take_all}
 use Rattle.adr_failure.specs.declared.Failure.{Failure}
@@ -17,7 +18,7 @@ window_is : (bytes : List ℕ) (len end : ℕ) → end ≡ min (43 + len) (lengt
 window_is bytes len end is long =
     ap (λ (n : ℕ). drop 43 (take n bytes)) (let whole : end ≡ 43 + (end - 43) = omega (arith, is, long) in whole) ∙ drop-take 43 (end - 43) bytes ∙ by (cases_lt (43 + len) (length bytes))
   where
-    by : _ → take (end - 43) (drop 43 bytes) ≡ take len (drop 43 bytes)
+    by : (43 + len < length bytes) ⊎ (length bytes ≤ 43 + len) → take (end - 43) (drop 43 bytes) ≡ take len (drop 43 bytes)
     by (inl lt) = ap (λ (n : ℕ). take n (drop 43 bytes)) (omega (arith, is, lt))
     by (inr le) =
         let left = length-drop 43 bytes in

@@ -148,13 +148,13 @@ owner_long o q = simp length-append (omega (arith, q.0, q.1.0))
 
 -- ---- the whole head
 
-abbrev IsRight : Store → Type 0
+abbrev pub IsRight : Store → Type 0
 IsRight s = IsFormedStore s × IsSpelled s
 
-abbrev is_own : Owner → Store → Bool
+abbrev pub is_own : Owner → Store → Bool
 is_own o s = eqb (at s.vector o.inv) s.usn
 
-abbrev IsOwn : Owner → Store → Type 0
+abbrev pub IsOwn : Owner → Store → Type 0
 IsOwn o s = (IsRight s × (length (image s) ≡ o.len)) × (is_own o s ≡ true)
 
 pub own_spelled : (o : Owner) → IsSpelling (IsOwn o) image (own_image_at o)
