@@ -5,8 +5,8 @@ ghost use Rattle.adr_law_formed.specs.Tested.{can_follow};
 ghost use Rattle.adr_records.specs.Body.{SaysChange, are_locals_within, following};
 ghost use Rattle.adr_records.specs.Logged.{IsLogged};
 
-use crate::judging::can_follow;
 use adr_failure::{Failure, NoMemory};
+use adr_follow::can_follow;
 use adr_image::decode_change;
 use adr_journal::FollowRefusal;
 use adr_state::{Change, State};

@@ -8,7 +8,6 @@
 mod contents;
 mod following;
 mod head;
-mod judging;
 mod records;
 mod waking;
 

@@ -1,9 +1,2 @@
 mod Deciding
-mod Rising
-mod Looked
-mod Holding
-mod Tally
-mod Births
-mod Telling
-mod Lengths
 mod Standings

@@ -1,6 +1,1 @@
 pub mod Before
-pub mod Cursors
-pub mod HeldAt
-pub mod Presence
-pub mod Standing
-pub mod Told

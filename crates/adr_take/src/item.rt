@@ -5,18 +5,15 @@ ghost use Rattle.adr_failure.specs.First.{first_of};
 ghost use Rattle.adr_vector.specs.Vector.{Cursors};
 ghost use Rattle.adr_model.specs.Store.{Held};
 ghost use Rattle.adr_model.specs.Take.{incomplete, item_fault, item_refusal, object_lacks, object_rows_tested, row_fault};
-ghost use Rattle.adr_take.specs.Presence.{defined};
-ghost use Rattle.adr_take.specs.Standing.{IsStanding};
+ghost use Rattle.adr_told.specs.Presence.{defined};
+ghost use Rattle.adr_told.specs.Standing.{IsStanding};
 
 use crate::NoMemory;
-use crate::faults::{first_fault, lacks};
-use crate::keys::{class_among, has_row};
-use crate::presence::Presence;
-use crate::standing::Standing;
 use adr_event::{ItemFault, TakeRefusal};
 use adr_schema::Schema;
 use adr_stamp::Unit;
 use adr_state::{DELETED, Item, Update};
+use adr_told::{Presence, Standing, class_among, first_fault, has_row, lacks};
 use std::alloc::AllocError;
 
 /// What is wrong with the first wrong one of the rows of an object's item that are looked at.

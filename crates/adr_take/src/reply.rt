@@ -8,7 +8,6 @@ ghost use Rattle.adr_model.specs.Write.{usn_limit};
 ghost use Rattle.adr_take.specs.Before.{refusal_before};
 
 use crate::NoMemory;
-use crate::cursors::len_after;
 use crate::taking::{Taking, take_items};
 use adr_event::{Failure, Table, TakeRefusal};
 use adr_packet::Reply;
@@ -16,6 +15,7 @@ use adr_state::{
     CURSOR_LIMIT, Change, Kept, LINK_LIMIT, MARK_LIMIT, Mode, OBJECT_LIMIT, State, USN_LIMIT,
     is_same,
 };
+use adr_told::len_after;
 use adr_vector::{Mark, Vector};
 use std::alloc::Global;
 

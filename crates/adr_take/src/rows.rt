@@ -4,15 +4,12 @@ ghost use Rattle.std.specs.Prelude.{◌≡◌, ◌&&◌, [], IfOk, filter, not, 
 ghost use Rattle.adr_vector.specs.Vector.{Cursors};
 ghost use Rattle.adr_model.specs.Update.{class_attr, deleted_attr};
 ghost use Rattle.adr_model.specs.Take.{is_above, is_of_attr, is_reserved_row, left_by_death, object_rows_taken, rows_taken};
-ghost use Rattle.adr_take.specs.Presence.{defined};
-ghost use Rattle.adr_take.specs.Standing.{IsStanding};
+ghost use Rattle.adr_told.specs.Presence.{defined};
+ghost use Rattle.adr_told.specs.Standing.{IsStanding};
 
 use crate::NoMemory;
-use crate::keys::{has_row, is_of_attr, is_reserved};
-use crate::presence::{Presence, is_above};
-use crate::standing::Standing;
-use crate::told::Told;
 use adr_state::{CLASS, DELETED, Item, Update, copy_updates};
+use adr_told::{Presence, Standing, Told, has_row, is_above, is_of_attr, is_reserved};
 use std::alloc::Global;
 
 /// The rows of an item that are written, by what stands of its unit.

@@ -1,22 +1,19 @@
 //! The items of a reply, one after the other.
 
-ghost use Rattle.std.specs.Prelude.{◌≡◌, ◌+◌, ◌<◌, ◌≤◌, ◌^◌, [], ◌++◌, IfOk, IfSome, OnOk, false, fold, length, map};
-ghost use Rattle.std.specs.Option.{option_map_or};
-ghost use Rattle.adr_model.specs.Store.{holds_object, is_row_of};
-ghost use Rattle.adr_model.specs.Change.{held_of, put, rows_after};
+ghost use Rattle.std.specs.Prelude.{◌≡◌, ◌+◌, ◌<◌, ◌≤◌, ◌^◌, [], ◌++◌, IfOk, IfSome, OnOk, false, fold, length};
+ghost use Rattle.adr_model.specs.Store.{holds_object};
+ghost use Rattle.adr_model.specs.Change.{held_of, rows_after};
 ghost use Rattle.adr_model.specs.Take.{begin, take_item, take_items, writes_of};
 ghost use Rattle.adr_model.specs.Write.{usn_limit};
-ghost use Rattle.adr_take.specs.HeldAt.{held_at};
 
 use crate::NoMemory;
 use crate::item::item_refusal;
 use crate::rows::rows_taken;
-use crate::standing::{new_object, standing_of};
-use crate::told::Told;
 use adr_event::TakeRefusal;
 use adr_schema::Schema;
 use adr_stamp::Oid;
-use adr_state::{Held, Item, State, Update, Written};
+use adr_state::{Item, State, Update, Written};
+use adr_told::{Told, new_object, standing_of};
 use adr_vector::Vector;
 use std::alloc::Global;
 use std::marker::Model;
@@ -107,7 +104,7 @@ impl<'a> Taking<'a> {
             return Ok(());
         }
         let local = self.usn + 1;
-        put_all(alloc, &mut self.told, local, rows.as_slice(), unheld)?;
+        self.told.put_all(alloc, local, rows.as_slice(), unheld)?;
         self.writes
             .push(Written::new(local, Item::new(item.unit(), rows)))?;
         self.usn = local;
@@ -142,36 +139,6 @@ impl<'a> Taking<'a> {
         ensures { result.items ≡ self.entry.writes }
     {
         self.writes
-    }
-}
-
-/// Puts rows, one after the other, under an update sequence number. An object may be known of which nothing is held
-/// before the first.
-fn put_all(
-    alloc: Global,
-    told: &mut Told,
-    local: u64,
-    rows: &[Update],
-    mut unheld: Option<Oid>,
-) -> Result<(), NoMemory>
-    requires { IfSome unheld (λ o. holds_object told.old o ≡ false) }
-    ensures { OnOk result (told.new ≡ fold put told.old (map (held_at local) rows.now)) }
-{
-    for row in rows {
-        let is_new = is_row_of(row, unheld);
-        told.put(alloc, Held::new(row.copy(alloc)?, local), is_new)?;
-        unheld = None;
-    }
-    Ok(())
-}
-
-/// Whether a row is one of an object, if there is one.
-fn is_row_of(row: &Update, object: Option<Oid>) -> bool
-    ensures { result ≡ option_map_or (λ o. is_row_of o row.now.key) object false }
-{
-    match object {
-        Some(object) => row.key().is_row_of(&object),
-        None => false,
     }
 }
 

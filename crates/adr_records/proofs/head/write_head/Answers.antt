@@ -8,4 +8,4 @@ pub overflow_cast-owner : goal.overflow_cast-owner
 overflow_cast-owner c =
     let long = ap (λ (l : List ℕ). length l) (c.in_ok-image.ensures ∙ ap (λ (s : Store). image s) c.in_ok-contents.ensures) in
     let counted = store_long c.args.state.now.store c.requires.logged.formed.store c.requires.logged.spelled in
-    omega (arith, long, counted, c.requires.short, c.len.ensures, vec_len_items c.in_ok-image.image)
+    omega (arith, long, counted, c.requires.short, c.len.ensures, c.in_ok-image.image.ok.0)

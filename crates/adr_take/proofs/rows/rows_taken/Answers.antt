@@ -1,7 +1,7 @@
 use Rattle.std.proofs.Common.{[], cond, filter, sym, ap, ◌∙◌}
 use Rattle.std.proofs.lemmas.Result.{IfOk-weaker}
 use Rattle.adr_model.specs.Take.{is_above, object_rows_taken}
-use Rattle.adr_take.specs.Presence.{defined}
+use Rattle.adr_told.specs.Presence.{defined}
 use Rattle.adr_take.proofs.Standings.{taken_by, taken_so}
 use Rattle.adr_take.proofs.rows.rows_taken.Goals as goal
 

@@ -3,8 +3,8 @@ use Rattle.std.specs.Prelude.{IfSome}
 use Rattle.adr_stamp.specs.declared.Oid.{Oid}
 use Rattle.adr_model.specs.Store.{Held, holds_object}
 use Rattle.adr_model.specs.Take.{Taking}
-use Rattle.adr_take.specs.Standing.{IsStanding}
-use Rattle.adr_take.proofs.Standings.{new_unheld}
+use Rattle.adr_told.specs.Standing.{IsStanding}
+use Rattle.adr_told.proofs.Standings.{new_unheld}
 use Rattle.adr_take.proofs.taking.Taking.take_item.Goals as goal
 
 pub write-requires-clause-unheld : goal.write-requires-clause-unheld

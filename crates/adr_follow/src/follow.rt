@@ -1,0 +1,51 @@
+//! The whole change.
+
+ghost use Rattle.std.specs.Prelude.{◌≡◌, ◌↔◌, IfOk, IsTrue};
+ghost use Rattle.adr_model.specs.Formed.{IsFormed};
+ghost use Rattle.adr_law_formed.specs.Follow.{CanFollow, HasKnownClasses};
+ghost use Rattle.adr_law_formed.specs.Spelled.{IsSpelledChange};
+ghost use Rattle.adr_law_formed.specs.Tested.{can_follow};
+
+use crate::NoMemory;
+use crate::removed::are_removable;
+use crate::touched::are_touched_formed;
+use crate::vectors::{are_in_order, goes_on};
+use crate::writes::may_follow_in_turn;
+use adr_law_formed::changes_are_tested;
+use adr_state::{Change, State};
+use adr_told::Told;
+use std::alloc::Global;
+
+/// Whether a change that was read can follow a state. Of the state it looks at what the change touches alone, and at the
+/// links of the objects that it kills.
+pub fn can_follow(alloc: Global, state: &State, change: &Change) -> Result<bool, NoMemory>
+    ensures told { IfOk result (λ can. can ≡ can_follow state.now change.now) }
+
+    // So the state after it is formed, and its classes are known.
+    ensures follows { IfOk result (λ can. IsFormed state.now → HasKnownClasses state.now
+        → IsSpelledChange state.now.store.usn change.now → IsTrue can ↔ CanFollow state.now change.now) }
+{
+    changes_are_tested();
+    passes(alloc, state, change)
+}
+
+/// The test of a change.
+fn passes(alloc: Global, state: &State, change: &Change) -> Result<bool, NoMemory>
+    ensures { IfOk result (λ can. can ≡ can_follow state.now change.now) }
+{
+    if !goes_on(state, change) {
+        return Ok(false);
+    }
+    let mut told = Told::new(alloc, state.rows());
+    let schema = state.schema();
+    if !may_follow_in_turn(alloc, schema, state.vector(), &mut told, change.writes())? {
+        return Ok(false);
+    }
+    if !are_removable(&told, state.purged(), change) {
+        return Ok(false);
+    }
+    if !are_in_order(state, change) {
+        return Ok(false);
+    }
+    are_touched_formed(alloc, schema, &told, change)
+}

@@ -1,0 +1,88 @@
+//! The numbers of a change: its USN, its vectors and how many cursors and marks there come to be.
+
+ghost use Rattle.std.specs.Prelude.{◌≡◌, ◌&&◌, length, nat_le, not};
+ghost use Rattle.adr_vector.specs.Vector.{IsVector, at, at_most, cursor_limit, joined};
+ghost use Rattle.adr_model.specs.Change.{after, with_mark};
+ghost use Rattle.adr_model.specs.Serve.{is_quarantined};
+ghost use Rattle.adr_model.specs.Take.{mark_limit};
+
+use adr_state::{CURSOR_LIMIT, Change, MARK_LIMIT, State, is_same};
+use adr_told::len_after;
+use adr_vector::Vector;
+use uuid::Uuid;
+
+/// Whether a change goes on from a state that is up, at its USN or above it.
+pub fn goes_on(state: &State, change: &Change) -> bool
+    ensures { result ≡ (not (is_quarantined state.now.mode) && nat_le state.now.store.usn change.now.usn) }
+{
+    !state.mode().is_quarantined() && state.usn() <= change.usn()
+}
+
+/// Whether the vectors of a change fit the state: no more of its own writes is joined than the change brings, no more is
+/// purged than was seen, and there are few enough cursors and marks.
+pub fn are_in_order(state: &State, change: &Change) -> bool
+    ensures { let store = (after state.now change.now).store in result
+        ≡ (nat_le (at change.now.joined state.now.inv) change.now.usn
+        && at_most change.now.purged store.vector
+        && nat_le (length store.vector) cursor_limit
+        && nat_le (length store.marks) mark_limit) }
+{
+    let cursors = len_after(
+        state.vector(),
+        Some(change.joined()),
+        state.inv(),
+        change.usn(),
+    );
+    change.joined().at(state.inv()) <= change.usn()
+        && is_purged_within(state, change)
+        && cursors as u64 <= CURSOR_LIMIT
+        && len_marks(state, change) as u64 <= MARK_LIMIT
+}
+
+/// How many partners there come to be of whom a mark is kept.
+fn len_marks(state: &State, change: &Change) -> usize
+    ensures { result ≡ length (with_mark change.now.mark state.now.store.marks) }
+{
+    match change.mark() {
+        Some((partner, _)) => state.marks().len_with(partner),
+        None => state.marks().len(),
+    }
+}
+
+/// Whether no more is purged than will have been seen.
+fn is_purged_within(state: &State, change: &Change) -> bool
+    ensures { result ≡ at_most change.now.purged (after state.now change.now).store.vector }
+{
+    change
+        .purged()
+        .cursors()
+        .iter()
+        .all(|(inv, usn)| *usn <= seen_after(state, change, *inv))
+}
+
+/// How much of an incarnation will have been seen.
+fn seen_after(state: &State, change: &Change, inv: Uuid) -> u64
+    ensures { result ≡ at (after state.now change.now).store.vector inv }
+{
+    let seen = seen_by_both(state.vector(), change.joined(), inv);
+    if is_same(inv, state.inv()) {
+        seen.max(change.usn())
+    } else {
+        seen
+    }
+}
+
+/// How much of an incarnation one of two vectors has seen.
+pub fn seen_by_both(one: &Vector, other: &Vector, inv: Uuid) -> u64
+    ensures { result ≡ at (joined one.now other.now) inv }
+{
+    are_rising(other);
+    one.at(inv).max(other.at(inv))
+}
+
+/// The identifiers of a vector rise.
+fn are_rising(vector: &Vector)
+    ensures { IsVector vector.now }
+{
+    vector.cursors();
+}

@@ -1,0 +1,9 @@
+mod Rising
+mod Looked
+mod Holding
+mod Tally
+mod Births
+mod Telling
+mod All
+mod Lengths
+pub mod Standings

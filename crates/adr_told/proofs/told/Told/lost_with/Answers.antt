@@ -1,0 +1,12 @@
+use Rattle.std.proofs.Common.{◌≡◌, IfOk, Some, ap, ◌∙◌, subst}
+use Rattle.adr_table.specs.Table.{rows_in}
+use Rattle.adr_told.specs.Told.{links_lost}
+use Rattle.adr_told.proofs.Telling.{lost}
+use Rattle.adr_told.proofs.told.Told.lost_with.Goals as goal
+
+pub returns : goal.returns
+returns c =
+    let o = c.args.object.now in
+    subst (λ n. IfOk c.count_at.result (λ count. count ≡ n))
+    (lost o (rows_in c.self.inside.over) c.self.inside.base.now c.self.invariant.counted.over_rises c.self.invariant.counted.base_rises ∙ ap (links_lost (Some o)) c.self.view_is)
+    c.count_at.ensures
