@@ -20,7 +20,7 @@ tail_bytes : (bytes : List ℕ) → AreBytes bytes → AreBytes (drop 1 bytes)
 tail_bytes [] are i = are i
 tail_bytes (b ∷ bytes) are i = are (suc i)
 
-dropped_bytes : (bytes : List ℕ) (n : ℕ) → AreBytes bytes → AreBytes (drop n bytes)
+pub dropped_bytes : (bytes : List ℕ) (n : ℕ) → AreBytes bytes → AreBytes (drop n bytes)
 dropped_bytes bytes n are i = subst (λ (b : ℕ). b < 256) (sym (get_or-drop n bytes i 0)) (are (n + i))
 
 -- a body that stands behind its length is made of bytes

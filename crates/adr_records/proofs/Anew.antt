@@ -1,5 +1,5 @@
 -- Lists that rise are made anew by putting their elements in, one after the other.
-use Rattle.std.proofs.Common.{◌≡◌, Bool, true, false, cond, not, ◌||◌, ℕ, List, [], ◌∷◌, ◌++◌, map, filter, fold, Option, Some, None, refl, sym, ap, subst, ◌∙◌, inl, inr, append-nil, append_assoc}
+use Rattle.std.proofs.Common.{◌≡◌, Bool, true, false, cond, not, ◌||◌, eqb, ltb, ℕ, List, [], ◌∷◌, ◌++◌, map, filter, fold, Option, Some, None, refl, sym, ap, subst, ◌∙◌, inl, inr, append-nil, append_assoc}
 use Rattle.std.specs.Prelude.{◌⊎◌, nat_lt}
 use Rattle.std.specs.List.{AllByRecursion}
 use Rattle.std.specs.List.Sorted.{IsStrictlySortedBy}
@@ -19,8 +19,7 @@ use Rattle.adr_model.specs.Reflects.{HoldsObject, IsTombstoned}
 use Rattle.adr_model.specs.Store.{Held, updates_of, with_row}
 use Rattle.adr_model.specs.Update.{Key, RowOf, LinkOf, Update, key_order, same_object, deleted_attr}
 use Rattle.adr_model.proofs.Keys.{keys_total, objects_tell}
-use Rattle.adr_model.proofs.Members.{member_mapped}
-use Rattle.std.proofs.Common.{eqb, ltb}
+use Rattle.adr_model.proofs.Members.{filter_all, member_left, member_mapped, member_right}
 
 -- ---- each fits behind those before it
 
@@ -68,11 +67,6 @@ module _ {K X : Type 0} (R : K → K → Ordering) (total : IsTotalOrder R) wher
 
 -- ---- rows
 
-kept : (test : Held → Bool) (xs : List Held) → Each (λ x. test x ≡ true) xs → filter test xs ≡ xs
-kept test [] all = refl
-kept test (x ∷ xs) all =
-    ap (λ (b : Bool). cond b (x ∷ filter test xs) (filter test xs)) (all x (inl refl)) ∙ ap (λ (ys : List Held). x ∷ ys) (kept test xs (λ y m. all y (inr m)))
-
 abbrev row_key : Held → Key
 row_key h = h.update.key
 
@@ -91,19 +85,10 @@ rowed (x ∷ xs) h all =
 
 unstripped : (killed : Option Oid) (rows : List Held) → ((o : Oid) → killed ≡ Some o → Each (λ x. goes_with o x.update.key ≡ false) rows) → stripped killed rows ≡ rows
 unstripped None rows spares = refl
-unstripped (Some o) rows spares = kept (λ x. not (goes_with o x.update.key)) rows (λ x m. ap not (spares o refl x m))
+unstripped (Some o) rows spares = filter_all (λ x. not (goes_with o x.update.key)) rows (λ x m. ap not (spares o refl x m))
 
 placed : (done : List Held) (h : Held) → IsNext done h → put done h ≡ done ++ h ∷ []
 placed done h next = ap (stripped (killed_by h.update.key)) (rowed done h next.behind) ∙ unstripped (killed_by h.update.key) (done ++ h ∷ []) next.spares
-
-front_member : (xs ys : List Held) (h : Held) → Member h xs → Member h (xs ++ ys)
-front_member [] ys h m = absurd m
-front_member (x ∷ xs) ys h (inl e) = inl e
-front_member (x ∷ xs) ys h (inr m) = inr (front_member xs ys h m)
-
-back_member : (xs ys : List Held) (h : Held) → Member h ys → Member h (xs ++ ys)
-back_member [] ys h m = m
-back_member (x ∷ xs) ys h m = inr (back_member xs ys h m)
 
 rows_fit : (done rows : List Held) → AreRising (done ++ rows) → Each (λ h. Spares h (done ++ rows)) (done ++ rows) → FitInTurn put IsNext placed done rows
 rows_fit done [] rising spare = tt
@@ -111,7 +96,7 @@ rows_fit done (h ∷ hs) rising spare =
     let again : (done ++ h ∷ []) ++ hs ≡ done ++ h ∷ hs = append_assoc done (h ∷ []) hs in
     let next : IsNext done h = record {
       behind = is_behind key_order keys_total row_key done h hs rising;
-      spares = λ o dies x m. spare h (back_member done (h ∷ hs) h (inl refl)) o dies x (subst (λ (xs : List Held). Member x xs) again (front_member (done ++ h ∷ []) hs x m));
+      spares = λ o dies x m. spare h (member_right done (h ∷ hs) h (inl refl)) o dies x (subst (λ (xs : List Held). Member x xs) again (member_left (done ++ h ∷ []) hs x m));
     } in
     (next, rows_fit (done ++ h ∷ []) hs (subst AreRising (sym again) rising) (subst (λ (xs : List Held). Each (λ g. Spares g xs) xs) (sym again) spare))
 

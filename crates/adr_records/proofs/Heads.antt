@@ -1,5 +1,5 @@
 -- The head of a log is read field by field.
-use Rattle.std.proofs.Common.{◌≡◌, ℕ, ◌+◌, ◌<◌, ◌≤◌, Bool, true, false, cond, eqb, List, [], ◌∷◌, length, take, drop, get_or, Result, Ok, Err, refl, sym, ap, subst, ◌∙◌, arith, get_or-drop}
+use Rattle.std.proofs.Common.{◌≡◌, ℕ, ◌+◌, ◌<◌, ◌≤◌, Bool, true, false, cond, eqb, List, [], ◌∷◌, length, take, drop, Result, Ok, Err, refl, sym, ap, subst, ◌∙◌, arith}
 use Rattle.std.specs.Prelude.{OnOk}
 use Rattle.std.proofs.lemmas.Bool.{eq-eqb, eqb-true, ltb-false, ne_eqb}
 use Rattle.std.proofs.lemmas.List.{drop-drop, drop_at, length-append, length-drop}
@@ -14,14 +14,12 @@ use Rattle.adr_wire.proofs.Combining.{from, guard_ok}
 use Rattle.adr_wire.proofs.Loops.{names_refuses, refuses_then}
 use Rattle.adr_model.specs.Collect.{woken}
 use Rattle.adr_model.specs.Store.{Normal, State, Store}
+use Rattle.adr_journal.proofs.Heads.{dropped_bytes}
 use Rattle.adr_image.specs.Stored.{image_at}
 use Rattle.adr_image.proofs.Steps.{then_first, then_ok, then_second}
 use Rattle.adr_records.specs.Head.{framed_at, head_at, own_image_at, owner, owner_at, state_of}
 use Rattle.adr_records.specs.HeadLaws.{IsOwn, IsOwner, is_own, own_spelled, owner_long, owner_spelled}
 use Rattle.adr_records.specs.declared.head.Owner.{Owner}
-
-pub dropped_bytes : (bytes : List ℕ) (n : ℕ) → AreBytes bytes → AreBytes (drop n bytes)
-dropped_bytes bytes n are i = subst (λ (b : ℕ). b < 256) (sym (get_or-drop n bytes i 0)) (are (n + i))
 
 -- ---- whose log it is
 

@@ -5,13 +5,17 @@ ghost use Rattle.std.specs.Prelude.{◌≡◌, IfOk};
 use adr_failure::NoMemory;
 use adr_image::Contents;
 use adr_state::{Held, Rows, State};
-use std::alloc::{AllocError, Global};
+use std::alloc::Global;
 
 /// Equal rows, in order of their keys.
-fn copy_rows(_alloc: Global, _rows: &Rows) -> Result<Vec<Held>, NoMemory>
-    ensures { IfOk result (λ copy. copy.items ≡ _rows.now) }
+fn copy_rows(alloc: Global, rows: &Rows) -> Result<Vec<Held>, NoMemory>
+    ensures { IfOk result (λ copy. copy.items ≡ rows.now) }
 {
-    Err(AllocError)
+    let mut copy = Vec::new(alloc);
+    for row in rows.to_vec(alloc)? {
+        copy.push(row.copy(alloc)?)?;
+    }
+    Ok(copy)
 }
 
 /// What a state's database says.
