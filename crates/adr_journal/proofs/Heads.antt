@@ -28,8 +28,8 @@ pub body_bytes : (bytes body : List ℕ) (n : ℕ) → AreBytes bytes → drop n
 body_bytes bytes body n are is =
     let after = drop (4 + length body) (drop n bytes) in
     let behind : AreBytes (body ++ after) =
-        rest_bytes {X = List ℕ} (λ b. Unit {0}) (λ b. u32 (length b)) 0 (drop n bytes) body (record { place = length (u32 (length body)); bytes = body ++ after })
-        (record { in_range = tt; spelled_so = is ∙ append_assoc (u32 (length body)) body after; moved = omega arith }) (dropped_bytes bytes n are)
+    rest_bytes {X = List ℕ} (λ b. Unit {0}) (λ b. u32 (length b)) 0 (drop n bytes) body (record { place = length (u32 (length body)); bytes = body ++ after })
+    (record { in_range = tt; spelled_so = is ∙ append_assoc (u32 (length body)) body after; moved = omega arith }) (dropped_bytes bytes n are)
     in
     spelled_bytes {X = List ℕ} (λ b. Unit {0}) (λ b. b) 0 (body ++ after) body (record { place = length body; bytes = after })
     (record { in_range = tt; spelled_so = refl; moved = omega arith }) behind

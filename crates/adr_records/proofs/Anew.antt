@@ -1,21 +1,20 @@
 -- Lists that rise are made anew by putting their elements in, one after the other.
-use Rattle.std.proofs.Common.{◌≡◌, Bool, true, false, cond, not, ◌||◌, eqb, ltb, ℕ, List, [], ◌∷◌, ◌++◌, map, filter, fold, Option, Some, None, refl, sym, ap, subst, ◌∙◌, inl, inr, append-nil, append_assoc}
-use Rattle.std.specs.Prelude.{◌⊎◌, nat_lt}
+use Rattle.std.proofs.Common.{◌≡◌, Bool, true, false, cond, not, ◌||◌, eqb, ltb, ℕ, List, [], ◌∷◌, ◌++◌, map, fold, Option, Some, None, refl, sym, ap, subst, ◌∙◌, inl, inr, append-nil, append_assoc}
 use Rattle.std.specs.List.{AllByRecursion}
 use Rattle.std.specs.List.Sorted.{IsStrictlySortedBy}
 use Rattle.std.specs.BTreeMap.{insert_entry}
 use Rattle.std.specs.Cmp.{IsTotalOrder}
 use Rattle.std.specs.Ordering.{match_ordering, ordering_reverse}
 use Rattle.std.specs.declared.cmp.Ordering.{Ordering}
-use Rattle.std.specs.declared.cmp.Ordering.TheVariants.{Less, Equal, Greater}
+use Rattle.std.specs.declared.cmp.Ordering.TheVariants.{Less, Greater}
 use Rattle.std.proofs.lemmas.Bool.{eqb-true, ltb-true}
 use Rattle.adr_stamp.specs.declared.Oid.{Oid}
 use Rattle.adr_stamp.specs.declared.LinkKey.{LinkKey}
 use Rattle.adr_schema.specs.Table.{Table}
 use Rattle.adr_model.specs.Change.{goes_with, killed_by, put, rows_after, stripped}
-use Rattle.adr_model.specs.Formed.{AreFormedRows, AreRising, IsDeadFormed, IsObjectFormed, KeepsSchema}
+use Rattle.adr_model.specs.Formed.{AreFormedRows, AreRising, IsDeadFormed, IsObjectFormed}
 use Rattle.adr_model.specs.Member.{Each, Member}
-use Rattle.adr_model.specs.Reflects.{HoldsObject, IsTombstoned}
+use Rattle.adr_model.specs.Reflects.{IsTombstoned}
 use Rattle.adr_model.specs.Store.{Held, updates_of, with_row}
 use Rattle.adr_model.specs.Update.{Key, RowOf, LinkOf, Update, key_order, same_object, deleted_attr}
 use Rattle.adr_model.proofs.Keys.{keys_total, objects_tell}

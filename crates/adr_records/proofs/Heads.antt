@@ -1,14 +1,13 @@
 -- The head of a log is read field by field.
-use Rattle.std.proofs.Common.{◌≡◌, ℕ, ◌+◌, ◌<◌, ◌≤◌, Bool, true, false, cond, eqb, List, [], ◌∷◌, length, take, drop, Result, Ok, Err, refl, sym, ap, subst, ◌∙◌, arith}
+use Rattle.std.proofs.Common.{◌≡◌, ℕ, ◌<◌, ◌≤◌, Bool, true, cond, eqb, List, [], ◌∷◌, length, take, drop, Result, Ok, Err, refl, sym, ap, ◌∙◌, arith}
 use Rattle.std.specs.Prelude.{OnOk}
-use Rattle.std.proofs.lemmas.Bool.{eq-eqb, eqb-true, ltb-false, ne_eqb}
+use Rattle.std.proofs.lemmas.Bool.{eq-eqb, eqb-true, ne_eqb}
 use Rattle.std.proofs.lemmas.List.{drop-drop, drop_at, length-append, length-drop}
 use Rattle.adr_failure.specs.declared.Failure.{Failure}
-use Rattle.adr_failure.specs.declared.Failure.TheVariants.{Refused, NoMemory}
 use Rattle.adr_vector.specs.Vector.{Cursors, at, cursor_limit, raised}
 use Rattle.adr_vector.proofs.Placing.{raised_seen}
 use Rattle.adr_wire.specs.declared.refusal.Malformed.{Malformed}
-use Rattle.adr_wire.specs.Reading.{Names, Read, Refuses, Rest, Tells, ◌>>=◌, as_at, bytes_at, then_at}
+use Rattle.adr_wire.specs.Reading.{Names, Read, Refuses, Rest, Tells, ◌>>=◌, bytes_at, then_at}
 use Rattle.adr_wire.specs.Spelling.{AreBytes}
 use Rattle.adr_wire.proofs.Combining.{from, guard_ok}
 use Rattle.adr_wire.proofs.Loops.{names_refuses, refuses_then}
@@ -18,7 +17,7 @@ use Rattle.adr_journal.proofs.Heads.{dropped_bytes}
 use Rattle.adr_image.specs.Stored.{image_at}
 use Rattle.adr_image.proofs.Steps.{then_first, then_ok, then_second}
 use Rattle.adr_records.specs.Head.{framed_at, head_at, own_image_at, owner, owner_at, state_of}
-use Rattle.adr_records.specs.HeadLaws.{IsOwn, IsOwner, is_own, own_spelled, owner_long, owner_spelled}
+use Rattle.adr_records.specs.HeadLaws.{IsOwn, is_own, own_spelled, owner_long, owner_spelled}
 use Rattle.adr_records.specs.declared.head.Owner.{Owner}
 
 -- ---- whose log it is

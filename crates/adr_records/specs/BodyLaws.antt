@@ -1,5 +1,5 @@
 -- A change that may be recorded is read from its body and follows, and what follows leads to a state of a log.
-use Rattle.std.proofs.Common.{◌≡◌, ℕ, ◌<◌, ◌≤◌, Bool, true, false, cond, eqb, leb, List, [], ◌∷◌, ◌&&◌, length, map, Option, Some, None, refl, sym, ap, subst, ◌∙◌, arith, inl, inr}
+use Rattle.std.proofs.Common.{◌≡◌, ℕ, ◌≤◌, Bool, true, false, cond, eqb, leb, List, [], ◌∷◌, ◌&&◌, length, map, Option, Some, None, refl, sym, ap, subst, ◌∙◌, arith, inl, inr}
 use Rattle.std.specs.List.{AllByRecursion, list_all}
 use Rattle.std.specs.List.Sorted.{IsStrictlySortedBy}
 use Rattle.std.specs.Option.{IfSome}
@@ -13,7 +13,6 @@ use Rattle.adr_stamp.specs.declared.Unit.TheVariants.{Object}
 use Rattle.adr_stamp.specs.contracts.OidOrd.TheImpl.Laws.{total-law as objects_total}
 use Rattle.adr_schema.specs.declared.content.Content.{Content}
 use Rattle.adr_schema.specs.declared.content.Content.TheVariants.{Class, Name, Dead, Values}
-use Rattle.adr_vector.specs.Vector.{cursor_limit}
 use Rattle.adr_wire.specs.Composites.{Row}
 use Rattle.adr_wire.specs.Pieces.{Piece, OfRows, OfLink, IsPiece}
 use Rattle.adr_wire.specs.Ranges.{InTurn, IsContent, IsRowAbove}
@@ -26,12 +25,11 @@ use Rattle.adr_model.specs.LocalLog.{IsOrdered}
 use Rattle.adr_model.specs.Member.{Each, Member}
 use Rattle.adr_model.specs.Store.{State}
 use Rattle.adr_model.specs.Update.{Key, RowOf, LinkOf, IsPresent, Update, key_order, unit_of}
-use Rattle.adr_law_formed.specs.Follow.{CanFollow}
 use Rattle.adr_law_formed.specs.Spelled.{AreLocalsRising, IsContentOfAttr, IsSaidOfKey, IsSpelledChange, IsSpelledItem, IsSpelledWrite}
 use Rattle.adr_law_formed.specs.Tested.{can_follow}
 use Rattle.adr_law_formed.proofs.WholeTested.{follows_where_tested, tested_where_follows}
 use Rattle.adr_image.specs.Body.{IsMarkIf, IsWrite, Write}
-use Rattle.adr_image.specs.Changes.{HasBody, change_bytes, change_of, decoded_change, item_of, written_of}
+use Rattle.adr_image.specs.Changes.{HasBody, change_bytes, decoded_change, item_of, written_of}
 use Rattle.adr_image.specs.Image.{Marked}
 use Rattle.adr_image.proofs.Recorded.{change_again, change_long, change_only}
 use Rattle.adr_image.proofs.Staying.{stays_spelled}

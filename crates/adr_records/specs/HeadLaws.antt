@@ -1,14 +1,14 @@
 -- The head of a log is spelled in one way, and is as long as is counted.
-use Rattle.std.proofs.Common.{◌≡◌, ℕ, ◌+◌, ◌<◌, ◌≤◌, Bool, true, false, cond, eqb, ltb, List, [], ◌∷◌, ◌++◌, length, take, drop, map, Ok, Err, refl, sym, ap, subst, ◌∙◌, arith, append-nil, append_assoc}
+use Rattle.std.proofs.Common.{◌≡◌, ℕ, ◌+◌, ◌<◌, Bool, true, false, cond, eqb, ltb, List, [], ◌++◌, length, take, drop, Ok, Err, refl, sym, ap, subst, ◌∙◌, arith, append-nil}
 use Rattle.std.specs.Str.{bytes_eq}
 use Rattle.std.proofs.lemmas.Bool.{eq-eqb, eqb-true, le-ltb, ltb-false}
 use Rattle.std.proofs.lemmas.List.{take_at, drop_at, take-append-drop, length-append, length-take, nil_from_length}
 use Rattle.adr_vector.specs.Vector.{at}
 use Rattle.adr_wire.specs.Fields.{u16_at, u32_at, id_at, u16, u32, id}
 use Rattle.adr_wire.specs.Ranges.{IsId, IsU16, IsU32}
-use Rattle.adr_wire.specs.Reading.{Rest, Read, Reading, ◌>>=◌, as_at, bytes_at, then_at, where_at}
+use Rattle.adr_wire.specs.Reading.{Rest, Read, Reading, ◌>>=◌, bytes_at, then_at, where_at}
 use Rattle.adr_wire.specs.Spelling.{AreBytes, behind, Was, IsSpelling}
-use Rattle.adr_wire.proofs.Combining.{HasLength, as_they_are, bind_ok, both, bytes_spelled, from, guard_ok, made, ok_is, pair, passed, spelled_bytes}
+use Rattle.adr_wire.proofs.Combining.{HasLength, as_they_are, bind_ok, both, bytes_spelled, from, guard_ok, made, pair, passed, spelled_bytes}
 use Rattle.adr_wire.proofs.FieldLaws.{id_spelled, u16_spelled, u32_spelled}
 use Rattle.adr_model.specs.Formed.{IsFormedStore}
 use Rattle.adr_model.specs.Lengths.{new_log_end}
@@ -20,7 +20,7 @@ use Rattle.adr_image.specs.Stored.{IsSpelled, image, image_at}
 use Rattle.adr_image.proofs.Counted.{store_long}
 use Rattle.adr_image.proofs.Placed.{image_spelled}
 use Rattle.adr_records.specs.Head.{framed_at, head, head_at, magic, own_image_at, owner, owner_at, owner_in, owner_of, state_of, within_at}
-use Rattle.adr_records.specs.Logged.{IsLogged, MayBegin}
+use Rattle.adr_records.specs.Logged.{MayBegin}
 use Rattle.adr_records.specs.declared.head.Owner.{Owner}
 use Rattle.std.proofs.lemmas.Slice.Eq.{bytes_eq-Decides}
 

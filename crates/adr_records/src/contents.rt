@@ -1,18 +1,19 @@
 //! What a state says, as the contents of an image.
 
 ghost use Rattle.std.specs.Prelude.{◌≡◌, IfOk};
+ghost use Rattle.adr_update.specs.Referents.{referents};
 
 use adr_failure::NoMemory;
 use adr_image::Contents;
-use adr_state::{Held, Rows, State};
+use adr_state::{Held, State};
 use std::alloc::Global;
 
-/// Equal rows, in order of their keys.
-fn copy_rows(alloc: Global, rows: &Rows) -> Result<Vec<Held>, NoMemory>
-    ensures { IfOk result (λ copy. copy.items ≡ rows.now) }
+/// Equal rows, in their order.
+fn copy_rows(alloc: Global, rows: &[&Held]) -> Result<Vec<Held>, NoMemory>
+    ensures { IfOk result (λ copy. copy.items ≡ referents rows.now) }
 {
     let mut copy = Vec::new(alloc);
-    for row in rows.to_vec(alloc)? {
+    for row in rows {
         copy.push(row.copy(alloc)?)?;
     }
     Ok(copy)
@@ -22,10 +23,11 @@ fn copy_rows(alloc: Global, rows: &Rows) -> Result<Vec<Held>, NoMemory>
 pub(crate) fn contents_of(alloc: Global, state: &State) -> Result<Contents, NoMemory>
     ensures { IfOk result (λ contents. contents ≡ state.now.store) }
 {
+    let rows = state.rows().to_vec(alloc)?;
     Ok(Contents {
         schema: state.schema(),
         usn: state.usn(),
-        rows: copy_rows(alloc, state.rows())?,
+        rows: copy_rows(alloc, rows.as_slice())?,
         vector: state.vector().copy(alloc)?,
         purged: state.purged().copy(alloc)?,
         marks: state.marks().to_vec(alloc)?,

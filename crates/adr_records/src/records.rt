@@ -2,13 +2,12 @@
 
 use crate::following::follow;
 use crate::head::{read_head, write_head};
+use adr_failure::NoMemory;
 use adr_image::encode_change;
 use adr_journal::{FollowRefusal, Form};
 use adr_state::{Change, State};
 use adr_wire::WireRefusal;
 use std::alloc::Global;
-
-use adr_failure::NoMemory;
 
 /// The bytes of a controller's log. It has no values: a journal takes it as a type.
 pub enum Records {}

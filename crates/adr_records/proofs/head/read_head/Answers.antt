@@ -1,4 +1,4 @@
-use Rattle.std.proofs.Common.{◌≡◌, ◌+◌, ◌∙◌, Ok, Err, ap, drop, sym}
+use Rattle.std.proofs.Common.{◌+◌, ◌∙◌, Ok, Err, ap, drop, sym}
 use Rattle.std.proofs.lemmas.Result.{err_from_is_err_and}
 use Rattle.adr_wire.specs.Reading.{Read}
 use Rattle.adr_wire.proofs.Combining.{from}

@@ -1,4 +1,4 @@
-use Rattle.std.proofs.Common.{List, ℕ, ◌≡◌, Ok, ◌∙◌, ap, drop, subst, sym}
+use Rattle.std.proofs.Common.{◌∙◌, ap, drop, subst, sym}
 use Rattle.adr_failure.specs.declared.Failure.{Failure}
 use Rattle.adr_wire.specs.declared.refusal.Malformed.{Malformed}
 use Rattle.adr_wire.specs.Reading.{Names, Rest, Tells, bytes_at}

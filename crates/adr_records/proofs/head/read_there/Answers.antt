@@ -1,4 +1,4 @@
-use Rattle.std.proofs.Common.{◌≡◌, ◌<◌, ◌∙◌, ℕ, List, [], ◌∷◌, Bool, true, false, ap, arith, drop, length, refl, sym, subst, take}
+use Rattle.std.proofs.Common.{◌≡◌, ◌<◌, ◌∙◌, ℕ, List, [], ◌∷◌, true, false, ap, arith, drop, length, refl, sym, subst, take}
 use Rattle.std.proofs.lemmas.Result.{err_from_is_err_and}
 use Rattle.adr_failure.specs.declared.Failure.{Failure}
 use Rattle.adr_wire.specs.declared.refusal.Malformed.{Malformed}
@@ -24,7 +24,7 @@ returns-in_err-end-clause-refused c =
     let p = err_from_is_err_and c.from_residual-in_err-end.result c.from_residual-in_err-end.ensures.1 in
     let there = stands_there c.args.bytes.now (take c.min.result c.args.bytes.now) c.in_ok-take.field-0 c.args.len c.min.result c.take.new.self refl c.min.ensures c.requires (ap (bytes_at 43) (sym c.new-reader.ensures) ∙ c.in_ok-take.ensures) in
     let left = within_left image_at c.args.len (from 43 (drop 43 c.args.bytes.now)) c.in_ok-contents.contents c.read_image.new.reader (ap image_at (sym there) ∙ c.in_ok-contents.ensures)
-        (some_left c.read_image.new.reader.bytes c.in_err-end.ensures.end.1) in
+    (some_left c.read_image.new.reader.bytes c.in_err-end.ensures.end.1) in
     rw (p.1, p.2) (subst (λ (e : Failure Malformed). Refuses e (within_at image_at c.args.len (from 43 (drop 43 c.args.bytes.now)))) (sym c.in_err-end.ensures.place) left)
 
 pub returns-clause-read : goal.returns-clause-read

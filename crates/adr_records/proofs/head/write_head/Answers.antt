@@ -1,4 +1,4 @@
-use Rattle.std.proofs.Common.{List, ℕ, ◌≡◌, ◌∙◌, ap, arith, length}
+use Rattle.std.proofs.Common.{List, ℕ, ◌∙◌, ap, arith, length}
 use Rattle.adr_model.specs.Store.{Store}
 use Rattle.adr_image.specs.Stored.{image}
 use Rattle.adr_image.proofs.Counted.{store_long}

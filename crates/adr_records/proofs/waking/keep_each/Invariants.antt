@@ -8,5 +8,5 @@ abbrev pub invariant-loop-mark : goal.invariant-loop-mark
 invariant-loop-mark l = record {
   kept : l.state ≡ keeping_all (take l.mark-index l.marks) l.fn.state;
   covered : l.state.store.usn ≤ at l.state.store.vector l.state.inv;
-  room : IsOverfull l.state → IsOverfull l.fn.state
+  room : IsOverfull l.state → IsOverfull l.fn.state;
 }
