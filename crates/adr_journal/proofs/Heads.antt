@@ -1,10 +1,12 @@
 -- A head that was read, and damage that was found.
-use Rattle.std.proofs.Common.{◌≡◌, ℕ, suc, ◌+◌, ◌≤◌, ◌<◌, List, [], ◌∷◌, ◌++◌, ◌⊎◌, ⊎_elim, length, take, drop, get_or, Some, Ok, Err, refl, sym, ap, subst, arith, length-append}
+use Rattle.std.proofs.Common.{◌≡◌, ℕ, suc, ◌+◌, ◌≤◌, ◌<◌, List, [], ◌∷◌, ◌++◌, ◌⊎◌, ⊎_elim, length, take, drop, get_or, Some, Ok, Err, refl, sym, ap, ◌∙◌, subst, arith, append_assoc, get_or-drop, length-append}
+use Rattle.adr_wire.specs.Fields.{u32}
 use Rattle.adr_wire.specs.Reading.{Reading}
 use Rattle.adr_wire.specs.Spelling.{AreBytes, IsSpelling}
+use Rattle.adr_wire.proofs.Combining.{rest_bytes, spelled_bytes}
 use Rattle.adr_model.specs.Store.{State}
 use Rattle.adr_model.specs.Lengths.{new_log_end}
-use Rattle.adr_law_journal.specs.Log.{Started, Following, open_gate, Reaches, IsAtRest}
+use Rattle.adr_law_journal.specs.Log.{Started, Following, open_gate, with_length, Reaches, IsAtRest}
 use Rattle.std.specs.Prelude.{IsErrOf}
 use Rattle.adr_io.specs.declared.Fault.{Fault}
 use Rattle.adr_io.specs.declared.Fault.TheVariants.{Failed, NoMemory}
@@ -17,6 +19,20 @@ use Rattle.adr_journal.specs.declared.keeper.StartRefusal.TheVariants.{Damaged}
 tail_bytes : (bytes : List ℕ) → AreBytes bytes → AreBytes (drop 1 bytes)
 tail_bytes [] are i = are i
 tail_bytes (b ∷ bytes) are i = are (suc i)
+
+pub dropped_bytes : (bytes : List ℕ) (n : ℕ) → AreBytes bytes → AreBytes (drop n bytes)
+dropped_bytes bytes n are i = subst (λ (b : ℕ). b < 256) (sym (get_or-drop n bytes i 0)) (are (n + i))
+
+-- a body that stands behind its length is made of bytes
+pub body_bytes : (bytes body : List ℕ) (n : ℕ) → AreBytes bytes → drop n bytes ≡ with_length body ++ drop (4 + length body) (drop n bytes) → AreBytes body
+body_bytes bytes body n are is =
+    let after = drop (4 + length body) (drop n bytes) in
+    let behind : AreBytes (body ++ after) =
+    rest_bytes {X = List ℕ} (λ b. Unit {0}) (λ b. u32 (length b)) 0 (drop n bytes) body (record { place = length (u32 (length body)); bytes = body ++ after })
+    (record { in_range = tt; spelled_so = is ∙ append_assoc (u32 (length body)) body after; moved = omega arith }) (dropped_bytes bytes n are)
+    in
+    spelled_bytes {X = List ℕ} (λ b. Unit {0}) (λ b. b) 0 (body ++ after) body (record { place = length body; bytes = after })
+    (record { in_range = tt; spelled_so = refl; moved = omega arith }) behind
 
 module _ (head : Reading State) (following : Following State) (can_begin : State → Type 0) (head_of : State → List ℕ) (spells : IsSpelling can_begin head_of head) (long : (s : State) → can_begin s → length (head_of s) + 2 ≡ new_log_end s) where
   pub some_head : (s : State) → can_begin s → 0 < length (head_of s)

@@ -1,4 +1,4 @@
 mod Steps
-mod Heads
+pub mod Heads
 mod Found
 mod InMemory

@@ -2,7 +2,7 @@
 
 ghost use Rattle.std.specs.Prelude.{◌≡◌, ◌≤◌, ◌<◌, ◌+◌, ℕ, List, Option, Some, None, Ok, drop, length, IfOk, IfErr, OnOk, OnErr, IsErrOf};
 ghost use Rattle.adr_wire.specs.Reading.{Reading, Refuses};
-ghost use Rattle.adr_wire.specs.Spelling.{IsSpelling};
+ghost use Rattle.adr_wire.specs.Spelling.{AreBytes, IsSpelling};
 ghost use Rattle.adr_model.specs.Store.{State as Defined};
 ghost use Rattle.adr_model.specs.Change.{Change as Changes, after};
 ghost use Rattle.adr_model.specs.Lengths.{change_length, new_log_end};
@@ -58,6 +58,7 @@ pub trait Form {
 
     /// Takes a record of this body.
     fn follow(alloc: Global, state: &mut State, body: &[u8]) -> Result<(), FollowRefusal>
+        requires { is_formed state.old }
         ensures ok { OnOk result (following state.old body.now ≡ Some state.new) }
         ensures refused { IsErrOf result FollowRefusal.CannotFollow → following state.old body.now ≡ None }
         ensures err { OnErr result (state.new ≡ state.old) };
@@ -75,5 +76,5 @@ pub trait Form {
     /// Each state of a log is formed.
     ghost begins_formed: { (s : Defined) → can_begin s → is_formed s };
 
-    ghost stays_formed: { (s t : Defined) (body : List ℕ) → is_formed s → following s body ≡ Some t → is_formed t };
+    ghost stays_formed: { (s t : Defined) (body : List ℕ) → AreBytes body → is_formed s → following s body ≡ Some t → is_formed t };
 }

@@ -100,6 +100,13 @@ impl Rows {
         self.table.links()
     }
 
+    /// All rows, in order of their keys.
+    pub fn to_vec(&self, alloc: Global) -> Result<Vec<&Held>, NoMemory>
+        ensures { IfOk result (λ rows. referents rows.items ≡ self.now) }
+    {
+        self.table.to_vec(alloc)
+    }
+
     /// The rows of an object, in order.
     pub fn rows_of(&self, alloc: Global, object: &Oid) -> Result<Vec<&Held>, NoMemory>
         ensures { IfOk result (λ rows.

@@ -191,6 +191,19 @@ impl Slots {
         Ok(rows)
     }
 
+    /// The rows in all slots.
+    pub(crate) fn to_vec(&self, alloc: Global) -> Result<Vec<&Held>, NoMemory>
+        ensures { IfOk result (λ rows. referents rows.items ≡ rows_seen self.now) }
+    {
+        let mut rows = Vec::new(alloc);
+        for (_, slot) in &self.map {
+            if let Some(row) = slot {
+                rows.push(row)?;
+            }
+        }
+        Ok(rows)
+    }
+
     /// Whether a row is in the slots of a run of places.
     pub(crate) fn has_row_in_run(&self, start: Place) -> bool
         requires tidy { IsTidy self.now }

@@ -93,6 +93,13 @@ impl Table {
         self.slots.links
     }
 
+    /// All rows, in order of their keys.
+    pub fn to_vec(&self, alloc: Global) -> Result<Vec<&Held>, NoMemory>
+        ensures { IfOk result (λ rows. referents rows.items ≡ rows_in self.now) }
+    {
+        self.slots.to_vec(alloc)
+    }
+
     /// The rows of an object, in order.
     pub fn rows_of(&self, alloc: Global, object: &Oid) -> Result<Vec<&Held>, NoMemory>
         requires { IsKept self.now }

@@ -1,0 +1,4 @@
+mod Framing
+mod Heads
+mod Anew
+mod Making

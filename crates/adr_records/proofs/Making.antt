@@ -1,0 +1,79 @@
+-- A controller is made of a store.
+use Rattle.std.proofs.Common.{◌≡◌, ℕ, ◌+◌, ◌<◌, ◌≤◌, List, [], ◌∷◌, ◌++◌, length, take, get_or, map, max, fold, Some, refl, sym, ap, ◌∙◌, arith, append_assoc}
+use Rattle.std.proofs.Common.{inl, inr}
+use Rattle.std.specs.List.Sorted.{IsStrictlySortedBy}
+use Rattle.std.proofs.lemmas.Cmp.{nat_list_cmp_total}
+use Rattle.std.proofs.lemmas.List.{take_more}
+use Rattle.adr_schema.specs.Numbered.{numbered}
+use Rattle.adr_stamp.specs.Order.{identifier_order}
+use Rattle.adr_vector.specs.Vector.{Cursors, IsVector, at, cursor_limit, joined, raised}
+use Rattle.adr_vector.proofs.Cursors.{nil_rising, same_cursors}
+use Rattle.adr_vector.proofs.Joining.{raised_here, at-joined, from_one-joined, rising-joined}
+use Rattle.adr_model.specs.Change.{Change, Written, after, held_of, rows_after, with_mark}
+use Rattle.adr_model.specs.Collect.{woken}
+use Rattle.adr_model.specs.Formed.{IsFormedStore}
+use Rattle.adr_model.specs.Store.{Held, Kept, Normal, State, Store, empty_state, empty_store}
+use Rattle.adr_model.specs.Update.{Identifier, Update}
+use Rattle.adr_state.specs.Refusal.{IsOverfull}
+use Rattle.adr_records.specs.Woken.{MakesAll, keeping, keeping_all, with_marks}
+use Rattle.adr_records.proofs.Anew.{entries_anew, rows_anew}
+
+-- ---- what is written
+
+abbrev own : Written → List Held
+own w = map (λ (u : Update). let h : Held = record { update = u; local = w.local } in h) w.item.rows
+
+held_more : (ws : List Written) (w : Written) → held_of (ws ++ w ∷ []) ≡ held_of ws ++ held_of (w ∷ [])
+held_more [] w = refl
+held_more (v ∷ vs) w = ap (λ (hs : List Held). own v ++ hs) (held_more vs w) ∙ sym (append_assoc (own v) (held_of vs) (held_of (w ∷ [])))
+
+-- one write more says one row more
+pub written_more : (ws more : List Written) (w : Written) (rows : List Held) (i : ℕ) (h : Held) → more ≡ ws ++ w ∷ [] → held_of ws ≡ take i rows → held_of (w ∷ []) ≡ h ∷ [] → h ≡ get_or rows i h → i < length rows
+    → held_of more ≡ take (i + 1) rows
+written_more ws more w rows i h is so_far says there lt =
+    ap (λ (vs : List Written). held_of vs) is ∙ held_more ws w ∙ ap (λ (hs : List Held). hs ++ held_of (w ∷ [])) so_far ∙ ap (λ (hs : List Held). take i rows ++ hs) says
+    ∙ ap (λ (g : Held). take i rows ++ g ∷ []) there ∙ sym (take_more rows i h lt)
+
+-- ---- the first change
+
+joined_anew : (v : Cursors) → IsVector v → joined [] v ≡ v
+joined_anew v q =
+    same_cursors (joined [] v) v (rising-joined v [] nil_rising) q.rising (from_one-joined v [] tt) q.from_one
+    (λ inv. at-joined v [] inv q.rising ∙ (let none : max 0 (at v inv) ≡ at v inv = omega arith in none))
+
+abbrev pub empty : ℕ → Identifier → Identifier → State
+empty schema dsa inv = record (empty_state dsa inv) { store = empty_store schema }
+
+made_of_all : (s : Store) (dsa inv : Identifier) (c : Change) → IsFormedStore s → MakesAll s c → after (empty s.schema dsa inv) c ≡ with_marks [] (woken s dsa inv)
+made_of_all s dsa inv c formed makes =
+    ap (after (empty s.schema dsa inv)) makes.is
+    ∙ ap (λ (hs : List Held). made (rows_after [] hs []) (joined [] s.vector) (joined [] s.purged)) makes.writes
+    ∙ ap (λ (hs : List Held). made hs (joined [] s.vector) (joined [] s.purged)) (rows_anew (numbered s.schema) s.rows formed.rows formed.rising)
+    ∙ ap (λ (v : Cursors). made s.rows v (joined [] s.purged)) (joined_anew s.vector formed.vector)
+    ∙ ap (λ (v : Cursors). made s.rows s.vector v) (joined_anew s.purged formed.purged)
+  where
+    made : List Held → Cursors → Cursors → State
+    made rows vector purged =
+        record { dsa = dsa; inv = inv; mode = Normal; store = record { schema = s.schema; usn = s.usn; rows = rows; vector = raised vector inv s.usn; purged = purged; marks = [] } }
+
+pub first_state : (s : Store) (dsa inv : Identifier) (schema : ℕ) (t : State) (c : Change) → schema ≡ s.schema → t ≡ empty schema dsa inv → IsFormedStore s → MakesAll s c → after t c ≡ with_marks [] (woken s dsa inv)
+first_state s dsa inv schema t c same is formed makes =
+    ap (λ (u : State). after u c) (is ∙ ap (λ (n : ℕ). empty n dsa inv) same) ∙ made_of_all s dsa inv c formed makes
+
+-- what it makes has room for all cursors where the own one has
+pub overfull_is : (s : Store) (dsa inv : Identifier) → IsFormedStore s → IsOverfull (with_marks [] (woken s dsa inv)) → cursor_limit < length (raised s.vector inv s.usn)
+overfull_is s dsa inv formed (inl many) = many
+overfull_is s dsa inv formed (inr many) = let few = formed.purged.few in absurd (omega (arith, few, many))
+
+-- ---- marks
+
+kept_all : (marks : List (Identifier × Kept)) (s : State) → keeping_all marks s ≡ with_marks (fold (λ ms (m : Identifier × Kept). with_mark (Some m) ms) s.store.marks marks) s
+kept_all [] s = refl
+kept_all (m ∷ ms) s = kept_all ms (keeping m s)
+
+pub all_kept : (s : State) → IsStrictlySortedBy identifier_order (map (λ (k : Identifier × Kept). k.0) s.store.marks) → keeping_all s.store.marks (with_marks [] s) ≡ s
+all_kept s rise =
+    kept_all s.store.marks (with_marks [] s) ∙ ap (λ (ms : List (Identifier × Kept)). with_marks ms s) (entries_anew identifier_order nat_list_cmp_total s.store.marks rise)
+
+pub own_covered : (v : Cursors) (inv : Identifier) (usn : ℕ) → usn ≤ at (raised v inv usn) inv
+own_covered v inv usn = omega (arith, raised_here v inv usn)

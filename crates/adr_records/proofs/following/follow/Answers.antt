@@ -1,0 +1,15 @@
+use Rattle.std.proofs.Common.{◌<◌, Err, ap, arith, length, ⊎_elim}
+use Rattle.adr_vector.specs.Vector.{cursor_limit}
+use Rattle.adr_model.specs.Change.{after}
+use Rattle.adr_records.specs.BodyLaws.{change_follows}
+use Rattle.adr_records.proofs.following.follow.Goals as goal
+
+pub unreachable-requires : goal.unreachable-requires
+unreachable-requires c =
+    let next = after c.args.state.now c.in-Ok.change in
+    let may = change_follows c.args.state.now c.args.body.now c.in-Ok.change (λ i. (c.type_inv.body i).fits) c.requires c.in-Ok.ensures.ok in
+    let seen = may.follows.formed.store.vector.few in
+    let purged = may.follows.formed.store.purged.few in
+    ⊎_elim (λ (many : cursor_limit < length next.store.vector). let no : ⊥ = omega (arith, seen, many) in no)
+    (λ (many : cursor_limit < length next.store.purged). let no : ⊥ = omega (arith, purged, many) in no)
+    (c.in-Err-Refused.ensures.full (ap Err c.in-Err-Refused.field-0-is))

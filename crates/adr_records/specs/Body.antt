@@ -1,0 +1,25 @@
+-- What a record makes of a state.
+use Rattle.std.specs.Prelude.{if◌then◌else◌, ◌≡◌, ◌&&◌, ℕ, nat_le, List, Bool, true, Option, Some, None}
+use Rattle.std.specs.List.{list_all}
+use Rattle.adr_model.specs.Change.{Change, Written, after}
+use Rattle.adr_model.specs.Store.{State}
+use Rattle.adr_law_formed.specs.Tested.{can_follow}
+use Rattle.adr_image.specs.Changes.{decoded_change}
+
+-- whether what is written has local USNs up to the USN after
+abbrev pub are_locals_within : Change → Bool
+are_locals_within c = list_all (λ (w : Written). nat_le w.local c.usn) c.writes
+
+abbrev pub by_change : State → Option Change → Option State
+by_change s None = None
+by_change s (Some c) = if are_locals_within c && can_follow s c then Some (after s c) else None
+
+-- the state after the change whose body these bytes are, where it can follow
+abbrev pub following : State → List ℕ → Option State
+following s bytes = by_change s (decoded_change s.store.usn bytes)
+
+-- a change that can follow, and whose body these bytes are
+pub record SaysChange (s : State) (bytes : List ℕ) (c : Change) : Type 0 where
+  pub says : decoded_change s.store.usn bytes ≡ Some c
+  pub within : are_locals_within c ≡ true
+  pub follows : can_follow s c ≡ true

@@ -1,0 +1,16 @@
+//! The bytes of a controller's log: the head with the image of a state, and the body of each record with a change.
+//!
+//! This crate ties the images and bodies of `adr_image` to the journals of `adr_journal`, and makes a controller of what an
+//! image says. What a log begins with and what its records say is read again as it was written, each state of a log is
+//! formed, and a record is refused that can't follow the state before it. It knows nothing of disks and gates.
+#![tactic(auto)]
+
+mod contents;
+mod following;
+mod head;
+mod records;
+mod waking;
+
+pub use adr_journal::{Change, FollowRefusal, Form, NoMemory, State};
+pub use records::Records;
+pub use waking::wake;

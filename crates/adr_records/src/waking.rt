@@ -1,0 +1,122 @@
+//! A controller is made of what an image says.
+
+ghost use Rattle.std.specs.Prelude.{◌≡◌, ◌≤◌, ◌<◌, [], ◌∷◌, IfOk, OnOk, IsErrOf, length};
+ghost use Rattle.adr_vector.specs.Refusal.{full};
+ghost use Rattle.adr_vector.specs.Vector.{at, cursor_limit, raised};
+ghost use Rattle.adr_model.specs.Change.{held_of};
+ghost use Rattle.adr_model.specs.Collect.{woken};
+ghost use Rattle.adr_model.specs.Formed.{IsFormedStore};
+ghost use Rattle.adr_image.specs.Stored.{IsSpelled};
+ghost use Rattle.adr_state.specs.Refusal.{IsOverfull};
+ghost use Rattle.adr_records.specs.Woken.{MakesAll, keeping, keeping_all, with_marks};
+
+use adr_failure::{Failure, NoMemory};
+use adr_image::Contents;
+use adr_state::{Change, Full, Held, Item, Kept, Mode, State, Vector, Written};
+use std::alloc::Global;
+use uuid::Uuid;
+
+/// A row as what is written under its local update sequence number.
+fn write_of(alloc: Global, row: &Held) -> Result<Written, NoMemory>
+    ensures { IfOk result (λ write. held_of (write ∷ []) ≡ row.now ∷ []) }
+{
+    let mut updates = Vec::new(alloc);
+    updates.push(row.update().copy(alloc)?)?;
+    let item = Item::new(row.key().unit(), updates);
+    Ok(Written::new(row.local(), item))
+}
+
+/// Rows as what is written, each under its local update sequence number.
+fn writes_of(alloc: Global, rows: &[Held]) -> Result<Vec<Written>, NoMemory>
+    ensures { IfOk result (λ writes. held_of writes.items ≡ rows.now) }
+{
+    let mut writes = Vec::new(alloc);
+    for row in rows {
+        writes.push(write_of(alloc, row)?)?;
+    }
+    Ok(writes)
+}
+
+/// The change that makes all of an empty controller but its marks.
+fn first_change(alloc: Global, contents: &Contents) -> Result<Change, NoMemory>
+    ensures { IfOk result (λ change. MakesAll contents.now change) }
+{
+    let writes = writes_of(alloc, &contents.rows)?;
+    let joined = contents.vector.copy(alloc)?;
+    let purged = contents.purged.copy(alloc)?;
+    Ok(Change::new(
+        contents.usn,
+        Mode::Normal,
+        None,
+        joined,
+        purged,
+        Vec::new(alloc),
+        writes,
+    ))
+}
+
+/// A controller of what an image says, but for the marks.
+fn wake_without_marks(
+    alloc: Global,
+    contents: &Contents,
+    dsa: Uuid,
+    inv: Uuid,
+) -> Result<State, Failure<Full>>
+    requires { IsFormedStore contents.now }
+    ensures ok { IfOk result (λ state. state ≡ with_marks [] (woken contents.now dsa inv)) }
+    ensures room { IfOk result (λ state. ¬ IsOverfull state) }
+    ensures full { IsErrOf result full → cursor_limit < length (raised contents.now.vector inv contents.now.usn) }
+{
+    let change = first_change(alloc, contents)?;
+    let mut state = State::new(alloc, dsa, inv, contents.schema);
+    state.apply(&change)?;
+    Ok(state)
+}
+
+/// Keeps how far a partner was read.
+fn keep(alloc: Global, state: &mut State, mark: (Uuid, Kept)) -> Result<(), Failure<Full>>
+    requires { state.old.store.usn ≤ at state.old.store.vector state.old.inv }
+    ensures ok { OnOk result (state.new ≡ keeping mark state.old) }
+    ensures full { IsErrOf result full → IsOverfull state.old }
+{
+    let change = Change::new(
+        state.usn(),
+        state.mode(),
+        Some(mark),
+        Vector::new(alloc),
+        Vector::new(alloc),
+        Vec::new(alloc),
+        Vec::new(alloc),
+    );
+    state.apply(&change)
+}
+
+/// Keeps how far each partner was read.
+fn keep_each(alloc: Global, state: &mut State, marks: &[(Uuid, Kept)]) -> Result<(), Failure<Full>>
+    requires { state.old.store.usn ≤ at state.old.store.vector state.old.inv }
+    ensures ok { OnOk result (state.new ≡ keeping_all marks.now state.old) }
+    ensures full { IsErrOf result full → IsOverfull state.old }
+{
+    for mark in marks {
+        keep(alloc, state, *mark)?;
+    }
+    Ok(())
+}
+
+/// A controller of what an image says: its own cursor is raised to the update sequence number. `Full` where that needs one
+/// cursor too many.
+pub fn wake(
+    alloc: Global,
+    contents: &Contents,
+    dsa: Uuid,
+    inv: Uuid,
+) -> Result<State, Failure<Full>>
+    requires formed { IsFormedStore contents.now }
+    requires spelled { IsSpelled contents.now }
+    ensures ok { IfOk result (λ state. state ≡ woken contents.now dsa inv) }
+    ensures full { IsErrOf result full → cursor_limit < length (raised contents.now.vector inv contents.now.usn) }
+{
+    let mut state = wake_without_marks(alloc, contents, dsa, inv)?;
+    keep_each(alloc, &mut state, &contents.marks)?;
+    Ok(state)
+}
