@@ -1,0 +1,29 @@
+-- What happened in a run so far, which only proofs see: its book, the identifiers that lines gave, and the calls that are kept.
+use Rattle.std.specs.Prelude.{List, [], ◌∷◌, ◌++◌, Option, None, Some, fold}
+use Rattle.adr_model.specs.Replica.{Pending, Replica, Book, Move, moved, went, moves_of_commit}
+use Rattle.adr_model.specs.Update.{Identifier}
+use Rattle.adr_model.specs.World.{Given}
+
+pub record Past : Type 0 where
+  pub book : Book
+  pub given : Given
+
+abbrev pub nothing_yet : Past
+nothing_yet = record { book = record { issued = []; logs = [] }; given = record { dsas = []; invs = [] } }
+
+-- the past with a controller's kept call
+pub record Ahead : Type 0 where
+  pub past : Past
+  pub kept : Option Pending
+
+abbrev pub unmoved : Past → Replica → Ahead
+unmoved past r = record { past = past; kept = r.kept }
+
+-- what moves of a controller make of it
+abbrev pub after_moves : Past → Replica → List Move → Ahead
+after_moves past r moves = let m = fold moved (past.book, r) moves in record { past = record past { book = m.0 }; kept = m.1.kept }
+
+-- what a call makes of it that commits this, if it commits anything
+abbrev pub after_commit : Past → Replica → Option Pending → Ahead
+after_commit past r None = unmoved past r
+after_commit past r (Some p) = after_moves past r (moves_of_commit p (went r.plan 4))

@@ -1,0 +1,47 @@
+-- What calls of a controller commit, each with its change.
+use Rattle.std.specs.Prelude.{ℕ, Bool, Option, None, Some, Result, Ok, Err}
+use Rattle.std.specs.Bool.{then_some}
+use Rattle.std.specs.Option.{option_map, option_and_then}
+use Rattle.adr_event.specs.declared.event.Event.{Event}
+use Rattle.adr_event.specs.declared.refusal.ServeRefusal.{ServeRefusal}
+use Rattle.adr_event.specs.declared.refusal.TakeRefusal.{TakeRefusal}
+use Rattle.adr_model.specs.Store.{State}
+use Rattle.adr_model.specs.Change.{Change}
+use Rattle.adr_model.specs.Serve.{Request, Reply, serve}
+use Rattle.adr_model.specs.Take.{take}
+use Rattle.adr_model.specs.Write.{write}
+use Rattle.adr_model.specs.Collect.{quarantine}
+use Rattle.adr_model.specs.Replica.{Call, ToWrite, ToTake, ToQuarantine, Pending, change_in}
+use Rattle.adr_model.specs.Step.{ClientWrite, write_of}
+use Rattle.adr_controller.specs.Able.{request_shows, reply_shows}
+
+abbrev pub with_call : Call → Option Change → Option Pending
+with_call call change = option_map (λ c. record { call = call; change = c }) change
+
+-- a controller that was shown to be put back is quarantined
+abbrev pub quarantining : Bool → State → Option Pending
+quarantining shown s = with_call ToQuarantine (then_some shown (quarantine s))
+
+abbrev pub written_by : ℕ → State → Option ClientWrite → Option Pending
+written_by now s None = None
+written_by now s (Some w) = with_call (ToWrite w.what now) (change_in (write s w.what now))
+
+-- a client's write at a time
+abbrev pub writing : Event → ℕ → State → Option Pending
+writing event now s = written_by now s (write_of event)
+
+abbrev pub served_by : State → Result Reply ServeRefusal → Option Pending
+served_by s (Ok reply) = None
+served_by s (Err refusal) = quarantining (request_shows refusal) s
+
+-- a request
+abbrev pub serving : Request → State → Option Pending
+serving request s = served_by s (serve s request)
+
+abbrev pub taken_by : Reply → State → Result Change TakeRefusal → Option Pending
+taken_by reply s (Ok c) = with_call (ToTake reply) (Some c)
+taken_by reply s (Err refusal) = quarantining (reply_shows refusal) s
+
+-- a reply
+abbrev pub taking : Reply → State → Option Pending
+taking reply s = taken_by reply s (take s reply)
