@@ -32,7 +32,10 @@ pub enum StartRefusal {
     DiskFault,
     /// The bytes are no log; the place of the first fault, in bytes.
     Damaged { place: u64 },
-    NoMemory,
+    NoMemory {
+        /// Whether the sync that a start begins with was made before.
+        settled: bool,
+    },
 }
 
 /// What keeps a state, so that a start finds it after a crash.
