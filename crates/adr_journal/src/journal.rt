@@ -185,7 +185,9 @@ impl<D: Disk, F: Form> Keeper for Journal<D, F> {
                 self.failed = true;
                 return Err(StartRefusal::DiskFault);
             }
-            Err(StartRefusal::NoMemory { settled }) => return Err(StartRefusal::NoMemory { settled }),
+            Err(StartRefusal::NoMemory { settled }) => return Err(StartRefusal::NoMemory {
+                settled,
+            }),
             Err(StartRefusal::Damaged { .. }) => unreachable!(),
         };
         match replay::<F>(self.alloc, &bytes) {

@@ -31,7 +31,9 @@ pub enum StartRefusal {
     /// A call of the disk failed.
     DiskFault,
     /// The bytes are no log; the place of the first fault, in bytes.
-    Damaged { place: u64 },
+    Damaged {
+        place: u64,
+    },
     NoMemory {
         /// Whether the sync that a start begins with was made before.
         settled: bool,
