@@ -252,11 +252,10 @@ fn stop(alloc: Global, line: &mut Line<'_>) -> Result<Event, Stop>
     ensures { Answers result (stop_line line.old) }
 {
     let name = line.name(alloc)?;
-    if line.is_ended() {
-        Ok(Event::Stop { name })
-    } else {
-        stop_after(line, name)
+    if !line.is_ended() {
+        return stop_after(line, name);
     }
+    Ok(Event::Stop { name })
 }
 
 #[tactic(auto, unfolding(crate::specs::Commands::fail_line))]

@@ -22,8 +22,5 @@ pub fn crash_word(how: Crash) -> &'static [u8]
 pub fn crash_of(word: &[u8]) -> Option<Crash>
     ensures { result ≡ crash_of word.now }
 {
-    CRASHES
-        .iter()
-        .copied()
-        .find(|how| word == crash_word(*how))
+    CRASHES.iter().copied().find(|how| word == crash_word(*how))
 }
