@@ -1,0 +1,3 @@
+pub mod Bodied
+pub mod Beginning
+pub mod Collected
