@@ -1,5 +1,5 @@
 -- What a state of a log asks a partner is in range.
-use Rattle.std.proofs.Common.{ℕ, ◌<◌, ◌^◌, arith}
+use Rattle.std.proofs.Common.{ℕ, arith}
 use Rattle.std.specs.BTreeMap.{is_at}
 use Rattle.adr_stamp.specs.Order.{identifier_order}
 use Rattle.adr_wire.specs.Ranges.{IsU32, IsMark}

@@ -1,5 +1,5 @@
 -- What a state of a log answers to a request in range is a reply in range, and of the form of one.
-use Rattle.std.proofs.Common.{◌≡◌, inl, inr, ⊎_elim, ℕ, ◌-◌, ◌<◌, ◌≤◌, ◌^◌, List, [], ◌∷◌, Bool, true, false, cond, not, ◌&&◌, ◌||◌, ◌==◌, None, Ok, unwrap_or, refl, sym, ap, ◌∙◌, subst, map, filter, fold, length, arith}
+use Rattle.std.proofs.Common.{◌≡◌, inl, inr, ⊎_elim, ℕ, ◌-◌, ◌<◌, ◌≤◌, List, [], ◌∷◌, Bool, true, false, cond, ◌&&◌, ◌||◌, ◌==◌, None, Ok, unwrap_or, refl, sym, ap, ◌∙◌, subst, map, filter, length, arith}
 use Rattle.std.specs.Prelude.{nat_le, nat_lt, IfSome}
 use Rattle.std.specs.Bool.{then_some}
 use Rattle.std.specs.List.{AllByRecursion}
@@ -14,7 +14,7 @@ use Rattle.adr_vector.specs.Vector.{IsVector}
 use Rattle.adr_vector.specs.declared.mark.Mark.{Mark}
 use Rattle.adr_event.specs.declared.refusal.ServeRefusal.TheVariants.{BadMark, RolledBack}
 use Rattle.adr_wire.specs.Ranges.{IsCursor, IsMark}
-use Rattle.adr_model.specs.Member.{Member, Each}
+use Rattle.adr_model.specs.Member.{Member}
 use Rattle.adr_model.specs.Update.{Key, RowOf, LinkOf, Said, Holds, IsPresent, Update, key_order, same_identifier, same_unit, unit_of}
 use Rattle.adr_model.specs.Store.{Held, State, no_mark, updates_of}
 use Rattle.adr_model.specs.Change.{Item}
@@ -47,11 +47,14 @@ says_of_key (LinkOf l) (IsPresent b) stamp spelled = tt
 abbrev keys : List Held → List Key
 keys hs = map (λ (h : Held). h.update.key) hs
 
-all_filtered : (k : Key) (test : Held → Bool) (hs : List Held) → AllByRecursion (λ y. key_order k y ≡ Less) (keys hs) → AllByRecursion (λ y. key_order k y ≡ Less) (keys (filter test hs))
+all_filtered : (k : Key) (test : Held → Bool) (hs : List Held)
+    → AllByRecursion (λ y. key_order k y ≡ Less) (keys hs)
+    → AllByRecursion (λ y. key_order k y ≡ Less) (keys (filter test hs))
 all_filtered k test [] all = all
 all_filtered k test (h ∷ hs) all = by (test h) (all_filtered k test hs all.1)
   where
-    by : (b : Bool) → AllByRecursion (λ y. key_order k y ≡ Less) (keys (filter test hs)) → AllByRecursion (λ y. key_order k y ≡ Less) (keys (cond b (h ∷ filter test hs) (filter test hs)))
+    by : (b : Bool) → AllByRecursion (λ y. key_order k y ≡ Less) (keys (filter test hs))
+        → AllByRecursion (λ y. key_order k y ≡ Less) (keys (cond b (h ∷ filter test hs) (filter test hs)))
     by true rest = (all.0, rest)
     by false rest = rest
 
@@ -72,21 +75,24 @@ same_keys (h ∷ hs) = ap (λ ks. h.update.key ∷ ks) (same_keys hs)
 
 few_first : (most bytes : ℕ) (cs : List (ℕ × Item)) → length (first_items most bytes cs) ≤ most
 few_first most bytes [] = omega arith
-few_first most bytes (c ∷ cs) = by ((most == 0) || (bytes == 0)) refl (few_first (most - 1) (bytes - item_length c.1) cs)
+few_first most bytes (c ∷ cs) =
+    by ((most == 0) || (bytes == 0)) refl (few_first (most - 1) (bytes - item_length c.1) cs)
   where
     next : List (ℕ × Item)
     next = first_items (most - 1) (bytes - item_length c.1) cs
 
-    by : (b : Bool) → ((most == 0) || (bytes == 0)) ≡ b → length next ≤ most - 1 → length (cond b [] (c ∷ next)) ≤ most
+    by : (b : Bool) → ((most == 0) || (bytes == 0)) ≡ b → length next ≤ most - 1
+        → length (cond b [] (c ∷ next)) ≤ most
     by true is few = omega arith
     by false is few = let some = eqb-false most 0 (or_parts (most == 0) (bytes == 0) is).0 in omega (arith, few, some)
 
 -- ---- where a served reply begins
 
-module _ (s : State) (q : Request) (logged : IsLogged s) (ranged : IsRangedRequest q) (none : serve_refusal s q ≡ None) where
+module _ (s : State) (q : Request) (logged : IsLogged s) (ranged : IsRangedRequest q)
+    (none : serve_refusal s q ≡ None) where
   marked : (nat_le q.mark.prop q.mark.obj && nat_le q.mark.obj q.mark.seen) ≡ true
-  marked = is_so (nat_le q.mark.prop q.mark.obj && nat_le q.mark.obj q.mark.seen) (BadMark q.mark.prop q.mark.obj q.mark.seen)
-      (none_there (serve_refusals s q) none _ (inr (inr (inl refl))))
+  marked = is_so (nat_le q.mark.prop q.mark.obj && nat_le q.mark.obj q.mark.seen)
+      (BadMark q.mark.prop q.mark.obj q.mark.seen) (none_there (serve_refusals s q) none _ (inr (inr (inl refl))))
 
   shown : shown_by s q ≤ s.store.usn
   shown = ltb-false s.store.usn (shown_by s q)
@@ -126,16 +132,19 @@ module _ (s : State) (q : Request) (logged : IsLogged s) (ranged : IsRangedReque
   reply last = reply_of s q from sent last
 
   -- an item that is sent is of a row that may be sent
-  sent_from : (c : ℕ × Item) → Member c sent → (x : Held) × Member x unseen × (c ≡ entry_of rows unseen (unit_of x.update.key))
+  sent_from : (c : ℕ × Item) → Member c sent
+      → (x : Held) × Member x unseen × (c ≡ entry_of rows unseen (unit_of x.update.key))
   sent_from c m =
       let front = first_front q.max byte_limit (candidates rows from q.vector) in
       candidate_from rows unseen c (subst (λ (cs : List (ℕ × Item)). Member c cs) front.1 (member_left sent front.0 c m))
 
-  of_unseen : (x : Held) → Member x unseen → Member x rows × ((is_above_mark from rows x && is_unseen from q.vector x) ≡ true)
+  of_unseen : (x : Held) → Member x unseen
+      → Member x rows × ((is_above_mark from rows x && is_unseen from q.vector x) ≡ true)
   of_unseen x m = of_filter (λ (h : Held). is_above_mark from rows h && is_unseen from q.vector h) rows x m
 
   above : (x : Held) → Member x unseen → from.obj < last_local rows (unit_of x.update.key)
-  above x m = ltb-true from.obj (last_local rows (unit_of x.update.key)) (and_parts (is_above_mark from rows x) (is_unseen from q.vector x) (of_unseen x m).1).0
+  above x m = ltb-true from.obj (last_local rows (unit_of x.update.key))
+      (and_parts (is_above_mark from rows x) (is_unseen from q.vector x) (of_unseen x m).1).0
 
   within : (x : Held) → last_local rows (unit_of x.update.key) ≤ s.store.usn
   within x = last_within (unit_of x.update.key) rows s.store.usn (λ y m e. (logged.formed.store.locals y m).1)
@@ -145,7 +154,9 @@ module _ (s : State) (q : Request) (logged : IsLogged s) (ranged : IsRangedReque
   read_to : (from.obj ≤ (reply false).to.obj) × ((reply false).to.obj ≤ s.store.usn)
   read_to = ⊎_elim
       (λ e. (omega (arith, e), omega (arith, e, began.obj, seen_before)))
-      (λ z. let x = sent_from z.0 z.1 in let k : z.0.0 ≡ last_local rows (unit_of x.0.update.key) = ap (λ (c : ℕ × Item). c.0) x.2 in
+      (λ z.
+      let x = sent_from z.0 z.1 in
+      let k : z.0.0 ≡ last_local rows (unit_of x.0.update.key) = ap (λ (c : ℕ × Item). c.0) x.2 in
       (omega (arith, above x.0 x.1, z.2, k), omega (arith, within x.0, z.2, k)))
       (read_to_item from.obj sent)
 
@@ -176,7 +187,8 @@ module _ (s : State) (q : Request) (logged : IsLogged s) (ranged : IsRangedReque
       let x = sent_from c.0 c.1 in
       (unit_of x.0.update.key, c.2 ∙ ap (λ (d : ℕ × Item). d.1) x.2)
 
-  row_is : (unit : Named) (u : Update) → Member u (item_of unseen unit).rows → (h : Held) × Member h rows × (u ≡ h.update) × (unit_of h.update.key ≡ unit)
+  row_is : (unit : Named) (u : Update) → Member u (item_of unseen unit).rows
+      → (h : Held) × Member h rows × (u ≡ h.update) × (unit_of h.update.key ≡ unit)
   row_is unit u m =
       let h = held_as (filter (λ (y : Held). same_unit (unit_of y.update.key) unit) unseen) u m in
       let k = of_filter (λ (y : Held). same_unit (unit_of y.update.key) unit) unseen h.0 h.1 in
@@ -190,7 +202,8 @@ module _ (s : State) (q : Request) (logged : IsLogged s) (ranged : IsRangedReque
   item_spelled : (unit : Named) → IsSpelledItem (item_of unseen unit)
   item_spelled unit = record {
     of_unit = λ u m. let h = row_is unit u m in ap (λ (v : Update). unit_of v.key) h.2 ∙ h.3;
-    rising = subst (IsStrictlySortedBy key_order) (same_keys (filter (λ (h : Held). same_unit (unit_of h.update.key) unit) unseen))
+    rising = subst (IsStrictlySortedBy key_order)
+        (same_keys (filter (λ (h : Held). same_unit (unit_of h.update.key) unit) unseen))
         (some_rise (λ (h : Held). same_unit (unit_of h.update.key) unit) unseen
         (some_rise (λ (h : Held). is_above_mark from rows h && is_unseen from q.vector h) rows logged.formed.store.rising));
     says = λ u m. says_of_key u.key u.said u.stamp (row_spelled unit u m);
@@ -209,7 +222,12 @@ module _ (s : State) (q : Request) (logged : IsLogged s) (ranged : IsRangedReque
     inv = logged.inv;
     to = to_in_range b;
     last = last_in_range b;
-    few = omega (arith, length-map sent (λ (c : ℕ × Item). c.1), few_first q.max byte_limit (candidates rows from q.vector), ranged.max);
+    few = omega (
+      arith,
+      length-map sent (λ (c : ℕ × Item). c.1),
+      few_first q.max byte_limit (candidates rows from q.vector),
+      ranged.max,
+    );
     items = λ i m. let x = item_is i m in subst IsRangedItem (sym x.1) (row_spelled x.0);
   }
 
@@ -219,7 +237,8 @@ module _ (s : State) (q : Request) (logged : IsLogged s) (ranged : IsRangedReque
     in_range (length sent == length (candidates rows from q.vector)),
   )
 
-pub served_in_range : (s : State) (q : Request) (r : Reply) → IsLogged s → IsRangedRequest q → serve s q ≡ Ok r → IsSpelledReply r × IsRangedReply r
+pub served_in_range : (s : State) (q : Request) (r : Reply) → IsLogged s → IsRangedRequest q → serve s q ≡ Ok r
+    → IsSpelledReply r × IsRangedReply r
 served_in_range s q r logged ranged e =
     let t = answered (serve_refusal s q) (reply_to s q) r e in
     subst (λ (p : Reply). IsSpelledReply p × IsRangedReply p) t.1 (reply_in_range s q logged ranged t.0)

@@ -29,15 +29,19 @@ one_write usn i (u ∷ us) = omega arith
 
 module _ (table : Table) (vector : Cursors) where
   one_more : (t : Taking) (i : Item) → length (take_item table vector t i).writes ≤ length t.writes + 1
-  one_more t i = omega (arith, length-append t.writes (writes_of t.usn i (rows_taken vector t.rows i)), one_write t.usn i (rows_taken vector t.rows i))
+  one_more t i =
+      let us = rows_taken vector t.rows i in
+      omega (arith, length-append t.writes (writes_of t.usn i us), one_write t.usn i us)
 
-  few_writes : (is : List Item) (t : Taking) → length (fold (take_item table vector) t is).writes ≤ length t.writes + length is
+  few_writes : (is : List Item) (t : Taking)
+      → length (fold (take_item table vector) t is).writes ≤ length t.writes + length is
   few_writes [] t = omega arith
   few_writes (i ∷ is) t = omega (arith, few_writes is (take_item table vector t i), one_more t i)
 
 -- ---- the whole
 
-last_in_range : (o : Option Cursors) → IfSome o (AllByRecursion IsCursor) → AllByRecursion IsCursor (unwrap_or o [])
+last_in_range : (o : Option Cursors) → IfSome o (AllByRecursion IsCursor)
+    → AllByRecursion IsCursor (unwrap_or o [])
 last_in_range None all = tt
 last_in_range (Some v) all = all
 
@@ -47,17 +51,23 @@ taken_in_range s r c ranged e =
     let brings = taken_brings s r c e in
     record {
       usn = omega (arith, brings.1);
-      mark = subst (λ m. IfSome m (λ (k : Identifier × Kept). IsId k.0 × IsId k.1.inv × IsMark k.1.mark)) (sym brings.3) (ranged.source, ranged.inv, ranged.to);
+      mark = subst (λ m. IfSome m (λ (k : Identifier × Kept). IsId k.0 × IsId k.1.inv × IsMark k.1.mark)) (sym brings.3)
+          (ranged.source, ranged.inv, ranged.to);
       joined = subst (AllByRecursion IsCursor) (sym brings.2) (last_in_range r.last ranged.last);
       purged = subst (AllByRecursion IsCursor) (sym brings.4) tt;
       removed = subst (λ (x : Change). Each IsOid x.removed) p.1 (λ o m. absurd m);
       few_removed = subst (λ (x : Change). length x.removed < 2 ^ 32) p.1 (omega arith);
-      few = subst (λ (x : Change). length x.writes < 2 ^ 32) p.1 (omega (arith, few_writes (numbered s.store.schema) s.store.vector r.items (begin s), ranged.few));
+      few = subst (λ (x : Change). length x.writes < 2 ^ 32) p.1
+          (omega (arith, few_writes (numbered s.store.schema) s.store.vector r.items (begin s), ranged.few));
       rows = λ u m. let t = brings.0 u m in ranged.items t.0 t.1 u t.2;
     }
 
 -- the change that it makes can be recorded, where all can be that follow, are bare and are in range
-pub taken_recorded : ((s : State) (c : Change) → IsLogged s → CanFollow s c → Each (λ w. AreBare w.item.rows) c.writes → IsInRange c → MayBeRecorded s c)
-    → (s : State) (r : Reply) (c : Change) → IsLogged s → IsSpelledReply r → IsRangedReply r → take s r ≡ Ok c → MayBeRecorded s c
+pub taken_recorded : (
+    (s : State) (c : Change) → IsLogged s → CanFollow s c → Each (λ w. AreBare w.item.rows) c.writes → IsInRange c
+    → MayBeRecorded s c)
+    → (s : State) (r : Reply) (c : Change) → IsLogged s → IsSpelledReply r → IsRangedReply r → take s r ≡ Ok c
+    → MayBeRecorded s c
 taken_recorded recorded s r c logged spelled ranged e =
-    recorded s c logged (taken_follows s r c logged.formed logged.classes spelled e) (taken_bare s r c logged.formed logged.classes spelled e) (taken_in_range s r c ranged e)
+    recorded s c logged (taken_follows s r c logged.formed logged.classes spelled e)
+    (taken_bare s r c logged.formed logged.classes spelled e) (taken_in_range s r c ranged e)
