@@ -4,3 +4,6 @@ pub mod Collected
 pub mod Taken
 pub mod Asked
 pub mod Served
+pub mod Values
+pub mod Known
+pub mod Written
