@@ -20,6 +20,8 @@ use Rattle.adr_law_formed.proofs.TakenFollow.{taken_bare, taken_brings, taken_fo
 use Rattle.adr_records.specs.Logged.{IsLogged, MayBeRecorded}
 use Rattle.adr_law_recorded.specs.Ranged.{IsRangedReply}
 use Rattle.adr_law_recorded.specs.InRange.{IsInRange}
+use Rattle.adr_law_recorded.specs.Laws.{TakenIsRecorded}
+use Rattle.adr_law_recorded.proofs.Bodied.{recorded}
 
 -- ---- an item makes one write at most
 
@@ -62,12 +64,8 @@ taken_in_range s r c ranged e =
       rows = λ u m. let t = brings.0 u m in ranged.items t.0 t.1 u t.2;
     }
 
--- the change that it makes can be recorded, where all can be that follow, are bare and are in range
-pub taken_recorded : (
-    (s : State) (c : Change) → IsLogged s → CanFollow s c → Each (λ w. AreBare w.item.rows) c.writes → IsInRange c
-    → MayBeRecorded s c)
-    → (s : State) (r : Reply) (c : Change) → IsLogged s → IsSpelledReply r → IsRangedReply r → take s r ≡ Ok c
-    → MayBeRecorded s c
-taken_recorded recorded s r c logged spelled ranged e =
+-- the change that it makes can be recorded
+pub taken_recorded : TakenIsRecorded
+taken_recorded s r c logged spelled ranged e =
     recorded s c logged (taken_follows s r c logged.formed logged.classes spelled e)
     (taken_bare s r c logged.formed logged.classes spelled e) (taken_in_range s r c ranged e)

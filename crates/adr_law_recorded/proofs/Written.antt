@@ -36,6 +36,7 @@ use Rattle.adr_records.specs.Logged.{IsLogged, MayBeRecorded}
 use Rattle.adr_law_recorded.specs.Typed.{IsTypedValue, IsTypedWrite}
 use Rattle.adr_law_recorded.specs.InRange.{IsInRange}
 use Rattle.adr_law_recorded.specs.Laws.{WrittenIsRecorded}
+use Rattle.adr_law_recorded.proofs.Bodied.{recorded}
 use Rattle.adr_law_recorded.proofs.Values.{class_in_range, forward_in_range, name_is_short, values_in_range}
 use Rattle.adr_law_recorded.proofs.Known.{object_in_range, live, version_at, usn_in_range, version_free, death_free, own_usn, first_in_range, next_in_range, row_created, link_created_in_range}
 
@@ -297,12 +298,8 @@ module _ (s : State) where
 
 -- ---- the law
 
--- what can follow and is in range can be recorded
-abbrev pub InRangeIsRecorded : Type 0
-InRangeIsRecorded = (s : State) (c : Change) → IsLogged s → CanFollow s c → Each (λ (w : Written). AreBare w.item.rows) c.writes → IsInRange c → MayBeRecorded s c
-
-pub write_is_recorded : InRangeIsRecorded → WrittenIsRecorded
-write_is_recorded recorded s w now c logged given typed time made =
+pub write_is_recorded : WrittenIsRecorded
+write_is_recorded s w now c logged given typed time made =
     let t = answered (write_refusal s w) (own_change s (items_written s w now)) c made in
     recorded s c logged (write_follows s w now c logged.formed logged.classes given made)
     (write_is_bare s w now c logged.formed given made)
