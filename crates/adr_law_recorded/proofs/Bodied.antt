@@ -14,7 +14,7 @@ use Rattle.adr_stamp.specs.declared.LinkStamp.{LinkStamp}
 use Rattle.adr_stamp.specs.declared.Oid.{Oid}
 use Rattle.adr_stamp.specs.declared.Unit.{Unit as Named}
 use Rattle.adr_stamp.specs.declared.Unit.TheVariants.{Object, Link}
-use Rattle.adr_stamp.specs.Order.{object_order, link_order}
+use Rattle.adr_stamp.specs.Order.{link_order}
 use Rattle.adr_stamp.specs.contracts.OidOrd.TheImpl.Laws.{total-law as objects_total}
 use Rattle.adr_stamp.proofs.Units.{units_total}
 use Rattle.adr_schema.specs.Table.{Table}
@@ -26,7 +26,7 @@ use Rattle.adr_wire.specs.Pieces.{Piece, OfRows, OfLink, IsPiece}
 use Rattle.adr_wire.specs.Ranges.{InTurn, IsId, IsMark, IsOid, IsRow, IsRowAbove}
 use Rattle.adr_wire.specs.Reading.{is_above}
 use Rattle.adr_law_lengths.specs.Written.{update_of}
-use Rattle.adr_model.specs.Change.{Change, Item, Written, updates_written}
+use Rattle.adr_model.specs.Change.{Change, Item, Written}
 use Rattle.adr_model.specs.LocalLog.{IsOrdered}
 use Rattle.adr_model.specs.Member.{Each, Member}
 use Rattle.adr_model.specs.Serve.{is_quarantined}
@@ -52,7 +52,8 @@ above_it : (a : ℕ) (ns : List ℕ) → AllByRecursion (λ b. nat_cmp a b ≡ L
 above_it a [] all = tt
 above_it a (b ∷ bs) all = let less = less_is a b all.0 in (omega (arith, less), above_it a bs all.1)
 
-few : (lo hi : ℕ) (ns : List ℕ) → lo ≤ hi → AllByRecursion (λ a. lo ≤ a) ns → AllByRecursion (λ a. a < hi) ns → IsStrictlySortedBy nat_cmp ns → lo + length ns ≤ hi
+few : (lo hi : ℕ) (ns : List ℕ) → lo ≤ hi → AllByRecursion (λ a. lo ≤ a) ns → AllByRecursion (λ a. a < hi) ns
+    → IsStrictlySortedBy nat_cmp ns → lo + length ns ≤ hi
 unfolding IsStrictlySortedBy
 few lo hi [] le above below rise = omega arith
 few lo hi (a ∷ ns) le above below rise =
@@ -60,7 +61,9 @@ few lo hi (a ∷ ns) le above below rise =
     omega (arith, above.0, rest)
 
 -- there are fewer where one of them is missing
-fewer : (lo hi gap : ℕ) (ns : List ℕ) → lo ≤ gap → gap < hi → AllByRecursion (λ a. lo ≤ a) ns → AllByRecursion (λ a. a < hi) ns → AllByRecursion (λ a. a ≡ gap → ⊥) ns → IsStrictlySortedBy nat_cmp ns → lo + length ns < hi
+fewer : (lo hi gap : ℕ) (ns : List ℕ) → lo ≤ gap → gap < hi → AllByRecursion (λ a. lo ≤ a) ns
+    → AllByRecursion (λ a. a < hi) ns → AllByRecursion (λ a. a ≡ gap → ⊥) ns → IsStrictlySortedBy nat_cmp ns
+    → lo + length ns < hi
 unfolding IsStrictlySortedBy
 fewer lo hi gap [] le lt above below other rise = omega arith
 fewer lo hi gap (a ∷ ns) le lt above below other rise = by (ltb a gap) refl
@@ -107,11 +110,13 @@ attrs_long : (us : List Update) → length (attrs us) ≡ length us
 attrs_long us = mapped_long (λ (r : Row). r.0) (map row_for us) ∙ mapped_long row_for us
 
 -- a row of an attribute is there, or none is
-there_or_not : (attr : ℕ) (us : List Update) → ((u : Update) × Member u us × (attr_of u.key ≡ attr)) ⊎ Each (λ u. attr_of u.key ≡ attr → ⊥) us
+there_or_not : (attr : ℕ) (us : List Update)
+    → ((u : Update) × Member u us × (attr_of u.key ≡ attr)) ⊎ Each (λ u. attr_of u.key ≡ attr → ⊥) us
 there_or_not attr [] = inr (λ u m. absurd m)
 there_or_not attr (u ∷ us) = by (eqb (attr_of u.key) attr) refl (there_or_not attr us)
   where
-    by : (t : Bool) → eqb (attr_of u.key) attr ≡ t → ((v : Update) × Member v us × (attr_of v.key ≡ attr)) ⊎ Each (λ v. attr_of v.key ≡ attr → ⊥) us
+    by : (t : Bool) → eqb (attr_of u.key) attr ≡ t
+        → ((v : Update) × Member v us × (attr_of v.key ≡ attr)) ⊎ Each (λ v. attr_of v.key ≡ attr → ⊥) us
         → ((v : Update) × Member v (u ∷ us) × (attr_of v.key ≡ attr)) ⊎ Each (λ v. attr_of v.key ≡ attr → ⊥) (u ∷ us)
     by true is rest = inl (u, inl refl, eqb-true (attr_of u.key) attr is)
     by false is (inl r) = inl (r.0, inr r.1, r.2)
@@ -134,14 +139,16 @@ module _ (o : Oid) where
   key_is (RowOf p attr) e = ap (λ q. RowOf q attr) (named p e)
   key_is (LinkOf l) e = absurd (cc)
 
-  row_is : (k : Key) (said : Said) (stamp : LinkStamp) → unit_of k ≡ Object o → IsSpelledRow k said stamp → update_of o (attr_of k, stamp.stamp, content_of said) ≡ (let u : Update = record { key = k; stamp = stamp; said = said } in u)
+  row_is : (k : Key) (said : Said) (stamp : LinkStamp) → unit_of k ≡ Object o → IsSpelledRow k said stamp
+      → update_of o (attr_of k, stamp.stamp, content_of said) ≡ (let u : Update = record { key = k; stamp = stamp; said = said } in u)
   row_is (RowOf p attr) (Holds content) stamp e q =
       ap (λ r. let u : Update = record { key = RowOf r attr; stamp = record { created = 0; stamp = stamp.stamp }; said = Holds content } in u) (sym (named p e))
       ∙ ap (λ n. let u : Update = record { key = RowOf p attr; stamp = record { created = n; stamp = stamp.stamp }; said = Holds content } in u) (sym q.4)
   row_is (RowOf p attr) (IsPresent b) stamp e q = absurd q
   row_is (LinkOf l) said stamp e q = absurd (cc)
 
-  row_right : (k : Key) (said : Said) (stamp : LinkStamp) → unit_of k ≡ Object o → IsSpelledRow k said stamp → IsRow (attr_of k, stamp.stamp, content_of said)
+  row_right : (k : Key) (said : Said) (stamp : LinkStamp) → unit_of k ≡ Object o → IsSpelledRow k said stamp
+      → IsRow (attr_of k, stamp.stamp, content_of said)
   row_right (RowOf p attr) (Holds content) stamp e q = (q.1, (q.3, q.2))
   row_right (RowOf p attr) (IsPresent b) stamp e q = absurd q
   row_right (LinkOf l) said stamp e q = absurd (cc)
@@ -164,11 +171,14 @@ module _ (o : Oid) where
       ap (λ (w : Ordering). ordering_then w (nat_cmp a (attr_of k))) (sym (tied_itself objects_total o))
       ∙ subst (λ j. key_order (RowOf o a) j ≡ Less) (key_is k is) less
 
-  attrs_below : (a : ℕ) (us : List Update) → Each IsOf us → AllByRecursion (λ k. key_order (RowOf o a) k ≡ Less) (keys us) → AllByRecursion (λ b. nat_cmp a b ≡ Less) (attrs us)
+  attrs_below : (a : ℕ) (us : List Update) → Each IsOf us
+      → AllByRecursion (λ k. key_order (RowOf o a) k ≡ Less) (keys us)
+      → AllByRecursion (λ b. nat_cmp a b ≡ Less) (attrs us)
   attrs_below a [] of_it all = tt
   attrs_below a (u ∷ us) of_it all = (attr_below a u.key (of_it u (inl refl)) all.0, attrs_below a us (λ v m. of_it v (inr m)) all.1)
 
-  attrs_rise : (us : List Update) → Each IsOf us → IsStrictlySortedBy key_order (keys us) → IsStrictlySortedBy nat_cmp (attrs us)
+  attrs_rise : (us : List Update) → Each IsOf us → IsStrictlySortedBy key_order (keys us)
+      → IsStrictlySortedBy nat_cmp (attrs us)
   unfolding IsStrictlySortedBy
   attrs_rise [] of_it rise = tt
   attrs_rise (u ∷ us) of_it rise = (
@@ -176,7 +186,9 @@ module _ (o : Oid) where
     attrs_rise us (λ v m. of_it v (inr m)) rise.1,
   )
 
-  in_turn : (last : Option ℕ) (us : List Update) → Each IsOf us → Each IsRightUpdate us → InTurn (λ (r : Row). r.0) (λ last r. is_above nat_cmp last r.0 ≡ true) last (map row_for us) → InTurn (λ (r : Row). r.0) IsRowAbove last (map row_for us)
+  in_turn : (last : Option ℕ) (us : List Update) → Each IsOf us → Each IsRightUpdate us
+      → InTurn (λ (r : Row). r.0) (λ last r. is_above nat_cmp last r.0 ≡ true) last (map row_for us)
+      → InTurn (λ (r : Row). r.0) IsRowAbove last (map row_for us)
   in_turn last [] of_it right turn = tt
   in_turn last (u ∷ us) of_it right turn = (
     (row_right u.key u.said u.stamp (of_it u (inl refl)) (right u (inl refl)), turn.0),
@@ -198,10 +210,12 @@ module _ (o : Oid) where
       (leb-true 1 attr both.0, omega (arith, most))
   reserved (LinkOf l) is = absurd (cc)
 
-  few_rows : (us : List Update) → Each IsOf us → Each IsRightUpdate us → AreBare us → IsStrictlySortedBy nat_cmp (attrs us) → length us < 2 ^ 16
+  few_rows : (us : List Update) → Each IsOf us → Each IsRightUpdate us → AreBare us
+      → IsStrictlySortedBy nat_cmp (attrs us) → length us < 2 ^ 16
   few_rows us of_it right bare rise = by (there_or_not deleted_attr us)
     where
-      by : ((u : Update) × Member u us × (attr_of u.key ≡ deleted_attr)) ⊎ Each (λ u. attr_of u.key ≡ deleted_attr → ⊥) us → length us < 2 ^ 16
+      by : ((u : Update) × Member u us × (attr_of u.key ≡ deleted_attr)) ⊎ Each (λ u. attr_of u.key ≡ deleted_attr → ⊥) us
+          → length us < 2 ^ 16
       by (inl d) =
           let each : Each (λ u. is_reserved_row u.key ≡ true) us = bare d.0 d.1 (o, key_is d.0.key (of_it d.0 d.1) ∙ ap (λ a. RowOf o a) d.2) in
           let most = few 1 4 (attrs us) (omega arith) (all_attrs (λ a. 1 ≤ a) us (λ u m. (reserved u.key (each u m)).0)) (all_attrs (λ a. a < 4) us (λ u m. (reserved u.key (each u m)).1)) rise in
@@ -225,7 +239,9 @@ pub record HasPiece (i : Item) : Type 0 where
   pub in_range : IsPiece piece
   pub says : item_of piece ≡ i
 
-object_piece : (o : Oid) (us : List Update) → ((u : Update) × Member u us) → IsSpelledItem (record { unit = Object o; rows = us }) → AreBare us → Each IsRightUpdate us → HasPiece (record { unit = Object o; rows = us })
+object_piece : (o : Oid) (us : List Update) → ((u : Update) × Member u us)
+    → IsSpelledItem (record { unit = Object o; rows = us }) → AreBare us → Each IsRightUpdate us
+    → HasPiece (record { unit = Object o; rows = us })
 object_piece o us some form bare right =
     let rise = attrs_rise o us form.of_unit form.rising in
     let long = mapped_long row_for us in
@@ -240,7 +256,8 @@ object_piece o us some form bare right =
       says = ap (λ vs. let i : Item = record { unit = Object o; rows = vs } in i) (rows_are o us form.of_unit right);
     }
 
-one_link : (l : LinkKey) (k : Key) (said : Said) (stamp : LinkStamp) → unit_of k ≡ Link l → IsSpelledRow k said stamp → HasPiece (record { unit = Link l; rows = record { key = k; stamp = stamp; said = said } ∷ [] })
+one_link : (l : LinkKey) (k : Key) (said : Said) (stamp : LinkStamp) → unit_of k ≡ Link l → IsSpelledRow k said stamp
+    → HasPiece (record { unit = Link l; rows = record { key = k; stamp = stamp; said = said } ∷ [] })
 one_link l (RowOf o attr) said stamp e q = absurd (cc)
 one_link l (LinkOf m) (Holds content) stamp e q = absurd q
 one_link l (LinkOf m) (IsPresent b) stamp e q = record {
@@ -260,20 +277,25 @@ not_behind l (LinkOf m) (LinkOf n) first second less =
     let of_it : link_order l l ≡ Less = cc in
     cc
 
-link_piece : (l : LinkKey) (us : List Update) → ((u : Update) × Member u us) → IsSpelledItem (record { unit = Link l; rows = us }) → Each IsRightUpdate us → HasPiece (record { unit = Link l; rows = us })
+link_piece : (l : LinkKey) (us : List Update) → ((u : Update) × Member u us)
+    → IsSpelledItem (record { unit = Link l; rows = us }) → Each IsRightUpdate us
+    → HasPiece (record { unit = Link l; rows = us })
 unfolding IsStrictlySortedBy
 link_piece l [] some form right = absurd some.1
 link_piece l (u ∷ []) some form right = one_link l u.key u.said u.stamp (form.of_unit u (inl refl)) (right u (inl refl))
 link_piece l (u ∷ v ∷ vs) some form right = absurd (not_behind l u.key v.key (form.of_unit u (inl refl)) (form.of_unit v (inr (inl refl))) form.rising.0.0)
 
-item_piece : (unit : Named) (us : List Update) → ((u : Update) × Member u us) → IsSpelledItem (record { unit = unit; rows = us }) → AreBare us → Each IsRightUpdate us → HasPiece (record { unit = unit; rows = us })
+item_piece : (unit : Named) (us : List Update) → ((u : Update) × Member u us)
+    → IsSpelledItem (record { unit = unit; rows = us }) → AreBare us → Each IsRightUpdate us
+    → HasPiece (record { unit = unit; rows = us })
 item_piece (Object o) us some form bare right = object_piece o us some form bare right
 item_piece (Link l) us some form bare right = link_piece l us some form right
 
 -- ---- writes
 
 -- each write that may follow is an item with a row
-in_turn_spelled : (table : Table) (vector : Cursors) (rows : List Held) (ws : List Written) → MayFollowInTurn table vector rows ws → Each IsSpelledWrite ws
+in_turn_spelled : (table : Table) (vector : Cursors) (rows : List Held) (ws : List Written)
+    → MayFollowInTurn table vector rows ws → Each IsSpelledWrite ws
 in_turn_spelled table vector rows [] turn w m = absurd m
 in_turn_spelled table vector rows (x ∷ xs) turn w (inl e) = subst IsSpelledWrite (sym e) (turn.0.form, turn.0.some)
 in_turn_spelled table vector rows (x ∷ xs) turn w (inr m) = in_turn_spelled table vector (after_write rows x) xs turn.2 w m
@@ -290,7 +312,8 @@ IsRightWrite w = IsSpelledWrite w × AreBare w.item.rows × Each IsRightUpdate w
 less_told : (a b : ℕ) → a < b → is_above nat_cmp (Some a) b ≡ true
 less_told a b lt = ap (λ t. is_lt (cond t Less (cond (eqb a b) Equal Greater))) (lt-ltb a b lt)
 
-has_writes : (last usn : ℕ) (ws : List Written) → usn < 2 ^ 63 → AreLocalsRising last usn ws → Each IsRightWrite ws → HasWrites last ws
+has_writes : (last usn : ℕ) (ws : List Written) → usn < 2 ^ 63 → AreLocalsRising last usn ws → Each IsRightWrite ws
+    → HasWrites last ws
 has_writes last usn [] fits rise right = record { writes = []; in_range = tt; says = refl }
 has_writes last usn (w ∷ ws) fits rise right =
     let q = right w (inl refl) in
@@ -306,7 +329,8 @@ has_writes last usn (w ∷ ws) fits rise right =
 
 -- ---- the whole
 
-mark_right : (m : Option Marked) → IfSome m (λ k. IsOrdered k.1.mark) → IfSome m (λ k. IsId k.0 × IsId k.1.inv × IsMark k.1.mark) → IsMarkIf m
+mark_right : (m : Option Marked) → IfSome m (λ k. IsOrdered k.1.mark)
+    → IfSome m (λ k. IsId k.0 × IsId k.1.inv × IsMark k.1.mark) → IsMarkIf m
 mark_right None ordered q = tt
 mark_right (Some k) ordered q = (
   (q.0, refl),
@@ -321,7 +345,8 @@ mode_told : (m : Mode) → m ≡ mode_of_flag (is_quarantined m)
 mode_told Normal = refl
 mode_told Quarantined = refl
 
-pub has_body : (s : State) (c : Change) → CanFollow s c → Each (λ w. AreBare w.item.rows) c.writes → IsInRange c → HasBody s.store.usn c
+pub has_body : (s : State) (c : Change) → CanFollow s c → Each (λ w. AreBare w.item.rows) c.writes → IsInRange c
+    → HasBody s.store.usn c
 has_body s c follows bare q =
     let form = in_turn_spelled _ s.store.vector s.store.rows c.writes follows.goes_on.writes in
     let w = has_writes s.store.usn c.usn c.writes q.usn follows.goes_on.locals
@@ -339,5 +364,6 @@ has_body s c follows bare q =
           ∙ ap (λ writes. let d : Change = record { usn = c.usn; mode = mode_of_flag (is_quarantined c.mode); mark = c.mark; joined = c.joined; purged = c.purged; removed = c.removed; writes = writes } in d) (sym w.says);
     }
 
-pub recorded : (s : State) (c : Change) → IsLogged s → CanFollow s c → Each (λ w. AreBare w.item.rows) c.writes → IsInRange c → MayBeRecorded s c
+pub recorded : (s : State) (c : Change) → IsLogged s → CanFollow s c → Each (λ w. AreBare w.item.rows) c.writes
+    → IsInRange c → MayBeRecorded s c
 recorded s c logged follows bare q = record { logged = logged; follows = follows; body = has_body s c follows bare q }

@@ -1,5 +1,5 @@
 -- Quarantines and collections can be recorded.
-use Rattle.std.proofs.Common.{◌≡◌, ℕ, ◌≤◌, ◌<◌, ◌^◌, Bool, true, false, cond, List, [], ◌∷◌, fold, length, map, Ok, refl, sym, subst, inl, inr, ⊎_elim, arith}
+use Rattle.std.proofs.Common.{◌≡◌, ℕ, ◌≤◌, Bool, true, false, cond, List, [], ◌∷◌, fold, map, Ok, refl, sym, subst, inl, inr, ⊎_elim, arith}
 use Rattle.std.specs.Prelude.{nat_lt}
 use Rattle.std.specs.Bool.{then_some}
 use Rattle.std.specs.BTreeMap.{insert_entry}
@@ -56,7 +56,8 @@ quarantine_is_recorded s logged normal = recorded s (quarantine s) logged (quara
 
 -- ---- what covers births and deaths in range is in range
 
-raised_in_range : (v : Cursors) (inv : Identifier) (usn : ℕ) → Each IsCursor v → IsId inv → IsUsn usn → Each IsCursor (raised v inv usn)
+raised_in_range : (v : Cursors) (inv : Identifier) (usn : ℕ) → Each IsCursor v → IsId inv → IsUsn usn
+    → Each IsCursor (raised v inv usn)
 raised_in_range v inv usn each id right e m = by (covers v inv usn) m
   where
     by : (b : Bool) → Member e (cond b v (insert_entry identifier_order v inv usn)) → IsCursor e
@@ -83,7 +84,8 @@ all_in_range (c ∷ cs) each = (each c (inl refl), all_in_range cs (λ e m. each
 
 -- ---- collections
 
-row_right : (o : Oid) (attr : ℕ) (k : Key) (said : Said) (stamp : LinkStamp) → k ≡ RowOf o attr → IsSpelledRow k said stamp → IsOid o × IsStamp stamp.stamp
+row_right : (o : Oid) (attr : ℕ) (k : Key) (said : Said) (stamp : LinkStamp) → k ≡ RowOf o attr
+    → IsSpelledRow k said stamp → IsOid o × IsStamp stamp.stamp
 row_right o attr (RowOf p a) (Holds content) stamp e q = let same : p ≡ o = cc in (subst IsOid same q.0, q.3)
 row_right o attr (RowOf p a) (IsPresent b) stamp e q = absurd q
 row_right o attr (LinkOf l) said stamp e q = absurd (cc)
@@ -110,7 +112,8 @@ module _ (s : State) (now lifetime : ℕ) (logged : IsLogged s) where
       let t = mapped_member (λ (d : Oid × Update). d.0) dead o m in
       subst (λ p. Member p (objects_of (updates_of s.store.rows))) (sym t.2) (of_death t.0 (all_collectable s now lifetime t.0 t.1))
     where
-      of_death : (d : Oid × Update) → IsCollectable s.store.rows (at s.store.vector) d → Member d.0 (objects_of (updates_of s.store.rows))
+      of_death : (d : Oid × Update) → IsCollectable s.store.rows (at s.store.vector) d
+          → Member d.0 (objects_of (updates_of s.store.rows))
       of_death d g =
           let stands = subst (λ (u : Update). Member u (updates_of s.store.rows)) g.is_held (updated s.store.rows g.held g.stands) in
           let named : IsNamed (updates_of s.store.rows) d.0 = logged.formed.store.rows.named d.0 (d.1, deleted_attr, stands, g.dies) in
@@ -131,7 +134,8 @@ module _ (s : State) (now lifetime : ℕ) (logged : IsLogged s) where
         rows = λ u m. absurd m;
       }
 
-pub collection_is_recorded : (s : State) (now lifetime : ℕ) (c : Change) → IsLogged s → collect s now lifetime ≡ Ok c → MayBeRecorded s c
+pub collection_is_recorded : (s : State) (now lifetime : ℕ) (c : Change) → IsLogged s → collect s now lifetime ≡ Ok c
+    → MayBeRecorded s c
 collection_is_recorded s now lifetime c logged e =
     let change = collection s (deaths_to_collect s now lifetime) in
     let g = answered (collect_refusal s change) change c e in
