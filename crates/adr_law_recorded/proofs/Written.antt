@@ -18,7 +18,7 @@ use Rattle.adr_wire.specs.Ranges.{IsId, IsU16, IsOid, IsStamp, IsContent}
 use Rattle.adr_model.specs.Member.{Member, Each}
 use Rattle.adr_model.specs.Update.{Identifier, RowOf, LinkOf, Said, Holds, IsPresent, Update, name_attr, deleted_attr}
 use Rattle.adr_model.specs.Store.{State, updates_of}
-use Rattle.adr_model.specs.Change.{Written, Change, updates_written}
+use Rattle.adr_model.specs.Change.{Written, updates_written}
 use Rattle.adr_model.specs.Write.{Write, AddObject, Modify, Rename, Delete, AddLink, RemoveLink, IsWellGiven, where_true, full_refusal, link_limit, links_in, more_links, version_refusal, add_refusals, modify_refusals, rename_refusals, delete_refusals, any_link_refusals, any_link_refusal, nodes_held, object_of, link_of, next_row, first_stamp, new_object, new_rows, row, write_refusal, rows_written, items_written, own_change}
 use Rattle.adr_model.proofs.Members.{mapped_member, member_mapped, flat_member}
 use Rattle.adr_image.specs.Stored.{IsSpelledRow}
@@ -29,10 +29,8 @@ use Rattle.adr_law_writing.specs.MayWrites.{Fits, MayWrite, IsHeldAlive}
 use Rattle.adr_law_writing.proofs.Sound.{may_write}
 use Rattle.adr_law_writing.proofs.Stamps.{written}
 use Rattle.adr_law_writing.proofs.Writes.{well_said}
-use Rattle.adr_law_formed.specs.Taken.{AreBare}
-use Rattle.adr_law_formed.specs.Follow.{CanFollow}
 use Rattle.adr_law_formed.proofs.EachWrite.{write_follows, write_is_bare}
-use Rattle.adr_records.specs.Logged.{IsLogged, MayBeRecorded}
+use Rattle.adr_records.specs.Logged.{IsLogged}
 use Rattle.adr_law_recorded.specs.Typed.{IsTypedValue, IsTypedWrite}
 use Rattle.adr_law_recorded.specs.InRange.{IsInRange}
 use Rattle.adr_law_recorded.specs.Laws.{WrittenIsRecorded}
