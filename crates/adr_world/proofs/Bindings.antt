@@ -1,14 +1,14 @@
 -- What lines bound to names is in its ranges, and what comes of it.
-use Rattle.std.proofs.Common.{◌≡◌, ◌∙◌, ◌⊎◌, sym, ap, subst, inl, inr, List, [], ◌∷◌, ◌++◌, Option, Some, None, codes, refl}
+use Rattle.std.proofs.Common.{◌≡◌, ◌∙◌, ◌⊎◌, sym, ap, subst, inl, inr, ℕ, List, [], ◌∷◌, ◌++◌, Option, Some, None, codes, refl}
 use Rattle.std.specs.Prelude.{IfSome}
 use Rattle.adr_event.specs.declared.answer.Answer.{Answer}
 use Rattle.adr_event.specs.declared.answer.Outcome.{Outcome}
-use Rattle.adr_event.specs.declared.event.Event.TheVariants.{Serve, Deliver}
+use Rattle.adr_event.specs.declared.event.Event.TheVariants.{Serve}
 use Rattle.adr_law_formed.specs.Spelled.{IsSpelledReply}
 use Rattle.adr_law_recorded.specs.Ranged.{IsRangedRequest, IsRangedReply}
 use Rattle.adr_model.specs.Member.{Member, Each}
 use Rattle.adr_model.specs.Serve.{Request, Reply}
-use Rattle.adr_model.specs.World.{Name, World, Gone, Sent, bound, bound_at, serves_request, delivers, answer}
+use Rattle.adr_model.specs.World.{Name, World, Gone, Sent, bound, bound_at, serves_request, answer}
 use Rattle.adr_model.specs.Step.{told, told_bound, step}
 use Rattle.adr_model.proofs.Members.{member_of_either}
 use Rattle.adr_law_convergence.proofs.Found.{bound_member}
@@ -24,12 +24,20 @@ reply_spelled replies name r all is = bound_member (λ (x : Reply). IsSpelledRep
 -- and so it stays where one more is bound
 pub each_bound : {A : Type 0} (P : A → Type 0) (xs : List (Name × A)) (name : Name) (o : Option A) → Each (λ (x : Name × A). P x.1) xs → IfSome o P → Each (λ (x : Name × A). P x.1) (bound xs name o)
 each_bound P xs name None all new = all
-each_bound {A = A} P xs name (Some a) all new x m = by (member_of_either xs ((name, a) ∷ []) x m)
+each_bound {A = A} P xs name (Some a) all new = λ x m. by x (member_of_either xs ((name, a) ∷ []) x m)
   where
-    by : Member x xs ⊎ Member x ((name, a) ∷ []) → P x.1
-    by (inl n) = all x n
-    by (inr (inl e)) = subst (λ (y : Name × A). P y.1) (sym e) new
-    by (inr (inr n)) = absurd n
+    by : (x : Name × A) → Member x xs ⊎ Member x ((name, a) ∷ []) → P x.1
+    by x (inl n) = all x n
+    by x (inr (inl e)) = subst (λ (y : Name × A). P y.1) (sym e) new
+    by x (inr (inr n)) = absurd n
+
+-- an answer, by the heading that was made before
+pub headed : (made : Answer) (v n verb : List ℕ) (name : Name) (o : Outcome) → made ≡ answer v n o → (v ≡ verb) × (n ≡ name) → made ≡ answer verb name o
+headed made v n verb name o is made_of = is ∙ ap (λ x. answer x n o) made_of.0 ∙ ap (λ x. answer verb x o) made_of.1
+
+-- a line with one answer, by what comes of its call
+pub told_so : (verb : List ℕ) (name : Name) (g : Gone) (v : World) (o : Outcome) (made : Answer) → g ≡ (v, o) → made ≡ answer verb name o → told verb name g ≡ (v, made ∷ [])
+told_so verb name g v o made gone said = ap (λ (x : Gone). told verb name x) gone ∙ ap (λ m. (v, m ∷ [])) (sym said)
 
 -- the line of a serve, by what comes of its request
 module _ (w : World) (name request bind : Name) where
@@ -43,9 +51,3 @@ module _ (w : World) (name request bind : Name) where
   pub serve_short : (v : World) → IsUnsent w (serves_request w name (bound_at w.requests request)) v → IsAllOrNone w (step w (Serve name request bind)).0 v
   serve_short v (inl same) = inl same
   serve_short v (inr sent) = inr (sym (ap (λ (t : Sent Reply). (told_bound (codes "serve") name t (λ u p. record u { replies = bound u.replies bind p })).0) sent))
-
--- the line of a delivery, by what comes of its reply
-pub delivered_step : (w v : World) (name reply : Name) (x : Outcome) (made : Answer) → delivers w name (bound_at w.replies reply) ≡ (v, x)
-    → made ≡ answer (codes "deliver") name x → step w (Deliver name reply) ≡ (v, made ∷ [])
-delivered_step w v name reply x made gone said =
-    ap (λ (g : Gone). told (codes "deliver") name g) gone ∙ ap (λ m. (v, m ∷ [])) (sym said)

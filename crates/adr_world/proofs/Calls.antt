@@ -1,5 +1,6 @@
 -- What calls by a name come to.
 use Rattle.std.proofs.Common.{◌≡◌, ◌∙◌, ◌⊎◌, ℕ, refl, sym, ap, inl, inr, List, Option, Some, None, Result, Ok, Err, if◌then◌else◌}
+use Rattle.std.specs.Prelude.{IsSome}
 use Rattle.adr_event.specs.declared.answer.Outcome.{Outcome}
 use Rattle.adr_event.specs.declared.answer.Outcome.TheVariants as outcomes
 use Rattle.adr_event.specs.declared.directory.Entry.{Entry}
@@ -14,7 +15,7 @@ use Rattle.adr_model.specs.Formed.{AreFormedRows}
 use Rattle.adr_model.specs.Serve.{Request, Reply, ask, serve}
 use Rattle.adr_model.specs.Visible.{visible}
 use Rattle.adr_model.specs.Replica.{Standing, Up, Down, Failed, Replica}
-use Rattle.adr_model.specs.World.{World, Name, Sent, replica_at, of_made, of_controller, where_up, nothing, not_sent, stays, asks, serves_request, after_serve, served, shown}
+use Rattle.adr_model.specs.World.{World, Name, Sent, replica_at, of_made, of_controller, where_up, nothing, not_sent, stays, asks, serves_request, after_serve, served, delivers, delivered, shown}
 use Rattle.adr_model.specs.Sound.{IsSoundWorld}
 use Rattle.adr_law_convergence.proofs.Controllers.{shows_what_is_visible}
 use Rattle.adr_law_convergence.proofs.Found.{replica_found}
@@ -41,16 +42,25 @@ module _ (w : World) (name partner : Name) (max : ℕ) where
   pub no_asker_so : replica_at w name ≡ None → asks w name partner max ≡ (w, outcomes.Absent, None)
   no_asker_so none = ap (λ x. of_made (nothing w) x (λ r. of_made (nothing w) (replica_at w partner) (λ p. where_up (nothing w) r.standing (w, outcomes.Ok, Some (ask r.safe p.safe.dsa max))))) none
 
-  pub no_partner_so : (a : Replica) → replica_at w name ≡ Some a → replica_at w partner ≡ None → asks w name partner max ≡ (w, outcomes.Absent, None)
-  no_partner_so a first none =
-      ap (λ x. of_made (nothing w) x (λ r. of_made (nothing w) (replica_at w partner) (λ p. where_up (nothing w) r.standing (w, outcomes.Ok, Some (ask r.safe p.safe.dsa max))))) first
-      ∙ ap (λ x. of_made (nothing w) x (λ p. where_up (nothing w) a.standing (w, outcomes.Ok, Some (ask a.safe p.safe.dsa max)))) none
+  pub no_partner_so : replica_at w partner ≡ None → asks w name partner max ≡ (w, outcomes.Absent, None)
+  no_partner_so none = by (replica_at w name)
+    where
+      by : (o : Option Replica) → of_made (nothing w) o (λ r. of_made (nothing w) (replica_at w partner) (λ p. where_up (nothing w) r.standing (w, outcomes.Ok, Some (ask r.safe p.safe.dsa max)))) ≡ (w, outcomes.Absent, None)
+      by None = refl
+      by (Some r) = ap (λ x. of_made (nothing w) x (λ p. where_up (nothing w) r.standing (w, outcomes.Ok, Some (ask r.safe p.safe.dsa max)))) none
 
 -- a message that isn't there is answered so also where messages are sent
 pub nothing_sent : {A : Type 0} (w : World) (s : Standing) (o : Outcome) → where_up (stays w) s (w, outcomes.Absent) ≡ (w, o) → where_up (nothing {A = A} w) s (w, outcomes.Absent, None) ≡ (w, o, None)
 nothing_sent w Up o is = ap not_sent is
 nothing_sent w Down o is = ap not_sent is
 nothing_sent w Failed o is = ap not_sent is
+
+module _ (w : World) (name : Name) (r : Replica) (is : replica_at w name ≡ Some r) (o : Outcome) (said : where_up (stays w) r.standing (w, outcomes.Absent) ≡ (w, o)) where
+  pub no_request_so : (q : Option Request) → None ≡ q → serves_request w name q ≡ (w, o, None)
+  no_request_so q none = ap (serves_request w name) (sym none) ∙ reaches w name (nothing w) (λ x. served w x None) r is ∙ nothing_sent w r.standing o said
+
+  pub no_reply_so : (p : Option Reply) → None ≡ p → delivers w name p ≡ (w, o)
+  no_reply_so p none = ap (delivers w name) (sym none) ∙ reaches w name (stays w) (λ x. delivered w x None) r is ∙ said
 
 -- ---- a reply changes nothing, and a refusal sends nothing
 
@@ -93,6 +103,11 @@ module _ (w : World) (name : Name) (q : Option Request) where
       by : (x : Option Replica) → replica_at w name ≡ x → v ≡ w
       by None is = let none : None ≡ Some reply = ap (λ (t : Sent Reply). t.2) (sym (reaches_none w name (nothing w) (λ r. served w r q) is) ∙ e) in absurd (cc)
       by (Some r) is = up r q (sym (reaches w name (nothing w) (λ x. served w x q) r is) ∙ e)
+
+-- and so where something was sent
+pub sent_keeps : (w : World) (name : Name) (q : Option Request) (v : World) (o : Outcome) (sent : Option Reply) → IsSome sent → serves_request w name q ≡ (v, o, sent) → v ≡ w
+sent_keeps w name q v o None some e = absurd (cc)
+sent_keeps w name q v o (Some reply) some e = reply_keeps w name q v o reply e
 
 -- ---- the directory of a sound world's controller
 

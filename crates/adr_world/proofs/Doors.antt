@@ -1,11 +1,11 @@
 -- What is claimed of a line follows of what it does.
-use Rattle.std.proofs.Common.{◌≡◌, ◌≢◌, inl, inr, refl, ℕ, false, sym, ap, subst}
+use Rattle.std.proofs.Common.{◌≡◌, ◌≢◌, inl, inr, refl, ℕ, ◌<◌, false, sym, ap, subst}
 use Rattle.adr_event.specs.declared.event.Event.{Event}
 use Rattle.adr_event.specs.declared.event.Event.TheVariants as events
 use Rattle.adr_model.specs.Member.{Member}
 use Rattle.adr_model.specs.Replica.{Replica, Up}
 use Rattle.adr_model.specs.World.{World, Name}
-use Rattle.adr_model.specs.Cycles.{Pulled, pull, cycle}
+use Rattle.adr_model.specs.Cycles.{Pulled, pull, cycle, reply_limit}
 use Rattle.adr_model.specs.Step.{step}
 use Rattle.adr_model.specs.Sound.{IsSoundWorld, IsWorldOfRun}
 use Rattle.adr_model.specs.Convergence.{AreAcknowledged, MayHappen, AreUnlimited, EndsOrSaysMore}
@@ -17,7 +17,7 @@ use Rattle.adr_replica.specs.Led.{synced}
 use Rattle.adr_world.specs.Built.{IsBuiltAtOnce}
 use Rattle.adr_world.specs.Door.{IsCompletedBy}
 use Rattle.adr_world.specs.Pulls.{IsCycleTurn, IsTurn}
-use Rattle.adr_world.specs.Short.{IsSyncedBy, IsCutShort, IsTurnCutShort}
+use Rattle.adr_world.specs.Short.{IsAllOrNone, IsSyncedBy, IsCutShort, IsTurnCutShort}
 
 module _ (w : World) (e : Event) (run : IsWorldOfRun w) (may : MayHappen w e) where
   -- the world behind a line
@@ -60,6 +60,16 @@ pub short_of_run : StartsCutShortKeepWorlds → (w : World) (e : Event) (turn : 
 short_of_run law w e turn v run may (inl same) = subst IsWorldOfRun (sym same) run
 short_of_run law w e turn v run may (inr (inl (p, is, at))) = subst IsWorldOfRun (sym at) (turned_of_run w e turn p run may is)
 short_of_run law w e turn v run may (inr (inr synced)) = synced_of_run law w e v run synced
+
+-- of a line that has no middle nothing is done, or all
+pub line_short : (w : World) (e : Event) (v : World) → IsAllOrNone w (step w e).0 v → IsCutShort w e v
+line_short w e v (inl same) = inl same
+line_short w e v (inr all) = inr (inl all)
+
+-- a pull, as a turn of a cycle
+pub pull_short : (turn : ℕ) (w : World) (dest source : Name) (max : ℕ) (v : World) → turn < reply_limit → IsAllOrNone w (pull w dest source max).0 v → IsTurnCutShort turn w (events.Cycle dest source max) v
+pull_short turn w dest source max v below (inl same) = inl same
+pull_short turn w dest source max v below (inr all) = inr (inl (pull w dest source max, inl (below, refl), all))
 
 -- a line that was cut short, as its one turn
 pub turn_short : (turn : ℕ) (w : World) (e : Event) (v : World) → IsBuiltAtOnce e → IsCutShort w e v → IsTurnCutShort turn w e v

@@ -1,6 +1,6 @@
 pub mod Places
-pub mod Becoming
 pub mod Calls
+pub mod Becoming
 pub mod Pulls
 pub mod Turns
 pub mod Bindings
