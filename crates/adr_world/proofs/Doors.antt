@@ -1,9 +1,7 @@
 -- What is claimed of a line follows of what it does.
-use Rattle.std.proofs.Common.{◌≡◌, ◌≢◌, inl, inr, refl, ℕ, ◌<◌, false, sym, ap, subst}
+use Rattle.std.proofs.Common.{◌≡◌, inl, inr, refl, ℕ, ◌<◌, false, sym, ap, subst}
 use Rattle.adr_event.specs.declared.event.Event.{Event}
 use Rattle.adr_event.specs.declared.event.Event.TheVariants as events
-use Rattle.adr_model.specs.Member.{Member}
-use Rattle.adr_model.specs.Replica.{Replica, Up}
 use Rattle.adr_model.specs.World.{World, Name}
 use Rattle.adr_model.specs.Cycles.{Pulled, pull, cycle, reply_limit}
 use Rattle.adr_model.specs.Step.{step}
@@ -11,9 +9,9 @@ use Rattle.adr_model.specs.Sound.{IsSoundWorld, IsWorldOfRun}
 use Rattle.adr_model.specs.Convergence.{AreAcknowledged, MayHappen, AreUnlimited, EndsOrSaysMore}
 use Rattle.adr_law_convergence.proofs.Lines.{stays_sound, behind_is_on_the_way}
 use Rattle.adr_law_convergence.proofs.Acknowledged.{acknowledged_is_issued}
+use Rattle.adr_law_convergence.proofs.CutShort.{cut_short_sound}
 use Rattle.adr_law_convergence.proofs.Completing.{cycle_ends}
 use Rattle.adr_law_convergence.proofs.Found.{replica_found}
-use Rattle.adr_replica.specs.Led.{synced}
 use Rattle.adr_world.specs.Built.{IsBuiltAtOnce}
 use Rattle.adr_world.specs.Door.{IsCompletedBy}
 use Rattle.adr_world.specs.Pulls.{IsCycleTurn, IsTurn}
@@ -46,20 +44,16 @@ pub turned_of_run : (w : World) (e : Event) (turn : ℕ) (p : Pulled) → IsWorl
 turned_of_run w (events.Cycle dest source max) turn p run may is = cycle_turned_of_run w dest source max turn p run is
 turned_of_run w e turn p run may is = whole_of_run w e p run may is
 
--- where a start wanted memory behind its sync, the world is that of a run
-abbrev pub StartsCutShortKeepWorlds : Type 0
-StartsCutShortKeepWorlds = (w : World) (r : Replica) → IsWorldOfRun w → Member r w.replicas → r.standing ≢ Up → IsWorldOfRun (synced w r)
-
 -- the world behind a start that was cut short
-synced_of_run : StartsCutShortKeepWorlds → (w : World) (e : Event) (v : World) → IsWorldOfRun w → IsSyncedBy w e v → IsWorldOfRun v
-synced_of_run law w (events.Start name) v run (r, at, not_up, is) = subst IsWorldOfRun (sym is) (law w r run (replica_found w name r at).0 not_up)
-synced_of_run law w e v run synced = absurd synced
+synced_of_run : (w : World) (e : Event) (v : World) → IsWorldOfRun w → IsSyncedBy w e v → IsWorldOfRun v
+synced_of_run w (events.Start name) v run (r, at, not_up, is) = subst IsWorldOfRun (sym is) (cut_short_sound w r run (replica_found w name r at).0 not_up)
+synced_of_run w e v run synced = absurd synced
 
 -- and behind a turn that was
-pub short_of_run : StartsCutShortKeepWorlds → (w : World) (e : Event) (turn : ℕ) (v : World) → IsWorldOfRun w → MayHappen w e → IsTurnCutShort turn w e v → IsWorldOfRun v
-short_of_run law w e turn v run may (inl same) = subst IsWorldOfRun (sym same) run
-short_of_run law w e turn v run may (inr (inl (p, is, at))) = subst IsWorldOfRun (sym at) (turned_of_run w e turn p run may is)
-short_of_run law w e turn v run may (inr (inr synced)) = synced_of_run law w e v run synced
+pub short_of_run : (w : World) (e : Event) (turn : ℕ) (v : World) → IsWorldOfRun w → MayHappen w e → IsTurnCutShort turn w e v → IsWorldOfRun v
+short_of_run w e turn v run may (inl same) = subst IsWorldOfRun (sym same) run
+short_of_run w e turn v run may (inr (inl (p, is, at))) = subst IsWorldOfRun (sym at) (turned_of_run w e turn p run may is)
+short_of_run w e turn v run may (inr (inr synced)) = synced_of_run w e v run synced
 
 -- of a line that has no middle nothing is done, or all
 pub line_short : (w : World) (e : Event) (v : World) → IsAllOrNone w (step w e).0 v → IsCutShort w e v

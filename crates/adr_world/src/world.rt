@@ -61,8 +61,8 @@ impl World {
         ensures told { OnOk result (Adds (K.written sink.old) (K.written sink.new) (flat_map line (step self.old event.now).1)) }
 
         // With a fault a front of that is written, and what is written was done: so many turns of the line are done, and a
-        // front of their lines is written. A pull is a turn of a cycle, and any other line is one turn. A write that failed
-        // was counted.
+        // front of their lines is written. A pull is a turn of a cycle, and any other line is one turn. Of a start that wanted
+        // memory its sync may stand, with nothing written. A write that failed was counted.
         ensures front { OnErr result (AddsFront (K.written sink.old) (K.written sink.new) (flat_map line (step self.old event.now).1)) }
         ensures err { OnErr result (IsLeftBy self.old event.now self.new (K.written sink.old) (K.written sink.new)) }
         ensures never_falls { K.faults sink.old ≤ K.faults sink.new }

@@ -65,7 +65,7 @@ returns-in_err-answers-clause-err g c =
 
 pub returns-in_err-answers-clause-sound : goal.returns-in_err-answers-clause-sound
 returns-in_err-answers-clause-sound g c = record {
-  of_run = short_of_run ? (world_of c.loop-turn.self) c.args.event.now c.loop-turn.turn (world_of c.turn.new.self) c.loop-turn.invariant.sound.of_run c.loop-turn.invariant.told.1.may c.in_err-answers.ensures.err;
+  of_run = short_of_run (world_of c.loop-turn.self) c.args.event.now c.loop-turn.turn (world_of c.turn.new.self) c.loop-turn.invariant.sound.of_run c.loop-turn.invariant.told.1.may c.in_err-answers.ensures.err;
   tidy = c.in_err-answers.ensures.tidy;
 }
 
