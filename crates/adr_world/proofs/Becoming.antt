@@ -5,7 +5,7 @@ use Rattle.adr_event.specs.declared.answer.Outcome.{Outcome}
 use Rattle.adr_event.specs.declared.event.Event.TheVariants.{Start}
 use Rattle.adr_model.specs.Replica.{Replica, Up}
 use Rattle.adr_model.specs.Serve.{Request, Reply, serve}
-use Rattle.adr_model.specs.World.{World, Name, Gone, Sent, replica_at, with_replica, of_made, of_controller, where_up, stays, nothing, served, after_serve, serves_request}
+use Rattle.adr_model.specs.World.{World, Name, Gone, Sent, replica_at, of_made, of_controller, where_up, stays, nothing, served, after_serve, serves_request}
 use Rattle.adr_replica.specs.Past.{Past}
 use Rattle.adr_replica.specs.Led.{StandsIn, IsUndone, IsDone, synced, world_with}
 use Rattle.adr_world.specs.declared.run.Run.{Run}

@@ -1,5 +1,5 @@
 -- What lines bound to names is in its ranges, and what comes of it.
-use Rattle.std.proofs.Common.{◌≡◌, ◌∙◌, ◌⊎◌, sym, ap, subst, inl, inr, ℕ, List, [], ◌∷◌, ◌++◌, Option, Some, None, codes, refl}
+use Rattle.std.proofs.Common.{◌≡◌, ◌∙◌, ◌⊎◌, sym, ap, subst, inl, inr, ℕ, List, [], ◌∷◌, Option, Some, None, codes}
 use Rattle.std.specs.Prelude.{IfSome}
 use Rattle.adr_event.specs.declared.answer.Answer.{Answer}
 use Rattle.adr_event.specs.declared.answer.Outcome.{Outcome}

@@ -1,4 +1,4 @@
-use Rattle.std.proofs.Common.{◌≡◌, Ok, Some, sym, subst}
+use Rattle.std.proofs.Common.{◌≡◌, Ok, sym, subst}
 use Rattle.std.specs.Prelude.{IsSomeAnd}
 use Rattle.adr_law_journal.specs.Log.{start_of}
 use Rattle.adr_law_journal.specs.Replicas.{read_found}

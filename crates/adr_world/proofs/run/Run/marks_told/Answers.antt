@@ -1,11 +1,9 @@
-use Rattle.std.proofs.Common.{◌≡◌, ◌∙◌, sym, ap}
 use Rattle.adr_event.specs.declared.answer.Outcome.TheVariants as outcomes
 use Rattle.adr_model.specs.Replica.{Replica}
-use Rattle.adr_model.specs.Store.{State}
 use Rattle.adr_model.specs.World.{marks_shown}
 use Rattle.adr_world.specs.Run.{world_of}
 use Rattle.adr_world.proofs.Becoming.{found_there}
-use Rattle.adr_world.proofs.Calls.{told_up, told_other}
+use Rattle.adr_world.proofs.Calls.{told_other}
 use Rattle.adr_world.proofs.run.Run.marks_told.Goals as goal
 
 pub returns-in-Err : goal.returns-in-Err

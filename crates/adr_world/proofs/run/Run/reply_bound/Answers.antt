@@ -1,4 +1,4 @@
-use Rattle.std.proofs.Common.{◌≡◌, ◌∙◌, Some, ap, subst, sym, refl}
+use Rattle.std.proofs.Common.{◌∙◌, Some, ap, subst, sym, refl}
 use Rattle.std.proofs.lemmas.Result.{IfOk-weaker}
 use Rattle.adr_model.specs.World.{bound_at, serves_request, served, nothing}
 use Rattle.adr_world.specs.Run.{world_of}

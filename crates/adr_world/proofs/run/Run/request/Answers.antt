@@ -1,4 +1,4 @@
-use Rattle.std.proofs.Common.{◌∙◌, Some}
+use Rattle.std.proofs.Common.{◌∙◌}
 use Rattle.std.proofs.lemmas.Result.{IfOk-weaker}
 use Rattle.adr_world.specs.Run.{world_of}
 use Rattle.adr_world.proofs.Places.{at_place}

@@ -1,4 +1,4 @@
-use Rattle.std.proofs.Common.{◌≡◌, ◌∙◌, sym, ap, subst, inl, inr, refl, Some, [], ◌∷◌, codes}
+use Rattle.std.proofs.Common.{◌∙◌, sym, ap, subst, inl, [], ◌∷◌, codes}
 use Rattle.adr_law_formed.specs.Spelled.{IsSpelledReply}
 use Rattle.adr_law_recorded.specs.Ranged.{IsRangedReply}
 use Rattle.adr_model.specs.Serve.{Reply}

@@ -1,6 +1,5 @@
-use Rattle.std.proofs.Common.{◌∙◌, ap, sym, refl, Some, codes}
+use Rattle.std.proofs.Common.{ap, codes}
 use Rattle.adr_event.specs.declared.answer.Outcome.TheVariants as outcomes
-use Rattle.adr_model.specs.Replica.{Replica}
 use Rattle.adr_model.specs.World.{of_made, replica_at, stays, stops}
 use Rattle.adr_world.specs.Run.{world_of}
 use Rattle.adr_world.proofs.Becoming.{run_with, stands, apart_with, led_anyhow}

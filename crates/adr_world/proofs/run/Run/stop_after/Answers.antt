@@ -1,4 +1,4 @@
-use Rattle.std.proofs.Common.{◌∙◌, ap, sym, refl, Some, codes}
+use Rattle.std.proofs.Common.{ap, sym, refl, codes}
 use Rattle.adr_event.specs.declared.answer.Outcome.TheVariants as outcomes
 use Rattle.adr_model.specs.Replica.{Replica, Stops}
 use Rattle.adr_model.specs.World.{of_made, replica_at, stays, with_plan, with_replica}
