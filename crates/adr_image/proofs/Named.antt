@@ -101,7 +101,7 @@ one_object (z ∷ zs) d x (inr m) y (inl b) e =
     absurd (let c : true ≡ false = sym t ∙ f in cc)
 one_object (z ∷ zs) d x (inr m) y (inr n) e = one_object zs d.1 x m y n e
 
--- ---- behind a row 3 there are no values
+-- ---- behind a deleted row there are no values
 
 values_clash : (table : Table) (o : Oid) (b : Before) (a : ℕ) (s : Stamp) (c : Content) → b.dead ≡ true → is_allowed table o b (a, s, c) ≡ true → (vs : _) → c ≡ Values vs → ⊥
 values_clash table o b a s (Class n) d e vs k = cc

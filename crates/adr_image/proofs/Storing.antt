@@ -31,7 +31,7 @@ use Rattle.adr_image.proofs.Parting.{joined_again, apart_again}
 
 -- ---- rising keys
 
-less_from_test : (o : Ordering) → is_lt o ≡ true → o ≡ Less
+pub less_from_test : (o : Ordering) → is_lt o ≡ true → o ≡ Less
 less_from_test Less h = refl
 less_from_test Equal h = absurd (cc)
 less_from_test Greater h = absurd (cc)

@@ -3,9 +3,9 @@ use Rattle.std.proofs.Common.{◌≡◌, ℕ, ◌≤◌, Bool, true, false, cond
 use Rattle.std.specs.List.{AllByRecursion, list_all}
 use Rattle.std.specs.List.Sorted.{IsStrictlySortedBy}
 use Rattle.std.specs.Option.{IfSome}
-use Rattle.std.specs.Ordering.{is_lt, nat_cmp, ordering_then}
+use Rattle.std.specs.Ordering.{nat_cmp, ordering_then}
 use Rattle.std.specs.declared.cmp.Ordering.{Ordering}
-use Rattle.std.specs.declared.cmp.Ordering.TheVariants.{Less, Equal, Greater}
+use Rattle.std.specs.declared.cmp.Ordering.TheVariants.{Less}
 use Rattle.std.proofs.lemmas.Bool.{and_from, and_parts, eq-eqb, eqb-true, le-leb, leb-true}
 use Rattle.std.proofs.lemmas.Cmp.{nat_cmp_total, tied_itself}
 use Rattle.adr_stamp.specs.declared.Oid.{Oid}
@@ -33,17 +33,12 @@ use Rattle.adr_image.specs.Changes.{HasBody, change_bytes, decoded_change, item_
 use Rattle.adr_image.specs.Image.{Marked}
 use Rattle.adr_image.proofs.Recorded.{change_again, change_long, change_only}
 use Rattle.adr_image.proofs.Staying.{stays_spelled}
-use Rattle.adr_image.proofs.Storing.{chain}
+use Rattle.adr_image.proofs.Storing.{chain, less_from_test}
 use Rattle.adr_image.proofs.Taking.{less_is}
 use Rattle.adr_records.specs.Body.{SaysChange, are_locals_within, by_change, following}
 use Rattle.adr_records.specs.Logged.{IsLogged, MayBeRecorded}
 
 -- ---- what a body in range says is of the form of a change
-
-less_from_test : (o : Ordering) → is_lt o ≡ true → o ≡ Less
-less_from_test Less h = refl
-less_from_test Equal h = absurd (cc)
-less_from_test Greater h = absurd (cc)
 
 locals_rise : (last usn : ℕ) (ws : List Write) → InTurn (λ (w : Write). w.0) IsWrite (Some last) ws → list_all (λ (w : Written). leb w.local usn) (map written_of ws) ≡ true → AreLocalsRising last usn (map written_of ws)
 locals_rise last usn [] turn all = tt
