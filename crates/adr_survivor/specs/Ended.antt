@@ -20,7 +20,7 @@ of_fault faults.NoMemory = NoMemory
 abbrev pub of_start : StartRefusal → Ending
 of_start starts.DiskFault = DiskFault
 of_start (starts.Damaged place) = Damaged place
-of_start starts.NoMemory = NoMemory
+of_start (starts.NoMemory settled) = NoMemory
 
 abbrev pub of_keeper : KeeperRefusal → Ending
 of_keeper keeps.DiskFault = DiskFault

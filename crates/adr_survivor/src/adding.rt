@@ -12,14 +12,20 @@ use crate::objects::addition;
 use adr_controller::{Controller, Keeper};
 use adr_disk::{Disk, FileDisk};
 use adr_journal::Journal;
+use adr_law_recorded::{
+    logged_states_fit, recorded_changes_leave_logged_states, writes_are_recorded,
+};
 use adr_records::Records;
 use std::alloc::Global;
 
 /// An addition can be recorded behind every state of a log.
-#[tactic(none)]
 fn additions_follow<D: Disk>()
     ensures { AdditionsFollow ⟦<Journal<D, Records> as Keeper>⟧ }
-{}
+{
+    writes_are_recorded();
+    recorded_changes_leave_logged_states();
+    logged_states_fit();
+}
 
 /// Adds the object of a number, and answers the USN under which it is acknowledged.
 fn add<K: Keeper>(

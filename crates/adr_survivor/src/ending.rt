@@ -87,7 +87,7 @@ impl From<StartRefusal> for Ending {
         match refusal {
             StartRefusal::DiskFault => Ending::DiskFault,
             StartRefusal::Damaged { place } => Ending::Damaged { place },
-            StartRefusal::NoMemory => Ending::NoMemory,
+            StartRefusal::NoMemory { .. } => Ending::NoMemory,
         }
     }
 }

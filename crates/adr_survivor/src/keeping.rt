@@ -9,6 +9,7 @@ use crate::objects::number_of;
 use adr_controller::{Controller, State};
 use adr_disk::{Disk, FileDisk};
 use adr_journal::Journal;
+use adr_law_recorded::new_controllers_may_begin;
 use adr_records::Records;
 use adr_schema::Schema;
 use std::alloc::Global;
@@ -51,6 +52,7 @@ pub fn begin(rt: &HostRuntime, name: &str) -> Result<(), Ending> {
         return Err(Ending::Taken);
     }
     let log: Log = Journal::new(rt.alloc(), disk);
+    new_controllers_may_begin();
     match Controller::format(log, new_state(rt.alloc())) {
         Ok(_) => tell(rt, "ready\n"),
         Err((refusal, _)) => Err(Ending::from(refusal)),
