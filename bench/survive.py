@@ -6,7 +6,7 @@ Usage: bench/survive.py [--rounds N] [--seed N]
 A round starts `adr_survivor run`, which adds objects one by one and tells each as soon as it is acknowledged, and kills
 the process (SIGKILL) within 30 ms, or behind a random number of lines. Then `adr_survivor show` has to tell all that was
 acknowledged, at most one object more (that of the write under way), no other, and the USN of the last one. The next round
-goes on behind these. Each hundred rounds a new file is begun, and the process that formats it is killed as well.
+goes on behind these. Each hundred rounds new files are begun, and the processes that format them are killed as well.
 
 Before that the file is read by `bench/read_log.py`, which knows the formats from their description alone; and last a small
 log is cut at every place and changed at every byte: that reader and the program must find the same, or damage at the same
@@ -16,6 +16,7 @@ A kill takes the process and nothing that the kernel has, so this is no power fa
 proofs speak of, over any disk; what is tried here is what they take as given, that a file is one.
 """
 import argparse
+import itertools
 import os
 import random
 import shutil
@@ -29,6 +30,7 @@ import read_log
 TOP = os.path.dirname(os.path.dirname(os.path.abspath(__file__)))
 PROGRAM = f"{TOP}/crates/adr_survivor/out/adr_survivor"
 ROUNDS_OF_FILE = 100
+FORMATS_OF_FILE = 10
 # More than a process adds before it is killed.
 MANY = 100_000
 # The high half of the GUIDs of the objects.
@@ -59,6 +61,8 @@ def described(data):
 class Killed:
     """A process that is killed, with the lines that it told before, and how it ended: None where it was killed."""
 
+    count = 0
+
     def __init__(self, folder, words, chance):
         process = subprocess.Popen([PROGRAM, *words], cwd=folder, stdout=subprocess.PIPE)
         read = b""
@@ -74,13 +78,14 @@ class Killed:
         status = process.wait()
         self.lines = lines_of(read)
         self.status = None if status < 0 else status
+        Killed.count += self.status is None
 
 
 class File:
     """A controller's file, and how many objects are in it."""
 
     def __init__(self, folder, name):
-        self.folder, self.name, self.objects, self.kills = folder, name, 0, 0
+        self.folder, self.name, self.objects = folder, name, 0
         self.path = f"{folder}/{name}.adr"
 
     def show(self):
@@ -97,27 +102,22 @@ class File:
             lost(f"the program and the other reader differ on {what}", (shown[0], shown[1][-1:], wanted[0], wanted[1][-1:]))
         return data
 
-    def killed(self, words, chance):
-        process = Killed(self.folder, words, chance)
-        self.kills += process.status is None
-        return process
-
     def format(self, chance):
-        """Formats it, by processes that are killed until one leaves a log."""
-        while True:
-            process = self.killed(["new", self.name], chance)
+        """Formats it, by processes that are killed until one leaves a log; how many left none."""
+        for unfinished in itertools.count():
+            process = Killed(self.folder, ["new", self.name], chance)
             status, lines = self.show()
             if status == 0:
                 if lines != ["usn 0"]:
                     lost("a new controller isn't empty", lines)
-                return
-            if status != 3 or process.lines:
+                return unfinished
+            if status != 3 or process.lines or lines != ["damaged 0"]:
                 lost("a new controller was told and isn't there", (process.lines, status, lines))
             os.remove(self.path)
 
     def add(self, chance):
         """Adds objects until the process is killed, and looks at what is there."""
-        process = self.killed(["run", self.name, str(self.objects), str(MANY)], chance)
+        process = Killed(self.folder, ["run", self.name, str(self.objects), str(MANY)], chance)
         told = process.lines
         if told and told[0] != f"started {self.objects}":
             lost("a start found another USN", (self.objects, told[0]))
@@ -164,21 +164,23 @@ def main():
     chance = random.Random(seed)
     if not os.path.exists(PROGRAM):
         sys.exit(f"survive: {PROGRAM} isn't built: `rt run` in crates/adr_survivor builds it")
-    files, acknowledged, under_way = [], 0, 0
+    files = acknowledged = under_way = unfinished = 0
     folder = tempfile.mkdtemp(prefix="survive-")
     print(f"seed {seed}, in {folder}", flush=True)
     for turn in range(given.rounds):
         if turn % ROUNDS_OF_FILE == 0:
-            files.append(File(folder, f"file{len(files)}"))
-            files[-1].format(chance)
-        told, more = files[-1].add(chance)
+            for _ in range(FORMATS_OF_FILE):
+                file = File(folder, f"file{files}")
+                files += 1
+                unfinished += file.format(chance)
+        told, more = file.add(chance)
         acknowledged, under_way = acknowledged + told, under_way + more
         if turn % ROUNDS_OF_FILE == ROUNDS_OF_FILE - 1:
-            files[-1].compare("a log of killed processes")
+            file.compare("a log of killed processes")
     damaged = damage(folder, chance)
     shutil.rmtree(folder)
-    kills = sum(file.kills for file in files)
-    print(f"{given.rounds} rounds on {len(files)} files, {kills} kills, {acknowledged} objects acknowledged, {under_way} more that were under way: none is lost")
+    print(f"{given.rounds} rounds, {Killed.count} kills, {acknowledged} objects acknowledged, {under_way} more that were under way: none is lost")
+    print(f"{files} files formatted, by {unfinished} processes more that were killed too early")
     print(f"{damaged} damaged logs, each found the same by both readers")
 
 

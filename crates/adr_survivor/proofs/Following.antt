@@ -1,14 +1,14 @@
 -- Additions can be committed behind every state of a log.
-use Rattle.std.proofs.Common.{◌≡◌, ℕ, List, [], Option, Some, None, Result, Ok, Err, refl, sym, ap, ◌∙◌, lit<}
+use Rattle.std.proofs.Common.{◌≡◌, ℕ, [], Some, Result, Ok, Err, refl, sym, ap, ◌∙◌, lit<}
 use Rattle.std.specs.List.Sorted.{IsStrictlySortedBy}
 use Rattle.std.specs.Ordering.{nat_cmp}
 use Rattle.adr_event.specs.declared.event.Event.{Event}
 use Rattle.adr_event.specs.declared.refusal.WriteRefusal.{WriteRefusal}
-use Rattle.adr_model.specs.Change.{Change, after}
+use Rattle.adr_model.specs.Change.{Change}
 use Rattle.adr_model.specs.Place.{root}
 use Rattle.adr_model.specs.Replica.{change_in}
 use Rattle.adr_model.specs.Store.{State}
-use Rattle.adr_model.specs.Write.{Write, AddObject, IsWellGiven, write}
+use Rattle.adr_model.specs.Write.{Write, AddObject, write}
 use Rattle.adr_controller.specs.Able.{written_in}
 use Rattle.adr_records.specs.Logged.{IsLogged, MayBeRecorded}
 use Rattle.adr_law_recorded.specs.Laws.{WrittenIsRecorded}

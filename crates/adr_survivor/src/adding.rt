@@ -28,11 +28,7 @@ fn additions_follow<D: Disk>()
 }
 
 /// Adds the object of a number, and answers the USN under which it is acknowledged.
-fn add<K: Keeper>(
-    alloc: Global,
-    controller: &mut Controller<K>,
-    number: u64,
-) -> Result<u64, Ending>
+fn add<K: Keeper>(alloc: Global, controller: &mut Controller<K>, number: u64) -> Result<u64, Ending>
     requires follows { AdditionsFollow K.Keeper }
     ensures acknowledged { IfOk result (λ _. (e : Written) × IsAddition number e
         × Calls K.Keeper (written_in e 0) controller.old controller.new None) }
@@ -52,7 +48,10 @@ fn add_all<K: Keeper>(
 {
     for number in first..first.saturating_add(count) {
         let usn = add(rt.alloc(), controller, number)?;
-        tell(rt, format!(in rt.alloc(); "added {number} {usn}\n")?.as_str())?;
+        tell(
+            rt,
+            format!(in rt.alloc(); "added {number} {usn}\n")?.as_str(),
+        )?;
     }
     Ok(())
 }

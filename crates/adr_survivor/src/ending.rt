@@ -51,7 +51,10 @@ impl Ending {
         match self {
             Ending::Words => tell(rt, "words\n"),
             Ending::Taken => tell(rt, "taken\n"),
-            Ending::Damaged { place } => tell(rt, format!(in rt.alloc(); "damaged {place}\n")?.as_str()),
+            Ending::Damaged { place } => tell(
+                rt,
+                format!(in rt.alloc(); "damaged {place}\n")?.as_str(),
+            ),
             Ending::Refused => tell(rt, "refused\n"),
             Ending::Full => tell(rt, "full\n"),
             Ending::DiskFault => tell(rt, "disk\n"),
