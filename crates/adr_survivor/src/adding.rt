@@ -1,7 +1,11 @@
 //! Objects are added, one by one.
 
-ghost use Rattle.std.specs.Prelude.{◌≡◌, None, Ok, IfOk};
+ghost use Rattle.std.specs.Prelude.{◌≡◌, None, Some, Ok, IfOk};
 ghost use Rattle.adr_event.specs.declared.event.Event.{Event as Written};
+ghost use Rattle.adr_model.specs.Change.{Change as Changes};
+ghost use Rattle.adr_model.specs.Step.{ClientWrite, write_of};
+ghost use Rattle.adr_model.specs.Store.{State as Defined};
+ghost use Rattle.adr_model.specs.Write.{write};
 ghost use Rattle.adr_controller.specs.Able.{written_in};
 ghost use Rattle.adr_controller.specs.Did.{Calls};
 ghost use Rattle.adr_survivor.specs.Objects.{AdditionsFollow, IsAddition};
@@ -32,6 +36,9 @@ fn add<K: Keeper>(alloc: Global, controller: &mut Controller<K>, number: u64) ->
     requires follows { AdditionsFollow K.Keeper }
     ensures acknowledged { IfOk result (λ _. (e : Written) × IsAddition number e
         × Calls K.Keeper (written_in e 0) controller.old controller.new None) }
+    ensures usn { IfOk result (λ usn. (e : Written) × IsAddition number e
+        × ((s : Defined) (w : ClientWrite) → controller.old.state ≡ Some s → write_of e ≡ Some w
+        → (c : Changes) × (write s w.what 0 ≡ Ok c) × (usn ≡ c.usn))) }
 {
     let event = addition(alloc, number)?;
     Ok(controller.write(alloc, &event, 0)?)
