@@ -1,10 +1,10 @@
 -- A start that wants memory once its sync was made.
-use Rattle.std.proofs.Common.{◌≡◌, ◌≢◌, inr, true, fold}
+use Rattle.std.proofs.Common.{◌≢◌, inr, fold}
 use Rattle.adr_disk.specs.declared.memory.Crash.TheVariants.{Kept as KeptAll, Lost, Torn}
 use Rattle.adr_model.specs.Member.{Member}
 use Rattle.adr_model.specs.Replica.{Stops, Fails, Up, Replica, moved, Went, Passed, Met, went, moves_of_start, plan_after}
-use Rattle.adr_model.specs.World.{World, after_moves}
-use Rattle.adr_model.specs.Sound.{IsGiven, IsSoundWorld, IsWorldOfRun}
+use Rattle.adr_model.specs.World.{World}
+use Rattle.adr_model.specs.Sound.{IsGiven, IsSoundWorld}
 use Rattle.adr_law_convergence.specs.CutShort.{StartsCutShort}
 use Rattle.adr_law_convergence.proofs.Moving.{HasMoved, stays_so, forgets, settles_so}
 use Rattle.adr_law_convergence.proofs.Orderly.{behind_call, moves}

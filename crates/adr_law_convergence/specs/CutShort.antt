@@ -1,5 +1,5 @@
 -- A start that wants memory once its sync was made.
-use Rattle.std.specs.Prelude.{◌≡◌, ◌≢◌}
+use Rattle.std.specs.Prelude.{◌≢◌}
 use Rattle.adr_event.specs.declared.answer.Outcome.TheVariants as outcomes
 use Rattle.adr_model.specs.Member.{Member}
 use Rattle.adr_model.specs.Replica.{Replica, Up, went, moves_of_start, plan_after}

@@ -1,31 +1,53 @@
--- What lines bound to names is sound, and what comes of it.
-use Rattle.std.proofs.Common.{◌≡◌, ◌∙◌, sym, ap, inl, [], ◌∷◌, Option, Some, codes}
+-- What lines bound to names is in its ranges, and what comes of it.
+use Rattle.std.proofs.Common.{◌≡◌, ◌∙◌, ◌⊎◌, sym, ap, subst, inl, inr, ℕ, List, [], ◌∷◌, Option, Some, None, codes}
+use Rattle.std.specs.Prelude.{IfSome}
 use Rattle.adr_event.specs.declared.answer.Answer.{Answer}
 use Rattle.adr_event.specs.declared.answer.Outcome.{Outcome}
-use Rattle.adr_event.specs.declared.event.Event.TheVariants.{Serve, Deliver}
+use Rattle.adr_event.specs.declared.event.Event.TheVariants.{Serve}
+use Rattle.adr_law_formed.specs.Spelled.{IsSpelledReply}
+use Rattle.adr_law_recorded.specs.Ranged.{IsRangedRequest, IsRangedReply}
+use Rattle.adr_model.specs.Member.{Member, Each}
 use Rattle.adr_model.specs.Serve.{Request, Reply}
-use Rattle.adr_model.specs.World.{Name, World, Gone, Sent, bound, bound_at, serves_request, delivers, answer}
+use Rattle.adr_model.specs.World.{Name, World, Gone, Sent, bound, bound_at, serves_request, answer}
 use Rattle.adr_model.specs.Step.{told, told_bound, step}
-use Rattle.adr_model.specs.Sound.{IsSoundWorld, IsSoundRequest, IsSoundReply, IsGiven}
+use Rattle.adr_model.proofs.Members.{member_of_either}
 use Rattle.adr_law_convergence.proofs.Found.{bound_member}
+use Rattle.adr_world.specs.Run.{AreRanged, AreSpelled}
+use Rattle.adr_world.specs.Short.{IsAllOrNone, IsUnsent}
 
-module _ (w : World) (sound : IsSoundWorld w) (name : Name) where
-  pub request_bound : (q : Request) → Some q ≡ bound_at w.requests name → IsSoundRequest w.book q
-  request_bound q e = bound_member (IsSoundRequest w.book) w.requests name q sound.requests (sym e)
+pub request_ranged : (requests : List (Name × Request)) (name : Name) (q : Request) → AreRanged requests → Some q ≡ bound_at requests name → IsRangedRequest q
+request_ranged requests name q all is = bound_member IsRangedRequest requests name q all (sym is)
 
-  pub reply_bound : (r : Reply) → Some r ≡ bound_at w.replies name → IsSoundReply w.book r × IsGiven w r.inv
-  reply_bound r e = bound_member (λ (x : Reply). IsSoundReply w.book x × IsGiven w x.inv) w.replies name r (λ y m. (sound.replies y m, inl (sound.identifiers.replies y m))) (sym e)
+pub reply_spelled : (replies : List (Name × Reply)) (name : Name) (r : Reply) → AreSpelled replies → Some r ≡ bound_at replies name → IsSpelledReply r × IsRangedReply r
+reply_spelled replies name r all is = bound_member (λ (x : Reply). IsSpelledReply x × IsRangedReply x) replies name r all (sym is)
+
+-- and so it stays where one more is bound
+pub each_bound : {A : Type 0} (P : A → Type 0) (xs : List (Name × A)) (name : Name) (o : Option A) → Each (λ (x : Name × A). P x.1) xs → IfSome o P → Each (λ (x : Name × A). P x.1) (bound xs name o)
+each_bound P xs name None all new = all
+each_bound {A = A} P xs name (Some a) all new = λ x m. by x (member_of_either xs ((name, a) ∷ []) x m)
+  where
+    by : (x : Name × A) → Member x xs ⊎ Member x ((name, a) ∷ []) → P x.1
+    by x (inl n) = all x n
+    by x (inr (inl e)) = subst (λ (y : Name × A). P y.1) (sym e) new
+    by x (inr (inr n)) = absurd n
+
+-- an answer, by the heading that was made before
+pub headed : (made : Answer) (v n verb : List ℕ) (name : Name) (o : Outcome) → made ≡ answer v n o → (v ≡ verb) × (n ≡ name) → made ≡ answer verb name o
+headed made v n verb name o is made_of = is ∙ ap (λ x. answer x n o) made_of.0 ∙ ap (λ x. answer verb x o) made_of.1
+
+-- a line with one answer, by what comes of its call
+pub told_so : (verb : List ℕ) (name : Name) (g : Gone) (v : World) (o : Outcome) (made : Answer) → g ≡ (v, o) → made ≡ answer verb name o → told verb name g ≡ (v, made ∷ [])
+told_so verb name g v o made gone said = ap (λ (x : Gone). told verb name x) gone ∙ ap (λ m. (v, m ∷ [])) (sym said)
 
 -- the line of a serve, by what comes of its request
-pub served_step : (w : World) (name request bind : Name) (o : Option Request) (x : Outcome) (r : Option Reply) (made : Answer) → o ≡ bound_at w.requests request → serves_request w name o ≡ (w, x, r)
-    → made ≡ answer (codes "serve") name x → step w (Serve name request bind) ≡ (record w { replies = bound w.replies bind r }, made ∷ [])
-served_step w name request bind o x r made is served said =
-    ap (λ (t : Sent Reply). told_bound (codes "serve") name t (λ v p. record v { replies = bound v.replies bind p })) (ap (serves_request w name) (sym is) ∙ served)
-    ∙ ap (λ m. (record w { replies = bound w.replies bind r }, m ∷ [])) (sym said)
+module _ (w : World) (name request bind : Name) where
+  pub served_step : (v : World) (x : Outcome) (r : Option Reply) (made : Answer) → serves_request w name (bound_at w.requests request) ≡ (v, x, r)
+      → made ≡ answer (codes "serve") name x → step w (Serve name request bind) ≡ (record v { replies = bound v.replies bind r }, made ∷ [])
+  served_step v x r made served said =
+      ap (λ (t : Sent Reply). told_bound (codes "serve") name t (λ v p. record v { replies = bound v.replies bind p })) served
+      ∙ ap (λ m. (record v { replies = bound v.replies bind r }, m ∷ [])) (sym said)
 
--- the line of a delivery, by what comes of its reply
-pub delivered_step : (w v : World) (name reply : Name) (o : Option Reply) (x : Outcome) (made : Answer) → o ≡ bound_at w.replies reply → delivers w name o ≡ (v, x)
-    → made ≡ answer (codes "deliver") name x → step w (Deliver name reply) ≡ (v, made ∷ [])
-delivered_step w v name reply o x made is gone said =
-    ap (λ (g : Gone). told (codes "deliver") name g) (ap (delivers w name) (sym is) ∙ gone)
-    ∙ ap (λ m. (v, m ∷ [])) (sym said)
+  -- and where memory was wanted for the answer
+  pub serve_short : (v : World) → IsUnsent w (serves_request w name (bound_at w.requests request)) v → IsAllOrNone w (step w (Serve name request bind)).0 v
+  serve_short v (inl same) = inl same
+  serve_short v (inr sent) = inr (sym (ap (λ (t : Sent Reply). (told_bound (codes "serve") name t (λ u p. record u { replies = bound u.replies bind p })).0) sent))

@@ -1,16 +1,11 @@
--- What calls by a name come to, where all controllers are up.
-use Rattle.std.proofs.Common.{◌≡◌, ◌∙◌, ℕ, refl, sym, ap, subst, List, map, Option, Some, None, Ok, Err, length, is_some, if◌then◌else◌}
-use Rattle.std.specs.List.{find}
-use Rattle.std.specs.Option.{option_map}
-use Rattle.std.specs.Str.{bytes_eq}
+-- What calls by a name come to.
+use Rattle.std.proofs.Common.{◌≡◌, ◌∙◌, ◌⊎◌, ℕ, refl, sym, ap, inl, inr, List, Option, Some, None, Result, Ok, Err, if◌then◌else◌}
+use Rattle.std.specs.Prelude.{IsSome}
 use Rattle.adr_event.specs.declared.answer.Outcome.{Outcome}
 use Rattle.adr_event.specs.declared.answer.Outcome.TheVariants as outcomes
 use Rattle.adr_event.specs.declared.directory.Entry.{Entry}
 use Rattle.adr_event.specs.declared.refusal.ServeRefusal.{ServeRefusal}
 use Rattle.adr_event.specs.declared.refusal.ServeRefusal.TheVariants as serves
-use Rattle.adr_event.specs.declared.refusal.TakeRefusal.{TakeRefusal}
-use Rattle.adr_event.specs.declared.refusal.TakeRefusal.TheVariants as takes
-use Rattle.adr_event.specs.declared.refusal.WriteRefusal.{WriteRefusal}
 use Rattle.adr_model.specs.Member.{Member}
 use Rattle.adr_model.specs.Update.{Identifier}
 use Rattle.adr_model.specs.Directory.{directory}
@@ -18,102 +13,124 @@ use Rattle.adr_model.specs.Store.{updates_of}
 use Rattle.adr_schema.specs.Numbered.{numbered}
 use Rattle.adr_model.specs.Formed.{AreFormedRows}
 use Rattle.adr_model.specs.Serve.{Request, Reply, ask, serve}
-use Rattle.adr_model.specs.Take.{take}
-use Rattle.adr_model.specs.Change.{Change}
-use Rattle.adr_model.specs.Write.{Write, write}
-use Rattle.adr_model.specs.Refused.{serve_refused, take_refused, write_refused}
 use Rattle.adr_model.specs.Visible.{visible}
-use Rattle.adr_model.specs.Replica.{Up, Replica, ToTake, ToWrite}
-use Rattle.adr_model.specs.World.{World, Name, replica_at, of_made, of_controller, where_up, nothing, stays, commit, asks, serves_request, after_serve, served, after_take, delivered, delivers, after_write, writes, rows_in, shown}
-use Rattle.adr_model.specs.Sound.{IsSoundWorld, IsSoundRequest, IsSoundReply}
-use Rattle.adr_model.proofs.Members.{mapped_member}
-use Rattle.adr_law_logs.proofs.Granted.{no_rollback as no_rollback_shown}
-use Rattle.adr_law_taking.proofs.Refused.{no_rollback as no_rollback_taken}
+use Rattle.adr_model.specs.Replica.{Standing, Up, Down, Failed, Replica}
+use Rattle.adr_model.specs.World.{World, Name, Sent, replica_at, of_made, of_controller, where_up, nothing, not_sent, stays, asks, serves_request, after_serve, served, delivers, delivered, shown}
+use Rattle.adr_model.specs.Sound.{IsSoundWorld}
 use Rattle.adr_law_convergence.proofs.Controllers.{shows_what_is_visible}
 use Rattle.adr_law_convergence.proofs.Found.{replica_found}
-use Rattle.adr_world.specs.declared.controller.Controller.{Controller}
-use Rattle.adr_world.specs.Run.{replica_of}
+use Rattle.adr_world.specs.Short.{IsUnsent}
 
--- what a look through the controllers finds
-pub found_so : (all cs : List Controller) (name : Name) (o : Option Controller) → all ≡ cs
-    → find (λ (r : Replica). bytes_eq r.name name) (map replica_of all) ≡ option_map replica_of o
-    → find (λ (r : Replica). bytes_eq r.name name) (map replica_of cs) ≡ option_map replica_of o
-found_so all cs name o same looked = ap (λ xs. find (λ (r : Replica). bytes_eq r.name name) (map replica_of xs)) (sym same) ∙ looked
+module _ {A : Type 0} (w : World) (name : Name) (other : Outcome → A) (act : Replica → A) where
+  -- a call reaches the controller
+  pub reaches : (r : Replica) → replica_at w name ≡ Some r → of_controller w name other act ≡ where_up other r.standing (act r)
+  reaches r is = ap (λ o. of_made other o (λ x. where_up other x.standing (act x))) is
 
-standing_of : (cs : List Controller) (r : Replica) → Member r (map replica_of cs) → r.standing ≡ Up
-standing_of cs r m = let t = mapped_member replica_of cs r m in ap (λ q. q.standing) t.2
+  -- or no one
+  pub reaches_none : replica_at w name ≡ None → of_controller w name other act ≡ other outcomes.Absent
+  reaches_none is = ap (λ o. of_made other o (λ x. where_up other x.standing (act x))) is
 
--- a call reaches the controller
-pub reaches : {A : Type 0} (w : World) (name : Name) (c : Controller) (other : Outcome → A) (act : Replica → A) → replica_at w name ≡ Some (replica_of c) → of_controller w name other act ≡ act (replica_of c)
-reaches w name c other act is = ap (λ o. of_made other o (λ r. where_up other r.standing (act r))) is
+module _ (w : World) (name partner : Name) (max : ℕ) where
+  pub asked_so : (a b : Replica) (dsa : Identifier) (o : Outcome) (q : Option Request) → replica_at w name ≡ Some a → replica_at w partner ≡ Some b → dsa ≡ b.safe.dsa
+      → where_up (nothing w) a.standing (w, outcomes.Ok, Some (ask a.safe dsa max)) ≡ (w, o, q) → asks w name partner max ≡ (w, o, q)
+  asked_so a b dsa o q first second whom made =
+      ap (λ x. of_made (nothing w) x (λ r. of_made (nothing w) (replica_at w partner) (λ p. where_up (nothing w) r.standing (w, outcomes.Ok, Some (ask r.safe p.safe.dsa max))))) first
+      ∙ ap (λ x. of_made (nothing w) x (λ p. where_up (nothing w) a.standing (w, outcomes.Ok, Some (ask a.safe p.safe.dsa max)))) second
+      ∙ ap (λ d. where_up (nothing w) a.standing (w, outcomes.Ok, Some (ask a.safe d max))) (sym whom)
+      ∙ made
 
--- or no one
-pub reaches_none : {A : Type 0} (w : World) (name : Name) (other : Outcome → A) (act : Replica → A) → replica_at w name ≡ None → of_controller w name other act ≡ other outcomes.Absent
-reaches_none w name other act is = ap (λ o. of_made other o (λ r. where_up other r.standing (act r))) is
+  pub no_asker_so : replica_at w name ≡ None → asks w name partner max ≡ (w, outcomes.Absent, None)
+  no_asker_so none = ap (λ x. of_made (nothing w) x (λ r. of_made (nothing w) (replica_at w partner) (λ p. where_up (nothing w) r.standing (w, outcomes.Ok, Some (ask r.safe p.safe.dsa max))))) none
 
-pub asked_so : (w : World) (name partner : Name) (max : ℕ) (a b : Controller) (dsa : Identifier) (q : Request) → replica_at w name ≡ Some (replica_of a) → replica_at w partner ≡ Some (replica_of b)
-    → dsa ≡ b.state.dsa → q ≡ ask a.state dsa max → asks w name partner max ≡ (w, outcomes.Ok, Some q)
-asked_so w name partner max a b dsa q first second whom made =
-    ap (λ o. of_made (nothing w) o (λ r. of_made (nothing w) (replica_at w partner) (λ p. where_up (nothing w) r.standing (w, outcomes.Ok, Some (ask r.safe p.safe.dsa max))))) first
-    ∙ ap (λ o. of_made (nothing w) o (λ p. where_up (nothing w) (replica_of a).standing (w, outcomes.Ok, Some (ask a.state p.safe.dsa max)))) second
-    ∙ ap (λ d. (w, outcomes.Ok, Some (ask a.state d max))) (sym whom)
-    ∙ ap (λ x. (w, outcomes.Ok, Some x)) (sym made)
-
-module _ (w : World) (sound : IsSoundWorld w) (name : Name) (c : Controller) (is : replica_at w name ≡ Some (replica_of c)) where
-  there : Member (replica_of c) w.replicas
-  there = (replica_found w name (replica_of c) is).0
-
-  pub served_so : (q : Request) (r : Reply) → serve c.state q ≡ Ok r → serves_request w name (Some q) ≡ (w, outcomes.Served r.from r.to (length r.items) (rows_in r) (is_some r.last), Some r)
-  served_so q r made = reaches w name c (nothing w) (λ x. after_serve w x (serve x.safe q)) is ∙ ap (λ t. after_serve w (replica_of c) t) made
-
-  pub refused_so : (q : Request) (x : ServeRefusal) → IsSoundRequest w.book q → serve c.state q ≡ Err x → serves_request w name (Some q) ≡ (w, serve_refused x, None)
-  refused_so q x request made = reaches w name c (nothing w) (λ y. after_serve w y (serve y.safe q)) is ∙ ap (λ t. after_serve w (replica_of c) t) made ∙ plainly x made
+  pub no_partner_so : replica_at w partner ≡ None → asks w name partner max ≡ (w, outcomes.Absent, None)
+  no_partner_so none = by (replica_at w name)
     where
-      plainly : (y : ServeRefusal) → serve c.state q ≡ Err y → after_serve w (replica_of c) (Err y) ≡ (w, serve_refused y, None)
-      plainly (serves.RolledBack inv mine shown) e = absurd (no_rollback_shown w.book c.state q inv mine shown (sound.replicas (replica_of c) there).safe request e)
-      plainly _ e = refl
+      by : (o : Option Replica) → of_made (nothing w) o (λ r. of_made (nothing w) (replica_at w partner) (λ p. where_up (nothing w) r.standing (w, outcomes.Ok, Some (ask r.safe p.safe.dsa max)))) ≡ (w, outcomes.Absent, None)
+      by None = refl
+      by (Some r) = ap (λ x. of_made (nothing w) x (λ p. where_up (nothing w) r.standing (w, outcomes.Ok, Some (ask r.safe p.safe.dsa max)))) none
 
-  pub not_taken_so : (r : Reply) (x : TakeRefusal) → IsSoundReply w.book r → take c.state r ≡ Err x → after_take w (replica_of c) r (Err x) ≡ (w, take_refused x)
-  not_taken_so r (takes.RolledBack inv mine shown) reply e = absurd (no_rollback_taken w.book c.state r inv mine shown sound.book (sound.replicas (replica_of c) there).safe reply e)
-  not_taken_so r _ reply e = refl
+-- a message that isn't there is answered so also where messages are sent
+pub nothing_sent : {A : Type 0} (w : World) (s : Standing) (o : Outcome) → where_up (stays w) s (w, outcomes.Absent) ≡ (w, o) → where_up (nothing {A = A} w) s (w, outcomes.Absent, None) ≡ (w, o, None)
+nothing_sent w Up o is = ap not_sent is
+nothing_sent w Down o is = ap not_sent is
+nothing_sent w Failed o is = ap not_sent is
+
+module _ (w : World) (name : Name) (r : Replica) (is : replica_at w name ≡ Some r) (o : Outcome) (said : where_up (stays w) r.standing (w, outcomes.Absent) ≡ (w, o)) where
+  pub no_request_so : (q : Option Request) → None ≡ q → serves_request w name q ≡ (w, o, None)
+  no_request_so q none = ap (serves_request w name) (sym none) ∙ reaches w name (nothing w) (λ x. served w x None) r is ∙ nothing_sent w r.standing o said
+
+  pub no_reply_so : (p : Option Reply) → None ≡ p → delivers w name p ≡ (w, o)
+  no_reply_so p none = ap (delivers w name) (sym none) ∙ reaches w name (stays w) (λ x. delivered w x None) r is ∙ said
+
+-- ---- a reply changes nothing, and a refusal sends nothing
+
+module _ (w : World) (r : Replica) where
+  after_kept : (t : Result Reply ServeRefusal) (v : World) (o : Outcome) (reply : Reply) → after_serve w r t ≡ (v, o, Some reply) → v ≡ w
+  after_kept (Ok x) v o reply e = sym (ap (λ (t : Sent Reply). t.0) e)
+  after_kept (Err (serves.RolledBack inv mine shown)) v o reply e = let none : None ≡ Some reply = ap (λ (t : Sent Reply). t.2) e in absurd (cc)
+  after_kept (Err x) v o reply e = let none : None ≡ Some reply = ap (λ (t : Sent Reply). t.2) e in absurd (cc)
+
+  up_kept : (s : Standing) (t : Result Reply ServeRefusal) (v : World) (o : Outcome) (reply : Reply) → where_up (nothing w) s (after_serve w r t) ≡ (v, o, Some reply) → v ≡ w
+  up_kept Up t v o reply e = after_kept t v o reply e
+  up_kept Down t v o reply e = let none : None ≡ Some reply = ap (λ (t : Sent Reply). t.2) e in absurd (cc)
+  up_kept Failed t v o reply e = let none : None ≡ Some reply = ap (λ (t : Sent Reply). t.2) e in absurd (cc)
+
+  after_unsent : (t : Result Reply ServeRefusal) (v : World) → v ≡ (after_serve w r t).0 → IsUnsent w (after_serve w r t) v
+  after_unsent (Ok x) v e = inl e
+  after_unsent (Err (serves.RolledBack inv mine shown)) v e =
+      inr (ap (λ x. (x, (after_serve w r (Err (serves.RolledBack inv mine shown))).1, None)) (sym e))
+  after_unsent (Err x) v e = inl e
+
+  pub up_unsent : (s : Standing) (t : Result Reply ServeRefusal) (v : World) → v ≡ (where_up (nothing w) s (after_serve w r t)).0 → IsUnsent w (where_up (nothing w) s (after_serve w r t)) v
+  up_unsent Up t v e = after_unsent t v e
+  up_unsent Down t v e = inl e
+  up_unsent Failed t v e = inl e
+
+module _ (w : World) (name : Name) (q : Option Request) where
+  -- where a reply was made, the world is as before
+  pub reply_keeps : (v : World) (o : Outcome) (reply : Reply) → serves_request w name q ≡ (v, o, Some reply) → v ≡ w
+  reply_keeps v o reply e = by (replica_at w name) refl
+    where
+      up : (r : Replica) (q : Option Request) → where_up (nothing w) r.standing (served w r q) ≡ (v, o, Some reply) → v ≡ w
+      up r (Some x) is = up_kept w r r.standing (serve r.safe x) v o reply is
+      up r None is = none r.standing is
+        where
+          none : (s : Standing) → where_up (nothing w) s (nothing w outcomes.Absent) ≡ (v, o, Some reply) → v ≡ w
+          none Up is = let none : None ≡ Some reply = ap (λ (t : Sent Reply). t.2) is in absurd (cc)
+          none Down is = let none : None ≡ Some reply = ap (λ (t : Sent Reply). t.2) is in absurd (cc)
+          none Failed is = let none : None ≡ Some reply = ap (λ (t : Sent Reply). t.2) is in absurd (cc)
+
+      by : (x : Option Replica) → replica_at w name ≡ x → v ≡ w
+      by None is = let none : None ≡ Some reply = ap (λ (t : Sent Reply). t.2) (sym (reaches_none w name (nothing w) (λ r. served w r q) is) ∙ e) in absurd (cc)
+      by (Some r) is = up r q (sym (reaches w name (nothing w) (λ x. served w x q) r is) ∙ e)
+
+-- and so where something was sent
+pub sent_keeps : (w : World) (name : Name) (q : Option Request) (v : World) (o : Outcome) (sent : Option Reply) → IsSome sent → serves_request w name q ≡ (v, o, sent) → v ≡ w
+sent_keeps w name q v o None some e = absurd (cc)
+sent_keeps w name q v o (Some reply) some e = reply_keeps w name q v o reply e
+
+-- ---- the directory of a sound world's controller
+
+module _ (w : World) (sound : IsSoundWorld w) (name : Name) (r : Replica) (is : replica_at w name ≡ Some r) where
+  there : Member r w.replicas
+  there = (replica_found w name r is).0
 
   -- its rows are formed, and show what it has in view
-  pub formed_so : AreFormedRows (numbered c.state.store.schema) (updates_of c.state.store.rows)
-  formed_so = (sound.replicas (replica_of c) there).safe.store.formed.rows
+  pub formed_so : AreFormedRows (numbered r.safe.store.schema) (updates_of r.safe.store.rows)
+  formed_so = (sound.replicas r there).safe.store.formed.rows
 
-  pub shown_so : (d : List Entry) → d ≡ directory (updates_of c.state.store.rows) → of_controller w name (stays w) (λ r. (w, outcomes.Show (shown w r.safe))) ≡ (w, outcomes.Show d)
-  shown_so d made =
-      reaches w name c (stays w) (λ r. (w, outcomes.Show (shown w r.safe))) is
-      ∙ ap (λ b. (w, outcomes.Show (directory (if b then visible w.book.issued c.state.store.vector (updates_of c.state.store.rows) else updates_of c.state.store.rows)))) sound.clean
-      ∙ ap (λ x. (w, outcomes.Show x)) (sym (made ∙ shows_what_is_visible w sound (replica_of c) there))
+  pub shown_so : (d : List Entry) → r.standing ≡ Up → d ≡ directory (updates_of r.safe.store.rows) → of_controller w name (stays w) (λ x. (w, outcomes.Show (shown w x.safe))) ≡ (w, outcomes.Show d)
+  shown_so d up made =
+      reaches w name (stays w) (λ x. (w, outcomes.Show (shown w x.safe))) r is
+      ∙ ap (λ s. where_up (stays w) s (w, outcomes.Show (shown w r.safe))) up
+      ∙ ap (λ b. (w, outcomes.Show (directory (if b then visible w.book.issued r.safe.store.vector (updates_of r.safe.store.rows) else updates_of r.safe.store.rows)))) sound.clean
+      ∙ ap (λ x. (w, outcomes.Show x)) (sym (made ∙ shows_what_is_visible w sound r there))
 
-  pub taken_so : (r : Reply) (change : Change) → take c.state r ≡ Ok change
-      → delivers w name (Some r) ≡ commit w (replica_of c) (record { call = ToTake r; change = change }) (outcomes.Took (length r.items) (length change.writes) change.usn)
-  taken_so r change made = reaches w name c (stays w) (λ x. delivered w x (Some r)) is ∙ ap (λ t. after_take w (replica_of c) r t) made
+-- a report of a controller, by what its state is
+module _ (w : World) (name : Name) (act : Replica → Outcome) (r : Replica) (is : replica_at w name ≡ Some r) where
+  pub told_up : (o : Outcome) → r.standing ≡ Up → act r ≡ o → of_controller w name (stays w) (λ x. (w, act x)) ≡ (w, o)
+  told_up o up said = reaches w name (stays w) (λ x. (w, act x)) r is ∙ ap (λ s. where_up (stays w) s (w, act r)) up ∙ ap (λ x. (w, x)) said
 
-  pub refused_taking : (r : Reply) (x : TakeRefusal) → IsSoundReply w.book r → take c.state r ≡ Err x → delivers w name (Some r) ≡ (w, take_refused x)
-  refused_taking r x reply made = reaches w name c (stays w) (λ y. delivered w y (Some r)) is ∙ ap (λ t. after_take w (replica_of c) r t) made ∙ not_taken_so r x reply made
-
-  pub written_so : (what : Write) (change : Change) → write c.state what w.time ≡ Ok change
-      → writes w name what ≡ commit w (replica_of c) (record { call = ToWrite what w.time; change = change }) (outcomes.Usn change.usn)
-  written_so what change made = reaches w name c (stays w) (λ x. after_write w x what (write x.safe what w.time)) is ∙ ap (λ t. after_write w (replica_of c) what t) made
-
-  pub refused_writing : (what : Write) (x : WriteRefusal) → write c.state what w.time ≡ Err x → writes w name what ≡ (w, write_refused x)
-  refused_writing what x made = reaches w name c (stays w) (λ y. after_write w y what (write y.safe what w.time)) is ∙ ap (λ t. after_write w (replica_of c) what t) made
-
--- nothing comes of what isn't there
-module _ (w : World) (name : Name) (cs : List Controller) (are : w.replicas ≡ map replica_of cs) where
-  all_reached : {A : Type 0} (other : Outcome → A) (act : Replica → A) (x : A) → other outcomes.Absent ≡ x → ((r : Replica) → act r ≡ x) → of_controller w name other act ≡ x
-  all_reached {A = A} other act x none each = by (replica_at w name) refl
-    where
-      by : (o : Option Replica) → replica_at w name ≡ o → of_controller w name other act ≡ x
-      by None e = reaches_none w name other act e ∙ none
-      by (Some r) e =
-          ap (λ o. of_made other o (λ q. where_up other q.standing (act q))) e
-          ∙ ap (λ s. where_up other s (act r)) (standing_of cs r (subst (λ rs. Member r rs) are (replica_found w name r e).0)) ∙ each r
-
-  pub no_request_so : serves_request w name None ≡ (w, outcomes.Absent, None)
-  no_request_so = all_reached (nothing w) (λ r. served w r None) _ refl (λ r. refl)
-
-  pub no_reply_so : delivers w name None ≡ (w, outcomes.Absent)
-  no_reply_so = all_reached (stays w) (λ r. delivered w r None) _ refl (λ r. refl)
+  pub told_other : (o : Outcome) → ((r.standing ≡ Down) × (o ≡ outcomes.Down)) ⊎ ((r.standing ≡ Failed) × (o ≡ outcomes.Failed)) → of_controller w name (stays w) (λ x. (w, act x)) ≡ (w, o)
+  told_other o (inl so) = reaches w name (stays w) (λ x. (w, act x)) r is ∙ ap (λ s. where_up (stays w) s (w, act r)) so.0 ∙ ap (λ x. (w, x)) (sym so.1)
+  told_other o (inr so) = reaches w name (stays w) (λ x. (w, act x)) r is ∙ ap (λ s. where_up (stays w) s (w, act r)) so.0 ∙ ap (λ x. (w, x)) (sym so.1)

@@ -1,17 +1,21 @@
 -- What is claimed of a line follows of what it does.
-use Rattle.std.proofs.Common.{◌≡◌, inl, inr, ℕ, false, sym, ap, subst}
+use Rattle.std.proofs.Common.{◌≡◌, inl, inr, refl, ℕ, ◌<◌, false, sym, ap, subst}
 use Rattle.adr_event.specs.declared.event.Event.{Event}
 use Rattle.adr_event.specs.declared.event.Event.TheVariants as events
 use Rattle.adr_model.specs.World.{World, Name}
-use Rattle.adr_model.specs.Cycles.{Pulled, pull, cycle}
+use Rattle.adr_model.specs.Cycles.{Pulled, pull, cycle, reply_limit}
 use Rattle.adr_model.specs.Step.{step}
 use Rattle.adr_model.specs.Sound.{IsSoundWorld, IsWorldOfRun}
 use Rattle.adr_model.specs.Convergence.{AreAcknowledged, MayHappen, AreUnlimited, EndsOrSaysMore}
 use Rattle.adr_law_convergence.proofs.Lines.{stays_sound, behind_is_on_the_way}
 use Rattle.adr_law_convergence.proofs.Acknowledged.{acknowledged_is_issued}
+use Rattle.adr_law_convergence.proofs.CutShort.{cut_short_sound}
 use Rattle.adr_law_convergence.proofs.Completing.{cycle_ends}
+use Rattle.adr_law_convergence.proofs.Found.{replica_found}
+use Rattle.adr_world.specs.Built.{IsBuiltAtOnce}
 use Rattle.adr_world.specs.Door.{IsCompletedBy}
 use Rattle.adr_world.specs.Pulls.{IsCycleTurn, IsTurn}
+use Rattle.adr_world.specs.Short.{IsAllOrNone, IsSyncedBy, IsCutShort, IsTurnCutShort}
 
 module _ (w : World) (e : Event) (run : IsWorldOfRun w) (may : MayHappen w e) where
   -- the world behind a line
@@ -39,6 +43,34 @@ whole_of_run w e p run may is = behind_of_run w e run may p.0 (ap (λ (q : Pulle
 pub turned_of_run : (w : World) (e : Event) (turn : ℕ) (p : Pulled) → IsWorldOfRun w → MayHappen w e → IsTurn turn w e p → IsWorldOfRun p.0
 turned_of_run w (events.Cycle dest source max) turn p run may is = cycle_turned_of_run w dest source max turn p run is
 turned_of_run w e turn p run may is = whole_of_run w e p run may is
+
+-- the world behind a start that was cut short
+synced_of_run : (w : World) (e : Event) (v : World) → IsWorldOfRun w → IsSyncedBy w e v → IsWorldOfRun v
+synced_of_run w (events.Start name) v run (r, at, not_up, is) = subst IsWorldOfRun (sym is) (cut_short_sound w r run (replica_found w name r at).0 not_up)
+synced_of_run w e v run synced = absurd synced
+
+-- and behind a turn that was
+pub short_of_run : (w : World) (e : Event) (turn : ℕ) (v : World) → IsWorldOfRun w → MayHappen w e → IsTurnCutShort turn w e v → IsWorldOfRun v
+short_of_run w e turn v run may (inl same) = subst IsWorldOfRun (sym same) run
+short_of_run w e turn v run may (inr (inl (p, is, at))) = subst IsWorldOfRun (sym at) (turned_of_run w e turn p run may is)
+short_of_run w e turn v run may (inr (inr synced)) = synced_of_run w e v run synced
+
+-- of a line that has no middle nothing is done, or all
+pub line_short : (w : World) (e : Event) (v : World) → IsAllOrNone w (step w e).0 v → IsCutShort w e v
+line_short w e v (inl same) = inl same
+line_short w e v (inr all) = inr (inl all)
+
+-- a pull, as a turn of a cycle
+pub pull_short : (turn : ℕ) (w : World) (dest source : Name) (max : ℕ) (v : World) → turn < reply_limit → IsAllOrNone w (pull w dest source max).0 v → IsTurnCutShort turn w (events.Cycle dest source max) v
+pull_short turn w dest source max v below (inl same) = inl same
+pull_short turn w dest source max v below (inr all) = inr (inl (pull w dest source max, inl (below, refl), all))
+
+-- a line that was cut short, as its one turn
+pub turn_short : (turn : ℕ) (w : World) (e : Event) (v : World) → IsBuiltAtOnce e → IsCutShort w e v → IsTurnCutShort turn w e v
+turn_short turn w (events.Cycle dest source max) v built short = absurd built
+turn_short turn w e v built (inl same) = inl same
+turn_short turn w e v built (inr (inl all)) = inr (inl (((step w e).0, (step w e).1, false), refl, all))
+turn_short turn w e v built (inr (inr synced)) = inr (inr synced)
 
 cycle_completed : (w : World) (name source : Name) (max : ℕ) → IsSoundWorld w → IsCompletedBy w (events.Cycle name source max) (cycle w name source max).1 (cycle w name source max).0
 cycle_completed w name source max sound d s may d_is s_is most unlimited =

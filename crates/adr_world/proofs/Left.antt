@@ -1,14 +1,16 @@
 -- What a fault leaves of a line, by the turns that were done.
-use Rattle.std.proofs.Common.{◌≡◌, inl, inr, refl, ℕ, ◌+◌, List, Bool, true, false, Option, sym, subst}
+use Rattle.std.proofs.Common.{◌≡◌, inl, inr, refl, ℕ, ◌+◌, List, [], ◌++◌, Bool, true, false, Option, sym, subst}
 use Rattle.std.specs.Prelude.{flat_map}
 use Rattle.adr_event.specs.declared.answer.Answer.{Answer}
 use Rattle.adr_event.specs.declared.event.Event.{Event}
+use Rattle.adr_event.specs.declared.event.Event.TheVariants as events
 use Rattle.adr_io.specs.Told.{AddsFront}
 use Rattle.adr_model.specs.World.{World}
 use Rattle.adr_model.specs.Step.{step}
 use Rattle.adr_report.specs.Line.{line}
 use Rattle.adr_world.specs.Door.{IsDone, IsLeftBy}
-use Rattle.adr_world.proofs.Turns.{IsSoFar, IsBehind, told_first, turns_so_far}
+use Rattle.adr_world.specs.Short.{IsSyncedBy, IsTurnCutShort}
+use Rattle.adr_world.proofs.Turns.{IsFirst, IsSoFar, IsBehind, told_first, turns_so_far, behind}
 use Rattle.adr_world.proofs.ToldLines.{lines_begin}
 
 is_done : (t : World × List Answer) (v : World) (all : List Answer) (first now : Option (List ℕ)) → t ≡ (v, all) → AddsFront first now (flat_map line all) → IsDone t v first now
@@ -26,8 +28,24 @@ module _ (w : World) (e : Event) (turn : ℕ) (v : World) (all : List Answer) (f
   -- one more was done, and it may be the last
   pub left_behind : (b : Bool) → IsBehind w e turn v all b → IsLeftBy w e v first now
   left_behind true so = left_so_far w e (turn + 1) v all first now front so
-  left_behind false is = inr (is_done (step w e) v all first now is front)
+  left_behind false is = inr (inl (is_done (step w e) v all first now is front))
 
   pub front_behind : (b : Bool) → IsBehind w e turn v all b → AddsFront first now (flat_map line (step w e).1)
   front_behind true so = front_so_far w e (turn + 1) v all first now front so
   front_behind false is = subst (λ (t : World × List Answer). AddsFront first now (flat_map line t.1)) (sym is) front
+
+-- a start has one turn
+synced_first : (w : World) (e : Event) (v u : World) (told : List Answer) → IsFirst w e v told → IsSyncedBy v e u → IsSyncedBy w e u × (told ≡ [])
+synced_first w (events.Start name) v u told first synced = (subst (λ (x : World). IsSyncedBy x (events.Start name) u) first.0 synced, first.1)
+synced_first w e v u told first synced = absurd synced
+
+-- whole turns were done, and one more wanted memory
+module _ (w : World) (e : Event) (turn : ℕ) (v : World) (told : List Answer) (first now : Option (List ℕ)) (so : IsSoFar w e turn v told) (u : World) where
+  pub left_short : AddsFront first now (flat_map line told) → IsTurnCutShort turn v e u → IsLeftBy w e u first now
+  left_short front (inl same) = subst (λ (x : World). IsLeftBy w e x first now) (sym same) (left_so_far w e turn v told first now front so)
+  left_short front (inr (inl (p, is, at))) =
+      subst (λ (x : World). IsLeftBy w e x first now) (sym at)
+      (left_behind w e turn p.0 (told ++ p.1) first now (lines_begin first now (told ++ p.1) told p.1 refl front) p.2 (behind w e turn v told p so is))
+  left_short front (inr (inr synced)) =
+      let t = synced_first w e v u told so.first synced in
+      inr (inr (t.0, subst (λ (list : List Answer). AddsFront first now (flat_map line list)) t.1 front))

@@ -1,8 +1,6 @@
 pub mod Places
-pub mod Commits
-pub mod Fits
 pub mod Calls
-pub mod Sends
+pub mod Becoming
 pub mod Pulls
 pub mod Turns
 pub mod Bindings

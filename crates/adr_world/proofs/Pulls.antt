@@ -1,11 +1,14 @@
 -- The answers of a pull, one behind another.
-use Rattle.std.proofs.Common.{◌≡◌, ◌∙◌, sym, ap, ℕ, List, [], ◌∷◌, ◌++◌, Option, Some, false, codes}
+use Rattle.std.proofs.Common.{◌≡◌, ◌∙◌, sym, ap, subst, inl, inr, ℕ, List, [], ◌∷◌, ◌++◌, Option, Some, false, codes}
 use Rattle.std.proofs.lemmas.List.{append-nil, append_assoc}
 use Rattle.adr_event.specs.declared.answer.Answer.{Answer}
+use Rattle.adr_event.specs.declared.answer.Outcome.{Outcome}
 use Rattle.adr_model.specs.Serve.{Request, Reply}
 use Rattle.adr_model.specs.World.{Name, World, Sent, answer, asks, serves_request}
 use Rattle.adr_model.specs.Cycles.{Pulled, first_told, pull, pull_asked, pull_served}
 use Rattle.adr_world.specs.Pulls.{behind}
+use Rattle.adr_world.specs.Short.{IsAllOrNone, IsUnsent}
+use Rattle.adr_world.proofs.Calls.{reply_keeps}
 
 pub behind_none : (w : World) (all : List Answer) → behind all (w, [], false) ≡ (w, all, false)
 behind_none w all = ap (λ (xs : List Answer). (w, xs, false)) (append-nil all)
@@ -24,10 +27,23 @@ module _ (w : World) (dest source : Name) (before now : List Answer) (p : Pulled
       ∙ ap (λ (s : Sent Request). behind now (pull_asked dest source s.0 s.2)) sent ∙ rest
 
   -- and the rest of it, by what comes of its reply
-  pub asked_on : (q : Request) (o : Option Reply) → serves_request w source (Some q) ≡ (w, (serves_request w source (Some q)).1, o)
-      → now ≡ before ++ answer (codes "serve") source (serves_request w source (Some q)).1 ∷ [] → behind now (pull_served dest w o) ≡ p → behind before (pull_asked dest source w (Some q)) ≡ p
-  asked_on q o sent told rest =
+  pub asked_on : (q : Request) (u : World) (o : Option Reply) → serves_request w source (Some q) ≡ (u, (serves_request w source (Some q)).1, o)
+      → now ≡ before ++ answer (codes "serve") source (serves_request w source (Some q)).1 ∷ [] → behind now (pull_served dest u o) ≡ p → behind before (pull_asked dest source w (Some q)) ≡ p
+  asked_on q u o sent told rest =
       let t = serves_request w source (Some q) in
       behind_first before (answer (codes "serve") source t.1) (pull_served dest t.0 t.2)
       ∙ ap (λ (xs : List Answer). behind xs (pull_served dest t.0 t.2)) (sym told)
       ∙ ap (λ (s : Sent Reply). behind now (pull_served dest s.0 s.2)) sent ∙ rest
+
+-- a pull that wanted memory left the world before it, or that behind it
+module _ (w : World) (dest source : Name) (v : World) where
+  pub asked_short : (max : ℕ) (o : Outcome) (q : Request) → asks w dest source max ≡ (w, o, Some q) → IsAllOrNone w (pull_asked dest source w (Some q)).0 v → IsAllOrNone w (pull w dest source max).0 v
+  asked_short max o q sent short = subst (λ (t : Sent Request). IsAllOrNone w (pull_asked dest source t.0 t.2).0 v) (sym sent) short
+
+  pub unsent_short : (q : Request) → IsUnsent w (serves_request w source (Some q)) v → IsAllOrNone w (pull_asked dest source w (Some q)).0 v
+  unsent_short q (inl same) = inl same
+  unsent_short q (inr sent) = inr (sym (ap (λ (t : Sent Reply). (pull_served dest t.0 t.2).0) sent))
+
+  pub served_short : (q : Request) (u : World) (o : Outcome) (r : Reply) → serves_request w source (Some q) ≡ (u, o, Some r) → IsAllOrNone u (pull_served dest u (Some r)).0 v → IsAllOrNone w (pull_asked dest source w (Some q)).0 v
+  served_short q u o r sent (inl same) = inl (same ∙ reply_keeps w source (Some q) u o r sent)
+  served_short q u o r sent (inr all) = inr (all ∙ sym (ap (λ (t : Sent Reply). (pull_served dest t.0 t.2).0) sent))

@@ -22,9 +22,15 @@ abbrev pub rest_of : ℕ → World → Event → World × List Answer
 rest_of n w (events.Cycle name source max) = pulls n w name source max
 rest_of n w e = step w e
 
+-- a line that is no cycle has one turn, and stands before it
+abbrev pub IsFirst : World → Event → World → List Answer → Type 0
+IsFirst w (events.Cycle name source max) v told = Unit {0}
+IsFirst w e v told = (v ≡ w) × (told ≡ [])
+
 -- so many turns of a line came to this, and the others may come
 pub record IsSoFar (w : World) (e : Event) (turn : ℕ) (v : World) (told : List Answer) : Type 0 where
   pub may : MayHappen v e
+  pub first : IsFirst w e v told
   pub within : turn ≤ reply_limit
   pub done : (n : ℕ) → turns (n + turn) w e ≡ said told (turns n v e)
   pub left : (n : ℕ) → rest_of (n + turn) w e ≡ said told (rest_of n v e)
@@ -34,10 +40,15 @@ abbrev pub IsBehind : World → Event → ℕ → World → List Answer → Bool
 IsBehind w e turn u all true = IsSoFar w e (turn + 1) u all
 IsBehind w e turn u all false = step w e ≡ (u, all)
 
+begins : (w : World) (e : Event) → IsFirst w e w []
+begins w (events.Cycle name source max) = tt
+begins w e = (refl, refl)
+
 -- before the first turn
 pub at_first : (w : World) (e : Event) → MayHappen w e → IsSoFar w e 0 w []
 at_first w e may = record {
   may = may;
+  first = begins w e;
   within = omega arith;
   done = λ n. let same : n + 0 ≡ n = omega arith in ap (λ k. turns k w e) same;
   left = λ n. let same : n + 0 ≡ n = omega arith in ap (λ k. rest_of k w e) same;
@@ -61,6 +72,7 @@ module _ (dest source : Name) (max : ℕ) (w v : World) (turn : ℕ) (told : Lis
   behind_pull : (b : Bool) (u : World) (more : List Answer) → turn < reply_limit → pull v dest source max ≡ (u, more, b) → IsBehind w (events.Cycle dest source max) turn u (told ++ more) b
   behind_pull true u more below is = record {
     may = tt;
+    first = tt;
     within = omega arith;
     done = one_more dest source max (λ n x. turns n x (events.Cycle dest source max)) (λ n x. refl) w v u turn told more so.done is;
     left = one_more dest source max (λ n x. pulls n x dest source max) (λ n x. refl) w v u turn told more so.left is;

@@ -1,7 +1,7 @@
 -- What is built so far.
 use Rattle.std.specs.Prelude.{List, [], ◌∷◌}
 use Rattle.adr_event.specs.declared.event.Event.{Event}
-use Rattle.adr_event.specs.declared.event.Event.TheVariants.{Controller, Time, Add, Modify, Rename, Delete, Link, Unlink, Ask, Serve, Deliver, Pull, Cycle, Show, Vector, Marks}
+use Rattle.adr_event.specs.declared.event.Event.TheVariants.{Controller, Time, Add, Modify, Rename, Delete, Link, Unlink, Ask, Serve, Deliver, Pull, Cycle, StopAfter, Fail, Stop, Start, Show, Vector, Marks}
 
 -- a line that has one answer, and that the code can run
 abbrev pub IsBuiltAlone : Event → Type 0
@@ -15,6 +15,10 @@ IsBuiltAlone (Unlink name from attr to) = Unit {0}
 IsBuiltAlone (Ask name partner max bind) = Unit {0}
 IsBuiltAlone (Serve name request bind) = Unit {0}
 IsBuiltAlone (Deliver name reply) = Unit {0}
+IsBuiltAlone (StopAfter name calls how) = Unit {0}
+IsBuiltAlone (Fail name calls) = Unit {0}
+IsBuiltAlone (Stop name) = Unit {0}
+IsBuiltAlone (Start name) = Unit {0}
 IsBuiltAlone (Show name) = Unit {0}
 IsBuiltAlone (Vector name) = Unit {0}
 IsBuiltAlone (Marks name) = Unit {0}

@@ -1,5 +1,5 @@
 pub mod Run
 pub mod Built
 pub mod Pulls
+pub mod Short
 pub mod Door
-pub mod Taking

@@ -4,6 +4,7 @@ ghost use Rattle.std.specs.Prelude.{◌≡◌, IfOk};
 ghost use Rattle.adr_model.specs.World.{answer};
 
 use adr_event::{Answer, Outcome};
+use adr_replica::word;
 use adr_schema::{NoMemory, Text};
 use std::alloc::Global;
 
@@ -35,13 +36,6 @@ impl Heading {
             outcome,
         }
     }
-}
-
-/// A word as a text.
-pub fn word(alloc: Global, text: &str) -> Result<Text, NoMemory>
-    ensures { IfOk result (λ word. word ≡ text.now) }
-{
-    Ok(Text::from_string(String::from_str(alloc, text)?))
 }
 
 /// The answer to a call.

@@ -1,6 +1,6 @@
 //! What lines bound to names.
 
-ghost use Rattle.std.specs.Prelude.{◌≡◌, [], OnErr, OnOk};
+ghost use Rattle.std.specs.Prelude.{◌≡◌, [], IsSome, OnErr, OnOk};
 ghost use Rattle.std.specs.Option.{option_copied};
 ghost use Rattle.adr_model.specs.Convergence.{IsUnbound};
 ghost use Rattle.adr_model.specs.World.{bound, bound_at};
@@ -49,6 +49,7 @@ impl<M> Messages<M> {
         requires { IsUnbound self.old name.now }
         ensures ok { OnOk result (self.new ≡ bound self.old name.now message) }
         ensures err { OnErr result (self.new ≡ self.old) }
+        ensures some { OnErr result (IsSome message) }
     {
         match message {
             None => Ok(()),

@@ -1,69 +1,66 @@
 //! Controllers by their names.
 
-ghost use Rattle.std.specs.Prelude.{◌≡◌, ◌<◌, None, length, map, slice_get, IfNone, IfSome, OnErr, OnOk};
+ghost use Rattle.std.specs.Prelude.{◌≡◌, ◌<◌, None, Ok, length, slice_get, IfNone, IfOk, IfSome, IsSomeAnd};
 ghost use Rattle.std.specs.List.{find};
-ghost use Rattle.std.specs.Option.{option_copied, option_map};
 ghost use Rattle.std.specs.Str.{bytes_eq};
-ghost use Rattle.adr_model.specs.Change.{after};
-ghost use Rattle.adr_state.specs.Refusal.{IsOverfull};
-ghost use Rattle.adr_world.specs.Run.{replica_of};
+ghost use Rattle.adr_law_journal.specs.Log.{start_of};
+ghost use Rattle.adr_law_journal.specs.Replicas.{read_found};
+ghost use Rattle.adr_model.specs.Replica.{Replica as Held};
+ghost use Rattle.adr_model.specs.World.{World, replica_at, stays, where_up};
+ghost use Rattle.adr_records.specs.Body.{following};
+ghost use Rattle.adr_records.specs.Head.{head_at};
+ghost use Rattle.adr_world.specs.Run.{world_of};
 
+use crate::run::Run;
+use adr_event::Outcome;
+use adr_replica::Replica;
 use adr_schema::{NoMemory, Text};
-use adr_state::{Change, Failure, State};
-use std::alloc::AllocError;
-
-/// A controller under the name that a line gave it. The end of its log is in bytes.
-#[derive(Drop)]
-pub struct Controller {
-    pub name: Text,
-    pub state: State,
-    pub log_end: u64,
-}
-
-impl Controller {
-    /// Applies a change that fits, behind which the log ends here.
-    pub fn apply(&mut self, change: &Change, end: u64) -> Result<(), NoMemory>
-        requires { ¬ IsOverfull (after self.old.state change.now) }
-        ensures ok { OnOk result (self.new
-            ≡ record self.old { state = after self.old.state change.now; log_end = end }) }
-        ensures err { OnErr result (self.new ≡ self.old) }
-    {
-        match self.state.apply(change) {
-            Ok(()) => {
-                self.log_end = end;
-                Ok(())
-            }
-            Err(Failure::Refused(_)) => unreachable!(),
-            Err(Failure::NoMemory) => Err(AllocError),
-        }
-    }
-}
 
 /// Where the controller of a name stands.
-pub fn place_of(controllers: &[Controller], name: &Text) -> Option<usize>
+fn place_of(controllers: &[Replica], name: &Text) -> Option<usize>
     ensures place { IfSome result (λ place. place < length controllers.now) }
     ensures found { IfSome result (λ place.
-        find (λ r. bytes_eq r.name name.now) (map replica_of controllers.now)
-        ≡ option_map replica_of (slice_get controllers.now place)) }
-    ensures none { IfNone result (find (λ r. bytes_eq r.name name.now) (map replica_of controllers.now) ≡ None) }
+        find (λ (r : Held). bytes_eq r.name name.now) controllers.now ≡ slice_get controllers.now place) }
+    ensures none { IfNone result (find (λ (r : Held). bytes_eq r.name name.now) controllers.now ≡ None) }
 {
     for (place, controller) in controllers.iter().enumerate() {
-        if controller.name.items() == name.items() {
+        if controller.name().items() == name.items() {
             return Some(place);
         }
     }
     None
 }
 
-/// The controller of a name.
-pub fn controller_of<'a>(controllers: &'a [Controller], name: &Text) -> Option<&'a Controller>
-    ensures { find (λ r. bytes_eq r.name name.now) (map replica_of controllers.now)
-        ≡ option_map replica_of (option_copied result) }
+/// What a controller is answered for a message that isn't there.
+pub fn not_there(controller: &Replica) -> Outcome
+    ensures { (w : World) → where_up (stays w) controller.now.standing (w, Outcome.Absent) ≡ (w, result) }
 {
-    for controller in controllers {
-        if controller.name.items() == name.items() {
-            return Some(controller);
-        }
+    match controller.state() {
+        Ok(_) => Outcome::Absent,
+        Err(other) => other,
     }
-    None
+}
+
+impl Run {
+    /// Where the controller of a name stands.
+    pub fn place_of(&self, name: &Text) -> Option<usize>
+        ensures place { IfSome result (λ place. place < length self.now.controllers.items) }
+        ensures found { IfSome result (λ place.
+            replica_at (world_of self.now) name.now ≡ slice_get self.now.controllers.items place) }
+        ensures none { IfNone result (replica_at (world_of self.now) name.now ≡ None) }
+    {
+        place_of(self.controllers.as_slice(), name)
+    }
+
+    /// A copy of the bytes on a controller's disk.
+    pub fn disk(&self, name: &Text) -> Result<Option<Vec<u8>>, NoMemory>
+        ensures none { IfOk result (λ found. IfNone found (replica_at (world_of self.now) name.now ≡ None)) }
+        ensures some { IfOk result (λ found. IfSome found (λ bytes.
+            IsSomeAnd (replica_at (world_of self.now) name.now) (λ r. start_of head_at following bytes.items ≡ Ok (read_found r)))) }
+    {
+        let Some(place) = self.place_of(name) else {
+            return Ok(None);
+        };
+        Ok(Some(self.controllers[place].bytes()?))
+    }
 }

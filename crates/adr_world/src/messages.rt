@@ -1,23 +1,22 @@
 //! Requests and replies.
 
-ghost use Rattle.std.specs.Prelude.{◌≡◌, ◌∷◌, [], Some, IfOk, OnErr};
-ghost use Rattle.adr_event.specs.declared.event.Event.TheVariants.{Ask, Serve};
+ghost use Rattle.std.specs.Prelude.{◌≡◌, ◌∷◌, [], Some, IfOk, IfSome, OnErr};
+ghost use Rattle.adr_event.specs.declared.event.Event.TheVariants.{Ask, Deliver, Serve};
+ghost use Rattle.adr_law_formed.specs.Spelled.{IsSpelledReply};
+ghost use Rattle.adr_law_recorded.specs.Ranged.{IsRangedReply, IsRangedRequest};
 ghost use Rattle.adr_model.specs.Convergence.{IsUnbound};
-ghost use Rattle.adr_model.specs.Sound.{IsSoundRequest};
 ghost use Rattle.adr_model.specs.Step.{step};
-ghost use Rattle.adr_model.specs.World.{asks, serves_request};
-ghost use Rattle.adr_world.specs.Run.{IsSoundRun, IsTidy, world_of};
+ghost use Rattle.adr_model.specs.World.{asks, bound_at, delivers, serves_request};
+ghost use Rattle.adr_world.specs.Run.{IsTidy, world_of};
+ghost use Rattle.adr_world.specs.Short.{IsAllOrNone, IsUnsent};
 
 use crate::answers::Heading;
-use crate::controller::controller_of;
-use crate::counts::served;
-use crate::refused::serve_refused;
+use crate::controller::not_there;
 use crate::run::Run;
-use adr_cycle::{ask, serve};
-use adr_event::{Answer, Failure, Outcome};
+use adr_event::{Answer, Outcome};
 use adr_packet::{Reply, Request};
 use adr_schema::{NoMemory, Text};
-use std::alloc::{AllocError, Global};
+use std::alloc::Global;
 
 impl Run {
     /// A controller asks a partner; the request is bound to a name.
@@ -29,12 +28,12 @@ impl Run {
         max: u32,
         bound: &Text,
     ) -> Result<Answer, NoMemory>
-        requires tidy { IsTidy self.old.controllers.items }
+        requires tidy { IsTidy self.old }
         requires unbound { IsUnbound (world_of self.old).requests bound.now }
         ensures stepped { IfOk result (λ made.
             step (world_of self.old) (Ask name.now partner.now max bound.now) ≡ (world_of self.new, made ∷ [])) }
         ensures err { OnErr result (world_of self.new ≡ world_of self.old) }
-        ensures tidy { IsTidy self.new.controllers.items }
+        ensures tidy { IsTidy self.new }
     {
         let heading = Heading::new(alloc, "ask", name)?;
         let (outcome, request) = self.request(alloc, name, partner, max)?;
@@ -50,17 +49,18 @@ impl Run {
         partner: &Text,
         max: u32,
     ) -> Result<(Outcome, Option<Request>), NoMemory>
-        ensures { IfOk result (λ sent.
+        ensures asked { IfOk result (λ sent.
             asks (world_of self.now) name.now partner.now max ≡ (world_of self.now, sent.0, sent.1)) }
+        ensures ranged { IfOk result (λ sent. IfSome sent.1 IsRangedRequest) }
     {
-        let Some(asker) = controller_of(self.controllers.as_slice(), name) else {
+        let Some(asker) = self.place_of(name) else {
             return Ok((Outcome::Absent, None));
         };
-        let Some(asked) = controller_of(self.controllers.as_slice(), partner) else {
+        let Some(asked) = self.place_of(partner) else {
             return Ok((Outcome::Absent, None));
         };
-        let request = ask(alloc, &asker.state, asked.state.dsa(), max)?;
-        Ok((Outcome::Ok, Some(request)))
+        let dsa = self.controllers[asked].dsa();
+        self.controllers[asker].ask(alloc, dsa, max)
     }
 
     /// A controller answers a request that was bound to a name; the reply is bound to another.
@@ -71,42 +71,109 @@ impl Run {
         request: &Text,
         bound: &Text,
     ) -> Result<Answer, NoMemory>
-        requires sound { IsSoundRun self.old }
+        requires tidy { IsTidy self.old }
         requires unbound { IsUnbound (world_of self.old).replies bound.now }
         ensures stepped { IfOk result (λ made.
             step (world_of self.old) (Serve name.now request.now bound.now) ≡ (world_of self.new, made ∷ [])) }
-        ensures err { OnErr result (world_of self.new ≡ world_of self.old) }
-        ensures tidy { IsTidy self.new.controllers.items }
+        ensures err { OnErr result (IsAllOrNone (world_of self.old) (step (world_of self.old) (Serve name.now request.now bound.now)).0 (world_of self.new)) }
+        ensures tidy { IsTidy self.new }
     {
         let heading = Heading::new(alloc, "serve", name)?;
-        let Some(request) = self.requests.get(request) else {
-            return Ok(heading.of(Outcome::Absent));
-        };
-        let (outcome, reply) = self.reply(alloc, name, request)?;
+        let (outcome, reply) = self.reply_bound(alloc, name, request)?;
         self.replies.bind(alloc, bound, reply)?;
         Ok(heading.of(outcome))
     }
 
-    /// What comes of a request, and the reply if it isn't refused. In a sound world no controller finds that it was put
-    /// back.
+    /// What comes of a request that was bound to a name. It is read where it stands.
+    fn reply_bound(
+        &mut self,
+        alloc: Global,
+        name: &Text,
+        request: &Text,
+    ) -> Result<(Outcome, Option<Reply>), NoMemory>
+        requires { IsTidy self.old }
+        ensures served { IfOk result (λ sent.
+            serves_request (world_of self.old) name.now (bound_at (world_of self.old).requests request.now)
+            ≡ (world_of self.new, sent.0, sent.1)) }
+        ensures spelled { IfOk result (λ sent. IfSome sent.1 (λ reply. IsSpelledReply reply × IsRangedReply reply)) }
+        ensures err { OnErr result (IsUnsent (world_of self.old) (serves_request (world_of self.old) name.now (bound_at (world_of self.old).requests request.now)) (world_of self.new)) }
+        ensures replies { self.new.replies ≡ self.old.replies }
+        ensures tidy { IsTidy self.new }
+    {
+        let Some(place) = self.place_of(name) else {
+            return Ok((Outcome::Absent, None));
+        };
+        let Some(request) = self.requests.get(request) else {
+            return Ok((not_there(&self.controllers[place]), None));
+        };
+        self.controllers[place].serve(alloc, &mut self.past, request)
+    }
+
+    /// What comes of a request, and the reply if it isn't refused.
     pub fn reply(
-        &self,
+        &mut self,
         alloc: Global,
         name: &Text,
         request: &Request,
     ) -> Result<(Outcome, Option<Reply>), NoMemory>
-        requires sound { IsSoundRun self.now }
-        requires request { IsSoundRequest (world_of self.now).book request.now }
-        ensures { IfOk result (λ sent.
-            serves_request (world_of self.now) name.now (Some request.now) ≡ (world_of self.now, sent.0, sent.1)) }
+        requires tidy { IsTidy self.old }
+        requires ranged { IsRangedRequest request.now }
+        ensures served { IfOk result (λ sent.
+            serves_request (world_of self.old) name.now (Some request.now) ≡ (world_of self.new, sent.0, sent.1)) }
+        ensures spelled { IfOk result (λ sent. IfSome sent.1 (λ reply. IsSpelledReply reply × IsRangedReply reply)) }
+        ensures err { OnErr result (IsUnsent (world_of self.old) (serves_request (world_of self.old) name.now (Some request.now)) (world_of self.new)) }
+        ensures tidy { IsTidy self.new }
     {
-        let Some(controller) = controller_of(self.controllers.as_slice(), name) else {
+        let Some(place) = self.place_of(name) else {
             return Ok((Outcome::Absent, None));
         };
-        match serve(alloc, &controller.state, request) {
-            Ok(reply) => Ok((served(&reply)?, Some(reply))),
-            Err(Failure::Refused(refusal)) => Ok((serve_refused(alloc, refusal)?, None)),
-            Err(Failure::NoMemory) => Err(AllocError),
-        }
+        self.controllers[place].serve(alloc, &mut self.past, request)
+    }
+
+    /// A controller takes a reply that was bound to a name.
+    pub fn deliver(&mut self, alloc: Global, name: &Text, reply: &Text) -> Result<Answer, NoMemory>
+        requires { IsTidy self.old }
+        ensures stepped { IfOk result (λ made.
+            step (world_of self.old) (Deliver name.now reply.now) ≡ (world_of self.new, made ∷ [])) }
+        ensures err { OnErr result (IsAllOrNone (world_of self.old) (step (world_of self.old) (Deliver name.now reply.now)).0 (world_of self.new)) }
+        ensures tidy { IsTidy self.new }
+    {
+        let heading = Heading::new(alloc, "deliver", name)?;
+        let outcome = self.take_bound(alloc, name, reply)?;
+        Ok(heading.of(outcome))
+    }
+
+    /// What a controller that takes a reply is answered, which was bound to a name. It is read where it stands: it may be
+    /// large.
+    fn take_bound(&mut self, alloc: Global, name: &Text, reply: &Text) -> Result<Outcome, NoMemory>
+        requires { IsTidy self.old }
+        ensures taken { IfOk result (λ outcome.
+            delivers (world_of self.old) name.now (bound_at (world_of self.old).replies reply.now) ≡ (world_of self.new, outcome)) }
+        ensures err { OnErr result (IsAllOrNone (world_of self.old) (delivers (world_of self.old) name.now (bound_at (world_of self.old).replies reply.now)).0 (world_of self.new)) }
+        ensures tidy { IsTidy self.new }
+    {
+        let Some(place) = self.place_of(name) else {
+            return Ok(Outcome::Absent);
+        };
+        let Some(reply) = self.replies.get(reply) else {
+            return Ok(not_there(&self.controllers[place]));
+        };
+        self.controllers[place].take(alloc, &mut self.past, reply)
+    }
+
+    /// What a controller that takes a reply is answered.
+    pub fn take(&mut self, alloc: Global, name: &Text, reply: &Reply) -> Result<Outcome, NoMemory>
+        requires tidy { IsTidy self.old }
+        requires spelled { IsSpelledReply reply.now }
+        requires ranged { IsRangedReply reply.now }
+        ensures taken { IfOk result (λ outcome.
+            delivers (world_of self.old) name.now (Some reply.now) ≡ (world_of self.new, outcome)) }
+        ensures err { OnErr result (IsAllOrNone (world_of self.old) (delivers (world_of self.old) name.now (Some reply.now)).0 (world_of self.new)) }
+        ensures tidy { IsTidy self.new }
+    {
+        let Some(place) = self.place_of(name) else {
+            return Ok(Outcome::Absent);
+        };
+        self.controllers[place].take(alloc, &mut self.past, reply)
     }
 }

@@ -1,12 +1,15 @@
 //! Pulls.
 
-ghost use Rattle.std.specs.Prelude.{◌≡◌, ◌++◌, ◌+◌, ◌∷◌, ◌≤◌, [], Some, codes, vec_len, IfOk, OnErr, OnOk};
+ghost use Rattle.std.specs.Prelude.{◌≡◌, ◌++◌, ◌+◌, ◌∷◌, ◌≤◌, [], Some, codes, vec_len, IfOk, IfSome, OnErr, OnOk};
 ghost use Rattle.std.specs.Vec.{vec_capacity};
+ghost use Rattle.adr_event.specs.declared.event.Event.TheVariants.{Cycle};
+ghost use Rattle.adr_law_formed.specs.Spelled.{IsSpelledReply};
+ghost use Rattle.adr_law_recorded.specs.Ranged.{IsRangedReply, IsRangedRequest};
 ghost use Rattle.adr_model.specs.Cycles.{pull, pull_asked, pull_served, was_taken};
-ghost use Rattle.adr_model.specs.Sound.{IsGiven, IsSoundReply, IsSoundRequest};
 ghost use Rattle.adr_model.specs.World.{answer, asks, serves_request};
 ghost use Rattle.adr_world.specs.Pulls.{IsCycleTurn, behind};
-ghost use Rattle.adr_world.specs.Run.{IsSoundRun, IsTidy, world_of};
+ghost use Rattle.adr_world.specs.Run.{IsTidy, world_of};
+ghost use Rattle.adr_world.specs.Short.{IsAllOrNone, IsTurnCutShort, IsUnsent};
 
 use crate::answers::{Heading, answer};
 use crate::run::Run;
@@ -47,6 +50,7 @@ impl Run {
         requires { vec_len answers.old + 1 ≤ vec_capacity answers.old }
         ensures sent { IfOk result (λ request. let t = asks (world_of self.now) dest.now source.now max in
             t ≡ (world_of self.now, t.1, request)) }
+        ensures ranged { IfOk result (λ request. IfSome request IsRangedRequest) }
         ensures told { OnOk result (answers.new.items
             ≡ answers.old.items ++ answer (codes "ask") dest.now (asks (world_of self.now) dest.now source.now max).1 ∷ []) }
         ensures len { OnOk result (vec_len answers.new ≡ vec_len answers.old + 1) }
@@ -60,19 +64,22 @@ impl Run {
 
     /// The reply to the request of a pull, if it isn't refused; what its source is answered comes to the answers.
     fn served(
-        &self,
+        &mut self,
         alloc: Global,
         source: &Text,
         request: &Request,
         answers: &mut Vec<Answer>,
     ) -> Result<Option<Reply>, NoMemory>
-        requires sound { IsSoundRun self.now }
-        requires request { IsSoundRequest (world_of self.now).book request.now }
+        requires tidy { IsTidy self.old }
+        requires ranged { IsRangedRequest request.now }
         requires room { vec_len answers.old + 1 ≤ vec_capacity answers.old }
-        ensures sent { IfOk result (λ reply. let t = serves_request (world_of self.now) source.now (Some request.now) in
-            t ≡ (world_of self.now, t.1, reply)) }
+        ensures sent { IfOk result (λ reply. let t = serves_request (world_of self.old) source.now (Some request.now) in
+            t ≡ (world_of self.new, t.1, reply)) }
+        ensures spelled { IfOk result (λ reply. IfSome reply (λ reply. IsSpelledReply reply × IsRangedReply reply)) }
         ensures told { OnOk result (answers.new.items
-            ≡ answers.old.items ++ answer (codes "serve") source.now (serves_request (world_of self.now) source.now (Some request.now)).1 ∷ []) }
+            ≡ answers.old.items ++ answer (codes "serve") source.now (serves_request (world_of self.old) source.now (Some request.now)).1 ∷ []) }
+        ensures err { OnErr result (IsUnsent (world_of self.old) (serves_request (world_of self.old) source.now (Some request.now)) (world_of self.new)) }
+        ensures tidy { IsTidy self.new }
         ensures len { OnOk result (vec_len answers.new ≡ vec_len answers.old + 1) }
         ensures capacity { vec_capacity answers.old ≤ vec_capacity answers.new }
     {
@@ -90,15 +97,15 @@ impl Run {
         reply: &Reply,
         answers: &mut Vec<Answer>,
     ) -> Result<bool, NoMemory>
-        requires sound { IsSoundRun self.old }
-        requires reply { IsSoundReply (world_of self.old).book reply.now }
-        requires given { IsGiven (world_of self.old) reply.now.inv }
+        requires tidy { IsTidy self.old }
+        requires spelled { IsSpelledReply reply.now }
+        requires ranged { IsRangedReply reply.now }
         requires room { vec_len answers.old + 1 ≤ vec_capacity answers.old }
         ensures pulled { IfOk result (λ goes_on.
             behind answers.old.items (pull_served dest.now (world_of self.old) (Some reply.now))
             ≡ (world_of self.new, answers.new.items, goes_on)) }
-        ensures err { OnErr result (world_of self.new ≡ world_of self.old) }
-        ensures tidy { IsTidy self.new.controllers.items }
+        ensures err { OnErr result (IsAllOrNone (world_of self.old) (pull_served dest.now (world_of self.old) (Some reply.now)).0 (world_of self.new)) }
+        ensures tidy { IsTidy self.new }
     {
         let heading = Heading::new(alloc, "deliver", dest)?;
         let outcome = self.take(alloc, dest, reply)?;
@@ -116,14 +123,14 @@ impl Run {
         request: &Request,
         answers: &mut Vec<Answer>,
     ) -> Result<bool, NoMemory>
-        requires sound { IsSoundRun self.old }
-        requires request { IsSoundRequest (world_of self.old).book request.now }
+        requires tidy { IsTidy self.old }
+        requires ranged { IsRangedRequest request.now }
         requires room { vec_len answers.old + 2 ≤ vec_capacity answers.old }
         ensures pulled { IfOk result (λ goes_on.
             behind answers.old.items (pull_asked dest.now source.now (world_of self.old) (Some request.now))
             ≡ (world_of self.new, answers.new.items, goes_on)) }
-        ensures err { OnErr result (world_of self.new ≡ world_of self.old) }
-        ensures tidy { IsTidy self.new.controllers.items }
+        ensures err { OnErr result (IsAllOrNone (world_of self.old) (pull_asked dest.now source.now (world_of self.old) (Some request.now)).0 (world_of self.new)) }
+        ensures tidy { IsTidy self.new }
     {
         let served = self.served(alloc, source, request, answers)?;
         match served {
@@ -142,13 +149,13 @@ impl Run {
         max: u32,
         answers: &mut Vec<Answer>,
     ) -> Result<bool, NoMemory>
-        requires sound { IsSoundRun self.old }
+        requires tidy { IsTidy self.old }
         requires room { vec_len answers.old + 3 ≤ vec_capacity answers.old }
         ensures pulled { IfOk result (λ goes_on.
             behind answers.old.items (pull (world_of self.old) dest.now source.now max)
             ≡ (world_of self.new, answers.new.items, goes_on)) }
-        ensures err { OnErr result (world_of self.new ≡ world_of self.old) }
-        ensures tidy { IsTidy self.new.controllers.items }
+        ensures err { OnErr result (IsAllOrNone (world_of self.old) (pull (world_of self.old) dest.now source.now max).0 (world_of self.new)) }
+        ensures tidy { IsTidy self.new }
     {
         let asked = self.asked(alloc, dest, source, max, answers)?;
         match asked {
@@ -165,11 +172,11 @@ impl Run {
         source: &Text,
         max: u32,
     ) -> Result<(Vec<Answer>, bool), NoMemory>
-        requires { IsSoundRun self.old }
+        requires { IsTidy self.old }
         ensures pulled { IfOk result (λ told.
             pull (world_of self.old) dest.now source.now max ≡ (world_of self.new, told.0.items, told.1)) }
-        ensures err { OnErr result (world_of self.new ≡ world_of self.old) }
-        ensures tidy { IsTidy self.new.controllers.items }
+        ensures err { OnErr result (IsAllOrNone (world_of self.old) (pull (world_of self.old) dest.now source.now max).0 (world_of self.new)) }
+        ensures tidy { IsTidy self.new }
     {
         let mut answers = Vec::new(alloc);
         answers.reserve(3)?;
@@ -186,11 +193,11 @@ impl Run {
         max: u32,
         turn: u32,
     ) -> Result<(Vec<Answer>, bool), NoMemory>
-        requires { IsSoundRun self.old }
+        requires { IsTidy self.old }
         ensures turned { IfOk result (λ told. IsCycleTurn turn (world_of self.old) dest.now source.now max
             (world_of self.new, told.0.items, told.1)) }
-        ensures err { OnErr result (world_of self.new ≡ world_of self.old) }
-        ensures tidy { IsTidy self.new.controllers.items }
+        ensures err { OnErr result (IsTurnCutShort turn (world_of self.old) (Cycle dest.now source.now max) (world_of self.new)) }
+        ensures tidy { IsTidy self.new }
     {
         if turn < REPLY_LIMIT {
             return self.pull(alloc, dest, source, max);

@@ -9,7 +9,6 @@ ghost use Rattle.adr_model.specs.World.{marks_shown, of_controller, shown, stays
 ghost use Rattle.adr_world.specs.Run.{IsSoundRun, world_of};
 
 use crate::answers::answer;
-use crate::controller::controller_of;
 use crate::run::Run;
 use adr_event::{Answer, Outcome, PartnerMarks};
 use adr_schema::{NoMemory, Text};
@@ -36,11 +35,16 @@ impl Run {
             of_controller (world_of self.now) name.now (stays (world_of self.now)) (λ r. (world_of self.now, Outcome.Show (shown (world_of self.now) r.safe)))
             ≡ (world_of self.now, outcome)) }
     {
-        let Some(controller) = controller_of(self.controllers.as_slice(), name) else {
+        let Some(place) = self.place_of(name) else {
             return Ok(Outcome::Absent);
         };
-        formed_rows_have_back_links();
-        Ok(Outcome::Show(directory(alloc, controller.state.rows())?))
+        match self.controllers[place].state() {
+            Ok(state) => {
+                formed_rows_have_back_links();
+                Ok(Outcome::Show(directory(alloc, state.rows())?))
+            }
+            Err(other) => Ok(other),
+        }
     }
 
     /// A client asks for the directory.
@@ -57,10 +61,13 @@ impl Run {
             of_controller (world_of self.now) name.now (stays (world_of self.now)) (λ r. (world_of self.now, Outcome.Vector r.safe.store.vector))
             ≡ (world_of self.now, outcome)) }
     {
-        let Some(controller) = controller_of(self.controllers.as_slice(), name) else {
+        let Some(place) = self.place_of(name) else {
             return Ok(Outcome::Absent);
         };
-        Ok(Outcome::Vector(controller.state.vector().copy(alloc)?))
+        match self.controllers[place].state() {
+            Ok(state) => Ok(Outcome::Vector(state.vector().copy(alloc)?)),
+            Err(other) => Ok(other),
+        }
     }
 
     /// A client asks what the controller has seen.
@@ -77,10 +84,13 @@ impl Run {
             of_controller (world_of self.now) name.now (stays (world_of self.now)) (λ r. (world_of self.now, Outcome.Marks (marks_shown r.safe.store)))
             ≡ (world_of self.now, outcome)) }
     {
-        let Some(controller) = controller_of(self.controllers.as_slice(), name) else {
+        let Some(place) = self.place_of(name) else {
             return Ok(Outcome::Absent);
         };
-        Ok(Outcome::Marks(partner_marks(alloc, controller.state.marks())?))
+        match self.controllers[place].state() {
+            Ok(state) => Ok(Outcome::Marks(partner_marks(alloc, state.marks())?)),
+            Err(other) => Ok(other),
+        }
     }
 
     /// A client asks how far the controller has read its partners.

@@ -3,6 +3,7 @@
 ghost use Rattle.std.specs.Prelude.{◌≡◌, ◌<◌, ◌≤◌, [], ◌∷◌, IfOk, OnErr, OnOk, IsErrOf, flat_map};
 ghost use Rattle.adr_event.specs.declared.event.Event.TheVariants.{Time};
 ghost use Rattle.adr_io.specs.Told.{Adds, AddsFront};
+ghost use Rattle.adr_law_recorded.specs.Typed.{IsTyped};
 ghost use Rattle.adr_model.specs.Convergence.{MayHappen};
 ghost use Rattle.adr_model.specs.Step.{step};
 ghost use Rattle.adr_report.specs.Line.{line};
@@ -10,6 +11,7 @@ ghost use Rattle.adr_world.specs.Built.{IsBuilt, IsBuiltAlone, IsBuiltAtOnce};
 ghost use Rattle.adr_world.specs.Door.{IsLeftBy};
 ghost use Rattle.adr_world.specs.Pulls.{IsTurn};
 ghost use Rattle.adr_world.specs.Run.{IsSoundRun, IsTidy, world_of};
+ghost use Rattle.adr_world.specs.Short.{IsCutShort, IsTurnCutShort};
 
 use crate::pulling::REPLY_LIMIT;
 use crate::run::Run;
@@ -25,6 +27,7 @@ impl Run {
         requires sound { IsSoundRun self.old }
         requires built { IsBuilt event.now }
         requires may { MayHappen (world_of self.old) event.now }
+        requires typed { IsTyped event.now }
         ensures stepped { OnOk result (world_of self.new ≡ (step (world_of self.old) event.now).0) }
         ensures told { OnOk result (Adds (K.written sink.old) (K.written sink.new) (flat_map line (step (world_of self.old) event.now).1)) }
         ensures front { OnErr result (AddsFront (K.written sink.old) (K.written sink.new) (flat_map line (step (world_of self.old) event.now).1)) }
@@ -53,10 +56,11 @@ impl Run {
         requires sound { IsSoundRun self.old }
         requires built { IsBuilt event.now }
         requires may { MayHappen (world_of self.old) event.now }
+        requires typed { IsTyped event.now }
         ensures turned { IfOk result (λ told.
             IsTurn turn (world_of self.old) event.now (world_of self.new, told.0.items, told.1)) }
-        ensures err { OnErr result (world_of self.new ≡ world_of self.old) }
-        ensures tidy { IsTidy self.new.controllers.items }
+        ensures err { OnErr result (IsTurnCutShort turn (world_of self.old) event.now (world_of self.new)) }
+        ensures tidy { IsTidy self.new }
     {
         match event {
             Event::Cycle { name, source, max } => {
@@ -71,10 +75,11 @@ impl Run {
         requires sound { IsSoundRun self.old }
         requires built { IsBuiltAtOnce event.now }
         requires may { MayHappen (world_of self.old) event.now }
+        requires typed { IsTyped event.now }
         ensures stepped { IfOk result (λ answers.
             step (world_of self.old) event.now ≡ (world_of self.new, answers.items)) }
-        ensures err { OnErr result (world_of self.new ≡ world_of self.old) }
-        ensures tidy { IsTidy self.new.controllers.items }
+        ensures err { OnErr result (IsCutShort (world_of self.old) event.now (world_of self.new)) }
+        ensures tidy { IsTidy self.new }
     {
         match event {
             Event::Time { now } => Ok(self.time(alloc, *now)),
@@ -85,9 +90,9 @@ impl Run {
 
     /// The time of the lines that follow.
     fn time(&mut self, alloc: Global, now: u64) -> Vec<Answer>
-        requires { IsTidy self.old.controllers.items }
+        requires { IsTidy self.old }
         ensures stepped { step (world_of self.old) (Time now) ≡ (world_of self.new, result.items) }
-        ensures tidy { IsTidy self.new.controllers.items }
+        ensures tidy { IsTidy self.new }
     {
         self.time = now;
         Vec::new(alloc)
@@ -98,10 +103,11 @@ impl Run {
         requires sound { IsSoundRun self.old }
         requires built { IsBuiltAlone event.now }
         requires may { MayHappen (world_of self.old) event.now }
+        requires typed { IsTyped event.now }
         ensures stepped { IfOk result (λ answers.
             step (world_of self.old) event.now ≡ (world_of self.new, answers.items)) }
-        ensures err { OnErr result (world_of self.new ≡ world_of self.old) }
-        ensures tidy { IsTidy self.new.controllers.items }
+        ensures err { OnErr result (IsCutShort (world_of self.old) event.now (world_of self.new)) }
+        ensures tidy { IsTidy self.new }
     {
         let mut answers = Vec::new(alloc);
         answers.reserve(1)?;
@@ -115,10 +121,11 @@ impl Run {
         requires sound { IsSoundRun self.old }
         requires built { IsBuiltAlone event.now }
         requires may { MayHappen (world_of self.old) event.now }
+        requires typed { IsTyped event.now }
         ensures stepped { IfOk result (λ made.
             step (world_of self.old) event.now ≡ (world_of self.new, made ∷ [])) }
-        ensures err { OnErr result (world_of self.new ≡ world_of self.old) }
-        ensures tidy { IsTidy self.new.controllers.items }
+        ensures err { OnErr result (IsCutShort (world_of self.old) event.now (world_of self.new)) }
+        ensures tidy { IsTidy self.new }
     {
         match event {
             Event::Controller { name, dsa, inv } => self.controller(alloc, name, *dsa, *inv),
@@ -140,6 +147,10 @@ impl Run {
                 bound,
             } => self.serve(alloc, name, request, bound),
             Event::Deliver { name, reply } => self.deliver(alloc, name, reply),
+            Event::StopAfter { name, calls, how } => self.stop_after(alloc, name, *calls, *how),
+            Event::Fail { name, calls } => self.fail_after(alloc, name, *calls),
+            Event::Stop { name } => self.stop(alloc, name),
+            Event::Start { name } => self.start(alloc, name),
             Event::Show { name } => self.show(alloc, name),
             Event::Vector { name } => self.vector(alloc, name),
             Event::Marks { name } => self.marks(alloc, name),

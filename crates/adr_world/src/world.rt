@@ -1,11 +1,16 @@
 //! The world of a run.
 
-ghost use Rattle.std.specs.Prelude.{◌≡◌, ◌<◌, ◌≤◌, OnErr, OnOk, IsErrOf, flat_map};
+ghost use Rattle.std.specs.Prelude.{◌≡◌, ◌<◌, ◌≤◌, None, Ok, IfNone, IfOk, IfSome, IsSomeAnd, OnErr, OnOk, IsErrOf, flat_map};
 ghost use Rattle.adr_io.specs.Told.{Adds, AddsFront};
+ghost use Rattle.adr_law_journal.specs.Log.{start_of};
+ghost use Rattle.adr_law_journal.specs.Replicas.{read_found};
+ghost use Rattle.adr_law_recorded.specs.Typed.{IsTyped};
 ghost use Rattle.adr_model.specs.Convergence.{AreAcknowledged, MayHappen, OwnIsInView, ShowAlike, ShowWhatIsVisible};
 ghost use Rattle.adr_model.specs.Sound.{IsWorldOfRun};
 ghost use Rattle.adr_model.specs.Step.{step};
-ghost use Rattle.adr_model.specs.World.{empty_world};
+ghost use Rattle.adr_model.specs.World.{empty_world, replica_at};
+ghost use Rattle.adr_records.specs.Body.{following};
+ghost use Rattle.adr_records.specs.Head.{head_at};
 ghost use Rattle.adr_report.specs.Line.{line};
 ghost use Rattle.adr_world.specs.Built.{IsBuilt};
 ghost use Rattle.adr_world.specs.Door.{IsCompletedBy, IsLeftBy};
@@ -13,6 +18,7 @@ ghost use Rattle.adr_world.specs.Door.{IsCompletedBy, IsLeftBy};
 use crate::run::Run;
 use adr_event::Event;
 use adr_io::{Fault, Sink};
+use adr_schema::{NoMemory, Text};
 use std::alloc::Global;
 use std::marker::Model;
 
@@ -50,12 +56,13 @@ impl World {
     pub fn step<K: Sink>(&mut self, alloc: Global, event: &Event, sink: &mut K) -> Result<(), Fault>
         requires built { IsBuilt event.now }
         requires may { MayHappen self.old event.now }
+        requires typed { IsTyped event.now }
         ensures stepped { OnOk result (self.new ≡ (step self.old event.now).0) }
         ensures told { OnOk result (Adds (K.written sink.old) (K.written sink.new) (flat_map line (step self.old event.now).1)) }
 
         // With a fault a front of that is written, and what is written was done: so many turns of the line are done, and a
-        // front of their lines is written. A pull is a turn of a cycle, and any other line is one turn. A write that failed
-        // was counted.
+        // front of their lines is written. A pull is a turn of a cycle, and any other line is one turn. Of a start that wanted
+        // memory its sync may stand, with nothing written. A write that failed was counted.
         ensures front { OnErr result (AddsFront (K.written sink.old) (K.written sink.new) (flat_map line (step self.old event.now).1)) }
         ensures err { OnErr result (IsLeftBy self.old event.now self.new (K.written sink.old) (K.written sink.new)) }
         ensures never_falls { K.faults sink.old ≤ K.faults sink.new }
@@ -74,5 +81,14 @@ impl World {
     {
         self.run.step(alloc, event, sink)?;
         Ok(())
+    }
+
+    /// A copy of the bytes on a controller's disk, which a start would read.
+    pub fn disk(&self, name: &Text) -> Result<Option<Vec<u8>>, NoMemory>
+        ensures none { IfOk result (λ found. IfNone found (replica_at self.now name.now ≡ None)) }
+        ensures some { IfOk result (λ found. IfSome found (λ bytes.
+            IsSomeAnd (replica_at self.now name.now) (λ r. start_of head_at following bytes.items ≡ Ok (read_found r)))) }
+    {
+        self.run.disk(name)
     }
 }

@@ -1,27 +1,41 @@
-use Rattle.std.proofs.Common.{◌∙◌, sym, ap, subst, Some, refl}
+use Rattle.std.proofs.Common.{◌∙◌, sym, ap, subst, refl}
 use Rattle.std.specs.Bool.{IsTrue}
+use Rattle.adr_event.specs.declared.answer.Outcome.TheVariants as outcomes
 use Rattle.adr_model.specs.Directory.{directory}
-use Rattle.adr_model.specs.Store.{updates_of}
+use Rattle.adr_model.specs.Replica.{Replica}
+use Rattle.adr_model.specs.Store.{State, updates_of}
+use Rattle.adr_model.specs.World.{shown}
 use Rattle.adr_view.specs.BackLinks.{have_back_links}
 use Rattle.adr_view.specs.Named.{AreNamed}
 use Rattle.adr_world.specs.Run.{world_of}
-use Rattle.adr_world.proofs.Calls.{found_so, formed_so, shown_so}
+use Rattle.adr_world.proofs.Becoming.{found_there}
+use Rattle.adr_world.proofs.Calls.{formed_so, shown_so, told_other}
 use Rattle.adr_world.proofs.run.Run.directory_told.Goals as goal
 
 pub directory-requires-clause-links : goal.directory-requires-clause-links
 directory-requires-clause-links c =
-    let found = found_so c.as_slice.result.now c.args.self.now.controllers.items c.args.name.now (Some c.in-Some.controller.now) c.as_slice.ensures.value c.in-Some.ensures in
-    subst (λ rows. IsTrue (have_back_links (updates_of rows))) (sym c.rows.ensures)
-    (c.formed_rows_have_back_links.ensures c.in-Some.controller.now.state.store.schema (updates_of c.in-Some.controller.now.state.store.rows)
-    (formed_so (world_of c.args.self.now) (c.requires.of_run.sound refl) c.args.name.now c.in-Some.controller.now found))
+    let d = c.index.result.now in
+    let found = found_there c.args.self.now c.args.name.now c.in-Some.place d c.in-Some.ensures.place c.index.ensures c.in-Some.ensures.found in
+    subst (λ rows. IsTrue (have_back_links (updates_of rows))) (sym (c.rows.ensures ∙ ap (λ (s : State). s.store.rows) c.in-Ok.ensures.up.1))
+    (c.formed_rows_have_back_links.ensures d.safe.store.schema (updates_of d.safe.store.rows) (formed_so (world_of c.args.self.now) (c.requires.of_run.sound refl) c.args.name.now d found))
 
 pub directory-requires-clause-named : goal.directory-requires-clause-named
 directory-requires-clause-named c =
-    let found = found_so c.as_slice.result.now c.args.self.now.controllers.items c.args.name.now (Some c.in-Some.controller.now) c.as_slice.ensures.value c.in-Some.ensures in
-    subst (λ rows. AreNamed (updates_of rows)) (sym c.rows.ensures)
-    (formed_so (world_of c.args.self.now) (c.requires.of_run.sound refl) c.args.name.now c.in-Some.controller.now found).named
+    let d = c.index.result.now in
+    let found = found_there c.args.self.now c.args.name.now c.in-Some.place d c.in-Some.ensures.place c.index.ensures c.in-Some.ensures.found in
+    subst (λ rows. AreNamed (updates_of rows)) (sym (c.rows.ensures ∙ ap (λ (s : State). s.store.rows) c.in-Ok.ensures.up.1))
+    (formed_so (world_of c.args.self.now) (c.requires.of_run.sound refl) c.args.name.now d found).named
 
-pub returns : goal.returns
-returns c =
-    let found = found_so c.as_slice.result.now c.args.self.now.controllers.items c.args.name.now (Some c.in-Some.controller.now) c.as_slice.ensures.value c.in-Some.ensures in
-    shown_so (world_of c.args.self.now) (c.requires.of_run.sound refl) c.args.name.now c.in-Some.controller.now found c.in_ok-directory.field-0 (c.in_ok-directory.ensures ∙ ap (λ rows. directory (updates_of rows)) c.rows.ensures)
+pub returns-in_ok-directory-in-Ok : goal.returns-in_ok-directory-in-Ok
+returns-in_ok-directory-in-Ok c =
+    let d = c.index.result.now in
+    let found = found_there c.args.self.now c.args.name.now c.in-Some.place d c.in-Some.ensures.place c.index.ensures c.in-Some.ensures.found in
+    shown_so (world_of c.args.self.now) (c.requires.of_run.sound refl) c.args.name.now d found c.in_ok-directory-in-Ok.field-0 c.in-Ok.ensures.up.0
+    (c.in_ok-directory-in-Ok.ensures ∙ ap (λ rows. directory (updates_of rows)) (c.rows.ensures ∙ ap (λ (s : State). s.store.rows) c.in-Ok.ensures.up.1))
+
+pub returns-in-Err : goal.returns-in-Err
+returns-in-Err c =
+    let d = c.index.result.now in
+    let w = world_of c.args.self.now in
+    told_other w c.args.name.now (λ (r : Replica). outcomes.Show (shown w r.safe)) d
+    (found_there c.args.self.now c.args.name.now c.in-Some.place d c.in-Some.ensures.place c.index.ensures c.in-Some.ensures.found) c.in-Err.other c.in-Err.ensures.other

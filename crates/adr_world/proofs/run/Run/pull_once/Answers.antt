@@ -1,19 +1,12 @@
--- The request that was made is sound, and the answers of what it comes to stand behind the first.
-use Rattle.std.proofs.Common.{Option, Some, None, false, ap, ◌∙◌, refl}
+-- The answers of what a request comes to stand behind the first.
+use Rattle.std.proofs.Common.{Option, Some, None, false, ap, ◌∙◌}
 use Rattle.std.proofs.lemmas.Result.{IfOk-weaker}
 use Rattle.adr_model.specs.Serve.{Request}
 use Rattle.adr_model.specs.World.{Sent, asks}
 use Rattle.adr_world.specs.Run.{world_of}
-use Rattle.adr_world.proofs.Pulls.{behind_none, pulled_on}
-use Rattle.adr_world.proofs.Sends.{request_made}
+use Rattle.adr_world.proofs.Pulls.{behind_none, pulled_on, asked_short}
+use Rattle.adr_world.proofs.Results.{on_err_so}
 use Rattle.adr_world.proofs.run.Run.pull_once.Goals as goal
-
-pub pull_asked-requires-clause-request : goal.pull_asked-requires-clause-request
-pull_asked-requires-clause-request c =
-    let w = world_of c.args.self.now in
-    let put : Option Request → Sent Request = λ o. (w, (asks w c.args.dest.now c.args.source.now c.args.max).1, o) in
-    request_made w (c.requires.sound.of_run.sound refl) c.args.dest.now c.args.source.now c.args.max w (asks w c.args.dest.now c.args.source.now c.args.max).1 c.in-Some.request
-    (c.in_ok-asked.ensures.sent ∙ ap put c.in-Some.is)
 
 pub returns-in-None-clause-pulled : goal.returns-in-None-clause-pulled
 returns-in-None-clause-pulled c =
@@ -31,3 +24,11 @@ returns-in-Some-clause-pulled c =
     (λ goes_on rest. pulled_on w c.args.dest.now c.args.source.now c.args.answers.now.items c.asked.new.answers.items (world_of c.pull_asked.new.self, c.pull_asked.new.answers.items, goes_on) c.args.max (Some c.in-Some.request)
     (c.in_ok-asked.ensures.sent ∙ ap put c.in-Some.is) c.in_ok-asked.ensures.told rest)
     c.pull_asked.ensures.pulled
+
+pub returns-in-Some-clause-err : goal.returns-in-Some-clause-err
+returns-in-Some-clause-err c =
+    let w = world_of c.args.self.now in
+    let put : Option Request → Sent Request = λ o. (w, (asks w c.args.dest.now c.args.source.now c.args.max).1, o) in
+    on_err_so c.pull_asked.result c.pull_asked.ensures.err
+    (asked_short w c.args.dest.now c.args.source.now (world_of c.pull_asked.new.self) c.args.max (asks w c.args.dest.now c.args.source.now c.args.max).1 c.in-Some.request
+    (c.in_ok-asked.ensures.sent ∙ ap put c.in-Some.is))

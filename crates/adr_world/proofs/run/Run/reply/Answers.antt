@@ -1,17 +1,36 @@
-use Rattle.std.proofs.Common.{◌∙◌, sym, ap, Some, None, refl, rules}
+use Rattle.std.proofs.Common.{Some, refl}
+use Rattle.std.proofs.lemmas.Result.{IfOk-weaker}
+use Rattle.adr_model.specs.World.{served, nothing}
 use Rattle.adr_world.specs.Run.{world_of}
-use Rattle.adr_world.proofs.Calls.{found_so, served_so, refused_so}
+use Rattle.adr_world.proofs.Becoming.{stands, apart_with, led_to, unsent}
+use Rattle.adr_world.proofs.Calls.{reaches_none}
+use Rattle.adr_world.proofs.Results.{on_err_so}
 use Rattle.adr_world.proofs.run.Run.reply.Goals as goal
 
-pub returns-in_ok-served-in-Ok : goal.returns-in_ok-served-in-Ok
-returns-in_ok-served-in-Ok c =
-    let found = found_so c.as_slice.result.now c.args.self.now.controllers.items c.args.name.now (Some c.in-Some.controller.now) c.as_slice.ensures.value c.in-Some.ensures in
-    served_so (world_of c.args.self.now) (c.requires.sound.of_run.sound refl) c.args.name.now c.in-Some.controller.now found c.args.request.now c.in-Ok.reply c.in-Ok.ensures.ok
-    ∙ ap (λ o. (world_of c.args.self.now, o, Some c.in-Ok.reply)) (sym c.in_ok-served-in-Ok.ensures)
+pub returns-in_default-clause-served : goal.returns-in_default-clause-served
+returns-in_default-clause-served c =
+    let w = world_of c.args.self.now in
+    reaches_none w c.args.name.now (nothing w) (λ r. served w r (Some c.args.request.now)) c.in_default.ensures.none
 
-pub returns-in_ok-serve_refused-in-Err-Refused : goal.returns-in_ok-serve_refused-in-Err-Refused
-returns-in_ok-serve_refused-in-Err-Refused c =
-    let found = found_so c.as_slice.result.now c.args.self.now.controllers.items c.args.name.now (Some c.in-Some.controller.now) c.as_slice.ensures.value c.in-Some.ensures in
-    refused_so (world_of c.args.self.now) (c.requires.sound.of_run.sound refl) c.args.name.now c.in-Some.controller.now found c.args.request.now c.in-Err-Refused.refusal c.requires.request
-    ((c.in-Err-Refused.ensures.refused c.in-Err-Refused.refusal).0 (search rules))
-    ∙ ap (λ o. (world_of c.args.self.now, o, None)) (sym c.in_ok-serve_refused-in-Err-Refused.ensures)
+pub returns-clause-served : goal.returns-clause-served
+returns-clause-served c =
+    let w = world_of c.args.self.now in
+    IfOk-weaker c.serve.result _ _
+    (λ sent is.
+    led_to c.args.self.now c.args.name.now c.in-Some.place c.index_mut.result.now c.in-Some.ensures.place c.index_mut.ensures.value c.in-Some.ensures.found c.requires.tidy c.serve.new.self c.serve.ensures.name c.serve.new.past c.serve.ensures.given
+    (λ r. served w r (Some c.args.request.now)) sent.0 sent.1
+    (is w (stands c.args.self.now c.args.name.now c.in-Some.place c.index_mut.result.now c.in-Some.ensures.place c.index_mut.ensures.value c.in-Some.ensures.found c.requires.tidy)))
+    c.serve.ensures.served
+
+pub returns-clause-err : goal.returns-clause-err
+returns-clause-err c =
+    on_err_so c.serve.result c.serve.ensures.err
+    (unsent c.args.self.now c.args.name.now c.in-Some.place c.index_mut.result.now c.in-Some.ensures.place c.index_mut.ensures.value c.in-Some.ensures.found c.requires.tidy c.serve.new.self c.serve.ensures.name c.serve.new.past c.serve.ensures.given
+    c.args.request.now _ refl)
+
+pub returns-clause-tidy : goal.returns-clause-tidy
+returns-clause-tidy c = record {
+  apart = apart_with c.args.self.now c.args.name.now c.in-Some.place c.index_mut.result.now c.in-Some.ensures.place c.index_mut.ensures.value c.in-Some.ensures.found c.requires.tidy c.serve.new.self c.serve.ensures.name;
+  requests = c.requires.tidy.requests;
+  replies = c.requires.tidy.replies;
+}

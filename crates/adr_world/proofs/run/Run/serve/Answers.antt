@@ -1,26 +1,51 @@
-use Rattle.std.proofs.Common.{◌∙◌, sym, ap, Some, None, refl, [], ◌∷◌, codes}
-use Rattle.adr_event.specs.declared.answer.Outcome.TheVariants as outcomes
-use Rattle.adr_model.specs.World.{answer}
-use Rattle.adr_world.specs.Run.{world_of}
-use Rattle.adr_world.proofs.Bindings.{request_bound, served_step}
-use Rattle.adr_world.proofs.Calls.{no_request_so}
+use Rattle.std.proofs.Common.{◌∙◌, sym, ap, subst, inl, [], ◌∷◌, codes}
+use Rattle.adr_law_formed.specs.Spelled.{IsSpelledReply}
+use Rattle.adr_law_recorded.specs.Ranged.{IsRangedReply}
+use Rattle.adr_model.specs.Serve.{Reply}
+use Rattle.adr_model.specs.Convergence.{IsUnbound}
+use Rattle.adr_model.specs.World.{bound_at}
+use Rattle.adr_world.specs.Run.{AreSpelled, world_of}
+use Rattle.adr_world.proofs.Bindings.{each_bound, headed, served_step, serve_short}
+use Rattle.adr_world.proofs.Calls.{sent_keeps}
+use Rattle.adr_world.proofs.Results.{on_err}
 use Rattle.adr_world.proofs.run.Run.serve.Goals as goal
 
-pub returns-in_default-clause-stepped : goal.returns-in_default-clause-stepped
-returns-in_default-clause-stepped c =
-    let w = world_of c.args.self.now in
-    served_step w c.args.name.now c.args.request.now c.args.bound.now None outcomes.Absent None c.of.result
-    c.in_default.ensures (no_request_so w c.args.name.now c.args.self.now.controllers.items refl)
-    (c.of.ensures ∙ ap (λ v. answer v c.in_ok-heading.heading.name outcomes.Absent) c.in_ok-heading.ensures.0 ∙ ap (λ n. answer (codes "serve") n outcomes.Absent) c.in_ok-heading.ensures.1)
+pub bind-requires : goal.bind-requires
+bind-requires c = subst (λ rs. IsUnbound rs c.args.bound.now) (sym c.reply_bound.ensures.replies) c.requires.unbound
 
-pub reply-requires-clause-request : goal.reply-requires-clause-request
-reply-requires-clause-request c =
-    request_bound (world_of c.args.self.now) (c.requires.sound.of_run.sound refl) c.args.request.now c.in-Some.request.now c.in-Some.ensures
+pub returns-in_err-outcome-clause-err : goal.returns-in_err-outcome-clause-err
+returns-in_err-outcome-clause-err c =
+    on_err c.from_residual-in_err-outcome.result
+    (serve_short (world_of c.args.self.now) c.args.name.now c.args.request.now c.args.bound.now (world_of c.reply_bound.new.self) c.in_err-outcome.ensures.err)
+
+pub returns-in_err-bind-clause-err : goal.returns-in_err-bind-clause-err
+returns-in_err-bind-clause-err c =
+    let w = world_of c.args.self.now in
+    let v = world_of c.reply_bound.new.self in
+    on_err c.from_residual-in_err-bind.result
+    (inl (ap (λ rs. record v { replies = rs }) c.in_err-bind.ensures.err
+    ∙ sent_keeps w c.args.name.now (bound_at w.requests c.args.request.now) v c.in_ok-outcome.outcome c.in_ok-outcome.reply c.in_err-bind.ensures.some c.in_ok-outcome.ensures.served))
+
+pub returns-in_err-bind-clause-tidy : goal.returns-in_err-bind-clause-tidy
+returns-in_err-bind-clause-tidy c = record {
+  apart = c.reply_bound.ensures.tidy.apart;
+  requests = c.reply_bound.ensures.tidy.requests;
+  replies = subst AreSpelled (sym c.in_err-bind.ensures.err) c.reply_bound.ensures.tidy.replies;
+}
 
 pub returns-clause-stepped : goal.returns-clause-stepped
 returns-clause-stepped c =
     let o = c.in_ok-outcome.outcome in
-    served_step (world_of c.args.self.now) c.args.name.now c.args.request.now c.args.bound.now (Some c.in-Some.request.now) o c.in_ok-outcome.reply c.of-2.result
-    c.in-Some.ensures c.in_ok-outcome.ensures
-    (c.of-2.ensures ∙ ap (λ v. answer v c.in_ok-heading.heading.name o) c.in_ok-heading.ensures.0 ∙ ap (λ n. answer (codes "serve") n o) c.in_ok-heading.ensures.1)
-    ∙ ap (λ rs. (record (world_of c.args.self.now) { replies = rs }, c.of-2.result ∷ [])) (sym c.in_ok-bind.ensures.ok)
+    let v = world_of c.reply_bound.new.self in
+    served_step (world_of c.args.self.now) c.args.name.now c.args.request.now c.args.bound.now v o c.in_ok-outcome.reply c.of.result
+    c.in_ok-outcome.ensures.served
+    (headed c.of.result c.in_ok-heading.heading.verb c.in_ok-heading.heading.name (codes "serve") c.args.name.now o c.of.ensures c.in_ok-heading.ensures)
+    ∙ ap (λ rs. (record v { replies = rs }, c.of.result ∷ [])) (sym c.in_ok-bind.ensures.ok)
+
+pub returns-clause-tidy : goal.returns-clause-tidy
+returns-clause-tidy c = record {
+  apart = c.reply_bound.ensures.tidy.apart;
+  requests = c.reply_bound.ensures.tidy.requests;
+  replies = subst AreSpelled (sym c.in_ok-bind.ensures.ok)
+      (each_bound (λ (p : Reply). IsSpelledReply p × IsRangedReply p) c.reply_bound.new.self.replies c.args.bound.now c.in_ok-outcome.reply c.reply_bound.ensures.tidy.replies c.in_ok-outcome.ensures.spelled);
+}

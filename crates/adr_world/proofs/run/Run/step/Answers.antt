@@ -5,13 +5,11 @@ use Rattle.adr_event.specs.declared.answer.Answer.{Answer}
 use Rattle.adr_io.specs.Told.{Adds, AddsFront}
 use Rattle.adr_model.specs.World.{World}
 use Rattle.adr_model.specs.Cycles.{Pulled, reply_limit}
-use Rattle.adr_model.specs.Sound.{IsWorldOfRun}
 use Rattle.adr_report.specs.Line.{line}
-use Rattle.adr_world.specs.Door.{IsLeftBy}
 use Rattle.adr_world.specs.Run.{world_of}
-use Rattle.adr_world.proofs.Doors.{turned_of_run}
+use Rattle.adr_world.proofs.Doors.{turned_of_run, short_of_run}
 use Rattle.adr_world.proofs.Due.{adds_none, all_added}
-use Rattle.adr_world.proofs.Left.{left_so_far, front_so_far, left_behind, front_behind}
+use Rattle.adr_world.proofs.Left.{front_so_far, left_behind, left_short, front_behind}
 use Rattle.adr_world.proofs.Results.{on_err}
 use Rattle.adr_world.proofs.ToldLines.{lines_more, lines_front}
 use Rattle.adr_world.proofs.Turns.{at_first, behind, goes_on, ends}
@@ -62,12 +60,12 @@ returns-in_err-answers-clause-err g c =
     let first = g.K.Sink.written c.args.sink.now in
     let now = g.K.Sink.written c.loop-turn.sink in
     on_err c.from_residual.result
-    (subst (λ (v : World). IsLeftBy (world_of c.args.self.now) c.args.event.now v first now) (sym c.in_err-answers.ensures.err)
-    (left_so_far (world_of c.args.self.now) c.args.event.now c.loop-turn.turn (world_of c.loop-turn.self) told.0 first now (all_added first now (flat_map line told.0) told.2) told.1))
+    (left_short (world_of c.args.self.now) c.args.event.now c.loop-turn.turn (world_of c.loop-turn.self) told.0 first now told.1 (world_of c.turn.new.self)
+    (all_added first now (flat_map line told.0) told.2) c.in_err-answers.ensures.err)
 
 pub returns-in_err-answers-clause-sound : goal.returns-in_err-answers-clause-sound
 returns-in_err-answers-clause-sound g c = record {
-  of_run = subst IsWorldOfRun (sym c.in_err-answers.ensures.err) c.loop-turn.invariant.sound.of_run;
+  of_run = short_of_run (world_of c.loop-turn.self) c.args.event.now c.loop-turn.turn (world_of c.turn.new.self) c.loop-turn.invariant.sound.of_run c.loop-turn.invariant.told.1.may c.in_err-answers.ensures.err;
   tidy = c.in_err-answers.ensures.tidy;
 }
 

@@ -1,0 +1,73 @@
+//! Objects are added, one by one.
+
+ghost use Rattle.std.specs.Prelude.{◌≡◌, None, Some, Ok, IfOk};
+ghost use Rattle.adr_event.specs.declared.event.Event.{Event as Written};
+ghost use Rattle.adr_model.specs.Change.{Change as Changes};
+ghost use Rattle.adr_model.specs.Step.{ClientWrite, write_of};
+ghost use Rattle.adr_model.specs.Store.{State as Defined};
+ghost use Rattle.adr_model.specs.Write.{write};
+ghost use Rattle.adr_controller.specs.Able.{written_in};
+ghost use Rattle.adr_controller.specs.Did.{Calls};
+ghost use Rattle.adr_survivor.specs.Objects.{AdditionsFollow, IsAddition};
+
+use crate::ending::Ending;
+use crate::keeping::{tell, usn_of, wake};
+use crate::objects::addition;
+use adr_controller::{Controller, Keeper};
+use adr_disk::{Disk, FileDisk};
+use adr_journal::Journal;
+use adr_law_recorded::{
+    logged_states_fit, recorded_changes_leave_logged_states, writes_are_recorded,
+};
+use adr_records::Records;
+use std::alloc::Global;
+
+/// An addition can be recorded behind every state of a log.
+fn additions_follow<D: Disk>()
+    ensures { AdditionsFollow ⟦<Journal<D, Records> as Keeper>⟧ }
+{
+    writes_are_recorded();
+    recorded_changes_leave_logged_states();
+    logged_states_fit();
+}
+
+/// Adds the object of a number, and answers the USN under which it is acknowledged.
+fn add<K: Keeper>(alloc: Global, controller: &mut Controller<K>, number: u64) -> Result<u64, Ending>
+    requires follows { AdditionsFollow K.Keeper }
+    ensures acknowledged { IfOk result (λ _. (e : Written) × IsAddition number e
+        × Calls K.Keeper (written_in e 0) controller.old controller.new None) }
+    ensures usn { IfOk result (λ usn. (e : Written) × IsAddition number e
+        × ((s : Defined) (w : ClientWrite) → controller.old.state ≡ Some s → write_of e ≡ Some w
+        → (c : Changes) × (write s w.what 0 ≡ Ok c) × (usn ≡ c.usn))) }
+{
+    let event = addition(alloc, number)?;
+    Ok(controller.write(alloc, &event, 0)?)
+}
+
+/// Adds so many objects, and tells each as soon as it is acknowledged.
+fn add_all<K: Keeper>(
+    rt: &HostRuntime,
+    controller: &mut Controller<K>,
+    first: u64,
+    count: u64,
+) -> Result<(), Ending>
+    requires { AdditionsFollow K.Keeper }
+{
+    for number in first..first.saturating_add(count) {
+        let usn = add(rt.alloc(), controller, number)?;
+        tell(
+            rt,
+            format!(in rt.alloc(); "added {number} {usn}\n")?.as_str(),
+        )?;
+    }
+    Ok(())
+}
+
+/// Starts the controller in a file, and adds so many objects.
+pub fn run(rt: &HostRuntime, name: &str, first: u64, count: u64) -> Result<(), Ending> {
+    let mut controller = wake(rt, name)?;
+    let usn = usn_of(&controller)?;
+    tell(rt, format!(in rt.alloc(); "started {usn}\n")?.as_str())?;
+    additions_follow::<FileDisk<&HostRuntime>>();
+    add_all(rt, &mut controller, first, count)
+}

@@ -1,0 +1,98 @@
+//! The controller in a file: made, started and shown.
+
+ghost use Rattle.std.specs.Prelude.{◌≡◌};
+ghost use Rattle.adr_model.specs.Place.{identifier};
+ghost use Rattle.adr_model.specs.Store.{empty_state};
+
+use crate::ending::Ending;
+use crate::objects::number_of;
+use adr_controller::{Controller, State};
+use adr_disk::{Disk, FileDisk};
+use adr_journal::Journal;
+use adr_law_recorded::new_controllers_may_begin;
+use adr_records::Records;
+use adr_schema::Schema;
+use std::alloc::Global;
+use uuid::Uuid;
+
+/// The log of a controller, in a file.
+pub type Log<'a> = Journal<FileDisk<&'a HostRuntime>, Records>;
+
+/// Writes a line, which ends in a line feed, in one piece.
+pub fn tell(rt: &HostRuntime, line: &str) -> Result<(), Ending> {
+    match rt.write_all(line.as_bytes()) {
+        Ok(()) => Ok(()),
+        Err(_) => Err(Ending::Output),
+    }
+}
+
+/// A new, empty controller.
+fn new_state(alloc: Global) -> State
+    ensures { result ≡ empty_state (identifier 0xa0) (identifier 0xa1) }
+{
+    let dsa = Uuid::from_u128(0xa0);
+    let inv = Uuid::from_u128(0xa1);
+    match Schema::new(1) {
+        Some(schema) => State::new(alloc, dsa, inv, schema),
+        None => unreachable!(),
+    }
+}
+
+/// A file of the present folder, which is made where it isn't there.
+fn file_at<'a>(rt: &'a HostRuntime, name: &str) -> Result<FileDisk<&'a HostRuntime>, Ending> {
+    let mut disk = FileDisk::new(rt.alloc(), rt);
+    disk.attach(name)?;
+    Ok(disk)
+}
+
+/// Formats a new controller in an empty file.
+pub fn begin(rt: &HostRuntime, name: &str) -> Result<(), Ending> {
+    let mut disk = file_at(rt, name)?;
+    if disk.len()? != 0 {
+        return Err(Ending::Taken);
+    }
+    let log: Log = Journal::new(rt.alloc(), disk);
+    new_controllers_may_begin();
+    match Controller::format(log, new_state(rt.alloc())) {
+        Ok(_) => tell(rt, "ready\n"),
+        Err((refusal, _)) => Err(Ending::from(refusal)),
+    }
+}
+
+/// Starts the controller in a file.
+pub fn wake<'a>(rt: &'a HostRuntime, name: &str) -> Result<Controller<Log<'a>>, Ending> {
+    let disk = file_at(rt, name)?;
+    match Controller::resume(Journal::new(rt.alloc(), disk)) {
+        Ok(controller) => Ok(controller),
+        Err((refusal, _)) => Err(Ending::from(refusal)),
+    }
+}
+
+/// The USN of a controller that was started.
+pub fn usn_of(controller: &Controller<Log<'_>>) -> Result<u64, Ending> {
+    match controller.state() {
+        Some(state) => Ok(state.usn()),
+        None => Err(Ending::DiskFault),
+    }
+}
+
+/// Tells the number of each live object, rising, if it has one.
+fn tell_objects(rt: &HostRuntime, state: &State) -> Result<(), Ending> {
+    for node in state.rows().nodes(rt.alloc())? {
+        if let Some(number) = number_of(node.object().guid) {
+            tell(rt, format!(in rt.alloc(); "{number}\n")?.as_str())?;
+        }
+    }
+    Ok(())
+}
+
+/// Starts the controller in a file, and tells which objects are there, and the USN.
+pub fn show(rt: &HostRuntime, name: &str) -> Result<(), Ending> {
+    let controller = wake(rt, name)?;
+    let Some(state) = controller.state() else {
+        return Err(Ending::DiskFault);
+    };
+    tell_objects(rt, state)?;
+    let usn = state.usn();
+    tell(rt, format!(in rt.alloc(); "usn {usn}\n")?.as_str())
+}
