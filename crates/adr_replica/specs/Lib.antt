@@ -1,3 +1,9 @@
 pub mod Past
 pub mod Pending
+pub mod Told
+pub mod Held
+pub mod Settled
 pub mod Led
+pub mod Typed
+pub mod Ranged
+pub mod Laws

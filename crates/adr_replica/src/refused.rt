@@ -3,7 +3,7 @@
 ghost use Rattle.std.specs.Prelude.{◌≡◌, ◌++◌, ◌∷◌, [], IfOk, OnOk, codes};
 ghost use Rattle.adr_model.specs.Refused.{attr_field, fault_name, field, full, id_field, number_field, rolled_back, schema_name, schemas_differ, serve_refused, table_name, take_refused, write_refused};
 
-use crate::answers::word;
+use crate::words::word;
 use adr_event::{
     Field, Fields, ItemFault, Outcome, Plainly, ServeRefusal, Table, TakeRefusal, WriteRefusal,
 };

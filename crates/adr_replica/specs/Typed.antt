@@ -1,0 +1,39 @@
+-- Events as a program has them: identifiers have sixteen bytes, texts are UTF-8 and numbers have 64 bits. How long texts and lists may be is the schema's matter.
+use Rattle.std.specs.Prelude.{◌≡◌, List, true, FitsSigned, IfSome}
+use Rattle.std.specs.Int.{w64}
+use Rattle.std.specs.Str.{is_utf8}
+use Rattle.adr_schema.specs.Assignments.{Given}
+use Rattle.adr_schema.specs.declared.content.Value.{Value as Item}
+use Rattle.adr_schema.specs.declared.content.Value.TheVariants.{Text, Number, Flag, Octets, Ref}
+use Rattle.adr_event.specs.declared.event.Event.{Event}
+use Rattle.adr_event.specs.declared.event.Event.TheVariants as events
+use Rattle.adr_wire.specs.Ranges.{IsId}
+use Rattle.adr_model.specs.Member.{Each}
+use Rattle.adr_model.specs.Write.{Write, AddObject, Modify, Rename, Delete, AddLink, RemoveLink}
+use Rattle.adr_model.specs.Step.{ClientWrite, write_of}
+
+abbrev pub IsTypedValue : Item → Type 0
+IsTypedValue (Text bytes) = is_utf8 bytes ≡ true
+IsTypedValue (Number number) = FitsSigned w64 number
+IsTypedValue (Flag flag) = Unit {0}
+IsTypedValue (Octets bytes) = Unit {0}
+IsTypedValue (Ref guid) = IsId guid
+
+abbrev pub AreTypedValues : List Given → Type 0
+AreTypedValues values = Each (λ (g : Given). Each IsTypedValue g.1) values
+
+abbrev pub IsTypedWrite : Write → Type 0
+IsTypedWrite (AddObject guid class parent text values) = IsId guid × IsId parent × (is_utf8 text ≡ true) × AreTypedValues values
+IsTypedWrite (Modify guid values) = IsId guid × AreTypedValues values
+IsTypedWrite (Rename guid parent text) = IsId guid × IsId parent × (is_utf8 text ≡ true)
+IsTypedWrite (Delete guid) = IsId guid
+IsTypedWrite (AddLink from attr to) = IsId from × IsId to
+IsTypedWrite (RemoveLink from attr to) = IsId from × IsId to
+
+-- an event whose write is so, and which gives identifiers that are
+abbrev pub IsTyped : Event → Type 0
+IsTyped (events.Controller name dsa inv) = IsId dsa × IsId inv
+IsTyped e = IfSome (write_of e) (λ (w : ClientWrite). IsTypedWrite w.what)
+
+abbrev pub AreTyped : List Event → Type 0
+AreTyped events = Each IsTyped events
