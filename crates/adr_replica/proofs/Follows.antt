@@ -71,19 +71,19 @@ module _ (logged : RecordedIsLogged) (fits : LoggedFits) where
   taken_follows law still reply spelled ranged s c is makes = by (take s reply) refl makes
     where
       by : (t : Result Change TakeRefusal) → take s reply ≡ t → change_of_taken s t ≡ Some c → Recorded s c
-      by (Ok x) takes makes = recorded_so s c (law s reply c is spelled ranged (takes ∙ cc makes))
-      by (Err refusal) takes makes =
+      by (Ok x) took makes = recorded_so s c (law s reply c is spelled ranged (took ∙ cc makes))
+      by (Err refusal) took makes =
           let shown = shown_true (reply_shows refusal) (quarantine s) c makes in
-          quarantine_follows still s c is (is_normal s.mode (reply_normal (is_quarantined s.mode) _ _ refusal takes shown.0)) shown.1
+          quarantine_follows still s c is (is_normal s.mode (reply_normal (is_quarantined s.mode) _ _ refusal took shown.0)) shown.1
 
   pub served_follows : QuarantineIsRecorded → (request : Request) (s : State) (c : Change) → IsLogged s → served_in request s ≡ Some c → Recorded s c
   served_follows still request s c is makes = by (serve s request) refl makes
     where
       by : (t : Result Reply ServeRefusal) → serve s request ≡ t → change_of_served s t ≡ Some c → Recorded s c
-      by (Ok x) serves makes = absurd (cc makes)
-      by (Err refusal) serves makes =
+      by (Ok x) answered makes = absurd (cc makes)
+      by (Err refusal) answered makes =
           let shown = shown_true (request_shows refusal) (quarantine s) c makes in
-          quarantine_follows still s c is (is_normal s.mode (request_normal (is_quarantined s.mode) _ _ refusal serves shown.0)) shown.1
+          quarantine_follows still s c is (is_normal s.mode (request_normal (is_quarantined s.mode) _ _ refusal answered shown.0)) shown.1
 
 pub usn_within : (s : State) → IsLogged s → s.store.usn ≤ usn_limit
 usn_within s is = let usn = is.spelled.usn in omega arith

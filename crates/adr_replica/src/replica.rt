@@ -17,7 +17,7 @@ ghost use Rattle.adr_model.specs.Write.{IsWellGiven, write};
 ghost use Rattle.adr_records.specs.Body.{following};
 ghost use Rattle.adr_records.specs.Head.{head_at};
 ghost use Rattle.adr_records.specs.Logged.{IsLogged};
-ghost use Rattle.adr_replica.specs.Led.{IsDone, IsUndone, Leads, LeadsTo, synced, world_with};
+ghost use Rattle.adr_replica.specs.Led.{IsDone, IsUndone, Leads, LeadsTo, StandsIn, synced, world_with};
 
 use crate::counts::served;
 use crate::hindered::{hindered, hindrance_in, settle, stop_if_stopped};
@@ -174,7 +174,7 @@ impl Replica {
 
     /// What it asks a partner of this identifier, at most `max` items in one reply.
     pub fn ask(&self, alloc: Global, partner: Uuid, max: u32) -> Result<(Outcome, Option<Request>), NoMemory>
-        ensures { IfOk result (λ sent. (w : Defined) → where_up (nothing w) self.now.standing (w, Outcome.Ok, Some (ask self.now.safe partner max)) ≡ (w, sent.0, sent.1)) }
+        ensures asked { IfOk result (λ sent. (w : Defined) → where_up (nothing w) self.now.standing (w, Outcome.Ok, Some (ask self.now.safe partner max)) ≡ (w, sent.0, sent.1)) }
         ensures ranged { IfOk result (λ sent. IfSome sent.1 IsRangedRequest) }
     {
         is_in_order(&self.controller);
