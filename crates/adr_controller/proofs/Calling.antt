@@ -43,6 +43,7 @@ module _ {K : Type 0} (k : Ghosts K) where
     failed = calls.failed;
     stays = calls.stays;
     unchanged = λ s is none. calls.unchanged s is (same s is ∙ none);
+    idle = λ s is none. calls.idle s is (same s is ∙ none);
     commits = λ s c is makes. calls.commits s c is (same s is ∙ makes);
   }
 
@@ -53,6 +54,7 @@ module _ {K : Type 0} (k : Ghosts K) where
     failed = failed;
     stays = stays;
     unchanged = λ s is none. absurd (cc none);
+    idle = λ s is none. absurd (cc none);
     commits = λ s d is makes. subst (λ e. Commits k s e old new how) (some_same c d makes) (commits s is);
   }
 
@@ -86,6 +88,7 @@ module _ {K : Type 0} (k : Ghosts K) where
       failed = (λ h. absurd (cc (wants, h)), λ n. absurd (cc (is, n.1)));
       stays = λ none. refl;
       unchanged = λ t ist none. refl;
+      idle = λ t ist none. inr wants;
       commits = λ t c ist makes. wanted_memory t c ist how wants;
     }
     unmade changes s is how (inr (done, none)) = record {
@@ -93,6 +96,7 @@ module _ {K : Type 0} (k : Ghosts K) where
       failed = (λ h. absurd (cc (done, h)), λ n. absurd (cc (is, n.1)));
       stays = λ none. refl;
       unchanged = λ t ist none. refl;
+      idle = λ t ist none. inl done;
       commits = λ t c ist makes. absurd (cc (none, makes, ap changes (some_same s t (sym is ∙ ist))));
     }
 

@@ -88,6 +88,8 @@ pub record Calls {K : Type 0} (k : Ghosts K) (changes : State → Option Change)
   pub failed : (how ≡ Some Failed) ↔ ((old.down ≡ false) × (old.state ≡ None))
   pub stays : old.state ≡ None → new ≡ old
   pub unchanged : (s : State) → old.state ≡ Some s → changes s ≡ None → new ≡ old
+  -- where nothing is to be changed, only memory can be wanted
+  pub idle : (s : State) → old.state ≡ Some s → changes s ≡ None → (how ≡ None) ⊎ (how ≡ Some NoMemory)
   pub commits :
       (s : State) (c : Change) → old.state ≡ Some s → changes s ≡ Some c → Commits k s c old new how
 

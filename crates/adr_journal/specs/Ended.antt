@@ -29,4 +29,4 @@ IsNewOrNone s = IsNone s (new_log_end s)
 abbrev pub IsDamageOf : StartRefusal → Option (Started State) → Type 0
 IsDamageOf DiskFault told = Unit {0}
 IsDamageOf (Damaged place) told = IfSome told (λ t. t ≡ Err place)
-IsDamageOf NoMemory told = Unit {0}
+IsDamageOf (NoMemory settled) told = Unit {0}

@@ -1,5 +1,5 @@
 -- Why a journal on a disk in memory goes as planned.
-use Rattle.std.specs.Prelude.{◌≡◌, ◌⊎◌, ℕ, ◌+◌, ◌≤◌, ◌<◌, ◌^◌, List, [], ◌∷◌, length, Bool, false, Option, Some, None, IsSomeAnd, Ok, if◌then◌else◌}
+use Rattle.std.specs.Prelude.{◌≡◌, ◌⊎◌, ℕ, ◌+◌, ◌≤◌, ◌<◌, ◌^◌, List, [], ◌∷◌, length, Bool, true, false, Option, Some, None, IsSomeAnd, Ok, if◌then◌else◌}
 use Rattle.std.proofs.Common.{inl, inr, refl, sym, ◌∙◌, ap, subst, arith, length-append}
 use Rattle.adr_io.specs.declared.Fault.TheVariants.{Failed as failed_call, NoMemory as no_memory}
 use Rattle.adr_disk.specs.declared.memory.Crash.TheVariants.{Lost, Torn}
@@ -88,10 +88,10 @@ module _ {K : Type 0} (head : Reading State) (following : Following State) (disk
     pub commits_so : (e : Option KeeperRefusal) → Records Does end body (disk k) e (disk new) → CommitsAs has is_stopped e (committed book r p) new
     commits_so None ran =
         let both = commit_passed head following book r p (disk new) same (disk k) body up h.is_plan rests only follows_p short long_p (subst (λ (n : ℕ). Commits Does n (record_of body) (disk k) None (disk new)) (sym at.ends) ran) in
-        (has_it new (committed book r p) both.0, both.1)
+        (has_it new (committed book r p) both.0, both.1, both.2)
     commits_so (Some DiskFault) ran =
         let both = commit_failed head following book r p (disk new) same (disk k) body up h.is_plan rests only follows_p short long_p (subst (λ (n : ℕ). Commits Does n (record_of body) (disk k) (Some failed_call) (disk new)) (sym at.ends) ran) in
-        (has_it new (committed book r p) both.0, both.1)
+        (has_it new (committed book r p) both.0, both.1, both.2)
     commits_so (Some NoMemory) ran = absurd ran
     commits_so (Some Full) ran = absurd ran
     commits_so (Some Failed) ran = absurd ran
@@ -127,15 +127,17 @@ module _ {K : Type 0} (head : Reading State) (following : Following State) (disk
 
     pub starts_so : (e : Option StartRefusal) → Starts Does (disk k) e (disk new) → StartsAs has is_stopped e r (started book r) new
     starts_so None (mid, sync, reads) =
-        (behind_sync mid sync (read_same mid (disk new) reads), (start_passed head following book r (disk k) mid up (on_it k r h) sync).1)
+        let same = read_same mid (disk new) reads in
+        let passed = start_passed head following book r (disk k) mid up (on_it k r h) sync in
+        (behind_sync mid sync same, passed.1, same.stopped ∙ passed.2)
     starts_so (Some starts.DiskFault) (inl sync) =
         let both = start_failed head following book r (disk k) (disk new) up (on_it k r h) sync in
         (has_it new (started book r) both.0, both.1)
     starts_so (Some starts.DiskFault) (inr (mid, sync, reads)) = absurd (read_none mid (disk new) (up_behind mid sync) reads)
     starts_so (Some (starts.Damaged place)) (mid, sync, reads) = behind_sync mid sync (read_same mid (disk new) reads)
-    starts_so (Some starts.NoMemory) (inl (mid, sync, reads)) = inr (behind_sync mid sync (read_same mid (disk new) reads))
-    starts_so (Some starts.NoMemory) (inr (inl sync)) = inl (has_it new r (same_on r (disk k) (disk new) sync (on_it k r h)))
-    starts_so (Some starts.NoMemory) (inr (inr (mid, sync, reads))) = inr (behind_sync mid sync (read_short mid (disk new) reads))
+    starts_so (Some (starts.NoMemory true)) (inl (mid, sync, reads)) = behind_sync mid sync (read_same mid (disk new) reads)
+    starts_so (Some (starts.NoMemory true)) (inr (mid, sync, reads)) = behind_sync mid sync (read_short mid (disk new) reads)
+    starts_so (Some (starts.NoMemory false)) sync = has_it new r (same_on r (disk k) (disk new) sync (on_it k r h))
 
   -- ---- a format
 

@@ -1,5 +1,5 @@
 -- What a keeper under a plan comes to, beside a replica.
-use Rattle.std.specs.Prelude.{◌≡◌, ◌⊎◌, Bool, Option, Some, None}
+use Rattle.std.specs.Prelude.{◌≡◌, Bool, true, false, Option, Some, None}
 use Rattle.adr_io.specs.declared.Fault.{Fault as Cause}
 use Rattle.adr_io.specs.declared.Fault.TheVariants.{Failed as failed_call}
 use Rattle.adr_disk.specs.declared.memory.Crash.{Crash}
@@ -7,7 +7,7 @@ use Rattle.adr_disk.specs.declared.memory.Crash.TheVariants.{Kept, Lost, Torn}
 use Rattle.adr_model.specs.Store.{State}
 use Rattle.adr_model.specs.Replica.{Replica, Failed as stands_failed}
 use Rattle.adr_law_journal.specs.Log.{Started}
-use Rattle.adr_law_journal.specs.Replicas.{standing_of}
+use Rattle.adr_law_journal.specs.Replicas.{standing_of, IsRunning}
 use Rattle.adr_journal.specs.declared.keeper.KeeperRefusal.{KeeperRefusal}
 use Rattle.adr_journal.specs.declared.keeper.StartRefusal.{StartRefusal}
 use Rattle.adr_journal.specs.declared.keeper.StartRefusal.TheVariants.{DiskFault, Damaged, NoMemory}
@@ -29,13 +29,15 @@ abbrev pub cause_of : Option KeeperRefusal → Option Cause
 cause_of None = None
 cause_of (Some refusal) = Some failed_call
 
--- a commit that ended so leaves what the replica has, and stands as it does
+-- a commit that ended so leaves what the replica has, and stands as it does; one that passed leaves a disk that runs
 abbrev pub CommitsAs : {K : Type 0} → (K → Replica → Type 0) → (K → Bool) → Option KeeperRefusal → Replica → K → Type 0
-CommitsAs has is_down e after new = has new after × (standing_of (cause_of e) (is_down new) stands_failed ≡ after.standing)
+CommitsAs has is_down e after new =
+    has new after × (standing_of (cause_of e) (is_down new) stands_failed ≡ after.standing) × IsRunning (cause_of e) (is_down new)
 
 -- and a start: the sync that it begins with was made, failed, or wanted memory before it did anything
 abbrev pub StartsAs : {K : Type 0} → (K → Replica → Type 0) → (K → Bool) → Option StartRefusal → Replica → Replica → K → Type 0
-StartsAs has is_down None before after new = has new after × (standing_of None (is_down new) before.standing ≡ after.standing)
+StartsAs has is_down None before after new = has new after × (standing_of None (is_down new) before.standing ≡ after.standing) × (is_down new ≡ false)
 StartsAs has is_down (Some DiskFault) before after new = has new after × (standing_of (Some failed_call) (is_down new) before.standing ≡ after.standing)
 StartsAs has is_down (Some (Damaged place)) before after new = has new after
-StartsAs has is_down (Some NoMemory) before after new = has new before ⊎ has new after
+StartsAs has is_down (Some (NoMemory true)) before after new = has new after
+StartsAs has is_down (Some (NoMemory false)) before after new = has new before

@@ -1,5 +1,5 @@
 -- What the calls of a disk did in a call of its journal, as far as they came.
-use Rattle.std.specs.Prelude.{◌≡◌, ◌⊎◌, ℕ, List, [], ◌∷◌, Option, Some, None}
+use Rattle.std.specs.Prelude.{◌≡◌, ◌⊎◌, ℕ, List, [], ◌∷◌, true, false, Option, Some, None}
 use Rattle.adr_io.specs.declared.Fault.{Fault as Cause}
 use Rattle.adr_io.specs.declared.Fault.TheVariants.{Failed as failed_call, NoMemory as no_memory}
 use Rattle.adr_disk.specs.Disk.{Call, Looks, Syncs, Through}
@@ -31,17 +31,17 @@ Reads {D} gives old (Some failed_call) new = gives old Looks (Some failed_call) 
 Reads {D} gives old (Some no_memory) new =
     gives old Looks (Some no_memory) new ⊎ ((mid : D) × gives old Looks None mid × ((new ≡ mid) ⊎ gives mid Looks (Some no_memory) new))
 
--- and before it a sync
+-- and before it a sync passed
 abbrev pub ReadsSynced : {D : Type 0} → (D → Call → Option Cause → D → Type 0) → D → Option Cause → D → Type 0
-ReadsSynced {D} gives old None new = (mid : D) × gives old Syncs None mid × Reads gives mid None new
-ReadsSynced {D} gives old (Some cause) new = gives old Syncs (Some cause) new ⊎ ((mid : D) × gives old Syncs None mid × Reads gives mid (Some cause) new)
+ReadsSynced {D} gives old e new = (mid : D) × gives old Syncs None mid × Reads gives mid e new
 
--- what a start did: memory may be wanting behind the reading too
+-- what a start did: the sync failed or wanted memory, or it passed; memory may be wanting behind the reading too
 abbrev pub Starts : {D : Type 0} → (D → Call → Option Cause → D → Type 0) → D → Option StartRefusal → D → Type 0
 Starts gives old None new = ReadsSynced gives old None new
-Starts gives old (Some starts.DiskFault) new = ReadsSynced gives old (Some failed_call) new
+Starts gives old (Some starts.DiskFault) new = gives old Syncs (Some failed_call) new ⊎ ReadsSynced gives old (Some failed_call) new
 Starts gives old (Some (starts.Damaged place)) new = ReadsSynced gives old None new
-Starts gives old (Some starts.NoMemory) new = ReadsSynced gives old None new ⊎ ReadsSynced gives old (Some no_memory) new
+Starts gives old (Some (starts.NoMemory true)) new = ReadsSynced gives old None new ⊎ ReadsSynced gives old (Some no_memory) new
+Starts gives old (Some (starts.NoMemory false)) new = gives old Syncs (Some no_memory) new
 
 -- a new log was written: a closed gate, the rest behind it, and the open gate
 abbrev pub Formats : {D : Type 0} → (D → Call → Option Cause → D → Type 0) → List ℕ → D → Option Cause → D → Type 0

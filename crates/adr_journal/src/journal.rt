@@ -181,11 +181,14 @@ impl<D: Disk, F: Form> Keeper for Journal<D, F> {
     fn start(&mut self) -> Result<State, StartRefusal> {
         let bytes = match read_synced(self.alloc, &mut self.disk) {
             Ok(bytes) => bytes,
-            Err(Fault::Failed) => {
+            Err(StartRefusal::DiskFault) => {
                 self.failed = true;
                 return Err(StartRefusal::DiskFault);
             }
-            Err(Fault::NoMemory) => return Err(StartRefusal::NoMemory),
+            Err(StartRefusal::NoMemory { settled }) => return Err(StartRefusal::NoMemory {
+                settled,
+            }),
+            Err(StartRefusal::Damaged { .. }) => unreachable!(),
         };
         match replay::<F>(self.alloc, &bytes) {
             Ok((state, end)) => {

@@ -31,8 +31,13 @@ pub enum StartRefusal {
     /// A call of the disk failed.
     DiskFault,
     /// The bytes are no log; the place of the first fault, in bytes.
-    Damaged { place: u64 },
-    NoMemory,
+    Damaged {
+        place: u64,
+    },
+    NoMemory {
+        /// Whether the sync that a start begins with was made before.
+        settled: bool,
+    },
 }
 
 /// What keeps a state, so that a start finds it after a crash.

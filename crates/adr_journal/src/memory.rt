@@ -39,6 +39,7 @@ impl<F: Form> Journal<MemDisk, F> {
 }
 
 impl<F: Form> PlannedKeeper for Journal<MemDisk, F> {
+    ghost use Rattle.std.proofs.Common.{refl};
     ghost use Rattle.adr_disk.specs.Memory.{read_of, left_by};
     ghost use Rattle.adr_disk.specs.declared.memory.Crash.TheVariants.{Torn};
     ghost use Rattle.adr_law_journal.specs.Log.{start_of};
@@ -56,6 +57,8 @@ impl<F: Form> PlannedKeeper for Journal<MemDisk, F> {
     ghost is_down = { λ j. j.disk.stopped };
 
     ghost found_in = { start_of F.head F.following };
+
+    ghost tells_read = { λ k. refl };
 
     ghost keeps_it = { λ k f at up. keeps_so F.head F.following k.disk k.end f (at up) };
 

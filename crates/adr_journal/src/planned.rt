@@ -70,6 +70,9 @@ pub trait PlannedKeeper: Keeper {
     fn bytes(&self) -> Result<Vec<u8>, NoMemory>
         ensures { IfOk result (λ bytes. found_in bytes.items ≡ read self.now) };
 
+    /// What a start would find is told.
+    ghost tells_read: { (k : Self) → Self.told k ≡ Some (read k) };
+
     /// A keeper that stands for something has it whatever a crash does.
     ghost keeps_it: { (k : Self) (f : Found Defined) → Self.is_at k f → Self.is_failed k ≡ false
         → (read k ≡ Ok f) × (safe k ≡ Ok f) × (torn k ≡ Ok f) };

@@ -1,9 +1,11 @@
 //! Reads a whole disk.
 
-ghost use Rattle.std.specs.Prelude.{◌≡◌, ◌≤◌, ◌<◌, ◌^◌, ◌↔◌, Some, IsSome, IfOk, IfSome, OnOk, IsErrOf, length};
+ghost use Rattle.std.specs.Prelude.{◌≡◌, ◌≤◌, ◌<◌, ◌^◌, ◌↔◌, ℕ, Some, IsSome, IfOk, IfSome, OnOk, IsErrOf, length};
 ghost use Rattle.adr_disk.specs.Disk.{Among, Only, Keeps, LeavesOnly, ended};
-ghost use Rattle.adr_journal.specs.Ran.{Reads, ReadsSynced};
+ghost use Rattle.adr_journal.specs.Ended.{ended_start};
+ghost use Rattle.adr_journal.specs.Ran.{Reads, Starts};
 
+use crate::keeper::StartRefusal;
 use adr_disk::Disk;
 use adr_io::Fault;
 use std::alloc::Global;
@@ -26,7 +28,7 @@ fn read_all<D: Disk>(alloc: Global, disk: &mut D) -> Result<Vec<u8>, Fault>
 }
 
 /// All bytes of a disk, which are then synced.
-pub(crate) fn read_synced<D: Disk>(alloc: Global, disk: &mut D) -> Result<Vec<u8>, Fault>
+pub(crate) fn read_synced<D: Disk>(alloc: Global, disk: &mut D) -> Result<Vec<u8>, StartRefusal>
     ensures bytes { IfOk result (λ bytes. IfSome (D.content disk.old) (λ there. bytes.items ≡ there)) }
     ensures told { IsSome (D.content disk.new) ↔ IsSome (D.content disk.old) }
     ensures same { OnOk result (D.content disk.new ≡ D.content disk.old) }
@@ -35,10 +37,18 @@ pub(crate) fn read_synced<D: Disk>(alloc: Global, disk: &mut D) -> Result<Vec<u8
     // Whatever it answers, a crash leaves what one might have left before.
     ensures left { Among (D.may_leave disk.old) (D.may_leave disk.new) }
     ensures any_moment { LeavesOnly D.moment D.left_since disk.old disk.new (D.may_leave disk.old) }
-    ensures later { D.faults disk.old ≤ D.faults disk.new }
-    ensures failed { IsErrOf result Fault.Failed → D.faults disk.old < D.faults disk.new }
-    ensures gives { ReadsSynced D.gives disk.old (ended result) disk.new }
+    ensures failed { IsErrOf result StartRefusal.DiskFault → D.faults disk.old < D.faults disk.new }
+    ensures undamaged { (place : ℕ) → IsErrOf result (StartRefusal.Damaged place) → ⊥ }
+    ensures gives { Starts D.gives disk.old (ended_start result) disk.new }
 {
-    disk.sync()?;
-    read_all(alloc, disk)
+    match disk.sync() {
+        Ok(()) => {}
+        Err(Fault::Failed) => return Err(StartRefusal::DiskFault),
+        Err(Fault::NoMemory) => return Err(StartRefusal::NoMemory { settled: false }),
+    }
+    match read_all(alloc, disk) {
+        Ok(bytes) => Ok(bytes),
+        Err(Fault::Failed) => Err(StartRefusal::DiskFault),
+        Err(Fault::NoMemory) => Err(StartRefusal::NoMemory { settled: true }),
+    }
 }

@@ -1,6 +1,6 @@
 //! Reads a log from its bytes.
 
-ghost use Rattle.std.specs.Prelude.{◌≡◌, ◌≤◌, ◌<◌, ◌+◌, ◌^◌, ◌++◌, ℕ, Some, Err, IfOk, IfErr, IfSome, IfNone, IsErrOf, length, take, drop};
+ghost use Rattle.std.specs.Prelude.{◌≡◌, ◌≤◌, ◌<◌, ◌+◌, ◌^◌, ◌++◌, ℕ, false, Some, Err, IfOk, IfErr, IfSome, IfNone, IsErrOf, length, take, drop};
 ghost use Rattle.adr_law_journal.specs.Log.{body_at, with_length, start_of, Reaches, IsAtRest};
 ghost use Rattle.adr_journal.specs.Ended.{IsDamageOf};
 
@@ -46,6 +46,7 @@ fn read_first<F: Form>(alloc: Global, bytes: &[u8]) -> Result<(State, usize), St
     ensures formed { IfOk result (λ r. F.is_formed r.0) }
     ensures damaged { IfErr result (λ e. IsDamageOf e (Some (start_of F.head F.following bytes.now))) }
     ensures refused { IsErrOf result StartRefusal.DiskFault → ⊥ }
+    ensures settled { IsErrOf result (StartRefusal.NoMemory false) → ⊥ }
 {
     if bytes.len() < 2 {
         return Err(damaged(0));
@@ -58,7 +59,7 @@ fn read_first<F: Form>(alloc: Global, bytes: &[u8]) -> Result<(State, usize), St
         Err(Failure::Refused(malformed)) => Err(StartRefusal::Damaged {
             place: malformed.place,
         }),
-        Err(Failure::NoMemory) => Err(StartRefusal::NoMemory),
+        Err(Failure::NoMemory) => Err(StartRefusal::NoMemory { settled: true }),
     }
 }
 
@@ -69,6 +70,7 @@ pub(crate) fn replay<F: Form>(alloc: Global, bytes: &[u8]) -> Result<(State, usi
     ensures formed { IfOk result (λ r. F.is_formed r.0) }
     ensures damaged { IfErr result (λ e. IsDamageOf e (Some (start_of F.head F.following bytes.now))) }
     ensures refused { IsErrOf result StartRefusal.DiskFault → ⊥ }
+    ensures settled { IsErrOf result (StartRefusal.NoMemory false) → ⊥ }
 {
     let (mut state, mut gate) = match read_first::<F>(alloc, bytes) {
         Ok(read) => read,
@@ -85,7 +87,7 @@ pub(crate) fn replay<F: Form>(alloc: Global, bytes: &[u8]) -> Result<(State, usi
         match F::follow(alloc, &mut state, body) {
             Ok(()) => {}
             Err(FollowRefusal::CannotFollow) => return Err(damaged(gate)),
-            Err(FollowRefusal::NoMemory) => return Err(StartRefusal::NoMemory),
+            Err(FollowRefusal::NoMemory) => return Err(StartRefusal::NoMemory { settled: true }),
         }
         gate += 5 + body.len();
     }

@@ -11,6 +11,7 @@ pub mod Exchanges
 pub mod Issuing
 pub mod Orderly
 pub mod Acting
+pub mod CutShort
 pub mod Beside
 pub mod Binding
 pub mod Coming

@@ -18,4 +18,6 @@ pub use showing::{
     acknowledged_writes_are_issued, controllers_show_what_is_visible, equal_coverage_shows_equal,
     every_run_converges,
 };
-pub use soundness::{every_line_keeps_worlds_sound, the_empty_world_is_sound};
+pub use soundness::{
+    every_line_keeps_worlds_sound, starts_cut_short_keep_worlds_sound, the_empty_world_is_sound,
+};

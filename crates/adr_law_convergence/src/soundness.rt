@@ -1,5 +1,6 @@
 //! Which worlds are sound.
 
+ghost use Rattle.adr_law_convergence.specs.CutShort.{StartsCutShort};
 ghost use Rattle.adr_model.specs.Convergence.{BeginsSound, RunsAreSound, StaysSound, StaysUnclean};
 
 /// The world before the first line is that of a run.
@@ -16,4 +17,10 @@ pub fn every_line_keeps_worlds_sound()
     ensures lines { StaysSound }
     ensures unclean { StaysUnclean }
     ensures runs { RunsAreSound }
+{}
+
+/// A start that wants memory when its sync was made leaves the world of a run: the sync stands, and the
+/// controller is as down or failed as before.
+pub fn starts_cut_short_keep_worlds_sound()
+    ensures { StartsCutShort }
 {}

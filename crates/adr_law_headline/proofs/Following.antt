@@ -13,14 +13,14 @@ use Rattle.adr_failure.specs.First.{first_of}
 use Rattle.adr_schedule.specs.Seen.{Seen, nothing_seen, is_bound, if_bound, if_given, if_full, unless_bound, cause_after, seen_after, IsFollowing}
 use Rattle.adr_model.specs.Member.{Member, Each}
 use Rattle.adr_model.specs.Write.{AddObject, Modify, Rename, Delete, AddLink, RemoveLink}
-use Rattle.adr_model.specs.Replica.{Replica}
+use Rattle.adr_model.specs.Replica.{Stops, Fails, Replica}
 use Rattle.adr_model.specs.World.{Name, World, empty_world, bound, bound_at, asks, serves_request, shown, marks_shown}
 use Rattle.adr_model.specs.Cycles.{reply_limit}
 use Rattle.adr_model.specs.Step.{step}
 use Rattle.adr_model.specs.Convergence.{IsUnbound, MayHappen, MayAllHappen}
 use Rattle.adr_model.proofs.Members.{member_of_either}
 use Rattle.adr_law_convergence.proofs.Found.{same_name_tests}
-use Rattle.adr_law_headline.proofs.Naming.{names_of, Stays, writes_stay, asks_stay, serves_stay, delivers_stay, reports_stay, pull_stays, pulls_stay}
+use Rattle.adr_law_headline.proofs.Naming.{names_of, Stays, writes_stay, asks_stay, serves_stay, delivers_stay, reports_stay, plans_stay, stops_stay, starts_stay, pull_stays, pulls_stay}
 
 -- what is bound to names is among what lines bound
 abbrev AreAmong : {A : Type 0} → List (Name × A) → List Name → Type 0
@@ -159,6 +159,12 @@ event_may seen w (events.Serve name request bind) agrees cause allowed =
 event_may seen w (events.Deliver name reply) agrees cause allowed = (tt, agrees_on seen w (step w (events.Deliver name reply)).0 agrees (delivers_stay w name (bound_at w.replies reply)))
 event_may seen w (events.Pull name source max) agrees cause allowed = (tt, agrees_on seen w (step w (events.Pull name source max)).0 agrees (pull_stays w name source max))
 event_may seen w (events.Cycle name source max) agrees cause allowed = (tt, agrees_on seen w (step w (events.Cycle name source max)).0 agrees (pulls_stay reply_limit w name source max))
+event_may seen w (events.StopAfter name calls how) agrees cause allowed =
+    (tt, agrees_on seen w (step w (events.StopAfter name calls how)).0 agrees (plans_stay w name (record { calls = calls; fault = Stops how })))
+event_may seen w (events.Fail name calls) agrees cause allowed =
+    (tt, agrees_on seen w (step w (events.Fail name calls)).0 agrees (plans_stay w name (record { calls = calls; fault = Fails })))
+event_may seen w (events.Stop name) agrees cause allowed = (tt, agrees_on seen w (step w (events.Stop name)).0 agrees (stops_stay w name))
+event_may seen w (events.Start name) agrees cause allowed = (tt, agrees_on seen w (step w (events.Start name)).0 agrees (starts_stay w name))
 event_may seen w (events.Show name) agrees cause allowed = (tt, agrees_on seen w (step w (events.Show name)).0 agrees (reports_stay w name (λ r. outcomes.Show (shown w r.safe))))
 event_may seen w (events.Vector name) agrees cause allowed = (tt, agrees_on seen w (step w (events.Vector name)).0 agrees (reports_stay w name (λ r. outcomes.Vector r.safe.store.vector)))
 event_may seen w (events.Marks name) agrees cause allowed = (tt, agrees_on seen w (step w (events.Marks name)).0 agrees (reports_stay w name (λ r. outcomes.Marks (marks_shown r.safe.store))))

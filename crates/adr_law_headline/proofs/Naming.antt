@@ -17,8 +17,8 @@ use Rattle.adr_model.specs.Write.{Write, write}
 use Rattle.adr_model.specs.Take.{take}
 use Rattle.adr_model.specs.Collect.{quarantine}
 use Rattle.adr_model.specs.Refused.{full}
-use Rattle.adr_model.specs.Replica.{Pending, ToWrite, ToTake, ToQuarantine, Replica}
-use Rattle.adr_model.specs.World.{Name, World, Gone, Sent, stays, nothing, with_replica, committed, commit, writes, after_write, asks, after_serve, served, serves_request, after_take, delivered, delivers, of_controller}
+use Rattle.adr_model.specs.Replica.{Pending, ToWrite, ToTake, ToQuarantine, Settle, Move, Standing, Up, Down, Failed, Plan, Replica, went, moves_of_start, standing_after, plan_after, outcome_after}
+use Rattle.adr_model.specs.World.{Name, World, Gone, Sent, stays, nothing, with_replica, committed, commit, writes, after_write, asks, after_serve, served, serves_request, after_take, delivered, delivers, of_made, of_controller, replica_at, with_plan, after_moves, stops, starts}
 use Rattle.adr_model.specs.Cycles.{Pulled, pull_served, pull_asked, pull, and_then, pulls}
 use Rattle.adr_law_convergence.proofs.Found.{same_name}
 use Rattle.adr_law_convergence.proofs.Reached.{made_case, up_case, reached_case}
@@ -107,6 +107,26 @@ module _ (w : World) where
 
   pub reports_stay : (name : Name) (what : Replica → Outcome) → Kept (of_controller w name (stays w) (λ r. (w, what r)))
   reports_stay name what = reached_case Kept w name (stays w) (λ o. same w) (λ r. (w, what r)) (λ r called up. same w)
+
+  -- what moves leave of a controller stands in its place
+  moves_stay : (r : Replica) (moves : List Move) (standing : Standing) (plan : Option Plan) (o : Outcome) → Kept (after_moves w r moves standing plan o)
+  moves_stay r moves standing plan o = record { names = replacing_keeps_names w.replicas _; given = refl; requests = refl; replies = refl }
+
+  started_stays : (r : Replica) (standing : Standing) → Kept (starts w r standing)
+  started_stays r Up = same w
+  started_stays r Down = let g = went r.plan 1 in moves_stay r (moves_of_start g) (standing_after r.standing g) (plan_after g) (outcome_after g outcomes.Ok)
+  started_stays r Failed = let g = went r.plan 1 in moves_stay r (moves_of_start g) (standing_after r.standing g) (plan_after g) (outcome_after g outcomes.Ok)
+
+  pub plans_stay : (name : Name) (plan : Plan) → Kept (of_made (stays w) (replica_at w name) (λ r. with_plan w r plan))
+  plans_stay name plan =
+      made_case Kept w name (stays w) (λ o. same w) (λ r. with_plan w r plan)
+      (λ r called. record { names = replacing_keeps_names w.replicas _; given = refl; requests = refl; replies = refl })
+
+  pub stops_stay : (name : Name) → Kept (of_made (stays w) (replica_at w name) (λ r. stops w r))
+  stops_stay name = made_case Kept w name (stays w) (λ o. same w) (λ r. stops w r) (λ r called. moves_stay r (Settle ∷ []) Down None outcomes.Ok)
+
+  pub starts_stay : (name : Name) → Kept (of_made (stays w) (replica_at w name) (λ r. starts w r r.standing))
+  starts_stay name = made_case Kept w name (stays w) (λ o. same w) (λ r. starts w r r.standing) (λ r called. started_stays r r.standing)
 
 -- ---- pulls
 

@@ -1,7 +1,7 @@
 //! What is claimed of every run of a text, over the definitions alone.
 //!
 //! It stands on the theorem of `adr_law_convergence` and on the definitions of schedules in `adr_schedule`: what the lines
-//! of a text say may happen, so that the theorem holds of its run. Its functions have no code.
+//! of a text say may happen and is typed, so that the theorem holds of its run. Its functions have no code.
 #![tactic(auto)]
 
 ghost use Rattle.std.specs.Prelude.{ℕ, List};
@@ -9,12 +9,19 @@ ghost use Rattle.adr_event.specs.declared.event.Event.{Event};
 ghost use Rattle.adr_model.specs.Convergence.{MayAllHappen};
 ghost use Rattle.adr_model.specs.World.{empty_world};
 ghost use Rattle.adr_schedule.specs.Seen.{IsFollowing, nothing_seen};
+ghost use Rattle.adr_law_recorded.specs.Typed.{AreTyped};
 ghost use Rattle.adr_law_headline.specs.Headline.{Headline, IsHeadline};
 
 /// What lines say, one after the other, may happen.
 #[tactic(auto, using(crate::proofs::Following::following_may))]
 pub fn lines_may_happen()
     ensures { (events : List Event) → IsFollowing nothing_seen events → MayAllHappen empty_world events }
+{}
+
+/// What lines say is typed: identifiers have sixteen bytes, texts are UTF-8 and numbers have 64 bits.
+#[tactic(auto, using(crate::proofs::Typing::following_typed))]
+pub fn lines_are_typed()
+    ensures { (events : List Event) → IsFollowing nothing_seen events → AreTyped events }
 {}
 
 /// The theorem holds of every run of events that may happen.

@@ -13,7 +13,7 @@ use Rattle.adr_model.specs.Store.{State}
 use Rattle.adr_model.specs.Replica.{Standing, Plan, Replica, Book, Went, Passed, Met, Move, moved, went, standing_after, plan_after}
 use Rattle.adr_wire.specs.Reading.{Reading}
 use Rattle.adr_law_journal.specs.Log.{Found, Following, start_of}
-use Rattle.adr_law_journal.specs.Replicas.{fault_of, plan_of, standing_of, read_found, safe_found}
+use Rattle.adr_law_journal.specs.Replicas.{fault_of, plan_of, standing_of, IsRunning, read_found, safe_found}
 use Rattle.adr_law_journal.proofs.Seen.{Seen}
 use Rattle.adr_law_journal.proofs.Stages.{less, less_none, Waits, IsMet, Stage, Left}
 
@@ -72,6 +72,7 @@ module _ (head : Reading State) (following : Following State) (book : Book) (r :
     pub shows : ShowsNow (read_found (gone g)) (safe_found (gone g))
     pub plan : plan_of new.plan ≡ plan_after g
     pub stands : standing_of e new.stopped faulty ≡ standing_after faulty g
+    pub running : IsRunning e new.stopped
 
   now : (x y z : List ℕ) (f g : Found State) → Seen new.held.surface x y z → Shows head following x y z f g → ShowsNow f g
   now x y z f g seen shows = record {
@@ -98,7 +99,7 @@ module _ (head : Reading State) (following : Following State) (book : Book) (r :
         → (read_found (gone (Met k (fault_of m))) ≡ read_after m before begun safe) × (safe_found (gone (Met k (fault_of m))) ≡ safe_after m begun safe) → Holds (Some failed_call) (Met k (fault_of m))
     met_holds m left agrees =
         let l = left_now m left in
-        record { shows = same_shows _ _ _ _ agrees.0 agrees.1 l.0; plan = l.1; stands = l.2 }
+        record { shows = same_shows _ _ _ _ agrees.0 agrees.1 l.0; plan = l.1; stands = l.2; running = tt }
 
   pub passed_holds : (plan : Option DiskPlan) (n : ℕ) (x : List ℕ) (f : Found State) → Stage plan n new x x x → start_of head following x ≡ Ok f
       → (read_found (gone (Passed (plan_of (less n plan)))) ≡ f) × (safe_found (gone (Passed (plan_of (less n plan)))) ≡ f) → Holds None (Passed (plan_of (less n plan)))
@@ -106,6 +107,7 @@ module _ (head : Reading State) (following : Following State) (book : Book) (r :
     shows = same_shows _ _ _ _ agrees.0 agrees.1 (now x x x f f stage.seen (one x f is));
     plan = ap plan_of stage.left;
     stands = refl;
+    running = stage.up;
   }
 
   -- the plan of the disk is the replica's

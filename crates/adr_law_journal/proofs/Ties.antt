@@ -152,7 +152,7 @@ module _ (head : Reading State) (following : Following State) (book : Book) (r :
     Leads = CommitLeads head following book r p new
 
     leads : (e : Option Cause) → Did e → Leads e
-    leads e h = (record { is_read = h.shows.in_read; is_safe = h.shows.in_lost; is_torn = h.shows.in_torn; is_plan = h.plan }, h.stands)
+    leads e h = (record { is_read = h.shows.in_read; is_safe = h.shows.in_lost; is_torn = h.shows.in_torn; is_plan = h.plan }, h.stands, h.running)
 
     pub commit_passed : Commits Does end written old None new → Leads None
     commit_passed commits = leads None (all_passed commits)
@@ -205,7 +205,7 @@ module _ (head : Reading State) (following : Following State) (book : Book) (r :
   LeadsUp = StartLeads head following book r new
 
   leads_up : (e : Option Cause) → DidStart e → LeadsUp e
-  leads_up e h = (record { is_read = h.shows.in_read; is_safe = h.shows.in_lost; is_torn = h.shows.in_torn; is_plan = h.plan }, h.stands)
+  leads_up e h = (record { is_read = h.shows.in_read; is_safe = h.shows.in_lost; is_torn = h.shows.in_torn; is_plan = h.plan }, h.stands, h.running)
 
   pub start_passed : Does old Syncs None new → LeadsUp None
   start_passed does = leads_up None (sync_passed does)

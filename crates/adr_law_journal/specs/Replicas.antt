@@ -25,6 +25,11 @@ standing_of None stopped faulty = Up
 standing_of (Some cause) true faulty = Down
 standing_of (Some cause) false faulty = faulty
 
+-- a call that passed leaves a disk that runs
+abbrev pub IsRunning : Option Cause → Bool → Type 0
+IsRunning None stopped = stopped ≡ false
+IsRunning (Some cause) stopped = Unit {0}
+
 -- what a start of a replica would find, and what one would after a crash that loses the unsynced
 abbrev pub read_found : Replica → Found State
 read_found r = found r.read r.read_end
@@ -61,8 +66,10 @@ started book r =
 
 -- a disk has what the replica has after a commit that ended so, and the controller stands as the replica does
 abbrev pub CommitLeads : Reading State → Following State → Book → Replica → Pending → DiskState → Option Cause → Type 0
-CommitLeads head following book r p new e = IsOn head following (committed book r p) new × (standing_of e new.stopped Failed ≡ (committed book r p).standing)
+CommitLeads head following book r p new e =
+    IsOn head following (committed book r p) new × (standing_of e new.stopped Failed ≡ (committed book r p).standing) × IsRunning e new.stopped
 
 -- and after a start, which leaves a controller whose disk fails as it stood
 abbrev pub StartLeads : Reading State → Following State → Book → Replica → DiskState → Option Cause → Type 0
-StartLeads head following book r new e = IsOn head following (started book r) new × (standing_of e new.stopped r.standing ≡ (started book r).standing)
+StartLeads head following book r new e =
+    IsOn head following (started book r) new × (standing_of e new.stopped r.standing ≡ (started book r).standing) × IsRunning e new.stopped

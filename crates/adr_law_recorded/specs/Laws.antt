@@ -1,5 +1,5 @@
 -- The laws, as facts: every change that a call makes of a state of a log can be recorded, and messages stay in their ranges.
-use Rattle.std.specs.Prelude.{◌≡◌, ◌<◌, ◌^◌, ℕ, List, Ok}
+use Rattle.std.specs.Prelude.{◌≡◌, ◌<◌, ◌^◌, ℕ, Ok}
 use Rattle.adr_wire.specs.Ranges.{IsId, IsU32}
 use Rattle.adr_model.specs.Update.{Identifier}
 use Rattle.adr_model.specs.Store.{Normal, State, empty_state}

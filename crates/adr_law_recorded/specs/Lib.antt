@@ -1,3 +1,4 @@
 pub mod Typed
 pub mod Ranged
+pub mod InRange
 pub mod Laws

@@ -1,5 +1,5 @@
 -- Messages whose fields are in the ranges of their forms.
-use Rattle.std.specs.Prelude.{◌<◌, ◌^◌, length, List, Option, None, Some, IfSome}
+use Rattle.std.specs.Prelude.{◌<◌, ◌^◌, length, IfSome}
 use Rattle.std.specs.List.{AllByRecursion}
 use Rattle.adr_wire.specs.Ranges.{IsId, IsU32, IsMark, IsCursor}
 use Rattle.adr_model.specs.Member.{Each}

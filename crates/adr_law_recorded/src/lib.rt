@@ -11,9 +11,11 @@ mod begun;
 mod called;
 mod sent;
 
-pub use begun::{logged_states_fit, new_controllers_may_begin, recorded_changes_leave_logged_states};
+pub use begun::{
+    logged_states_fit, new_controllers_may_begin, recorded_changes_leave_logged_states,
+};
 pub use called::{
     collections_are_recorded, quarantines_are_recorded, taken_replies_are_recorded,
     writes_are_recorded,
 };
-pub use sent::{requests_are_in_range, replies_are_in_range};
+pub use sent::{replies_are_in_range, requests_are_in_range};

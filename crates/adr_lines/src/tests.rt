@@ -202,6 +202,63 @@ fn writes_outside_the_grammar(rt: HostRuntime) -> Result<(), Fail> {
 }
 
 #[test]
+fn stops_and_faults_outside_the_grammar(rt: HostRuntime) -> Result<(), Fail> {
+    let lines = [
+        // a token is missing, doubled or of a wrong kind
+        b"stop".as_slice(),
+        b"stop #a0",
+        b"stop A kept",
+        b"stop A 7",
+        b"stop A after",
+        b"stop A after 7",
+        b"stop A after kept",
+        b"stop A after kept 7",
+        b"stop A 7 kept",
+        b"stop A after 7 kept lost",
+        b"stop A after 7 7 kept",
+        b"stop A A",
+        b"fail",
+        b"fail A",
+        b"fail A 7",
+        b"fail A after",
+        b"fail A after 7 kept",
+        b"fail A after 7 7",
+        b"fail after 7",
+        b"start",
+        b"start #a0",
+        b"start A A",
+        b"start A after 7",
+        // words
+        b"Stop A",
+        b"stopped A",
+        b"stop A After 7 kept",
+        b"stop A after7 kept",
+        b"stop A after 7 Kept",
+        b"stop A after 7 keptlost",
+        b"stop A after 7 \"kept\"",
+        b"stop A after 7 ke",
+        b"stop A after 7 all",
+        b"fail A as 7",
+        // numbers
+        b"stop A after 07 kept",
+        b"stop A after -1 kept",
+        b"stop A after 1001 torn",
+        b"stop A after 18446744073709551616 lost",
+        b"fail A after 07",
+        b"fail A after 1001",
+        b"fail A after 4294967296",
+        b"fail A after 18446744073709551616",
+    ];
+    for line in lines {
+        assert_eq!(rt;
+            shown_behind(rt.alloc(), line)?.as_slice(),
+            b"line 2: no command".as_slice()
+        );
+    }
+    Ok(())
+}
+
+#[test]
 fn writes_name_a_controller(rt: HostRuntime) -> Result<(), Fail> {
     let lines = [
         b"add B #10 user #1 \"Ann\"".as_slice(),
@@ -254,6 +311,14 @@ cycle B A 1
 vector A
 marks B
 show B
+stop A
+stop A after 0 kept
+stop B after 7 lost
+stop A after 1000 torn
+fail A after 0
+fail B after 1000
+start A
+start B
 ask B A 7 as A
 serve A A as q
 deliver B q
@@ -277,6 +342,15 @@ fn lines_that_may_not_follow_have_a_cause(rt: HostRuntime) -> Result<(), Fail> {
         (b"serve B q as r", b"line 5: name used"),
         (b"deliver A q", b"line 5: unknown name"),
         (b"cycle A q 5", b"line 5: unknown name"),
+        (b"stop A after 1001 kept", b"line 5: no command"),
+        (b"fail A after 1001", b"line 5: no command"),
+        (b"stop C after 1001 kept", b"line 5: no command"),
+        (b"stop C", b"line 5: unknown name"),
+        (b"stop q", b"line 5: unknown name"),
+        (b"stop C after 7 kept", b"line 5: unknown name"),
+        (b"fail C after 7", b"line 5: unknown name"),
+        (b"start C", b"line 5: unknown name"),
+        (b"start r", b"line 5: unknown name"),
         (b"controller A #a0 #c1", b"line 5: name used"),
         (b"controller C #a0 #c1", b"line 5: identifier used"),
         (b"controller C #c0 #b1", b"line 5: identifier used"),

@@ -85,7 +85,7 @@ module _ (o : Oid) where
   other : (attr n : ℕ) → eqb attr n ≡ false → attr ≡ n → ⊥
   other attr n differs is = let same : eqb attr n ≡ true = eq-eqb attr n is in cc
 
-  content_of_attr : (attr : ℕ) (content : Content) → IsContent attr content → IsContentOfAttr attr content
+  pub content_of_attr : (attr : ℕ) (content : Content) → IsContent attr content → IsContentOfAttr attr content
   content_of_attr attr (Class class) q = eqb-true attr 1 q.0
   content_of_attr attr (Name text parent) q = eqb-true attr 2 q.0
   content_of_attr attr Dead q = eqb-true attr 3 q

@@ -1,12 +1,13 @@
 -- A line that spells an event says that event, and what a line said is spelled there.
-use Rattle.std.proofs.Common.{◌≡◌, ℕ, ◌<◌, true, false, List, [], ◌∷◌, length, Option, Some, None, refl, subst, arith}
+use Rattle.std.proofs.Common.{◌≡◌, ℕ, ◌<◌, ◌≤◌, Bool, true, false, List, [], ◌∷◌, length, Option, Some, None, refl, subst, arith}
 use Rattle.std.specs.Prelude.{◌==◌, if◌then◌else◌, codes}
 use Rattle.std.specs.Option.{option_map}
 use Rattle.std.specs.Str.{bytes_eq}
 use Rattle.std.proofs.lemmas.Bool.{eqb-false, ne_eqb}
+use Rattle.adr_disk.specs.declared.memory.Crash.{Crash}
 use Rattle.adr_schema.specs.Assignments.{Given}
 use Rattle.adr_event.specs.declared.event.Event.{Event}
-use Rattle.adr_event.specs.declared.event.Event.TheVariants.{Controller, Time, Add, Modify, Rename, Delete, Link, Unlink, Ask, Serve, Deliver, Pull, Cycle, Show, Vector, Marks}
+use Rattle.adr_event.specs.declared.event.Event.TheVariants.{Controller, Time, Add, Modify, Rename, Delete, Link, Unlink, Ask, Serve, Deliver, Pull, Cycle, StopAfter, Fail, Stop, Start, Show, Vector, Marks}
 use Rattle.adr_token.specs.Gives.{◌>>=◌}
 use Rattle.adr_token.specs.Words.{unspaced, ended, word_at, name_at}
 use Rattle.adr_token.specs.Numbers.{number_at}
@@ -17,13 +18,15 @@ use Rattle.adr_token.proofs.Lists.{found}
 use Rattle.adr_token.proofs.WordLaws.{if_some}
 use Rattle.adr_schedule.specs.declared.verb.Verb.{Verb}
 use Rattle.adr_schedule.specs.declared.verb.Verb.TheVariants as verbs
+use Rattle.adr_schedule.specs.Limits.{plan_limit}
+use Rattle.adr_schedule.specs.Crashes.{crash_word}
 use Rattle.adr_schedule.specs.Sets.{rising, sets_at}
 use Rattle.adr_schedule.specs.Verbs.{verb_of, verbs as all_verbs, word_of}
-use Rattle.adr_schedule.specs.Commands.{add_line, ask_line, bound_at, by_verb, controller_line, delete_line, deliver_line, event_of, limit_at, link_line, modify_line, name_line, pull_line, rename_line, serve_line, time_line}
+use Rattle.adr_schedule.specs.Commands.{add_line, ask_line, bound_at, by_verb, calls_at, controller_line, crash_at, delete_line, deliver_line, event_of, fail_line, limit_at, link_line, modify_line, name_line, pull_line, rename_line, serve_line, stop_after, stop_line, time_line}
 use Rattle.adr_schedule.specs.Grammar.{Word, Name, Number, Identifier, Class, Attribute, Quoted, sets, tokens_in, IsNext, AreSpelled, IsLimit, Spells, SpelledLinesAreRead, LinesSpellOneEvent, LinesWereSpelled}
 use Rattle.adr_schedule.proofs.LineSets.{none_left, sets_read, sets_were}
 use Rattle.adr_schedule.proofs.RisingLemmas.{rising_from, unless_some}
-use Rattle.adr_schedule.proofs.TokenLaws.{attribute_next, attribute_read, bound_next, bound_read, class_next, class_read, identifier_next, identifier_read, limit_next, limit_read, name_next, name_read, number_next, number_read, text_next, text_read, word_next, word_read}
+use Rattle.adr_schedule.proofs.TokenLaws.{attribute_next, attribute_read, bound_next, bound_read, calls_next, calls_read, class_next, class_read, crash_next, crash_read, identifier_next, identifier_read, limit_next, limit_read, name_next, name_read, number_next, number_read, text_next, text_read, word_left, word_next, word_read}
 
 -- ---- what was read is spelled
 
@@ -186,6 +189,33 @@ deliver_was line rest verb e h =
     each_step P (name_at rest) _ (λ name n. each_step P (name_at name.1) _ (λ reply r. at_end P reply.1 (Deliver name.0 reply.0) (λ last.
     (tt, ([], refl, (rest, verb, (name.1, name_next rest name n, (reply.1, name_next name.1 reply r, last)))))))) e h
 
+stop_was : Follows verbs.Stop
+unfolding stop_line stop_after tokens_in
+stop_was line rest verb e h = each_step P (name_at rest) _ (λ name n. by name n (length (unspaced name.1) == 0) refl) e h
+  where
+    P : Event → Type 0
+    P = Spells line
+
+    by : (name : List ℕ × List ℕ) → name_at rest ≡ Some name → (b : Bool) → (length (unspaced name.1) == 0) ≡ b → (event : Event)
+        → (if b then Some (Stop name.0) else stop_after name.0 name.1) ≡ Some event → P event
+    by name n true ends event told =
+        let same : Stop name.0 ≡ event = cc in
+        subst P same (tt, ([], refl, (rest, verb, (name.1, name_next rest name n, none_left name.1 ends))))
+    by name n false more event told =
+        each_step P (calls_at name.1) _ (λ calls c. each_step P (crash_at calls.1) _ (λ how w. at_end P how.1 (StopAfter name.0 calls.0 how.0) (λ last.
+        let planned = calls_next name.1 calls c in
+        let after = planned.1 in
+        (planned.0, ([], refl, (rest, verb, (name.1, name_next rest name n, (after.0, after.1, (calls.1, after.2, (how.1, crash_next calls.1 how w, last)))))))))) event told
+
+fail_was : Follows verbs.Fail
+unfolding fail_line tokens_in
+fail_was line rest verb e h =
+    let P = Spells line in
+    each_step P (name_at rest) _ (λ name n. each_step P (calls_at name.1) _ (λ calls c. at_end P calls.1 (Fail name.0 calls.0) (λ last.
+    let planned = calls_next name.1 calls c in
+    let after = planned.1 in
+    (planned.0, ([], refl, (rest, verb, (name.1, name_next rest name n, (after.0, after.1, (calls.1, after.2, last))))))))) e h
+
 verb_was : (verb : Verb) → Follows verb
 unfolding tokens_in
 verb_was verbs.Controller line rest verb e h = controller_was line rest verb e h
@@ -201,6 +231,9 @@ verb_was verbs.Serve line rest verb e h = serve_was line rest verb e h
 verb_was verbs.Deliver line rest verb e h = deliver_was line rest verb e h
 verb_was verbs.Pull line rest verb e h = made (Spells line) (λ pull. Pull pull.0 pull.1 pull.2) (pull_line rest) (λ pull l. let was = pull_was rest pull l in (was.0, ([], refl, (rest, verb, was.1)))) e h
 verb_was verbs.Cycle line rest verb e h = made (Spells line) (λ pull. Cycle pull.0 pull.1 pull.2) (pull_line rest) (λ pull l. let was = pull_was rest pull l in (was.0, ([], refl, (rest, verb, was.1)))) e h
+verb_was verbs.Stop line rest verb e h = stop_was line rest verb e h
+verb_was verbs.Fail line rest verb e h = fail_was line rest verb e h
+verb_was verbs.Start line rest verb e h = made (Spells line) Start (name_line rest) (λ name n. (tt, ([], refl, (rest, verb, name_was rest name n)))) e h
 verb_was verbs.Show line rest verb e h = made (Spells line) Show (name_line rest) (λ name n. (tt, ([], refl, (rest, verb, name_was rest name n)))) e h
 verb_was verbs.Vector line rest verb e h = made (Spells line) Vector (name_line rest) (λ name n. (tt, ([], refl, (rest, verb, name_was rest name n)))) e h
 verb_was verbs.Marks line rest verb e h = made (Spells line) Marks (name_line rest) (λ name n. (tt, ([], refl, (rest, verb, name_was rest name n)))) e h
@@ -296,6 +329,31 @@ deliver_again : (bytes name reply : List ℕ) → AreSpelled (Name name ∷ Name
 unfolding deliver_line
 deliver_again bytes name reply h = rw (name_read name bytes h.0 h.1, name_read reply h.0 h.2.0 h.2.1, h.2.2) refl
 
+stop_again : (bytes name : List ℕ) → AreSpelled (Name name ∷ []) bytes → stop_line bytes ≡ Some (Stop name)
+unfolding stop_line
+stop_again bytes name h = rw (name_read name bytes h.0 h.1, h.2) refl
+
+stop_after_again : (bytes name : List ℕ) (calls : ℕ) (how : Crash) → calls ≤ plan_limit
+    → AreSpelled (Name name ∷ Word (codes "after") ∷ Number calls ∷ Word (crash_word how) ∷ []) bytes → stop_line bytes ≡ Some (StopAfter name calls how)
+unfolding stop_line stop_after
+stop_after_again bytes name calls how most h =
+    let a = h.2 in
+    let c = a.2 in
+    rw (
+      name_read name bytes h.0 h.1,
+      word_left (codes "after") h.0 a.0 (omega arith) a.1,
+      calls_read calls h.0 a.0 c.0 most a.1 c.1,
+      crash_read how c.0 c.2.0 c.2.1,
+      c.2.2,
+    ) refl
+
+fail_again : (bytes name : List ℕ) (calls : ℕ) → calls ≤ plan_limit → AreSpelled (Name name ∷ Word (codes "after") ∷ Number calls ∷ []) bytes → fail_line bytes ≡ Some (Fail name calls)
+unfolding fail_line
+fail_again bytes name calls most h =
+    let a = h.2 in
+    let c = a.2 in
+    rw (name_read name bytes h.0 h.1, calls_read calls h.0 a.0 c.0 most a.1 c.1, c.2) refl
+
 pub lines_read : SpelledLinesAreRead
 unfolding event_of tokens_in
 lines_read line (Controller name dsa inv) h = rw (word_read (codes "controller") line h.1.2.0 refl (omega arith) h.1.2.1, controller_again h.1.2.0 name dsa inv h.1.2.2) refl
@@ -311,6 +369,10 @@ lines_read line (Serve name request bound) h = rw (word_read (codes "serve") lin
 lines_read line (Deliver name reply) h = rw (word_read (codes "deliver") line h.1.2.0 refl (omega arith) h.1.2.1, deliver_again h.1.2.0 name reply h.1.2.2) refl
 lines_read line (Pull name source max) h = rw (word_read (codes "pull") line h.1.2.0 refl (omega arith) h.1.2.1, pull_again h.1.2.0 name source max h.0 h.1.2.2) refl
 lines_read line (Cycle name source max) h = rw (word_read (codes "cycle") line h.1.2.0 refl (omega arith) h.1.2.1, pull_again h.1.2.0 name source max h.0 h.1.2.2) refl
+lines_read line (StopAfter name calls how) h = rw (word_read (codes "stop") line h.1.2.0 refl (omega arith) h.1.2.1, stop_after_again h.1.2.0 name calls how h.0 h.1.2.2) refl
+lines_read line (Fail name calls) h = rw (word_read (codes "fail") line h.1.2.0 refl (omega arith) h.1.2.1, fail_again h.1.2.0 name calls h.0 h.1.2.2) refl
+lines_read line (Stop name) h = rw (word_read (codes "stop") line h.1.2.0 refl (omega arith) h.1.2.1, stop_again h.1.2.0 name h.1.2.2) refl
+lines_read line (Start name) h = rw (word_read (codes "start") line h.1.2.0 refl (omega arith) h.1.2.1, name_again h.1.2.0 name h.1.2.2) refl
 lines_read line (Show name) h = rw (word_read (codes "show") line h.1.2.0 refl (omega arith) h.1.2.1, name_again h.1.2.0 name h.1.2.2) refl
 lines_read line (Vector name) h = rw (word_read (codes "vector") line h.1.2.0 refl (omega arith) h.1.2.1, name_again h.1.2.0 name h.1.2.2) refl
 lines_read line (Marks name) h = rw (word_read (codes "marks") line h.1.2.0 refl (omega arith) h.1.2.1, name_again h.1.2.0 name h.1.2.2) refl

@@ -6,10 +6,11 @@ use Rattle.std.specs.List.Sorted.{IsStrictlySortedBy}
 use Rattle.std.specs.Str.{is_utf8}
 use Rattle.std.proofs.lemmas.Bool.{and_parts, le-ltb, ltb-true, ne_eqb, not-true}
 use Rattle.std.proofs.lemmas.Str.{is_utf8-from_IsUtf8}
+use Rattle.adr_disk.specs.declared.memory.Crash.TheVariants.{Kept, Lost, Torn}
 use Rattle.adr_schema.specs.Assignments.{Given}
 use Rattle.adr_schema.specs.declared.content.Value.{Value as Item}
 use Rattle.adr_event.specs.declared.event.Event.{Event}
-use Rattle.adr_event.specs.declared.event.Event.TheVariants.{Controller, Time, Add, Modify, Rename, Delete, Link, Unlink, Ask, Serve, Deliver, Pull, Cycle, Show, Vector, Marks}
+use Rattle.adr_event.specs.declared.event.Event.TheVariants.{Controller, Time, Add, Modify, Rename, Delete, Link, Unlink, Ask, Serve, Deliver, Pull, Cycle, StopAfter, Fail, Stop, Start, Show, Vector, Marks}
 use Rattle.adr_token.specs.Words.{unspaced}
 use Rattle.adr_token.specs.Texts.{ends_word}
 use Rattle.adr_token.specs.Spelled.{SpellsAttribute, SpellsClass, SpellsSet}
@@ -103,6 +104,12 @@ words_seen order (Serve name request bound) h = refl
 words_seen order (Deliver name reply) h = refl
 words_seen order (Pull name source max) h = refl
 words_seen order (Cycle name source max) h = refl
+words_seen order (StopAfter name calls Kept) h = refl
+words_seen order (StopAfter name calls Lost) h = refl
+words_seen order (StopAfter name calls Torn) h = refl
+words_seen order (Fail name calls) h = refl
+words_seen order (Stop name) h = refl
+words_seen order (Start name) h = refl
 words_seen order (Show name) h = refl
 words_seen order (Vector name) h = refl
 words_seen order (Marks name) h = refl
@@ -193,6 +200,10 @@ event_begins order (Serve name request bound) h = refl
 event_begins order (Deliver name reply) h = refl
 event_begins order (Pull name source max) h = refl
 event_begins order (Cycle name source max) h = refl
+event_begins order (StopAfter name calls how) h = refl
+event_begins order (Fail name calls) h = refl
+event_begins order (Stop name) h = refl
+event_begins order (Start name) h = refl
 event_begins order (Show name) h = refl
 event_begins order (Vector name) h = refl
 event_begins order (Marks name) h = refl

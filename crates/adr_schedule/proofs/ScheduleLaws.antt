@@ -5,7 +5,7 @@ use Rattle.std.specs.Bool.{then_some}
 use Rattle.std.specs.Str.{is_utf8}
 use Rattle.std.proofs.lemmas.Bool.{le-ltb, lt-ltb, ltb-false, ltb-true}
 use Rattle.adr_event.specs.declared.event.Event.{Event}
-use Rattle.adr_event.specs.declared.event.Event.TheVariants.{Controller, Time, Add, Modify, Rename, Delete, Link, Unlink, Ask, Serve, Deliver, Pull, Cycle, Show, Vector, Marks}
+use Rattle.adr_event.specs.declared.event.Event.TheVariants.{Controller, Time, Add, Modify, Rename, Delete, Link, Unlink, Ask, Serve, Deliver, Pull, Cycle, StopAfter, Fail, Stop, Start, Show, Vector, Marks}
 use Rattle.adr_schedule.specs.declared.fault.Cause.{Cause}
 use Rattle.adr_schedule.specs.declared.fault.Cause.TheVariants.{NotUtf8, NoCommand, UnknownName, NameUsed, IdentifierUsed, TooMany, TooLong}
 use Rattle.adr_schedule.specs.declared.fault.ScheduleFault.{ScheduleFault}
@@ -169,6 +169,10 @@ cause_late seen (Pull name source max) h x c =
     first_late (unless_bound seen.controllers name ∷ unless_bound seen.controllers source ∷ []) (unless_late seen.controllers name, (unless_late seen.controllers source, tt)) x c
 cause_late seen (Cycle name source max) h x c =
     first_late (unless_bound seen.controllers name ∷ unless_bound seen.controllers source ∷ []) (unless_late seen.controllers name, (unless_late seen.controllers source, tt)) x c
+cause_late seen (StopAfter name calls how) h x c = unless_late seen.controllers name x c
+cause_late seen (Fail name calls) h x c = unless_late seen.controllers name x c
+cause_late seen (Stop name) h x c = unless_late seen.controllers name x c
+cause_late seen (Start name) h x c = unless_late seen.controllers name x c
 cause_late seen (Show name) h x c = unless_late seen.controllers name x c
 cause_late seen (Vector name) h x c = unless_late seen.controllers name x c
 cause_late seen (Marks name) h x c = unless_late seen.controllers name x c

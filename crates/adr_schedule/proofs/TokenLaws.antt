@@ -1,14 +1,17 @@
 -- A token that is spelled is read, and one that was read is spelled.
-use Rattle.std.proofs.Common.{◌≡◌, ◌⊎◌, ℕ, suc, ◌+◌, ◌<◌, Bool, true, false, not, cond, List, [], ◌∷◌, length, Some, None, refl, sym, ap, subst, ◌∙◌, inl, inr, arith}
-use Rattle.std.specs.Prelude.{nat_le, codes}
+use Rattle.std.proofs.Common.{◌≡◌, ◌⊎◌, ℕ, suc, ◌+◌, ◌<◌, ◌≤◌, Bool, true, false, not, cond, List, [], ◌∷◌, length, length-append, Some, None, refl, sym, ap, subst, ◌∙◌, inl, inr, arith}
+use Rattle.std.specs.Prelude.{◌==◌, nat_le, codes}
 use Rattle.std.specs.Fmt.{decimal}
 use Rattle.std.specs.List.{position_or_len}
 use Rattle.std.specs.Str.{bytes_eq}
-use Rattle.std.proofs.lemmas.Bool.{and_parts, leb-true}
+use Rattle.std.proofs.lemmas.Bool.{and_parts, le-leb, leb-true, ne_eqb}
 use Rattle.std.proofs.lemmas.Bool.Decides.{nat_tests}
 use Rattle.std.proofs.lemmas.Slice.Eq.{bytes_eq-Decides}
+use Rattle.adr_disk.specs.declared.memory.Crash.{Crash}
+use Rattle.adr_disk.specs.declared.memory.Crash.TheVariants.{Kept, Lost, Torn}
 use Rattle.adr_schema.specs.Assignments.{Given}
 use Rattle.adr_schema.specs.declared.content.Value.{Value as Item}
+use Rattle.adr_token.specs.Gives.{◌>>=◌}
 use Rattle.adr_token.specs.Words.{is_space, unspaced, said, word_at, name_at}
 use Rattle.adr_token.specs.Numbers.{number_at}
 use Rattle.adr_token.specs.Identifiers.{identifier_at}
@@ -17,14 +20,16 @@ use Rattle.adr_token.specs.Texts.{text_at}
 use Rattle.adr_token.specs.Values.{set_at}
 use Rattle.adr_token.specs.Laws.{IsIdentifier, Stands, full_token}
 use Rattle.adr_token.specs.Spelling.{identifier_token, text_token}
+use Rattle.adr_token.proofs.Lists.{found}
 use Rattle.adr_token.proofs.WordLaws.{bind_some, if_some, is_spaceless, names_again, names_spelled, word_again, word_was}
 use Rattle.adr_token.proofs.DigitLaws.{numbers_again, numbers_spelled}
 use Rattle.adr_token.proofs.IdentifierLaws.{identifiers_again, identifiers_spelled}
 use Rattle.adr_token.proofs.TextLaws.{texts_again, texts_spelled}
 use Rattle.adr_token.proofs.ClassLaws.{classes_again, classes_spelled, attributes_again, attributes_spelled}
 use Rattle.adr_token.proofs.SetLaws.{sets_again, sets_spelled}
-use Rattle.adr_schedule.specs.Limits.{ask_limit}
-use Rattle.adr_schedule.specs.Commands.{bound_at, is_limit, limit_at}
+use Rattle.adr_schedule.specs.Limits.{ask_limit, plan_limit}
+use Rattle.adr_schedule.specs.Crashes.{crash_of, crash_word, crashes}
+use Rattle.adr_schedule.specs.Commands.{bound_at, calls_at, crash_at, is_limit, limit_at}
 use Rattle.adr_schedule.specs.Grammar.{Word, Name, Number, Identifier, Class, Attribute, Quoted, Set, IsLimit, IsNext}
 
 -- spaces in front say nothing
@@ -127,6 +132,22 @@ pub bound_read : (name bytes between rest : List ℕ) → IsNext (Word (codes "a
 unfolding bound_at said
 bound_read name bytes between rest w n = rw (word_read (codes "as") bytes between refl (omega arith) w, name_read name between rest n) refl
 
+pub calls_read : (n : ℕ) (bytes between rest : List ℕ) → n ≤ plan_limit → IsNext (Word (codes "after")) bytes between → IsNext (Number n) between rest → calls_at bytes ≡ Some (n, rest)
+unfolding calls_at said
+calls_read n bytes between rest most w c = rw (word_read (codes "after") bytes between refl (omega arith) w, number_read n between rest c, le-leb n plan_limit most) refl
+
+pub crash_read : (how : Crash) (bytes rest : List ℕ) → IsNext (Word (crash_word how)) bytes rest → crash_at bytes ≡ Some (how, rest)
+unfolding crash_at
+crash_read Kept bytes rest w = rw (word_read (codes "kept") bytes rest refl (omega arith) w) refl
+crash_read Lost bytes rest w = rw (word_read (codes "lost") bytes rest refl (omega arith) w) refl
+crash_read Torn bytes rest w = rw (word_read (codes "torn") bytes rest refl (omega arith) w) refl
+
+-- a word is left
+pub word_left : (word bytes rest : List ℕ) → 0 < length word → IsNext (Word word) bytes rest → (length (unspaced bytes) == 0) ≡ false
+word_left word bytes rest some w =
+    let s = stands_as w.0 word bytes rest w.1 w.2 in
+    ne_eqb (length (unspaced bytes)) 0 (λ none. omega (arith, none, simp length-append at (ap length s.0)))
+
 -- a token that was read is spelled
 abbrev pub Read : Type 0
 Read = List ℕ × List ℕ
@@ -181,6 +202,28 @@ unfolding bound_at
 bound_next bytes t h =
     let s = bind_some (said (codes "as") bytes) (λ word. name_at word.1) t h in
     (s.0.1, said_next (codes "as") bytes s.0 s.1, name_next s.0.1 t s.2)
+
+-- a number of calls, behind `after`
+abbrev Planned : List ℕ → ℕ × List ℕ → Type 0
+Planned bytes t = (t.0 ≤ plan_limit) × ((between : List ℕ) × IsNext (Word (codes "after")) bytes between × IsNext (Number t.0) between t.1)
+
+pub calls_next : (bytes : List ℕ) (t : ℕ × List ℕ) → calls_at bytes ≡ Some t
+    → (t.0 ≤ plan_limit) × ((between : List ℕ) × IsNext (Word (codes "after")) bytes between × IsNext (Number t.0) between t.1)
+unfolding calls_at
+calls_next bytes t h =
+    let s = bind_some (said (codes "after") bytes) (λ word. number_at word.1 >>= λ calls. cond (nat_le calls.0 plan_limit) (Some calls) None) t h in
+    let n = bind_some (number_at s.0.1) (λ calls. cond (nat_le calls.0 plan_limit) (Some calls) None) t s.2 in
+    let w = if_some (nat_le n.0.0 plan_limit) n.0 t n.2 in
+    subst (Planned bytes) w.1 (leb-true n.0.0 plan_limit w.0, (s.0.1, said_next (codes "after") bytes s.0 s.1, number_next s.0.1 n.0 n.1))
+
+pub crash_next : (bytes : List ℕ) (t : Crash × List ℕ) → crash_at bytes ≡ Some t → IsNext (Word (crash_word t.0)) bytes t.1
+unfolding crash_at
+crash_next bytes t h =
+    let s = bind_some (word_at bytes) (λ word. crash_of word.0 >>= λ how. Some (how, word.1)) t h in
+    let k = bind_some (crash_of s.0.0) (λ how. Some (how, s.0.1)) t s.2 in
+    let same : (k.0, s.0.1) ≡ t = cc in
+    let is = found (λ (how : Crash). bytes_eq s.0.0 (crash_word how)) (λ how. true) crashes k.0 refl k.1 in
+    subst (λ (x : Crash × List ℕ). IsNext (Word (crash_word x.0)) bytes x.1) same (word_next (crash_word k.0) bytes s.0 s.1 is.0)
 
 pub class_next : (bytes : List ℕ) (t : ℕ × List ℕ) → class_at bytes ≡ Some t → IsNext (Class t.0) bytes t.1
 class_next bytes t h = classes_spelled bytes t.0 t.1 h

@@ -2,9 +2,10 @@
 use Rattle.std.specs.Prelude.{ℕ, List, Bool, ◌&&◌, ◌||◌, ◌==◌, nat_le, if◌then◌else◌, length, take, Option, Some, None, codes}
 use Rattle.std.specs.Option.{option_map}
 use Rattle.std.specs.Str.{bytes_eq}
+use Rattle.adr_disk.specs.declared.memory.Crash.{Crash}
 use Rattle.adr_event.specs.declared.event.Event.{Event}
-use Rattle.adr_event.specs.declared.event.Event.TheVariants.{Controller, Time, Add, Modify, Rename, Delete, Link, Unlink, Ask, Serve, Deliver, Pull, Cycle, Show, Vector, Marks}
-use Rattle.adr_schedule.specs.Limits.{ask_limit}
+use Rattle.adr_event.specs.declared.event.Event.TheVariants.{Controller, Time, Add, Modify, Rename, Delete, Link, Unlink, Ask, Serve, Deliver, Pull, Cycle, StopAfter, Fail, Stop, Start, Show, Vector, Marks}
+use Rattle.adr_schedule.specs.Limits.{ask_limit, plan_limit}
 use Rattle.adr_token.specs.Gives.{Reading, ◌>>=◌}
 use Rattle.adr_token.specs.Words.{unspaced, ended, said, word_at, name_at}
 use Rattle.adr_token.specs.Numbers.{number_at}
@@ -13,6 +14,7 @@ use Rattle.adr_token.specs.Classes.{attribute_at, class_at}
 use Rattle.adr_token.specs.Texts.{text_at}
 use Rattle.adr_schedule.specs.declared.verb.Verb.{Verb}
 use Rattle.adr_schedule.specs.declared.verb.Verb.TheVariants as verbs
+use Rattle.adr_schedule.specs.Crashes.{crash_of}
 use Rattle.adr_schedule.specs.Sets.{sets_at}
 use Rattle.adr_schedule.specs.Verbs.{verb_of}
 
@@ -56,6 +58,20 @@ unfoldable pub bound_at : List ℕ → Reading (List ℕ)
 bound_at bytes = do
   word ← said (codes "as") bytes
   name_at word.1
+
+-- after NUM: how many device calls a plan lets pass
+unfoldable pub calls_at : List ℕ → Reading ℕ
+calls_at bytes = do
+  word ← said (codes "after") bytes
+  calls ← number_at word.1
+  if nat_le calls.0 plan_limit then Some calls else None
+
+-- HOW
+unfoldable pub crash_at : List ℕ → Reading Crash
+crash_at bytes = do
+  word ← word_at bytes
+  how ← crash_of word.0
+  Some (how, word.1)
 
 -- ---- each line
 
@@ -123,6 +139,25 @@ deliver_line bytes = do
   reply ← name_at name.1
   ended reply.1 (Deliver name.0 reply.0)
 
+-- a stop that is planned, behind the name
+unfoldable pub stop_after : List ℕ → List ℕ → Option Event
+stop_after name bytes = do
+  calls ← calls_at bytes
+  how ← crash_at calls.1
+  ended how.1 (StopAfter name calls.0 how.0)
+
+-- a stop at once, or one that is planned
+unfoldable pub stop_line : List ℕ → Option Event
+stop_line bytes = do
+  name ← name_at bytes
+  if length (unspaced name.1) == 0 then Some (Stop name.0) else stop_after name.0 name.1
+
+unfoldable pub fail_line : List ℕ → Option Event
+fail_line bytes = do
+  name ← name_at bytes
+  calls ← calls_at name.1
+  ended calls.1 (Fail name.0 calls.0)
+
 -- what a line says behind its verb
 abbrev pub by_verb : Verb → List ℕ → Option Event
 by_verb verbs.Controller rest = controller_line rest
@@ -138,6 +173,9 @@ by_verb verbs.Serve rest = serve_line rest
 by_verb verbs.Deliver rest = deliver_line rest
 by_verb verbs.Pull rest = option_map (λ pull. Pull pull.0 pull.1 pull.2) (pull_line rest)
 by_verb verbs.Cycle rest = option_map (λ pull. Cycle pull.0 pull.1 pull.2) (pull_line rest)
+by_verb verbs.Stop rest = stop_line rest
+by_verb verbs.Fail rest = fail_line rest
+by_verb verbs.Start rest = option_map Start (name_line rest)
 by_verb verbs.Show rest = option_map Show (name_line rest)
 by_verb verbs.Vector rest = option_map Vector (name_line rest)
 by_verb verbs.Marks rest = option_map Marks (name_line rest)

@@ -3,8 +3,6 @@ use Rattle.std.specs.Prelude.{◌≡◌, ℕ, ◌<◌, ◌≤◌, ◌^◌, List,
 use Rattle.std.specs.Fmt.{decimal}
 use Rattle.std.specs.List.Sorted.{IsStrictlySortedBy}
 use Rattle.std.specs.Ordering.{nat_cmp}
-use Rattle.adr_disk.specs.declared.memory.Crash.{Crash}
-use Rattle.adr_disk.specs.declared.memory.Crash.TheVariants.{Kept, Lost, Torn}
 use Rattle.adr_schema.specs.Assignments.{Given, attributes}
 use Rattle.adr_schema.specs.declared.content.Value.{Value as Item}
 use Rattle.adr_event.specs.declared.event.Event.{Event}
@@ -12,7 +10,8 @@ use Rattle.adr_event.specs.declared.event.Event.TheVariants.{Controller, Time, A
 use Rattle.adr_token.specs.Words.{unspaced, is_name}
 use Rattle.adr_token.specs.Laws.{Stands}
 use Rattle.adr_token.specs.Spelled.{SpellsAttribute, SpellsClass, SpellsIdentifier, SpellsSet, SpellsText}
-use Rattle.adr_schedule.specs.Limits.{ask_limit}
+use Rattle.adr_schedule.specs.Limits.{ask_limit, plan_limit}
+use Rattle.adr_schedule.specs.Crashes.{crash_word}
 use Rattle.adr_schedule.specs.Sets.{rising}
 use Rattle.adr_schedule.specs.Commands.{event_of}
 
@@ -30,12 +29,6 @@ pub data Token : Type 0 where
 -- each attribute with its values
 abbrev pub sets : List Given → List Token
 sets values = map (λ given. Set given.0 given.1) values
-
--- how a stop leaves what isn't synced
-abbrev pub crash_word : Crash → List ℕ
-crash_word Kept = codes "kept"
-crash_word Lost = codes "lost"
-crash_word Torn = codes "torn"
 
 -- what the sets of an event's line give
 abbrev pub given_by : Event → List Given
@@ -104,7 +97,7 @@ IsLimit limit = (1 ≤ limit) × (limit ≤ ask_limit)
 abbrev pub AreRising : List Given → Type 0
 AreRising values = IsStrictlySortedBy nat_cmp (attributes values)
 
--- what the tokens of an event don't say: which events have a line, how many items are asked for, and how values are given
+-- what the tokens of an event don't say: which events have a line, how many items are asked for, how many calls a plan lets pass, and how values are given
 abbrev pub HasLine : Event → Type 0
 HasLine (Controller name dsa inv) = Unit {0}
 HasLine (Time now) = Unit {0}
@@ -119,6 +112,10 @@ HasLine (Serve name request bound) = Unit {0}
 HasLine (Deliver name reply) = Unit {0}
 HasLine (Pull name source max) = IsLimit max
 HasLine (Cycle name source max) = IsLimit max
+HasLine (StopAfter name calls how) = calls ≤ plan_limit
+HasLine (Fail name calls) = calls ≤ plan_limit
+HasLine (Stop name) = Unit {0}
+HasLine (Start name) = Unit {0}
 HasLine (Show name) = Unit {0}
 HasLine (Vector name) = Unit {0}
 HasLine (Marks name) = Unit {0}

@@ -2,6 +2,7 @@ pub mod Limits
 pub mod Faults
 pub mod Lines
 pub mod Verbs
+pub mod Crashes
 pub mod Sets
 pub mod Commands
 pub mod Grammar

@@ -12,3 +12,7 @@ controller_limit = 64
 -- the items that a line asks for
 abbrev pub ask_limit : ℕ
 ask_limit = 10000
+
+-- the device calls that a plan lets pass
+abbrev pub plan_limit : ℕ
+plan_limit = 1000

@@ -5,7 +5,7 @@ use Rattle.std.specs.List.{list_any}
 use Rattle.std.specs.Str.{bytes_eq}
 use Rattle.adr_failure.specs.First.{first_of}
 use Rattle.adr_event.specs.declared.event.Event.{Event}
-use Rattle.adr_event.specs.declared.event.Event.TheVariants.{Controller, Time, Add, Modify, Rename, Delete, Link, Unlink, Ask, Serve, Deliver, Pull, Cycle, Show, Vector, Marks}
+use Rattle.adr_event.specs.declared.event.Event.TheVariants.{Controller, Time, Add, Modify, Rename, Delete, Link, Unlink, Ask, Serve, Deliver, Pull, Cycle, StopAfter, Fail, Stop, Start, Show, Vector, Marks}
 use Rattle.adr_schedule.specs.declared.fault.Cause.{Cause}
 use Rattle.adr_schedule.specs.declared.fault.Cause.TheVariants.{NoCommand, UnknownName, NameUsed, IdentifierUsed, TooMany}
 use Rattle.adr_schedule.specs.Limits.{controller_limit}
@@ -58,6 +58,10 @@ cause_after seen (Serve name request bound) =
 cause_after seen (Deliver name reply) = first_of (unless_bound seen.controllers name ∷ unless_bound seen.replies reply ∷ [])
 cause_after seen (Pull name source max) = first_of (unless_bound seen.controllers name ∷ unless_bound seen.controllers source ∷ [])
 cause_after seen (Cycle name source max) = first_of (unless_bound seen.controllers name ∷ unless_bound seen.controllers source ∷ [])
+cause_after seen (StopAfter name calls how) = unless_bound seen.controllers name
+cause_after seen (Fail name calls) = unless_bound seen.controllers name
+cause_after seen (Stop name) = unless_bound seen.controllers name
+cause_after seen (Start name) = unless_bound seen.controllers name
 cause_after seen (Show name) = unless_bound seen.controllers name
 cause_after seen (Vector name) = unless_bound seen.controllers name
 cause_after seen (Marks name) = unless_bound seen.controllers name

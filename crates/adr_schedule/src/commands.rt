@@ -3,11 +3,13 @@
 ghost use Rattle.std.specs.Prelude.{◌≡◌, ◌==◌, ◌<◌, ◌≤◌, ℕ, List, length, true, false, IfOk, IfErr, OnOk, Some, None};
 ghost use Rattle.adr_token.specs.Gives.{Gives, Answers, bad};
 ghost use Rattle.adr_token.specs.Words.{unspaced};
-ghost use Rattle.adr_schedule.specs.Commands.{add_line, ask_line, bound_at, by_verb, controller_line, delete_line, deliver_line, event_of, is_passed, limit_at, link_line, modify_line, name_line, pull_line, rename_line, serve_line, time_line};
+ghost use Rattle.adr_schedule.specs.Commands.{add_line, ask_line, bound_at, by_verb, calls_at, controller_line, crash_at, delete_line, deliver_line, event_of, fail_line, is_passed, limit_at, link_line, modify_line, name_line, pull_line, rename_line, serve_line, stop_after, stop_line, time_line};
 
-use crate::limits::ASK_LIMIT;
+use crate::crashes::crash_of;
+use crate::limits::{ASK_LIMIT, PLAN_LIMIT};
 use crate::sets::sets;
 use crate::verb::Verb;
+use adr_disk::Crash;
 use adr_event::{Event, Failure};
 use adr_schema::Text;
 use adr_token::{Bad, Line, Stop, without_spaces};
@@ -207,6 +209,65 @@ fn deliver(alloc: Global, line: &mut Line<'_>) -> Result<Event, Stop>
     Ok(Event::Deliver { name, reply })
 }
 
+/// NUM, behind `after`: how many device calls a plan lets pass.
+#[tactic(auto, unfolding(crate::specs::Commands::calls_at))]
+fn calls(line: &mut Line<'_>) -> Result<u32, Stop>
+    ensures { Gives result line.new (calls_at line.old) }
+{
+    line.said(b"after")?;
+    let number = line.number()?;
+    if number <= PLAN_LIMIT {
+        Ok(number as u32)
+    } else {
+        Err(Failure::Refused(Bad))
+    }
+}
+
+/// HOW
+#[tactic(auto, unfolding(crate::specs::Commands::crash_at))]
+fn how(line: &mut Line<'_>) -> Result<Crash, Stop>
+    ensures { Gives result line.new (crash_at line.old) }
+{
+    let word = line.word()?;
+    match crash_of(word) {
+        Some(how) => Ok(how),
+        None => Err(Failure::Refused(Bad)),
+    }
+}
+
+/// A stop that is planned, behind the name.
+#[tactic(auto, unfolding(crate::specs::Commands::stop_after))]
+fn stop_after(line: &mut Line<'_>, name: Text) -> Result<Event, Stop>
+    ensures { Answers result (stop_after name line.old) }
+{
+    let calls = calls(line)?;
+    let how = how(line)?;
+    end(line)?;
+    Ok(Event::StopAfter { name, calls, how })
+}
+
+/// A stop at once, or one that is planned.
+#[tactic(auto, unfolding(crate::specs::Commands::stop_line))]
+fn stop(alloc: Global, line: &mut Line<'_>) -> Result<Event, Stop>
+    ensures { Answers result (stop_line line.old) }
+{
+    let name = line.name(alloc)?;
+    if !line.is_ended() {
+        return stop_after(line, name);
+    }
+    Ok(Event::Stop { name })
+}
+
+#[tactic(auto, unfolding(crate::specs::Commands::fail_line))]
+fn fail(alloc: Global, line: &mut Line<'_>) -> Result<Event, Stop>
+    ensures { Answers result (fail_line line.old) }
+{
+    let name = line.name(alloc)?;
+    let calls = calls(line)?;
+    end(line)?;
+    Ok(Event::Fail { name, calls })
+}
+
 /// What a line says behind its verb.
 fn by_verb(alloc: Global, verb: Verb, line: &mut Line<'_>) -> Result<Event, Stop>
     ensures { Answers result (by_verb verb line.old) }
@@ -247,6 +308,11 @@ fn by_verb(alloc: Global, verb: Verb, line: &mut Line<'_>) -> Result<Event, Stop
             let (name, source, max) = pull(alloc, line)?;
             Ok(Event::Cycle { name, source, max })
         }
+        Verb::Stop => stop(alloc, line),
+        Verb::Fail => fail(alloc, line),
+        Verb::Start => Ok(Event::Start {
+            name: name(alloc, line)?,
+        }),
         Verb::Show => Ok(Event::Show {
             name: name(alloc, line)?,
         }),

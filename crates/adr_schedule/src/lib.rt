@@ -4,6 +4,7 @@
 #![tactic(auto)]
 
 mod commands;
+mod crashes;
 mod fault;
 mod laws;
 mod limits;

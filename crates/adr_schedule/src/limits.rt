@@ -8,3 +8,6 @@ pub const CONTROLLER_LIMIT: usize = 64;
 
 /// The items that a line asks for.
 pub const ASK_LIMIT: u64 = 10_000;
+
+/// The device calls that a plan lets pass.
+pub const PLAN_LIMIT: u64 = 1_000;

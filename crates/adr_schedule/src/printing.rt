@@ -3,10 +3,9 @@
 ghost use Rattle.std.specs.Prelude.{◌≡◌, ◌++◌, ◌∷◌, [], ℕ, List, IfOk, OnOk, codes, flat_map, map, take};
 ghost use Rattle.std.specs.Fmt.{decimal};
 ghost use Rattle.adr_token.specs.Spelling.{attribute_token, class_token, identifier_token, set_token, text_token};
-ghost use Rattle.adr_schedule.specs.Grammar.{crash_word};
 ghost use Rattle.adr_schedule.specs.Printed.{line_of, printed, set_tokens, spaced, token_of, token_text};
 
-use adr_disk::Crash;
+use crate::crashes::crash_word;
 use adr_event::Event;
 use adr_schema::{Assignments, NoMemory, Text, Value};
 use adr_token::{
@@ -88,16 +87,6 @@ fn push_sets(alloc: Global, out: &mut Vec<u8>, values: &Assignments) -> Result<(
         above = Some(attr);
     }
     Ok(())
-}
-
-fn crash_word(how: Crash) -> &'static [u8]
-    ensures { result.now ≡ crash_word how }
-{
-    match how {
-        Crash::Kept => b"kept".as_slice(),
-        Crash::Lost => b"lost".as_slice(),
-        Crash::Torn => b"torn".as_slice(),
-    }
 }
 
 fn push_add<'a>(

@@ -171,6 +171,10 @@ impl Seen {
             Event::Deliver { name, reply } => self.cause_of_deliver(name, reply),
             Event::Pull { name, source, .. } => self.unless_controllers(name, source),
             Event::Cycle { name, source, .. } => self.unless_controllers(name, source),
+            Event::StopAfter { name, .. } => self.unless_controller(name),
+            Event::Fail { name, .. } => self.unless_controller(name),
+            Event::Stop { name } => self.unless_controller(name),
+            Event::Start { name } => self.unless_controller(name),
             Event::Show { name } => self.unless_controller(name),
             Event::Vector { name } => self.unless_controller(name),
             Event::Marks { name } => self.unless_controller(name),
@@ -180,10 +184,6 @@ impl Seen {
             Event::Install { .. } => Some(Cause::NoCommand),
             Event::Snapshot { .. } => Some(Cause::NoCommand),
             Event::Rollback { .. } => Some(Cause::NoCommand),
-            Event::StopAfter { .. } => Some(Cause::NoCommand),
-            Event::Fail { .. } => Some(Cause::NoCommand),
-            Event::Stop { .. } => Some(Cause::NoCommand),
-            Event::Start { .. } => Some(Cause::NoCommand),
         }
     }
 

@@ -19,13 +19,16 @@ pub enum Verb {
     Deliver,
     Pull,
     Cycle,
+    Stop,
+    Fail,
+    Start,
     Show,
     Vector,
     Marks,
 }
 
 /// All verbs.
-const VERBS: [Verb; 16] = [
+const VERBS: [Verb; 19] = [
     Verb::Controller,
     Verb::Time,
     Verb::Add,
@@ -39,6 +42,9 @@ const VERBS: [Verb; 16] = [
     Verb::Deliver,
     Verb::Pull,
     Verb::Cycle,
+    Verb::Stop,
+    Verb::Fail,
+    Verb::Start,
     Verb::Show,
     Verb::Vector,
     Verb::Marks,
@@ -62,6 +68,9 @@ impl Verb {
             Verb::Deliver => b"deliver".as_slice(),
             Verb::Pull => b"pull".as_slice(),
             Verb::Cycle => b"cycle".as_slice(),
+            Verb::Stop => b"stop".as_slice(),
+            Verb::Fail => b"fail".as_slice(),
+            Verb::Start => b"start".as_slice(),
             Verb::Show => b"show".as_slice(),
             Verb::Vector => b"vector".as_slice(),
             Verb::Marks => b"marks".as_slice(),

@@ -1,0 +1,64 @@
+-- What lines may say is typed.
+use Rattle.std.proofs.Common.{◌≡◌, ℕ, List, [], ◌∷◌, length, inl, inr, sym, subst, true}
+use Rattle.std.specs.Prelude.{nat_le}
+use Rattle.std.specs.Str.{is_utf8}
+use Rattle.std.proofs.lemmas.Bool.{and_parts}
+use Rattle.adr_event.specs.declared.event.Event.{Event}
+use Rattle.adr_event.specs.declared.event.Event.TheVariants as events
+use Rattle.adr_schema.specs.Assignments.{Given}
+use Rattle.adr_schema.specs.declared.content.Value.{Value as Item}
+use Rattle.adr_schema.specs.declared.content.Value.TheVariants.{Text, Number, Flag, Octets, Ref}
+use Rattle.adr_token.specs.Texts.{is_text}
+use Rattle.adr_token.specs.Spelled.{SpellsValue, SpellsValues}
+use Rattle.adr_schedule.specs.Grammar.{tokens_in, sets, HaveSpellings, IsAllowed}
+use Rattle.adr_schedule.specs.Seen.{Seen, nothing_seen, seen_after, IsFollowing}
+use Rattle.adr_model.specs.Member.{Each}
+use Rattle.adr_law_recorded.specs.Typed.{IsTypedValue, AreTypedValues, IsTyped, AreTyped}
+
+-- ---- values
+
+text_typed : (text : List ℕ) → is_text text ≡ true → is_utf8 text ≡ true
+text_typed text is = (and_parts (nat_le (length text) 65535) (is_utf8 text) is).1
+
+value_typed : (v : Item) (bytes : List ℕ) → SpellsValue v bytes → IsTypedValue v
+value_typed (Text text) bytes q = text_typed text q.0
+value_typed (Number number) bytes q = q.0
+value_typed (Flag flag) bytes q = tt
+value_typed (Octets octets) bytes q = tt
+value_typed (Ref id) bytes q = q.0.0
+
+values_typed : (vs : List Item) (bytes : List ℕ) → SpellsValues vs bytes → Each IsTypedValue vs
+values_typed [] bytes q v m = absurd m
+values_typed (x ∷ []) bytes q v (inl e) = subst IsTypedValue (sym e) (value_typed x bytes q)
+values_typed (x ∷ []) bytes q v (inr m) = absurd m
+values_typed (x ∷ y ∷ vs) bytes q v (inl e) = subst IsTypedValue (sym e) (value_typed x q.0 q.2)
+values_typed (x ∷ y ∷ vs) bytes q v (inr m) = values_typed (y ∷ vs) q.1 q.3 v m
+
+given_typed : (gs : List Given) → HaveSpellings (sets gs) → AreTypedValues gs
+given_typed [] h g m = absurd m
+given_typed (x ∷ gs) h g (inl e) = subst (λ (z : Given). Each IsTypedValue z.1) (sym e) (values_typed x.1 h.0.1.1 h.0.1.3)
+given_typed (x ∷ gs) h g (inr m) = given_typed gs h.1 g m
+
+-- ---- events
+
+event_typed : (e : Event) → IsAllowed e → IsTyped e
+unfolding tokens_in
+event_typed (events.Controller name dsa inv) (line, (verb, (to, (of_dsa, (of_inv, end))))) = (of_dsa.1.0.0, of_inv.1.0.0)
+event_typed (events.Add name guid class parent text values) (line, (verb, (to, (of_guid, (of_class, (of_parent, (of_text, given))))))) =
+    (of_guid.1.0.0, of_parent.1.0.0, text_typed text of_text.1.0, given_typed values given)
+event_typed (events.Modify name guid values) (line, (verb, (to, (of_guid, given)))) = (of_guid.1.0.0, given_typed values given)
+event_typed (events.Rename name guid parent text) (line, (verb, (to, (of_guid, (of_parent, (of_text, end)))))) =
+    (of_guid.1.0.0, of_parent.1.0.0, text_typed text of_text.1.0)
+event_typed (events.Delete name guid) (line, (verb, (to, (of_guid, end)))) = of_guid.1.0.0
+event_typed (events.Link name from attr to) (line, (verb, (at, (of_from, (of_attr, (of_to, end)))))) = (of_from.1.0.0, of_to.1.0.0)
+event_typed (events.Unlink name from attr to) (line, (verb, (at, (of_from, (of_attr, (of_to, end)))))) = (of_from.1.0.0, of_to.1.0.0)
+event_typed _ allowed = tt
+
+all_typed : (es : List Event) (seen : Seen) → IsFollowing seen es → AreTyped es
+all_typed [] seen follow e m = absurd m
+all_typed (x ∷ es) seen follow e (inl is) = subst IsTyped (sym is) (event_typed x follow.1)
+all_typed (x ∷ es) seen follow e (inr m) = all_typed es (seen_after seen x) follow.2 e m
+
+-- what may follow from the beginning on is typed
+pub following_typed : (es : List Event) → IsFollowing nothing_seen es → AreTyped es
+following_typed es follow = all_typed es nothing_seen follow

@@ -1,0 +1,22 @@
+-- What a state of a log asks a partner is in range.
+use Rattle.std.proofs.Common.{ℕ, arith}
+use Rattle.std.specs.BTreeMap.{is_at}
+use Rattle.adr_stamp.specs.Order.{identifier_order}
+use Rattle.adr_wire.specs.Ranges.{IsU32, IsMark}
+use Rattle.adr_model.specs.Update.{Identifier}
+use Rattle.adr_model.specs.Place.{identifier}
+use Rattle.adr_model.specs.Store.{Kept, State, no_mark}
+use Rattle.adr_model.specs.Serve.{ask}
+use Rattle.adr_law_logs.proofs.Tables.{each_found}
+use Rattle.adr_records.specs.Logged.{IsLogged}
+use Rattle.adr_law_recorded.specs.Ranged.{IsRangedRequest}
+
+pub no_mark_in_range : IsMark no_mark
+no_mark_in_range = (omega arith, (omega arith, omega arith))
+
+pub asked_in_range : (s : State) (partner : Identifier) (max : ℕ) → IsLogged s → IsU32 max → IsRangedRequest (ask s partner max)
+asked_in_range s partner max logged few = record {
+  mark = each_found (λ (k : Kept). IsMark k.mark) (is_at (identifier_order partner)) s.store.marks
+      (record { inv = identifier 0; mark = no_mark }) no_mark_in_range (λ k m. (logged.spelled.marks k m).1.1);
+  max = few;
+}

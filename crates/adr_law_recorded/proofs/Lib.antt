@@ -1,0 +1,9 @@
+pub mod Bodied
+pub mod Beginning
+pub mod Collected
+pub mod Taken
+pub mod Asked
+pub mod Served
+pub mod Values
+pub mod Known
+pub mod Written
