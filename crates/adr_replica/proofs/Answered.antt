@@ -94,10 +94,10 @@ serve_makes w r (Err _) = (λ none. refl, λ p of. absurd (cc of))
 
 -- ---- a call that was made
 
-module _ (is_held : Type 0) (r q : Replica) (past later : Past) (po : Option Pending) (down : Bool) (how : Option Hindrance) (came : Came is_held r q past later po down how) (none : how ≡ None) where
+module _ (is_held : Type 0) (r q : Replica) (past later : Past) (po : Option Pending) (state : Option State) (down : Bool) (how : Option Hindrance) (came : Came is_held r q past later po state down how) (none : how ≡ None) where
   pub gone_made : (w : World) (gone : Gone) (told : Outcome) → StandsIn w r past → Makes w r po gone told → where_up (stays w) r.standing gone ≡ (world_with w q later, told)
   gone_made w gone told stands makes =
-      ap (λ st. where_up (stays w) st gone) (came.was_up none)
+      ap (λ st. where_up (stays w) st gone) (came.was_up none).0
       ∙ by_option po (gone ≡ (world_with w q later, told))
       (λ idle. makes.0 idle ∙ ap (λ x. (x, told)) (same_world w r q past later stands (came.idle none idle).0 (came.idle none idle).1))
       (λ p of. makes.1 p of ∙ came.done none p of w told stands)
@@ -105,7 +105,7 @@ module _ (is_held : Type 0) (r q : Replica) (past later : Past) (po : Option Pen
   pub sent_made : (w : World) (t : Result Reply ServeRefusal) → StandsIn w r past → po ≡ served_by r.safe t → where_up (nothing w) r.standing (after_serve w r t) ≡ (world_with w q later, serve_told t, serve_sent t)
   sent_made w t stands is =
       let makes = serve_makes w r t in
-      ap (λ st. where_up (nothing w) st (after_serve w r t)) (came.was_up none)
+      ap (λ st. where_up (nothing w) st (after_serve w r t)) (came.was_up none).0
       ∙ by_option po (after_serve w r t ≡ (world_with w q later, serve_told t, serve_sent t))
       (λ idle. makes.0 (sym is ∙ idle) ∙ ap (λ x. (x, serve_told t, serve_sent t)) (same_world w r q past later stands (came.idle none idle).0 (came.idle none idle).1))
       (λ p of.

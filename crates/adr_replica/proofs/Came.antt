@@ -70,10 +70,10 @@ pub data Hindered (r q : Replica) (past later : Past) (po : Option Pending) (tol
       → Hindered r q past later po told
 
 -- by how it ended
-pub record Came (is_held : Type 0) (r q : Replica) (past later : Past) (po : Option Pending) (down : Bool) (how : Option Hindrance) : Type 0 where
+pub record Came (is_held : Type 0) (r q : Replica) (past later : Past) (po : Option Pending) (state : Option State) (down : Bool) (how : Option Hindrance) : Type 0 where
   pub held : is_held
   pub given : later.given ≡ past.given
-  pub was_up : how ≡ None → r.standing ≡ Up
+  pub was_up : how ≡ None → (r.standing ≡ Up) × (state ≡ Some r.safe)
   pub idle : how ≡ None → po ≡ None → IsUndone r past q later
   pub done : how ≡ None → (p : Pending) → po ≡ Some p → (w : World) (o : Outcome) → StandsIn w r past → commit w r p o ≡ (world_with w q later, o)
   pub hinders : (h : Hindrance) → how ≡ Some h → (told : Outcome) → hindered_so h down ≡ Some told → Hindered r q past later po told
@@ -118,11 +118,11 @@ module _ {K : Type 0} where
 -- ---- the call
 
 module _ {K : Type 0} (k : Ghosts K) (read safe torn : K → Started State) (plan : K → Option Plan) (is_down : K → Bool)
+    (name : List ℕ) (dsa : Identifier) (old : Running K) (kept : Option Pending) (held : IsHeld read safe torn plan is_down name dsa old kept) (order : IsInOrder k old)
     (keeps_it : (x : K) (f : Found State) → k.is_at x f → k.is_failed x ≡ false → (read x ≡ Ok f) × (safe x ≡ Ok f) × (torn x ≡ Ok f))
     (goes : (old new : K) (c : Change) (how : Option Hindrance) (book : Book) (r : Replica) (p : Pending)
     → k.is_at old (safe_found r) → k.is_failed old ≡ false → k.can_follow r.safe c → is_down old ≡ false → read_found r ≡ safe_found r → Has read safe torn plan old r
-    → p.change ≡ c → Ran k old c how new → GoesAs (Has read safe torn plan) is_down how r (committed book r p) new)
-    (name : List ℕ) (dsa : Identifier) (old : Running K) (kept : Option Pending) (held : IsHeld read safe torn plan is_down name dsa old kept) (order : IsInOrder k old) where
+    → p.change ≡ c → Ran k old c how new → GoesAs (Has read safe torn plan) is_down how r (committed book r p) new) where
   abbrev r : Replica
   r = seen read safe plan name old kept
 
@@ -172,7 +172,7 @@ module _ {K : Type 0} (k : Ghosts K) (read safe torn : K → Started State) (pla
     CameBy how =
         let new = left_by is_down how mid in
         let x = come how kept ahead.kept in
-        Came (IsHeld read safe torn plan is_down name dsa new x) r (seen read safe plan name new x) past (come how past ahead.past) (po r.safe) new.down how
+        Came (IsHeld read safe torn plan is_down name dsa new x) r (seen read safe plan name new x) past (come how past ahead.past) (po r.safe) old.state new.down how
 
     running : (how : Option Hindrance) → Calls k changes old mid how → (how ≡ Some Down → ⊥) → (how ≡ Some Failed → ⊥) → AtRest
     running how calls up sound =
@@ -209,31 +209,31 @@ module _ {K : Type 0} (k : Ghosts K) (read safe torn : K → Started State) (pla
 
       done_so : Calls k changes old mid None → CameBy None
       done_so calls =
-          let com = ran None calls in
+          let commits = ran None calls in
           let g = went_so None calls in
-          let stands = ap (λ b. standing_by b mid.state) com.still_up ∙ ap (λ o. standing_by false o) (com.done refl) ∙ g.1 in
+          let stands = ap (λ b. standing_by b mid.state) commits.still_up ∙ ap (λ o. standing_by false o) (commits.done refl) ∙ g.1 in
           let is = seen_so read safe torn plan name mid ahead.kept left g.0 named stands kept_ahead in
           record {
             held = held_so read safe torn plan is_down name dsa mid ahead.kept left is g.0
-                (λ s there. (?, kept_ahead ∙ none_kept (went r.plan 4) past.book r p g.1)) held.is_id dsas.0 dsas.1;
+                (λ s there. (g.2, kept_ahead ∙ none_kept (went r.plan 4) past.book r p g.1)) held.is_id dsas.0 dsas.1;
             given = ap (λ (x : Past). x.given) past_ahead;
-            was_up = λ _. rest.up;
+            was_up = λ _. (rest.up, rest.in_memory);
             idle = λ _ none. absurd (cc (of, none));
             done = λ _ x ofx w o stands. subst (λ y. commit w r y o ≡ (world_with w (seen read safe plan name mid ahead.kept) ahead.past, o)) (some_same p x (sym of ∙ ofx))
-                (commit_made w r (seen read safe plan name mid ahead.kept) past ahead.past p o o stands (com.within (inl refl) r.safe_end rest.at) is past_ahead (up_answers (went r.plan 4) o g.1));
+                (commit_made w r (seen read safe plan name mid ahead.kept) past ahead.past p o o stands (commits.within (inl refl) r.safe_end rest.at) is past_ahead (up_answers (went r.plan 4) o g.1));
             hinders = λ h none. absurd (cc none);
             wanted = λ h none. absurd (cc none);
           }
 
       fault_so : Calls k changes old mid (Some DiskFault) → CameBy (Some DiskFault)
       fault_so calls =
-          let com = ran (Some DiskFault) calls in
+          let commits = ran (Some DiskFault) calls in
           let g = went_so (Some DiskFault) calls in
           let stopped = is_down mid.keeper in
           let new = downed stopped mid in
-          let faulty = (com.fault refl).0 in
+          let faulty = (commits.fault refl).0 in
           let has = subst (λ x. Has read safe torn plan x left) (downed_keeper stopped mid) g.0 in
-          let is = seen_so read safe torn plan name new ahead.kept left has named (downed_stands stopped mid faulty com.still_up ∙ g.1) kept_ahead in
+          let is = seen_so read safe torn plan name new ahead.kept left has named (downed_stands stopped mid faulty commits.still_up ∙ g.1) kept_ahead in
           record {
             held = held_so read safe torn plan is_down name dsa new ahead.kept left is has (λ s there. absurd (cc (there, downed_state stopped mid faulty))) held.is_id dsas.0 dsas.1;
             given = ap (λ (x : Past). x.given) past_ahead;
@@ -243,15 +243,15 @@ module _ {K : Type 0} (k : Ghosts K) (read safe torn : K → Started State) (pla
             hinders = λ h ish told tells.
                 let tells_it : hindered_so DiskFault new.down ≡ Some told = ap (λ x. hindered_so x new.down) (some_same DiskFault h ish) ∙ tells in
                 Ended p rest.up of
-                (λ w o stands. commit_made w r (seen read safe plan name new ahead.kept) past ahead.past p o told stands (com.within (inr refl) r.safe_end rest.at) is past_ahead
-                (fault_answers (went r.plan 4) o stopped g.1 ∙ ap of_fault (sym (downed_down stopped mid com.still_up)) ∙ some_same (of_fault new.down) told tells_it));
+                (λ w o stands. commit_made w r (seen read safe plan name new ahead.kept) past ahead.past p o told stands (commits.within (inr refl) r.safe_end rest.at) is past_ahead
+                (fault_answers (went r.plan 4) o stopped g.1 ∙ ap of_fault (sym (downed_down stopped mid commits.still_up)) ∙ some_same (of_fault new.down) told tells_it));
             wanted = λ h ish wants. absurd (⊎_elim (λ (f : h ≡ Full). let no : ⊥ = cc (ish, f) in no) (λ (f : h ≡ NoMemory). let no : ⊥ = cc (ish, f) in no) wants);
           }
 
       full_so : Calls k changes old mid (Some Full) → CameBy (Some Full)
       full_so calls =
-          let com = ran (Some Full) calls in
-          let is = com.full refl in
+          let commits = ran (Some Full) calls in
+          let is = commits.full refl in
           record {
             held = still_held mid kept is refl;
             given = refl;
@@ -261,17 +261,17 @@ module _ {K : Type 0} (k : Ghosts K) (read safe torn : K → Started State) (pla
             hinders = λ h ish told tells.
                 let tells_it : hindered_so Full mid.down ≡ Some told = ap (λ x. hindered_so x mid.down) (some_same Full h ish) ∙ tells in
                 Ended p rest.up of
-                (λ w o stands. commit_full w r (seen read safe plan name mid kept) past past p o o stands (com.beyond refl r.safe_end rest.at) (still_seen mid kept is refl) refl
+                (λ w o stands. commit_full w r (seen read safe plan name mid kept) past past p o o stands (commits.beyond refl r.safe_end rest.at) (still_seen mid kept is refl) refl
                 ∙ ap (λ t. (world_with w (seen read safe plan name mid kept) past, t)) (some_same (full Log log_limit) told tells_it));
             wanted = λ h ish wants. (still_seen mid kept is refl, refl);
           }
 
       short_so : Calls k changes old mid (Some NoMemory) → CameBy (Some NoMemory)
       short_so calls =
-          let com = ran (Some NoMemory) calls in
+          let commits = ran (Some NoMemory) calls in
           let g = went_so (Some NoMemory) calls in
-          let there = (com.no_memory refl).0 ∙ rest.in_memory in
-          let stands = ap (λ b. standing_by b mid.state) com.still_up ∙ ap (λ o. standing_by false o) there ∙ sym rest.up in
+          let there = (commits.no_memory refl).0 ∙ rest.in_memory in
+          let stands = ap (λ b. standing_by b mid.state) commits.still_up ∙ ap (λ o. standing_by false o) there ∙ sym rest.up in
           let is = seen_so read safe torn plan name mid kept r g.0 refl stands refl in
           record {
             held = held_so read safe torn plan is_down name dsa mid kept r is g.0 (λ s _. (g.1, rest.none)) held.is_id held.reads held.keeps;
@@ -292,7 +292,7 @@ module _ {K : Type 0} (k : Ghosts K) (read safe torn : K → Started State) (pla
         record {
           held = still_held mid ahead.kept is keeps;
           given = ap (λ (x : Past). x.given) comes;
-          was_up = λ _. rest.up;
+          was_up = λ _. (rest.up, rest.in_memory);
           idle = λ _ _. (still_seen mid ahead.kept is keeps, comes);
           done = λ _ p ofp. absurd (cc (of, ofp));
           hinders = λ h none. absurd (cc none);
@@ -348,7 +348,7 @@ module _ {K : Type 0} (k : Ghosts K) (read safe torn : K → Started State) (pla
 
     -- with nothing to commit it ends well, or memory is wanting
     not_idle : (how : Option Hindrance) (X : Type 0) → Calls k changes old mid how → AtRest → po r.safe ≡ None → (how ≡ None → ⊥) → (how ≡ Some NoMemory → ⊥) → X
-    not_idle how X calls rest of some wants = ?
+    not_idle how X calls rest of some wants = absurd (⊎_elim some wants (calls.idle r.safe rest.in_memory (sym (makes None of))))
 
     pub came : (how : Option Hindrance) → Calls k changes old mid how → CameBy how
     came None calls =
@@ -370,9 +370,9 @@ module _ {K : Type 0} (k : Ghosts K) (read safe torn : K → Started State) (pla
     pub came_so : (v : Replica) (past_ahead : Past) (kept_ahead : Option Pending) (how : Option Hindrance) (new : Running K) (x : Option Pending) (later : Past) → r ≡ v
         → past_ahead ≡ (after_commit past v (po v.safe)).past → kept_ahead ≡ (after_commit past v (po v.safe)).kept
         → new ≡ left_by is_down how mid → x ≡ come how kept kept_ahead → later ≡ come how past past_ahead
-        → Calls k changes old mid how → Came (IsHeld read safe torn plan is_down name dsa new x) v (seen read safe plan name new x) past later (po v.safe) new.down how
+        → Calls k changes old mid how → Came (IsHeld read safe torn plan is_down name dsa new x) v (seen read safe plan name new x) past later (po v.safe) old.state new.down how
     came_so v past_ahead kept_ahead how new x later is aheadp aheadk newly keeps comes calls =
-        let Told : Replica → Running K → Option Pending → Past → Type 0 = λ v n y l. Came (IsHeld read safe torn plan is_down name dsa n y) v (seen read safe plan name n y) past l (po v.safe) n.down how in
+        let Told : Replica → Running K → Option Pending → Past → Type 0 = λ v n y l. Came (IsHeld read safe torn plan is_down name dsa n y) v (seen read safe plan name n y) past l (po v.safe) old.state n.down how in
         let kept_is : x ≡ come how kept ahead.kept = keeps ∙ ap (come how kept) (aheadk ∙ ap (λ v. (after_commit past v (po v.safe)).kept) (sym is)) in
         let past_is : later ≡ come how past ahead.past = comes ∙ ap (come how past) (aheadp ∙ ap (λ v. (after_commit past v (po v.safe)).past) (sym is)) in
         subst (λ v. Told v new x later) is

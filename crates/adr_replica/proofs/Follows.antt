@@ -21,9 +21,9 @@ use Rattle.adr_state.specs.Refusal.{IsOverfull}
 use Rattle.adr_law_formed.specs.Spelled.{IsSpelledReply}
 use Rattle.adr_records.specs.Logged.{IsLogged, MayBeRecorded}
 use Rattle.adr_controller.specs.Able.{written_in, served_in, taken_in, change_of_write, change_of_served, change_of_taken, request_shows, reply_shows}
-use Rattle.adr_replica.specs.Typed.{IsTypedWrite}
-use Rattle.adr_replica.specs.Ranged.{IsRangedReply}
-use Rattle.adr_replica.specs.Laws.{LoggedFits, QuarantineIsRecorded, RecordedIsLogged, TakenIsRecorded, WrittenIsRecorded}
+use Rattle.adr_law_recorded.specs.Typed.{IsTypedWrite}
+use Rattle.adr_law_recorded.specs.Ranged.{IsRangedReply}
+use Rattle.adr_law_recorded.specs.Laws.{LoggedFits, QuarantineIsRecorded, RecordedIsLogged, TakenIsRecorded, WrittenIsRecorded}
 
 -- what a controller asks of a change that it commits
 pub record Recorded (s : State) (c : Change) : Type 0 where

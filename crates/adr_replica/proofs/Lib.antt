@@ -2,6 +2,7 @@ mod Walks
 mod Seen
 mod Went
 mod Came
+mod Calls
 mod Results
 mod Answered
 mod Started

@@ -4,6 +4,3 @@ pub mod Told
 pub mod Held
 pub mod Settled
 pub mod Led
-pub mod Typed
-pub mod Ranged
-pub mod Laws

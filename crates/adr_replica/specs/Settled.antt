@@ -1,10 +1,12 @@
 -- What a call leaves that was hindered, or not.
-use Rattle.std.specs.Prelude.{Bool, true, false, Option, Some, None}
+use Rattle.std.specs.Prelude.{Bool, true, false, Option, Some, None, Result, Ok, Err}
 use Rattle.adr_event.specs.declared.answer.Outcome.{Outcome}
 use Rattle.adr_event.specs.declared.answer.Outcome.TheVariants as outcomes
 use Rattle.adr_event.specs.declared.refusal.Table.TheVariants.{Log}
 use Rattle.adr_model.specs.Lengths.{log_limit}
 use Rattle.adr_model.specs.Refused.{full}
+use Rattle.adr_journal.specs.declared.keeper.StartRefusal.{StartRefusal}
+use Rattle.adr_journal.specs.declared.keeper.StartRefusal.TheVariants as starts
 use Rattle.adr_controller.specs.Running.{Running}
 use Rattle.adr_controller.specs.declared.refusal.Hindrance.{Hindrance}
 use Rattle.adr_controller.specs.declared.refusal.Hindrance.TheVariants.{Down, Failed, Full, DiskFault, NoMemory}
@@ -24,6 +26,14 @@ abbrev pub left_by : {K : Type 0} → (K → Bool) → Option Hindrance → Runn
 left_by is_down (Some DiskFault) c = downed (is_down c.keeper) c
 left_by is_down _ c = c
 
+-- a start that wanted memory when its sync was made has what is ahead all the same
+abbrev pub hindrance_of_start : Option StartRefusal → Option Hindrance
+hindrance_of_start None = None
+hindrance_of_start (Some starts.DiskFault) = Some DiskFault
+hindrance_of_start (Some (starts.NoMemory true)) = None
+hindrance_of_start (Some (starts.NoMemory false)) = Some NoMemory
+hindrance_of_start (Some (starts.Damaged place)) = Some NoMemory
+
 -- ---- what is answered
 
 abbrev pub of_fault : Bool → Outcome
@@ -36,3 +46,8 @@ hindered_so Failed down = Some outcomes.Failed
 hindered_so Full down = Some (full Log log_limit)
 hindered_so DiskFault down = Some (of_fault down)
 hindered_so NoMemory down = None
+
+-- an answer without a message
+abbrev pub unsent : {A E : Type 0} → Result Outcome E → Result (Outcome × Option A) E
+unsent (Ok outcome) = Ok (outcome, None)
+unsent (Err e) = Err e

@@ -1,12 +1,13 @@
 //! What a call leaves that was hindered, or not, and what is answered.
 
 ghost use Rattle.std.specs.Prelude.{◌≡◌, ◌⊎◌, Some, IfOk, OnErr};
+ghost use Rattle.adr_journal.specs.Ended.{ended_start};
 ghost use Rattle.adr_controller.specs.Ended.{call_hindrance};
-ghost use Rattle.adr_replica.specs.Settled.{come, hindered_so, left_by};
+ghost use Rattle.adr_replica.specs.Settled.{come, hindered_so, hindrance_of_start, left_by};
 
 use crate::past::{Ahead, Kept, Past};
 use crate::refused::full;
-use adr_controller::{CallRefusal, Controller, Hindrance, PlannedKeeper};
+use adr_controller::{CallRefusal, Controller, Hindrance, PlannedKeeper, StartRefusal};
 use adr_event::{Outcome, Table};
 use adr_schema::NoMemory;
 use adr_state::LOG_LIMIT;
@@ -19,6 +20,19 @@ pub(crate) fn hindrance_in<T, R>(made: &Result<T, CallRefusal<R>>) -> Option<Hin
     match made {
         Err(CallRefusal::Hindered(hindrance)) => Some(*hindrance),
         _ => None,
+    }
+}
+
+/// What hindered a start. One that wanted memory when its sync was made has reached the disk.
+pub(crate) fn hindrance_of_start(started: &Result<(), StartRefusal>) -> Option<Hindrance>
+    ensures { result ≡ hindrance_of_start (ended_start started.now) }
+{
+    match started {
+        Ok(()) => None,
+        Err(StartRefusal::DiskFault) => Some(Hindrance::DiskFault),
+        Err(StartRefusal::NoMemory { settled: true }) => None,
+        Err(StartRefusal::NoMemory { settled: false }) => Some(Hindrance::NoMemory),
+        Err(StartRefusal::Damaged { .. }) => Some(Hindrance::NoMemory),
     }
 }
 

@@ -11,10 +11,10 @@
 mod counts;
 mod hindered;
 mod keepers;
-mod laws;
 mod past;
 mod refused;
 mod replica;
+mod sent;
 mod told;
 mod words;
 

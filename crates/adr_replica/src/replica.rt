@@ -5,8 +5,8 @@ ghost use Rattle.adr_wire.specs.Ranges.{IsId};
 ghost use Rattle.adr_law_journal.specs.Log.{start_of};
 ghost use Rattle.adr_law_journal.specs.Replicas.{read_found};
 ghost use Rattle.adr_law_formed.specs.Spelled.{IsSpelledReply};
-ghost use Rattle.adr_replica.specs.Typed.{IsTypedWrite};
-ghost use Rattle.adr_replica.specs.Ranged.{IsRangedReply, IsRangedRequest};
+ghost use Rattle.adr_law_recorded.specs.Typed.{IsTypedWrite};
+ghost use Rattle.adr_law_recorded.specs.Ranged.{IsRangedReply, IsRangedRequest};
 ghost use Rattle.adr_model.specs.Replica.{Down as stands_down, Failed as stands_failed, Fails, Stops, Up as stands_up, on_new_disk};
 ghost use Rattle.adr_model.specs.Serve.{ask, serve};
 ghost use Rattle.adr_model.specs.Step.{ClientWrite, write_of};
@@ -19,15 +19,10 @@ ghost use Rattle.adr_records.specs.Head.{head_at};
 ghost use Rattle.adr_records.specs.Logged.{IsLogged};
 ghost use Rattle.adr_replica.specs.Led.{IsDone, IsUndone, Leads, LeadsTo, StandsIn, synced, world_with};
 
-use crate::counts::served;
-use crate::hindered::{hindered, hindrance_in, settle, stop_if_stopped};
+use crate::hindered::{hindered, hindrance_in, hindrance_of_start, settle};
 use crate::keepers::{is_in_order, keepers_go_as_planned};
-use crate::laws::{
-    logged_states_fit, new_controllers_may_begin, quarantines_are_recorded,
-    recorded_changes_leave_logged_states, replies_are_in_range, requests_are_in_range,
-    taken_replies_are_recorded, writes_are_recorded,
-};
 use crate::past::{Ahead, Kept, Past};
+use crate::sent::{sent, unsent};
 use crate::refused::{serve_refused, take_refused, write_refused};
 use crate::told::Deed;
 use adr_controller::{
@@ -36,6 +31,11 @@ use adr_controller::{
 use adr_disk::{Crash, MemDisk};
 use adr_event::{Event, Outcome};
 use adr_journal::Journal;
+use adr_law_recorded::{
+    logged_states_fit, new_controllers_may_begin, quarantines_are_recorded,
+    recorded_changes_leave_logged_states, replies_are_in_range, requests_are_in_range,
+    taken_replies_are_recorded, writes_are_recorded,
+};
 use adr_packet::{Reply, Request};
 use adr_records::Records;
 use adr_schema::{NoMemory, Schema, Text};
@@ -218,9 +218,9 @@ impl Replica {
         settle(&mut self.controller, &mut self.kept, past, ahead, how);
         let down = self.controller.is_down();
         match made {
-            Ok(reply) => Ok((served(&reply)?, Some(reply))),
-            Err(CallRefusal::Refused(refusal)) => Ok((serve_refused(alloc, refusal)?, None)),
-            Err(CallRefusal::Hindered(hindrance)) => Ok((hindered(alloc, hindrance, down)?, None)),
+            Ok(reply) => sent(reply),
+            Err(CallRefusal::Refused(refusal)) => unsent(serve_refused(alloc, refusal)),
+            Err(CallRefusal::Hindered(hindrance)) => unsent(hindered(alloc, hindrance, down)),
         }
     }
 
@@ -299,25 +299,21 @@ impl Replica {
         ensures name { self.new.name ≡ self.old.name }
         ensures given { past.new.given ≡ past.old.given }
     {
+        let ahead = Ahead::of(past, &Deed::Starts(&*self));
         if self.controller.state().is_some() {
             return Ok(Outcome::Up);
         }
         self.controller.revive();
-        let ahead = Ahead::of(past, &Deed::Starts(&*self));
         keepers_go_as_planned::<Journal<MemDisk, Records>>();
-        match self.controller.start() {
-            Ok(()) => {
-                *past = ahead.past;
-                self.kept = ahead.kept;
-                Ok(Outcome::Ok)
-            }
-            Err(StartRefusal::DiskFault) => {
-                *past = ahead.past;
-                self.kept = ahead.kept;
-                stop_if_stopped(&mut self.controller);
-                if self.controller.is_stopped() { Ok(Outcome::Stopped) } else { Ok(Outcome::Disk) }
-            }
-            Err(StartRefusal::NoMemory) => Err(AllocError),
+        let started = self.controller.start();
+        let how = hindrance_of_start(&started);
+        settle(&mut self.controller, &mut self.kept, past, ahead, how);
+        let stopped = self.controller.is_stopped();
+        match started {
+            Ok(()) => Ok(Outcome::Ok),
+            Err(StartRefusal::DiskFault) if stopped => Ok(Outcome::Stopped),
+            Err(StartRefusal::DiskFault) => Ok(Outcome::Disk),
+            Err(StartRefusal::NoMemory { .. }) => Err(AllocError),
             Err(StartRefusal::Damaged { .. }) => unreachable!(),
         }
     }

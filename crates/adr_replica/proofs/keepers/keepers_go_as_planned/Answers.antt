@@ -10,4 +10,4 @@ pub returns-clause-formats : goal.returns-clause-formats
 returns-clause-formats g c = λ k new e up none ran. g.met.K.PlannedKeeper.formats_unplanned k new e up none ran
 
 pub returns-clause-tells : goal.returns-clause-tells
-returns-clause-tells g c = ?
+returns-clause-tells g c = λ k. g.met.K.PlannedKeeper.tells_read k
