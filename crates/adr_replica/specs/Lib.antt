@@ -1,3 +1,6 @@
 pub mod Past
 pub mod Pending
+pub mod Told
+pub mod Held
+pub mod Settled
 pub mod Led

@@ -9,12 +9,19 @@
 #![tactic(auto)]
 
 mod counts;
+mod hindered;
+mod keepers;
 mod past;
 mod refused;
 mod replica;
+mod sent;
+mod told;
+mod words;
 
 pub use adr_event::{Event, Outcome};
 pub use adr_packet::{Reply, Request};
 pub use adr_state::State;
 pub use past::Past;
+pub use refused::full;
 pub use replica::Replica;
+pub use words::word;

@@ -17,7 +17,69 @@ ghost use Rattle.adr_model.specs.Write.{IsWellGiven, write};
 ghost use Rattle.adr_records.specs.Body.{following};
 ghost use Rattle.adr_records.specs.Head.{head_at};
 ghost use Rattle.adr_records.specs.Logged.{IsLogged};
-ghost use Rattle.adr_replica.specs.Led.{IsDone, IsUndone, Leads, LeadsTo, synced, world_with};
+ghost use Rattle.adr_replica.specs.Led.{IsDone, IsUndone, Leads, LeadsTo, StandsIn, synced, world_with};
+
+use crate::hindered::{hindered, hindrance_in, hindrance_of_start, settle};
+use crate::keepers::{is_in_order, keepers_go_as_planned};
+use crate::past::{Ahead, Kept, Past};
+use crate::sent::{sent, unsent};
+use crate::refused::{serve_refused, take_refused, write_refused};
+use crate::told::Deed;
+use adr_controller::{
+    CallRefusal, Controller, Keeper, PlannedKeeper, StartRefusal, commits_go_as_planned,
+};
+use adr_disk::{Crash, MemDisk};
+use adr_event::{Event, Outcome};
+use adr_journal::Journal;
+use adr_law_recorded::{
+    logged_states_fit, new_controllers_may_begin, quarantines_are_recorded,
+    recorded_changes_leave_logged_states, replies_are_in_range, requests_are_in_range,
+    taken_replies_are_recorded, writes_are_recorded,
+};
+use adr_packet::{Reply, Request};
+use adr_records::Records;
+use adr_schema::{NoMemory, Schema, Text};
+use adr_state::State;
+use std::alloc::{AllocError, Global};
+use std::marker::Model;
+use uuid::Uuid;
+
+/// The number of the schema that new controllers have.
+const FIRST_SCHEMA: u32 = 1;
+
+/// A controller under the name that a line gave it, on a journal in memory. What only proofs see of it is the call that
+/// is on its disk and isn't safe.
+#[derive(Drop)]
+pub struct Replica {
+    name: Text,
+    dsa: Uuid,
+    controller: Controller<Journal<MemDisk, Records>>,
+    kept: Kept,
+}
+
+impl Model for Replica {
+    ghost use Rattle.adr_model.specs.Replica.{Replica as Defined};
+    ghost use Rattle.adr_replica.specs.Held.{IsHeld, seen};
+
+    ghost Value = { Defined };
+
+    ghost view = { λ r. seen ⟦<Journal<MemDisk, Records> as PlannedKeeper>⟧.read ⟦<Journal<MemDisk, Records> as PlannedKeeper>⟧.safe
+        ⟦<Journal<MemDisk, Records> as PlannedKeeper>⟧.plan r.name r.controller r.kept };
+
+    ghost invariant = { λ r. IsHeld ⟦<Journal<MemDisk, Records> as PlannedKeeper>⟧.read ⟦<Journal<MemDisk, Records> as PlannedKeeper>⟧.safe
+        ⟦<Journal<MemDisk, Records> as PlannedKeeper>⟧.torn ⟦<Journal<MemDisk, Records> as PlannedKeeper>⟧.plan
+        ⟦<Journal<MemDisk, Records> as PlannedKeeper>⟧.is_down r.name r.dsa r.controller r.kept };
+}
+
+/// A new, empty controller.
+fn new_state(alloc: Global, dsa: Uuid, inv: Uuid) -> State
+    ensures { result ≡ empty_state dsa inv }
+{
+    match Schema::new(FIRST_SCHEMA) {
+        Some(schema) => State::new(alloc, dsa, inv, schema),
+        None => unreachable!(),
+    }
+}
 
 impl Replica {
     /// A new, empty controller on a new disk.
@@ -25,14 +87,37 @@ impl Replica {
         requires dsa { IsId dsa }
         requires inv { IsId inv }
         ensures { IfOk result (λ made. made ≡ on_new_disk name (empty_state dsa inv)) }
+    {
+        new_controllers_may_begin();
+
+        // A disk without a plan doesn't fail.
+        let Ok(controller) = Controller::format(Journal::in_memory(alloc), new_state(alloc, dsa, inv))
+        else {
+            return Err(AllocError);
+        };
+        is_in_order(&controller);
+        keepers_go_as_planned::<Journal<MemDisk, Records>>();
+        Ok(Replica {
+            name,
+            dsa,
+            controller,
+            kept: Kept::none(),
+        })
+    }
 
     /// The name that a line gave it.
     pub fn name(&self) -> &Text
         ensures { result.now ≡ self.now.name }
+    {
+        &self.name
+    }
 
     /// Its identifier, also while it is down.
     pub fn dsa(&self) -> Uuid
         ensures { result ≡ self.now.safe.dsa }
+    {
+        self.dsa
+    }
 
     /// Its state, or what is answered while it is down or failed.
     pub fn state(&self) -> Result<&State, Outcome>
@@ -40,6 +125,17 @@ impl Replica {
         ensures other { IfErr result (λ outcome.
             ((self.now.standing ≡ stands_down) × (outcome ≡ Outcome.Down))
             ⊎ ((self.now.standing ≡ stands_failed) × (outcome ≡ Outcome.Failed))) }
+    {
+        is_in_order(&self.controller);
+        keepers_go_as_planned::<Journal<MemDisk, Records>>();
+        if self.controller.is_down() {
+            return Err(Outcome::Down);
+        }
+        match self.controller.state() {
+            Some(state) => Ok(state),
+            None => Err(Outcome::Failed),
+        }
+    }
 
     /// A client's write, as an event has it, at a time in seconds.
     pub fn write(&mut self, alloc: Global, past: &mut Past, event: &Event, now: u64) -> Result<Outcome, NoMemory>
@@ -50,11 +146,48 @@ impl Replica {
         ensures err { OnErr result (IsUndone self.old past.old self.new past.new) }
         ensures name { self.new.name ≡ self.old.name }
         ensures given { past.new.given ≡ past.old.given }
+    {
+        let ahead = Ahead::of(
+            past,
+            &Deed::Writes {
+                replica: &*self,
+                event,
+                now,
+            },
+        );
+        is_in_order(&self.controller);
+        keepers_go_as_planned::<Journal<MemDisk, Records>>();
+        commits_go_as_planned::<Journal<MemDisk, Records>>();
+        recorded_changes_leave_logged_states();
+        logged_states_fit();
+        writes_are_recorded();
+        let made = self.controller.write(alloc, event, now);
+        let how = hindrance_in(&made);
+        settle(&mut self.controller, &mut self.kept, past, ahead, how);
+        let down = self.controller.is_down();
+        match made {
+            Ok(usn) => Ok(Outcome::Usn(usn)),
+            Err(CallRefusal::Refused(refusal)) => write_refused(alloc, refusal),
+            Err(CallRefusal::Hindered(hindrance)) => hindered(alloc, hindrance, down),
+        }
+    }
 
     /// What it asks a partner of this identifier, at most `max` items in one reply.
     pub fn ask(&self, alloc: Global, partner: Uuid, max: u32) -> Result<(Outcome, Option<Request>), NoMemory>
-        ensures { IfOk result (λ sent. (w : Defined) → where_up (nothing w) self.now.standing (w, Outcome.Ok, Some (ask self.now.safe partner max)) ≡ (w, sent.0, sent.1)) }
+        ensures asked { IfOk result (λ sent. (w : Defined) → where_up (nothing w) self.now.standing (w, Outcome.Ok, Some (ask self.now.safe partner max)) ≡ (w, sent.0, sent.1)) }
         ensures ranged { IfOk result (λ sent. IfSome sent.1 IsRangedRequest) }
+    {
+        is_in_order(&self.controller);
+        keepers_go_as_planned::<Journal<MemDisk, Records>>();
+        requests_are_in_range();
+        match self.controller.ask(alloc, partner, max) {
+            Ok(request) => Ok((Outcome::Ok, Some(request))),
+            Err(hindrance) => {
+                let down = self.controller.is_down();
+                Ok((hindered(alloc, hindrance, down)?, None))
+            }
+        }
+    }
 
     /// What a request is answered.
     pub fn serve(&mut self, alloc: Global, past: &mut Past, request: &Request) -> Result<(Outcome, Option<Reply>), NoMemory>
@@ -65,6 +198,31 @@ impl Replica {
             ⊎ IsDone self.old past.old (λ w. (where_up (nothing w) self.old.standing (after_serve w self.old (serve self.old.safe request.now))).0) self.new past.new) }
         ensures name { self.new.name ≡ self.old.name }
         ensures given { past.new.given ≡ past.old.given }
+    {
+        let ahead = Ahead::of(
+            past,
+            &Deed::Serves {
+                replica: &*self,
+                request,
+            },
+        );
+        is_in_order(&self.controller);
+        keepers_go_as_planned::<Journal<MemDisk, Records>>();
+        commits_go_as_planned::<Journal<MemDisk, Records>>();
+        recorded_changes_leave_logged_states();
+        logged_states_fit();
+        quarantines_are_recorded();
+        replies_are_in_range();
+        let made = self.controller.serve(alloc, request);
+        let how = hindrance_in(&made);
+        settle(&mut self.controller, &mut self.kept, past, ahead, how);
+        let down = self.controller.is_down();
+        match made {
+            Ok(reply) => sent(reply),
+            Err(CallRefusal::Refused(refusal)) => unsent(serve_refused(alloc, refusal)),
+            Err(CallRefusal::Hindered(hindrance)) => unsent(hindered(alloc, hindrance, down)),
+        }
+    }
 
     /// Takes a reply.
     pub fn take(&mut self, alloc: Global, past: &mut Past, reply: &Reply) -> Result<Outcome, NoMemory>
@@ -75,20 +233,61 @@ impl Replica {
             ⊎ IsDone self.old past.old (λ w. (where_up (stays w) self.old.standing (after_take w self.old reply.now (take self.old.safe reply.now))).0) self.new past.new) }
         ensures name { self.new.name ≡ self.old.name }
         ensures given { past.new.given ≡ past.old.given }
+    {
+        let ahead = Ahead::of(
+            past,
+            &Deed::Takes {
+                replica: &*self,
+                reply,
+            },
+        );
+        is_in_order(&self.controller);
+        keepers_go_as_planned::<Journal<MemDisk, Records>>();
+        commits_go_as_planned::<Journal<MemDisk, Records>>();
+        recorded_changes_leave_logged_states();
+        logged_states_fit();
+        taken_replies_are_recorded();
+        quarantines_are_recorded();
+        let made = self.controller.take(alloc, reply);
+        let how = hindrance_in(&made);
+        settle(&mut self.controller, &mut self.kept, past, ahead, how);
+        let down = self.controller.is_down();
+        match made {
+            Ok(taken) => Ok(Outcome::Took {
+                items: taken.items,
+                wrote: taken.wrote,
+                usn: taken.usn,
+            }),
+            Err(CallRefusal::Refused(refusal)) => take_refused(alloc, refusal),
+            Err(CallRefusal::Hindered(hindrance)) => hindered(alloc, hindrance, down),
+        }
+    }
 
     /// Lets so many writes and syncs of its disk pass, and crashes within the next.
     pub fn stop_after(&mut self, calls: u32, how: Crash)
         ensures { self.new ≡ record self.old { plan = Some (record { calls = calls; fault = Stops how }) } }
+    {
+        self.controller.stop_after(calls, how);
+    }
 
     /// Lets so many writes and syncs of its disk pass, and fails the next, which changes nothing.
     pub fn fail_after(&mut self, calls: u32)
         ensures { self.new ≡ record self.old { plan = Some (record { calls = calls; fault = Fails }) } }
+    {
+        self.controller.fail_after(calls);
+    }
 
     /// Stops it, and drops a plan. What its disk wasn't told to sync is kept.
     pub fn stop(&mut self, past: &mut Past)
         ensures stopped { Leads self.old past.old (λ w. stops w self.old) self.new past.new Outcome.Ok }
         ensures name { self.new.name ≡ self.old.name }
         ensures given { past.new.given ≡ past.old.given }
+    {
+        let ahead = Ahead::of(past, &Deed::Stops(&*self));
+        self.controller.crash(Crash::Kept);
+        *past = ahead.past;
+        self.kept = ahead.kept;
+    }
 
     /// Starts it, unless it is up.
     pub fn start(&mut self, past: &mut Past) -> Result<Outcome, NoMemory>
@@ -99,8 +298,30 @@ impl Replica {
             ⊎ ((self.old.standing ≢ stands_up) × IsDone self.old past.old (λ w. synced w self.old) self.new past.new)) }
         ensures name { self.new.name ≡ self.old.name }
         ensures given { past.new.given ≡ past.old.given }
+    {
+        let ahead = Ahead::of(past, &Deed::Starts(&*self));
+        if self.controller.state().is_some() {
+            return Ok(Outcome::Up);
+        }
+        self.controller.revive();
+        keepers_go_as_planned::<Journal<MemDisk, Records>>();
+        let started = self.controller.start();
+        let how = hindrance_of_start(&started);
+        settle(&mut self.controller, &mut self.kept, past, ahead, how);
+        let stopped = self.controller.is_stopped();
+        match started {
+            Ok(()) => Ok(Outcome::Ok),
+            Err(StartRefusal::DiskFault) if stopped => Ok(Outcome::Stopped),
+            Err(StartRefusal::DiskFault) => Ok(Outcome::Disk),
+            Err(StartRefusal::NoMemory { .. }) => Err(AllocError),
+            Err(StartRefusal::Damaged { .. }) => unreachable!(),
+        }
+    }
 
     /// A copy of the bytes on its disk, which a start would read.
     pub fn bytes(&self) -> Result<Vec<u8>, NoMemory>
         ensures { IfOk result (λ bytes. start_of head_at following bytes.items ≡ Ok (read_found self.now)) }
+    {
+        self.controller.bytes()
+    }
 }

@@ -1,0 +1,9 @@
+mod Walks
+mod Seen
+mod Went
+mod Came
+mod Calls
+mod Results
+mod Answered
+mod Started
+mod Follows

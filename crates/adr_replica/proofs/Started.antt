@@ -1,0 +1,187 @@
+-- What a stop and a start leave of a controller.
+use Rattle.std.proofs.Common.{◌≡◌, ◌∙◌, refl, sym, ap, subst, ℕ, List, [], ◌∷◌, Bool, true, false, Option, Some, None, Result, Ok, Err, IfSome, fold}
+use Rattle.adr_io.specs.declared.Fault.TheVariants.{Failed as failed_call}
+use Rattle.adr_event.specs.declared.answer.Outcome.{Outcome}
+use Rattle.adr_event.specs.declared.answer.Outcome.TheVariants as outcomes
+use Rattle.adr_model.specs.Update.{Identifier}
+use Rattle.adr_model.specs.Store.{State}
+use Rattle.adr_model.specs.Replica.{Replica, Pending, Plan, Book, Move, Settle, moved, went, moves_of_start, standing_after, plan_after, outcome_after, Standing, Up, Down, Failed}
+use Rattle.adr_model.specs.World.{World, Gone, after_moves, starts, stops, with_replica}
+use Rattle.adr_law_journal.specs.Log.{Found, found, Started}
+use Rattle.adr_law_journal.specs.Replicas.{Has, read_found, safe_found, started, standing_of}
+use Rattle.adr_controller.specs.Running.{Running}
+use Rattle.adr_replica.specs.Past.{Past, Ahead}
+use Rattle.adr_replica.specs.Past.{after_moves as ahead_of}
+use Rattle.adr_replica.specs.Held.{found_or_none, standing_by, seen, IsHeld}
+use Rattle.adr_replica.specs.Settled.{downed, of_fault}
+use Rattle.adr_replica.specs.Led.{StandsIn, world_with, IsDone, IsUndone, Leads, synced}
+use Rattle.adr_replica.proofs.Seen.{seen_so, held_so}
+use Rattle.adr_replica.proofs.Came.{downed_keeper, downed_state, downed_down, same_world}
+use Rattle.adr_replica.proofs.Went.{up_answers, fault_answers, none_kept_started, same_name, same_dsa}
+
+-- moves in a world
+pub moves_made : (w : World) (r q : Replica) (past later : Past) (moves : List Move) (standing : Standing) (plan : Option Plan) (o told : Outcome) → StandsIn w r past
+    → q ≡ record (fold moved (past.book, r) moves).1 { standing = standing; plan = plan } → later ≡ (ahead_of past r moves).past → o ≡ told
+    → after_moves w r moves standing plan o ≡ (world_with w q later, told)
+moves_made w r q past later moves standing plan o told stands is comes tells =
+    let gone : Book → Replica → Outcome → Gone = λ b x t. (record w { book = b; replicas = with_replica w.replicas x }, t) in
+    let book_of : Book → Book = λ b. (fold moved (b, r) moves).0 in
+    let left : Book → Replica = λ b. record (fold moved (b, r) moves).1 { standing = standing; plan = plan } in
+    ap (λ b. gone (book_of b) (left b) o) stands.book ∙ ap (λ t. gone (book_of past.book) (left past.book) t) tells ∙ ap (λ x. gone (book_of past.book) x told) (sym is)
+    ∙ ap (λ (x : Past). gone x.book q told) (sym comes)
+
+-- a start of what isn't up
+pub starts_so : (w : World) (r : Replica) (down : Bool) → r.standing ≡ standing_by down None
+    → starts w r r.standing ≡ after_moves w r (moves_of_start (went r.plan 1)) (standing_after r.standing (went r.plan 1)) (plan_after (went r.plan 1)) (outcome_after (went r.plan 1) outcomes.Ok)
+starts_so w r true is = ap (λ st. starts w r st) is
+starts_so w r false is = ap (λ st. starts w r st) is
+
+module _ {K : Type 0} (read safe torn : K → Started State) (plan : K → Option Plan) (is_down : K → Bool)
+    (name : List ℕ) (dsa : Identifier) (old : Running K) (kept : Option Pending) (held : IsHeld read safe torn plan is_down name dsa old kept) where
+  abbrev r : Replica
+  r = seen read safe plan name old kept
+
+  -- the same, seen of a keeper of which a start finds the same, while the controller is not up
+  module _ (new : Running K) (reads : read new.keeper ≡ read old.keeper) (safes : safe new.keeper ≡ safe old.keeper) (torns : torn new.keeper ≡ torn old.keeper) (state : new.state ≡ old.state)
+      (down : new.down ≡ old.down) where
+    -- with a plan of its own
+    pub with_plan_so : (seen read safe plan name new kept ≡ record r { plan = plan new.keeper }) × Has read safe torn plan new.keeper (record r { plan = plan new.keeper })
+    with_plan_so =
+        let has : Has read safe torn plan new.keeper (record r { plan = plan new.keeper }) =
+            record { is_read = reads ∙ held.has.is_read; is_safe = safes ∙ held.has.is_safe; is_torn = torns ∙ held.has.is_torn; is_plan = refl } in
+        (
+          seen_so read safe torn plan name new kept (record r { plan = plan new.keeper }) has refl (ap (λ b. standing_by b new.state) down ∙ ap (λ o. standing_by old.down o) state) refl,
+          has,
+        )
+
+    pub planned_held : is_down new.keeper ≡ is_down old.keeper → IsHeld read safe torn plan is_down name dsa new kept
+    planned_held runs =
+        held_so read safe torn plan is_down name dsa new kept (record r { plan = plan new.keeper }) with_plan_so.0 with_plan_so.1
+        (λ s there. (runs ∙ held.runs s (sym state ∙ there), held.none_kept s (sym state ∙ there))) held.is_id held.reads held.keeps
+
+    pub same_seen : plan new.keeper ≡ plan old.keeper → seen read safe plan name new kept ≡ r
+    same_seen planned = with_plan_so.0 ∙ ap (λ x. record r { plan = x }) planned
+
+    pub same_held : old.state ≡ None → IsHeld read safe torn plan is_down name dsa new kept
+    same_held none =
+        held_so read safe torn plan is_down name dsa new kept (record r { plan = plan new.keeper }) with_plan_so.0 with_plan_so.1
+        (λ s there. absurd (cc (state, there, none))) held.is_id held.reads held.keeps
+
+  -- ---- a stop
+
+  module _ (past : Past) (new : Running K) (reads : read new.keeper ≡ read old.keeper) (safes : safe new.keeper ≡ read new.keeper) (torns : torn new.keeper ≡ read new.keeper)
+      (planned : plan new.keeper ≡ None) (state : new.state ≡ None) (down : new.down ≡ true) where
+    abbrev ahead : Ahead
+    ahead = ahead_of past r (Settle ∷ [])
+
+    abbrev left : Replica
+    left = record (moved (past.book, r) Settle).1 { standing = Down; plan = None }
+
+    stop_has : Has read safe torn plan new.keeper left
+    stop_has =
+        let finds = reads ∙ held.has.is_read in
+        record { is_read = finds; is_safe = safes ∙ finds; is_torn = torns ∙ finds; is_plan = planned }
+
+    pub stop_seen : seen read safe plan name new ahead.kept ≡ left
+    stop_seen = seen_so read safe torn plan name new ahead.kept left stop_has refl (ap (λ b. standing_by b new.state) down ∙ ap (λ o. standing_by true o) state) refl
+
+    pub stop_held : IsHeld read safe torn plan is_down name dsa new ahead.kept
+    stop_held = held_so read safe torn plan is_down name dsa new ahead.kept left stop_seen stop_has (λ s there. absurd (cc (there, state))) held.is_id held.reads held.reads
+
+    pub stop_leads : Leads r past (λ w. stops w r) (seen read safe plan name new ahead.kept) ahead.past outcomes.Ok
+    stop_leads w stands = moves_made w r (seen read safe plan name new ahead.kept) past ahead.past (Settle ∷ []) Down None outcomes.Ok outcomes.Ok stands stop_seen refl refl
+
+  -- ---- a start
+
+  module _ (past : Past) (none : old.state ≡ None) where
+    abbrev begun : Ahead
+    begun = ahead_of past r (moves_of_start (went r.plan 1))
+
+    abbrev behind : Replica
+    behind = started past.book r
+
+    start_named : name ≡ behind.name
+    start_named = sym (same_name (moves_of_start (went r.plan 1)) past.book r)
+
+    start_dsas : (behind.read.dsa ≡ dsa) × (behind.safe.dsa ≡ dsa)
+    start_dsas = same_dsa (moves_of_start (went r.plan 1)) past.book r dsa held.reads held.keeps
+
+    stood : r.standing ≡ standing_by old.down None
+    stood = ap (λ o. standing_by old.down o) none
+
+    pub not_up : r.standing ≡ Up → ⊥
+    not_up up = by old.down (sym stood ∙ up)
+      where
+        by : (b : Bool) → standing_by b None ≡ Up → ⊥
+        by true is = cc is
+        by false is = cc is
+
+    leads_so : (q : Replica) (later : Past) (told : Outcome) → q ≡ behind → later ≡ begun.past → outcome_after (went r.plan 1) outcomes.Ok ≡ told → Leads r past (λ w. starts w r r.standing) q later told
+    leads_so q later told is comes tells w stands =
+        starts_so w r old.down stood
+        ∙ moves_made w r q past later (moves_of_start (went r.plan 1)) (standing_after r.standing (went r.plan 1)) (plan_after (went r.plan 1)) (outcome_after (went r.plan 1) outcomes.Ok) told stands is comes tells
+
+    -- it passed
+    module _ (new : Running K) (s : State) (state : new.state ≡ Some s) (down : new.down ≡ false) (has : Has read safe torn plan new.keeper behind)
+        (stands : Up ≡ standing_after r.standing (went r.plan 1)) (passed : Up ≡ standing_after Failed (went r.plan 1)) (runs : is_down new.keeper ≡ false) where
+      pub started_seen : seen read safe plan name new begun.kept ≡ behind
+      started_seen = seen_so read safe torn plan name new begun.kept behind has start_named (ap (λ b. standing_by b new.state) down ∙ ap (λ o. standing_by false o) state ∙ stands) refl
+
+      pub started_held : IsHeld read safe torn plan is_down name dsa new begun.kept
+      started_held =
+          held_so read safe torn plan is_down name dsa new begun.kept behind started_seen has (λ s there. (runs, none_kept_started (went r.plan 1) past.book r passed)) held.is_id start_dsas.0 start_dsas.1
+
+      pub started_leads : Leads r past (λ w. starts w r r.standing) (seen read safe plan name new begun.kept) begun.past outcomes.Ok
+      started_leads = leads_so (seen read safe plan name new begun.kept) begun.past outcomes.Ok started_seen refl (up_answers (went r.plan 1) outcomes.Ok passed)
+
+    -- a call of the disk failed
+    module _ (mid : Running K) (state : mid.state ≡ None) (down : mid.down ≡ old.down) (has : Has read safe torn plan mid.keeper behind)
+        (stands : standing_of (Some failed_call) (is_down mid.keeper) r.standing ≡ standing_after r.standing (went r.plan 1))
+        (tells : standing_of (Some failed_call) (is_down mid.keeper) Failed ≡ standing_after Failed (went r.plan 1)) where
+      abbrev new : Running K
+      new = downed (is_down mid.keeper) mid
+
+      now_stands : (b : Bool) → standing_by (downed b mid).down (downed b mid).state ≡ standing_of (Some failed_call) b r.standing
+      now_stands true = refl
+      now_stands false = ap (λ d. standing_by d mid.state) down ∙ ap (λ o. standing_by old.down o) state ∙ sym stood
+
+      now_has : Has read safe torn plan new.keeper behind
+      now_has = subst (λ x. Has read safe torn plan x behind) (downed_keeper (is_down mid.keeper) mid) has
+
+      pub faulty_seen : seen read safe plan name new begun.kept ≡ behind
+      faulty_seen = seen_so read safe torn plan name new begun.kept behind now_has start_named (now_stands (is_down mid.keeper) ∙ stands) refl
+
+      pub faulty_held : IsHeld read safe torn plan is_down name dsa new begun.kept
+      faulty_held =
+          held_so read safe torn plan is_down name dsa new begun.kept behind faulty_seen now_has (λ s there. absurd (cc (there, downed_state (is_down mid.keeper) mid state))) held.is_id start_dsas.0 start_dsas.1
+
+      pub faulty_leads : Leads r past (λ w. starts w r r.standing) (seen read safe plan name new begun.kept) begun.past (of_fault (is_down mid.keeper))
+      faulty_leads = leads_so (seen read safe plan name new begun.kept) begun.past (of_fault (is_down mid.keeper)) faulty_seen refl (fault_answers (went r.plan 1) outcomes.Ok (is_down mid.keeper) tells)
+
+    -- memory was wanting, behind the sync or before it
+    module _ (new : Running K) (state : new.state ≡ None) (down : new.down ≡ old.down) where
+      as_stood : standing_by new.down new.state ≡ r.standing
+      as_stood = ap (λ b. standing_by b new.state) down ∙ ap (λ o. standing_by old.down o) state ∙ sym stood
+
+      module _ (has : Has read safe torn plan new.keeper behind) where
+        pub synced_seen : seen read safe plan name new begun.kept ≡ record behind { standing = r.standing }
+        synced_seen =
+            seen_so read safe torn plan name new begun.kept (record behind { standing = r.standing }) (record { is_read = has.is_read; is_safe = has.is_safe; is_torn = has.is_torn; is_plan = has.is_plan })
+            start_named as_stood refl
+
+        pub synced_held : IsHeld read safe torn plan is_down name dsa new begun.kept
+        synced_held =
+            held_so read safe torn plan is_down name dsa new begun.kept (record behind { standing = r.standing }) synced_seen
+            (record { is_read = has.is_read; is_safe = has.is_safe; is_torn = has.is_torn; is_plan = has.is_plan }) (λ s there. absurd (cc (there, state))) held.is_id start_dsas.0 start_dsas.1
+
+        pub synced_done : IsDone r past (λ w. synced w r) (seen read safe plan name new begun.kept) begun.past
+        synced_done w stands =
+            ap (λ (x : Gone). x.0)
+            (moves_made w r (seen read safe plan name new begun.kept) past begun.past (moves_of_start (went r.plan 1)) r.standing (plan_after (went r.plan 1)) outcomes.Ok outcomes.Ok stands synced_seen refl refl)
+
+      module _ (has : Has read safe torn plan new.keeper r) where
+        pub short_seen : seen read safe plan name new kept ≡ r
+        short_seen = seen_so read safe torn plan name new kept r has refl as_stood refl
+
+        pub short_held : IsHeld read safe torn plan is_down name dsa new kept
+        short_held = held_so read safe torn plan is_down name dsa new kept r short_seen has (λ s there. absurd (cc (there, state))) held.is_id held.reads held.keeps

@@ -1,0 +1,53 @@
+-- What a call leaves that was hindered, or not.
+use Rattle.std.specs.Prelude.{Bool, true, false, Option, Some, None, Result, Ok, Err}
+use Rattle.adr_event.specs.declared.answer.Outcome.{Outcome}
+use Rattle.adr_event.specs.declared.answer.Outcome.TheVariants as outcomes
+use Rattle.adr_event.specs.declared.refusal.Table.TheVariants.{Log}
+use Rattle.adr_model.specs.Lengths.{log_limit}
+use Rattle.adr_model.specs.Refused.{full}
+use Rattle.adr_journal.specs.declared.keeper.StartRefusal.{StartRefusal}
+use Rattle.adr_journal.specs.declared.keeper.StartRefusal.TheVariants as starts
+use Rattle.adr_controller.specs.Running.{Running}
+use Rattle.adr_controller.specs.declared.refusal.Hindrance.{Hindrance}
+use Rattle.adr_controller.specs.declared.refusal.Hindrance.TheVariants.{Down, Failed, Full, DiskFault, NoMemory}
+
+-- what is ahead has come, where a change may have reached the disk, and where there was none
+abbrev pub come : {A : Type 0} → Option Hindrance → A → A → A
+come None was ahead = ahead
+come (Some DiskFault) was ahead = ahead
+come (Some _) was ahead = was
+
+abbrev pub downed : {K : Type 0} → Bool → Running K → Running K
+downed true c = record { keeper = c.keeper; state = None; down = true }
+downed false c = c
+
+-- a controller whose disk stopped within the call is down
+abbrev pub left_by : {K : Type 0} → (K → Bool) → Option Hindrance → Running K → Running K
+left_by is_down (Some DiskFault) c = downed (is_down c.keeper) c
+left_by is_down _ c = c
+
+-- a start that wanted memory when its sync was made has what is ahead all the same
+abbrev pub hindrance_of_start : Option StartRefusal → Option Hindrance
+hindrance_of_start None = None
+hindrance_of_start (Some starts.DiskFault) = Some DiskFault
+hindrance_of_start (Some (starts.NoMemory true)) = None
+hindrance_of_start (Some (starts.NoMemory false)) = Some NoMemory
+hindrance_of_start (Some (starts.Damaged place)) = Some NoMemory
+
+-- ---- what is answered
+
+abbrev pub of_fault : Bool → Outcome
+of_fault true = outcomes.Stopped
+of_fault false = outcomes.Disk
+
+abbrev pub hindered_so : Hindrance → Bool → Option Outcome
+hindered_so Down down = Some outcomes.Down
+hindered_so Failed down = Some outcomes.Failed
+hindered_so Full down = Some (full Log log_limit)
+hindered_so DiskFault down = Some (of_fault down)
+hindered_so NoMemory down = None
+
+-- an answer without a message
+abbrev pub unsent : {A E : Type 0} → Result Outcome E → Result (Outcome × Option A) E
+unsent (Ok outcome) = Ok (outcome, None)
+unsent (Err e) = Err e

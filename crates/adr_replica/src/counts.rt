@@ -1,0 +1,57 @@
+//! What is told of a reply. A count that needs more than 32 bits counts as want of memory.
+
+ghost use Rattle.std.specs.Prelude.{◌≡◌, is_some, length, IfOk};
+ghost use Rattle.adr_model.specs.World.{rows_in};
+
+use adr_event::Outcome;
+use adr_packet::Reply;
+use adr_schema::NoMemory;
+use adr_state::Change;
+use std::alloc::AllocError;
+
+fn count(number: usize) -> Result<u32, NoMemory>
+    ensures { IfOk result (λ count. count ≡ number) }
+{
+    match u32::try_from(number) {
+        Ok(count) => Ok(count),
+        Err(_) => Err(AllocError),
+    }
+}
+
+/// How many rows a reply has.
+fn rows_in(reply: &Reply) -> Result<u32, NoMemory>
+    ensures { IfOk result (λ count. count ≡ rows_in reply.now) }
+{
+    let mut rows = 0;
+    for item in reply.items() {
+        rows = count(rows as usize + item.rows().len())?;
+    }
+    Ok(rows)
+}
+
+/// What is answered where a reply was made.
+pub fn served(reply: &Reply) -> Result<Outcome, NoMemory>
+    ensures { IfOk result (λ outcome.
+        outcome
+        ≡ Outcome.Served reply.now.from reply.now.to (length reply.now.items) (rows_in reply.now) (is_some reply.now.last)) }
+{
+    Ok(Outcome::Served {
+        from: reply.from(),
+        to: reply.to(),
+        items: count(reply.items().len())?,
+        rows: rows_in(reply)?,
+        last: reply.last().is_some(),
+    })
+}
+
+/// What is answered where a reply was taken.
+pub fn took(reply: &Reply, change: &Change) -> Result<Outcome, NoMemory>
+    ensures { IfOk result (λ outcome.
+        outcome ≡ Outcome.Took (length reply.now.items) (length change.now.writes) change.now.usn) }
+{
+    Ok(Outcome::Took {
+        items: count(reply.items().len())?,
+        wrote: count(change.writes().len())?,
+        usn: change.usn(),
+    })
+}

@@ -1,0 +1,87 @@
+//! What a call leaves that was hindered, or not, and what is answered.
+
+ghost use Rattle.std.specs.Prelude.{◌≡◌, ◌⊎◌, Some, IfOk, OnErr};
+ghost use Rattle.adr_journal.specs.Ended.{ended_start};
+ghost use Rattle.adr_controller.specs.Ended.{call_hindrance};
+ghost use Rattle.adr_replica.specs.Settled.{come, hindered_so, hindrance_of_start, left_by};
+
+use crate::past::{Ahead, Kept, Past};
+use crate::refused::full;
+use adr_controller::{CallRefusal, Controller, Hindrance, PlannedKeeper, StartRefusal};
+use adr_event::{Outcome, Table};
+use adr_schema::NoMemory;
+use adr_state::LOG_LIMIT;
+use std::alloc::{AllocError, Global};
+
+/// What hindered a call, if anything.
+pub(crate) fn hindrance_in<T, R>(made: &Result<T, CallRefusal<R>>) -> Option<Hindrance>
+    ensures { result ≡ call_hindrance made.now }
+{
+    match made {
+        Err(CallRefusal::Hindered(hindrance)) => Some(*hindrance),
+        _ => None,
+    }
+}
+
+/// What hindered a start. One that wanted memory when its sync was made has reached the disk.
+pub(crate) fn hindrance_of_start(started: &Result<(), StartRefusal>) -> Option<Hindrance>
+    ensures { result ≡ hindrance_of_start (ended_start started.now) }
+{
+    match started {
+        Ok(()) => None,
+        Err(StartRefusal::DiskFault) => Some(Hindrance::DiskFault),
+        Err(StartRefusal::NoMemory { settled: true }) => None,
+        Err(StartRefusal::NoMemory { settled: false }) => Some(Hindrance::NoMemory),
+        Err(StartRefusal::Damaged { .. }) => Some(Hindrance::NoMemory),
+    }
+}
+
+/// Makes the past and the kept call those ahead, where a call reached the disk or had nothing to do there. A controller
+/// whose disk stopped within the call is down.
+pub(crate) fn settle<K: PlannedKeeper>(
+    controller: &mut Controller<K>,
+    kept: &mut Kept,
+    past: &mut Past,
+    ahead: Ahead,
+    how: Option<Hindrance>,
+)
+    ensures controller { controller.new ≡ left_by K.is_down how controller.old }
+    ensures kept { kept.new ≡ come how kept.old ahead.kept }
+    ensures past { past.new ≡ come how past.old ahead.past }
+{
+    match how {
+        None => {}
+        Some(Hindrance::DiskFault) => stop_if_stopped(controller),
+        Some(_) => return,
+    }
+    *past = ahead.past;
+    *kept = ahead.kept;
+}
+
+/// A controller whose disk has stopped is down.
+pub(crate) fn stop_if_stopped<K: PlannedKeeper>(controller: &mut Controller<K>)
+    ensures { controller.new ≡ left_by K.is_down (Some Hindrance.DiskFault) controller.old }
+{
+    if controller.is_stopped() {
+        controller.stop();
+    }
+}
+
+/// What is answered to a call that was hindered, behind which the controller is down or not.
+pub(crate) fn hindered(
+    alloc: Global,
+    hindrance: Hindrance,
+    down: bool,
+) -> Result<Outcome, NoMemory>
+    ensures ok { IfOk result (λ outcome. hindered_so hindrance down ≡ Some outcome) }
+    ensures err { OnErr result ((hindrance ≡ Hindrance.Full) ⊎ (hindrance ≡ Hindrance.NoMemory)) }
+{
+    match hindrance {
+        Hindrance::Down => Ok(Outcome::Down),
+        Hindrance::Failed => Ok(Outcome::Failed),
+        Hindrance::Full => full(alloc, Table::Log, LOG_LIMIT),
+        Hindrance::DiskFault if down => Ok(Outcome::Stopped),
+        Hindrance::DiskFault => Ok(Outcome::Disk),
+        Hindrance::NoMemory => Err(AllocError),
+    }
+}
