@@ -6,7 +6,6 @@ ghost use Rattle.adr_model.specs.World.{rows_in};
 use adr_event::Outcome;
 use adr_packet::Reply;
 use adr_schema::NoMemory;
-use adr_state::Change;
 use std::alloc::AllocError;
 
 fn count(number: usize) -> Result<u32, NoMemory>
@@ -41,17 +40,5 @@ pub fn served(reply: &Reply) -> Result<Outcome, NoMemory>
         items: count(reply.items().len())?,
         rows: rows_in(reply)?,
         last: reply.last().is_some(),
-    })
-}
-
-/// What is answered where a reply was taken.
-pub fn took(reply: &Reply, change: &Change) -> Result<Outcome, NoMemory>
-    ensures { IfOk result (λ outcome.
-        outcome ≡ Outcome.Took (length reply.now.items) (length change.now.writes) change.now.usn) }
-{
-    Ok(Outcome::Took {
-        items: count(reply.items().len())?,
-        wrote: count(change.writes().len())?,
-        usn: change.usn(),
     })
 }
