@@ -7,3 +7,4 @@ mod Results
 mod Answered
 mod Started
 mod Follows
+mod UpIs
