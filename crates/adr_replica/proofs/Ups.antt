@@ -30,16 +30,22 @@ module _ {K : Type 0} (k : Ghosts K) (read safe torn : K → Started State) (pla
       )
 
   -- a new one
-  pub new_so : IsId dsa → (inv : Identifier) (s : State) → s ≡ empty_state dsa inv → c.state ≡ Some s → c.down ≡ false → k.is_at c.keeper (found s (new_log_end s))
-      → plan c.keeper ≡ None → is_down c.keeper ≡ false → kept ≡ None
-      → IsHeld read safe torn plan is_down name dsa c kept × (seen read safe plan name c kept ≡ on_new_disk name (empty_state dsa inv))
-  new_so id inv s of there down at planned runs none =
-      let v : Replica = on_new_disk name (empty_state dsa inv) in
-      let finds = keeps_it c.keeper (found s (new_log_end s)) at (order.up s there).0.running in
-      let same : found s (new_log_end s) ≡ found (empty_state dsa inv) (new_log_end (empty_state dsa inv)) = ap (λ (s : State). found s (new_log_end s)) of in
-      let has : Has read safe torn plan c.keeper v = record { is_read = finds.0 ∙ ap Ok same; is_safe = finds.1 ∙ ap Ok same; is_torn = finds.2 ∙ ap Ok same; is_plan = planned } in
-      let is : seen read safe plan name c kept ≡ v = seen_so read safe torn plan name c kept v has refl (ap (λ b. standing_by b c.state) down ∙ ap (λ o. standing_by false o) there) none in
-      (held_so read safe torn plan is_down name dsa c kept v is has (λ t up. (runs, none)) id refl refl, is)
+  module _ (id : IsId dsa) (inv : Identifier) (s : State) (of : s ≡ empty_state dsa inv) (there : c.state ≡ Some s) (down : c.down ≡ false) (at : k.is_at c.keeper (found s (new_log_end s)))
+      (planned : plan c.keeper ≡ None) (runs : is_down c.keeper ≡ false) (none : kept ≡ None) where
+    new_has : Has read safe torn plan c.keeper (on_new_disk name (empty_state dsa inv))
+    new_has =
+        let finds = keeps_it c.keeper (found s (new_log_end s)) at (order.up s there).0.running in
+        let same : found s (new_log_end s) ≡ found (empty_state dsa inv) (new_log_end (empty_state dsa inv)) = ap (λ (s : State). found s (new_log_end s)) of in
+        record { is_read = finds.0 ∙ ap Ok same; is_safe = finds.1 ∙ ap Ok same; is_torn = finds.2 ∙ ap Ok same; is_plan = planned }
+
+    new_is : seen read safe plan name c kept ≡ on_new_disk name (empty_state dsa inv)
+    new_is = seen_so read safe torn plan name c kept (on_new_disk name (empty_state dsa inv)) new_has refl (ap (λ b. standing_by b c.state) down ∙ ap (λ o. standing_by false o) there) none
+
+    pub new_held : IsHeld read safe torn plan is_down name dsa c kept
+    new_held = held_so read safe torn plan is_down name dsa c kept (on_new_disk name (empty_state dsa inv)) new_is new_has (λ t up. (runs, none)) id refl refl
+
+    pub new_seen : IsHeld read safe torn plan is_down name dsa c kept → seen read safe plan name c kept ≡ on_new_disk name (empty_state dsa inv)
+    new_seen held = new_is
 
 -- what one that is up asks
 pub asked_so : (v : Replica) (s : State) (partner : Identifier) (max : ℕ) (request : Request) → v.standing ≡ Up → s ≡ v.safe → request ≡ ask s partner max → (w : World)
