@@ -1,5 +1,6 @@
 -- What each call of a controller is answered, by how it ended.
 use Rattle.std.proofs.Common.{◌≡◌, ◌⊎◌, inl, inr, ◌∙◌, refl, sym, ap, subst, ℕ, Bool, Option, Some, None, Result, Ok, Err, length, is_some}
+use Rattle.std.specs.Prelude.{IfOk}
 use Rattle.adr_event.specs.declared.event.Event.{Event}
 use Rattle.adr_event.specs.declared.answer.Outcome.{Outcome}
 use Rattle.adr_event.specs.declared.answer.Outcome.TheVariants as outcomes
@@ -15,6 +16,7 @@ use Rattle.adr_model.specs.Step.{ClientWrite, write_of}
 use Rattle.adr_model.specs.Take.{take}
 use Rattle.adr_model.specs.World.{World, Gone, Sent, after_write, after_serve, after_take, stays, nothing, rows_in, where_up}
 use Rattle.adr_model.specs.Write.{Write, write}
+use Rattle.adr_controller.specs.declared.messages.Taken.{Taken}
 use Rattle.adr_controller.specs.declared.refusal.Hindrance.{Hindrance}
 use Rattle.adr_controller.specs.declared.refusal.Hindrance.TheVariants.{Full, NoMemory}
 use Rattle.adr_replica.specs.Past.{Past}
@@ -22,6 +24,7 @@ use Rattle.adr_replica.specs.Pending.{with_call, written_by, writing, serving, t
 use Rattle.adr_replica.specs.Settled.{hindered_so, unsent}
 use Rattle.adr_replica.specs.Led.{StandsIn, world_with, IsDone, IsUndone, Leads, LeadsTo}
 use Rattle.adr_replica.proofs.Came.{Came, by_option, gone_so, sent_so}
+use Rattle.adr_replica.proofs.Results.{if_ok_at, if_ok_as}
 use Rattle.adr_replica.proofs.Answered.{Makes, write_told, write_makes, take_told, take_makes, serve_told, serve_sent, serve_makes, gone_made, sent_made}
 
 module _ (is_held : Type 0) (v q : Replica) (past later : Past) (state : Option State) (down : Bool) (how : Option Hindrance) where
@@ -52,21 +55,34 @@ module _ (is_held : Type 0) (v q : Replica) (past later : Past) (state : Option 
         made_as none (outcomes.Usn usn) (λ c of. let x = writes v.safe c (came.was_up none).1 of in ap write_told x.1 ∙ ap (λ n. outcomes.Usn n) (sym x.2))
 
     pub refused_so : how ≡ None → (refusal : WriteRefusal) → ((s : State) (c : ClientWrite) → state ≡ Some s → write_of event ≡ Some c → write s c.what now ≡ Err refusal)
-        → WrittenAs (write_refused refusal)
-    refused_so none refusal refuses = made_as none (write_refused refusal) (λ c of. ap write_told (refuses v.safe c (came.was_up none).1 of))
+        → (told : Outcome) → told ≡ write_refused refusal → WrittenAs told
+    refused_so none refusal refuses told tells = made_as none told (λ c of. ap write_told (refuses v.safe c (came.was_up none).1 of) ∙ sym tells)
 
     pub refused_undone : how ≡ None → (refusal : WriteRefusal) → ((s : State) (c : ClientWrite) → state ≡ Some s → write_of event ≡ Some c → write s c.what now ≡ Err refusal)
         → IsUndone v past q later
     refused_undone none refusal refuses = came.idle none (by (write_of event) (λ c of. refuses v.safe c (came.was_up none).1 of))
       where
         by : (o : Option ClientWrite) → ((c : ClientWrite) → o ≡ Some c → write v.safe c.what now ≡ Err refusal) → written_by now v.safe o ≡ None
-        by None no = refl
-        by (Some c) no = ap (λ t. with_call (ToWrite c.what now) (change_in t)) (no c refl)
+        by None refused = refl
+        by (Some c) refused = ap (λ t. with_call (ToWrite c.what now) (change_in t)) (refused c refl)
 
-    pub hindered_write : (h : Hindrance) → how ≡ Some h → (told : Outcome) → hindered_so h down ≡ Some told → WrittenAs told
-    hindered_write h is told tells c of w time stands =
-        gone_so w v q past later (writing event now v.safe) told (after_write w v c.what (write v.safe c.what now)) (came.hinders h is told tells) stands
+    pub hindered_write : (h : Hindrance) → how ≡ Some h → (d : Bool) → d ≡ down → (told : Outcome) → hindered_so h d ≡ Some told → WrittenAs told
+    hindered_write h is d same told tells c of w time stands =
+        gone_so w v q past later (writing event now v.safe) told (after_write w v c.what (write v.safe c.what now)) (came.hinders h is told (ap (hindered_so h) (sym same) ∙ tells)) stands
         (λ p up ofp. (write_told (write v.safe c.what now), (makes c of w time).1 p ofp))
+
+    -- the same, of what is returned
+    module _ {E : Type 0} (r : Result Outcome E) where
+      pub ok_written : how ≡ None → (usn : ℕ) → r ≡ Ok (outcomes.Usn usn)
+          → ((s : State) (c : ClientWrite) → state ≡ Some s → write_of event ≡ Some c → (x : Change) × (write s c.what now ≡ Ok x) × (usn ≡ x.usn)) → IfOk r WrittenAs
+      ok_written none usn is writes = if_ok_at WrittenAs r (outcomes.Usn usn) is (written_so none usn writes)
+
+      pub ok_refused : how ≡ None → (refusal : WriteRefusal) → ((s : State) (c : ClientWrite) → state ≡ Some s → write_of event ≡ Some c → write s c.what now ≡ Err refusal)
+          → (t : Result Outcome E) → r ≡ t → IfOk t (λ told. told ≡ write_refused refusal) → IfOk r WrittenAs
+      ok_refused none refusal refuses t is tells = if_ok_as (λ told. told ≡ write_refused refusal) WrittenAs r t is tells (λ told. refused_so none refusal refuses told)
+
+      pub ok_hindered : (h : Hindrance) → how ≡ Some h → (d : Bool) → d ≡ down → (t : Result Outcome E) → r ≡ t → IfOk t (λ told. hindered_so h d ≡ Some told) → IfOk r WrittenAs
+      ok_hindered h ish d same t is tells = if_ok_as (λ told. hindered_so h d ≡ Some told) WrittenAs r t is tells (λ told. hindered_write h ish d same told)
 
   -- ---- a reply
 
@@ -79,16 +95,16 @@ module _ (is_held : Type 0) (v q : Replica) (past later : Past) (state : Option 
         gone_made is_held v q past later (taking reply v.safe) state down how came none w (after_take w v reply (take v.safe reply)) (take_told reply (take v.safe reply)) stands
         (take_makes w v reply (take v.safe reply)) ∙ ap (λ t. (world_with w q later, t)) tells
 
-    pub taken_so : how ≡ None → (items wrote usn : ℕ)
-        → ((s : State) → state ≡ Some s → (c : Change) × (take s reply ≡ Ok c) × (record { items = items; wrote = wrote; usn = usn } ≡ record { items = length reply.items; wrote = length c.writes; usn = c.usn }))
-        → TakenAs (outcomes.Took items wrote usn)
-    taken_so none items wrote usn takes =
+    pub taken_so : how ≡ None → (taken : Taken)
+        → ((s : State) → state ≡ Some s → (c : Change) × (take s reply ≡ Ok c) × ◌≡◌ {A = Taken} taken (record { items = length reply.items; wrote = length c.writes; usn = c.usn }))
+        → TakenAs (outcomes.Took taken.items taken.wrote taken.usn)
+    taken_so none taken takes =
         let x = takes v.safe (came.was_up none).1 in
-        take_made_as none (outcomes.Took items wrote usn)
-        (ap (take_told reply) x.1 ∙ sym (ap (λ (t : record { items : ℕ; wrote : ℕ; usn : ℕ }). outcomes.Took t.items t.wrote t.usn) x.2))
+        take_made_as none (outcomes.Took taken.items taken.wrote taken.usn)
+        (ap (take_told reply) x.1 ∙ sym (ap (λ (t : Taken). outcomes.Took t.items t.wrote t.usn) x.2))
 
-    pub untaken_so : how ≡ None → (refusal : TakeRefusal) → ((s : State) → state ≡ Some s → take s reply ≡ Err refusal) → TakenAs (take_refused refusal)
-    untaken_so none refusal refuses = take_made_as none (take_refused refusal) (ap (take_told reply) (refuses v.safe (came.was_up none).1))
+    pub untaken_so : how ≡ None → (refusal : TakeRefusal) → ((s : State) → state ≡ Some s → take s reply ≡ Err refusal) → (told : Outcome) → told ≡ take_refused refusal → TakenAs told
+    untaken_so none refusal refuses told tells = take_made_as none told (ap (take_told reply) (refuses v.safe (came.was_up none).1) ∙ sym tells)
 
     pub untaken_left : how ≡ None → IsUndone v past q later ⊎ IsDone v past (λ w. (where_up (stays w) v.standing (after_take w v reply (take v.safe reply))).0) q later
     untaken_left none =
@@ -96,10 +112,22 @@ module _ (is_held : Type 0) (v q : Replica) (past later : Past) (state : Option 
         (λ idle. inl (came.idle none idle))
         (λ p of. inr (λ w stands. ap (λ (g : Gone). g.0) (take_made_as none (take_told reply (take v.safe reply)) refl w stands)))
 
-    pub hindered_take : (h : Hindrance) → how ≡ Some h → (told : Outcome) → hindered_so h down ≡ Some told → TakenAs told
-    hindered_take h is told tells w stands =
-        gone_so w v q past later (taking reply v.safe) told (after_take w v reply (take v.safe reply)) (came.hinders h is told tells) stands
+    pub hindered_take : (h : Hindrance) → how ≡ Some h → (d : Bool) → d ≡ down → (told : Outcome) → hindered_so h d ≡ Some told → TakenAs told
+    hindered_take h is d same told tells w stands =
+        gone_so w v q past later (taking reply v.safe) told (after_take w v reply (take v.safe reply)) (came.hinders h is told (ap (hindered_so h) (sym same) ∙ tells)) stands
         (λ p up ofp. (take_told reply (take v.safe reply), (take_makes w v reply (take v.safe reply)).1 p ofp))
+
+    module _ {E : Type 0} (r : Result Outcome E) where
+      pub ok_taken : how ≡ None → (taken : Taken) → r ≡ Ok (outcomes.Took taken.items taken.wrote taken.usn)
+          → ((s : State) → state ≡ Some s → (c : Change) × (take s reply ≡ Ok c) × ◌≡◌ {A = Taken} taken (record { items = length reply.items; wrote = length c.writes; usn = c.usn })) → IfOk r TakenAs
+      ok_taken none taken is takes = if_ok_at TakenAs r (outcomes.Took taken.items taken.wrote taken.usn) is (taken_so none taken takes)
+
+      pub ok_untaken : how ≡ None → (refusal : TakeRefusal) → ((s : State) → state ≡ Some s → take s reply ≡ Err refusal)
+          → (t : Result Outcome E) → r ≡ t → IfOk t (λ told. told ≡ take_refused refusal) → IfOk r TakenAs
+      ok_untaken none refusal refuses t is tells = if_ok_as (λ told. told ≡ take_refused refusal) TakenAs r t is tells (λ told. untaken_so none refusal refuses told)
+
+      pub ok_hindered_take : (h : Hindrance) → how ≡ Some h → (d : Bool) → d ≡ down → (t : Result Outcome E) → r ≡ t → IfOk t (λ told. hindered_so h d ≡ Some told) → IfOk r TakenAs
+      ok_hindered_take h ish d same t is tells = if_ok_as (λ told. hindered_so h d ≡ Some told) TakenAs r t is tells (λ told. hindered_take h ish d same told)
 
   -- ---- a request
 
@@ -111,18 +139,47 @@ module _ (is_held : Type 0) (v q : Replica) (past later : Past) (state : Option 
     made_sent none w stands = sent_made is_held v q past later (serving request v.safe) state down how came none w (serve v.safe request) stands refl
 
     pub served_so : how ≡ None → (reply : Reply) → ((s : State) → state ≡ Some s → serve s request ≡ Ok reply)
-        → ServedAs (outcomes.Served reply.from reply.to (length reply.items) (rows_in reply) (is_some reply.last)) (Some reply)
-    served_so none reply serves w stands =
+        → (told : Outcome) (sent : Option Reply) → sent ≡ Some reply → told ≡ outcomes.Served reply.from reply.to (length reply.items) (rows_in reply) (is_some reply.last)
+        → ServedAs told sent
+    served_so none reply serves told sent sends tells w stands =
         made_sent none w stands ∙ ap (λ t. (world_with w q later, serve_told t, serve_sent t)) (serves v.safe (came.was_up none).1)
+        ∙ ap (λ o. let made : Sent Reply = (world_with w q later, o, Some reply) in made) (sym tells) ∙ ap (λ m. let made : Sent Reply = (world_with w q later, told, m) in made) (sym sends)
 
-    pub unserved_so : how ≡ None → (refusal : ServeRefusal) → ((s : State) → state ≡ Some s → serve s request ≡ Err refusal) → ServedAs (serve_refused refusal) None
-    unserved_so none refusal refuses w stands =
+    pub unserved_so : how ≡ None → (refusal : ServeRefusal) → ((s : State) → state ≡ Some s → serve s request ≡ Err refusal)
+        → (told : Outcome) → told ≡ serve_refused refusal → ServedAs told None
+    unserved_so none refusal refuses told tells w stands =
         made_sent none w stands ∙ ap (λ t. (world_with w q later, serve_told t, serve_sent t)) (refuses v.safe (came.was_up none).1)
+        ∙ ap (λ o. let sent : Sent Reply = nothing (world_with w q later) o in sent) (sym tells)
 
     pub unserved_left : how ≡ None → IsUndone v past q later ⊎ IsDone v past (λ w. (where_up (nothing w) v.standing (after_serve w v (serve v.safe request))).0) q later
     unserved_left none = inr (λ w stands. ap (λ (s : Sent Reply). s.0) (made_sent none w stands))
 
-    pub hindered_serve : (h : Hindrance) → how ≡ Some h → (told : Outcome) → hindered_so h down ≡ Some told → ServedAs told None
-    hindered_serve h is told tells w stands =
-        sent_so w v q past later (serving request v.safe) told (after_serve w v (serve v.safe request)) (came.hinders h is told tells) stands
+    pub hindered_serve : (h : Hindrance) → how ≡ Some h → (d : Bool) → d ≡ down → (told : Outcome) → hindered_so h d ≡ Some told → ServedAs told None
+    hindered_serve h is d same told tells w stands =
+        sent_so w v q past later (serving request v.safe) told (after_serve w v (serve v.safe request)) (came.hinders h is told (ap (hindered_so h) (sym same) ∙ tells)) stands
         (λ p up ofp. (serve_told (serve v.safe request), ((serve_makes w v (serve v.safe request)).1 p ofp).0))
+
+    abbrev ServedBy : Outcome × Option Reply → Type 0
+    ServedBy sent = ServedAs sent.0 sent.1
+
+    module _ {E : Type 0} (r : Result (Outcome × Option Reply) E) where
+      pub ok_served : how ≡ None → (reply : Reply) → ((s : State) → state ≡ Some s → serve s request ≡ Ok reply) → (t : Result (Outcome × Option Reply) E) → r ≡ t
+          → IfOk t (λ sent. (sent.1 ≡ Some reply) × (sent.0 ≡ outcomes.Served reply.from reply.to (length reply.items) (rows_in reply) (is_some reply.last))) → IfOk r ServedBy
+      ok_served none reply serves t is tells =
+          if_ok_as (λ sent. (sent.1 ≡ Some reply) × (sent.0 ≡ outcomes.Served reply.from reply.to (length reply.items) (rows_in reply) (is_some reply.last))) ServedBy r t is tells
+          (λ sent both. served_so none reply serves sent.0 sent.1 both.0 both.1)
+
+      -- where it is answered without a reply
+      if_unsent : (P : Outcome → Type 0) (o : Result Outcome E) → r ≡ unsent o → IfOk o P → ((told : Outcome) → P told → ServedAs told None) → IfOk r ServedBy
+      if_unsent P o is tells so = subst (λ x. IfOk x ServedBy) (sym is) (by o tells)
+        where
+          by : (o : Result Outcome E) → IfOk o P → IfOk (unsent o) ServedBy
+          by (Ok told) p = so told p
+          by (Err e) p = tt
+
+      pub ok_unserved : how ≡ None → (refusal : ServeRefusal) → ((s : State) → state ≡ Some s → serve s request ≡ Err refusal)
+          → (o : Result Outcome E) → r ≡ unsent o → IfOk o (λ told. told ≡ serve_refused refusal) → IfOk r ServedBy
+      ok_unserved none refusal refuses o is tells = if_unsent (λ told. told ≡ serve_refused refusal) o is tells (λ told. unserved_so none refusal refuses told)
+
+      pub ok_hindered_serve : (h : Hindrance) → how ≡ Some h → (d : Bool) → d ≡ down → (o : Result Outcome E) → r ≡ unsent o → IfOk o (λ told. hindered_so h d ≡ Some told) → IfOk r ServedBy
+      ok_hindered_serve h ish d same o is tells = if_unsent (λ told. hindered_so h d ≡ Some told) o is tells (λ told. hindered_serve h ish d same told)

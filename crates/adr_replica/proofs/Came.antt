@@ -93,8 +93,8 @@ by_option None X none some = none refl
 by_option (Some x) X none some = some x refl
 
 by_bool : (b : Bool) (X : Type 0) → (b ≡ true → X) → (b ≡ false → X) → X
-by_bool true X yes no = yes refl
-by_bool false X yes no = no refl
+by_bool true X on_true on_false = on_true refl
+by_bool false X on_true on_false = on_false refl
 
 -- ---- a controller whose disk may have stopped
 
@@ -367,18 +367,18 @@ module _ {K : Type 0} (k : Ghosts K) (read safe torn : K → Started State) (pla
     came (Some Failed) calls = failed_so calls
 
     -- the same, told of what the controller is seen as, and of what the call left
-    pub came_so : (v : Replica) (past_ahead : Past) (kept_ahead : Option Pending) (how : Option Hindrance) (new : Running K) (x : Option Pending) (later : Past) → r ≡ v
-        → past_ahead ≡ (after_commit past v (po v.safe)).past → kept_ahead ≡ (after_commit past v (po v.safe)).kept
-        → new ≡ left_by is_down how mid → x ≡ come how kept kept_ahead → later ≡ come how past past_ahead
-        → Calls k changes old mid how → Came (IsHeld read safe torn plan is_down name dsa new x) v (seen read safe plan name new x) past later (po v.safe) old.state new.down how
-    came_so v past_ahead kept_ahead how new x later is aheadp aheadk newly keeps comes calls =
+    pub came_so : (v : Replica) (past_then : Past) (kept_then : Option Pending) (how said : Option Hindrance) (new : Running K) (x : Option Pending) (later : Past) → r ≡ v
+        → past_then ≡ (after_commit past v (po v.safe)).past → kept_then ≡ (after_commit past v (po v.safe)).kept
+        → new ≡ left_by is_down how mid → x ≡ come how kept kept_then → later ≡ come how past past_then
+        → how ≡ said → Calls k changes old mid said → Came (IsHeld read safe torn plan is_down name dsa new x) v (seen read safe plan name new x) past later (po v.safe) old.state new.down how
+    came_so v past_then kept_then how said new x later is aheadp aheadk newly keeps comes says calls =
         let Told : Replica → Running K → Option Pending → Past → Type 0 = λ v n y l. Came (IsHeld read safe torn plan is_down name dsa n y) v (seen read safe plan name n y) past l (po v.safe) old.state n.down how in
         let kept_is : x ≡ come how kept ahead.kept = keeps ∙ ap (come how kept) (aheadk ∙ ap (λ v. (after_commit past v (po v.safe)).kept) (sym is)) in
         let past_is : later ≡ come how past ahead.past = comes ∙ ap (come how past) (aheadp ∙ ap (λ v. (after_commit past v (po v.safe)).past) (sym is)) in
         subst (λ v. Told v new x later) is
         (subst (λ n. Told r n x later) (sym newly)
         (subst (λ y. Told r (left_by is_down how mid) y later) (sym kept_is)
-        (subst (λ l. Told r (left_by is_down how mid) (come how kept ahead.kept) l) (sym past_is) (came how calls))))
+        (subst (λ l. Told r (left_by is_down how mid) (come how kept ahead.kept) l) (sym past_is) (came how (subst (λ h. Calls k changes old mid h) (sym says) calls)))))
 
 -- ---- what is answered
 
