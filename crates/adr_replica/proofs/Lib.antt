@@ -6,5 +6,6 @@ mod Calls
 mod Results
 mod Answered
 mod Started
+mod Begun
+mod Ups
 mod Follows
-mod UpIs

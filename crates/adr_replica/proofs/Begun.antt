@@ -1,0 +1,169 @@
+-- What a start comes to, by how it ended.
+use Rattle.std.proofs.Common.{◌≡◌, ◌≢◌, ◌⊎◌, inl, inr, ◌∙◌, refl, sym, ap, subst, ℕ, List, Bool, true, false, Option, Some, None, Result, Ok, Err}
+use Rattle.std.specs.Prelude.{IfOk, IfSome, IfErr, OnOk, OnErr, MatchOption, is_some}
+use Rattle.adr_io.specs.declared.Fault.TheVariants.{Failed as failed_call}
+use Rattle.adr_event.specs.declared.answer.Outcome.TheVariants as outcomes
+use Rattle.adr_model.specs.Update.{Identifier}
+use Rattle.adr_model.specs.Store.{State}
+use Rattle.adr_model.specs.Replica.{Replica, Pending, Plan, Book, Went, Passed, Met, Stops, Fails, went, moves_of_start, standing_after, Standing, Up, Down, Failed}
+use Rattle.adr_model.specs.World.{World, starts}
+use Rattle.adr_law_journal.specs.Log.{Started}
+use Rattle.adr_law_journal.specs.Replicas.{Has, started, standing_of}
+use Rattle.adr_journal.specs.Ended.{ended_start, IsDamageOf}
+use Rattle.adr_journal.specs.Planned.{Same, StartsAs}
+use Rattle.adr_journal.specs.declared.keeper.Keeper.{Ghosts}
+use Rattle.adr_journal.specs.declared.keeper.StartRefusal.{StartRefusal}
+use Rattle.adr_journal.specs.declared.keeper.StartRefusal.TheVariants as refusals
+use Rattle.adr_controller.specs.Running.{Running, IsInOrder, IsStarted}
+use Rattle.adr_controller.specs.declared.refusal.Hindrance.{Hindrance}
+use Rattle.adr_controller.specs.declared.refusal.Hindrance.TheVariants as hindrances
+use Rattle.adr_replica.specs.Past.{Past, Ahead}
+use Rattle.adr_replica.specs.Past.{after_moves as ahead_of}
+use Rattle.adr_replica.specs.Held.{seen, standing_by, IsHeld}
+use Rattle.adr_replica.specs.Settled.{come, left_by, hindrance_of_start, of_fault}
+use Rattle.adr_replica.specs.Led.{StandsIn, world_with, IsDone, IsUndone, Leads, synced}
+use Rattle.adr_replica.proofs.Came.{downed_keeper, same_world}
+use Rattle.adr_replica.proofs.Started as restarts
+
+-- an option that was asked whether it is there
+pub not_there : {A : Type 0} (P : Type 0) (Q : A → Type 0) (o : Option A) → MatchOption o P Q → is_some o ≡ false → P
+not_there P Q None p is = p
+not_there P Q (Some x) q is = absurd (cc is)
+
+pub there_so : {A : Type 0} (P : Type 0) (Q : A → Type 0) (o : Option A) → MatchOption o P Q → is_some o ≡ true → (x : A) × Q x
+there_so P Q None p is = absurd (cc is)
+there_so P Q (Some x) q is = (x, q)
+
+-- a start that passed leaves up what failed as it does what was down
+up_again : (g : Went) (st : Standing) → (st ≡ Up → ⊥) → Up ≡ standing_after st g → Up ≡ standing_after Failed g
+up_again (Passed left) st down is = refl
+up_again (Met place (Stops how)) st down is = absurd (cc is)
+up_again (Met place Fails) st down is = absurd (down (sym is))
+
+-- a start that ended so, and is answered so
+pub record Begins {T : Type 0} (is_held : Type 0) (r q : Replica) (past later : Past) (made : Result T StartRefusal) (stopped : Bool) : Type 0 where
+  pub held : is_held
+  pub passed : (x : T) → made ≡ Ok x → Leads r past (λ w. starts w r r.standing) q later outcomes.Ok
+  pub faulty : made ≡ Err refusals.DiskFault → Leads r past (λ w. starts w r r.standing) q later (of_fault stopped)
+  pub wanting : (settled : Bool) → made ≡ Err (refusals.NoMemory settled) → IsUndone r past q later ⊎ ((r.standing ≢ Up) × IsDone r past (λ w. synced w r) q later)
+
+-- what is said of an `Ok` alone, where there is an `Err`
+pub no_ok : {X Y : Type 0} (P : X → Type 0) (r : Result X Y) (e : Y) → r ≡ Err e → IfOk r P
+no_ok P (Ok x) e is = absurd (cc is)
+no_ok P (Err y) e is = tt
+
+-- a call of the disk failed, and the disk is stopped or not
+pub faulty_as : {T : Type 0} (is_held : Type 0) (r q : Replica) (past later : Past) (made : Result T StartRefusal) (stopped : Bool) → Begins is_held r q past later made stopped
+    → made ≡ Err refusals.DiskFault → (said told : Bool) → said ≡ stopped → said ≡ told → Leads r past (λ w. starts w r r.standing) q later (of_fault told)
+faulty_as is_held r q past later made stopped b is said told same says =
+    subst (λ s. Leads r past (λ w. starts w r r.standing) q later (of_fault s)) (sym same ∙ says) (b.faulty is)
+
+-- what is up already
+pub up_already : {K : Type 0} (k : Ghosts K) (read safe torn : K → Started State) (plan : K → Option Plan) (is_down : K → Bool) (name : List ℕ) (dsa : Identifier) (old : Running K) (kept : Option Pending)
+    → IsHeld read safe torn plan is_down name dsa old kept → (v : Replica) (past : Past) (s : State)
+    → seen read safe plan name old kept ≡ v → old.state ≡ Some s → IsInOrder k old → (w : World) → StandsIn w v past → starts w v v.standing ≡ (world_with w v past, outcomes.Up)
+up_already k read safe torn plan is_down name dsa old kept held v past s is there order w stands =
+    let up : v.standing ≡ Up = ap (λ (r : Replica). r.standing) (sym is) ∙ ap (λ b. standing_by b old.state) (order.up s there).1 ∙ ap (λ o. standing_by false o) there in
+    ap (λ st. starts w v st) up ∙ ap (λ x. (x, outcomes.Up)) (same_world w v v past past stands refl refl)
+
+module _ {K : Type 0} (k : Ghosts K) (read safe torn : K → Started State) (plan : K → Option Plan) (is_down : K → Bool)
+    (name : List ℕ) (dsa : Identifier) (old : Running K) (kept : Option Pending) (held : IsHeld read safe torn plan is_down name dsa old kept) (order : IsInOrder k old) (past : Past) (none : old.state ≡ None)
+    (told : K → Option (Started State)) (tells : (x : K) → told x ≡ Some (read x))
+    (law : (x new : K) (e : Option StartRefusal) (book : Book) (r : Replica) → is_down x ≡ false → Has read safe torn plan x r → k.starts x e new
+    → StartsAs (Has read safe torn plan) is_down e r (started book r) new)
+    (revived mid : Running K) (planned : plan revived.keeper ≡ plan old.keeper) (same : Same read safe torn k.is_failed old.keeper revived.keeper) (runs : is_down revived.keeper ≡ false)
+    (stays : revived ≡ record old { keeper = revived.keeper }) where
+  abbrev r : Replica
+  r = seen read safe plan name old kept
+
+  abbrev begun : Ahead
+  begun = ahead_of past r (moves_of_start (went r.plan 1))
+
+  -- the same, had it failed
+  abbrev failed : Replica
+  failed = record r { standing = Failed }
+
+  has : Has read safe torn plan revived.keeper r
+  has = record { is_read = same.read_stays ∙ held.has.is_read; is_safe = same.safe_stays ∙ held.has.is_safe; is_torn = same.torn_stays ∙ held.has.is_torn; is_plan = planned ∙ held.has.is_plan }
+
+  has_failed : Has read safe torn plan revived.keeper failed
+  has_failed = record { is_read = has.is_read; is_safe = has.is_safe; is_torn = has.is_torn; is_plan = has.is_plan }
+
+  was_down : revived.down ≡ old.down
+  was_down = ap (λ (c : Running K). c.down) stays
+
+  module _ {T : Type 0} where
+    abbrev Left : Result T StartRefusal → Running K → Option Pending → Past → Type 0
+    Left made n x l = Begins (IsHeld read safe torn plan is_down name dsa n x) r (seen read safe plan name n x) past l made (is_down n.keeper)
+
+    abbrev LeftBy : Result T StartRefusal → Type 0
+    LeftBy made =
+        let how = hindrance_of_start (ended_start made) in
+        Left made (left_by is_down how mid) (come how kept begun.kept) (come how past begun.past)
+
+    pub came : (made : Result T StartRefusal) → OnOk made (IsStarted k revived.keeper mid) → OnErr made ((mid.state ≡ None) × (mid.down ≡ revived.down))
+        → IfErr made (λ e. IsDamageOf e (told revived.keeper)) → k.starts revived.keeper (ended_start made) mid.keeper → LeftBy made
+    came (Ok x) ok err damaged ran =
+        let goes : StartsAs (Has read safe torn plan) is_down None r (started past.book r) mid.keeper = law revived.keeper mid.keeper None past.book r runs has ran in
+        let up : Up ≡ standing_after r.standing (went r.plan 1) = goes.1 in
+        let again = up_again (went r.plan 1) r.standing (restarts.not_up read safe torn plan is_down name dsa old kept held past none) up in
+        record {
+          held = restarts.started_held read safe torn plan is_down name dsa old kept held past none mid ok.state ok.in_memory ok.up goes.0 up again goes.2;
+          passed = λ y is. restarts.started_leads read safe torn plan is_down name dsa old kept held past none mid ok.state ok.in_memory ok.up goes.0 up again goes.2;
+          faulty = λ is. absurd (cc is);
+          wanting = λ settled is. absurd (cc is);
+        }
+    came (Err refusals.DiskFault) ok err damaged ran =
+        let goes : StartsAs (Has read safe torn plan) is_down (Some refusals.DiskFault) r (started past.book r) mid.keeper = law revived.keeper mid.keeper (Some refusals.DiskFault) past.book r runs has ran in
+        let goes_failed : StartsAs (Has read safe torn plan) is_down (Some refusals.DiskFault) failed (started past.book failed) mid.keeper =
+            law revived.keeper mid.keeper (Some refusals.DiskFault) past.book failed runs has_failed ran in
+        let down = err.1 ∙ was_down in
+        record {
+          held = restarts.faulty_held read safe torn plan is_down name dsa old kept held past none mid err.0 down goes.0 goes.1 goes_failed.1;
+          passed = λ y is. absurd (cc is);
+          faulty = λ is.
+              subst (λ s. Leads r past (λ w. starts w r r.standing) (seen read safe plan name (left_by is_down (Some hindrances.DiskFault) mid) begun.kept) begun.past (of_fault s))
+              (ap is_down (downed_keeper (is_down mid.keeper) mid)) (restarts.faulty_leads read safe torn plan is_down name dsa old kept held past none mid err.0 down goes.0 goes.1 goes_failed.1);
+          wanting = λ settled is. absurd (cc is);
+        }
+    came (Err (refusals.Damaged place)) ok err damaged ran =
+        let told_so : IfSome (Some (read revived.keeper)) (λ t. t ≡ Err place) = subst (λ o. IfSome o (λ t. t ≡ Err place)) (tells revived.keeper) damaged in
+        absurd (cc (has.is_read, told_so))
+    came (Err (refusals.NoMemory true)) ok err damaged ran =
+        let goes : Has read safe torn plan mid.keeper (started past.book r) = law revived.keeper mid.keeper (Some (refusals.NoMemory true)) past.book r runs has ran in
+        let down = err.1 ∙ was_down in
+        record {
+          held = restarts.synced_held read safe torn plan is_down name dsa old kept held past none mid err.0 down goes;
+          passed = λ y is. absurd (cc is);
+          faulty = λ is. absurd (cc is);
+          wanting = λ settled is. inr (restarts.not_up read safe torn plan is_down name dsa old kept held past none, restarts.synced_done read safe torn plan is_down name dsa old kept held past none mid err.0 down goes);
+        }
+    came (Err (refusals.NoMemory false)) ok err damaged ran =
+        let goes : Has read safe torn plan mid.keeper r = law revived.keeper mid.keeper (Some (refusals.NoMemory false)) past.book r runs has ran in
+        let down = err.1 ∙ was_down in
+        record {
+          held = restarts.short_held read safe torn plan is_down name dsa old kept held past none mid err.0 down goes;
+          passed = λ y is. absurd (cc is);
+          faulty = λ is. absurd (cc is);
+          wanting = λ settled is. inl (restarts.short_seen read safe torn plan is_down name dsa old kept held past none mid err.0 down goes, refl);
+        }
+
+    -- the same, told of what the controller is seen as, and of what the start left
+    pub begins_so : (v : Replica) (past_then : Past) (kept_then : Option Pending) (made : Result T StartRefusal) (how : Option Hindrance) (new : Running K) (x : Option Pending) (later : Past) → r ≡ v
+        → past_then ≡ (ahead_of past v (moves_of_start (went v.plan 1))).past → kept_then ≡ (ahead_of past v (moves_of_start (went v.plan 1))).kept
+        → how ≡ hindrance_of_start (ended_start made) → new ≡ left_by is_down how mid → x ≡ come how kept kept_then → later ≡ come how past past_then
+        → OnOk made (IsStarted k revived.keeper mid) → OnErr made ((mid.state ≡ None) × (mid.down ≡ revived.down))
+        → IfErr made (λ e. IsDamageOf e (told revived.keeper)) → k.starts revived.keeper (ended_start made) mid.keeper
+        → Begins (IsHeld read safe torn plan is_down name dsa new x) v (seen read safe plan name new x) past later made (is_down new.keeper)
+    begins_so v past_then kept_then made how new x later is aheadp aheadk hinders newly keeps comes ok err damaged ran =
+        let said = hindrance_of_start (ended_start made) in
+        let Told : Replica → Running K → Option Pending → Past → Type 0 = λ v n y l. Begins (IsHeld read safe torn plan is_down name dsa n y) v (seen read safe plan name n y) past l made (is_down n.keeper) in
+        let kept_is : x ≡ come said kept begun.kept =
+            keeps ∙ ap (λ h. come h kept kept_then) hinders ∙ ap (come said kept) (aheadk ∙ ap (λ (v : Replica). (ahead_of past v (moves_of_start (went v.plan 1))).kept) (sym is)) in
+        let past_is : later ≡ come said past begun.past =
+            comes ∙ ap (λ h. come h past past_then) hinders ∙ ap (come said past) (aheadp ∙ ap (λ (v : Replica). (ahead_of past v (moves_of_start (went v.plan 1))).past) (sym is)) in
+        let new_is : new ≡ left_by is_down said mid = newly ∙ ap (λ h. left_by is_down h mid) hinders in
+        subst (λ v. Told v new x later) is
+        (subst (λ n. Told r n x later) (sym new_is)
+        (subst (λ y. Told r (left_by is_down said mid) y later) (sym kept_is)
+        (subst (λ l. Told r (left_by is_down said mid) (come said kept begun.kept) l) (sym past_is) (came made ok err damaged ran))))

@@ -1,0 +1,55 @@
+-- A controller that is up, one that is new, and what one asks.
+use Rattle.std.proofs.Common.{◌≡◌, ◌∙◌, refl, sym, ap, subst, ℕ, List, Bool, false, Option, Some, None, Ok}
+use Rattle.adr_wire.specs.Ranges.{IsId}
+use Rattle.adr_event.specs.declared.answer.Outcome.TheVariants as outcomes
+use Rattle.adr_model.specs.Update.{Identifier}
+use Rattle.adr_model.specs.Store.{State, empty_state}
+use Rattle.adr_model.specs.Lengths.{new_log_end}
+use Rattle.adr_model.specs.Replica.{Replica, Pending, Plan, Up, on_new_disk}
+use Rattle.adr_model.specs.Serve.{Request, ask}
+use Rattle.adr_model.specs.World.{World, Sent, nothing, where_up}
+use Rattle.adr_law_journal.specs.Log.{Found, found, Started}
+use Rattle.adr_law_journal.specs.Replicas.{Has}
+use Rattle.adr_journal.specs.declared.keeper.Keeper.{Ghosts}
+use Rattle.adr_controller.specs.Running.{Running, IsInOrder}
+use Rattle.adr_replica.specs.Held.{found_or_none, standing_by, seen, IsHeld}
+use Rattle.adr_replica.proofs.Seen.{seen_so, held_so}
+
+module _ {K : Type 0} (k : Ghosts K) (read safe torn : K → Started State) (plan : K → Option Plan) (is_down : K → Bool) (name : List ℕ) (dsa : Identifier) (c : Running K) (kept : Option Pending)
+    (order : IsInOrder k c)
+    (keeps_it : (x : K) (f : Found State) → k.is_at x f → k.is_failed x ≡ false → (read x ≡ Ok f) × (safe x ≡ Ok f) × (torn x ≡ Ok f)) where
+  -- one that is up has in memory what is safe
+  pub up_so : IsHeld read safe torn plan is_down name dsa c kept → (v : Replica) → seen read safe plan name c kept ≡ v → (s : State) → c.state ≡ Some s → (v.standing ≡ Up) × (s ≡ v.safe) × k.is_formed s
+  up_so held v is s there =
+      let up = order.up s there in
+      let finds = keeps_it c.keeper (found s up.0.log_end) up.0.at up.0.running in
+      (
+        ap (λ (r : Replica). r.standing) (sym is) ∙ ap (λ b. standing_by b c.state) up.1 ∙ ap (λ o. standing_by false o) there,
+        sym (ap (λ t. (found_or_none t).state) finds.1) ∙ ap (λ (r : Replica). r.safe) is,
+        up.0.formed,
+      )
+
+  -- a new one
+  module _ (id : IsId dsa) (inv : Identifier) (s : State) (of : s ≡ empty_state dsa inv) (there : c.state ≡ Some s) (down : c.down ≡ false) (at : k.is_at c.keeper (found s (new_log_end s)))
+      (planned : plan c.keeper ≡ None) (runs : is_down c.keeper ≡ false) (none : kept ≡ None) where
+    new_has : Has read safe torn plan c.keeper (on_new_disk name (empty_state dsa inv))
+    new_has =
+        let finds = keeps_it c.keeper (found s (new_log_end s)) at (order.up s there).0.running in
+        let same : found s (new_log_end s) ≡ found (empty_state dsa inv) (new_log_end (empty_state dsa inv)) = ap (λ (s : State). found s (new_log_end s)) of in
+        record { is_read = finds.0 ∙ ap Ok same; is_safe = finds.1 ∙ ap Ok same; is_torn = finds.2 ∙ ap Ok same; is_plan = planned }
+
+    new_is : seen read safe plan name c kept ≡ on_new_disk name (empty_state dsa inv)
+    new_is = seen_so read safe torn plan name c kept (on_new_disk name (empty_state dsa inv)) new_has refl (ap (λ b. standing_by b c.state) down ∙ ap (λ o. standing_by false o) there) none
+
+    pub new_held : IsHeld read safe torn plan is_down name dsa c kept
+    new_held = held_so read safe torn plan is_down name dsa c kept (on_new_disk name (empty_state dsa inv)) new_is new_has (λ t up. (runs, none)) id refl refl
+
+    pub new_seen : IsHeld read safe torn plan is_down name dsa c kept → seen read safe plan name c kept ≡ on_new_disk name (empty_state dsa inv)
+    new_seen held = new_is
+
+-- what one that is up asks
+pub asked_so : (v : Replica) (s : State) (partner : Identifier) (max : ℕ) (request : Request) → v.standing ≡ Up → s ≡ v.safe → request ≡ ask s partner max → (w : World)
+    → where_up (nothing w) v.standing (w, outcomes.Ok, Some (ask v.safe partner max)) ≡ (w, outcomes.Ok, Some request)
+asked_so v s partner max request up same is w =
+    let asks : Request → Sent Request = λ q. (w, outcomes.Ok, Some q) in
+    ap (λ st. where_up (nothing w) st (asks (ask v.safe partner max))) up ∙ ap asks (sym (is ∙ ap (λ s. ask s partner max) same))
