@@ -116,7 +116,7 @@ module _ {K : Type 0} (k : Ghosts K) (read safe torn : K → Started State) (pla
     came (Err refusals.DiskFault) ok err damaged ran =
         let goes : StartsAs (Has read safe torn plan) is_down (Some refusals.DiskFault) r (started past.book r) mid.keeper = law revived.keeper mid.keeper (Some refusals.DiskFault) past.book r runs has ran in
         let goes_failed : StartsAs (Has read safe torn plan) is_down (Some refusals.DiskFault) failed (started past.book failed) mid.keeper =
-            law revived.keeper mid.keeper (Some refusals.DiskFault) past.book failed runs has_failed ran in
+        law revived.keeper mid.keeper (Some refusals.DiskFault) past.book failed runs has_failed ran in
         let down = err.1 ∙ was_down in
         record {
           held = restarts.faulty_held read safe torn plan is_down name dsa old kept held past none mid err.0 down goes.0 goes.1 goes_failed.1;
@@ -159,9 +159,9 @@ module _ {K : Type 0} (k : Ghosts K) (read safe torn : K → Started State) (pla
         let said = hindrance_of_start (ended_start made) in
         let Told : Replica → Running K → Option Pending → Past → Type 0 = λ v n y l. Begins (IsHeld read safe torn plan is_down name dsa n y) v (seen read safe plan name n y) past l made (is_down n.keeper) in
         let kept_is : x ≡ come said kept begun.kept =
-            keeps ∙ ap (λ h. come h kept kept_then) hinders ∙ ap (come said kept) (aheadk ∙ ap (λ (v : Replica). (ahead_of past v (moves_of_start (went v.plan 1))).kept) (sym is)) in
+        keeps ∙ ap (λ h. come h kept kept_then) hinders ∙ ap (come said kept) (aheadk ∙ ap (λ (v : Replica). (ahead_of past v (moves_of_start (went v.plan 1))).kept) (sym is)) in
         let past_is : later ≡ come said past begun.past =
-            comes ∙ ap (λ h. come h past past_then) hinders ∙ ap (come said past) (aheadp ∙ ap (λ (v : Replica). (ahead_of past v (moves_of_start (went v.plan 1))).past) (sym is)) in
+        comes ∙ ap (λ h. come h past past_then) hinders ∙ ap (come said past) (aheadp ∙ ap (λ (v : Replica). (ahead_of past v (moves_of_start (went v.plan 1))).past) (sym is)) in
         let new_is : new ≡ left_by is_down said mid = newly ∙ ap (λ h. left_by is_down h mid) hinders in
         subst (λ v. Told v new x later) is
         (subst (λ n. Told r n x later) (sym new_is)

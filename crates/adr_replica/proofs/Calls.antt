@@ -41,7 +41,7 @@ module _ (is_held : Type 0) (v q : Replica) (past later : Past) (state : Option 
     makes c of w time =
         let t = write v.safe c.what now in
         let is : with_call (ToWrite c.what w.time) (change_in t) ≡ writing event now v.safe =
-            ap (λ n. with_call (ToWrite c.what n) (change_in t)) time ∙ sym (ap (written_by now v.safe) of) in
+        ap (λ n. with_call (ToWrite c.what n) (change_in t)) time ∙ sym (ap (written_by now v.safe) of) in
         subst (λ po. Makes w v po (after_write w v c.what t) (write_told t)) is (write_makes w v c.what t)
 
     made_as : how ≡ None → (told : Outcome) → ((c : ClientWrite) → write_of event ≡ Some c → write_told (write v.safe c.what now) ≡ told) → WrittenAs told

@@ -48,8 +48,7 @@ module _ {K : Type 0} (read safe torn : K → Started State) (plan : K → Optio
     pub with_plan_so : (seen read safe plan name new kept ≡ record r { plan = plan new.keeper }) × Has read safe torn plan new.keeper (record r { plan = plan new.keeper })
     with_plan_so =
         let has : Has read safe torn plan new.keeper (record r { plan = plan new.keeper }) =
-            record { is_read = reads ∙ held.has.is_read; is_safe = safes ∙ held.has.is_safe; is_torn = torns ∙ held.has.is_torn; is_plan = refl } in
-        (
+        record { is_read = reads ∙ held.has.is_read; is_safe = safes ∙ held.has.is_safe; is_torn = torns ∙ held.has.is_torn; is_plan = refl } in (
           seen_so read safe torn plan name new kept (record r { plan = plan new.keeper }) has refl (ap (λ b. standing_by b new.state) down ∙ ap (λ o. standing_by old.down o) state) refl,
           has,
         )

@@ -22,8 +22,7 @@ module _ {K : Type 0} (k : Ghosts K) (read safe torn : K → Started State) (pla
   pub up_so : IsHeld read safe torn plan is_down name dsa c kept → (v : Replica) → seen read safe plan name c kept ≡ v → (s : State) → c.state ≡ Some s → (v.standing ≡ Up) × (s ≡ v.safe) × k.is_formed s
   up_so held v is s there =
       let up = order.up s there in
-      let finds = keeps_it c.keeper (found s up.0.log_end) up.0.at up.0.running in
-      (
+      let finds = keeps_it c.keeper (found s up.0.log_end) up.0.at up.0.running in (
         ap (λ (r : Replica). r.standing) (sym is) ∙ ap (λ b. standing_by b c.state) up.1 ∙ ap (λ o. standing_by false o) there,
         sym (ap (λ t. (found_or_none t).state) finds.1) ∙ ap (λ (r : Replica). r.safe) is,
         up.0.formed,

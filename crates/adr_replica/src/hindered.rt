@@ -68,11 +68,7 @@ pub(crate) fn stop_if_stopped<K: PlannedKeeper>(controller: &mut Controller<K>)
 }
 
 /// What is answered to a call that was hindered, behind which the controller is down or not.
-pub(crate) fn hindered(
-    alloc: Global,
-    hindrance: Hindrance,
-    down: bool,
-) -> Result<Outcome, NoMemory>
+pub(crate) fn hindered(alloc: Global, hindrance: Hindrance, down: bool) -> Result<Outcome, NoMemory>
     ensures ok { IfOk result (λ outcome. hindered_so hindrance down ≡ Some outcome) }
     ensures err { OnErr result ((hindrance ≡ Hindrance.Full) ⊎ (hindrance ≡ Hindrance.NoMemory)) }
 {

@@ -22,8 +22,8 @@ ghost use Rattle.adr_replica.specs.Led.{IsDone, IsUndone, Leads, LeadsTo, Stands
 use crate::hindered::{hindered, hindrance_in, hindrance_of_start, settle};
 use crate::keepers::{is_in_order, keepers_go_as_planned};
 use crate::past::{Ahead, Kept, Past};
-use crate::sent::{sent, unsent};
 use crate::refused::{serve_refused, take_refused, write_refused};
+use crate::sent::{sent, unsent};
 use crate::told::Deed;
 use adr_controller::{
     CallRefusal, Controller, Keeper, PlannedKeeper, StartRefusal, commits_go_as_planned,
@@ -91,8 +91,10 @@ impl Replica {
         new_controllers_may_begin();
 
         // A disk without a plan doesn't fail.
-        let Ok(controller) = Controller::format(Journal::in_memory(alloc), new_state(alloc, dsa, inv))
-        else {
+        let Ok(controller) = Controller::format(
+            Journal::in_memory(alloc),
+            new_state(alloc, dsa, inv),
+        ) else {
             return Err(AllocError);
         };
         is_in_order(&controller);
@@ -138,7 +140,13 @@ impl Replica {
     }
 
     /// A client's write, as an event has it, at a time in seconds.
-    pub fn write(&mut self, alloc: Global, past: &mut Past, event: &Event, now: u64) -> Result<Outcome, NoMemory>
+    pub fn write(
+        &mut self,
+        alloc: Global,
+        past: &mut Past,
+        event: &Event,
+        now: u64,
+    ) -> Result<Outcome, NoMemory>
         requires { IsSomeAnd (write_of event.now) (λ c. IsWellGiven c.what × IsTypedWrite c.what) }
         ensures written { IfOk result (λ outcome. (c : ClientWrite) → write_of event.now ≡ Some c → (w : Defined) → w.time ≡ now
             → StandsIn w self.old past.old
@@ -173,7 +181,12 @@ impl Replica {
     }
 
     /// What it asks a partner of this identifier, at most `max` items in one reply.
-    pub fn ask(&self, alloc: Global, partner: Uuid, max: u32) -> Result<(Outcome, Option<Request>), NoMemory>
+    pub fn ask(
+        &self,
+        alloc: Global,
+        partner: Uuid,
+        max: u32,
+    ) -> Result<(Outcome, Option<Request>), NoMemory>
         ensures asked { IfOk result (λ sent. (w : Defined) → where_up (nothing w) self.now.standing (w, Outcome.Ok, Some (ask self.now.safe partner max)) ≡ (w, sent.0, sent.1)) }
         ensures ranged { IfOk result (λ sent. IfSome sent.1 IsRangedRequest) }
     {
@@ -190,7 +203,12 @@ impl Replica {
     }
 
     /// What a request is answered.
-    pub fn serve(&mut self, alloc: Global, past: &mut Past, request: &Request) -> Result<(Outcome, Option<Reply>), NoMemory>
+    pub fn serve(
+        &mut self,
+        alloc: Global,
+        past: &mut Past,
+        request: &Request,
+    ) -> Result<(Outcome, Option<Reply>), NoMemory>
         requires { IsRangedRequest request.now }
         ensures served { IfOk result (λ sent. LeadsTo self.old past.old (λ w. where_up (nothing w) self.old.standing (after_serve w self.old (serve self.old.safe request.now))) self.new past.new sent.0 sent.1) }
         ensures spelled { IfOk result (λ sent. IfSome sent.1 (λ reply. IsSpelledReply reply × IsRangedReply reply)) }
@@ -225,7 +243,12 @@ impl Replica {
     }
 
     /// Takes a reply.
-    pub fn take(&mut self, alloc: Global, past: &mut Past, reply: &Reply) -> Result<Outcome, NoMemory>
+    pub fn take(
+        &mut self,
+        alloc: Global,
+        past: &mut Past,
+        reply: &Reply,
+    ) -> Result<Outcome, NoMemory>
         requires spelled { IsSpelledReply reply.now }
         requires ranged { IsRangedReply reply.now }
         ensures taken { IfOk result (λ outcome. Leads self.old past.old (λ w. where_up (stays w) self.old.standing (after_take w self.old reply.now (take self.old.safe reply.now))) self.new past.new outcome) }

@@ -19,9 +19,7 @@ pub(crate) fn sent(reply: Reply) -> Result<(Outcome, Option<Reply>), NoMemory>
 }
 
 /// An answer without a reply.
-pub(crate) fn unsent(
-    told: Result<Outcome, NoMemory>,
-) -> Result<(Outcome, Option<Reply>), NoMemory>
+pub(crate) fn unsent(told: Result<Outcome, NoMemory>) -> Result<(Outcome, Option<Reply>), NoMemory>
     ensures { result ≡ unsent told }
 {
     match told {

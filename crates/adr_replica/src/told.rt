@@ -19,7 +19,10 @@ pub(crate) enum Deed<'a, S, R, E, Q, A> {
     /// An incarnation begins with what its state has.
     Begun(&'a S),
     /// A line gives the identifiers of a controller and of its database.
-    Gave { dsa: Uuid, inv: Uuid },
+    Gave {
+        dsa: Uuid,
+        inv: Uuid,
+    },
     /// A controller is about to write what an event says, at a time.
     Writes {
         replica: &'a R,
@@ -27,9 +30,15 @@ pub(crate) enum Deed<'a, S, R, E, Q, A> {
         now: u64,
     },
     /// It is about to answer a request.
-    Serves { replica: &'a R, request: &'a Q },
+    Serves {
+        replica: &'a R,
+        request: &'a Q,
+    },
     /// It is about to take a reply.
-    Takes { replica: &'a R, reply: &'a A },
+    Takes {
+        replica: &'a R,
+        reply: &'a A,
+    },
     /// It is about to be stopped.
     Stops(&'a R),
     /// It is about to be started.

@@ -12,44 +12,44 @@ returns-then-is_some-clause-started c = λ w stands.
 pub invariant_of-self : goal.invariant_of-self
 invariant_of-self c =
     let b = begins_so _ _ _ _ _ _ c.self.inside.name c.self.inside.dsa c.self.inside.controller c.self.inside.kept c.self.invariant c.state.ensures.in_order c.args.past.now
-        (not_there _ _ c.state.result c.state.ensures.state (sym c.is_some.ensures ∙ c.if-is_some.false)) _ (λ x. c.keepers_go_as_planned.ensures.tells x)
-        (λ x new e book r up has ran. c.keepers_go_as_planned.ensures.starts x new e book r up has ran)
-        c.revive.new.self c.start-started.new.self c.revive.ensures.plan c.revive.ensures.same c.revive.ensures.running c.revive.ensures.stays
-        c.args.self.now c.of-ahead.result.past c.of-ahead.result.kept c.start-started.result c.hindrance_of_start-how.result c.settle.new.controller c.settle.new.kept c.settle.new.past
-        c.self.view_is c.of-ahead.ensures.past c.of-ahead.ensures.kept c.hindrance_of_start-how.ensures c.settle.ensures.controller c.settle.ensures.kept c.settle.ensures.past
-        c.start-started.ensures.ok c.start-started.ensures.err c.start-started.ensures.damaged c.start-started.ensures.starts in
+    (not_there _ _ c.state.result c.state.ensures.state (sym c.is_some.ensures ∙ c.if-is_some.false)) _ (λ x. c.keepers_go_as_planned.ensures.tells x)
+    (λ x new e book r up has ran. c.keepers_go_as_planned.ensures.starts x new e book r up has ran)
+    c.revive.new.self c.start-started.new.self c.revive.ensures.plan c.revive.ensures.same c.revive.ensures.running c.revive.ensures.stays
+    c.args.self.now c.of-ahead.result.past c.of-ahead.result.kept c.start-started.result c.hindrance_of_start-how.result c.settle.new.controller c.settle.new.kept c.settle.new.past
+    c.self.view_is c.of-ahead.ensures.past c.of-ahead.ensures.kept c.hindrance_of_start-how.ensures c.settle.ensures.controller c.settle.ensures.kept c.settle.ensures.past
+    c.start-started.ensures.ok c.start-started.ensures.err c.start-started.ensures.damaged c.start-started.ensures.starts in
     b.held
 
 pub returns-clause-started : goal.returns-clause-started
 returns-clause-started c =
     let b = begins_so _ _ _ _ _ _ c.self.inside.name c.self.inside.dsa c.self.inside.controller c.self.inside.kept c.self.invariant c.state.ensures.in_order c.args.past.now
-        (not_there _ _ c.state.result c.state.ensures.state (sym c.is_some.ensures ∙ c.if-is_some.false)) _ (λ x. c.keepers_go_as_planned.ensures.tells x)
-        (λ x new e book r up has ran. c.keepers_go_as_planned.ensures.starts x new e book r up has ran)
-        c.revive.new.self c.start-started.new.self c.revive.ensures.plan c.revive.ensures.same c.revive.ensures.running c.revive.ensures.stays
-        c.args.self.now c.of-ahead.result.past c.of-ahead.result.kept c.start-started.result c.hindrance_of_start-how.result c.settle.new.controller c.settle.new.kept c.settle.new.past
-        c.self.view_is c.of-ahead.ensures.past c.of-ahead.ensures.kept c.hindrance_of_start-how.ensures c.settle.ensures.controller c.settle.ensures.kept c.settle.ensures.past
-        c.start-started.ensures.ok c.start-started.ensures.err c.start-started.ensures.damaged c.start-started.ensures.starts in
+    (not_there _ _ c.state.result c.state.ensures.state (sym c.is_some.ensures ∙ c.if-is_some.false)) _ (λ x. c.keepers_go_as_planned.ensures.tells x)
+    (λ x new e book r up has ran. c.keepers_go_as_planned.ensures.starts x new e book r up has ran)
+    c.revive.new.self c.start-started.new.self c.revive.ensures.plan c.revive.ensures.same c.revive.ensures.running c.revive.ensures.stays
+    c.args.self.now c.of-ahead.result.past c.of-ahead.result.kept c.start-started.result c.hindrance_of_start-how.result c.settle.new.controller c.settle.new.kept c.settle.new.past
+    c.self.view_is c.of-ahead.ensures.past c.of-ahead.ensures.kept c.hindrance_of_start-how.ensures c.settle.ensures.controller c.settle.ensures.kept c.settle.ensures.past
+    c.start-started.ensures.ok c.start-started.ensures.err c.start-started.ensures.damaged c.start-started.ensures.starts in
     elim c.match-started.branch [
-      in-Ok w ↦ if_ok_at _ _ _ w.result-is (b.passed _ w.in-Ok.is)
-    | in-Err-DiskFault w ↦
-        if_ok_at _ _ _ w.result-is (faulty_as _ _ _ _ _ _ _ b (w.in-Err-DiskFault.is ∙ ap Err (rw w.in-Err-DiskFault.is at w.in-Err-DiskFault.field-0-is)) c.is_stopped-stopped.result true c.is_stopped-stopped.ensures w.if-stopped.true)
-    | in-Err-DiskFault-2 w ↦
-        if_ok_at _ _ _ w.result-is (faulty_as _ _ _ _ _ _ _ b (w.in-Err-DiskFault-2.is ∙ ap Err (rw w.in-Err-DiskFault-2.is at w.in-Err-DiskFault-2.field-0-is)) c.is_stopped-stopped.result false c.is_stopped-stopped.ensures w.if-stopped.false)
-    | in-Err-NoMemory w ↦ no_ok _ _ _ w.result-is
+      | in-Ok w ↦ if_ok_at _ _ _ w.result-is (b.passed _ w.in-Ok.is)
+      | in-Err-DiskFault w ↦
+          if_ok_at _ _ _ w.result-is (faulty_as _ _ _ _ _ _ _ b (w.in-Err-DiskFault.is ∙ ap Err (rw w.in-Err-DiskFault.is at w.in-Err-DiskFault.field-0-is)) c.is_stopped-stopped.result true c.is_stopped-stopped.ensures w.if-stopped.true)
+      | in-Err-DiskFault-2 w ↦
+          if_ok_at _ _ _ w.result-is (faulty_as _ _ _ _ _ _ _ b (w.in-Err-DiskFault-2.is ∙ ap Err (rw w.in-Err-DiskFault-2.is at w.in-Err-DiskFault-2.field-0-is)) c.is_stopped-stopped.result false c.is_stopped-stopped.ensures w.if-stopped.false)
+      | in-Err-NoMemory w ↦ no_ok _ _ _ w.result-is
     ]
 
 pub returns-clause-err : goal.returns-clause-err
 returns-clause-err c =
     let b = begins_so _ _ _ _ _ _ c.self.inside.name c.self.inside.dsa c.self.inside.controller c.self.inside.kept c.self.invariant c.state.ensures.in_order c.args.past.now
-        (not_there _ _ c.state.result c.state.ensures.state (sym c.is_some.ensures ∙ c.if-is_some.false)) _ (λ x. c.keepers_go_as_planned.ensures.tells x)
-        (λ x new e book r up has ran. c.keepers_go_as_planned.ensures.starts x new e book r up has ran)
-        c.revive.new.self c.start-started.new.self c.revive.ensures.plan c.revive.ensures.same c.revive.ensures.running c.revive.ensures.stays
-        c.args.self.now c.of-ahead.result.past c.of-ahead.result.kept c.start-started.result c.hindrance_of_start-how.result c.settle.new.controller c.settle.new.kept c.settle.new.past
-        c.self.view_is c.of-ahead.ensures.past c.of-ahead.ensures.kept c.hindrance_of_start-how.ensures c.settle.ensures.controller c.settle.ensures.kept c.settle.ensures.past
-        c.start-started.ensures.ok c.start-started.ensures.err c.start-started.ensures.damaged c.start-started.ensures.starts in
+    (not_there _ _ c.state.result c.state.ensures.state (sym c.is_some.ensures ∙ c.if-is_some.false)) _ (λ x. c.keepers_go_as_planned.ensures.tells x)
+    (λ x new e book r up has ran. c.keepers_go_as_planned.ensures.starts x new e book r up has ran)
+    c.revive.new.self c.start-started.new.self c.revive.ensures.plan c.revive.ensures.same c.revive.ensures.running c.revive.ensures.stays
+    c.args.self.now c.of-ahead.result.past c.of-ahead.result.kept c.start-started.result c.hindrance_of_start-how.result c.settle.new.controller c.settle.new.kept c.settle.new.past
+    c.self.view_is c.of-ahead.ensures.past c.of-ahead.ensures.kept c.hindrance_of_start-how.ensures c.settle.ensures.controller c.settle.ensures.kept c.settle.ensures.past
+    c.start-started.ensures.ok c.start-started.ensures.err c.start-started.ensures.damaged c.start-started.ensures.starts in
     elim c.match-started.branch [
-      in-Ok w ↦ no_err _ _ _ w.result-is
-    | in-Err-DiskFault w ↦ no_err _ _ _ w.result-is
-    | in-Err-DiskFault-2 w ↦ no_err _ _ _ w.result-is
-    | in-Err-NoMemory w ↦ on_err _ c.match-started.result (b.wanting w.in-Err-NoMemory.field-0-0 (w.in-Err-NoMemory.is ∙ ap Err (rw w.in-Err-NoMemory.is at w.in-Err-NoMemory.field-0-is)))
+      | in-Ok w ↦ no_err _ _ _ w.result-is
+      | in-Err-DiskFault w ↦ no_err _ _ _ w.result-is
+      | in-Err-DiskFault-2 w ↦ no_err _ _ _ w.result-is
+      | in-Err-NoMemory w ↦ on_err _ c.match-started.result (b.wanting w.in-Err-NoMemory.field-0-0 (w.in-Err-NoMemory.is ∙ ap Err (rw w.in-Err-NoMemory.is at w.in-Err-NoMemory.field-0-is)))
     ]

@@ -18,58 +18,58 @@ write-made-requires-clause-follows c = λ s ch formed makes.
 pub invariant_of-self : goal.invariant_of-self
 invariant_of-self c =
     let m = came_so _ _ _ _ _ _ c.self.inside.name c.self.inside.dsa c.self.inside.controller c.self.inside.kept c.self.invariant c.is_in_order.ensures
-        (λ x f at up. c.keepers_go_as_planned.ensures.keeps x f at up)
-        (λ old new ch how book r p at running follows up same has of ran. c.commits_go_as_planned.ensures old new ch how book r p at running follows up same has of ran)
-        c.args.past.now (written_in c.args.event.now c.args.now) (writing c.args.event.now c.args.now) (same_written c.args.event.now c.args.now)
-        (λ s ch formed makes.
-        let f = written_follows c.recorded_changes_leave_logged_states.ensures c.logged_states_fit.ensures c.writes_are_recorded.ensures c.args.event.now c.args.now c.requires c.ranges.now.fits s ch formed makes in
-        record { follows = f.follows; fits = f.fits; formed = f.formed })
-        c.write-made.new.self c.args.self.now c.of-ahead.result.past c.of-ahead.result.kept c.hindrance_in-how.result (call_hindrance c.write-made.result) c.settle.new.controller c.settle.new.kept c.settle.new.past
-        c.self.view_is c.of-ahead.ensures.past c.of-ahead.ensures.kept c.settle.ensures.controller c.settle.ensures.kept c.settle.ensures.past c.hindrance_in-how.ensures c.write-made.ensures.calls in
+    (λ x f at up. c.keepers_go_as_planned.ensures.keeps x f at up)
+    (λ old new ch how book r p at running follows up same has of ran. c.commits_go_as_planned.ensures old new ch how book r p at running follows up same has of ran)
+    c.args.past.now (written_in c.args.event.now c.args.now) (writing c.args.event.now c.args.now) (same_written c.args.event.now c.args.now)
+    (λ s ch formed makes.
+    let f = written_follows c.recorded_changes_leave_logged_states.ensures c.logged_states_fit.ensures c.writes_are_recorded.ensures c.args.event.now c.args.now c.requires c.ranges.now.fits s ch formed makes in
+    record { follows = f.follows; fits = f.fits; formed = f.formed })
+    c.write-made.new.self c.args.self.now c.of-ahead.result.past c.of-ahead.result.kept c.hindrance_in-how.result (call_hindrance c.write-made.result) c.settle.new.controller c.settle.new.kept c.settle.new.past
+    c.self.view_is c.of-ahead.ensures.past c.of-ahead.ensures.kept c.settle.ensures.controller c.settle.ensures.kept c.settle.ensures.past c.hindrance_in-how.ensures c.write-made.ensures.calls in
     m.held
 
 pub returns-clause-written : goal.returns-clause-written
 returns-clause-written c =
     let m = came_so _ _ _ _ _ _ c.self.inside.name c.self.inside.dsa c.self.inside.controller c.self.inside.kept c.self.invariant c.is_in_order.ensures
-        (λ x f at up. c.keepers_go_as_planned.ensures.keeps x f at up)
-        (λ old new ch how book r p at running follows up same has of ran. c.commits_go_as_planned.ensures old new ch how book r p at running follows up same has of ran)
-        c.args.past.now (written_in c.args.event.now c.args.now) (writing c.args.event.now c.args.now) (same_written c.args.event.now c.args.now)
-        (λ s ch formed makes.
-        let f = written_follows c.recorded_changes_leave_logged_states.ensures c.logged_states_fit.ensures c.writes_are_recorded.ensures c.args.event.now c.args.now c.requires c.ranges.now.fits s ch formed makes in
-        record { follows = f.follows; fits = f.fits; formed = f.formed })
-        c.write-made.new.self c.args.self.now c.of-ahead.result.past c.of-ahead.result.kept c.hindrance_in-how.result (call_hindrance c.write-made.result) c.settle.new.controller c.settle.new.kept c.settle.new.past
-        c.self.view_is c.of-ahead.ensures.past c.of-ahead.ensures.kept c.settle.ensures.controller c.settle.ensures.kept c.settle.ensures.past c.hindrance_in-how.ensures c.write-made.ensures.calls in
+    (λ x f at up. c.keepers_go_as_planned.ensures.keeps x f at up)
+    (λ old new ch how book r p at running follows up same has of ran. c.commits_go_as_planned.ensures old new ch how book r p at running follows up same has of ran)
+    c.args.past.now (written_in c.args.event.now c.args.now) (writing c.args.event.now c.args.now) (same_written c.args.event.now c.args.now)
+    (λ s ch formed makes.
+    let f = written_follows c.recorded_changes_leave_logged_states.ensures c.logged_states_fit.ensures c.writes_are_recorded.ensures c.args.event.now c.args.now c.requires c.ranges.now.fits s ch formed makes in
+    record { follows = f.follows; fits = f.fits; formed = f.formed })
+    c.write-made.new.self c.args.self.now c.of-ahead.result.past c.of-ahead.result.kept c.hindrance_in-how.result (call_hindrance c.write-made.result) c.settle.new.controller c.settle.new.kept c.settle.new.past
+    c.self.view_is c.of-ahead.ensures.past c.of-ahead.ensures.kept c.settle.ensures.controller c.settle.ensures.kept c.settle.ensures.past c.hindrance_in-how.ensures c.write-made.ensures.calls in
     let how = c.hindrance_in-how.ensures in
     elim c.match-made.branch [
-      in-Ok w ↦
-        ok_written _ _ _ _ _ _ _ _ _ _ m c.match-made.result (how ∙ ap call_hindrance w.in-Ok.is) w.in-Ok.usn w.result-is (if_ok_is _ _ _ w.in-Ok.is c.write-made.ensures.written)
-    | in-Err-Refused w ↦
-        let is = w.in-Err-Refused.is ∙ ap Err w.in-Err-Refused.field-0-is in
-        ok_refused _ _ _ _ _ _ _ _ _ _ m c.match-made.result (how ∙ ap call_hindrance is) w.in-Err-Refused.refusal (λ s x there of. c.write-made.ensures.refused s x w.in-Err-Refused.refusal there of is)
-        w.write_refused.result w.result-is w.write_refused.ensures
-    | in-Err-Hindered w ↦
-        let is = w.in-Err-Hindered.is ∙ ap Err w.in-Err-Hindered.field-0-is in
-        ok_hindered _ _ _ _ _ _ _ _ _ _ m c.match-made.result w.in-Err-Hindered.hindrance (how ∙ ap call_hindrance is) c.is_down-down.result c.is_down-down.ensures w.hindered.result w.result-is w.hindered.ensures.ok
+      | in-Ok w ↦
+          ok_written _ _ _ _ _ _ _ _ _ _ m c.match-made.result (how ∙ ap call_hindrance w.in-Ok.is) w.in-Ok.usn w.result-is (if_ok_is _ _ _ w.in-Ok.is c.write-made.ensures.written)
+      | in-Err-Refused w ↦
+          let is = w.in-Err-Refused.is ∙ ap Err w.in-Err-Refused.field-0-is in
+          ok_refused _ _ _ _ _ _ _ _ _ _ m c.match-made.result (how ∙ ap call_hindrance is) w.in-Err-Refused.refusal (λ s x there of. c.write-made.ensures.refused s x w.in-Err-Refused.refusal there of is)
+          w.write_refused.result w.result-is w.write_refused.ensures
+      | in-Err-Hindered w ↦
+          let is = w.in-Err-Hindered.is ∙ ap Err w.in-Err-Hindered.field-0-is in
+          ok_hindered _ _ _ _ _ _ _ _ _ _ m c.match-made.result w.in-Err-Hindered.hindrance (how ∙ ap call_hindrance is) c.is_down-down.result c.is_down-down.ensures w.hindered.result w.result-is w.hindered.ensures.ok
     ]
 
 pub returns-clause-err : goal.returns-clause-err
 returns-clause-err c =
     let m = came_so _ _ _ _ _ _ c.self.inside.name c.self.inside.dsa c.self.inside.controller c.self.inside.kept c.self.invariant c.is_in_order.ensures
-        (λ x f at up. c.keepers_go_as_planned.ensures.keeps x f at up)
-        (λ old new ch how book r p at running follows up same has of ran. c.commits_go_as_planned.ensures old new ch how book r p at running follows up same has of ran)
-        c.args.past.now (written_in c.args.event.now c.args.now) (writing c.args.event.now c.args.now) (same_written c.args.event.now c.args.now)
-        (λ s ch formed makes.
-        let f = written_follows c.recorded_changes_leave_logged_states.ensures c.logged_states_fit.ensures c.writes_are_recorded.ensures c.args.event.now c.args.now c.requires c.ranges.now.fits s ch formed makes in
-        record { follows = f.follows; fits = f.fits; formed = f.formed })
-        c.write-made.new.self c.args.self.now c.of-ahead.result.past c.of-ahead.result.kept c.hindrance_in-how.result (call_hindrance c.write-made.result) c.settle.new.controller c.settle.new.kept c.settle.new.past
-        c.self.view_is c.of-ahead.ensures.past c.of-ahead.ensures.kept c.settle.ensures.controller c.settle.ensures.kept c.settle.ensures.past c.hindrance_in-how.ensures c.write-made.ensures.calls in
+    (λ x f at up. c.keepers_go_as_planned.ensures.keeps x f at up)
+    (λ old new ch how book r p at running follows up same has of ran. c.commits_go_as_planned.ensures old new ch how book r p at running follows up same has of ran)
+    c.args.past.now (written_in c.args.event.now c.args.now) (writing c.args.event.now c.args.now) (same_written c.args.event.now c.args.now)
+    (λ s ch formed makes.
+    let f = written_follows c.recorded_changes_leave_logged_states.ensures c.logged_states_fit.ensures c.writes_are_recorded.ensures c.args.event.now c.args.now c.requires c.ranges.now.fits s ch formed makes in
+    record { follows = f.follows; fits = f.fits; formed = f.formed })
+    c.write-made.new.self c.args.self.now c.of-ahead.result.past c.of-ahead.result.kept c.hindrance_in-how.result (call_hindrance c.write-made.result) c.settle.new.controller c.settle.new.kept c.settle.new.past
+    c.self.view_is c.of-ahead.ensures.past c.of-ahead.ensures.kept c.settle.ensures.controller c.settle.ensures.kept c.settle.ensures.past c.hindrance_in-how.ensures c.write-made.ensures.calls in
     let how = c.hindrance_in-how.ensures in
     elim c.match-made.branch [
-      in-Ok w ↦ no_err _ _ _ w.result-is
-    | in-Err-Refused w ↦
-        let is = w.in-Err-Refused.is ∙ ap Err w.in-Err-Refused.field-0-is in
-        on_err _ c.match-made.result (refused_undone _ _ _ _ _ _ _ _ _ _ m (how ∙ ap call_hindrance is) w.in-Err-Refused.refusal (λ s x there of. c.write-made.ensures.refused s x w.in-Err-Refused.refusal there of is))
-    | in-Err-Hindered w ↦
-        let is = w.in-Err-Hindered.is ∙ ap Err w.in-Err-Hindered.field-0-is in
-        on_err_as _ _ _ _ w.result-is w.hindered.ensures.err (λ short. m.wanted w.in-Err-Hindered.hindrance (how ∙ ap call_hindrance is) short)
+      | in-Ok w ↦ no_err _ _ _ w.result-is
+      | in-Err-Refused w ↦
+          let is = w.in-Err-Refused.is ∙ ap Err w.in-Err-Refused.field-0-is in
+          on_err _ c.match-made.result (refused_undone _ _ _ _ _ _ _ _ _ _ m (how ∙ ap call_hindrance is) w.in-Err-Refused.refusal (λ s x there of. c.write-made.ensures.refused s x w.in-Err-Refused.refusal there of is))
+      | in-Err-Hindered w ↦
+          let is = w.in-Err-Hindered.is ∙ ap Err w.in-Err-Hindered.field-0-is in
+          on_err_as _ _ _ _ w.result-is w.hindered.ensures.err (λ short. m.wanted w.in-Err-Hindered.hindrance (how ∙ ap call_hindrance is) short)
     ]
