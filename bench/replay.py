@@ -108,6 +108,11 @@ def shows(size):
     return before, ["show A"] * 5
 
 
+def start(size):
+    before = controllers(["A"]) + users("A", range(size))
+    return before, ["stop A", "start A"]
+
+
 # Each work with its name and the smaller of its two sizes.
 WORKS = [
     ("adds at one controller", adds, 20000),
@@ -123,6 +128,7 @@ WORKS = [
     ("fifty units, half moved", units_moved, 20000),
     ("ring of 64 controllers", ring, 2000),
     ("five shows", shows, 10000),
+    ("start behind as many adds", start, 20000),
 ]
 
 
