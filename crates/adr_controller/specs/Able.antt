@@ -11,7 +11,7 @@ use Rattle.adr_model.specs.Change.{Change, after}
 use Rattle.adr_model.specs.Serve.{Request, Reply, serve}
 use Rattle.adr_model.specs.Take.{take}
 use Rattle.adr_model.specs.Write.{write}
-use Rattle.adr_model.specs.Collect.{quarantine}
+use Rattle.adr_model.specs.Collect.{collect, quarantine}
 use Rattle.adr_model.specs.Replica.{change_in}
 use Rattle.adr_model.specs.Step.{ClientWrite, write_of}
 use Rattle.adr_state.specs.Refusal.{IsOverfull}
@@ -63,3 +63,6 @@ change_of_taken s (Err refusal) = quarantine_in (reply_shows refusal) s
 
 abbrev pub taken_in : Reply → State → Option Change
 taken_in reply s = change_of_taken s (take s reply)
+
+abbrev pub collected_in : ℕ → ℕ → State → Option Change
+collected_in now lifetime s = change_in (collect s now lifetime)

@@ -5,6 +5,7 @@
 //! state. It knows nothing of the other controllers of a world, of names, or of the bytes of messages.
 #![tactic(auto)]
 
+mod collecting;
 mod controller;
 mod keeping;
 mod messages;
@@ -12,7 +13,7 @@ mod planned;
 mod refusal;
 mod writing;
 
-pub use adr_event::{Event, ServeRefusal, TakeRefusal, WriteRefusal};
+pub use adr_event::{CollectRefusal, Event, ServeRefusal, TakeRefusal, WriteRefusal};
 pub use adr_journal::{Keeper, KeeperRefusal, PlannedKeeper, StartRefusal};
 pub use adr_packet::{Reply, Request};
 pub use adr_state::{Change, State};

@@ -35,7 +35,7 @@ pub struct Taken {
 }
 
 /// A count that needs more than 32 bits counts as want of memory.
-fn count(number: usize) -> Result<u32, NoMemory>
+pub(crate) fn count(number: usize) -> Result<u32, NoMemory>
     ensures { IfOk result (λ count. count ≡ number) }
 {
     match u32::try_from(number) {

@@ -1,0 +1,14 @@
+//! Images of controllers, and controllers that adopt them.
+//!
+//! An image is a database as bytes, which belongs to no controller: it can't write, serve, take or ask. A controller comes
+//! of it under a fresh invocation identifier alone. It stands on the images of `adr_image`, on the states of a log in
+//! `adr_records`, and on the laws of `adr_law_recorded`. It knows nothing of disks, or of the names that lines bind.
+#![tactic(auto)]
+
+mod image;
+mod lengths;
+
+pub use adr_event::{AdoptRefusal, Failure};
+pub use adr_state::{NoMemory, State};
+pub use image::Image;
+pub use lengths::new_log_end;
