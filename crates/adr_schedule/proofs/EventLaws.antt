@@ -7,7 +7,7 @@ use Rattle.std.proofs.lemmas.Bool.{eqb-false, ne_eqb}
 use Rattle.adr_disk.specs.declared.memory.Crash.{Crash}
 use Rattle.adr_schema.specs.Assignments.{Given}
 use Rattle.adr_event.specs.declared.event.Event.{Event}
-use Rattle.adr_event.specs.declared.event.Event.TheVariants.{Controller, Time, Add, Modify, Rename, Delete, Link, Unlink, Ask, Serve, Deliver, Pull, Cycle, StopAfter, Fail, Stop, Start, Show, Vector, Marks}
+use Rattle.adr_event.specs.declared.event.Event.TheVariants.{Controller, Time, Add, Modify, Rename, Delete, Link, Unlink, Ask, Serve, Deliver, Pull, Cycle, Collect, Backup, Restore, Install, Snapshot, Rollback, StopAfter, Fail, Stop, Start, Show, Vector, Marks}
 use Rattle.adr_token.specs.Gives.{◌>>=◌}
 use Rattle.adr_token.specs.Words.{unspaced, ended, word_at, name_at}
 use Rattle.adr_token.specs.Numbers.{number_at}
@@ -22,7 +22,7 @@ use Rattle.adr_schedule.specs.Limits.{plan_limit}
 use Rattle.adr_schedule.specs.Crashes.{crash_word}
 use Rattle.adr_schedule.specs.Sets.{rising, sets_at}
 use Rattle.adr_schedule.specs.Verbs.{verb_of, verbs as all_verbs, word_of}
-use Rattle.adr_schedule.specs.Commands.{add_line, ask_line, bound_at, by_verb, calls_at, controller_line, crash_at, delete_line, deliver_line, event_of, fail_line, limit_at, link_line, modify_line, name_line, pull_line, rename_line, serve_line, stop_after, stop_line, time_line}
+use Rattle.adr_schedule.specs.Commands.{add_line, ask_line, binding_line, bound_at, by_verb, calls_at, collect_line, controller_line, crash_at, delete_line, deliver_line, event_of, fail_line, install_line, limit_at, link_line, modify_line, name_line, pull_line, rename_line, restore_line, rollback_line, serve_line, stop_after, stop_line, time_line}
 use Rattle.adr_schedule.specs.Grammar.{Word, Name, Number, Identifier, Class, Attribute, Quoted, sets, tokens_in, IsNext, AreSpelled, IsLimit, Spells, SpelledLinesAreRead, LinesSpellOneEvent, LinesWereSpelled}
 use Rattle.adr_schedule.proofs.LineSets.{none_left, sets_read, sets_were}
 use Rattle.adr_schedule.proofs.RisingLemmas.{rising_from, unless_some}
@@ -75,6 +75,18 @@ pull_was bytes told h =
     at_end P limit.1 (name.0, source.0, limit.0) (λ last.
     let most = limit_next source.1 limit l in
     (most.0, (name.1, name_next bytes name n, (source.1, name_next name.1 source s, (limit.1, most.1, last)))))))) told h
+
+-- NAME as NAME
+abbrev Binds : List ℕ → List ℕ × List ℕ → Type 0
+Binds bytes binds = AreSpelled (Name binds.0 ∷ Word (codes "as") ∷ Name binds.1 ∷ []) bytes
+
+binding_was : (bytes : List ℕ) (binds : List ℕ × List ℕ) → binding_line bytes ≡ Some binds → Binds bytes binds
+unfolding binding_line
+binding_was bytes told h =
+    let P = Binds bytes in
+    each_step P (name_at bytes) _ (λ name n. each_step P (bound_at name.1) _ (λ bound b. at_end P bound.1 (name.0, bound.0) (λ last.
+    let binds = bound_next name.1 bound b in
+    (name.1, name_next bytes name n, (binds.0, binds.1, (bound.1, binds.2, last)))))) told h
 
 -- what a line says that begins with this verb, and goes on so
 abbrev Follows : Verb → Type 0
@@ -189,6 +201,36 @@ deliver_was line rest verb e h =
     each_step P (name_at rest) _ (λ name n. each_step P (name_at name.1) _ (λ reply r. at_end P reply.1 (Deliver name.0 reply.0) (λ last.
     (tt, ([], refl, (rest, verb, (name.1, name_next rest name n, (reply.1, name_next name.1 reply r, last)))))))) e h
 
+collect_was : Follows verbs.Collect
+unfolding collect_line tokens_in
+collect_was line rest verb e h =
+    let P = Spells line in
+    each_step P (name_at rest) _ (λ name n. each_step P (number_at name.1) _ (λ lifetime l. at_end P lifetime.1 (Collect name.0 lifetime.0) (λ last.
+    (tt, ([], refl, (rest, verb, (name.1, name_next rest name n, (lifetime.1, number_next name.1 lifetime l, last)))))))) e h
+
+restore_was : Follows verbs.Restore
+unfolding restore_line tokens_in
+restore_was line rest verb e h =
+    let P = Spells line in
+    each_step P (name_at rest) _ (λ name n. each_step P (name_at name.1) _ (λ image i. each_step P (identifier_at image.1) _ (λ inv v.
+    at_end P inv.1 (Restore name.0 image.0 inv.0) (λ last.
+    (tt, ([], refl, (rest, verb, (name.1, name_next rest name n, (image.1, name_next name.1 image i, (inv.1, identifier_next image.1 inv v, last)))))))))) e h
+
+install_was : Follows verbs.Install
+unfolding install_line tokens_in
+install_was line rest verb e h =
+    let P = Spells line in
+    each_step P (name_at rest) _ (λ name n. each_step P (identifier_at name.1) _ (λ dsa d. each_step P (name_at dsa.1) _ (λ image i. each_step P (identifier_at image.1) _ (λ inv v.
+    at_end P inv.1 (Install name.0 dsa.0 image.0 inv.0) (λ last.
+    (tt, ([], refl, (rest, verb, (name.1, name_next rest name n, (dsa.1, identifier_next name.1 dsa d, (image.1, name_next dsa.1 image i, (inv.1, identifier_next image.1 inv v, last)))))))))))) e h
+
+rollback_was : Follows verbs.Rollback
+unfolding rollback_line tokens_in
+rollback_was line rest verb e h =
+    let P = Spells line in
+    each_step P (name_at rest) _ (λ name n. each_step P (name_at name.1) _ (λ snapshot s. at_end P snapshot.1 (Rollback name.0 snapshot.0) (λ last.
+    (tt, ([], refl, (rest, verb, (name.1, name_next rest name n, (snapshot.1, name_next name.1 snapshot s, last)))))))) e h
+
 stop_was : Follows verbs.Stop
 unfolding stop_line stop_after tokens_in
 stop_was line rest verb e h = each_step P (name_at rest) _ (λ name n. by name n (length (unspaced name.1) == 0) refl) e h
@@ -231,6 +273,12 @@ verb_was verbs.Serve line rest verb e h = serve_was line rest verb e h
 verb_was verbs.Deliver line rest verb e h = deliver_was line rest verb e h
 verb_was verbs.Pull line rest verb e h = made (Spells line) (λ pull. Pull pull.0 pull.1 pull.2) (pull_line rest) (λ pull l. let was = pull_was rest pull l in (was.0, ([], refl, (rest, verb, was.1)))) e h
 verb_was verbs.Cycle line rest verb e h = made (Spells line) (λ pull. Cycle pull.0 pull.1 pull.2) (pull_line rest) (λ pull l. let was = pull_was rest pull l in (was.0, ([], refl, (rest, verb, was.1)))) e h
+verb_was verbs.Collect line rest verb e h = collect_was line rest verb e h
+verb_was verbs.Backup line rest verb e h = made (Spells line) (λ binds. Backup binds.0 binds.1) (binding_line rest) (λ binds b. (tt, ([], refl, (rest, verb, binding_was rest binds b)))) e h
+verb_was verbs.Restore line rest verb e h = restore_was line rest verb e h
+verb_was verbs.Install line rest verb e h = install_was line rest verb e h
+verb_was verbs.Snapshot line rest verb e h = made (Spells line) (λ binds. Snapshot binds.0 binds.1) (binding_line rest) (λ binds b. (tt, ([], refl, (rest, verb, binding_was rest binds b)))) e h
+verb_was verbs.Rollback line rest verb e h = rollback_was line rest verb e h
 verb_was verbs.Stop line rest verb e h = stop_was line rest verb e h
 verb_was verbs.Fail line rest verb e h = fail_was line rest verb e h
 verb_was verbs.Start line rest verb e h = made (Spells line) Start (name_line rest) (λ name n. (tt, ([], refl, (rest, verb, name_was rest name n)))) e h
@@ -329,6 +377,29 @@ deliver_again : (bytes name reply : List ℕ) → AreSpelled (Name name ∷ Name
 unfolding deliver_line
 deliver_again bytes name reply h = rw (name_read name bytes h.0 h.1, name_read reply h.0 h.2.0 h.2.1, h.2.2) refl
 
+binding_again : (bytes name bound : List ℕ) → AreSpelled (Name name ∷ Word (codes "as") ∷ Name bound ∷ []) bytes → binding_line bytes ≡ Some (name, bound)
+unfolding binding_line
+binding_again bytes name bound h = rw (name_read name bytes h.0 h.1, bound_read bound h.0 h.2.0 h.2.2.0 h.2.1 h.2.2.1, h.2.2.2) refl
+
+collect_again : (bytes name : List ℕ) (lifetime : ℕ) → AreSpelled (Name name ∷ Number lifetime ∷ []) bytes → collect_line bytes ≡ Some (Collect name lifetime)
+unfolding collect_line
+collect_again bytes name lifetime h = rw (name_read name bytes h.0 h.1, number_read lifetime h.0 h.2.0 h.2.1, h.2.2) refl
+
+restore_again : (bytes name image inv : List ℕ) → AreSpelled (Name name ∷ Name image ∷ Identifier inv ∷ []) bytes → restore_line bytes ≡ Some (Restore name image inv)
+unfolding restore_line
+restore_again bytes name image inv h = rw (name_read name bytes h.0 h.1, name_read image h.0 h.2.0 h.2.1, identifier_read inv h.2.0 h.2.2.0 h.2.2.1, h.2.2.2) refl
+
+install_again : (bytes name dsa image inv : List ℕ) → AreSpelled (Name name ∷ Identifier dsa ∷ Name image ∷ Identifier inv ∷ []) bytes
+    → install_line bytes ≡ Some (Install name dsa image inv)
+unfolding install_line
+install_again bytes name dsa image inv h =
+    let i = h.2.2 in
+    rw (name_read name bytes h.0 h.1, identifier_read dsa h.0 h.2.0 h.2.1, name_read image h.2.0 i.0 i.1, identifier_read inv i.0 i.2.0 i.2.1, i.2.2) refl
+
+rollback_again : (bytes name snapshot : List ℕ) → AreSpelled (Name name ∷ Name snapshot ∷ []) bytes → rollback_line bytes ≡ Some (Rollback name snapshot)
+unfolding rollback_line
+rollback_again bytes name snapshot h = rw (name_read name bytes h.0 h.1, name_read snapshot h.0 h.2.0 h.2.1, h.2.2) refl
+
 stop_again : (bytes name : List ℕ) → AreSpelled (Name name ∷ []) bytes → stop_line bytes ≡ Some (Stop name)
 unfolding stop_line
 stop_again bytes name h = rw (name_read name bytes h.0 h.1, h.2) refl
@@ -369,6 +440,12 @@ lines_read line (Serve name request bound) h = rw (word_read (codes "serve") lin
 lines_read line (Deliver name reply) h = rw (word_read (codes "deliver") line h.1.2.0 refl (omega arith) h.1.2.1, deliver_again h.1.2.0 name reply h.1.2.2) refl
 lines_read line (Pull name source max) h = rw (word_read (codes "pull") line h.1.2.0 refl (omega arith) h.1.2.1, pull_again h.1.2.0 name source max h.0 h.1.2.2) refl
 lines_read line (Cycle name source max) h = rw (word_read (codes "cycle") line h.1.2.0 refl (omega arith) h.1.2.1, pull_again h.1.2.0 name source max h.0 h.1.2.2) refl
+lines_read line (Collect name lifetime) h = rw (word_read (codes "collect") line h.1.2.0 refl (omega arith) h.1.2.1, collect_again h.1.2.0 name lifetime h.1.2.2) refl
+lines_read line (Backup name bound) h = rw (word_read (codes "backup") line h.1.2.0 refl (omega arith) h.1.2.1, binding_again h.1.2.0 name bound h.1.2.2) refl
+lines_read line (Restore name image inv) h = rw (word_read (codes "restore") line h.1.2.0 refl (omega arith) h.1.2.1, restore_again h.1.2.0 name image inv h.1.2.2) refl
+lines_read line (Install name dsa image inv) h = rw (word_read (codes "install") line h.1.2.0 refl (omega arith) h.1.2.1, install_again h.1.2.0 name dsa image inv h.1.2.2) refl
+lines_read line (Snapshot name bound) h = rw (word_read (codes "snapshot") line h.1.2.0 refl (omega arith) h.1.2.1, binding_again h.1.2.0 name bound h.1.2.2) refl
+lines_read line (Rollback name snapshot) h = rw (word_read (codes "rollback") line h.1.2.0 refl (omega arith) h.1.2.1, rollback_again h.1.2.0 name snapshot h.1.2.2) refl
 lines_read line (StopAfter name calls how) h = rw (word_read (codes "stop") line h.1.2.0 refl (omega arith) h.1.2.1, stop_after_again h.1.2.0 name calls how h.0 h.1.2.2) refl
 lines_read line (Fail name calls) h = rw (word_read (codes "fail") line h.1.2.0 refl (omega arith) h.1.2.1, fail_again h.1.2.0 name calls h.0 h.1.2.2) refl
 lines_read line (Stop name) h = rw (word_read (codes "stop") line h.1.2.0 refl (omega arith) h.1.2.1, stop_again h.1.2.0 name h.1.2.2) refl
@@ -376,7 +453,6 @@ lines_read line (Start name) h = rw (word_read (codes "start") line h.1.2.0 refl
 lines_read line (Show name) h = rw (word_read (codes "show") line h.1.2.0 refl (omega arith) h.1.2.1, name_again h.1.2.0 name h.1.2.2) refl
 lines_read line (Vector name) h = rw (word_read (codes "vector") line h.1.2.0 refl (omega arith) h.1.2.1, name_again h.1.2.0 name h.1.2.2) refl
 lines_read line (Marks name) h = rw (word_read (codes "marks") line h.1.2.0 refl (omega arith) h.1.2.1, name_again h.1.2.0 name h.1.2.2) refl
-lines_read line e h = absurd h.0
 
 same_event : (o : Option Event) (e f : Event) → o ≡ Some e → o ≡ Some f → e ≡ f
 same_event o e f h k = cc

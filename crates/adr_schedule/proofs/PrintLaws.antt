@@ -10,7 +10,7 @@ use Rattle.adr_disk.specs.declared.memory.Crash.TheVariants.{Kept, Lost, Torn}
 use Rattle.adr_schema.specs.Assignments.{Given}
 use Rattle.adr_schema.specs.declared.content.Value.{Value as Item}
 use Rattle.adr_event.specs.declared.event.Event.{Event}
-use Rattle.adr_event.specs.declared.event.Event.TheVariants.{Controller, Time, Add, Modify, Rename, Delete, Link, Unlink, Ask, Serve, Deliver, Pull, Cycle, StopAfter, Fail, Stop, Start, Show, Vector, Marks}
+use Rattle.adr_event.specs.declared.event.Event.TheVariants.{Controller, Time, Add, Modify, Rename, Delete, Link, Unlink, Ask, Serve, Deliver, Pull, Cycle, Collect, Backup, Restore, Install, Snapshot, Rollback, StopAfter, Fail, Stop, Start, Show, Vector, Marks}
 use Rattle.adr_token.specs.Words.{unspaced}
 use Rattle.adr_token.specs.Texts.{ends_word}
 use Rattle.adr_token.specs.Spelled.{SpellsAttribute, SpellsClass, SpellsSet}
@@ -89,31 +89,36 @@ sets_seen [] = refl
 sets_seen (set ∷ values) = sets_seen values
 
 -- the words of an event are seen
-words_seen : (order : List Given) (e : Event) → HasLine e → list_all is_seen (tokens_in order e) ≡ true
+words_seen : (order : List Given) (e : Event) → list_all is_seen (tokens_in order e) ≡ true
 unfolding tokens_in
-words_seen order (Controller name dsa inv) h = refl
-words_seen order (Time now) h = refl
-words_seen order (Add name guid class parent text values) h = sets_seen order
-words_seen order (Modify name guid values) h = sets_seen order
-words_seen order (Rename name guid parent text) h = refl
-words_seen order (Delete name guid) h = refl
-words_seen order (Link name from attr to) h = refl
-words_seen order (Unlink name from attr to) h = refl
-words_seen order (Ask name partner max bound) h = refl
-words_seen order (Serve name request bound) h = refl
-words_seen order (Deliver name reply) h = refl
-words_seen order (Pull name source max) h = refl
-words_seen order (Cycle name source max) h = refl
-words_seen order (StopAfter name calls Kept) h = refl
-words_seen order (StopAfter name calls Lost) h = refl
-words_seen order (StopAfter name calls Torn) h = refl
-words_seen order (Fail name calls) h = refl
-words_seen order (Stop name) h = refl
-words_seen order (Start name) h = refl
-words_seen order (Show name) h = refl
-words_seen order (Vector name) h = refl
-words_seen order (Marks name) h = refl
-words_seen order e h = absurd h
+words_seen order (Controller name dsa inv) = refl
+words_seen order (Time now) = refl
+words_seen order (Add name guid class parent text values) = sets_seen order
+words_seen order (Modify name guid values) = sets_seen order
+words_seen order (Rename name guid parent text) = refl
+words_seen order (Delete name guid) = refl
+words_seen order (Link name from attr to) = refl
+words_seen order (Unlink name from attr to) = refl
+words_seen order (Ask name partner max bound) = refl
+words_seen order (Serve name request bound) = refl
+words_seen order (Deliver name reply) = refl
+words_seen order (Pull name source max) = refl
+words_seen order (Cycle name source max) = refl
+words_seen order (Collect name lifetime) = refl
+words_seen order (Backup name bound) = refl
+words_seen order (Restore name image inv) = refl
+words_seen order (Install name dsa image inv) = refl
+words_seen order (Snapshot name bound) = refl
+words_seen order (Rollback name snapshot) = refl
+words_seen order (StopAfter name calls Kept) = refl
+words_seen order (StopAfter name calls Lost) = refl
+words_seen order (StopAfter name calls Torn) = refl
+words_seen order (Fail name calls) = refl
+words_seen order (Stop name) = refl
+words_seen order (Start name) = refl
+words_seen order (Show name) = refl
+words_seen order (Vector name) = refl
+words_seen order (Marks name) = refl
 
 -- the tokens with a space between them are plain, and spell themselves
 spaced_plain : (tokens : List Token) → ArePrinted tokens → IsPlain (spaced (map token_text tokens))
@@ -146,7 +151,7 @@ record IsSaid (e : Event) : Type 0 where
   printed : ArePrinted (tokens_of e)
 
 said : (e : Event) → IsAllowed e → IsSaid e
-said e h = record { has_line = h.0; printed = are_printed (tokens_of e) (words_seen (given_by e) e h.0) h.1 }
+said e h = record { has_line = h.0; printed = are_printed (tokens_of e) (words_seen (given_by e) e) h.1 }
 
 given_rises : (e : Event) → HasLine e → AreRising (given_by e)
 unfolding IsStrictlySortedBy
@@ -185,33 +190,38 @@ says (Word (b ∷ bs) ∷ tokens) h =
     letter_first b (bs ++ spaced (map token_text tokens)) (not-true (b == 59) p.0) (not-true (b == 32) p.1)
 says tokens h = absurd (cc)
 
-event_begins : (order : List Given) (e : Event) → HasLine e → begins (tokens_in order e) ≡ true
+event_begins : (order : List Given) (e : Event) → begins (tokens_in order e) ≡ true
 unfolding tokens_in
-event_begins order (Controller name dsa inv) h = refl
-event_begins order (Time now) h = refl
-event_begins order (Add name guid class parent text values) h = refl
-event_begins order (Modify name guid values) h = refl
-event_begins order (Rename name guid parent text) h = refl
-event_begins order (Delete name guid) h = refl
-event_begins order (Link name from attr to) h = refl
-event_begins order (Unlink name from attr to) h = refl
-event_begins order (Ask name partner max bound) h = refl
-event_begins order (Serve name request bound) h = refl
-event_begins order (Deliver name reply) h = refl
-event_begins order (Pull name source max) h = refl
-event_begins order (Cycle name source max) h = refl
-event_begins order (StopAfter name calls how) h = refl
-event_begins order (Fail name calls) h = refl
-event_begins order (Stop name) h = refl
-event_begins order (Start name) h = refl
-event_begins order (Show name) h = refl
-event_begins order (Vector name) h = refl
-event_begins order (Marks name) h = refl
-event_begins order e h = absurd h
+event_begins order (Controller name dsa inv) = refl
+event_begins order (Time now) = refl
+event_begins order (Add name guid class parent text values) = refl
+event_begins order (Modify name guid values) = refl
+event_begins order (Rename name guid parent text) = refl
+event_begins order (Delete name guid) = refl
+event_begins order (Link name from attr to) = refl
+event_begins order (Unlink name from attr to) = refl
+event_begins order (Ask name partner max bound) = refl
+event_begins order (Serve name request bound) = refl
+event_begins order (Deliver name reply) = refl
+event_begins order (Pull name source max) = refl
+event_begins order (Cycle name source max) = refl
+event_begins order (Collect name lifetime) = refl
+event_begins order (Backup name bound) = refl
+event_begins order (Restore name image inv) = refl
+event_begins order (Install name dsa image inv) = refl
+event_begins order (Snapshot name bound) = refl
+event_begins order (Rollback name snapshot) = refl
+event_begins order (StopAfter name calls how) = refl
+event_begins order (Fail name calls) = refl
+event_begins order (Stop name) = refl
+event_begins order (Start name) = refl
+event_begins order (Show name) = refl
+event_begins order (Vector name) = refl
+event_begins order (Marks name) = refl
 
 line_says : (e : Event) → IsSaid e → is_passed (line_of e) ≡ false
 unfolding line_of
-line_says e h = says (tokens_of e) (event_begins (given_by e) e h.has_line)
+line_says e h = says (tokens_of e) (event_begins (given_by e) e)
 
 line_told : (seen : Seen) (e : Event) → IsSaid e → cause_after seen e ≡ None → line_after seen (line_of e) ≡ Ok (Some e)
 line_told seen e h c =

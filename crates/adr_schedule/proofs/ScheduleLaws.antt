@@ -5,16 +5,16 @@ use Rattle.std.specs.Bool.{then_some}
 use Rattle.std.specs.Str.{is_utf8}
 use Rattle.std.proofs.lemmas.Bool.{le-ltb, lt-ltb, ltb-false, ltb-true}
 use Rattle.adr_event.specs.declared.event.Event.{Event}
-use Rattle.adr_event.specs.declared.event.Event.TheVariants.{Controller, Time, Add, Modify, Rename, Delete, Link, Unlink, Ask, Serve, Deliver, Pull, Cycle, StopAfter, Fail, Stop, Start, Show, Vector, Marks}
+use Rattle.adr_event.specs.declared.event.Event.TheVariants.{Controller, Time, Add, Modify, Rename, Delete, Link, Unlink, Ask, Serve, Deliver, Pull, Cycle, Collect, Backup, Restore, Install, Snapshot, Rollback, StopAfter, Fail, Stop, Start, Show, Vector, Marks}
 use Rattle.adr_schedule.specs.declared.fault.Cause.{Cause}
 use Rattle.adr_schedule.specs.declared.fault.Cause.TheVariants.{NotUtf8, NoCommand, UnknownName, NameUsed, IdentifierUsed, TooMany, TooLong}
 use Rattle.adr_schedule.specs.declared.fault.ScheduleFault.{ScheduleFault}
 use Rattle.adr_schedule.specs.Limits.{controller_limit, text_limit}
 use Rattle.adr_schedule.specs.Lines.{lines_of}
 use Rattle.adr_schedule.specs.Commands.{event_of, is_passed}
-use Rattle.adr_schedule.specs.Grammar.{HasLine, Spells}
+use Rattle.adr_schedule.specs.Grammar.{Spells}
 use Rattle.adr_failure.specs.First.{first_of}
-use Rattle.adr_schedule.specs.Seen.{Seen, nothing_seen, cause_after, if_bound, if_full, if_given, is_bound, seen_after, unless_bound, IsFollowing}
+use Rattle.adr_schedule.specs.Seen.{Seen, nothing_seen, cause_after, if_bound, if_full, if_given, if_inv_given, is_bound, seen_after, unless_bound, IsFollowing}
 use Rattle.adr_schedule.specs.Events.{bad, before, events_from, events_of, followed, line_after, on_line, unless}
 use Rattle.adr_schedule.specs.Schedules.{FaultyTextsAreRefused, IsCause, IsFault, IsFirstFault, LinesSay, ReadTextsAreSchedules, RefusedTextsHaveTheFault, Says, SchedulesAreRead}
 use Rattle.adr_schedule.proofs.AllowedLaws.{spelled_allowed}
@@ -141,42 +141,57 @@ unless_late names name x e = then_late (not (is_bound names name)) UnknownName r
 bound_late : (names : List (List ℕ)) (name : List ℕ) (x : Cause) → if_bound names name ≡ Some x → is_late x ≡ true
 bound_late names name x e = then_late (is_bound names name) NameUsed refl x e
 
+inv_late : (seen : Seen) (inv : List ℕ) (x : Cause) → if_inv_given seen inv ≡ Some x → is_late x ≡ true
+inv_late seen inv x e = then_late (is_bound seen.invs inv) IdentifierUsed refl x e
+
 given_late : (seen : Seen) (dsa inv : List ℕ) (x : Cause) → if_given seen dsa inv ≡ Some x → is_late x ≡ true
 given_late seen dsa inv x e = then_late (is_bound seen.dsas dsa || is_bound seen.invs inv) IdentifierUsed refl x e
 
 full_late : (seen : Seen) (x : Cause) → if_full seen ≡ Some x → is_late x ≡ true
 full_late seen x e = then_late (nat_le controller_limit (length seen.controllers)) TooMany refl x e
 
-cause_late : (seen : Seen) (e : Event) → HasLine e → (x : Cause) → cause_after seen e ≡ Some x → is_late x ≡ true
-cause_late seen (Controller name dsa inv) h x c =
+cause_late : (seen : Seen) (e : Event) (x : Cause) → cause_after seen e ≡ Some x → is_late x ≡ true
+cause_late seen (Controller name dsa inv) x c =
     first_late (if_bound seen.controllers name ∷ if_given seen dsa inv ∷ if_full seen ∷ []) (bound_late seen.controllers name, (given_late seen dsa inv, (full_late seen, tt))) x c
-cause_late seen (Time now) h x c = absurd (cc)
-cause_late seen (Add name guid class parent text values) h x c = unless_late seen.controllers name x c
-cause_late seen (Modify name guid values) h x c = unless_late seen.controllers name x c
-cause_late seen (Rename name guid parent text) h x c = unless_late seen.controllers name x c
-cause_late seen (Delete name guid) h x c = unless_late seen.controllers name x c
-cause_late seen (Link name from attr to) h x c = unless_late seen.controllers name x c
-cause_late seen (Unlink name from attr to) h x c = unless_late seen.controllers name x c
-cause_late seen (Ask name partner max bound) h x c =
+cause_late seen (Time now) x c = absurd (cc)
+cause_late seen (Add name guid class parent text values) x c = unless_late seen.controllers name x c
+cause_late seen (Modify name guid values) x c = unless_late seen.controllers name x c
+cause_late seen (Rename name guid parent text) x c = unless_late seen.controllers name x c
+cause_late seen (Delete name guid) x c = unless_late seen.controllers name x c
+cause_late seen (Link name from attr to) x c = unless_late seen.controllers name x c
+cause_late seen (Unlink name from attr to) x c = unless_late seen.controllers name x c
+cause_late seen (Ask name partner max bound) x c =
     first_late (unless_bound seen.controllers name ∷ unless_bound seen.controllers partner ∷ if_bound seen.requests bound ∷ [])
     (unless_late seen.controllers name, (unless_late seen.controllers partner, (bound_late seen.requests bound, tt))) x c
-cause_late seen (Serve name request bound) h x c =
+cause_late seen (Serve name request bound) x c =
     first_late (unless_bound seen.controllers name ∷ unless_bound seen.requests request ∷ if_bound seen.replies bound ∷ [])
     (unless_late seen.controllers name, (unless_late seen.requests request, (bound_late seen.replies bound, tt))) x c
-cause_late seen (Deliver name reply) h x c =
+cause_late seen (Deliver name reply) x c =
     first_late (unless_bound seen.controllers name ∷ unless_bound seen.replies reply ∷ []) (unless_late seen.controllers name, (unless_late seen.replies reply, tt)) x c
-cause_late seen (Pull name source max) h x c =
+cause_late seen (Pull name source max) x c =
     first_late (unless_bound seen.controllers name ∷ unless_bound seen.controllers source ∷ []) (unless_late seen.controllers name, (unless_late seen.controllers source, tt)) x c
-cause_late seen (Cycle name source max) h x c =
+cause_late seen (Cycle name source max) x c =
     first_late (unless_bound seen.controllers name ∷ unless_bound seen.controllers source ∷ []) (unless_late seen.controllers name, (unless_late seen.controllers source, tt)) x c
-cause_late seen (StopAfter name calls how) h x c = unless_late seen.controllers name x c
-cause_late seen (Fail name calls) h x c = unless_late seen.controllers name x c
-cause_late seen (Stop name) h x c = unless_late seen.controllers name x c
-cause_late seen (Start name) h x c = unless_late seen.controllers name x c
-cause_late seen (Show name) h x c = unless_late seen.controllers name x c
-cause_late seen (Vector name) h x c = unless_late seen.controllers name x c
-cause_late seen (Marks name) h x c = unless_late seen.controllers name x c
-cause_late seen e h x c = absurd h
+cause_late seen (Collect name lifetime) x c = unless_late seen.controllers name x c
+cause_late seen (Backup name bound) x c =
+    first_late (unless_bound seen.controllers name ∷ if_bound seen.images bound ∷ []) (unless_late seen.controllers name, (bound_late seen.images bound, tt)) x c
+cause_late seen (Restore name image inv) x c =
+    first_late (unless_bound seen.controllers name ∷ unless_bound seen.images image ∷ if_inv_given seen inv ∷ [])
+    (unless_late seen.controllers name, (unless_late seen.images image, (inv_late seen inv, tt))) x c
+cause_late seen (Install name dsa image inv) x c =
+    first_late (unless_bound seen.images image ∷ if_bound seen.controllers name ∷ if_given seen dsa inv ∷ if_full seen ∷ [])
+    (unless_late seen.images image, (bound_late seen.controllers name, (given_late seen dsa inv, (full_late seen, tt)))) x c
+cause_late seen (Snapshot name bound) x c =
+    first_late (unless_bound seen.controllers name ∷ if_bound seen.snapshots bound ∷ []) (unless_late seen.controllers name, (bound_late seen.snapshots bound, tt)) x c
+cause_late seen (Rollback name snapshot) x c =
+    first_late (unless_bound seen.controllers name ∷ unless_bound seen.snapshots snapshot ∷ []) (unless_late seen.controllers name, (unless_late seen.snapshots snapshot, tt)) x c
+cause_late seen (StopAfter name calls how) x c = unless_late seen.controllers name x c
+cause_late seen (Fail name calls) x c = unless_late seen.controllers name x c
+cause_late seen (Stop name) x c = unless_late seen.controllers name x c
+cause_late seen (Start name) x c = unless_late seen.controllers name x c
+cause_late seen (Show name) x c = unless_late seen.controllers name x c
+cause_late seen (Vector name) x c = unless_late seen.controllers name x c
+cause_late seen (Marks name) x c = unless_late seen.controllers name x c
 
 late_cause : (seen : Seen) (line : List ℕ) (e : Event) (cause : Cause) → is_utf8 line ≡ true → Spells line e → cause_after seen e ≡ Some cause → is_late cause ≡ true → IsCause seen line cause
 late_cause seen line e NotUtf8 u s c l = absurd (cc)
@@ -198,7 +213,7 @@ cause_by seen line cause false true None at is h = let same : NoCommand ≡ caus
 cause_by seen line cause false true (Some e) at is h =
     let c = unless_bad (cause_after seen e) e cause h in
     let s = lines_spelled line e is in
-    (refl, late_cause seen line e cause at s c (cause_late seen e s.0 cause c))
+    (refl, late_cause seen line e cause at s c (cause_late seen e cause c))
 
 before_bad : (es : List Event) (r : Result (List Event) ScheduleFault) (fault : ScheduleFault) → before es r ≡ Err fault → r ≡ Err fault
 before_bad es (Ok more) fault h = absurd (cc)

@@ -4,7 +4,7 @@ use Rattle.std.specs.Option.{option_map}
 use Rattle.std.specs.Str.{bytes_eq}
 use Rattle.adr_disk.specs.declared.memory.Crash.{Crash}
 use Rattle.adr_event.specs.declared.event.Event.{Event}
-use Rattle.adr_event.specs.declared.event.Event.TheVariants.{Controller, Time, Add, Modify, Rename, Delete, Link, Unlink, Ask, Serve, Deliver, Pull, Cycle, StopAfter, Fail, Stop, Start, Show, Vector, Marks}
+use Rattle.adr_event.specs.declared.event.Event.TheVariants.{Controller, Time, Add, Modify, Rename, Delete, Link, Unlink, Ask, Serve, Deliver, Pull, Cycle, Collect, Backup, Restore, Install, Snapshot, Rollback, StopAfter, Fail, Stop, Start, Show, Vector, Marks}
 use Rattle.adr_schedule.specs.Limits.{ask_limit, plan_limit}
 use Rattle.adr_token.specs.Gives.{Reading, ◌>>=◌}
 use Rattle.adr_token.specs.Words.{unspaced, ended, said, word_at, name_at}
@@ -58,6 +58,13 @@ unfoldable pub bound_at : List ℕ → Reading (List ℕ)
 bound_at bytes = do
   word ← said (codes "as") bytes
   name_at word.1
+
+-- NAME as NAME
+unfoldable pub binding_line : List ℕ → Option (List ℕ × List ℕ)
+binding_line bytes = do
+  name ← name_at bytes
+  bound ← bound_at name.1
+  ended bound.1 (name.0, bound.0)
 
 -- after NUM: how many device calls a plan lets pass
 unfoldable pub calls_at : List ℕ → Reading ℕ
@@ -139,6 +146,33 @@ deliver_line bytes = do
   reply ← name_at name.1
   ended reply.1 (Deliver name.0 reply.0)
 
+unfoldable pub collect_line : List ℕ → Option Event
+collect_line bytes = do
+  name ← name_at bytes
+  lifetime ← number_at name.1
+  ended lifetime.1 (Collect name.0 lifetime.0)
+
+unfoldable pub restore_line : List ℕ → Option Event
+restore_line bytes = do
+  name ← name_at bytes
+  image ← name_at name.1
+  inv ← identifier_at image.1
+  ended inv.1 (Restore name.0 image.0 inv.0)
+
+unfoldable pub install_line : List ℕ → Option Event
+install_line bytes = do
+  name ← name_at bytes
+  dsa ← identifier_at name.1
+  image ← name_at dsa.1
+  inv ← identifier_at image.1
+  ended inv.1 (Install name.0 dsa.0 image.0 inv.0)
+
+unfoldable pub rollback_line : List ℕ → Option Event
+rollback_line bytes = do
+  name ← name_at bytes
+  snapshot ← name_at name.1
+  ended snapshot.1 (Rollback name.0 snapshot.0)
+
 -- a stop that is planned, behind the name
 unfoldable pub stop_after : List ℕ → List ℕ → Option Event
 stop_after name bytes = do
@@ -173,6 +207,12 @@ by_verb verbs.Serve rest = serve_line rest
 by_verb verbs.Deliver rest = deliver_line rest
 by_verb verbs.Pull rest = option_map (λ pull. Pull pull.0 pull.1 pull.2) (pull_line rest)
 by_verb verbs.Cycle rest = option_map (λ pull. Cycle pull.0 pull.1 pull.2) (pull_line rest)
+by_verb verbs.Collect rest = collect_line rest
+by_verb verbs.Backup rest = option_map (λ binds. Backup binds.0 binds.1) (binding_line rest)
+by_verb verbs.Restore rest = restore_line rest
+by_verb verbs.Install rest = install_line rest
+by_verb verbs.Snapshot rest = option_map (λ binds. Snapshot binds.0 binds.1) (binding_line rest)
+by_verb verbs.Rollback rest = rollback_line rest
 by_verb verbs.Stop rest = stop_line rest
 by_verb verbs.Fail rest = fail_line rest
 by_verb verbs.Start rest = option_map Start (name_line rest)

@@ -97,7 +97,7 @@ IsLimit limit = (1 ≤ limit) × (limit ≤ ask_limit)
 abbrev pub AreRising : List Given → Type 0
 AreRising values = IsStrictlySortedBy nat_cmp (attributes values)
 
--- what the tokens of an event don't say: which events have a line, how many items are asked for, how many calls a plan lets pass, and how values are given
+-- what the tokens of an event don't say: how many items are asked for, how many calls a plan lets pass, and how values are given
 abbrev pub HasLine : Event → Type 0
 HasLine (Controller name dsa inv) = Unit {0}
 HasLine (Time now) = Unit {0}
@@ -112,6 +112,12 @@ HasLine (Serve name request bound) = Unit {0}
 HasLine (Deliver name reply) = Unit {0}
 HasLine (Pull name source max) = IsLimit max
 HasLine (Cycle name source max) = IsLimit max
+HasLine (Collect name lifetime) = Unit {0}
+HasLine (Backup name bound) = Unit {0}
+HasLine (Restore name image inv) = Unit {0}
+HasLine (Install name dsa image inv) = Unit {0}
+HasLine (Snapshot name bound) = Unit {0}
+HasLine (Rollback name snapshot) = Unit {0}
 HasLine (StopAfter name calls how) = calls ≤ plan_limit
 HasLine (Fail name calls) = calls ≤ plan_limit
 HasLine (Stop name) = Unit {0}
@@ -119,7 +125,6 @@ HasLine (Start name) = Unit {0}
 HasLine (Show name) = Unit {0}
 HasLine (Vector name) = Unit {0}
 HasLine (Marks name) = Unit {0}
-HasLine _ = ⊥
 
 -- a line spells an event, which has one: the event's tokens stand in the line, its sets in any order
 abbrev pub Spells : List ℕ → Event → Type 0

@@ -1,13 +1,13 @@
 -- What earlier lines bound and gave, and whether an event may follow them.
-use Rattle.std.specs.Prelude.{◌≡◌, ℕ, List, [], ◌∷◌, ◌++◌, length, Bool, not, ◌||◌, nat_le, Option, Some, None}
+use Rattle.std.specs.Prelude.{◌≡◌, ℕ, List, [], ◌∷◌, ◌++◌, length, Bool, not, ◌||◌, nat_le, Option, None}
 use Rattle.std.specs.Bool.{then_some}
 use Rattle.std.specs.List.{list_any}
 use Rattle.std.specs.Str.{bytes_eq}
 use Rattle.adr_failure.specs.First.{first_of}
 use Rattle.adr_event.specs.declared.event.Event.{Event}
-use Rattle.adr_event.specs.declared.event.Event.TheVariants.{Controller, Time, Add, Modify, Rename, Delete, Link, Unlink, Ask, Serve, Deliver, Pull, Cycle, StopAfter, Fail, Stop, Start, Show, Vector, Marks}
+use Rattle.adr_event.specs.declared.event.Event.TheVariants.{Controller, Time, Add, Modify, Rename, Delete, Link, Unlink, Ask, Serve, Deliver, Pull, Cycle, Collect, Backup, Restore, Install, Snapshot, Rollback, StopAfter, Fail, Stop, Start, Show, Vector, Marks}
 use Rattle.adr_schedule.specs.declared.fault.Cause.{Cause}
-use Rattle.adr_schedule.specs.declared.fault.Cause.TheVariants.{NoCommand, UnknownName, NameUsed, IdentifierUsed, TooMany}
+use Rattle.adr_schedule.specs.declared.fault.Cause.TheVariants.{UnknownName, NameUsed, IdentifierUsed, TooMany}
 use Rattle.adr_schedule.specs.Limits.{controller_limit}
 use Rattle.adr_schedule.specs.Grammar.{IsAllowed}
 
@@ -16,11 +16,13 @@ pub record Seen : Type 0 where
   pub controllers : List (List ℕ)
   pub requests : List (List ℕ)
   pub replies : List (List ℕ)
+  pub images : List (List ℕ)
+  pub snapshots : List (List ℕ)
   pub dsas : List (List ℕ)
   pub invs : List (List ℕ)
 
 abbrev pub nothing_seen : Seen
-nothing_seen = record { controllers = []; requests = []; replies = []; dsas = []; invs = [] }
+nothing_seen = record { controllers = []; requests = []; replies = []; images = []; snapshots = []; dsas = []; invs = [] }
 
 abbrev pub is_bound : List (List ℕ) → List ℕ → Bool
 is_bound names name = list_any (λ bound. bytes_eq bound name) names
@@ -33,7 +35,11 @@ unless_bound names name = then_some (not (is_bound names name)) UnknownName
 abbrev pub if_bound : List (List ℕ) → List ℕ → Option Cause
 if_bound names name = then_some (is_bound names name) NameUsed
 
--- an identifier that a line gives was given before
+-- an invocation identifier that a line gives was given before
+abbrev pub if_inv_given : Seen → List ℕ → Option Cause
+if_inv_given seen inv = then_some (is_bound seen.invs inv) IdentifierUsed
+
+-- one of the identifiers that a line gives was given before
 abbrev pub if_given : Seen → List ℕ → List ℕ → Option Cause
 if_given seen dsa inv = then_some (is_bound seen.dsas dsa || is_bound seen.invs inv) IdentifierUsed
 
@@ -58,6 +64,14 @@ cause_after seen (Serve name request bound) =
 cause_after seen (Deliver name reply) = first_of (unless_bound seen.controllers name ∷ unless_bound seen.replies reply ∷ [])
 cause_after seen (Pull name source max) = first_of (unless_bound seen.controllers name ∷ unless_bound seen.controllers source ∷ [])
 cause_after seen (Cycle name source max) = first_of (unless_bound seen.controllers name ∷ unless_bound seen.controllers source ∷ [])
+cause_after seen (Collect name lifetime) = unless_bound seen.controllers name
+cause_after seen (Backup name bound) = first_of (unless_bound seen.controllers name ∷ if_bound seen.images bound ∷ [])
+cause_after seen (Restore name image inv) =
+    first_of (unless_bound seen.controllers name ∷ unless_bound seen.images image ∷ if_inv_given seen inv ∷ [])
+cause_after seen (Install name dsa image inv) =
+    first_of (unless_bound seen.images image ∷ if_bound seen.controllers name ∷ if_given seen dsa inv ∷ if_full seen ∷ [])
+cause_after seen (Snapshot name bound) = first_of (unless_bound seen.controllers name ∷ if_bound seen.snapshots bound ∷ [])
+cause_after seen (Rollback name snapshot) = first_of (unless_bound seen.controllers name ∷ unless_bound seen.snapshots snapshot ∷ [])
 cause_after seen (StopAfter name calls how) = unless_bound seen.controllers name
 cause_after seen (Fail name calls) = unless_bound seen.controllers name
 cause_after seen (Stop name) = unless_bound seen.controllers name
@@ -65,13 +79,20 @@ cause_after seen (Start name) = unless_bound seen.controllers name
 cause_after seen (Show name) = unless_bound seen.controllers name
 cause_after seen (Vector name) = unless_bound seen.controllers name
 cause_after seen (Marks name) = unless_bound seen.controllers name
-cause_after seen _ = Some NoCommand
+
+-- one more controller, with the identifiers that its line gives
+abbrev pub with_controller : Seen → List ℕ → List ℕ → List ℕ → Seen
+with_controller seen name dsa inv =
+    record seen { controllers = seen.controllers ++ name ∷ []; dsas = seen.dsas ++ dsa ∷ []; invs = seen.invs ++ inv ∷ [] }
 
 abbrev pub seen_after : Seen → Event → Seen
-seen_after seen (Controller name dsa inv) =
-    record seen { controllers = seen.controllers ++ name ∷ []; dsas = seen.dsas ++ dsa ∷ []; invs = seen.invs ++ inv ∷ [] }
+seen_after seen (Controller name dsa inv) = with_controller seen name dsa inv
 seen_after seen (Ask name partner max bound) = record seen { requests = seen.requests ++ bound ∷ [] }
 seen_after seen (Serve name request bound) = record seen { replies = seen.replies ++ bound ∷ [] }
+seen_after seen (Backup name bound) = record seen { images = seen.images ++ bound ∷ [] }
+seen_after seen (Restore name image inv) = record seen { invs = seen.invs ++ inv ∷ [] }
+seen_after seen (Install name dsa image inv) = with_controller seen name dsa inv
+seen_after seen (Snapshot name bound) = record seen { snapshots = seen.snapshots ++ bound ∷ [] }
 seen_after seen _ = seen
 
 -- each event may follow those before it

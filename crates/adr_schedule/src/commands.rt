@@ -3,7 +3,7 @@
 ghost use Rattle.std.specs.Prelude.{◌≡◌, ◌==◌, ◌<◌, ◌≤◌, ℕ, List, length, true, false, IfOk, IfErr, OnOk, Some, None};
 ghost use Rattle.adr_token.specs.Gives.{Gives, Answers, bad};
 ghost use Rattle.adr_token.specs.Words.{unspaced};
-ghost use Rattle.adr_schedule.specs.Commands.{add_line, ask_line, bound_at, by_verb, calls_at, controller_line, crash_at, delete_line, deliver_line, event_of, fail_line, is_passed, limit_at, link_line, modify_line, name_line, pull_line, rename_line, serve_line, stop_after, stop_line, time_line};
+ghost use Rattle.adr_schedule.specs.Commands.{add_line, ask_line, binding_line, bound_at, by_verb, calls_at, collect_line, controller_line, crash_at, delete_line, deliver_line, event_of, fail_line, install_line, is_passed, limit_at, link_line, modify_line, name_line, pull_line, rename_line, restore_line, rollback_line, serve_line, stop_after, stop_line, time_line};
 
 use crate::crashes::crash_of;
 use crate::limits::{ASK_LIMIT, PLAN_LIMIT};
@@ -83,6 +83,17 @@ fn bound(alloc: Global, line: &mut Line<'_>) -> Result<Text, Stop>
 {
     line.said(b"as")?;
     line.name(alloc)
+}
+
+/// NAME as NAME
+#[tactic(auto, unfolding(crate::specs::Commands::binding_line))]
+fn binding(alloc: Global, line: &mut Line<'_>) -> Result<(Text, Text), Stop>
+    ensures { Answers result (binding_line line.old) }
+{
+    let name = line.name(alloc)?;
+    let bound = bound(alloc, line)?;
+    end(line)?;
+    Ok((name, bound))
 }
 
 #[tactic(auto, unfolding(crate::specs::Commands::controller_line))]
@@ -209,6 +220,54 @@ fn deliver(alloc: Global, line: &mut Line<'_>) -> Result<Event, Stop>
     Ok(Event::Deliver { name, reply })
 }
 
+#[tactic(auto, unfolding(crate::specs::Commands::collect_line))]
+fn collect(alloc: Global, line: &mut Line<'_>) -> Result<Event, Stop>
+    ensures { Answers result (collect_line line.old) }
+{
+    let name = line.name(alloc)?;
+    let lifetime = line.number()?;
+    end(line)?;
+    Ok(Event::Collect { name, lifetime })
+}
+
+#[tactic(auto, unfolding(crate::specs::Commands::restore_line))]
+fn restore(alloc: Global, line: &mut Line<'_>) -> Result<Event, Stop>
+    ensures { Answers result (restore_line line.old) }
+{
+    let name = line.name(alloc)?;
+    let image = line.name(alloc)?;
+    let inv = line.identifier()?;
+    end(line)?;
+    Ok(Event::Restore { name, image, inv })
+}
+
+#[tactic(auto, unfolding(crate::specs::Commands::install_line))]
+fn install(alloc: Global, line: &mut Line<'_>) -> Result<Event, Stop>
+    ensures { Answers result (install_line line.old) }
+{
+    let name = line.name(alloc)?;
+    let dsa = line.identifier()?;
+    let image = line.name(alloc)?;
+    let inv = line.identifier()?;
+    end(line)?;
+    Ok(Event::Install {
+        name,
+        dsa,
+        image,
+        inv,
+    })
+}
+
+#[tactic(auto, unfolding(crate::specs::Commands::rollback_line))]
+fn rollback(alloc: Global, line: &mut Line<'_>) -> Result<Event, Stop>
+    ensures { Answers result (rollback_line line.old) }
+{
+    let name = line.name(alloc)?;
+    let snapshot = line.name(alloc)?;
+    end(line)?;
+    Ok(Event::Rollback { name, snapshot })
+}
+
 /// NUM, behind `after`: how many device calls a plan lets pass.
 #[tactic(auto, unfolding(crate::specs::Commands::calls_at))]
 fn calls(line: &mut Line<'_>) -> Result<u32, Stop>
@@ -308,6 +367,18 @@ fn by_verb(alloc: Global, verb: Verb, line: &mut Line<'_>) -> Result<Event, Stop
             let (name, source, max) = pull(alloc, line)?;
             Ok(Event::Cycle { name, source, max })
         }
+        Verb::Collect => collect(alloc, line),
+        Verb::Backup => {
+            let (name, bound) = binding(alloc, line)?;
+            Ok(Event::Backup { name, bound })
+        }
+        Verb::Restore => restore(alloc, line),
+        Verb::Install => install(alloc, line),
+        Verb::Snapshot => {
+            let (name, bound) = binding(alloc, line)?;
+            Ok(Event::Snapshot { name, bound })
+        }
+        Verb::Rollback => rollback(alloc, line),
         Verb::Stop => stop(alloc, line),
         Verb::Fail => fail(alloc, line),
         Verb::Start => Ok(Event::Start {

@@ -1,9 +1,9 @@
 //! What earlier lines bound and gave.
 
-ghost use Rattle.std.specs.Prelude.{◌≡◌, ℕ, List, [], ◌∷◌, ◌++◌, ◌||◌, None, OnOk, IfErr};
+ghost use Rattle.std.specs.Prelude.{◌≡◌, ℕ, List, [], ◌∷◌, ◌++◌, ◌||◌, false, None, OnOk, IfErr};
 ghost use Rattle.adr_schedule.specs.Faults.{RefusesEvent};
 ghost use Rattle.adr_failure.specs.First.{first_of};
-ghost use Rattle.adr_schedule.specs.Seen.{nothing_seen, is_bound, unless_bound, if_bound, if_given, if_full, cause_after, seen_after};
+ghost use Rattle.adr_schedule.specs.Seen.{nothing_seen, is_bound, unless_bound, if_bound, if_inv_given, if_given, if_full, cause_after, with_controller, seen_after};
 
 use crate::fault::Cause;
 use crate::limits::CONTROLLER_LIMIT;
@@ -20,6 +20,8 @@ pub struct Seen {
     controllers: Names,
     requests: Names,
     replies: Names,
+    images: Names,
+    snapshots: Names,
     dsas: Vec<Uuid>,
     invs: Vec<Uuid>,
 }
@@ -30,7 +32,7 @@ impl Model for Seen {
 
     ghost Value = { Bindings };
 
-    ghost view = { λ s. record { controllers = s.controllers; requests = s.requests; replies = s.replies; dsas = s.dsas.items; invs = s.invs.items } };
+    ghost view = { λ s. record { controllers = s.controllers; requests = s.requests; replies = s.replies; images = s.images; snapshots = s.snapshots; dsas = s.dsas.items; invs = s.invs.items } };
 }
 
 /// Whether an identifier is among these.
@@ -60,6 +62,8 @@ impl Seen {
             controllers: Names::new(alloc),
             requests: Names::new(alloc),
             replies: Names::new(alloc),
+            images: Names::new(alloc),
+            snapshots: Names::new(alloc),
             dsas: Vec::new(alloc),
             invs: Vec::new(alloc),
         }
@@ -75,16 +79,30 @@ impl Seen {
         }
     }
 
-    fn unless_controllers(&self, name: &Text, other: &Text) -> Option<Cause>
+    /// A line uses a controller, and a name of another kind or a second controller.
+    fn cause_of_use(&self, name: &Text, names: &Names, used: &Text) -> Option<Cause>
         ensures { result
-            ≡ first_of (unless_bound self.now.controllers name.now
-            ∷ unless_bound self.now.controllers other.now ∷ []) }
+            ≡ first_of (unless_bound self.now.controllers name.now ∷ unless_bound names.now used.now ∷ []) }
     {
-        if self.controllers.contains(name) {
-            self.unless_controller(other)
+        if self.controllers.contains(name) && names.contains(used) {
+            None
         } else {
             Some(Cause::UnknownName)
         }
+    }
+
+    /// A line uses a controller, and binds a name of another kind.
+    fn cause_of_copy(&self, name: &Text, names: &Names, bound: &Text) -> Option<Cause>
+        ensures { result
+            ≡ first_of (unless_bound self.now.controllers name.now ∷ if_bound names.now bound.now ∷ []) }
+    {
+        if !self.controllers.contains(name) {
+            return Some(Cause::UnknownName);
+        }
+        if names.contains(bound) {
+            return Some(Cause::NameUsed);
+        }
+        None
     }
 
     fn cause_of_controller(&self, name: &Text, dsa: &Uuid, inv: &Uuid) -> Option<Cause>
@@ -132,16 +150,29 @@ impl Seen {
         None
     }
 
-    fn cause_of_deliver(&self, name: &Text, reply: &Text) -> Option<Cause>
+    fn cause_of_restore(&self, name: &Text, image: &Text, inv: &Uuid) -> Option<Cause>
         ensures { result
-            ≡ first_of (unless_bound self.now.controllers name.now ∷ unless_bound self.now.replies reply.now
-            ∷ []) }
+            ≡ first_of (unless_bound self.now.controllers name.now ∷ unless_bound self.now.images image.now
+            ∷ if_inv_given self.now inv.now ∷ []) }
     {
-        if self.controllers.contains(name) && self.replies.contains(reply) {
-            None
-        } else {
-            Some(Cause::UnknownName)
+        if !self.controllers.contains(name) || !self.images.contains(image) {
+            return Some(Cause::UnknownName);
         }
+        if is_given(self.invs.as_slice(), inv) {
+            return Some(Cause::IdentifierUsed);
+        }
+        None
+    }
+
+    fn cause_of_install(&self, name: &Text, dsa: &Uuid, image: &Text, inv: &Uuid) -> Option<Cause>
+        ensures { result
+            ≡ first_of (unless_bound self.now.images image.now ∷ if_bound self.now.controllers name.now
+            ∷ if_given self.now dsa.now inv.now ∷ if_full self.now ∷ []) }
+    {
+        if !self.images.contains(image) {
+            return Some(Cause::UnknownName);
+        }
+        self.cause_of_controller(name, dsa, inv)
     }
 
     /// Why the event may not follow, if it may not.
@@ -168,9 +199,24 @@ impl Seen {
                 request,
                 bound,
             } => self.cause_of_serve(name, request, bound),
-            Event::Deliver { name, reply } => self.cause_of_deliver(name, reply),
-            Event::Pull { name, source, .. } => self.unless_controllers(name, source),
-            Event::Cycle { name, source, .. } => self.unless_controllers(name, source),
+            Event::Deliver { name, reply } => self.cause_of_use(name, &self.replies, reply),
+            Event::Pull { name, source, .. } => self.cause_of_use(name, &self.controllers, source),
+            Event::Cycle { name, source, .. } => self.cause_of_use(name, &self.controllers, source),
+            Event::Collect { name, .. } => self.unless_controller(name),
+            Event::Backup { name, bound } => self.cause_of_copy(name, &self.images, bound),
+            Event::Restore { name, image, inv } => self.cause_of_restore(name, image, inv),
+            Event::Install {
+                name,
+                dsa,
+                image,
+                inv,
+            } => self.cause_of_install(name, dsa, image, inv),
+            Event::Snapshot { name, bound } => self.cause_of_copy(name, &self.snapshots, bound),
+            Event::Rollback { name, snapshot } => self.cause_of_use(
+                name,
+                &self.snapshots,
+                snapshot,
+            ),
             Event::StopAfter { name, .. } => self.unless_controller(name),
             Event::Fail { name, .. } => self.unless_controller(name),
             Event::Stop { name } => self.unless_controller(name),
@@ -178,13 +224,24 @@ impl Seen {
             Event::Show { name } => self.unless_controller(name),
             Event::Vector { name } => self.unless_controller(name),
             Event::Marks { name } => self.unless_controller(name),
-            Event::Collect { .. } => Some(Cause::NoCommand),
-            Event::Backup { .. } => Some(Cause::NoCommand),
-            Event::Restore { .. } => Some(Cause::NoCommand),
-            Event::Install { .. } => Some(Cause::NoCommand),
-            Event::Snapshot { .. } => Some(Cause::NoCommand),
-            Event::Rollback { .. } => Some(Cause::NoCommand),
         }
+    }
+
+    /// One more controller, with its identifiers.
+    fn note_controller(
+        &mut self,
+        alloc: Global,
+        name: &Text,
+        dsa: &Uuid,
+        inv: &Uuid,
+    ) -> Result<(), Failure<Cause>>
+        requires { is_bound self.old.controllers name.now ≡ false }
+        ensures seen { OnOk result (self.new ≡ with_controller self.old name.now dsa.now inv.now) }
+        ensures memory { IfErr result (λ failure. failure ≡ Failure.NoMemory) }
+    {
+        self.controllers.bind(alloc, name)?;
+        give(&mut self.dsas, dsa)?;
+        give(&mut self.invs, inv)
     }
 
     /// Notes what the event, which may follow, binds and gives. After an error it isn't said what was noted.
@@ -194,13 +251,13 @@ impl Seen {
         ensures memory { IfErr result (λ failure. failure ≡ Failure.NoMemory) }
     {
         match event {
-            Event::Controller { name, dsa, inv } => {
-                self.controllers.bind(alloc, name)?;
-                give(&mut self.dsas, dsa)?;
-                give(&mut self.invs, inv)
-            }
+            Event::Controller { name, dsa, inv } => self.note_controller(alloc, name, dsa, inv),
             Event::Ask { bound, .. } => self.requests.bind(alloc, bound),
             Event::Serve { bound, .. } => self.replies.bind(alloc, bound),
+            Event::Backup { bound, .. } => self.images.bind(alloc, bound),
+            Event::Restore { inv, .. } => give(&mut self.invs, inv),
+            Event::Install { name, dsa, inv, .. } => self.note_controller(alloc, name, dsa, inv),
+            Event::Snapshot { bound, .. } => self.snapshots.bind(alloc, bound),
             _ => Ok(()),
         }
     }

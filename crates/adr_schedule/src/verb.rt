@@ -19,6 +19,12 @@ pub enum Verb {
     Deliver,
     Pull,
     Cycle,
+    Collect,
+    Backup,
+    Restore,
+    Install,
+    Snapshot,
+    Rollback,
     Stop,
     Fail,
     Start,
@@ -28,7 +34,7 @@ pub enum Verb {
 }
 
 /// All verbs.
-const VERBS: [Verb; 19] = [
+const VERBS: [Verb; 25] = [
     Verb::Controller,
     Verb::Time,
     Verb::Add,
@@ -42,6 +48,12 @@ const VERBS: [Verb; 19] = [
     Verb::Deliver,
     Verb::Pull,
     Verb::Cycle,
+    Verb::Collect,
+    Verb::Backup,
+    Verb::Restore,
+    Verb::Install,
+    Verb::Snapshot,
+    Verb::Rollback,
     Verb::Stop,
     Verb::Fail,
     Verb::Start,
@@ -68,6 +80,12 @@ impl Verb {
             Verb::Deliver => b"deliver".as_slice(),
             Verb::Pull => b"pull".as_slice(),
             Verb::Cycle => b"cycle".as_slice(),
+            Verb::Collect => b"collect".as_slice(),
+            Verb::Backup => b"backup".as_slice(),
+            Verb::Restore => b"restore".as_slice(),
+            Verb::Install => b"install".as_slice(),
+            Verb::Snapshot => b"snapshot".as_slice(),
+            Verb::Rollback => b"rollback".as_slice(),
             Verb::Stop => b"stop".as_slice(),
             Verb::Fail => b"fail".as_slice(),
             Verb::Start => b"start".as_slice(),
