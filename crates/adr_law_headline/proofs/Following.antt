@@ -1,7 +1,7 @@
 -- What lines may say, one after the other, may happen.
 use Rattle.std.proofs.Common.{◌≡◌, ◌≢◌, ◌<◌, ◌∙◌, ◌⊎◌, inl, inr, refl, sym, ap, subst, ℕ, List, [], ◌∷◌, ◌++◌, Bool, true, false, ◌||◌, Option, Some, None, length, arith}
 use Rattle.std.specs.Str.{bytes_eq}
-use Rattle.std.proofs.lemmas.List.{map-append}
+use Rattle.std.proofs.lemmas.List.{append-nil, map-append}
 use Rattle.adr_event.specs.declared.answer.Outcome.TheVariants as outcomes
 use Rattle.adr_event.specs.declared.event.Event.{Event}
 use Rattle.adr_event.specs.declared.event.Event.TheVariants as events
@@ -10,38 +10,48 @@ use Rattle.adr_schema.proofs.ExactCalls.{not_then}
 use Rattle.adr_schedule.specs.declared.fault.Cause.{Cause}
 use Rattle.adr_schedule.specs.Grammar.{IsAllowed}
 use Rattle.adr_failure.specs.First.{first_of}
-use Rattle.adr_schedule.specs.Seen.{Seen, nothing_seen, is_bound, if_bound, if_given, if_full, unless_bound, cause_after, seen_after, IsFollowing}
+use Rattle.adr_schedule.specs.Seen.{Seen, nothing_seen, is_bound, if_bound, if_inv_given, if_given, if_full, unless_bound, cause_after, with_controller, seen_after, IsFollowing}
 use Rattle.adr_model.specs.Member.{Member, Each}
 use Rattle.adr_model.specs.Write.{AddObject, Modify, Rename, Delete, AddLink, RemoveLink}
-use Rattle.adr_model.specs.Replica.{Stops, Fails, Replica}
-use Rattle.adr_model.specs.World.{Name, World, empty_world, bound, bound_at, asks, serves_request, shown, marks_shown}
+use Rattle.adr_model.specs.Store.{empty_state}
+use Rattle.adr_model.specs.Collect.{backup, adopt}
+use Rattle.adr_model.specs.Replica.{Stops, Fails, Replica, Book, on_new_disk, begun}
+use Rattle.adr_model.specs.World.{Name, World, empty_world, nothing, bound, bound_at, replica_at, of_made, of_controller, asks, serves_request, backed_up, shown, marks_shown}
 use Rattle.adr_model.specs.Cycles.{reply_limit}
-use Rattle.adr_model.specs.Step.{step}
-use Rattle.adr_model.specs.Convergence.{IsUnbound, MayHappen, MayAllHappen}
+use Rattle.adr_model.specs.Step.{gives, step}
+use Rattle.adr_model.specs.Convergence.{IsNewName, IsNewDsa, IsNewInv, IsUnbound, MayHappen, MayAllHappen}
 use Rattle.adr_model.proofs.Members.{member_of_either}
 use Rattle.adr_law_convergence.proofs.Found.{same_name_tests}
-use Rattle.adr_law_headline.proofs.Naming.{names_of, Stays, writes_stay, asks_stay, serves_stay, delivers_stay, reports_stay, plans_stay, stops_stay, starts_stay, pull_stays, pulls_stay}
+use Rattle.adr_law_headline.proofs.Naming.{names_of, Stays, adopted_case, writes_stay, asks_stay, serves_stay, delivers_stay, collects_stay, backups_stay, snapshots_stay, restores_stay, rollbacks_stay, reports_stay, plans_stay, stops_stay, starts_stay, pull_stays, pulls_stay}
 
 -- what is bound to names is among what lines bound
 abbrev AreAmong : {A : Type 0} → List (Name × A) → List Name → Type 0
 AreAmong {A} xs names = Each (λ (x : Name × A). Member x.0 names) xs
 
--- what lines bound and gave is what the world has; a line that was answered otherwise bound no message
+-- these names are among what lines bound
+abbrev AreNamed : List Name → List Name → Type 0
+AreNamed ns names = Each (λ n. Member n names) ns
+
+-- what lines bound and gave is what the world has; a line that was answered otherwise than ok bound nothing
 record Agrees (seen : Seen) (w : World) : Type 0 where
-  controllers : names_of w.replicas ≡ seen.controllers
+  controllers : AreNamed (names_of w.replicas) seen.controllers
   dsas : w.given.dsas ≡ seen.dsas
   invs : w.given.invs ≡ seen.invs
   requests : AreAmong w.requests seen.requests
   replies : AreAmong w.replies seen.replies
+  images : AreAmong w.images seen.images
+  snapshots : AreAmong w.snapshots seen.snapshots
 
--- a world of the same names, identifiers and messages
+-- a world of the same names and identifiers, with the same bound
 agrees_on : (seen : Seen) (w v : World) → Agrees seen w → Stays w v → Agrees seen v
 agrees_on seen w v agrees stays = record {
-  controllers = stays.names ∙ agrees.controllers;
+  controllers = subst (λ ns. AreNamed ns seen.controllers) (sym stays.names) agrees.controllers;
   dsas = ap (λ g. g.dsas) stays.given ∙ agrees.dsas;
   invs = ap (λ g. g.invs) stays.given ∙ agrees.invs;
   requests = subst (λ xs. AreAmong xs seen.requests) (sym stays.requests) agrees.requests;
   replies = subst (λ xs. AreAmong xs seen.replies) (sym stays.replies) agrees.replies;
+  images = subst (λ xs. AreAmong xs seen.images) (sym stays.images) agrees.images;
+  snapshots = subst (λ xs. AreAmong xs seen.snapshots) (sym stays.snapshots) agrees.snapshots;
 }
 
 in_front : (xs ys : List Name) (x : Name) → Member x xs → Member x (xs ++ ys)
@@ -52,6 +62,19 @@ in_front (y ∷ xs) ys x (inr m) = inr (in_front xs ys x m)
 at_end : (xs : List Name) (x y : Name) → x ≡ y → Member x (xs ++ y ∷ [])
 at_end [] x y e = inl e
 at_end (z ∷ xs) x y e = inr (at_end xs x y e)
+
+-- names that stay, and one more, where one more is bound
+still_named : (ns names : List Name) (name : Name) → AreNamed ns names → AreNamed ns (names ++ name ∷ [])
+still_named ns names name among n m = in_front names (name ∷ []) n (among n m)
+
+one_more_named : (rs : List Replica) (r : Replica) (names : List Name) → AreNamed (names_of rs) names → AreNamed (names_of (rs ++ r ∷ [])) (names ++ r.name ∷ [])
+one_more_named rs r names among n m =
+    by (member_of_either (names_of rs) (r.name ∷ []) n (subst (λ (ns : List Name). Member n ns) (map-append (λ (q : Replica). q.name) rs (r ∷ [])) m))
+  where
+    by : Member n (names_of rs) ⊎ Member n (r.name ∷ []) → Member n (names ++ r.name ∷ [])
+    by (inl o) = in_front names (r.name ∷ []) n (among n o)
+    by (inr (inl e)) = at_end names n r.name e
+    by (inr (inr o)) = absurd o
 
 -- a name that is bound, or would be
 one_more : {A : Type 0} (xs : List (Name × A)) (names : List Name) (name : Name) (o : Option A) → AreAmong xs names → AreAmong (bound xs name o) (names ++ name ∷ [])
@@ -84,7 +107,7 @@ record IsNew (seen : Seen) (n d i : Name) : Type 0 where
   dsa : is_bound seen.dsas d ≡ false
   inv : is_bound seen.invs i ≡ false
 
-new_controller : (seen : Seen) (name dsa inv : Name) → cause_after seen (events.Controller name dsa inv) ≡ None → IsNew seen name dsa inv
+new_controller : (seen : Seen) (name dsa inv : Name) → first_of (if_bound seen.controllers name ∷ if_given seen dsa inv ∷ if_full seen ∷ []) ≡ None → IsNew seen name dsa inv
 new_controller seen name dsa inv h =
     let first = none_of (if_bound seen.controllers name) (if_given seen dsa inv ∷ if_full seen ∷ []) h in
     let second = none_of (if_given seen dsa inv) (if_full seen ∷ []) first.1 in
@@ -107,6 +130,26 @@ new_reply seen name request bind h =
     let second = none_of (unless_bound seen.requests request) (if_bound seen.replies bind ∷ []) first.1 in
     not_then (is_bound seen.replies bind) _ (none_of (if_bound seen.replies bind) [] second.1).0
 
+new_image : (seen : Seen) (name bind : Name) → cause_after seen (events.Backup name bind) ≡ None → is_bound seen.images bind ≡ false
+new_image seen name bind h =
+    let first = none_of (unless_bound seen.controllers name) (if_bound seen.images bind ∷ []) h in
+    not_then (is_bound seen.images bind) _ (none_of (if_bound seen.images bind) [] first.1).0
+
+new_snapshot : (seen : Seen) (name bind : Name) → cause_after seen (events.Snapshot name bind) ≡ None → is_bound seen.snapshots bind ≡ false
+new_snapshot seen name bind h =
+    let first = none_of (unless_bound seen.controllers name) (if_bound seen.snapshots bind ∷ []) h in
+    not_then (is_bound seen.snapshots bind) _ (none_of (if_bound seen.snapshots bind) [] first.1).0
+
+new_inv : (seen : Seen) (name image inv : Name) → cause_after seen (events.Restore name image inv) ≡ None → is_bound seen.invs inv ≡ false
+new_inv seen name image inv h =
+    let first = none_of (unless_bound seen.controllers name) (unless_bound seen.images image ∷ if_inv_given seen inv ∷ []) h in
+    let second = none_of (unless_bound seen.images image) (if_inv_given seen inv ∷ []) first.1 in
+    not_then (is_bound seen.invs inv) _ (none_of (if_inv_given seen inv) [] second.1).0
+
+installed : (seen : Seen) (name dsa image inv : Name) → cause_after seen (events.Install name dsa image inv) ≡ None → IsNew seen name dsa inv
+installed seen name dsa image inv h =
+    new_controller seen name dsa inv (none_of (unless_bound seen.images image) (if_bound seen.controllers name ∷ if_given seen dsa inv ∷ if_full seen ∷ []) h).1
+
 -- ---- events
 
 some_given : (values : List Given) → 0 < length values → values ≢ []
@@ -120,21 +163,57 @@ name_among (q ∷ qs) r (inr m) = inr (name_among qs r m)
 abbrev Goes : Seen → World → Event → Type 0
 Goes seen w e = MayHappen w e × Agrees (seen_after seen e) (step w e).0
 
-event_may : (seen : Seen) (w : World) (e : Event) → Agrees seen w → cause_after seen e ≡ None → IsAllowed e → Goes seen w e
-event_may seen w (events.Controller name dsa inv) agrees cause allowed = let is = new_controller seen name dsa inv cause in (
-  (
-    (λ r m e. no_member seen.controllers name is.name (subst (λ ns. Member name ns) agrees.controllers (subst (λ n. Member n (names_of w.replicas)) e (name_among w.replicas r m)))),
-    ((λ m. no_member seen.dsas dsa is.dsa (subst (λ xs. Member dsa xs) agrees.dsas m)), (λ m. no_member seen.invs inv is.inv (subst (λ xs. Member inv xs) agrees.invs m))),
-  ),
-  record {
-    controllers = map-append (λ (r : Replica). r.name) w.replicas _ ∙ ap (λ ns. ns ++ name ∷ []) agrees.controllers;
-    dsas = ap (λ xs. xs ++ dsa ∷ []) agrees.dsas;
-    invs = ap (λ xs. xs ++ inv ∷ []) agrees.invs;
-    requests = agrees.requests;
-    replies = agrees.replies;
-  },
+-- a name and identifiers that no line bound or gave are new
+new_name : (seen : Seen) (w : World) (name dsa inv : Name) → Agrees seen w → IsNew seen name dsa inv → IsNewName w name
+new_name seen w name dsa inv agrees is r m e = no_member seen.controllers name is.name (subst (λ n. Member n seen.controllers) e (agrees.controllers r.name (name_among w.replicas r m)))
+
+is_new : (seen : Seen) (w : World) (name dsa inv : Name) → Agrees seen w → IsNew seen name dsa inv → IsNewName w name × (IsNewDsa w dsa × IsNewInv w inv)
+is_new seen w name dsa inv agrees is = (
+  new_name seen w name dsa inv agrees is,
+  ((λ m. no_member seen.dsas dsa is.dsa (subst (λ xs. Member dsa xs) agrees.dsas m)), (λ m. no_member seen.invs inv is.inv (subst (λ xs. Member inv xs) agrees.invs m))),
 )
-event_may seen w (events.Time now) agrees cause allowed = (tt, record { controllers = agrees.controllers; dsas = agrees.dsas; invs = agrees.invs; requests = agrees.requests; replies = agrees.replies })
+
+-- a controller that a line gives has come, or hasn't
+came : (seen : Seen) (w : World) (r : Replica) (dsa inv : Name) (book : Book) → Agrees seen w
+    → Agrees (with_controller seen r.name dsa inv) (record (gives w (dsa ∷ []) (inv ∷ [])) { book = book; replicas = w.replicas ++ r ∷ [] })
+came seen w r dsa inv book agrees = record {
+  controllers = one_more_named w.replicas r seen.controllers agrees.controllers;
+  dsas = ap (λ xs. xs ++ dsa ∷ []) agrees.dsas;
+  invs = ap (λ xs. xs ++ inv ∷ []) agrees.invs;
+  requests = agrees.requests;
+  replies = agrees.replies;
+  images = agrees.images;
+  snapshots = agrees.snapshots;
+}
+
+came_not : (seen : Seen) (w : World) (name dsa inv : Name) → Agrees seen w → Agrees (with_controller seen name dsa inv) (gives w (dsa ∷ []) (inv ∷ []))
+came_not seen w name dsa inv agrees = record {
+  controllers = still_named (names_of w.replicas) seen.controllers name agrees.controllers;
+  dsas = ap (λ xs. xs ++ dsa ∷ []) agrees.dsas;
+  invs = ap (λ xs. xs ++ inv ∷ []) agrees.invs;
+  requests = agrees.requests;
+  replies = agrees.replies;
+  images = agrees.images;
+  snapshots = agrees.snapshots;
+}
+
+-- one more invocation identifier is given
+inv_given : (seen : Seen) (w : World) (inv : Name) → Agrees seen w → Agrees (record seen { invs = seen.invs ++ inv ∷ [] }) (gives w [] (inv ∷ []))
+inv_given seen w inv agrees = record {
+  controllers = agrees.controllers;
+  dsas = append-nil w.given.dsas ∙ agrees.dsas;
+  invs = ap (λ xs. xs ++ inv ∷ []) agrees.invs;
+  requests = agrees.requests;
+  replies = agrees.replies;
+  images = agrees.images;
+  snapshots = agrees.snapshots;
+}
+
+event_may : (seen : Seen) (w : World) (e : Event) → Agrees seen w → cause_after seen e ≡ None → IsAllowed e → Goes seen w e
+event_may seen w (events.Controller name dsa inv) agrees cause allowed =
+    (is_new seen w name dsa inv agrees (new_controller seen name dsa inv cause), came seen w (on_new_disk name (empty_state dsa inv)) dsa inv _ agrees)
+event_may seen w (events.Time now) agrees cause allowed =
+    (tt, record { controllers = agrees.controllers; dsas = agrees.dsas; invs = agrees.invs; requests = agrees.requests; replies = agrees.replies; images = agrees.images; snapshots = agrees.snapshots })
 event_may seen w (events.Add name guid class parent text values) agrees cause allowed =
     (allowed.0, agrees_on seen w (step w (events.Add name guid class parent text values)).0 agrees (writes_stay w name (AddObject guid class parent text values)))
 event_may seen w (events.Modify name guid values) agrees cause allowed =
@@ -149,16 +228,42 @@ event_may seen w (events.Unlink name from attr to) agrees cause allowed =
 event_may seen w (events.Ask name partner max bind) agrees cause allowed =
     let t = asks w name partner max in let a = agrees_on seen w t.0 agrees (asks_stay w name partner max) in (
       unbound w.requests seen.requests bind agrees.requests (new_request seen name partner bind max cause),
-      record { controllers = a.controllers; dsas = a.dsas; invs = a.invs; requests = one_more t.0.requests seen.requests bind t.2 a.requests; replies = a.replies },
+      record { controllers = a.controllers; dsas = a.dsas; invs = a.invs; requests = one_more t.0.requests seen.requests bind t.2 a.requests; replies = a.replies; images = a.images; snapshots = a.snapshots },
     )
 event_may seen w (events.Serve name request bind) agrees cause allowed =
     let t = serves_request w name (bound_at w.requests request) in let a = agrees_on seen w t.0 agrees (serves_stay w name (bound_at w.requests request)) in (
       unbound w.replies seen.replies bind agrees.replies (new_reply seen name request bind cause),
-      record { controllers = a.controllers; dsas = a.dsas; invs = a.invs; requests = a.requests; replies = one_more t.0.replies seen.replies bind t.2 a.replies },
+      record { controllers = a.controllers; dsas = a.dsas; invs = a.invs; requests = a.requests; replies = one_more t.0.replies seen.replies bind t.2 a.replies; images = a.images; snapshots = a.snapshots },
     )
 event_may seen w (events.Deliver name reply) agrees cause allowed = (tt, agrees_on seen w (step w (events.Deliver name reply)).0 agrees (delivers_stay w name (bound_at w.replies reply)))
 event_may seen w (events.Pull name source max) agrees cause allowed = (tt, agrees_on seen w (step w (events.Pull name source max)).0 agrees (pull_stays w name source max))
 event_may seen w (events.Cycle name source max) agrees cause allowed = (tt, agrees_on seen w (step w (events.Cycle name source max)).0 agrees (pulls_stay reply_limit w name source max))
+event_may seen w (events.Collect name lifetime) agrees cause allowed = (tt, agrees_on seen w (step w (events.Collect name lifetime)).0 agrees (collects_stay w name lifetime))
+event_may seen w (events.Backup name bind) agrees cause allowed =
+    let t = of_controller w name (nothing w) (λ r. backed_up w (backup r.safe)) in let a = agrees_on seen w t.0 agrees (backups_stay w name) in (
+      unbound w.images seen.images bind agrees.images (new_image seen name bind cause),
+      record { controllers = a.controllers; dsas = a.dsas; invs = a.invs; requests = a.requests; replies = a.replies; images = one_more t.0.images seen.images bind t.2 a.images; snapshots = a.snapshots },
+    )
+event_may seen w (events.Restore name image inv) agrees cause allowed =
+    let v = gives w [] (inv ∷ []) in (
+      (λ m. no_member seen.invs inv (new_inv seen name image inv cause) (subst (λ xs. Member inv xs) agrees.invs m)),
+      agrees_on (record seen { invs = seen.invs ++ inv ∷ [] }) v (step w (events.Restore name image inv)).0 (inv_given seen w inv agrees)
+      (restores_stay v name (bound_at v.images image) (λ r i. adopt i r.safe.dsa inv)),
+    )
+event_may seen w (events.Install name dsa image inv) agrees cause allowed =
+    let v = gives w (dsa ∷ []) (inv ∷ []) in (
+      is_new seen w name dsa inv agrees (installed seen name dsa image inv cause),
+      adopted_case (λ g. Agrees (with_controller seen name dsa inv) g.0) v (λ r. v.replicas ++ r ∷ []) name (bound_at v.images image) (λ i. adopt i dsa inv)
+      (λ o. came_not seen w name dsa inv agrees) (λ s. came seen w (on_new_disk name s) dsa inv (begun w.book s) agrees),
+    )
+event_may seen w (events.Snapshot name bind) agrees cause allowed =
+    let t = of_made (nothing w) (replica_at w name) (λ r. (w, outcomes.Ok, Some (record { state = r.read; log_end = r.read_end }))) in
+    let a = agrees_on seen w t.0 agrees (snapshots_stay w name (λ r. record { state = r.read; log_end = r.read_end })) in (
+      unbound w.snapshots seen.snapshots bind agrees.snapshots (new_snapshot seen name bind cause),
+      record { controllers = a.controllers; dsas = a.dsas; invs = a.invs; requests = a.requests; replies = a.replies; images = a.images; snapshots = one_more t.0.snapshots seen.snapshots bind t.2 a.snapshots },
+    )
+event_may seen w (events.Rollback name snapshot) agrees cause allowed =
+    (tt, agrees_on seen w (step w (events.Rollback name snapshot)).0 agrees (rollbacks_stay w name (bound_at w.snapshots snapshot)))
 event_may seen w (events.StopAfter name calls how) agrees cause allowed =
     (tt, agrees_on seen w (step w (events.StopAfter name calls how)).0 agrees (plans_stay w name (record { calls = calls; fault = Stops how })))
 event_may seen w (events.Fail name calls) agrees cause allowed =
@@ -168,7 +273,6 @@ event_may seen w (events.Start name) agrees cause allowed = (tt, agrees_on seen 
 event_may seen w (events.Show name) agrees cause allowed = (tt, agrees_on seen w (step w (events.Show name)).0 agrees (reports_stay w name (λ r. outcomes.Show (shown w r.safe))))
 event_may seen w (events.Vector name) agrees cause allowed = (tt, agrees_on seen w (step w (events.Vector name)).0 agrees (reports_stay w name (λ r. outcomes.Vector r.safe.store.vector)))
 event_may seen w (events.Marks name) agrees cause allowed = (tt, agrees_on seen w (step w (events.Marks name)).0 agrees (reports_stay w name (λ r. outcomes.Marks (marks_shown r.safe.store))))
-event_may seen w _ agrees cause allowed = absurd allowed.0
 
 all_may : (es : List Event) (seen : Seen) (w : World) → Agrees seen w → IsFollowing seen es → MayAllHappen w es
 all_may [] seen w agrees follow = tt
@@ -176,4 +280,4 @@ all_may (e ∷ es) seen w agrees follow = let t = event_may seen w e agrees foll
 
 -- what may follow from the beginning on may happen
 pub following_may : (es : List Event) → IsFollowing nothing_seen es → MayAllHappen empty_world es
-following_may es follow = all_may es nothing_seen empty_world (record { controllers = refl; dsas = refl; invs = refl; requests = λ x m. absurd m; replies = λ x m. absurd m }) follow
+following_may es follow = all_may es nothing_seen empty_world (record { controllers = λ n m. absurd m; dsas = refl; invs = refl; requests = λ x m. absurd m; replies = λ x m. absurd m; images = λ x m. absurd m; snapshots = λ x m. absurd m }) follow

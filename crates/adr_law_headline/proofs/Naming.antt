@@ -1,5 +1,5 @@
 -- Lines leave who is there, by name, which identifiers were given and what is bound, but for those that say otherwise.
-use Rattle.std.proofs.Common.{◌≡◌, ◌∙◌, refl, sym, ap, ℕ, zero, suc, List, [], ◌∷◌, Bool, true, false, cond, map, nat_lt, Option, Some, None, Result, Ok, Err}
+use Rattle.std.proofs.Common.{◌≡◌, ◌∙◌, refl, sym, ap, ℕ, zero, suc, List, [], ◌∷◌, length, Bool, true, false, cond, map, nat_lt, Option, Some, None, Result, Ok, Err}
 use Rattle.std.specs.Str.{bytes_eq}
 use Rattle.adr_event.specs.declared.answer.Answer.{Answer}
 use Rattle.adr_event.specs.declared.answer.Outcome.{Outcome}
@@ -10,32 +10,37 @@ use Rattle.adr_event.specs.declared.refusal.ServeRefusal.{ServeRefusal}
 use Rattle.adr_event.specs.declared.refusal.ServeRefusal.TheVariants as serves
 use Rattle.adr_event.specs.declared.refusal.TakeRefusal.{TakeRefusal}
 use Rattle.adr_event.specs.declared.refusal.TakeRefusal.TheVariants as takes
+use Rattle.adr_event.specs.declared.refusal.CollectRefusal.{CollectRefusal}
+use Rattle.adr_event.specs.declared.refusal.AdoptRefusal.{AdoptRefusal}
+use Rattle.adr_model.specs.Store.{State, Store}
 use Rattle.adr_model.specs.Change.{Change}
-use Rattle.adr_model.specs.Lengths.{log_limit, log_end_after}
+use Rattle.adr_model.specs.Lengths.{log_limit, log_end_after, new_log_end}
 use Rattle.adr_model.specs.Serve.{Request, Reply, serve}
 use Rattle.adr_model.specs.Write.{Write, write}
 use Rattle.adr_model.specs.Take.{take}
-use Rattle.adr_model.specs.Collect.{quarantine}
-use Rattle.adr_model.specs.Refused.{full}
-use Rattle.adr_model.specs.Replica.{Pending, ToWrite, ToTake, ToQuarantine, Settle, Move, Standing, Up, Down, Failed, Plan, Replica, went, moves_of_start, standing_after, plan_after, outcome_after}
-use Rattle.adr_model.specs.World.{Name, World, Gone, Sent, stays, nothing, with_replica, committed, commit, writes, after_write, asks, after_serve, served, serves_request, after_take, delivered, delivers, of_made, of_controller, replica_at, with_plan, after_moves, stops, starts}
+use Rattle.adr_model.specs.Collect.{quarantine, collect, backup}
+use Rattle.adr_model.specs.Refused.{adopt_refused, full}
+use Rattle.adr_model.specs.Replica.{Pending, ToWrite, ToTake, ToCollect, ToQuarantine, Settle, Move, Standing, Up, Down, Failed, Plan, Replica, on_new_disk, begun, went, moves_of_start, standing_after, plan_after, outcome_after}
+use Rattle.adr_model.specs.World.{Name, Snapshot, World, Gone, Sent, stays, nothing, with_replica, committed, commit, writes, after_write, after_collect, asks, after_serve, served, serves_request, after_take, delivered, delivers, backed_up, adopts, of_image, put_back, of_made, of_controller, replica_at, with_plan, after_moves, stops, starts}
 use Rattle.adr_model.specs.Cycles.{Pulled, pull_served, pull_asked, pull, and_then, pulls}
 use Rattle.adr_law_convergence.proofs.Found.{same_name}
-use Rattle.adr_law_convergence.proofs.Reached.{made_case, up_case, reached_case}
+use Rattle.adr_law_convergence.proofs.Reached.{made_case, up_case, reached_case, within_case}
 
 -- the names of controllers, in order
 abbrev pub names_of : List Replica → List Name
 names_of rs = map (λ (r : Replica). r.name) rs
 
--- the same names, the same identifiers given, and the same messages bound
+-- the same names, the same identifiers given, and the same messages, images and snapshots bound
 pub record Stays (w v : World) : Type 0 where
   pub names : names_of v.replicas ≡ names_of w.replicas
   pub given : v.given ≡ w.given
   pub requests : v.requests ≡ w.requests
   pub replies : v.replies ≡ w.replies
+  pub images : v.images ≡ w.images
+  pub snapshots : v.snapshots ≡ w.snapshots
 
 pub same : (w : World) → Stays w w
-same w = record { names = refl; given = refl; requests = refl; replies = refl }
+same w = record { names = refl; given = refl; requests = refl; replies = refl; images = refl; snapshots = refl }
 
 pub onward : (w v x : World) → Stays w v → Stays v x → Stays w x
 onward w v x first next = record {
@@ -43,6 +48,8 @@ onward w v x first next = record {
   given = next.given ∙ first.given;
   requests = next.requests ∙ first.requests;
   replies = next.replies ∙ first.replies;
+  images = next.images ∙ first.images;
+  snapshots = next.snapshots ∙ first.snapshots;
 }
 
 -- a controller in the place of the one of its name
@@ -53,6 +60,17 @@ replacing_keeps_names (q ∷ qs) r = ap (λ ns. (cond (bytes_eq q.name r.name) r
     by : (b : Bool) → bytes_eq q.name r.name ≡ b → (cond b r q).name ≡ q.name
     by true is = sym (same_name q.name r.name is)
     by false is = refl
+
+-- a controller comes of an image, or the world stays
+pub adopted_case : (Q : Gone → Type 0) (w : World) (placed : Replica → List Replica) (name : Name) (image : Option Store) (adopted : Store → Result State AdoptRefusal) → ((o : Outcome) → Q (w, o))
+    → ((s : State) → Q (record w { book = begun w.book s; replicas = placed (on_new_disk name s) }, outcomes.Ok)) → Q (of_image w image (λ i. adopts w placed name (adopted i)))
+adopted_case Q w placed name None adopted others comes = others outcomes.Absent
+adopted_case Q w placed name (Some i) adopted others comes = by (adopted i)
+  where
+    by : (t : Result State AdoptRefusal) → Q (adopts w placed name t)
+    by (Err x) = others (adopt_refused x)
+    by (Ok s) =
+        within_case Q w (new_log_end s) (record w { book = begun w.book s; replicas = placed (on_new_disk name s) }, outcomes.Ok) (others (full Log log_limit)) (comes s)
 
 module _ (w : World) where
   abbrev Kept : Gone → Type 0
@@ -68,7 +86,7 @@ module _ (w : World) where
 
   commits : (r : Replica) (p : Pending) (o : Outcome) → Kept (commit w r p o)
   commits r p o = within (nat_lt log_limit (log_end_after r.safe_end p.change)) (committed w r p o)
-      (record { names = replacing_keeps_names w.replicas _; given = refl; requests = refl; replies = refl })
+      (record { names = replacing_keeps_names w.replicas _; given = refl; requests = refl; replies = refl; images = refl; snapshots = refl })
 
   wrote : (r : Replica) (what : Write) (t : Result Change WriteRefusal) → Kept (after_write w r what t)
   wrote r what (Err x) = same w
@@ -105,12 +123,45 @@ module _ (w : World) where
   pub delivers_stay : (name : Name) (p : Option Reply) → Kept (delivers w name p)
   delivers_stay name p = reached_case Kept w name (stays w) (λ o. same w) (λ r. delivered w r p) (λ r called up. delivered_stays r p)
 
+  pub collects_stay : (name : Name) (lifetime : ℕ) → Kept (of_controller w name (stays w) (λ r. after_collect w r lifetime (collect r.safe w.time lifetime)))
+  collects_stay name lifetime =
+      reached_case Kept w name (stays w) (λ o. same w) (λ r. after_collect w r lifetime (collect r.safe w.time lifetime)) (λ r called up. by r (collect r.safe w.time lifetime))
+    where
+      by : (r : Replica) (t : Result Change CollectRefusal) → Kept (after_collect w r lifetime t)
+      by r (Err x) = same w
+      by r (Ok c) = commits r (record { call = ToCollect w.time lifetime; change = c }) (outcomes.Removed (length c.removed))
+
+  pub backups_stay : (name : Name) → KeptBy (of_controller w name (nothing w) (λ r. backed_up w (backup r.safe)))
+  backups_stay name = reached_case KeptBy w name (nothing w) (λ o. same w) (λ r. backed_up w (backup r.safe)) (λ r called up. by (backup r.safe))
+    where
+      by : (image : Option Store) → KeptBy (backed_up w image)
+      by None = same w
+      by (Some image) = same w
+
+  pub snapshots_stay : (name : Name) (copied : Replica → Snapshot) → KeptBy (of_made (nothing w) (replica_at w name) (λ r. (w, outcomes.Ok, Some (copied r))))
+  snapshots_stay name copied = made_case KeptBy w name (nothing w) (λ o. same w) (λ r. (w, outcomes.Ok, Some (copied r))) (λ r called. same w)
+
+  -- a controller in place of the one of its name
+  pub restores_stay : (name : Name) (image : Option Store) (adopted : Replica → Store → Result State AdoptRefusal)
+      → Kept (of_made (stays w) (replica_at w name) (λ r. of_image w image (λ i. adopts w (with_replica w.replicas) name (adopted r i))))
+  restores_stay name image adopted =
+      made_case Kept w name (stays w) (λ o. same w) (λ r. of_image w image (λ i. adopts w (with_replica w.replicas) name (adopted r i)))
+      (λ r called. adopted_case Kept w (with_replica w.replicas) name image (adopted r) (λ o. same w)
+      (λ s. record { names = replacing_keeps_names w.replicas _; given = refl; requests = refl; replies = refl; images = refl; snapshots = refl }))
+
+  pub rollbacks_stay : (name : Name) (snapshot : Option Snapshot) → Kept (of_made (stays w) (replica_at w name) (λ r. put_back w name snapshot))
+  rollbacks_stay name snapshot = made_case Kept w name (stays w) (λ o. same w) (λ r. put_back w name snapshot) (λ r called. by snapshot)
+    where
+      by : (s : Option Snapshot) → Kept (put_back w name s)
+      by None = same w
+      by (Some s) = record { names = replacing_keeps_names w.replicas _; given = refl; requests = refl; replies = refl; images = refl; snapshots = refl }
+
   pub reports_stay : (name : Name) (what : Replica → Outcome) → Kept (of_controller w name (stays w) (λ r. (w, what r)))
   reports_stay name what = reached_case Kept w name (stays w) (λ o. same w) (λ r. (w, what r)) (λ r called up. same w)
 
   -- what moves leave of a controller stands in its place
   moves_stay : (r : Replica) (moves : List Move) (standing : Standing) (plan : Option Plan) (o : Outcome) → Kept (after_moves w r moves standing plan o)
-  moves_stay r moves standing plan o = record { names = replacing_keeps_names w.replicas _; given = refl; requests = refl; replies = refl }
+  moves_stay r moves standing plan o = record { names = replacing_keeps_names w.replicas _; given = refl; requests = refl; replies = refl; images = refl; snapshots = refl }
 
   started_stays : (r : Replica) (standing : Standing) → Kept (starts w r standing)
   started_stays r Up = same w
@@ -120,7 +171,7 @@ module _ (w : World) where
   pub plans_stay : (name : Name) (plan : Plan) → Kept (of_made (stays w) (replica_at w name) (λ r. with_plan w r plan))
   plans_stay name plan =
       made_case Kept w name (stays w) (λ o. same w) (λ r. with_plan w r plan)
-      (λ r called. record { names = replacing_keeps_names w.replicas _; given = refl; requests = refl; replies = refl })
+      (λ r called. record { names = replacing_keeps_names w.replicas _; given = refl; requests = refl; replies = refl; images = refl; snapshots = refl })
 
   pub stops_stay : (name : Name) → Kept (of_made (stays w) (replica_at w name) (λ r. stops w r))
   stops_stay name = made_case Kept w name (stays w) (λ o. same w) (λ r. stops w r) (λ r called. moves_stay r (Settle ∷ []) Down None outcomes.Ok)
