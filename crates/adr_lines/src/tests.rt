@@ -259,6 +259,82 @@ fn stops_and_faults_outside_the_grammar(rt: HostRuntime) -> Result<(), Fail> {
 }
 
 #[test]
+fn images_and_snapshots_outside_the_grammar(rt: HostRuntime) -> Result<(), Fail> {
+    let lines = [
+        // a token is missing, doubled or of a wrong kind
+        b"collect".as_slice(),
+        b"collect A",
+        b"collect 5",
+        b"collect A #5",
+        b"collect A \"5\"",
+        b"collect A after 5",
+        b"collect A 5 5",
+        b"backup",
+        b"backup A",
+        b"backup A as",
+        b"backup A i",
+        b"backup as i",
+        b"backup A as #1",
+        b"backup A as \"i\"",
+        b"backup A A as i",
+        b"backup A as i i",
+        b"restore",
+        b"restore A",
+        b"restore A i",
+        b"restore A #a2",
+        b"restore A #a2 i",
+        b"restore A as i #a2",
+        b"restore A i a2",
+        b"restore A i #a2 #a3",
+        b"install",
+        b"install C",
+        b"install C #c0 i",
+        b"install C #c0 #c1",
+        b"install C i #c0 #c1",
+        b"install C #c0 #c1 i",
+        b"install #c0 C i #c1",
+        b"install C #c0 as i #c1",
+        b"install C #c0 i #c1 #c2",
+        b"snapshot",
+        b"snapshot A",
+        b"snapshot A as",
+        b"snapshot A s",
+        b"snapshot as s",
+        b"snapshot A as s #a2",
+        b"rollback",
+        b"rollback A",
+        b"rollback A #1",
+        b"rollback A as s",
+        b"rollback A s s",
+        // words
+        b"Collect A 5",
+        b"collected A 5",
+        b"back A as i",
+        b"backup A AS i",
+        b"backup A asi",
+        b"Restore A i #a2",
+        b"installs C #c0 i #c1",
+        b"snapshots A as s",
+        b"roll A s",
+        // numbers and identifiers
+        b"collect A 05",
+        b"collect A -1",
+        b"collect A 18446744073709551616",
+        b"restore A i #0a",
+        b"restore A i #A2",
+        b"install C #0c i #c1",
+        b"install C #c0 i #",
+    ];
+    for line in lines {
+        assert_eq!(rt;
+            shown_behind(rt.alloc(), line)?.as_slice(),
+            b"line 2: no command".as_slice()
+        );
+    }
+    Ok(())
+}
+
+#[test]
 fn writes_name_a_controller(rt: HostRuntime) -> Result<(), Fail> {
     let lines = [
         b"add B #10 user #1 \"Ann\"".as_slice(),
@@ -361,6 +437,113 @@ fn lines_that_may_not_follow_have_a_cause(rt: HostRuntime) -> Result<(), Fail> {
         text.extend_from_slice(line)?;
         assert_eq!(rt; shown(alloc, text.as_slice())?.as_slice(), want);
     }
+    Ok(())
+}
+
+/// Two controllers, an image and a snapshot.
+const COPIED: &[u8] = b"controller A #a0 #a1
+controller B #b0 #b1
+backup A as i
+snapshot A as s
+";
+
+#[test]
+fn images_and_snapshots_are_read_and_printed(rt: HostRuntime) -> Result<(), Fail> {
+    let alloc = rt.alloc();
+    let lines = b"collect A 0
+collect B 18446744073709551615
+backup B as s
+snapshot B as i
+restore A i #a2
+restore A s #a3
+install C #c0 i #c1
+install i #c1 s #c0
+rollback B s
+rollback C i
+collect C 5000
+backup i as A
+snapshot C as A
+restore i A #c2
+rollback i A
+";
+    let mut text = COPIED.to_vec(alloc)?;
+    text.extend_from_slice(lines)?;
+    assert_eq!(rt; shown(alloc, text.as_slice())?.as_slice(), text.as_slice());
+    Ok(())
+}
+
+#[test]
+fn images_and_snapshots_that_may_not_follow_have_a_cause(rt: HostRuntime) -> Result<(), Fail> {
+    let cases = [
+        (
+            b"collect C 5".as_slice(),
+            b"line 5: unknown name".as_slice(),
+        ),
+        (b"collect i 5", b"line 5: unknown name"),
+        (b"backup C as j", b"line 5: unknown name"),
+        (b"backup C as i", b"line 5: unknown name"),
+        (b"backup A as i", b"line 5: name used"),
+        (b"snapshot s as t", b"line 5: unknown name"),
+        (b"snapshot B as s", b"line 5: name used"),
+        (b"restore C i #c1", b"line 5: unknown name"),
+        (b"restore A s #a2", b"line 5: unknown name"),
+        (b"restore A j #a1", b"line 5: unknown name"),
+        (b"restore A i #a1", b"line 5: identifier used"),
+        (b"restore A i #b1", b"line 5: identifier used"),
+        (b"install C #c0 s #c1", b"line 5: unknown name"),
+        (b"install A #a0 j #a1", b"line 5: unknown name"),
+        (b"install A #c0 i #c1", b"line 5: name used"),
+        (b"install A #a0 i #a1", b"line 5: name used"),
+        (b"install C #b0 i #c1", b"line 5: identifier used"),
+        (b"install C #c0 i #b1", b"line 5: identifier used"),
+        (b"rollback C s", b"line 5: unknown name"),
+        (b"rollback A i", b"line 5: unknown name"),
+        // what the line before bound and gave
+        (b"backup B as j\nbackup A as j", b"line 6: name used"),
+        (b"snapshot B as t\nsnapshot A as t", b"line 6: name used"),
+        (b"snapshot B as t\nrestore A t #a2", b"line 6: unknown name"),
+        (
+            b"restore A i #a2\nrestore B i #a2",
+            b"line 6: identifier used",
+        ),
+        (
+            b"restore A i #a2\ncontroller C #c0 #a2",
+            b"line 6: identifier used",
+        ),
+        (
+            b"install C #c0 i #c1\ninstall C #d0 i #d1",
+            b"line 6: name used",
+        ),
+        (
+            b"install C #c0 i #c1\ncontroller D #c0 #d1",
+            b"line 6: identifier used",
+        ),
+        (
+            b"install C #c0 i #c1\nrestore A i #c1",
+            b"line 6: identifier used",
+        ),
+    ];
+    let alloc = rt.alloc();
+    for (line, want) in cases {
+        let mut text = COPIED.to_vec(alloc)?;
+        text.extend_from_slice(line)?;
+        assert_eq!(rt; shown(alloc, text.as_slice())?.as_slice(), want);
+    }
+    Ok(())
+}
+
+#[test]
+fn an_installed_controller_is_counted(rt: HostRuntime) -> Result<(), Fail> {
+    let mut text = String::new(rt.alloc());
+    for number in 1..64u32 {
+        let line = format!(in rt.alloc(); "controller C{number} #{number:x} #{number:x}\n")?;
+        text.push_str(line.as_str())?;
+    }
+    text.push_str("backup C1 as i\ninstall C64 #40 i #40\ninstall C65 #41 i #41\n")?;
+    assert_eq!(rt;
+        shown(rt.alloc(), text.as_bytes())?.as_slice(),
+        b"line 66: too many".as_slice()
+    );
     Ok(())
 }
 
