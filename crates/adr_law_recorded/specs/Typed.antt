@@ -33,6 +33,8 @@ IsTypedWrite (RemoveLink from attr to) = IsId from × IsId to
 -- an event whose write is so, and which gives identifiers that are
 abbrev pub IsTyped : Event → Type 0
 IsTyped (events.Controller name dsa inv) = IsId dsa × IsId inv
+IsTyped (events.Restore name image inv) = IsId inv
+IsTyped (events.Install name dsa image inv) = IsId dsa × IsId inv
 IsTyped e = IfSome (write_of e) (λ (w : ClientWrite). IsTypedWrite w.what)
 
 abbrev pub AreTyped : List Event → Type 0
