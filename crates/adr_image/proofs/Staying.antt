@@ -68,7 +68,7 @@ module _ {K X : Type 0} (R : K → K → Ordering) where
 
 -- ---- vectors
 
-raised_spelled : (v : Cursors) (inv : Identifier) (usn : ℕ) → AllByRecursion IsCursor v → IsId inv → usn < 2 ^ 63 → AllByRecursion IsCursor (raised v inv usn)
+pub raised_spelled : (v : Cursors) (inv : Identifier) (usn : ℕ) → AllByRecursion IsCursor v → IsId inv → usn < 2 ^ 63 → AllByRecursion IsCursor (raised v inv usn)
 raised_spelled v inv usn all id fits = by (covers v inv usn) refl
   where
     by : (b : Bool) → covers v inv usn ≡ b → AllByRecursion IsCursor (cond b v (insert_entry identifier_order v inv usn))

@@ -1,15 +1,18 @@
 -- The laws, as facts: every change that a call makes of a state of a log can be recorded, and messages stay in their ranges.
-use Rattle.std.specs.Prelude.{◌≡◌, ◌<◌, ◌^◌, ℕ, Ok}
+use Rattle.std.specs.Prelude.{◌≡◌, ◌<◌, ◌≤◌, ◌^◌, ℕ, Ok}
 use Rattle.adr_wire.specs.Ranges.{IsId, IsU32}
 use Rattle.adr_model.specs.Update.{Identifier}
-use Rattle.adr_model.specs.Store.{Normal, State, empty_state}
+use Rattle.adr_model.specs.Formed.{IsFormedStore}
+use Rattle.adr_model.specs.Lengths.{log_limit, new_log_end}
+use Rattle.adr_model.specs.Store.{Normal, State, Store, empty_state}
 use Rattle.adr_model.specs.Change.{Change, after}
 use Rattle.adr_model.specs.Serve.{Request, Reply, ask, serve}
 use Rattle.adr_model.specs.Take.{take}
 use Rattle.adr_model.specs.Write.{Write, IsWellGiven, write}
-use Rattle.adr_model.specs.Collect.{collect, quarantine}
+use Rattle.adr_model.specs.Collect.{adopt, collect, quarantine}
 use Rattle.adr_state.specs.Refusal.{IsOverfull}
 use Rattle.adr_law_formed.specs.Spelled.{IsSpelledReply}
+use Rattle.adr_image.specs.Stored.{IsSpelled}
 use Rattle.adr_records.specs.Logged.{IsLogged, MayBegin, MayBeRecorded}
 use Rattle.adr_law_recorded.specs.Typed.{IsTypedWrite}
 use Rattle.adr_law_recorded.specs.Ranged.{IsRangedRequest, IsRangedReply}
@@ -18,6 +21,16 @@ use Rattle.adr_law_recorded.specs.Ranged.{IsRangedRequest, IsRangedReply}
 
 abbrev pub NewMayBegin : Type 0
 NewMayBegin = (dsa inv : Identifier) → IsId dsa → IsId inv → MayBegin (empty_state dsa inv)
+
+-- a controller of an image is up, and its state is one of a log
+abbrev pub AdoptedIsLogged : Type 0
+AdoptedIsLogged =
+    (image : Store) (dsa inv : Identifier) (s : State) → IsFormedStore image → IsSpelled image → IsId dsa → IsId inv → adopt image dsa inv ≡ Ok s
+    → IsLogged s × (s.mode ≡ Normal)
+
+-- a log may begin with a state of a log that is up, where that log isn't too long
+abbrev pub FittingMayBegin : Type 0
+FittingMayBegin = (s : State) → IsLogged s → s.mode ≡ Normal → new_log_end s ≤ log_limit → MayBegin s
 
 -- what was recorded leads to a state of a log, and every one of those fits into memory
 abbrev pub RecordedIsLogged : Type 0

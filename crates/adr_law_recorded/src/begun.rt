@@ -1,11 +1,23 @@
 //! Where logs begin, and which states they lead to.
 
-ghost use Rattle.adr_law_recorded.specs.Laws.{LoggedFits, NewMayBegin, RecordedIsLogged};
+ghost use Rattle.adr_law_recorded.specs.Laws.{AdoptedIsLogged, FittingMayBegin, LoggedFits, NewMayBegin, RecordedIsLogged};
 
 /// A log may begin with a new, empty controller.
 #[tactic(none)]
 pub fn new_controllers_may_begin()
     ensures { NewMayBegin }
+{}
+
+/// A controller that is made of an image under a fresh identifier is up, and its state is one of a log.
+#[tactic(none)]
+pub fn adopted_states_are_logged()
+    ensures { AdoptedIsLogged }
+{}
+
+/// A log may begin with a state of a log that is up, where it is not beyond the limit from its beginning.
+#[tactic(none)]
+pub fn fitting_states_may_begin()
+    ensures { FittingMayBegin }
 {}
 
 /// A change that may be recorded leaves a state of a log.

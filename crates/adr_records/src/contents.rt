@@ -20,7 +20,7 @@ fn copy_rows(alloc: Global, rows: &[&Held]) -> Result<Vec<Held>, NoMemory>
 }
 
 /// What a state's database says.
-pub(crate) fn contents_of(alloc: Global, state: &State) -> Result<Contents, NoMemory>
+pub fn contents_of(alloc: Global, state: &State) -> Result<Contents, NoMemory>
     ensures { IfOk result (λ contents. contents ≡ state.now.store) }
 {
     let rows = state.rows().to_vec(alloc)?;
