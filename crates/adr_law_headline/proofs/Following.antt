@@ -248,13 +248,13 @@ event_may seen w (events.Restore name image inv) agrees cause allowed =
     let v = gives w [] (inv ∷ []) in (
       (λ m. no_member seen.invs inv (new_inv seen name image inv cause) (subst (λ xs. Member inv xs) agrees.invs m)),
       agrees_on (record seen { invs = seen.invs ++ inv ∷ [] }) v (step w (events.Restore name image inv)).0 (inv_given seen w inv agrees)
-      (restores_stay v name (bound_at v.images image) (λ r i. adopt i r.safe.dsa inv)),
+          (restores_stay v name (bound_at v.images image) (λ r i. adopt i r.safe.dsa inv)),
     )
 event_may seen w (events.Install name dsa image inv) agrees cause allowed =
     let v = gives w (dsa ∷ []) (inv ∷ []) in (
       is_new seen w name dsa inv agrees (installed seen name dsa image inv cause),
       adopted_case (λ g. Agrees (with_controller seen name dsa inv) g.0) v (λ r. v.replicas ++ r ∷ []) name (bound_at v.images image) (λ i. adopt i dsa inv)
-      (λ o. came_not seen w name dsa inv agrees) (λ s. came seen w (on_new_disk name s) dsa inv (begun w.book s) agrees),
+          (λ o. came_not seen w name dsa inv agrees) (λ s. came seen w (on_new_disk name s) dsa inv (begun w.book s) agrees),
     )
 event_may seen w (events.Snapshot name bind) agrees cause allowed =
     let t = of_made (nothing w) (replica_at w name) (λ r. (w, outcomes.Ok, Some (record { state = r.read; log_end = r.read_end }))) in

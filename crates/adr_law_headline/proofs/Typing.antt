@@ -52,6 +52,8 @@ event_typed (events.Rename name guid parent text) (line, (verb, (to, (of_guid, (
 event_typed (events.Delete name guid) (line, (verb, (to, (of_guid, end)))) = of_guid.1.0.0
 event_typed (events.Link name from attr to) (line, (verb, (at, (of_from, (of_attr, (of_to, end)))))) = (of_from.1.0.0, of_to.1.0.0)
 event_typed (events.Unlink name from attr to) (line, (verb, (at, (of_from, (of_attr, (of_to, end)))))) = (of_from.1.0.0, of_to.1.0.0)
+event_typed (events.Restore name image inv) (line, (verb, (to, (of_image, (of_inv, end))))) = of_inv.1.0.0
+event_typed (events.Install name dsa image inv) (line, (verb, (to, (of_dsa, (of_image, (of_inv, end)))))) = (of_dsa.1.0.0, of_inv.1.0.0)
 event_typed _ allowed = tt
 
 all_typed : (es : List Event) (seen : Seen) → IsFollowing seen es → AreTyped es
