@@ -6,24 +6,25 @@ use Rattle.adr_event.specs.declared.event.Event.{Event}
 use Rattle.adr_event.specs.declared.answer.Outcome.{Outcome}
 use Rattle.adr_event.specs.declared.answer.Outcome.TheVariants as outcomes
 use Rattle.adr_event.specs.declared.refusal.WriteRefusal.{WriteRefusal}
+use Rattle.adr_event.specs.declared.refusal.CollectRefusal.{CollectRefusal}
 use Rattle.adr_event.specs.declared.refusal.ServeRefusal.{ServeRefusal}
 use Rattle.adr_event.specs.declared.refusal.ServeRefusal.TheVariants as serves
 use Rattle.adr_event.specs.declared.refusal.TakeRefusal.{TakeRefusal}
 use Rattle.adr_event.specs.declared.refusal.TakeRefusal.TheVariants as takes
 use Rattle.adr_model.specs.Store.{State}
 use Rattle.adr_model.specs.Change.{Change}
-use Rattle.adr_model.specs.Collect.{quarantine}
-use Rattle.adr_model.specs.Refused.{write_refused, serve_refused, take_refused}
-use Rattle.adr_model.specs.Replica.{Replica, Pending, Call, ToWrite, Up, change_in}
+use Rattle.adr_model.specs.Collect.{collect, quarantine}
+use Rattle.adr_model.specs.Refused.{write_refused, serve_refused, take_refused, collect_refused}
+use Rattle.adr_model.specs.Replica.{Replica, Pending, Call, ToCollect, ToWrite, Up, change_in}
 use Rattle.adr_model.specs.Serve.{Request, Reply, serve}
 use Rattle.adr_model.specs.Step.{ClientWrite, write_of}
 use Rattle.adr_model.specs.Take.{take}
-use Rattle.adr_model.specs.World.{World, Gone, Sent, after_write, after_serve, after_take, commit, stays, nothing, not_sent, rows_in, where_up}
+use Rattle.adr_model.specs.World.{World, Gone, Sent, after_write, after_serve, after_take, after_collect, commit, stays, nothing, not_sent, rows_in, where_up}
 use Rattle.adr_model.specs.Write.{Write, write}
-use Rattle.adr_controller.specs.Able.{written_in, served_in, taken_in, quarantine_in, change_of_write, change_of_served, change_of_taken}
+use Rattle.adr_controller.specs.Able.{written_in, served_in, taken_in, collected_in, quarantine_in, change_of_write, change_of_served, change_of_taken}
 use Rattle.adr_controller.specs.declared.refusal.Hindrance.{Hindrance}
 use Rattle.adr_replica.specs.Past.{Past}
-use Rattle.adr_replica.specs.Pending.{with_call, quarantining, written_by, writing, served_by, serving, taken_by, taking}
+use Rattle.adr_replica.specs.Pending.{with_call, quarantining, written_by, writing, served_by, serving, taken_by, taking, collecting}
 use Rattle.adr_replica.specs.Led.{StandsIn, world_with, IsDone, IsUndone}
 use Rattle.adr_replica.proofs.Came.{Came, same_world, some_same, by_option}
 
@@ -54,6 +55,9 @@ same_taken reply s = by (take s reply)
     by (Ok c) = refl
     by (Err refusal) = with_change _ _
 
+pub same_collected : (now lifetime : ℕ) (s : State) → option_map (λ (p : Pending). p.change) (collecting now lifetime s) ≡ collected_in now lifetime s
+same_collected now lifetime s = with_change (ToCollect now lifetime) (change_in (collect s now lifetime))
+
 -- ---- what the definitions make of a call
 
 -- with nothing to commit it is answered so, and else so when that is committed
@@ -76,6 +80,15 @@ pub take_makes : (w : World) (r : Replica) (reply : Reply) (t : Result Change Ta
 take_makes w r reply (Ok c) = (λ none. absurd (cc none), λ p of. ap (λ x. commit w r x (take_told reply (Ok c))) (some_same _ p of))
 take_makes w r reply (Err (takes.RolledBack inv mine shown)) = (λ none. absurd (cc none), λ p of. ap (λ x. commit w r x (take_refused (takes.RolledBack inv mine shown))) (some_same _ p of))
 take_makes w r reply (Err _) = (λ none. refl, λ p of. absurd (cc of))
+
+abbrev pub collect_told : Result Change CollectRefusal → Outcome
+collect_told (Ok c) = outcomes.Removed (length c.removed)
+collect_told (Err refusal) = collect_refused refusal
+
+pub collect_makes : (w : World) (r : Replica) (lifetime : ℕ) (t : Result Change CollectRefusal)
+    → Makes w r (with_call (ToCollect w.time lifetime) (change_in t)) (after_collect w r lifetime t) (collect_told t)
+collect_makes w r lifetime (Ok c) = (λ none. absurd (cc none), λ p of. ap (λ x. commit w r x (collect_told (Ok c))) (some_same _ p of))
+collect_makes w r lifetime (Err refusal) = (λ none. refl, λ p of. absurd (cc of))
 
 abbrev pub serve_told : Result Reply ServeRefusal → Outcome
 serve_told (Ok reply) = outcomes.Served reply.from reply.to (length reply.items) (rows_in reply) (is_some reply.last)

@@ -5,27 +5,29 @@ use Rattle.adr_event.specs.declared.event.Event.{Event}
 use Rattle.adr_event.specs.declared.answer.Outcome.{Outcome}
 use Rattle.adr_event.specs.declared.answer.Outcome.TheVariants as outcomes
 use Rattle.adr_event.specs.declared.refusal.WriteRefusal.{WriteRefusal}
+use Rattle.adr_event.specs.declared.refusal.CollectRefusal.{CollectRefusal}
 use Rattle.adr_event.specs.declared.refusal.ServeRefusal.{ServeRefusal}
 use Rattle.adr_event.specs.declared.refusal.TakeRefusal.{TakeRefusal}
 use Rattle.adr_model.specs.Store.{State}
 use Rattle.adr_model.specs.Change.{Change}
-use Rattle.adr_model.specs.Refused.{write_refused, serve_refused, take_refused}
-use Rattle.adr_model.specs.Replica.{Replica, Pending, ToWrite, change_in}
+use Rattle.adr_model.specs.Collect.{collect}
+use Rattle.adr_model.specs.Refused.{write_refused, serve_refused, take_refused, collect_refused}
+use Rattle.adr_model.specs.Replica.{Replica, Pending, ToCollect, ToWrite, change_in}
 use Rattle.adr_model.specs.Serve.{Request, Reply, serve}
 use Rattle.adr_model.specs.Step.{ClientWrite, write_of}
 use Rattle.adr_model.specs.Take.{take}
-use Rattle.adr_model.specs.World.{World, Gone, Sent, after_write, after_serve, after_take, stays, nothing, rows_in, where_up}
+use Rattle.adr_model.specs.World.{World, Gone, Sent, after_write, after_serve, after_take, after_collect, stays, nothing, rows_in, where_up}
 use Rattle.adr_model.specs.Write.{Write, write}
 use Rattle.adr_controller.specs.declared.messages.Taken.{Taken}
 use Rattle.adr_controller.specs.declared.refusal.Hindrance.{Hindrance}
 use Rattle.adr_controller.specs.declared.refusal.Hindrance.TheVariants.{Full, NoMemory}
 use Rattle.adr_replica.specs.Past.{Past}
-use Rattle.adr_replica.specs.Pending.{with_call, written_by, writing, serving, taking}
+use Rattle.adr_replica.specs.Pending.{with_call, written_by, writing, serving, taking, collecting}
 use Rattle.adr_replica.specs.Settled.{hindered_so, unsent}
 use Rattle.adr_replica.specs.Led.{StandsIn, world_with, IsDone, IsUndone, Leads, LeadsTo}
 use Rattle.adr_replica.proofs.Came.{Came, by_option, gone_so, sent_so}
 use Rattle.adr_replica.proofs.Results.{if_ok_at, if_ok_as}
-use Rattle.adr_replica.proofs.Answered.{Makes, write_told, write_makes, take_told, take_makes, serve_told, serve_sent, serve_makes, gone_made, sent_made}
+use Rattle.adr_replica.proofs.Answered.{Makes, write_told, write_makes, take_told, take_makes, collect_told, collect_makes, serve_told, serve_sent, serve_makes, gone_made, sent_made}
 
 module _ (is_held : Type 0) (v q : Replica) (past later : Past) (state : Option State) (down : Bool) (how : Option Hindrance) where
   -- ---- a client's write
@@ -128,6 +130,52 @@ module _ (is_held : Type 0) (v q : Replica) (past later : Past) (state : Option 
 
       pub ok_hindered_take : (h : Hindrance) → how ≡ Some h → (d : Bool) → d ≡ down → (t : Result Outcome E) → r ≡ t → IfOk t (λ told. hindered_so h d ≡ Some told) → IfOk r TakenAs
       ok_hindered_take h ish d same t is tells = if_ok_as (λ told. hindered_so h d ≡ Some told) TakenAs r t is tells (λ told. hindered_take h ish d same told)
+
+  -- ---- a collection
+
+  module _ (now lifetime : ℕ) (came : Came is_held v q past later (collecting now lifetime v.safe) state down how) where
+    abbrev CollectedAs : Outcome → Type 0
+    CollectedAs told =
+        (w : World) → w.time ≡ now → StandsIn w v past
+        → where_up (stays w) v.standing (after_collect w v lifetime (collect v.safe now lifetime)) ≡ (world_with w q later, told)
+
+    collects : (w : World) → w.time ≡ now
+        → Makes w v (collecting now lifetime v.safe) (after_collect w v lifetime (collect v.safe now lifetime)) (collect_told (collect v.safe now lifetime))
+    collects w time =
+        let t = collect v.safe now lifetime in
+        subst (λ n. Makes w v (with_call (ToCollect n lifetime) (change_in t)) (after_collect w v lifetime t) (collect_told t)) time (collect_makes w v lifetime t)
+
+    collect_made_as : how ≡ None → (told : Outcome) → collect_told (collect v.safe now lifetime) ≡ told → CollectedAs told
+    collect_made_as none told tells w time stands =
+        gone_made is_held v q past later (collecting now lifetime v.safe) state down how came none w (after_collect w v lifetime (collect v.safe now lifetime))
+        (collect_told (collect v.safe now lifetime)) stands (collects w time) ∙ ap (λ t. (world_with w q later, t)) tells
+
+    pub uncollected_undone : how ≡ None → (refusal : CollectRefusal) → ((s : State) → state ≡ Some s → collect s now lifetime ≡ Err refusal) → IsUndone v past q later
+    uncollected_undone none refusal refuses =
+        came.idle none (ap (λ t. with_call (ToCollect now lifetime) (change_in t)) (refuses v.safe (came.was_up none).1))
+
+    hindered_collect : (h : Hindrance) → how ≡ Some h → (d : Bool) → d ≡ down → (told : Outcome) → hindered_so h d ≡ Some told → CollectedAs told
+    hindered_collect h is d same told tells w time stands =
+        gone_so w v q past later (collecting now lifetime v.safe) told (after_collect w v lifetime (collect v.safe now lifetime))
+        (came.hinders h is told (ap (hindered_so h) (sym same) ∙ tells)) stands (λ p up ofp. (collect_told (collect v.safe now lifetime), (collects w time).1 p ofp))
+
+    module _ {E : Type 0} (r : Result Outcome E) where
+      pub ok_collected : how ≡ None → (removed : ℕ) → r ≡ Ok (outcomes.Removed removed)
+          → ((s : State) → state ≡ Some s → (c : Change) × (collect s now lifetime ≡ Ok c) × (removed ≡ length c.removed)) → IfOk r CollectedAs
+      ok_collected none removed is takes =
+          let x = takes v.safe (came.was_up none).1 in
+          if_ok_at CollectedAs r (outcomes.Removed removed) is
+          (collect_made_as none (outcomes.Removed removed) (ap collect_told x.1 ∙ ap (λ n. outcomes.Removed n) (sym x.2)))
+
+      pub ok_uncollected : how ≡ None → (refusal : CollectRefusal) → ((s : State) → state ≡ Some s → collect s now lifetime ≡ Err refusal)
+          → (t : Result Outcome E) → r ≡ t → IfOk t (λ told. told ≡ collect_refused refusal) → IfOk r CollectedAs
+      ok_uncollected none refusal refuses t is tells =
+          if_ok_as (λ told. told ≡ collect_refused refusal) CollectedAs r t is tells
+          (λ told so. collect_made_as none told (ap collect_told (refuses v.safe (came.was_up none).1) ∙ sym so))
+
+      pub ok_hindered_collect : (h : Hindrance) → how ≡ Some h → (d : Bool) → d ≡ down → (t : Result Outcome E) → r ≡ t → IfOk t (λ told. hindered_so h d ≡ Some told) → IfOk r CollectedAs
+      ok_hindered_collect h ish d same t is tells =
+          if_ok_as (λ told. hindered_so h d ≡ Some told) CollectedAs r t is tells (λ told. hindered_collect h ish d same told)
 
   -- ---- a request
 

@@ -11,7 +11,7 @@ use Rattle.adr_event.specs.declared.refusal.TakeRefusal.TheVariants as takes
 use Rattle.adr_model.specs.Refusing.{unless}
 use Rattle.adr_model.specs.Store.{State, Mode, Normal, Quarantined}
 use Rattle.adr_model.specs.Change.{Change, after}
-use Rattle.adr_model.specs.Collect.{quarantine}
+use Rattle.adr_model.specs.Collect.{collect, quarantine}
 use Rattle.adr_model.specs.Replica.{change_in}
 use Rattle.adr_model.specs.Serve.{Request, Reply, serve, is_quarantined}
 use Rattle.adr_model.specs.Step.{ClientWrite, write_of}
@@ -20,10 +20,10 @@ use Rattle.adr_model.specs.Write.{IsWellGiven, write, usn_limit}
 use Rattle.adr_state.specs.Refusal.{IsOverfull}
 use Rattle.adr_law_formed.specs.Spelled.{IsSpelledReply}
 use Rattle.adr_records.specs.Logged.{IsLogged, MayBeRecorded}
-use Rattle.adr_controller.specs.Able.{written_in, served_in, taken_in, change_of_write, change_of_served, change_of_taken, request_shows, reply_shows}
+use Rattle.adr_controller.specs.Able.{written_in, served_in, taken_in, collected_in, change_of_write, change_of_served, change_of_taken, request_shows, reply_shows}
 use Rattle.adr_law_recorded.specs.Typed.{IsTypedWrite}
 use Rattle.adr_law_recorded.specs.Ranged.{IsRangedReply}
-use Rattle.adr_law_recorded.specs.Laws.{LoggedFits, QuarantineIsRecorded, RecordedIsLogged, TakenIsRecorded, WrittenIsRecorded}
+use Rattle.adr_law_recorded.specs.Laws.{CollectedIsRecorded, LoggedFits, QuarantineIsRecorded, RecordedIsLogged, TakenIsRecorded, WrittenIsRecorded}
 
 -- what a controller asks of a change that it commits
 pub record Recorded (s : State) (c : Change) : Type 0 where
@@ -62,6 +62,9 @@ module _ (logged : RecordedIsLogged) (fits : LoggedFits) where
       by : (o : Option ClientWrite) → IsSomeAnd o (λ (c : ClientWrite). IsWellGiven c.what × IsTypedWrite c.what) → change_of_write now s o ≡ Some c → Recorded s c
       by None typed makes = absurd typed
       by (Some w) typed makes = recorded_so s c (law s w.what now c is typed.0 typed.1 before (change_ok (write s w.what now) c makes))
+
+  pub collected_follows : CollectedIsRecorded → (now lifetime : ℕ) (s : State) (c : Change) → IsLogged s → collected_in now lifetime s ≡ Some c → Recorded s c
+  collected_follows law now lifetime s c is makes = recorded_so s c (law s now lifetime c is (change_ok (collect s now lifetime) c makes))
 
   quarantine_follows : QuarantineIsRecorded → (s : State) (c : Change) → IsLogged s → s.mode ≡ Normal → quarantine s ≡ c → Recorded s c
   quarantine_follows law s c is normal same = recorded_so s c (subst (λ x. MayBeRecorded s x) same (law s is normal))

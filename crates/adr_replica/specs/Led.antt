@@ -1,9 +1,11 @@
 -- What a call of a controller comes to in its world.
-use Rattle.std.specs.Prelude.{◌≡◌, ◌⊎◌, ℕ, Option}
+use Rattle.std.specs.Prelude.{◌≡◌, ◌⊎◌, ℕ, List, Option, Result}
 use Rattle.adr_event.specs.declared.answer.Outcome.{Outcome}
 use Rattle.adr_event.specs.declared.answer.Outcome.TheVariants as outcomes
-use Rattle.adr_model.specs.Replica.{Replica, went, moves_of_start, plan_after}
-use Rattle.adr_model.specs.World.{World, Gone, Sent, after_moves, with_replica}
+use Rattle.adr_event.specs.declared.refusal.AdoptRefusal.{AdoptRefusal}
+use Rattle.adr_model.specs.Store.{State}
+use Rattle.adr_model.specs.Replica.{Replica, begun, went, moves_of_start, plan_after}
+use Rattle.adr_model.specs.World.{World, Name, Gone, Sent, adopts, after_moves, with_replica}
 use Rattle.adr_replica.specs.Past.{Past}
 
 -- the controller stands in this world, and the world's book is that of the past
@@ -35,3 +37,13 @@ IsUndone r past new later = (new ≡ r) × (later ≡ past)
 -- the world behind a start that wanted memory when its sync was made: the sync stands, and the controller is as down or failed as before
 abbrev pub synced : World → Replica → World
 synced w r = (after_moves w r (moves_of_start (went r.plan 1)) r.standing (plan_after (went r.plan 1)) outcomes.Ok).0
+
+-- an image was adopted: this controller was made, and its incarnation begins, wherever it is placed
+abbrev pub Adopts : Name → Result State AdoptRefusal → Replica → Type 0
+Adopts name t made =
+    (w : World) (placed : Replica → List Replica)
+    → adopts w placed name t ≡ (record w { book = begun w.book made.safe; replicas = placed made }, outcomes.Ok)
+
+-- it was not, and is answered so
+abbrev pub Unadopted : Name → Result State AdoptRefusal → Outcome → Type 0
+Unadopted name t outcome = (w : World) (placed : Replica → List Replica) → adopts w placed name t ≡ (w, outcome)

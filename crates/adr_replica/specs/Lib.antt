@@ -4,3 +4,4 @@ pub mod Told
 pub mod Held
 pub mod Settled
 pub mod Led
+pub mod Put

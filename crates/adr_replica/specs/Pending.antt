@@ -10,8 +10,8 @@ use Rattle.adr_model.specs.Change.{Change}
 use Rattle.adr_model.specs.Serve.{Request, Reply, serve}
 use Rattle.adr_model.specs.Take.{take}
 use Rattle.adr_model.specs.Write.{write}
-use Rattle.adr_model.specs.Collect.{quarantine}
-use Rattle.adr_model.specs.Replica.{Call, ToWrite, ToTake, ToQuarantine, Pending, change_in}
+use Rattle.adr_model.specs.Collect.{collect, quarantine}
+use Rattle.adr_model.specs.Replica.{Call, ToCollect, ToWrite, ToTake, ToQuarantine, Pending, change_in}
 use Rattle.adr_model.specs.Step.{ClientWrite, write_of}
 use Rattle.adr_controller.specs.Able.{request_shows, reply_shows}
 
@@ -45,3 +45,7 @@ taken_by reply s (Err refusal) = quarantining (reply_shows refusal) s
 -- a reply
 abbrev pub taking : Reply → State → Option Pending
 taking reply s = taken_by reply s (take s reply)
+
+-- a collection at a time, after a lifetime
+abbrev pub collecting : ℕ → ℕ → State → Option Pending
+collecting now lifetime s = with_call (ToCollect now lifetime) (change_in (collect s now lifetime))

@@ -8,20 +8,25 @@
 //! controllers of a run, of the names that lines bind, or of the bytes of answers.
 #![tactic(auto)]
 
+mod collecting;
 mod counts;
 mod hindered;
 mod keepers;
 mod past;
 mod refused;
 mod replica;
+mod restoring;
 mod sent;
+mod snapshot;
 mod told;
 mod words;
 
 pub use adr_event::{Event, Outcome};
 pub use adr_packet::{Reply, Request};
+pub use adr_restore::Image;
 pub use adr_state::State;
 pub use past::Past;
 pub use refused::full;
 pub use replica::Replica;
+pub use snapshot::Snapshot;
 pub use words::word;

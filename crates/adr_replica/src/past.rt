@@ -53,6 +53,15 @@ impl Past {
         let gave = Deed::Gave { dsa, inv };
         self.told = self.told.with(&gave);
     }
+
+    /// A line gives the identifier of a database alone.
+    pub fn give_inv(&mut self, inv: Uuid)
+        ensures { self.new
+            ≡ record self.old { given = record { dsas = self.old.given.dsas ++ []; invs = self.old.given.invs ++ inv ∷ [] } } }
+    {
+        let gave = Deed::GaveInv { inv };
+        self.told = self.told.with(&gave);
+    }
 }
 
 /// The call of a controller that is on its disk and isn't safe, if there is one. It keeps nothing when it runs: contracts

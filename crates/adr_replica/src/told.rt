@@ -23,6 +23,10 @@ pub(crate) enum Deed<'a, S, R, E, Q, A> {
         dsa: Uuid,
         inv: Uuid,
     },
+    /// A line gives the identifier of a database alone.
+    GaveInv {
+        inv: Uuid,
+    },
     /// A controller is about to write what an event says, at a time.
     Writes {
         replica: &'a R,
@@ -38,6 +42,12 @@ pub(crate) enum Deed<'a, S, R, E, Q, A> {
     Takes {
         replica: &'a R,
         reply: &'a A,
+    },
+    /// It is about to collect its tombstones at a time and after a lifetime.
+    Collects {
+        replica: &'a R,
+        now: u64,
+        lifetime: u64,
     },
     /// It is about to be stopped.
     Stops(&'a R),

