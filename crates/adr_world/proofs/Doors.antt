@@ -1,5 +1,5 @@
 -- What is claimed of a line follows of what it does.
-use Rattle.std.proofs.Common.{◌≡◌, inl, inr, refl, ℕ, ◌<◌, false, sym, ap, subst}
+use Rattle.std.proofs.Common.{◌≡◌, inl, inr, refl, ℕ, ◌<◌, true, false, sym, ap, ◌∙◌, subst}
 use Rattle.adr_event.specs.declared.event.Event.{Event}
 use Rattle.adr_event.specs.declared.event.Event.TheVariants as events
 use Rattle.adr_model.specs.World.{World, Name}
@@ -7,7 +7,7 @@ use Rattle.adr_model.specs.Cycles.{Pulled, pull, cycle, reply_limit}
 use Rattle.adr_model.specs.Step.{step}
 use Rattle.adr_model.specs.Sound.{IsSoundWorld, IsWorldOfRun}
 use Rattle.adr_model.specs.Convergence.{AreAcknowledged, MayHappen, AreUnlimited, EndsOrSaysMore}
-use Rattle.adr_law_convergence.proofs.Lines.{stays_sound, behind_is_on_the_way}
+use Rattle.adr_law_convergence.proofs.Lines.{stays_sound, was_clean, behind_is_on_the_way}
 use Rattle.adr_law_convergence.proofs.Acknowledged.{acknowledged_is_issued}
 use Rattle.adr_law_convergence.proofs.CutShort.{cut_short_sound}
 use Rattle.adr_law_convergence.proofs.Completing.{cycle_ends}
@@ -17,16 +17,31 @@ use Rattle.adr_world.specs.Door.{IsCompletedBy}
 use Rattle.adr_world.specs.Pulls.{IsCycleTurn, IsTurn}
 use Rattle.adr_world.specs.Short.{IsAllOrNone, IsSyncedBy, IsCutShort, IsTurnCutShort}
 
+cycle_completed : (w : World) (name source : Name) (max : ℕ) → IsSoundWorld w → IsCompletedBy w (events.Cycle name source max) (cycle w name source max).1 (cycle w name source max).0
+cycle_completed w name source max sound d s may d_is s_is most unlimited =
+    subst (λ (n : Name). Ends n source) d_is (subst (λ (n : Name). Ends d.name n) s_is (cycle_ends w d s max sound may most)) unlimited
+  where
+    Ends : Name → Name → Type 0
+    Ends n m = AreUnlimited (cycle w n m max).1 → EndsOrSaysMore w d s (cycle w n m max).1 (cycle w n m max).0
+
+completes : (w : World) (e : Event) → IsSoundWorld w → IsCompletedBy w e (step w e).1 (step w e).0
+completes w (events.Cycle name source max) sound = cycle_completed w name source max sound
+completes w e sound = tt
+
 module _ (w : World) (e : Event) (run : IsWorldOfRun w) (may : MayHappen w e) where
   -- the world behind a line
   pub behind_of_run : (v : World) → v ≡ (step w e).0 → IsWorldOfRun v
   behind_of_run v is = subst IsWorldOfRun (sym is) (stays_sound w e run may (step w e).0 (behind_is_on_the_way w e))
 
-  acknowledges : IsSoundWorld w → AreAcknowledged w e (step w e).1 (step w e).0
-  acknowledges sound = acknowledged_is_issued w e sound may
+  -- while the world behind a line is clean, that before it was
+  sound_before : (v : World) → v ≡ (step w e).0 → v.clean ≡ true → IsSoundWorld w
+  sound_before v is clean = run.sound (was_clean w e (step w e).0 (behind_is_on_the_way w e) (ap (λ (x : World). x.clean) (sym is) ∙ clean))
 
-  pub acknowledged_by : (v : World) → IsSoundWorld w → v ≡ (step w e).0 → AreAcknowledged w e (step w e).1 v
-  acknowledged_by v sound is = subst (λ (x : World). AreAcknowledged w e (step w e).1 x) (sym is) (acknowledges sound)
+  pub acknowledged_by : (v : World) → v ≡ (step w e).0 → v.clean ≡ true → AreAcknowledged w e (step w e).1 v
+  acknowledged_by v is clean = subst (λ (x : World). AreAcknowledged w e (step w e).1 x) (sym is) (acknowledged_is_issued w e (sound_before v is clean) may)
+
+  pub completed_by : (v : World) → v ≡ (step w e).0 → v.clean ≡ true → IsCompletedBy w e (step w e).1 v
+  completed_by v is clean = subst (λ (x : World). IsCompletedBy w e (step w e).1 x) (sym is) (completes w e (sound_before v is clean))
 
 -- the world behind a pull
 pulled_of_run : (w v : World) (dest source : Name) (max : ℕ) → IsWorldOfRun w → v ≡ (pull w dest source max).0 → IsWorldOfRun v
@@ -71,17 +86,3 @@ turn_short turn w (events.Cycle dest source max) v built short = absurd built
 turn_short turn w e v built (inl same) = inl same
 turn_short turn w e v built (inr (inl all)) = inr (inl (((step w e).0, (step w e).1, false), refl, all))
 turn_short turn w e v built (inr (inr synced)) = inr (inr synced)
-
-cycle_completed : (w : World) (name source : Name) (max : ℕ) → IsSoundWorld w → IsCompletedBy w (events.Cycle name source max) (cycle w name source max).1 (cycle w name source max).0
-cycle_completed w name source max sound d s may d_is s_is most unlimited =
-    subst (λ (n : Name). Ends n source) d_is (subst (λ (n : Name). Ends d.name n) s_is (cycle_ends w d s max sound may most)) unlimited
-  where
-    Ends : Name → Name → Type 0
-    Ends n m = AreUnlimited (cycle w n m max).1 → EndsOrSaysMore w d s (cycle w n m max).1 (cycle w n m max).0
-
-completes : (w : World) (e : Event) → IsSoundWorld w → IsCompletedBy w e (step w e).1 (step w e).0
-completes w (events.Cycle name source max) sound = cycle_completed w name source max sound
-completes w e sound = tt
-
-pub completed_by : (w : World) (e : Event) (v : World) → IsSoundWorld w → v ≡ (step w e).0 → IsCompletedBy w e (step w e).1 v
-completed_by w e v sound is = subst (λ (x : World). IsCompletedBy w e (step w e).1 x) (sym is) (completes w e sound)

@@ -1,4 +1,4 @@
--- Messages that are kept in a table of strings.
+-- What is bound to names, in a table of strings.
 use Rattle.std.proofs.Common.{◌≡◌, inl, inr, List, [], ◌∷◌, ◌++◌, Bool, true, false, cond, map, Option, Some, None, refl, ap, ◌∙◌}
 use Rattle.std.specs.Prelude.{String, string_bytes}
 use Rattle.std.specs.List.{find}

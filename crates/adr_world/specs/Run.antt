@@ -1,5 +1,5 @@
 -- What the code's run stands for.
-use Rattle.std.specs.Prelude.{◌≢◌, List, [], ◌∷◌, true}
+use Rattle.std.specs.Prelude.{◌≢◌, List, [], ◌∷◌}
 use Rattle.adr_law_formed.specs.Spelled.{IsSpelledReply}
 use Rattle.adr_law_recorded.specs.Ranged.{IsRangedRequest, IsRangedReply}
 use Rattle.adr_model.specs.Member.{Each}
@@ -13,7 +13,7 @@ abbrev pub world_of : Run → World
 world_of r =
     record {
       time = r.time;
-      clean = true;
+      clean = r.clean;
       book = r.past.book;
       replicas = r.controllers.items;
       requests = r.requests;

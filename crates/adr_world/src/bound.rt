@@ -10,14 +10,14 @@ use indexmap::IndexMap;
 use std::alloc::Global;
 use std::marker::Model;
 
-/// The messages of one kind, in the order in which they were bound. There may be very many, so their names are looked up
-/// by hash.
+/// What lines bound of one kind, in the order in which they were bound. There may be very many messages, so names are looked
+/// up by hash.
 #[derive(Drop)]
-pub struct Messages<M> {
+pub struct Bindings<M> {
     table: IndexMap<String, M>,
 }
 
-impl<M> Model for Messages<M> {
+impl<M> Model for Bindings<M> {
     ghost use Rattle.std.specs.Prelude.{List, ℕ, map, string_bytes};
 
     ghost Value = { List (List ℕ × M) };
@@ -25,12 +25,12 @@ impl<M> Model for Messages<M> {
     ghost view = { λ m. map (λ p. (string_bytes p.0, p.1)) m.table.entries };
 }
 
-impl<M> Messages<M> {
-    /// No messages.
-    pub fn new(alloc: Global) -> Messages<M>
+impl<M> Bindings<M> {
+    /// Nothing yet.
+    pub fn new(alloc: Global) -> Bindings<M>
         ensures { result ≡ [] }
     {
-        Messages {
+        Bindings {
             table: IndexMap::new(alloc),
         }
     }
@@ -42,20 +42,20 @@ impl<M> Messages<M> {
         self.table.get(name.as_str())
     }
 
-    /// Binds a message to a name, if there is one.
-    pub fn bind(&mut self, alloc: Global, name: &Text, message: Option<M>) -> Result<(), NoMemory>
+    /// Binds this to a name, if there is something.
+    pub fn bind(&mut self, alloc: Global, name: &Text, made: Option<M>) -> Result<(), NoMemory>
     where
         M: Drop,
         requires { IsUnbound self.old name.now }
-        ensures ok { OnOk result (self.new ≡ bound self.old name.now message) }
+        ensures ok { OnOk result (self.new ≡ bound self.old name.now made) }
         ensures err { OnErr result (self.new ≡ self.old) }
-        ensures some { OnErr result (IsSome message) }
+        ensures some { OnErr result (IsSome made) }
     {
-        match message {
+        match made {
             None => Ok(()),
-            Some(message) => {
+            Some(made) => {
                 let name = String::from_str(alloc, name.as_str())?;
-                self.table.insert(name, message)?;
+                self.table.insert(name, made)?;
                 Ok(())
             }
         }

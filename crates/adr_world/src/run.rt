@@ -4,19 +4,20 @@ ghost use Rattle.std.specs.Prelude.{◌≡◌};
 ghost use Rattle.adr_model.specs.World.{empty_world};
 ghost use Rattle.adr_world.specs.Run.{IsTidy, world_of};
 
-use crate::bound::Messages;
+use crate::bound::Bindings;
 use adr_packet::{Reply, Request};
 use adr_replica::{Past, Replica};
 use std::alloc::Global;
 
-/// The time, the past, the controllers, and the messages that lines bound to names.
+/// The time, whether no database was put back so far, the past, the controllers, and what lines bound to names.
 #[derive(Drop)]
 pub struct Run {
     pub time: u64,
+    pub clean: bool,
     pub past: Past,
     pub controllers: Vec<Replica>,
-    pub requests: Messages<Request>,
-    pub replies: Messages<Reply>,
+    pub requests: Bindings<Request>,
+    pub replies: Bindings<Reply>,
 }
 
 impl Run {
@@ -27,10 +28,11 @@ impl Run {
     {
         Run {
             time: 0,
+            clean: true,
             past: Past::new(),
             controllers: Vec::new(alloc),
-            requests: Messages::new(alloc),
-            replies: Messages::new(alloc),
+            requests: Bindings::new(alloc),
+            replies: Bindings::new(alloc),
         }
     }
 }

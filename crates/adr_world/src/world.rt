@@ -1,6 +1,6 @@
 //! The world of a run.
 
-ghost use Rattle.std.specs.Prelude.{◌≡◌, ◌<◌, ◌≤◌, None, Ok, IfNone, IfOk, IfSome, IsSomeAnd, OnErr, OnOk, IsErrOf, flat_map};
+ghost use Rattle.std.specs.Prelude.{◌≡◌, ◌<◌, ◌≤◌, None, Ok, true, IfNone, IfOk, IfSome, IsSomeAnd, OnErr, OnOk, IsErrOf, flat_map};
 ghost use Rattle.adr_io.specs.Told.{Adds, AddsFront};
 ghost use Rattle.adr_law_journal.specs.Log.{start_of};
 ghost use Rattle.adr_law_journal.specs.Replicas.{read_found};
@@ -23,7 +23,7 @@ use std::alloc::Global;
 use std::marker::Model;
 
 /// The controllers of a run, with all that was written and sent. A contract sees it as the world of the definitions,
-/// which is that of a run: no line so far puts a database back, so that it is clean and sound.
+/// which is that of a run: sound until a line puts a database back as it was, and in order also behind such a line.
 #[derive(Drop)]
 pub struct World {
     run: Run,
@@ -68,16 +68,17 @@ impl World {
         ensures never_falls { K.faults sink.old ≤ K.faults sink.new }
         ensures failed { IsErrOf result Fault.Failed → K.faults sink.old < K.faults sink.new }
 
-        // Wherever the run stands, the world is that of a run, each controller shows the directory of the issued updates that
-        // it covers or holds, controllers that cover the same show the same, and whatever was acknowledged is in view.
+        // Wherever the run stands, the world is that of a run. While no database was put back as it was, each controller shows
+        // the directory of the issued updates that it covers or holds, controllers that cover the same show the same, and
+        // whatever was acknowledged is in view.
         ensures sound { IsWorldOfRun self.new }
-        ensures shown { ShowWhatIsVisible self.new }
-        ensures equal { ShowAlike self.new }
-        ensures acknowledged { OnOk result (AreAcknowledged self.old event.now (step self.old event.now).1 self.new) }
-        ensures own { OwnIsInView self.new }
+        ensures shown { self.new.clean ≡ true → ShowWhatIsVisible self.new }
+        ensures equal { self.new.clean ≡ true → ShowAlike self.new }
+        ensures acknowledged { OnOk result (self.new.clean ≡ true → AreAcknowledged self.old event.now (step self.old event.now).1 self.new) }
+        ensures own { self.new.clean ≡ true → OwnIsInView self.new }
 
-        // A cycle with nothing in the way ends with everything, or says that there is more.
-        ensures completed { OnOk result (IsCompletedBy self.old event.now (step self.old event.now).1 self.new) }
+        // And a cycle with nothing in the way ends with everything, or says that there is more.
+        ensures completed { OnOk result (self.new.clean ≡ true → IsCompletedBy self.old event.now (step self.old event.now).1 self.new) }
     {
         self.run.step(alloc, event, sink)?;
         Ok(())

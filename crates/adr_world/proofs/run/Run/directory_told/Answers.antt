@@ -1,4 +1,4 @@
-use Rattle.std.proofs.Common.{◌∙◌, sym, ap, subst, refl}
+use Rattle.std.proofs.Common.{◌∙◌, sym, ap, subst}
 use Rattle.std.specs.Bool.{IsTrue}
 use Rattle.adr_event.specs.declared.answer.Outcome.TheVariants as outcomes
 use Rattle.adr_model.specs.Directory.{directory}
@@ -9,28 +9,23 @@ use Rattle.adr_view.specs.BackLinks.{have_back_links}
 use Rattle.adr_view.specs.Named.{AreNamed}
 use Rattle.adr_world.specs.Run.{world_of}
 use Rattle.adr_world.proofs.Becoming.{found_there}
-use Rattle.adr_world.proofs.Calls.{formed_so, shown_so, told_other}
+use Rattle.adr_world.proofs.Calls.{shown_so, told_other}
 use Rattle.adr_world.proofs.run.Run.directory_told.Goals as goal
 
 pub directory-requires-clause-links : goal.directory-requires-clause-links
 directory-requires-clause-links c =
-    let d = c.index.result.now in
-    let found = found_there c.args.self.now c.args.name.now c.in-Some.place d c.in-Some.ensures.place c.index.ensures c.in-Some.ensures.found in
-    subst (λ rows. IsTrue (have_back_links (updates_of rows))) (sym (c.rows.ensures ∙ ap (λ (s : State). s.store.rows) c.in-Ok.ensures.up.1))
-    (c.formed_rows_have_back_links.ensures d.safe.store.schema (updates_of d.safe.store.rows) (formed_so (world_of c.args.self.now) (c.requires.of_run.sound refl) c.args.name.now d found))
+    let s = c.in-Ok.state.now in
+    subst (λ rows. IsTrue (have_back_links (updates_of rows))) (sym c.rows.ensures)
+    (c.formed_rows_have_back_links.ensures s.store.schema (updates_of s.store.rows) c.in-Ok.ensures.up.2.formed.store.rows)
 
 pub directory-requires-clause-named : goal.directory-requires-clause-named
-directory-requires-clause-named c =
-    let d = c.index.result.now in
-    let found = found_there c.args.self.now c.args.name.now c.in-Some.place d c.in-Some.ensures.place c.index.ensures c.in-Some.ensures.found in
-    subst (λ rows. AreNamed (updates_of rows)) (sym (c.rows.ensures ∙ ap (λ (s : State). s.store.rows) c.in-Ok.ensures.up.1))
-    (formed_so (world_of c.args.self.now) (c.requires.of_run.sound refl) c.args.name.now d found).named
+directory-requires-clause-named c = subst (λ rows. AreNamed (updates_of rows)) (sym c.rows.ensures) c.in-Ok.ensures.up.2.formed.store.rows.named
 
 pub returns-in_ok-directory-in-Ok : goal.returns-in_ok-directory-in-Ok
 returns-in_ok-directory-in-Ok c =
     let d = c.index.result.now in
     let found = found_there c.args.self.now c.args.name.now c.in-Some.place d c.in-Some.ensures.place c.index.ensures c.in-Some.ensures.found in
-    shown_so (world_of c.args.self.now) (c.requires.of_run.sound refl) c.args.name.now d found c.in_ok-directory-in-Ok.field-0 c.in-Ok.ensures.up.0
+    shown_so (world_of c.args.self.now) c.requires.of_run c.args.name.now d found c.in_ok-directory-in-Ok.field-0 c.in-Ok.ensures.up.0
     (c.in_ok-directory-in-Ok.ensures ∙ ap (λ rows. directory (updates_of rows)) (c.rows.ensures ∙ ap (λ (s : State). s.store.rows) c.in-Ok.ensures.up.1))
 
 pub returns-in-Err : goal.returns-in-Err

@@ -4,7 +4,7 @@ use Rattle.std.specs.Prelude.{string_bytes}
 use Rattle.std.specs.Str.{bytes_eq}
 use Rattle.adr_model.specs.World.{bound_at}
 use Rattle.adr_world.proofs.Tables.{found}
-use Rattle.adr_world.proofs.bound.Messages.get.Goals as goal
+use Rattle.adr_world.proofs.bound.Bindings.get.Goals as goal
 
 pub returns : goal.returns
 returns g c =
