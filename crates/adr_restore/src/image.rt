@@ -1,51 +1,81 @@
 //! Images, and what adopts them.
 
-ghost use Rattle.std.specs.Prelude.{◌≡◌, Ok, Err, IfOk, IsErrOf};
+ghost use Rattle.std.specs.Prelude.{◌≡◌, None, Ok, Err, IfOk, IsErrOf};
 ghost use Rattle.adr_wire.specs.Ranges.{IsId};
 ghost use Rattle.adr_event.specs.declared.refusal.AdoptRefusal.{AdoptRefusal};
-ghost use Rattle.adr_model.specs.Collect.{adopt, backup};
+ghost use Rattle.adr_model.specs.Collect.{adopt, adopt_refusal, backup, woken};
+ghost use Rattle.adr_model.specs.Formed.{IsFormedStore};
 ghost use Rattle.adr_model.specs.Store.{Normal};
+ghost use Rattle.adr_model.specs.Update.{Identifier};
+ghost use Rattle.adr_image.specs.Stored.{IsSpelled, image};
 ghost use Rattle.adr_records.specs.Logged.{IsLogged};
 
-use adr_event::{AdoptRefusal, Failure};
+use crate::lengths::image_of;
+use crate::naming::names_inv;
+use adr_event::{AdoptRefusal, Failure, Table};
 use adr_failure::NoMemory;
-use adr_state::State;
+use adr_image::{Contents, Dormant, decode};
+use adr_records::wake;
+use adr_state::{CURSOR_LIMIT, State};
 use std::alloc::{AllocError, Global};
 use std::marker::Model;
 use uuid::Uuid;
 
-/// The image of a controller: its database as bytes, which belongs to no controller.
+/// The image of a controller: its database as bytes, which belongs to no controller. Whatever it says is formed and
+/// spelled.
 #[derive(Drop)]
 pub struct Image {
     bytes: Vec<u8>,
 }
 
 impl Model for Image {
+    ghost use Rattle.std.specs.Prelude.{◌≡◌};
+    ghost use Rattle.adr_model.specs.Formed.{IsFormedStore};
     ghost use Rattle.adr_model.specs.Store.{Store};
+    ghost use Rattle.adr_image.specs.Stored.{IsSpelled, image};
     ghost use Rattle.adr_restore.specs.Said.{said_by};
 
     ghost Value = { Store };
 
     ghost view = { λ i. said_by i.bytes.items };
+
+    ghost invariant = { λ i. IsFormedStore (said_by i.bytes.items) × IsSpelled (said_by i.bytes.items)
+        × (i.bytes.items ≡ image (said_by i.bytes.items)) };
 }
 
 impl Image {
     /// The image of a controller; none while it is quarantined.
-    pub fn of(_alloc: Global, state: &State) -> Result<Option<Image>, NoMemory>
+    pub fn of(alloc: Global, state: &State) -> Result<Option<Image>, NoMemory>
         requires { IsLogged state.now }
         ensures { IfOk result (λ image. image ≡ backup state.now) }
     {
-        let _ = state;
-        Err(AllocError)
+        if state.mode().is_quarantined() {
+            return Ok(None);
+        }
+        let image = Image::of_database(alloc, state)?;
+        Ok(Some(image))
+    }
+
+    /// The image of a controller's database.
+    fn of_database(alloc: Global, state: &State) -> Result<Image, NoMemory>
+        requires { IsLogged state.now }
+        ensures { IfOk result (λ image. image ≡ state.now.store) }
+    {
+        let bytes = image_of(alloc, state)?;
+        Ok(Image { bytes })
+    }
+
+    /// Its bytes: the one spelling of what it says, which is formed and spelled.
+    pub fn bytes(&self) -> &[u8]
+        ensures spelling { result.now ≡ image self.now }
+        ensures formed { IsFormedStore self.now }
+        ensures spelled { IsSpelled self.now }
+    {
+        &self.bytes
     }
 
     /// A controller of the image under a fresh invocation identifier.
-    pub fn adopt(
-        &self,
-        _alloc: Global,
-        dsa: Uuid,
-        inv: Uuid,
-    ) -> Result<State, Failure<AdoptRefusal>>
+    pub fn adopt(&self, alloc: Global, dsa: Uuid, inv: Uuid) -> Result<State, Failure<AdoptRefusal>>
         requires dsa { IsId dsa }
         requires inv { IsId inv }
         ensures ok { IfOk result (λ state. adopt self.now dsa inv ≡ Ok state) }
@@ -53,7 +83,70 @@ impl Image {
             → adopt self.now dsa inv ≡ Err refusal }
         ensures logged { IfOk result (λ state. IsLogged state × (state.mode ≡ Normal)) }
     {
-        let _ = (dsa, inv);
-        Err(Failure::NoMemory)
+        let dormant = self.read(alloc)?;
+        adopted(alloc, dormant.contents(), dsa, inv)
+    }
+
+    /// What it says.
+    fn read(&self, alloc: Global) -> Result<Dormant, NoMemory>
+        ensures { IfOk result (λ dormant. dormant ≡ self.now) }
+    {
+        match decode(alloc, self.bytes()) {
+            Ok(dormant) => Ok(dormant),
+            Err(Failure::NoMemory) => Err(AllocError),
+            Err(Failure::Refused(_)) => unreachable!(),
+        }
+    }
+}
+
+/// Why a database can't be adopted under an identifier, first in order.
+fn adopt_refusal(contents: &Contents, inv: Uuid) -> Option<AdoptRefusal>
+    ensures { (dsa : Identifier) → result ≡ adopt_refusal contents.now inv (woken contents.now dsa inv) }
+{
+    if names_inv(contents, inv) {
+        return Some(AdoptRefusal::IdentifierUsed);
+    }
+    if contents.vector.is_full_for(inv, contents.usn) {
+        return Some(AdoptRefusal::Full {
+            table: Table::Cursors,
+            limit: CURSOR_LIMIT,
+        });
+    }
+    None
+}
+
+/// A controller of a database that can be adopted under the identifier.
+fn woken(alloc: Global, contents: &Contents, dsa: Uuid, inv: Uuid) -> Result<State, NoMemory>
+    requires formed { IsFormedStore contents.now }
+    requires spelled { IsSpelled contents.now }
+    requires fits { adopt_refusal contents.now inv (woken contents.now dsa inv) ≡ None }
+    ensures { IfOk result (λ state. state ≡ woken contents.now dsa inv) }
+{
+    match wake(alloc, contents, dsa, inv) {
+        Ok(state) => Ok(state),
+        Err(Failure::NoMemory) => Err(AllocError),
+        Err(Failure::Refused(_)) => unreachable!(),
+    }
+}
+
+/// A controller of a database under an identifier that it doesn't name.
+fn adopted(
+    alloc: Global,
+    contents: &Contents,
+    dsa: Uuid,
+    inv: Uuid,
+) -> Result<State, Failure<AdoptRefusal>>
+    requires formed { IsFormedStore contents.now }
+    requires spelled { IsSpelled contents.now }
+    requires dsa { IsId dsa }
+    requires inv { IsId inv }
+    ensures ok { IfOk result (λ state. adopt contents.now dsa inv ≡ Ok state) }
+    ensures refused { (refusal : AdoptRefusal) → IsErrOf result (Failure.Refused refusal)
+        → adopt contents.now dsa inv ≡ Err refusal }
+    ensures logged { IfOk result (λ state. IsLogged state × (state.mode ≡ Normal)) }
+{
+    match adopt_refusal(contents, inv) {
+        Some(refusal) => Err(Failure::Refused(refusal)),
+        None => Ok(woken(alloc, contents, dsa, inv)?),
     }
 }
