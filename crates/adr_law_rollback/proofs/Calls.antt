@@ -1,0 +1,287 @@
+-- What calls leave of a controller that is shut off, and what they answer in its name.
+use Rattle.std.proofs.Common.{◌≡◌, ◌≢◌, ℕ, List, [], ◌∷◌, ◌++◌, Bool, true, false, Option, Some, None, Result, Ok, Err, refl, sym, ap, ◌∙◌, subst, fold, length, if◌then◌else◌}
+use Rattle.std.specs.Prelude.{nat_lt}
+use Rattle.adr_disk.specs.declared.memory.Crash.TheVariants.{Kept as KeptAll, Lost, Torn}
+use Rattle.adr_event.specs.declared.answer.Outcome.{Outcome}
+use Rattle.adr_event.specs.declared.answer.Outcome.TheVariants as outcomes
+use Rattle.adr_event.specs.declared.refusal.Table.TheVariants.{Log}
+use Rattle.adr_event.specs.declared.refusal.WriteRefusal.{WriteRefusal}
+use Rattle.adr_event.specs.declared.refusal.ServeRefusal.{ServeRefusal}
+use Rattle.adr_event.specs.declared.refusal.ServeRefusal.TheVariants as serves
+use Rattle.adr_event.specs.declared.refusal.TakeRefusal.{TakeRefusal}
+use Rattle.adr_event.specs.declared.refusal.TakeRefusal.TheVariants as takes
+use Rattle.adr_event.specs.declared.refusal.CollectRefusal.{CollectRefusal}
+use Rattle.adr_event.specs.declared.refusal.AdoptRefusal.{AdoptRefusal}
+use Rattle.adr_event.specs.declared.refusal.AdoptRefusal.TheVariants as adoptions
+use Rattle.adr_model.specs.Update.{Identifier}
+use Rattle.adr_model.specs.Store.{Quarantined, Store, State}
+use Rattle.adr_model.specs.Change.{Change}
+use Rattle.adr_model.specs.Serve.{Request, Reply, ask, serve}
+use Rattle.adr_model.specs.Write.{Write, write}
+use Rattle.adr_model.specs.Take.{take}
+use Rattle.adr_model.specs.Collect.{collect, backup, adopt, quarantine}
+use Rattle.adr_model.specs.Lengths.{log_limit, new_log_end, log_end_after}
+use Rattle.adr_model.specs.Refused.{serve_refused, take_refused, adopt_refused, full}
+use Rattle.adr_model.specs.Replica.{Pending, ToWrite, ToTake, ToCollect, ToQuarantine, Standing, Up, Down, Failed, Stops, Fails, Plan, Replica, on_disk, on_new_disk, Book, begun, Move, Begin, Settle, Forget, moved, Went, Passed, Met, went, moves_of_commit, moves_of_start, standing_after, plan_after, outcome_after}
+use Rattle.adr_model.specs.World.{Name, World, Snapshot, Gone, Sent, stays, nothing, replica_at, with_replica, of_made, where_up, of_controller, within_log, committed, commit, writes, after_write, after_collect, asks, after_serve, served, serves_request, after_take, delivered, delivers, backed_up, begins, adopts, of_image, put_back, with_plan, stops, started, starts}
+use Rattle.adr_law_rollback.specs.ShutOff.{RefusesAll, RestsAs, IsShutOffAs, is_done}
+use Rattle.adr_law_rollback.proofs.Placing.{name_case, FoundAmong, found_named, replaced, spared, first_stays, rests_too}
+use Rattle.adr_law_rollback.proofs.Refusing.{refuses_all}
+
+-- ---- whom a name reaches
+
+module _ {A : Type 0} (Q : A → Type 0) (w : World) (n : Name) (other : Outcome → A) (absent : Q (other outcomes.Absent)) where
+  pub made : (act : Replica → A) → ((r : Replica) → replica_at w n ≡ Some r → Q (act r)) → Q (of_made other (replica_at w n) act)
+  made act acts = by (replica_at w n) refl
+    where
+      by : (o : Option Replica) → replica_at w n ≡ o → Q (of_made other o act)
+      by None is = absent
+      by (Some r) is = acts r is
+
+  module _ (down : Q (other outcomes.Down)) (failed : Q (other outcomes.Failed)) where
+    pub up_or_not : (standing : Standing) (gone : A) → Q gone → Q (where_up other standing gone)
+    up_or_not Up gone goes = goes
+    up_or_not Down gone goes = down
+    up_or_not Failed gone goes = failed
+
+    pub reached : (act : Replica → A) → ((r : Replica) → replica_at w n ≡ Some r → Q (act r)) → Q (of_controller w n other act)
+    reached act acts = made (λ r. where_up other r.standing (act r)) (λ r is. up_or_not r.standing (act r) (acts r is))
+
+within : (Q : Gone → Type 0) (w : World) (end : ℕ) (gone : Gone) → Q (w, full Log log_limit) → Q gone → Q (within_log w end gone)
+within Q w end gone refused goes = by (nat_lt log_limit end)
+  where
+    by : (b : Bool) → Q (if b then (w, full Log log_limit) else gone)
+    by true = refused
+    by false = goes
+
+-- ---- what moves leave
+
+moved_named : (m : Book × Replica) (move : Move) → (moved m move).1.name ≡ m.1.name
+moved_named m (Begin p) = refl
+moved_named m Settle = refl
+moved_named m Forget = refl
+
+all_moved_named : (ms : List Move) (m : Book × Replica) → (fold moved m ms).1.name ≡ m.1.name
+all_moved_named [] m = refl
+all_moved_named (move ∷ ms) m = all_moved_named ms (moved m move) ∙ moved_named m move
+
+module _ (s : State) (end : ℕ) where
+  other_standing : (r : Replica) → RestsAs s end r → (standing : Standing) (plan : Option Plan) → RestsAs s end (record r { standing = standing; plan = plan })
+  other_standing r is standing plan = record { safe = is.safe; safe_end = is.safe_end; read = is.read; read_end = is.read_end; kept = is.kept }
+
+  settled_rests : (sc : Book) (r : Replica) → RestsAs s end r → RestsAs s end (moved (sc, r) Settle).1
+  settled_rests sc r is = record { safe = is.read; safe_end = is.read_end; read = is.read; read_end = is.read_end; kept = refl }
+
+  forgotten_rests : (sc : Book) (r : Replica) → RestsAs s end r → RestsAs s end (moved (sc, r) Forget).1
+  forgotten_rests sc r is = record { safe = is.safe; safe_end = is.safe_end; read = is.safe; read_end = is.safe_end; kept = refl }
+
+  start_rests : (sc : Book) (r : Replica) → RestsAs s end r → (g : Went) → RestsAs s end (fold moved (sc, r) (moves_of_start g)).1
+  start_rests sc r is (Passed left) = settled_rests sc r is
+  start_rests sc r is (Met place Fails) = is
+  start_rests sc r is (Met place (Stops Lost)) = forgotten_rests sc r is
+  start_rests sc r is (Met place (Stops KeptAll)) = settled_rests sc r is
+  start_rests sc r is (Met place (Stops Torn)) = settled_rests sc r is
+
+-- what comes of a start is nothing that is done
+start_not_done : (g : Went) → is_done (outcome_after g outcomes.Ok) ≡ false
+start_not_done (Passed left) = refl
+start_not_done (Met place (Stops how)) = refl
+start_not_done (Met place Fails) = refl
+
+adoption_not_done : (x : AdoptRefusal) → is_done (adopt_refused x) ≡ false
+adoption_not_done adoptions.IdentifierUsed = refl
+adoption_not_done (adoptions.Full table limit) = refl
+
+-- ---- calls in a world where the controller of a name is shut off
+
+module _ (name : Name) (s : State) (end : ℕ) (closed : s.mode ≡ Quarantined) where
+  -- among these controllers it is
+  abbrev Among : List Replica → Type 0
+  Among rs = (r : Replica) × FoundAmong rs name r × RestsAs s end r
+
+  -- behind a call of a controller it is shut off still, and where the call was its own nothing was done
+  abbrev pub Holds : Name → Gone → Type 0
+  Holds n g = IsShutOffAs s end g.0 name × (n ≡ name → is_done g.1 ≡ false)
+
+  abbrev pub HoldsSent : {A : Type 0} → Name → Sent A → Type 0
+  HoldsSent n t = IsShutOffAs s end t.0 name × (n ≡ name → is_done t.1 ≡ false)
+
+  module _ (w : World) (i : IsShutOffAs s end w name) where
+    put_in : (new : Replica) → (new.name ≡ name → RestsAs s end new) → Among (with_replica w.replicas new)
+    put_in new rests = name_case (Among (with_replica w.replicas new)) new.name name
+        (λ e. (new, replaced w.replicas new i.0 name e i.1, rests e))
+        (λ differ. (i.0, spared w.replicas new i.0 name differ i.1, i.2))
+
+    comes : (new : Replica) → Among (w.replicas ++ new ∷ [])
+    comes new = (i.0, first_stays w.replicas (new ∷ []) i.0 name i.1, i.2)
+
+    module _ (n : Name) (r : Replica) (found : replica_at w n ≡ Some r) where
+      rests : n ≡ name → RestsAs s end r
+      rests e = rests_too s end w name r i (subst (λ m. replica_at w m ≡ Some r) e found)
+
+      own_name : r.name ≡ name → n ≡ name
+      own_name e = sym (found_named w.replicas n r found) ∙ e
+
+      refuses : n ≡ name → RefusesAll r.safe
+      refuses e = refuses_all r.safe (ap (λ (x : State). x.mode) (rests e).safe ∙ closed)
+
+      moves : (ms : List Move) (standing : Standing) (plan : Option Plan) → (n ≡ name → RestsAs s end (fold moved (w.book, r) ms).1)
+          → Among (with_replica w.replicas (record (fold moved (w.book, r) ms).1 { standing = standing; plan = plan }))
+      moves ms standing plan rest = put_in (record (fold moved (w.book, r) ms).1 { standing = standing; plan = plan })
+          (λ e. other_standing s end (fold moved (w.book, r) ms).1 (rest (own_name (sym (all_moved_named ms (w.book, r)) ∙ e))) standing plan)
+
+      -- a call of another one
+      module _ (differ : n ≢ name) where
+        commits : (p : Pending) (o : Outcome) → IsShutOffAs s end (commit w r p o).0 name
+        commits p o = within (λ g. IsShutOffAs s end g.0 name) w (log_end_after r.safe_end p.change) (committed w r p o) i
+            (moves (moves_of_commit p (went r.plan 4)) (standing_after Failed (went r.plan 4)) (plan_after (went r.plan 4)) (λ e. absurd (differ e)))
+
+        abbrev put_back_by : Pending
+        put_back_by = record { call = ToQuarantine; change = quarantine r.safe }
+
+        other_wrote : (what : Write) (t : Result Change WriteRefusal) → IsShutOffAs s end (after_write w r what t).0 name
+        other_wrote what (Err x) = i
+        other_wrote what (Ok c) = commits (record { call = ToWrite what w.time; change = c }) (outcomes.Usn c.usn)
+
+        other_collected : (lifetime : ℕ) (t : Result Change CollectRefusal) → IsShutOffAs s end (after_collect w r lifetime t).0 name
+        other_collected lifetime (Err x) = i
+        other_collected lifetime (Ok c) = commits (record { call = ToCollect w.time lifetime; change = c }) (outcomes.Removed (length c.removed))
+
+        other_took : (reply : Reply) (t : Result Change TakeRefusal) → IsShutOffAs s end (after_take w r reply t).0 name
+        other_took reply (Ok c) = commits (record { call = ToTake reply; change = c }) (outcomes.Took (length reply.items) (length c.writes) c.usn)
+        other_took reply (Err (takes.RolledBack inv mine shown)) = commits put_back_by (take_refused (takes.RolledBack inv mine shown))
+        other_took reply (Err x) = i
+
+        other_served : (t : Result Reply ServeRefusal) → IsShutOffAs s end (after_serve w r t).0 name
+        other_served (Ok reply) = i
+        other_served (Err (serves.RolledBack inv mine shown)) = commits put_back_by (serve_refused (serves.RolledBack inv mine shown))
+        other_served (Err x) = i
+
+      -- a call of either
+      wrote : (what : Write) → Holds n (after_write w r what (write r.safe what w.time))
+      wrote what = name_case (Holds n (after_write w r what (write r.safe what w.time))) n name
+          (λ e. subst (λ t. Holds n (after_write w r what t)) (sym ((refuses e).no_write what w.time)) (i, λ f. refl))
+          (λ differ. (other_wrote differ what (write r.safe what w.time), λ e. absurd (differ e)))
+
+      collected : (lifetime : ℕ) → Holds n (after_collect w r lifetime (collect r.safe w.time lifetime))
+      collected lifetime = name_case (Holds n (after_collect w r lifetime (collect r.safe w.time lifetime))) n name
+          (λ e. subst (λ t. Holds n (after_collect w r lifetime t)) (sym ((refuses e).no_collection w.time lifetime)) (i, λ f. refl))
+          (λ differ. (other_collected differ lifetime (collect r.safe w.time lifetime), λ e. absurd (differ e)))
+
+      took : (reply : Reply) → Holds n (after_take w r reply (take r.safe reply))
+      took reply = name_case (Holds n (after_take w r reply (take r.safe reply))) n name
+          (λ e. subst (λ t. Holds n (after_take w r reply t)) (sym ((refuses e).no_take reply)) (i, λ f. refl))
+          (λ differ. (other_took differ reply (take r.safe reply), λ e. absurd (differ e)))
+
+      sent : (q : Request) → HoldsSent n (after_serve w r (serve r.safe q))
+      sent q = name_case (HoldsSent n (after_serve w r (serve r.safe q))) n name
+          (λ e. subst (λ t. HoldsSent n (after_serve w r t)) (sym ((refuses e).no_serve q)) (i, λ f. refl))
+          (λ differ. (other_served differ (serve r.safe q), λ e. absurd (differ e)))
+
+      took_one : (o : Option Reply) → Holds n (delivered w r o)
+      took_one None = (i, λ e. refl)
+      took_one (Some reply) = took reply
+
+      sent_one : (o : Option Request) → HoldsSent n (served w r o)
+      sent_one None = (i, λ e. refl)
+      sent_one (Some q) = sent q
+
+      planned : (plan : Plan) → Holds n (with_plan w r plan)
+      planned plan = (put_in (record r { plan = Some plan }) (λ e. other_standing s end r (rests (own_name e)) r.standing (Some plan)), λ e. refl)
+
+      stopped : Holds n (stops w r)
+      stopped = (moves (Settle ∷ []) Down None (λ e. settled_rests s end w.book r (rests e)), λ e. refl)
+
+      begun_again : Holds n (started w r)
+      begun_again = (
+        moves (moves_of_start (went r.plan 1)) (standing_after r.standing (went r.plan 1)) (plan_after (went r.plan 1))
+            (λ e. start_rests s end w.book r (rests e) (went r.plan 1)),
+        λ e. start_not_done (went r.plan 1),
+      )
+
+      started_or_up : (standing : Standing) → Holds n (starts w r standing)
+      started_or_up Up = (i, λ e. refl)
+      started_or_up Down = begun_again
+      started_or_up Failed = begun_again
+
+    module _ (n : Name) where
+      plain : {A : Type 0} (Q : A → Type 0) (other : Outcome → A) → ((o : Outcome) → is_done o ≡ false → Q (other o)) → (act : Replica → A)
+          → ((r : Replica) → replica_at w n ≡ Some r → Q (act r)) → Q (of_controller w n other act)
+      plain Q other others act acts = reached Q w n other (others outcomes.Absent refl) (others outcomes.Down refl) (others outcomes.Failed refl) act acts
+
+      stay : (o : Outcome) → is_done o ≡ false → Holds n (stays w o)
+      stay o is = (i, λ e. is)
+
+      none_sent : (A : Type 0) (o : Outcome) → is_done o ≡ false → HoldsSent {A = A} n (nothing w o)
+      none_sent A o is = (i, λ e. is)
+
+      pub writes_hold : (what : Write) → Holds n (writes w n what)
+      writes_hold what = plain (Holds n) (stays w) stay (λ r. after_write w r what (write r.safe what w.time)) (λ r found. wrote n r found what)
+
+      pub collects_hold : (lifetime : ℕ) → Holds n (of_controller w n (stays w) (λ r. after_collect w r lifetime (collect r.safe w.time lifetime)))
+      collects_hold lifetime = plain (Holds n) (stays w) stay (λ r. after_collect w r lifetime (collect r.safe w.time lifetime)) (λ r found. collected n r found lifetime)
+
+      pub delivers_hold : (o : Option Reply) → Holds n (delivers w n o)
+      delivers_hold o = plain (Holds n) (stays w) stay (λ r. delivered w r o) (λ r found. took_one n r found o)
+
+      pub serves_hold : (o : Option Request) → HoldsSent n (serves_request w n o)
+      serves_hold o = plain (HoldsSent n) (nothing w) (none_sent Reply) (λ r. served w r o) (λ r found. sent_one n r found o)
+
+      pub asks_hold : (partner : Name) (max : ℕ) → HoldsSent n (asks w n partner max)
+      asks_hold partner max = made (HoldsSent n) w n (nothing w) (i, λ e. refl) _ (λ r found. made (HoldsSent n) w partner (nothing w) (i, λ e. refl) _
+          (λ p at. up_or_not (HoldsSent n) w n (nothing w) (i, λ e. refl) (i, λ e. refl) (i, λ e. refl) r.standing (w, outcomes.Ok, Some (ask r.safe p.safe.dsa max)) (i, λ e. refl)))
+
+      pub backs_up_hold : HoldsSent n (of_controller w n (nothing w) (λ r. backed_up w (backup r.safe)))
+      backs_up_hold = plain (HoldsSent n) (nothing w) (none_sent Store) (λ r. backed_up w (backup r.safe)) (λ r found. by (backup r.safe))
+        where
+          by : (o : Option Store) → HoldsSent n (backed_up w o)
+          by None = (i, λ e. refl)
+          by (Some image) = (i, λ e. refl)
+
+      abbrev pub copied : Sent Snapshot
+      copied = of_made (nothing w) (replica_at w n) (λ r. (w, outcomes.Ok, Some (record { state = r.read; log_end = r.read_end })))
+
+      pub copies_hold : HoldsSent n copied
+      copies_hold = made (HoldsSent n) w n (nothing w) (i, λ e. refl) (λ r. (w, outcomes.Ok, Some (record { state = r.read; log_end = r.read_end }))) (λ r found. (i, λ e. refl))
+
+      pub plans_hold : (plan : Plan) → Holds n (of_made (stays w) (replica_at w n) (λ r. with_plan w r plan))
+      plans_hold plan = made (Holds n) w n (stays w) (i, λ e. refl) (λ r. with_plan w r plan) (λ r found. planned n r found plan)
+
+      pub stops_hold : Holds n (of_made (stays w) (replica_at w n) (λ r. stops w r))
+      stops_hold = made (Holds n) w n (stays w) (i, λ e. refl) (λ r. stops w r) (λ r found. stopped n r found)
+
+      pub starts_hold : Holds n (of_made (stays w) (replica_at w n) (λ r. starts w r r.standing))
+      starts_hold = made (Holds n) w n (stays w) (i, λ e. refl) (λ r. starts w r r.standing) (λ r found. started_or_up n r found r.standing)
+
+      pub reports_hold : (what : Replica → Outcome) → ((r : Replica) → is_done (what r) ≡ false) → Holds n (of_controller w n (stays w) (λ r. (w, what r)))
+      reports_hold what is = plain (Holds n) (stays w) stay (λ r. (w, what r)) (λ r found. (i, λ e. is r))
+
+      -- ---- new disks
+
+      begins_hold : (placed : Replica → List Replica) (t : State) → Among (placed (on_new_disk n t)) → Holds n (begins w placed n t)
+      begins_hold placed t among = within (Holds n) w (new_log_end t) (record w { book = begun w.book t; replicas = placed (on_new_disk n t) }, outcomes.Ok) (i, λ e. refl) (among, λ e. refl)
+
+      adopts_hold : (placed : Replica → List Replica) → ((t : State) → Among (placed (on_new_disk n t))) → (o : Option Store) (dsa inv : Store → Identifier)
+          → Holds n (of_image w o (λ image. adopts w placed n (adopt image (dsa image) (inv image))))
+      adopts_hold placed among None dsa inv = (i, λ e. refl)
+      adopts_hold placed among (Some image) dsa inv = by (adopt image (dsa image) (inv image))
+        where
+          by : (t : Result State AdoptRefusal) → Holds n (adopts w placed n t)
+          by (Err x) = (i, λ e. adoption_not_done x)
+          by (Ok t) = begins_hold placed t (among t)
+
+      pub installs_hold : (o : Option Store) (dsa inv : Identifier) → Holds n (of_image w o (λ image. adopts w (λ r. w.replicas ++ r ∷ []) n (adopt image dsa inv)))
+      installs_hold o dsa inv = adopts_hold (λ r. w.replicas ++ r ∷ []) (λ t. comes (on_new_disk n t)) o (λ image. dsa) (λ image. inv)
+
+      module _ (differ : n ≢ name) where
+        pub restores_hold : (o : Option Store) (inv : Identifier)
+            → Holds n (of_made (stays w) (replica_at w n) (λ r. of_image w o (λ image. adopts w (with_replica w.replicas) n (adopt image r.safe.dsa inv))))
+        restores_hold o inv = made (Holds n) w n (stays w) (i, λ e. refl) (λ r. of_image w o (λ image. adopts w (with_replica w.replicas) n (adopt image r.safe.dsa inv)))
+            (λ r found. adopts_hold (with_replica w.replicas) (λ t. put_in (on_new_disk n t) (λ e. absurd (differ e))) o (λ image. r.safe.dsa) (λ image. inv))
+
+        pub rollbacks_hold : (o : Option Snapshot) → Holds n (of_made (stays w) (replica_at w n) (λ r. put_back w n o))
+        rollbacks_hold o = made (Holds n) w n (stays w) (i, λ e. refl) (λ r. put_back w n o) (λ r found. by o)
+          where
+            by : (p : Option Snapshot) → Holds n (put_back w n p)
+            by None = (i, λ e. refl)
+            by (Some t) = (put_in (on_disk n t.state t.log_end) (λ e. absurd (differ e)), λ e. refl)
