@@ -259,7 +259,8 @@ module _ (name : Name) (s : State) (end : ℕ) (closed : s.mode ≡ Quarantined)
       -- ---- new disks
 
       begins_hold : (placed : Replica → List Replica) (t : State) → Among (placed (on_new_disk n t)) → Holds n (begins w placed n t)
-      begins_hold placed t among = within (Holds n) w (new_log_end t) (record w { book = begun w.book t; replicas = placed (on_new_disk n t) }, outcomes.Ok) (i, λ e. refl) (among, λ e. refl)
+      begins_hold placed t among =
+          within (Holds n) w (new_log_end t) (record w { book = begun w.book t; replicas = placed (on_new_disk n t) }, outcomes.Ok) (i, λ e. refl) (among, λ e. refl)
 
       adopts_hold : (placed : Replica → List Replica) → ((t : State) → Among (placed (on_new_disk n t))) → (o : Option Store) (dsa inv : Store → Identifier)
           → Holds n (of_image w o (λ image. adopts w placed n (adopt image (dsa image) (inv image))))

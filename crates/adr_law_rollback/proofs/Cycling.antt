@@ -37,8 +37,11 @@ module _ (name : Name) (s : State) (end : ℕ) (closed : s.mode ≡ Quarantined)
     served w i None = (i, silent name)
     served w i (Some q) =
         let t = serves_hold name s end closed w i source (Some q) in
-        let v = delivered (serves_request w source (Some q)).0 t.0 (serves_request w source (Some q)).2 in
-        (v.0, one_more name (codes "serve") source (serves_request w source (Some q)).1 (pull_served dest (serves_request w source (Some q)).0 (serves_request w source (Some q)).2).1 t.1 v.1)
+        let v = delivered (serves_request w source (Some q)).0 t.0 (serves_request w source (Some q)).2 in (
+          v.0,
+          one_more name (codes "serve") source (serves_request w source (Some q)).1
+              (pull_served dest (serves_request w source (Some q)).0 (serves_request w source (Some q)).2).1 t.1 v.1,
+        )
 
     pub pull_still : (w : World) → IsShutOffAs s end w name → Still (pull w dest source max).0 (pull w dest source max).1
     pull_still w i =

@@ -49,7 +49,8 @@ replaced (x ∷ xs) new r name is h = by (bytes_eq x.name name) refl h (λ f. re
         ≡ cond (bytes_eq (cond b new x).name name) (Some (cond b new x)) rest
     here b e = ap (λ c. cond (bytes_eq (cond c new x).name name) (Some (cond c new x)) rest) e
 
-    by : (b : Bool) → bytes_eq x.name name ≡ b → cond b (Some x) (find (λ (y : Replica). bytes_eq y.name name) xs) ≡ Some r → (FoundAmong xs name r → FoundAmong (with_replica xs new) name new)
+    by : (b : Bool) → bytes_eq x.name name ≡ b → cond b (Some x) (find (λ (y : Replica). bytes_eq y.name name) xs) ≡ Some r
+        → (FoundAmong xs name r → FoundAmong (with_replica xs new) name new)
         → FoundAmong (with_replica (x ∷ xs) new) name new
     by true e f next = here true (ap (bytes_eq x.name) is ∙ e) ∙ ap (λ b. cond b (Some new) rest) (named_tests new.name name is)
     by false e f next = here false (ap (bytes_eq x.name) is ∙ e) ∙ (ap (λ b. cond b (Some x) rest) e ∙ next f)

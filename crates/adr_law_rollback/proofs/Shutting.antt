@@ -44,10 +44,12 @@ module _ (w : World) (name : Name) (r : Replica) (ready : IsReady w name r) wher
   quarantines_it o = ap (λ (b : Bool). if b then (w, full Log log_limit) else committed w r pending o) (le-ltb log_limit end ready.room) ∙ committed_is o
 
   pub shut_off : IsShutOffNow behind name r
-  shut_off = (next, replaced w.replicas next r name (found_named w.replicas name r ready.found) ready.found, record { safe = refl; safe_end = refl; read = refl; read_end = refl; kept = refl })
+  shut_off =
+      (next, replaced w.replicas next r name (found_named w.replicas name r ready.found) ready.found, record { safe = refl; safe_end = refl; read = refl; read_end = refl; kept = refl })
 
 pub serving_shuts_off : ServingShutsOff
-serving_shuts_off w name r q ready is more = (ap (λ (t : Sent Reply). t.1) all, subst (λ (t : Sent Reply). IsShutOffNow t.0 name r) (sym all) (shut_off w name r ready))
+serving_shuts_off w name r q ready is more =
+    (ap (λ (t : Sent Reply). t.1) all, subst (λ (t : Sent Reply). IsShutOffNow t.0 name r) (sym all) (shut_off w name r ready))
   where
     all : serves_request w name (Some q) ≡ (behind w name r ready, serve_refused (serves.RolledBack r.safe.inv r.safe.store.usn (shown_by r.safe q)), None)
     all =
@@ -57,7 +59,8 @@ serving_shuts_off w name r q ready is more = (ap (λ (t : Sent Reply). t.1) all,
         ∙ ap not_sent (quarantines_it w name r ready (serve_refused (serves.RolledBack r.safe.inv r.safe.store.usn (shown_by r.safe q))))))
 
 pub taking_shuts_off : TakingShutsOff
-taking_shuts_off w name r p theirs ready is more = (ap (λ (g : Gone). g.1) all, subst (λ (g : Gone). IsShutOffNow g.0 name r) (sym all) (shut_off w name r ready))
+taking_shuts_off w name r p theirs ready is more =
+    (ap (λ (g : Gone). g.1) all, subst (λ (g : Gone). IsShutOffNow g.0 name r) (sym all) (shut_off w name r ready))
   where
     all : delivers w name (Some p) ≡ (behind w name r ready, take_refused (takes.RolledBack r.safe.inv r.safe.store.usn (at theirs r.safe.inv)))
     all =

@@ -35,12 +35,14 @@ FoundByServing = (s : State) (q : Request) → IsWellAsked s q → ShowsMore s q
 
 -- so is a formed controller's own request, where its vector covers more of this incarnation than there is
 abbrev pub FoundByWhoCoversMore : Type 0
-FoundByWhoCoversMore = (s t : State) (max : ℕ) → s.mode ≡ Normal → IsFormed t → s.store.usn < at t.store.vector s.inv → IsFoundByServing s (ask t s.dsa max)
+FoundByWhoCoversMore =
+    (s t : State) (max : ℕ) → s.mode ≡ Normal → IsFormed t → s.store.usn < at t.store.vector s.inv → IsFoundByServing s (ask t s.dsa max)
 
 -- or where the mark that it keeps of this incarnation was made when there was more
 abbrev pub FoundByWhoReadMore : Type 0
 FoundByWhoReadMore =
-    (s t : State) (max : ℕ) → s.mode ≡ Normal → IsFormed t → s.store.usn < (mark_of (kept_of t.store s.dsa) s.inv).seen → IsFoundByServing s (ask t s.dsa max)
+    (s t : State) (max : ℕ) → s.mode ≡ Normal → IsFormed t → s.store.usn < (mark_of (kept_of t.store s.dsa) s.inv).seen
+    → IsFoundByServing s (ask t s.dsa max)
 
 -- a last reply that passes what a controller in use tests of it before
 pub record IsWellSent (s : State) (r : Reply) (theirs : Cursors) : Type 0 where

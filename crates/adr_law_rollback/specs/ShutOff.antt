@@ -71,5 +71,6 @@ QuarantineHolds =
 -- and so throughout such lines, however many come
 abbrev pub QuarantineHoldsUntilARestore : Type 0
 QuarantineHoldsUntilARestore =
-    (w : World) (name : Name) (s : State) (end : ℕ) (es : List Event) → s.mode ≡ Quarantined → IsShutOffAs s end w name → Each (Spares name) es
+    (w : World) (name : Name) (s : State) (end : ℕ) (es : List Event) → s.mode ≡ Quarantined → IsShutOffAs s end w name
+    → Each (Spares name) es
     → IsShutOffAs s end (after_lines w es) name × DoesNothing name (answers w es)
