@@ -43,8 +43,7 @@ pub adopted_is_logged : (image : Store) (dsa inv : Identifier) (s : State) → I
     → IsLogged s × (s.mode ≡ Normal)
 adopted_is_logged image dsa inv s formed spelled right_dsa right_inv e =
     let is : woken image dsa inv ≡ s = adopted_is_woken image dsa inv s e in
-    let q : IsSpelled s.store = subst (λ (t : State). IsSpelled t.store) is (woken_is_spelled image dsa inv spelled right_inv) in
-    (
+    let q : IsSpelled s.store = subst (λ (t : State). IsSpelled t.store) is (woken_is_spelled image dsa inv spelled right_inv) in (
       record {
         dsa = subst (λ (t : State). IsId t.dsa) is right_dsa;
         inv = subst (λ (t : State). IsId t.inv) is right_inv;
