@@ -1,7 +1,6 @@
 -- What calls of a controller come to, as the definitions say.
-use Rattle.std.proofs.Common.{◌≡◌, ◌⊎◌, inl, inr, ◌∙◌, refl, sym, ap, subst, ℕ, List, Bool, true, false, Option, Some, None, Result, Ok, Err, length, is_some}
+use Rattle.std.proofs.Common.{◌≡◌, ◌∙◌, refl, sym, ap, ℕ, Bool, Option, Some, None, Result, Ok, Err, length, is_some}
 use Rattle.std.specs.Option.{option_map}
-use Rattle.std.specs.Bool.{then_some}
 use Rattle.adr_event.specs.declared.event.Event.{Event}
 use Rattle.adr_event.specs.declared.answer.Outcome.{Outcome}
 use Rattle.adr_event.specs.declared.answer.Outcome.TheVariants as outcomes
@@ -13,19 +12,19 @@ use Rattle.adr_event.specs.declared.refusal.TakeRefusal.{TakeRefusal}
 use Rattle.adr_event.specs.declared.refusal.TakeRefusal.TheVariants as takes
 use Rattle.adr_model.specs.Store.{State}
 use Rattle.adr_model.specs.Change.{Change}
-use Rattle.adr_model.specs.Collect.{collect, quarantine}
+use Rattle.adr_model.specs.Collect.{collect}
 use Rattle.adr_model.specs.Refused.{write_refused, serve_refused, take_refused, collect_refused}
-use Rattle.adr_model.specs.Replica.{Replica, Pending, Call, ToCollect, ToWrite, Up, change_in}
+use Rattle.adr_model.specs.Replica.{Replica, Pending, Call, ToCollect, ToWrite, change_in}
 use Rattle.adr_model.specs.Serve.{Request, Reply, serve}
 use Rattle.adr_model.specs.Step.{ClientWrite, write_of}
 use Rattle.adr_model.specs.Take.{take}
 use Rattle.adr_model.specs.World.{World, Gone, Sent, after_write, after_serve, after_take, after_collect, commit, stays, nothing, not_sent, rows_in, where_up}
 use Rattle.adr_model.specs.Write.{Write, write}
-use Rattle.adr_controller.specs.Able.{written_in, served_in, taken_in, collected_in, quarantine_in, change_of_write, change_of_served, change_of_taken}
+use Rattle.adr_controller.specs.Able.{written_in, served_in, taken_in, collected_in, change_of_write, change_of_served, change_of_taken}
 use Rattle.adr_controller.specs.declared.refusal.Hindrance.{Hindrance}
 use Rattle.adr_replica.specs.Past.{Past}
-use Rattle.adr_replica.specs.Pending.{with_call, quarantining, written_by, writing, served_by, serving, taken_by, taking, collecting}
-use Rattle.adr_replica.specs.Led.{StandsIn, world_with, IsDone, IsUndone}
+use Rattle.adr_replica.specs.Pending.{with_call, written_by, writing, served_by, serving, taken_by, taking, collecting}
+use Rattle.adr_replica.specs.Led.{StandsIn, world_with}
 use Rattle.adr_replica.proofs.Came.{Came, same_world, some_same, by_option}
 
 -- ---- what is pending is a call with the change that the controller makes

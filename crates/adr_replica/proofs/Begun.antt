@@ -1,14 +1,13 @@
 -- What a start comes to, by how it ended.
 use Rattle.std.proofs.Common.{◌≡◌, ◌≢◌, ◌⊎◌, inl, inr, ◌∙◌, refl, sym, ap, subst, ℕ, List, Bool, true, false, Option, Some, None, Result, Ok, Err}
 use Rattle.std.specs.Prelude.{IfOk, IfSome, IfErr, OnOk, OnErr, MatchOption, is_some}
-use Rattle.adr_io.specs.declared.Fault.TheVariants.{Failed as failed_call}
 use Rattle.adr_event.specs.declared.answer.Outcome.TheVariants as outcomes
 use Rattle.adr_model.specs.Update.{Identifier}
 use Rattle.adr_model.specs.Store.{State}
-use Rattle.adr_model.specs.Replica.{Replica, Pending, Plan, Book, Went, Passed, Met, Stops, Fails, went, moves_of_start, standing_after, Standing, Up, Down, Failed}
+use Rattle.adr_model.specs.Replica.{Replica, Pending, Plan, Book, Went, Passed, Met, Stops, Fails, went, moves_of_start, standing_after, Standing, Up, Failed}
 use Rattle.adr_model.specs.World.{World, starts}
 use Rattle.adr_law_journal.specs.Log.{Started}
-use Rattle.adr_law_journal.specs.Replicas.{Has, started, standing_of}
+use Rattle.adr_law_journal.specs.Replicas.{Has, started}
 use Rattle.adr_journal.specs.Ended.{ended_start, IsDamageOf}
 use Rattle.adr_journal.specs.Planned.{Same, StartsAs}
 use Rattle.adr_journal.specs.declared.keeper.Keeper.{Ghosts}

@@ -12,15 +12,14 @@ use Rattle.adr_model.specs.Store.{State}
 use Rattle.adr_model.specs.Change.{Change}
 use Rattle.adr_model.specs.Collect.{collect}
 use Rattle.adr_model.specs.Refused.{write_refused, serve_refused, take_refused, collect_refused}
-use Rattle.adr_model.specs.Replica.{Replica, Pending, ToCollect, ToWrite, change_in}
+use Rattle.adr_model.specs.Replica.{Replica, ToCollect, ToWrite, change_in}
 use Rattle.adr_model.specs.Serve.{Request, Reply, serve}
 use Rattle.adr_model.specs.Step.{ClientWrite, write_of}
 use Rattle.adr_model.specs.Take.{take}
 use Rattle.adr_model.specs.World.{World, Gone, Sent, after_write, after_serve, after_take, after_collect, stays, nothing, rows_in, where_up}
-use Rattle.adr_model.specs.Write.{Write, write}
+use Rattle.adr_model.specs.Write.{write}
 use Rattle.adr_controller.specs.declared.messages.Taken.{Taken}
 use Rattle.adr_controller.specs.declared.refusal.Hindrance.{Hindrance}
-use Rattle.adr_controller.specs.declared.refusal.Hindrance.TheVariants.{Full, NoMemory}
 use Rattle.adr_replica.specs.Past.{Past}
 use Rattle.adr_replica.specs.Pending.{with_call, written_by, writing, serving, taking, collecting}
 use Rattle.adr_replica.specs.Settled.{hindered_so, unsent}

@@ -1,5 +1,5 @@
 -- What a call of a controller leaves that commits at most one change, and what it is answered.
-use Rattle.std.proofs.Common.{◌≡◌, ◌⊎◌, inl, inr, ⊎_elim, ◌∙◌, refl, sym, ap, subst, ℕ, ◌≤◌, ◌<◌, List, Bool, true, false, Option, Some, None, Result, Ok, nat_lt, fold, if◌then◌else◌, arith}
+use Rattle.std.proofs.Common.{◌≡◌, ◌⊎◌, inl, inr, ⊎_elim, ◌∙◌, refl, sym, ap, subst, ℕ, ◌≤◌, ◌<◌, List, Bool, true, false, Option, Some, None, Ok, nat_lt, fold, if◌then◌else◌, arith}
 use Rattle.std.specs.Option.{option_map}
 use Rattle.std.proofs.lemmas.Bool.Decides.{nat_tests}
 use Rattle.adr_io.specs.declared.Fault.TheVariants.{Failed as failed_call}
@@ -8,21 +8,21 @@ use Rattle.adr_event.specs.declared.answer.Outcome.TheVariants as outcomes
 use Rattle.adr_event.specs.declared.refusal.Table.TheVariants.{Log}
 use Rattle.adr_model.specs.Update.{Identifier}
 use Rattle.adr_model.specs.Store.{State}
-use Rattle.adr_model.specs.Change.{Change, after}
+use Rattle.adr_model.specs.Change.{Change}
 use Rattle.adr_model.specs.Lengths.{log_limit, log_end_after}
 use Rattle.adr_model.specs.Refused.{full}
-use Rattle.adr_model.specs.Replica.{Replica, Pending, Plan, Book, Move, moved, went, moves_of_commit, standing_after, plan_after, outcome_after, Standing, Up, Down as stands_down, Failed as stands_failed}
+use Rattle.adr_model.specs.Replica.{Replica, Pending, Plan, Book, moved, went, moves_of_commit, outcome_after, Up, Down as stands_down, Failed as stands_failed}
 use Rattle.adr_model.specs.World.{World, Gone, Sent, commit, stays, nothing, not_sent, where_up, with_replica}
 use Rattle.adr_model.specs.World.{committed as committed_in}
 use Rattle.adr_law_journal.specs.Log.{Found, found, Started}
 use Rattle.adr_law_journal.specs.Replicas.{Has, read_found, safe_found, committed, standing_of}
 use Rattle.adr_journal.specs.declared.keeper.Keeper.{Ghosts}
-use Rattle.adr_controller.specs.Running.{Running, IsUp, IsInOrder}
+use Rattle.adr_controller.specs.Running.{Running, IsInOrder}
 use Rattle.adr_controller.specs.Able.{AllFollow}
 use Rattle.adr_controller.specs.Did.{Calls, Commits, GoesAs, Ran}
 use Rattle.adr_controller.specs.declared.refusal.Hindrance.{Hindrance}
 use Rattle.adr_controller.specs.declared.refusal.Hindrance.TheVariants.{Down, Failed, Full, DiskFault, NoMemory}
-use Rattle.adr_replica.specs.Past.{Past, Ahead, after_commit, after_moves}
+use Rattle.adr_replica.specs.Past.{Past, Ahead, after_commit}
 use Rattle.adr_replica.specs.Held.{found_or_none, standing_by, seen, IsHeld}
 use Rattle.adr_replica.specs.Settled.{come, downed, left_by, of_fault, hindered_so}
 use Rattle.adr_replica.specs.Led.{StandsIn, world_with, IsUndone}

@@ -1,5 +1,5 @@
 -- What a controller commits can be recorded.
-use Rattle.std.proofs.Common.{◌≡◌, ◌∙◌, refl, sym, ap, subst, ℕ, ◌<◌, ◌≤◌, ◌^◌, List, ◌∷◌, Bool, true, false, Option, Some, None, Result, Ok, Err, arith}
+use Rattle.std.proofs.Common.{◌≡◌, ◌∙◌, refl, ap, subst, ℕ, ◌<◌, ◌≤◌, ◌^◌, List, ◌∷◌, Bool, true, false, Option, Some, None, Result, Ok, Err, arith}
 use Rattle.std.specs.Prelude.{IsSomeAnd}
 use Rattle.std.specs.Bool.{then_some}
 use Rattle.adr_failure.specs.First.{first_of}

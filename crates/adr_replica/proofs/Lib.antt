@@ -9,3 +9,5 @@ mod Started
 mod Begun
 mod Ups
 mod Follows
+mod Adopted
+mod PutBack

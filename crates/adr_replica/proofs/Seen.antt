@@ -1,5 +1,5 @@
 -- What is seen of a controller, by what its keeper has.
-use Rattle.std.proofs.Common.{◌≡◌, ◌∙◌, refl, sym, ap, subst, ℕ, List, Bool, false, Option, Some, None}
+use Rattle.std.proofs.Common.{◌≡◌, ◌∙◌, sym, ap, subst, ℕ, List, Bool, false, Option, Some, None}
 use Rattle.adr_wire.specs.Ranges.{IsId}
 use Rattle.adr_model.specs.Update.{Identifier}
 use Rattle.adr_model.specs.Store.{State}

@@ -1,5 +1,5 @@
 -- What a stop and a start leave of a controller.
-use Rattle.std.proofs.Common.{◌≡◌, ◌∙◌, refl, sym, ap, subst, ℕ, List, [], ◌∷◌, Bool, true, false, Option, Some, None, Result, Ok, Err, IfSome, fold}
+use Rattle.std.proofs.Common.{◌≡◌, ◌∙◌, refl, sym, ap, subst, ℕ, List, [], ◌∷◌, Bool, true, false, Option, Some, None, fold}
 use Rattle.adr_io.specs.declared.Fault.TheVariants.{Failed as failed_call}
 use Rattle.adr_event.specs.declared.answer.Outcome.{Outcome}
 use Rattle.adr_event.specs.declared.answer.Outcome.TheVariants as outcomes
@@ -7,16 +7,16 @@ use Rattle.adr_model.specs.Update.{Identifier}
 use Rattle.adr_model.specs.Store.{State}
 use Rattle.adr_model.specs.Replica.{Replica, Pending, Plan, Book, Move, Settle, moved, went, moves_of_start, standing_after, plan_after, outcome_after, Standing, Up, Down, Failed}
 use Rattle.adr_model.specs.World.{World, Gone, after_moves, starts, stops, with_replica}
-use Rattle.adr_law_journal.specs.Log.{Found, found, Started}
-use Rattle.adr_law_journal.specs.Replicas.{Has, read_found, safe_found, started, standing_of}
+use Rattle.adr_law_journal.specs.Log.{Started}
+use Rattle.adr_law_journal.specs.Replicas.{Has, started, standing_of}
 use Rattle.adr_controller.specs.Running.{Running}
 use Rattle.adr_replica.specs.Past.{Past, Ahead}
 use Rattle.adr_replica.specs.Past.{after_moves as ahead_of}
-use Rattle.adr_replica.specs.Held.{found_or_none, standing_by, seen, IsHeld}
+use Rattle.adr_replica.specs.Held.{standing_by, seen, IsHeld}
 use Rattle.adr_replica.specs.Settled.{downed, of_fault}
-use Rattle.adr_replica.specs.Led.{StandsIn, world_with, IsDone, IsUndone, Leads, synced}
+use Rattle.adr_replica.specs.Led.{StandsIn, world_with, IsDone, Leads, synced}
 use Rattle.adr_replica.proofs.Seen.{seen_so, held_so}
-use Rattle.adr_replica.proofs.Came.{downed_keeper, downed_state, downed_down, same_world}
+use Rattle.adr_replica.proofs.Came.{downed_keeper, downed_state}
 use Rattle.adr_replica.proofs.Went.{up_answers, fault_answers, none_kept_started, same_name, same_dsa}
 
 -- moves in a world

@@ -3,7 +3,7 @@ use Rattle.std.proofs.Common.{◌≡◌, ◌∙◌, refl, sym, ap, subst, ℕ, L
 use Rattle.adr_wire.specs.Ranges.{IsId}
 use Rattle.adr_event.specs.declared.answer.Outcome.TheVariants as outcomes
 use Rattle.adr_model.specs.Update.{Identifier}
-use Rattle.adr_model.specs.Store.{State, empty_state}
+use Rattle.adr_model.specs.Store.{State}
 use Rattle.adr_model.specs.Lengths.{new_log_end}
 use Rattle.adr_model.specs.Replica.{Replica, Pending, Plan, Up, on_new_disk}
 use Rattle.adr_model.specs.Serve.{Request, ask}
@@ -29,21 +29,20 @@ module _ {K : Type 0} (k : Ghosts K) (read safe torn : K → Started State) (pla
       )
 
   -- a new one
-  module _ (id : IsId dsa) (inv : Identifier) (s : State) (of : s ≡ empty_state dsa inv) (there : c.state ≡ Some s) (down : c.down ≡ false) (at : k.is_at c.keeper (found s (new_log_end s)))
+  module _ (s : State) (id : IsId s.dsa) (given : dsa ≡ s.dsa) (there : c.state ≡ Some s) (down : c.down ≡ false) (at : k.is_at c.keeper (found s (new_log_end s)))
       (planned : plan c.keeper ≡ None) (runs : is_down c.keeper ≡ false) (none : kept ≡ None) where
-    new_has : Has read safe torn plan c.keeper (on_new_disk name (empty_state dsa inv))
+    new_has : Has read safe torn plan c.keeper (on_new_disk name s)
     new_has =
         let finds = keeps_it c.keeper (found s (new_log_end s)) at (order.up s there).0.running in
-        let same : found s (new_log_end s) ≡ found (empty_state dsa inv) (new_log_end (empty_state dsa inv)) = ap (λ (s : State). found s (new_log_end s)) of in
-        record { is_read = finds.0 ∙ ap Ok same; is_safe = finds.1 ∙ ap Ok same; is_torn = finds.2 ∙ ap Ok same; is_plan = planned }
+        record { is_read = finds.0; is_safe = finds.1; is_torn = finds.2; is_plan = planned }
 
-    new_is : seen read safe plan name c kept ≡ on_new_disk name (empty_state dsa inv)
-    new_is = seen_so read safe torn plan name c kept (on_new_disk name (empty_state dsa inv)) new_has refl (ap (λ b. standing_by b c.state) down ∙ ap (λ o. standing_by false o) there) none
+    new_is : seen read safe plan name c kept ≡ on_new_disk name s
+    new_is = seen_so read safe torn plan name c kept (on_new_disk name s) new_has refl (ap (λ b. standing_by b c.state) down ∙ ap (λ o. standing_by false o) there) none
 
     pub new_held : IsHeld read safe torn plan is_down name dsa c kept
-    new_held = held_so read safe torn plan is_down name dsa c kept (on_new_disk name (empty_state dsa inv)) new_is new_has (λ t up. (runs, none)) id refl refl
+    new_held = held_so read safe torn plan is_down name dsa c kept (on_new_disk name s) new_is new_has (λ t up. (runs, none)) (subst IsId (sym given) id) (sym given) (sym given)
 
-    pub new_seen : IsHeld read safe torn plan is_down name dsa c kept → seen read safe plan name c kept ≡ on_new_disk name (empty_state dsa inv)
+    pub new_seen : IsHeld read safe torn plan is_down name dsa c kept → seen read safe plan name c kept ≡ on_new_disk name s
     new_seen held = new_is
 
 -- what one that is up asks

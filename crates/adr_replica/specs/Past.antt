@@ -1,7 +1,6 @@
 -- What happened in a run so far, which only proofs see: its book, the identifiers that lines gave, and the calls that are kept.
-use Rattle.std.specs.Prelude.{List, [], ◌∷◌, ◌++◌, Option, None, Some, fold}
+use Rattle.std.specs.Prelude.{List, [], Option, None, Some, fold}
 use Rattle.adr_model.specs.Replica.{Pending, Replica, Book, Move, moved, went, moves_of_commit}
-use Rattle.adr_model.specs.Update.{Identifier}
 use Rattle.adr_model.specs.World.{Given}
 
 pub record Past : Type 0 where

@@ -5,17 +5,28 @@ ghost use Rattle.adr_model.specs.Collect.{collect};
 ghost use Rattle.adr_model.specs.World.{World as Defined, after_collect, stays, where_up};
 ghost use Rattle.adr_replica.specs.Led.{IsUndone, StandsIn, world_with};
 
-use crate::past::Past;
+use crate::hindered::{hindered, hindrance_in, settle};
+use crate::keepers::{is_in_order, keepers_go_as_planned};
+use crate::past::{Ahead, Past};
+use crate::refused::collect_refused;
 use crate::replica::Replica;
+use crate::told::Deed;
+use adr_controller::{CallRefusal, commits_go_as_planned};
+use adr_disk::MemDisk;
 use adr_event::Outcome;
+use adr_journal::Journal;
+use adr_law_recorded::{
+    collections_are_recorded, logged_states_fit, recorded_changes_leave_logged_states,
+};
+use adr_records::Records;
 use adr_schema::NoMemory;
-use std::alloc::{AllocError, Global};
+use std::alloc::Global;
 
 impl Replica {
     /// Collects its tombstones at a time and after a lifetime, both in seconds.
     pub fn collect(
         &mut self,
-        _alloc: Global,
+        alloc: Global,
         past: &mut Past,
         now: u64,
         lifetime: u64,
@@ -26,6 +37,28 @@ impl Replica {
         ensures name { self.new.name ≡ self.old.name }
         ensures given { past.new.given ≡ past.old.given }
     {
-        Err(AllocError)
+        let ahead = Ahead::of(
+            past,
+            &Deed::Collects {
+                replica: &*self,
+                now,
+                lifetime,
+            },
+        );
+        is_in_order(&self.controller);
+        keepers_go_as_planned::<Journal<MemDisk, Records>>();
+        commits_go_as_planned::<Journal<MemDisk, Records>>();
+        recorded_changes_leave_logged_states();
+        logged_states_fit();
+        collections_are_recorded();
+        let made = self.controller.collect(alloc, now, lifetime);
+        let how = hindrance_in(&made);
+        settle(&mut self.controller, &mut self.kept, past, ahead, how);
+        let down = self.controller.is_down();
+        match made {
+            Ok(removed) => Ok(Outcome::Removed(removed)),
+            Err(CallRefusal::Refused(refusal)) => collect_refused(alloc, refusal),
+            Err(CallRefusal::Hindered(hindrance)) => hindered(alloc, hindrance, down),
+        }
     }
 }

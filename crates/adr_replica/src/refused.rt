@@ -1,11 +1,12 @@
 //! Refusals as they are answered.
 
 ghost use Rattle.std.specs.Prelude.{◌≡◌, ◌++◌, ◌∷◌, [], IfOk, OnOk, codes};
-ghost use Rattle.adr_model.specs.Refused.{attr_field, fault_name, field, full, id_field, number_field, rolled_back, schema_name, schemas_differ, serve_refused, table_name, take_refused, write_refused};
+ghost use Rattle.adr_model.specs.Refused.{adopt_refused, attr_field, collect_refused, fault_name, field, full, id_field, number_field, quarantined, rolled_back, schema_name, schemas_differ, serve_refused, table_name, take_refused, write_refused};
 
 use crate::words::word;
 use adr_event::{
-    Field, Fields, ItemFault, Outcome, Plainly, ServeRefusal, Table, TakeRefusal, WriteRefusal,
+    AdoptRefusal, CollectRefusal, Field, Fields, ItemFault, Outcome, Plainly, ServeRefusal, Table,
+    TakeRefusal, WriteRefusal,
 };
 use adr_schema::{NoMemory, SchemaRefusal};
 use adr_vector::Mark;
@@ -308,5 +309,32 @@ pub fn take_refused(alloc: Global, refusal: TakeRefusal) -> Result<Outcome, NoMe
         }
         TakeRefusal::UsnLimit => plain(alloc, 21, "UsnLimit"),
         TakeRefusal::Full { table, limit } => full(alloc, table, limit),
+    }
+}
+
+/// What a quarantined controller answers.
+pub fn quarantined(alloc: Global) -> Result<Outcome, NoMemory>
+    ensures { IfOk result (λ outcome. outcome ≡ quarantined) }
+{
+    plain(alloc, 23, "Quarantined")
+}
+
+/// A refused collection as it is answered.
+pub fn collect_refused(alloc: Global, refusal: CollectRefusal) -> Result<Outcome, NoMemory>
+    ensures { IfOk result (λ outcome. outcome ≡ collect_refused refusal) }
+{
+    match refusal {
+        CollectRefusal::Quarantined => quarantined(alloc),
+        CollectRefusal::UsnLimit => plain(alloc, 21, "UsnLimit"),
+    }
+}
+
+/// A refused image as it is answered.
+pub fn adopt_refused(alloc: Global, refusal: AdoptRefusal) -> Result<Outcome, NoMemory>
+    ensures { IfOk result (λ outcome. outcome ≡ adopt_refused refusal) }
+{
+    match refusal {
+        AdoptRefusal::IdentifierUsed => plain(alloc, 50, "IdentifierUsed"),
+        AdoptRefusal::Full { table, limit } => full(alloc, table, limit),
     }
 }

@@ -16,7 +16,7 @@ ghost use Rattle.adr_model.specs.World.{World as Defined, after_serve, after_tak
 ghost use Rattle.adr_model.specs.Write.{IsWellGiven, write};
 ghost use Rattle.adr_records.specs.Body.{following};
 ghost use Rattle.adr_records.specs.Head.{head_at};
-ghost use Rattle.adr_records.specs.Logged.{IsLogged};
+ghost use Rattle.adr_records.specs.Logged.{IsLogged, MayBegin};
 ghost use Rattle.adr_replica.specs.Led.{IsDone, IsUndone, Leads, LeadsTo, StandsIn, synced, world_with};
 
 use crate::hindered::{hindered, hindrance_in, hindrance_of_start, settle};
@@ -51,10 +51,10 @@ const FIRST_SCHEMA: u32 = 1;
 /// is on its disk and isn't safe.
 #[derive(Drop)]
 pub struct Replica {
-    name: Text,
-    dsa: Uuid,
-    controller: Controller<Journal<MemDisk, Records>>,
-    kept: Kept,
+    pub(crate) name: Text,
+    pub(crate) dsa: Uuid,
+    pub(crate) controller: Controller<Journal<MemDisk, Records>>,
+    pub(crate) kept: Kept,
 }
 
 impl Model for Replica {
@@ -89,12 +89,18 @@ impl Replica {
         ensures { IfOk result (λ made. made ≡ on_new_disk name (empty_state dsa inv)) }
     {
         new_controllers_may_begin();
+        Replica::on_new_disk(alloc, name, new_state(alloc, dsa, inv))
+    }
+
+    /// A controller on a new disk that begins with a state.
+    pub(crate) fn on_new_disk(alloc: Global, name: Text, state: State) -> Result<Replica, NoMemory>
+        requires { MayBegin state }
+        ensures { IfOk result (λ made. made ≡ on_new_disk name state) }
+    {
+        let dsa = state.dsa();
 
         // A disk without a plan doesn't fail.
-        let Ok(controller) = Controller::format(
-            Journal::in_memory(alloc),
-            new_state(alloc, dsa, inv),
-        ) else {
+        let Ok(controller) = Controller::format(Journal::in_memory(alloc), state) else {
             return Err(AllocError);
         };
         is_in_order(&controller);

@@ -7,37 +7,55 @@ ghost use Rattle.adr_model.specs.Replica.{Up as stands_up};
 ghost use Rattle.adr_model.specs.World.{World as Defined, backed_up, nothing, where_up};
 ghost use Rattle.adr_replica.specs.Led.{Adopts, Unadopted};
 
+use crate::refused::{adopt_refused, full, quarantined};
 use crate::replica::Replica;
-use adr_event::Outcome;
-use adr_restore::Image;
+use adr_event::{Failure, Outcome, Table};
+use adr_law_recorded::fitting_states_may_begin;
+use adr_restore::{Image, new_log_end};
 use adr_schema::{NoMemory, Text};
+use adr_state::LOG_LIMIT;
 use std::alloc::{AllocError, Global};
 use uuid::Uuid;
 
 impl Replica {
     /// Its image; none where something hinders that, or it is quarantined.
-    pub fn backup(&self, _alloc: Global) -> Result<(Outcome, Option<Image>), NoMemory>
+    pub fn backup(&self, alloc: Global) -> Result<(Outcome, Option<Image>), NoMemory>
         ensures { IfOk result (λ sent. (w : Defined) → where_up (nothing w) self.now.standing (backed_up w (backup self.now.safe)) ≡ (w, sent.0, sent.1)) }
     {
-        Err(AllocError)
+        let state = match self.state() {
+            Ok(state) => state,
+            Err(outcome) => return Ok((outcome, None)),
+        };
+        match Image::of(alloc, state)? {
+            Some(image) => Ok((Outcome::Ok, Some(image))),
+            None => Ok((quarantined(alloc)?, None)),
+        }
     }
 
     /// A controller on a new disk that adopts an image under a fresh invocation identifier, or why it doesn't.
     pub fn adopted(
-        _alloc: Global,
-        _name: Text,
+        alloc: Global,
+        name: Text,
         image: &Image,
         dsa: Uuid,
         inv: Uuid,
     ) -> Result<Result<Replica, Outcome>, NoMemory>
         requires dsa { IsId dsa }
         requires inv { IsId inv }
-        ensures made { IfOk result (λ adopted. IfOk adopted (λ made. Adopts _name (adopt image.now dsa inv) made)) }
+        ensures made { IfOk result (λ adopted. IfOk adopted (λ made. Adopts name (adopt image.now dsa inv) made)) }
         ensures up { IfOk result (λ adopted. IfOk adopted (λ made.
-            (made.name ≡ _name) × (made.standing ≡ stands_up) × (made.safe.dsa ≡ dsa) × (made.safe.inv ≡ inv))) }
-        ensures other { IfOk result (λ adopted. IfErr adopted (λ outcome. Unadopted _name (adopt image.now dsa inv) outcome)) }
+            (made.name ≡ name) × (made.standing ≡ stands_up) × (made.safe.dsa ≡ dsa) × (made.safe.inv ≡ inv))) }
+        ensures other { IfOk result (λ adopted. IfErr adopted (λ outcome. Unadopted name (adopt image.now dsa inv) outcome)) }
     {
-        let _ = (image, dsa, inv);
-        Err(AllocError)
+        fitting_states_may_begin();
+        let state = match image.adopt(alloc, dsa, inv) {
+            Ok(state) => state,
+            Err(Failure::Refused(refusal)) => return Ok(Err(adopt_refused(alloc, refusal)?)),
+            Err(Failure::NoMemory) => return Err(AllocError),
+        };
+        if new_log_end(alloc, &state)?.is_none() {
+            return Ok(Err(full(alloc, Table::Log, LOG_LIMIT)?));
+        }
+        Ok(Ok(Replica::on_new_disk(alloc, name, state)?))
     }
 }

@@ -1,10 +1,17 @@
 //! Disks that are put aside, and put back.
 
-ghost use Rattle.std.specs.Prelude.{◌≡◌, IfOk};
+ghost use Rattle.std.specs.Prelude.{◌≡◌, Ok, IfOk};
+ghost use Rattle.adr_law_journal.specs.Log.{found};
 ghost use Rattle.adr_model.specs.Replica.{on_disk};
 ghost use Rattle.adr_replica.specs.Put.{found_on};
 
+use crate::keepers::keepers_go_as_planned;
+use crate::past::Kept;
 use crate::replica::Replica;
+use adr_controller::Controller;
+use adr_disk::MemDisk;
+use adr_journal::Journal;
+use adr_records::Records;
 use adr_schema::{NoMemory, Text};
 use std::alloc::{AllocError, Global};
 use std::marker::Model;
@@ -26,19 +33,45 @@ impl Model for Snapshot {
     ghost invariant = { λ s. IsWhole s.bytes.items };
 }
 
+impl Snapshot {
+    /// The bytes.
+    pub fn bytes(&self) -> &[u8]
+        ensures { found_on result.now ≡ Ok (found self.now.state self.now.log_end) }
+    {
+        self.bytes.as_slice()
+    }
+}
+
 impl Replica {
     /// The bytes of its disk, put aside.
     pub fn snapshot(&self) -> Result<Snapshot, NoMemory>
         ensures { IfOk result (λ s. s ≡ record { state = self.now.read; log_end = self.now.read_end }) }
     {
-        Err(AllocError)
+        Ok(Snapshot {
+            bytes: self.controller.bytes()?,
+        })
     }
 
     /// A controller on a disk with the bytes that were put aside, started.
-    pub fn put_back(_alloc: Global, name: Text, snapshot: &Snapshot) -> Result<Replica, NoMemory>
+    pub fn put_back(alloc: Global, name: Text, snapshot: &Snapshot) -> Result<Replica, NoMemory>
         ensures { IfOk result (λ made. made ≡ on_disk name snapshot.now.state snapshot.now.log_end) }
     {
-        let _ = snapshot;
-        Err(AllocError)
+        let journal = Journal::with_bytes(alloc, snapshot.bytes.to_vec(alloc)?)?;
+
+        // A disk without a plan doesn't fail, and nothing of it is damaged.
+        let Ok(controller) = Controller::resume(journal) else {
+            return Err(AllocError);
+        };
+        keepers_go_as_planned::<Journal<MemDisk, Records>>();
+        let Some(state) = controller.state() else {
+            unreachable!()
+        };
+        let dsa = state.dsa();
+        Ok(Replica {
+            name,
+            dsa,
+            controller,
+            kept: Kept::none(),
+        })
     }
 }

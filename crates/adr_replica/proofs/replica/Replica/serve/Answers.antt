@@ -1,4 +1,4 @@
-use Rattle.std.proofs.Common.{◌≡◌, ◌∙◌, inl, sym, ap, Some, None, Ok, Err}
+use Rattle.std.proofs.Common.{◌∙◌, inl, ap, Err}
 use Rattle.adr_controller.specs.Able.{served_in}
 use Rattle.adr_controller.specs.Ended.{call_hindrance}
 use Rattle.adr_replica.specs.Pending.{serving}

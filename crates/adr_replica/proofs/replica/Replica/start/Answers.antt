@@ -1,4 +1,4 @@
-use Rattle.std.proofs.Common.{◌≡◌, ◌∙◌, sym, ap, true, false, Ok, Err}
+use Rattle.std.proofs.Common.{◌∙◌, sym, ap, true, false, Err}
 use Rattle.adr_replica.proofs.Begun.{begins_so, faulty_as, no_ok, not_there, there_so, up_already}
 use Rattle.adr_replica.proofs.Results.{if_ok_at, no_err, on_err}
 use Rattle.adr_replica.proofs.replica.Replica.start.Goals.{in-Ok, in-Err-DiskFault, in-Err-DiskFault-2, in-Err-NoMemory}

@@ -1,4 +1,4 @@
-use Rattle.std.proofs.Common.{◌≡◌, ◌∙◌, sym, ap, Some, None, Ok, Err}
+use Rattle.std.proofs.Common.{◌∙◌, ap, Err}
 use Rattle.adr_controller.specs.Able.{written_in}
 use Rattle.adr_controller.specs.Ended.{call_hindrance}
 use Rattle.adr_replica.specs.Pending.{writing}

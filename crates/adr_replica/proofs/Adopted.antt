@@ -1,0 +1,69 @@
+-- What comes of an image that is adopted.
+use Rattle.std.proofs.Common.{◌≡◌, ◌∙◌, refl, sym, ap, ℕ, ◌≤◌, Bool, true, false, Option, Some, None, Ok, Err, nat_lt, if◌then◌else◌, arith}
+use Rattle.std.specs.Prelude.{is_none}
+use Rattle.std.proofs.lemmas.Bool.Decides.{nat_tests}
+use Rattle.adr_event.specs.declared.answer.Outcome.{Outcome}
+use Rattle.adr_event.specs.declared.answer.Outcome.TheVariants as outcomes
+use Rattle.adr_event.specs.declared.refusal.AdoptRefusal.{AdoptRefusal}
+use Rattle.adr_event.specs.declared.refusal.Table.TheVariants.{Log}
+use Rattle.adr_model.specs.Collect.{adopt, woken}
+use Rattle.adr_model.specs.Lengths.{log_limit, new_log_end}
+use Rattle.adr_model.specs.Refused.{adopt_refused, full}
+use Rattle.adr_model.specs.Refusing.{unless}
+use Rattle.adr_model.specs.Replica.{Replica, Up, begun, on_new_disk}
+use Rattle.adr_model.specs.Store.{State, Store}
+use Rattle.adr_model.specs.Update.{Identifier}
+use Rattle.adr_model.specs.World.{Gone, Name, adopts}
+use Rattle.adr_replica.specs.Led.{Adopts, Unadopted}
+
+-- ---- the log of a new disk, which has room or not
+
+abbrev EndOf : ℕ → ℕ → Option ℕ → Type 0
+EndOf limit end o = o ≡ (if nat_lt limit end then None else Some end)
+
+pub beyond_of : (limit end : ℕ) (o : Option ℕ) → EndOf limit end o → is_none o ≡ true → nat_lt limit end ≡ true
+beyond_of limit end o is none = by (nat_lt limit end) is
+  where
+    by : (b : Bool) → o ≡ (if b then None else Some end) → b ≡ true
+    by true is = refl
+    by false is = absurd (cc (is, none))
+
+pub within_of : (limit end : ℕ) (o : Option ℕ) → EndOf limit end o → is_none o ≡ false → nat_lt limit end ≡ false
+within_of limit end o is some = by (nat_lt limit end) is
+  where
+    by : (b : Bool) → o ≡ (if b then None else Some end) → b ≡ false
+    by true is = absurd (cc (is, some))
+    by false is = refl
+
+pub at_most : (limit end : ℕ) → nat_lt limit end ≡ false → end ≤ limit
+at_most limit end within = grind (arith, nat_tests)
+
+-- ---- an adoption
+
+adopted_ok : {A E : Type 0} (o : Option E) (x s : A) → unless o x ≡ Ok s → x ≡ s
+adopted_ok None x s is = cc is
+adopted_ok (Some refusal) x s is = absurd (cc is)
+
+module _ (name : Name) (image : Store) (dsa inv : Identifier) where
+  module _ (s : State) (is : adopt image dsa inv ≡ Ok s) where
+    pub adopts_so : (made : Replica) → nat_lt log_limit (new_log_end s) ≡ false → made ≡ on_new_disk name s → Adopts name (adopt image dsa inv) made
+    adopts_so made within same w placed =
+        let gone : Replica → Gone = λ m. (record w { book = begun w.book m.safe; replicas = placed m }, outcomes.Ok) in
+        ap (adopts w placed name) is ∙ ap (λ b. if b then (w, full Log log_limit) else gone (on_new_disk name s)) within ∙ ap gone (sym same)
+
+    pub made_up : (made : Replica) → made ≡ on_new_disk name s → (made.name ≡ name) × (made.standing ≡ Up) × (made.safe.dsa ≡ dsa) × (made.safe.inv ≡ inv)
+    made_up made same =
+        let woke : woken image dsa inv ≡ s = adopted_ok _ (woken image dsa inv) s is in (
+          ap (λ (m : Replica). m.name) same,
+          ap (λ (m : Replica). m.standing) same,
+          ap (λ (m : Replica). m.safe.dsa) same ∙ sym (ap (λ (s : State). s.dsa) woke),
+          ap (λ (m : Replica). m.safe.inv) same ∙ sym (ap (λ (s : State). s.inv) woke),
+        )
+
+    pub beyond_so : nat_lt log_limit (new_log_end s) ≡ true → (outcome : Outcome) → outcome ≡ full Log log_limit → Unadopted name (adopt image dsa inv) outcome
+    beyond_so beyond outcome tells w placed =
+        let gone : Gone = (record w { book = begun w.book s; replicas = placed (on_new_disk name s) }, outcomes.Ok) in
+        ap (adopts w placed name) is ∙ ap (λ b. if b then (w, full Log log_limit) else gone) beyond ∙ ap (λ t. (w, t)) (sym tells)
+
+  pub refused_so : (refusal : AdoptRefusal) → adopt image dsa inv ≡ Err refusal → (outcome : Outcome) → outcome ≡ adopt_refused refusal → Unadopted name (adopt image dsa inv) outcome
+  refused_so refusal is outcome tells w placed = ap (adopts w placed name) is ∙ ap (λ t. (w, t)) (sym tells)

@@ -1,0 +1,70 @@
+-- Bytes of a disk that are put aside, and a disk with such bytes that is started.
+use Rattle.std.proofs.Common.{◌≡◌, ◌∙◌, refl, sym, ap, subst, ℕ, List, [], Bool, false, Option, Some, None, Ok}
+use Rattle.std.specs.Prelude.{IfSome}
+use Rattle.adr_wire.specs.Ranges.{IsId}
+use Rattle.adr_model.specs.Update.{Identifier}
+use Rattle.adr_model.specs.Store.{State}
+use Rattle.adr_model.specs.Replica.{Replica, Pending, Plan, Book, on_disk}
+use Rattle.adr_model.specs.World.{Snapshot}
+use Rattle.adr_law_journal.specs.Log.{Found, found, Started}
+use Rattle.adr_law_journal.specs.Replicas.{Has, read_found, started}
+use Rattle.adr_journal.specs.Planned.{StartsAs}
+use Rattle.adr_journal.specs.declared.keeper.Keeper.{Ghosts}
+use Rattle.adr_journal.specs.declared.keeper.StartRefusal.{StartRefusal}
+use Rattle.adr_controller.specs.Running.{Running, IsStarted}
+use Rattle.adr_replica.specs.Held.{found_or_none, standing_by, seen, IsHeld}
+use Rattle.adr_replica.specs.Put.{IsWhole, aside, found_on}
+use Rattle.adr_replica.proofs.Came.{some_same}
+use Rattle.adr_replica.proofs.Seen.{seen_so, held_so}
+
+-- bytes of which a start finds what is read of a keeper
+module _ {K : Type 0} (read safe torn : K → Started State) (plan : K → Option Plan) (is_down : K → Bool) (name : List ℕ) (dsa : Identifier) (c : Running K) (kept : Option Pending)
+    (held : IsHeld read safe torn plan is_down name dsa c kept) (bytes : List ℕ) (same : found_on bytes ≡ read c.keeper) where
+  abbrev r : Replica
+  r = seen read safe plan name c kept
+
+  finds : found_on bytes ≡ Ok (read_found r)
+  finds = same ∙ held.has.is_read
+
+  pub aside_whole : IsWhole bytes
+  aside_whole = record {
+    finds = finds ∙ ap Ok (sym (ap found_or_none finds));
+    is_id = subst IsId (sym (ap (λ t. (found_or_none t).state.dsa) finds ∙ held.reads)) held.is_id;
+  }
+
+  pub aside_so : (v : Replica) → r ≡ v → aside bytes ≡ record { state = v.read; log_end = v.read_end }
+  aside_so v is =
+      ap (λ t. let f = found_or_none t in let s : Snapshot = record { state = f.state; log_end = f.log_end } in s) finds
+      ∙ ap (λ (r : Replica). let s : Snapshot = record { state = r.read; log_end = r.read_end } in s) is
+
+-- a disk with such bytes, which has started
+module _ {K : Type 0} (k : Ghosts K) (read safe torn : K → Started State) (plan : K → Option Plan) (is_down : K → Bool) (name : List ℕ) (dsa : Identifier) (c : Running K) (kept : Option Pending)
+    (tells : (x : K) → k.told x ≡ Some (read x))
+    (law : (x new : K) (e : Option StartRefusal) (book : Book) (r : Replica) → is_down x ≡ false → Has read safe torn plan x r → k.starts x e new
+    → StartsAs (Has read safe torn plan) is_down e r (started book r) new)
+    (bytes : List ℕ) (whole : IsWhole bytes) (old : K) (reads : read old ≡ found_on bytes) (safes : safe old ≡ found_on bytes) (torns : torn old ≡ found_on bytes)
+    (planned : plan old ≡ None) (runs : is_down old ≡ false) (begun : IsStarted k old c) (ran : k.starts old None c.keeper)
+    (s : State) (there : c.state ≡ Some s) (given : dsa ≡ s.dsa) (none : kept ≡ None) where
+  abbrev put : Replica
+  put = on_disk name (aside bytes).state (aside bytes).log_end
+
+  no_book : Book
+  no_book = record { issued = []; logs = [] }
+
+  put_goes : StartsAs (Has read safe torn plan) is_down None put (started no_book put) c.keeper
+  put_goes = law old c.keeper None no_book put runs (record { is_read = reads ∙ whole.finds; is_safe = safes ∙ whole.finds; is_torn = torns ∙ whole.finds; is_plan = planned }) ran
+
+  put_dsa : dsa ≡ (aside bytes).state.dsa
+  put_dsa =
+      let told : IfSome (Some (read old)) (λ t. t ≡ Ok (found begun.state begun.log_end)) =
+      subst (λ o. IfSome o (λ t. t ≡ Ok (found begun.state begun.log_end))) (tells old) begun.told in
+      let same : found_or_none (found_on bytes) ≡ found begun.state begun.log_end = ap found_or_none (sym reads ∙ told) in
+      given ∙ ap (λ (s : State). s.dsa) (some_same s begun.state (sym there ∙ begun.in_memory) ∙ sym (ap (λ (f : Found State). f.state) same))
+
+  pub put_seen : seen read safe plan name c kept ≡ put
+  put_seen =
+      seen_so read safe torn plan name c kept put put_goes.0 refl (ap (λ b. standing_by b c.state) begun.up ∙ ap (λ o. standing_by false o) begun.in_memory) none
+
+  pub put_held : IsHeld read safe torn plan is_down name dsa c kept
+  put_held =
+      held_so read safe torn plan is_down name dsa c kept put put_seen put_goes.0 (λ s there. (put_goes.2, none)) (subst IsId (sym put_dsa) whole.is_id) (sym put_dsa) (sym put_dsa)
