@@ -1,5 +1,4 @@
 pub mod ReadLemmas
 pub mod PlayLemmas
-pub mod TextLemmas
 pub mod TopLemmas
 pub mod ShowLemmas

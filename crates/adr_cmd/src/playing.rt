@@ -5,7 +5,6 @@ ghost use Rattle.adr_io.specs.Told.{Adds, AddsFront};
 ghost use Rattle.adr_law_recorded.specs.Typed.{AreTyped};
 ghost use Rattle.adr_model.specs.Convergence.{MayAllHappen};
 ghost use Rattle.adr_model.specs.World.{empty_world};
-ghost use Rattle.adr_world.specs.Built.{AreBuilt};
 ghost use Rattle.adr_cmd.specs.Outcome.{output_from};
 
 use adr_event::Event;
@@ -20,7 +19,6 @@ fn play_on<K: Sink>(
     events: &[Event],
     sink: &mut K,
 ) -> Result<(), Fault>
-    requires built { AreBuilt events.now }
     requires may { MayAllHappen world.old events.now }
     requires typed { AreTyped events.now }
     ensures ok { OnOk result (Adds (K.written sink.old) (K.written sink.new) (output_from world.old events.now)) }
@@ -36,7 +34,6 @@ fn play_on<K: Sink>(
 
 /// Runs the events from an empty world on.
 pub fn play<K: Sink>(alloc: Global, events: &[Event], sink: &mut K) -> Result<(), Fault>
-    requires built { AreBuilt events.now }
     requires may { MayAllHappen empty_world events.now }
     requires typed { AreTyped events.now }
     ensures ok { OnOk result (Adds (K.written sink.old) (K.written sink.new) (output_from empty_world events.now)) }

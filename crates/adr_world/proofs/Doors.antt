@@ -12,7 +12,7 @@ use Rattle.adr_law_convergence.proofs.Acknowledged.{acknowledged_is_issued}
 use Rattle.adr_law_convergence.proofs.CutShort.{cut_short_sound}
 use Rattle.adr_law_convergence.proofs.Completing.{cycle_ends}
 use Rattle.adr_law_convergence.proofs.Found.{replica_found}
-use Rattle.adr_world.specs.Built.{IsBuiltAtOnce}
+use Rattle.adr_world.specs.Alone.{IsAtOnce}
 use Rattle.adr_world.specs.Door.{IsCompletedBy}
 use Rattle.adr_world.specs.Pulls.{IsCycleTurn, IsTurn}
 use Rattle.adr_world.specs.Short.{IsAllOrNone, IsSyncedBy, IsCutShort, IsTurnCutShort}
@@ -81,8 +81,8 @@ pull_short turn w dest source max v below (inl same) = inl same
 pull_short turn w dest source max v below (inr all) = inr (inl (pull w dest source max, inl (below, refl), all))
 
 -- a line that was cut short, as its one turn
-pub turn_short : (turn : ℕ) (w : World) (e : Event) (v : World) → IsBuiltAtOnce e → IsCutShort w e v → IsTurnCutShort turn w e v
-turn_short turn w (events.Cycle dest source max) v built short = absurd built
-turn_short turn w e v built (inl same) = inl same
-turn_short turn w e v built (inr (inl all)) = inr (inl (((step w e).0, (step w e).1, false), refl, all))
-turn_short turn w e v built (inr (inr synced)) = inr (inr synced)
+pub turn_short : (turn : ℕ) (w : World) (e : Event) (v : World) → IsAtOnce e → IsCutShort w e v → IsTurnCutShort turn w e v
+turn_short turn w (events.Cycle dest source max) v once short = absurd once
+turn_short turn w e v once (inl same) = inl same
+turn_short turn w e v once (inr (inl all)) = inr (inl (((step w e).0, (step w e).1, false), refl, all))
+turn_short turn w e v once (inr (inr synced)) = inr (inr synced)

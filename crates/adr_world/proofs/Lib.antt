@@ -11,3 +11,4 @@ pub mod ToldLines
 pub mod Left
 pub mod Writings
 pub mod Tables
+pub mod Adoptions

@@ -1,5 +1,5 @@
 -- Controllers at their places.
-use Rattle.std.proofs.Common.{◌≡◌, ◌≢◌, ◌∙◌, ◌⊎◌, ◌++◌, refl, sym, ap, subst, inl, inr, ℕ, zero, suc, ◌<◌, List, [], ◌∷◌, Bool, true, false, cond, drop, length, slice_set, if◌then◌else◌, Some}
+use Rattle.std.proofs.Common.{◌≡◌, ◌≢◌, ◌∙◌, ◌⊎◌, ◌++◌, refl, sym, ap, subst, inl, inr, ℕ, zero, suc, ◌<◌, List, [], ◌∷◌, Bool, true, false, cond, drop, length, slice_set, if◌then◌else◌, Some, arith}
 use Rattle.std.specs.Prelude.{slice_get, slice_index_or}
 use Rattle.std.specs.List.{find}
 use Rattle.std.specs.Str.{bytes_eq}
@@ -14,6 +14,12 @@ use Rattle.adr_world.specs.Run.{AreApart}
 -- what is read at a place
 pub at_place : (rs : List Replica) (i : ℕ) (r : Replica) → i < length rs → r ≡ slice_index_or rs i r → slice_get rs i ≡ Some r
 at_place rs i r lt is = slice_get_read rs (length rs) i r refl lt is
+
+-- at a place within there is somebody
+pub somebody_at : (rs : List Replica) (i : ℕ) → i < length rs → (r : Replica) × (slice_get rs i ≡ Some r)
+somebody_at [] i lt = absurd (omega (arith, lt))
+somebody_at (q ∷ qs) zero lt = (q, refl)
+somebody_at (q ∷ qs) (suc i) lt = somebody_at qs i (omega (arith, lt))
 
 -- who is at a place is a member
 pub there_at : (rs : List Replica) (i : ℕ) (r : Replica) → slice_get rs i ≡ Some r → Member r rs

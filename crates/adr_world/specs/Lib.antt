@@ -1,5 +1,6 @@
 pub mod Run
-pub mod Built
+pub mod Alone
+pub mod Adopted
 pub mod Pulls
 pub mod Short
 pub mod Door

@@ -18,8 +18,8 @@ world_of r =
       replicas = r.controllers.items;
       requests = r.requests;
       replies = r.replies;
-      images = [];
-      snapshots = [];
+      images = r.images;
+      snapshots = r.snapshots;
       given = r.past.given;
     }
 

@@ -44,7 +44,7 @@ impl Run {
     }
 
     /// A controller comes, where there is room for it.
-    fn begin(&mut self, controller: Replica)
+    pub fn begin(&mut self, controller: Replica)
         requires room { vec_len self.old.controllers + 1 ≤ vec_capacity self.old.controllers }
         requires up { controller.standing ≡ Up }
         ensures world { let v = gives (world_of self.old) (controller.safe.dsa ∷ []) (controller.safe.inv ∷ []) in

@@ -9,11 +9,14 @@
 
 mod answers;
 mod bound;
+mod collecting;
 mod coming;
 mod controller;
 mod messages;
 mod pulling;
+mod putting_back;
 mod reports;
+mod restoring;
 mod run;
 mod stepping;
 mod stopping;

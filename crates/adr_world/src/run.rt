@@ -6,7 +6,7 @@ ghost use Rattle.adr_world.specs.Run.{IsTidy, world_of};
 
 use crate::bound::Bindings;
 use adr_packet::{Reply, Request};
-use adr_replica::{Past, Replica};
+use adr_replica::{Image, Past, Replica, Snapshot};
 use std::alloc::Global;
 
 /// The time, whether no database was put back so far, the past, the controllers, and what lines bound to names.
@@ -18,6 +18,8 @@ pub struct Run {
     pub controllers: Vec<Replica>,
     pub requests: Bindings<Request>,
     pub replies: Bindings<Reply>,
+    pub images: Bindings<Image>,
+    pub snapshots: Bindings<Snapshot>,
 }
 
 impl Run {
@@ -33,6 +35,8 @@ impl Run {
             controllers: Vec::new(alloc),
             requests: Bindings::new(alloc),
             replies: Bindings::new(alloc),
+            images: Bindings::new(alloc),
+            snapshots: Bindings::new(alloc),
         }
     }
 }

@@ -7,7 +7,7 @@ ghost use Rattle.adr_law_recorded.specs.Typed.{IsTyped};
 ghost use Rattle.adr_model.specs.Convergence.{MayHappen};
 ghost use Rattle.adr_model.specs.Step.{step};
 ghost use Rattle.adr_report.specs.Line.{line};
-ghost use Rattle.adr_world.specs.Built.{IsBuilt, IsBuiltAlone, IsBuiltAtOnce};
+ghost use Rattle.adr_world.specs.Alone.{HasOneAnswer, IsAtOnce};
 ghost use Rattle.adr_world.specs.Door.{IsLeftBy};
 ghost use Rattle.adr_world.specs.Pulls.{IsTurn};
 ghost use Rattle.adr_world.specs.Run.{IsSoundRun, IsTidy, world_of};
@@ -25,7 +25,6 @@ impl Run {
     /// Does what a line says, turn by turn, and writes the answers to a turn before the next.
     pub fn step<K: Sink>(&mut self, alloc: Global, event: &Event, sink: &mut K) -> Result<(), Fault>
         requires sound { IsSoundRun self.old }
-        requires built { IsBuilt event.now }
         requires may { MayHappen (world_of self.old) event.now }
         requires typed { IsTyped event.now }
         ensures stepped { OnOk result (world_of self.new ≡ (step (world_of self.old) event.now).0) }
@@ -54,7 +53,6 @@ impl Run {
         turn: u32,
     ) -> Result<(Vec<Answer>, bool), NoMemory>
         requires sound { IsSoundRun self.old }
-        requires built { IsBuilt event.now }
         requires may { MayHappen (world_of self.old) event.now }
         requires typed { IsTyped event.now }
         ensures turned { IfOk result (λ told.
@@ -73,7 +71,7 @@ impl Run {
     /// What a line does that is no cycle, and its answers.
     fn answers(&mut self, alloc: Global, event: &Event) -> Result<Vec<Answer>, NoMemory>
         requires sound { IsSoundRun self.old }
-        requires built { IsBuiltAtOnce event.now }
+        requires at_once { IsAtOnce event.now }
         requires may { MayHappen (world_of self.old) event.now }
         requires typed { IsTyped event.now }
         ensures stepped { IfOk result (λ answers.
@@ -101,7 +99,7 @@ impl Run {
     /// A line that has one answer. There is room for it before anything is done.
     fn step_alone(&mut self, alloc: Global, event: &Event) -> Result<Vec<Answer>, NoMemory>
         requires sound { IsSoundRun self.old }
-        requires built { IsBuiltAlone event.now }
+        requires alone { HasOneAnswer event.now }
         requires may { MayHappen (world_of self.old) event.now }
         requires typed { IsTyped event.now }
         ensures stepped { IfOk result (λ answers.
@@ -119,7 +117,7 @@ impl Run {
     /// The answer to a line that has one.
     fn answered(&mut self, alloc: Global, event: &Event) -> Result<Answer, NoMemory>
         requires sound { IsSoundRun self.old }
-        requires built { IsBuiltAlone event.now }
+        requires alone { HasOneAnswer event.now }
         requires may { MayHappen (world_of self.old) event.now }
         requires typed { IsTyped event.now }
         ensures stepped { IfOk result (λ made.
@@ -147,6 +145,17 @@ impl Run {
                 bound,
             } => self.serve(alloc, name, request, bound),
             Event::Deliver { name, reply } => self.deliver(alloc, name, reply),
+            Event::Collect { name, lifetime } => self.collect(alloc, name, *lifetime),
+            Event::Backup { name, bound } => self.backup(alloc, name, bound),
+            Event::Restore { name, image, inv } => self.restore(alloc, name, image, *inv),
+            Event::Install {
+                name,
+                dsa,
+                image,
+                inv,
+            } => self.install(alloc, name, *dsa, image, *inv),
+            Event::Snapshot { name, bound } => self.snapshot(alloc, name, bound),
+            Event::Rollback { name, snapshot } => self.rollback(alloc, name, snapshot),
             Event::StopAfter { name, calls, how } => self.stop_after(alloc, name, *calls, *how),
             Event::Fail { name, calls } => self.fail_after(alloc, name, *calls),
             Event::Stop { name } => self.stop(alloc, name),
@@ -154,7 +163,7 @@ impl Run {
             Event::Show { name } => self.show(alloc, name),
             Event::Vector { name } => self.vector(alloc, name),
             Event::Marks { name } => self.marks(alloc, name),
-            _ => unreachable!(),
+            Event::Time { .. } | Event::Pull { .. } | Event::Cycle { .. } => unreachable!(),
         }
     }
 }

@@ -12,7 +12,6 @@ ghost use Rattle.adr_model.specs.World.{empty_world, replica_at};
 ghost use Rattle.adr_records.specs.Body.{following};
 ghost use Rattle.adr_records.specs.Head.{head_at};
 ghost use Rattle.adr_report.specs.Line.{line};
-ghost use Rattle.adr_world.specs.Built.{IsBuilt};
 ghost use Rattle.adr_world.specs.Door.{IsCompletedBy, IsLeftBy};
 
 use crate::run::Run;
@@ -54,7 +53,6 @@ impl World {
     /// Does what a line says, whatever its kind, and writes its answers as they come: none to a `time`, those of each call
     /// to a pull or a cycle, and else one.
     pub fn step<K: Sink>(&mut self, alloc: Global, event: &Event, sink: &mut K) -> Result<(), Fault>
-        requires built { IsBuilt event.now }
         requires may { MayHappen self.old event.now }
         requires typed { IsTyped event.now }
         ensures stepped { OnOk result (self.new ≡ (step self.old event.now).0) }

@@ -1,6 +1,5 @@
 use Rattle.std.proofs.Common.{◌≤◌, drop}
 use Rattle.adr_model.specs.Convergence.{MayAllHappen}
-use Rattle.adr_world.specs.Built.{AreBuilt}
 use Rattle.adr_cmd.specs.Outcome.{output_from}
 use Rattle.adr_world.proofs.Due.{Remains}
 use Rattle.adr_cmd.proofs.playing.play_on.Given as goal
@@ -9,7 +8,6 @@ use Rattle.adr_cmd.proofs.playing.play_on.Given as goal
 abbrev pub invariant-loop-event : goal.invariant-loop-event
 invariant-loop-event g l = record {
   due : Remains (g.K.Sink.written l.fn.sink) (g.K.Sink.written l.sink) (output_from l.fn.world l.events) (output_from l.world (drop l.event-index l.events));
-  built : AreBuilt (drop l.event-index l.events);
   may : MayAllHappen l.world (drop l.event-index l.events);
   faults : g.K.Sink.faults l.fn.sink ≤ g.K.Sink.faults l.sink;
 }

@@ -15,6 +15,12 @@ ask-requires-clause-unbound c = subst (MayHappen (world_of c.args.self.now)) c.i
 pub serve-requires-clause-unbound : goal.serve-requires-clause-unbound
 serve-requires-clause-unbound c = subst (MayHappen (world_of c.args.self.now)) c.in-Serve.is c.requires.may
 
+pub backup-requires-clause-unbound : goal.backup-requires-clause-unbound
+backup-requires-clause-unbound c = subst (MayHappen (world_of c.args.self.now)) c.in-Backup.is c.requires.may
+
+pub snapshot-requires-clause-unbound : goal.snapshot-requires-clause-unbound
+snapshot-requires-clause-unbound c = subst (MayHappen (world_of c.args.self.now)) c.in-Snapshot.is c.requires.may
+
 pub returns-in-Serve-clause-stepped : goal.returns-in-Serve-clause-stepped
 returns-in-Serve-clause-stepped c = subst (λ e. IfOk c.serve.result (λ made. step (world_of c.args.self.now) e ≡ (world_of c.serve.new.self, made ∷ []))) (sym c.in-Serve.is) c.serve.ensures.stepped
 

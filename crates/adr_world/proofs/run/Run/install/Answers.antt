@@ -1,0 +1,60 @@
+use Rattle.std.proofs.Common.{◌≡◌, ◌≢◌, ◌∙◌, ◌++◌, sym, ap, subst, [], ◌∷◌, codes}
+use Rattle.adr_event.specs.declared.answer.Outcome.TheVariants as outcomes
+use Rattle.adr_model.specs.Member.{Each}
+use Rattle.adr_model.specs.Replica.{Replica, Up, begun}
+use Rattle.adr_model.specs.Step.{gives}
+use Rattle.adr_replica.specs.Past.{Past}
+use Rattle.adr_world.specs.Adopted.{AdoptsBound, UnadoptedBound}
+use Rattle.adr_world.specs.Run.{AreApart, AreRanged, AreSpelled, world_of}
+use Rattle.adr_world.proofs.Adoptions.{begun_last, installed_step}
+use Rattle.adr_world.proofs.Bindings.{headed}
+use Rattle.adr_world.proofs.Places.{apart_more}
+use Rattle.adr_world.proofs.Results.{err_so, ok_so}
+use Rattle.adr_world.proofs.run.Run.install.Goals as goal
+
+pub begin-requires-clause-up : goal.begin-requires-clause-up
+begin-requires-clause-up c =
+    (ok_so (λ (r : Replica). (r.name ≡ c.args.name.now) × (r.standing ≡ Up) × (r.safe.dsa ≡ c.args.dsa) × (r.safe.inv ≡ c.args.inv)) c.in_ok-adopted.adopted c.in-Ok.controller c.in-Ok.is c.in_ok-adopted.ensures.up).1
+
+pub returns-in-Ok-clause-stepped : goal.returns-in-Ok-clause-stepped
+returns-in-Ok-clause-stepped c =
+    let w = world_of c.args.self.now in
+    let v = world_of c.begin.new.self in
+    let made = c.in-Ok.controller in
+    let adopts = ok_so (AdoptsBound w.images c.args.image.now c.args.name.now c.args.dsa c.args.inv) c.in_ok-adopted.adopted made c.in-Ok.is c.in_ok-adopted.ensures.made in
+    let up = ok_so (λ (r : Replica). (r.name ≡ c.args.name.now) × (r.standing ≡ Up) × (r.safe.dsa ≡ c.args.dsa) × (r.safe.inv ≡ c.args.inv)) c.in_ok-adopted.adopted made c.in-Ok.is c.in_ok-adopted.ensures.up in
+    installed_step w c.args.name.now c.args.dsa c.args.image.now c.args.inv outcomes.Ok v c.of.result
+    (adopts (gives w (c.args.dsa ∷ []) (c.args.inv ∷ [])) (λ r. w.replicas ++ r ∷ [])
+    ∙ ap (λ x. (x, outcomes.Ok)) (begun_last w c.args.dsa c.args.inv made v up.2 up.3
+    (c.begin.ensures.world ∙ ap (λ rs. record (gives w (made.safe.dsa ∷ []) (made.safe.inv ∷ [])) { book = begun w.book made.safe; replicas = rs ++ made ∷ [] }) c.reserve.ensures.items)))
+    (headed c.of.result c.in_ok-heading.heading.verb c.in_ok-heading.heading.name (codes "install") c.args.name.now outcomes.Ok c.of.ensures c.in_ok-heading.ensures)
+
+pub returns-in-Ok-clause-tidy : goal.returns-in-Ok-clause-tidy
+returns-in-Ok-clause-tidy c =
+    let rs = c.args.self.now.controllers.items in
+    let made = c.in-Ok.controller in
+    let up = ok_so (λ (r : Replica). (r.name ≡ c.args.name.now) × (r.standing ≡ Up) × (r.safe.dsa ≡ c.args.dsa) × (r.safe.inv ≡ c.args.inv)) c.in_ok-adopted.adopted made c.in-Ok.is c.in_ok-adopted.ensures.up in
+    record {
+      apart = subst AreApart (sym (c.begin.ensures.items ∙ ap (λ xs. xs ++ made ∷ []) c.reserve.ensures.items))
+          (apart_more rs made c.requires.tidy.apart (subst (λ n. Each (λ (r : Replica). r.name ≢ n) rs) (sym up.0) c.requires.new));
+      requests = subst AreRanged (sym c.begin.ensures.requests) c.requires.tidy.requests;
+      replies = subst AreSpelled (sym c.begin.ensures.replies) c.requires.tidy.replies;
+    }
+
+pub returns-in-Err-clause-stepped : goal.returns-in-Err-clause-stepped
+returns-in-Err-clause-stepped c =
+    let w = world_of c.args.self.now in
+    let o = c.in-Err.outcome in
+    let un = err_so (UnadoptedBound w.images c.args.image.now c.args.name.now c.args.dsa c.args.inv) c.in_ok-adopted.adopted o c.in-Err.is c.in_ok-adopted.ensures.other in
+    installed_step w c.args.name.now c.args.dsa c.args.image.now c.args.inv o (gives w (c.args.dsa ∷ []) (c.args.inv ∷ [])) c.of-in-Err.result
+    (un (gives w (c.args.dsa ∷ []) (c.args.inv ∷ [])) (λ r. w.replicas ++ r ∷ []))
+    (headed c.of-in-Err.result c.in_ok-heading.heading.verb c.in_ok-heading.heading.name (codes "install") c.args.name.now o c.of-in-Err.ensures c.in_ok-heading.ensures)
+    ∙ ap (λ (p : Past). (record w { book = p.book; given = p.given }, c.of-in-Err.result ∷ [])) (sym c.give.ensures)
+    ∙ ap (λ rs. (record w { book = c.give.new.self.book; replicas = rs; given = c.give.new.self.given }, c.of-in-Err.result ∷ [])) (sym c.reserve.ensures.items)
+
+pub returns-in-Err-clause-tidy : goal.returns-in-Err-clause-tidy
+returns-in-Err-clause-tidy c = record {
+  apart = subst AreApart (sym c.reserve.ensures.items) c.requires.tidy.apart;
+  requests = c.requires.tidy.requests;
+  replies = c.requires.tidy.replies;
+}

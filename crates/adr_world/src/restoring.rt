@@ -1,0 +1,158 @@
+//! Images of controllers, and controllers that come of them.
+
+ghost use Rattle.std.specs.Prelude.{◌≡◌, ◌<◌, ◌∷◌, [], length, slice_set, IfErr, IfOk, OnErr};
+ghost use Rattle.adr_event.specs.declared.event.Event.TheVariants.{Backup, Install, Restore};
+ghost use Rattle.adr_wire.specs.Ranges.{IsId};
+ghost use Rattle.adr_model.specs.Collect.{backup};
+ghost use Rattle.adr_model.specs.Convergence.{IsNewName, IsUnbound};
+ghost use Rattle.adr_model.specs.Replica.{Up, begun};
+ghost use Rattle.adr_model.specs.Step.{gives, step};
+ghost use Rattle.adr_model.specs.World.{backed_up, nothing, of_controller};
+ghost use Rattle.adr_world.specs.Adopted.{AdoptsBound, UnadoptedBound};
+ghost use Rattle.adr_world.specs.Run.{IsTidy, world_of};
+
+use crate::answers::Heading;
+use crate::run::Run;
+use adr_event::{Answer, Outcome};
+use adr_replica::{Image, Replica};
+use adr_schema::{NoMemory, Text};
+use std::alloc::Global;
+use uuid::Uuid;
+
+impl Run {
+    /// The image of a controller is bound to a name.
+    pub fn backup(&mut self, alloc: Global, name: &Text, bound: &Text) -> Result<Answer, NoMemory>
+        requires tidy { IsTidy self.old }
+        requires unbound { IsUnbound (world_of self.old).images bound.now }
+        ensures stepped { IfOk result (λ made.
+            step (world_of self.old) (Backup name.now bound.now) ≡ (world_of self.new, made ∷ [])) }
+        ensures err { OnErr result (world_of self.new ≡ world_of self.old) }
+        ensures tidy { IsTidy self.new }
+    {
+        let heading = Heading::new(alloc, "backup", name)?;
+        let (outcome, image) = self.image(alloc, name)?;
+        self.images.bind(alloc, bound, image)?;
+        Ok(heading.of(outcome))
+    }
+
+    /// What a controller is answered that is backed up, and its image if there is one.
+    fn image(&self, alloc: Global, name: &Text) -> Result<(Outcome, Option<Image>), NoMemory>
+        ensures { IfOk result (λ sent. let w = world_of self.now in
+            of_controller w name.now (nothing w) (λ r. backed_up w (backup r.safe)) ≡ (w, sent.0, sent.1)) }
+    {
+        let Some(place) = self.place_of(name) else {
+            return Ok((Outcome::Absent, None));
+        };
+        self.controllers[place].backup(alloc)
+    }
+
+    /// An image is adopted as a controller, under a fresh invocation identifier.
+    pub fn restore(
+        &mut self,
+        alloc: Global,
+        name: &Text,
+        image: &Text,
+        inv: Uuid,
+    ) -> Result<Answer, NoMemory>
+        requires tidy { IsTidy self.old }
+        requires inv { IsId inv }
+        ensures stepped { IfOk result (λ made.
+            step (world_of self.old) (Restore name.now image.now inv) ≡ (world_of self.new, made ∷ [])) }
+        ensures err { OnErr result (world_of self.new ≡ world_of self.old) }
+        ensures tidy { IsTidy self.new }
+    {
+        let heading = Heading::new(alloc, "restore", name)?;
+        let Some(place) = self.place_of(name) else {
+            self.past.give_inv(inv);
+            return Ok(heading.of(Outcome::Absent));
+        };
+        let dsa = self.controllers[place].dsa();
+        let adopted = self.adopted(alloc, name, image, dsa, inv)?;
+        match adopted {
+            Ok(controller) => {
+                self.begin_at(place, controller);
+                Ok(heading.of(Outcome::Ok))
+            }
+            Err(outcome) => {
+                self.past.give_inv(inv);
+                Ok(heading.of(outcome))
+            }
+        }
+    }
+
+    /// An image is adopted as a new controller, under a new name.
+    pub fn install(
+        &mut self,
+        alloc: Global,
+        name: &Text,
+        dsa: Uuid,
+        image: &Text,
+        inv: Uuid,
+    ) -> Result<Answer, NoMemory>
+        requires tidy { IsTidy self.old }
+        requires dsa { IsId dsa }
+        requires inv { IsId inv }
+        requires new { IsNewName (world_of self.old) name.now }
+        ensures stepped { IfOk result (λ made.
+            step (world_of self.old) (Install name.now dsa image.now inv) ≡ (world_of self.new, made ∷ [])) }
+        ensures err { OnErr result (world_of self.new ≡ world_of self.old) }
+        ensures tidy { IsTidy self.new }
+    {
+        self.controllers.reserve(1)?;
+        let heading = Heading::new(alloc, "install", name)?;
+        let adopted = self.adopted(alloc, name, image, dsa, inv)?;
+        match adopted {
+            Ok(controller) => {
+                self.begin(controller);
+                Ok(heading.of(Outcome::Ok))
+            }
+            Err(outcome) => {
+                self.past.give(dsa, inv);
+                Ok(heading.of(outcome))
+            }
+        }
+    }
+
+    /// A controller on a new disk that adopts the image bound to a name, or what is answered.
+    fn adopted(
+        &self,
+        alloc: Global,
+        name: &Text,
+        image: &Text,
+        dsa: Uuid,
+        inv: Uuid,
+    ) -> Result<Result<Replica, Outcome>, NoMemory>
+        requires dsa { IsId dsa }
+        requires inv { IsId inv }
+        ensures made { IfOk result (λ adopted. IfOk adopted (AdoptsBound (world_of self.now).images image.now name.now dsa inv)) }
+        ensures up { IfOk result (λ adopted. IfOk adopted (λ made.
+            (made.name ≡ name.now) × (made.standing ≡ Up) × (made.safe.dsa ≡ dsa) × (made.safe.inv ≡ inv))) }
+        ensures other { IfOk result (λ adopted. IfErr adopted (UnadoptedBound (world_of self.now).images image.now name.now dsa inv)) }
+    {
+        let Some(image) = self.images.get(image) else {
+            return Ok(Err(Outcome::Absent));
+        };
+        let name = name.copy(alloc)?;
+        Replica::adopted(alloc, name, image, dsa, inv)
+    }
+
+    /// A controller comes in place of the one of its name.
+    fn begin_at(&mut self, place: usize, controller: Replica)
+        requires place { place < length self.old.controllers.items }
+        requires up { controller.standing ≡ Up }
+        ensures world { let v = gives (world_of self.old) [] (controller.safe.inv ∷ []) in
+            world_of self.new ≡ record v { book = begun v.book controller.safe; replicas = slice_set v.replicas place controller } }
+        ensures items { self.new.controllers.items ≡ slice_set self.old.controllers.items place controller }
+        ensures requests { self.new.requests ≡ self.old.requests }
+        ensures replies { self.new.replies ≡ self.old.replies }
+    {
+        match controller.state() {
+            Ok(state) => {
+                self.past.begin(state);
+                self.past.give_inv(state.inv());
+            }
+            Err(_) => unreachable!(),
+        }
+        self.controllers[place] = controller;
+    }
+}
