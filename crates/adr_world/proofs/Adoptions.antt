@@ -1,5 +1,5 @@
 -- Controllers that come of images, and disks that are put back.
-use Rattle.std.proofs.Common.{◌≡◌, ◌∙◌, sym, ap, ℕ, ◌<◌, List, [], ◌∷◌, ◌++◌, length, slice_set, Option, Some, None, false, codes}
+use Rattle.std.proofs.Common.{◌≡◌, ◌∙◌, sym, ap, ℕ, List, [], ◌∷◌, ◌++◌, slice_set, Option, Some, None, false, codes}
 use Rattle.std.specs.Prelude.{slice_get}
 use Rattle.adr_event.specs.declared.answer.Answer.{Answer}
 use Rattle.adr_event.specs.declared.answer.Outcome.{Outcome}
@@ -7,7 +7,7 @@ use Rattle.adr_event.specs.declared.answer.Outcome.TheVariants as outcomes
 use Rattle.adr_event.specs.declared.event.Event.TheVariants.{Install, Restore}
 use Rattle.adr_model.specs.Update.{Identifier}
 use Rattle.adr_model.specs.Replica.{Replica, begun, on_disk}
-use Rattle.adr_model.specs.World.{World, Name, Sent, Snapshot, answer, bound_at, of_made, put_back, replica_at, stays, with_replica}
+use Rattle.adr_model.specs.World.{World, Name, Sent, Snapshot, answer, of_made, put_back, replica_at, stays, with_replica}
 use Rattle.adr_model.specs.Step.{gives, step, told_bound}
 use Rattle.adr_law_convergence.proofs.Found.{replica_found}
 use Rattle.adr_world.specs.declared.run.Run.{Run}
