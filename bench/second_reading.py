@@ -1,0 +1,1212 @@
+#!/usr/bin/env python3
+"""A second reading of the rules, apart from the code and its definitions: the answers to a schedule's text. Plain lists and dicts; slow.
+
+second_reading.py < SCHEDULE          writes the answers, and ends with the status
+second_reading.py check FILE..        compares the answers that stand in transcripts
+second_reading.py answers FILE..      writes the answers into transcripts
+"""
+import re
+import sys
+from collections import namedtuple
+
+# --- schema -------------------------------------------------------------------------------------------------------
+CLASSES = {3: 'organizationalUnit', 4: 'container', 5: 'user', 6: 'group', 7: 'computer'}
+MUST = {3: [], 4: [], 5: [10], 6: [19], 7: [10]}
+MAY = {3: [12, 18, 20, 32], 4: [12], 5: [11, 12, 13, 14, 15, 16, 17, 18, 32], 6: [10, 12, 13, 18, 30], 7: [12, 16, 17, 20]}
+SUPERIORS = {3: [1, 3], 4: [1, 3, 4], 5: [1, 3, 4], 6: [1, 3, 4], 7: [1, 3, 4]}
+ATTRS = {1: 'class', 2: 'name', 3: 'deleted', 10: 'sAMAccountName', 11: 'displayName', 12: 'description', 13: 'mail',
+         14: 'telephoneNumber', 15: 'employeeNumber', 16: 'disabled', 17: 'thumbprint', 18: 'seeAlso', 19: 'groupType',
+         20: 'location', 30: 'member', 31: 'memberOf', 32: 'manager', 33: 'directReports'}
+# attribute: kind, most values, least, greatest
+SYNTAX = {10: ('text', 1, 1, 20), 11: ('text', 1, 1, 256), 12: ('text', 8, 1, 256), 13: ('text', 1, 1, 256),
+          14: ('text', 8, 1, 64), 15: ('num', 1, 0, 999999999), 16: ('flag', 1, 0, 0), 17: ('oct', 4, 1, 64),
+          18: ('ref', 8, 0, 0), 19: ('num', 1, -2**31, 2**31 - 1), 20: ('text', 1, 1, 128)}
+BACK = {30: 31, 32: 33}
+LINKS = (30, 31, 32, 33)
+CLASS_NUMBER = {name: number for number, name in CLASSES.items()}
+ATTR_NUMBER = {name: number for number, name in ATTRS.items()}
+ROOT, LOST = 1, 2
+USN_MAX, VERSION_MAX = 2**63 - 1, 2**32 - 1
+ITEM_BYTES = 4 * 1024 * 1024
+LIMIT = {'Objects': 200000, 'Links': 1000000, 'Cursors': 10000, 'Marks': 10000}
+
+Oid = namedtuple('Oid', 'guid inv usn')
+Stamp = namedtuple('Stamp', 'version time inv usn')
+Row = namedtuple('Row', 'stamp local content')
+LinkRow = namedtuple('LinkRow', 'stamp present local')        # stamp = (created, Stamp)
+Mark = namedtuple('Mark', 'obj prop seen')
+ZERO = Mark(0, 0, 0)
+Request = namedtuple('Request', 'dest source inv mark schema max vector')
+Reply = namedtuple('Reply', 'dest source inv start to schema asked last items')   # last: None or a vector
+
+
+class Refusal(Exception):
+    def __init__(self, number, name, *fields):
+        super().__init__(number)
+        self.number, self.name, self.fields = number, name, fields
+
+    def text(self):
+        return 'refused %d %s' % (self.number, self.name) + ''.join(' %s=%s' % field for field in self.fields)
+
+
+def show_id(number):
+    if number < 2**32:
+        return '#%x' % number
+    return '#' + full_id(number)
+
+
+def full_id(number):
+    digits = '%032x' % number
+    return '-'.join((digits[:8], digits[8:12], digits[12:16], digits[16:20], digits[20:]))
+
+
+def show_text(text):
+    out = []
+    for character in text:
+        code = ord(character)
+        if character in '"\\':
+            out.append('\\' + character)
+        elif code < 0x20 or code == 0x7f:
+            out.append('\\%02x' % code)
+        else:
+            out.append(character)
+    return '"' + ''.join(out) + '"'
+
+
+def show_attr(attr):
+    return ATTRS.get(attr, '%%%d' % attr)
+
+
+def show_mark(mark):
+    return '%d/%d/%d' % mark
+
+
+def show_value(value):
+    kind, content = value
+    if kind == 'text':
+        return show_text(content)
+    if kind == 'num':
+        return str(content)
+    if kind == 'flag':
+        return 'true' if content else 'false'
+    if kind == 'oct':
+        return 'x' + content
+    return show_id(content)
+
+
+def fold(text):
+    return text.casefold()
+
+
+# --- what the schema tests ----------------------------------------------------------------------------------------
+def bad_value_place(attr, values, empty_is_bad):
+    kind, most, least, greatest = SYNTAX[attr]
+    if not values:
+        return 0 if empty_is_bad else None
+    for place, value in enumerate(values):
+        if value[0] != kind or place >= most or value in values[:place]:
+            return place
+        if kind == 'text' and not least <= len(value[1].encode()) <= greatest:
+            return place
+        if kind == 'oct' and not least <= len(value[1]) // 2 <= greatest:
+            return place
+        if kind == 'num' and not least <= value[1] <= greatest:
+            return place
+    return None
+
+
+def bad_name_place(text):
+    raw = text.encode()
+    if not raw:
+        return 0
+    if len(raw) > 128:
+        return 128
+    for place, byte in enumerate(raw):
+        if byte < 0x20 or byte == 0x7f or byte == 0x20 and place in (0, len(raw) - 1):
+            return place
+    return None
+
+
+def check_attr(class_number, attr, values, empty_is_bad):
+    """Refusals 2, 6, 3, 5."""
+    if attr not in ATTRS:
+        raise Refusal(2, 'UnknownAttribute', ('attr', show_attr(attr)))
+    if attr in LINKS:
+        raise Refusal(6, 'IsLink', ('attr', show_attr(attr)))
+    if class_number is not None and (attr <= 3 or attr not in MUST[class_number] + MAY[class_number]):
+        raise Refusal(3, 'NotAllowed', ('attr', show_attr(attr)))
+    if attr > 3:
+        place = bad_value_place(attr, values, empty_is_bad)
+        if place is not None:
+            raise Refusal(5, 'BadValue', ('attr', show_attr(attr)), ('place', place))
+
+
+def check_name(text):
+    place = bad_name_place(text)
+    if place is not None:
+        raise Refusal(9, 'BadName', ('place', place))
+
+
+# --- one controller's state ---------------------------------------------------------------------------------------
+class State:
+    def __init__(self, dsa, inv):
+        self.dsa, self.inv, self.usn, self.quarantined = dsa, inv, 0, False
+        self.others = {}          # the vector without the own cursor
+        self.purged = {}
+        self.marks = {}           # dsa: (inv, mark)
+        self.objects = {}         # Oid: {attr: Row}
+        self.links = {}           # (from, attr, to): LinkRow
+
+    def copy(self):
+        new = State(self.dsa, self.inv)
+        new.usn, new.quarantined = self.usn, self.quarantined
+        new.others, new.purged, new.marks = dict(self.others), dict(self.purged), dict(self.marks)
+        new.objects = {oid: dict(rows) for oid, rows in self.objects.items()}
+        new.links = dict(self.links)
+        return new
+
+    def vector(self):
+        vector = {inv: usn for inv, usn in self.others.items() if inv != self.inv and usn > 0}
+        if self.usn > 0:
+            vector[self.inv] = self.usn
+        return vector
+
+    def mark(self, dsa, inv):
+        kept_inv, mark = self.marks.get(dsa, (0, ZERO))
+        return mark if kept_inv == inv else ZERO
+
+    def is_dead(self, oid):
+        return 3 in self.objects[oid]
+
+    def strip(self, oid):
+        self.objects[oid] = {attr: row for attr, row in self.objects[oid].items() if attr <= 3}
+        self.links = {key: row for key, row in self.links.items() if oid not in (key[0], key[2])}
+
+
+def covers(vector, inv, usn):
+    return vector.get(inv, 0) >= usn
+
+
+def first_gap(vector, other):
+    for inv in sorted(vector):
+        if vector[inv] > other.get(inv, 0):
+            return inv
+    return None
+
+
+def join(vector, other):
+    for inv, usn in other.items():
+        vector[inv] = max(usn, vector.get(inv, 0))
+
+
+# --- what is shown ------------------------------------------------------------------------------------------------
+class View:
+    """Live objects, their places and names."""
+    def __init__(self, state):
+        self.state = state
+        self.live = {}            # guid: Oid
+        for oid, rows in state.objects.items():
+            if 3 in rows:
+                continue
+            held = self.live.get(oid.guid)
+            if held is None or self.birth_rank(oid) > self.birth_rank(held):
+                self.live[oid.guid] = oid
+        self.parent = {guid: self.name_row(guid).content[1] for guid in self.live}
+        first = {}
+        for guid, parent in self.parent.items():
+            first[guid] = parent if parent in (ROOT, LOST) or parent in self.live else LOST
+        self.place = dict(first)
+        for guid in self.live:
+            loop, at = [], guid
+            while at in first and at not in loop:
+                loop.append(at)
+                at = first[at]
+            if at == guid:        # guid is a member of a loop, and `loop` is all of it
+                self.place[max(loop, key=self.name_rank)] = LOST
+        self.shown = {guid: self.shown_name(guid) for guid in self.live}
+
+    def birth_rank(self, oid):
+        return (self.state.objects[oid][1].stamp, oid.inv, oid.usn)
+
+    def name_row(self, guid):
+        return self.state.objects[self.live[guid]][2]
+
+    def name_rank(self, guid):
+        return (self.name_row(guid).stamp, guid)
+
+    def text(self, guid):
+        return self.name_row(guid).content[0]
+
+    def class_of(self, guid):
+        return self.state.objects[self.live[guid]][1].content
+
+    def holder(self, parent, folded):
+        if parent == ROOT and folded == fold('LostAndFound'):
+            return LOST
+        same = [guid for guid in self.live if self.place[guid] == parent and fold(self.text(guid)) == folded]
+        return max(same, key=self.name_rank) if same else None
+
+    def others_named(self, parent, folded, guid):
+        if parent == ROOT and folded == fold('LostAndFound'):
+            return True
+        return any(other != guid and self.place[other] == parent and fold(self.text(other)) == folded for other in self.live)
+
+    def shown_name(self, guid):
+        text = self.text(guid)
+        if self.holder(self.place[guid], fold(text)) == guid:
+            return text
+        return text + '\nCNF:' + full_id(guid)
+
+    def directory(self):
+        lines = []
+        for guid in sorted(self.live):
+            oid = self.live[guid]
+            shown = {}
+            for attr, row in self.state.objects[oid].items():
+                if attr >= 10 and row.content:
+                    shown[attr] = [show_value(value) for value in row.content]
+            ends = {}
+            for (start, attr, end), row in self.state.links.items():
+                if row.present and self.live.get(start.guid) == start and self.live.get(end.guid) == end:
+                    if start == oid:
+                        ends.setdefault(attr, []).append(end.guid)
+                    if end == oid:
+                        ends.setdefault(BACK[attr], []).append(start.guid)
+            for attr, guids in ends.items():
+                shown[attr] = [show_id(end) for end in sorted(guids)]
+            lines.append('  %s %s parent=%s name=%s' % (show_id(guid), CLASSES[self.class_of(guid)], show_id(self.place[guid]),
+                                                     show_text(self.shown[guid]))
+                         + ''.join(' %s=%s' % (show_attr(attr), ','.join(shown[attr])) for attr in sorted(shown)))
+        return lines
+
+
+# --- originating writes -------------------------------------------------------------------------------------------
+def named(state, view, guid):
+    """Refusals 10 and 11, or the live object."""
+    if guid in view.live:
+        return view.live[guid]
+    if any(oid.guid == guid for oid in state.objects):
+        raise Refusal(11, 'Deleted', ('guid', show_id(guid)))
+    raise Refusal(10, 'NoObject', ('guid', show_id(guid)))
+
+
+def fixed(guid):
+    if guid in (ROOT, LOST):
+        raise Refusal(16, 'Fixed', ('guid', show_id(guid)))
+
+
+def check_parent(view, parent):
+    if parent not in (ROOT, LOST) and parent not in view.live:
+        raise Refusal(12, 'NoParent', ('guid', show_id(parent)))
+
+
+def check_superior(view, class_number, parent):
+    above = parent if parent in (ROOT, LOST) else view.class_of(parent)
+    if above not in SUPERIORS[class_number]:
+        raise Refusal(8, 'BadSuperior')
+
+
+def check_taken(view, parent, text, guid):
+    if view.others_named(parent, fold(text), guid):
+        raise Refusal(13, 'NameTaken', ('holder', show_id(view.holder(parent, fold(text)))))
+
+
+def not_quarantined(state):
+    if state.quarantined:
+        raise Refusal(23, 'Quarantined')
+
+
+def next_stamp(state, attr, held, now):
+    if held is not None and held.version == VERSION_MAX:
+        raise Refusal(20, 'VersionLimit', ('attr', show_attr(attr)))
+    return Stamp(1 if held is None else held.version + 1, now, state.inv, state.usn + 1)
+
+
+def take_usn(state, count=1):
+    if state.usn + count > USN_MAX:
+        raise Refusal(21, 'UsnLimit')
+    state.usn += count
+
+
+def full(state):
+    sizes = {'Objects': len(state.objects), 'Links': len(state.links), 'Cursors': len(state.vector()), 'Marks': len(state.marks)}
+    for table in ('Objects', 'Links', 'Cursors', 'Marks'):
+        if sizes[table] > LIMIT[table]:
+            raise Refusal(22, 'Full', ('table', table), ('limit', LIMIT[table]))
+
+
+def write_add(old, now, guid, class_number, parent, text, values):
+    not_quarantined(old)
+    state, view = old.copy(), View(old)
+    if guid in (ROOT, LOST) or any(oid.guid == guid for oid in state.objects):
+        raise Refusal(17, 'GuidThere', ('guid', show_id(guid)))
+    if class_number not in CLASSES:
+        raise Refusal(1, 'UnknownClass')
+    for attr in sorted(values):
+        check_attr(class_number, attr, values[attr], True)
+    for attr in sorted(MUST[class_number]):
+        if attr not in values:
+            raise Refusal(4, 'MissingMust', ('attr', show_attr(attr)))
+    check_name(text)
+    check_parent(view, parent)
+    check_superior(view, class_number, parent)
+    check_taken(view, parent, text, guid)
+    rows = {1: class_number, 2: (text, parent)}
+    rows.update({attr: list(values[attr]) for attr in values})
+    take_usn(state)
+    stamp = Stamp(1, now, state.inv, state.usn)
+    state.objects[Oid(guid, state.inv, state.usn)] = {attr: Row(stamp, state.usn, rows[attr]) for attr in rows}
+    full(state)
+    return state
+
+
+def write_modify(old, now, guid, values):
+    not_quarantined(old)
+    state, view = old.copy(), View(old)
+    fixed(guid)
+    oid = named(state, view, guid)
+    class_number = view.class_of(guid)
+    for attr in sorted(values):
+        check_attr(class_number, attr, values[attr], False)
+    for attr in sorted(MUST[class_number]):
+        if attr in values and not values[attr]:
+            raise Refusal(4, 'MissingMust', ('attr', show_attr(attr)))
+    rows = state.objects[oid]
+    for attr in sorted(values):
+        stamp = next_stamp(state, attr, rows[attr].stamp if attr in rows else None, now)
+        rows[attr] = Row(stamp, state.usn + 1, list(values[attr]))
+    take_usn(state)
+    return state
+
+
+def write_rename(old, now, guid, parent, text):
+    not_quarantined(old)
+    state, view = old.copy(), View(old)
+    fixed(guid)
+    oid = named(state, view, guid)
+    check_name(text)
+    check_parent(view, parent)
+    at, seen = parent, set()
+    while at in view.live and at not in seen:
+        if at == guid:
+            raise Refusal(14, 'WouldLoop')
+        seen.add(at)
+        at = view.parent[at]
+    check_superior(view, view.class_of(guid), parent)
+    check_taken(view, parent, text, guid)
+    stamp = next_stamp(state, 2, state.objects[oid][2].stamp, now)
+    state.objects[oid][2] = Row(stamp, state.usn + 1, (text, parent))
+    take_usn(state)
+    return state
+
+
+def write_delete(old, now, guid):
+    not_quarantined(old)
+    state, view = old.copy(), View(old)
+    fixed(guid)
+    oid = named(state, view, guid)
+    children = [child for child in view.live if view.place[child] == guid]
+    if children:
+        raise Refusal(15, 'HasChildren', ('child', show_id(min(children))))
+    state.objects[oid][3] = Row(next_stamp(state, 3, None, now), state.usn + 1, None)
+    state.strip(oid)
+    take_usn(state)
+    return state
+
+
+def write_link(old, now, start, attr, end, present):
+    not_quarantined(old)
+    state, view = old.copy(), View(old)
+    fixed(start)
+    fixed(end)
+    start_oid = named(state, view, start)
+    if attr not in ATTRS:
+        raise Refusal(2, 'UnknownAttribute', ('attr', show_attr(attr)))
+    if attr not in BACK:
+        raise Refusal(7, 'NotLink', ('attr', show_attr(attr)))
+    if attr not in MAY[view.class_of(start)]:
+        raise Refusal(3, 'NotAllowed', ('attr', show_attr(attr)))
+    end_oid = named(state, view, end)
+    key = (start_oid, attr, end_oid)
+    held = state.links.get(key)
+    if present and held is not None and held.present:
+        raise Refusal(18, 'LinkThere')
+    if not present and (held is None or not held.present):
+        raise Refusal(19, 'LinkNotThere')
+    stamp = next_stamp(state, attr, held.stamp[1] if held is not None else None, now)
+    created = held.stamp[0] if held is not None else now
+    state.links[key] = LinkRow((created, stamp), present, state.usn + 1)
+    take_usn(state)
+    full(state)
+    return state
+
+
+# --- requests and replies -----------------------------------------------------------------------------------------
+def ask(state, partner, most):
+    inv, mark = state.marks.get(partner, (0, ZERO))
+    return Request(state.dsa, partner, inv, mark, 1, most, state.vector())
+
+
+def item_length(item):
+    if item[0] == 'link':
+        return 1 + 40 + 2 + 40 + 8 + 36 + 1
+    length = 1 + 40 + 2
+    for attr, stamp, content in item[2]:
+        length += 2 + 36
+        if attr == 1:
+            length += 2
+        elif attr == 2:
+            length += 16 + 2 + len(content[0].encode())
+        elif attr != 3:
+            length += 1 + sum({'text': lambda c: 3 + len(c.encode()), 'num': lambda c: 9, 'flag': lambda c: 2,
+                               'oct': lambda c: 3 + len(c) // 2, 'ref': lambda c: 17}[kind](c) for kind, c in content)
+    return length
+
+
+def candidates(state, start, vector):
+    found = []
+    for oid, rows in state.objects.items():
+        last = max(row.local for row in rows.values())
+        sent = [(attr, rows[attr].stamp, rows[attr].content) for attr in sorted(rows)
+                if rows[attr].local > start.prop and not covers(vector, rows[attr].stamp.inv, rows[attr].stamp.usn)]
+        if last > start.obj and sent:
+            found.append((last, ('object', oid, sent)))
+    for key, row in state.links.items():
+        if row.local > start.obj and row.local > start.prop and not covers(vector, row.stamp[1].inv, row.stamp[1].usn):
+            found.append((row.local, ('link', key, row.stamp, row.present)))
+    return sorted(found, key=lambda pair: pair[0])
+
+
+def serve(state, request):
+    """The reply; 33 is raised for the caller to quarantine."""
+    not_quarantined(state)
+    if request.source != state.dsa:
+        raise Refusal(30, 'WrongController', ('mine', show_id(state.dsa)), ('asked', show_id(request.source)))
+    mark = request.mark
+    if not mark.prop <= mark.obj <= mark.seen:
+        raise Refusal(34, 'BadMark', ('prop', mark.prop), ('obj', mark.obj), ('seen', mark.seen))
+    shown = max(request.vector.get(state.inv, 0), mark.seen if request.inv == state.inv else 0)
+    if shown > state.usn:
+        raise Refusal(33, 'RolledBack', ('inv', show_id(state.inv)), ('mine', state.usn), ('shown', shown))
+    if request.schema != 1:
+        raise Refusal(31, 'SchemaMismatch', ('mine', 1), ('theirs', request.schema))
+    gap = first_gap(state.purged, request.vector)
+    if gap is not None:
+        raise Refusal(32, 'TooOld', ('inv', show_id(gap)), ('purged', state.purged[gap]), ('has', request.vector.get(gap, 0)))
+    start = mark if request.inv == state.inv else ZERO
+    left = candidates(state, start, request.vector)
+    items, length, last_local = [], 0, None
+    while left and len(items) < request.max and length < ITEM_BYTES:
+        last_local, item = left.pop(0)
+        items.append(item)
+        length += item_length(item)
+    if left:
+        to, vector = Mark(last_local, start.prop, state.usn), None
+    else:
+        to, vector = Mark(state.usn, state.usn, state.usn), state.vector()
+    return Reply(request.dest, request.source, state.inv, start, to, 1, request.vector, vector, items)
+
+
+def bad_item(place, cause):
+    return Refusal(44, 'BadItem', ('place', place), ('cause', cause))
+
+
+def take_object(state, vector, place, oid, sent):
+    """Applies one object item; whether it wrote. Rows that aren't left out are tested: 44, then 43."""
+    held = state.objects.get(oid)
+    if held is None and covers(vector, oid.inv, oid.usn):
+        return False
+    attrs = [attr for attr, _, _ in sent]
+    if held is not None and 3 in held:
+        kept = [row for row in sent if row[0] == 3 and row[1] > held[3].stamp]
+    elif held is None and 3 in attrs:
+        kept = [row for row in sent if row[0] in (1, 2, 3)]
+    else:
+        kept = sent
+    class_number = held[1].content if held is not None else next((row[2] for row in sent if row[0] == 1), None)
+    for attr, stamp, content in kept:
+        try:
+            if attr == 1:
+                if stamp.version != 1 or (stamp.inv, stamp.usn) != (oid.inv, oid.usn):
+                    raise bad_item(place, 'WrongBirth')
+                if content not in CLASSES:
+                    raise Refusal(1, 'UnknownClass')
+            elif attr == 2:
+                check_name(content[0])
+            elif attr != 3:
+                must = class_number is not None and attr in MUST[class_number]
+                check_attr(class_number, attr, content, must)
+        except Refusal as refusal:
+            if refusal.number == 44:
+                raise
+            raise bad_item(place, refusal.name)
+    if held is None:
+        given = [attr for attr, _, _ in kept]
+        missing = 1 not in given or 2 not in given
+        if not missing and 3 not in given:
+            missing = any(attr not in given for attr in MUST[class_number])
+        if missing:
+            raise Refusal(43, 'Incomplete', ('object', show_id(oid.guid)))
+    usn = state.usn + 1
+    if held is None:
+        state.objects[oid] = {attr: Row(stamp, usn, content) for attr, stamp, content in kept}
+        wrote = True
+    else:
+        wrote = False
+        for attr, stamp, content in kept:
+            if attr != 1 and (attr not in held or stamp > held[attr].stamp):
+                state.objects[oid][attr] = Row(stamp, usn, content)
+                wrote = True
+    if 3 in state.objects[oid]:
+        state.strip(oid)
+    return wrote
+
+
+def take_link(state, vector, place, key, stamp, present):
+    for end in (key[0], key[2]):
+        if end in state.objects:
+            if state.is_dead(end):
+                return False
+        elif covers(vector, end.inv, end.usn):
+            return False
+    if key[1] not in BACK:
+        raise bad_item(place, 'NotLink')
+    held = state.links.get(key)
+    if held is not None and not stamp > held.stamp:
+        return False
+    state.links[key] = LinkRow(stamp, present, state.usn + 1)
+    return True
+
+
+def take(old, reply):
+    """The state after, and the number of items that wrote."""
+    not_quarantined(old)
+    if reply.dest != old.dsa:
+        raise Refusal(40, 'NotMine', ('dest', show_id(reply.dest)))
+    mark = old.mark(reply.source, reply.inv)
+    if reply.start != mark:
+        raise Refusal(41, 'Stale', ('mark', show_mark(mark)), ('from', show_mark(reply.start)))
+    vector = old.vector()
+    gap = first_gap(reply.asked, vector)
+    if gap is not None:
+        raise Refusal(42, 'VectorBehind', ('inv', show_id(gap)), ('has', vector.get(gap, 0)), ('needs', reply.asked[gap]))
+    if reply.schema != 1:
+        raise Refusal(31, 'SchemaMismatch', ('mine', 1), ('theirs', reply.schema))
+    if reply.last is not None and reply.last.get(old.inv, 0) > old.usn:
+        raise Refusal(33, 'RolledBack', ('inv', show_id(old.inv)), ('mine', old.usn), ('shown', reply.last[old.inv]))
+    state, wrote, fault = old.copy(), 0, None
+    for place, item in enumerate(reply.items):
+        if item[0] == 'object':
+            did = take_object(state, vector, place, item[1], item[2])
+        else:
+            did = take_link(state, vector, place, item[1], item[2], item[3])
+        if did:
+            wrote += 1
+            state.usn += 1
+        if fault is None:
+            try:
+                full(state)
+            except Refusal as refusal:
+                fault = refusal
+    if state.usn > USN_MAX:
+        raise Refusal(21, 'UsnLimit')
+    state.marks[reply.source] = (reply.inv, reply.to)
+    if reply.last is not None:
+        join(state.others, reply.last)
+    if fault is not None:
+        raise fault
+    full(state)
+    return state, wrote
+
+
+# --- collection and images ----------------------------------------------------------------------------------------
+def collect(old, now, lifetime):
+    not_quarantined(old)
+    state, vector = old.copy(), old.vector()
+    gone = []
+    for oid, rows in old.objects.items():
+        if 3 in rows:
+            death = rows[3].stamp
+            if covers(vector, oid.inv, oid.usn) and covers(vector, death.inv, death.usn) and death.time + lifetime <= now:
+                gone.append((oid, death))
+    if gone:
+        take_usn(state)
+        for oid, death in gone:
+            del state.objects[oid]
+            join(state.purged, {oid.inv: oid.usn})
+            join(state.purged, {death.inv: death.usn})
+    return state, len(gone)
+
+
+def names_inv(image, inv):
+    if inv in image.vector() or inv in image.purged or any(inv == kept for kept, _ in image.marks.values()):
+        return True
+    for oid, rows in image.objects.items():
+        if oid.inv == inv or any(row.stamp.inv == inv for row in rows.values()):
+            return True
+    return any(inv in (key[0].inv, key[2].inv, row.stamp[1].inv) for key, row in image.links.items())
+
+
+def adopt(image, dsa, inv):
+    if names_inv(image, inv):
+        raise Refusal(50, 'IdentifierUsed')
+    state = image.copy()
+    state.others = image.vector()
+    state.dsa, state.inv, state.quarantined = dsa, inv, False
+    if len(state.vector()) > LIMIT['Cursors']:
+        raise Refusal(22, 'Full', ('table', 'Cursors'), ('limit', LIMIT['Cursors']))
+    return state
+
+
+# --- controllers, disks and plans ---------------------------------------------------------------------------------
+class Halt(Exception):
+    """An answer that ends a call: down, failed, disk, stopped, absent."""
+
+
+class Controller:
+    def __init__(self, state):
+        self.fresh(state)
+
+    def fresh(self, state):
+        self.read = self.safe = state
+        self.standing, self.plan = 'up', None
+
+    def device(self):
+        """Whether the plan lets the next device call pass: None, ('fail',) or ('stop', how)."""
+        if self.plan is None:
+            return None
+        kind, left, how = self.plan
+        if left > 0:
+            self.plan = (kind, left - 1, how)
+            return None
+        self.plan = None
+        return (kind, how)
+
+    def crash(self, how):
+        if how == 'lost':
+            self.read = self.safe
+        else:
+            self.safe = self.read
+        self.standing = 'down'
+
+    def commit(self, state):
+        for call in ('body', 'sync', 'gate', 'sync'):
+            met = self.device()
+            if met is not None and met[0] == 'fail':
+                self.standing = 'failed'
+                raise Halt('disk')
+            if call == 'gate':
+                if met is None or met[1] != 'lost':
+                    self.read = state
+            if met is not None:
+                self.crash(met[1])
+                raise Halt('stopped')
+            if call == 'sync':
+                self.safe = self.read
+
+    def start(self):
+        if self.standing == 'up':
+            return 'up'
+        met = self.device()
+        if met is None:
+            self.safe = self.read
+            self.standing = 'up'
+            return 'ok'
+        if met[0] == 'fail':
+            return 'disk'
+        self.crash(met[1])
+        return 'stopped'
+
+
+class World:
+    def __init__(self):
+        self.now = 0
+        self.controllers, self.requests, self.replies, self.images, self.snapshots = {}, {}, {}, {}, {}
+        self.trace = None
+
+    # what a line names
+    def there(self, name):
+        if name not in self.controllers:
+            raise Halt('absent')
+        return self.controllers[name]
+
+    def up(self, name):
+        controller = self.there(name)
+        if controller.standing != 'up':
+            raise Halt(controller.standing)
+        return controller
+
+    @staticmethod
+    def bound(kind, name):
+        if name not in kind:
+            raise Halt('absent')
+        return kind[name]
+
+    def quarantine(self, controller):
+        state = controller.read.copy()
+        state.quarantined = True
+        controller.commit(state)
+
+    # calls; each answers the result's text (and lines)
+    def call(self, work):
+        try:
+            return work()
+        except Halt as halt:
+            return str(halt)
+        except Refusal as refusal:
+            return refusal.text()
+
+    def write(self, name, function, *arguments):
+        def work():
+            controller = self.up(name)
+            controller.commit(function(controller.read, self.now, *arguments))
+            return 'ok usn=%d' % controller.read.usn
+        return self.call(work)
+
+    def do_ask(self, name, partner, most):
+        """Result and request."""
+        made = []
+
+        def work():
+            self.there(name)
+            partner_dsa = self.there(partner).read.dsa
+            made.append(ask(self.up(name).read, partner_dsa, most))
+            return 'ok'
+        return self.call(work), made[0] if made else None
+
+    def do_serve(self, name, get):
+        made = []
+
+        def work():
+            controller = self.up(name)
+            request = get()
+            try:
+                reply = serve(controller.read, request)
+            except Refusal as refusal:
+                if refusal.number == 33:
+                    self.quarantine(controller)
+                raise
+            made.append(reply)
+            rows = sum(len(item[2]) if item[0] == 'object' else 1 for item in reply.items)
+            return 'ok from=%s to=%s items=%d rows=%d %s' % (show_mark(reply.start), show_mark(reply.to), len(reply.items), rows,
+                                                           'more' if reply.last is None else 'last')
+        return self.call(work), made[0] if made else None
+
+    def do_deliver(self, name, get):
+        def work():
+            controller = self.up(name)
+            reply = get()
+            try:
+                state, wrote = take(controller.read, reply)
+            except Refusal as refusal:
+                if refusal.number == 33:
+                    self.quarantine(controller)
+                raise
+            controller.commit(state)
+            return 'ok items=%d wrote=%d usn=%d' % (len(reply.items), wrote, state.usn)
+        return self.call(work)
+
+    def pull(self, dest, source, most):
+        """Lines, and whether it went well, and whether the reply was last."""
+        result, request = self.do_ask(dest, source, most)
+        lines = ['ask %s: %s' % (dest, result)]
+        if request is None:
+            return lines, False, False
+        result, reply = self.do_serve(source, lambda: request)
+        lines.append('serve %s: %s' % (source, result))
+        if reply is None:
+            return lines, False, False
+        result = self.do_deliver(dest, lambda: reply)
+        lines.append('deliver %s: %s' % (dest, result))
+        return lines, result.startswith('ok'), reply.last is not None
+
+    def report(self, name, work):
+        def whole():
+            lines = work(self.up(name).read)
+            return '\n'.join(['%d' % len(lines)] + lines)
+        return self.call(whole)
+
+    def step(self, event):
+        """The answer lines of one event."""
+        verb, rest = event[0], event[1:]
+        if verb == 'time':
+            self.now = rest[0]
+            return []
+        name = rest[0]
+        if verb == 'pull':
+            return self.pull(*rest)[0]
+        if verb == 'cycle':
+            lines = []
+            for _ in range(1000000):
+                more, well, last = self.pull(*rest)
+                lines += more
+                if not well or last:
+                    return lines
+            return lines + ['cycle %s: more' % name]
+        result = getattr(self, 'line_' + verb.replace(' ', '_'))(*rest)
+        return ('%s %s: %s' % (verb.split()[0], name, result)).split('\n')
+
+    def line_controller(self, name, dsa, inv):
+        self.controllers[name] = Controller(State(dsa, inv))
+        return 'ok'
+
+    def line_add(self, name, *arguments):
+        return self.write(name, write_add, *arguments)
+
+    def line_modify(self, name, *arguments):
+        return self.write(name, write_modify, *arguments)
+
+    def line_rename(self, name, *arguments):
+        return self.write(name, write_rename, *arguments)
+
+    def line_delete(self, name, *arguments):
+        return self.write(name, write_delete, *arguments)
+
+    def line_link(self, name, *arguments):
+        return self.write(name, write_link, *arguments, True)
+
+    def line_unlink(self, name, *arguments):
+        return self.write(name, write_link, *arguments, False)
+
+    def line_ask(self, name, partner, most, bound):
+        result, request = self.do_ask(name, partner, most)
+        if request is not None:
+            self.requests[bound] = request
+        return result
+
+    def line_serve(self, name, request, bound):
+        result, reply = self.do_serve(name, lambda: self.bound(self.requests, request))
+        if reply is not None:
+            self.replies[bound] = reply
+        return result
+
+    def line_deliver(self, name, reply):
+        return self.do_deliver(name, lambda: self.bound(self.replies, reply))
+
+    def line_collect(self, name, lifetime):
+        def work():
+            controller = self.up(name)
+            state, removed = collect(controller.read, self.now, lifetime)
+            controller.commit(state)
+            return 'ok removed=%d' % removed
+        return self.call(work)
+
+    def line_backup(self, name, bound):
+        def work():
+            state = self.up(name).read
+            not_quarantined(state)
+            self.images[bound] = state.copy()
+            return 'ok'
+        return self.call(work)
+
+    def line_restore(self, name, image, inv):
+        def work():
+            controller = self.there(name)
+            controller.fresh(adopt(self.bound(self.images, image), controller.read.dsa, inv))
+            return 'ok'
+        return self.call(work)
+
+    def line_install(self, name, dsa, image, inv):
+        def work():
+            self.controllers[name] = Controller(adopt(self.bound(self.images, image), dsa, inv))
+            return 'ok'
+        return self.call(work)
+
+    def line_snapshot(self, name, bound):
+        def work():
+            self.snapshots[bound] = self.there(name).read.copy()
+            return 'ok'
+        return self.call(work)
+
+    def line_rollback(self, name, snapshot):
+        def work():
+            controller = self.there(name)
+            controller.fresh(self.bound(self.snapshots, snapshot).copy())
+            return 'ok'
+        return self.call(work)
+
+    def line_stop(self, name):
+        def work():
+            controller = self.there(name)
+            controller.plan = None
+            controller.crash('kept')
+            return 'ok'
+        return self.call(work)
+
+    def line_stop_after(self, name, calls, how):
+        def work():
+            self.there(name).plan = ('stop', calls, how)
+            return 'ok'
+        return self.call(work)
+
+    def line_fail(self, name, calls):
+        def work():
+            self.there(name).plan = ('fail', calls, None)
+            return 'ok'
+        return self.call(work)
+
+    def line_start(self, name):
+        return self.call(lambda: self.there(name).start())
+
+    def line_show(self, name):
+        return self.report(name, lambda state: View(state).directory())
+
+    def line_vector(self, name):
+        return self.report(name, lambda state: ['  %s %d' % (show_id(inv), usn) for inv, usn in sorted(state.vector().items())])
+
+    def line_marks(self, name):
+        return self.report(name, lambda state: ['  %s %s %s' % (show_id(dsa), show_id(inv), show_mark(mark))
+                                                for dsa, (inv, mark) in sorted(state.marks.items())])
+
+
+# --- the grammar --------------------------------------------------------------------------------------------------
+class Outside(Exception):
+    """The line is outside the grammar."""
+
+
+NAME = r'[A-Za-z][A-Za-z0-9_]{0,31}'
+ID = r'#(?:[0-9a-f]{8}-[0-9a-f]{4}-[0-9a-f]{4}-[0-9a-f]{4}-[0-9a-f]{12}|0|[1-9a-f][0-9a-f]{0,7})'
+NUM = r'(?:0|[1-9][0-9]*)'
+TEXT = r'"(?:[^"\\\x00-\x1f\x7f]|\\"|\\\\|\\(?:[01][0-9a-f]|7f))*"'
+PLAIN = r'(?:%' + NUM + r'|[A-Za-z]+)'
+VALUE = r'(?:' + TEXT + '|-?' + NUM + '|true|false|x(?:[0-9a-f]{2})+|' + ID + ')'
+SET = PLAIN + r'=(?:' + VALUE + '(?:,' + VALUE + ')*)?'
+FORMS = {'NAME': NAME, 'ID': ID, 'NUM': NUM, 'MAX': NUM, 'CALLS': NUM, 'TEXT': TEXT, 'CLASS': PLAIN, 'ATTR': PLAIN, 'SET': SET,
+         'HOW': 'kept|lost|torn'}
+FORMS = {word: re.compile('(?:' + form + ')(?= |$)') for word, form in FORMS.items()}
+FORMS = {word: form for word, form in FORMS.items()}
+GRAMMAR = {
+    'controller': ['NAME ID ID'], 'time': ['NUM'], 'add': ['NAME ID CLASS ID TEXT SETS'], 'modify': ['NAME ID SETS1'],
+    'rename': ['NAME ID ID TEXT'], 'delete': ['NAME ID'], 'link': ['NAME ID ATTR ID'], 'unlink': ['NAME ID ATTR ID'],
+    'ask': ['NAME NAME MAX as NAME'], 'serve': ['NAME NAME as NAME'], 'deliver': ['NAME NAME'], 'pull': ['NAME NAME MAX'],
+    'cycle': ['NAME NAME MAX'], 'collect': ['NAME NUM'], 'backup': ['NAME as NAME'], 'restore': ['NAME NAME ID'],
+    'install': ['NAME ID NAME ID'], 'snapshot': ['NAME as NAME'], 'rollback': ['NAME NAME'],
+    'stop': ['NAME', 'NAME after CALLS HOW'], 'fail': ['NAME after CALLS'], 'start': ['NAME'], 'show': ['NAME'],
+    'vector': ['NAME'], 'marks': ['NAME'],
+}
+WITHOUT_SIX = {'collect', 'backup', 'restore', 'install', 'snapshot', 'rollback'}
+
+
+def read_id(token):
+    return int(token[1:].replace('-', ''), 16)
+
+
+def read_text(token):
+    text = re.sub(r'\\("|\\|[01][0-9a-f]|7f)', lambda m: m.group(1) if m.group(1) in '"\\' else chr(int(m.group(1), 16)), token[1:-1])
+    if len(text.encode()) > 65535:
+        raise Outside
+    return text
+
+
+def read_number(token, most):
+    if int(token) > most:
+        raise Outside
+    return int(token)
+
+
+def read_plain(token, table):
+    if token[0] == '%':
+        return read_number(token[1:], 65535)
+    if token not in table:
+        raise Outside
+    return table[token]
+
+
+def read_value(token):
+    if token[0] == '"':
+        return ('text', read_text(token))
+    if token[0] == '#':
+        return ('ref', read_id(token))
+    if token[0] == 'x':
+        return ('oct', token[1:])
+    if token in ('true', 'false'):
+        return ('flag', token == 'true')
+    if token == '-0' or not -2**63 <= int(token) < 2**63:
+        raise Outside
+    return ('num', int(token))
+
+
+def read_token(word, token):
+    if word == 'ID':
+        return read_id(token)
+    if word == 'NUM':
+        return read_number(token, 2**64 - 1)
+    if word == 'MAX':
+        if int(token) < 1:
+            raise Outside
+        return read_number(token, 10000)
+    if word == 'CALLS':
+        return read_number(token, 1000)
+    if word == 'TEXT':
+        return read_text(token)
+    if word == 'CLASS':
+        return read_plain(token, CLASS_NUMBER)
+    if word == 'ATTR':
+        return read_plain(token, ATTR_NUMBER)
+    if word == 'SET':
+        attr, _, values = token.partition('=')
+        return (read_plain(attr, ATTR_NUMBER), [read_value(value) for value in re.findall(VALUE, values)])
+    return token
+
+
+def read_form(line, at, form):
+    """The values of the tokens of one form, from the place `at`."""
+    out, words = [], form.split()
+    sets = None
+    if words[-1] in ('SETS', 'SETS1'):
+        sets = words.pop()
+
+    def next_token(word):
+        nonlocal at
+        pattern = FORMS.get(word) or re.compile(re.escape(word) + '(?= |$)')
+        spaces = re.compile(' +').match(line, at)
+        found = spaces and pattern.match(line, spaces.end())
+        if not found:
+            raise Outside
+        at = found.end()
+        return found.group()
+    for word in words:
+        token = next_token(word)
+        if word in FORMS:
+            out.append(read_token(word, token))
+        elif token != word:
+            raise Outside
+    if sets:
+        given = {}
+        while line[at:].strip(' '):
+            attr, values = read_token('SET', next_token('SET'))
+            if attr in given:
+                raise Outside
+            given[attr] = values
+        if sets == 'SETS1' and not given:
+            raise Outside
+        out.append(given)
+    elif line[at:].strip(' '):
+        raise Outside
+    return out
+
+
+def read_line(line):
+    """The event of a line within the grammar."""
+    line = line.strip(' ')
+    verb = line.split(' ', 1)[0]
+    if verb not in GRAMMAR:
+        raise Outside
+    for form in GRAMMAR[verb]:
+        try:
+            values = read_form(line, len(verb), form)
+        except Outside:
+            continue
+        return (verb + ' after' if verb == 'stop' and len(values) > 1 else verb, *values)
+    raise Outside
+
+
+USES = {'controller': '', 'install': '..i', 'restore': 'ci', 'ask': 'cc', 'serve': 'cq', 'deliver': 'cr', 'pull': 'cc', 'cycle': 'cc',
+        'rollback': 'cs', 'time': ''}
+BINDS = {'controller': ('c', 1), 'install': ('c', 1), 'ask': ('q', 4), 'serve': ('r', 3), 'backup': ('i', 2), 'snapshot': ('s', 2)}
+DSA = {'controller': 2, 'install': 2}
+INV = {'controller': 3, 'restore': 3, 'install': 4}
+
+
+class Book:
+    def __init__(self):
+        self.kinds = {kind: set() for kind in 'cqris'}
+        self.dsas, self.invs = set(), set()
+
+    def cause(self, event):
+        verb = event[0]
+        for place, kind in enumerate(USES.get(verb, 'c'), 1):
+            if kind != '.' and event[place] not in self.kinds[kind]:
+                return 'unknown name'
+        if verb in BINDS:
+            kind, place = BINDS[verb]
+            if event[place] in self.kinds[kind]:
+                return 'name used'
+        if verb in DSA and event[DSA[verb]] in self.dsas or verb in INV and event[INV[verb]] in self.invs:
+            return 'identifier used'
+        if verb in BINDS and BINDS[verb][0] == 'c' and len(self.kinds['c']) == 64:
+            return 'too many'
+        if verb in BINDS:
+            self.kinds[kind].add(event[place])
+        if verb in DSA:
+            self.dsas.add(event[DSA[verb]])
+        if verb in INV:
+            self.invs.add(event[INV[verb]])
+        return None
+
+
+def parse(raw):
+    """The list of (line number, event), or the fault's line."""
+    if len(raw) > 16 * 1024 * 1024:
+        return None, 'line 0: too long'
+    events, book = [], Book()
+    for number, line in enumerate(raw.split(b'\n'), 1):
+        if line.startswith(b';') or not line.strip(b' '):
+            continue
+        try:
+            text = line.decode('utf-8')
+        except UnicodeDecodeError:
+            return None, 'line %d: not UTF-8' % number
+        try:
+            event = read_line(text)
+        except Outside:
+            return None, 'line %d: no command' % number
+        cause = book.cause(event)
+        if cause:
+            return None, 'line %d: %s' % (number, cause)
+        events.append((number, event))
+    return events, None
+
+
+def run(raw):
+    """All that is written, and the status."""
+    events, fault = parse(raw)
+    if fault:
+        return (fault + '\n').encode(), 3
+    world, lines = World(), []
+    for _, event in events:
+        lines += world.step(event)
+    return ''.join(line + '\n' for line in lines).encode(), 0
+
+
+def transcript(raw):
+    """The text with its answers as comments behind their lines; what was there of answers is dropped."""
+    raw = b'\n'.join(line for line in raw.split(b'\n') if not line.startswith(b';> '))
+    events, fault = parse(raw)
+    if fault:
+        return raw.rstrip(b'\n') + b'\n;> ' + fault.encode() + b'\n'
+    world, events, out = World(), dict(events), []
+    for number, line in enumerate(raw.rstrip(b'\n').split(b'\n'), 1):
+        out.append(line)
+        if number in events:
+            out += [(';> ' + answer).encode() for answer in world.step(events[number])]
+    return b'\n'.join(out) + b'\n'
+
+
+def main():
+    words = sys.argv[1:]
+    if words[:1] == ['answers']:
+        for name in words[1:]:
+            with open(name, 'rb') as file:
+                text = transcript(file.read())
+            with open(name, 'wb') as file:
+                file.write(text)
+        return 0
+    if words[:1] == ['check']:
+        bad = 0
+        for name in words[1:]:
+            with open(name, 'rb') as file:
+                text = file.read()
+            due = b''.join(line[3:] + b'\n' for line in text.split(b'\n') if line.startswith(b';> '))
+            if run(text)[0] != due:
+                bad += 1
+                print('other answers:', name)
+        print(len(words) - 1, 'files,', bad, 'with other answers')
+        return 1 if bad else 0
+    text, status = run(sys.stdin.buffer.read())
+    sys.stdout.buffer.write(text)
+    return status
+
+
+if __name__ == '__main__':
+    sys.exit(main())
