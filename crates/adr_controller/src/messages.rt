@@ -27,7 +27,7 @@ use std::alloc::{AllocError, Global};
 use uuid::Uuid;
 
 /// What comes of a reply that was taken: how many items it had, how many of them were written, and the USN then.
-#[derive(Clone, Copy, Debug, PartialEq, Eq)]
+#[derive(Clone, Copy)]
 pub struct Taken {
     pub items: u32,
     pub wrote: u32,

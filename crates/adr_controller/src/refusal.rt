@@ -9,7 +9,7 @@ use adr_failure::Failure;
 use std::alloc::AllocError;
 
 /// What keeps a controller from making a call, whatever the call.
-#[derive(Clone, Copy, Debug, PartialEq, Eq)]
+#[derive(Clone, Copy)]
 pub enum Hindrance {
     /// It was stopped, and not started since.
     Down,
@@ -23,7 +23,7 @@ pub enum Hindrance {
 }
 
 /// Why a call of a controller didn't answer: its state refused the call, or the controller couldn't make it.
-#[derive(Clone, Copy, Debug, Drop, PartialEq, Eq)]
+#[derive(Clone, Copy, Drop)]
 pub enum CallRefusal<R> {
     Refused(R),
     Hindered(Hindrance),

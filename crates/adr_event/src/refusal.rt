@@ -10,7 +10,7 @@ use adr_vector::Mark;
 use uuid::Uuid;
 
 /// A table that has a limit.
-#[derive(Clone, Copy, Debug, PartialEq, Eq)]
+#[derive(Clone, Copy)]
 pub enum Table {
     /// The objects that a controller holds, live or dead.
     Objects,
@@ -25,7 +25,7 @@ pub enum Table {
 }
 
 /// Why an originating write was refused. It then changed nothing. An `attr` is an attribute's number.
-#[derive(Clone, Copy, Debug, PartialEq, Eq)]
+#[derive(Clone, Copy)]
 pub enum WriteRefusal {
     /// The schema has no such class.
     UnknownClass,
@@ -84,7 +84,7 @@ impl From<WriteRefusal> for Failure<WriteRefusal> {
 }
 
 /// Why a request for changes was refused (MS-DRSR, GetNCChanges; the rules are this project's own).
-#[derive(Clone, Copy, Debug, PartialEq, Eq)]
+#[derive(Clone, Copy)]
 pub enum ServeRefusal {
     /// The controller is quarantined.
     Quarantined,
@@ -101,7 +101,7 @@ pub enum ServeRefusal {
 }
 
 /// What is wrong with a row of an item.
-#[derive(Clone, Copy, Debug, PartialEq, Eq)]
+#[derive(Clone, Copy)]
 pub enum ItemFault {
     /// It breaks the schema.
     Schema(SchemaRefusal),
@@ -110,7 +110,7 @@ pub enum ItemFault {
 }
 
 /// Why a reply was not taken. It then changed nothing.
-#[derive(Clone, Copy, Debug, PartialEq, Eq)]
+#[derive(Clone, Copy)]
 pub enum TakeRefusal {
     /// The controller is quarantined.
     Quarantined,
@@ -135,7 +135,7 @@ pub enum TakeRefusal {
 }
 
 /// Why tombstones were not collected.
-#[derive(Clone, Copy, Debug, PartialEq, Eq)]
+#[derive(Clone, Copy)]
 pub enum CollectRefusal {
     /// The controller is quarantined.
     Quarantined,
@@ -144,7 +144,7 @@ pub enum CollectRefusal {
 }
 
 /// Why an image was not adopted.
-#[derive(Clone, Copy, Debug, PartialEq, Eq)]
+#[derive(Clone, Copy)]
 pub enum AdoptRefusal {
     /// The image names the identifier.
     IdentifierUsed,

@@ -12,7 +12,7 @@ use adr_wire::{Failure, Malformed, Reader, WireRefusal};
 use std::alloc::Global;
 
 /// What is known of an object from its rows so far: the last attribute, the class, and whether it is dead.
-#[derive(Clone, Copy, Debug, Drop)]
+#[derive(Clone, Copy, Drop)]
 pub struct Before {
     pub attr: Option<u16>,
     pub class: Option<u16>,

@@ -13,7 +13,7 @@ use adr_wire::WireRefusal;
 use std::alloc::Global;
 
 /// Why a record was not taken.
-#[derive(Clone, Copy, Debug, PartialEq, Eq)]
+#[derive(Clone, Copy)]
 pub enum FollowRefusal {
     /// Its body spells no change, or one that can't follow the state.
     CannotFollow,

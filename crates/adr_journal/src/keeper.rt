@@ -14,7 +14,7 @@ ghost use Rattle.adr_journal.specs.declared.keeper.StartRefusal.{StartRefusal as
 use adr_state::{Change, State};
 
 /// Why a state was not formatted, or a change not committed.
-#[derive(Clone, Copy, Debug, PartialEq, Eq)]
+#[derive(Clone, Copy)]
 pub enum KeeperRefusal {
     /// A call of the disk failed.
     DiskFault,
@@ -26,7 +26,7 @@ pub enum KeeperRefusal {
 }
 
 /// Why a keeper was not started.
-#[derive(Clone, Copy, Debug, PartialEq, Eq)]
+#[derive(Clone, Copy)]
 pub enum StartRefusal {
     /// A call of the disk failed.
     DiskFault,

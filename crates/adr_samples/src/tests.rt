@@ -44,7 +44,10 @@ const CLASSES: [ClassRow; 5] = [
 fn has(schema: Schema, class: u16, attr: u16) -> bool {
     match attribute_kind(attr) {
         Some(Kind::Plain { .. }) => {
-            schema.check_values(Some(class), attr, &[]) != Err(SchemaRefusal::NotAllowed { attr })
+            !matches!(
+                schema.check_values(Some(class), attr, &[]),
+                Err(SchemaRefusal::NotAllowed { .. })
+            )
         }
         _ => schema.check_link(class, attr).is_ok(),
     }
@@ -168,8 +171,12 @@ fn names_are_checked_and_folded(rt: HostRuntime) -> Result<(), Fail> {
         ("an\n", Some(2)),
         ("a\u{7f}n ", Some(1)),
     ] {
-        let refusal = wrong.map(|place| SchemaRefusal::BadName { place });
-        assert_eq!(rt; check_name(name).err(), refusal, "{name:?}");
+        let as_due = match check_name(name) {
+            Ok(()) => wrong.is_none(),
+            Err(SchemaRefusal::BadName { place }) => wrong == Some(place),
+            Err(_) => false,
+        };
+        assert!(rt; as_due, "{name:?}");
     }
     for (name, folded) in [("straße", "strasse"), ("LostAndFound", "lostandfound")] {
         assert_eq!(rt; fold_name(rt.alloc(), name)?.as_str(), folded);

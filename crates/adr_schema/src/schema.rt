@@ -26,7 +26,7 @@ pub const LOST_AND_FOUND_CLASS: u16 = 2;
 
 /// One of the schemas that there are, which are this project's own. A class that a schema does not
 /// have has no attributes and stands nowhere.
-#[derive(Clone, Copy, PartialEq, Eq)]
+#[derive(Clone, Copy)]
 pub struct Schema {
     number: u32,
 }

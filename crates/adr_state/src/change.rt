@@ -15,7 +15,7 @@ use std::marker::Model;
 use uuid::Uuid;
 
 /// Whether a controller serves and takes changes, or was put back without a fresh identifier and stopped.
-#[derive(Clone, Copy, Debug, PartialEq, Eq)]
+#[derive(Clone, Copy)]
 pub enum Mode {
     Normal,
     Quarantined,

@@ -10,7 +10,7 @@ use adr_io::Fault;
 use std::alloc::AllocError;
 
 /// Why it ends early.
-#[derive(Clone, Copy, Debug, PartialEq, Eq)]
+#[derive(Clone, Copy)]
 pub enum Ending {
     /// The words say nothing that is done here.
     Words,

@@ -3,7 +3,7 @@
 use adr_failure::Failure;
 
 /// No such token stands there.
-#[derive(Clone, Copy, Debug, PartialEq, Eq)]
+#[derive(Clone, Copy, Debug)]
 pub struct Bad;
 
 /// Why a token wasn't read.

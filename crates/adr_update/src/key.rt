@@ -15,7 +15,7 @@ use std::cmp::Ordering;
 use uuid::Uuid;
 
 /// What an update is an update of.
-#[derive(Clone, Copy, Debug, PartialEq, Eq)]
+#[derive(Clone, Copy)]
 pub enum Key {
     /// An attribute of an object.
     Row { object: Oid, attr: u16 },
