@@ -1,21 +1,24 @@
 #!/usr/bin/env python3
-"""Builds the program: proves its crates side by side, each in one of several copies of the sources, and links them.
+"""Builds the program: proves its crates side by side, the ones that most others wait for first, and links them.
 
 Usage: build/program.py        (called by ./adrep on first use and after a change of its sources)
 
-The toolchain proves one crate at a time in a checkout. Copies take each other's finished libraries, so as many crates
-are under way as there are processors, the ones that most others wait for first. Standard error tells how far it is.
+Each crate is one call of the toolchain's compiler, over the statements of the libraries below it, as `rt ci` has it. What is built of a
+crate stands until a file of it, or of a crate below, changes. Standard error tells how far it is.
 """
+import hashlib
 import os
 import shutil
 import subprocess
 import sys
-import tempfile
 import threading
 import time
 
 TOP = os.path.dirname(os.path.dirname(os.path.abspath(__file__)))
 PROGRAM = "adrep"
+# What a build leaves: each library, with the sum of what it was built of, and the log of its check.
+OUT = f"{TOP}/crates/{PROGRAM}/out"
+LIBRARIES = f"{OUT}/libraries"
 # What the check of a large crate takes, in bytes.
 MEMORY = 3_000_000_000
 
@@ -24,129 +27,203 @@ def tell(text):
     print(f"adrep: {text}", file=sys.stderr, flush=True)
 
 
+class Crate:
+    """A crate of the program: what it uses of the repository and of the toolchain, its files, and where its library is built."""
+
+    def __init__(self, name, line, uses, below):
+        self.name, self.line, self.uses, self.below = name, line, uses, below
+        self.folder = f"{TOP}/crates/{name}"
+        self.library = f"{LIBRARIES}/{name}.rlib"
+        self.root = "src/main.rt" if name == PROGRAM else "src/lib.rt"
+
+    def files(self, *parts):
+        """Its files in some of its folders, in order."""
+        return sorted(f"{folder}/{file}" for part in parts for folder, _, files in os.walk(f"{self.folder}/{part}") for file in files)
+
+    def seconds(self):
+        """A guess of what its check takes: ten lines of code a second, behind what each check loads."""
+        return 8 + sum(read(it).count(b"\n") for it in self.files("src")) / 10
+
+
+def read(file):
+    with open(file, "rb") as it:
+        return it.read()
+
+
 def crates_of_program():
-    """The crates that the program stands on, each with those of the repository that it uses itself."""
-    uses = {}
-    with open(f"{TOP}/crates.txt", encoding="utf-8") as lines:
-        for line in lines:
-            name, found, below = line.split("#")[0].partition(":")
-            if found:
-                uses[name.split()[0]] = below.split()
+    """The crates that the program stands on, by name."""
+    listed = {}
+    for line in read(f"{TOP}/crates.txt").decode().splitlines():
+        name, found, uses = line.split("#")[0].partition(":")
+        if found:
+            listed[name.split()[0]] = (line, uses.split())
     wanted, left = {}, [PROGRAM]
     while left:
         name = left.pop()
         if name not in wanted:
-            wanted[name] = [it for it in uses[name] if it in uses]
-            left += wanted[name]
+            line, uses = listed[name]
+            below = [it for it in uses if it in listed]
+            wanted[name] = Crate(name, line, [it for it in uses if it not in listed], below)
+            left += below
     return wanted
 
 
-def size_of(name):
-    """Lines of a crate, by which its time is guessed."""
-    lines = 0
-    for part in ("src", "specs", "proofs"):
-        for folder, _, files in os.walk(f"{TOP}/crates/{name}/{part}"):
-            for file in files:
-                with open(f"{folder}/{file}", encoding="utf-8") as text:
-                    lines += sum(1 for _ in text)
-    return lines
-
-
-def with_what_waits(crates):
-    """For each crate its lines, and those of the longest chain of crates that wait for it."""
-    above = {name: [it for it, below in crates.items() if name in below] for name in crates}
+def times_that_wait(crates):
+    """For each crate the time of the longest chain of crates that begins with it, each waiting for the one before."""
+    above = {name: [it.name for it in crates.values() if name in it.below] for name in crates}
     lengths = {}
 
     def length(name):
         if name not in lengths:
-            lengths[name] = size_of(name) + max((length(it) for it in above[name]), default=0)
+            lengths[name] = crates[name].seconds() + max((length(it) for it in above[name]), default=0)
         return lengths[name]
 
     return {name: length(name) for name in crates}
 
 
-def places(number):
-    """So many copies of the sources, beside each other in a folder that is made for them."""
-    room = tempfile.mkdtemp(prefix="adrep-build-")
-    without_out = shutil.ignore_patterns("out", "must-fail", "data")
-    for copy in range(number):
-        shutil.copytree(f"{TOP}/crates", f"{room}/{copy}/crates", ignore=without_out)
-        for file in ("crates.txt", "HANDLES"):
-            shutil.copy(f"{TOP}/{file}", f"{room}/{copy}/{file}")
-    return room
+def sums_of(crates, kit):
+    """For each crate the sum of the toolchain's line, of its files, and of the crates below."""
+    sums = {}
+
+    def sum_of(name):
+        if name not in sums:
+            crate = crates[name]
+            parts = [kit, crate.line, *(f"{os.path.relpath(it, TOP)} {hashlib.sha256(read(it)).hexdigest()}" for it in crate.files("src", "specs", "proofs")), *map(sum_of, crate.below)]
+            sums[name] = hashlib.sha256("\n".join(parts).encode()).hexdigest()
+        return sums[name]
+
+    return {name: sum_of(name) for name in crates}
 
 
-def prove(crates, room, number):
-    """Proves all crates but the program; whether it went well."""
-    lengths, state = with_what_waits(crates), threading.Condition()
-    left, under_way, done, begun, failed = set(crates) - {PROGRAM}, set(), set(), time.monotonic(), []
+class Toolchain:
+    """The compiler and the linker of the kit that the command rt belongs to."""
 
-    def jobs_for(name, ready):
-        """Processes for a crate's check: all for one that is alone, two for the one that most wait for. More would load the same files again."""
-        if under_way == {name} and ready == [name]:
-            return number
-        return 2 if lengths[name] == max(lengths[it] for it in under_way) else 1
+    def __init__(self):
+        self.kit = os.path.dirname(output("rt", "doc"))
+        self.line = output("rt", "version")
 
-    def work(copy):
-        while True:
-            with state:
-                while not failed and left and not [it for it in left if set(crates[it]) <= done]:
-                    state.wait()
-                ready = [it for it in left if set(crates[it]) <= done]
-                if failed or not ready:
-                    return
-                name = max(ready, key=lengths.get)
-                left.discard(name)
-                under_way.add(name)
-                jobs = jobs_for(name, ready)
-            log = f"{room}/{name}.log"
-            with open(log, "wb") as out:
-                status = subprocess.call(["rt", "lib", "--jobs", str(jobs)], cwd=f"{room}/{copy}/crates/{name}", stdin=subprocess.DEVNULL, stdout=out, stderr=out)
-            with state:
-                under_way.discard(name)
-                if status:
-                    failed.append(log)
-                else:
-                    done.add(name)
-                    minutes = (time.monotonic() - begun) / 60
-                    tell(f"{name} is proved; {len(done)} of {len(crates)} crates, {minutes:.0f} min gone")
-                state.notify_all()
+    def words(self, crate, jobs):
+        """What tells the compiler of a crate, its libraries and the logic."""
+        words = ["--crate-name", crate.name, crate.root, "-L", f"dependency={self.kit}/rlibs", "-L", f"dependency={LIBRARIES}"]
+        for name in ["std", *crate.uses]:
+            words += ["--extern", f"{name}={self.kit}/rlibs/{name}.rlib"]
+        for name in crate.below:
+            words += ["--extern", f"{name}={LIBRARIES}/{name}.rlib"]
+        return [*words, "--antt-project", f"{self.kit}/rattle/logic/antt-project.json", "--logic-built", f"{self.kit}/logic_built", "--jobs", str(jobs)]
 
-    workers = [threading.Thread(target=work, args=(copy,)) for copy in range(number)]
-    for it in workers:
-        it.start()
-    for it in workers:
-        it.join()
-    for log in failed:
-        with open(log, encoding="utf-8", errors="replace") as text:
-            sys.stderr.write("".join(text.readlines()[-20:]))
-    return not failed
-
-
-def link():
-    """Proves the program itself over these libraries, and links it; whether it went well."""
-    made = subprocess.run(["rt", "run", "--", "replay"], cwd=f"{TOP}/crates/{PROGRAM}", stdin=subprocess.DEVNULL, stdout=subprocess.PIPE, stderr=subprocess.STDOUT, check=False)
-    if made.returncode == 0 and os.path.exists(f"{TOP}/crates/{PROGRAM}/out/{PROGRAM}"):
+    def prove_library(self, crate, jobs):
+        """Proves a library and builds it; whether it went well."""
+        made = f"{crate.library}.new"
+        shutil.rmtree(made, ignore_errors=True)
+        if not call(crate, f"{self.kit}/bin/rattle", "build", *self.words(crate, jobs), "--statements", "-o", made):
+            return False
+        shutil.rmtree(crate.library, ignore_errors=True)
+        os.rename(made, crate.library)
         return True
-    sys.stderr.write("".join(made.stdout.decode(errors="replace").splitlines(True)[-20:]))
-    return False
+
+    def build_program(self, crate, jobs):
+        """Proves the program, compiles it and links it; whether it went well."""
+        tools = ["--toolchain", f"{self.kit}/toolchain"]
+        made = f"{OUT}/{crate.name}"
+        return call(crate, f"{self.kit}/bin/rattle", "build", *self.words(crate, jobs), *tools, "--backend", "llvm", "-o", f"{made}.o") and call(
+            crate, f"{self.kit}/bin/rattle-link", "--target", "x86_64-unknown-linux-gnu", *tools, "-o", made, f"{made}.o", f"{self.kit}/c/libos_c.a", f"{self.kit}/c/liblibc_c.a"
+        )
+
+
+def output(*words):
+    return subprocess.run(words, check=True, capture_output=True, text=True).stdout.strip()
+
+
+def log_of(crate):
+    return f"{LIBRARIES}/{crate.name}.log"
+
+
+def call(crate, *words):
+    """Runs a tool in a crate's folder, with its log; whether it went well."""
+    with open(log_of(crate), "ab") as log:
+        return subprocess.call(words, cwd=crate.folder, stdin=subprocess.DEVNULL, stdout=log, stderr=log) == 0
+
+
+class Build:
+    """Crates that are proved by several workers, each one once those below it are."""
+
+    def __init__(self, crates, toolchain, workers):
+        self.crates, self.toolchain, self.workers = crates, toolchain, workers
+        self.waiting, self.sums = times_that_wait(crates), sums_of(crates, toolchain.line)
+        self.state = threading.Condition()
+        self.left, self.under_way, self.done, self.failed = set(crates), set(), set(), []
+        self.begun = time.monotonic()
+
+    def ready(self):
+        return [it for it in self.left if set(self.crates[it].below) <= self.done]
+
+    def jobs_for(self, name):
+        """Processes for a crate's check: all for one that is alone, two for the one that most wait for. More would load the same files again."""
+        if self.under_way == {name} and not self.ready():
+            return self.workers
+        return 2 if self.waiting[name] == max(self.waiting[it] for it in self.under_way) else 1
+
+    def next(self):
+        """The name of a crate to prove and how many processes it may take, once there is one; None when nothing is left."""
+        with self.state:
+            while not self.failed and self.left and not self.ready():
+                self.state.wait()
+            if self.failed or not self.left:
+                return None
+            name = max(self.ready(), key=self.waiting.get)
+            self.left.discard(name)
+            self.under_way.add(name)
+            return name, self.jobs_for(name)
+
+    def prove(self, crate, jobs):
+        """Proves a crate, unless it was built of the same files before; whether it went well."""
+        stamp = f"{LIBRARIES}/{crate.name}.sum"
+        if crate.name != PROGRAM and os.path.isdir(crate.library) and os.path.exists(stamp) and read(stamp).decode() == self.sums[crate.name]:
+            return True
+        for file in (stamp, log_of(crate)):
+            if os.path.exists(file):
+                os.remove(file)
+        well = (self.toolchain.build_program if crate.name == PROGRAM else self.toolchain.prove_library)(crate, jobs)
+        if well:
+            with open(stamp, "w", encoding="utf-8") as it:
+                it.write(self.sums[crate.name])
+        return well
+
+    def work(self):
+        while (found := self.next()) is not None:
+            name, jobs = found
+            well = self.prove(self.crates[name], jobs)
+            with self.state:
+                self.under_way.discard(name)
+                if well:
+                    self.done.add(name)
+                    tell(f"{name} is proved; {len(self.done)} of {len(self.crates)} crates, {(time.monotonic() - self.begun) / 60:.0f} min gone")
+                else:
+                    self.failed.append(name)
+                self.state.notify_all()
+
+    def run(self):
+        """Proves and builds all; whether it went well."""
+        workers = [threading.Thread(target=self.work) for _ in range(self.workers)]
+        for it in workers:
+            it.start()
+        for it in workers:
+            it.join()
+        for name in self.failed:
+            sys.stderr.write("".join(read(log_of(self.crates[name])).decode(errors="replace").splitlines(True)[-20:]))
+        return not self.failed
 
 
 def main():
+    os.makedirs(LIBRARIES, exist_ok=True)
     memory = os.sysconf("SC_PAGE_SIZE") * os.sysconf("SC_PHYS_PAGES")
-    number = max(1, min(len(os.sched_getaffinity(0)), memory // MEMORY))
+    workers = max(1, min(len(os.sched_getaffinity(0)), memory // MEMORY))
     crates = crates_of_program()
-    tell(f"building the program: its {len(crates)} crates are proved first, {number} at a time, which takes some minutes once")
-    room = places(number)
-    try:
-        if not prove(crates, room, number):
-            sys.exit("adrep: the program could not be built")
-        tell("linking")
-        if not link():
-            sys.exit("adrep: the program could not be linked")
-        tell("built")
-    finally:
-        shutil.rmtree(room, ignore_errors=True)
+    tell(f"building the program: its {len(crates)} crates are proved, {workers} at a time, which takes some minutes once")
+    if not Build(crates, Toolchain(), workers).run():
+        sys.exit("adrep: the program could not be built")
+    tell("built")
 
 
-main()
+if __name__ == "__main__":
+    main()
