@@ -1,8 +1,8 @@
 //! What each line says.
 
-ghost use Rattle.std.specs.Prelude.{◌≡◌, ◌==◌, ◌<◌, ◌≤◌, ℕ, List, length, true, false, IfOk, IfErr, OnOk, Some, None};
+ghost use Rattle.std.specs.Prelude.{◌≡◌, ◌==◌, ◌<◌, ◌≤◌, ℕ, List, length, Some, None};
 ghost use Rattle.adr_token.specs.Gives.{Gives, Answers, bad};
-ghost use Rattle.adr_token.specs.Words.{unspaced};
+ghost use Rattle.adr_token.specs.Words.{ended, unspaced};
 ghost use Rattle.adr_schedule.specs.Commands.{add_line, ask_line, binding_line, bound_at, by_verb, calls_at, collect_line, controller_line, crash_at, delete_line, deliver_line, event_of, fail_line, install_line, is_passed, limit_at, link_line, modify_line, name_line, pull_line, rename_line, restore_line, rollback_line, serve_line, stop_after, stop_line, time_line};
 
 use crate::crashes::crash_of;
@@ -16,14 +16,14 @@ use adr_token::{Bad, Line, Stop, without_spaces};
 use std::alloc::Global;
 use uuid::Uuid;
 
-/// Nothing but spaces is left.
-fn end(line: &Line<'_>) -> Result<(), Stop>
-    ensures ended { OnOk result ((length (unspaced line.now) == 0) ≡ true) }
-    ensures more { IfErr result (λ stop. (stop ≡ bad) × ((length (unspaced line.now) == 0) ≡ false)) }
+/// A value, if nothing but spaces is left.
+fn ended<T: Drop>(line: &Line<'_>, value: T) -> Result<T, Stop>
+    ensures { Answers result (ended line.now value) }
 {
     if line.is_ended() {
-        Ok(())
+        Ok(value)
     } else {
+        drop(value);
         Err(Failure::Refused(Bad))
     }
 }
@@ -34,8 +34,7 @@ fn name(alloc: Global, line: &mut Line<'_>) -> Result<Text, Stop>
     ensures { Answers result (name_line line.old) }
 {
     let name = line.name(alloc)?;
-    end(line)?;
-    Ok(name)
+    ended(line, name)
 }
 
 /// NAME ID ATTR ID
@@ -47,8 +46,7 @@ fn link(alloc: Global, line: &mut Line<'_>) -> Result<(Text, Uuid, u16, Uuid), S
     let from = line.identifier()?;
     let attr = line.attribute()?;
     let to = line.identifier()?;
-    end(line)?;
-    Ok((name, from, attr, to))
+    ended(line, (name, from, attr, to))
 }
 
 /// MAX: how many items are asked for.
@@ -72,8 +70,7 @@ fn pull(alloc: Global, line: &mut Line<'_>) -> Result<(Text, Text, u32), Stop>
     let name = line.name(alloc)?;
     let source = line.name(alloc)?;
     let max = limit(line)?;
-    end(line)?;
-    Ok((name, source, max))
+    ended(line, (name, source, max))
 }
 
 /// The name that the line binds, behind `as`.
@@ -92,8 +89,7 @@ fn binding(alloc: Global, line: &mut Line<'_>) -> Result<(Text, Text), Stop>
 {
     let name = line.name(alloc)?;
     let bound = bound(alloc, line)?;
-    end(line)?;
-    Ok((name, bound))
+    ended(line, (name, bound))
 }
 
 #[tactic(auto, unfolding(crate::specs::Commands::controller_line))]
@@ -103,8 +99,7 @@ fn controller(alloc: Global, line: &mut Line<'_>) -> Result<Event, Stop>
     let name = line.name(alloc)?;
     let dsa = line.identifier()?;
     let inv = line.identifier()?;
-    end(line)?;
-    Ok(Event::Controller { name, dsa, inv })
+    ended(line, Event::Controller { name, dsa, inv })
 }
 
 #[tactic(auto, unfolding(crate::specs::Commands::time_line))]
@@ -112,8 +107,7 @@ fn time(line: &mut Line<'_>) -> Result<Event, Stop>
     ensures { Answers result (time_line line.old) }
 {
     let now = line.number()?;
-    end(line)?;
-    Ok(Event::Time { now })
+    ended(line, Event::Time { now })
 }
 
 #[tactic(auto, unfolding(crate::specs::Commands::add_line))]
@@ -159,13 +153,15 @@ fn rename(alloc: Global, line: &mut Line<'_>) -> Result<Event, Stop>
     let parent = line.identifier()?;
     line.skip_spaces();
     let text = line.text(alloc)?;
-    end(line)?;
-    Ok(Event::Rename {
-        name,
-        guid,
-        parent,
-        text,
-    })
+    ended(
+        line,
+        Event::Rename {
+            name,
+            guid,
+            parent,
+            text,
+        },
+    )
 }
 
 #[tactic(auto, unfolding(crate::specs::Commands::delete_line))]
@@ -174,8 +170,7 @@ fn delete(alloc: Global, line: &mut Line<'_>) -> Result<Event, Stop>
 {
     let name = line.name(alloc)?;
     let guid = line.identifier()?;
-    end(line)?;
-    Ok(Event::Delete { name, guid })
+    ended(line, Event::Delete { name, guid })
 }
 
 #[tactic(auto, unfolding(crate::specs::Commands::ask_line))]
@@ -186,13 +181,15 @@ fn ask(alloc: Global, line: &mut Line<'_>) -> Result<Event, Stop>
     let partner = line.name(alloc)?;
     let max = limit(line)?;
     let bound = bound(alloc, line)?;
-    end(line)?;
-    Ok(Event::Ask {
-        name,
-        partner,
-        max,
-        bound,
-    })
+    ended(
+        line,
+        Event::Ask {
+            name,
+            partner,
+            max,
+            bound,
+        },
+    )
 }
 
 #[tactic(auto, unfolding(crate::specs::Commands::serve_line))]
@@ -202,12 +199,14 @@ fn serve(alloc: Global, line: &mut Line<'_>) -> Result<Event, Stop>
     let name = line.name(alloc)?;
     let request = line.name(alloc)?;
     let bound = bound(alloc, line)?;
-    end(line)?;
-    Ok(Event::Serve {
-        name,
-        request,
-        bound,
-    })
+    ended(
+        line,
+        Event::Serve {
+            name,
+            request,
+            bound,
+        },
+    )
 }
 
 #[tactic(auto, unfolding(crate::specs::Commands::deliver_line))]
@@ -216,8 +215,7 @@ fn deliver(alloc: Global, line: &mut Line<'_>) -> Result<Event, Stop>
 {
     let name = line.name(alloc)?;
     let reply = line.name(alloc)?;
-    end(line)?;
-    Ok(Event::Deliver { name, reply })
+    ended(line, Event::Deliver { name, reply })
 }
 
 #[tactic(auto, unfolding(crate::specs::Commands::collect_line))]
@@ -226,8 +224,7 @@ fn collect(alloc: Global, line: &mut Line<'_>) -> Result<Event, Stop>
 {
     let name = line.name(alloc)?;
     let lifetime = line.number()?;
-    end(line)?;
-    Ok(Event::Collect { name, lifetime })
+    ended(line, Event::Collect { name, lifetime })
 }
 
 #[tactic(auto, unfolding(crate::specs::Commands::restore_line))]
@@ -237,8 +234,7 @@ fn restore(alloc: Global, line: &mut Line<'_>) -> Result<Event, Stop>
     let name = line.name(alloc)?;
     let image = line.name(alloc)?;
     let inv = line.identifier()?;
-    end(line)?;
-    Ok(Event::Restore { name, image, inv })
+    ended(line, Event::Restore { name, image, inv })
 }
 
 #[tactic(auto, unfolding(crate::specs::Commands::install_line))]
@@ -249,13 +245,15 @@ fn install(alloc: Global, line: &mut Line<'_>) -> Result<Event, Stop>
     let dsa = line.identifier()?;
     let image = line.name(alloc)?;
     let inv = line.identifier()?;
-    end(line)?;
-    Ok(Event::Install {
-        name,
-        dsa,
-        image,
-        inv,
-    })
+    ended(
+        line,
+        Event::Install {
+            name,
+            dsa,
+            image,
+            inv,
+        },
+    )
 }
 
 #[tactic(auto, unfolding(crate::specs::Commands::rollback_line))]
@@ -264,8 +262,7 @@ fn rollback(alloc: Global, line: &mut Line<'_>) -> Result<Event, Stop>
 {
     let name = line.name(alloc)?;
     let snapshot = line.name(alloc)?;
-    end(line)?;
-    Ok(Event::Rollback { name, snapshot })
+    ended(line, Event::Rollback { name, snapshot })
 }
 
 /// NUM, behind `after`: how many device calls a plan lets pass.
@@ -301,8 +298,7 @@ fn stop_after(line: &mut Line<'_>, name: Text) -> Result<Event, Stop>
 {
     let calls = calls(line)?;
     let how = how(line)?;
-    end(line)?;
-    Ok(Event::StopAfter { name, calls, how })
+    ended(line, Event::StopAfter { name, calls, how })
 }
 
 /// A stop at once, or one that is planned.
@@ -323,8 +319,7 @@ fn fail(alloc: Global, line: &mut Line<'_>) -> Result<Event, Stop>
 {
     let name = line.name(alloc)?;
     let calls = calls(line)?;
-    end(line)?;
-    Ok(Event::Fail { name, calls })
+    ended(line, Event::Fail { name, calls })
 }
 
 /// What a line says behind its verb.

@@ -16,9 +16,6 @@ use adr_event::{Event, Failure};
 use adr_token::utf8;
 use std::alloc::Global;
 
-/// Drops an event, in this place alone: a function that drops such a wide enum has a long proof.
-fn discard(_event: Event) {}
-
 /// What one line says, after the earlier ones.
 fn line_after(alloc: Global, seen: &mut Seen, line: &[u8]) -> Result<Option<Event>, Failure<Cause>>
     ensures says { IfOk result (λ told. line_after seen.old line.now ≡ Ok told) }
@@ -39,7 +36,7 @@ fn line_after(alloc: Global, seen: &mut Seen, line: &[u8]) -> Result<Option<Even
     match seen.admit(alloc, &event) {
         Ok(()) => Ok(Some(event)),
         Err(failure) => {
-            discard(event);
+            drop(event);
             Err(failure)
         }
     }
@@ -55,7 +52,7 @@ fn keep(events: &mut Vec<Event>, told: Option<Event>) -> Result<(), Failure<Caus
         Some(event) => match events.push(event) {
             Ok(()) => Ok(()),
             Err(failed) => {
-                discard(failed.value);
+                drop(failed.value);
                 Err(Failure::NoMemory)
             }
         },
@@ -128,7 +125,9 @@ fn read_text(
         }));
     }
     let mut seen = Seen::nothing(alloc);
-    read_lines(alloc, events, &mut seen, text)
+    let told = read_lines(alloc, events, &mut seen, text);
+    drop(seen);
+    told
 }
 
 /// The events of a text, or its first bad line.

@@ -3,9 +3,13 @@
 ghost use Rattle.std.specs.Prelude.{◌≡◌, ◌++◌, ◌∷◌, [], ℕ, List, IfOk, OnOk, codes, flat_map, map, take};
 ghost use Rattle.std.specs.Fmt.{decimal};
 ghost use Rattle.adr_token.specs.Spelling.{attribute_token, class_token, identifier_token, set_token, text_token};
+ghost use Rattle.adr_schedule.specs.Crashes.{crash_word};
+ghost use Rattle.adr_schedule.specs.Verbs.{word_of};
 ghost use Rattle.adr_schedule.specs.Printed.{line_of, printed, set_tokens, spaced, token_of, token_text};
 
 use crate::crashes::crash_word;
+use crate::verb::Verb;
+use adr_disk::Crash;
 use adr_event::Event;
 use adr_schema::{Assignments, NoMemory, Text, Value};
 use adr_token::{
@@ -56,13 +60,13 @@ fn push_tokens(alloc: Global, out: &mut Vec<u8>, tokens: &[Token<'_>]) -> Result
 fn push_words(
     alloc: Global,
     out: &mut Vec<u8>,
-    verb: &[u8],
+    verb: Verb,
     tokens: &[Token<'_>],
 ) -> Result<(), NoMemory>
     ensures { OnOk result (out.new.items
-        ≡ out.old.items ++ (verb.now ++ spaced (map (λ token. token_text (token_of token)) tokens.now))) }
+        ≡ out.old.items ++ (word_of verb ++ spaced (map (λ token. token_text (token_of token)) tokens.now))) }
 {
-    push(out, verb)?;
+    push(out, verb.word())?;
     push_tokens(alloc, out, tokens)
 }
 
@@ -112,7 +116,7 @@ fn push_add<'a>(
         Token::Identifier(parent),
         Token::Quoted(text),
     ];
-    push_words(alloc, out, b"add", &tokens)?;
+    push_words(alloc, out, Verb::Add, &tokens)?;
     push_sets(alloc, out, values)
 }
 
@@ -129,14 +133,14 @@ fn push_modify(
     push_words(
         alloc,
         out,
-        b"modify",
+        Verb::Modify,
         &[Token::Name(name), Token::Identifier(guid)],
     )?;
     push_sets(alloc, out, values)
 }
 
-fn push_named(alloc: Global, out: &mut Vec<u8>, verb: &[u8], name: &Text) -> Result<(), NoMemory>
-    ensures { OnOk result (out.new.items ≡ out.old.items ++ (verb.now ++ spaced (name.now ∷ []))) }
+fn push_named(alloc: Global, out: &mut Vec<u8>, verb: Verb, name: &Text) -> Result<(), NoMemory>
+    ensures { OnOk result (out.new.items ≡ out.old.items ++ (word_of verb ++ spaced (name.now ∷ []))) }
 {
     push_words(alloc, out, verb, &[Token::Name(name)])
 }
@@ -144,7 +148,7 @@ fn push_named(alloc: Global, out: &mut Vec<u8>, verb: &[u8], name: &Text) -> Res
 fn push_link(
     alloc: Global,
     out: &mut Vec<u8>,
-    verb: &[u8],
+    verb: Verb,
     name: &Text,
     from: Uuid,
     attr: u16,
@@ -152,7 +156,7 @@ fn push_link(
 ) -> Result<(), NoMemory>
     ensures { OnOk result (out.new.items
         ≡ out.old.items
-        ++ (verb.now
+        ++ (word_of verb
         ++ spaced (name.now ∷ identifier_token from ∷ attribute_token attr ∷ identifier_token to ∷ []))) }
 {
     let tokens = [
@@ -164,16 +168,126 @@ fn push_link(
     push_words(alloc, out, verb, &tokens)
 }
 
+fn push_controller(
+    alloc: Global,
+    out: &mut Vec<u8>,
+    name: &Text,
+    dsa: Uuid,
+    inv: Uuid,
+) -> Result<(), NoMemory>
+    ensures { OnOk result (out.new.items
+        ≡ out.old.items
+        ++ (codes "controller" ++ spaced (name.now ∷ identifier_token dsa ∷ identifier_token inv ∷ []))) }
+{
+    let tokens = [
+        Token::Name(name),
+        Token::Identifier(dsa),
+        Token::Identifier(inv),
+    ];
+    push_words(alloc, out, Verb::Controller, &tokens)
+}
+
+fn push_time(alloc: Global, out: &mut Vec<u8>, now: u64) -> Result<(), NoMemory>
+    ensures { OnOk result (out.new.items ≡ out.old.items ++ (codes "time" ++ spaced (decimal now ∷ []))) }
+{
+    push_words(alloc, out, Verb::Time, &[Token::Number(now)])
+}
+
+fn push_rename<'a>(
+    alloc: Global,
+    out: &mut Vec<u8>,
+    name: &'a Text,
+    guid: Uuid,
+    parent: Uuid,
+    text: &'a Text,
+) -> Result<(), NoMemory>
+    ensures { OnOk result (out.new.items
+        ≡ out.old.items
+        ++ (codes "rename"
+        ++ spaced (name.now ∷ identifier_token guid ∷ identifier_token parent ∷ text_token text.now ∷ []))) }
+{
+    let tokens = [
+        Token::Name(name),
+        Token::Identifier(guid),
+        Token::Identifier(parent),
+        Token::Quoted(text),
+    ];
+    push_words(alloc, out, Verb::Rename, &tokens)
+}
+
+fn push_delete(alloc: Global, out: &mut Vec<u8>, name: &Text, guid: Uuid) -> Result<(), NoMemory>
+    ensures { OnOk result (out.new.items
+        ≡ out.old.items ++ (codes "delete" ++ spaced (name.now ∷ identifier_token guid ∷ []))) }
+{
+    let tokens = [Token::Name(name), Token::Identifier(guid)];
+    push_words(alloc, out, Verb::Delete, &tokens)
+}
+
+fn push_ask<'a>(
+    alloc: Global,
+    out: &mut Vec<u8>,
+    name: &'a Text,
+    partner: &'a Text,
+    max: u32,
+    bound: &'a Text,
+) -> Result<(), NoMemory>
+    ensures { OnOk result (out.new.items
+        ≡ out.old.items
+        ++ (codes "ask" ++ spaced (name.now ∷ partner.now ∷ decimal max ∷ codes "as" ∷ bound.now ∷ []))) }
+{
+    let tokens = [
+        Token::Name(name),
+        Token::Name(partner),
+        Token::Number(u64::from(max)),
+        Token::Word(b"as"),
+        Token::Name(bound),
+    ];
+    push_words(alloc, out, Verb::Ask, &tokens)
+}
+
+fn push_serve<'a>(
+    alloc: Global,
+    out: &mut Vec<u8>,
+    name: &'a Text,
+    request: &'a Text,
+    bound: &'a Text,
+) -> Result<(), NoMemory>
+    ensures { OnOk result (out.new.items
+        ≡ out.old.items
+        ++ (codes "serve" ++ spaced (name.now ∷ request.now ∷ codes "as" ∷ bound.now ∷ []))) }
+{
+    let tokens = [
+        Token::Name(name),
+        Token::Name(request),
+        Token::Word(b"as"),
+        Token::Name(bound),
+    ];
+    push_words(alloc, out, Verb::Serve, &tokens)
+}
+
+fn push_use<'a>(
+    alloc: Global,
+    out: &mut Vec<u8>,
+    verb: Verb,
+    name: &'a Text,
+    used: &'a Text,
+) -> Result<(), NoMemory>
+    ensures { OnOk result (out.new.items
+        ≡ out.old.items ++ (word_of verb ++ spaced (name.now ∷ used.now ∷ []))) }
+{
+    push_words(alloc, out, verb, &[Token::Name(name), Token::Name(used)])
+}
+
 fn push_pull<'a>(
     alloc: Global,
     out: &mut Vec<u8>,
-    verb: &[u8],
+    verb: Verb,
     name: &'a Text,
     source: &'a Text,
     max: u32,
 ) -> Result<(), NoMemory>
     ensures { OnOk result (out.new.items
-        ≡ out.old.items ++ (verb.now ++ spaced (name.now ∷ source.now ∷ decimal max ∷ []))) }
+        ≡ out.old.items ++ (word_of verb ++ spaced (name.now ∷ source.now ∷ decimal max ∷ []))) }
 {
     let tokens = [
         Token::Name(name),
@@ -183,23 +297,113 @@ fn push_pull<'a>(
     push_words(alloc, out, verb, &tokens)
 }
 
+fn push_collect(
+    alloc: Global,
+    out: &mut Vec<u8>,
+    name: &Text,
+    lifetime: u64,
+) -> Result<(), NoMemory>
+    ensures { OnOk result (out.new.items
+        ≡ out.old.items ++ (codes "collect" ++ spaced (name.now ∷ decimal lifetime ∷ []))) }
+{
+    let tokens = [Token::Name(name), Token::Number(lifetime)];
+    push_words(alloc, out, Verb::Collect, &tokens)
+}
+
+fn push_copy<'a>(
+    alloc: Global,
+    out: &mut Vec<u8>,
+    verb: Verb,
+    name: &'a Text,
+    bound: &'a Text,
+) -> Result<(), NoMemory>
+    ensures { OnOk result (out.new.items
+        ≡ out.old.items ++ (word_of verb ++ spaced (name.now ∷ codes "as" ∷ bound.now ∷ []))) }
+{
+    let tokens = [Token::Name(name), Token::Word(b"as"), Token::Name(bound)];
+    push_words(alloc, out, verb, &tokens)
+}
+
+fn push_restore<'a>(
+    alloc: Global,
+    out: &mut Vec<u8>,
+    name: &'a Text,
+    image: &'a Text,
+    inv: Uuid,
+) -> Result<(), NoMemory>
+    ensures { OnOk result (out.new.items
+        ≡ out.old.items ++ (codes "restore" ++ spaced (name.now ∷ image.now ∷ identifier_token inv ∷ []))) }
+{
+    let tokens = [
+        Token::Name(name),
+        Token::Name(image),
+        Token::Identifier(inv),
+    ];
+    push_words(alloc, out, Verb::Restore, &tokens)
+}
+
+fn push_install<'a>(
+    alloc: Global,
+    out: &mut Vec<u8>,
+    name: &'a Text,
+    dsa: Uuid,
+    image: &'a Text,
+    inv: Uuid,
+) -> Result<(), NoMemory>
+    ensures { OnOk result (out.new.items
+        ≡ out.old.items
+        ++ (codes "install"
+        ++ spaced (name.now ∷ identifier_token dsa ∷ image.now ∷ identifier_token inv ∷ []))) }
+{
+    let tokens = [
+        Token::Name(name),
+        Token::Identifier(dsa),
+        Token::Name(image),
+        Token::Identifier(inv),
+    ];
+    push_words(alloc, out, Verb::Install, &tokens)
+}
+
+fn push_stop_after(
+    alloc: Global,
+    out: &mut Vec<u8>,
+    name: &Text,
+    calls: u32,
+    how: Crash,
+) -> Result<(), NoMemory>
+    ensures { OnOk result (out.new.items
+        ≡ out.old.items
+        ++ (codes "stop" ++ spaced (name.now ∷ codes "after" ∷ decimal calls ∷ crash_word how ∷ []))) }
+{
+    let tokens = [
+        Token::Name(name),
+        Token::Word(b"after"),
+        Token::Number(u64::from(calls)),
+        Token::Word(crash_word(how)),
+    ];
+    push_words(alloc, out, Verb::Stop, &tokens)
+}
+
+fn push_fail(alloc: Global, out: &mut Vec<u8>, name: &Text, calls: u32) -> Result<(), NoMemory>
+    ensures { OnOk result (out.new.items
+        ≡ out.old.items ++ (codes "fail" ++ spaced (name.now ∷ codes "after" ∷ decimal calls ∷ []))) }
+{
+    let tokens = [
+        Token::Name(name),
+        Token::Word(b"after"),
+        Token::Number(u64::from(calls)),
+    ];
+    push_words(alloc, out, Verb::Fail, &tokens)
+}
+
 /// Adds the line of an event, by one call for each kind: an arm with many steps makes a long proof.
 #[tactic(auto, unfolding(crate::specs::Printed::line_of, crate::specs::Grammar::tokens_in))]
 fn push_line(alloc: Global, out: &mut Vec<u8>, event: &Event) -> Result<(), NoMemory>
     ensures { OnOk result (out.new.items ≡ out.old.items ++ line_of event.now) }
 {
     match event {
-        Event::Controller { name, dsa, inv } => push_words(
-            alloc,
-            out,
-            b"controller",
-            &[
-                Token::Name(name),
-                Token::Identifier(*dsa),
-                Token::Identifier(*inv),
-            ],
-        ),
-        Event::Time { now } => push_words(alloc, out, b"time", &[Token::Number(*now)]),
+        Event::Controller { name, dsa, inv } => push_controller(alloc, out, name, *dsa, *inv),
+        Event::Time { now } => push_time(alloc, out, *now),
         Event::Add {
             name,
             guid,
@@ -214,151 +418,59 @@ fn push_line(alloc: Global, out: &mut Vec<u8>, event: &Event) -> Result<(), NoMe
             guid,
             parent,
             text,
-        } => push_words(
-            alloc,
-            out,
-            b"rename",
-            &[
-                Token::Name(name),
-                Token::Identifier(*guid),
-                Token::Identifier(*parent),
-                Token::Quoted(text),
-            ],
-        ),
-        Event::Delete { name, guid } => push_words(
-            alloc,
-            out,
-            b"delete",
-            &[Token::Name(name), Token::Identifier(*guid)],
-        ),
+        } => push_rename(alloc, out, name, *guid, *parent, text),
+        Event::Delete { name, guid } => push_delete(alloc, out, name, *guid),
         Event::Link {
             name,
             from,
             attr,
             to,
-        } => push_link(alloc, out, b"link", name, *from, *attr, *to),
+        } => push_link(alloc, out, Verb::Link, name, *from, *attr, *to),
         Event::Unlink {
             name,
             from,
             attr,
             to,
-        } => push_link(alloc, out, b"unlink", name, *from, *attr, *to),
+        } => push_link(alloc, out, Verb::Unlink, name, *from, *attr, *to),
         Event::Ask {
             name,
             partner,
             max,
             bound,
-        } => push_words(
-            alloc,
-            out,
-            b"ask",
-            &[
-                Token::Name(name),
-                Token::Name(partner),
-                Token::Number(u64::from(*max)),
-                Token::Word(b"as"),
-                Token::Name(bound),
-            ],
-        ),
+        } => push_ask(alloc, out, name, partner, *max, bound),
         Event::Serve {
             name,
             request,
             bound,
-        } => push_words(
+        } => push_serve(alloc, out, name, request, bound),
+        Event::Deliver { name, reply } => push_use(alloc, out, Verb::Deliver, name, reply),
+        Event::Pull { name, source, max } => push_pull(alloc, out, Verb::Pull, name, source, *max),
+        Event::Cycle { name, source, max } => push_pull(
             alloc,
             out,
-            b"serve",
-            &[
-                Token::Name(name),
-                Token::Name(request),
-                Token::Word(b"as"),
-                Token::Name(bound),
-            ],
+            Verb::Cycle,
+            name,
+            source,
+            *max,
         ),
-        Event::Deliver { name, reply } => push_words(
-            alloc,
-            out,
-            b"deliver",
-            &[Token::Name(name), Token::Name(reply)],
-        ),
-        Event::Pull { name, source, max } => push_pull(alloc, out, b"pull", name, source, *max),
-        Event::Cycle { name, source, max } => push_pull(alloc, out, b"cycle", name, source, *max),
-        Event::Collect { name, lifetime } => push_words(
-            alloc,
-            out,
-            b"collect",
-            &[Token::Name(name), Token::Number(*lifetime)],
-        ),
-        Event::Backup { name, bound } => push_words(
-            alloc,
-            out,
-            b"backup",
-            &[Token::Name(name), Token::Word(b"as"), Token::Name(bound)],
-        ),
-        Event::Restore { name, image, inv } => push_words(
-            alloc,
-            out,
-            b"restore",
-            &[
-                Token::Name(name),
-                Token::Name(image),
-                Token::Identifier(*inv),
-            ],
-        ),
+        Event::Collect { name, lifetime } => push_collect(alloc, out, name, *lifetime),
+        Event::Backup { name, bound } => push_copy(alloc, out, Verb::Backup, name, bound),
+        Event::Restore { name, image, inv } => push_restore(alloc, out, name, image, *inv),
         Event::Install {
             name,
             dsa,
             image,
             inv,
-        } => push_words(
-            alloc,
-            out,
-            b"install",
-            &[
-                Token::Name(name),
-                Token::Identifier(*dsa),
-                Token::Name(image),
-                Token::Identifier(*inv),
-            ],
-        ),
-        Event::Snapshot { name, bound } => push_words(
-            alloc,
-            out,
-            b"snapshot",
-            &[Token::Name(name), Token::Word(b"as"), Token::Name(bound)],
-        ),
-        Event::Rollback { name, snapshot } => push_words(
-            alloc,
-            out,
-            b"rollback",
-            &[Token::Name(name), Token::Name(snapshot)],
-        ),
-        Event::StopAfter { name, calls, how } => push_words(
-            alloc,
-            out,
-            b"stop",
-            &[
-                Token::Name(name),
-                Token::Word(b"after"),
-                Token::Number(u64::from(*calls)),
-                Token::Word(crash_word(*how)),
-            ],
-        ),
-        Event::Fail { name, calls } => push_words(
-            alloc,
-            out,
-            b"fail",
-            &[
-                Token::Name(name),
-                Token::Word(b"after"),
-                Token::Number(u64::from(*calls)),
-            ],
-        ),
-        Event::Stop { name } => push_named(alloc, out, b"stop", name),
-        Event::Start { name } => push_named(alloc, out, b"start", name),
-        Event::Show { name } => push_named(alloc, out, b"show", name),
-        Event::Vector { name } => push_named(alloc, out, b"vector", name),
-        Event::Marks { name } => push_named(alloc, out, b"marks", name),
+        } => push_install(alloc, out, name, *dsa, image, *inv),
+        Event::Snapshot { name, bound } => push_copy(alloc, out, Verb::Snapshot, name, bound),
+        Event::Rollback { name, snapshot } => push_use(alloc, out, Verb::Rollback, name, snapshot),
+        Event::StopAfter { name, calls, how } => push_stop_after(alloc, out, name, *calls, *how),
+        Event::Fail { name, calls } => push_fail(alloc, out, name, *calls),
+        Event::Stop { name } => push_named(alloc, out, Verb::Stop, name),
+        Event::Start { name } => push_named(alloc, out, Verb::Start, name),
+        Event::Show { name } => push_named(alloc, out, Verb::Show, name),
+        Event::Vector { name } => push_named(alloc, out, Verb::Vector, name),
+        Event::Marks { name } => push_named(alloc, out, Verb::Marks, name),
     }
 }
 

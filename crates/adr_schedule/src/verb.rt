@@ -63,7 +63,8 @@ const VERBS: [Verb; 25] = [
 ];
 
 impl Verb {
-    fn word(self) -> &'static [u8]
+    /// The word of a verb.
+    pub fn word(self) -> &'static [u8]
         ensures { result.now ≡ word_of self }
     {
         match self {
