@@ -13,7 +13,7 @@ use Rattle.adr_model.specs.Change.{Change, after}
 use Rattle.adr_model.specs.Formed.{IsFormedStore, IsFormed}
 use Rattle.adr_model.specs.Collect.{deaths_to_collect, collection}
 use Rattle.adr_law_knowledge.proofs.Raised.{raised_up, raised_is_vector, raised_replaces}
-use Rattle.adr_law_steps.proofs.Rising.{removals_rise}
+use Rattle.adr_law_knowledge.proofs.RisingHeld.{removals_rise}
 use Rattle.adr_law_collecting.specs.Collectable.{IsCollectable}
 use Rattle.adr_law_collecting.proofs.Deaths.{all_collectable}
 use Rattle.adr_law_collecting.proofs.Vectors.{purged_within, purged_covers, purged_is_vector}

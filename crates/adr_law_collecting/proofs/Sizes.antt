@@ -8,7 +8,7 @@ use Rattle.adr_model.specs.Formed.{AreRising}
 use Rattle.adr_law_knowledge.proofs.Standing.{among_objects, objects_within}
 use Rattle.adr_law_steps.proofs.Rows.{updated}
 use Rattle.adr_law_steps.proofs.Counts.{links_within}
-use Rattle.adr_law_steps.proofs.Rising.{removals_rise}
+use Rattle.adr_law_knowledge.proofs.RisingHeld.{removals_rise}
 use Rattle.adr_law_collecting.proofs.Removing.{without, stood_before, update_stood}
 
 pub objects_fewer : (os : List Oid) (rows : List Held) → length (objects_of (updates_of (without os rows))) ≤ length (objects_of (updates_of rows))

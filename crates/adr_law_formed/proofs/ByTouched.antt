@@ -26,7 +26,7 @@ use Rattle.adr_law_steps.specs.Puts.{held_at}
 use Rattle.adr_law_steps.proofs.Rows.{updated, held_as}
 use Rattle.adr_law_steps.proofs.Locals.{unit_or_not}
 use Rattle.adr_law_steps.proofs.FormedSame.{named_same, object_same}
-use Rattle.adr_law_steps.proofs.Rising.{removals_rise}
+use Rattle.adr_law_knowledge.proofs.RisingHeld.{removals_rise}
 use Rattle.adr_law_collecting.proofs.Removing.{stood_before, update_stood, update_stands, removed_is_absent, row_of_tells, stay_alone}
 use Rattle.adr_law_collecting.proofs.Sizes.{objects_fewer, links_fewer}
 use Rattle.adr_law_formed.specs.Spelled.{IsSaidOfKey}

@@ -24,7 +24,7 @@ use Rattle.adr_model.specs.Take.{mark_limit}
 use Rattle.adr_law_steps.proofs.Rows.{updated, held_as}
 use Rattle.adr_law_steps.proofs.Order.{puts_rise}
 use Rattle.adr_law_taking.proofs.Tests.{IsFound, row_found, holds_where_tested, lacks_where_untested}
-use Rattle.adr_law_steps.proofs.Rising.{removals_rise}
+use Rattle.adr_law_knowledge.proofs.RisingHeld.{removals_rise}
 use Rattle.adr_law_writing.proofs.Stamps.{row_held_is}
 use Rattle.adr_law_formed.specs.Follow.{IsRemovable, HasKnownClasses, CanFollow}
 use Rattle.adr_law_formed.specs.Touched.{IsInForm, AreTouchedInForm, CanFollowByTouched}

@@ -1,5 +1,5 @@
 -- Lists that rise, as the order of a store says it, and their lengths: a rising list is no longer than a list that has its members.
-use Rattle.std.proofs.Common.{◌≡◌, inl, inr, ⊎_elim, ◌≤◌, ◌+◌, List, [], ◌∷◌, refl, sym, ap, ◌∙◌, subst, fold, map, length, arith}
+use Rattle.std.proofs.Common.{◌≡◌, inl, inr, ⊎_elim, ◌≤◌, ◌+◌, List, [], ◌∷◌, Bool, true, false, cond, refl, sym, ap, ◌∙◌, subst, filter, fold, map, length, arith}
 use Rattle.std.specs.List.{AllByRecursion}
 use Rattle.std.specs.List.Sorted.{IsStrictlySortedBy}
 use Rattle.std.specs.Ordering.{match_ordering}
@@ -35,6 +35,25 @@ module _ {A K : Type 0} (R : K → K → Ordering) (total : IsTotalOrder R) (f :
   one_of_each (z ∷ zs) r x (inl p) y (inr n) e = absurd (apart (f z) (f y) (r.0 (f y) (member_mapped f zs y n)) (ap f (sym p) ∙ e))
   one_of_each (z ∷ zs) r x (inr m) y (inl q) e = absurd (apart (f z) (f x) (r.0 (f x) (member_mapped f zs x m)) (ap f (sym q) ∙ sym e))
   one_of_each (z ∷ zs) r x (inr m) y (inr n) e = one_of_each zs r.1 x m y n e
+
+-- what is filtered of a list that rises by something of its members rises by it
+module _ {A K : Type 0} (R : K → K → Ordering) (f : A → K) where
+  all_filtered : (k : K) (test : A → Bool) (xs : List A) → AllByRecursion (λ l. R k l ≡ Less) (map f xs) → AllByRecursion (λ l. R k l ≡ Less) (map f (filter test xs))
+  all_filtered k test [] all = all
+  all_filtered k test (x ∷ xs) all = by (test x) (all_filtered k test xs all.1)
+    where
+      by : (b : Bool) → AllByRecursion (λ l. R k l ≡ Less) (map f (filter test xs)) → AllByRecursion (λ l. R k l ≡ Less) (map f (cond b (x ∷ filter test xs) (filter test xs)))
+      by true rest = (all.0, rest)
+      by false rest = rest
+
+  pub filtered_rise : (test : A → Bool) (xs : List A) → IsStrictlySortedBy R (map f xs) → IsStrictlySortedBy R (map f (filter test xs))
+  unfolding IsStrictlySortedBy
+  filtered_rise test [] rising = rising
+  filtered_rise test (x ∷ xs) rising = by (test x) (filtered_rise test xs rising.1)
+    where
+      by : (b : Bool) → IsStrictlySortedBy R (map f (filter test xs)) → IsStrictlySortedBy R (map f (cond b (x ∷ filter test xs) (filter test xs)))
+      by true rest = (all_filtered (f x) test xs rising.0, rest)
+      by false rest = rest
 
 module _ {A : Type 0} (R : A → A → Ordering) (one_way : (x y : A) → R x y ≡ Less → R y x ≡ Less → ⊥) where
   -- what follows a head that isn't below the other list's head is in the other list's rest

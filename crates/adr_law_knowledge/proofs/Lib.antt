@@ -9,3 +9,6 @@ pub mod View
 pub mod Refusing
 pub mod Fewer
 pub mod Raised
+pub mod Filters
+pub mod RisingHeld
+pub mod PassingRows

@@ -17,7 +17,7 @@ use Rattle.adr_law_knowledge.proofs.Comparing.{keys_tell, same_where_equal}
 use Rattle.adr_law_knowledge.proofs.Lists.{filter_rises, sorted_rises, of_sorted, in_sorted}
 use Rattle.adr_law_knowledge.proofs.Counting.{no_longer}
 
-birth_key : (k : Key) (o : Oid) → born k ≡ Some o → k ≡ RowOf o class_attr
+pub birth_key : (k : Key) (o : Oid) → born k ≡ Some o → k ≡ RowOf o class_attr
 birth_key (RowOf p attr) o e = by (attr == class_attr) refl e
   where
     by : (b : Bool) → (attr == class_attr) ≡ b → (if b then Some p else None) ≡ Some o → RowOf p attr ≡ RowOf o class_attr

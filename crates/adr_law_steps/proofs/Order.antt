@@ -15,7 +15,7 @@ use Rattle.adr_model.proofs.Members.{mapped_member}
 use Rattle.adr_model.proofs.Keys.{objects_tell}
 use Rattle.adr_law_steps.specs.Puts.{held_at, under, MayPut, IsReplaced, IsStripped, ArePut}
 use Rattle.adr_law_steps.proofs.Locals.{unit_or_not, within_last, last_within, same_last}
-use Rattle.adr_law_steps.proofs.Rising.{removals_rise, put_rises}
+use Rattle.adr_law_knowledge.proofs.RisingHeld.{removals_rise, put_rises}
 
 pub puts_rise : (rows hs : List Held) → AreRising rows → AreRising (fold put rows hs)
 puts_rise rows [] r = r

@@ -1,48 +1,12 @@
--- Rows in order of their keys stay so where one is put.
-use Rattle.std.proofs.Common.{◌≡◌, List, [], fold, ◌∷◌, Bool, true, false, cond, refl, sym, ap, ◌∙◌, subst, filter, map, Option, Some, None, not}
-use Rattle.std.specs.List.{AllByRecursion}
-use Rattle.std.specs.List.Sorted.{IsStrictlySortedBy}
-use Rattle.std.specs.Ordering.{match_ordering, ordering_reverse}
-use Rattle.std.specs.declared.cmp.Ordering.{Ordering}
-use Rattle.std.specs.declared.cmp.Ordering.TheVariants.{Less, Equal, Greater}
-use Rattle.std.proofs.lemmas.List.Kept.{IsStrictlySortedBy-filter}
-use Rattle.std.proofs.lemmas.Map.Keys.{sorted_head, sorted_tail}
-use Rattle.adr_stamp.specs.declared.Oid.{Oid}
+-- Of rows in the order of their keys there is one of each key.
+use Rattle.std.proofs.Common.{◌≡◌, List, sym, ap, ◌∙◌, map}
 use Rattle.adr_model.specs.Member.{Each}
-use Rattle.adr_model.specs.Update.{Key, Update, key_order}
-use Rattle.adr_model.specs.Store.{Held, is_row_of, updates_of, with_row}
-use Rattle.adr_model.specs.Change.{goes_with, killed_by, stripped, put, without_object}
+use Rattle.adr_model.specs.Update.{Update, key_order}
+use Rattle.adr_model.specs.Store.{Held, updates_of}
 use Rattle.adr_model.specs.Formed.{AreRising}
-use Rattle.adr_model.proofs.Keys.{exact_keys, keys_total}
+use Rattle.adr_model.proofs.Keys.{keys_total}
 use Rattle.adr_law_knowledge.proofs.Counting.{rises_from, one_of_each}
 use Rattle.adr_law_steps.proofs.Rows.{held_as}
-
--- a key below those of all these rows
-abbrev IsBelow : Key → List Held → Type 0
-IsBelow k rows = AllByRecursion (λ l. key_order k l ≡ Less) (map (λ (h : Held). h.update.key) rows)
-
-head_below : (x : Held) (xs : List Held) → AreRising (x ∷ xs) → IsBelow x.update.key xs
-head_below x xs r = sorted_head key_order x.update.key (map (λ (h : Held). h.update.key) xs) r
-
-tail_rising : (x : Held) (xs : List Held) → AreRising (x ∷ xs) → AreRising xs
-tail_rising x xs r = sorted_tail key_order x.update.key (map (λ (h : Held). h.update.key) xs) r
-
-none_rising : AreRising []
-unfolding IsStrictlySortedBy
-none_rising = tt
-
-one_more : (x : Held) (xs : List Held) → IsBelow x.update.key xs → AreRising xs → AreRising (x ∷ xs)
-unfolding IsStrictlySortedBy
-one_more x xs b r = (b, r)
-
-below_all : (k l : Key) (xs : List Held) → key_order k l ≡ Less → IsBelow l xs → IsBelow k xs
-below_all k l [] less b = tt
-below_all k l (x ∷ xs) less b = (keys_total.trans k l x.update.key less b.0, below_all k l xs less b.1)
-
-below_same : (k l : Key) (xs : List Held) → k ≡ l → IsBelow l xs → IsBelow k xs
-below_same k l xs e b = subst (λ m. IsBelow m xs) (sym e) b
-
--- ---- of each key one
 
 pub one_of_key : (rows : List Held) → AreRising rows → Each (λ x. Each (λ y. x.update.key ≡ y.update.key → x ≡ y) rows) rows
 one_of_key rows r = one_of_each key_order keys_total (λ (h : Held). h.update.key) rows (rises_from key_order (map (λ (h : Held). h.update.key) rows) r)
@@ -52,49 +16,3 @@ one_update rows rising u m v n e =
     let x = held_as rows u m in
     let y = held_as rows v n in
     x.2 ∙ ap (λ (h : Held). h.update) (one_of_key rows rising x.0 x.1 y.0 y.1 (ap (λ (w : Update). w.key) (sym x.2) ∙ e ∙ ap (λ (w : Update). w.key) y.2)) ∙ sym y.2
-
--- ---- a row more
-
-below_with_row : (k : Key) (xs : List Held) (h : Held) → key_order k h.update.key ≡ Less → IsBelow k xs → IsBelow k (with_row xs h)
-below_with_row k [] h less b = (less, tt)
-below_with_row k (x ∷ xs) h less b = by (key_order h.update.key x.update.key) (below_with_row k xs h less b.1)
-  where
-    by : (o : Ordering) → IsBelow k (with_row xs h) → IsBelow k (match_ordering o (h ∷ x ∷ xs) (h ∷ xs) (x ∷ with_row xs h))
-    by Less rest = (less, b)
-    by Equal rest = (less, b.1)
-    by Greater rest = (b.0, rest)
-
-with_row_rises : (xs : List Held) (h : Held) → AreRising xs → AreRising (with_row xs h)
-with_row_rises [] h r = one_more h [] tt none_rising
-with_row_rises (x ∷ xs) h r = by (key_order h.update.key x.update.key) refl (with_row_rises xs h (tail_rising x xs r))
-  where
-    by : (o : Ordering) → key_order h.update.key x.update.key ≡ o → AreRising (with_row xs h) → AreRising (match_ordering o (h ∷ x ∷ xs) (h ∷ xs) (x ∷ with_row xs h))
-    by Less is rest = one_more h (x ∷ xs) (is, below_all h.update.key x.update.key xs is (head_below x xs r)) r
-    by Equal is rest = one_more h xs (below_same h.update.key x.update.key xs (exact_keys h.update.key x.update.key is) (head_below x xs r)) (tail_rising x xs r)
-    by Greater is rest = one_more x (with_row xs h) (below_with_row x.update.key xs h (keys_total.antisymm x.update.key h.update.key ∙ ap ordering_reverse is) (head_below x xs r)) rest
-
--- ---- rows fewer
-
-keys_filtered : (test : Key → Bool) (xs : List Held) → map (λ (h : Held). h.update.key) (filter (λ h. test h.update.key) xs) ≡ filter test (map (λ (h : Held). h.update.key) xs)
-keys_filtered test [] = refl
-keys_filtered test (x ∷ xs) = by (test x.update.key) (keys_filtered test xs)
-  where
-    by : (b : Bool) → map (λ (h : Held). h.update.key) (filter (λ h. test h.update.key) xs) ≡ filter test (map (λ (h : Held). h.update.key) xs)
-        → map (λ (h : Held). h.update.key) (cond b (x ∷ filter (λ h. test h.update.key) xs) (filter (λ h. test h.update.key) xs))
-        ≡ cond b (x.update.key ∷ filter test (map (λ (h : Held). h.update.key) xs)) (filter test (map (λ (h : Held). h.update.key) xs))
-    by true rest = ap (λ ks. x.update.key ∷ ks) rest
-    by false rest = rest
-
-fewer_rise : (test : Key → Bool) (rows : List Held) → AreRising rows → AreRising (filter (λ h. test h.update.key) rows)
-fewer_rise test rows r = subst (IsStrictlySortedBy key_order) (sym (keys_filtered test rows)) (IsStrictlySortedBy-filter key_order test (map (λ (h : Held). h.update.key) rows) r)
-
-stripped_rises : (o : Option Oid) (rows : List Held) → AreRising rows → AreRising (stripped o rows)
-stripped_rises None rows r = r
-stripped_rises (Some o) rows r = fewer_rise (λ k. not (goes_with o k)) rows r
-
-pub removals_rise : (os : List Oid) (rows : List Held) → AreRising rows → AreRising (fold without_object rows os)
-removals_rise [] rows r = r
-removals_rise (o ∷ os) rows r = removals_rise os (without_object rows o) (fewer_rise (λ k. not (is_row_of o k)) rows r)
-
-pub put_rises : (rows : List Held) (h : Held) → AreRising rows → AreRising (put rows h)
-put_rises rows h r = stripped_rises (killed_by h.update.key) (with_row rows h) (with_row_rises rows h r)

@@ -8,7 +8,6 @@ use Rattle.std.specs.declared.cmp.Ordering.{Ordering}
 use Rattle.std.specs.declared.cmp.Ordering.TheVariants.{Less, Equal, Greater}
 use Rattle.std.proofs.lemmas.Cmp.{tied_itself, nat_list_cmp_total, nat_cmp_total}
 use Rattle.std.proofs.lemmas.Bool.{and_parts}
-use Rattle.std.proofs.lemmas.List.Kept.{IsStrictlySortedBy-filter}
 use Rattle.std.proofs.lemmas.Map.Lookups.{exact_bytes}
 use Rattle.adr_stamp.specs.Order.{object_order, identifier_order, birth_order}
 use Rattle.adr_stamp.specs.declared.Oid.{Oid}
@@ -20,6 +19,7 @@ use Rattle.adr_model.specs.Live.{live, is_among, live_rows}
 use Rattle.adr_model.specs.Place.{Node, row_at, with_name, node_of, nodes_of, node_at}
 use Rattle.adr_model.proofs.Members.{of_filter, of_filter_map}
 use Rattle.adr_model.proofs.Keys.{keys_total}
+use Rattle.adr_law_knowledge.proofs.Counting.{filtered_rise}
 use Rattle.adr_law_tree.specs.InOrder.{AreInOrder, OrderLaw, LookUpLaw}
 use Rattle.adr_law_tree.proofs.Fuel.{itself, one_or_not}
 use Rattle.adr_law_tree.proofs.Walks.{one}
@@ -30,14 +30,6 @@ use Rattle.adr_law_tree.proofs.Unique.{one_live}
 
 abbrev key : Update → Key
 key u = u.key
-
-keys_filtered : (test : Key → Bool) (us : List Update) → map key (filter (λ u. test u.key) us) ≡ filter test (map key us)
-keys_filtered test [] = refl
-keys_filtered test (u ∷ us) = by (test u.key) (keys_filtered test us)
-  where
-    by : (b : Bool) → map key (filter (λ u. test u.key) us) ≡ filter test (map key us) → map key (cond b (u ∷ filter (λ u. test u.key) us) (filter (λ u. test u.key) us)) ≡ cond b (u.key ∷ filter test (map key us)) (filter test (map key us))
-    by true rest = ap (λ ks. u.key ∷ ks) rest
-    by false rest = rest
 
 abbrev IsOf : Key → Said → Node → Type 0
 IsOf k said n = (class : ℕ) × (k ≡ RowOf n.object class_attr) × (said ≡ Holds (Class class))
@@ -117,7 +109,7 @@ module _ (us : List Update) (s : IsStrictlySortedBy key_order (map key us)) wher
   in_order : AreInOrder (nodes_of (live_rows us))
   in_order = subst (λ rows. AreInOrder (nodes_of rows)) (sym rows_are)
       (ordered (filter stays us) (filter stays us) (λ u m. m)
-      (subst (IsStrictlySortedBy key_order) (sym (keys_filtered (λ k. list_all (is_among (live us)) (ends k)) us)) (IsStrictlySortedBy-filter key_order (λ k. list_all (is_among (live us)) (ends k)) (map key us) s)))
+      (filtered_rise key_order key stays us s))
 
 pub order_law : OrderLaw
 order_law us s = in_order us s

@@ -13,7 +13,6 @@ pub mod Climbs
 pub mod Unique
 pub mod InOrder
 pub mod Names
-pub mod RisingHeld
 pub mod Edits
 pub mod Short
 pub mod Trees

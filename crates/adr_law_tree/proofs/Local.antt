@@ -16,11 +16,11 @@ use Rattle.adr_model.specs.Winner.{winner, or_younger}
 use Rattle.adr_model.specs.Live.{born, objects_of, standing, yields_to, live, is_among, live_rows}
 use Rattle.adr_model.specs.Place.{Node, row_at, with_name, node_of, nodes_of, node_at}
 use Rattle.adr_model.specs.Write.{is_of_guid}
-use Rattle.adr_model.proofs.Keys.{equal_order, exact_keys}
+use Rattle.adr_model.proofs.Keys.{equal_order, exact_keys, objects_tell}
 use Rattle.adr_law_tree.specs.Local.{LocalLaw}
 use Rattle.adr_law_tree.proofs.Fuel.{same_guid}
-use Rattle.adr_law_tree.proofs.Kept.{any_kept, find_kept, any_alike, any_of_filter, filters_swap, any_folded, filter_maps_alike, find_of_kept}
-use Rattle.adr_law_tree.proofs.Loops.{same_objects}
+use Rattle.adr_law_knowledge.proofs.Filters.{filters_swap}
+use Rattle.adr_law_tree.proofs.Kept.{any_kept, find_kept, any_alike, any_of_filter, any_folded, filter_maps_alike, find_of_kept}
 use Rattle.adr_law_tree.proofs.RisingRows.{rising_win}
 
 key_of_guid : (g : Identifier) (k : Key) (o : Oid) (a : ℕ) → same_key k (RowOf o a) ≡ true → same_identifier o.guid g ≡ true → is_of_guid g k ≡ true
@@ -126,7 +126,7 @@ module _ (g : Identifier) where
         ∙ sym (any_of_filter t _ (standing us))
 
     live_kept : (o : Oid) → mine o ≡ true → is_among (live (filter of us)) o ≡ is_among (live us) o
-    live_kept o is = of_live (λ p. same_object p o) (λ p e. subst (λ (q : Oid). mine q ≡ true) (sym (same_objects p o e)) is)
+    live_kept o is = of_live (λ p. same_object p o) (λ p e. subst (λ (q : Oid). mine q ≡ true) (sym (objects_tell p o e)) is)
 
     row_stays : (u : Update) → of u ≡ true → list_all (is_among (live (filter of us))) (ends u.key) ≡ list_all (is_among (live us)) (ends u.key)
     row_stays u e = by u.key e

@@ -5,14 +5,12 @@ use Rattle.std.specs.Option.{option_map_or}
 use Rattle.std.specs.Ordering.{is_eq}
 use Rattle.std.proofs.lemmas.Bool.{and_from, and_parts, or_cases, or_left, or_right, not-true}
 use Rattle.std.proofs.lemmas.Cmp.{tied_itself}
-use Rattle.adr_stamp.specs.Order.{object_order}
 use Rattle.adr_stamp.specs.declared.Oid.{Oid}
-use Rattle.adr_stamp.proofs.Exact.{exact_objects}
 use Rattle.adr_stamp.specs.contracts.OidOrd.TheImpl.Laws.{total-law as objects_total}
 use Rattle.adr_model.specs.Member.{Member}
 use Rattle.adr_model.specs.Update.{Identifier, same_object}
 use Rattle.adr_model.specs.Place.{Node, node_at, first_place, upward, above, is_fixed, named_before, breaks_loop, lost_and_found}
-use Rattle.adr_model.proofs.Keys.{equal_order}
+use Rattle.adr_model.proofs.Keys.{objects_tell}
 use Rattle.adr_model.proofs.Members.{all_pass, each_passes, one_passes, some_passes}
 use Rattle.adr_law_tree.specs.Walk.{Look, climb, Up, Met, Breaks, free}
 use Rattle.adr_law_tree.specs.Breaker.{youngest_of, youngest, in_loop, loop_breaker, is_it, AreMore, LoopLaw, RemoveLaw, AbsentLaw}
@@ -20,9 +18,6 @@ use Rattle.adr_law_tree.proofs.Walks.{one, is_found, IsMore, up_still, ClosedBy,
 use Rattle.adr_law_tree.proofs.Fuel.{same_guid, one_or_not}
 use Rattle.adr_law_tree.proofs.Unfixed.{free_of, fixed_of, found_free, keeps_free, within_free, fixed_apart, moved}
 use Rattle.adr_law_tree.proofs.Youngest.{alike_guids, is_youngest}
-
-pub same_objects : (o p : Oid) → same_object o p ≡ true → o ≡ p
-same_objects o p h = exact_objects o p (equal_order (object_order o p) h)
 
 pub object_itself : (o : Oid) → same_object o o ≡ true
 object_itself o = ap is_eq (tied_itself objects_total o)
@@ -102,7 +97,7 @@ module _ (all : List Node) where
   round n own e =
       let t = some_passes (λ m. same_object m.object n.object) (above all n) e in
       let up = of_above all n t.0 t.1 in
-      let is : t.0 ≡ n = own t.0 (ap (λ (o : Oid). free all o.guid) (sym (same_objects t.0.object n.object t.2)) ∙ is_found (free all) (keeps_free all) up.0 n.parent t.0 up.1) in
+      let is : t.0 ≡ n = own t.0 (ap (λ (o : Oid). free all o.guid) (sym (objects_tell t.0.object n.object t.2)) ∙ is_found (free all) (keeps_free all) up.0 n.parent t.0 up.1) in
       subst (λ (m : Node). Met (free all) n.parent m) is up
 
   pub in_round : (n : Node) → Met (free all) n.parent n → in_loop all n ≡ true
@@ -210,7 +205,7 @@ module _ (all : List Node) (x : Node) (more : List Node) (is : AreMore all x mor
         where
           it_is : (o : Option Node) → ClosedBy (free more) x o → is_it o n ≡ true → IsIt o n
           it_is None c it = cc
-          it_is (Some b) c it = one here (ap (λ (o : Oid). node_at more o.guid) (sym (same_objects b.object n.object it)) ∙ breaker_there b c)
+          it_is (Some b) c it = one here (ap (λ (o : Oid). node_at more o.guid) (sym (objects_tell b.object n.object it)) ∙ breaker_there b c)
 
   with_any : (n : Node) → node_at more n.object.guid ≡ Some n → breaks_loop more n ≡ (is_it (loop_breaker more x) n || breaks_loop all n)
   with_any n here = by (is_fixed x.object.guid) refl
@@ -226,7 +221,7 @@ module _ (all : List Node) (x : Node) (more : List Node) (is : AreMore all x mor
   clash n here (Some b) c it e = by (is_fixed x.object.guid) refl
     where
       same : b ≡ n
-      same = one (breaker_there b c) (ap (λ (o : Oid). node_at more o.guid) (same_objects b.object n.object it) ∙ here)
+      same = one (breaker_there b c) (ap (λ (o : Oid). node_at more o.guid) (objects_tell b.object n.object it) ∙ here)
 
       by : (t : Bool) → is_fixed x.object.guid ≡ t → ⊥
       by true fixed = never_round more x fixed c.0

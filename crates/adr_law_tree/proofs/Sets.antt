@@ -4,12 +4,13 @@ use Rattle.std.specs.Option.{option_map_or}
 use Rattle.adr_stamp.specs.declared.Oid.{Oid}
 use Rattle.adr_model.specs.Update.{Identifier, same_identifier, same_object}
 use Rattle.adr_model.specs.Place.{Node, node_at, breaks_loop}
+use Rattle.adr_model.proofs.Keys.{objects_tell}
 use Rattle.adr_law_tree.specs.Walk.{free}
 use Rattle.adr_law_tree.specs.Breaker.{AreMore, loop_breaker, is_it}
 use Rattle.adr_law_tree.specs.Sets.{is_at, PutLaw, TakeLaw, IndexPutLaw, IndexTakeLaw}
 use Rattle.adr_law_tree.proofs.Walks.{one, ClosedBy}
 use Rattle.adr_law_tree.proofs.Fuel.{same_guid, itself, one_or_not, keeps}
-use Rattle.adr_law_tree.proofs.Loops.{loop_law, remove_law, absent_law, closed, breaker_there as found_breaker, same_objects, object_itself, same_bools}
+use Rattle.adr_law_tree.proofs.Loops.{loop_law, remove_law, absent_law, closed, breaker_there as found_breaker, object_itself, same_bools}
 
 or_nothing : (b : Bool) → (b || false) ≡ b
 or_nothing true = refl
@@ -35,7 +36,7 @@ module _ (all : List Node) (x : Node) (more : List Node) (is : AreMore all x mor
   by_guid None there g n e = refl
   by_guid (Some b) there g n e = same_bools (same_identifier b.object.guid g) (same_object b.object n.object)
       (λ s. ap (λ (m : Node). same_object b.object m.object) (one (sym (ap (node_at more) (sym (same_guid b.object.guid g s))) ∙ e) (there b refl)) ∙ object_itself b.object)
-      (λ s. ap (λ (o : Oid). same_identifier o.guid g) (same_objects b.object n.object s) ∙ ap (λ h. same_identifier h g) (keeps more g n e) ∙ itself g)
+      (λ s. ap (λ (o : Oid). same_identifier o.guid g) (objects_tell b.object n.object s) ∙ ap (λ h. same_identifier h g) (keeps more g n e) ∙ itself g)
 
   nobody_there : (b : Option Node) → IsThere b → (g : Identifier) → node_at more g ≡ None → is_at b g ≡ false
   unfolding IsThere

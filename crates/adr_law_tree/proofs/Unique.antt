@@ -1,5 +1,5 @@
 -- No two live objects have one GUID.
-use Rattle.std.proofs.Common.{◌≡◌, inl, inr, Bool, true, false, not, ◌&&◌, List, [], ◌∷◌, Option, Some, None, refl, sym, ap, ap₂, ◌∙◌, subst, filter_map, ◌==◌, eqb-true}
+use Rattle.std.proofs.Common.{◌≡◌, inl, inr, Bool, true, false, not, ◌&&◌, List, [], ◌∷◌, Option, Some, None, refl, sym, ap, ◌∙◌, subst, filter_map}
 use Rattle.std.specs.Prelude.{if◌then◌else◌}
 use Rattle.std.specs.List.{list_any}
 use Rattle.std.specs.Ordering.{is_eq, is_lt, ordering_then, ordering_reverse}
@@ -15,14 +15,15 @@ use Rattle.adr_stamp.specs.contracts.BirthOrd.TheImpl.Laws.{total-law as births_
 use Rattle.adr_stamp.specs.contracts.LinkStampOrd.TheImpl.Laws.{total-law as link_stamps_total}
 use Rattle.adr_stamp.proofs.Exact.{exact_objects}
 use Rattle.adr_model.specs.Member.{Member}
-use Rattle.adr_model.specs.Update.{Key, RowOf, LinkOf, Update, same_identifier, same_object, same_key, is_older, class_attr, is_death_of}
+use Rattle.adr_model.specs.Update.{Key, RowOf, Update, same_identifier, same_object, same_key, is_older, class_attr, is_death_of}
 use Rattle.adr_model.specs.Winner.{winner, younger, or_younger}
 use Rattle.adr_model.specs.Live.{born, objects_of, standing, yields_to, live, is_among}
 use Rattle.adr_model.proofs.Members.{of_filter, of_filter_map, each_fails, one_passes, some_passes}
-use Rattle.adr_model.proofs.Keys.{keys_total}
+use Rattle.adr_model.proofs.Keys.{keys_total, objects_tell}
+use Rattle.adr_law_knowledge.proofs.Standing.{birth_key}
 use Rattle.adr_law_tree.proofs.Fuel.{itself}
 use Rattle.adr_law_tree.proofs.Kept.{any_folded}
-use Rattle.adr_law_tree.proofs.Loops.{same_objects, object_itself}
+use Rattle.adr_law_tree.proofs.Loops.{object_itself}
 
 -- a key of which there is an update has a winner
 some_younger : (v : Update) (o : Option Update) → (w : Update) × (younger v o ≡ Some w)
@@ -43,17 +44,6 @@ wins (v ∷ us) key u (inr m) same = by (same_key v.key key) (wins us key u m sa
     by : (b : Bool) → (w : Update) × (winner us key ≡ Some w) → (w : Update) × (or_younger b v (winner us key) ≡ Some w)
     by false rest = rest
     by true rest = some_younger v (winner us key)
-
-is_born : (u : Update) (o : Oid) → born u.key ≡ Some o → u.key ≡ RowOf o class_attr
-is_born u o e = by u.key e
-  where
-    by : (k : Key) → born k ≡ Some o → k ≡ RowOf o class_attr
-    by (LinkOf l) e = cc
-    by (RowOf p a) e = on (a == class_attr) refl e
-      where
-        on : (b : Bool) → (a == class_attr) ≡ b → (if b then Some p else None) ≡ Some o → RowOf p a ≡ RowOf o class_attr
-        on false is e = cc
-        on true is e = ap₂ (λ q b. RowOf q b) (let f : p ≡ o = cc in f) (eqb-true a class_attr is)
 
 -- objects by the stamp of their birth, and at equal stamps by their birth
 abbrev elder : LinkStamp × Oid → LinkStamp × Oid → Ordering
@@ -77,11 +67,11 @@ module _ (us : List Update) where
       let t = some_passes (λ (p : Oid). same_object p o) (filter_map (λ (u : Update). born u.key) us)
       (sym (any_folded object_order exact_objects (λ (p : Oid). same_object p o) (filter_map (λ (u : Update). born u.key) us) []) ∙ any) in
       let b = of_filter_map (λ (u : Update). born u.key) us t.0 t.1 in
-      let is : b.0.key ≡ RowOf o class_attr = is_born b.0 t.0 b.2 ∙ ap (λ (p : Oid). RowOf p class_attr) (same_objects t.0 o t.2) in
+      let is : b.0.key ≡ RowOf o class_attr = birth_key b.0.key t.0 b.2 ∙ ap (λ (p : Oid). RowOf p class_attr) (objects_tell t.0 o t.2) in
       wins us (RowOf o class_attr) b.0 b.1 (ap (λ k. same_key k (RowOf o class_attr)) is ∙ ap is_eq (tied_itself keys_total (RowOf o class_attr)))
 
   in_live : (o : Oid) → is_among (live us) o ≡ true → Member o (live us)
-  in_live o e = let t = some_passes (λ (p : Oid). same_object p o) (live us) e in subst (λ (p : Oid). Member p (live us)) (same_objects t.0 o t.2) t.1
+  in_live o e = let t = some_passes (λ (p : Oid). same_object p o) (live us) e in subst (λ (p : Oid). Member p (live us)) (objects_tell t.0 o t.2) t.1
 
   yields_not : (o p : Oid) → Member o (live us) → Member p (standing us) → same_identifier o.guid p.guid ≡ true → yields_to us o p ≡ false
   yields_not o p m n same =

@@ -5,7 +5,6 @@ use Rattle.std.specs.List.{list_any, list_all, cons_option}
 use Rattle.std.specs.List.Sorted.{IsStrictlySortedBy}
 use Rattle.std.specs.Option.{option_and_then, option_map_or, option_or}
 use Rattle.std.specs.Ordering.{is_eq}
-use Rattle.std.proofs.lemmas.Bool.{eqb-true}
 use Rattle.std.proofs.lemmas.Cmp.{tied_itself}
 use Rattle.adr_stamp.specs.Order.{object_order}
 use Rattle.adr_stamp.specs.declared.Oid.{Oid}
@@ -19,7 +18,7 @@ use Rattle.adr_model.specs.Place.{Node, node_at, row_at, with_name, node_of, nod
 use Rattle.adr_model.specs.Write.{nodes_held}
 use Rattle.adr_model.proofs.Keys.{equal_order, exact_keys, keys_total, objects_tell, winner_found}
 use Rattle.adr_model.proofs.Members.{one_passes}
-use Rattle.adr_law_knowledge.proofs.Standing.{among_objects}
+use Rattle.adr_law_knowledge.proofs.Standing.{among_objects, birth_key}
 use Rattle.adr_law_tree.proofs.Kept.{any_alike, any_folded, any_of_filter, filter_maps_alike, find_kept}
 use Rattle.adr_law_tree.proofs.Local.{named_of}
 use Rattle.adr_law_tree.proofs.Loops.{object_itself}
@@ -83,14 +82,6 @@ module _ {A : Type 0} where
   any_and false t (x ∷ xs) = any_and false t xs
 
 -- ---- what a row stands for
-
-birth_key : (k : Key) (o : Oid) → born k ≡ Some o → k ≡ RowOf o class_attr
-birth_key (RowOf p attr) o e = by (attr == class_attr) refl e
-  where
-    by : (b : Bool) → (attr == class_attr) ≡ b → (if b then Some p else None) ≡ Some o → RowOf p attr ≡ RowOf o class_attr
-    by true is e = let same : p ≡ o = cc in ap (λ x. RowOf x attr) same ∙ ap (λ a. RowOf o a) (eqb-true attr class_attr is)
-    by false is e = cc
-birth_key (LinkOf l) o e = cc
 
 no_node : (rows : List Update) (o : Oid) (a : ℕ) (said : Said) → (a == class_attr) ≡ false → node_of rows (RowOf o a) said ≡ None
 no_node rows o a (Holds (Class class)) other =

@@ -1,7 +1,6 @@
 mod Alive
 mod Core
 mod Drafting
-mod Filters
 mod Gaps
 mod Referred
 mod Reserved

@@ -1,10 +1,9 @@
 -- Live objects are decided by class, name and death rows.
-use Rattle.std.proofs.Common.{◌≡◌, ℕ, arith, Bool, true, false, cond, not, ◌&&◌, List, [], ◌∷◌, Some, None, refl, sym, ap, ap₂, ◌∙◌, subst, map, filter, ◌==◌}
+use Rattle.std.proofs.Common.{◌≡◌, ℕ, arith, Bool, true, false, cond, not, ◌&&◌, List, [], ◌∷◌, Some, None, refl, sym, ap, ap₂, ◌∙◌, map, filter, ◌==◌}
 use Rattle.std.specs.Prelude.{if◌then◌else◌, nat_lt}
 use Rattle.std.specs.List.{list_any, list_all}
 use Rattle.std.specs.List.Sorted.{IsStrictlySortedBy}
 use Rattle.std.specs.Option.{option_and_then}
-use Rattle.std.proofs.lemmas.List.Kept.{IsStrictlySortedBy-filter}
 use Rattle.adr_stamp.specs.declared.Oid.{Oid}
 use Rattle.adr_schema.specs.declared.content.Content.TheVariants.{Class, Name, Dead, Values}
 use Rattle.adr_model.specs.Update.{Key, RowOf, LinkOf, Said, Holds, IsPresent, Update, same_identifier, same_key, key_order, class_attr, name_attr, deleted_attr, is_death_of, ends}
@@ -13,10 +12,12 @@ use Rattle.adr_model.specs.Live.{born, objects_of, standing, yields_to, unyieldi
 use Rattle.adr_model.specs.Place.{row_at, with_name, node_of, nodes_of}
 use Rattle.adr_model.specs.Write.{nodes_held}
 use Rattle.adr_model.proofs.Keys.{equal_order, exact_keys}
-use Rattle.adr_law_tree.proofs.Kept.{any_kept, find_kept}
+use Rattle.adr_law_knowledge.proofs.Counting.{filtered_rise}
+use Rattle.adr_law_knowledge.proofs.Filters.{filters_turn, givers_kept}
+use Rattle.adr_law_knowledge.proofs.Lists.{same_filter}
+use Rattle.adr_law_tree.proofs.Kept.{any_alike, any_kept, filter_maps_alike, find_kept}
 use Rattle.adr_law_tree.proofs.RisingRows.{rising_win}
 use Rattle.adr_live.specs.Core.{is_core}
-use Rattle.adr_live.proofs.Filters.{filters_turn, filters_alike, givers_kept, givers_alike}
 
 abbrev pub core : Update → Bool
 core u = is_core u.key
@@ -67,7 +68,7 @@ objects_kept us = rw (givers_kept (λ (u : Update). born u.key) core none_born u
 
 standing_kept : (us : List Update) → standing (filter core us) ≡ standing us
 standing_kept us =
-    filters_alike _ _ (λ o. ap not (any_kept (is_death_of o) core (λ u same. core_at u o deleted_attr refl same) us)) (objects_of (filter core us))
+    same_filter _ _ (objects_of (filter core us)) (λ o m. ap not (any_kept (is_death_of o) core (λ u same. core_at u o deleted_attr refl same) us))
     ∙ ap (filter (λ o. not (list_any (is_death_of o) us))) (objects_kept us)
 
 class_kept : (us : List Update) (o : Oid) → winner (filter core us) (RowOf o class_attr) ≡ winner us (RowOf o class_attr)
@@ -76,30 +77,15 @@ class_kept us o = winner_kept (RowOf o class_attr) (λ u same. core_at u o class
 yields_kept : (us : List Update) (o p : Oid) → yields_to (filter core us) o p ≡ yields_to us o p
 yields_kept us o p = rw (class_kept us o, class_kept us p) refl
 
-any_alike : {A : Type 0} (t s : A → Bool) → ((x : A) → t x ≡ s x) → (xs : List A) → list_any t xs ≡ list_any s xs
-any_alike t s same [] = refl
-any_alike t s same (x ∷ xs) = rw (same x, any_alike t s same xs) refl
-
 live_kept : (us : List Update) → live (filter core us) ≡ live us
 live_kept us =
     ap (unyielding (filter core us)) (standing_kept us)
-    ∙ filters_alike _ _ (λ o. ap not (any_alike _ _ (λ p. ap (λ b. same_identifier o.guid p.guid && b) (yields_kept us o p)) (standing us))) (standing us)
-
-keys_kept : (us : List Update) → keys (filter core us) ≡ filter is_core (keys us)
-keys_kept [] = refl
-keys_kept (u ∷ us) = by (core u) (keys_kept us)
-  where
-    by : (b : Bool) → keys (filter core us) ≡ filter is_core (keys us) → keys (cond b (u ∷ filter core us) (filter core us)) ≡ cond b (u.key ∷ filter is_core (keys us)) (filter is_core (keys us))
-    by true rest = ap (λ ks. u.key ∷ ks) rest
-    by false rest = rest
-
-still_rising : (us : List Update) → IsStrictlySortedBy key_order (keys us) → IsStrictlySortedBy key_order (keys (filter core us))
-still_rising us s = subst (IsStrictlySortedBy key_order) (sym (keys_kept us)) (IsStrictlySortedBy-filter key_order is_core (keys us) s)
+    ∙ same_filter _ _ (standing us) (λ o m. ap not (any_alike _ _ (λ p. ap (λ b. same_identifier o.guid p.guid && b) (yields_kept us o p)) (standing us)))
 
 live_rows_kept : (us : List Update) → IsStrictlySortedBy key_order (keys us) → live_rows (filter core us) ≡ filter core (live_rows us)
 live_rows_kept us s =
     ap (λ os. filter (λ (u : Update). list_all (is_among os) (ends u.key)) (winners (filter core us))) (live_kept us)
-    ∙ ap (filter (λ (u : Update). list_all (is_among (live us)) (ends u.key))) (rising_win (filter core us) (still_rising us s))
+    ∙ ap (filter (λ (u : Update). list_all (is_among (live us)) (ends u.key))) (rising_win (filter core us) (filtered_rise key_order (λ (u : Update). u.key) core us s))
     ∙ filters_turn (λ (u : Update). list_all (is_among (live us)) (ends u.key)) core us
     ∙ sym (ap (λ ws. filter core (filter (λ (u : Update). list_all (is_among (live us)) (ends u.key)) ws)) (rising_win us s))
 
@@ -115,7 +101,7 @@ node_kept rows (LinkOf l) said = refl
 
 nodes_kept : (rows : List Update) → nodes_of (filter core rows) ≡ nodes_of rows
 nodes_kept rows =
-    givers_alike (λ (u : Update). node_of (filter core rows) u.key u.said) (λ (u : Update). node_of rows u.key u.said) (λ u. node_kept rows u.key u.said) (filter core rows)
+    filter_maps_alike (λ (u : Update). node_of (filter core rows) u.key u.said) (λ (u : Update). node_of rows u.key u.said) core (λ u is. node_kept rows u.key u.said) rows
     ∙ givers_kept (λ (u : Update). node_of rows u.key u.said) core (λ u far. no_node rows u.key u.said far) rows
 
 -- the live objects are those of the reserved rows

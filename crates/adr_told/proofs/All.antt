@@ -10,7 +10,7 @@ use Rattle.adr_model.specs.Update.{Key, key_order, same_key}
 use Rattle.adr_model.specs.Store.{Held, row_held, is_row_of, with_row}
 use Rattle.adr_model.specs.Formed.{AreRising}
 use Rattle.adr_model.proofs.Keys.{exact_keys}
-use Rattle.adr_law_tree.proofs.RisingHeld.{IsBelow, head_below, tail_rising, below_all, below_same, fewer_rise}
+use Rattle.adr_law_knowledge.proofs.RisingHeld.{IsBelow, head_below, tail_rising, below_all, below_same, fewer_rise}
 use Rattle.adr_told.specs.Told.{is_stripped, is_left, laid, told}
 use Rattle.adr_told.proofs.Rising.{turned_back, same_itself}
 use Rattle.adr_told.proofs.Telling.{laid_rises}

@@ -9,7 +9,7 @@ use Rattle.adr_model.specs.Write.{is_link_row, links_in}
 use Rattle.adr_model.specs.Change.{goes_with, killed_by, stripped, put}
 use Rattle.adr_model.specs.Formed.{AreRising}
 use Rattle.adr_table.proofs.Births.{births, objects_born}
-use Rattle.adr_law_tree.proofs.RisingHeld.{put_rises}
+use Rattle.adr_law_knowledge.proofs.RisingHeld.{put_rises}
 use Rattle.adr_told.specs.Told.{is_birth_row, links_lost, one}
 use Rattle.adr_told.proofs.Tally.{tally, is_tally, tally_same, tally_filter, tally_split, tally_with_row}
 

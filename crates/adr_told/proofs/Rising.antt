@@ -7,7 +7,7 @@ use Rattle.adr_model.specs.Update.{Key, key_order, same_key}
 use Rattle.adr_model.specs.Store.{Held, row_held}
 use Rattle.adr_model.specs.Formed.{AreRising}
 use Rattle.adr_model.proofs.Keys.{equal_order, exact_keys, keys_total}
-use Rattle.adr_law_tree.proofs.RisingHeld.{IsBelow, head_below, below_same}
+use Rattle.adr_law_knowledge.proofs.RisingHeld.{IsBelow, head_below, below_same}
 
 -- ---- the order
 

@@ -7,7 +7,7 @@ use Rattle.adr_model.specs.Update.{Key, key_order, same_key}
 use Rattle.adr_model.specs.Store.{Held, row_held, with_row}
 use Rattle.adr_model.specs.Formed.{AreRising}
 use Rattle.adr_model.proofs.Keys.{exact_keys}
-use Rattle.adr_law_tree.proofs.RisingHeld.{head_below, tail_rising, below_all}
+use Rattle.adr_law_knowledge.proofs.RisingHeld.{head_below, tail_rising, below_all}
 use Rattle.adr_told.specs.Told.{one}
 use Rattle.adr_told.proofs.Rising.{turned_back, one_key, same_itself, none_below, none_past, first_held}
 

@@ -18,7 +18,7 @@ use Rattle.adr_model.specs.Formed.{AreRising}
 use Rattle.adr_model.proofs.Keys.{exact_keys, objects_tell}
 use Rattle.adr_update.specs.Sought.{is_link_from, is_link_to}
 use Rattle.adr_table.proofs.Linked.{one_of_rows}
-use Rattle.adr_law_tree.proofs.RisingHeld.{head_below, tail_rising, with_row_rises, fewer_rise, put_rises, none_rising}
+use Rattle.adr_law_knowledge.proofs.RisingHeld.{head_below, tail_rising, with_row_rises, fewer_rise, put_rises, none_rising}
 use Rattle.adr_told.specs.Told.{is_stripped, is_left, laid, told, IsCounted, is_birth_row, links_lost, links_found, one}
 use Rattle.adr_told.proofs.Rising.{none_below}
 use Rattle.adr_told.proofs.Holding.{row_is_held}

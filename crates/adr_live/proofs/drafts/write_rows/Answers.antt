@@ -1,7 +1,7 @@
 use Rattle.std.proofs.Common.{take, fold, sym, subst}
 use Rattle.adr_model.specs.Change.{put}
 use Rattle.adr_model.specs.Formed.{AreRising}
-use Rattle.adr_law_tree.proofs.RisingHeld.{put_rises}
+use Rattle.adr_law_knowledge.proofs.RisingHeld.{put_rises}
 use Rattle.adr_table.specs.Table.{rows_in}
 use Rattle.adr_live.specs.Drafts.{AreDrafts}
 use Rattle.adr_live.proofs.Drafting.{folded_more}

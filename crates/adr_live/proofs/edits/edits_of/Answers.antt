@@ -6,7 +6,7 @@ use Rattle.adr_model.specs.Write.{nodes_held}
 use Rattle.adr_table.specs.Table.{rows_in}
 use Rattle.adr_tree.specs.Edits.{AreOwn, edited}
 use Rattle.adr_tree.specs.declared.edit.Edit.{Edit}
-use Rattle.adr_live.proofs.Core.{after_rises}
+use Rattle.adr_law_knowledge.proofs.RisingHeld.{rows_after_rise}
 use Rattle.adr_live.proofs.Drafting.{drafts_rise, edits_meet, edits_own}
 use Rattle.adr_live.proofs.edits.edits_of.Goals as goal
 
@@ -14,7 +14,7 @@ pub edits_to-requires : goal.edits_to-requires
 edits_to-requires c =
     let rows = rows_in c.args.table.now in
     drafts_rise rows (rows_after c.args.removed.now c.args.rows.now rows) c.in_ok-drafts.drafts c.are_ordered.ensures
-    (after_rises c.args.removed.now c.args.rows.now rows c.are_rising.ensures) c.in_ok-drafts.ensures
+    (rows_after_rise c.args.removed.now c.args.rows.now rows c.are_rising.ensures) c.in_ok-drafts.ensures
 
 pub returns-clause-own : goal.returns-clause-own
 returns-clause-own c = subst AreOwn (sym c.in_ok-edits.ensures) (edits_own c.in_ok-drafts.drafts.entries)
@@ -24,4 +24,4 @@ returns-clause-nodes c guid =
     let rows = rows_in c.args.table.now in
     ap (λ (es : List Edit). edited es guid (node_at (nodes_held (updates_of rows)) guid)) c.in_ok-edits.ensures
     ∙ edits_meet rows (rows_after c.args.removed.now c.args.rows.now rows) c.in_ok-drafts.drafts c.are_ordered.ensures
-    (after_rises c.args.removed.now c.args.rows.now rows c.are_rising.ensures) c.in_ok-drafts.ensures guid c.are_rising.ensures
+    (rows_after_rise c.args.removed.now c.args.rows.now rows c.are_rising.ensures) c.in_ok-drafts.ensures guid c.are_rising.ensures

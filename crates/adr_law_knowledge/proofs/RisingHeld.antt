@@ -1,18 +1,18 @@
 -- Rows in order of their keys stay so where one is put.
-use Rattle.std.proofs.Common.{◌≡◌, List, [], ◌∷◌, Bool, true, false, cond, refl, sym, ap, ◌∙◌, subst, filter, fold, map, Option, Some, None, not}
+use Rattle.std.proofs.Common.{◌≡◌, List, [], ◌∷◌, Bool, refl, sym, ap, ◌∙◌, subst, filter, fold, map, Option, Some, None, not}
 use Rattle.std.specs.List.{AllByRecursion}
 use Rattle.std.specs.List.Sorted.{IsStrictlySortedBy}
 use Rattle.std.specs.Ordering.{match_ordering, ordering_reverse}
 use Rattle.std.specs.declared.cmp.Ordering.{Ordering}
 use Rattle.std.specs.declared.cmp.Ordering.TheVariants.{Less, Equal, Greater}
-use Rattle.std.proofs.lemmas.List.Kept.{IsStrictlySortedBy-filter}
 use Rattle.std.proofs.lemmas.Map.Keys.{sorted_head, sorted_tail}
 use Rattle.adr_stamp.specs.declared.Oid.{Oid}
 use Rattle.adr_model.specs.Update.{Key, key_order}
 use Rattle.adr_model.specs.Store.{Held, with_row, is_row_of}
-use Rattle.adr_model.specs.Change.{goes_with, killed_by, stripped, put, without_object}
+use Rattle.adr_model.specs.Change.{goes_with, killed_by, stripped, put, without_object, rows_after}
 use Rattle.adr_model.specs.Formed.{AreRising}
 use Rattle.adr_model.proofs.Keys.{exact_keys, keys_total}
+use Rattle.adr_law_knowledge.proofs.Counting.{filtered_rise}
 
 -- a key below those of all these rows
 abbrev pub IsBelow : Key → List Held → Type 0
@@ -61,18 +61,8 @@ with_row_rises (x ∷ xs) h r = by (key_order h.update.key x.update.key) refl (w
 
 -- ---- rows fewer
 
-pub keys_filtered : (test : Key → Bool) (xs : List Held) → map (λ (h : Held). h.update.key) (filter (λ h. test h.update.key) xs) ≡ filter test (map (λ (h : Held). h.update.key) xs)
-keys_filtered test [] = refl
-keys_filtered test (x ∷ xs) = by (test x.update.key) (keys_filtered test xs)
-  where
-    by : (b : Bool) → map (λ (h : Held). h.update.key) (filter (λ h. test h.update.key) xs) ≡ filter test (map (λ (h : Held). h.update.key) xs)
-        → map (λ (h : Held). h.update.key) (cond b (x ∷ filter (λ h. test h.update.key) xs) (filter (λ h. test h.update.key) xs))
-        ≡ cond b (x.update.key ∷ filter test (map (λ (h : Held). h.update.key) xs)) (filter test (map (λ (h : Held). h.update.key) xs))
-    by true rest = ap (λ ks. x.update.key ∷ ks) rest
-    by false rest = rest
-
 pub fewer_rise : (test : Key → Bool) (rows : List Held) → AreRising rows → AreRising (filter (λ h. test h.update.key) rows)
-fewer_rise test rows r = subst (IsStrictlySortedBy key_order) (sym (keys_filtered test rows)) (IsStrictlySortedBy-filter key_order test (map (λ (h : Held). h.update.key) rows) r)
+fewer_rise test rows r = filtered_rise key_order (λ (h : Held). h.update.key) (λ h. test h.update.key) rows r
 
 stripped_rises : (o : Option Oid) (rows : List Held) → AreRising rows → AreRising (stripped o rows)
 stripped_rises None rows r = r
@@ -88,3 +78,6 @@ puts_rise (h ∷ hs) rows r = puts_rise hs (put rows h) (put_rises rows h r)
 pub removals_rise : (removed : List Oid) (rows : List Held) → AreRising rows → AreRising (fold without_object rows removed)
 removals_rise [] rows r = r
 removals_rise (o ∷ os) rows r = removals_rise os (without_object rows o) (fewer_rise (λ k. not (is_row_of o k)) rows r)
+
+pub rows_after_rise : (removed : List Oid) (writes rows : List Held) → AreRising rows → AreRising (rows_after removed writes rows)
+rows_after_rise removed writes rows r = removals_rise removed (fold put rows writes) (puts_rise writes rows r)
