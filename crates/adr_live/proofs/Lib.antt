@@ -2,5 +2,4 @@ mod Alive
 mod Core
 mod Drafting
 mod Gaps
-mod Referred
 mod Reserved

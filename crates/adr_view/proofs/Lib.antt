@@ -2,5 +2,4 @@ mod FormedLinks
 mod Gathered
 mod LiveObjects
 mod LiveParts
-mod Referred
 mod YoungestNames

@@ -32,7 +32,7 @@ use Rattle.adr_law_tree.proofs.RisingRows.{rising_updates, rising_win}
 use Rattle.adr_update.specs.Referents.{referents}
 use Rattle.adr_view.specs.Ends.{is_live}
 use Rattle.adr_view.specs.Named.{AreNamed}
-use Rattle.adr_view.proofs.Referred.{length_referents, referent_at}
+use Rattle.adr_update.proofs.Referred.{length_referents, referent_at}
 
 abbrev key : Update → Key
 key u = u.key

@@ -18,7 +18,7 @@ use Rattle.adr_model.specs.Place.{Node, place}
 use Rattle.adr_model.specs.Shown.{gives_way}
 use Rattle.adr_model.proofs.Keys.{equal_order}
 use Rattle.adr_update.specs.Referents.{referents}
-use Rattle.adr_view.proofs.Referred.{from_here}
+use Rattle.adr_update.proofs.Referred.{from_here}
 use Rattle.adr_view.specs.Slots.{Slot, same_slot, slot_order}
 use Rattle.adr_view.specs.Youngest.{AreYoungest, Rank, is_before, is_in, later, rank_of, with_rank, youngest_from}
 

@@ -4,7 +4,7 @@ use Rattle.adr_update.specs.Key.{key_of}
 use Rattle.adr_update.specs.Referents.{referents}
 use Rattle.adr_live.specs.Gap.{IsGapFor}
 use Rattle.adr_live.proofs.Gaps.{above_more, place_at, gap_at, gap_at_end}
-use Rattle.adr_live.proofs.Referred.{length_referents, referent_at}
+use Rattle.adr_update.proofs.Referred.{length_referents, referent_at}
 use Rattle.adr_live.proofs.draft.place_of.Goals as goal
 
 pub returns-in-Less-clause-gap : goal.returns-in-Less-clause-gap

@@ -2,7 +2,7 @@ use Rattle.std.proofs.Common.{◌≡◌, ◌&&◌, Bool, true, false, arith, ap,
 use Rattle.adr_model.specs.Store.{updates_of}
 use Rattle.adr_update.specs.Referents.{referents}
 use Rattle.adr_live.specs.Alive.{beats}
-use Rattle.adr_live.proofs.Referred.{any_of_updates}
+use Rattle.adr_update.proofs.Referred.{any_of_updates}
 use Rattle.adr_live.proofs.live.is_live.Goals as goal
 
 both : (dead beaten other : Bool) → dead ≡ false → beaten ≡ other → not beaten ≡ (not dead && not other)

@@ -5,7 +5,7 @@ use Rattle.adr_model.specs.Live.{live_rows}
 use Rattle.adr_model.specs.Store.{updates_of}
 use Rattle.adr_model.specs.Write.{nodes_held}
 use Rattle.adr_view.proofs.LiveObjects.{node_found}
-use Rattle.adr_view.proofs.Referred.{next_mapped}
+use Rattle.adr_update.proofs.Referred.{next_mapped}
 use Rattle.adr_view.proofs.entries.all_entries.Goals as goal
 
 pub entry_of-requires-clause-live : goal.entry_of-requires-clause-live

@@ -3,7 +3,7 @@ use Rattle.std.proofs.lemmas.Fn.{filter_same}
 use Rattle.adr_model.specs.Store.{Held}
 use Rattle.adr_update.specs.Referents.{referents}
 use Rattle.adr_live.specs.Core.{is_core}
-use Rattle.adr_live.proofs.Referred.{referents_kept}
+use Rattle.adr_update.proofs.Referred.{referents_kept}
 use Rattle.adr_live.proofs.draft.Draft.of.Goals as goal
 
 pub returns : goal.returns

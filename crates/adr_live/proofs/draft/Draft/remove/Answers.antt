@@ -2,7 +2,7 @@ use Rattle.std.proofs.Common.{rules, ap, not, ◌∙◌}
 use Rattle.std.proofs.lemmas.Fn.{filter_same}
 use Rattle.adr_model.specs.Store.{Held, is_row_of}
 use Rattle.adr_update.specs.Referents.{referents}
-use Rattle.adr_live.proofs.Referred.{referents_kept}
+use Rattle.adr_update.proofs.Referred.{referents_kept}
 use Rattle.adr_live.proofs.draft.Draft.remove.Goals as goal
 
 pub returns : goal.returns

@@ -3,7 +3,7 @@ use Rattle.adr_model.specs.Store.{Held, with_row}
 use Rattle.adr_update.specs.Key.{key_of}
 use Rattle.adr_update.specs.Referents.{referents}
 use Rattle.adr_live.specs.Gap.{IsPlaceOf, IsGapFor}
-use Rattle.adr_live.proofs.Referred.{referents_insert, referents_set}
+use Rattle.adr_update.proofs.Referred.{referents_insert, referents_set}
 use Rattle.adr_live.proofs.draft.Draft.write.Goals as goal
 
 pub returns-in-Ok : goal.returns-in-Ok

@@ -1,5 +1,5 @@
 -- Lists of references, by what they refer to.
-use Rattle.std.proofs.Common.{◌≡◌, ◌<◌, ℕ, zero, suc, Bool, true, false, cond, ◌||◌, List, [], ◌∷◌, refl, ap, ◌∙◌, filter, length, get_or, slice_set, Bor}
+use Rattle.std.proofs.Common.{◌≡◌, ◌<◌, ℕ, zero, suc, Bool, true, false, cond, ◌||◌, List, [], ◌∷◌, ◌++◌, refl, sym, ap, ◌∙◌, append_assoc, drop, drop-cons, filter, map, length, get_or, slice_set, Bor}
 use Rattle.std.specs.Prelude.{insert}
 use Rattle.std.specs.List.{list_any}
 use Rattle.adr_model.specs.Update.{Update}
@@ -41,6 +41,17 @@ module _ {A : Type 0} where
       none (suc j) = refl
   referents_insert (y ∷ ys) zero x = refl
   referents_insert (y ∷ ys) (suc i) x = ap (λ (zs : List A). y.now ∷ zs) (referents_insert ys i x)
+
+  pub from_here : (xs : List (Bor A)) (i j : ℕ) (x : Bor A) → i < length xs → x ≡ get_or xs i x → j ≡ suc i → drop i xs ≡ x ∷ drop j xs
+  from_here xs i j x within is next = drop-cons xs i x within ∙ (ap (λ y. y ∷ drop (suc i) xs) (sym is) ∙ ap (λ n. x ∷ drop n xs) (sym next))
+
+  -- one step of a loop that maps what they refer to
+  pub next_mapped : {B : Type 0} (f : A → B) (xs : List (Bor A)) (i j : ℕ) (x : Bor A) → i < length xs → x ≡ get_or xs i x → j ≡ suc i → (ys zs whole : List B) → zs ≡ ys ++ f x.now ∷ []
+      → ys ++ map f (referents (drop i xs)) ≡ whole → zs ++ map f (referents (drop j xs)) ≡ whole
+  next_mapped f xs i j x within is next ys zs whole grown so_far =
+      ap (λ ws. ws ++ map f (referents (drop j xs))) grown
+      ∙ (append_assoc ys (f x.now ∷ []) (map f (referents (drop j xs)))
+      ∙ (ap (λ (ws : List (Bor A)). ys ++ map f (referents ws)) (sym (from_here xs i j x within is next)) ∙ so_far))
 
 -- a test of the updates of rows
 pub any_of_updates : (test : Update → Bool) (rows : List (Bor Held)) → list_any (λ h. test h.now.update) rows ≡ list_any test (updates_of (referents rows))
