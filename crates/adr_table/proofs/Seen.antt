@@ -10,12 +10,11 @@ use Rattle.std.specs.Ordering.{is_eq, match_ordering}
 use Rattle.std.specs.declared.cmp.Ordering.{Ordering}
 use Rattle.std.specs.declared.cmp.Ordering.TheVariants.{Less, Equal, Greater}
 use Rattle.std.proofs.lemmas.Cmp.{eq_by_cmp_equiv, tied_itself}
-use Rattle.std.proofs.lemmas.Map.{lookup-none}
-use Rattle.std.proofs.lemmas.Map.Entries.{none_below_head, none_past_head}
-use Rattle.std.proofs.lemmas.Map.Keys.{sorted_head, sorted_tail, IsDistinct-from_sorted}
+use Rattle.std.proofs.lemmas.Map.Keys.{sorted_head, sorted_tail}
 use Rattle.adr_model.specs.Update.{Key, key_order, same_key}
 use Rattle.adr_model.proofs.Keys.{equal_order}
 use Rattle.adr_model.specs.Store.{Held, row_held, with_row}
+use Rattle.adr_update.proofs.Slots.{found as at_home_found, home_still as still_at_home, later_none as none_later, made as unseen_made, none_below as none_under, slot_made as made_or_there, still_some}
 use Rattle.adr_table.specs.declared.place.Place.{Place}
 use Rattle.adr_table.specs.Place.{place_of, place_order}
 use Rattle.adr_table.specs.Slots.{and_seen, seen, AreAtHome, flat}
@@ -27,6 +26,9 @@ Entries = List (Place × Option Held)
 abbrev pub AreSorted : Entries → Type 0
 AreSorted es = IsStrictlySortedBy place_order (keys_of es)
 
+abbrev pub IsAt : Place → Option Held → Type 0
+IsAt p o = IfSome o (λ h. place_of h.update.key ≡ p)
+
 -- ---- look-ups
 
 tests_alike : (h : Held) (key : Key) (p : Place) → place_of h.update.key ≡ p → same_key h.update.key key ≡ is_at (place_order (place_of key)) p
@@ -35,78 +37,30 @@ tests_alike h key p home =
     ∙ (eq_by_cmp_equiv places_total).symm (place_of h.update.key) (place_of key)
     ∙ ap (λ q. is_eq (place_order (place_of key) q)) home
 
--- no later slot is that of the first one's place
 pub later_none : (p : Place) (e : Place × Option Held) (es : Entries) → AreSorted (e ∷ es) → is_at (place_order p) e.0 ≡ true → lookup (is_at (place_order p)) es ≡ None
-later_none p e es sorted at = lookup-none (is_at (place_order p)) es (none_past_head (eq_by_cmp_equiv places_total) p e es (IsDistinct-from_sorted place_order (keys_of (e ∷ es)) sorted) at)
+later_none p e es sorted at = none_later place_order places_total p e es sorted at
 
--- nor is any that of a place below the first one
 pub none_below : (e : Place × Option Held) (es : Entries) (p : Place) → AreSorted (e ∷ es) → place_order p e.0 ≡ Less → lookup (is_at (place_order p)) (e ∷ es) ≡ None
-none_below e es p sorted less = lookup-none (is_at (place_order p)) (e ∷ es) (none_below_head places_total p e es sorted less)
+none_below e es p sorted less = none_under place_order places_total p e es sorted less
 
 pub found : (es : Entries) (key : Key) → AreSorted es → AreAtHome es → flat (lookup (is_at (place_order (place_of key))) es) ≡ row_held (seen es) key
-found [] key sorted home = refl
-found (e ∷ es) key sorted home = by e.1 refl home.0 (found es key (sorted_tail place_order e.0 (keys_of es) sorted) home.1)
-  where
-    rest : lookup (is_at (place_order (place_of key))) es ≡ None → flat (lookup (is_at (place_order (place_of key))) es) ≡ row_held (seen es) key → row_held (seen es) key ≡ None
-    rest none later = sym later ∙ ap flat none
-
-    empty : (b : Bool) → is_at (place_order (place_of key)) e.0 ≡ b → flat (lookup (is_at (place_order (place_of key))) es) ≡ row_held (seen es) key
-        → flat (cond b (Some None) (lookup (is_at (place_order (place_of key))) es)) ≡ row_held (seen es) key
-    empty true at later = sym (rest (later_none (place_of key) e es sorted at) later)
-    empty false at later = later
-
-    full : (h : Held) (b : Bool) → flat (lookup (is_at (place_order (place_of key))) es) ≡ row_held (seen es) key
-        → flat (cond b (Some (Some h)) (lookup (is_at (place_order (place_of key))) es)) ≡ cond b (Some h) (row_held (seen es) key)
-    full h true later = refl
-    full h false later = later
-
-    by : (o : Option Held) → e.1 ≡ o → IfSome o (λ h. place_of h.update.key ≡ e.0) → flat (lookup (is_at (place_order (place_of key))) es) ≡ row_held (seen es) key
-        → flat (cond (is_at (place_order (place_of key)) e.0) (Some o) (lookup (is_at (place_order (place_of key))) es)) ≡ row_held (and_seen o (seen es)) key
-    by None is h later = empty (is_at (place_order (place_of key)) e.0) refl later
-    by (Some h) is at later =
-        full h (is_at (place_order (place_of key)) e.0) later
-        ∙ ap (λ b. cond b (Some h) (row_held (seen es) key)) (sym (tests_alike h key e.0 at))
+found es key sorted home =
+    at_home_found place_order IsAt AreAtHome (λ e es at rest. (at, rest)) (λ e es h. h) places_total flat refl (λ o. refl)
+    (place_of key) (λ xs. row_held (seen xs) key) refl (λ p xs. refl)
+    (λ p h xs at. ap (λ b. cond b (Some h) (row_held (seen xs) key)) (tests_alike h key p at)) es sorted home
 
 -- ---- a new slot
 
 pub made : (es : Entries) (p : Place) → lookup (is_at (place_order p)) es ≡ None → seen (insert_entry place_order es p None) ≡ seen es
-made [] p none = refl
-made (e ∷ es) p none = by (place_order p e.0) none (made es p)
-  where
-    by : (o : Ordering) → cond (is_eq o) (Some e.1) (lookup (is_at (place_order p)) es) ≡ None → (lookup (is_at (place_order p)) es ≡ None → seen (insert_entry place_order es p None) ≡ seen es)
-        → seen (match_ordering o ((p, None) ∷ e ∷ es) ((e.0, None) ∷ es) (e ∷ insert_entry place_order es p None)) ≡ seen (e ∷ es)
-    by Less n later = refl
-    by Equal n later = cc
-    by Greater n later = ap (λ hs. and_seen e.1 hs) (later n)
-
--- what a slot has, put there again
-put_again : (es : Entries) (p : Place) (v : Option Held) → AreSorted es → lookup (is_at (place_order p)) es ≡ Some v → insert_entry place_order es p v ≡ es
-put_again [] p v sorted there = cc
-put_again (e ∷ es) p v sorted there = by (place_order p e.0) refl there (put_again es p v (sorted_tail place_order e.0 (keys_of es) sorted))
-  where
-    by : (o : Ordering) → place_order p e.0 ≡ o → cond (is_eq o) (Some e.1) (lookup (is_at (place_order p)) es) ≡ Some v → (lookup (is_at (place_order p)) es ≡ Some v → insert_entry place_order es p v ≡ es)
-        → match_ordering o ((p, v) ∷ e ∷ es) ((e.0, v) ∷ es) (e ∷ insert_entry place_order es p v) ≡ e ∷ es
-    by Less at is later = let wrong : None ≡ Some v = sym (none_below e es p sorted at) ∙ there in cc
-    by Equal at is later = let same : e.1 ≡ v = cc in ap (λ w. (e.0, w) ∷ es) (sym same)
-    by Greater at is later = ap (λ xs. e ∷ xs) (later is)
+made = unseen_made place_order seen (λ p es. refl) (λ e es fs is. ap (λ hs. and_seen e.1 hs) is)
 
 -- an empty slot is made where there is none, and else all stays
 pub slot_made : (P : Entries → Type 0) (es new : Entries) (p : Place) → AreSorted es → new ≡ insert_entry place_order es p (unwrap_or (lookup (is_at (place_order p)) es) None)
     → P es → (lookup (is_at (place_order p)) es ≡ None → P (insert_entry place_order es p None)) → P new
-slot_made P es new p sorted is stays made = by (lookup (is_at (place_order p)) es) refl is
-  where
-    by : (o : Option (Option Held)) → lookup (is_at (place_order p)) es ≡ o → new ≡ insert_entry place_order es p (unwrap_or o None) → P new
-    by None none at = subst P (sym at) (made none)
-    by (Some v) there at = subst P (sym (at ∙ put_again es p v sorted there)) stays
+slot_made P es new p sorted is stays made = made_or_there place_order places_total P es new p None sorted is stays made
 
 pub home_still : (es : Entries) (p : Place) (v : Option Held) → IfSome v (λ h. place_of h.update.key ≡ p) → AreAtHome es → AreAtHome (insert_entry place_order es p v)
-home_still [] p v at home = (at, tt)
-home_still (e ∷ es) p v at home = by (place_order p e.0) refl (home_still es p v at home.1)
-  where
-    by : (o : Ordering) → place_order p e.0 ≡ o → AreAtHome (insert_entry place_order es p v) → AreAtHome (match_ordering o ((p, v) ∷ e ∷ es) ((e.0, v) ∷ es) (e ∷ insert_entry place_order es p v))
-    by Less is later = (at, home)
-    by Equal is later = (subst (λ q. IfSome v (λ h. place_of h.update.key ≡ q)) (exact_places p e.0 is) at, home.1)
-    by Greater is later = (home.0, later)
+home_still = still_at_home place_order IsAt AreAtHome (λ e es at rest. (at, rest)) (λ e es h. h) exact_places
 
 -- ---- a row written
 
@@ -163,10 +117,6 @@ flat_either false v old = refl
 pub not_some : {X : Type 0} (o : Option X) → is_some o ≡ false → o ≡ None
 not_some None is = refl
 not_some (Some x) is = cc
-
-still_some : {X : Type 0} (b : Bool) (v : X) (o : Option X) → IsSome o → IsSome (cond b (Some v) o)
-still_some true v o some = refl
-still_some false v o some = some
 
 -- what is found once a slot is made
 found_new : (es : Entries) (p q : Place) → lookup (is_at (place_order p)) es ≡ None

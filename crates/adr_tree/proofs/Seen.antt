@@ -1,23 +1,22 @@
 -- What is seen of slots that are looked up, made, filled, emptied and freed.
 use Rattle.std.proofs.Common.{◌≡◌, ◌≤◌, ◌+◌, ℕ, suc, List, [], ◌∷◌, Bool, true, false, cond, not, ◌&&◌, Option, Some, None, refl, sym, ap, ◌∙◌, subst, map, length, arith}
-use Rattle.std.specs.Prelude.{if◌then◌else◌, IfSome, IsSome, unwrap_or}
+use Rattle.std.specs.Prelude.{if◌then◌else◌, IfSome, unwrap_or}
 use Rattle.std.specs.List.{AllByRecursion}
 use Rattle.std.specs.List.Sorted.{IsStrictlySortedBy}
 use Rattle.std.specs.Map.{keys_of, lookup, remove_entry, set_value}
 use Rattle.std.specs.BTreeMap.{insert_entry, is_at}
-use Rattle.std.specs.Ordering.{is_eq, match_ordering, ordering_reverse}
+use Rattle.std.specs.Ordering.{is_eq, ordering_reverse}
 use Rattle.std.specs.declared.cmp.Ordering.{Ordering}
 use Rattle.std.specs.declared.cmp.Ordering.TheVariants.{Less, Equal, Greater}
-use Rattle.std.proofs.lemmas.Cmp.{eq_by_cmp_equiv, nat_list_cmp_total}
-use Rattle.std.proofs.lemmas.Map.{lookup-none}
-use Rattle.std.proofs.lemmas.Map.Entries.{lookup_at_gap, none_past_head}
-use Rattle.std.proofs.lemmas.Map.Keys.{sorted_head, sorted_tail, IsDistinct-from_sorted}
+use Rattle.std.proofs.lemmas.Cmp.{nat_list_cmp_total}
+use Rattle.std.proofs.lemmas.Map.Keys.{sorted_head, sorted_tail}
 use Rattle.std.proofs.lemmas.Map.Lookups.{exact_bytes}
 use Rattle.adr_stamp.specs.Order.{identifier_order}
 use Rattle.adr_model.specs.Update.{Identifier, same_identifier}
 use Rattle.adr_model.specs.Place.{Node, node_at}
 use Rattle.adr_model.proofs.Keys.{equal_order}
 use Rattle.adr_law_tree.specs.InOrder.{AreInOrder}
+use Rattle.adr_update.proofs.Slots.{found as at_home_found, freed, freed_home as still_without, home_still as still_at_home, made, slot_made}
 use Rattle.adr_tree.specs.Slots.{and_seen, seen, AreAtHome, flat}
 
 abbrev pub Slots : Type 0
@@ -39,56 +38,26 @@ flipped g h = ap is_eq (nat_list_cmp_total.antisymm g h) ∙ turned (identifier_
 tests_alike : (n : Node) (g k : Identifier) → n.object.guid ≡ k → same_identifier n.object.guid g ≡ is_at (identifier_order g) k
 tests_alike n g k home = flipped n.object.guid g ∙ ap (same_identifier g) home
 
--- no later slot is that of the first one's GUID
-later_none : (g : Identifier) (e : Identifier × Option Node) (es : Slots) → AreSorted (e ∷ es) → is_at (identifier_order g) e.0 ≡ true → lookup (is_at (identifier_order g)) es ≡ None
-later_none g e es sorted at =
-    lookup-none (is_at (identifier_order g)) es (none_past_head (eq_by_cmp_equiv nat_list_cmp_total) g e es (IsDistinct-from_sorted identifier_order (keys_of (e ∷ es)) sorted) at)
+-- a node stands at its own GUID
+abbrev IsAt : Identifier → Option Node → Type 0
+IsAt g o = IfSome o (λ n. n.object.guid ≡ g)
 
 pub found : (es : Slots) (g : Identifier) → AreSorted es → AreAtHome es → flat (lookup (is_at (identifier_order g)) es) ≡ node_at (seen es) g
-found [] g sorted home = refl
-found (e ∷ es) g sorted home = by e.1 refl home.0 (found es g (sorted_tail identifier_order e.0 (keys_of es) sorted) home.1)
-  where
-    empty : (b : Bool) → is_at (identifier_order g) e.0 ≡ b → flat (lookup (is_at (identifier_order g)) es) ≡ node_at (seen es) g
-        → flat (cond b (Some None) (lookup (is_at (identifier_order g)) es)) ≡ node_at (seen es) g
-    empty true at later = sym (sym later ∙ ap flat (later_none g e es sorted at))
-    empty false at later = later
-
-    full : (n : Node) (b : Bool) → flat (lookup (is_at (identifier_order g)) es) ≡ node_at (seen es) g
-        → flat (cond b (Some (Some n)) (lookup (is_at (identifier_order g)) es)) ≡ cond b (Some n) (node_at (seen es) g)
-    full n true later = refl
-    full n false later = later
-
-    by : (o : Option Node) → e.1 ≡ o → IfSome o (λ n. n.object.guid ≡ e.0) → flat (lookup (is_at (identifier_order g)) es) ≡ node_at (seen es) g
-        → flat (cond (is_at (identifier_order g) e.0) (Some o) (lookup (is_at (identifier_order g)) es)) ≡ node_at (and_seen o (seen es)) g
-    by None is h later = empty (is_at (identifier_order g) e.0) refl later
-    by (Some n) is at later =
-        full n (is_at (identifier_order g) e.0) later
-        ∙ ap (λ b. cond b (Some n) (node_at (seen es) g)) (sym (tests_alike n g e.0 at))
+found es g sorted home =
+    at_home_found identifier_order IsAt AreAtHome (λ e es at rest. (at, rest)) (λ e es h. h) nat_list_cmp_total flat refl (λ o. refl)
+    g (λ xs. node_at (seen xs) g) refl (λ k xs. refl)
+    (λ k n xs at. ap (λ b. cond b (Some n) (node_at (seen xs) g)) (tests_alike n g k at)) es sorted home
 
 -- ---- a slot that is made, if there is none
-
--- no slot is that of a GUID below the first one's
-below_none : (g : Identifier) (e : Identifier × Option Node) (es : Slots) → AreSorted (e ∷ es) → identifier_order g e.0 ≡ Less → lookup (is_at (identifier_order g)) (e ∷ es) ≡ None
-below_none g e es sorted less =
-    lookup_at_gap nat_list_cmp_total g (e ∷ es) 0 sorted (λ j x lt is. absurd (omega (arith, lt)))
-    (λ x is. let same : e ≡ x = cc in subst (λ (y : Identifier × Option Node). identifier_order g y.0 ≡ Less) same less)
 
 -- what a slot holds, or nothing where there is no slot
 abbrev pub held_at : Slots → Identifier → Option Node
 held_at es g = unwrap_or (lookup (is_at (identifier_order g)) es) None
 
 pub same_seen : (es : Slots) (g : Identifier) (v : Option Node) → AreSorted es → v ≡ held_at es g → seen (insert_entry identifier_order es g v) ≡ seen es
-same_seen [] g v sorted is = ap (λ o. and_seen o []) is
-same_seen (e ∷ es) g v sorted is = by (identifier_order g e.0) refl (same_seen es g v (sorted_tail identifier_order e.0 (keys_of es) sorted))
-  where
-    first : (o : Ordering) → identifier_order g e.0 ≡ o → v ≡ unwrap_or (cond (is_eq o) (Some e.1) (lookup (is_at (identifier_order g)) es)) None
-    first o at = is ∙ ap (λ p. unwrap_or (cond (is_eq p) (Some e.1) (lookup (is_at (identifier_order g)) es)) None) at
-
-    by : (o : Ordering) → identifier_order g e.0 ≡ o → (v ≡ held_at es g → seen (insert_entry identifier_order es g v) ≡ seen es)
-        → seen (match_ordering o ((g, v) ∷ e ∷ es) ((e.0, v) ∷ es) (e ∷ insert_entry identifier_order es g v)) ≡ seen (e ∷ es)
-    by Less at later = ap (λ o. and_seen o (seen (e ∷ es))) (is ∙ ap (λ (o : Option (Option Node)). unwrap_or o None) (below_none g e es sorted at))
-    by Equal at later = ap (λ o. and_seen o (seen es)) (first Equal at)
-    by Greater at later = ap (λ ns. and_seen e.1 ns) (later (first Greater at))
+same_seen es g v sorted is =
+    slot_made identifier_order nat_list_cmp_total (λ xs. seen xs ≡ seen es) es (insert_entry identifier_order es g v) g None sorted (ap (insert_entry identifier_order es g) is) refl
+    (made identifier_order seen (λ k xs. refl) (λ e xs ys same. ap (λ ns. and_seen e.1 ns) same) es g)
 
 pub held_home : (es : Slots) (g : Identifier) → AreAtHome es → IfSome (held_at es g) (λ n. n.object.guid ≡ g)
 held_home [] g home = tt
@@ -100,13 +69,7 @@ held_home (e ∷ es) g home = by (is_at (identifier_order g) e.0) refl (held_hom
     by false at later = later
 
 pub home_still : (es : Slots) (g : Identifier) (v : Option Node) → IfSome v (λ n. n.object.guid ≡ g) → AreAtHome es → AreAtHome (insert_entry identifier_order es g v)
-home_still [] g v at home = (at, tt)
-home_still (e ∷ es) g v at home = by (identifier_order g e.0) refl (home_still es g v at home.1)
-  where
-    by : (o : Ordering) → identifier_order g e.0 ≡ o → AreAtHome (insert_entry identifier_order es g v) → AreAtHome (match_ordering o ((g, v) ∷ e ∷ es) ((e.0, v) ∷ es) (e ∷ insert_entry identifier_order es g v))
-    by Less is later = (at, home)
-    by Equal is later = (subst (λ k. IfSome v (λ n. n.object.guid ≡ k)) (exact_bytes g e.0 is) at, home.1)
-    by Greater is later = (home.0, later)
+home_still = still_at_home identifier_order IsAt AreAtHome (λ e es at rest. (at, rest)) (λ e es h. h) exact_bytes
 
 -- ---- a slot emptied
 
@@ -139,25 +102,10 @@ none_still f g h none = by (same_identifier g h) refl
 -- ---- a slot freed
 
 pub freed_seen : (es : Slots) (g : Identifier) → lookup (is_at (identifier_order g)) es ≡ Some None → seen (remove_entry (is_at (identifier_order g)) es) ≡ seen es
-freed_seen [] g empty = cc
-freed_seen (e ∷ es) g empty = by (is_at (identifier_order g) e.0) empty (freed_seen es g)
-  where
-    first : (o : Option Node) → o ≡ None → seen es ≡ and_seen o (seen es)
-    first None h = refl
-    first (Some n) h = cc
-
-    by : (b : Bool) → cond b (Some e.1) (lookup (is_at (identifier_order g)) es) ≡ Some None → (lookup (is_at (identifier_order g)) es ≡ Some None → seen (remove_entry (is_at (identifier_order g)) es) ≡ seen es)
-        → seen (cond b es (e ∷ remove_entry (is_at (identifier_order g)) es)) ≡ seen (e ∷ es)
-    by true h later = let is : e.1 ≡ None = cc in first e.1 is
-    by false h later = ap (λ ns. and_seen e.1 ns) (later h)
+freed_seen = freed identifier_order seen (λ g es. refl) (λ e es fs is. ap (λ ns. and_seen e.1 ns) is)
 
 pub freed_home : (es : Slots) (g : Identifier) → AreAtHome es → AreAtHome (remove_entry (is_at (identifier_order g)) es)
-freed_home [] g home = home
-freed_home (e ∷ es) g home = by (is_at (identifier_order g) e.0) (freed_home es g home.1)
-  where
-    by : (b : Bool) → AreAtHome (remove_entry (is_at (identifier_order g)) es) → AreAtHome (cond b es (e ∷ remove_entry (is_at (identifier_order g)) es))
-    by true h = home.1
-    by false h = (home.0, h)
+freed_home = still_without identifier_order IsAt AreAtHome (λ e es at rest. (at, rest)) (λ e es h. h)
 
 -- ---- by look-ups
 
@@ -168,10 +116,6 @@ flat_either false v old = refl
 pub flag_either : (b v : Bool) (old : Option Bool) → unwrap_or (cond b (Some v) old) false ≡ cond b v (unwrap_or old false)
 flag_either true v old = refl
 flag_either false v old = refl
-
-pub still_some : {X : Type 0} (b : Bool) (v : X) (o : Option X) → IsSome o → IsSome (cond b (Some v) o)
-still_some true v o some = refl
-still_some false v o some = some
 
 -- a flag that is written as it is, or not set where there is none, leaves what is looked up
 pub same_flag : (f : Identifier → Option Bool) (g h : Identifier) (v : Bool) → v ≡ unwrap_or (f g) false → unwrap_or (cond (is_at (identifier_order g) h) (Some v) (f h)) false ≡ unwrap_or (f h) false

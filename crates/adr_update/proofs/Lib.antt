@@ -1,1 +1,2 @@
 pub mod Referred
+pub mod Slots

@@ -5,7 +5,8 @@ use Rattle.std.specs.BTreeMap.{get, is_at}
 use Rattle.adr_stamp.specs.Order.{identifier_order}
 use Rattle.adr_model.specs.Place.{Node}
 use Rattle.adr_tree.specs.Slots.{AreAtHome, IsTidy, flat, seen, slot_at}
-use Rattle.adr_tree.proofs.Seen.{emptied_home, emptied_seen, none_still, still_some}
+use Rattle.adr_update.proofs.Slots.{still_some}
+use Rattle.adr_tree.proofs.Seen.{emptied_home, emptied_seen, none_still}
 use Rattle.adr_tree.proofs.slots.empty.Goals as goal
 
 if_none : (o : Option Node) (P : Type 0) → (o ≡ None → P) → IfNone o P

@@ -4,7 +4,8 @@ use Rattle.std.specs.BTreeMap.{get, is_at}
 use Rattle.std.specs.BTreeMap.Entry.{map_with_value}
 use Rattle.adr_stamp.specs.Order.{identifier_order}
 use Rattle.adr_tree.specs.Slots.{flag_at}
-use Rattle.adr_tree.proofs.Seen.{same_flag, still_some}
+use Rattle.adr_update.proofs.Slots.{still_some}
+use Rattle.adr_tree.proofs.Seen.{same_flag}
 use Rattle.adr_tree.proofs.slots.reserve_flag.Goals as goal
 
 pub returns-clause-same : goal.returns-clause-same

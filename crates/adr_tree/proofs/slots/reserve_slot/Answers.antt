@@ -6,7 +6,8 @@ use Rattle.adr_stamp.specs.Order.{identifier_order}
 use Rattle.adr_model.specs.Update.{Identifier}
 use Rattle.adr_model.specs.Place.{Node}
 use Rattle.adr_tree.specs.Slots.{AreAtHome, IsTidy, seen}
-use Rattle.adr_tree.proofs.Seen.{held_at, held_home, home_still, same_seen, still_some}
+use Rattle.adr_update.proofs.Slots.{still_some}
+use Rattle.adr_tree.proofs.Seen.{held_at, held_home, home_still, same_seen}
 use Rattle.adr_tree.proofs.slots.reserve_slot.Goals as goal
 
 pub returns-clause-seen : goal.returns-clause-seen
