@@ -70,16 +70,19 @@ births_counted (e ∷ es) home = by e.1 home.0 (births_counted es home.1)
         ap (λ b. one_more_if b (tally is_of_class es)) (sym (ap is_of_class own) ∙ class_place h.update.key)
         ∙ longer (born h.update.key) (tally is_of_class es) later h refl
 
--- births rise with the keys of rows
-born_row : (k : Key) (o : Oid) → born k ≡ Some o → k ≡ RowOf o class_attr
-born_row (RowOf p a) o is = by (a == class_attr) refl is
+pub row_of_attr : (attr a : ℕ) (p o : Oid) → (if a == attr then Some p else None) ≡ Some o → RowOf p a ≡ RowOf o attr
+row_of_attr attr a p o is = by (a == attr) refl is
   where
-    same : (a == class_attr) ≡ true → a ≡ class_attr
+    same : (a == attr) ≡ true → a ≡ attr
     same t = grind (arith, nat_tests)
 
-    by : (b : Bool) → (a == class_attr) ≡ b → (if b then Some p else None) ≡ Some o → RowOf p a ≡ RowOf o class_attr
+    by : (b : Bool) → (a == attr) ≡ b → (if b then Some p else None) ≡ Some o → RowOf p a ≡ RowOf o attr
     by true t e = let obj : p ≡ o = cc in ap (λ x. RowOf x a) obj ∙ ap (λ x. RowOf o x) (same t)
     by false t e = cc
+
+-- births rise with the keys of rows
+born_row : (k : Key) (o : Oid) → born k ≡ Some o → k ≡ RowOf o class_attr
+born_row (RowOf p a) o is = row_of_attr class_attr a p o is
 born_row (LinkOf l) o is = cc
 
 class_less : (o p : Oid) → key_order (RowOf o class_attr) (RowOf p class_attr) ≡ Less → object_order o p ≡ Less

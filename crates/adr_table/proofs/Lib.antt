@@ -2,7 +2,9 @@ pub mod Behinds
 pub mod Births
 pub mod Counts
 pub mod Freed
+pub mod Hinted
 pub mod Linked
+pub mod Listed
 pub mod LocalsFound
 pub mod LocalsKept
 pub mod LocalsSeats

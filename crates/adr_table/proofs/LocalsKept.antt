@@ -17,7 +17,7 @@ use Rattle.adr_model.proofs.Members.{each_fails, of_filter, one_passes}
 use Rattle.adr_model.specs.Member.{Member, Each}
 use Rattle.adr_model.specs.Update.{key_order, same_unit, unit_of}
 use Rattle.adr_model.specs.Store.{Held, is_row_of, with_row}
-use Rattle.adr_model.specs.Change.{put, stripped, without_object, goes_with, killed_by}
+use Rattle.adr_model.specs.Change.{stripped, without_object, goes_with}
 use Rattle.adr_model.specs.Serve.{last_local}
 use Rattle.adr_update.specs.Sought.{rows_of_unit}
 use Rattle.adr_table.specs.declared.place.Place.{Place}
@@ -25,7 +25,7 @@ use Rattle.adr_table.specs.declared.slots.Slots.{Slots}
 use Rattle.adr_table.specs.declared.locals.Local.{Local}
 use Rattle.adr_table.specs.Place.{place_order}
 use Rattle.adr_table.specs.Slots.{rows_seen}
-use Rattle.adr_table.specs.Locals.{local_order, local_of, unit_place, AreLocated, IsLocated, above, greatest, is_last, is_number, is_of_seat, rows_of_seat}
+use Rattle.adr_table.specs.Locals.{local_order, local_of, unit_place, AreLocated, above, greatest, is_last, is_number, is_of_seat, rows_of_seat}
 use Rattle.adr_table.specs.contracts.locals.LocalOrd.TheImpl.Laws.{total-law}
 use Rattle.adr_table.proofs.Places.{exact_options, exact_places}
 use Rattle.adr_table.proofs.LocalsSeats.{rows_of, same_itself, seat_is, seat_tells, units_tell}
@@ -43,23 +43,18 @@ local_at u n = record { usn = n; unit = Some (unit_place u) }
 
 -- ---- each row has its hint
 
--- more hints
-abbrev pub More : BTreeSet Local → BTreeSet Local → Type 0
-More old new = (h : Held) → IsLocated old h → IsLocated new h
-
--- where no row comes in
-pub located_among : (old new : Slots) (locals locals' : BTreeSet Local) → AreLocated old locals → More locals locals'
-    → Each (λ h. Member h (rows_seen old)) (rows_seen new) → AreLocated new locals'
-located_among old new locals locals' located more among h m = more h (located h (among h m))
+-- what holds of each row that is seen holds of fewer
+each_among : (old new : Slots) (P Q : Held → Type 0) → Each P (rows_seen old) → ((h : Held) → P h → Q h)
+    → Each (λ h. Member h (rows_seen old)) (rows_seen new) → Each Q (rows_seen new)
+each_among old new P Q each more among h m = more h (each h (among h m))
 
 -- where the same rows are seen
-pub located_same : (old new : Slots) (locals locals' : BTreeSet Local) → AreLocated old locals → More locals locals' → rows_seen new ≡ rows_seen old → AreLocated new locals'
-located_same old new locals locals' located more same = located_among old new locals locals' located more (λ h m. subst (Member h) same m)
+pub each_same : (old new : Slots) (P Q : Held → Type 0) → Each P (rows_seen old) → ((h : Held) → P h → Q h) → rows_seen new ≡ rows_seen old → Each Q (rows_seen new)
+each_same old new P Q each more same = each_among old new P Q each more (λ h m. subst (Member h) same m)
 
 -- where rows went
-pub located_fewer : (old new : Slots) (locals : BTreeSet Local) (keep : Held → Bool) → AreLocated old locals → rows_seen new ≡ filter keep (rows_seen old) → AreLocated new locals
-located_fewer old new locals keep located fewer =
-    located_among old new locals locals located (λ h e. e) (λ h m. (of_filter keep (rows_seen old) h (subst (Member h) fewer m)).0)
+each_fewer : (old new : Slots) (P : Held → Type 0) (keep : Held → Bool) → Each P (rows_seen old) → rows_seen new ≡ filter keep (rows_seen old) → Each P (rows_seen new)
+each_fewer old new P keep each fewer = each_among old new P P each (λ h e. e) (λ h m. (of_filter keep (rows_seen old) h (subst (Member h) fewer m)).0)
 
 pub of_with_row : (rows : List Held) (x h : Held) → Member h (with_row rows x) → (h ≡ x) ⊎ Member h rows
 of_with_row [] x h (inl e) = inl e
@@ -74,32 +69,19 @@ of_with_row (y ∷ ys) x h m = by (key_order x.update.key y.update.key) m (of_wi
     by Greater (inl e) rest = inr (inl e)
     by Greater (inr n) rest = ⊎_elim (λ e. inl e) (λ o. inr (inr o)) (rest n)
 
--- where a row is written that has its hint
-pub located_written : (old new : Slots) (locals : BTreeSet Local) (row : Held) → AreLocated old locals → IsLocated locals row
-    → rows_seen new ≡ with_row (rows_seen old) row → AreLocated new locals
-located_written old new locals row located hinted written h m =
-    ⊎_elim (λ e. subst (IsLocated locals) (sym e) hinted) (λ n. located h n) (of_with_row (rows_seen old) row h (subst (Member h) written m))
+-- where a row is written
+pub each_written : (old new : Slots) (P : Held → Type 0) (row : Held) → Each P (rows_seen old) → P row → rows_seen new ≡ with_row (rows_seen old) row → Each P (rows_seen new)
+each_written old new P row each own written h m =
+    ⊎_elim (λ e. subst P (sym e) own) (λ n. each h n) (of_with_row (rows_seen old) row h (subst (Member h) written m))
 
 -- where a death takes what goes with it
-pub located_stripped : (old new : Slots) (locals : BTreeSet Local) (dead : Option Oid) → AreLocated old locals → rows_seen new ≡ stripped dead (rows_seen old) → AreLocated new locals
-located_stripped old new locals None located same = located_same old new locals locals located (λ h e. e) same
-located_stripped old new locals (Some o) located fewer = located_fewer old new locals (λ h. not (goes_with o h.update.key)) located fewer
-
--- where a row is put that has its hint
-pub located_put : (old new : Slots) (locals : BTreeSet Local) (row : Held) → AreLocated old locals → IsLocated locals row
-    → rows_seen new ≡ put (rows_seen old) row → AreLocated new locals
-located_put old new locals row located hinted is h m = by (killed_by row.update.key) (subst (Member h) is m)
-  where
-    written : Member h (with_row (rows_seen old) row) → IsLocated locals h
-    written n = ⊎_elim (λ e. subst (IsLocated locals) (sym e) hinted) (λ n. located h n) (of_with_row (rows_seen old) row h n)
-
-    by : (dead : Option Oid) → Member h (stripped dead (with_row (rows_seen old) row)) → IsLocated locals h
-    by None n = written n
-    by (Some o) n = written (of_filter (λ x. not (goes_with o x.update.key)) (with_row (rows_seen old) row) h n).0
+pub each_stripped : (old new : Slots) (P : Held → Type 0) (dead : Option Oid) → Each P (rows_seen old) → rows_seen new ≡ stripped dead (rows_seen old) → Each P (rows_seen new)
+each_stripped old new P None each same = each_same old new P P each (λ h e. e) same
+each_stripped old new P (Some o) each fewer = each_fewer old new P (λ h. not (goes_with o h.update.key)) each fewer
 
 -- where an object is removed
-pub located_without : (old new : Slots) (locals : BTreeSet Local) (object : Oid) → AreLocated old locals → rows_seen new ≡ without_object (rows_seen old) object → AreLocated new locals
-located_without old new locals object located fewer = located_fewer old new locals (λ h. not (is_row_of object h.update.key)) located fewer
+pub each_without : (old new : Slots) (P : Held → Type 0) (object : Oid) → Each P (rows_seen old) → rows_seen new ≡ without_object (rows_seen old) object → Each P (rows_seen new)
+each_without old new P object each fewer = each_fewer old new P (λ h. not (is_row_of object h.update.key)) each fewer
 
 -- where a hint is dropped that no row has
 pub located_but : (slots : Slots) (locals locals' : BTreeSet Local) (hint : Local) → AreLocated slots locals

@@ -4,6 +4,8 @@ use Rattle.std.specs.Prelude.{IfSome, is_some, slice_get}
 use Rattle.std.specs.List.{AllByRecursion, list_any}
 use Rattle.std.specs.List.Sorted.{IsStrictlySortedBy}
 use Rattle.std.specs.Map.{keys_of}
+use Rattle.std.specs.Option.{option_copied}
+use denote.Ref.{Bor}
 use Rattle.std.specs.declared.cmp.Ordering.TheVariants.{Less, Equal}
 use Rattle.std.proofs.lemmas.Cmp.{tied_itself}
 use Rattle.std.proofs.lemmas.Map.Keys.{sorted_head, sorted_tail}
@@ -64,6 +66,10 @@ any_of_guid s g is rows =
     ap (λ xs. is_some (slice_get xs 0)) (rows_of_guid s g is rows)
     ∙ first_kept (λ h. is_of_guid g h.update.key) rows
     ∙ sym (any_mapped (λ (h : Held). h.update) (λ (u : Update). is_of_guid g u.key) rows)
+
+pub none_copied : (o : Option (Bor Held)) → is_some o ≡ false → option_copied o ≡ None
+none_copied None is = refl
+none_copied (Some h) is = cc
 
 -- ---- rows rise
 

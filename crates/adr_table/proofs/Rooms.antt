@@ -2,13 +2,15 @@
 use Rattle.std.proofs.Common.{◌≡◌, ◌⊎◌, inl, inr, refl, sym, ap, ◌∙◌, subst, arith, ℕ, ◌+◌, ◌<◌, ◌≤◌, length, List, [], ◌∷◌, Bool, true, false, cond, ◌||◌, Option, Some, None, suc, slice_index_or}
 use Rattle.std.specs.Prelude.{IsSome, is_some}
 use Rattle.std.specs.Map.{keys_of, lookup}
+use Rattle.std.specs.Option.{option_map}
 use Rattle.std.specs.BTreeMap.{get, is_at}
 use Rattle.std.specs.BTreeSet.{BTreeSet, contains}
 use Rattle.std.proofs.lemmas.Bool.{cases_lt}
 use Rattle.std.proofs.lemmas.List.{get_or_default}
 use Rattle.adr_stamp.specs.declared.LinkKey.{LinkKey}
+use Rattle.adr_stamp.specs.declared.Oid.{Oid}
 use Rattle.adr_model.proofs.Keys.{equal_order}
-use Rattle.adr_model.specs.Update.{Key, LinkOf}
+use Rattle.adr_model.specs.Update.{Key, RowOf, LinkOf}
 use Rattle.adr_model.specs.Store.{Held}
 use Rattle.adr_table.specs.declared.place.Place.{Place}
 use Rattle.adr_table.specs.declared.slots.Slots.{Slots}
@@ -52,9 +54,10 @@ pub slot_stays : (old new : Slots) → places new ≡ places old → (q : Place)
 slot_stays old new same q some =
     by_keys (is_at (place_order q)) new.map.entries ∙ ap (any_key (is_at (place_order q))) same ∙ sym (by_keys (is_at (place_order q)) old.map.entries) ∙ some
 
-pub room_stays : (old new : Slots) (back : BTreeSet Behind) (locals : BTreeSet Local) → places new ≡ places old → (h : Held)
-    → HasRoom (record { slots = old; back = back; locals = locals }) h → HasRoom (record { slots = new; back = back; locals = locals }) h
-room_stays old new back locals same h room = record { slot = slot_stays old new same (place_of h.update.key) room.slot; hinted = room.hinted; located = room.located }
+pub room_stays : (old new : Slots) (back : BTreeSet Behind) (dead : BTreeSet Oid) (locals : BTreeSet Local) → places new ≡ places old → (h : Held)
+    → HasRoom (record { slots = old; back = back; dead = dead; locals = locals }) h → HasRoom (record { slots = new; back = back; dead = dead; locals = locals }) h
+room_stays old new back dead locals same h room =
+    record { slot = slot_stays old new same (place_of h.update.key) room.slot; hinted = room.hinted; listed = room.listed; located = room.located }
 
 -- a row that is written has its hint
 pub backed_more : (old new : Slots) (back : BTreeSet Behind) (row : Held) → AreBacked old back → IsHinted back row.update.key
@@ -79,6 +82,15 @@ backed_fewer old new back backed fewer l some = by (row_at old (place_of (LinkOf
 
 pub backed_same : (old new : Slots) (back back' : BTreeSet Behind) → AreBacked old back → ((k : Key) → IsHinted back k → IsHinted back' k) → ((q : Place) → row_at new q ≡ row_at old q) → AreBacked new back'
 backed_same old new back back' backed more same l some = more (LinkOf l) (backed l (subst IsSome (same (place_of (LinkOf l))) some))
+
+-- the link of a row that is held has its hint
+pub hinted_held : (slots : Slots) (back : BTreeSet Behind) → AreBacked slots back → (k : Key) → IsSome (row_at slots (place_of k)) → IsHinted back k
+hinted_held slots back backed (RowOf o a) some = tt
+hinted_held slots back backed (LinkOf l) some = backed l some
+
+pub mapped_some : {X Y : Type 0} (f : X → Y) (o : Option X) (y : Y) → Some y ≡ option_map f o → IsSome o
+mapped_some f None y e = cc
+mapped_some f (Some x) y e = refl
 
 links_apart : (k l : LinkKey) → is_at (behind_order (hint k)) (hint l) ≡ true → k ≡ l
 links_apart k l at = let same : Some k ≡ Some l = ap link_behind (exact_behinds (hint k) (hint l) (equal_order (behind_order (hint k) (hint l)) at)) in cc

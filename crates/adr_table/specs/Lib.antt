@@ -1,5 +1,6 @@
 pub mod Place
 pub mod Slots
 pub mod Back
+pub mod Deaths
 pub mod Table
 pub mod Locals

@@ -5,6 +5,7 @@ use Rattle.adr_table.specs.declared.table.Table.{Table}
 use Rattle.adr_table.specs.Place.{place_of}
 use Rattle.adr_table.specs.Slots.{HasSlot, IsTidy, rows_seen}
 use Rattle.adr_table.specs.Back.{AreBacked, IsHinted}
+use Rattle.adr_table.specs.Deaths.{AreListed, IsListed}
 use Rattle.adr_table.specs.Locals.{AreLocated, IsLocated}
 
 -- the rows of a table, in order of their keys
@@ -15,12 +16,14 @@ rows_in t = rows_seen t.slots
 pub record IsKept (t : Table) : Type 0 where
   pub tidy : IsTidy t.slots
   pub backed : AreBacked t.slots t.back
+  pub listed : AreListed t.slots t.dead
   pub located : AreLocated t.slots t.locals
 
 -- a row can be put without memory
 pub record HasRoom (t : Table) (h : Held) : Type 0 where
   pub slot : HasSlot t.slots (place_of h.update.key)
   pub hinted : IsHinted t.back h.update.key
+  pub listed : IsListed t.dead h.update.key
   pub located : IsLocated t.locals h
 
 abbrev pub HaveRoom : Table → List Held → Type 0

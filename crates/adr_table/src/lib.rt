@@ -8,6 +8,7 @@
 #![tactic(auto)]
 
 mod back;
+mod deaths;
 mod locals;
 mod place;
 mod slots;

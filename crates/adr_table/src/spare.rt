@@ -8,7 +8,7 @@ ghost use Rattle.adr_table.specs.Table.{HasRoom, HaveRoom, IsKept, rows_in};
 use crate::locals::{Local, name};
 use crate::place::Place;
 use crate::table::Table;
-use crate::{NoMemory, back, locals};
+use crate::{NoMemory, back, deaths, locals};
 use adr_stamp::{LinkKey, Oid};
 use adr_update::{Held, Key};
 use std::alloc::Global;
@@ -110,11 +110,12 @@ impl Table {
     {
         let key = row.key();
         locals::remember(&mut self.locals, before, row)?;
-        // The link of a row that is held has its hint.
+        // A row that is held has its other hints.
         if let Some(usn) = self.slots.reserve(Place::of(&key))? {
             return Ok(Some(usn));
         }
         back::remember(&mut self.back, &key)?;
+        deaths::remember(&mut self.dead, &key)?;
         Ok(None)
     }
 

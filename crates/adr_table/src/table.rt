@@ -1,7 +1,8 @@
 //! A table of rows, and what is looked up in it.
 
-ghost use Rattle.std.specs.Prelude.{◌≡◌, [], IfOk, filter, length};
+ghost use Rattle.std.specs.Prelude.{◌≡◌, [], IfOk, filter, is_some, length};
 ghost use Rattle.std.specs.Option.{option_copied};
+ghost use Rattle.adr_model.specs.Change.{killed_by};
 ghost use Rattle.adr_model.specs.Formed.{AreRising};
 ghost use Rattle.adr_model.specs.Live.{objects_of};
 ghost use Rattle.adr_model.specs.Store.{holds_dead, holds_object, is_row_of, row_held, updates_of};
@@ -14,6 +15,7 @@ ghost use Rattle.adr_table.specs.Table.{IsKept, rows_in};
 
 use crate::NoMemory;
 use crate::back::{Behind, rows_behind};
+use crate::deaths::deaths;
 use crate::locals::{Local, next_local, units_at};
 use crate::place::Place;
 use crate::slots::Slots;
@@ -23,12 +25,13 @@ use std::alloc::Global;
 use std::collections::BTreeSet;
 use uuid::Uuid;
 
-/// Rows in slots, with hints of the links that end at each object and of the units that were written last under each local
-/// update sequence number.
+/// Rows in slots, with hints of the links that end at each object, of the objects that are held dead, and of the units that
+/// were written last under each local update sequence number.
 #[derive(Drop)]
 pub struct Table {
     pub(crate) slots: Slots,
     pub(crate) back: BTreeSet<Behind>,
+    pub(crate) dead: BTreeSet<Oid>,
     pub(crate) locals: BTreeSet<Local>,
 }
 
@@ -41,6 +44,7 @@ impl Table {
         Table {
             slots: Slots::new(alloc),
             back: BTreeSet::new(alloc),
+            dead: BTreeSet::new(alloc),
             locals: BTreeSet::new(alloc),
         }
     }
@@ -134,6 +138,15 @@ impl Table {
             referents rows.items ≡ filter (λ h. is_link_to object.now h.update.key) (rows_in self.now)) }
     {
         rows_behind(alloc, &self.slots, &self.back, object)
+    }
+
+    /// The death rows, in order. It takes time by them alone.
+    pub fn deaths(&self, alloc: Global) -> Result<Vec<&Held>, NoMemory>
+        requires { IsKept self.now }
+        ensures { IfOk result (λ rows.
+            referents rows.items ≡ filter (λ h. is_some (killed_by h.update.key)) (rows_in self.now)) }
+    {
+        deaths(alloc, &self.slots, &self.dead)
     }
 
     /// The rows of a unit, in order.

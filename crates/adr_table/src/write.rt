@@ -5,17 +5,18 @@ ghost use Rattle.adr_model.specs.Change.{put, rows_after, stripped, without_obje
 ghost use Rattle.adr_model.specs.Store.{Held as Row};
 ghost use Rattle.adr_table.specs.Slots.{IsTidy, places, row_at, rows_seen};
 ghost use Rattle.adr_table.specs.Back.{AreBacked};
+ghost use Rattle.adr_table.specs.Deaths.{AreListed};
 ghost use Rattle.adr_table.specs.Locals.{AreLocated};
 ghost use Rattle.adr_table.specs.Table.{HasRoom, HaveRoom, IsKept, rows_in};
 ghost use Rattle.adr_table.specs.declared.place.Place.{Place as Seat};
 
 use crate::back::{Behind, empty_links_to, forget};
-use crate::locals;
 use crate::locals::Local;
 use crate::place::Place;
 use crate::slots::Slots;
 use crate::spare::Spare;
 use crate::table::Table;
+use crate::{deaths, locals};
 use adr_stamp::{LinkKey, Oid};
 use adr_update::Held;
 use std::collections::BTreeSet;
@@ -68,6 +69,17 @@ fn forget_all(slots: &mut Slots, back: &mut BTreeSet<Behind>, links: &[LinkKey])
 {
     for link in links {
         forget(slots, back, link);
+    }
+}
+
+/// Lets go of objects that aren't held dead.
+fn forget_dead(slots: &Slots, dead: &mut BTreeSet<Oid>, objects: &[Oid])
+    requires tidy { IsTidy slots.now }
+    requires listed { AreListed slots.now dead.old }
+    ensures { AreListed slots.now dead.new }
+{
+    for object in objects {
+        deaths::forget(slots, dead, object);
     }
 }
 
@@ -137,6 +149,7 @@ impl Table {
     {
         free_all(&mut self.slots, spare.objects.as_slice());
         forget_all(&mut self.slots, &mut self.back, spare.links.as_slice());
+        forget_dead(&self.slots, &mut self.dead, spare.objects.as_slice());
         forget_locals(&self.slots, &mut self.locals, spare.locals.as_slice());
     }
 

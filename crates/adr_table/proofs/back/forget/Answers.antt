@@ -1,18 +1,12 @@
-use Rattle.std.proofs.Common.{◌≡◌, refl, sym, ap, ◌∙◌, false, cond, Option, Some, None}
-use Rattle.std.specs.Option.{is_some, option_copied}
+use Rattle.std.proofs.Common.{sym, ap, ◌∙◌, false, cond}
 use Rattle.std.specs.BTreeMap.{is_at}
 use Rattle.std.specs.BTreeSet.{contains}
-use denote.Ref.{Bor}
 use Rattle.adr_model.specs.Update.{LinkOf}
-use Rattle.adr_model.specs.Store.{Held}
 use Rattle.adr_table.specs.Back.{behind_order}
 use Rattle.adr_table.proofs.Seen.{found}
 use Rattle.adr_table.proofs.Rooms.{backed_without}
+use Rattle.adr_table.proofs.Queries.{none_copied}
 use Rattle.adr_table.proofs.back.forget.Goals as goal
-
-none_copied : (o : Option (Bor Held)) → is_some o ≡ false → option_copied o ≡ None
-none_copied None is = refl
-none_copied (Some h) is = cc
 
 pub returns-then-is_none-clause-backed : goal.returns-then-is_none-clause-backed
 returns-then-is_none-clause-backed c =
