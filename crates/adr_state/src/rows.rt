@@ -1,9 +1,9 @@
 //! The rows that a controller holds, and its live objects.
 
-ghost use Rattle.std.specs.Prelude.{◌≡◌, [], IfOk, IsSome, OnOk, OnErr, Some, false, filter, length};
+ghost use Rattle.std.specs.Prelude.{◌≡◌, [], IfOk, IsSome, OnOk, OnErr, Some, false, filter, is_some, length};
 ghost use Rattle.std.specs.List.{find, list_any};
 ghost use Rattle.std.specs.Option.{option_copied, option_map};
-ghost use Rattle.adr_model.specs.Change.{rows_after};
+ghost use Rattle.adr_model.specs.Change.{killed_by, rows_after};
 ghost use Rattle.adr_model.specs.Formed.{AreRising};
 ghost use Rattle.adr_model.specs.Live.{objects_of};
 ghost use Rattle.adr_model.specs.Place.{is_fixed, node_at, place, upward};
@@ -129,6 +129,14 @@ impl Rows {
             referents rows.items ≡ filter (λ h. is_link_to object.now h.update.key) self.now) }
     {
         self.table.links_to(alloc, object)
+    }
+
+    /// The death rows, in order. It takes time by them alone.
+    pub fn deaths(&self, alloc: Global) -> Result<Vec<&Held>, NoMemory>
+        ensures { IfOk result (λ rows.
+            referents rows.items ≡ filter (λ h. is_some (killed_by h.update.key)) self.now) }
+    {
+        self.table.deaths(alloc)
     }
 
     /// The rows of a unit, in order.
