@@ -1,8 +1,9 @@
--- What a search finds passes its test, and what each element of the list passes.
-use Rattle.std.proofs.Common.{◌≡◌, Bool, true, false, cond, List, [], ◌∷◌, Option, Some, None, refl, subst}
-use Rattle.std.specs.List.{list_all, find}
+-- What a search finds passes its test, what each element of the list passes, and what a loop over a list adds.
+use Rattle.std.proofs.Common.{◌≡◌, ℕ, ◌+◌, ◌<◌, Bool, true, false, cond, List, [], ◌∷◌, ◌++◌, length, get_or, take, Option, Some, None, refl, sym, ap, ◌∙◌, subst, add-one, take-suc}
+use Rattle.std.specs.List.{list_all, find, flat_map}
 use Rattle.std.specs.Option.{option_map}
 use Rattle.std.proofs.lemmas.Bool.{and_from, and_parts}
+use Rattle.std.proofs.lemmas.List.{flat_map_more}
 
 -- what passes a test passes a weaker one
 pub all_more : {A : Type 0} (p q : A → Bool) → ((x : A) → p x ≡ true → q x ≡ true) → (xs : List A) → list_all p xs ≡ true → list_all q xs ≡ true
@@ -28,3 +29,7 @@ mapped f None y e = absurd (cc)
 mapped f (Some x) y e =
     let same : f x ≡ y = cc in
     (x, refl, same)
+
+-- what the elements up to one add, and then what that one adds
+pub added : {X A : Type 0} (f : X → List A) (front now next : List A) (xs : List X) (i : ℕ) (d x : X) → i < length xs → x ≡ get_or xs i d → now ≡ front ++ flat_map f (take i xs) → next ≡ now ++ f x → next ≡ front ++ flat_map f (take (i + 1) xs)
+added f front now next xs i d x h e before step = step ∙ ap (λ out. out ++ f x) before ∙ flat_map_more f front (take i xs) x ∙ ap (λ ys. front ++ flat_map f ys) (rw e (sym (ap (λ n. take n xs) (add-one i) ∙ take-suc xs i d h)))

@@ -1,15 +1,20 @@
 -- What was read of a text, and what is left of it.
-use Rattle.std.proofs.Common.{◌≡◌, ℕ, zero, suc, ◌<◌, ◌≤◌, ◌&&◌, length, List, [], ◌∷◌, ◌++◌, Bool, true, false, Option, Some, None, refl, ap, append_assoc, arith}
+use Rattle.std.proofs.Common.{◌≡◌, ℕ, zero, suc, ◌+◌, ◌<◌, ◌≤◌, ◌&&◌, length, get_or, drop, List, [], ◌∷◌, ◌++◌, Bool, true, false, Option, Some, None, refl, sym, ap, ◌∙◌, append_assoc, arith}
 use Rattle.std.specs.Str.{IsUtf8, is_utf8}
 use Rattle.std.proofs.lemmas.Str.{IsUtf8-from_is_utf8}
 use Rattle.std.specs.Prelude.{slice_index, nat_le}
 use Rattle.std.specs.List.{list_all}
 use Rattle.std.proofs.lemmas.Bool.{and_parts}
+use Rattle.std.proofs.lemmas.List.{at_drop_more}
 use Rattle.std.proofs.lemmas.Bool.Decides.{nat_tests}
 use Rattle.std.proofs.lemmas.Str.{IsUtf8-from_ascii}
 use Rattle.adr_token.specs.Words.{is_letter, is_name_byte, is_name}
 use Rattle.adr_token.specs.Gives.{Reading, with_first}
-use Rattle.adr_token.specs.Texts.{is_text}
+use Rattle.adr_token.specs.declared.texts.Place.{Place}
+use Rattle.adr_token.specs.declared.texts.Place.TheVariants.{Plain}
+use Rattle.adr_token.specs.declared.texts.Move.{Move}
+use Rattle.adr_token.specs.declared.texts.Move.TheVariants.{Go, Byte}
+use Rattle.adr_token.specs.Texts.{follow, is_text, move, quoted}
 
 -- a front put before what is read behind it
 abbrev pub onto : {X : Type 0} → List X → Reading (List X) → Reading (List X)
@@ -19,6 +24,18 @@ onto front (Some t) = Some (front ++ t.0, t.1)
 pub onto_push : {X : Type 0} (front : List X) (x : X) (t : Reading (List X)) → onto (front ++ x ∷ []) t ≡ onto front (with_first x t)
 onto_push {X} front x None = refl
 onto_push {X} front x (Some t) = ap (λ (xs : List X). Some (xs, t.1)) (append_assoc front (x ∷ []) t.0)
+
+-- what the byte at a place does
+pub quoted_at : (place : Place) (bs : List ℕ) (i : ℕ) (moved : Move) → i < length bs → moved ≡ move place (get_or bs i 0) → quoted place (drop i bs) ≡ follow moved (drop (i + 1) bs) (λ next. quoted next (drop (i + 1) bs))
+quoted_at place bs i moved h e = at_drop_more (quoted place) bs i 0 h ∙ ap (λ (m : Move). follow m (drop (i + 1) bs) (λ next. quoted next (drop (i + 1) bs))) (sym e)
+
+-- a byte that only changes the place
+pub gone_on : (text bs : List ℕ) (place next : Place) (i : ℕ) (moved : Move) → i < length bs → moved ≡ move place (get_or bs i 0) → moved ≡ Go next → onto text (quoted next (drop (i + 1) bs)) ≡ onto text (quoted place (drop i bs))
+gone_on text bs place next i moved h e g = ap (onto text) (sym (quoted_at place bs i (Go next) h (sym g ∙ e)))
+
+-- a byte that adds one
+pub grown : (text bs : List ℕ) (place : Place) (byte i : ℕ) (moved : Move) → i < length bs → moved ≡ move place (get_or bs i 0) → moved ≡ Byte byte → onto (text ++ byte ∷ []) (quoted Plain (drop (i + 1) bs)) ≡ onto text (quoted place (drop i bs))
+grown text bs place byte i moved h e g = onto_push text byte (quoted Plain (drop (i + 1) bs)) ∙ ap (onto text) (sym (quoted_at place bs i (Byte byte) h (sym g ∙ e)))
 
 -- a test that doesn't hold fails
 fails : (b : Bool) → (b ≡ true → ⊥) → b ≡ false

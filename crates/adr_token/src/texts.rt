@@ -94,7 +94,6 @@ fn move_at(place: Place, byte: u8) -> Move
 }
 
 /// The text up to the closing quote, and what follows.
-#[tactic(auto, using(crate::proofs::TextLemmas::onto_push))]
 pub fn quoted(alloc: Global, bytes: &[u8]) -> Result<(Vec<u8>, &[u8]), Stop>
     ensures text { IfOk result (λ x. quoted Place.Plain bytes.now ≡ Some (x.0.items, x.1.now)) }
     ensures stop { IfErr result (λ stop. Stops stop (quoted Place.Plain bytes.now)) }
