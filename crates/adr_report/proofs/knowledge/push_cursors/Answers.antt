@@ -1,0 +1,8 @@
+use Rattle.adr_token.proofs.Lists.{added}
+use Rattle.adr_report.specs.Line.{cursor_line}
+use Rattle.adr_report.proofs.knowledge.push_cursors.Goals as goal
+
+pub loop-inv-preserved : goal.loop-inv-preserved
+loop-inv-preserved c =
+    added cursor_line c.args.out.now.items c.loop-inv.out.items c.push_cursor.new.out.items c.args.cursors.now c.loop-inv.inv-index c.loop-inv-item.result c.loop-inv-item.result
+    c.loop-inv-test.true c.loop-inv-item.is c.loop-inv.invariant c.in_ok-push_cursor.ensures

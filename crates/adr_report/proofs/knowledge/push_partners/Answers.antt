@@ -1,0 +1,8 @@
+use Rattle.adr_token.proofs.Lists.{added}
+use Rattle.adr_report.specs.Line.{partner_line}
+use Rattle.adr_report.proofs.knowledge.push_partners.Goals as goal
+
+pub loop-dsa-preserved : goal.loop-dsa-preserved
+loop-dsa-preserved c =
+    added partner_line c.args.out.now.items c.loop-dsa.out.items c.push_partner.new.out.items c.args.partners.now c.loop-dsa.dsa-index c.loop-dsa-item.result c.loop-dsa-item.result
+    c.loop-dsa-test.true c.loop-dsa-item.is c.loop-dsa.invariant c.in_ok-push_partner.ensures

@@ -1,0 +1,8 @@
+use Rattle.adr_token.proofs.Lists.{added}
+use Rattle.adr_report.specs.Line.{field_text}
+use Rattle.adr_report.proofs.lines.push_fields.Goals as goal
+
+pub loop-field-preserved : goal.loop-field-preserved
+loop-field-preserved c =
+    added field_text c.args.out.now.items c.loop-field.out.items c.push_field.new.out.items c.args.fields.now c.loop-field.field-index c.field-item.result c.field-item.result
+    c.loop-field-test.true c.field-item.is c.loop-field.invariant c.in_ok-push_field.ensures
