@@ -1,7 +1,7 @@
 //! Reads a log from its bytes.
 
-ghost use Rattle.std.specs.Prelude.{◌≡◌, ◌≤◌, ◌<◌, ◌+◌, ◌^◌, ◌++◌, ℕ, false, Some, Err, IfOk, IfErr, IfSome, IfNone, IsErrOf, length, take, drop};
-ghost use Rattle.adr_law_journal.specs.Log.{body_at, with_length, start_of, Reaches, IsAtRest};
+ghost use Rattle.std.specs.Prelude.{◌≡◌, ◌≤◌, ◌<◌, ◌+◌, ◌^◌, ◌++◌, ℕ, false, Some, Err, IfOk, IfErr, IfSome, IfNone, OnOk, IsErrOf, length, take, drop, get_or};
+ghost use Rattle.adr_law_journal.specs.Log.{body_at, open_gate, with_length, start_of, Reaches, IsAtRest};
 ghost use Rattle.adr_journal.specs.Ended.{IsDamageOf};
 
 use crate::form::{FollowRefusal, Form};
@@ -63,6 +63,66 @@ fn read_first<F: Form>(alloc: Global, bytes: &[u8]) -> Result<(State, usize), St
     }
 }
 
+/// Takes the record behind an open gate, and tells the place of the next gate.
+fn take_record<F: Form>(
+    alloc: Global,
+    state: &mut State,
+    bytes: &[u8],
+    gate: usize,
+) -> Result<usize, StartRefusal>
+    requires short { length bytes.now < 2 ^ 63 }
+    requires there { gate < length bytes.now }
+    requires open { get_or bytes.now gate 0 ≡ open_gate }
+    requires reaches { Reaches F.head F.following (take gate bytes.now) state.old }
+    requires formed { F.is_formed state.old }
+    ensures within { IfOk result (λ next. (gate < next) × (next ≤ length bytes.now)) }
+    ensures reaches { IfOk result (λ next. Reaches F.head F.following (take next bytes.now) state.new) }
+    ensures formed { OnOk result (F.is_formed state.new) }
+    ensures damaged { IfErr result (λ e. IsDamageOf e (Some (start_of F.head F.following bytes.now))) }
+    ensures refused { IsErrOf result StartRefusal.DiskFault → ⊥ }
+    ensures settled { IsErrOf result (StartRefusal.NoMemory false) → ⊥ }
+{
+    let (_, behind) = bytes.split_at(gate + 1);
+    let Some(body) = body_of(behind) else {
+        return Err(damaged(gate));
+    };
+    match F::follow(alloc, state, body) {
+        Ok(()) => Ok(gate + 5 + body.len()),
+        Err(FollowRefusal::CannotFollow) => Err(damaged(gate)),
+        Err(FollowRefusal::NoMemory) => Err(StartRefusal::NoMemory { settled: true }),
+    }
+}
+
+/// Takes the records from a gate on, and tells the place behind the closed one.
+fn take_records<F: Form>(
+    alloc: Global,
+    state: &mut State,
+    bytes: &[u8],
+    first: usize,
+) -> Result<usize, StartRefusal>
+    requires short { length bytes.now < 2 ^ 63 }
+    requires within { first ≤ length bytes.now }
+    requires reaches { Reaches F.head F.following (take first bytes.now) state.old }
+    requires formed { F.is_formed state.old }
+    ensures rests { IfOk result (λ end. IsAtRest F.head F.following state.new end bytes.now) }
+    ensures formed { OnOk result (F.is_formed state.new) }
+    ensures damaged { IfErr result (λ e. IsDamageOf e (Some (start_of F.head F.following bytes.now))) }
+    ensures refused { IsErrOf result StartRefusal.DiskFault → ⊥ }
+    ensures settled { IsErrOf result (StartRefusal.NoMemory false) → ⊥ }
+{
+    let mut gate = first;
+    'records: while gate < bytes.len() {
+        if bytes[gate] != OPEN {
+            return Ok(gate + 1);
+        }
+        gate = match take_record::<F>(alloc, state, bytes, gate) {
+            Ok(next) => next,
+            Err(refusal) => return Err(refusal),
+        };
+    }
+    Err(damaged(gate))
+}
+
 /// The state that a log leads to, and the place behind its closed gate.
 pub(crate) fn replay<F: Form>(alloc: Global, bytes: &[u8]) -> Result<(State, usize), StartRefusal>
     requires { length bytes.now < 2 ^ 63 }
@@ -72,24 +132,12 @@ pub(crate) fn replay<F: Form>(alloc: Global, bytes: &[u8]) -> Result<(State, usi
     ensures refused { IsErrOf result StartRefusal.DiskFault → ⊥ }
     ensures settled { IsErrOf result (StartRefusal.NoMemory false) → ⊥ }
 {
-    let (mut state, mut gate) = match read_first::<F>(alloc, bytes) {
+    let (mut state, gate) = match read_first::<F>(alloc, bytes) {
         Ok(read) => read,
         Err(refusal) => return Err(refusal),
     };
-    'records: while gate < bytes.len() {
-        if bytes[gate] != OPEN {
-            return Ok((state, gate + 1));
-        }
-        let (_, behind) = bytes.split_at(gate + 1);
-        let Some(body) = body_of(behind) else {
-            return Err(damaged(gate));
-        };
-        match F::follow(alloc, &mut state, body) {
-            Ok(()) => {}
-            Err(FollowRefusal::CannotFollow) => return Err(damaged(gate)),
-            Err(FollowRefusal::NoMemory) => return Err(StartRefusal::NoMemory { settled: true }),
-        }
-        gate += 5 + body.len();
+    match take_records::<F>(alloc, &mut state, bytes, gate) {
+        Ok(end) => Ok((state, end)),
+        Err(refusal) => Err(refusal),
     }
-    Err(damaged(gate))
 }
