@@ -1,3 +1,2 @@
 mod Parts
 mod Seen
-mod Left

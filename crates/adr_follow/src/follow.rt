@@ -7,10 +7,8 @@ ghost use Rattle.adr_law_formed.specs.Spelled.{IsSpelledChange};
 ghost use Rattle.adr_law_formed.specs.Tested.{can_follow};
 
 use crate::NoMemory;
-use crate::removed::are_removable;
-use crate::touched::are_touched_formed;
 use crate::vectors::{are_in_order, goes_on};
-use crate::writes::may_follow_in_turn;
+use adr_judge::{are_removable, are_touched_formed, may_follow_in_turn};
 use adr_law_formed::changes_are_tested;
 use adr_state::{Change, State};
 use adr_told::Told;
@@ -36,7 +34,7 @@ fn passes(alloc: Global, state: &State, change: &Change) -> Result<bool, NoMemor
     if !goes_on(state, change) {
         return Ok(false);
     }
-    let mut told = Told::new(alloc, state.rows());
+    let mut told = Told::new(alloc, state.rows().table());
     let schema = state.schema();
     if !may_follow_in_turn(alloc, schema, state.vector(), &mut told, change.writes())? {
         return Ok(false);

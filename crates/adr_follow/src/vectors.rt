@@ -1,14 +1,14 @@
 //! The numbers of a change: its USN, its vectors and how many cursors and marks there come to be.
 
 ghost use Rattle.std.specs.Prelude.{◌≡◌, ◌&&◌, length, nat_le, not};
-ghost use Rattle.adr_vector.specs.Vector.{IsVector, at, at_most, cursor_limit, joined};
+ghost use Rattle.adr_vector.specs.Vector.{at, at_most, cursor_limit};
 ghost use Rattle.adr_model.specs.Change.{after, with_mark};
 ghost use Rattle.adr_model.specs.Serve.{is_quarantined};
 ghost use Rattle.adr_model.specs.Take.{mark_limit};
 
+use adr_judge::seen_by_both;
 use adr_state::{CURSOR_LIMIT, Change, MARK_LIMIT, State, is_same};
 use adr_told::len_after;
-use adr_vector::Vector;
 use uuid::Uuid;
 
 /// Whether a change goes on from a state that is up, at its USN or above it.
@@ -70,19 +70,4 @@ fn seen_after(state: &State, change: &Change, inv: Uuid) -> u64
     } else {
         seen
     }
-}
-
-/// How much of an incarnation one of two vectors has seen.
-pub fn seen_by_both(one: &Vector, other: &Vector, inv: Uuid) -> u64
-    ensures { result ≡ at (joined one.now other.now) inv }
-{
-    are_rising(other);
-    one.at(inv).max(other.at(inv))
-}
-
-/// The identifiers of a vector rise.
-fn are_rising(vector: &Vector)
-    ensures { IsVector vector.now }
-{
-    vector.cursors();
 }

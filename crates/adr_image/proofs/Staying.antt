@@ -18,13 +18,13 @@ use Rattle.adr_wire.specs.Composites.{Row}
 use Rattle.adr_wire.specs.Pieces.{Piece, OfRows, OfLink, IsPiece}
 use Rattle.adr_wire.specs.Ranges.{InTurn, IsCursor, IsId, IsMark, IsOid, IsRowAbove, IsUsn}
 use Rattle.adr_law_lengths.specs.Written.{update_of}
-use Rattle.adr_model.specs.Change.{Change, Written, after, held_of, killed_by, put, rows_after, stripped, with_mark, without_object}
+use Rattle.adr_model.specs.Change.{Change, Written, after, held_of, put, rows_after, with_mark, without_object}
 use Rattle.adr_model.specs.Member.{Member, Each}
 use Rattle.adr_model.specs.Sound.{AreClassesKnown}
-use Rattle.adr_model.specs.Store.{Held, Kept, State, empty_store, updates_of, with_row}
+use Rattle.adr_model.specs.Store.{Held, Kept, State, empty_store, updates_of}
 use Rattle.adr_model.specs.Update.{Identifier, Update}
 use Rattle.adr_model.proofs.Members.{flat_member, mapped_member, member_mapped, of_filter}
-use Rattle.adr_table.proofs.LocalsKept.{of_with_row}
+use Rattle.adr_law_steps.proofs.Rows.{put_from}
 use Rattle.adr_image.specs.Body.{IsMarkIf, IsWrite, Write}
 use Rattle.adr_image.specs.Changes.{HasBody, item_of, written_of}
 use Rattle.adr_image.specs.Image.{Marked}
@@ -100,14 +100,10 @@ partners_rise (Some k) marks s = sorted_inserted identifier_order nat_list_cmp_t
 
 -- ---- rows
 
-from_stripped : (o : Option Oid) (rows : List Held) (h : Held) → Member h (stripped o rows) → Member h rows
-from_stripped None rows h m = m
-from_stripped (Some o) rows h m = (of_filter _ rows h m).0
-
 from_writes : (writes rows : List Held) (h : Held) → Member h (fold put rows writes) → Member h writes ⊎ Member h rows
 from_writes [] rows h m = inr m
 from_writes (w ∷ ws) rows h m =
-    ⊎_elim (λ a. inl (inr a)) (λ b. ⊎_elim (λ e. inl (inl e)) (λ n. inr n) (of_with_row rows w h (from_stripped (killed_by w.update.key) (with_row rows w) h b))) (from_writes ws (put rows w) h m)
+    ⊎_elim (λ a. inl (inr a)) (λ b. ⊎_elim (λ e. inl (inl e)) (λ n. inr n) (put_from rows w h b)) (from_writes ws (put rows w) h m)
 
 from_removals : (removed : List Oid) (rows : List Held) (h : Held) → Member h (fold without_object rows removed) → Member h rows
 from_removals [] rows h m = m

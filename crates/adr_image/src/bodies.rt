@@ -8,8 +8,8 @@ ghost use Rattle.adr_image.specs.Changes.{AreShort, IsShortChange, change_bytes,
 ghost use Rattle.adr_image.specs.Written.{IsShortSaid};
 
 use crate::encoding::{write_kept, write_told};
+use adr_change::{Change, Kept};
 use adr_stamp::{Oid, Unit};
-use adr_state::{Change, Kept};
 use adr_update::{NoMemory, Update, Written};
 use adr_wire::Writer;
 use std::alloc::Global;

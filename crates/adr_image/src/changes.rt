@@ -3,7 +3,7 @@
 ghost use Rattle.std.specs.Prelude.{◌≡◌, None, Some, IfOk, map};
 ghost use Rattle.std.specs.Ordering.{nat_cmp};
 ghost use Rattle.adr_law_lengths.specs.Written.{link_item, object_item, update_of};
-ghost use Rattle.adr_state.specs.Mode.{mode_of};
+ghost use Rattle.adr_change.specs.Mode.{mode_of};
 ghost use Rattle.adr_wire.specs.Fields.{usn_at};
 ghost use Rattle.adr_wire.specs.Pieces.{piece_at};
 ghost use Rattle.adr_wire.specs.Composites.{oid_at};
@@ -14,9 +14,9 @@ ghost use Rattle.adr_image.specs.Seen.{GivesSeen};
 
 use crate::links::LinkItem;
 use crate::marks::read_kept;
+use adr_change::{Change, Kept, Mode};
 use adr_schema::Content;
 use adr_stamp::{LinkStamp, Oid, Stamp, Unit};
-use adr_state::{Change, Kept, Mode};
 use adr_update::{Item, Key, NoMemory, Said, Update, Written};
 use adr_wire::{Failure, Malformed, Reader, WireRefusal};
 use std::alloc::{AllocError, Global};

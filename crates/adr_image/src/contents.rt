@@ -14,9 +14,10 @@ ghost use Rattle.adr_image.specs.Whole.{links_at, objects_at, parts_at};
 
 use crate::gathered::{read_links, read_objects};
 use crate::marks::read_marks;
+use adr_change::Kept;
 use adr_schema::Schema;
-use adr_state::{Kept, Vector};
 use adr_update::Held;
+use adr_vector::Vector;
 use adr_wire::{Failure, Malformed, Reader, WireRefusal};
 use std::alloc::Global;
 use std::marker::Model;

@@ -6,9 +6,10 @@ ghost use Rattle.adr_model.specs.Formed.{IsFormedStore};
 ghost use Rattle.adr_image.specs.Stored.{IsSpelled};
 
 use crate::contents::Contents;
+use adr_change::Kept;
 use adr_schema::Schema;
-use adr_state::{Kept, Vector};
 use adr_update::Held;
+use adr_vector::Vector;
 use std::marker::Model;
 use uuid::Uuid;
 

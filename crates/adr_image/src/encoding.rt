@@ -16,8 +16,8 @@ ghost use Rattle.adr_image.specs.Written.{HaveFewRows, IsShortSaid, IsWritable, 
 
 use crate::contents::Contents;
 use crate::decoding::{MAGIC, VERSION};
+use adr_change::Kept;
 use adr_stamp::{LinkStamp, Oid};
-use adr_state::Kept;
 use adr_update::{Held, Key, NoMemory, Said};
 use adr_wire::Writer;
 use std::alloc::Global;

@@ -7,7 +7,9 @@ ghost use Rattle.adr_wire.specs.Reading.{GivesAs, Tells, is_above, where_at};
 ghost use Rattle.adr_image.specs.Image.{is_ordered, kept_above, marks_of};
 ghost use Rattle.adr_image.specs.Whole.{marks_at};
 
-use adr_state::{Kept, MARK_LIMIT, Mark};
+use adr_change::Kept;
+use adr_update::MARK_LIMIT;
+use adr_vector::Mark;
 use adr_wire::{Failure, Malformed, Reader, WireRefusal};
 use std::alloc::Global;
 use uuid::Uuid;

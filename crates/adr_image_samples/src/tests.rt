@@ -1,7 +1,8 @@
 //! An image of two objects and a link, byte for byte, and changes of one byte of it.
 
+use adr_change::{Change, Mode};
 use adr_image::{DecodeRefusal, Failure, decode, decode_change, encode, encode_change};
-use adr_state::{Change, Mode, Vector};
+use adr_vector::Vector;
 use std::alloc::Global;
 use std::test::Fail;
 

@@ -11,7 +11,7 @@ ghost use Rattle.adr_model.specs.Serve.{is_quarantined};
 ghost use Rattle.adr_model.specs.Store.{row_held, updates_of};
 ghost use Rattle.adr_model.specs.Write.{cursor_refusal, fixed_refusal, full_refusal, holds_guid, nodes_held, object_limit, object_refusal, of_schema, usn_limit, usn_refusal, version_limit, version_of, version_refusal, where_true};
 ghost use Rattle.adr_update.specs.Key.{key_of};
-ghost use Rattle.adr_state.specs.Mode.{mode_of};
+ghost use Rattle.adr_change.specs.Mode.{mode_of};
 
 use crate::live::node;
 use crate::stamps::version_of;

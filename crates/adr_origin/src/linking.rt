@@ -7,7 +7,7 @@ ghost use Rattle.adr_event.specs.declared.refusal.WriteRefusal.{WriteRefusal};
 ghost use Rattle.adr_model.specs.Store.{row_held, updates_of};
 ghost use Rattle.adr_model.specs.Update.{LinkOf};
 ghost use Rattle.adr_model.specs.Write.{AddLink, RemoveLink, any_link_refusal, full_refusal, is_linked, link_limit, link_of, link_refusal, links_in, nodes_held, of_link, says_present, usn_limit, version_limit, version_of, write};
-ghost use Rattle.adr_state.specs.Mode.{mode_of};
+ghost use Rattle.adr_change.specs.Mode.{mode_of};
 ghost use Rattle.adr_update.specs.Said.{said_of};
 ghost use Rattle.adr_origin.specs.LinkParts.{already_refusal, ends_refusal, start_refusal, write_refusal};
 

@@ -1,4 +1,3 @@
 mod ItemLengths
 mod Tied
-pub mod Entered
 mod Known

@@ -1,4 +1,3 @@
-pub mod Mode
 pub mod Marks
 pub mod Refusal
 pub mod Rows

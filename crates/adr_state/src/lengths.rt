@@ -7,7 +7,7 @@ ghost use Rattle.adr_model.specs.Lengths.{change_length, log_end_after, log_limi
 ghost use Rattle.adr_model.specs.Serve.{content_length, item_length, value_length, vector_length};
 ghost use Rattle.adr_update.specs.Said.{said_of};
 
-use crate::change::Change;
+use adr_change::Change;
 use adr_schema::{Content, Value};
 use adr_stamp::Unit;
 use adr_update::{Item, LOG_LIMIT, Said, Update, Written};

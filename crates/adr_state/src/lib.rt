@@ -5,12 +5,12 @@
 //! definitions in `adr_model`. It knows nothing of why a change is made, of messages, or of the disk.
 #![tactic(auto)]
 
-mod change;
 mod lengths;
 mod marks;
 mod rows;
 mod state;
 
+pub use adr_change::{Change, Kept, Mode};
 pub use adr_failure::{Failure, NoMemory};
 pub use adr_schema::{Content, Schema};
 pub use adr_stamp::{LinkKey, LinkStamp, Oid, Unit};
@@ -19,8 +19,7 @@ pub use adr_update::{
     Said, USN_LIMIT, Update, VERSION_LIMIT, Written, copy_updates, is_same, is_same_object,
 };
 pub use adr_vector::{CURSOR_LIMIT, Full, Mark, Vector};
-pub use change::{Change, Mode};
 pub use lengths::{item_length_within, log_end_after};
-pub use marks::{Kept, Marks};
+pub use marks::Marks;
 pub use rows::Rows;
 pub use state::State;

@@ -4,78 +4,18 @@ ghost use Rattle.std.specs.Prelude.{◌≡◌, [], length, Some, IfOk, IfSome, I
 ghost use Rattle.std.specs.BTreeMap.{IsOrdered, insert_entry, is_at};
 ghost use Rattle.std.specs.Map.{lookup};
 ghost use Rattle.adr_stamp.specs.Order.{identifier_order};
-ghost use Rattle.adr_model.specs.Store.{Kept as Defined, kept_of, mark_of, no_mark};
+ghost use Rattle.adr_model.specs.Store.{Kept as Defined, kept_of, mark_of};
 ghost use Rattle.adr_model.specs.Change.{with_mark};
 ghost use Rattle.adr_state.specs.Known.{IsOfKnown};
 ghost use Rattle.adr_state.specs.Marks.{of_marks};
 
 use crate::NoMemory;
-use adr_update::is_same;
+use adr_change::{Kept, no_mark};
 use adr_vector::Mark;
 use std::alloc::Global;
 use std::collections::BTreeMap;
 use std::marker::Model;
 use uuid::Uuid;
-
-/// How far an incarnation of a partner's database was read (MS-DRSR, USN_VECTOR).
-#[derive(Clone, Copy)]
-pub struct Kept {
-    inv: Uuid,
-    mark: Mark,
-}
-
-impl Model for Kept {
-    ghost use Rattle.adr_model.specs.Store.{Kept as Defined};
-
-    ghost Value = { Defined };
-
-    ghost view = { λ k. record { inv = k.inv; mark = k.mark } };
-
-    ghost inverse = { λ k. record { inv = k.inv; mark = k.mark } };
-}
-
-impl Kept {
-    pub fn new(inv: Uuid, mark: Mark) -> Kept
-        ensures { result ≡ record { inv = inv; mark = mark } }
-    {
-        Kept { inv, mark }
-    }
-
-    /// The invocation identifier that was read.
-    pub fn inv(&self) -> Uuid
-        ensures { result ≡ self.now.inv }
-    {
-        self.inv
-    }
-
-    pub fn mark(&self) -> Mark
-        ensures { result ≡ self.now.mark }
-    {
-        self.mark
-    }
-
-    /// The mark, as far as it is of this incarnation.
-    pub fn mark_of(&self, inv: Uuid) -> Mark
-        ensures { result ≡ mark_of self.now inv }
-    {
-        if is_same(self.inv, inv) {
-            self.mark
-        } else {
-            no_mark()
-        }
-    }
-}
-
-/// The mark of a partner of whom nothing was read.
-fn no_mark() -> Mark
-    ensures { result ≡ no_mark }
-{
-    Mark {
-        obj: 0,
-        prop: 0,
-        seen: 0,
-    }
-}
 
 /// What is kept of each partner, by its controller's identifier.
 #[derive(Drop)]
@@ -114,10 +54,7 @@ impl Marks {
     {
         match self.map.get(&partner) {
             Some(kept) => *kept,
-            None => Kept {
-                inv: Uuid::from_u128(0),
-                mark: no_mark(),
-            },
+            None => Kept::new(Uuid::from_u128(0), no_mark()),
         }
     }
 
@@ -134,7 +71,7 @@ impl Marks {
             ≡ with_mark (Some (partner, record { inv = inv; mark = mark })) self.old) }
         ensures err { OnErr result (self.new ≡ self.old) }
     {
-        self.map.insert(partner, Kept { inv, mark })?;
+        self.map.insert(partner, Kept::new(inv, mark))?;
         Ok(())
     }
 

@@ -14,6 +14,7 @@ ghost use Rattle.adr_model.specs.Write.{holds_guid, is_taken, links_in, nodes_he
 ghost use Rattle.adr_update.specs.Key.{key_of};
 ghost use Rattle.adr_update.specs.Referents.{referents};
 ghost use Rattle.adr_update.specs.Sought.{IsNextLocal, is_link_from, is_link_to, rows_of_unit, units_at};
+ghost use Rattle.adr_table.specs.Table.{IsKept, rows_in};
 ghost use Rattle.adr_tree.specs.Parent.{IsParent};
 
 use crate::NoMemory;
@@ -158,6 +159,14 @@ impl Rows {
         ensures { IfOk result (λ units. units.items ≡ units_at self.now usn) }
     {
         self.table.units_at(alloc, usn)
+    }
+
+    /// The rows alone.
+    pub fn table(&self) -> &Table
+        ensures rows { rows_in result.now ≡ self.now }
+        ensures kept { IsKept result.now }
+    {
+        &self.table
     }
 
     /// The keys of rows rise.

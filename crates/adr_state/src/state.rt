@@ -8,12 +8,12 @@ ghost use Rattle.adr_model.specs.Store.{empty_state, empty_store};
 ghost use Rattle.adr_model.specs.Change.{after};
 ghost use Rattle.adr_model.specs.Lengths.{first_log_end, new_log_end};
 ghost use Rattle.adr_state.specs.Known.{has_cursors_for};
-ghost use Rattle.adr_state.specs.Mode.{mode_of};
+ghost use Rattle.adr_change.specs.Mode.{mode_of};
 ghost use Rattle.adr_state.specs.Refusal.{IsOverfull};
 
-use crate::change::{Change, Mode};
 use crate::marks::Marks;
 use crate::rows::Rows;
+use adr_change::{Change, Mode};
 use adr_failure::Failure;
 use adr_schema::Schema;
 use adr_vector::{Full, Vector};
@@ -43,7 +43,7 @@ impl Model for State {
 
     ghost use Rattle.std.specs.Prelude.{◌≡◌};
     ghost use Rattle.adr_schema.specs.Numbered.{numbered};
-    ghost use Rattle.adr_state.specs.Mode.{mode_of};
+    ghost use Rattle.adr_change.specs.Mode.{mode_of};
 
     ghost view = { λ s. record { dsa = s.dsa; inv = s.inv; mode = mode_of s.mode; store = record { schema = s.schema.number; usn = s.usn; rows = s.rows; vector = s.vector; purged = s.purged; marks = s.marks } } };
 

@@ -45,7 +45,7 @@ impl<'a> Taking<'a> {
         ensures { result ≡ begin state.now }
     {
         Taking {
-            told: Told::new(alloc, state.rows()),
+            told: Told::new(alloc, state.rows().table()),
             usn: state.usn(),
             writes: Vec::new(alloc),
             refusal: None,

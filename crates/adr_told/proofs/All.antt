@@ -12,7 +12,6 @@ use Rattle.adr_model.specs.Formed.{AreRising}
 use Rattle.adr_model.proofs.Keys.{exact_keys}
 use Rattle.adr_law_knowledge.proofs.RisingHeld.{IsBelow, head_below, tail_rising, below_all, below_same, fewer_rise}
 use Rattle.adr_told.specs.Told.{is_stripped, is_left, laid, told}
-use Rattle.adr_told.proofs.Rising.{turned_back, same_itself}
 use Rattle.adr_told.proofs.Telling.{laid_rises}
 
 all_same : (p q : Held → Bool) (rows : List Held) → ((h : Held) → p h ≡ q h) → list_all p rows ≡ list_all q rows

@@ -10,7 +10,7 @@ use Rattle.adr_stamp.specs.Order.{identifier_order}
 use Rattle.adr_vector.specs.Vector.{Cursors, at, covers, raised, joined}
 use Rattle.adr_vector.proofs.Cursors.{IsRising, FromOne, IsBelow, head_below, tail_rising}
 use Rattle.adr_vector.proofs.Joining.{at-joined, rising-joined, from_one-joined, raised_elsewhere, rising-raised, from_one-raised}
-use Rattle.adr_state.proofs.Entered.{entered, lacking}
+use Rattle.adr_change.proofs.Entered.{entered, lacking}
 use Rattle.adr_told.specs.Cursors.{at_zero, new_at}
 
 -- an identifier with no cursor is one at which the number is 0

@@ -1,5 +1,5 @@
 -- What stands of an object that is held, and of one that isn't.
-use Rattle.std.proofs.Common.{◌≡◌, List, Bool, true, false, cond, refl, sym, ap, ◌∙◌, Option, None, is_some}
+use Rattle.std.proofs.Common.{◌≡◌, List, Bool, true, false, cond, refl, sym, ap, ◌∙◌, None, is_some}
 use Rattle.std.specs.Prelude.{IfSome}
 use Rattle.std.specs.Option.{option_and_then}
 use Rattle.adr_stamp.specs.declared.Oid.{Oid}
@@ -10,7 +10,6 @@ use Rattle.adr_model.specs.Update.{class_attr, deleted_attr}
 use Rattle.adr_model.specs.Visible.{covers_birth}
 use Rattle.adr_model.specs.Store.{Held as Row, holds_dead, holds_object}
 use Rattle.adr_model.specs.Take.{IsDead, IsGone, IsHeld, IsNew, class_said, presence_of}
-use Rattle.adr_told.specs.Presence.{defined}
 use Rattle.adr_told.specs.Standing.{IsStanding, class_held, new_object}
 use Rattle.adr_told.specs.declared.presence.Presence.TheVariants.{Dead, Held, Gone, New}
 use Rattle.adr_told.specs.declared.standing.Standing.{Standing}

@@ -36,10 +36,11 @@ pub record IsCounted (over base : List Held) (m n : ℕ) : Type 0 where
   pub objects : m ≡ length (objects_of (updates_of (told over base)))
   pub links : n ≡ links_in (told over base)
 
--- the rows over the base stand in a table, and with the base they are counted
-pub record AreLaid (over : Table) (base : List Held) (m n : ℕ) : Type 0 where
+-- the rows over the base and those of the base stand in tables, and together they are counted
+pub record AreLaid (over base : Table) (m n : ℕ) : Type 0 where
   pub kept : IsKept over
-  pub counted : IsCounted (rows_in over) base m n
+  pub based : IsKept base
+  pub counted : IsCounted (rows_in over) (rows_in base) m n
 
 -- 1 where it is so
 abbrev pub one : Bool → ℕ

@@ -11,7 +11,7 @@ use crate::keys::{class_among, has_row, is_reserved};
 use adr_event::ItemFault;
 use adr_schema::{Content, Schema, SchemaRefusal, check_name};
 use adr_stamp::Oid;
-use adr_state::{CLASS, DELETED, Key, NAME, Said, Update, is_same};
+use adr_update::{CLASS, DELETED, Key, NAME, Said, Update, is_same};
 
 /// Whether a class row carries the birth of its object.
 pub fn is_birth(object: &Oid, row: &Update) -> bool

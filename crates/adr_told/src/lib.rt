@@ -1,8 +1,8 @@
 //! What is told of a controller's rows with others over them: what stands of an object or a link, which rows may be
 //! written over it, and what is wrong with one.
 //!
-//! It stands on a controller's state and on the table of rows, and meets the definitions in `adr_model`. No row of the
-//! state is copied. It knows nothing of replies, of records, or of how a change is made.
+//! It stands on the table of rows, and meets the definitions in `adr_model`. No row of the controller is copied. It knows
+//! nothing of replies, of records, or of how a change is made.
 #![tactic(auto)]
 
 mod cursors;
@@ -12,7 +12,7 @@ mod presence;
 mod standing;
 mod told;
 
-pub use adr_state::NoMemory;
+pub use adr_update::NoMemory;
 pub use cursors::len_after;
 pub use faults::{first_fault, is_birth, lacks};
 pub use keys::{class_among, class_said, has_row, is_of_attr, is_reserved};

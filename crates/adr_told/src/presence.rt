@@ -8,7 +8,7 @@ ghost use Rattle.adr_told.specs.Presence.{defined};
 
 use crate::told::Told;
 use adr_stamp::{LinkKey, Oid};
-use adr_state::Update;
+use adr_update::Update;
 use adr_vector::Vector;
 
 /// What stands of an object before its item.

@@ -8,7 +8,7 @@ use crate::keys::class_said;
 use crate::presence::{Presence, has_lost_end, presence_absent, presence_held};
 use crate::told::Told;
 use adr_stamp::{Oid, Unit};
-use adr_state::{CLASS, Key};
+use adr_update::{CLASS, Key};
 use adr_vector::Vector;
 
 /// What stands of a unit before its item.

@@ -16,8 +16,8 @@ ghost use Rattle.adr_told.specs.Told.{is_birth_row, is_left, is_stripped, links_
 
 use crate::NoMemory;
 use adr_stamp::Oid;
-use adr_state::{DELETED, Held, Key, Rows, Update};
 use adr_table::Table;
+use adr_update::{DELETED, Held, Key, Update};
 use std::alloc::{AllocError, Global};
 use std::marker::Model;
 
@@ -25,7 +25,7 @@ use std::marker::Model;
 /// there are together.
 #[derive(Drop)]
 pub struct Told<'a> {
-    base: &'a Rows,
+    base: &'a Table,
     over: Table,
     objects: usize,
     links: usize,
@@ -40,15 +40,16 @@ impl<'a> Model for Told<'a> {
     ghost use Rattle.adr_table.specs.Table.{rows_in};
     ghost use Rattle.adr_told.specs.Told.{AreLaid, told};
 
-    ghost view = { λ t. told (rows_in t.over) t.base.now };
+    ghost view = { λ t. told (rows_in t.over) (rows_in t.base.now) };
 
     ghost invariant = { λ t. AreLaid t.over t.base.now t.objects t.links };
 }
 
 impl<'a> Told<'a> {
     /// The rows of a controller alone.
-    pub fn new(alloc: Global, base: &'a Rows) -> Told<'a>
-        ensures { result ≡ base.now }
+    pub fn new(alloc: Global, base: &'a Table) -> Told<'a>
+        requires { IsKept base.now }
+        ensures { result ≡ rows_in base.now }
     {
         base.are_rising();
         Told {
@@ -203,10 +204,11 @@ fn is_row_of(row: &Update, object: Option<Oid>) -> bool
 }
 
 /// How many links there are at an object: those over the others, and of those below them what still counts.
-fn count_at(alloc: Global, over: &Table, base: &Rows, object: &Oid) -> Result<usize, NoMemory>
-    requires { IsKept over.now }
+fn count_at(alloc: Global, over: &Table, base: &Table, object: &Oid) -> Result<usize, NoMemory>
+    requires over { IsKept over.now }
+    requires base { IsKept base.now }
     ensures { IfOk result (λ count. count
-        ≡ length (filter (λ h. is_left (rows_in over.now) h.update.key) (links_found object.now base.now))
+        ≡ length (filter (λ h. is_left (rows_in over.now) h.update.key) (links_found object.now (rows_in base.now)))
         + length (links_found object.now (rows_in over.now))) }
 {
     let above = links_above(alloc, over, object)?.len();
@@ -216,10 +218,11 @@ fn count_at(alloc: Global, over: &Table, base: &Rows, object: &Oid) -> Result<us
 
 /// How many links at an object, of those below the others, still count. Of an object that died by one of them there is
 /// none.
-fn count_below(alloc: Global, over: &Table, base: &Rows, object: &Oid) -> Result<usize, NoMemory>
-    requires { IsKept over.now }
+fn count_below(alloc: Global, over: &Table, base: &Table, object: &Oid) -> Result<usize, NoMemory>
+    requires over { IsKept over.now }
+    requires base { IsKept base.now }
     ensures { IfOk result (λ count. count
-        ≡ length (filter (λ h. is_left (rows_in over.now) h.update.key) (links_found object.now base.now))) }
+        ≡ length (filter (λ h. is_left (rows_in over.now) h.update.key) (links_found object.now (rows_in base.now)))) }
 {
     if over.is_dead(object) {
         return Ok(0);
@@ -228,10 +231,11 @@ fn count_below(alloc: Global, over: &Table, base: &Rows, object: &Oid) -> Result
 }
 
 /// The row of a key below the others, if it didn't go with an object that died by one of them.
-fn row_below<'r>(over: &Table, base: &'r Rows, key: &Key) -> Option<&'r Held>
-    requires { IsKept over.now }
+fn row_below<'r>(over: &Table, base: &'r Table, key: &Key) -> Option<&'r Held>
+    requires over { IsKept over.now }
+    requires base { IsKept base.now }
     ensures { option_copied result
-        ≡ (if is_stripped (rows_in over.now) (key_of key.now) then None else row_held base.now (key_of key.now)) }
+        ≡ (if is_stripped (rows_in over.now) (key_of key.now) then None else row_held (rows_in base.now) (key_of key.now)) }
 {
     match base.row(*key) {
         Some(row) => {
@@ -303,8 +307,9 @@ fn links_above<'r>(alloc: Global, over: &'r Table, object: &Oid) -> Result<Vec<&
 }
 
 /// The links from an object, and then the other links to it, of the rows below the others.
-fn links_below<'r>(alloc: Global, base: &'r Rows, object: &Oid) -> Result<Vec<&'r Held>, NoMemory>
-    ensures { IfOk result (λ links. referents links.items ≡ links_found object.now base.now) }
+fn links_below<'r>(alloc: Global, base: &'r Table, object: &Oid) -> Result<Vec<&'r Held>, NoMemory>
+    requires { IsKept base.now }
+    ensures { IfOk result (λ links. referents links.items ≡ links_found object.now (rows_in base.now)) }
 {
     let mut links = base.links_from(alloc, object)?;
     push_others(&mut links, object, base.links_to(alloc, object)?.as_slice())?;

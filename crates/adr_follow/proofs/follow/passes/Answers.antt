@@ -14,7 +14,7 @@ pub returns : goal.returns
 returns c =
     let s = c.args.state.now in
     let d = c.args.change.now in
-    let begun : c.new-told.result ≡ s.store.rows = c.new-told.ensures ∙ c.rows.ensures in
+    let begun : c.new-told.result ≡ s.store.rows = c.new-told.ensures ∙ c.table.ensures.rows ∙ c.rows.ensures in
     let judged =
     ap (λ (table : Table). may_follow_in_turn table c.vector.result.now c.new-told.result c.writes.result.now) c.schema-schema.ensures.table
     ∙ ap₂ (λ (v : Cursors) (hs : List Held). may_follow_in_turn (numbered s.store.schema) v hs c.writes.result.now) c.vector.ensures begun

@@ -7,4 +7,4 @@ use Rattle.adr_told.proofs.Telling.{none_below_stripped}
 use Rattle.adr_told.proofs.told.row_below.Goals as goal
 
 pub returns-in-None : goal.returns-in-None
-returns-in-None c = none_below_stripped (is_stripped (rows_in c.args.over.now) (key_of c.args.key.now)) c.args.base.now (key_of c.args.key.now) (sym c.row.ensures ∙ ap option_copied c.in-None.is)
+returns-in-None c = none_below_stripped (is_stripped (rows_in c.args.over.now) (key_of c.args.key.now)) (rows_in c.args.base.now) (key_of c.args.key.now) (sym c.row.ensures ∙ ap option_copied c.in-None.is)

@@ -1,6 +1,6 @@
 use Rattle.std.proofs.Common.{sym, ap, ◌∙◌, arith}
 use Rattle.std.proofs.lemmas.Cmp.{nat_list_cmp_total}
-use Rattle.adr_state.proofs.Entered.{entered, lacking}
+use Rattle.adr_change.proofs.Entered.{entered, lacking}
 use Rattle.adr_state.proofs.marks.Marks.len_with.Goals as goal
 
 pub returns-then-contains_key : goal.returns-then-contains_key

@@ -8,5 +8,5 @@ pub returns : goal.returns
 returns c =
     let o = c.args.object.now in
     subst (λ n. IfOk c.count_at.result (λ count. count ≡ n))
-    (lost o (rows_in c.self.inside.over) c.self.inside.base.now c.self.invariant.counted.over_rises c.self.invariant.counted.base_rises ∙ ap (links_lost (Some o)) c.self.view_is)
+    (lost o (rows_in c.self.inside.over) (rows_in c.self.inside.base.now) c.self.invariant.counted.over_rises c.self.invariant.counted.base_rises ∙ ap (links_lost (Some o)) c.self.view_is)
     c.count_at.ensures

@@ -1,5 +1,6 @@
 use Rattle.std.proofs.Common.{List, sym, ap, ◌∙◌, subst}
 use Rattle.adr_model.specs.Store.{Held}
+use Rattle.adr_table.specs.Table.{rows_in}
 use Rattle.adr_told.specs.Told.{IsCounted, told}
 use Rattle.adr_told.proofs.Telling.{begun, told_none}
 use Rattle.adr_told.proofs.told.Told.new.Goals as goal
@@ -8,9 +9,10 @@ pub invariant_of-result : goal.invariant_of-result
 invariant_of-result c =
     record {
       kept = c.new.ensures.kept;
-      counted = subst (λ (os : List Held). IsCounted os c.args.base.now c.objects.result c.links.result) (sym c.new.ensures.rows)
-          (begun c.args.base.now c.objects.result c.links.result c.are_rising.ensures c.objects.ensures c.links.ensures);
+      based = c.requires;
+      counted = subst (λ (os : List Held). IsCounted os (rows_in c.args.base.now) c.objects.result c.links.result) (sym c.new.ensures.rows)
+          (begun (rows_in c.args.base.now) c.objects.result c.links.result c.are_rising.ensures c.objects.ensures c.links.ensures);
     }
 
 pub returns : goal.returns
-returns c = ap (λ (os : List Held). told os c.args.base.now) c.new.ensures.rows ∙ told_none c.args.base.now
+returns c = ap (λ (os : List Held). told os (rows_in c.args.base.now)) c.new.ensures.rows ∙ told_none (rows_in c.args.base.now)

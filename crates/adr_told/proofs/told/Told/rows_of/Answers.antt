@@ -11,7 +11,7 @@ pub returns : goal.returns
 returns c test =
     let o = c.args.object.now in
     let over = rows_in c.self.inside.over in
-    let base = c.self.inside.base.now in
+    let base = rows_in c.self.inside.base.now in
     let own : List Held = filter (λ h. is_row_of o h.update.key) over in
     ap (list_all test) (
     c.in_ok-push_left.ensures

@@ -1,0 +1,142 @@
+//! What one commit changes.
+
+ghost use Rattle.std.specs.Prelude.{◌≡◌, IfOk};
+ghost use Rattle.adr_model.specs.Change.{held_of};
+ghost use Rattle.adr_model.specs.Serve.{is_quarantined};
+ghost use Rattle.adr_change.specs.Mode.{mode_of};
+
+use crate::NoMemory;
+use crate::kept::Kept;
+use adr_stamp::Oid;
+use adr_update::{Held, Written};
+use adr_vector::Vector;
+use std::alloc::Global;
+use std::marker::Model;
+use uuid::Uuid;
+
+/// Whether a controller serves and takes changes, or was put back without a fresh identifier and stopped.
+#[derive(Clone, Copy)]
+pub enum Mode {
+    Normal,
+    Quarantined,
+}
+
+impl Mode {
+    pub fn is_quarantined(self) -> bool
+        ensures { result ≡ is_quarantined (mode_of self) }
+    {
+        match self {
+            Mode::Normal => false,
+            Mode::Quarantined => true,
+        }
+    }
+}
+
+/// What one commit changes: the update sequence number and the mode after it, the mark of a partner, what is joined
+/// into the vectors of what was seen and of what was collected, the objects that are removed, and the rows that are
+/// written.
+#[derive(Drop)]
+pub struct Change {
+    usn: u64,
+    mode: Mode,
+    mark: Option<(Uuid, Kept)>,
+    joined: Vector,
+    purged: Vector,
+    removed: Vec<Oid>,
+    writes: Vec<Written>,
+}
+
+impl Model for Change {
+    ghost use Rattle.adr_model.specs.Change.{Change as Defined};
+
+    ghost Value = { Defined };
+
+    ghost use Rattle.adr_change.specs.Mode.{mode_of};
+
+    ghost view = { λ c. record { usn = c.usn; mode = mode_of c.mode; mark = c.mark; joined = c.joined; purged = c.purged; removed = c.removed.items; writes = c.writes.items } };
+}
+
+impl Change {
+    pub fn new(
+        usn: u64,
+        mode: Mode,
+        mark: Option<(Uuid, Kept)>,
+        joined: Vector,
+        purged: Vector,
+        removed: Vec<Oid>,
+        writes: Vec<Written>,
+    ) -> Change
+        ensures { result
+            ≡ record { usn = usn; mode = mode_of mode; mark = mark; joined = joined; purged = purged; removed = removed.items; writes = writes.items } }
+    {
+        Change {
+            usn,
+            mode,
+            mark,
+            joined,
+            purged,
+            removed,
+            writes,
+        }
+    }
+
+    /// The update sequence number after the change.
+    pub fn usn(&self) -> u64
+        ensures { result ≡ self.now.usn }
+    {
+        self.usn
+    }
+
+    /// The mode after the change.
+    pub fn mode(&self) -> Mode
+        ensures { mode_of result ≡ self.now.mode }
+    {
+        self.mode
+    }
+
+    /// A partner, and what is kept of it from now on.
+    pub fn mark(&self) -> Option<(Uuid, Kept)>
+        ensures { result ≡ self.now.mark }
+    {
+        self.mark
+    }
+
+    /// What is joined into the vector of what was seen.
+    pub fn joined(&self) -> &Vector
+        ensures { result.now ≡ self.now.joined }
+    {
+        &self.joined
+    }
+
+    /// What is joined into the vector of what was collected.
+    pub fn purged(&self) -> &Vector
+        ensures { result.now ≡ self.now.purged }
+    {
+        &self.purged
+    }
+
+    /// The objects that are removed, after the rows are written.
+    pub fn removed(&self) -> &[Oid]
+        ensures { result.now ≡ self.now.removed }
+    {
+        self.removed.as_slice()
+    }
+
+    /// The rows that are written, in order.
+    pub fn writes(&self) -> &[Written]
+        ensures { result.now ≡ self.now.writes }
+    {
+        self.writes.as_slice()
+    }
+
+    /// The rows that are written, each under its local update sequence number, in order.
+    pub fn held(&self, alloc: Global) -> Result<Vec<Held>, NoMemory>
+        ensures { IfOk result (λ rows. rows.items ≡ held_of self.now.writes) }
+    {
+        let mut rows = Vec::new(alloc);
+        for written in self.writes.as_slice() {
+            written.push_held(alloc, &mut rows)?;
+        }
+        Ok(rows)
+    }
+}
