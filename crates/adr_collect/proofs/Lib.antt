@@ -1,1 +1,2 @@
-mod Gathering
+pub mod Gathering
+pub mod Within

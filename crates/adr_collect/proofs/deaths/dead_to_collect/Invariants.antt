@@ -1,6 +1,7 @@
 use Rattle.std.proofs.Common.{◌≡◌, ◌++◌, map, fold}
 use Rattle.adr_stamp.specs.declared.Oid.{Oid}
-use Rattle.adr_vector.specs.Vector.{Cursors, raised}
+use Rattle.adr_vector.specs.Vector.{Cursors, at, raised}
+use Rattle.adr_model.specs.Reflects.{AtMost}
 use Rattle.adr_model.specs.Update.{Update, inv_of, usn_of}
 use Rattle.adr_model.specs.Collect.{covering, deaths_to_collect}
 use Rattle.adr_update.specs.Referents.{referents}
@@ -13,5 +14,6 @@ invariant-loop-row l =
     let left = deaths_among l.state.store.vector l.now l.lifetime (referents l.row-iterator.rest.items) in
     record {
       objects : l.objects.items ++ map (λ (d : Oid × Update). d.0) left ≡ map (λ (d : Oid × Update). d.0) (deaths_to_collect l.state l.now l.lifetime);
+      within : AtMost (at l.covering) (at l.state.store.vector);
       covers : fold (λ (v : Cursors) (d : Oid × Update). raised (raised v d.0.birth.inv d.0.birth.usn) (inv_of d.1) (usn_of d.1)) l.covering left ≡ covering (deaths_to_collect l.state l.now l.lifetime);
     }
