@@ -2,6 +2,7 @@
 
 use adr_schedule::{Cause, Failure, TEXT_LIMIT, parse, print};
 use std::alloc::{AllocError, Global};
+use std::process::Abort;
 use std::test::Fail;
 
 /// The printed events of a text, or its fault.
@@ -68,11 +69,40 @@ fn texts_are_events_or_have_a_fault(rt: HostRuntime) -> Result<(), Fail> {
     Ok(())
 }
 
-/// What a line behind that of a controller is, printed.
-fn shown_behind(alloc: Global, line: &[u8]) -> Result<Vec<u8>, AllocError> {
-    let mut text = b"controller A #a0 #a1\n".to_vec(alloc)?;
+/// The line of a controller.
+const MADE: &[u8] = b"controller A #a0 #a1\n";
+
+/// The printed events of lines and one more behind them, or their fault.
+fn shown_behind(alloc: Global, front: &[u8], line: &[u8]) -> Result<Vec<u8>, AllocError> {
+    let mut text = front.to_vec(alloc)?;
     text.extend_from_slice(line)?;
     shown(alloc, text.as_slice())
+}
+
+/// Each line, behind that of a controller, is answered so.
+fn all_are_answered(
+    rt: &impl Abort,
+    alloc: Global,
+    lines: &[&[u8]],
+    answer: &[u8],
+) -> Result<(), Fail> {
+    for line in lines {
+        assert_eq!(rt; shown_behind(alloc, MADE, line)?.as_slice(), answer);
+    }
+    Ok(())
+}
+
+/// Each line, behind others, has its answer.
+fn have_answers(
+    rt: &impl Abort,
+    alloc: Global,
+    front: &[u8],
+    cases: &[(&[u8], &[u8])],
+) -> Result<(), Fail> {
+    for (line, answer) in cases {
+        assert_eq!(rt; shown_behind(alloc, front, line)?.as_slice(), *answer);
+    }
+    Ok(())
 }
 
 #[test]
@@ -92,9 +122,12 @@ fn writes_are_read_and_printed(rt: HostRuntime) -> Result<(), Fail> {
     ];
     let alloc = rt.alloc();
     for line in lines {
-        let mut text = b"controller A #a0 #a1\n".to_vec(alloc)?;
+        let mut text = MADE.to_vec(alloc)?;
         text.extend_from_slice(line)?;
-        assert_eq!(rt; shown_behind(alloc, line)?.as_slice(), text.as_slice());
+        assert_eq!(rt;
+            shown_behind(alloc, MADE, line)?.as_slice(),
+            text.as_slice()
+        );
     }
     Ok(())
 }
@@ -192,13 +225,7 @@ fn writes_outside_the_grammar(rt: HostRuntime) -> Result<(), Fail> {
         b"modify A #10 thumbprint=x0g",
         b"modify A #10 seeAlso=#00",
     ];
-    for line in lines {
-        assert_eq!(rt;
-            shown_behind(rt.alloc(), line)?.as_slice(),
-            b"line 2: no command".as_slice()
-        );
-    }
-    Ok(())
+    all_are_answered(&rt, rt.alloc(), &lines, b"line 2: no command")
 }
 
 #[test]
@@ -249,13 +276,7 @@ fn stops_and_faults_outside_the_grammar(rt: HostRuntime) -> Result<(), Fail> {
         b"fail A after 4294967296",
         b"fail A after 18446744073709551616",
     ];
-    for line in lines {
-        assert_eq!(rt;
-            shown_behind(rt.alloc(), line)?.as_slice(),
-            b"line 2: no command".as_slice()
-        );
-    }
-    Ok(())
+    all_are_answered(&rt, rt.alloc(), &lines, b"line 2: no command")
 }
 
 #[test]
@@ -311,13 +332,7 @@ fn images_and_snapshots_outside_the_grammar(rt: HostRuntime) -> Result<(), Fail>
         b"restore A i #0a",
         b"install C #0c i #c1",
     ];
-    for line in lines {
-        assert_eq!(rt;
-            shown_behind(rt.alloc(), line)?.as_slice(),
-            b"line 2: no command".as_slice()
-        );
-    }
-    Ok(())
+    all_are_answered(&rt, rt.alloc(), &lines, b"line 2: no command")
 }
 
 #[test]
@@ -330,13 +345,7 @@ fn writes_name_a_controller(rt: HostRuntime) -> Result<(), Fail> {
         b"link B #10 member #11",
         b"unlink B #10 member #11",
     ];
-    for line in lines {
-        assert_eq!(rt;
-            shown_behind(rt.alloc(), line)?.as_slice(),
-            b"line 2: unknown name".as_slice()
-        );
-    }
-    Ok(())
+    all_are_answered(&rt, rt.alloc(), &lines, b"line 2: unknown name")
 }
 
 #[test]
@@ -345,13 +354,13 @@ fn a_text_of_65536_bytes_is_outside_the_grammar(rt: HostRuntime) -> Result<(), F
     let mut line = b"rename A #10 #1 \"".to_vec(alloc)?;
     line.resize(17 + 65_535, b'a')?;
     line.extend_from_slice(b"\"\n")?;
-    let mut text = b"controller A #a0 #a1\n".to_vec(alloc)?;
+    let mut text = MADE.to_vec(alloc)?;
     text.extend_from_slice(line.as_slice())?;
     assert_eq!(rt; shown(alloc, text.as_slice())?.as_slice(), text.as_slice());
     line.resize(17 + 65_535, b'a')?;
     line.extend_from_slice(b"a\"")?;
     assert_eq!(rt;
-        shown_behind(alloc, line.as_slice())?.as_slice(),
+        shown_behind(alloc, MADE, line.as_slice())?.as_slice(),
         b"line 2: no command".as_slice()
     );
     Ok(())
@@ -417,13 +426,7 @@ fn lines_that_may_not_follow_have_a_cause(rt: HostRuntime) -> Result<(), Fail> {
         (b"controller C #a0 #c1", b"line 5: identifier used"),
         (b"controller C #c0 #b1", b"line 5: identifier used"),
     ];
-    let alloc = rt.alloc();
-    for (line, want) in cases {
-        let mut text = BOUND.to_vec(alloc)?;
-        text.extend_from_slice(line)?;
-        assert_eq!(rt; shown(alloc, text.as_slice())?.as_slice(), want);
-    }
-    Ok(())
+    have_answers(&rt, rt.alloc(), BOUND, &cases)
 }
 
 /// Two controllers, an image and a snapshot.
@@ -509,13 +512,7 @@ fn images_and_snapshots_that_may_not_follow_have_a_cause(rt: HostRuntime) -> Res
             b"line 6: identifier used",
         ),
     ];
-    let alloc = rt.alloc();
-    for (line, want) in cases {
-        let mut text = COPIED.to_vec(alloc)?;
-        text.extend_from_slice(line)?;
-        assert_eq!(rt; shown(alloc, text.as_slice())?.as_slice(), want);
-    }
-    Ok(())
+    have_answers(&rt, rt.alloc(), COPIED, &cases)
 }
 
 #[test]
