@@ -4,7 +4,6 @@ use Rattle.std.specs.Prelude.{nat_le, nat_lt, IfSome}
 use Rattle.std.specs.Bool.{then_some}
 use Rattle.std.specs.List.{AllByRecursion}
 use Rattle.std.specs.List.Sorted.{IsStrictlySortedBy}
-use Rattle.std.specs.declared.cmp.Ordering.TheVariants.{Less}
 use Rattle.std.proofs.lemmas.Bool.{and_parts, or_parts, leb-true, ltb-true, ltb-false, eqb-false}
 use Rattle.std.proofs.lemmas.List.{length-map}
 use Rattle.adr_stamp.specs.declared.LinkStamp.{LinkStamp}
@@ -18,10 +17,10 @@ use Rattle.adr_model.specs.Member.{Member}
 use Rattle.adr_model.specs.Update.{Key, RowOf, LinkOf, Said, Holds, IsPresent, Update, key_order, same_identifier, same_unit, unit_of}
 use Rattle.adr_model.specs.Store.{Held, State, no_mark, updates_of}
 use Rattle.adr_model.specs.Change.{Item}
-use Rattle.adr_model.specs.Formed.{AreRising}
 use Rattle.adr_model.specs.LocalLog.{IsOrdered}
 use Rattle.adr_model.specs.Serve.{Request, Reply, last_local, is_above_mark, is_unseen, sendable, item_of, item_length, candidates, byte_limit, first_items, reply_of, begins_at, reply_to, shown_by, serve_refusals, serve_refusal, serve}
 use Rattle.adr_model.proofs.Members.{of_filter, member_left, mapped_member}
+use Rattle.adr_law_knowledge.proofs.Counting.{filtered_rise}
 use Rattle.adr_law_knowledge.proofs.Refusing.{none_there, is_so, answered}
 use Rattle.adr_law_steps.proofs.Rows.{held_as}
 use Rattle.adr_law_steps.proofs.Locals.{last_within, units_tell}
@@ -42,30 +41,10 @@ says_of_key (RowOf o attr) (IsPresent b) stamp spelled = spelled
 says_of_key (LinkOf l) (Holds content) stamp spelled = spelled
 says_of_key (LinkOf l) (IsPresent b) stamp spelled = tt
 
--- ---- some of the rows rise as all do
+-- ---- the keys of rows and of their updates
 
 abbrev keys : List Held → List Key
 keys hs = map (λ (h : Held). h.update.key) hs
-
-all_filtered : (k : Key) (test : Held → Bool) (hs : List Held)
-    → AllByRecursion (λ y. key_order k y ≡ Less) (keys hs)
-    → AllByRecursion (λ y. key_order k y ≡ Less) (keys (filter test hs))
-all_filtered k test [] all = all
-all_filtered k test (h ∷ hs) all = by (test h) (all_filtered k test hs all.1)
-  where
-    by : (b : Bool) → AllByRecursion (λ y. key_order k y ≡ Less) (keys (filter test hs))
-        → AllByRecursion (λ y. key_order k y ≡ Less) (keys (cond b (h ∷ filter test hs) (filter test hs)))
-    by true rest = (all.0, rest)
-    by false rest = rest
-
-some_rise : (test : Held → Bool) (hs : List Held) → AreRising hs → AreRising (filter test hs)
-unfolding IsStrictlySortedBy
-some_rise test [] rising = rising
-some_rise test (h ∷ hs) rising = by (test h) (some_rise test hs rising.1)
-  where
-    by : (b : Bool) → AreRising (filter test hs) → AreRising (cond b (h ∷ filter test hs) (filter test hs))
-    by true rest = (all_filtered h.update.key test hs rising.0, rest)
-    by false rest = rest
 
 same_keys : (hs : List Held) → keys hs ≡ map (λ (u : Update). u.key) (updates_of hs)
 same_keys [] = refl
@@ -204,8 +183,9 @@ module _ (s : State) (q : Request) (logged : IsLogged s) (ranged : IsRangedReque
     of_unit = λ u m. let h = row_is unit u m in ap (λ (v : Update). unit_of v.key) h.2 ∙ h.3;
     rising = subst (IsStrictlySortedBy key_order)
         (same_keys (filter (λ (h : Held). same_unit (unit_of h.update.key) unit) unseen))
-        (some_rise (λ (h : Held). same_unit (unit_of h.update.key) unit) unseen
-        (some_rise (λ (h : Held). is_above_mark from rows h && is_unseen from q.vector h) rows logged.formed.store.rising));
+        (filtered_rise key_order (λ (h : Held). h.update.key) (λ (h : Held). same_unit (unit_of h.update.key) unit) unseen
+        (filtered_rise key_order (λ (h : Held). h.update.key) (λ (h : Held). is_above_mark from rows h && is_unseen from q.vector h) rows
+        logged.formed.store.rising));
     says = λ u m. says_of_key u.key u.said u.stamp (row_spelled unit u m);
   }
 
