@@ -1,6 +1,7 @@
 //! Images of controllers, and controllers that adopt them.
 
-ghost use Rattle.std.specs.Prelude.{◌≡◌, IfErr, IfOk};
+ghost use Rattle.std.specs.Prelude.{◌≡◌, IfOk, IsErrOf};
+ghost use Rattle.adr_event.specs.declared.answer.Outcome.{Outcome};
 ghost use Rattle.adr_wire.specs.Ranges.{IsId};
 ghost use Rattle.adr_model.specs.Collect.{adopt, backup};
 ghost use Rattle.adr_model.specs.Replica.{Up as stands_up};
@@ -14,7 +15,7 @@ use adr_law_recorded::fitting_states_may_begin;
 use adr_restore::{Image, new_log_end};
 use adr_schema::{NoMemory, Text};
 use adr_state::LOG_LIMIT;
-use std::alloc::{AllocError, Global};
+use std::alloc::Global;
 use uuid::Uuid;
 
 impl Replica {
@@ -32,30 +33,33 @@ impl Replica {
         }
     }
 
-    /// A controller on a new disk that adopts an image under a fresh invocation identifier, or why it doesn't.
+    /// A controller on a new disk that adopts an image under a fresh invocation identifier, or what is answered.
     pub fn adopted(
         alloc: Global,
         name: Text,
         image: &Image,
         dsa: Uuid,
         inv: Uuid,
-    ) -> Result<Result<Replica, Outcome>, NoMemory>
+    ) -> Result<Replica, Failure<Outcome>>
         requires dsa { IsId dsa }
         requires inv { IsId inv }
-        ensures made { IfOk result (λ adopted. IfOk adopted (λ made. Adopts name (adopt image.now dsa inv) made)) }
-        ensures up { IfOk result (λ adopted. IfOk adopted (λ made.
-            (made.name ≡ name) × (made.standing ≡ stands_up) × (made.safe.dsa ≡ dsa) × (made.safe.inv ≡ inv))) }
-        ensures other { IfOk result (λ adopted. IfErr adopted (λ outcome. Unadopted name (adopt image.now dsa inv) outcome)) }
+        ensures made { IfOk result (λ made. Adopts name (adopt image.now dsa inv) made) }
+        ensures up { IfOk result (λ made.
+            (made.name ≡ name) × (made.standing ≡ stands_up) × (made.safe.dsa ≡ dsa) × (made.safe.inv ≡ inv)) }
+        ensures other { (outcome : Outcome) → IsErrOf result (Failure.Refused outcome)
+            → Unadopted name (adopt image.now dsa inv) outcome }
     {
         fitting_states_may_begin();
         let state = match image.adopt(alloc, dsa, inv) {
             Ok(state) => state,
-            Err(Failure::Refused(refusal)) => return Ok(Err(adopt_refused(alloc, refusal)?)),
-            Err(Failure::NoMemory) => return Err(AllocError),
+            Err(Failure::Refused(refusal)) => {
+                return Err(Failure::Refused(adopt_refused(alloc, refusal)?));
+            }
+            Err(Failure::NoMemory) => return Err(Failure::NoMemory),
         };
         if new_log_end(alloc, &state)?.is_none() {
-            return Ok(Err(full(alloc, Table::Log, LOG_LIMIT)?));
+            return Err(Failure::Refused(full(alloc, Table::Log, LOG_LIMIT)?));
         }
-        Ok(Ok(Replica::on_new_disk(alloc, name, state)?))
+        Ok(Replica::on_new_disk(alloc, name, state)?)
     }
 }

@@ -1,9 +1,7 @@
 //! Disks that are put aside, and put back.
 
-ghost use Rattle.std.specs.Prelude.{◌≡◌, Ok, IfOk};
-ghost use Rattle.adr_law_journal.specs.Log.{found};
+ghost use Rattle.std.specs.Prelude.{◌≡◌, IfOk};
 ghost use Rattle.adr_model.specs.Replica.{on_disk};
-ghost use Rattle.adr_replica.specs.Put.{found_on};
 
 use crate::keepers::keepers_go_as_planned;
 use crate::past::Kept;
@@ -31,15 +29,6 @@ impl Model for Snapshot {
     ghost view = { λ s. aside s.bytes.items };
 
     ghost invariant = { λ s. IsWhole s.bytes.items };
-}
-
-impl Snapshot {
-    /// The bytes.
-    pub fn bytes(&self) -> &[u8]
-        ensures { found_on result.now ≡ Ok (found self.now.state self.now.log_end) }
-    {
-        self.bytes.as_slice()
-    }
 }
 
 impl Replica {

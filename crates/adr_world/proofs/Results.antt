@@ -14,13 +14,3 @@ on_err_so (Err e) p so = so p
 pub no_ok : {X Y : Type 0} (P : Type 0) (Q : Y → Type 0) (r : Result X Y) → IsErrAnd r Q → OnOk r P
 no_ok P Q (Ok x) none = absurd none
 no_ok P Q (Err e) is = tt
-
-pub if_err_so : {X Y : Type 0} (P Q : Y → Type 0) (r : Result X Y) → IfErr r P → ((y : Y) → P y → Q y) → IfErr r Q
-if_err_so P Q (Ok x) is so = tt
-if_err_so P Q (Err y) is so = so y is
-
-pub ok_so : {X Y : Type 0} (P : X → Type 0) (r : Result X Y) (x : X) → r ≡ Ok x → IfOk r P → P x
-ok_so P r x is so = subst (λ q. IfOk q P) is so
-
-pub err_so : {X Y : Type 0} (P : Y → Type 0) (r : Result X Y) (y : Y) → r ≡ Err y → IfErr r P → P y
-err_so P r y is so = subst (λ q. IfErr q P) is so

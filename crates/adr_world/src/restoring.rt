@@ -1,6 +1,7 @@
 //! Images of controllers, and controllers that come of them.
 
-ghost use Rattle.std.specs.Prelude.{◌≡◌, ◌<◌, ◌∷◌, [], length, slice_set, IfErr, IfOk, OnErr};
+ghost use Rattle.std.specs.Prelude.{◌≡◌, ◌<◌, ◌∷◌, [], length, slice_set, IfOk, IsErrOf, OnErr};
+ghost use Rattle.adr_event.specs.declared.answer.Outcome.{Outcome};
 ghost use Rattle.adr_event.specs.declared.event.Event.TheVariants.{Backup, Install, Restore};
 ghost use Rattle.adr_wire.specs.Ranges.{IsId};
 ghost use Rattle.adr_model.specs.Collect.{backup};
@@ -13,10 +14,10 @@ ghost use Rattle.adr_world.specs.Run.{IsTidy, world_of};
 
 use crate::answers::Heading;
 use crate::run::Run;
-use adr_event::{Answer, Outcome};
+use adr_event::{Answer, Failure, Outcome};
 use adr_replica::{Image, Replica};
 use adr_schema::{NoMemory, Text};
-use std::alloc::Global;
+use std::alloc::{AllocError, Global};
 use uuid::Uuid;
 
 impl Run {
@@ -67,16 +68,16 @@ impl Run {
             return Ok(heading.of(Outcome::Absent));
         };
         let dsa = self.controllers[place].dsa();
-        let adopted = self.adopted(alloc, name, image, dsa, inv)?;
-        match adopted {
+        match self.adopted(alloc, name, image, dsa, inv) {
             Ok(controller) => {
                 self.begin_at(place, controller);
                 Ok(heading.of(Outcome::Ok))
             }
-            Err(outcome) => {
+            Err(Failure::Refused(outcome)) => {
                 self.past.give_inv(inv);
                 Ok(heading.of(outcome))
             }
+            Err(Failure::NoMemory) => Err(AllocError),
         }
     }
 
@@ -100,16 +101,16 @@ impl Run {
     {
         self.controllers.reserve(1)?;
         let heading = Heading::new(alloc, "install", name)?;
-        let adopted = self.adopted(alloc, name, image, dsa, inv)?;
-        match adopted {
+        match self.adopted(alloc, name, image, dsa, inv) {
             Ok(controller) => {
                 self.begin(controller);
                 Ok(heading.of(Outcome::Ok))
             }
-            Err(outcome) => {
+            Err(Failure::Refused(outcome)) => {
                 self.past.give(dsa, inv);
                 Ok(heading.of(outcome))
             }
+            Err(Failure::NoMemory) => Err(AllocError),
         }
     }
 
@@ -121,16 +122,17 @@ impl Run {
         image: &Text,
         dsa: Uuid,
         inv: Uuid,
-    ) -> Result<Result<Replica, Outcome>, NoMemory>
+    ) -> Result<Replica, Failure<Outcome>>
         requires dsa { IsId dsa }
         requires inv { IsId inv }
-        ensures made { IfOk result (λ adopted. IfOk adopted (AdoptsBound (world_of self.now).images image.now name.now dsa inv)) }
-        ensures up { IfOk result (λ adopted. IfOk adopted (λ made.
-            (made.name ≡ name.now) × (made.standing ≡ Up) × (made.safe.dsa ≡ dsa) × (made.safe.inv ≡ inv))) }
-        ensures other { IfOk result (λ adopted. IfErr adopted (UnadoptedBound (world_of self.now).images image.now name.now dsa inv)) }
+        ensures made { IfOk result (AdoptsBound (world_of self.now).images image.now name.now dsa inv) }
+        ensures up { IfOk result (λ made.
+            (made.name ≡ name.now) × (made.standing ≡ Up) × (made.safe.dsa ≡ dsa) × (made.safe.inv ≡ inv)) }
+        ensures other { (outcome : Outcome) → IsErrOf result (Failure.Refused outcome)
+            → UnadoptedBound (world_of self.now).images image.now name.now dsa inv outcome }
     {
         let Some(image) = self.images.get(image) else {
-            return Ok(Err(Outcome::Absent));
+            return Err(Failure::Refused(Outcome::Absent));
         };
         let name = name.copy(alloc)?;
         Replica::adopted(alloc, name, image, dsa, inv)

@@ -1,4 +1,4 @@
-use Rattle.std.proofs.Common.{◌≡◌, ◌≢◌, ◌∙◌, ◌++◌, sym, ap, subst, [], ◌∷◌, codes}
+use Rattle.std.proofs.Common.{◌≡◌, ◌≢◌, ◌∙◌, ◌++◌, sym, ap, subst, [], ◌∷◌, codes, Err}
 use Rattle.adr_event.specs.declared.answer.Outcome.TheVariants as outcomes
 use Rattle.adr_model.specs.Member.{Each}
 use Rattle.adr_model.specs.Replica.{Replica, Up, begun}
@@ -9,20 +9,19 @@ use Rattle.adr_world.specs.Run.{AreApart, AreRanged, AreSpelled, world_of}
 use Rattle.adr_world.proofs.Adoptions.{begun_last, installed_step}
 use Rattle.adr_world.proofs.Bindings.{headed}
 use Rattle.adr_world.proofs.Places.{apart_more}
-use Rattle.adr_world.proofs.Results.{err_so, ok_so}
 use Rattle.adr_world.proofs.run.Run.install.Goals as goal
 
 pub begin-requires-clause-up : goal.begin-requires-clause-up
 begin-requires-clause-up c =
-    (ok_so (λ (r : Replica). (r.name ≡ c.args.name.now) × (r.standing ≡ Up) × (r.safe.dsa ≡ c.args.dsa) × (r.safe.inv ≡ c.args.inv)) c.in_ok-adopted.adopted c.in-Ok.controller c.in-Ok.is c.in_ok-adopted.ensures.up).1
+    c.in-Ok.ensures.up.1
 
 pub returns-in-Ok-clause-stepped : goal.returns-in-Ok-clause-stepped
 returns-in-Ok-clause-stepped c =
     let w = world_of c.args.self.now in
     let v = world_of c.begin.new.self in
     let made = c.in-Ok.controller in
-    let adopts = ok_so (AdoptsBound w.images c.args.image.now c.args.name.now c.args.dsa c.args.inv) c.in_ok-adopted.adopted made c.in-Ok.is c.in_ok-adopted.ensures.made in
-    let up = ok_so (λ (r : Replica). (r.name ≡ c.args.name.now) × (r.standing ≡ Up) × (r.safe.dsa ≡ c.args.dsa) × (r.safe.inv ≡ c.args.inv)) c.in_ok-adopted.adopted made c.in-Ok.is c.in_ok-adopted.ensures.up in
+    let adopts = c.in-Ok.ensures.made in
+    let up = c.in-Ok.ensures.up in
     installed_step w c.args.name.now c.args.dsa c.args.image.now c.args.inv outcomes.Ok v c.of.result
     (adopts (gives w (c.args.dsa ∷ []) (c.args.inv ∷ [])) (λ r. w.replicas ++ r ∷ [])
     ∙ ap (λ x. (x, outcomes.Ok)) (begun_last w c.args.dsa c.args.inv made v up.2 up.3
@@ -33,7 +32,7 @@ pub returns-in-Ok-clause-tidy : goal.returns-in-Ok-clause-tidy
 returns-in-Ok-clause-tidy c =
     let rs = c.args.self.now.controllers.items in
     let made = c.in-Ok.controller in
-    let up = ok_so (λ (r : Replica). (r.name ≡ c.args.name.now) × (r.standing ≡ Up) × (r.safe.dsa ≡ c.args.dsa) × (r.safe.inv ≡ c.args.inv)) c.in_ok-adopted.adopted made c.in-Ok.is c.in_ok-adopted.ensures.up in
+    let up = c.in-Ok.ensures.up in
     record {
       apart = subst AreApart (sym (c.begin.ensures.items ∙ ap (λ xs. xs ++ made ∷ []) c.reserve.ensures.items))
           (apart_more rs made c.requires.tidy.apart (subst (λ n. Each (λ (r : Replica). r.name ≢ n) rs) (sym up.0) c.requires.new));
@@ -41,19 +40,19 @@ returns-in-Ok-clause-tidy c =
       replies = subst AreSpelled (sym c.begin.ensures.replies) c.requires.tidy.replies;
     }
 
-pub returns-in-Err-clause-stepped : goal.returns-in-Err-clause-stepped
-returns-in-Err-clause-stepped c =
+pub returns-in-Err-Refused-clause-stepped : goal.returns-in-Err-Refused-clause-stepped
+returns-in-Err-Refused-clause-stepped c =
     let w = world_of c.args.self.now in
-    let o = c.in-Err.outcome in
-    let un = err_so (UnadoptedBound w.images c.args.image.now c.args.name.now c.args.dsa c.args.inv) c.in_ok-adopted.adopted o c.in-Err.is c.in_ok-adopted.ensures.other in
-    installed_step w c.args.name.now c.args.dsa c.args.image.now c.args.inv o (gives w (c.args.dsa ∷ []) (c.args.inv ∷ [])) c.of-in-Err.result
+    let o = c.in-Err-Refused.outcome in
+    let un = c.in-Err-Refused.ensures.other o (ap Err c.in-Err-Refused.field-0-is) in
+    installed_step w c.args.name.now c.args.dsa c.args.image.now c.args.inv o (gives w (c.args.dsa ∷ []) (c.args.inv ∷ [])) c.of-in-Err-Refused.result
     (un (gives w (c.args.dsa ∷ []) (c.args.inv ∷ [])) (λ r. w.replicas ++ r ∷ []))
-    (headed c.of-in-Err.result c.in_ok-heading.heading.verb c.in_ok-heading.heading.name (codes "install") c.args.name.now o c.of-in-Err.ensures c.in_ok-heading.ensures)
-    ∙ ap (λ (p : Past). (record w { book = p.book; given = p.given }, c.of-in-Err.result ∷ [])) (sym c.give.ensures)
-    ∙ ap (λ rs. (record w { book = c.give.new.self.book; replicas = rs; given = c.give.new.self.given }, c.of-in-Err.result ∷ [])) (sym c.reserve.ensures.items)
+    (headed c.of-in-Err-Refused.result c.in_ok-heading.heading.verb c.in_ok-heading.heading.name (codes "install") c.args.name.now o c.of-in-Err-Refused.ensures c.in_ok-heading.ensures)
+    ∙ ap (λ (p : Past). (record w { book = p.book; given = p.given }, c.of-in-Err-Refused.result ∷ [])) (sym c.give.ensures)
+    ∙ ap (λ rs. (record w { book = c.give.new.self.book; replicas = rs; given = c.give.new.self.given }, c.of-in-Err-Refused.result ∷ [])) (sym c.reserve.ensures.items)
 
-pub returns-in-Err-clause-tidy : goal.returns-in-Err-clause-tidy
-returns-in-Err-clause-tidy c = record {
+pub returns-in-Err-Refused-clause-tidy : goal.returns-in-Err-Refused-clause-tidy
+returns-in-Err-Refused-clause-tidy c = record {
   apart = subst AreApart (sym c.reserve.ensures.items) c.requires.tidy.apart;
   requests = c.requires.tidy.requests;
   replies = c.requires.tidy.replies;

@@ -1,4 +1,4 @@
-use Rattle.std.proofs.Common.{◌≡◌, ◌∙◌, sym, ap, subst, [], ◌∷◌, codes}
+use Rattle.std.proofs.Common.{◌≡◌, ◌∙◌, sym, ap, subst, [], ◌∷◌, codes, Err}
 use Rattle.adr_event.specs.declared.answer.Outcome.TheVariants as outcomes
 use Rattle.adr_model.specs.Replica.{Replica, Up}
 use Rattle.adr_model.specs.Step.{gives}
@@ -10,7 +10,6 @@ use Rattle.adr_world.proofs.Adoptions.{apart_there, begun_there, restore_absent,
 use Rattle.adr_world.proofs.Becoming.{found_there}
 use Rattle.adr_world.proofs.Bindings.{headed}
 use Rattle.adr_world.proofs.Places.{at_place}
-use Rattle.adr_world.proofs.Results.{err_so, ok_so}
 use Rattle.adr_world.proofs.run.Run.restore.Goals as goal
 
 pub returns-in_default-clause-stepped : goal.returns-in_default-clause-stepped
@@ -22,15 +21,15 @@ returns-in_default-clause-stepped c =
 
 pub begin_at-requires-clause-up : goal.begin_at-requires-clause-up
 begin_at-requires-clause-up c =
-    (ok_so (λ (r : Replica). (r.name ≡ c.args.name.now) × (r.standing ≡ Up) × (r.safe.dsa ≡ c.dsa-dsa.result) × (r.safe.inv ≡ c.args.inv)) c.in_ok-adopted.adopted c.in-Ok.controller c.in-Ok.is c.in_ok-adopted.ensures.up).1
+    c.in-Ok.ensures.up.1
 
 pub returns-in-Ok-clause-stepped : goal.returns-in-Ok-clause-stepped
 returns-in-Ok-clause-stepped c =
     let w = world_of c.args.self.now in
     let v = world_of c.begin_at.new.self in
     let made = c.in-Ok.controller in
-    let adopts = ok_so (AdoptsBound w.images c.args.image.now c.args.name.now c.dsa-dsa.result c.args.inv) c.in_ok-adopted.adopted made c.in-Ok.is c.in_ok-adopted.ensures.made in
-    let up = ok_so (λ (r : Replica). (r.name ≡ c.args.name.now) × (r.standing ≡ Up) × (r.safe.dsa ≡ c.dsa-dsa.result) × (r.safe.inv ≡ c.args.inv)) c.in_ok-adopted.adopted made c.in-Ok.is c.in_ok-adopted.ensures.up in
+    let adopts = c.in-Ok.ensures.made in
+    let up = c.in-Ok.ensures.up in
     restored_step w c.args.name.now c.args.image.now c.args.inv c.index.result.now outcomes.Ok v c.of-in-Ok.result
     (found_there c.args.self.now c.args.name.now c.in-Some.place c.index.result.now c.in-Some.ensures.place c.index.ensures c.in-Some.ensures.found)
     (subst (λ k. adoption w.images c.args.image.now c.args.name.now k c.args.inv (gives w [] (c.args.inv ∷ [])) (with_replica w.replicas) ≡ (v, outcomes.Ok)) c.dsa-dsa.ensures
@@ -41,7 +40,7 @@ returns-in-Ok-clause-stepped c =
 pub returns-in-Ok-clause-tidy : goal.returns-in-Ok-clause-tidy
 returns-in-Ok-clause-tidy c =
     let made = c.in-Ok.controller in
-    let up = ok_so (λ (r : Replica). (r.name ≡ c.args.name.now) × (r.standing ≡ Up) × (r.safe.dsa ≡ c.dsa-dsa.result) × (r.safe.inv ≡ c.args.inv)) c.in_ok-adopted.adopted made c.in-Ok.is c.in_ok-adopted.ensures.up in
+    let up = c.in-Ok.ensures.up in
     record {
       apart = subst AreApart (sym c.begin_at.ensures.items)
           (apart_there c.args.self.now c.args.name.now c.in-Some.place c.index.result.now (found_there c.args.self.now c.args.name.now c.in-Some.place c.index.result.now c.in-Some.ensures.place c.index.ensures c.in-Some.ensures.found) (at_place c.args.self.now.controllers.items c.in-Some.place c.index.result.now c.in-Some.ensures.place c.index.ensures) c.requires.tidy made up.0);
@@ -49,14 +48,14 @@ returns-in-Ok-clause-tidy c =
       replies = subst AreSpelled (sym c.begin_at.ensures.replies) c.requires.tidy.replies;
     }
 
-pub returns-in-Err-clause-stepped : goal.returns-in-Err-clause-stepped
-returns-in-Err-clause-stepped c =
+pub returns-in-Err-Refused-clause-stepped : goal.returns-in-Err-Refused-clause-stepped
+returns-in-Err-Refused-clause-stepped c =
     let w = world_of c.args.self.now in
-    let o = c.in-Err.outcome in
-    let un = err_so (UnadoptedBound w.images c.args.image.now c.args.name.now c.dsa-dsa.result c.args.inv) c.in_ok-adopted.adopted o c.in-Err.is c.in_ok-adopted.ensures.other in
-    restored_step w c.args.name.now c.args.image.now c.args.inv c.index.result.now o (gives w [] (c.args.inv ∷ [])) c.of-in-Err.result
+    let o = c.in-Err-Refused.outcome in
+    let un = c.in-Err-Refused.ensures.other o (ap Err c.in-Err-Refused.field-0-is) in
+    restored_step w c.args.name.now c.args.image.now c.args.inv c.index.result.now o (gives w [] (c.args.inv ∷ [])) c.of-in-Err-Refused.result
     (found_there c.args.self.now c.args.name.now c.in-Some.place c.index.result.now c.in-Some.ensures.place c.index.ensures c.in-Some.ensures.found)
     (subst (λ k. adoption w.images c.args.image.now c.args.name.now k c.args.inv (gives w [] (c.args.inv ∷ [])) (with_replica w.replicas) ≡ (gives w [] (c.args.inv ∷ []), o)) c.dsa-dsa.ensures
     (un (gives w [] (c.args.inv ∷ [])) (with_replica w.replicas)))
-    (headed c.of-in-Err.result c.in_ok-heading.heading.verb c.in_ok-heading.heading.name (codes "restore") c.args.name.now o c.of-in-Err.ensures c.in_ok-heading.ensures)
-    ∙ ap (λ (p : Past). (record w { book = p.book; given = p.given }, c.of-in-Err.result ∷ [])) (sym c.give_inv-in-Err.ensures)
+    (headed c.of-in-Err-Refused.result c.in_ok-heading.heading.verb c.in_ok-heading.heading.name (codes "restore") c.args.name.now o c.of-in-Err-Refused.ensures c.in_ok-heading.ensures)
+    ∙ ap (λ (p : Past). (record w { book = p.book; given = p.given }, c.of-in-Err-Refused.result ∷ [])) (sym c.give_inv-in-Err-Refused.ensures)
