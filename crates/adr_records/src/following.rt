@@ -1,11 +1,10 @@
 //! Records are read.
 
-ghost use Rattle.std.specs.Prelude.{◌≡◌, ◌&&◌, None, Some, IfOk, OnOk, OnErr, IsErrOf};
-ghost use Rattle.adr_law_formed.specs.Tested.{can_follow};
+ghost use Rattle.std.specs.Prelude.{◌≡◌, None, Some, IfOk, OnOk, OnErr, IsErrOf};
 ghost use Rattle.adr_records.specs.Body.{SaysChange, are_locals_within, following};
 ghost use Rattle.adr_records.specs.Logged.{IsLogged};
 
-use adr_failure::{Failure, NoMemory};
+use adr_failure::Failure;
 use adr_follow::can_follow;
 use adr_image::decode_change;
 use adr_journal::FollowRefusal;
@@ -20,16 +19,6 @@ fn are_locals_within(change: &Change) -> bool
     change.writes().iter().all(|written| written.local() <= usn)
 }
 
-/// Whether a change that was read can follow a state.
-fn may_follow(alloc: Global, state: &State, change: &Change) -> Result<bool, NoMemory>
-    ensures { IfOk result (λ may. may ≡ (are_locals_within change.now && can_follow state.now change.now)) }
-{
-    if !are_locals_within(change) {
-        return Ok(false);
-    }
-    can_follow(alloc, state, change)
-}
-
 /// The change that a record of this body says, if it can follow the state.
 fn change_of(alloc: Global, state: &State, body: &[u8]) -> Result<Change, FollowRefusal>
     ensures ok { IfOk result (λ change. SaysChange state.now body.now change) }
@@ -40,7 +29,10 @@ fn change_of(alloc: Global, state: &State, body: &[u8]) -> Result<Change, Follow
         Ok(None) => return Err(FollowRefusal::CannotFollow),
         Err(_) => return Err(FollowRefusal::NoMemory),
     };
-    match may_follow(alloc, state, &change) {
+    if !are_locals_within(&change) {
+        return Err(FollowRefusal::CannotFollow);
+    }
+    match can_follow(alloc, state, &change) {
         Ok(true) => Ok(change),
         Ok(false) => Err(FollowRefusal::CannotFollow),
         Err(_) => Err(FollowRefusal::NoMemory),

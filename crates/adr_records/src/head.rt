@@ -4,7 +4,7 @@ ghost use Rattle.std.specs.Prelude.{◌≡◌, ◌==◌, ◌+◌, ◌≤◌, ◌
 ghost use Rattle.std.specs.Str.{bytes_eq};
 ghost use Rattle.adr_wire.specs.Fields.{u16_at};
 ghost use Rattle.adr_wire.specs.Reading.{Gives, Refuses, Rest, Tells, bytes_at, where_at};
-ghost use Rattle.adr_image.specs.Stored.{image_at};
+ghost use Rattle.adr_image.specs.Stored.{image, image_at};
 ghost use Rattle.adr_records.specs.Head as form;
 ghost use Rattle.adr_records.specs.Logged.{MayBegin};
 
@@ -46,13 +46,21 @@ fn write_owner(writer: &mut Writer, owner: &Owner) -> Result<(), NoMemory>
     Ok(())
 }
 
+/// The image of a state's database.
+fn image_of(alloc: Global, state: &State) -> Result<Vec<u8>, NoMemory>
+    requires { MayBegin state.now }
+    ensures { IfOk result (λ bytes. bytes.items ≡ image state.now.store) }
+{
+    let contents = contents_of(alloc, state)?;
+    encode(alloc, &contents)
+}
+
 /// The head of a log that begins with this state.
 pub(crate) fn write_head(alloc: Global, state: &State) -> Result<Vec<u8>, NoMemory>
     requires { MayBegin state.now }
     ensures { IfOk result (λ bytes. bytes.items ≡ form.head state.now) }
 {
-    let contents = contents_of(alloc, state)?;
-    let image = encode(alloc, &contents)?;
+    let image = image_of(alloc, state)?;
     let owner = Owner {
         dsa: state.dsa(),
         inv: state.inv(),

@@ -1,11 +1,9 @@
-use Rattle.std.proofs.Common.{List, ℕ, ◌∙◌, ap, arith, length}
-use Rattle.adr_model.specs.Store.{Store}
-use Rattle.adr_image.specs.Stored.{image}
+use Rattle.std.proofs.Common.{List, ℕ, ap, arith, length}
 use Rattle.adr_image.proofs.Counted.{store_long}
 use Rattle.adr_records.proofs.head.write_head.Goals as goal
 
 pub overflow_cast-owner : goal.overflow_cast-owner
 overflow_cast-owner c =
-    let long = ap (λ (l : List ℕ). length l) (c.in_ok-image.ensures ∙ ap (λ (s : Store). image s) c.in_ok-contents.ensures) in
+    let long = ap (λ (l : List ℕ). length l) c.in_ok-image.ensures in
     let counted = store_long c.args.state.now.store c.requires.logged.formed.store c.requires.logged.spelled in
     omega (arith, long, counted, c.requires.short, c.len.ensures, c.in_ok-image.image.ok.0)
