@@ -36,6 +36,13 @@ impl<K: Keeper> Model for Controller<K> {
     ghost invariant = { λ c. IsInOrder K.Keeper (record { keeper = c.keeper; state = c.state; down = c.down }) };
 }
 
+/// Lets go of a state in memory.
+pub(crate) fn forget(state: &mut Option<State>)
+    ensures { state.new ≡ None }
+{
+    *state = None;
+}
+
 impl<K: Keeper> Controller<K> {
     /// Formats a keeper with a state, which a controller then has. A keeper that couldn't be formatted comes back.
     pub fn format(mut keeper: K, state: State) -> Result<Controller<K>, (KeeperRefusal, K)>
@@ -120,7 +127,7 @@ impl<K: Keeper> Controller<K> {
     pub fn stop(&mut self)
         ensures { self.new ≡ record { keeper = self.old.keeper; state = None; down = true } }
     {
-        self.state = None;
+        forget(&mut self.state);
         self.down = true;
     }
 
@@ -183,7 +190,7 @@ impl<K: Keeper> Controller<K> {
         match keep(&mut self.keeper, state, change) {
             Ok(()) => Ok(()),
             Err(KeeperRefusal::DiskFault) => {
-                self.state = None;
+                forget(&mut self.state);
                 Err(Hindrance::DiskFault)
             }
             Err(KeeperRefusal::Full) => Err(Hindrance::Full),

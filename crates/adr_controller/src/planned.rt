@@ -8,7 +8,7 @@ ghost use Rattle.adr_journal.specs.Planned.{left_found, Same};
 ghost use Rattle.adr_controller.specs.declared.refusal.Hindrance.{Hindrance};
 ghost use Rattle.adr_controller.specs.Did.{GoesAs, Ran};
 
-use crate::controller::Controller;
+use crate::controller::{Controller, forget};
 use adr_disk::Crash;
 use adr_failure::NoMemory;
 use adr_journal::{Keeper, PlannedKeeper};
@@ -44,7 +44,7 @@ impl<K: PlannedKeeper> Controller<K> {
         ensures down { self.new ≡ record { keeper = self.new.keeper; state = None; down = true } }
         ensures stopped { K.is_down self.new.keeper ≡ true }
     {
-        self.state = None;
+        forget(&mut self.state);
         self.down = true;
         self.keeper.crash(how);
     }
