@@ -23,7 +23,8 @@ pub(crate) fn hindrance_in<T, R>(made: &Result<T, CallRefusal<R>>) -> Option<Hin
     }
 }
 
-/// What hindered a start. One that wanted memory when its sync was made has reached the disk.
+/// What hindered a start. One that wanted memory when its sync was made has reached the disk. The disk of a controller is
+/// never damaged, as its start proves, so that what is told of damage never counts.
 pub(crate) fn hindrance_of_start(started: &Result<(), StartRefusal>) -> Option<Hindrance>
     ensures { result ≡ hindrance_of_start (ended_start started.now) }
 {

@@ -1,11 +1,16 @@
 //! Images of controllers, and controllers that adopt them.
 
-ghost use Rattle.std.specs.Prelude.{◌≡◌, IfOk, IsErrOf};
+ghost use Rattle.std.specs.Prelude.{◌≡◌, Ok, false, true, IfOk, IsErrOf, OnOk, nat_lt};
 ghost use Rattle.adr_event.specs.declared.answer.Outcome.{Outcome};
 ghost use Rattle.adr_wire.specs.Ranges.{IsId};
 ghost use Rattle.adr_model.specs.Collect.{adopt, backup};
+ghost use Rattle.adr_event.specs.declared.refusal.Table.TheVariants.{Log};
+ghost use Rattle.adr_model.specs.Lengths.{log_limit, new_log_end};
+ghost use Rattle.adr_model.specs.Refused.{full};
 ghost use Rattle.adr_model.specs.Replica.{Up as stands_up};
-ghost use Rattle.adr_model.specs.World.{World as Defined, backed_up, nothing, where_up};
+ghost use Rattle.adr_model.specs.Store.{Normal};
+ghost use Rattle.adr_model.specs.World.{Name, World as Defined, backed_up, nothing, where_up};
+ghost use Rattle.adr_records.specs.Logged.{IsLogged};
 ghost use Rattle.adr_replica.specs.Led.{Adopts, Unadopted};
 
 use crate::refused::{adopt_refused, full, quarantined};
@@ -14,9 +19,38 @@ use adr_event::{Failure, Outcome, Table};
 use adr_law_recorded::fitting_states_may_begin;
 use adr_restore::{Image, new_log_end};
 use adr_schema::{NoMemory, Text};
-use adr_state::LOG_LIMIT;
+use adr_state::{LOG_LIMIT, State};
 use std::alloc::Global;
 use uuid::Uuid;
+
+/// The state of an image under a fresh invocation identifier, or what is answered.
+fn woken(alloc: Global, image: &Image, dsa: Uuid, inv: Uuid) -> Result<State, Failure<Outcome>>
+    requires dsa { IsId dsa }
+    requires inv { IsId inv }
+    ensures adopted { IfOk result (λ state. adopt image.now dsa inv ≡ Ok state) }
+    ensures logged { IfOk result (λ state. IsLogged state × (state.mode ≡ Normal)) }
+    ensures other { (outcome : Outcome) → IsErrOf result (Failure.Refused outcome)
+        → (name : Name) → Unadopted name (adopt image.now dsa inv) outcome }
+{
+    match image.adopt(alloc, dsa, inv) {
+        Ok(state) => Ok(state),
+        Err(Failure::Refused(refusal)) => Err(Failure::Refused(adopt_refused(alloc, refusal)?)),
+        Err(Failure::NoMemory) => Err(Failure::NoMemory),
+    }
+}
+
+/// A new disk has room for a log that begins with the state, or what is answered.
+fn has_room(alloc: Global, state: &State) -> Result<(), Failure<Outcome>>
+    requires { IsLogged state.now }
+    ensures ok { OnOk result (nat_lt log_limit (new_log_end state.now) ≡ false) }
+    ensures other { (outcome : Outcome) → IsErrOf result (Failure.Refused outcome)
+        → (nat_lt log_limit (new_log_end state.now) ≡ true) × (outcome ≡ full Log log_limit) }
+{
+    if new_log_end(alloc, state)?.is_some() {
+        return Ok(());
+    }
+    Err(Failure::Refused(full(alloc, Table::Log, LOG_LIMIT)?))
+}
 
 impl Replica {
     /// Its image; none where something hinders that, or it is quarantined.
@@ -50,16 +84,8 @@ impl Replica {
             → Unadopted name (adopt image.now dsa inv) outcome }
     {
         fitting_states_may_begin();
-        let state = match image.adopt(alloc, dsa, inv) {
-            Ok(state) => state,
-            Err(Failure::Refused(refusal)) => {
-                return Err(Failure::Refused(adopt_refused(alloc, refusal)?));
-            }
-            Err(Failure::NoMemory) => return Err(Failure::NoMemory),
-        };
-        if new_log_end(alloc, &state)?.is_none() {
-            return Err(Failure::Refused(full(alloc, Table::Log, LOG_LIMIT)?));
-        }
+        let state = woken(alloc, image, dsa, inv)?;
+        has_room(alloc, &state)?;
         Ok(Replica::on_new_disk(alloc, name, state)?)
     }
 }
