@@ -6,6 +6,7 @@ Usage: build/program.py        (called by ./adrep on first use and after a chang
 Each crate is one call of the toolchain's compiler, over the statements of the libraries below it, as `rt ci` has it. What is built of a
 crate stands until a file of it, or of a crate below, changes. Standard error tells how far it is.
 """
+import contextlib
 import hashlib
 import os
 import shutil
@@ -16,9 +17,6 @@ import time
 
 TOP = os.path.dirname(os.path.dirname(os.path.abspath(__file__)))
 PROGRAM = "adrep"
-# What a build leaves: each library, with the sum of what it was built of, and the log of its check.
-OUT = f"{TOP}/crates/{PROGRAM}/out"
-LIBRARIES = f"{OUT}/libraries"
 # What the check of a large crate takes, in bytes.
 MEMORY = 3_000_000_000
 
@@ -28,13 +26,21 @@ def tell(text):
 
 
 class Crate:
-    """A crate of the program: what it uses of the repository and of the toolchain, its files, and where its library is built."""
+    """A crate of the program: what it uses of the repository and of the toolchain, and its files."""
 
     def __init__(self, name, line, uses, below):
         self.name, self.line, self.uses, self.below = name, line, uses, below
-        self.folder = f"{TOP}/crates/{name}"
-        self.library = f"{LIBRARIES}/{name}.rlib"
         self.root = "src/main.rt" if name == PROGRAM else "src/lib.rt"
+        self.folder = f"{TOP}/crates/{name}"
+        self.log = f"{self.folder}/out/build.log"
+        # Where rt has a crate's library too; it removes the folder when it builds its own.
+        self.built = f"{self.folder}/out/rlib"
+        self.library = f"{self.built}/{name}.rlib"
+        self.sum = f"{self.built}/sum"
+
+    def is_built_of(self, sum):
+        """Whether its library was built of files with this sum."""
+        return os.path.isdir(self.library) and os.path.exists(self.sum) and read(self.sum).decode() == sum
 
     def files(self, *parts):
         """Its files in some of its folders, in order."""
@@ -102,30 +108,27 @@ class Toolchain:
         self.kit = os.path.dirname(output("rt", "doc"))
         self.line = output("rt", "version")
 
-    def words(self, crate, jobs):
+    def words(self, crate, crates, jobs):
         """What tells the compiler of a crate, its libraries and the logic."""
-        words = ["--crate-name", crate.name, crate.root, "-L", f"dependency={self.kit}/rlibs", "-L", f"dependency={LIBRARIES}"]
+        words = ["--crate-name", crate.name, crate.root]
         for name in ["std", *crate.uses]:
             words += ["--extern", f"{name}={self.kit}/rlibs/{name}.rlib"]
         for name in crate.below:
-            words += ["--extern", f"{name}={LIBRARIES}/{name}.rlib"]
+            words += ["--extern", f"{name}={crates[name].library}"]
+        for folder in [f"{self.kit}/rlibs", *(it.built for it in crates.values())]:
+            words += ["-L", f"dependency={folder}"]
         return [*words, "--antt-project", f"{self.kit}/rattle/logic/antt-project.json", "--logic-built", f"{self.kit}/logic_built", "--jobs", str(jobs)]
 
-    def prove_library(self, crate, jobs):
+    def build_library(self, crate, words):
         """Proves a library and builds it; whether it went well."""
-        made = f"{crate.library}.new"
-        shutil.rmtree(made, ignore_errors=True)
-        if not call(crate, f"{self.kit}/bin/rattle", "build", *self.words(crate, jobs), "--statements", "-o", made):
-            return False
-        shutil.rmtree(crate.library, ignore_errors=True)
-        os.rename(made, crate.library)
-        return True
+        shutil.rmtree(crate.built, ignore_errors=True)
+        os.makedirs(crate.built)
+        return call(crate, f"{self.kit}/bin/rattle", "build", *words, "--statements", "-o", crate.library)
 
-    def build_program(self, crate, jobs):
+    def build_program(self, crate, words):
         """Proves the program, compiles it and links it; whether it went well."""
-        tools = ["--toolchain", f"{self.kit}/toolchain"]
-        made = f"{OUT}/{crate.name}"
-        return call(crate, f"{self.kit}/bin/rattle", "build", *self.words(crate, jobs), *tools, "--backend", "llvm", "-o", f"{made}.o") and call(
+        tools, made = ["--toolchain", f"{self.kit}/toolchain"], f"{crate.folder}/out/{crate.name}"
+        return call(crate, f"{self.kit}/bin/rattle", "build", *words, *tools, "--backend", "llvm", "-o", f"{made}.o") and call(
             crate, f"{self.kit}/bin/rattle-link", "--target", "x86_64-unknown-linux-gnu", *tools, "-o", made, f"{made}.o", f"{self.kit}/c/libos_c.a", f"{self.kit}/c/liblibc_c.a"
         )
 
@@ -134,13 +137,9 @@ def output(*words):
     return subprocess.run(words, check=True, capture_output=True, text=True).stdout.strip()
 
 
-def log_of(crate):
-    return f"{LIBRARIES}/{crate.name}.log"
-
-
 def call(crate, *words):
     """Runs a tool in a crate's folder, with its log; whether it went well."""
-    with open(log_of(crate), "ab") as log:
+    with open(crate.log, "ab") as log:
         return subprocess.call(words, cwd=crate.folder, stdin=subprocess.DEVNULL, stdout=log, stderr=log) == 0
 
 
@@ -175,24 +174,26 @@ class Build:
             self.under_way.add(name)
             return name, self.jobs_for(name)
 
-    def prove(self, crate, jobs):
-        """Proves a crate, unless it was built of the same files before; whether it went well."""
-        stamp = f"{LIBRARIES}/{crate.name}.sum"
-        if crate.name != PROGRAM and os.path.isdir(crate.library) and os.path.exists(stamp) and read(stamp).decode() == self.sums[crate.name]:
+    def build(self, crate, jobs):
+        """Proves and builds a crate, unless its library was built of the same files before; whether it went well."""
+        if crate.is_built_of(self.sums[crate.name]):
             return True
-        for file in (stamp, log_of(crate)):
-            if os.path.exists(file):
-                os.remove(file)
-        well = (self.toolchain.build_program if crate.name == PROGRAM else self.toolchain.prove_library)(crate, jobs)
-        if well:
-            with open(stamp, "w", encoding="utf-8") as it:
-                it.write(self.sums[crate.name])
-        return well
+        os.makedirs(os.path.dirname(crate.log), exist_ok=True)
+        with contextlib.suppress(FileNotFoundError):
+            os.remove(crate.log)
+        words = self.toolchain.words(crate, self.crates, jobs)
+        if crate.name == PROGRAM:
+            return self.toolchain.build_program(crate, words)
+        if not self.toolchain.build_library(crate, words):
+            return False
+        with open(crate.sum, "w", encoding="utf-8") as it:
+            it.write(self.sums[crate.name])
+        return True
 
     def work(self):
         while (found := self.next()) is not None:
             name, jobs = found
-            well = self.prove(self.crates[name], jobs)
+            well = self.build(self.crates[name], jobs)
             with self.state:
                 self.under_way.discard(name)
                 if well:
@@ -210,12 +211,11 @@ class Build:
         for it in workers:
             it.join()
         for name in self.failed:
-            sys.stderr.write("".join(read(log_of(self.crates[name])).decode(errors="replace").splitlines(True)[-20:]))
+            sys.stderr.write("".join(read(self.crates[name].log).decode(errors="replace").splitlines(True)[-20:]))
         return not self.failed
 
 
 def main():
-    os.makedirs(LIBRARIES, exist_ok=True)
     memory = os.sysconf("SC_PAGE_SIZE") * os.sysconf("SC_PHYS_PAGES")
     workers = max(1, min(len(os.sched_getaffinity(0)), memory // MEMORY))
     crates = crates_of_program()
