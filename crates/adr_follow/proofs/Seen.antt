@@ -1,8 +1,6 @@
 -- How much will have been seen.
-use Rattle.std.proofs.Common.{◌≡◌, ℕ, List, Bool, true, false, cond, max, sym, ap, ap₂, ◌∙◌, arith}
-use Rattle.std.specs.Ordering.{is_eq}
-use Rattle.adr_stamp.specs.Order.{identifier_order}
-use Rattle.adr_vector.specs.Vector.{Cursors, at, joined, raised}
+use Rattle.std.proofs.Common.{◌≡◌, ℕ, List, Bool, true, false, cond, max, ap, arith}
+use Rattle.adr_vector.specs.Vector.{Cursors, at, raised}
 use Rattle.adr_vector.proofs.Joining.{at-raised}
 use Rattle.adr_model.specs.Update.{same_identifier}
 

@@ -1,4 +1,4 @@
-use Rattle.std.proofs.Common.{◌≡◌, List, [], Bool, true, sym, ap, ap₂, ◌∙◌, fold}
+use Rattle.std.proofs.Common.{◌≡◌, List, [], true, sym, ap, ap₂, ◌∙◌, fold}
 use Rattle.std.specs.List.{list_all}
 use Rattle.std.proofs.lemmas.Result.{IfOk-weaker}
 use Rattle.adr_schema.specs.Numbered.{numbered}

@@ -1,11 +1,10 @@
-use Rattle.std.proofs.Common.{◌≡◌, ◌||◌, Bool, true, false, Option, refl, sym, ap, ◌∙◌, fold}
+use Rattle.std.proofs.Common.{◌≡◌, ◌||◌, true, false, sym, ap, ◌∙◌, fold}
 use Rattle.std.specs.Prelude.{is_none}
-use Rattle.std.specs.Option.{option_copied}
 use Rattle.std.proofs.lemmas.Result.{IfOk-weaker}
 use Rattle.adr_schema.specs.Table.{is_forward, kind_at}
 use Rattle.adr_model.specs.Change.{without_object}
 use Rattle.adr_model.specs.Live.{is_among}
-use Rattle.adr_model.specs.Store.{Held, holds_object, row_held}
+use Rattle.adr_model.specs.Store.{holds_object, row_held}
 use Rattle.adr_model.specs.Update.{LinkOf}
 use Rattle.adr_law_formed.specs.Tested.{is_touched_formed}
 use Rattle.adr_judge.proofs.Left.{among_set, removed_formed, absent_formed, left_formed, link_formed, none_copied}
