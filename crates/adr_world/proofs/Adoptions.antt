@@ -8,7 +8,7 @@ use Rattle.adr_event.specs.declared.event.Event.TheVariants.{Install, Restore}
 use Rattle.adr_model.specs.Update.{Identifier}
 use Rattle.adr_model.specs.Replica.{Replica, begun, on_disk}
 use Rattle.adr_model.specs.World.{World, Name, Sent, Snapshot, answer, of_made, put_back, replica_at, stays, with_replica}
-use Rattle.adr_model.specs.Step.{gives, step, told_bound}
+use Rattle.adr_model.specs.Step.{gives, step, told, told_bound}
 use Rattle.adr_law_convergence.proofs.Found.{replica_found}
 use Rattle.adr_world.specs.declared.run.Run.{Run}
 use Rattle.adr_world.specs.Adopted.{adoption}
@@ -17,9 +17,9 @@ use Rattle.adr_world.proofs.Bindings.{told_so}
 use Rattle.adr_world.proofs.Places.{apart_still, placed}
 
 -- a line that binds what was made, by what comes of its call
-pub bound_so : {A : Type 0} (verb : List ℕ) (name : Name) (t : Sent A) (binds : World → Option A → World) (v : World) (o : Outcome) (x : Option A) (made : Answer) → t ≡ (v, o, x)
-    → made ≡ answer verb name o → told_bound verb name t binds ≡ (binds v x, made ∷ [])
-bound_so {A = A} verb name t binds v o x made sent said = ap (λ (s : Sent A). told_bound verb name s binds) sent ∙ ap (λ m. (binds v x, m ∷ [])) (sym said)
+pub bound_so : {A : Type 0} (verb : List ℕ) (name : Name) (t : Sent A) (binds : World → Option A → World) (v : World) (o : Outcome) (x : Option A) → t ≡ (v, o, x)
+    → told_bound verb name t binds ≡ told verb name (binds v x, o)
+bound_so {A = A} verb name t binds v o x sent = ap (λ (s : Sent A). told_bound verb name s binds) sent
 
 -- a restore, by what comes of its image
 module _ (w : World) (name image : Name) (inv : Identifier) where

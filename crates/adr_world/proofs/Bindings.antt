@@ -41,11 +41,9 @@ told_so verb name g v o made gone said = ap (λ (x : Gone). told verb name x) go
 
 -- the line of a serve, by what comes of its request
 module _ (w : World) (name request bind : Name) where
-  pub served_step : (v : World) (x : Outcome) (r : Option Reply) (made : Answer) → serves_request w name (bound_at w.requests request) ≡ (v, x, r)
-      → made ≡ answer (codes "serve") name x → step w (Serve name request bind) ≡ (record v { replies = bound v.replies bind r }, made ∷ [])
-  served_step v x r made served said =
-      ap (λ (t : Sent Reply). told_bound (codes "serve") name t (λ v p. record v { replies = bound v.replies bind p })) served
-      ∙ ap (λ m. (record v { replies = bound v.replies bind r }, m ∷ [])) (sym said)
+  pub served_step : (v : World) (x : Outcome) (r : Option Reply) → serves_request w name (bound_at w.requests request) ≡ (v, x, r)
+      → step w (Serve name request bind) ≡ told (codes "serve") name (record v { replies = bound v.replies bind r }, x)
+  served_step v x r served = ap (λ (t : Sent Reply). told_bound (codes "serve") name t (λ v p. record v { replies = bound v.replies bind p })) served
 
   -- and where memory was wanted for the answer
   pub serve_short : (v : World) → IsUnsent w (serves_request w name (bound_at w.requests request)) v → IsAllOrNone w (step w (Serve name request bind)).0 v

@@ -12,3 +12,4 @@ pub mod Left
 pub mod Writings
 pub mod Tables
 pub mod Adoptions
+pub mod Answered

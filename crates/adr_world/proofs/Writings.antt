@@ -1,53 +1,32 @@
 -- A line that is a client's write.
-use Rattle.std.proofs.Common.{◌≡◌, ◌∙◌, refl, sym, ap, subst, [], ◌∷◌, List, ℕ, Option, Some, None, codes}
+use Rattle.std.proofs.Common.{◌≡◌, ◌∙◌, refl, ap, List, ℕ, Option, Some, None, codes}
 use Rattle.std.specs.Prelude.{IfSome, IsSomeAnd}
-use Rattle.adr_event.specs.declared.answer.Answer.{Answer}
 use Rattle.adr_event.specs.declared.answer.Outcome.{Outcome}
 use Rattle.adr_event.specs.declared.event.Event.{Event}
 use Rattle.adr_event.specs.declared.event.Event.TheVariants as events
 use Rattle.adr_model.specs.Write.{Write, AddObject, Modify, Rename, Delete, AddLink, RemoveLink}
-use Rattle.adr_model.specs.World.{Name, World, Gone, answer, writes}
-use Rattle.adr_model.specs.Step.{ClientWrite, write_of, told, step}
+use Rattle.adr_model.specs.World.{Name, World, writes}
+use Rattle.adr_model.specs.Step.{write_of, told, step}
+use Rattle.adr_world.specs.Heading.{name_of, verb_of}
 
 pub each_some : {A : Type 0} (o : Option A) (P : A → Type 0) → ((x : A) → o ≡ Some x → P x) → IfSome o P
 each_some None P each = tt
 each_some (Some x) P each = each x refl
 
-pub at_some : {A : Type 0} (o : Option A) (P : A → Type 0) (x : A) → o ≡ Some x → IfSome o P → P x
-at_some o P x is all = subst (λ q. IfSome q P) is all
+-- a client's write that goes to this controller
+abbrev pub IsWriteTo : Name → Event → Type 0
+IsWriteTo name e = (name_of e ≡ name) × IsSomeAnd (write_of e) (λ x. Unit {0})
 
-pub some_and : {A : Type 0} (o : Option A) (P : A → Type 0) → IsSomeAnd o P → (x : A) × (o ≡ Some x) × P x
-some_and None P some = absurd some
-some_and (Some x) P some = (x, refl, some)
-
-pub and_so : {A : Type 0} (o : Option A) (P Q : A → Type 0) → IsSomeAnd o P → ((x : A) → P x → Q x) → IsSomeAnd o Q
-and_so None P Q some so = absurd some
-and_so (Some x) P Q some so = so x some
-
-module _ (w : World) where
-  abbrev written_line : ClientWrite → World × List Answer
-  written_line x = told x.verb x.name (writes w x.name x.what)
-
-  same_line : (y x : ClientWrite) → Some y ≡ Some x → written_line y ≡ written_line x
-  same_line y x is = let same : y ≡ x = cc in ap written_line same
-
-  line_of : (verb : List ℕ) (name : Name) (what : Write) (x : ClientWrite) → Some (record { verb = verb; name = name; what = what }) ≡ Some x → told verb name (writes w name what) ≡ written_line x
-  line_of verb name what x is = same_line (record { verb = verb; name = name; what = what }) x is
-
-  -- what a line does that is a client's write
-  write_step : (e : Event) (x : ClientWrite) → write_of e ≡ Some x → step w e ≡ written_line x
-  write_step (events.Add name guid class parent text values) x is = line_of (codes "add") name (AddObject guid class parent text values) x is
-  write_step (events.Modify name guid values) x is = line_of (codes "modify") name (Modify guid values) x is
-  write_step (events.Rename name guid parent text) x is = line_of (codes "rename") name (Rename guid parent text) x is
-  write_step (events.Delete name guid) x is = line_of (codes "delete") name (Delete guid) x is
-  write_step (events.Link name from attr to) x is = line_of (codes "link") name (AddLink from attr to) x is
-  write_step (events.Unlink name from attr to) x is = line_of (codes "unlink") name (RemoveLink from attr to) x is
-  write_step _ x is = absurd (cc)
+module _ (w v : World) (name : Name) (o : Outcome) where
+  write_told : (verb : List ℕ) (n : Name) (what : Write) → n ≡ name → writes w name what ≡ (v, o) → told verb n (writes w n what) ≡ told verb n (v, o)
+  write_told verb n what is gone = ap (told verb n) (ap (λ m. writes w m what) is ∙ gone)
 
   -- the line of a write, by what comes of it
-  pub written_step : (e : Event) (x : ClientWrite) (verb : List ℕ) (name : Name) (v : World) (o : Outcome) (made : Answer) → write_of e ≡ Some x → x.verb ≡ verb → x.name ≡ name
-      → writes w name x.what ≡ (v, o) → made ≡ answer verb name o → step w e ≡ (v, made ∷ [])
-  written_step e x verb name v o made is verbs names gone said =
-      write_step e x is
-      ∙ ap (λ b. told b x.name (writes w x.name x.what)) verbs ∙ ap (λ n. told verb n (writes w n x.what)) names
-      ∙ ap (λ (g : Gone). told verb name g) gone ∙ ap (λ m. (v, m ∷ [])) (sym said)
+  pub write_line : (e : Event) → IsWriteTo name e → IfSome (write_of e) (λ x. writes w name x.what ≡ (v, o)) → step w e ≡ told (verb_of e) (name_of e) (v, o)
+  write_line (events.Add n guid class parent text values) to is = write_told (codes "add") n (AddObject guid class parent text values) to.0 is
+  write_line (events.Modify n guid values) to is = write_told (codes "modify") n (Modify guid values) to.0 is
+  write_line (events.Rename n guid parent text) to is = write_told (codes "rename") n (Rename guid parent text) to.0 is
+  write_line (events.Delete n guid) to is = write_told (codes "delete") n (Delete guid) to.0 is
+  write_line (events.Link n from attr target) to is = write_told (codes "link") n (AddLink from attr target) to.0 is
+  write_line (events.Unlink n from attr target) to is = write_told (codes "unlink") n (RemoveLink from attr target) to.0 is
+  write_line e to is = absurd to.1

@@ -1,5 +1,6 @@
 pub mod Run
 pub mod Alone
+pub mod Heading
 pub mod Adopted
 pub mod Pulls
 pub mod Short

@@ -2,8 +2,10 @@
 
 ghost use Rattle.std.specs.Prelude.{◌≡◌, IfOk};
 ghost use Rattle.adr_model.specs.World.{answer};
+ghost use Rattle.adr_world.specs.Alone.{HasOneAnswer};
+ghost use Rattle.adr_world.specs.Heading.{name_of, verb_of};
 
-use adr_event::{Answer, Outcome};
+use adr_event::{Answer, Event, Outcome};
 use adr_replica::word;
 use adr_schema::{NoMemory, Text};
 use std::alloc::Global;
@@ -38,9 +40,69 @@ impl Heading {
     }
 }
 
-/// The answer to a call.
-pub fn answer(alloc: Global, verb: &str, name: &Text, outcome: Outcome) -> Result<Answer, NoMemory>
-    ensures { IfOk result (λ made. made ≡ answer verb.now name.now outcome) }
+/// The word of a line.
+pub fn verb_of(event: &Event) -> &'static str
+    ensures { result.now ≡ verb_of event.now }
 {
-    Ok(Heading::new(alloc, verb, name)?.of(outcome))
+    match event {
+        Event::Controller { .. } => "controller",
+        Event::Time { .. } => "time",
+        Event::Add { .. } => "add",
+        Event::Modify { .. } => "modify",
+        Event::Rename { .. } => "rename",
+        Event::Delete { .. } => "delete",
+        Event::Link { .. } => "link",
+        Event::Unlink { .. } => "unlink",
+        Event::Ask { .. } => "ask",
+        Event::Serve { .. } => "serve",
+        Event::Deliver { .. } => "deliver",
+        Event::Pull { .. } => "pull",
+        Event::Cycle { .. } => "cycle",
+        Event::Collect { .. } => "collect",
+        Event::Backup { .. } => "backup",
+        Event::Restore { .. } => "restore",
+        Event::Install { .. } => "install",
+        Event::Snapshot { .. } => "snapshot",
+        Event::Rollback { .. } => "rollback",
+        Event::StopAfter { .. } => "stop",
+        Event::Fail { .. } => "fail",
+        Event::Stop { .. } => "stop",
+        Event::Start { .. } => "start",
+        Event::Show { .. } => "show",
+        Event::Vector { .. } => "vector",
+        Event::Marks { .. } => "marks",
+    }
+}
+
+/// The name of the controller that a line goes to.
+pub fn name_of(event: &Event) -> &Text
+    requires { HasOneAnswer event.now }
+    ensures { result.now ≡ name_of event.now }
+{
+    match event {
+        Event::Controller { name, .. } => name,
+        Event::Add { name, .. } => name,
+        Event::Modify { name, .. } => name,
+        Event::Rename { name, .. } => name,
+        Event::Delete { name, .. } => name,
+        Event::Link { name, .. } => name,
+        Event::Unlink { name, .. } => name,
+        Event::Ask { name, .. } => name,
+        Event::Serve { name, .. } => name,
+        Event::Deliver { name, .. } => name,
+        Event::Collect { name, .. } => name,
+        Event::Backup { name, .. } => name,
+        Event::Restore { name, .. } => name,
+        Event::Install { name, .. } => name,
+        Event::Snapshot { name, .. } => name,
+        Event::Rollback { name, .. } => name,
+        Event::StopAfter { name, .. } => name,
+        Event::Fail { name, .. } => name,
+        Event::Stop { name, .. } => name,
+        Event::Start { name, .. } => name,
+        Event::Show { name, .. } => name,
+        Event::Vector { name, .. } => name,
+        Event::Marks { name, .. } => name,
+        Event::Time { .. } | Event::Pull { .. } | Event::Cycle { .. } => unreachable!(),
+    }
 }

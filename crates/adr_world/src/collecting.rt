@@ -1,34 +1,23 @@
 //! Tombstones that controllers collect.
 
-ghost use Rattle.std.specs.Prelude.{◌≡◌, ◌∷◌, [], IfOk, OnErr};
-ghost use Rattle.adr_event.specs.declared.event.Event.TheVariants.{Collect};
+ghost use Rattle.std.specs.Prelude.{◌≡◌, IfOk, OnErr};
 ghost use Rattle.adr_model.specs.Collect.{collect};
-ghost use Rattle.adr_model.specs.Step.{step};
 ghost use Rattle.adr_model.specs.World.{after_collect, of_controller, stays};
 ghost use Rattle.adr_world.specs.Run.{IsTidy, world_of};
 
-use crate::answers::Heading;
 use crate::run::Run;
-use adr_event::{Answer, Outcome};
+use adr_event::Outcome;
 use adr_schema::{NoMemory, Text};
 use std::alloc::Global;
 
 impl Run {
-    /// A controller collects its tombstones, after a lifetime in seconds.
-    pub fn collect(&mut self, alloc: Global, name: &Text, lifetime: u64) -> Result<Answer, NoMemory>
-        requires { IsTidy self.old }
-        ensures stepped { IfOk result (λ made.
-            step (world_of self.old) (Collect name.now lifetime) ≡ (world_of self.new, made ∷ [])) }
-        ensures err { OnErr result (world_of self.new ≡ world_of self.old) }
-        ensures tidy { IsTidy self.new }
-    {
-        let heading = Heading::new(alloc, "collect", name)?;
-        let outcome = self.collected(alloc, name, lifetime)?;
-        Ok(heading.of(outcome))
-    }
-
-    /// What a controller that collects is answered.
-    fn collected(&mut self, alloc: Global, name: &Text, lifetime: u64) -> Result<Outcome, NoMemory>
+    /// What a controller is answered that collects its tombstones, after a lifetime in seconds.
+    pub fn collected(
+        &mut self,
+        alloc: Global,
+        name: &Text,
+        lifetime: u64,
+    ) -> Result<Outcome, NoMemory>
         requires { IsTidy self.old }
         ensures collected { IfOk result (λ outcome. let w = world_of self.old in
             of_controller w name.now (stays w) (λ r. after_collect w r lifetime (collect r.safe w.time lifetime)) ≡ (world_of self.new, outcome)) }

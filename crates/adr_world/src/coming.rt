@@ -1,46 +1,67 @@
 //! New controllers.
 
-ghost use Rattle.std.specs.Prelude.{◌≡◌, ◌+◌, ◌≤◌, ◌++◌, ◌∷◌, [], vec_len, IfOk, OnErr};
+ghost use Rattle.std.specs.Prelude.{◌≡◌, ◌+◌, ◌<◌, ◌≤◌, ◌++◌, ◌∷◌, [], codes, length, slice_set, vec_len, IfOk, OnErr};
 ghost use Rattle.std.specs.Vec.{vec_capacity};
 ghost use Rattle.adr_event.specs.declared.event.Event.TheVariants.{Controller as NewController};
 ghost use Rattle.adr_wire.specs.Ranges.{IsId};
 ghost use Rattle.adr_model.specs.Convergence.{IsNewName};
 ghost use Rattle.adr_model.specs.Replica.{Up, begun};
-ghost use Rattle.adr_model.specs.Step.{gives, step};
+ghost use Rattle.adr_model.specs.Step.{gives, step, told};
 ghost use Rattle.adr_world.specs.Run.{IsTidy, world_of};
 
-use crate::answers::Heading;
 use crate::run::Run;
-use adr_event::{Answer, Outcome};
-use adr_replica::Replica;
+use adr_event::Outcome;
+use adr_replica::{Past, Replica};
 use adr_schema::{NoMemory, Text};
 use std::alloc::Global;
 use uuid::Uuid;
 
+/// Puts a controller in place of another.
+pub fn replace(controllers: &mut Vec<Replica>, place: usize, controller: Replica)
+    requires { place < length controllers.old.items }
+    ensures { controllers.new.items ≡ slice_set controllers.old.items place controller }
+{
+    controllers[place] = controller;
+}
+
+/// Begins the incarnation of a controller that is up, and gives its invocation identifier.
+pub fn begin_in(past: &mut Past, controller: &Replica) -> Uuid
+    requires { controller.now.standing ≡ Up }
+    ensures past { past.new ≡ record past.old { book = begun past.old.book controller.now.safe } }
+    ensures inv { result ≡ controller.now.safe.inv }
+{
+    match controller.state() {
+        Ok(state) => {
+            past.begin(state);
+            state.inv()
+        }
+        Err(_) => unreachable!(),
+    }
+}
+
 impl Run {
-    /// A new, empty controller comes, under a new name.
+    /// What is answered where a new, empty controller comes, under a new name.
     pub fn controller(
         &mut self,
         alloc: Global,
         name: &Text,
         dsa: Uuid,
         inv: Uuid,
-    ) -> Result<Answer, NoMemory>
+    ) -> Result<Outcome, NoMemory>
         requires tidy { IsTidy self.old }
         requires dsa { IsId dsa }
         requires inv { IsId inv }
         requires new { IsNewName (world_of self.old) name.now }
-        ensures stepped { IfOk result (λ made.
-            step (world_of self.old) (NewController name.now dsa inv) ≡ (world_of self.new, made ∷ [])) }
+        ensures stepped { IfOk result (λ outcome.
+            step (world_of self.old) (NewController name.now dsa inv) ≡ told (codes "controller") name.now (world_of self.new, outcome)) }
         ensures err { OnErr result (world_of self.new ≡ world_of self.old) }
         ensures tidy { IsTidy self.new }
     {
         self.controllers.reserve(1)?;
-        let heading = Heading::new(alloc, "controller", name)?;
         let name = name.copy(alloc)?;
         let controller = Replica::new(alloc, name, dsa, inv)?;
         self.begin(controller);
-        Ok(heading.of(Outcome::Ok))
+        Ok(Outcome::Ok)
     }
 
     /// A controller comes, where there is room for it.
@@ -53,13 +74,8 @@ impl Run {
         ensures requests { self.new.requests ≡ self.old.requests }
         ensures replies { self.new.replies ≡ self.old.replies }
     {
-        match controller.state() {
-            Ok(state) => {
-                self.past.begin(state);
-                self.past.give(state.dsa(), state.inv());
-            }
-            Err(_) => unreachable!(),
-        }
+        let inv = begin_in(&mut self.past, &controller);
+        self.past.give(controller.dsa(), inv);
         let _ = self.controllers.push(controller);
     }
 }

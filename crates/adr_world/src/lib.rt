@@ -12,6 +12,7 @@ mod bound;
 mod collecting;
 mod coming;
 mod controller;
+mod lists;
 mod messages;
 mod pulling;
 mod putting_back;

@@ -1,25 +1,24 @@
 //! Requests and replies.
 
-ghost use Rattle.std.specs.Prelude.{◌≡◌, ◌∷◌, [], Some, IfOk, IfSome, OnErr};
-ghost use Rattle.adr_event.specs.declared.event.Event.TheVariants.{Ask, Deliver, Serve};
+ghost use Rattle.std.specs.Prelude.{◌≡◌, Some, codes, IfOk, IfSome, OnErr};
+ghost use Rattle.adr_event.specs.declared.event.Event.TheVariants.{Ask, Serve};
 ghost use Rattle.adr_law_formed.specs.Spelled.{IsSpelledReply};
 ghost use Rattle.adr_law_recorded.specs.Ranged.{IsRangedReply, IsRangedRequest};
 ghost use Rattle.adr_model.specs.Convergence.{IsUnbound};
-ghost use Rattle.adr_model.specs.Step.{step};
+ghost use Rattle.adr_model.specs.Step.{step, told};
 ghost use Rattle.adr_model.specs.World.{asks, bound_at, delivers, serves_request};
 ghost use Rattle.adr_world.specs.Run.{IsTidy, world_of};
 ghost use Rattle.adr_world.specs.Short.{IsAllOrNone, IsUnsent};
 
-use crate::answers::Heading;
 use crate::controller::not_there;
 use crate::run::Run;
-use adr_event::{Answer, Outcome};
+use adr_event::Outcome;
 use adr_packet::{Reply, Request};
 use adr_schema::{NoMemory, Text};
 use std::alloc::Global;
 
 impl Run {
-    /// A controller asks a partner; the request is bound to a name.
+    /// What a controller is answered that asks a partner; the request is bound to a name.
     pub fn ask(
         &mut self,
         alloc: Global,
@@ -27,18 +26,17 @@ impl Run {
         partner: &Text,
         max: u32,
         bound: &Text,
-    ) -> Result<Answer, NoMemory>
+    ) -> Result<Outcome, NoMemory>
         requires tidy { IsTidy self.old }
         requires unbound { IsUnbound (world_of self.old).requests bound.now }
-        ensures stepped { IfOk result (λ made.
-            step (world_of self.old) (Ask name.now partner.now max bound.now) ≡ (world_of self.new, made ∷ [])) }
+        ensures stepped { IfOk result (λ outcome.
+            step (world_of self.old) (Ask name.now partner.now max bound.now) ≡ told (codes "ask") name.now (world_of self.new, outcome)) }
         ensures err { OnErr result (world_of self.new ≡ world_of self.old) }
         ensures tidy { IsTidy self.new }
     {
-        let heading = Heading::new(alloc, "ask", name)?;
         let (outcome, request) = self.request(alloc, name, partner, max)?;
         self.requests.bind(alloc, bound, request)?;
-        Ok(heading.of(outcome))
+        Ok(outcome)
     }
 
     /// What a controller that asks a partner is answered, and the request if there is one.
@@ -63,25 +61,24 @@ impl Run {
         self.controllers[asker].ask(alloc, dsa, max)
     }
 
-    /// A controller answers a request that was bound to a name; the reply is bound to another.
+    /// What a controller is answered that serves a request, which was bound to a name; the reply is bound to another.
     pub fn serve(
         &mut self,
         alloc: Global,
         name: &Text,
         request: &Text,
         bound: &Text,
-    ) -> Result<Answer, NoMemory>
+    ) -> Result<Outcome, NoMemory>
         requires tidy { IsTidy self.old }
         requires unbound { IsUnbound (world_of self.old).replies bound.now }
-        ensures stepped { IfOk result (λ made.
-            step (world_of self.old) (Serve name.now request.now bound.now) ≡ (world_of self.new, made ∷ [])) }
+        ensures stepped { IfOk result (λ outcome.
+            step (world_of self.old) (Serve name.now request.now bound.now) ≡ told (codes "serve") name.now (world_of self.new, outcome)) }
         ensures err { OnErr result (IsAllOrNone (world_of self.old) (step (world_of self.old) (Serve name.now request.now bound.now)).0 (world_of self.new)) }
         ensures tidy { IsTidy self.new }
     {
-        let heading = Heading::new(alloc, "serve", name)?;
         let (outcome, reply) = self.reply_bound(alloc, name, request)?;
         self.replies.bind(alloc, bound, reply)?;
-        Ok(heading.of(outcome))
+        Ok(outcome)
     }
 
     /// What comes of a request that was bound to a name. It is read where it stands.
@@ -130,22 +127,14 @@ impl Run {
         self.controllers[place].serve(alloc, &mut self.past, request)
     }
 
-    /// A controller takes a reply that was bound to a name.
-    pub fn deliver(&mut self, alloc: Global, name: &Text, reply: &Text) -> Result<Answer, NoMemory>
-        requires { IsTidy self.old }
-        ensures stepped { IfOk result (λ made.
-            step (world_of self.old) (Deliver name.now reply.now) ≡ (world_of self.new, made ∷ [])) }
-        ensures err { OnErr result (IsAllOrNone (world_of self.old) (step (world_of self.old) (Deliver name.now reply.now)).0 (world_of self.new)) }
-        ensures tidy { IsTidy self.new }
-    {
-        let heading = Heading::new(alloc, "deliver", name)?;
-        let outcome = self.take_bound(alloc, name, reply)?;
-        Ok(heading.of(outcome))
-    }
-
     /// What a controller that takes a reply is answered, which was bound to a name. It is read where it stands: it may be
     /// large.
-    fn take_bound(&mut self, alloc: Global, name: &Text, reply: &Text) -> Result<Outcome, NoMemory>
+    pub fn take_bound(
+        &mut self,
+        alloc: Global,
+        name: &Text,
+        reply: &Text,
+    ) -> Result<Outcome, NoMemory>
         requires { IsTidy self.old }
         ensures taken { IfOk result (λ outcome.
             delivers (world_of self.old) name.now (bound_at (world_of self.old).replies reply.now) ≡ (world_of self.new, outcome)) }

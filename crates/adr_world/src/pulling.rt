@@ -11,7 +11,8 @@ ghost use Rattle.adr_world.specs.Pulls.{IsCycleTurn, behind};
 ghost use Rattle.adr_world.specs.Run.{IsTidy, world_of};
 ghost use Rattle.adr_world.specs.Short.{IsAllOrNone, IsTurnCutShort, IsUnsent};
 
-use crate::answers::{Heading, answer};
+use crate::answers::Heading;
+use crate::lists::put;
 use crate::run::Run;
 use adr_event::{Answer, Outcome};
 use adr_packet::{Reply, Request};
@@ -20,16 +21,6 @@ use std::alloc::Global;
 
 /// The most replies of a cycle.
 pub const REPLY_LIMIT: u32 = 1_000_000;
-
-/// Adds an answer where there is room for it.
-fn put(answers: &mut Vec<Answer>, answer: Answer)
-    requires { vec_len answers.old + 1 ≤ vec_capacity answers.old }
-    ensures items { answers.new.items ≡ answers.old.items ++ answer ∷ [] }
-    ensures len { vec_len answers.new ≡ vec_len answers.old + 1 }
-    ensures capacity { vec_capacity answers.old ≤ vec_capacity answers.new }
-{
-    let _ = answers.push(answer);
-}
 
 fn was_taken(outcome: &Outcome) -> bool
     ensures { result ≡ was_taken outcome.now }
@@ -202,7 +193,7 @@ impl Run {
         if turn < REPLY_LIMIT {
             return self.pull(alloc, dest, source, max);
         }
-        let more = answer(alloc, "cycle", dest, Outcome::More)?;
-        Ok((vec![in alloc; more]?, false))
+        let heading = Heading::new(alloc, "cycle", dest)?;
+        Ok((vec![in alloc; heading.of(Outcome::More)]?, false))
     }
 }

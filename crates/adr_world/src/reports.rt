@@ -1,16 +1,13 @@
 //! What controllers tell.
 
-ghost use Rattle.std.specs.Prelude.{◌≡◌, ◌∷◌, [], map, IfOk};
-ghost use Rattle.adr_event.specs.declared.event.Event.TheVariants.{Show, Vector as TellVector, Marks as TellMarks};
+ghost use Rattle.std.specs.Prelude.{◌≡◌, map, IfOk};
 ghost use Rattle.adr_model.specs.Store.{Kept as IsKept};
 ghost use Rattle.adr_model.specs.Update.{Identifier};
-ghost use Rattle.adr_model.specs.Step.{step};
 ghost use Rattle.adr_model.specs.World.{marks_shown, of_controller, shown, stays};
 ghost use Rattle.adr_world.specs.Run.{IsSoundRun, world_of};
 
-use crate::answers::answer;
 use crate::run::Run;
-use adr_event::{Answer, Outcome, PartnerMarks};
+use adr_event::{Outcome, PartnerMarks};
 use adr_schema::{NoMemory, Text};
 use adr_state::Marks;
 use adr_view::{directory, formed_rows_have_back_links};
@@ -29,7 +26,7 @@ fn partner_marks(alloc: Global, marks: &Marks) -> Result<PartnerMarks, NoMemory>
 
 impl Run {
     /// What is answered where a client asks for the directory.
-    fn directory_told(&self, alloc: Global, name: &Text) -> Result<Outcome, NoMemory>
+    pub fn directory_told(&self, alloc: Global, name: &Text) -> Result<Outcome, NoMemory>
         requires { IsSoundRun self.now }
         ensures { IfOk result (λ outcome.
             of_controller (world_of self.now) name.now (stays (world_of self.now)) (λ r. (world_of self.now, Outcome.Show (shown (world_of self.now) r.safe)))
@@ -47,16 +44,8 @@ impl Run {
         }
     }
 
-    /// A client asks for the directory.
-    pub fn show(&self, alloc: Global, name: &Text) -> Result<Answer, NoMemory>
-        requires { IsSoundRun self.now }
-        ensures { IfOk result (λ made. step (world_of self.now) (Show name.now) ≡ (world_of self.now, made ∷ [])) }
-    {
-        answer(alloc, "show", name, self.directory_told(alloc, name)?)
-    }
-
     /// What is answered where a client asks what the controller has seen.
-    fn vector_told(&self, alloc: Global, name: &Text) -> Result<Outcome, NoMemory>
+    pub fn vector_told(&self, alloc: Global, name: &Text) -> Result<Outcome, NoMemory>
         ensures { IfOk result (λ outcome.
             of_controller (world_of self.now) name.now (stays (world_of self.now)) (λ r. (world_of self.now, Outcome.Vector r.safe.store.vector))
             ≡ (world_of self.now, outcome)) }
@@ -70,16 +59,8 @@ impl Run {
         }
     }
 
-    /// A client asks what the controller has seen.
-    pub fn vector(&self, alloc: Global, name: &Text) -> Result<Answer, NoMemory>
-        ensures { IfOk result (λ made.
-            step (world_of self.now) (TellVector name.now) ≡ (world_of self.now, made ∷ [])) }
-    {
-        answer(alloc, "vector", name, self.vector_told(alloc, name)?)
-    }
-
     /// What is answered where a client asks how far the controller has read its partners.
-    fn marks_told(&self, alloc: Global, name: &Text) -> Result<Outcome, NoMemory>
+    pub fn marks_told(&self, alloc: Global, name: &Text) -> Result<Outcome, NoMemory>
         ensures { IfOk result (λ outcome.
             of_controller (world_of self.now) name.now (stays (world_of self.now)) (λ r. (world_of self.now, Outcome.Marks (marks_shown r.safe.store)))
             ≡ (world_of self.now, outcome)) }
@@ -91,13 +72,5 @@ impl Run {
             Ok(state) => Ok(Outcome::Marks(partner_marks(alloc, state.marks())?)),
             Err(other) => Ok(other),
         }
-    }
-
-    /// A client asks how far the controller has read its partners.
-    pub fn marks(&self, alloc: Global, name: &Text) -> Result<Answer, NoMemory>
-        ensures { IfOk result (λ made.
-            step (world_of self.now) (TellMarks name.now) ≡ (world_of self.now, made ∷ [])) }
-    {
-        answer(alloc, "marks", name, self.marks_told(alloc, name)?)
     }
 }

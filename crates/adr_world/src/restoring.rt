@@ -1,18 +1,19 @@
 //! Images of controllers, and controllers that come of them.
 
-ghost use Rattle.std.specs.Prelude.{◌≡◌, ◌<◌, ◌∷◌, [], length, slice_set, IfOk, IsErrOf, OnErr};
+ghost use Rattle.std.specs.Prelude.{◌≡◌, ◌<◌, ◌∷◌, [], codes, length, slice_set, IfOk, IsErrOf, OnErr};
 ghost use Rattle.adr_event.specs.declared.answer.Outcome.{Outcome};
 ghost use Rattle.adr_event.specs.declared.event.Event.TheVariants.{Backup, Install, Restore};
 ghost use Rattle.adr_wire.specs.Ranges.{IsId};
 ghost use Rattle.adr_model.specs.Collect.{backup};
 ghost use Rattle.adr_model.specs.Convergence.{IsNewName, IsUnbound};
 ghost use Rattle.adr_model.specs.Replica.{Up, begun};
-ghost use Rattle.adr_model.specs.Step.{gives, step};
+ghost use Rattle.adr_model.specs.Step.{gives, step, told};
 ghost use Rattle.adr_model.specs.World.{backed_up, nothing, of_controller};
 ghost use Rattle.adr_world.specs.Adopted.{AdoptsBound, UnadoptedBound};
 ghost use Rattle.adr_world.specs.Run.{IsTidy, world_of};
 
 use crate::answers::Heading;
+use crate::coming::{begin_in, replace};
 use crate::run::Run;
 use adr_event::{Answer, Failure, Outcome};
 use adr_replica::{Image, Replica};
@@ -21,19 +22,18 @@ use std::alloc::{AllocError, Global};
 use uuid::Uuid;
 
 impl Run {
-    /// The image of a controller is bound to a name.
-    pub fn backup(&mut self, alloc: Global, name: &Text, bound: &Text) -> Result<Answer, NoMemory>
+    /// What is answered where the image of a controller is bound to a name.
+    pub fn backup(&mut self, alloc: Global, name: &Text, bound: &Text) -> Result<Outcome, NoMemory>
         requires tidy { IsTidy self.old }
         requires unbound { IsUnbound (world_of self.old).images bound.now }
-        ensures stepped { IfOk result (λ made.
-            step (world_of self.old) (Backup name.now bound.now) ≡ (world_of self.new, made ∷ [])) }
+        ensures stepped { IfOk result (λ outcome.
+            step (world_of self.old) (Backup name.now bound.now) ≡ told (codes "backup") name.now (world_of self.new, outcome)) }
         ensures err { OnErr result (world_of self.new ≡ world_of self.old) }
         ensures tidy { IsTidy self.new }
     {
-        let heading = Heading::new(alloc, "backup", name)?;
         let (outcome, image) = self.image(alloc, name)?;
         self.images.bind(alloc, bound, image)?;
-        Ok(heading.of(outcome))
+        Ok(outcome)
     }
 
     /// What a controller is answered that is backed up, and its image if there is one.
@@ -148,13 +148,8 @@ impl Run {
         ensures requests { self.new.requests ≡ self.old.requests }
         ensures replies { self.new.replies ≡ self.old.replies }
     {
-        match controller.state() {
-            Ok(state) => {
-                self.past.begin(state);
-                self.past.give_inv(state.inv());
-            }
-            Err(_) => unreachable!(),
-        }
-        self.controllers[place] = controller;
+        let inv = begin_in(&mut self.past, &controller);
+        self.past.give_inv(inv);
+        replace(&mut self.controllers, place, controller);
     }
 }

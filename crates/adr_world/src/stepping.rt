@@ -5,18 +5,21 @@ ghost use Rattle.adr_event.specs.declared.event.Event.TheVariants.{Time};
 ghost use Rattle.adr_io.specs.Told.{Adds, AddsFront};
 ghost use Rattle.adr_law_recorded.specs.Typed.{IsTyped};
 ghost use Rattle.adr_model.specs.Convergence.{MayHappen};
-ghost use Rattle.adr_model.specs.Step.{step};
+ghost use Rattle.adr_model.specs.Step.{step, told};
 ghost use Rattle.adr_report.specs.Line.{line};
-ghost use Rattle.adr_world.specs.Alone.{HasOneAnswer, IsAtOnce};
+ghost use Rattle.adr_world.specs.Alone.{HasOneAnswer, IsAtOnce, IsPlain};
 ghost use Rattle.adr_world.specs.Door.{IsLeftBy};
+ghost use Rattle.adr_world.specs.Heading.{name_of, verb_of};
 ghost use Rattle.adr_world.specs.Pulls.{IsTurn};
 ghost use Rattle.adr_world.specs.Run.{IsSoundRun, IsTidy, world_of};
 ghost use Rattle.adr_world.specs.Short.{IsCutShort, IsTurnCutShort};
 
+use crate::answers::{Heading, name_of, verb_of};
+use crate::lists::put;
 use crate::pulling::REPLY_LIMIT;
 use crate::run::Run;
 use crate::telling::tell;
-use adr_event::{Answer, Event};
+use adr_event::{Answer, Event, Outcome};
 use adr_io::{Fault, Sink};
 use adr_schema::NoMemory;
 use std::alloc::Global;
@@ -109,8 +112,7 @@ impl Run {
     {
         let mut answers = Vec::new(alloc);
         answers.reserve(1)?;
-        let made = self.answered(alloc, event)?;
-        let _ = answers.push(made);
+        put(&mut answers, self.answered(alloc, event)?);
         Ok(answers)
     }
 
@@ -126,13 +128,52 @@ impl Run {
         ensures tidy { IsTidy self.new }
     {
         match event {
+            Event::Restore { name, image, inv } => self.restore(alloc, name, image, *inv),
+            Event::Install {
+                name,
+                dsa,
+                image,
+                inv,
+            } => self.install(alloc, name, *dsa, image, *inv),
+            _ => self.plainly(alloc, event),
+        }
+    }
+
+    /// The answer to a line that adopts no image. Its heading is made first: then nothing fails behind the change.
+    fn plainly(&mut self, alloc: Global, event: &Event) -> Result<Answer, NoMemory>
+        requires sound { IsSoundRun self.old }
+        requires plain { IsPlain event.now }
+        requires may { MayHappen (world_of self.old) event.now }
+        requires typed { IsTyped event.now }
+        ensures stepped { IfOk result (λ made.
+            step (world_of self.old) event.now ≡ (world_of self.new, made ∷ [])) }
+        ensures err { OnErr result (IsCutShort (world_of self.old) event.now (world_of self.new)) }
+        ensures tidy { IsTidy self.new }
+    {
+        let heading = Heading::new(alloc, verb_of(event), name_of(event))?;
+        let outcome = self.outcome(alloc, event)?;
+        Ok(heading.of(outcome))
+    }
+
+    /// What a line is answered that adopts no image.
+    fn outcome(&mut self, alloc: Global, event: &Event) -> Result<Outcome, NoMemory>
+        requires sound { IsSoundRun self.old }
+        requires plain { IsPlain event.now }
+        requires may { MayHappen (world_of self.old) event.now }
+        requires typed { IsTyped event.now }
+        ensures stepped { IfOk result (λ outcome.
+            step (world_of self.old) event.now ≡ told (verb_of event.now) (name_of event.now) (world_of self.new, outcome)) }
+        ensures err { OnErr result (IsCutShort (world_of self.old) event.now (world_of self.new)) }
+        ensures tidy { IsTidy self.new }
+    {
+        match event {
             Event::Controller { name, dsa, inv } => self.controller(alloc, name, *dsa, *inv),
-            Event::Add { name, .. } => self.write(alloc, "add", name, event),
-            Event::Modify { name, .. } => self.write(alloc, "modify", name, event),
-            Event::Rename { name, .. } => self.write(alloc, "rename", name, event),
-            Event::Delete { name, .. } => self.write(alloc, "delete", name, event),
-            Event::Link { name, .. } => self.write(alloc, "link", name, event),
-            Event::Unlink { name, .. } => self.write(alloc, "unlink", name, event),
+            Event::Add { name, .. } => self.written(alloc, name, event),
+            Event::Modify { name, .. } => self.written(alloc, name, event),
+            Event::Rename { name, .. } => self.written(alloc, name, event),
+            Event::Delete { name, .. } => self.written(alloc, name, event),
+            Event::Link { name, .. } => self.written(alloc, name, event),
+            Event::Unlink { name, .. } => self.written(alloc, name, event),
             Event::Ask {
                 name,
                 partner,
@@ -144,25 +185,19 @@ impl Run {
                 request,
                 bound,
             } => self.serve(alloc, name, request, bound),
-            Event::Deliver { name, reply } => self.deliver(alloc, name, reply),
-            Event::Collect { name, lifetime } => self.collect(alloc, name, *lifetime),
+            Event::Deliver { name, reply } => self.take_bound(alloc, name, reply),
+            Event::Collect { name, lifetime } => self.collected(alloc, name, *lifetime),
             Event::Backup { name, bound } => self.backup(alloc, name, bound),
-            Event::Restore { name, image, inv } => self.restore(alloc, name, image, *inv),
-            Event::Install {
-                name,
-                dsa,
-                image,
-                inv,
-            } => self.install(alloc, name, *dsa, image, *inv),
             Event::Snapshot { name, bound } => self.snapshot(alloc, name, bound),
-            Event::Rollback { name, snapshot } => self.rollback(alloc, name, snapshot),
-            Event::StopAfter { name, calls, how } => self.stop_after(alloc, name, *calls, *how),
-            Event::Fail { name, calls } => self.fail_after(alloc, name, *calls),
-            Event::Stop { name } => self.stop(alloc, name),
-            Event::Start { name } => self.start(alloc, name),
-            Event::Show { name } => self.show(alloc, name),
-            Event::Vector { name } => self.vector(alloc, name),
-            Event::Marks { name } => self.marks(alloc, name),
+            Event::Rollback { name, snapshot } => self.put_back(alloc, name, snapshot),
+            Event::StopAfter { name, calls, how } => Ok(self.stop_after(name, *calls, *how)),
+            Event::Fail { name, calls } => Ok(self.fail_after(name, *calls)),
+            Event::Stop { name } => Ok(self.stop(name)),
+            Event::Start { name } => self.start(name),
+            Event::Show { name } => self.directory_told(alloc, name),
+            Event::Vector { name } => self.vector_told(alloc, name),
+            Event::Marks { name } => self.marks_told(alloc, name),
+            Event::Restore { .. } | Event::Install { .. } => unreachable!(),
             Event::Time { .. } | Event::Pull { .. } | Event::Cycle { .. } => unreachable!(),
         }
     }

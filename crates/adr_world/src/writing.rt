@@ -1,42 +1,25 @@
 //! Clients' writes.
 
-ghost use Rattle.std.specs.Prelude.{◌≡◌, ◌∷◌, [], IfOk, IfSome, IsSomeAnd, OnErr};
+ghost use Rattle.std.specs.Prelude.{◌≡◌, IfOk, IfSome, IsSomeAnd, OnErr};
 ghost use Rattle.adr_law_recorded.specs.Typed.{IsTypedWrite};
-ghost use Rattle.adr_model.specs.Step.{step, write_of};
+ghost use Rattle.adr_model.specs.Step.{write_of};
 ghost use Rattle.adr_model.specs.World.{writes};
 ghost use Rattle.adr_model.specs.Write.{IsWellGiven};
 ghost use Rattle.adr_world.specs.Run.{IsTidy, world_of};
 
-use crate::answers::Heading;
 use crate::run::Run;
-use adr_event::{Answer, Event, Outcome};
+use adr_event::{Event, Outcome};
 use adr_schema::{NoMemory, Text};
 use std::alloc::Global;
 
 impl Run {
-    /// A client's write, by the word of its line.
-    pub fn write(
+    /// What a client's write is answered.
+    pub fn written(
         &mut self,
         alloc: Global,
-        verb: &str,
         name: &Text,
         event: &Event,
-    ) -> Result<Answer, NoMemory>
-        requires tidy { IsTidy self.old }
-        requires write { IsSomeAnd (write_of event.now) (λ w. (w.verb ≡ verb.now)
-            × ((w.name ≡ name.now) × (IsWellGiven w.what × IsTypedWrite w.what))) }
-        ensures stepped { IfOk result (λ made.
-            step (world_of self.old) event.now ≡ (world_of self.new, made ∷ [])) }
-        ensures err { OnErr result (world_of self.new ≡ world_of self.old) }
-        ensures tidy { IsTidy self.new }
-    {
-        let heading = Heading::new(alloc, verb, name)?;
-        let outcome = self.written(alloc, name, event)?;
-        Ok(heading.of(outcome))
-    }
-
-    /// What a client's write is answered.
-    fn written(&mut self, alloc: Global, name: &Text, event: &Event) -> Result<Outcome, NoMemory>
+    ) -> Result<Outcome, NoMemory>
         requires tidy { IsTidy self.old }
         requires given { IsSomeAnd (write_of event.now) (λ w. IsWellGiven w.what × IsTypedWrite w.what) }
         ensures written { IfOk result (λ outcome. IfSome (write_of event.now) (λ w.

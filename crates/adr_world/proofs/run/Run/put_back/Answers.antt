@@ -1,7 +1,8 @@
-use Rattle.std.proofs.Common.{◌∙◌, ap}
+use Rattle.std.proofs.Common.{◌∙◌, sym, ap, subst, false}
+use Rattle.adr_event.specs.declared.answer.Outcome.TheVariants as outcomes
 use Rattle.adr_model.specs.Replica.{Replica, on_disk}
 use Rattle.adr_model.specs.World.{bound_at, of_made, put_back, stays}
-use Rattle.adr_world.specs.Run.{world_of}
+use Rattle.adr_world.specs.Run.{AreApart, world_of}
 use Rattle.adr_world.proofs.Adoptions.{apart_there, no_snapshot_so, put_back_so}
 use Rattle.adr_world.proofs.Places.{somebody_at}
 use Rattle.adr_world.proofs.run.Run.put_back.Goals as goal
@@ -25,6 +26,7 @@ returns-clause-done c =
     let is = c.in_ok-controller.ensures ∙ ap (λ n. on_disk n s.state s.log_end) c.in_ok-name.ensures in
     put_back_so c.args.self.now c.args.name.now c.in-Some.place d.0 (c.in-Some.ensures.found ∙ d.1) d.1 c.requires c.in_ok-controller.controller (ap (λ (r : Replica). r.name) is)
     s (bound_at w.snapshots c.args.snapshot.now) c.in-Some-get.ensures is
+    ∙ ap (λ rs. (record w { clean = false; replicas = rs }, outcomes.Ok)) (sym c.replace.ensures)
 
 pub returns-clause-tidy : goal.returns-clause-tidy
 returns-clause-tidy c =
@@ -32,7 +34,7 @@ returns-clause-tidy c =
     let s = c.in-Some-get.snapshot.now in
     let is = c.in_ok-controller.ensures ∙ ap (λ n. on_disk n s.state s.log_end) c.in_ok-name.ensures in
     record {
-      apart = apart_there c.args.self.now c.args.name.now c.in-Some.place d.0 (c.in-Some.ensures.found ∙ d.1) d.1 c.requires c.in_ok-controller.controller (ap (λ (r : Replica). r.name) is);
+      apart = subst AreApart (sym c.replace.ensures) (apart_there c.args.self.now c.args.name.now c.in-Some.place d.0 (c.in-Some.ensures.found ∙ d.1) d.1 c.requires c.in_ok-controller.controller (ap (λ (r : Replica). r.name) is));
       requests = c.requires.requests;
       replies = c.requires.replies;
     }

@@ -1,11 +1,12 @@
-use Rattle.std.proofs.Common.{◌∙◌, sym, ap, subst, inl, [], ◌∷◌, codes}
+use Rattle.std.proofs.Common.{◌∙◌, sym, ap, subst, inl, codes}
 use Rattle.adr_law_formed.specs.Spelled.{IsSpelledReply}
 use Rattle.adr_law_recorded.specs.Ranged.{IsRangedReply}
 use Rattle.adr_model.specs.Serve.{Reply}
 use Rattle.adr_model.specs.Convergence.{IsUnbound}
+use Rattle.adr_model.specs.Step.{told}
 use Rattle.adr_model.specs.World.{bound_at}
 use Rattle.adr_world.specs.Run.{AreSpelled, world_of}
-use Rattle.adr_world.proofs.Bindings.{each_bound, headed, served_step, serve_short}
+use Rattle.adr_world.proofs.Bindings.{each_bound, served_step, serve_short}
 use Rattle.adr_world.proofs.Calls.{sent_keeps}
 use Rattle.adr_world.proofs.Results.{on_err}
 use Rattle.adr_world.proofs.run.Run.serve.Goals as goal
@@ -15,7 +16,7 @@ bind-requires c = subst (λ rs. IsUnbound rs c.args.bound.now) (sym c.reply_boun
 
 pub returns-in_err-outcome-clause-err : goal.returns-in_err-outcome-clause-err
 returns-in_err-outcome-clause-err c =
-    on_err c.from_residual-in_err-outcome.result
+    on_err c.from_residual.result
     (serve_short (world_of c.args.self.now) c.args.name.now c.args.request.now c.args.bound.now (world_of c.reply_bound.new.self) c.in_err-outcome.ensures.err)
 
 pub returns-in_err-bind-clause-err : goal.returns-in_err-bind-clause-err
@@ -37,10 +38,8 @@ pub returns-clause-stepped : goal.returns-clause-stepped
 returns-clause-stepped c =
     let o = c.in_ok-outcome.outcome in
     let v = world_of c.reply_bound.new.self in
-    served_step (world_of c.args.self.now) c.args.name.now c.args.request.now c.args.bound.now v o c.in_ok-outcome.reply c.of.result
-    c.in_ok-outcome.ensures.served
-    (headed c.of.result c.in_ok-heading.heading.verb c.in_ok-heading.heading.name (codes "serve") c.args.name.now o c.of.ensures c.in_ok-heading.ensures)
-    ∙ ap (λ rs. (record v { replies = rs }, c.of.result ∷ [])) (sym c.in_ok-bind.ensures.ok)
+    served_step (world_of c.args.self.now) c.args.name.now c.args.request.now c.args.bound.now v o c.in_ok-outcome.reply c.in_ok-outcome.ensures.served
+    ∙ ap (λ rs. told (codes "serve") c.args.name.now (record v { replies = rs }, o)) (sym c.in_ok-bind.ensures.ok)
 
 pub returns-clause-tidy : goal.returns-clause-tidy
 returns-clause-tidy c = record {

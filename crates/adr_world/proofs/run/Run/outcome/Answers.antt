@@ -1,0 +1,122 @@
+use Rattle.std.proofs.Common.{refl, sym, ap, subst, codes, Some}
+use Rattle.adr_event.specs.declared.answer.Outcome.TheVariants as outcomes
+use Rattle.adr_event.specs.declared.event.Event.TheVariants.{Serve, Deliver}
+use Rattle.adr_model.specs.Collect.{collect}
+use Rattle.adr_model.specs.Convergence.{MayHappen}
+use Rattle.adr_model.specs.Replica.{Replica, Fails, Stops}
+use Rattle.adr_model.specs.Step.{told}
+use Rattle.adr_model.specs.World.{after_collect, bound_at, delivers, marks_shown, of_controller, of_made, put_back, replica_at, shown, starts, stays}
+use Rattle.adr_world.specs.Run.{world_of}
+use Rattle.adr_world.specs.Short.{IsCutShort}
+use Rattle.adr_world.proofs.Answered.{call_so, line_so, one_so, written_so}
+use Rattle.adr_world.proofs.Doors.{line_short}
+use Rattle.adr_world.proofs.Results.{on_err_so}
+use Rattle.adr_world.proofs.Writings.{IsWriteTo}
+use Rattle.adr_world.proofs.run.Run.outcome.Goals as goal
+
+pub ask-requires-clause-unbound : goal.ask-requires-clause-unbound
+ask-requires-clause-unbound c = subst (MayHappen (world_of c.args.self.now)) c.in-Ask.is c.requires.may
+
+pub serve-requires-clause-unbound : goal.serve-requires-clause-unbound
+serve-requires-clause-unbound c = subst (MayHappen (world_of c.args.self.now)) c.in-Serve.is c.requires.may
+
+pub backup-requires-clause-unbound : goal.backup-requires-clause-unbound
+backup-requires-clause-unbound c = subst (MayHappen (world_of c.args.self.now)) c.in-Backup.is c.requires.may
+
+pub snapshot-requires-clause-unbound : goal.snapshot-requires-clause-unbound
+snapshot-requires-clause-unbound c = subst (MayHappen (world_of c.args.self.now)) c.in-Snapshot.is c.requires.may
+
+pub returns-in-Controller-clause-stepped : goal.returns-in-Controller-clause-stepped
+returns-in-Controller-clause-stepped c = line_so (world_of c.args.self.now) (world_of c.controller.new.self) c.args.event.now _ c.controller.result c.in-Controller.is c.controller.ensures.stepped
+
+pub returns-in-Add-clause-stepped : goal.returns-in-Add-clause-stepped
+returns-in-Add-clause-stepped c = written_so (world_of c.args.self.now) (world_of c.written.new.self) c.in-Add.name c.args.event.now c.written.result (subst (IsWriteTo c.in-Add.name) (sym c.in-Add.is) (refl, tt)) c.written.ensures.written
+
+pub returns-in-Modify-clause-stepped : goal.returns-in-Modify-clause-stepped
+returns-in-Modify-clause-stepped c = written_so (world_of c.args.self.now) (world_of c.written-in-Modify.new.self) c.in-Modify.name c.args.event.now c.written-in-Modify.result (subst (IsWriteTo c.in-Modify.name) (sym c.in-Modify.is) (refl, tt)) c.written-in-Modify.ensures.written
+
+pub returns-in-Rename-clause-stepped : goal.returns-in-Rename-clause-stepped
+returns-in-Rename-clause-stepped c = written_so (world_of c.args.self.now) (world_of c.written-in-Rename.new.self) c.in-Rename.name c.args.event.now c.written-in-Rename.result (subst (IsWriteTo c.in-Rename.name) (sym c.in-Rename.is) (refl, tt)) c.written-in-Rename.ensures.written
+
+pub returns-in-Delete-clause-stepped : goal.returns-in-Delete-clause-stepped
+returns-in-Delete-clause-stepped c = written_so (world_of c.args.self.now) (world_of c.written-in-Delete.new.self) c.in-Delete.name c.args.event.now c.written-in-Delete.result (subst (IsWriteTo c.in-Delete.name) (sym c.in-Delete.is) (refl, tt)) c.written-in-Delete.ensures.written
+
+pub returns-in-Link-clause-stepped : goal.returns-in-Link-clause-stepped
+returns-in-Link-clause-stepped c = written_so (world_of c.args.self.now) (world_of c.written-in-Link.new.self) c.in-Link.name c.args.event.now c.written-in-Link.result (subst (IsWriteTo c.in-Link.name) (sym c.in-Link.is) (refl, tt)) c.written-in-Link.ensures.written
+
+pub returns-in-Unlink-clause-stepped : goal.returns-in-Unlink-clause-stepped
+returns-in-Unlink-clause-stepped c = written_so (world_of c.args.self.now) (world_of c.written-in-Unlink.new.self) c.in-Unlink.name c.args.event.now c.written-in-Unlink.result (subst (IsWriteTo c.in-Unlink.name) (sym c.in-Unlink.is) (refl, tt)) c.written-in-Unlink.ensures.written
+
+pub returns-in-Ask-clause-stepped : goal.returns-in-Ask-clause-stepped
+returns-in-Ask-clause-stepped c = line_so (world_of c.args.self.now) (world_of c.ask.new.self) c.args.event.now _ c.ask.result c.in-Ask.is c.ask.ensures.stepped
+
+pub returns-in-Serve-clause-stepped : goal.returns-in-Serve-clause-stepped
+returns-in-Serve-clause-stepped c = line_so (world_of c.args.self.now) (world_of c.serve.new.self) c.args.event.now _ c.serve.result c.in-Serve.is c.serve.ensures.stepped
+
+pub returns-in-Deliver-clause-stepped : goal.returns-in-Deliver-clause-stepped
+returns-in-Deliver-clause-stepped c =
+    let w = world_of c.args.self.now in
+    line_so w (world_of c.take_bound.new.self) c.args.event.now _ c.take_bound.result c.in-Deliver.is
+    (call_so (codes "deliver") c.in-Deliver.name (delivers w c.in-Deliver.name (bound_at w.replies c.in-Deliver.reply)) (world_of c.take_bound.new.self) c.take_bound.result c.take_bound.ensures.taken)
+
+pub returns-in-Collect-clause-stepped : goal.returns-in-Collect-clause-stepped
+returns-in-Collect-clause-stepped c =
+    let w = world_of c.args.self.now in
+    line_so w (world_of c.collected.new.self) c.args.event.now _ c.collected.result c.in-Collect.is
+    (call_so (codes "collect") c.in-Collect.name (of_controller w c.in-Collect.name (stays w) (λ r. after_collect w r c.in-Collect.lifetime (collect r.safe w.time c.in-Collect.lifetime))) (world_of c.collected.new.self) c.collected.result c.collected.ensures.collected)
+
+pub returns-in-Backup-clause-stepped : goal.returns-in-Backup-clause-stepped
+returns-in-Backup-clause-stepped c = line_so (world_of c.args.self.now) (world_of c.backup.new.self) c.args.event.now _ c.backup.result c.in-Backup.is c.backup.ensures.stepped
+
+pub returns-in-Snapshot-clause-stepped : goal.returns-in-Snapshot-clause-stepped
+returns-in-Snapshot-clause-stepped c = line_so (world_of c.args.self.now) (world_of c.snapshot.new.self) c.args.event.now _ c.snapshot.result c.in-Snapshot.is c.snapshot.ensures.stepped
+
+pub returns-in-Rollback-clause-stepped : goal.returns-in-Rollback-clause-stepped
+returns-in-Rollback-clause-stepped c =
+    let w = world_of c.args.self.now in
+    line_so w (world_of c.put_back.new.self) c.args.event.now _ c.put_back.result c.in-Rollback.is
+    (call_so (codes "rollback") c.in-Rollback.name (of_made (stays w) (replica_at w c.in-Rollback.name) (λ r. put_back w c.in-Rollback.name (bound_at w.snapshots c.in-Rollback.snapshot))) (world_of c.put_back.new.self) c.put_back.result c.put_back.ensures.done)
+
+pub returns-in-StopAfter-clause-stepped : goal.returns-in-StopAfter-clause-stepped
+returns-in-StopAfter-clause-stepped c = one_so (world_of c.args.self.now) (world_of c.stop_after.new.self) c.args.event.now _ c.stop_after.result c.in-StopAfter.is (ap (told (codes "stop") c.in-StopAfter.name) c.stop_after.ensures.done)
+
+pub returns-in-Fail-clause-stepped : goal.returns-in-Fail-clause-stepped
+returns-in-Fail-clause-stepped c = one_so (world_of c.args.self.now) (world_of c.fail_after.new.self) c.args.event.now _ c.fail_after.result c.in-Fail.is (ap (told (codes "fail") c.in-Fail.name) c.fail_after.ensures.done)
+
+pub returns-in-Stop-clause-stepped : goal.returns-in-Stop-clause-stepped
+returns-in-Stop-clause-stepped c = one_so (world_of c.args.self.now) (world_of c.stop.new.self) c.args.event.now _ c.stop.result c.in-Stop.is (ap (told (codes "stop") c.in-Stop.name) c.stop.ensures.done)
+
+pub returns-in-Start-clause-stepped : goal.returns-in-Start-clause-stepped
+returns-in-Start-clause-stepped c =
+    let w = world_of c.args.self.now in
+    line_so w (world_of c.start.new.self) c.args.event.now _ c.start.result c.in-Start.is
+    (call_so (codes "start") c.in-Start.name (of_made (stays w) (replica_at w c.in-Start.name) (λ r. starts w r r.standing)) (world_of c.start.new.self) c.start.result c.start.ensures.done)
+
+pub returns-in-Show-clause-stepped : goal.returns-in-Show-clause-stepped
+returns-in-Show-clause-stepped c =
+    let w = world_of c.args.self.now in
+    line_so w w c.args.event.now _ c.directory_told.result c.in-Show.is
+    (call_so (codes "show") c.in-Show.name (of_controller w c.in-Show.name (stays w) (λ (r : Replica). (w, outcomes.Show (shown w r.safe)))) w c.directory_told.result c.directory_told.ensures)
+
+pub returns-in-Vector-clause-stepped : goal.returns-in-Vector-clause-stepped
+returns-in-Vector-clause-stepped c =
+    let w = world_of c.args.self.now in
+    line_so w w c.args.event.now _ c.vector_told.result c.in-Vector.is
+    (call_so (codes "vector") c.in-Vector.name (of_controller w c.in-Vector.name (stays w) (λ (r : Replica). (w, outcomes.Vector r.safe.store.vector))) w c.vector_told.result c.vector_told.ensures)
+
+pub returns-in-Marks-clause-stepped : goal.returns-in-Marks-clause-stepped
+returns-in-Marks-clause-stepped c =
+    let w = world_of c.args.self.now in
+    line_so w w c.args.event.now _ c.marks_told.result c.in-Marks.is
+    (call_so (codes "marks") c.in-Marks.name (of_controller w c.in-Marks.name (stays w) (λ (r : Replica). (w, outcomes.Marks (marks_shown r.safe.store)))) w c.marks_told.result c.marks_told.ensures)
+
+pub returns-in-Serve-clause-err : goal.returns-in-Serve-clause-err
+returns-in-Serve-clause-err c =
+    on_err_so c.serve.result c.serve.ensures.err
+    (λ short. subst (λ e. IsCutShort (world_of c.args.self.now) e (world_of c.serve.new.self)) (sym c.in-Serve.is) (line_short (world_of c.args.self.now) (Serve c.in-Serve.name c.in-Serve.request c.in-Serve.bound) (world_of c.serve.new.self) short))
+
+pub returns-in-Deliver-clause-err : goal.returns-in-Deliver-clause-err
+returns-in-Deliver-clause-err c =
+    let w = world_of c.args.self.now in
+    on_err_so c.take_bound.result c.take_bound.ensures.err
+    (λ short. subst (λ e. IsCutShort w e (world_of c.take_bound.new.self)) (sym c.in-Deliver.is) (line_short w (Deliver c.in-Deliver.name c.in-Deliver.reply) (world_of c.take_bound.new.self) short))

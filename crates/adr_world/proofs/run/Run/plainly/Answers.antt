@@ -1,0 +1,14 @@
+use Rattle.std.proofs.Common.{◌∙◌, sym, ap, [], ◌∷◌}
+use Rattle.adr_world.specs.Heading.{name_of, verb_of}
+use Rattle.adr_world.specs.Run.{world_of}
+use Rattle.adr_world.proofs.Bindings.{headed}
+use Rattle.adr_world.proofs.run.Run.plainly.Goals as goal
+
+pub returns-clause-stepped : goal.returns-clause-stepped
+returns-clause-stepped c =
+    let e = c.args.event.now in
+    let o = c.in_ok-outcome.outcome in
+    c.in_ok-outcome.ensures.stepped
+    ∙ ap (λ m. (world_of c.outcome.new.self, m ∷ []))
+    (sym (headed c.of.result c.in_ok-heading.heading.verb c.in_ok-heading.heading.name (verb_of e) (name_of e) o c.of.ensures
+    (c.in_ok-heading.ensures.0 ∙ c.verb_of.ensures, c.in_ok-heading.ensures.1 ∙ c.name_of.ensures)))
