@@ -4,7 +4,7 @@ use Rattle.std.specs.Prelude.{IfOk, IfSome, IfErr, OnOk, OnErr, MatchOption, is_
 use Rattle.adr_event.specs.declared.answer.Outcome.TheVariants as outcomes
 use Rattle.adr_model.specs.Update.{Identifier}
 use Rattle.adr_model.specs.Store.{State}
-use Rattle.adr_model.specs.Replica.{Replica, Pending, Plan, Book, Went, Passed, Met, Stops, Fails, went, moves_of_start, standing_after, Standing, Up, Failed}
+use Rattle.adr_model.specs.Replica.{Replica, Pending, Plan, Went, Passed, Met, Stops, Fails, went, moves_of_start, standing_after, Standing, Up, Failed}
 use Rattle.adr_model.specs.World.{World, starts}
 use Rattle.adr_law_journal.specs.Log.{Started}
 use Rattle.adr_law_journal.specs.Replicas.{Has, started}
@@ -18,6 +18,7 @@ use Rattle.adr_controller.specs.declared.refusal.Hindrance.{Hindrance}
 use Rattle.adr_controller.specs.declared.refusal.Hindrance.TheVariants as hindrances
 use Rattle.adr_replica.specs.Past.{Past, Ahead}
 use Rattle.adr_replica.specs.Past.{after_moves as ahead_of}
+use Rattle.adr_replica.specs.Planned.{GoesAsPlanned}
 use Rattle.adr_replica.specs.Held.{seen, standing_by, IsHeld}
 use Rattle.adr_replica.specs.Settled.{come, left_by, hindrance_of_start, of_fault}
 use Rattle.adr_replica.specs.Led.{StandsIn, world_with, IsDone, IsUndone, Leads, synced}
@@ -67,9 +68,7 @@ up_already k read safe torn plan is_down name dsa old kept held v past s is ther
 
 module _ {K : Type 0} (k : Ghosts K) (read safe torn : K → Started State) (plan : K → Option Plan) (is_down : K → Bool)
     (name : List ℕ) (dsa : Identifier) (old : Running K) (kept : Option Pending) (held : IsHeld read safe torn plan is_down name dsa old kept) (order : IsInOrder k old) (past : Past) (none : old.state ≡ None)
-    (told : K → Option (Started State)) (tells : (x : K) → told x ≡ Some (read x))
-    (law : (x new : K) (e : Option StartRefusal) (book : Book) (r : Replica) → is_down x ≡ false → Has read safe torn plan x r → k.starts x e new
-    → StartsAs (Has read safe torn plan) is_down e r (started book r) new)
+    (law : GoesAsPlanned k read safe torn plan is_down)
     (revived mid : Running K) (planned : plan revived.keeper ≡ plan old.keeper) (same : Same read safe torn k.is_failed old.keeper revived.keeper) (runs : is_down revived.keeper ≡ false)
     (stays : revived ≡ record old { keeper = revived.keeper }) where
   abbrev r : Replica
@@ -101,9 +100,9 @@ module _ {K : Type 0} (k : Ghosts K) (read safe torn : K → Started State) (pla
         Left made (left_by is_down how mid) (come how kept begun.kept) (come how past begun.past)
 
     pub came : (made : Result T StartRefusal) → OnOk made (IsStarted k revived.keeper mid) → OnErr made ((mid.state ≡ None) × (mid.down ≡ revived.down))
-        → IfErr made (λ e. IsDamageOf e (told revived.keeper)) → k.starts revived.keeper (ended_start made) mid.keeper → LeftBy made
+        → IfErr made (λ e. IsDamageOf e (k.told revived.keeper)) → k.starts revived.keeper (ended_start made) mid.keeper → LeftBy made
     came (Ok x) ok err damaged ran =
-        let goes : StartsAs (Has read safe torn plan) is_down None r (started past.book r) mid.keeper = law revived.keeper mid.keeper None past.book r runs has ran in
+        let goes : StartsAs (Has read safe torn plan) is_down None r (started past.book r) mid.keeper = law.starts revived.keeper mid.keeper None past.book r runs has ran in
         let up : Up ≡ standing_after r.standing (went r.plan 1) = goes.1 in
         let again = up_again (went r.plan 1) r.standing (restarts.not_up read safe torn plan is_down name dsa old kept held past none) up in
         record {
@@ -113,9 +112,9 @@ module _ {K : Type 0} (k : Ghosts K) (read safe torn : K → Started State) (pla
           wanting = λ settled is. absurd (cc is);
         }
     came (Err refusals.DiskFault) ok err damaged ran =
-        let goes : StartsAs (Has read safe torn plan) is_down (Some refusals.DiskFault) r (started past.book r) mid.keeper = law revived.keeper mid.keeper (Some refusals.DiskFault) past.book r runs has ran in
+        let goes : StartsAs (Has read safe torn plan) is_down (Some refusals.DiskFault) r (started past.book r) mid.keeper = law.starts revived.keeper mid.keeper (Some refusals.DiskFault) past.book r runs has ran in
         let goes_failed : StartsAs (Has read safe torn plan) is_down (Some refusals.DiskFault) failed (started past.book failed) mid.keeper =
-        law revived.keeper mid.keeper (Some refusals.DiskFault) past.book failed runs has_failed ran in
+        law.starts revived.keeper mid.keeper (Some refusals.DiskFault) past.book failed runs has_failed ran in
         let down = err.1 ∙ was_down in
         record {
           held = restarts.faulty_held read safe torn plan is_down name dsa old kept held past none mid err.0 down goes.0 goes.1 goes_failed.1;
@@ -126,10 +125,10 @@ module _ {K : Type 0} (k : Ghosts K) (read safe torn : K → Started State) (pla
           wanting = λ settled is. absurd (cc is);
         }
     came (Err (refusals.Damaged place)) ok err damaged ran =
-        let told_so : IfSome (Some (read revived.keeper)) (λ t. t ≡ Err place) = subst (λ o. IfSome o (λ t. t ≡ Err place)) (tells revived.keeper) damaged in
+        let told_so : IfSome (Some (read revived.keeper)) (λ t. t ≡ Err place) = subst (λ o. IfSome o (λ t. t ≡ Err place)) (law.tells revived.keeper) damaged in
         absurd (cc (has.is_read, told_so))
     came (Err (refusals.NoMemory true)) ok err damaged ran =
-        let goes : Has read safe torn plan mid.keeper (started past.book r) = law revived.keeper mid.keeper (Some (refusals.NoMemory true)) past.book r runs has ran in
+        let goes : Has read safe torn plan mid.keeper (started past.book r) = law.starts revived.keeper mid.keeper (Some (refusals.NoMemory true)) past.book r runs has ran in
         let down = err.1 ∙ was_down in
         record {
           held = restarts.synced_held read safe torn plan is_down name dsa old kept held past none mid err.0 down goes;
@@ -138,7 +137,7 @@ module _ {K : Type 0} (k : Ghosts K) (read safe torn : K → Started State) (pla
           wanting = λ settled is. inr (restarts.not_up read safe torn plan is_down name dsa old kept held past none, restarts.synced_done read safe torn plan is_down name dsa old kept held past none mid err.0 down goes);
         }
     came (Err (refusals.NoMemory false)) ok err damaged ran =
-        let goes : Has read safe torn plan mid.keeper r = law revived.keeper mid.keeper (Some (refusals.NoMemory false)) past.book r runs has ran in
+        let goes : Has read safe torn plan mid.keeper r = law.starts revived.keeper mid.keeper (Some (refusals.NoMemory false)) past.book r runs has ran in
         let down = err.1 ∙ was_down in
         record {
           held = restarts.short_held read safe torn plan is_down name dsa old kept held past none mid err.0 down goes;
@@ -152,7 +151,7 @@ module _ {K : Type 0} (k : Ghosts K) (read safe torn : K → Started State) (pla
         → past_then ≡ (ahead_of past v (moves_of_start (went v.plan 1))).past → kept_then ≡ (ahead_of past v (moves_of_start (went v.plan 1))).kept
         → how ≡ hindrance_of_start (ended_start made) → new ≡ left_by is_down how mid → x ≡ come how kept kept_then → later ≡ come how past past_then
         → OnOk made (IsStarted k revived.keeper mid) → OnErr made ((mid.state ≡ None) × (mid.down ≡ revived.down))
-        → IfErr made (λ e. IsDamageOf e (told revived.keeper)) → k.starts revived.keeper (ended_start made) mid.keeper
+        → IfErr made (λ e. IsDamageOf e (k.told revived.keeper)) → k.starts revived.keeper (ended_start made) mid.keeper
         → Begins (IsHeld read safe torn plan is_down name dsa new x) v (seen read safe plan name new x) past later made (is_down new.keeper)
     begins_so v past_then kept_then made how new x later is aheadp aheadk hinders newly keeps comes ok err damaged ran =
         let said = hindrance_of_start (ended_start made) in
@@ -166,3 +165,23 @@ module _ {K : Type 0} (k : Ghosts K) (read safe torn : K → Started State) (pla
         (subst (λ n. Told r n x later) (sym new_is)
         (subst (λ y. Told r (left_by is_down said mid) y later) (sym kept_is)
         (subst (λ l. Told r (left_by is_down said mid) (come said kept begun.kept) l) (sym past_is) (came made ok err damaged ran))))
+
+-- ---- a start, told by what is known of it
+
+-- what a controller that was held began with
+abbrev pub BeginsTo : {K : Type 0} {read safe torn : K → Started State} {plan : K → Option Plan} {is_down : K → Bool} {name : List ℕ} {dsa : Identifier} {old : Running K} {kept : Option Pending} {T : Type 0}
+    → IsHeld read safe torn plan is_down name dsa old kept → Replica → Past → Result T StartRefusal → Running K → Option Pending → Past → Type 0
+BeginsTo {K} {read} {safe} {torn} {plan} {is_down} {name} {dsa} held v past made new x later =
+    Begins (IsHeld read safe torn plan is_down name dsa new x) v (seen read safe plan name new x) past later made (is_down new.keeper)
+
+pub begins_to : {K : Type 0} {k : Ghosts K} {read safe torn : K → Started State} {plan : K → Option Plan} {is_down : K → Bool} {name : List ℕ} {dsa : Identifier} {old revived new : Running K}
+    {kept kept_then x : Option Pending} {v : Replica} {ahead later : Past} {how : Option Hindrance} {T : Type 0}
+    → (held : IsHeld read safe torn plan is_down name dsa old kept) → IsInOrder k old → GoesAsPlanned k read safe torn plan is_down → (past : Past) → old.state ≡ None
+    → plan revived.keeper ≡ plan old.keeper → Same read safe torn k.is_failed old.keeper revived.keeper → is_down revived.keeper ≡ false → revived ≡ record old { keeper = revived.keeper }
+    → seen read safe plan name old kept ≡ v → ahead ≡ (ahead_of past v (moves_of_start (went v.plan 1))).past → kept_then ≡ (ahead_of past v (moves_of_start (went v.plan 1))).kept
+    → (mid : Running K) (made : Result T StartRefusal) → how ≡ hindrance_of_start (ended_start made) → new ≡ left_by is_down how mid → x ≡ come how kept kept_then → later ≡ come how past ahead
+    → OnOk made (IsStarted k revived.keeper mid) → OnErr made ((mid.state ≡ None) × (mid.down ≡ revived.down))
+    → IfErr made (λ e. IsDamageOf e (k.told revived.keeper)) → k.starts revived.keeper (ended_start made) mid.keeper → BeginsTo held v past made new x later
+begins_to {K} {k} {read} {safe} {torn} {plan} {is_down} {name} {dsa} {old} {revived} {new} {kept} {kept_then} {x} {v} {ahead} {later} {how} {T}
+    held order law past none planned same runs stays is aheadp aheadk mid made hinders newly keeps comes ok err damaged ran =
+    begins_so k read safe torn plan is_down name dsa old kept held order past none law revived mid planned same runs stays v ahead kept_then made how new x later is aheadp aheadk hinders newly keeps comes ok err damaged ran

@@ -1,5 +1,5 @@
 -- What a call of a controller leaves that commits at most one change, and what it is answered.
-use Rattle.std.proofs.Common.{◌≡◌, ◌⊎◌, inl, inr, ⊎_elim, ◌∙◌, refl, sym, ap, subst, ℕ, ◌≤◌, ◌<◌, List, Bool, true, false, Option, Some, None, Ok, nat_lt, fold, if◌then◌else◌, arith}
+use Rattle.std.proofs.Common.{◌≡◌, ◌⊎◌, inl, inr, ⊎_elim, ◌∙◌, refl, sym, ap, subst, ℕ, ◌≤◌, ◌<◌, List, Bool, true, false, Option, Some, None, nat_lt, fold, if◌then◌else◌, arith}
 use Rattle.std.specs.Option.{option_map}
 use Rattle.std.proofs.lemmas.Bool.Decides.{nat_tests}
 use Rattle.adr_io.specs.declared.Fault.TheVariants.{Failed as failed_call}
@@ -19,10 +19,11 @@ use Rattle.adr_law_journal.specs.Replicas.{Has, read_found, safe_found, committe
 use Rattle.adr_journal.specs.declared.keeper.Keeper.{Ghosts}
 use Rattle.adr_controller.specs.Running.{Running, IsInOrder}
 use Rattle.adr_controller.specs.Able.{AllFollow}
-use Rattle.adr_controller.specs.Did.{Calls, Commits, GoesAs, Ran}
+use Rattle.adr_controller.specs.Did.{Calls, Commits, GoesAs}
 use Rattle.adr_controller.specs.declared.refusal.Hindrance.{Hindrance}
 use Rattle.adr_controller.specs.declared.refusal.Hindrance.TheVariants.{Down, Failed, Full, DiskFault, NoMemory}
 use Rattle.adr_replica.specs.Past.{Past, Ahead, after_commit}
+use Rattle.adr_replica.specs.Planned.{GoesAsPlanned}
 use Rattle.adr_replica.specs.Held.{found_or_none, standing_by, seen, IsHeld}
 use Rattle.adr_replica.specs.Settled.{come, downed, left_by, of_fault, hindered_so}
 use Rattle.adr_replica.specs.Led.{StandsIn, world_with, IsUndone}
@@ -119,10 +120,7 @@ module _ {K : Type 0} where
 
 module _ {K : Type 0} (k : Ghosts K) (read safe torn : K → Started State) (plan : K → Option Plan) (is_down : K → Bool)
     (name : List ℕ) (dsa : Identifier) (old : Running K) (kept : Option Pending) (held : IsHeld read safe torn plan is_down name dsa old kept) (order : IsInOrder k old)
-    (keeps_it : (x : K) (f : Found State) → k.is_at x f → k.is_failed x ≡ false → (read x ≡ Ok f) × (safe x ≡ Ok f) × (torn x ≡ Ok f))
-    (goes : (old new : K) (c : Change) (how : Option Hindrance) (book : Book) (r : Replica) (p : Pending)
-    → k.is_at old (safe_found r) → k.is_failed old ≡ false → k.can_follow r.safe c → is_down old ≡ false → read_found r ≡ safe_found r → Has read safe torn plan old r
-    → p.change ≡ c → Ran k old c how new → GoesAs (Has read safe torn plan) is_down how r (committed book r p) new) where
+    (law : GoesAsPlanned k read safe torn plan is_down) where
   abbrev r : Replica
   r = seen read safe plan name old kept
 
@@ -141,7 +139,7 @@ module _ {K : Type 0} (k : Ghosts K) (read safe torn : K → Started State) (pla
   at_rest s is =
       let up = order.up s is in
       let f = found s up.0.log_end in
-      let three = keeps_it old.keeper f up.0.at up.0.running in
+      let three = law.keeps old.keeper f up.0.at up.0.running in
       let reads : read_found r ≡ f = ap found_or_none three.0 in
       let safes : safe_found r ≡ f = ap found_or_none three.1 in
       record {
@@ -192,7 +190,7 @@ module _ {K : Type 0} (k : Ghosts K) (read safe torn : K → Started State) (pla
 
       went_so : (how : Option Hindrance) → Calls k changes old mid how → GoesAs (Has read safe torn plan) is_down how r left mid.keeper
       went_so how calls =
-          goes old.keeper mid.keeper p.change how past.book r p rest.at rest.running
+          law.commits old.keeper mid.keeper p.change how past.book r p rest.at rest.running
           (all r.safe p.change rest.formed (sym (makes (Some p) of))).follows rest.runs rest.one held.has refl (ran how calls).ran
 
       kept_ahead : ahead.kept ≡ left.kept
@@ -379,6 +377,25 @@ module _ {K : Type 0} (k : Ghosts K) (read safe torn : K → Started State) (pla
         (subst (λ n. Told r n x later) (sym newly)
         (subst (λ y. Told r (left_by is_down how mid) y later) (sym kept_is)
         (subst (λ l. Told r (left_by is_down how mid) (come how kept ahead.kept) l) (sym past_is) (came how (subst (λ h. Calls k changes old mid h) (sym says) calls)))))
+
+-- ---- a call, told by what is known of it
+
+-- what a controller that was held came to
+abbrev pub CameTo : {K : Type 0} {read safe torn : K → Started State} {plan : K → Option Plan} {is_down : K → Bool} {name : List ℕ} {dsa : Identifier} {old : Running K} {kept : Option Pending}
+    → IsHeld read safe torn plan is_down name dsa old kept → Replica → Past → (State → Option Pending) → Running K → Option Pending → Past → Option Hindrance → Type 0
+CameTo {K} {read} {safe} {torn} {plan} {is_down} {name} {dsa} {old} {kept} held v past po new x later how =
+    Came (IsHeld read safe torn plan is_down name dsa new x) v (seen read safe plan name new x) past later (po v.safe) old.state new.down how
+
+pub came_to : {K : Type 0} {k : Ghosts K} {read safe torn : K → Started State} {plan : K → Option Plan} {is_down : K → Bool} {name : List ℕ} {dsa : Identifier} {old mid new : Running K}
+    {kept kept_then x : Option Pending} {v : Replica} {ahead later : Past} {how said : Option Hindrance} {changes : State → Option Change}
+    → (held : IsHeld read safe torn plan is_down name dsa old kept) → IsInOrder k old → GoesAsPlanned k read safe torn plan is_down
+    → (past : Past) (po : State → Option Pending) → ((s : State) → option_map (λ (p : Pending). p.change) (po s) ≡ changes s) → AllFollow k changes
+    → seen read safe plan name old kept ≡ v → ahead ≡ (after_commit past v (po v.safe)).past → kept_then ≡ (after_commit past v (po v.safe)).kept
+    → new ≡ left_by is_down how mid → x ≡ come how kept kept_then → later ≡ come how past ahead → how ≡ said → Calls k changes old mid said
+    → CameTo held v past po new x later how
+came_to {K} {k} {read} {safe} {torn} {plan} {is_down} {name} {dsa} {old} {mid} {new} {kept} {kept_then} {x} {v} {ahead} {later} {how} {said} {changes}
+    held order law past po same all is aheadp aheadk newly keeps comes says calls =
+    came_so k read safe torn plan is_down name dsa old kept held order law past changes po same all mid v ahead kept_then how said new x later is aheadp aheadk newly keeps comes says calls
 
 -- ---- what is answered
 

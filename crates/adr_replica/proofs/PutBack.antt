@@ -10,8 +10,8 @@ use Rattle.adr_law_journal.specs.Log.{Found, found, Started}
 use Rattle.adr_law_journal.specs.Replicas.{Has, read_found, started}
 use Rattle.adr_journal.specs.Planned.{StartsAs}
 use Rattle.adr_journal.specs.declared.keeper.Keeper.{Ghosts}
-use Rattle.adr_journal.specs.declared.keeper.StartRefusal.{StartRefusal}
 use Rattle.adr_controller.specs.Running.{Running, IsStarted}
+use Rattle.adr_replica.specs.Planned.{GoesAsPlanned}
 use Rattle.adr_replica.specs.Held.{found_or_none, standing_by, seen, IsHeld}
 use Rattle.adr_replica.specs.Put.{IsWhole, aside, found_on}
 use Rattle.adr_replica.proofs.Came.{some_same}
@@ -39,9 +39,7 @@ module _ {K : Type 0} (read safe torn : K → Started State) (plan : K → Optio
 
 -- a disk with such bytes, which has started
 module _ {K : Type 0} (k : Ghosts K) (read safe torn : K → Started State) (plan : K → Option Plan) (is_down : K → Bool) (name : List ℕ) (dsa : Identifier) (c : Running K) (kept : Option Pending)
-    (tells : (x : K) → k.told x ≡ Some (read x))
-    (law : (x new : K) (e : Option StartRefusal) (book : Book) (r : Replica) → is_down x ≡ false → Has read safe torn plan x r → k.starts x e new
-    → StartsAs (Has read safe torn plan) is_down e r (started book r) new)
+    (law : GoesAsPlanned k read safe torn plan is_down)
     (bytes : List ℕ) (whole : IsWhole bytes) (old : K) (reads : read old ≡ found_on bytes) (safes : safe old ≡ found_on bytes) (torns : torn old ≡ found_on bytes)
     (planned : plan old ≡ None) (runs : is_down old ≡ false) (begun : IsStarted k old c) (ran : k.starts old None c.keeper)
     (s : State) (there : c.state ≡ Some s) (given : dsa ≡ s.dsa) (none : kept ≡ None) where
@@ -52,12 +50,12 @@ module _ {K : Type 0} (k : Ghosts K) (read safe torn : K → Started State) (pla
   no_book = record { issued = []; logs = [] }
 
   put_goes : StartsAs (Has read safe torn plan) is_down None put (started no_book put) c.keeper
-  put_goes = law old c.keeper None no_book put runs (record { is_read = reads ∙ whole.finds; is_safe = safes ∙ whole.finds; is_torn = torns ∙ whole.finds; is_plan = planned }) ran
+  put_goes = law.starts old c.keeper None no_book put runs (record { is_read = reads ∙ whole.finds; is_safe = safes ∙ whole.finds; is_torn = torns ∙ whole.finds; is_plan = planned }) ran
 
   put_dsa : dsa ≡ (aside bytes).state.dsa
   put_dsa =
       let told : IfSome (Some (read old)) (λ t. t ≡ Ok (found begun.state begun.log_end)) =
-      subst (λ o. IfSome o (λ t. t ≡ Ok (found begun.state begun.log_end))) (tells old) begun.told in
+      subst (λ o. IfSome o (λ t. t ≡ Ok (found begun.state begun.log_end))) (law.tells old) begun.told in
       let same : found_or_none (found_on bytes) ≡ found begun.state begun.log_end = ap found_or_none (sym reads ∙ told) in
       given ∙ ap (λ (s : State). s.dsa) (some_same s begun.state (sym there ∙ begun.in_memory) ∙ sym (ap (λ (f : Found State). f.state) same))
 

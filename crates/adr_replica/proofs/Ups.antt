@@ -8,21 +8,22 @@ use Rattle.adr_model.specs.Lengths.{new_log_end}
 use Rattle.adr_model.specs.Replica.{Replica, Pending, Plan, Up, on_new_disk}
 use Rattle.adr_model.specs.Serve.{Request, ask}
 use Rattle.adr_model.specs.World.{World, Sent, nothing, where_up}
-use Rattle.adr_law_journal.specs.Log.{Found, found, Started}
+use Rattle.adr_law_journal.specs.Log.{found, Started}
 use Rattle.adr_law_journal.specs.Replicas.{Has}
 use Rattle.adr_journal.specs.declared.keeper.Keeper.{Ghosts}
 use Rattle.adr_controller.specs.Running.{Running, IsInOrder}
+use Rattle.adr_replica.specs.Planned.{GoesAsPlanned}
 use Rattle.adr_replica.specs.Held.{found_or_none, standing_by, seen, IsHeld}
 use Rattle.adr_replica.proofs.Seen.{seen_so, held_so}
 
 module _ {K : Type 0} (k : Ghosts K) (read safe torn : K → Started State) (plan : K → Option Plan) (is_down : K → Bool) (name : List ℕ) (dsa : Identifier) (c : Running K) (kept : Option Pending)
     (order : IsInOrder k c)
-    (keeps_it : (x : K) (f : Found State) → k.is_at x f → k.is_failed x ≡ false → (read x ≡ Ok f) × (safe x ≡ Ok f) × (torn x ≡ Ok f)) where
+    (law : GoesAsPlanned k read safe torn plan is_down) where
   -- one that is up has in memory what is safe
   pub up_so : IsHeld read safe torn plan is_down name dsa c kept → (v : Replica) → seen read safe plan name c kept ≡ v → (s : State) → c.state ≡ Some s → (v.standing ≡ Up) × (s ≡ v.safe) × k.is_formed s
   up_so held v is s there =
       let up = order.up s there in
-      let finds = keeps_it c.keeper (found s up.0.log_end) up.0.at up.0.running in (
+      let finds = law.keeps c.keeper (found s up.0.log_end) up.0.at up.0.running in (
         ap (λ (r : Replica). r.standing) (sym is) ∙ ap (λ b. standing_by b c.state) up.1 ∙ ap (λ o. standing_by false o) there,
         sym (ap (λ t. (found_or_none t).state) finds.1) ∙ ap (λ (r : Replica). r.safe) is,
         up.0.formed,
@@ -33,7 +34,7 @@ module _ {K : Type 0} (k : Ghosts K) (read safe torn : K → Started State) (pla
       (planned : plan c.keeper ≡ None) (runs : is_down c.keeper ≡ false) (none : kept ≡ None) where
     new_has : Has read safe torn plan c.keeper (on_new_disk name s)
     new_has =
-        let finds = keeps_it c.keeper (found s (new_log_end s)) at (order.up s there).0.running in
+        let finds = law.keeps c.keeper (found s (new_log_end s)) at (order.up s there).0.running in
         record { is_read = finds.0; is_safe = finds.1; is_torn = finds.2; is_plan = planned }
 
     new_is : seen read safe plan name c kept ≡ on_new_disk name s

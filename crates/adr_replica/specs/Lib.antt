@@ -5,3 +5,4 @@ pub mod Held
 pub mod Settled
 pub mod Led
 pub mod Put
+pub mod Planned

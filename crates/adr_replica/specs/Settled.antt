@@ -26,7 +26,7 @@ abbrev pub left_by : {K : Type 0} → (K → Bool) → Option Hindrance → Runn
 left_by is_down (Some DiskFault) c = downed (is_down c.keeper) c
 left_by is_down _ c = c
 
--- a start that wanted memory when its sync was made has what is ahead all the same
+-- a start that wanted memory when its sync was made has what is ahead all the same; damage, which never comes, tells nothing
 abbrev pub hindrance_of_start : Option StartRefusal → Option Hindrance
 hindrance_of_start None = None
 hindrance_of_start (Some starts.DiskFault) = Some DiskFault

@@ -6,19 +6,16 @@ ghost use Rattle.adr_model.specs.World.{World as Defined, after_collect, stays, 
 ghost use Rattle.adr_replica.specs.Led.{IsUndone, StandsIn, world_with};
 
 use crate::hindered::{hindered, hindrance_in, settle};
-use crate::keepers::{is_in_order, keepers_go_as_planned};
+use crate::keepers::goes_as_planned;
 use crate::past::{Ahead, Past};
 use crate::refused::collect_refused;
 use crate::replica::Replica;
 use crate::told::Deed;
-use adr_controller::{CallRefusal, commits_go_as_planned};
-use adr_disk::MemDisk;
+use adr_controller::CallRefusal;
 use adr_event::Outcome;
-use adr_journal::Journal;
 use adr_law_recorded::{
     collections_are_recorded, logged_states_fit, recorded_changes_leave_logged_states,
 };
-use adr_records::Records;
 use adr_schema::NoMemory;
 use std::alloc::Global;
 
@@ -45,16 +42,13 @@ impl Replica {
                 lifetime,
             },
         );
-        is_in_order(&self.controller);
-        keepers_go_as_planned::<Journal<MemDisk, Records>>();
-        commits_go_as_planned::<Journal<MemDisk, Records>>();
+        goes_as_planned(&self.controller);
         recorded_changes_leave_logged_states();
         logged_states_fit();
         collections_are_recorded();
         let made = self.controller.collect(alloc, now, lifetime);
         let how = hindrance_in(&made);
-        settle(&mut self.controller, &mut self.kept, past, ahead, how);
-        let down = self.controller.is_down();
+        let down = settle(&mut self.controller, &mut self.kept, past, ahead, how);
         match made {
             Ok(removed) => Ok(Outcome::Removed(removed)),
             Err(CallRefusal::Refused(refusal)) => collect_refused(alloc, refusal),

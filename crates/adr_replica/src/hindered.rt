@@ -8,7 +8,10 @@ ghost use Rattle.adr_replica.specs.Settled.{come, hindered_so, hindrance_of_star
 use crate::past::{Ahead, Kept, Past};
 use crate::refused::full;
 use adr_controller::{CallRefusal, Controller, Hindrance, PlannedKeeper, StartRefusal};
+use adr_disk::MemDisk;
 use adr_event::{Outcome, Table};
+use adr_journal::Journal;
+use adr_records::Records;
 use adr_schema::NoMemory;
 use adr_state::LOG_LIMIT;
 use std::alloc::{AllocError, Global};
@@ -24,7 +27,7 @@ pub(crate) fn hindrance_in<T, R>(made: &Result<T, CallRefusal<R>>) -> Option<Hin
 }
 
 /// What hindered a start. One that wanted memory when its sync was made has reached the disk. The disk of a controller is
-/// never damaged, as its start proves, so that what is told of damage never counts.
+/// never damaged, as its caller proves, so that what is said of damage tells nothing.
 pub(crate) fn hindrance_of_start(started: &Result<(), StartRefusal>) -> Option<Hindrance>
     ensures { result ≡ hindrance_of_start (ended_start started.now) }
 {
@@ -38,29 +41,31 @@ pub(crate) fn hindrance_of_start(started: &Result<(), StartRefusal>) -> Option<H
 }
 
 /// Makes the past and the kept call those ahead, where a call reached the disk or had nothing to do there. A controller
-/// whose disk stopped within the call is down.
-pub(crate) fn settle<K: PlannedKeeper>(
-    controller: &mut Controller<K>,
+/// whose disk stopped within the call is down. Tells whether it is.
+pub(crate) fn settle(
+    controller: &mut Controller<Journal<MemDisk, Records>>,
     kept: &mut Kept,
     past: &mut Past,
     ahead: Ahead,
     how: Option<Hindrance>,
-)
-    ensures controller { controller.new ≡ left_by K.is_down how controller.old }
+) -> bool
+    ensures down { result ≡ controller.new.down }
+    ensures controller { controller.new ≡ left_by ⟦<Journal<MemDisk, Records> as PlannedKeeper>⟧.is_down how controller.old }
     ensures kept { kept.new ≡ come how kept.old ahead.kept }
     ensures past { past.new ≡ come how past.old ahead.past }
 {
     match how {
         None => {}
         Some(Hindrance::DiskFault) => stop_if_stopped(controller),
-        Some(_) => return,
+        Some(_) => return controller.is_down(),
     }
     *past = ahead.past;
     *kept = ahead.kept;
+    controller.is_down()
 }
 
 /// A controller whose disk has stopped is down.
-pub(crate) fn stop_if_stopped<K: PlannedKeeper>(controller: &mut Controller<K>)
+fn stop_if_stopped<K: PlannedKeeper>(controller: &mut Controller<K>)
     ensures { controller.new ≡ left_by K.is_down (Some Hindrance.DiskFault) controller.old }
 {
     if controller.is_stopped() {

@@ -20,14 +20,12 @@ ghost use Rattle.adr_records.specs.Logged.{IsLogged, MayBegin};
 ghost use Rattle.adr_replica.specs.Led.{IsDone, IsUndone, Leads, LeadsTo, StandsIn, synced, world_with};
 
 use crate::hindered::{hindered, hindrance_in, hindrance_of_start, settle};
-use crate::keepers::{is_in_order, keepers_go_as_planned};
+use crate::keepers::goes_as_planned;
 use crate::past::{Ahead, Kept, Past};
 use crate::refused::{serve_refused, take_refused, write_refused};
 use crate::sent::{sent, unsent};
 use crate::told::Deed;
-use adr_controller::{
-    CallRefusal, Controller, Keeper, PlannedKeeper, StartRefusal, commits_go_as_planned,
-};
+use adr_controller::{CallRefusal, Controller, Keeper, PlannedKeeper, StartRefusal};
 use adr_disk::{Crash, MemDisk};
 use adr_event::{Event, Outcome};
 use adr_journal::Journal;
@@ -103,8 +101,7 @@ impl Replica {
         let Ok(controller) = Controller::format(Journal::in_memory(alloc), state) else {
             return Err(AllocError);
         };
-        is_in_order(&controller);
-        keepers_go_as_planned::<Journal<MemDisk, Records>>();
+        goes_as_planned(&controller);
         Ok(Replica {
             name,
             dsa,
@@ -134,8 +131,7 @@ impl Replica {
             ((self.now.standing ≡ stands_down) × (outcome ≡ Outcome.Down))
             ⊎ ((self.now.standing ≡ stands_failed) × (outcome ≡ Outcome.Failed))) }
     {
-        is_in_order(&self.controller);
-        keepers_go_as_planned::<Journal<MemDisk, Records>>();
+        goes_as_planned(&self.controller);
         if self.controller.is_down() {
             return Err(Outcome::Down);
         }
@@ -169,16 +165,13 @@ impl Replica {
                 now,
             },
         );
-        is_in_order(&self.controller);
-        keepers_go_as_planned::<Journal<MemDisk, Records>>();
-        commits_go_as_planned::<Journal<MemDisk, Records>>();
+        goes_as_planned(&self.controller);
         recorded_changes_leave_logged_states();
         logged_states_fit();
         writes_are_recorded();
         let made = self.controller.write(alloc, event, now);
         let how = hindrance_in(&made);
-        settle(&mut self.controller, &mut self.kept, past, ahead, how);
-        let down = self.controller.is_down();
+        let down = settle(&mut self.controller, &mut self.kept, past, ahead, how);
         match made {
             Ok(usn) => Ok(Outcome::Usn(usn)),
             Err(CallRefusal::Refused(refusal)) => write_refused(alloc, refusal),
@@ -196,8 +189,7 @@ impl Replica {
         ensures asked { IfOk result (λ sent. (w : Defined) → where_up (nothing w) self.now.standing (w, Outcome.Ok, Some (ask self.now.safe partner max)) ≡ (w, sent.0, sent.1)) }
         ensures ranged { IfOk result (λ sent. IfSome sent.1 IsRangedRequest) }
     {
-        is_in_order(&self.controller);
-        keepers_go_as_planned::<Journal<MemDisk, Records>>();
+        goes_as_planned(&self.controller);
         requests_are_in_range();
         match self.controller.ask(alloc, partner, max) {
             Ok(request) => Ok((Outcome::Ok, Some(request))),
@@ -230,17 +222,14 @@ impl Replica {
                 request,
             },
         );
-        is_in_order(&self.controller);
-        keepers_go_as_planned::<Journal<MemDisk, Records>>();
-        commits_go_as_planned::<Journal<MemDisk, Records>>();
+        goes_as_planned(&self.controller);
         recorded_changes_leave_logged_states();
         logged_states_fit();
         quarantines_are_recorded();
         replies_are_in_range();
         let made = self.controller.serve(alloc, request);
         let how = hindrance_in(&made);
-        settle(&mut self.controller, &mut self.kept, past, ahead, how);
-        let down = self.controller.is_down();
+        let down = settle(&mut self.controller, &mut self.kept, past, ahead, how);
         match made {
             Ok(reply) => sent(reply),
             Err(CallRefusal::Refused(refusal)) => unsent(serve_refused(alloc, refusal)),
@@ -270,17 +259,14 @@ impl Replica {
                 reply,
             },
         );
-        is_in_order(&self.controller);
-        keepers_go_as_planned::<Journal<MemDisk, Records>>();
-        commits_go_as_planned::<Journal<MemDisk, Records>>();
+        goes_as_planned(&self.controller);
         recorded_changes_leave_logged_states();
         logged_states_fit();
         taken_replies_are_recorded();
         quarantines_are_recorded();
         let made = self.controller.take(alloc, reply);
         let how = hindrance_in(&made);
-        settle(&mut self.controller, &mut self.kept, past, ahead, how);
-        let down = self.controller.is_down();
+        let down = settle(&mut self.controller, &mut self.kept, past, ahead, how);
         match made {
             Ok(taken) => Ok(Outcome::Took {
                 items: taken.items,
@@ -333,7 +319,7 @@ impl Replica {
             return Ok(Outcome::Up);
         }
         self.controller.revive();
-        keepers_go_as_planned::<Journal<MemDisk, Records>>();
+        goes_as_planned(&self.controller);
         let started = self.controller.start();
         let how = hindrance_of_start(&started);
         settle(&mut self.controller, &mut self.kept, past, ahead, how);

@@ -3,13 +3,11 @@
 ghost use Rattle.std.specs.Prelude.{◌≡◌, IfOk};
 ghost use Rattle.adr_model.specs.Replica.{on_disk};
 
-use crate::keepers::keepers_go_as_planned;
+use crate::keepers::goes_as_planned;
 use crate::past::Kept;
 use crate::replica::Replica;
 use adr_controller::Controller;
-use adr_disk::MemDisk;
 use adr_journal::Journal;
-use adr_records::Records;
 use adr_schema::{NoMemory, Text};
 use std::alloc::{AllocError, Global};
 use std::marker::Model;
@@ -51,7 +49,7 @@ impl Replica {
         let Ok(controller) = Controller::resume(journal) else {
             return Err(AllocError);
         };
-        keepers_go_as_planned::<Journal<MemDisk, Records>>();
+        goes_as_planned(&controller);
         let Some(state) = controller.state() else {
             unreachable!()
         };

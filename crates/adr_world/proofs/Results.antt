@@ -1,6 +1,5 @@
 -- What is said of an `Ok` or of an `Err` alone.
-use Rattle.std.proofs.Common.{subst}
-use Rattle.std.specs.Prelude.{◌≡◌, Result, Ok, Err, OnErr, OnOk, IfErr, IfOk, IsErrAnd}
+use Rattle.std.specs.Prelude.{Result, Ok, Err, OnErr, OnOk, IsErrAnd}
 
 pub on_err : {X Y P : Type 0} (r : Result X Y) → P → OnErr r P
 on_err (Ok x) p = tt

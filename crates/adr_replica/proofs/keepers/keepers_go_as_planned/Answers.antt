@@ -1,13 +1,10 @@
 use Rattle.adr_replica.proofs.keepers.keepers_go_as_planned.Goals as goal
 
-pub returns-clause-keeps : goal.returns-clause-keeps
-returns-clause-keeps g c = λ k f at up. g.met.K.PlannedKeeper.keeps_it k f at up
-
-pub returns-clause-starts : goal.returns-clause-starts
-returns-clause-starts g c = λ k new e book r up has ran. g.met.K.PlannedKeeper.starts_as_planned k new e book r up has ran
-
-pub returns-clause-formats : goal.returns-clause-formats
-returns-clause-formats g c = λ k new e up none ran. g.met.K.PlannedKeeper.formats_unplanned k new e up none ran
-
-pub returns-clause-tells : goal.returns-clause-tells
-returns-clause-tells g c = λ k. g.met.K.PlannedKeeper.tells_read k
+pub returns : goal.returns
+returns g c = record {
+  keeps = λ x f at up. g.met.K.PlannedKeeper.keeps_it x f at up;
+  starts = λ x new e book r up has ran. g.met.K.PlannedKeeper.starts_as_planned x new e book r up has ran;
+  commits = λ old new ch how book r p at running follows up same has of ran. c.commits_go_as_planned.ensures old new ch how book r p at running follows up same has of ran;
+  formats = λ x new e up none ran. g.met.K.PlannedKeeper.formats_unplanned x new e up none ran;
+  tells = λ x. g.met.K.PlannedKeeper.tells_read x;
+}

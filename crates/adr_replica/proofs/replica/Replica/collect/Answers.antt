@@ -1,9 +1,8 @@
 use Rattle.std.proofs.Common.{◌∙◌, ap, Err}
-use Rattle.adr_controller.specs.Able.{collected_in}
 use Rattle.adr_controller.specs.Ended.{call_hindrance}
 use Rattle.adr_replica.specs.Pending.{collecting}
 use Rattle.adr_replica.proofs.Answered.{same_collected}
-use Rattle.adr_replica.proofs.Came.{came_so}
+use Rattle.adr_replica.proofs.Came.{CameTo, came_to}
 use Rattle.adr_replica.proofs.Calls.{ok_collected, ok_uncollected, ok_hindered_collect, uncollected_undone}
 use Rattle.adr_replica.proofs.Follows.{collected_follows}
 use Rattle.adr_replica.proofs.Results.{if_ok_is, no_err, on_err, on_err_as}
@@ -17,30 +16,22 @@ collect-made-requires c = record {
       record { follows = f.follows; fits = f.fits; formed = f.formed };
 }
 
-pub invariant_of-self : goal.invariant_of-self
-invariant_of-self c =
-    let m = came_so _ _ _ _ _ _ c.self.inside.name c.self.inside.dsa c.self.inside.controller c.self.inside.kept c.self.invariant c.is_in_order.ensures
-    (λ x f at up. c.keepers_go_as_planned.ensures.keeps x f at up)
-    (λ old new ch how book r p at running follows up same has of ran. c.commits_go_as_planned.ensures old new ch how book r p at running follows up same has of ran)
-    c.args.past.now (collected_in c.args.now c.args.lifetime) (collecting c.args.now c.args.lifetime) (same_collected c.args.now c.args.lifetime)
+-- what the call came to
+came : (c : goal.Joined-made) → CameTo c.self.invariant c.args.self.now c.args.past.now (collecting c.args.now c.args.lifetime) c.settle-down.new.controller c.settle-down.new.kept c.settle-down.new.past c.hindrance_in-how.result
+came c =
+    came_to c.self.invariant c.goes_as_planned.ensures.in_order c.goes_as_planned.ensures.planned c.args.past.now (collecting c.args.now c.args.lifetime) (same_collected c.args.now c.args.lifetime)
     (λ s ch formed makes.
     let f = collected_follows c.recorded_changes_leave_logged_states.ensures c.logged_states_fit.ensures c.collections_are_recorded.ensures c.args.now c.args.lifetime s ch formed makes in
     record { follows = f.follows; fits = f.fits; formed = f.formed })
-    c.collect-made.new.self c.args.self.now c.of-ahead.result.past c.of-ahead.result.kept c.hindrance_in-how.result (call_hindrance c.collect-made.result) c.settle.new.controller c.settle.new.kept c.settle.new.past
-    c.self.view_is c.of-ahead.ensures.past c.of-ahead.ensures.kept c.settle.ensures.controller c.settle.ensures.kept c.settle.ensures.past c.hindrance_in-how.ensures c.collect-made.ensures.calls in
-    m.held
+    c.self.view_is c.of-ahead.ensures.past c.of-ahead.ensures.kept c.settle-down.ensures.controller c.settle-down.ensures.kept c.settle-down.ensures.past c.hindrance_in-how.ensures c.collect-made.ensures.calls
+
+pub invariant_of-self : goal.invariant_of-self
+invariant_of-self c =
+    (came c).held
 
 pub returns-clause-collected : goal.returns-clause-collected
 returns-clause-collected c =
-    let m = came_so _ _ _ _ _ _ c.self.inside.name c.self.inside.dsa c.self.inside.controller c.self.inside.kept c.self.invariant c.is_in_order.ensures
-    (λ x f at up. c.keepers_go_as_planned.ensures.keeps x f at up)
-    (λ old new ch how book r p at running follows up same has of ran. c.commits_go_as_planned.ensures old new ch how book r p at running follows up same has of ran)
-    c.args.past.now (collected_in c.args.now c.args.lifetime) (collecting c.args.now c.args.lifetime) (same_collected c.args.now c.args.lifetime)
-    (λ s ch formed makes.
-    let f = collected_follows c.recorded_changes_leave_logged_states.ensures c.logged_states_fit.ensures c.collections_are_recorded.ensures c.args.now c.args.lifetime s ch formed makes in
-    record { follows = f.follows; fits = f.fits; formed = f.formed })
-    c.collect-made.new.self c.args.self.now c.of-ahead.result.past c.of-ahead.result.kept c.hindrance_in-how.result (call_hindrance c.collect-made.result) c.settle.new.controller c.settle.new.kept c.settle.new.past
-    c.self.view_is c.of-ahead.ensures.past c.of-ahead.ensures.kept c.settle.ensures.controller c.settle.ensures.kept c.settle.ensures.past c.hindrance_in-how.ensures c.collect-made.ensures.calls in
+    let m = came c in
     let how = c.hindrance_in-how.ensures in
     elim c.match-made.branch [
       | in-Ok w ↦
@@ -52,21 +43,13 @@ returns-clause-collected c =
           (λ s there. c.collect-made.ensures.refused s w.in-Err-Refused.refusal there is) w.collect_refused.result w.result-is w.collect_refused.ensures
       | in-Err-Hindered w ↦
           let is = w.in-Err-Hindered.is ∙ ap Err (rw w.in-Err-Hindered.is at w.in-Err-Hindered.field-0-is) in
-          ok_hindered_collect _ _ _ _ _ _ _ _ c.args.now c.args.lifetime m c.match-made.result w.in-Err-Hindered.hindrance (how ∙ ap call_hindrance is) c.is_down-down.result c.is_down-down.ensures
+          ok_hindered_collect _ _ _ _ _ _ _ _ c.args.now c.args.lifetime m c.match-made.result w.in-Err-Hindered.hindrance (how ∙ ap call_hindrance is) c.settle-down.result c.settle-down.ensures.down
           w.hindered.result w.result-is w.hindered.ensures.ok
     ]
 
 pub returns-clause-err : goal.returns-clause-err
 returns-clause-err c =
-    let m = came_so _ _ _ _ _ _ c.self.inside.name c.self.inside.dsa c.self.inside.controller c.self.inside.kept c.self.invariant c.is_in_order.ensures
-    (λ x f at up. c.keepers_go_as_planned.ensures.keeps x f at up)
-    (λ old new ch how book r p at running follows up same has of ran. c.commits_go_as_planned.ensures old new ch how book r p at running follows up same has of ran)
-    c.args.past.now (collected_in c.args.now c.args.lifetime) (collecting c.args.now c.args.lifetime) (same_collected c.args.now c.args.lifetime)
-    (λ s ch formed makes.
-    let f = collected_follows c.recorded_changes_leave_logged_states.ensures c.logged_states_fit.ensures c.collections_are_recorded.ensures c.args.now c.args.lifetime s ch formed makes in
-    record { follows = f.follows; fits = f.fits; formed = f.formed })
-    c.collect-made.new.self c.args.self.now c.of-ahead.result.past c.of-ahead.result.kept c.hindrance_in-how.result (call_hindrance c.collect-made.result) c.settle.new.controller c.settle.new.kept c.settle.new.past
-    c.self.view_is c.of-ahead.ensures.past c.of-ahead.ensures.kept c.settle.ensures.controller c.settle.ensures.kept c.settle.ensures.past c.hindrance_in-how.ensures c.collect-made.ensures.calls in
+    let m = came c in
     let how = c.hindrance_in-how.ensures in
     elim c.match-made.branch [
       | in-Ok w ↦ no_err _ _ _ w.result-is
@@ -81,13 +64,4 @@ returns-clause-err c =
 
 pub returns-clause-given : goal.returns-clause-given
 returns-clause-given c =
-    let m = came_so _ _ _ _ _ _ c.self.inside.name c.self.inside.dsa c.self.inside.controller c.self.inside.kept c.self.invariant c.is_in_order.ensures
-    (λ x f at up. c.keepers_go_as_planned.ensures.keeps x f at up)
-    (λ old new ch how book r p at running follows up same has of ran. c.commits_go_as_planned.ensures old new ch how book r p at running follows up same has of ran)
-    c.args.past.now (collected_in c.args.now c.args.lifetime) (collecting c.args.now c.args.lifetime) (same_collected c.args.now c.args.lifetime)
-    (λ s ch formed makes.
-    let f = collected_follows c.recorded_changes_leave_logged_states.ensures c.logged_states_fit.ensures c.collections_are_recorded.ensures c.args.now c.args.lifetime s ch formed makes in
-    record { follows = f.follows; fits = f.fits; formed = f.formed })
-    c.collect-made.new.self c.args.self.now c.of-ahead.result.past c.of-ahead.result.kept c.hindrance_in-how.result (call_hindrance c.collect-made.result) c.settle.new.controller c.settle.new.kept c.settle.new.past
-    c.self.view_is c.of-ahead.ensures.past c.of-ahead.ensures.kept c.settle.ensures.controller c.settle.ensures.kept c.settle.ensures.past c.hindrance_in-how.ensures c.collect-made.ensures.calls in
-    m.given
+    (came c).given

@@ -1,9 +1,8 @@
 use Rattle.std.proofs.Common.{◌∙◌, inl, ap, Err}
-use Rattle.adr_controller.specs.Able.{served_in}
 use Rattle.adr_controller.specs.Ended.{call_hindrance}
 use Rattle.adr_replica.specs.Pending.{serving}
 use Rattle.adr_replica.proofs.Answered.{same_served}
-use Rattle.adr_replica.proofs.Came.{came_so}
+use Rattle.adr_replica.proofs.Came.{CameTo, came_to}
 use Rattle.adr_replica.proofs.Calls.{ok_served, ok_unserved, ok_hindered_serve, unserved_left}
 use Rattle.adr_replica.proofs.Follows.{served_follows}
 use Rattle.adr_replica.proofs.Results.{if_ok_is, on_err, on_err_unsent, none_sent, one_sent}
@@ -17,30 +16,22 @@ serve-made-requires c = record {
       record { follows = f.follows; fits = f.fits; formed = f.formed };
 }
 
-pub invariant_of-self : goal.invariant_of-self
-invariant_of-self c =
-    let m = came_so _ _ _ _ _ _ c.self.inside.name c.self.inside.dsa c.self.inside.controller c.self.inside.kept c.self.invariant c.is_in_order.ensures
-    (λ x f at up. c.keepers_go_as_planned.ensures.keeps x f at up)
-    (λ old new ch how book r p at running follows up same has of ran. c.commits_go_as_planned.ensures old new ch how book r p at running follows up same has of ran)
-    c.args.past.now (served_in c.args.request.now) (serving c.args.request.now) (same_served c.args.request.now)
+-- what the call came to
+came : (c : goal.Joined-made) → CameTo c.self.invariant c.args.self.now c.args.past.now (serving c.args.request.now) c.settle-down.new.controller c.settle-down.new.kept c.settle-down.new.past c.hindrance_in-how.result
+came c =
+    came_to c.self.invariant c.goes_as_planned.ensures.in_order c.goes_as_planned.ensures.planned c.args.past.now (serving c.args.request.now) (same_served c.args.request.now)
     (λ s ch formed makes.
     let f = served_follows c.recorded_changes_leave_logged_states.ensures c.logged_states_fit.ensures c.quarantines_are_recorded.ensures c.args.request.now s ch formed makes in
     record { follows = f.follows; fits = f.fits; formed = f.formed })
-    c.serve-made.new.self c.args.self.now c.of-ahead.result.past c.of-ahead.result.kept c.hindrance_in-how.result (call_hindrance c.serve-made.result) c.settle.new.controller c.settle.new.kept c.settle.new.past
-    c.self.view_is c.of-ahead.ensures.past c.of-ahead.ensures.kept c.settle.ensures.controller c.settle.ensures.kept c.settle.ensures.past c.hindrance_in-how.ensures c.serve-made.ensures.calls in
-    m.held
+    c.self.view_is c.of-ahead.ensures.past c.of-ahead.ensures.kept c.settle-down.ensures.controller c.settle-down.ensures.kept c.settle-down.ensures.past c.hindrance_in-how.ensures c.serve-made.ensures.calls
+
+pub invariant_of-self : goal.invariant_of-self
+invariant_of-self c =
+    (came c).held
 
 pub returns-clause-served : goal.returns-clause-served
 returns-clause-served c =
-    let m = came_so _ _ _ _ _ _ c.self.inside.name c.self.inside.dsa c.self.inside.controller c.self.inside.kept c.self.invariant c.is_in_order.ensures
-    (λ x f at up. c.keepers_go_as_planned.ensures.keeps x f at up)
-    (λ old new ch how book r p at running follows up same has of ran. c.commits_go_as_planned.ensures old new ch how book r p at running follows up same has of ran)
-    c.args.past.now (served_in c.args.request.now) (serving c.args.request.now) (same_served c.args.request.now)
-    (λ s ch formed makes.
-    let f = served_follows c.recorded_changes_leave_logged_states.ensures c.logged_states_fit.ensures c.quarantines_are_recorded.ensures c.args.request.now s ch formed makes in
-    record { follows = f.follows; fits = f.fits; formed = f.formed })
-    c.serve-made.new.self c.args.self.now c.of-ahead.result.past c.of-ahead.result.kept c.hindrance_in-how.result (call_hindrance c.serve-made.result) c.settle.new.controller c.settle.new.kept c.settle.new.past
-    c.self.view_is c.of-ahead.ensures.past c.of-ahead.ensures.kept c.settle.ensures.controller c.settle.ensures.kept c.settle.ensures.past c.hindrance_in-how.ensures c.serve-made.ensures.calls in
+    let m = came c in
     let how = c.hindrance_in-how.ensures in
     elim c.match-made.branch [
       | in-Ok w ↦
@@ -52,43 +43,27 @@ returns-clause-served c =
           w.serve_refused.result (w.result-is ∙ w.unsent.ensures) w.serve_refused.ensures
       | in-Err-Hindered w ↦
           let is = w.in-Err-Hindered.is ∙ ap Err w.in-Err-Hindered.field-0-is in
-          ok_hindered_serve _ _ _ _ _ _ _ _ c.args.request.now m c.match-made.result w.in-Err-Hindered.hindrance (how ∙ ap call_hindrance is) c.is_down-down.result c.is_down-down.ensures
+          ok_hindered_serve _ _ _ _ _ _ _ _ c.args.request.now m c.match-made.result w.in-Err-Hindered.hindrance (how ∙ ap call_hindrance is) c.settle-down.result c.settle-down.ensures.down
           w.hindered.result (w.result-is ∙ w.unsent-in-Err-Hindered.ensures) w.hindered.ensures.ok
     ]
 
 pub returns-clause-spelled : goal.returns-clause-spelled
 returns-clause-spelled c =
-    let m = came_so _ _ _ _ _ _ c.self.inside.name c.self.inside.dsa c.self.inside.controller c.self.inside.kept c.self.invariant c.is_in_order.ensures
-    (λ x f at up. c.keepers_go_as_planned.ensures.keeps x f at up)
-    (λ old new ch how book r p at running follows up same has of ran. c.commits_go_as_planned.ensures old new ch how book r p at running follows up same has of ran)
-    c.args.past.now (served_in c.args.request.now) (serving c.args.request.now) (same_served c.args.request.now)
-    (λ s ch formed makes.
-    let f = served_follows c.recorded_changes_leave_logged_states.ensures c.logged_states_fit.ensures c.quarantines_are_recorded.ensures c.args.request.now s ch formed makes in
-    record { follows = f.follows; fits = f.fits; formed = f.formed })
-    c.serve-made.new.self c.args.self.now c.of-ahead.result.past c.of-ahead.result.kept c.hindrance_in-how.result (call_hindrance c.serve-made.result) c.settle.new.controller c.settle.new.kept c.settle.new.past
-    c.self.view_is c.of-ahead.ensures.past c.of-ahead.ensures.kept c.settle.ensures.controller c.settle.ensures.kept c.settle.ensures.past c.hindrance_in-how.ensures c.serve-made.ensures.calls in
+    let m = came c in
     let how = c.hindrance_in-how.ensures in
     elim c.match-made.branch [
       | in-Ok w ↦
           let there = (m.was_up (how ∙ ap call_hindrance w.in-Ok.is)).1 in
           let s = c.args.self.now.safe in
           one_sent _ _ c.match-made.result w.sent.result w.in-Ok.reply w.result-is w.sent.ensures
-          (c.replies_are_in_range.ensures s c.args.request.now w.in-Ok.reply (c.is_in_order.ensures.up s there).0.formed c.requires (if_ok_is _ _ _ w.in-Ok.is c.serve-made.ensures.served s there))
+          (c.replies_are_in_range.ensures s c.args.request.now w.in-Ok.reply (c.goes_as_planned.ensures.in_order.up s there).0.formed c.requires (if_ok_is _ _ _ w.in-Ok.is c.serve-made.ensures.served s there))
       | in-Err-Refused w ↦ none_sent _ c.match-made.result w.serve_refused.result (w.result-is ∙ w.unsent.ensures)
       | in-Err-Hindered w ↦ none_sent _ c.match-made.result w.hindered.result (w.result-is ∙ w.unsent-in-Err-Hindered.ensures)
     ]
 
 pub returns-clause-err : goal.returns-clause-err
 returns-clause-err c =
-    let m = came_so _ _ _ _ _ _ c.self.inside.name c.self.inside.dsa c.self.inside.controller c.self.inside.kept c.self.invariant c.is_in_order.ensures
-    (λ x f at up. c.keepers_go_as_planned.ensures.keeps x f at up)
-    (λ old new ch how book r p at running follows up same has of ran. c.commits_go_as_planned.ensures old new ch how book r p at running follows up same has of ran)
-    c.args.past.now (served_in c.args.request.now) (serving c.args.request.now) (same_served c.args.request.now)
-    (λ s ch formed makes.
-    let f = served_follows c.recorded_changes_leave_logged_states.ensures c.logged_states_fit.ensures c.quarantines_are_recorded.ensures c.args.request.now s ch formed makes in
-    record { follows = f.follows; fits = f.fits; formed = f.formed })
-    c.serve-made.new.self c.args.self.now c.of-ahead.result.past c.of-ahead.result.kept c.hindrance_in-how.result (call_hindrance c.serve-made.result) c.settle.new.controller c.settle.new.kept c.settle.new.past
-    c.self.view_is c.of-ahead.ensures.past c.of-ahead.ensures.kept c.settle.ensures.controller c.settle.ensures.kept c.settle.ensures.past c.hindrance_in-how.ensures c.serve-made.ensures.calls in
+    let m = came c in
     let how = c.hindrance_in-how.ensures in
     elim c.match-made.branch [
       | in-Ok w ↦ on_err _ c.match-made.result (unserved_left _ _ _ _ _ _ _ _ c.args.request.now m (how ∙ ap call_hindrance w.in-Ok.is))
@@ -102,13 +77,4 @@ returns-clause-err c =
 
 pub returns-clause-given : goal.returns-clause-given
 returns-clause-given c =
-    let m = came_so _ _ _ _ _ _ c.self.inside.name c.self.inside.dsa c.self.inside.controller c.self.inside.kept c.self.invariant c.is_in_order.ensures
-    (λ x f at up. c.keepers_go_as_planned.ensures.keeps x f at up)
-    (λ old new ch how book r p at running follows up same has of ran. c.commits_go_as_planned.ensures old new ch how book r p at running follows up same has of ran)
-    c.args.past.now (served_in c.args.request.now) (serving c.args.request.now) (same_served c.args.request.now)
-    (λ s ch formed makes.
-    let f = served_follows c.recorded_changes_leave_logged_states.ensures c.logged_states_fit.ensures c.quarantines_are_recorded.ensures c.args.request.now s ch formed makes in
-    record { follows = f.follows; fits = f.fits; formed = f.formed })
-    c.serve-made.new.self c.args.self.now c.of-ahead.result.past c.of-ahead.result.kept c.hindrance_in-how.result (call_hindrance c.serve-made.result) c.settle.new.controller c.settle.new.kept c.settle.new.past
-    c.self.view_is c.of-ahead.ensures.past c.of-ahead.ensures.kept c.settle.ensures.controller c.settle.ensures.kept c.settle.ensures.past c.hindrance_in-how.ensures c.serve-made.ensures.calls in
-    m.given
+    (came c).given

@@ -1,5 +1,5 @@
 use Rattle.std.proofs.Common.{◌∙◌, sym, ap, true, false, Err}
-use Rattle.adr_replica.proofs.Begun.{begins_so, faulty_as, no_ok, not_there, there_so, up_already}
+use Rattle.adr_replica.proofs.Begun.{BeginsTo, begins_to, faulty_as, no_ok, not_there, there_so, up_already}
 use Rattle.adr_replica.proofs.Results.{if_ok_at, no_err, on_err}
 use Rattle.adr_replica.proofs.replica.Replica.start.Goals.{in-Ok, in-Err-DiskFault, in-Err-DiskFault-2, in-Err-NoMemory}
 use Rattle.adr_replica.proofs.replica.Replica.start.Goals as goal
@@ -9,26 +9,22 @@ returns-then-is_some-clause-started c = λ w stands.
     let up = there_so _ _ c.state.result c.state.ensures.state (sym c.is_some.ensures ∙ c.if-is_some.true) in
     up_already _ _ _ _ _ _ _ _ _ _ c.self.invariant c.args.self.now c.args.past.now _ c.self.view_is up.1 c.state.ensures.in_order w stands
 
+-- what the start came to
+begins : (c : goal.Joined-started) → BeginsTo c.self.invariant c.args.self.now c.args.past.now c.start-started.result c.settle.new.controller c.settle.new.kept c.settle.new.past
+begins c =
+    begins_to c.self.invariant c.state.ensures.in_order c.goes_as_planned.ensures.planned c.args.past.now
+    (not_there _ _ c.state.result c.state.ensures.state (sym c.is_some.ensures ∙ c.if-is_some.false))
+    c.revive.ensures.plan c.revive.ensures.same c.revive.ensures.running c.revive.ensures.stays c.self.view_is c.of-ahead.ensures.past c.of-ahead.ensures.kept
+    c.start-started.new.self c.start-started.result c.hindrance_of_start-how.ensures c.settle.ensures.controller c.settle.ensures.kept c.settle.ensures.past
+    c.start-started.ensures.ok c.start-started.ensures.err c.start-started.ensures.damaged c.start-started.ensures.starts
+
 pub invariant_of-self : goal.invariant_of-self
 invariant_of-self c =
-    let b = begins_so _ _ _ _ _ _ c.self.inside.name c.self.inside.dsa c.self.inside.controller c.self.inside.kept c.self.invariant c.state.ensures.in_order c.args.past.now
-    (not_there _ _ c.state.result c.state.ensures.state (sym c.is_some.ensures ∙ c.if-is_some.false)) _ (λ x. c.keepers_go_as_planned.ensures.tells x)
-    (λ x new e book r up has ran. c.keepers_go_as_planned.ensures.starts x new e book r up has ran)
-    c.revive.new.self c.start-started.new.self c.revive.ensures.plan c.revive.ensures.same c.revive.ensures.running c.revive.ensures.stays
-    c.args.self.now c.of-ahead.result.past c.of-ahead.result.kept c.start-started.result c.hindrance_of_start-how.result c.settle.new.controller c.settle.new.kept c.settle.new.past
-    c.self.view_is c.of-ahead.ensures.past c.of-ahead.ensures.kept c.hindrance_of_start-how.ensures c.settle.ensures.controller c.settle.ensures.kept c.settle.ensures.past
-    c.start-started.ensures.ok c.start-started.ensures.err c.start-started.ensures.damaged c.start-started.ensures.starts in
-    b.held
+    (begins c).held
 
 pub returns-clause-started : goal.returns-clause-started
 returns-clause-started c =
-    let b = begins_so _ _ _ _ _ _ c.self.inside.name c.self.inside.dsa c.self.inside.controller c.self.inside.kept c.self.invariant c.state.ensures.in_order c.args.past.now
-    (not_there _ _ c.state.result c.state.ensures.state (sym c.is_some.ensures ∙ c.if-is_some.false)) _ (λ x. c.keepers_go_as_planned.ensures.tells x)
-    (λ x new e book r up has ran. c.keepers_go_as_planned.ensures.starts x new e book r up has ran)
-    c.revive.new.self c.start-started.new.self c.revive.ensures.plan c.revive.ensures.same c.revive.ensures.running c.revive.ensures.stays
-    c.args.self.now c.of-ahead.result.past c.of-ahead.result.kept c.start-started.result c.hindrance_of_start-how.result c.settle.new.controller c.settle.new.kept c.settle.new.past
-    c.self.view_is c.of-ahead.ensures.past c.of-ahead.ensures.kept c.hindrance_of_start-how.ensures c.settle.ensures.controller c.settle.ensures.kept c.settle.ensures.past
-    c.start-started.ensures.ok c.start-started.ensures.err c.start-started.ensures.damaged c.start-started.ensures.starts in
+    let b = begins c in
     elim c.match-started.branch [
       | in-Ok w ↦ if_ok_at _ _ _ w.result-is (b.passed _ w.in-Ok.is)
       | in-Err-DiskFault w ↦
@@ -40,13 +36,7 @@ returns-clause-started c =
 
 pub returns-clause-err : goal.returns-clause-err
 returns-clause-err c =
-    let b = begins_so _ _ _ _ _ _ c.self.inside.name c.self.inside.dsa c.self.inside.controller c.self.inside.kept c.self.invariant c.state.ensures.in_order c.args.past.now
-    (not_there _ _ c.state.result c.state.ensures.state (sym c.is_some.ensures ∙ c.if-is_some.false)) _ (λ x. c.keepers_go_as_planned.ensures.tells x)
-    (λ x new e book r up has ran. c.keepers_go_as_planned.ensures.starts x new e book r up has ran)
-    c.revive.new.self c.start-started.new.self c.revive.ensures.plan c.revive.ensures.same c.revive.ensures.running c.revive.ensures.stays
-    c.args.self.now c.of-ahead.result.past c.of-ahead.result.kept c.start-started.result c.hindrance_of_start-how.result c.settle.new.controller c.settle.new.kept c.settle.new.past
-    c.self.view_is c.of-ahead.ensures.past c.of-ahead.ensures.kept c.hindrance_of_start-how.ensures c.settle.ensures.controller c.settle.ensures.kept c.settle.ensures.past
-    c.start-started.ensures.ok c.start-started.ensures.err c.start-started.ensures.damaged c.start-started.ensures.starts in
+    let b = begins c in
     elim c.match-started.branch [
       | in-Ok w ↦ no_err _ _ _ w.result-is
       | in-Err-DiskFault w ↦ no_err _ _ _ w.result-is

@@ -1,9 +1,8 @@
 use Rattle.std.proofs.Common.{◌∙◌, ap, Err}
-use Rattle.adr_controller.specs.Able.{written_in}
 use Rattle.adr_controller.specs.Ended.{call_hindrance}
 use Rattle.adr_replica.specs.Pending.{writing}
 use Rattle.adr_replica.proofs.Answered.{same_written}
-use Rattle.adr_replica.proofs.Came.{came_so}
+use Rattle.adr_replica.proofs.Came.{CameTo, came_to}
 use Rattle.adr_replica.proofs.Calls.{ok_written, ok_refused, ok_hindered, refused_undone}
 use Rattle.adr_replica.proofs.Follows.{written_follows}
 use Rattle.adr_replica.proofs.Results.{if_ok_is, no_err, on_err, on_err_as}
@@ -15,30 +14,22 @@ write-made-requires-clause-follows c = λ s ch formed makes.
     let f = written_follows c.recorded_changes_leave_logged_states.ensures c.logged_states_fit.ensures c.writes_are_recorded.ensures c.args.event.now c.args.now c.requires c.ranges.now.fits s ch formed makes in
     record { follows = f.follows; fits = f.fits; formed = f.formed }
 
-pub invariant_of-self : goal.invariant_of-self
-invariant_of-self c =
-    let m = came_so _ _ _ _ _ _ c.self.inside.name c.self.inside.dsa c.self.inside.controller c.self.inside.kept c.self.invariant c.is_in_order.ensures
-    (λ x f at up. c.keepers_go_as_planned.ensures.keeps x f at up)
-    (λ old new ch how book r p at running follows up same has of ran. c.commits_go_as_planned.ensures old new ch how book r p at running follows up same has of ran)
-    c.args.past.now (written_in c.args.event.now c.args.now) (writing c.args.event.now c.args.now) (same_written c.args.event.now c.args.now)
+-- what the call came to
+came : (c : goal.Joined-made) → CameTo c.self.invariant c.args.self.now c.args.past.now (writing c.args.event.now c.args.now) c.settle-down.new.controller c.settle-down.new.kept c.settle-down.new.past c.hindrance_in-how.result
+came c =
+    came_to c.self.invariant c.goes_as_planned.ensures.in_order c.goes_as_planned.ensures.planned c.args.past.now (writing c.args.event.now c.args.now) (same_written c.args.event.now c.args.now)
     (λ s ch formed makes.
     let f = written_follows c.recorded_changes_leave_logged_states.ensures c.logged_states_fit.ensures c.writes_are_recorded.ensures c.args.event.now c.args.now c.requires c.ranges.now.fits s ch formed makes in
     record { follows = f.follows; fits = f.fits; formed = f.formed })
-    c.write-made.new.self c.args.self.now c.of-ahead.result.past c.of-ahead.result.kept c.hindrance_in-how.result (call_hindrance c.write-made.result) c.settle.new.controller c.settle.new.kept c.settle.new.past
-    c.self.view_is c.of-ahead.ensures.past c.of-ahead.ensures.kept c.settle.ensures.controller c.settle.ensures.kept c.settle.ensures.past c.hindrance_in-how.ensures c.write-made.ensures.calls in
-    m.held
+    c.self.view_is c.of-ahead.ensures.past c.of-ahead.ensures.kept c.settle-down.ensures.controller c.settle-down.ensures.kept c.settle-down.ensures.past c.hindrance_in-how.ensures c.write-made.ensures.calls
+
+pub invariant_of-self : goal.invariant_of-self
+invariant_of-self c =
+    (came c).held
 
 pub returns-clause-written : goal.returns-clause-written
 returns-clause-written c =
-    let m = came_so _ _ _ _ _ _ c.self.inside.name c.self.inside.dsa c.self.inside.controller c.self.inside.kept c.self.invariant c.is_in_order.ensures
-    (λ x f at up. c.keepers_go_as_planned.ensures.keeps x f at up)
-    (λ old new ch how book r p at running follows up same has of ran. c.commits_go_as_planned.ensures old new ch how book r p at running follows up same has of ran)
-    c.args.past.now (written_in c.args.event.now c.args.now) (writing c.args.event.now c.args.now) (same_written c.args.event.now c.args.now)
-    (λ s ch formed makes.
-    let f = written_follows c.recorded_changes_leave_logged_states.ensures c.logged_states_fit.ensures c.writes_are_recorded.ensures c.args.event.now c.args.now c.requires c.ranges.now.fits s ch formed makes in
-    record { follows = f.follows; fits = f.fits; formed = f.formed })
-    c.write-made.new.self c.args.self.now c.of-ahead.result.past c.of-ahead.result.kept c.hindrance_in-how.result (call_hindrance c.write-made.result) c.settle.new.controller c.settle.new.kept c.settle.new.past
-    c.self.view_is c.of-ahead.ensures.past c.of-ahead.ensures.kept c.settle.ensures.controller c.settle.ensures.kept c.settle.ensures.past c.hindrance_in-how.ensures c.write-made.ensures.calls in
+    let m = came c in
     let how = c.hindrance_in-how.ensures in
     elim c.match-made.branch [
       | in-Ok w ↦
@@ -49,20 +40,12 @@ returns-clause-written c =
           w.write_refused.result w.result-is w.write_refused.ensures
       | in-Err-Hindered w ↦
           let is = w.in-Err-Hindered.is ∙ ap Err w.in-Err-Hindered.field-0-is in
-          ok_hindered _ _ _ _ _ _ _ _ _ _ m c.match-made.result w.in-Err-Hindered.hindrance (how ∙ ap call_hindrance is) c.is_down-down.result c.is_down-down.ensures w.hindered.result w.result-is w.hindered.ensures.ok
+          ok_hindered _ _ _ _ _ _ _ _ _ _ m c.match-made.result w.in-Err-Hindered.hindrance (how ∙ ap call_hindrance is) c.settle-down.result c.settle-down.ensures.down w.hindered.result w.result-is w.hindered.ensures.ok
     ]
 
 pub returns-clause-err : goal.returns-clause-err
 returns-clause-err c =
-    let m = came_so _ _ _ _ _ _ c.self.inside.name c.self.inside.dsa c.self.inside.controller c.self.inside.kept c.self.invariant c.is_in_order.ensures
-    (λ x f at up. c.keepers_go_as_planned.ensures.keeps x f at up)
-    (λ old new ch how book r p at running follows up same has of ran. c.commits_go_as_planned.ensures old new ch how book r p at running follows up same has of ran)
-    c.args.past.now (written_in c.args.event.now c.args.now) (writing c.args.event.now c.args.now) (same_written c.args.event.now c.args.now)
-    (λ s ch formed makes.
-    let f = written_follows c.recorded_changes_leave_logged_states.ensures c.logged_states_fit.ensures c.writes_are_recorded.ensures c.args.event.now c.args.now c.requires c.ranges.now.fits s ch formed makes in
-    record { follows = f.follows; fits = f.fits; formed = f.formed })
-    c.write-made.new.self c.args.self.now c.of-ahead.result.past c.of-ahead.result.kept c.hindrance_in-how.result (call_hindrance c.write-made.result) c.settle.new.controller c.settle.new.kept c.settle.new.past
-    c.self.view_is c.of-ahead.ensures.past c.of-ahead.ensures.kept c.settle.ensures.controller c.settle.ensures.kept c.settle.ensures.past c.hindrance_in-how.ensures c.write-made.ensures.calls in
+    let m = came c in
     let how = c.hindrance_in-how.ensures in
     elim c.match-made.branch [
       | in-Ok w ↦ no_err _ _ _ w.result-is

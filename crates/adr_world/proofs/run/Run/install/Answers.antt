@@ -1,10 +1,9 @@
-use Rattle.std.proofs.Common.{◌≡◌, ◌≢◌, ◌∙◌, ◌++◌, sym, ap, subst, [], ◌∷◌, codes, Err}
+use Rattle.std.proofs.Common.{◌≢◌, ◌∙◌, ◌++◌, sym, ap, subst, [], ◌∷◌, codes, Err}
 use Rattle.adr_event.specs.declared.answer.Outcome.TheVariants as outcomes
 use Rattle.adr_model.specs.Member.{Each}
-use Rattle.adr_model.specs.Replica.{Replica, Up, begun}
+use Rattle.adr_model.specs.Replica.{Replica, begun}
 use Rattle.adr_model.specs.Step.{gives}
 use Rattle.adr_replica.specs.Past.{Past}
-use Rattle.adr_world.specs.Adopted.{AdoptsBound, UnadoptedBound}
 use Rattle.adr_world.specs.Run.{AreApart, AreRanged, AreSpelled, world_of}
 use Rattle.adr_world.proofs.Adoptions.{begun_last, installed_step}
 use Rattle.adr_world.proofs.Bindings.{headed}

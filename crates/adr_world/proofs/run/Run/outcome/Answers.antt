@@ -1,9 +1,9 @@
-use Rattle.std.proofs.Common.{refl, sym, ap, subst, codes, Some}
+use Rattle.std.proofs.Common.{refl, sym, ap, subst, codes}
 use Rattle.adr_event.specs.declared.answer.Outcome.TheVariants as outcomes
 use Rattle.adr_event.specs.declared.event.Event.TheVariants.{Serve, Deliver}
 use Rattle.adr_model.specs.Collect.{collect}
 use Rattle.adr_model.specs.Convergence.{MayHappen}
-use Rattle.adr_model.specs.Replica.{Replica, Fails, Stops}
+use Rattle.adr_model.specs.Replica.{Replica}
 use Rattle.adr_model.specs.Step.{told}
 use Rattle.adr_model.specs.World.{after_collect, bound_at, delivers, marks_shown, of_controller, of_made, put_back, replica_at, shown, starts, stays}
 use Rattle.adr_world.specs.Run.{world_of}

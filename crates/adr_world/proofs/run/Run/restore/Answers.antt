@@ -1,10 +1,9 @@
 use Rattle.std.proofs.Common.{◌≡◌, ◌∙◌, sym, ap, subst, [], ◌∷◌, codes, Err}
 use Rattle.adr_event.specs.declared.answer.Outcome.TheVariants as outcomes
-use Rattle.adr_model.specs.Replica.{Replica, Up}
 use Rattle.adr_model.specs.Step.{gives}
 use Rattle.adr_model.specs.World.{with_replica}
 use Rattle.adr_replica.specs.Past.{Past}
-use Rattle.adr_world.specs.Adopted.{AdoptsBound, UnadoptedBound, adoption}
+use Rattle.adr_world.specs.Adopted.{adoption}
 use Rattle.adr_world.specs.Run.{AreApart, AreRanged, AreSpelled, world_of}
 use Rattle.adr_world.proofs.Adoptions.{apart_there, begun_there, restore_absent, restored_step}
 use Rattle.adr_world.proofs.Becoming.{found_there}
