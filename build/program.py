@@ -157,10 +157,10 @@ class Build:
         return [it for it in self.left if set(self.crates[it].below) <= self.done]
 
     def jobs_for(self, name):
-        """Processes for a crate's check: all for one that is alone, two for the one that most wait for. More would load the same files again."""
-        if self.under_way == {name} and not self.ready():
-            return self.workers
-        return 2 if self.waiting[name] == max(self.waiting[it] for it in self.under_way) else 1
+        """Processes for a crate's check: those that no other crate is ready for, and two for the one that most wait for. Each loads the same files again."""
+        spare = self.workers - len(self.under_way) - len(self.ready())
+        most = self.waiting[name] == max(self.waiting[it] for it in self.under_way)
+        return max(2 if most else 1, 1 + spare)
 
     def next(self):
         """The name of a crate to prove and how many processes it may take, once there is one; None when nothing is left."""
