@@ -125,6 +125,7 @@ fn read_text(
         }));
     }
     let mut seen = Seen::nothing(alloc);
+    // By a call, here and above: where a wide value is dropped at the end of a scope, the check goes through all of its parts.
     let told = read_lines(alloc, events, &mut seen, text);
     drop(seen);
     told
