@@ -11,7 +11,7 @@ use std::alloc::{AllocError, Global};
 use std::marker::Model;
 
 /// What a crash does with the writes that no sync has followed. The interrupted one is among them.
-#[derive(Clone, Copy, PartialEq, Eq)]
+#[derive(Clone, Copy)]
 pub enum Crash {
     /// All are there.
     Kept,
@@ -22,7 +22,7 @@ pub enum Crash {
 }
 
 /// What becomes of the call that a plan meets.
-#[derive(Clone, Copy, PartialEq, Eq)]
+#[derive(Clone, Copy)]
 pub enum Mishap {
     /// It fails, and changes nothing.
     Failure,
@@ -31,7 +31,7 @@ pub enum Mishap {
 }
 
 /// So many writes and syncs pass, and the next meets a mishap.
-#[derive(Clone, Copy, PartialEq, Eq)]
+#[derive(Clone, Copy)]
 pub struct Plan {
     pub calls: u32,
     pub mishap: Mishap,
