@@ -44,7 +44,10 @@ fn added(alloc: Global, state: &State) -> Made {
 fn modified(rt: &impl Abort, alloc: Global, state: &State) -> Made {
     let described = described(alloc)?;
     let mut values = Assignments::new(alloc);
-    values.add(12, described).expect(rt, "no attribute yet");
+    values
+        .add(12, described)
+        .ok()
+        .expect(rt, "no attribute yet");
     modify(alloc, state, id(10), &values, 100)
 }
 

@@ -227,10 +227,12 @@ impl Schema {
     fn first_missing(&self, class: u16, values: &Assignments) -> Option<u16>
         ensures { result ≡ find (λ attr. is_none (given attr values.now)) (must_of self.now class) }
     {
-        self.must(class)
-            .iter()
-            .copied()
-            .find(|attr| values.get(*attr).is_none())
+        for attr in self.must(class) {
+            let Some(_) = values.get(*attr) else {
+                return Some(*attr);
+            };
+        }
+        None
     }
 
     /// Tests the values that take the place of those that an object of a class has; an empty list
@@ -260,10 +262,12 @@ impl Schema {
     fn first_emptied(&self, class: u16, values: &Assignments) -> Option<u16>
         ensures { result ≡ find (λ attr. is_emptied (given attr values.now)) (must_of self.now class) }
     {
-        self.must(class)
-            .iter()
-            .copied()
-            .find(|attr| is_emptied(values.get(*attr)))
+        for attr in self.must(class) {
+            if is_emptied(values.get(*attr)) {
+                return Some(*attr);
+            }
+        }
+        None
     }
 
     /// Tests what a link row says of its attribute, whatever the class of its ends.

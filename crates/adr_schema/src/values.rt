@@ -31,7 +31,12 @@ fn is_misplaced(syntax: Syntax, values: &[Value], place: usize) -> bool
 fn is_among(values: &[Value], value: &Value) -> bool
     ensures { result ≡ list_any (λ v. same_value v value.now) values.now }
 {
-    values.iter().any(|other| other.is_same(value))
+    for other in values {
+        if other.is_same(value) {
+            return true;
+        }
+    }
+    false
 }
 
 /// Whether a value is of a syntax, and within its range.
