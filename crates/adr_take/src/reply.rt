@@ -1,6 +1,6 @@
 //! The whole of a reply.
 
-ghost use Rattle.std.specs.Prelude.{◌≡◌, ◌≤◌, None, Some, Ok, Err, IfOk, IsErrOf};
+ghost use Rattle.std.specs.Prelude.{◌≡◌, ◌≤◌, [], None, Some, Ok, Err, IfOk, IsErrOf, unwrap_or};
 ghost use Rattle.adr_event.specs.declared.refusal.TakeRefusal.{TakeRefusal};
 ghost use Rattle.adr_model.specs.Change.{after};
 ghost use Rattle.adr_model.specs.Take.{passes, refusal_of, same_mark, shown_by_last, take, taken_change};
@@ -36,26 +36,21 @@ pub fn take(alloc: Global, state: &State, reply: &Reply) -> Result<Change, Failu
     if let Some(refusal) = refusal_before(state, reply) {
         return Err(Failure::Refused(refusal));
     }
-    match outcome(alloc, state, reply)? {
-        Ok(change) => Ok(change),
-        Err(refusal) => Err(Failure::Refused(refusal)),
-    }
+    outcome(alloc, state, reply)
 }
 
-/// The change of a reply that isn't refused before its items are looked at, or the refusal.
-fn outcome(
-    alloc: Global,
-    state: &State,
-    reply: &Reply,
-) -> Result<Result<Change, TakeRefusal>, NoMemory>
+/// The change of a reply that isn't refused before its items are looked at, or why it is refused.
+fn outcome(alloc: Global, state: &State, reply: &Reply) -> Result<Change, Failure<TakeRefusal>>
     requires usn { state.now.store.usn ≤ usn_limit }
     requires before { refusal_before state.now reply.now ≡ None }
-    ensures { IfOk result (λ outcome. outcome ≡ take state.now reply.now) }
+    ensures ok { IfOk result (λ change. take state.now reply.now ≡ Ok change) }
+    ensures refused { (refusal : TakeRefusal) → IsErrOf result (Failure.Refused refusal)
+        → take state.now reply.now ≡ Err refusal }
 {
     let taking = take_items(alloc, state, reply.items())?;
     match refusal_after(state, reply, &taking) {
-        Some(refusal) => Ok(Err(refusal)),
-        None => Ok(Ok(taken_change(alloc, reply, taking)?)),
+        Some(refusal) => Err(Failure::Refused(refusal)),
+        None => Ok(taken_change(alloc, reply, taking)?),
     }
 }
 
@@ -151,10 +146,7 @@ fn passes(table: Table, limit: u64, count: usize) -> Option<TakeRefusal>
 fn taken_change(alloc: Global, reply: &Reply, taking: Taking) -> Result<Change, NoMemory>
     ensures { IfOk result (λ change. change ≡ taken_change reply.now taking.entry) }
 {
-    let joined = match reply.last() {
-        Some(vector) => vector.copy(alloc)?,
-        None => Vector::new(alloc),
-    };
+    let joined = joined_by(alloc, reply)?;
     let mark = Kept::new(reply.inv(), reply.to());
     Ok(Change::new(
         taking.usn(),
@@ -165,4 +157,14 @@ fn taken_change(alloc: Global, reply: &Reply, taking: Taking) -> Result<Change, 
         Vec::new(alloc),
         taking.into_writes(),
     ))
+}
+
+/// What the source has seen, if the reply is its last.
+fn joined_by(alloc: Global, reply: &Reply) -> Result<Vector, NoMemory>
+    ensures { IfOk result (λ joined. joined ≡ unwrap_or reply.now.last []) }
+{
+    match reply.last() {
+        Some(vector) => vector.copy(alloc),
+        None => Ok(Vector::new(alloc)),
+    }
 }

@@ -72,8 +72,8 @@ impl<'a> Taking<'a> {
     {
         let unit = item.unit();
         let standing = standing_of(vector, &self.told, &unit);
-        let rows = rows_taken(alloc, &self.told, standing, item)?;
         let refusal = item_refusal(schema, standing, self.place, item)?;
+        let rows = rows_taken(alloc, &self.told, standing, item)?;
         self.write(alloc, item, rows, new_object(&unit, standing))?;
         self.refusal = self.refusal.or(refusal);
         self.place += 1;
