@@ -123,7 +123,7 @@ fn give(bytes: &mut Vec<u8>, safe: &[u8], how: Crash)
     ensures items { bytes.new.items ≡ safe.now }
     ensures capacity { vec_capacity bytes.old ≤ vec_capacity bytes.new }
 {
-    if how != Crash::Kept {
+    if !matches!(how, Crash::Kept) {
         bytes.clear();
         bytes.extend_from_slice(safe).unwrap();
     }
