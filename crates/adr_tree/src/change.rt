@@ -28,7 +28,7 @@ impl Tree {
     {
         let old = empty(&mut self.slots, guid);
         if old.is_none() {
-            return None;
+            return old;
         }
         let is_parent = may_be_parent(&self.hints, guid);
         let breaker = opener_if(&self.slots, &self.flags, is_parent, &old);
@@ -132,27 +132,27 @@ impl Tree {
         }
     }
 
-    /// Forgets what was only of a live object that is gone, if there was one.
-    fn forget(&mut self, guid: Uuid, old: Option<Node>)
+    /// Forgets what was only of a live object that is gone, if there was one: an edit keeps it.
+    fn forget(&mut self, edit: &Edit)
         requires { IsTree self.old }
         ensures tree { IsTree self.new }
         ensures nodes { nodes_in self.new ≡ nodes_in self.old }
     {
-        if let Some(old) = old {
-            self.forget_hint(&Hint::of_child(&old));
-            self.forget_hint(&Hint::of_name(&old));
-            self.free(guid);
+        if let Some(old) = &edit.node {
+            self.forget_hint(&Hint::of_child(old));
+            self.forget_hint(&Hint::of_name(old));
+            self.free(edit.guid);
         }
     }
 
     /// Forgets what was only of live objects that are gone.
-    fn forget_all(&mut self, edits: Vec<Edit>)
+    fn forget_all(&mut self, edits: &[Edit])
         requires { IsTree self.old }
         ensures tree { IsTree self.new }
         ensures nodes { nodes_in self.new ≡ nodes_in self.old }
     {
         for edit in edits {
-            self.forget(edit.guid, edit.node);
+            self.forget(edit);
         }
     }
 
@@ -209,6 +209,6 @@ impl Tree {
     {
         let mut edits = edits;
         self.exchange_all(edits.as_mut_slice());
-        self.forget_all(edits);
+        self.forget_all(edits.as_slice());
     }
 }

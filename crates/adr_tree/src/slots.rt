@@ -53,7 +53,10 @@ pub(crate) fn reserve_flag(flags: &mut BTreeMap<Uuid, bool>, guid: Uuid) -> Resu
     ensures more { KeepsPlaces flags.old flags.new }
     ensures ok { OnOk result (IsSome (get identifier_order flags.new guid)) }
 {
-    flags.entry(guid)?.or_insert(false);
+    if flags.contains_key(&guid) {
+        return Ok(());
+    }
+    flags.insert(guid, false)?;
     Ok(())
 }
 

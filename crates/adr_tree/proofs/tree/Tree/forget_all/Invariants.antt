@@ -3,8 +3,4 @@ use Rattle.adr_tree.specs.Tree.{IsTree, nodes_in}
 use Rattle.adr_tree.proofs.tree.Tree.forget_all.Given as goal
 
 abbrev pub invariant-loop-edit : goal.invariant-loop-edit
-invariant-loop-edit l =
-    (goal.iterator-loop-edit).can_next l.edit-iterator
-    × (goal.iterator-loop-edit).is_finite l.edit-iterator
-    × IsTree l.self
-    × (nodes_in l.self ≡ nodes_in l.initial.self)
+invariant-loop-edit l = IsTree l.self × (nodes_in l.self ≡ nodes_in l.initial.self)
