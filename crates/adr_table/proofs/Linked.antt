@@ -1,14 +1,14 @@
 -- The rows of the links to an object, from one hint to the next.
-use Rattle.std.proofs.Common.{◌≡◌, refl, sym, ap, ◌∙◌, subst, List, [], ◌∷◌, Bool, true, false, cond, ◌||◌, Option, Some, None, filter, map}
+use Rattle.std.proofs.Common.{◌≡◌, refl, sym, ap, ◌∙◌, subst, List, [], ◌∷◌, Bool, true, false, cond, Option, Some, None, filter, filter_map, map}
 use Rattle.std.specs.Prelude.{is_some}
-use Rattle.std.specs.List.{AllByRecursion, list_any}
+use Rattle.std.specs.List.{AllByRecursion, cons_option}
 use Rattle.std.specs.List.Sorted.{IsStrictlySortedBy}
 use Rattle.std.specs.Option.{option_cmp}
 use Rattle.std.specs.Map.{keys_of, lookup}
 use Rattle.std.specs.BTreeMap.{is_at}
 use Rattle.std.specs.BTreeMap.Range.{IsLeBy, range_contains}
 use Rattle.std.specs.BTreeSet.{BTreeSet}
-use Rattle.std.specs.Ordering.{is_eq, nat_cmp, ordering_then}
+use Rattle.std.specs.Ordering.{nat_cmp, ordering_then}
 use Rattle.std.specs.declared.ops.Bound.TheVariants.{Included, Unbounded}
 use Rattle.std.specs.declared.cmp.Ordering.{Ordering}
 use Rattle.std.specs.declared.cmp.Ordering.TheVariants.{Less, Equal, Greater}
@@ -21,22 +21,23 @@ use Rattle.adr_stamp.specs.Order.{object_order}
 use Rattle.adr_stamp.proofs.Exact.{exact_objects}
 use Rattle.adr_stamp.specs.contracts.OidOrd.TheImpl.Laws.{total-law as objects_total}
 use Rattle.adr_model.proofs.Keys.{equal_order, exact_keys, keys_total}
+use Rattle.adr_model.proofs.Members.{some_passes}
+use Rattle.adr_model.specs.Member.{Member}
 use Rattle.adr_model.specs.Update.{Key, RowOf, LinkOf, key_order, same_key, same_object}
 use Rattle.adr_model.specs.Store.{Held, row_held}
 use Rattle.adr_model.specs.Formed.{AreRising}
+use Rattle.adr_law_knowledge.proofs.Counting.{rises_from}
 use Rattle.adr_update.specs.Sought.{is_link_to}
 use Rattle.adr_table.specs.declared.slots.Slots.{Slots}
 use Rattle.adr_table.specs.declared.back.Source.{Source}
 use Rattle.adr_table.specs.declared.back.Behind.{Behind}
-use Rattle.adr_table.specs.Place.{place_of, place_order}
-use Rattle.adr_table.specs.Slots.{IsTidy, and_seen, row_at, rows_seen}
+use Rattle.adr_table.specs.Place.{place_of}
+use Rattle.adr_table.specs.Slots.{IsTidy, row_at, rows_seen}
 use Rattle.adr_table.specs.Back.{AreBacked, behind_order, hint, link_behind, row_of_link, source_order}
-use Rattle.adr_table.specs.contracts.back.BehindOrd.TheImpl.Laws.{total-law as behinds_total}
-use Rattle.adr_table.proofs.Places.{places_total, same_place}
 use Rattle.adr_table.proofs.Seen.{found}
-use Rattle.adr_table.proofs.Stripped.{at_place}
 use Rattle.adr_table.proofs.Behinds.{all_later, all_told, exact_behinds, first_part, hinted, strictly, symmetric}
-use Rattle.adr_table.proofs.Queries.{rise, none_rises, one_more}
+use Rattle.adr_table.proofs.Queries.{rise}
+use Rattle.adr_table.proofs.Hinted.{all_read, held_is, is_held}
 use Rattle.adr_table.proofs.OneList.{one_list}
 
 abbrev keys_in : List Held → List Key
@@ -47,25 +48,13 @@ abbrev pub linked_row : Slots → Oid → Behind → Option Held
 linked_row slots o b = cond (same_object b.to o) (row_of_link slots (link_behind b)) None
 
 abbrev pub linked : Slots → Oid → List Behind → List Held
-linked slots o [] = []
-linked slots o (b ∷ bs) = and_seen (linked_row slots o b) (linked slots o bs)
-
-pub linked_here : (slots : Slots) (o : Oid) (b : Behind) (bs left : List Behind) → left ≡ b ∷ bs → same_object b.to o ≡ true → (r : Option Held) → r ≡ row_of_link slots (link_behind b)
-    → linked slots o left ≡ and_seen r (linked slots o bs)
-linked_here slots o b bs left is to r row =
-    ap (linked slots o) is ∙ ap (λ t. and_seen (cond t (row_of_link slots (link_behind b)) None) (linked slots o bs)) to ∙ sym (ap (λ x. and_seen x (linked slots o bs)) row)
+linked slots o bs = filter_map (linked_row slots o) bs
 
 -- ---- at the first hint of another object none is left
 
 abbrev pub LinksEnd : Slots → Oid → List Behind → Type 0
 LinksEnd slots o [] = Unit {0}
 LinksEnd slots o (b ∷ bs) = (same_object b.to o ≡ false → linked slots o (b ∷ bs) ≡ []) × LinksEnd slots o bs
-
-pub links_end_here : (slots : Slots) (o : Oid) (b : Behind) (bs left : List Behind) → left ≡ b ∷ bs → LinksEnd slots o left → same_object b.to o ≡ false → linked slots o left ≡ []
-links_end_here slots o b bs left is ends other = ap (linked slots o) is ∙ (subst (LinksEnd slots o) is ends).0 other
-
-pub links_end_later : (slots : Slots) (o : Oid) (b : Behind) (bs left : List Behind) → left ≡ b ∷ bs → LinksEnd slots o left → LinksEnd slots o bs
-links_end_later slots o b bs left is ends = (subst (LinksEnd slots o) is ends).1
 
 module _ (slots : Slots) (o : Oid) where
   unlike : (p : Oid) → object_order o p ≡ Less → same_object p o ≡ false
@@ -80,7 +69,7 @@ module _ (slots : Slots) (o : Oid) where
   none_linked : (bs : List Behind) → AllByRecursion (λ c. object_order o c.to ≡ Less) bs → linked slots o bs ≡ []
   none_linked [] a = refl
   none_linked (b ∷ bs) a =
-      ap (λ t. and_seen (cond t (row_of_link slots (link_behind b)) None) (linked slots o bs)) (unlike b.to a.0) ∙ none_linked bs a.1
+      ap (λ t. cons_option (cond t (row_of_link slots (link_behind b)) None) (linked slots o bs)) (unlike b.to a.0) ∙ none_linked bs a.1
 
   ends : (bs : List Behind) → IsStrictlySortedBy behind_order bs → AllByRecursion (λ b. IsLeBy behind_order (record { to = o; from = None }) b) bs → LinksEnd slots o bs
   ends [] sorted from = tt
@@ -152,25 +141,6 @@ held_filtered test (h ∷ hs) q = by (test h.update.key) (same_key h.update.key 
     by false true x y later = later ∙ ap (λ b. cond b (row_held hs q) None) (sym (own y) ∙ x) ∙ sym (ap (λ b. cond b (Some h) None) (sym (own y) ∙ x))
     by false false x y later = later
 
-filtered_below : (test : Key → Bool) (k : Key) (rows : List Held) → AllByRecursion (λ j. key_order k j ≡ Less) (keys_in rows) → AllByRecursion (λ j. key_order k j ≡ Less) (keys_in (filter (λ h. test h.update.key) rows))
-filtered_below test k [] a = tt
-filtered_below test k (h ∷ hs) a = by (test h.update.key) (filtered_below test k hs a.1)
-  where
-    by : (t : Bool) → AllByRecursion (λ j. key_order k j ≡ Less) (keys_in (filter (λ x. test x.update.key) hs))
-        → AllByRecursion (λ j. key_order k j ≡ Less) (keys_in (cond t (h ∷ filter (λ x. test x.update.key) hs) (filter (λ x. test x.update.key) hs)))
-    by true later = (a.0, later)
-    by false later = later
-
-filtered_rise : (test : Key → Bool) (rows : List Held) → IsStrictlySortedBy key_order (keys_in rows) → IsStrictlySortedBy key_order (keys_in (filter (λ h. test h.update.key) rows))
-filtered_rise test [] sorted = none_rises
-filtered_rise test (h ∷ hs) sorted = by (test h.update.key) (filtered_rise test hs (sorted_tail key_order h.update.key (keys_in hs) sorted))
-  where
-    by : (t : Bool) → IsStrictlySortedBy key_order (keys_in (filter (λ x. test x.update.key) hs))
-        → IsStrictlySortedBy key_order (keys_in (cond t (h ∷ filter (λ x. test x.update.key) hs) (filter (λ x. test x.update.key) hs)))
-    by true later =
-        one_more h.update.key (keys_in (filter (λ x. test x.update.key) hs)) (filtered_below test h.update.key hs (sorted_head key_order h.update.key (keys_in hs) sorted)) later
-    by false later = later
-
 -- ---- the rows of hints
 
 then_less : (x y z : Ordering) → ordering_then x y ≡ Less → ordering_then x (ordering_then y z) ≡ Less
@@ -186,14 +156,9 @@ second_less Equal y e h = h
 second_less Greater y e h = cc
 
 module _ (slots : Slots) (tidy : IsTidy slots) (o : Oid) where
-  at_link : (l : LinkKey) (h : Held) → row_at slots (place_of (LinkOf l)) ≡ Some h → h.update.key ≡ LinkOf l
-  at_link l h is =
-      same_place h.update.key (LinkOf l)
-      (subst (λ p. is_at (place_order p) (place_of (LinkOf l)) ≡ true) (sym (at_place slots.map.entries (place_of (LinkOf l)) h tidy.home is)) (ap is_eq (tied_itself places_total (place_of (LinkOf l)))))
-
   record OfLink (b : Behind) (h : Held) : Type 0 where
     link : LinkKey
-    key : h.update.key ≡ LinkOf link
+    row : row_held (rows_seen slots) (LinkOf link) ≡ Some h
     own : b ≡ hint link
     to : same_object link.to o ≡ true
 
@@ -203,9 +168,10 @@ module _ (slots : Slots) (tidy : IsTidy slots) (o : Oid) where
       from : same_object b.to o ≡ true → (f : Option Source) → b.from ≡ f → row_of_link slots (link_behind (record { to = b.to; from = f })) ≡ Some h → OfLink b h
       from to None own row = cc
       from to (Some s) own row =
+          let l : LinkKey = record { from = s.object; attr = s.attr; to = b.to } in
           record {
-            link = record { from = s.object; attr = s.attr; to = b.to };
-            key = at_link (record { from = s.object; attr = s.attr; to = b.to }) h row;
+            link = l;
+            row = sym (found slots.map.entries (LinkOf l) tidy.ordered tidy.home) ∙ row;
             own = ap (λ f. let c : Behind = record { to = b.to; from = f } in c) own;
             to = to;
           }
@@ -221,109 +187,34 @@ module _ (slots : Slots) (tidy : IsTidy slots) (o : Oid) where
       then_less (object_order l.from m.from) (nat_cmp l.attr m.attr) (object_order l.to m.to)
       (second_less (object_order l.to m.to) (ordering_then (object_order l.from m.from) (nat_cmp l.attr m.attr)) ends less)
 
-  all_above : (l : LinkKey) → same_object l.to o ≡ true → (bs : List Behind) → AllByRecursion (λ c. behind_order (hint l) c ≡ Less) bs
-      → AllByRecursion (λ j. key_order (LinkOf l) j ≡ Less) (keys_in (linked slots o bs))
-  all_above l lo [] a = tt
-  all_above l lo (b ∷ bs) a = by (linked_row slots o b) refl (all_above l lo bs a.1)
-    where
-      by : (r : Option Held) → linked_row slots o b ≡ r → AllByRecursion (λ j. key_order (LinkOf l) j ≡ Less) (keys_in (linked slots o bs))
-          → AllByRecursion (λ j. key_order (LinkOf l) j ≡ Less) (keys_in (and_seen r (linked slots o bs)))
-      by None is later = later
-      by (Some h) is later =
-          let m = of_link b h is in
-          (subst (λ k. key_order (LinkOf l) k ≡ Less) (sym m.key) (links_less l m.link lo m.to (subst (λ c. behind_order (hint l) c ≡ Less) m.own a.0)), later)
+  in_turn : (b c : Behind) (h g : Held) → OfLink b h → OfLink c g → behind_order b c ≡ Less → key_order h.update.key g.update.key ≡ Less
+  in_turn b c h g l m less =
+      ap (λ k. key_order k g.update.key) (is_held (rows_seen slots) (LinkOf l.link) h l.row).1
+      ∙ ap (key_order (LinkOf l.link)) (is_held (rows_seen slots) (LinkOf m.link) g m.row).1
+      ∙ links_less l.link m.link l.to m.to (sym (ap (λ d. behind_order d c) l.own ∙ ap (behind_order (hint l.link)) m.own) ∙ less)
 
-  linked_rise : (bs : List Behind) → IsStrictlySortedBy behind_order bs → IsStrictlySortedBy key_order (keys_in (linked slots o bs))
-  linked_rise [] sorted = none_rises
-  linked_rise (b ∷ bs) sorted = by (linked_row slots o b) refl (linked_rise bs (sorted_tail behind_order b bs sorted))
-    where
-      by : (r : Option Held) → linked_row slots o b ≡ r → IsStrictlySortedBy key_order (keys_in (linked slots o bs)) → IsStrictlySortedBy key_order (keys_in (and_seen r (linked slots o bs)))
-      by None is later = later
-      by (Some h) is later =
-          let m = of_link b h is in
-          one_more h.update.key (keys_in (linked slots o bs))
-          (subst (λ k. AllByRecursion (λ j. key_order k j ≡ Less) (keys_in (linked slots o bs))) (sym m.key)
-          (all_above m.link m.to bs (subst (λ c. AllByRecursion (λ d. behind_order c d ≡ Less) bs) m.own (sorted_head behind_order b bs sorted)))) later
-
-  other_held : (bs : List Behind) (q : Key) → is_link_to o q ≡ false → row_held (linked slots o bs) q ≡ None
-  other_held [] q other = refl
-  other_held (b ∷ bs) q other = by (linked_row slots o b) refl (other_held bs q other)
-    where
-      turn : (h : Held) → OfLink b h → (t : Bool) → same_key h.update.key q ≡ t → row_held (linked slots o bs) q ≡ None → cond t (Some h) (row_held (linked slots o bs) q) ≡ None
-      turn h m true at later =
-          let same : h.update.key ≡ q = exact_keys h.update.key q (equal_order (key_order h.update.key q) at) in
-          let no : true ≡ false = sym m.to ∙ ap (is_link_to o) (sym m.key ∙ same) ∙ other in cc
-      turn h m false at later = later
-
-      by : (r : Option Held) → linked_row slots o b ≡ r → row_held (linked slots o bs) q ≡ None → row_held (and_seen r (linked slots o bs)) q ≡ None
-      by None is later = later
-      by (Some h) is later = turn h (of_link b h is) (same_key h.update.key q) refl later
-
-  linked_held : (bs : List Behind) (l : LinkKey) → same_object l.to o ≡ true → row_held (linked slots o bs) (LinkOf l) ≡ cond (list_any (is_at (behind_order (hint l))) bs) (row_at slots (place_of (LinkOf l))) None
-  linked_held [] l lo = refl
-  linked_held (b ∷ bs) l lo = by (is_at (behind_order (hint l)) b) refl (linked_held bs l lo)
-    where
-      any : Bool
-      any = list_any (is_at (behind_order (hint l))) bs
-
-      never : (t : Bool) (r : Option Held) → r ≡ None → cond t r None ≡ r
-      never true r e = refl
-      never false r e = sym e
-
-      full : (r : Option Held) → row_at slots (place_of (LinkOf l)) ≡ r → row_held (linked slots o bs) (LinkOf l) ≡ cond any r None → row_held (and_seen r (linked slots o bs)) (LinkOf l) ≡ r
-      full None is later = later ∙ never any None refl
-      full (Some h) is later =
-          ap (λ k. cond (same_key k (LinkOf l)) (Some h) (row_held (linked slots o bs) (LinkOf l))) (at_link l h is)
-          ∙ ap (λ t. cond t (Some h) (row_held (linked slots o bs) (LinkOf l))) (ap is_eq (tied_itself keys_total (LinkOf l)))
-
-      other : (h : Held) → OfLink b h → is_at (behind_order (hint l)) b ≡ false → (t : Bool) → same_key h.update.key (LinkOf l) ≡ t → t ≡ false
-      other h m apart true at =
-          let same : LinkOf m.link ≡ LinkOf l = sym m.key ∙ exact_keys h.update.key (LinkOf l) (equal_order (key_order h.update.key (LinkOf l)) at) in
-          let link : m.link ≡ l = cc in
-          let here : b ≡ hint l = m.own ∙ ap hint link in
-          let no : true ≡ false = sym (ap is_eq (tied_behind (hint l))) ∙ subst (λ c. is_at (behind_order (hint l)) c ≡ false) here apart in cc
-        where
-          tied_behind : (c : Behind) → behind_order c c ≡ Equal
-          tied_behind c = tied_itself behinds_total c
-      other h m apart false at = refl
-
-      skip : (r : Option Held) → linked_row slots o b ≡ r → is_at (behind_order (hint l)) b ≡ false → row_held (and_seen r (linked slots o bs)) (LinkOf l) ≡ row_held (linked slots o bs) (LinkOf l)
-      skip None is apart = refl
-      skip (Some h) is apart =
-          ap (λ t. cond t (Some h) (row_held (linked slots o bs) (LinkOf l))) (other h (of_link b h is) apart (same_key h.update.key (LinkOf l)) refl)
-
-      here : b ≡ hint l → linked_row slots o b ≡ row_at slots (place_of (LinkOf l))
-      here is = ap (linked_row slots o) is ∙ ap (λ t. cond t (row_at slots (place_of (LinkOf l))) None) lo
-
-      by : (t : Bool) → is_at (behind_order (hint l)) b ≡ t → row_held (linked slots o bs) (LinkOf l) ≡ cond any (row_at slots (place_of (LinkOf l))) None
-          → row_held (and_seen (linked_row slots o b) (linked slots o bs)) (LinkOf l) ≡ cond (t || any) (row_at slots (place_of (LinkOf l))) None
-      by true at later =
-          ap (λ r. row_held (and_seen r (linked slots o bs)) (LinkOf l)) (here (sym (exact_behinds (hint l) b (equal_order (behind_order (hint l) b) at))))
-          ∙ full (row_at slots (place_of (LinkOf l))) refl later
-      by false at later = skip (linked_row slots o b) refl at ∙ later
+  own : (b : Behind) (h : Held) → OfLink b h → Member h (rows_seen slots) × (is_link_to o h.update.key ≡ true)
+  own b h l = let t = is_held (rows_seen slots) (LinkOf l.link) h l.row in (t.0, ap (is_link_to o) t.1 ∙ l.to)
 
   -- all that is linked is found by hints
   pub all_linked : (back : BTreeSet Behind) → AreBacked slots back → IsStrictlySortedBy behind_order back.keys
       → (left : List Behind) → left ≡ from_first slots o back.keys → linked slots o left ≡ filter (λ h. is_link_to o h.update.key) (rows_seen slots)
   all_linked back backed sorted left is =
-      one_of_rows (linked slots o left) (filter (λ h. is_link_to o h.update.key) (rows_seen slots))
-      (linked_rise left (subst (IsStrictlySortedBy behind_order) (sym is) (IsStrictlySortedBy-filter behind_order (range_contains behind_order (Included (record { to = o; from = None })) Unbounded) back.keys sorted)))
-      (filtered_rise (is_link_to o) (rows_seen slots) (rise slots.map.entries tidy.ordered tidy.home))
-      (λ q. by q (is_link_to o q) refl ∙ sym (held_filtered (is_link_to o) (rows_seen slots) q))
+      all_read behind_order (linked_row slots o) (λ h. is_link_to o h.update.key) (rows_seen slots) left
+      (rises_from behind_order left (subst (IsStrictlySortedBy behind_order) (sym is) (IsStrictlySortedBy-filter behind_order (range_contains behind_order (Included (record { to = o; from = None })) Unbounded) back.keys sorted)))
+      rising
+      (λ b c h g at next less. in_turn b c h g (of_link b h at) (of_link c g next) less)
+      (λ b h at. own b h (of_link b h at))
+      (λ h m to. there h m h.update.key refl to)
     where
-      nothing : Option Held
-      nothing = None
+      rising : AreRising (rows_seen slots)
+      rising = rise slots.map.entries tidy.ordered tidy.home
 
-      never : (t : Bool) → cond t nothing nothing ≡ nothing
-      never true = refl
-      never false = refl
-
-      all : (r : Option Held) (l : LinkKey) → same_object l.to o ≡ true → row_at slots (place_of (LinkOf l)) ≡ r → cond (list_any (is_at (behind_order (hint l))) left) r None ≡ r
-      all None l lo at = never (list_any (is_at (behind_order (hint l))) left)
-      all (Some h) l lo at = ap (λ t. cond t (Some h) None) (hinted o back.keys left is l lo (backed l (ap is_some at)))
-
-      by : (q : Key) (t : Bool) → is_link_to o q ≡ t → row_held (linked slots o left) q ≡ cond t (row_held (rows_seen slots) q) None
-      by q false to = other_held left q to
-      by (RowOf p a) true to = cc
-      by (LinkOf l) true to =
-          linked_held left l to ∙ all (row_at slots (place_of (LinkOf l))) l to refl ∙ found slots.map.entries (LinkOf l) tidy.ordered tidy.home
+      there : (h : Held) → Member h (rows_seen slots) → (k : Key) → h.update.key ≡ k → is_link_to o k ≡ true → (b : Behind) × Member b left × (linked_row slots o b ≡ Some h)
+      there h m (RowOf p a) key to = cc
+      there h m (LinkOf l) key to =
+          let row : row_at slots (place_of (LinkOf l)) ≡ Some h =
+          found slots.map.entries (LinkOf l) tidy.ordered tidy.home ∙ sym (ap (row_held (rows_seen slots)) key) ∙ held_is (rows_seen slots) rising h m in
+          let t = some_passes (is_at (behind_order (hint l))) left (hinted o back.keys left is l to (backed l (ap is_some row))) in
+          let same : hint l ≡ t.0 = exact_behinds (hint l) t.0 (equal_order (behind_order (hint l) t.0) t.2) in
+          (hint l, subst (λ b. Member b left) (sym same) t.1, ap (λ r. cond r (row_at slots (place_of (LinkOf l))) None) to ∙ row)

@@ -15,7 +15,7 @@ ghost use Rattle.adr_table.specs.declared.place.Place.{Place as Seat};
 
 use crate::NoMemory;
 use crate::place::Place;
-use crate::slots::Slots;
+use crate::slots::{Slots, push_row};
 use adr_stamp::{LinkKey, Oid};
 use adr_update::{Held, Key};
 use std::alloc::{AllocError, Global};
@@ -153,11 +153,9 @@ pub(crate) fn rows_behind<'a>(
     let mut rows = Vec::new(alloc);
     for behind in back.range((Bound::Included(start), Bound::Unbounded)) {
         if !behind.to.cmp(object).is_eq() {
-            return Ok(rows);
+            break;
         }
-        if let Some(row) = row_behind(slots, behind) {
-            rows.push(row)?;
-        }
+        push_row(&mut rows, row_behind(slots, behind))?;
     }
     Ok(rows)
 }

@@ -12,7 +12,7 @@ ghost use Rattle.adr_table.specs.Slots.{IsTidy, rows_seen};
 ghost use Rattle.adr_table.specs.Deaths.{AreListed, IsListed};
 
 use crate::NoMemory;
-use crate::slots::Slots;
+use crate::slots::{Slots, push_row};
 use adr_stamp::Oid;
 use adr_update::{Held, Key};
 use std::alloc::{AllocError, Global};
@@ -52,9 +52,7 @@ pub(crate) fn deaths<'a>(
 {
     let mut rows = Vec::new(alloc);
     for object in dead {
-        if let Some(row) = slots.row(&Key::deleted(object)) {
-            rows.push(row)?;
-        }
+        push_row(&mut rows, slots.row(&Key::deleted(object)))?;
     }
     Ok(rows)
 }

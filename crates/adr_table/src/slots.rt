@@ -1,6 +1,6 @@
 //! Slots for rows.
 
-ghost use Rattle.std.specs.Prelude.{◌≡◌, ◌≤◌, [], IsTrue, IsSome, IfSome, IfNone, IfOk, OnOk, OnErr, cond, is_some, length, not, ◌&&◌, slice_get, Some, None};
+ghost use Rattle.std.specs.Prelude.{◌≡◌, ◌≤◌, ◌++◌, [], IsTrue, IsSome, IfSome, IfNone, IfOk, OnOk, OnErr, cond, is_some, length, not, ◌&&◌, slice_get, Some, None};
 ghost use Rattle.std.specs.Option.{option_copied, option_map, unwrap_or};
 ghost use Rattle.std.specs.BTreeMap.{IsOrdered, get, insert_entry, is_at, keys};
 ghost use Rattle.std.specs.BTreeMap.Range.{IsFromStart, IsLeBy};
@@ -8,7 +8,7 @@ ghost use Rattle.adr_model.specs.Store.{row_held, with_row};
 ghost use Rattle.adr_update.specs.Key.{key_of};
 ghost use Rattle.adr_update.specs.Referents.{referents};
 ghost use Rattle.adr_table.specs.Place.{IsStart, is_in_run, is_of_class, is_of_link, place_of, place_order};
-ghost use Rattle.adr_table.specs.Slots.{HasSlot, IsTidy, flat, one_more_if, places, row_at, rows_in_run, rows_seen};
+ghost use Rattle.adr_table.specs.Slots.{HasSlot, IsTidy, and_seen, flat, one_more_if, places, row_at, rows_in_run, rows_seen};
 
 use crate::NoMemory;
 use crate::place::Place;
@@ -182,11 +182,9 @@ impl Slots {
         let mut rows = Vec::new(alloc);
         for (place, slot) in self.map.range((Bound::Included(start), Bound::Unbounded)) {
             if !start.begins_run_of(place) {
-                return Ok(rows);
+                break;
             }
-            if let Some(row) = slot {
-                rows.push(row)?;
-            }
+            push_row(&mut rows, slot.as_ref())?;
         }
         Ok(rows)
     }
@@ -197,9 +195,7 @@ impl Slots {
     {
         let mut rows = Vec::new(alloc);
         for (_, slot) in &self.map {
-            if let Some(row) = slot {
-                rows.push(row)?;
-            }
+            push_row(&mut rows, slot.as_ref())?;
         }
         Ok(rows)
     }
@@ -222,6 +218,17 @@ impl Slots {
     }
 }
 
+/// Adds a row to a list, if there is one.
+pub(crate) fn push_row<'a>(rows: &mut Vec<&'a Held>, row: Option<&'a Held>) -> Result<(), NoMemory>
+    ensures { OnOk result (
+        referents rows.new.items ≡ referents rows.old.items ++ and_seen (option_copied row.entry) []) }
+{
+    if let Some(row) = row {
+        rows.push(row)?;
+    }
+    Ok(())
+}
+
 /// Makes a slot where there is none, and tells the local update sequence number of the row in it.
 fn make(map: &mut BTreeMap<Place, Option<Held>>, place: Place) -> Result<Option<u64>, NoMemory>
     requires { IsOrdered place_order map.old }
@@ -233,8 +240,10 @@ fn make(map: &mut BTreeMap<Place, Option<Held>>, place: Place) -> Result<Option<
     ensures there { OnOk result (IsSome (get place_order map.new place)) }
     ensures err { OnErr result (map.new.entries ≡ map.old.entries) }
 {
-    let slot = map.entry(place)?.or_insert(None);
-    Ok(slot.as_ref().map(|row| row.local()))
+    match map.entry(place)?.or_insert(None) {
+        Some(row) => Ok(Some(row.local())),
+        None => Ok(None),
+    }
 }
 
 /// Puts something into a slot, and tells whether a row was there.

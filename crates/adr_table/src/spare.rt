@@ -41,8 +41,8 @@ impl Spare {
     }
 
     /// Names the hints of rows that are held and go.
-    fn add_held(&mut self, rows: &[&Held]) -> Result<(), NoMemory> {
-        for row in rows {
+    fn add_held(&mut self, rows: Vec<&Held>) -> Result<(), NoMemory> {
+        for row in &rows {
             self.add(row)?;
         }
         Ok(())
@@ -61,9 +61,9 @@ impl Spare {
         requires { IsKept table.now }
     {
         self.objects.push(*object)?;
-        self.add_held(table.rows_of(alloc, object)?.as_slice())?;
-        self.add_held(table.links_from(alloc, object)?.as_slice())?;
-        self.add_held(table.links_to(alloc, object)?.as_slice())
+        self.add_held(table.rows_of(alloc, object)?)?;
+        self.add_held(table.links_from(alloc, object)?)?;
+        self.add_held(table.links_to(alloc, object)?)
     }
 
     /// Names objects that are removed, and the hints of their rows.
@@ -72,7 +72,7 @@ impl Spare {
     {
         for object in removed {
             self.objects.push(*object)?;
-            self.add_held(table.rows_of(alloc, object)?.as_slice())?;
+            self.add_held(table.rows_of(alloc, object)?)?;
         }
         Ok(())
     }

@@ -18,7 +18,7 @@ use crate::back::{Behind, rows_behind};
 use crate::deaths::deaths;
 use crate::locals::{Local, next_local, units_at};
 use crate::place::Place;
-use crate::slots::Slots;
+use crate::slots::{Slots, push_row};
 use adr_stamp::{Oid, Unit};
 use adr_update::{Held, Key};
 use std::alloc::Global;
@@ -188,8 +188,6 @@ fn only(alloc: Global, row: Option<&Held>) -> Result<Vec<&Held>, NoMemory>
     ensures { IfOk result (λ rows. referents rows.items ≡ and_seen (option_copied row.entry) []) }
 {
     let mut rows = Vec::new(alloc);
-    if let Some(row) = row {
-        rows.push(row)?;
-    }
+    push_row(&mut rows, row)?;
     Ok(rows)
 }
