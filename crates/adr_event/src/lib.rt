@@ -1,6 +1,7 @@
 //! The words of a run: what may happen to a controller, why a call is refused, and what is answered.
 //! Plain values, shared by the definitions, the schedule language and the answers. It stands on the
-//! small types of `adr_schema`, and knows nothing of text or of what an event does.
+//! small types of `adr_schema`, and knows nothing of text but the word of each line, and nothing of
+//! what an event does.
 #![tactic(auto)]
 
 mod answer;
@@ -8,6 +9,7 @@ mod directory;
 mod event;
 mod partners;
 mod refusal;
+mod verb;
 
 pub use adr_disk::Crash;
 pub use adr_failure::Failure;
@@ -21,3 +23,4 @@ pub use partners::PartnerMarks;
 pub use refusal::{
     AdoptRefusal, CollectRefusal, ItemFault, ServeRefusal, Table, TakeRefusal, WriteRefusal,
 };
+pub use verb::Verb;

@@ -10,7 +10,7 @@ use Rattle.adr_schema.specs.declared.content.Value.{Value as Item}
 use Rattle.adr_schema.specs.declared.content.Value.TheVariants.{Text, Number, Flag, Octets, Ref}
 use Rattle.adr_token.specs.Texts.{is_text}
 use Rattle.adr_token.specs.Spelled.{SpellsValue, SpellsValues}
-use Rattle.adr_schedule.specs.Grammar.{tokens_in, sets, HaveSpellings, IsAllowed}
+use Rattle.adr_schedule.specs.Grammar.{tokens_behind, sets, HaveSpellings, IsAllowed}
 use Rattle.adr_schedule.specs.Seen.{Seen, nothing_seen, seen_after, IsFollowing}
 use Rattle.adr_model.specs.Member.{Each}
 use Rattle.adr_law_recorded.specs.Typed.{IsTypedValue, AreTypedValues, IsTyped, AreTyped}
@@ -42,7 +42,7 @@ given_typed (x ∷ gs) h g (inr m) = given_typed gs h.1 g m
 -- ---- events
 
 event_typed : (e : Event) → IsAllowed e → IsTyped e
-unfolding tokens_in
+unfolding tokens_behind
 event_typed (events.Controller name dsa inv) (line, (verb, (to, (of_dsa, (of_inv, end))))) = (of_dsa.1.0.0, of_inv.1.0.0)
 event_typed (events.Add name guid class parent text values) (line, (verb, (to, (of_guid, (of_class, (of_parent, (of_text, given))))))) =
     (of_guid.1.0.0, of_parent.1.0.0, text_typed text of_text.1.0, given_typed values given)

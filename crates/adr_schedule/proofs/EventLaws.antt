@@ -1,5 +1,5 @@
 -- A line that spells an event says that event, and what a line said is spelled there.
-use Rattle.std.proofs.Common.{◌≡◌, ℕ, ◌<◌, ◌≤◌, Bool, true, false, List, [], ◌∷◌, length, Option, Some, None, refl, subst, arith}
+use Rattle.std.proofs.Common.{◌≡◌, ℕ, ◌<◌, ◌≤◌, Bool, true, false, List, [], ◌∷◌, length, Option, Some, None, refl, subst, ◌∙◌, arith}
 use Rattle.std.specs.Prelude.{◌==◌, if◌then◌else◌, codes}
 use Rattle.std.specs.Option.{option_map}
 use Rattle.std.specs.Str.{bytes_eq}
@@ -8,6 +8,7 @@ use Rattle.adr_disk.specs.declared.memory.Crash.{Crash}
 use Rattle.adr_schema.specs.Assignments.{Given}
 use Rattle.adr_event.specs.declared.event.Event.{Event}
 use Rattle.adr_event.specs.declared.event.Event.TheVariants.{Controller, Time, Add, Modify, Rename, Delete, Link, Unlink, Ask, Serve, Deliver, Pull, Cycle, Collect, Backup, Restore, Install, Snapshot, Rollback, StopAfter, Fail, Stop, Start, Show, Vector, Marks}
+use Rattle.adr_event.specs.Verbs.{verb_of, word_of}
 use Rattle.adr_token.specs.Gives.{◌>>=◌}
 use Rattle.adr_token.specs.Words.{unspaced, ended, word_at, name_at}
 use Rattle.adr_token.specs.Numbers.{number_at}
@@ -16,17 +17,18 @@ use Rattle.adr_token.specs.Classes.{attribute_at, class_at}
 use Rattle.adr_token.specs.Texts.{text_at}
 use Rattle.adr_token.proofs.Lists.{found}
 use Rattle.adr_token.proofs.WordLaws.{if_some}
-use Rattle.adr_schedule.specs.declared.verb.Verb.{Verb}
-use Rattle.adr_schedule.specs.declared.verb.Verb.TheVariants as verbs
+use Rattle.adr_event.specs.declared.verb.Verb.{Verb}
+use Rattle.adr_event.specs.declared.verb.Verb.TheVariants as verbs
 use Rattle.adr_schedule.specs.Limits.{plan_limit}
 use Rattle.adr_schedule.specs.Crashes.{crash_word}
 use Rattle.adr_schedule.specs.Sets.{rising, sets_at}
-use Rattle.adr_schedule.specs.Verbs.{verb_of, verbs as all_verbs, word_of}
+use Rattle.adr_schedule.specs.Verbs.{verb_said, verbs as all_verbs}
 use Rattle.adr_schedule.specs.Commands.{add_line, ask_line, binding_line, bound_at, by_verb, calls_at, collect_line, controller_line, crash_at, delete_line, deliver_line, event_of, fail_line, install_line, limit_at, link_line, modify_line, name_line, pull_line, rename_line, restore_line, rollback_line, serve_line, stop_after, stop_line, time_line}
-use Rattle.adr_schedule.specs.Grammar.{Word, Name, Number, Identifier, Class, Attribute, Quoted, sets, tokens_in, IsNext, AreSpelled, IsLimit, Spells, SpelledLinesAreRead, LinesSpellOneEvent, LinesWereSpelled}
+use Rattle.adr_schedule.specs.Grammar.{Word, Name, Number, Identifier, Class, Attribute, Quoted, sets, tokens_behind, IsNext, AreSpelled, IsLimit, Spells, SpelledLinesAreRead, LinesSpellOneEvent, LinesWereSpelled}
 use Rattle.adr_schedule.proofs.LineSets.{none_left, sets_read, sets_were}
+use Rattle.adr_schedule.proofs.VerbLaws.{verb_read}
 use Rattle.adr_schedule.proofs.RisingLemmas.{rising_from, unless_some}
-use Rattle.adr_schedule.proofs.TokenLaws.{attribute_next, attribute_read, bound_next, bound_read, calls_next, calls_read, class_next, class_read, crash_next, crash_read, identifier_next, identifier_read, limit_next, limit_read, name_next, name_read, number_next, number_read, text_next, text_read, word_left, word_next, word_read}
+use Rattle.adr_schedule.proofs.TokenLaws.{attribute_next, attribute_read, bound_next, bound_read, calls_next, calls_read, class_next, class_read, crash_next, crash_read, identifier_next, identifier_read, limit_next, limit_read, name_next, name_read, number_next, number_read, text_next, text_read, word_left, word_next}
 
 -- ---- what was read is spelled
 
@@ -93,7 +95,7 @@ abbrev Follows : Verb → Type 0
 Follows verb = (line rest : List ℕ) → IsNext (Word (word_of verb)) line rest → (e : Event) → by_verb verb rest ≡ Some e → Spells line e
 
 controller_was : Follows verbs.Controller
-unfolding controller_line tokens_in
+unfolding controller_line tokens_behind
 controller_was line rest verb e h =
     let P = Spells line in
     each_step P (name_at rest) _ (λ name n. each_step P (identifier_at name.1) _ (λ dsa d. each_step P (identifier_at dsa.1) _ (λ inv i.
@@ -101,13 +103,13 @@ controller_was line rest verb e h =
     (tt, ([], refl, (rest, verb, (name.1, name_next rest name n, (dsa.1, identifier_next name.1 dsa d, (inv.1, identifier_next dsa.1 inv i, last)))))))))) e h
 
 time_was : Follows verbs.Time
-unfolding time_line tokens_in
+unfolding time_line tokens_behind
 time_was line rest verb e h =
     let P = Spells line in
     each_step P (number_at rest) _ (λ now n. at_end P now.1 (Time now.0) (λ last. (tt, ([], refl, (rest, verb, (now.1, number_next rest now n, last)))))) e h
 
 add_was : Follows verbs.Add
-unfolding add_line tokens_in
+unfolding add_line tokens_behind
 add_was line rest verb e h =
     let P = Spells line in
     each_step P (name_at rest) _ (λ name n. each_step P (identifier_at name.1) _ (λ guid g. each_step P (class_at guid.1) _ (λ class c. each_step P (identifier_at class.1) _ (λ parent p.
@@ -149,7 +151,7 @@ modified name guid values e h =
     (omega (arith, some), s.1)
 
 modify_was : Follows verbs.Modify
-unfolding modify_line tokens_in
+unfolding modify_line tokens_behind
 modify_was line rest verb e h =
     let P = Spells line in
     each_step P (name_at rest) _ (λ name n. each_step P (identifier_at name.1) _ (λ guid g. each_step P (sets_at guid.1) _ (λ values v event k.
@@ -161,7 +163,7 @@ modify_was line rest verb e h =
     )))) e h
 
 rename_was : Follows verbs.Rename
-unfolding rename_line tokens_in
+unfolding rename_line tokens_behind
 rename_was line rest verb e h =
     let P = Spells line in
     each_step P (name_at rest) _ (λ name n. each_step P (identifier_at name.1) _ (λ guid g. each_step P (identifier_at guid.1) _ (λ parent p. each_step P (text_at (unspaced parent.1)) _ (λ text t.
@@ -169,14 +171,14 @@ rename_was line rest verb e h =
     (tt, ([], refl, (rest, verb, (name.1, name_next rest name n, (guid.1, identifier_next name.1 guid g, (parent.1, identifier_next guid.1 parent p, (text.1, text_next parent.1 text t, last)))))))))))) e h
 
 delete_was : Follows verbs.Delete
-unfolding delete_line tokens_in
+unfolding delete_line tokens_behind
 delete_was line rest verb e h =
     let P = Spells line in
     each_step P (name_at rest) _ (λ name n. each_step P (identifier_at name.1) _ (λ guid g. at_end P guid.1 (Delete name.0 guid.0) (λ last.
     (tt, ([], refl, (rest, verb, (name.1, name_next rest name n, (guid.1, identifier_next name.1 guid g, last)))))))) e h
 
 ask_was : Follows verbs.Ask
-unfolding ask_line tokens_in
+unfolding ask_line tokens_behind
 ask_was line rest verb e h =
     let P = Spells line in
     each_step P (name_at rest) _ (λ name n. each_step P (name_at name.1) _ (λ partner p. each_step P (limit_at partner.1) _ (λ limit l. each_step P (bound_at limit.1) _ (λ bound b.
@@ -186,7 +188,7 @@ ask_was line rest verb e h =
     (most.0, ([], refl, (rest, verb, (name.1, name_next rest name n, (partner.1, name_next name.1 partner p, (limit.1, most.1, (binds.0, binds.1, (bound.1, binds.2, last))))))))))))) e h
 
 serve_was : Follows verbs.Serve
-unfolding serve_line tokens_in
+unfolding serve_line tokens_behind
 serve_was line rest verb e h =
     let P = Spells line in
     each_step P (name_at rest) _ (λ name n. each_step P (name_at name.1) _ (λ request r. each_step P (bound_at request.1) _ (λ bound b.
@@ -195,21 +197,21 @@ serve_was line rest verb e h =
     (tt, ([], refl, (rest, verb, (name.1, name_next rest name n, (request.1, name_next name.1 request r, (binds.0, binds.1, (bound.1, binds.2, last))))))))))) e h
 
 deliver_was : Follows verbs.Deliver
-unfolding deliver_line tokens_in
+unfolding deliver_line tokens_behind
 deliver_was line rest verb e h =
     let P = Spells line in
     each_step P (name_at rest) _ (λ name n. each_step P (name_at name.1) _ (λ reply r. at_end P reply.1 (Deliver name.0 reply.0) (λ last.
     (tt, ([], refl, (rest, verb, (name.1, name_next rest name n, (reply.1, name_next name.1 reply r, last)))))))) e h
 
 collect_was : Follows verbs.Collect
-unfolding collect_line tokens_in
+unfolding collect_line tokens_behind
 collect_was line rest verb e h =
     let P = Spells line in
     each_step P (name_at rest) _ (λ name n. each_step P (number_at name.1) _ (λ lifetime l. at_end P lifetime.1 (Collect name.0 lifetime.0) (λ last.
     (tt, ([], refl, (rest, verb, (name.1, name_next rest name n, (lifetime.1, number_next name.1 lifetime l, last)))))))) e h
 
 restore_was : Follows verbs.Restore
-unfolding restore_line tokens_in
+unfolding restore_line tokens_behind
 restore_was line rest verb e h =
     let P = Spells line in
     each_step P (name_at rest) _ (λ name n. each_step P (name_at name.1) _ (λ image i. each_step P (identifier_at image.1) _ (λ inv v.
@@ -217,7 +219,7 @@ restore_was line rest verb e h =
     (tt, ([], refl, (rest, verb, (name.1, name_next rest name n, (image.1, name_next name.1 image i, (inv.1, identifier_next image.1 inv v, last)))))))))) e h
 
 install_was : Follows verbs.Install
-unfolding install_line tokens_in
+unfolding install_line tokens_behind
 install_was line rest verb e h =
     let P = Spells line in
     each_step P (name_at rest) _ (λ name n. each_step P (identifier_at name.1) _ (λ dsa d. each_step P (name_at dsa.1) _ (λ image i. each_step P (identifier_at image.1) _ (λ inv v.
@@ -225,14 +227,14 @@ install_was line rest verb e h =
     (tt, ([], refl, (rest, verb, (name.1, name_next rest name n, (dsa.1, identifier_next name.1 dsa d, (image.1, name_next dsa.1 image i, (inv.1, identifier_next image.1 inv v, last)))))))))))) e h
 
 rollback_was : Follows verbs.Rollback
-unfolding rollback_line tokens_in
+unfolding rollback_line tokens_behind
 rollback_was line rest verb e h =
     let P = Spells line in
     each_step P (name_at rest) _ (λ name n. each_step P (name_at name.1) _ (λ snapshot s. at_end P snapshot.1 (Rollback name.0 snapshot.0) (λ last.
     (tt, ([], refl, (rest, verb, (name.1, name_next rest name n, (snapshot.1, name_next name.1 snapshot s, last)))))))) e h
 
 stop_was : Follows verbs.Stop
-unfolding stop_line stop_after tokens_in
+unfolding stop_line stop_after tokens_behind
 stop_was line rest verb e h = each_step P (name_at rest) _ (λ name n. by name n (length (unspaced name.1) == 0) refl) e h
   where
     P : Event → Type 0
@@ -250,7 +252,7 @@ stop_was line rest verb e h = each_step P (name_at rest) _ (λ name n. by name n
         (planned.0, ([], refl, (rest, verb, (name.1, name_next rest name n, (after.0, after.1, (calls.1, after.2, (how.1, crash_next calls.1 how w, last)))))))))) event told
 
 fail_was : Follows verbs.Fail
-unfolding fail_line tokens_in
+unfolding fail_line tokens_behind
 fail_was line rest verb e h =
     let P = Spells line in
     each_step P (name_at rest) _ (λ name n. each_step P (calls_at name.1) _ (λ calls c. at_end P calls.1 (Fail name.0 calls.0) (λ last.
@@ -259,7 +261,7 @@ fail_was line rest verb e h =
     (planned.0, ([], refl, (rest, verb, (name.1, name_next rest name n, (after.0, after.1, (calls.1, after.2, last))))))))) e h
 
 verb_was : (verb : Verb) → Follows verb
-unfolding tokens_in
+unfolding tokens_behind
 verb_was verbs.Controller line rest verb e h = controller_was line rest verb e h
 verb_was verbs.Time line rest verb e h = time_was line rest verb e h
 verb_was verbs.Add line rest verb e h = add_was line rest verb e h
@@ -290,7 +292,7 @@ pub lines_spelled : LinesWereSpelled
 unfolding event_of
 lines_spelled line e h =
     let P = Spells line in
-    each_step P (word_at line) _ (λ word w. each_step P (verb_of word.0) _ (λ verb v.
+    each_step P (word_at line) _ (λ word w. each_step P (verb_said word.0) _ (λ verb v.
     let said = found (λ (verb : Verb). bytes_eq word.0 (word_of verb)) (λ verb. true) all_verbs verb refl v in
     verb_was verb line word.1 (word_next (word_of verb) line word w said.0))) e h
 
@@ -425,34 +427,38 @@ fail_again bytes name calls most h =
     let c = a.2 in
     rw (name_read name bytes h.0 h.1, calls_read calls h.0 a.0 c.0 most a.1 c.1, c.2) refl
 
+-- what a line says, behind its verb
+behind_read : (line : List ℕ) (event : Event) (s : Spells line event) → by_verb (verb_of event) s.1.2.0 ≡ Some event
+unfolding tokens_behind
+behind_read line (Controller name dsa inv) h = controller_again h.1.2.0 name dsa inv h.1.2.2
+behind_read line (Time now) h = time_again h.1.2.0 now h.1.2.2
+behind_read line (Add name guid class parent text values) h = add_again h.1.2.0 name guid class parent text values h.1.0 h.1.1 h.1.2.2
+behind_read line (Modify name guid values) h = modify_again h.1.2.0 name guid values h.1.0 h.0.1 h.1.1 h.1.2.2
+behind_read line (Rename name guid parent text) h = rename_again h.1.2.0 name guid parent text h.1.2.2
+behind_read line (Delete name guid) h = delete_again h.1.2.0 name guid h.1.2.2
+behind_read line (Link name from attr to) h = rw (link_again h.1.2.0 name from attr to h.1.2.2) refl
+behind_read line (Unlink name from attr to) h = rw (link_again h.1.2.0 name from attr to h.1.2.2) refl
+behind_read line (Ask name partner max bound) h = ask_again h.1.2.0 name partner bound max h.0 h.1.2.2
+behind_read line (Serve name request bound) h = serve_again h.1.2.0 name request bound h.1.2.2
+behind_read line (Deliver name reply) h = deliver_again h.1.2.0 name reply h.1.2.2
+behind_read line (Pull name source max) h = rw (pull_again h.1.2.0 name source max h.0 h.1.2.2) refl
+behind_read line (Cycle name source max) h = rw (pull_again h.1.2.0 name source max h.0 h.1.2.2) refl
+behind_read line (Collect name lifetime) h = collect_again h.1.2.0 name lifetime h.1.2.2
+behind_read line (Backup name bound) h = rw (binding_again h.1.2.0 name bound h.1.2.2) refl
+behind_read line (Restore name image inv) h = restore_again h.1.2.0 name image inv h.1.2.2
+behind_read line (Install name dsa image inv) h = install_again h.1.2.0 name dsa image inv h.1.2.2
+behind_read line (Snapshot name bound) h = rw (binding_again h.1.2.0 name bound h.1.2.2) refl
+behind_read line (Rollback name snapshot) h = rollback_again h.1.2.0 name snapshot h.1.2.2
+behind_read line (StopAfter name calls how) h = stop_after_again h.1.2.0 name calls how h.0 h.1.2.2
+behind_read line (Fail name calls) h = fail_again h.1.2.0 name calls h.0 h.1.2.2
+behind_read line (Stop name) h = stop_again h.1.2.0 name h.1.2.2
+behind_read line (Start name) h = rw (name_again h.1.2.0 name h.1.2.2) refl
+behind_read line (Show name) h = rw (name_again h.1.2.0 name h.1.2.2) refl
+behind_read line (Vector name) h = rw (name_again h.1.2.0 name h.1.2.2) refl
+behind_read line (Marks name) h = rw (name_again h.1.2.0 name h.1.2.2) refl
+
 pub lines_read : SpelledLinesAreRead
-unfolding event_of tokens_in
-lines_read line (Controller name dsa inv) h = rw (word_read (codes "controller") line h.1.2.0 refl (omega arith) h.1.2.1, controller_again h.1.2.0 name dsa inv h.1.2.2) refl
-lines_read line (Time now) h = rw (word_read (codes "time") line h.1.2.0 refl (omega arith) h.1.2.1, time_again h.1.2.0 now h.1.2.2) refl
-lines_read line (Add name guid class parent text values) h = rw (word_read (codes "add") line h.1.2.0 refl (omega arith) h.1.2.1, add_again h.1.2.0 name guid class parent text values h.1.0 h.1.1 h.1.2.2) refl
-lines_read line (Modify name guid values) h = rw (word_read (codes "modify") line h.1.2.0 refl (omega arith) h.1.2.1, modify_again h.1.2.0 name guid values h.1.0 h.0.1 h.1.1 h.1.2.2) refl
-lines_read line (Rename name guid parent text) h = rw (word_read (codes "rename") line h.1.2.0 refl (omega arith) h.1.2.1, rename_again h.1.2.0 name guid parent text h.1.2.2) refl
-lines_read line (Delete name guid) h = rw (word_read (codes "delete") line h.1.2.0 refl (omega arith) h.1.2.1, delete_again h.1.2.0 name guid h.1.2.2) refl
-lines_read line (Link name from attr to) h = rw (word_read (codes "link") line h.1.2.0 refl (omega arith) h.1.2.1, link_again h.1.2.0 name from attr to h.1.2.2) refl
-lines_read line (Unlink name from attr to) h = rw (word_read (codes "unlink") line h.1.2.0 refl (omega arith) h.1.2.1, link_again h.1.2.0 name from attr to h.1.2.2) refl
-lines_read line (Ask name partner max bound) h = rw (word_read (codes "ask") line h.1.2.0 refl (omega arith) h.1.2.1, ask_again h.1.2.0 name partner bound max h.0 h.1.2.2) refl
-lines_read line (Serve name request bound) h = rw (word_read (codes "serve") line h.1.2.0 refl (omega arith) h.1.2.1, serve_again h.1.2.0 name request bound h.1.2.2) refl
-lines_read line (Deliver name reply) h = rw (word_read (codes "deliver") line h.1.2.0 refl (omega arith) h.1.2.1, deliver_again h.1.2.0 name reply h.1.2.2) refl
-lines_read line (Pull name source max) h = rw (word_read (codes "pull") line h.1.2.0 refl (omega arith) h.1.2.1, pull_again h.1.2.0 name source max h.0 h.1.2.2) refl
-lines_read line (Cycle name source max) h = rw (word_read (codes "cycle") line h.1.2.0 refl (omega arith) h.1.2.1, pull_again h.1.2.0 name source max h.0 h.1.2.2) refl
-lines_read line (Collect name lifetime) h = rw (word_read (codes "collect") line h.1.2.0 refl (omega arith) h.1.2.1, collect_again h.1.2.0 name lifetime h.1.2.2) refl
-lines_read line (Backup name bound) h = rw (word_read (codes "backup") line h.1.2.0 refl (omega arith) h.1.2.1, binding_again h.1.2.0 name bound h.1.2.2) refl
-lines_read line (Restore name image inv) h = rw (word_read (codes "restore") line h.1.2.0 refl (omega arith) h.1.2.1, restore_again h.1.2.0 name image inv h.1.2.2) refl
-lines_read line (Install name dsa image inv) h = rw (word_read (codes "install") line h.1.2.0 refl (omega arith) h.1.2.1, install_again h.1.2.0 name dsa image inv h.1.2.2) refl
-lines_read line (Snapshot name bound) h = rw (word_read (codes "snapshot") line h.1.2.0 refl (omega arith) h.1.2.1, binding_again h.1.2.0 name bound h.1.2.2) refl
-lines_read line (Rollback name snapshot) h = rw (word_read (codes "rollback") line h.1.2.0 refl (omega arith) h.1.2.1, rollback_again h.1.2.0 name snapshot h.1.2.2) refl
-lines_read line (StopAfter name calls how) h = rw (word_read (codes "stop") line h.1.2.0 refl (omega arith) h.1.2.1, stop_after_again h.1.2.0 name calls how h.0 h.1.2.2) refl
-lines_read line (Fail name calls) h = rw (word_read (codes "fail") line h.1.2.0 refl (omega arith) h.1.2.1, fail_again h.1.2.0 name calls h.0 h.1.2.2) refl
-lines_read line (Stop name) h = rw (word_read (codes "stop") line h.1.2.0 refl (omega arith) h.1.2.1, stop_again h.1.2.0 name h.1.2.2) refl
-lines_read line (Start name) h = rw (word_read (codes "start") line h.1.2.0 refl (omega arith) h.1.2.1, name_again h.1.2.0 name h.1.2.2) refl
-lines_read line (Show name) h = rw (word_read (codes "show") line h.1.2.0 refl (omega arith) h.1.2.1, name_again h.1.2.0 name h.1.2.2) refl
-lines_read line (Vector name) h = rw (word_read (codes "vector") line h.1.2.0 refl (omega arith) h.1.2.1, name_again h.1.2.0 name h.1.2.2) refl
-lines_read line (Marks name) h = rw (word_read (codes "marks") line h.1.2.0 refl (omega arith) h.1.2.1, name_again h.1.2.0 name h.1.2.2) refl
+lines_read line event h = verb_read (verb_of event) line h.1.2.0 h.1.2.1 ∙ behind_read line event h
 
 same_event : (o : Option Event) (e f : Event) → o ≡ Some e → o ≡ Some f → e ≡ f
 same_event o e f h k = cc

@@ -3,6 +3,7 @@ pub mod NameLemmas
 pub mod EventLemmas
 pub mod PlainBytes
 pub mod TokenLaws
+pub mod VerbLaws
 pub mod RisingLemmas
 pub mod LineSets
 pub mod EventLaws

@@ -1,16 +1,18 @@
 -- Events that may follow one another are those of their printed form.
 use Rattle.std.proofs.Common.{◌≡◌, ℕ, ◌+◌, ◌<◌, Bool, true, false, not, ◌&&◌, List, [], ◌∷◌, ◌++◌, map, length, Some, None, Ok, refl, sym, ap, ◌∙◌, inl, arith}
-use Rattle.std.specs.Prelude.{◌==◌, nat_lt, codes}
+use Rattle.std.specs.Prelude.{nat_lt, codes}
 use Rattle.std.specs.List.{list_all}
 use Rattle.std.specs.List.Sorted.{IsStrictlySortedBy}
 use Rattle.std.specs.Str.{is_utf8}
-use Rattle.std.proofs.lemmas.Bool.{and_parts, le-ltb, ltb-true, ne_eqb, not-true}
+use Rattle.std.proofs.lemmas.Bool.{and_from, and_parts, le-ltb, lt-ltb, ltb-true, not-true}
 use Rattle.std.proofs.lemmas.Str.{is_utf8-from_IsUtf8}
 use Rattle.adr_disk.specs.declared.memory.Crash.TheVariants.{Kept, Lost, Torn}
 use Rattle.adr_schema.specs.Assignments.{Given}
 use Rattle.adr_schema.specs.declared.content.Value.{Value as Item}
 use Rattle.adr_event.specs.declared.event.Event.{Event}
 use Rattle.adr_event.specs.declared.event.Event.TheVariants.{Controller, Time, Add, Modify, Rename, Delete, Link, Unlink, Ask, Serve, Deliver, Pull, Cycle, Collect, Backup, Restore, Install, Snapshot, Rollback, StopAfter, Fail, Stop, Start, Show, Vector, Marks}
+use Rattle.adr_event.specs.Verbs.{verb_of, word_of}
+use Rattle.adr_event.specs.declared.verb.Verb.{Verb}
 use Rattle.adr_token.specs.Words.{unspaced}
 use Rattle.adr_token.specs.Texts.{ends_word}
 use Rattle.adr_token.specs.Spelled.{SpellsAttribute, SpellsClass, SpellsSet}
@@ -25,10 +27,11 @@ use Rattle.adr_token.proofs.SetBytes.{set_holds, set_starts}
 use Rattle.adr_schedule.specs.Limits.{text_limit}
 use Rattle.adr_schedule.specs.Lines.{is_line_feed, lines_of}
 use Rattle.adr_schedule.specs.Commands.{event_of, is_passed}
-use Rattle.adr_schedule.specs.Grammar.{Token, Word, Name, Number, Identifier, Class, Attribute, Quoted, Set, sets, given_by, tokens_in, tokens_of, AreRising, AreSpelled, HasLine, HaveSpellings, IsAllowed, IsSpelled, Spells}
+use Rattle.adr_schedule.specs.Grammar.{Token, Word, Name, Number, Identifier, Class, Attribute, Quoted, Set, sets, given_by, tokens_behind, tokens_in, tokens_of, AreRising, AreSpelled, HasLine, HaveSpellings, IsAllowed, IsSpelled, Spells}
 use Rattle.adr_schedule.specs.Seen.{Seen, nothing_seen, cause_after, seen_after, IsFollowing}
 use Rattle.adr_schedule.specs.Events.{events_from, events_of, line_after}
 use Rattle.adr_schedule.specs.Printed.{AllowedEventsHaveLines, EventsAreReadAgain, PrintedEventsAreRead, joined, line_of, printed, spaced, token_text}
+use Rattle.adr_schedule.proofs.VerbLaws.{verb_says, verb_seen}
 use Rattle.adr_schedule.proofs.EventLaws.{lines_read}
 use Rattle.adr_schedule.proofs.RisingLemmas.{rising_stays}
 use Rattle.adr_schedule.proofs.ScheduleLaws.{text_follows}
@@ -88,37 +91,43 @@ sets_seen : (values : List Given) → list_all is_seen (sets values) ≡ true
 sets_seen [] = refl
 sets_seen (set ∷ values) = sets_seen values
 
--- the words of an event are seen
+-- so are the words of an event
+behind_seen : (order : List Given) (e : Event) → list_all is_seen (tokens_behind order e) ≡ true
+unfolding tokens_behind
+behind_seen order (Controller name dsa inv) = refl
+behind_seen order (Time now) = refl
+behind_seen order (Add name guid class parent text values) = sets_seen order
+behind_seen order (Modify name guid values) = sets_seen order
+behind_seen order (Rename name guid parent text) = refl
+behind_seen order (Delete name guid) = refl
+behind_seen order (Link name from attr to) = refl
+behind_seen order (Unlink name from attr to) = refl
+behind_seen order (Ask name partner max bound) = refl
+behind_seen order (Serve name request bound) = refl
+behind_seen order (Deliver name reply) = refl
+behind_seen order (Pull name source max) = refl
+behind_seen order (Cycle name source max) = refl
+behind_seen order (Collect name lifetime) = refl
+behind_seen order (Backup name bound) = refl
+behind_seen order (Restore name image inv) = refl
+behind_seen order (Install name dsa image inv) = refl
+behind_seen order (Snapshot name bound) = refl
+behind_seen order (Rollback name snapshot) = refl
+behind_seen order (StopAfter name calls Kept) = refl
+behind_seen order (StopAfter name calls Lost) = refl
+behind_seen order (StopAfter name calls Torn) = refl
+behind_seen order (Fail name calls) = refl
+behind_seen order (Stop name) = refl
+behind_seen order (Start name) = refl
+behind_seen order (Show name) = refl
+behind_seen order (Vector name) = refl
+behind_seen order (Marks name) = refl
+
+verb_word_seen : (verb : Verb) → is_seen (Word (word_of verb)) ≡ true
+verb_word_seen verb = let seen = verb_seen verb in and_from _ _ seen.0 (lt-ltb 0 (length (word_of verb)) seen.1)
+
 words_seen : (order : List Given) (e : Event) → list_all is_seen (tokens_in order e) ≡ true
-unfolding tokens_in
-words_seen order (Controller name dsa inv) = refl
-words_seen order (Time now) = refl
-words_seen order (Add name guid class parent text values) = sets_seen order
-words_seen order (Modify name guid values) = sets_seen order
-words_seen order (Rename name guid parent text) = refl
-words_seen order (Delete name guid) = refl
-words_seen order (Link name from attr to) = refl
-words_seen order (Unlink name from attr to) = refl
-words_seen order (Ask name partner max bound) = refl
-words_seen order (Serve name request bound) = refl
-words_seen order (Deliver name reply) = refl
-words_seen order (Pull name source max) = refl
-words_seen order (Cycle name source max) = refl
-words_seen order (Collect name lifetime) = refl
-words_seen order (Backup name bound) = refl
-words_seen order (Restore name image inv) = refl
-words_seen order (Install name dsa image inv) = refl
-words_seen order (Snapshot name bound) = refl
-words_seen order (Rollback name snapshot) = refl
-words_seen order (StopAfter name calls Kept) = refl
-words_seen order (StopAfter name calls Lost) = refl
-words_seen order (StopAfter name calls Torn) = refl
-words_seen order (Fail name calls) = refl
-words_seen order (Stop name) = refl
-words_seen order (Start name) = refl
-words_seen order (Show name) = refl
-words_seen order (Vector name) = refl
-words_seen order (Marks name) = refl
+words_seen order e = and_from _ _ (verb_word_seen (verb_of e)) (behind_seen order e)
 
 -- the tokens with a space between them are plain, and spell themselves
 spaced_plain : (tokens : List Token) → ArePrinted tokens → IsPlain (spaced (map token_text tokens))
@@ -174,59 +183,14 @@ unfolding line_of
 line_plain e h = joined_plain (tokens_of e) h.printed
 
 -- it isn't passed over
-letter_first : (b : ℕ) (bs : List ℕ) → (b == 59) ≡ false → (b == 32) ≡ false → is_passed (b ∷ bs) ≡ false
-letter_first b bs semicolon space =
-    let some : (length (b ∷ bs) == 0) ≡ false = ne_eqb _ 0 (λ z. omega arith) in
-    rw (semicolon, space, some) refl
-
--- the first token is a word, and its first byte neither a semicolon nor a space
-abbrev begins : List Token → Bool
-begins (Word (b ∷ bs) ∷ tokens) = not (b == 59) && not (b == 32)
-begins tokens = false
-
-says : (tokens : List Token) → begins tokens ≡ true → is_passed (joined (map token_text tokens)) ≡ false
-says (Word (b ∷ bs) ∷ tokens) h =
-    let p = and_parts (not (b == 59)) (not (b == 32)) h in
-    letter_first b (bs ++ spaced (map token_text tokens)) (not-true (b == 59) p.0) (not-true (b == 32) p.1)
-says tokens h = absurd (cc)
-
-event_begins : (order : List Given) (e : Event) → begins (tokens_in order e) ≡ true
-unfolding tokens_in
-event_begins order (Controller name dsa inv) = refl
-event_begins order (Time now) = refl
-event_begins order (Add name guid class parent text values) = refl
-event_begins order (Modify name guid values) = refl
-event_begins order (Rename name guid parent text) = refl
-event_begins order (Delete name guid) = refl
-event_begins order (Link name from attr to) = refl
-event_begins order (Unlink name from attr to) = refl
-event_begins order (Ask name partner max bound) = refl
-event_begins order (Serve name request bound) = refl
-event_begins order (Deliver name reply) = refl
-event_begins order (Pull name source max) = refl
-event_begins order (Cycle name source max) = refl
-event_begins order (Collect name lifetime) = refl
-event_begins order (Backup name bound) = refl
-event_begins order (Restore name image inv) = refl
-event_begins order (Install name dsa image inv) = refl
-event_begins order (Snapshot name bound) = refl
-event_begins order (Rollback name snapshot) = refl
-event_begins order (StopAfter name calls how) = refl
-event_begins order (Fail name calls) = refl
-event_begins order (Stop name) = refl
-event_begins order (Start name) = refl
-event_begins order (Show name) = refl
-event_begins order (Vector name) = refl
-event_begins order (Marks name) = refl
-
-line_says : (e : Event) → IsSaid e → is_passed (line_of e) ≡ false
+line_says : (e : Event) → is_passed (line_of e) ≡ false
 unfolding line_of
-line_says e h = says (tokens_of e) (event_begins (given_by e) e)
+line_says e = verb_says (verb_of e) (spaced (map token_text (tokens_behind (given_by e) e)))
 
 line_told : (seen : Seen) (e : Event) → IsSaid e → cause_after seen e ≡ None → line_after seen (line_of e) ≡ Ok (Some e)
 line_told seen e h c =
     let utf8 : is_utf8 (line_of e) ≡ true = is_utf8-from_IsUtf8 (line_of e) (line_plain e h).utf8 in
-    rw (line_says e h, utf8, event_again e h, c) refl
+    rw (line_says e, utf8, event_again e h, c) refl
 
 -- the lines of the printed form
 first_line : (bs rest : List ℕ) → is_feedless bs ≡ true → lines_of ((bs ++ codes "\n") ++ rest) ≡ bs ∷ lines_of rest

@@ -12,11 +12,11 @@ use Rattle.adr_token.specs.Numbers.{number_at}
 use Rattle.adr_token.specs.Identifiers.{identifier_at}
 use Rattle.adr_token.specs.Classes.{attribute_at, class_at}
 use Rattle.adr_token.specs.Texts.{text_at}
-use Rattle.adr_schedule.specs.declared.verb.Verb.{Verb}
-use Rattle.adr_schedule.specs.declared.verb.Verb.TheVariants as verbs
+use Rattle.adr_event.specs.declared.verb.Verb.{Verb}
+use Rattle.adr_event.specs.declared.verb.Verb.TheVariants as verbs
 use Rattle.adr_schedule.specs.Crashes.{crash_of}
 use Rattle.adr_schedule.specs.Sets.{sets_at}
-use Rattle.adr_schedule.specs.Verbs.{verb_of}
+use Rattle.adr_schedule.specs.Verbs.{verb_said}
 
 -- ---- what some lines have behind their verb
 
@@ -224,7 +224,7 @@ by_verb verbs.Marks rest = option_map Marks (name_line rest)
 unfoldable pub event_of : List ℕ → Option Event
 event_of line = do
   word ← word_at line
-  verb ← verb_of word.0
+  verb ← verb_said word.0
   by_verb verb word.1
 
 -- a line that says nothing: it has no word, or begins with a semicolon

@@ -7,6 +7,7 @@ use Rattle.adr_schema.specs.Assignments.{Given, attributes}
 use Rattle.adr_schema.specs.declared.content.Value.{Value as Item}
 use Rattle.adr_event.specs.declared.event.Event.{Event}
 use Rattle.adr_event.specs.declared.event.Event.TheVariants.{Controller, Time, Add, Modify, Rename, Delete, Link, Unlink, Ask, Serve, Deliver, Pull, Cycle, Collect, Backup, Restore, Install, Snapshot, Rollback, StopAfter, Fail, Stop, Start, Show, Vector, Marks}
+use Rattle.adr_event.specs.Verbs.{verb_of, word_of}
 use Rattle.adr_token.specs.Words.{unspaced, is_name}
 use Rattle.adr_token.specs.Laws.{Stands}
 use Rattle.adr_token.specs.Spelled.{SpellsAttribute, SpellsClass, SpellsIdentifier, SpellsSet, SpellsText}
@@ -36,34 +37,38 @@ given_by (Add name guid class parent text values) = values
 given_by (Modify name guid values) = values
 given_by _ = []
 
+-- what stands behind the verb in the line of an event, its sets in this order
+unfoldable pub tokens_behind : List Given → Event → List Token
+tokens_behind order (Controller name dsa inv) = Name name ∷ Identifier dsa ∷ Identifier inv ∷ []
+tokens_behind order (Time now) = Number now ∷ []
+tokens_behind order (Add name guid class parent text values) = Name name ∷ Identifier guid ∷ Class class ∷ Identifier parent ∷ Quoted text ∷ sets order
+tokens_behind order (Modify name guid values) = Name name ∷ Identifier guid ∷ sets order
+tokens_behind order (Rename name guid parent text) = Name name ∷ Identifier guid ∷ Identifier parent ∷ Quoted text ∷ []
+tokens_behind order (Delete name guid) = Name name ∷ Identifier guid ∷ []
+tokens_behind order (Link name from attr to) = Name name ∷ Identifier from ∷ Attribute attr ∷ Identifier to ∷ []
+tokens_behind order (Unlink name from attr to) = Name name ∷ Identifier from ∷ Attribute attr ∷ Identifier to ∷ []
+tokens_behind order (Ask name partner max bound) = Name name ∷ Name partner ∷ Number max ∷ Word (codes "as") ∷ Name bound ∷ []
+tokens_behind order (Serve name request bound) = Name name ∷ Name request ∷ Word (codes "as") ∷ Name bound ∷ []
+tokens_behind order (Deliver name reply) = Name name ∷ Name reply ∷ []
+tokens_behind order (Pull name source max) = Name name ∷ Name source ∷ Number max ∷ []
+tokens_behind order (Cycle name source max) = Name name ∷ Name source ∷ Number max ∷ []
+tokens_behind order (Collect name lifetime) = Name name ∷ Number lifetime ∷ []
+tokens_behind order (Backup name bound) = Name name ∷ Word (codes "as") ∷ Name bound ∷ []
+tokens_behind order (Restore name image inv) = Name name ∷ Name image ∷ Identifier inv ∷ []
+tokens_behind order (Install name dsa image inv) = Name name ∷ Identifier dsa ∷ Name image ∷ Identifier inv ∷ []
+tokens_behind order (Snapshot name bound) = Name name ∷ Word (codes "as") ∷ Name bound ∷ []
+tokens_behind order (Rollback name snapshot) = Name name ∷ Name snapshot ∷ []
+tokens_behind order (StopAfter name calls how) = Name name ∷ Word (codes "after") ∷ Number calls ∷ Word (crash_word how) ∷ []
+tokens_behind order (Fail name calls) = Name name ∷ Word (codes "after") ∷ Number calls ∷ []
+tokens_behind order (Stop name) = Name name ∷ []
+tokens_behind order (Start name) = Name name ∷ []
+tokens_behind order (Show name) = Name name ∷ []
+tokens_behind order (Vector name) = Name name ∷ []
+tokens_behind order (Marks name) = Name name ∷ []
+
 -- the tokens of the line of an event, its sets in this order
-unfoldable pub tokens_in : List Given → Event → List Token
-tokens_in order (Controller name dsa inv) = Word (codes "controller") ∷ Name name ∷ Identifier dsa ∷ Identifier inv ∷ []
-tokens_in order (Time now) = Word (codes "time") ∷ Number now ∷ []
-tokens_in order (Add name guid class parent text values) = Word (codes "add") ∷ Name name ∷ Identifier guid ∷ Class class ∷ Identifier parent ∷ Quoted text ∷ sets order
-tokens_in order (Modify name guid values) = Word (codes "modify") ∷ Name name ∷ Identifier guid ∷ sets order
-tokens_in order (Rename name guid parent text) = Word (codes "rename") ∷ Name name ∷ Identifier guid ∷ Identifier parent ∷ Quoted text ∷ []
-tokens_in order (Delete name guid) = Word (codes "delete") ∷ Name name ∷ Identifier guid ∷ []
-tokens_in order (Link name from attr to) = Word (codes "link") ∷ Name name ∷ Identifier from ∷ Attribute attr ∷ Identifier to ∷ []
-tokens_in order (Unlink name from attr to) = Word (codes "unlink") ∷ Name name ∷ Identifier from ∷ Attribute attr ∷ Identifier to ∷ []
-tokens_in order (Ask name partner max bound) = Word (codes "ask") ∷ Name name ∷ Name partner ∷ Number max ∷ Word (codes "as") ∷ Name bound ∷ []
-tokens_in order (Serve name request bound) = Word (codes "serve") ∷ Name name ∷ Name request ∷ Word (codes "as") ∷ Name bound ∷ []
-tokens_in order (Deliver name reply) = Word (codes "deliver") ∷ Name name ∷ Name reply ∷ []
-tokens_in order (Pull name source max) = Word (codes "pull") ∷ Name name ∷ Name source ∷ Number max ∷ []
-tokens_in order (Cycle name source max) = Word (codes "cycle") ∷ Name name ∷ Name source ∷ Number max ∷ []
-tokens_in order (Collect name lifetime) = Word (codes "collect") ∷ Name name ∷ Number lifetime ∷ []
-tokens_in order (Backup name bound) = Word (codes "backup") ∷ Name name ∷ Word (codes "as") ∷ Name bound ∷ []
-tokens_in order (Restore name image inv) = Word (codes "restore") ∷ Name name ∷ Name image ∷ Identifier inv ∷ []
-tokens_in order (Install name dsa image inv) = Word (codes "install") ∷ Name name ∷ Identifier dsa ∷ Name image ∷ Identifier inv ∷ []
-tokens_in order (Snapshot name bound) = Word (codes "snapshot") ∷ Name name ∷ Word (codes "as") ∷ Name bound ∷ []
-tokens_in order (Rollback name snapshot) = Word (codes "rollback") ∷ Name name ∷ Name snapshot ∷ []
-tokens_in order (StopAfter name calls how) = Word (codes "stop") ∷ Name name ∷ Word (codes "after") ∷ Number calls ∷ Word (crash_word how) ∷ []
-tokens_in order (Fail name calls) = Word (codes "fail") ∷ Name name ∷ Word (codes "after") ∷ Number calls ∷ []
-tokens_in order (Stop name) = Word (codes "stop") ∷ Name name ∷ []
-tokens_in order (Start name) = Word (codes "start") ∷ Name name ∷ []
-tokens_in order (Show name) = Word (codes "show") ∷ Name name ∷ []
-tokens_in order (Vector name) = Word (codes "vector") ∷ Name name ∷ []
-tokens_in order (Marks name) = Word (codes "marks") ∷ Name name ∷ []
+abbrev pub tokens_in : List Given → Event → List Token
+tokens_in order event = Word (word_of (verb_of event)) ∷ tokens_behind order event
 
 -- the tokens of the line of an event, its sets in rising order
 abbrev pub tokens_of : Event → List Token

@@ -8,9 +8,9 @@ ghost use Rattle.adr_schedule.specs.Commands.{add_line, ask_line, binding_line, 
 use crate::crashes::crash_of;
 use crate::limits::{ASK_LIMIT, PLAN_LIMIT};
 use crate::sets::sets;
-use crate::verb::Verb;
+use crate::verb::verb_said;
 use adr_disk::Crash;
-use adr_event::{Event, Failure};
+use adr_event::{Event, Failure, Verb};
 use adr_schema::Text;
 use adr_token::{Bad, Line, Stop, without_spaces};
 use std::alloc::Global;
@@ -398,7 +398,7 @@ pub fn event_of(alloc: Global, line: &[u8]) -> Result<Event, Stop>
 {
     let mut line = Line::new(line);
     let word = line.word()?;
-    match Verb::of(word) {
+    match verb_said(word) {
         Some(verb) => by_verb(alloc, verb, &mut line),
         None => Err(Failure::Refused(Bad)),
     }

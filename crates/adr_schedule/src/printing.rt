@@ -4,12 +4,10 @@ ghost use Rattle.std.specs.Prelude.{◌≡◌, ◌++◌, ◌∷◌, [], ℕ, Lis
 ghost use Rattle.std.specs.Fmt.{decimal};
 ghost use Rattle.adr_token.specs.Spelling.{attribute_token, class_token, identifier_token, set_token, text_token};
 ghost use Rattle.adr_schedule.specs.Crashes.{crash_word};
-ghost use Rattle.adr_schedule.specs.Verbs.{word_of};
+ghost use Rattle.adr_schedule.specs.Grammar.{given_by, tokens_behind};
 ghost use Rattle.adr_schedule.specs.Printed.{line_of, printed, set_tokens, spaced, token_of, token_text};
 
 use crate::crashes::crash_word;
-use crate::verb::Verb;
-use adr_disk::Crash;
 use adr_event::Event;
 use adr_schema::{Assignments, NoMemory, Text, Value};
 use adr_token::{
@@ -56,20 +54,6 @@ fn push_tokens(alloc: Global, out: &mut Vec<u8>, tokens: &[Token<'_>]) -> Result
     Ok(())
 }
 
-/// Adds a verb, and then tokens, each behind a space.
-fn push_words(
-    alloc: Global,
-    out: &mut Vec<u8>,
-    verb: Verb,
-    tokens: &[Token<'_>],
-) -> Result<(), NoMemory>
-    ensures { OnOk result (out.new.items
-        ≡ out.old.items ++ (word_of verb ++ spaced (map (λ token. token_text (token_of token)) tokens.now))) }
-{
-    push(out, verb.word())?;
-    push_tokens(alloc, out, tokens)
-}
-
 fn push_spaced_set(
     alloc: Global,
     out: &mut Vec<u8>,
@@ -93,317 +77,39 @@ fn push_sets(alloc: Global, out: &mut Vec<u8>, values: &Assignments) -> Result<(
     Ok(())
 }
 
-fn push_add<'a>(
+/// Adds tokens and sets, each behind a space.
+fn push_with_sets(
     alloc: Global,
     out: &mut Vec<u8>,
-    name: &'a Text,
-    guid: Uuid,
-    class: u16,
-    parent: Uuid,
-    text: &'a Text,
+    tokens: &[Token<'_>],
     values: &Assignments,
 ) -> Result<(), NoMemory>
     ensures { OnOk result (out.new.items
         ≡ out.old.items
-        ++ (codes "add"
-        ++ spaced (name.now ∷ identifier_token guid ∷ class_token class ∷ identifier_token parent
-        ∷ text_token text.now ∷ set_tokens values.now))) }
+        ++ (spaced (map (λ token. token_text (token_of token)) tokens.now) ++ spaced (set_tokens values.now))) }
 {
-    let tokens = [
-        Token::Name(name),
-        Token::Identifier(guid),
-        Token::Class(class),
-        Token::Identifier(parent),
-        Token::Quoted(text),
-    ];
-    push_words(alloc, out, Verb::Add, &tokens)?;
+    push_tokens(alloc, out, tokens)?;
     push_sets(alloc, out, values)
 }
 
-fn push_modify(
-    alloc: Global,
-    out: &mut Vec<u8>,
-    name: &Text,
-    guid: Uuid,
-    values: &Assignments,
-) -> Result<(), NoMemory>
+/// Adds what stands behind the verb in the line of an event, by one call for each kind: an arm with
+/// many steps makes a long proof.
+#[tactic(auto, unfolding(crate::specs::Grammar::tokens_behind))]
+fn push_behind(alloc: Global, out: &mut Vec<u8>, event: &Event) -> Result<(), NoMemory>
     ensures { OnOk result (out.new.items
-        ≡ out.old.items ++ (codes "modify" ++ spaced (name.now ∷ identifier_token guid ∷ set_tokens values.now))) }
-{
-    push_words(
-        alloc,
-        out,
-        Verb::Modify,
-        &[Token::Name(name), Token::Identifier(guid)],
-    )?;
-    push_sets(alloc, out, values)
-}
-
-fn push_named(alloc: Global, out: &mut Vec<u8>, verb: Verb, name: &Text) -> Result<(), NoMemory>
-    ensures { OnOk result (out.new.items ≡ out.old.items ++ (word_of verb ++ spaced (name.now ∷ []))) }
-{
-    push_words(alloc, out, verb, &[Token::Name(name)])
-}
-
-fn push_link(
-    alloc: Global,
-    out: &mut Vec<u8>,
-    verb: Verb,
-    name: &Text,
-    from: Uuid,
-    attr: u16,
-    to: Uuid,
-) -> Result<(), NoMemory>
-    ensures { OnOk result (out.new.items
-        ≡ out.old.items
-        ++ (word_of verb
-        ++ spaced (name.now ∷ identifier_token from ∷ attribute_token attr ∷ identifier_token to ∷ []))) }
-{
-    let tokens = [
-        Token::Name(name),
-        Token::Identifier(from),
-        Token::Attribute(attr),
-        Token::Identifier(to),
-    ];
-    push_words(alloc, out, verb, &tokens)
-}
-
-fn push_controller(
-    alloc: Global,
-    out: &mut Vec<u8>,
-    name: &Text,
-    dsa: Uuid,
-    inv: Uuid,
-) -> Result<(), NoMemory>
-    ensures { OnOk result (out.new.items
-        ≡ out.old.items
-        ++ (codes "controller" ++ spaced (name.now ∷ identifier_token dsa ∷ identifier_token inv ∷ []))) }
-{
-    let tokens = [
-        Token::Name(name),
-        Token::Identifier(dsa),
-        Token::Identifier(inv),
-    ];
-    push_words(alloc, out, Verb::Controller, &tokens)
-}
-
-fn push_time(alloc: Global, out: &mut Vec<u8>, now: u64) -> Result<(), NoMemory>
-    ensures { OnOk result (out.new.items ≡ out.old.items ++ (codes "time" ++ spaced (decimal now ∷ []))) }
-{
-    push_words(alloc, out, Verb::Time, &[Token::Number(now)])
-}
-
-fn push_rename<'a>(
-    alloc: Global,
-    out: &mut Vec<u8>,
-    name: &'a Text,
-    guid: Uuid,
-    parent: Uuid,
-    text: &'a Text,
-) -> Result<(), NoMemory>
-    ensures { OnOk result (out.new.items
-        ≡ out.old.items
-        ++ (codes "rename"
-        ++ spaced (name.now ∷ identifier_token guid ∷ identifier_token parent ∷ text_token text.now ∷ []))) }
-{
-    let tokens = [
-        Token::Name(name),
-        Token::Identifier(guid),
-        Token::Identifier(parent),
-        Token::Quoted(text),
-    ];
-    push_words(alloc, out, Verb::Rename, &tokens)
-}
-
-fn push_delete(alloc: Global, out: &mut Vec<u8>, name: &Text, guid: Uuid) -> Result<(), NoMemory>
-    ensures { OnOk result (out.new.items
-        ≡ out.old.items ++ (codes "delete" ++ spaced (name.now ∷ identifier_token guid ∷ []))) }
-{
-    let tokens = [Token::Name(name), Token::Identifier(guid)];
-    push_words(alloc, out, Verb::Delete, &tokens)
-}
-
-fn push_ask<'a>(
-    alloc: Global,
-    out: &mut Vec<u8>,
-    name: &'a Text,
-    partner: &'a Text,
-    max: u32,
-    bound: &'a Text,
-) -> Result<(), NoMemory>
-    ensures { OnOk result (out.new.items
-        ≡ out.old.items
-        ++ (codes "ask" ++ spaced (name.now ∷ partner.now ∷ decimal max ∷ codes "as" ∷ bound.now ∷ []))) }
-{
-    let tokens = [
-        Token::Name(name),
-        Token::Name(partner),
-        Token::Number(u64::from(max)),
-        Token::Word(b"as"),
-        Token::Name(bound),
-    ];
-    push_words(alloc, out, Verb::Ask, &tokens)
-}
-
-fn push_serve<'a>(
-    alloc: Global,
-    out: &mut Vec<u8>,
-    name: &'a Text,
-    request: &'a Text,
-    bound: &'a Text,
-) -> Result<(), NoMemory>
-    ensures { OnOk result (out.new.items
-        ≡ out.old.items
-        ++ (codes "serve" ++ spaced (name.now ∷ request.now ∷ codes "as" ∷ bound.now ∷ []))) }
-{
-    let tokens = [
-        Token::Name(name),
-        Token::Name(request),
-        Token::Word(b"as"),
-        Token::Name(bound),
-    ];
-    push_words(alloc, out, Verb::Serve, &tokens)
-}
-
-fn push_use<'a>(
-    alloc: Global,
-    out: &mut Vec<u8>,
-    verb: Verb,
-    name: &'a Text,
-    used: &'a Text,
-) -> Result<(), NoMemory>
-    ensures { OnOk result (out.new.items
-        ≡ out.old.items ++ (word_of verb ++ spaced (name.now ∷ used.now ∷ []))) }
-{
-    push_words(alloc, out, verb, &[Token::Name(name), Token::Name(used)])
-}
-
-fn push_pull<'a>(
-    alloc: Global,
-    out: &mut Vec<u8>,
-    verb: Verb,
-    name: &'a Text,
-    source: &'a Text,
-    max: u32,
-) -> Result<(), NoMemory>
-    ensures { OnOk result (out.new.items
-        ≡ out.old.items ++ (word_of verb ++ spaced (name.now ∷ source.now ∷ decimal max ∷ []))) }
-{
-    let tokens = [
-        Token::Name(name),
-        Token::Name(source),
-        Token::Number(u64::from(max)),
-    ];
-    push_words(alloc, out, verb, &tokens)
-}
-
-fn push_collect(
-    alloc: Global,
-    out: &mut Vec<u8>,
-    name: &Text,
-    lifetime: u64,
-) -> Result<(), NoMemory>
-    ensures { OnOk result (out.new.items
-        ≡ out.old.items ++ (codes "collect" ++ spaced (name.now ∷ decimal lifetime ∷ []))) }
-{
-    let tokens = [Token::Name(name), Token::Number(lifetime)];
-    push_words(alloc, out, Verb::Collect, &tokens)
-}
-
-fn push_copy<'a>(
-    alloc: Global,
-    out: &mut Vec<u8>,
-    verb: Verb,
-    name: &'a Text,
-    bound: &'a Text,
-) -> Result<(), NoMemory>
-    ensures { OnOk result (out.new.items
-        ≡ out.old.items ++ (word_of verb ++ spaced (name.now ∷ codes "as" ∷ bound.now ∷ []))) }
-{
-    let tokens = [Token::Name(name), Token::Word(b"as"), Token::Name(bound)];
-    push_words(alloc, out, verb, &tokens)
-}
-
-fn push_restore<'a>(
-    alloc: Global,
-    out: &mut Vec<u8>,
-    name: &'a Text,
-    image: &'a Text,
-    inv: Uuid,
-) -> Result<(), NoMemory>
-    ensures { OnOk result (out.new.items
-        ≡ out.old.items ++ (codes "restore" ++ spaced (name.now ∷ image.now ∷ identifier_token inv ∷ []))) }
-{
-    let tokens = [
-        Token::Name(name),
-        Token::Name(image),
-        Token::Identifier(inv),
-    ];
-    push_words(alloc, out, Verb::Restore, &tokens)
-}
-
-fn push_install<'a>(
-    alloc: Global,
-    out: &mut Vec<u8>,
-    name: &'a Text,
-    dsa: Uuid,
-    image: &'a Text,
-    inv: Uuid,
-) -> Result<(), NoMemory>
-    ensures { OnOk result (out.new.items
-        ≡ out.old.items
-        ++ (codes "install"
-        ++ spaced (name.now ∷ identifier_token dsa ∷ image.now ∷ identifier_token inv ∷ []))) }
-{
-    let tokens = [
-        Token::Name(name),
-        Token::Identifier(dsa),
-        Token::Name(image),
-        Token::Identifier(inv),
-    ];
-    push_words(alloc, out, Verb::Install, &tokens)
-}
-
-fn push_stop_after(
-    alloc: Global,
-    out: &mut Vec<u8>,
-    name: &Text,
-    calls: u32,
-    how: Crash,
-) -> Result<(), NoMemory>
-    ensures { OnOk result (out.new.items
-        ≡ out.old.items
-        ++ (codes "stop" ++ spaced (name.now ∷ codes "after" ∷ decimal calls ∷ crash_word how ∷ []))) }
-{
-    let tokens = [
-        Token::Name(name),
-        Token::Word(b"after"),
-        Token::Number(u64::from(calls)),
-        Token::Word(crash_word(how)),
-    ];
-    push_words(alloc, out, Verb::Stop, &tokens)
-}
-
-fn push_fail(alloc: Global, out: &mut Vec<u8>, name: &Text, calls: u32) -> Result<(), NoMemory>
-    ensures { OnOk result (out.new.items
-        ≡ out.old.items ++ (codes "fail" ++ spaced (name.now ∷ codes "after" ∷ decimal calls ∷ []))) }
-{
-    let tokens = [
-        Token::Name(name),
-        Token::Word(b"after"),
-        Token::Number(u64::from(calls)),
-    ];
-    push_words(alloc, out, Verb::Fail, &tokens)
-}
-
-/// Adds the line of an event, by one call for each kind: an arm with many steps makes a long proof.
-#[tactic(auto, unfolding(crate::specs::Printed::line_of, crate::specs::Grammar::tokens_in))]
-fn push_line(alloc: Global, out: &mut Vec<u8>, event: &Event) -> Result<(), NoMemory>
-    ensures { OnOk result (out.new.items ≡ out.old.items ++ line_of event.now) }
+        ≡ out.old.items ++ spaced (map token_text (tokens_behind (given_by event.now) event.now))) }
 {
     match event {
-        Event::Controller { name, dsa, inv } => push_controller(alloc, out, name, *dsa, *inv),
-        Event::Time { now } => push_time(alloc, out, *now),
+        Event::Controller { name, dsa, inv } => push_tokens(
+            alloc,
+            out,
+            &[
+                Token::Name(name),
+                Token::Identifier(*dsa),
+                Token::Identifier(*inv),
+            ],
+        ),
+        Event::Time { now } => push_tokens(alloc, out, &[Token::Number(*now)]),
         Event::Add {
             name,
             guid,
@@ -411,67 +117,204 @@ fn push_line(alloc: Global, out: &mut Vec<u8>, event: &Event) -> Result<(), NoMe
             parent,
             text,
             values,
-        } => push_add(alloc, out, name, *guid, *class, *parent, text, values),
-        Event::Modify { name, guid, values } => push_modify(alloc, out, name, *guid, values),
+        } => push_with_sets(
+            alloc,
+            out,
+            &[
+                Token::Name(name),
+                Token::Identifier(*guid),
+                Token::Class(*class),
+                Token::Identifier(*parent),
+                Token::Quoted(text),
+            ],
+            values,
+        ),
+        Event::Modify { name, guid, values } => push_with_sets(
+            alloc,
+            out,
+            &[Token::Name(name), Token::Identifier(*guid)],
+            values,
+        ),
         Event::Rename {
             name,
             guid,
             parent,
             text,
-        } => push_rename(alloc, out, name, *guid, *parent, text),
-        Event::Delete { name, guid } => push_delete(alloc, out, name, *guid),
+        } => push_tokens(
+            alloc,
+            out,
+            &[
+                Token::Name(name),
+                Token::Identifier(*guid),
+                Token::Identifier(*parent),
+                Token::Quoted(text),
+            ],
+        ),
+        Event::Delete { name, guid } => push_tokens(
+            alloc,
+            out,
+            &[Token::Name(name), Token::Identifier(*guid)],
+        ),
         Event::Link {
             name,
             from,
             attr,
             to,
-        } => push_link(alloc, out, Verb::Link, name, *from, *attr, *to),
+        } => push_tokens(
+            alloc,
+            out,
+            &[
+                Token::Name(name),
+                Token::Identifier(*from),
+                Token::Attribute(*attr),
+                Token::Identifier(*to),
+            ],
+        ),
         Event::Unlink {
             name,
             from,
             attr,
             to,
-        } => push_link(alloc, out, Verb::Unlink, name, *from, *attr, *to),
+        } => push_tokens(
+            alloc,
+            out,
+            &[
+                Token::Name(name),
+                Token::Identifier(*from),
+                Token::Attribute(*attr),
+                Token::Identifier(*to),
+            ],
+        ),
         Event::Ask {
             name,
             partner,
             max,
             bound,
-        } => push_ask(alloc, out, name, partner, *max, bound),
+        } => push_tokens(
+            alloc,
+            out,
+            &[
+                Token::Name(name),
+                Token::Name(partner),
+                Token::Number(u64::from(*max)),
+                Token::Word(b"as"),
+                Token::Name(bound),
+            ],
+        ),
         Event::Serve {
             name,
             request,
             bound,
-        } => push_serve(alloc, out, name, request, bound),
-        Event::Deliver { name, reply } => push_use(alloc, out, Verb::Deliver, name, reply),
-        Event::Pull { name, source, max } => push_pull(alloc, out, Verb::Pull, name, source, *max),
-        Event::Cycle { name, source, max } => push_pull(
+        } => push_tokens(
             alloc,
             out,
-            Verb::Cycle,
-            name,
-            source,
-            *max,
+            &[
+                Token::Name(name),
+                Token::Name(request),
+                Token::Word(b"as"),
+                Token::Name(bound),
+            ],
         ),
-        Event::Collect { name, lifetime } => push_collect(alloc, out, name, *lifetime),
-        Event::Backup { name, bound } => push_copy(alloc, out, Verb::Backup, name, bound),
-        Event::Restore { name, image, inv } => push_restore(alloc, out, name, image, *inv),
+        Event::Deliver { name, reply } => push_tokens(
+            alloc,
+            out,
+            &[Token::Name(name), Token::Name(reply)],
+        ),
+        Event::Pull { name, source, max } => push_tokens(
+            alloc,
+            out,
+            &[
+                Token::Name(name),
+                Token::Name(source),
+                Token::Number(u64::from(*max)),
+            ],
+        ),
+        Event::Cycle { name, source, max } => push_tokens(
+            alloc,
+            out,
+            &[
+                Token::Name(name),
+                Token::Name(source),
+                Token::Number(u64::from(*max)),
+            ],
+        ),
+        Event::Collect { name, lifetime } => push_tokens(
+            alloc,
+            out,
+            &[Token::Name(name), Token::Number(*lifetime)],
+        ),
+        Event::Backup { name, bound } => push_tokens(
+            alloc,
+            out,
+            &[Token::Name(name), Token::Word(b"as"), Token::Name(bound)],
+        ),
+        Event::Restore { name, image, inv } => push_tokens(
+            alloc,
+            out,
+            &[
+                Token::Name(name),
+                Token::Name(image),
+                Token::Identifier(*inv),
+            ],
+        ),
         Event::Install {
             name,
             dsa,
             image,
             inv,
-        } => push_install(alloc, out, name, *dsa, image, *inv),
-        Event::Snapshot { name, bound } => push_copy(alloc, out, Verb::Snapshot, name, bound),
-        Event::Rollback { name, snapshot } => push_use(alloc, out, Verb::Rollback, name, snapshot),
-        Event::StopAfter { name, calls, how } => push_stop_after(alloc, out, name, *calls, *how),
-        Event::Fail { name, calls } => push_fail(alloc, out, name, *calls),
-        Event::Stop { name } => push_named(alloc, out, Verb::Stop, name),
-        Event::Start { name } => push_named(alloc, out, Verb::Start, name),
-        Event::Show { name } => push_named(alloc, out, Verb::Show, name),
-        Event::Vector { name } => push_named(alloc, out, Verb::Vector, name),
-        Event::Marks { name } => push_named(alloc, out, Verb::Marks, name),
+        } => push_tokens(
+            alloc,
+            out,
+            &[
+                Token::Name(name),
+                Token::Identifier(*dsa),
+                Token::Name(image),
+                Token::Identifier(*inv),
+            ],
+        ),
+        Event::Snapshot { name, bound } => push_tokens(
+            alloc,
+            out,
+            &[Token::Name(name), Token::Word(b"as"), Token::Name(bound)],
+        ),
+        Event::Rollback { name, snapshot } => push_tokens(
+            alloc,
+            out,
+            &[Token::Name(name), Token::Name(snapshot)],
+        ),
+        Event::StopAfter { name, calls, how } => push_tokens(
+            alloc,
+            out,
+            &[
+                Token::Name(name),
+                Token::Word(b"after"),
+                Token::Number(u64::from(*calls)),
+                Token::Word(crash_word(*how)),
+            ],
+        ),
+        Event::Fail { name, calls } => push_tokens(
+            alloc,
+            out,
+            &[
+                Token::Name(name),
+                Token::Word(b"after"),
+                Token::Number(u64::from(*calls)),
+            ],
+        ),
+        Event::Stop { name } => push_tokens(alloc, out, &[Token::Name(name)]),
+        Event::Start { name } => push_tokens(alloc, out, &[Token::Name(name)]),
+        Event::Show { name } => push_tokens(alloc, out, &[Token::Name(name)]),
+        Event::Vector { name } => push_tokens(alloc, out, &[Token::Name(name)]),
+        Event::Marks { name } => push_tokens(alloc, out, &[Token::Name(name)]),
     }
+}
+
+#[tactic(auto, unfolding(crate::specs::Printed::line_of))]
+fn push_line(alloc: Global, out: &mut Vec<u8>, event: &Event) -> Result<(), NoMemory>
+    ensures { OnOk result (out.new.items ≡ out.old.items ++ line_of event.now) }
+{
+    push(out, event.verb().word().as_bytes())?;
+    push_behind(alloc, out, event)
 }
 
 /// The text of some events, a line each.

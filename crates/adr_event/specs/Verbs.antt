@@ -1,0 +1,91 @@
+-- The verbs: the words that lines begin with and answers repeat. And the controllers that lines go to.
+use Rattle.std.specs.Prelude.{ℕ, List, [], codes}
+use Rattle.adr_event.specs.declared.event.Event.{Event}
+use Rattle.adr_event.specs.declared.event.Event.TheVariants as events
+use Rattle.adr_event.specs.declared.verb.Verb.{Verb}
+use Rattle.adr_event.specs.declared.verb.Verb.TheVariants.{Controller, Time, Add, Modify, Rename, Delete, Link, Unlink, Ask, Serve, Deliver, Pull, Cycle, Collect, Backup, Restore, Install, Snapshot, Rollback, Stop, Fail, Start, Show, Vector, Marks}
+
+abbrev pub word_of : Verb → List ℕ
+word_of Controller = codes "controller"
+word_of Time = codes "time"
+word_of Add = codes "add"
+word_of Modify = codes "modify"
+word_of Rename = codes "rename"
+word_of Delete = codes "delete"
+word_of Link = codes "link"
+word_of Unlink = codes "unlink"
+word_of Ask = codes "ask"
+word_of Serve = codes "serve"
+word_of Deliver = codes "deliver"
+word_of Pull = codes "pull"
+word_of Cycle = codes "cycle"
+word_of Collect = codes "collect"
+word_of Backup = codes "backup"
+word_of Restore = codes "restore"
+word_of Install = codes "install"
+word_of Snapshot = codes "snapshot"
+word_of Rollback = codes "rollback"
+word_of Stop = codes "stop"
+word_of Fail = codes "fail"
+word_of Start = codes "start"
+word_of Show = codes "show"
+word_of Vector = codes "vector"
+word_of Marks = codes "marks"
+
+-- the verb of an event's line
+abbrev pub verb_of : Event → Verb
+verb_of (events.Controller name dsa inv) = Controller
+verb_of (events.Time now) = Time
+verb_of (events.Add name guid class parent text values) = Add
+verb_of (events.Modify name guid values) = Modify
+verb_of (events.Rename name guid parent text) = Rename
+verb_of (events.Delete name guid) = Delete
+verb_of (events.Link name from attr to) = Link
+verb_of (events.Unlink name from attr to) = Unlink
+verb_of (events.Ask name partner max bind) = Ask
+verb_of (events.Serve name request bind) = Serve
+verb_of (events.Deliver name reply) = Deliver
+verb_of (events.Pull name source max) = Pull
+verb_of (events.Cycle name source max) = Cycle
+verb_of (events.Collect name lifetime) = Collect
+verb_of (events.Backup name bind) = Backup
+verb_of (events.Restore name image inv) = Restore
+verb_of (events.Install name dsa image inv) = Install
+verb_of (events.Snapshot name bind) = Snapshot
+verb_of (events.Rollback name snapshot) = Rollback
+verb_of (events.StopAfter name calls how) = Stop
+verb_of (events.Fail name calls) = Fail
+verb_of (events.Stop name) = Stop
+verb_of (events.Start name) = Start
+verb_of (events.Show name) = Show
+verb_of (events.Vector name) = Vector
+verb_of (events.Marks name) = Marks
+
+-- the controller that a line goes to, if there is one
+abbrev pub name_of : Event → List ℕ
+name_of (events.Controller name dsa inv) = name
+name_of (events.Time now) = []
+name_of (events.Add name guid class parent text values) = name
+name_of (events.Modify name guid values) = name
+name_of (events.Rename name guid parent text) = name
+name_of (events.Delete name guid) = name
+name_of (events.Link name from attr to) = name
+name_of (events.Unlink name from attr to) = name
+name_of (events.Ask name partner max bind) = name
+name_of (events.Serve name request bind) = name
+name_of (events.Deliver name reply) = name
+name_of (events.Pull name source max) = name
+name_of (events.Cycle name source max) = name
+name_of (events.Collect name lifetime) = name
+name_of (events.Backup name bind) = name
+name_of (events.Restore name image inv) = name
+name_of (events.Install name dsa image inv) = name
+name_of (events.Snapshot name bind) = name
+name_of (events.Rollback name snapshot) = name
+name_of (events.StopAfter name calls how) = name
+name_of (events.Fail name calls) = name
+name_of (events.Stop name) = name
+name_of (events.Start name) = name
+name_of (events.Show name) = name
+name_of (events.Vector name) = name
+name_of (events.Marks name) = name

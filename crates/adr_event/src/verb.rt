@@ -1,0 +1,106 @@
+//! The words that lines begin with, and that answers repeat.
+
+ghost use Rattle.std.specs.Prelude.{◌≡◌};
+ghost use Rattle.adr_event.specs.Verbs.{verb_of, word_of};
+
+use crate::event::Event;
+
+/// What a line begins with.
+#[derive(Clone, Copy)]
+pub enum Verb {
+    Controller,
+    Time,
+    Add,
+    Modify,
+    Rename,
+    Delete,
+    Link,
+    Unlink,
+    Ask,
+    Serve,
+    Deliver,
+    Pull,
+    Cycle,
+    Collect,
+    Backup,
+    Restore,
+    Install,
+    Snapshot,
+    Rollback,
+    Stop,
+    Fail,
+    Start,
+    Show,
+    Vector,
+    Marks,
+}
+
+impl Verb {
+    /// The word of a verb.
+    pub fn word(self) -> &'static str
+        ensures { result.now ≡ word_of self }
+    {
+        match self {
+            Verb::Controller => "controller",
+            Verb::Time => "time",
+            Verb::Add => "add",
+            Verb::Modify => "modify",
+            Verb::Rename => "rename",
+            Verb::Delete => "delete",
+            Verb::Link => "link",
+            Verb::Unlink => "unlink",
+            Verb::Ask => "ask",
+            Verb::Serve => "serve",
+            Verb::Deliver => "deliver",
+            Verb::Pull => "pull",
+            Verb::Cycle => "cycle",
+            Verb::Collect => "collect",
+            Verb::Backup => "backup",
+            Verb::Restore => "restore",
+            Verb::Install => "install",
+            Verb::Snapshot => "snapshot",
+            Verb::Rollback => "rollback",
+            Verb::Stop => "stop",
+            Verb::Fail => "fail",
+            Verb::Start => "start",
+            Verb::Show => "show",
+            Verb::Vector => "vector",
+            Verb::Marks => "marks",
+        }
+    }
+}
+
+impl Event {
+    /// The verb of the line that says the event.
+    pub fn verb(&self) -> Verb
+        ensures { result ≡ verb_of self.now }
+    {
+        match self {
+            Event::Controller { .. } => Verb::Controller,
+            Event::Time { .. } => Verb::Time,
+            Event::Add { .. } => Verb::Add,
+            Event::Modify { .. } => Verb::Modify,
+            Event::Rename { .. } => Verb::Rename,
+            Event::Delete { .. } => Verb::Delete,
+            Event::Link { .. } => Verb::Link,
+            Event::Unlink { .. } => Verb::Unlink,
+            Event::Ask { .. } => Verb::Ask,
+            Event::Serve { .. } => Verb::Serve,
+            Event::Deliver { .. } => Verb::Deliver,
+            Event::Pull { .. } => Verb::Pull,
+            Event::Cycle { .. } => Verb::Cycle,
+            Event::Collect { .. } => Verb::Collect,
+            Event::Backup { .. } => Verb::Backup,
+            Event::Restore { .. } => Verb::Restore,
+            Event::Install { .. } => Verb::Install,
+            Event::Snapshot { .. } => Verb::Snapshot,
+            Event::Rollback { .. } => Verb::Rollback,
+            Event::StopAfter { .. } | Event::Stop { .. } => Verb::Stop,
+            Event::Fail { .. } => Verb::Fail,
+            Event::Start { .. } => Verb::Start,
+            Event::Show { .. } => Verb::Show,
+            Event::Vector { .. } => Verb::Vector,
+            Event::Marks { .. } => Verb::Marks,
+        }
+    }
+}
