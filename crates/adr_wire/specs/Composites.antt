@@ -13,7 +13,8 @@ use Rattle.adr_schema.specs.declared.content.Content.{Content}
 use Rattle.adr_schema.specs.declared.content.Content.TheVariants.{Class, Name, Dead, Values}
 use Rattle.adr_vector.specs.declared.mark.Mark.{Mark}
 use Rattle.adr_vector.specs.Vector.{Cursors, cursor_limit}
-use Rattle.adr_wire.specs.Reading.{Reading, ◌>>=◌, as_at, where_at, then_at, elements_at, above_at}
+use Rattle.adr_wire.specs.Reading.{Reading, ◌>>=◌, as_at, where_at, then_at, elements_at, is_above, above_at}
+use Rattle.adr_wire.specs.Gathering.{passing_at}
 use Rattle.adr_wire.specs.Fields.{u8_at, u16_at, u32_at, u64_at, i64_at, id_at, flag_at, usn_at, usn0_at, version_at, text_at, octets_at, u8, u16, u32, u64, i64, id, flag, text, octets}
 
 -- ---- marks, names and stamps
@@ -116,6 +117,10 @@ Row = ℕ × Stamp × Content
 -- what stands behind a row's attribute
 unfoldable pub row_of : ℕ → Reading Row
 row_of attr = as_at (λ p. (attr, p.0, p.1)) (then_at stamp_at (λ _. content_at attr))
+
+-- a row whose attribute is above the last one, else a fault at this place
+unfoldable pub row_after : ℕ → Option ℕ → Reading Row
+row_after place last rest = passing_at place (is_above nat_cmp last) u16_at rest >>= λ k. row_of k.0 k.1
 
 unfoldable pub row_above : Option ℕ → Reading Row
 row_above = above_at nat_cmp u16_at row_of

@@ -2,12 +2,12 @@
 
 ghost use Rattle.std.specs.Prelude.{◌≡◌};
 ghost use Rattle.adr_wire.specs.Reading.{Gives, GivesAs, Tells};
-ghost use Rattle.adr_wire.specs.Composites.{mark_at, oid_at, stamp_at, value_at, content_at, row_at, object_at, link_key_at, link_stamp_at, link_at, vector_at};
+ghost use Rattle.adr_wire.specs.Composites.{mark_at, oid_at, stamp_at, value_at, content_at, object_at, link_key_at, link_stamp_at, link_at, vector_at};
 
 use crate::reader::Reader;
 use crate::refusal::{Malformed, WireRefusal};
 use adr_failure::Failure;
-use adr_schema::{Content, Value, Values};
+use adr_schema::{Content, Value};
 use adr_stamp::{Birth, LinkKey, LinkStamp, Oid, Stamp};
 use adr_vector::{CURSOR_LIMIT, Mark, Vector};
 use std::alloc::Global;
@@ -58,11 +58,11 @@ impl Reader<'_> {
     {
         let place = self.place();
         match self.read_u8()? {
-            1 => Ok(Value::Text(self.read_text(alloc)?)),
-            2 => Ok(Value::Number(self.read_i64()?)),
-            3 => Ok(Value::Flag(self.read_flag()?)),
-            4 => Ok(Value::Octets(self.read_octets(alloc)?)),
-            5 => Ok(Value::Ref(self.read_id()?)),
+            1 => self.read_text(alloc).map(Value::Text),
+            2 => self.read_i64().map(Value::Number),
+            3 => self.read_flag().map(Value::Flag),
+            4 => self.read_octets(alloc).map(Value::Octets),
+            5 => self.read_id().map(Value::Ref),
             _ => Err(Failure::Refused(Malformed { place })),
         }
     }
@@ -73,7 +73,7 @@ impl Reader<'_> {
         ensures { Gives result self.new (content_at attr self.old) }
     {
         match attr {
-            1 => Ok(Content::Class(self.read_u16()?)),
+            1 => self.read_u16().map(Content::Class),
             2 => {
                 let parent = self.read_id()?;
                 let text = self.read_text(alloc)?;
@@ -82,17 +82,9 @@ impl Reader<'_> {
             3 => Ok(Content::Dead),
             _ => {
                 let count = self.read_u8()?;
-                let values = self.read_values(alloc, count)?;
-                Ok(Content::Values(Values::of(values)))
+                self.read_values(alloc, count).map(Content::Values)
             }
         }
-    }
-
-    /// A row: its attribute, its stamp and its content.
-    pub fn read_row(&mut self, alloc: Global) -> Result<(u16, Stamp, Content), WireRefusal>
-        ensures { Gives result self.new (row_at self.old) }
-    {
-        self.read_row_above(alloc, None)
     }
 
     /// An object item without its kind: a name, and at least one row, rising by attribute.

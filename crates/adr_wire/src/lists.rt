@@ -4,12 +4,12 @@ ghost use Rattle.std.specs.Prelude.{◌≡◌};
 ghost use Rattle.std.specs.Ordering.{nat_cmp};
 ghost use Rattle.adr_stamp.specs.Order.{identifier_order};
 ghost use Rattle.adr_wire.specs.Reading.{Gives, GivesAs, Tells, is_above};
-ghost use Rattle.adr_wire.specs.Composites.{values_at, row_above, rows_at, cursor_above, cursors_at};
+ghost use Rattle.adr_wire.specs.Composites.{values_at, row_above, row_after, rows_at, cursor_above, cursors_at};
 
 use crate::reader::Reader;
 use crate::refusal::{Malformed, WireRefusal};
 use adr_failure::Failure;
-use adr_schema::{Content, Value};
+use adr_schema::{Content, Value, Values};
 use adr_stamp::Stamp;
 use std::alloc::Global;
 use uuid::Uuid;
@@ -37,27 +37,27 @@ fn id_rises(last: Option<Uuid>, inv: Uuid) -> bool
 impl Reader<'_> {
     /// So many values.
     #[tactic(auto, unfolding(crate::specs::Composites::values_at))]
-    pub fn read_values(&mut self, alloc: Global, count: u8) -> Result<Vec<Value>, WireRefusal>
-        ensures { GivesAs (λ values. values.items) result self.new (values_at count self.old) }
+    pub fn read_values(&mut self, alloc: Global, count: u8) -> Result<Values, WireRefusal>
+        ensures { Gives result self.new (values_at count self.old) }
     {
         let mut values = Vec::new(alloc);
         for _ in 0..count {
             let value = self.read_value(alloc)?;
             values.push(value)?;
         }
-        Ok(values)
+        Ok(Values::of(values))
     }
 
-    /// A row whose attribute comes behind the last one.
-    #[tactic(auto, unfolding(crate::specs::Composites::row_above, crate::specs::Composites::row_of))]
-    pub fn read_row_above(
+    /// A row whose attribute comes behind the last one, else a fault at `place`.
+    #[tactic(auto, unfolding(crate::specs::Composites::row_after, crate::specs::Composites::row_of))]
+    pub fn read_row_after(
         &mut self,
         alloc: Global,
+        place: u64,
         last: Option<u16>,
     ) -> Result<(u16, Stamp, Content), WireRefusal>
-        ensures { Gives result self.new (row_above last self.old) }
+        ensures { Gives result self.new (row_after place last self.old) }
     {
-        let place = self.place();
         let attr = self.read_u16()?;
         if !rises(last, attr) {
             return Err(Failure::Refused(Malformed { place }));
@@ -65,6 +65,19 @@ impl Reader<'_> {
         let stamp = self.read_stamp()?;
         let content = self.read_content(alloc, attr)?;
         Ok((attr, stamp, content))
+    }
+
+    /// A row whose attribute comes behind the last one.
+    #[tactic(auto, unfolding(crate::specs::Composites::row_above, crate::specs::Composites::row_after))]
+    fn read_row_above(
+        &mut self,
+        alloc: Global,
+        last: Option<u16>,
+    ) -> Result<(u16, Stamp, Content), WireRefusal>
+        ensures { Gives result self.new (row_above last self.old) }
+    {
+        let place = self.place();
+        self.read_row_after(alloc, place, last)
     }
 
     /// So many rows, rising by attribute.

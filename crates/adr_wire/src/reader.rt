@@ -89,28 +89,28 @@ impl<'a> Reader<'a> {
     pub fn read_u16(&mut self) -> Result<u16, WireRefusal>
         ensures { Tells result self.new (u16_at self.old) }
     {
-        Ok(u16::from_be_bytes(self.take::<2>()?))
+        self.take::<2>().map(u16::from_be_bytes)
     }
 
     #[tactic(auto, unfolding(crate::specs::Fields::u32_at))]
     pub fn read_u32(&mut self) -> Result<u32, WireRefusal>
         ensures { Tells result self.new (u32_at self.old) }
     {
-        Ok(u32::from_be_bytes(self.take::<4>()?))
+        self.take::<4>().map(u32::from_be_bytes)
     }
 
     #[tactic(auto, unfolding(crate::specs::Fields::u64_at))]
     pub fn read_u64(&mut self) -> Result<u64, WireRefusal>
         ensures { Tells result self.new (u64_at self.old) }
     {
-        Ok(u64::from_be_bytes(self.take::<8>()?))
+        self.take::<8>().map(u64::from_be_bytes)
     }
 
     #[tactic(auto, unfolding(crate::specs::Fields::i64_at, crate::specs::Fields::u64_at))]
     pub fn read_i64(&mut self) -> Result<i64, WireRefusal>
         ensures { Tells result self.new (i64_at self.old) }
     {
-        Ok(i64::from_be_bytes(self.take::<8>()?))
+        self.take::<8>().map(i64::from_be_bytes)
     }
 
     #[tactic(auto, unfolding(crate::specs::Fields::flag_at))]
@@ -129,7 +129,7 @@ impl<'a> Reader<'a> {
     pub fn read_id(&mut self) -> Result<Uuid, WireRefusal>
         ensures { Tells result self.new (id_at self.old) }
     {
-        Ok(Uuid::from_bytes(self.take::<16>()?))
+        self.take::<16>().map(Uuid::from_bytes)
     }
 
     #[tactic(auto, unfolding(crate::specs::Fields::usn_at))]

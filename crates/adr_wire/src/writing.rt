@@ -2,6 +2,7 @@
 
 ghost use Rattle.std.specs.Prelude.{◌≡◌, ◌++◌, ◌<◌, ◌^◌, OnOk, All, length};
 ghost use Rattle.std.specs.List.{flat_map};
+ghost use Rattle.adr_wire.specs.Fields.{u8};
 ghost use Rattle.adr_wire.specs.Composites.{IsShortValue, IsShortContent};
 ghost use Rattle.adr_wire.specs.Composites as spelled;
 
@@ -11,6 +12,19 @@ use adr_schema::{Content, Value};
 use adr_stamp::{LinkKey, LinkStamp, Oid, Stamp};
 use adr_vector::{Mark, Vector};
 use uuid::Uuid;
+
+/// The kind of a value, which says how it is read again.
+fn kind_of(value: &Value) -> u8
+    ensures { result ≡ spelled.kind_of value.now }
+{
+    match value {
+        Value::Text(_) => 1,
+        Value::Number(_) => 2,
+        Value::Flag(_) => 3,
+        Value::Octets(_) => 4,
+        Value::Ref(_) => 5,
+    }
+}
 
 impl Writer {
     pub fn write_mark(&mut self, value: &Mark) -> Result<(), NoMemory>
@@ -42,27 +56,13 @@ impl Writer {
         requires { IsShortValue value.now }
         ensures { OnOk result (self.new ≡ self.old ++ spelled.value value.now) }
     {
+        self.write_u8(&kind_of(value))?;
         match value {
-            Value::Text(text) => {
-                self.write_u8(&1)?;
-                self.write_text(text)
-            }
-            Value::Number(number) => {
-                self.write_u8(&2)?;
-                self.write_i64(number)
-            }
-            Value::Flag(flag) => {
-                self.write_u8(&3)?;
-                self.write_flag(flag)
-            }
-            Value::Octets(octets) => {
-                self.write_u8(&4)?;
-                self.write_octets(octets)
-            }
-            Value::Ref(guid) => {
-                self.write_u8(&5)?;
-                self.write_id(guid)
-            }
+            Value::Text(text) => self.write_text(text),
+            Value::Number(number) => self.write_i64(number),
+            Value::Flag(flag) => self.write_flag(flag),
+            Value::Octets(octets) => self.write_octets(octets),
+            Value::Ref(guid) => self.write_id(guid),
         }
     }
 
@@ -78,30 +78,22 @@ impl Writer {
                 self.write_text(text)
             }
             Content::Dead => Ok(()),
-            Content::Values(values) => {
-                let values = values.items();
-                self.write_u8(&(values.len() as u8))?;
-                self.write_values(values)
-            }
+            Content::Values(values) => self.write_values(values.items()),
         }
     }
 
-    /// Values, one behind the other.
+    /// A count of values, and the values.
     fn write_values(&mut self, values: &[Value]) -> Result<(), NoMemory>
-        requires { All IsShortValue values.now }
-        ensures { OnOk result (self.new ≡ self.old ++ flat_map spelled.value values.now) }
+        requires count { length values.now < 2 ^ 8 }
+        requires short { All IsShortValue values.now }
+        ensures { OnOk result (self.new
+            ≡ self.old ++ (u8 (length values.now) ++ flat_map spelled.value values.now)) }
     {
+        self.write_u8(&(values.len() as u8))?;
         for value in values {
             self.write_value(value)?;
         }
         Ok(())
-    }
-
-    pub fn write_row(&mut self, value: &(u16, Stamp, Content)) -> Result<(), NoMemory>
-        requires { IsShortContent value.now.2 }
-        ensures { OnOk result (self.new ≡ self.old ++ spelled.row value.now) }
-    {
-        self.write_row_of(value.0, &value.1, &value.2)
     }
 
     /// A row, of its parts.
@@ -139,7 +131,7 @@ impl Writer {
         ensures { OnOk result (self.new ≡ self.old ++ flat_map spelled.row rows.now) }
     {
         for row in rows {
-            self.write_row(row)?;
+            self.write_row_of(row.0, &row.1, &row.2)?;
         }
         Ok(())
     }
