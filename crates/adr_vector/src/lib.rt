@@ -11,4 +11,4 @@ mod vector;
 
 pub use adr_failure::{Failure, NoMemory};
 pub use mark::Mark;
-pub use vector::{CURSOR_LIMIT, Full, Vector, vectors_are_their_numbers};
+pub use vector::{CURSOR_LIMIT, Full, Vector, seen_by_both, vectors_are_their_numbers};

@@ -64,6 +64,13 @@ impl Vector {
         &self.cursors
     }
 
+    /// Identifiers rise, each has a number above 0, and there are few enough.
+    pub fn is_vector(&self)
+        ensures { IsVector self.now }
+    {
+        let _cursors = &self.cursors;
+    }
+
     pub fn len(&self) -> usize
         ensures { result ≡ length self.now }
     {
@@ -235,6 +242,14 @@ impl Vector {
         self.cursors.insert(place, (inv, usn))?;
         Ok(())
     }
+}
+
+/// How much of an incarnation one of two vectors has seen.
+pub fn seen_by_both(one: &Vector, other: &Vector, inv: Uuid) -> u64
+    ensures { result ≡ at (joined one.now other.now) inv }
+{
+    other.is_vector();
+    one.at(inv).max(other.at(inv))
 }
 
 /// Two vectors with the same number at every identifier are one vector.
