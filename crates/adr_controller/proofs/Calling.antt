@@ -22,8 +22,8 @@ use Rattle.adr_controller.specs.declared.refusal.CallRefusal.TheVariants.{Hinder
 use Rattle.adr_controller.specs.Running.{Running, IsInOrder}
 use Rattle.adr_controller.specs.Able.{change_of_write}
 use Rattle.adr_controller.specs.Ended.{call_hindrance, of_failure}
-use Rattle.adr_controller.specs.Did.{FindsEither, Ran, Commits, Calls}
-use Rattle.adr_controller.proofs.Kept.{if_told, is_some_of, some_same}
+use Rattle.adr_controller.specs.Did.{FindsEither, Ran, Commits, Calls, IsMade}
+use Rattle.adr_law_journal.proofs.Told.{if_told, is_some_of, some_is}
 
 same_keeps : {D C O : Type 0} (content : D → Option C) (may_leave : D → O → Type 0) (moment : D → ℕ) (left_since : D → ℕ → O → Type 0) (d : D) → Keeps content may_leave moment left_since d d
 same_keeps content may_leave moment left_since d = record {
@@ -47,16 +47,21 @@ module _ {K : Type 0} (k : Ghosts K) where
     commits = λ s c is makes. calls.commits s c is (same s is ∙ makes);
   }
 
-  pub committed_so : (c : Change) (old new : Running K) (how : Option Hindrance) → (how ≡ Some Down) ↔ (old.down ≡ true) → (how ≡ Some Failed) ↔ ((old.down ≡ false) × (old.state ≡ None)) → (old.state ≡ None → new ≡ old)
-      → ((s : State) → old.state ≡ Some s → Commits k s c old new how) → Calls k (λ s. Some c) old new how
-  committed_so c old new how down failed stays commits = record {
+  -- the change that a call makes of the state was committed
+  pub committed_so : (changes : State → Option Change) (c : Change) (old new : Running K) (how : Option Hindrance) → IsMade k changes old c
+      → (how ≡ Some Down) ↔ (old.down ≡ true) → (how ≡ Some Failed) ↔ ((old.down ≡ false) × (old.state ≡ None)) → (old.state ≡ None → new ≡ old)
+      → ((s : State) → old.state ≡ Some s → Commits k s c old new how) → Calls k changes old new how
+  committed_so changes c old new how made down failed stays commits = record {
     down = down;
     failed = failed;
     stays = stays;
-    unchanged = λ s is none. absurd (cc none);
-    idle = λ s is none. absurd (cc none);
-    commits = λ s d is makes. subst (λ e. Commits k s e old new how) (some_same c d makes) (commits s is);
+    unchanged = λ s is none. absurd (cc (none, makes s is));
+    idle = λ s is none. absurd (cc (none, makes s is));
+    commits = λ s d is other. subst (λ e. Commits k s e old new how) (some_is c d (sym (makes s is) ∙ other)) (commits s is);
   }
+    where
+      makes : (s : State) → old.state ≡ Some s → changes s ≡ Some c
+      makes s is = subst (λ x. changes x ≡ Some c) (some_is made.state s (sym made.in_memory ∙ is)) made.makes
 
   -- nothing was committed: memory was wanting, or the call makes no change
   module _ (leaves : (keeper : K) (f : Found State) (t : Started State) → k.is_at keeper f → k.is_failed keeper ≡ false → IsSome (k.told keeper) → k.may_leave keeper t → t ≡ Ok f)
@@ -97,7 +102,7 @@ module _ {K : Type 0} (k : Ghosts K) where
       stays = λ none. refl;
       unchanged = λ t ist none. refl;
       idle = λ t ist none. inl done;
-      commits = λ t c ist makes. absurd (cc (none, makes, ap changes (some_same s t (sym is ∙ ist))));
+      commits = λ t c ist makes. absurd (cc (none, makes, ap changes (some_is s t (sym is ∙ ist))));
     }
 
 -- a pure call that gave nothing
@@ -122,6 +127,6 @@ write_refuses now s None r e is some refuses = absurd (cc some)
 write_refuses now s (Some w) r e is some refuses = ap change_in (refuses r (ap (λ e. let x : Result Change (Failure WriteRefusal) = Err e in x) is))
 
 -- the change of a quarantine, where it is asked for
-pub quarantines : (c : Change) (s x : State) (asked : Bool) → c ≡ quarantine s → s ≡ x → asked ≡ true → Some c ≡ then_some asked (quarantine x)
-quarantines c s x true is same asked = ap Some (is ∙ ap quarantine same)
-quarantines c s x false is same asked = absurd (cc asked)
+pub quarantines : (c : Change) (s : State) (asked : Bool) → c ≡ quarantine s → asked ≡ true → Some c ≡ then_some asked (quarantine s)
+quarantines c s true is asked = ap Some is
+quarantines c s false is asked = absurd (cc asked)

@@ -9,7 +9,7 @@ use Rattle.adr_law_journal.specs.Log.{Found, found, Started}
 use Rattle.adr_journal.specs.Planned.{CommitsAs}
 use Rattle.adr_journal.specs.declared.keeper.Keeper.{Ghosts}
 use Rattle.adr_journal.specs.declared.keeper.KeeperRefusal.TheVariants as keeps
-use Rattle.adr_controller.specs.Running.{Running}
+use Rattle.adr_controller.specs.Running.{Running, IsInOrder}
 use Rattle.adr_controller.specs.declared.refusal.Hindrance.{Hindrance}
 use Rattle.adr_controller.specs.declared.refusal.Hindrance.TheVariants.{Down, Failed, Full, DiskFault, NoMemory}
 
@@ -80,6 +80,14 @@ pub record Commits {K : Type 0} (k : Ghosts K) (s : State) (c : Change) (old new
   pub ran : Ran k old.keeper c how new.keeper
 
 -- ---- a call
+
+-- the change that a call makes of the state of a controller in order
+pub record IsMade {K : Type 0} (k : Ghosts K) (changes : State → Option Change) (c : Running K) (change : Change)
+    : Type 0 where
+  pub state : State
+  pub in_memory : c.state ≡ Some state
+  pub makes : changes state ≡ Some change
+  pub in_order : IsInOrder k c
 
 -- A call of a controller that commits the change which it makes of the state, if it makes one.
 pub record Calls {K : Type 0} (k : Ghosts K) (changes : State → Option Change) (old new : Running K)

@@ -34,8 +34,8 @@ impl<K: Keeper> Controller<K> {
     {
         let state = self.running()?;
         let change = collect(alloc, state, now, lifetime)?;
-        let removed = count(change.removed().len())?;
-        self.commit(&change)?;
-        Ok(removed)
+        let concluded = self.conclude(&change, count(change.removed().len()));
+        drop(change);
+        concluded
     }
 }

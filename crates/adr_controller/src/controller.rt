@@ -1,19 +1,21 @@
 //! A controller over its keeper.
 
-ghost use Rattle.std.specs.Prelude.{◌≡◌, ◌⊎◌, ◌↔◌, ◌<◌, true, false, Some, None, Ok, IfOk, IfErr, IfSome, IsErrOf, OnErr, OnOk, MatchOption};
+ghost use Rattle.std.specs.Prelude.{◌≡◌, ◌⊎◌, ◌↔◌, ◌<◌, true, false, Option, Some, None, Ok, IfOk, IfErr, IfSome, IsErrOf, OnErr, OnOk, MatchOption};
 ghost use Rattle.std.specs.Option.{ForSome};
 ghost use Rattle.adr_disk.specs.Disk.{Among, LeavesOnly};
 ghost use Rattle.adr_model.specs.Store.{State as Defined};
+ghost use Rattle.adr_model.specs.Change.{Change as Changes};
 ghost use Rattle.adr_model.specs.Lengths.{new_log_end};
 ghost use Rattle.adr_law_journal.specs.Log.{found};
 ghost use Rattle.adr_journal.specs.Ended.{ended_start, IsNewOrNone, IsDamageOf};
 ghost use Rattle.adr_controller.specs.Running.{IsInOrder, IsStarted};
 ghost use Rattle.adr_controller.specs.Able.{CanCommit};
-ghost use Rattle.adr_controller.specs.Ended.{handed_back, hindrance_of, keeper_of};
-ghost use Rattle.adr_controller.specs.Did.{Commits, KeepsAll};
+ghost use Rattle.adr_controller.specs.Ended.{call_hindrance, handed_back, hindrance_of, keeper_of};
+ghost use Rattle.adr_controller.specs.Did.{Calls, Commits, IsMade, KeepsAll};
 
 use crate::keeping::keep;
-use crate::refusal::Hindrance;
+use crate::refusal::{CallRefusal, Hindrance};
+use adr_failure::NoMemory;
 use adr_journal::{Keeper, KeeperRefusal, StartRefusal};
 use adr_state::{Change, State};
 use std::marker::Model;
@@ -40,7 +42,7 @@ impl<K: Keeper> Model for Controller<K> {
 pub(crate) fn forget(state: &mut Option<State>)
     ensures { state.new ≡ None }
 {
-    *state = None;
+    drop(state.take());
 }
 
 impl<K: Keeper> Controller<K> {
@@ -71,7 +73,10 @@ impl<K: Keeper> Controller<K> {
                 state: Some(state),
                 down: false,
             }),
-            Err(refusal) => Err((refusal, keeper)),
+            Err(refusal) => {
+                drop(state);
+                Err((refusal, keeper))
+            }
         }
     }
 
@@ -115,7 +120,7 @@ impl<K: Keeper> Controller<K> {
     {
         match self.keeper.start() {
             Ok(state) => {
-                self.state = Some(state);
+                drop(self.state.replace(state));
                 self.down = false;
                 Ok(())
             }
@@ -150,7 +155,9 @@ impl<K: Keeper> Controller<K> {
     pub fn into_keeper(self) -> K
         ensures { result ≡ self.keeper }
     {
-        self.keeper
+        let Controller { keeper, state, .. } = self;
+        drop(state);
+        keeper
     }
 
     /// The state, or what keeps the controller from answering.
@@ -197,5 +204,23 @@ impl<K: Keeper> Controller<K> {
             Err(KeeperRefusal::NoMemory) => Err(Hindrance::NoMemory),
             Err(KeeperRefusal::Failed) => unreachable!(),
         }
+    }
+
+    /// Commits the change that a call makes of the state, and gives the call's answer, which is told before. Where that
+    /// wanted memory, nothing is committed.
+    pub(crate) fn conclude<T: Copy, R>(
+        &mut self,
+        change: &Change,
+        told: Result<T, NoMemory>,
+    ) -> Result<T, CallRefusal<R>>
+        requires { ForSome self.old.state (λ s. CanCommit K.Keeper s change.now) }
+        ensures told { IfOk result (λ answer. told ≡ Ok answer) }
+        ensures not_refused { (refusal : R) → IsErrOf result (CallRefusal.Refused refusal) → ⊥ }
+        ensures calls { (changes : Defined → Option Changes) → IsMade K.Keeper changes self.old change.now
+            → Calls K.Keeper changes self.old self.new (call_hindrance result) }
+    {
+        let answer = told?;
+        self.commit(change)?;
+        Ok(answer)
     }
 }

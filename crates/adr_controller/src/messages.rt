@@ -102,7 +102,9 @@ impl<K: Keeper> Controller<K> {
             return Ok(());
         }
         let change = quarantine(alloc, state);
-        self.commit(&change)
+        let committed = self.commit(&change);
+        drop(change);
+        committed
     }
 
     /// Refuses a request. A controller that it shows to be put back is quarantined before.
@@ -144,7 +146,10 @@ impl<K: Keeper> Controller<K> {
             → IfErr result (λ hindrance. hindrance ≡ Hindrance.NoMemory) }
     {
         let state = self.running()?;
-        Ok(ask(alloc, state, partner, max)?)
+        match ask(alloc, state, partner, max) {
+            Ok(request) => Ok(request),
+            Err(_) => Err(Hindrance::NoMemory),
+        }
     }
 
     /// What a request is answered. A controller that shows that it was put back is quarantined before it refuses.
@@ -182,9 +187,9 @@ impl<K: Keeper> Controller<K> {
         let state = self.running()?;
         match take(alloc, state, reply) {
             Ok(change) => {
-                let taken = told_of(reply, &change)?;
-                self.commit(&change)?;
-                Ok(taken)
+                let concluded = self.conclude(&change, told_of(reply, &change));
+                drop(change);
+                concluded
             }
             Err(Failure::NoMemory) => Err(CallRefusal::Hindered(Hindrance::NoMemory)),
             Err(Failure::Refused(refusal)) => Err(self.refuse_reply(alloc, refusal)),

@@ -96,7 +96,8 @@ impl<K: Keeper> Controller<K> {
     {
         let state = self.running()?;
         let change = change_of(alloc, state, event, now)?;
-        self.commit(&change)?;
-        Ok(change.usn())
+        let concluded = self.conclude(&change, Ok(change.usn()));
+        drop(change);
+        concluded
     }
 }

@@ -3,7 +3,8 @@ use Rattle.adr_model.specs.Change.{after}
 use Rattle.adr_model.specs.Lengths.{log_end_after}
 use Rattle.adr_law_journal.specs.Log.{Found, found}
 use Rattle.adr_journal.specs.Ended.{found_after}
-use Rattle.adr_controller.proofs.Kept.{if_told, on_ok, at_told, is_some_of, among_states}
+use Rattle.adr_law_journal.proofs.Told.{at_told, both_ok, if_told, is_some_of}
+use Rattle.adr_controller.proofs.Kept.{among_states}
 use Rattle.adr_controller.proofs.keeping.keep.Goals as goal
 
 pub returns-clause-left : goal.returns-clause-left
@@ -26,7 +27,7 @@ returns-clause-acknowledged g c =
     let end = c.requires.up.log_end in
     let f : Found _ = found s end in
     let new = c.commit.new.self in
-    on_ok c.commit.result _ _ _ c.commit.ensures.ok c.commit.ensures.up (λ at up.
+    both_ok c.commit.result c.commit.ensures.ok c.commit.ensures.up (λ at up.
     if_told (k.told c.args.keeper.now) _ (λ t is x left.
     let told = c.commit.ensures.told.1 (is_some_of (k.told c.prepare.new.self) t (c.in_ok-prepare.ensures.keeps.content_stays ∙ is)) in
     (log_end_after end d, law.leaves new (found_after f d) x (at f (c.in_ok-prepare.ensures.at f c.requires.up.at) c.requires.able.follows) up told left)))

@@ -4,7 +4,8 @@ use Rattle.adr_model.specs.Collect.{quarantine}
 use Rattle.adr_model.specs.Serve.{serve}
 use Rattle.adr_controller.specs.declared.refusal.Hindrance.TheVariants.{NoMemory}
 use Rattle.adr_controller.specs.Able.{CanCommit, request_shows, change_of_served, served_in}
-use Rattle.adr_controller.proofs.Kept.{some_same, err_same}
+use Rattle.adr_law_journal.proofs.Told.{some_is}
+use Rattle.adr_controller.proofs.Kept.{err_same}
 use Rattle.adr_controller.proofs.Calling.{as_made, unmade}
 use Rattle.adr_controller.proofs.controller.Controller.serve.Goals as goal
 
@@ -13,7 +14,7 @@ refuse_request-requires-clause-follows g c = λ x is shows.
     let was = c.in_ok-state.ensures.ok in
     let s = c.in_ok-state.state.now in
     let refused : serve s c.args.request.now ≡ Err c.in-Err-Refused.refusal = (c.serve.ensures.refused c.in-Err-Refused.refusal).0 (c.in-Err-Refused.is ∙ ap Err c.in-Err-Refused.field-0-is) in
-    subst (λ y. CanCommit g.K.Keeper y (quarantine y)) (some_same s x (sym was.0 ∙ is))
+    subst (λ y. CanCommit g.K.Keeper y (quarantine y)) (some_is s x (sym was.0 ∙ is))
     (c.requires.follows s (quarantine s) was.2 (ap (change_of_served s) refused ∙ ap (λ asked. then_some asked (quarantine s)) shows))
 
 pub returns-in-Err-NoMemory-clause-calls : goal.returns-in-Err-NoMemory-clause-calls
@@ -26,7 +27,7 @@ returns-in-Err-Refused-clause-refused g c = λ x refusal is e.
     let was = c.in_ok-state.ensures.ok in
     let s = c.in_ok-state.state.now in
     let refused : serve s c.args.request.now ≡ Err c.in-Err-Refused.refusal = (c.serve.ensures.refused c.in-Err-Refused.refusal).0 (c.in-Err-Refused.is ∙ ap Err c.in-Err-Refused.field-0-is) in
-    subst (λ y. serve y c.args.request.now ≡ Err refusal) (some_same s x (sym was.0 ∙ is))
+    subst (λ y. serve y c.args.request.now ≡ Err refusal) (some_is s x (sym was.0 ∙ is))
     (refused ∙ ap Err (sym (c.refuse_request.ensures.refused refusal (err_same c.refuse_request.result _ _ refl e))))
 
 pub returns-in-Err-Refused-clause-calls : goal.returns-in-Err-Refused-clause-calls
@@ -36,5 +37,5 @@ returns-in-Err-Refused-clause-calls g c =
     let r = c.in-Err-Refused.refusal in
     let refused : serve s c.args.request.now ≡ Err r = (c.serve.ensures.refused c.in-Err-Refused.refusal).0 (c.in-Err-Refused.is ∙ ap Err c.in-Err-Refused.field-0-is) in
     as_made g.K.Keeper (λ y. then_some (request_shows r) (quarantine y)) (served_in c.args.request.now) c.args.self.now c.refuse_request.new.self _
-    (λ x is. subst (λ y. then_some (request_shows r) (quarantine y) ≡ served_in c.args.request.now y) (some_same s x (sym was.0 ∙ is)) (sym (ap (change_of_served s) refused)))
+    (λ x is. subst (λ y. then_some (request_shows r) (quarantine y) ≡ served_in c.args.request.now y) (some_is s x (sym was.0 ∙ is)) (sym (ap (change_of_served s) refused)))
     c.refuse_request.ensures.calls
