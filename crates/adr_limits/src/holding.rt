@@ -86,6 +86,9 @@ pub fn holding(
 ) -> State {
     let change = change(alloc, usn, mode, Vector::new(alloc), writes);
     let mut state = controller(alloc, 4);
-    state.apply(&change).expect(rt, "what was written fits");
+    state
+        .apply(&change)
+        .ok()
+        .expect(rt, "what was written fits");
     state
 }
