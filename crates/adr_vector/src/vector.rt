@@ -18,7 +18,7 @@ use uuid::Uuid;
 pub const CURSOR_LIMIT: u64 = 10_000;
 
 /// There would be more cursors than a vector has at most.
-#[derive(Clone, Copy, Debug, PartialEq, Eq)]
+#[derive(Clone, Copy)]
 pub struct Full;
 
 /// What has been seen: for each invocation identifier the update sequence number up to which all was seen (MS-DRSR,
