@@ -1,11 +1,11 @@
 //! A schema: what objects of a class may contain, and where they may stand.
 
-ghost use Rattle.std.specs.Prelude.{◌≡◌, is_none, map, Some};
+ghost use Rattle.std.specs.Prelude.{◌≡◌, is_none, map};
 ghost use Rattle.std.specs.List.{find};
 ghost use Rattle.std.specs.Option.{option_copied, option_map};
 ghost use Rattle.std.specs.Result.{result_err};
 ghost use Rattle.adr_schema.specs.Assignments.{given};
-ghost use Rattle.adr_schema.specs.Rules.{add_refusal, added_refusal, class_refusal, first_refusal, is_emptied, link_refusal, modify_refusal, not_link_refusal, row_refusal, values_refusal};
+ghost use Rattle.adr_schema.specs.Rules.{add_refusal, class_refusal, first_refusal, given_refusal, is_emptied, link_refusal, modify_refusal, not_link_refusal, row_refusal, values_refusal};
 ghost use Rattle.adr_schema.specs.Table.{is_must, is_of, is_superior, kind_at, may_of, must_of, superiors_of};
 ghost use Rattle.adr_schema.specs.Numbered.{numbered};
 ghost use Rattle.adr_schema.specs.Schemas.{schema_table};
@@ -191,33 +191,41 @@ impl Schema {
         ensures { result_err result ≡ add_refusal self.now class values.now }
     {
         self.check_class(class)?;
-        self.check_added(class, values)?;
+        self.check_each(class, values, true)?;
         match self.first_missing(class, values) {
             Some(attr) => Err(SchemaRefusal::MissingMust { attr }),
             None => Ok(()),
         }
     }
 
-    fn check_added(&self, class: u16, values: &Assignments) -> Result<(), SchemaRefusal>
-        ensures { result_err result ≡ first_refusal (map (added_refusal self.now class) values.now) }
+    /// Tests what each attribute is given, by an object that is new or by one that is modified.
+    fn check_each(
+        &self,
+        class: u16,
+        values: &Assignments,
+        is_new: bool,
+    ) -> Result<(), SchemaRefusal>
+        ensures { result_err result
+            ≡ first_refusal (map (λ g. given_refusal is_new self.now class g) values.now) }
     {
         'attributes: for (attr, values) in values.entries() {
-            self.check_filled_list(class, *attr, values.items())?;
+            self.check_given(class, *attr, values.items(), is_new)?;
         }
         Ok(())
     }
 
-    /// Tests a list of values for an attribute, which may not be empty.
-    fn check_filled_list(
+    /// Tests a list of values for an attribute, which may not be empty in an object that is new.
+    fn check_given(
         &self,
         class: u16,
         attr: u16,
         values: &[Value],
+        is_new: bool,
     ) -> Result<(), SchemaRefusal>
-        ensures { result_err result ≡ added_refusal self.now class (attr, values.now) }
+        ensures { result_err result ≡ given_refusal is_new self.now class (attr, values.now) }
     {
         self.check_list(Some(class), attr, values)?;
-        if values.is_empty() {
+        if is_new && values.is_empty() {
             return Err(SchemaRefusal::BadValue { attr, place: 0 });
         }
         Ok(())
@@ -241,21 +249,11 @@ impl Schema {
     pub fn check_modify(&self, class: u16, values: &Assignments) -> Result<(), SchemaRefusal>
         ensures { result_err result ≡ modify_refusal self.now class values.now }
     {
-        self.check_modified(class, values)?;
+        self.check_each(class, values, false)?;
         match self.first_emptied(class, values) {
             Some(attr) => Err(SchemaRefusal::MissingMust { attr }),
             None => Ok(()),
         }
-    }
-
-    fn check_modified(&self, class: u16, values: &Assignments) -> Result<(), SchemaRefusal>
-        ensures { result_err result
-            ≡ first_refusal (map (λ g. values_refusal self.now (Some class) g.0 g.1) values.now) }
-    {
-        'attributes: for (attr, values) in values.entries() {
-            self.check_list(Some(class), *attr, values.items())?;
-        }
-        Ok(())
     }
 
     /// The first attribute that objects of a class must have and that is given no value.
