@@ -1,10 +1,12 @@
 -- What is told by rows over those of a base: its look-ups, its objects and its counts.
-use Rattle.std.proofs.Common.{◌≡◌, ℕ, ◌+◌, ◌-◌, ◌≤◌, List, [], ◌∷◌, Bool, true, false, cond, not, ◌&&◌, ◌||◌, refl, sym, ap, ◌∙◌, subst, filter, length, Option, Some, None, is_some, is_none, arith, eqb, eqb-true, nat_lt}
+use Rattle.std.proofs.Common.{◌≡◌, ℕ, ◌+◌, ◌-◌, ◌≤◌, List, [], ◌∷◌, ◌++◌, Bool, true, false, cond, not, ◌&&◌, ◌||◌, refl, sym, ap, ◌∙◌, subst, filter, length, Option, Some, None, is_some, is_none, arith, eqb, eqb-true, nat_lt}
 use Rattle.std.specs.Option.{option_or}
 use Rattle.std.specs.Ordering.{is_eq, match_ordering, ordering_then, nat_cmp}
 use Rattle.std.specs.declared.cmp.Ordering.{Ordering}
 use Rattle.std.specs.declared.cmp.Ordering.TheVariants.{Less, Equal, Greater}
 use Rattle.std.proofs.lemmas.Cmp.{eq_by_cmp_equiv}
+use Rattle.std.proofs.lemmas.List.{length-append}
+use Rattle.std.proofs.lemmas.List.Elements.{filter-append}
 use Rattle.std.proofs.lemmas.Map.Lookups.{exact_unsigned}
 use Rattle.adr_stamp.specs.declared.Oid.{Oid}
 use Rattle.adr_stamp.specs.Order.{object_order}
@@ -13,7 +15,7 @@ use Rattle.adr_model.specs.Update.{Key, RowOf, LinkOf, deleted_attr, key_order, 
 use Rattle.adr_model.specs.Live.{objects_of}
 use Rattle.adr_model.specs.Store.{Held, row_held, holds_object, holds_dead, is_row_of, updates_of, with_row}
 use Rattle.adr_model.specs.Write.{is_link_row, links_in}
-use Rattle.adr_model.specs.Change.{goes_with, killed_by, put, rows_after}
+use Rattle.adr_model.specs.Change.{goes_with, killed_by, put}
 use Rattle.adr_model.specs.Formed.{AreRising}
 use Rattle.adr_model.proofs.Keys.{exact_keys, objects_tell}
 use Rattle.adr_update.specs.Sought.{is_link_from, is_link_to}
@@ -23,7 +25,7 @@ use Rattle.adr_told.specs.Told.{is_stripped, is_left, laid, told, IsCounted, is_
 use Rattle.adr_told.proofs.Rising.{none_below}
 use Rattle.adr_told.proofs.Holding.{row_is_held}
 use Rattle.adr_told.proofs.Looked.{held_with_row, held_without, left_at, held_put}
-use Rattle.adr_told.proofs.Tally.{tally, is_tally, tally_same, tally_filter, tally_append, tally_with_row, tally_apart}
+use Rattle.adr_told.proofs.Tally.{tally, is_tally, tally_same, tally_filter, tally_split, tally_append, tally_with_row, tally_apart}
 use Rattle.adr_told.proofs.Births.{is_link_at, objects_after, links_after}
 
 -- ---- look-ups
@@ -350,6 +352,10 @@ lost o over base s r = omega (
     all_of [] = refl
     all_of (x ∷ xs) = omega (arith, all_of xs)
 
+-- what passes of two lists
+pub passing : (p : Held → Bool) (xs ys : List Held) → length (filter p xs) + length (filter p ys) ≡ length (filter p (xs ++ ys))
+passing p xs ys = sym (ap length (filter-append p xs ys) ∙ length-append (filter p xs) (filter p ys))
+
 -- of the links at an object that died over the base none is left
 pub none_left : (o : Oid) (over base : List Held) → holds_dead over o ≡ true → length (filter (λ h. is_left over h.update.key) (links_found o base)) ≡ 0
 none_left o over base dead = omega (
@@ -387,51 +393,34 @@ none_left o over base dead = omega (
         turn false true e f = ap (λ t. t && (same_object l.from o || same_object l.to o)) (gone (LinkOf l) true (ap (λ t. holds_dead over l.from || t) (same_dead l.to f) ∙ either_way (holds_dead over l.from)) refl)
         turn false false e f = ap (λ t. is_left over (LinkOf l) && (t || same_object l.to o)) e ∙ ap (λ t. is_left over (LinkOf l) && t) f ∙ neither (is_left over (LinkOf l))
 
--- after a row was put over the base, the counts that are known are those of what is told
-pub counted_after : (over base : List Held) (h : Held) (objects links gone : ℕ) → AreRising over → AreRising base
-    → objects ≡ length (objects_of (updates_of (told over base))) + one (is_birth_row h.update.key && is_none (row_held (told over base) h.update.key))
-    → links ≡ links_in (told over base) + one (is_link_row h.update.key && is_none (row_held (told over base) h.update.key))
-    → gone ≡ links_lost (killed_by h.update.key) (told over base)
-    → IsCounted (put over h) base objects (links - gone)
-counted_after over base h objects links gone s r a b c =
-    let rise = told_rises over base r in
-    record {
-      over_rises = put_rises over h s;
-      base_rises = r;
-      objects = a ∙ sym (objects_after (told over base) h rise) ∙ ap (λ rows. length (objects_of (updates_of rows))) (sym (told_after over base h s r));
-      links = omega (arith, b, c, links_after (told over base) h rise, ap links_in (told_after over base h s r));
-    }
+-- no more links go with an object than there are
+pub lost_few : (rows : List Held) (o : Option Oid) → links_lost o rows ≤ links_in rows
+lost_few rows None = omega arith
+lost_few rows (Some d) = omega (arith, is_tally is_link_row rows, is_tally (is_link_at d) rows, tally_split is_link_row (goes_with d) rows)
 
--- no more links go than there are
-pub lost_within : (over base : List Held) (h : Held) (links gone : ℕ) → AreRising base
-    → links ≡ links_in (told over base) + one (is_link_row h.update.key && is_none (row_held (told over base) h.update.key))
-    → gone ≡ links_lost (killed_by h.update.key) (told over base)
-    → gone ≤ links
-lost_within over base h links gone r b c = omega (arith, b, c, links_after (told over base) h (told_rises over base r))
+-- the counts after a row was put, from those before it
+module _ (rows : List Held) (h : Held) (k : Key) (rise : AreRising rows) (of : h.update.key ≡ k) where
+  pub objects_put : (objects : ℕ) → objects ≡ length (objects_of (updates_of rows)) + one (is_birth_row k && is_none (row_held rows k)) → objects ≡ length (objects_of (updates_of (put rows h)))
+  objects_put objects is =
+      is ∙ ap (λ j. length (objects_of (updates_of rows)) + one (is_birth_row j && is_none (row_held rows j))) (sym of) ∙ sym (objects_after rows h rise)
 
--- the same of a call that puts one row
-module _ (over base rows new written : List Held) (k : Key) (h : Held) (is : told over base ≡ rows) (of : k ≡ h.update.key) where
-  told_put : new ≡ rows_after [] written over → written ≡ h ∷ [] → new ≡ put over h
-  told_put e f = e ∙ ap (λ hs. rows_after [] hs over) f
+  pub links_put : (links gone : ℕ) → links ≡ links_in rows + one (is_link_row k && is_none (row_held rows k)) → gone ≡ links_lost (killed_by k) rows → links - gone ≡ links_in (put rows h)
+  links_put links gone is went = omega (
+    arith,
+    links_after rows h rise,
+    is ∙ ap (λ j. links_in rows + one (is_link_row j && is_none (row_held rows j))) (sym of),
+    went ∙ ap (λ j. links_lost (killed_by j) rows) (sym of),
+  )
 
-  pub told_call : AreRising over → AreRising base → new ≡ rows_after [] written over → written ≡ h ∷ [] → told new base ≡ put rows h
-  told_call s r e f = ap (λ os. told os base) (told_put e f) ∙ told_after over base h s r ∙ ap (λ os. put os h) is
+-- a row that is put over the base, with the counts of what is told then
+module _ (over base rows new : List Held) (h : Held) (is : told over base ≡ rows) (s : AreRising over) (r : AreRising base) (put_there : new ≡ put over h) where
+  pub told_call : told new base ≡ put rows h
+  told_call = ap (λ os. told os base) put_there ∙ told_after over base h s r ∙ ap (λ os. put os h) is
 
-  module _ (objects links gone : ℕ) (l : links ≡ links_in rows + one (is_link_row k && is_none (row_held rows k))) (g : gone ≡ links_lost (killed_by k) rows) where
-    links_call : links ≡ links_in (told over base) + one (is_link_row h.update.key && is_none (row_held (told over base) h.update.key))
-    links_call = l ∙ ap (λ os. links_in os + one (is_link_row k && is_none (row_held os k))) (sym is) ∙ ap (λ j. links_in (told over base) + one (is_link_row j && is_none (row_held (told over base) j))) of
-
-    gone_call : gone ≡ links_lost (killed_by h.update.key) (told over base)
-    gone_call = g ∙ ap (links_lost (killed_by k)) (sym is) ∙ ap (λ j. links_lost (killed_by j) (told over base)) of
-
-    pub within_call : AreRising base → gone ≤ links
-    within_call r = lost_within over base h links gone r links_call gone_call
-
-    pub counted_call : AreRising over → AreRising base → new ≡ rows_after [] written over → written ≡ h ∷ []
-        → objects ≡ length (objects_of (updates_of rows)) + one (is_birth_row k && is_none (row_held rows k)) → IsCounted new base objects (links - gone)
-    counted_call s r e f o = subst (λ os. IsCounted os base objects (links - gone)) (sym (told_put e f)) (counted_after over base h objects links gone s r objects_call links_call gone_call)
-      where
-        objects_call : objects ≡ length (objects_of (updates_of (told over base))) + one (is_birth_row h.update.key && is_none (row_held (told over base) h.update.key))
-        objects_call =
-            o ∙ ap (λ os. length (objects_of (updates_of os)) + one (is_birth_row k && is_none (row_held os k))) (sym is)
-            ∙ ap (λ j. length (objects_of (updates_of (told over base))) + one (is_birth_row j && is_none (row_held (told over base) j))) of
+  pub counted_call : (objects links : ℕ) → objects ≡ length (objects_of (updates_of (put rows h))) → links ≡ links_in (put rows h) → IsCounted new base objects links
+  counted_call objects links a b = record {
+    over_rises = subst AreRising (sym put_there) (put_rises over h s);
+    base_rises = r;
+    objects = a ∙ ap (λ os. length (objects_of (updates_of os))) (sym told_call);
+    links = b ∙ ap links_in (sym told_call);
+  }

@@ -1,6 +1,6 @@
 //! The rows of a controller with others over them, none of which is copied.
 
-ghost use Rattle.std.specs.Prelude.{◌≡◌, ◌+◌, ◌++◌, ◌&&◌, ◌||◌, Bool, IfOk, IfSome, IsTrue, OnOk, None, Some, false, filter, fold, is_none, length, map, not, if◌then◌else◌};
+ghost use Rattle.std.specs.Prelude.{◌≡◌, ◌+◌, ◌++◌, ◌&&◌, ◌||◌, Bool, IfOk, IfSome, IsTrue, OnErr, OnOk, None, Some, false, filter, fold, is_none, length, map, not, if◌then◌else◌};
 ghost use Rattle.std.specs.List.{list_all};
 ghost use Rattle.std.specs.Option.{option_copied, option_map_or};
 ghost use Rattle.adr_model.specs.Live.{objects_of};
@@ -112,24 +112,6 @@ impl<'a> Told<'a> {
         self.links
     }
 
-    /// Puts a row in the place of the row of its key, if there is one: it may be known that there is none. A death takes
-    /// its object's other rows and its links.
-    pub fn put(&mut self, alloc: Global, row: Held, is_new: bool) -> Result<(), NoMemory>
-        requires { IsTrue is_new → row_held self.old row.update.key ≡ None }
-        ensures { OnOk result (self.new ≡ put self.old row) }
-    {
-        let key = row.key();
-        let lost = self.lost_by(alloc, &key)?;
-        let objects = self.objects_with(&key, is_new)?;
-        let links = self.links_with(&key)?;
-        let rows = vec![in alloc; row]?;
-        let spare = self.over.reserve(alloc, rows.as_slice(), &[])?;
-        self.over.write(rows, &[], spare);
-        self.objects = objects;
-        self.links = links - lost;
-        Ok(())
-    }
-
     /// Puts rows, one after the other, under an update sequence number. An object may be known of which nothing is held
     /// before the first.
     pub fn put_all(
@@ -144,32 +126,55 @@ impl<'a> Told<'a> {
     {
         for row in rows {
             let is_new = is_row_of(row, unheld);
-            self.put(alloc, Held::new(row.copy(alloc)?, local), is_new)?;
+            self.put(alloc, local, row, is_new)?;
             unheld = None;
         }
         Ok(())
     }
 
-    /// How many objects there are with a row of this key. More than there is a number for count as want of memory.
+    /// Puts a row in the place of the row of its key, if there is one: it may be known that there is none. A death takes
+    /// its object's other rows and its links.
+    fn put(&mut self, alloc: Global, local: u64, row: &Update, is_new: bool) -> Result<(), NoMemory>
+        requires { IsTrue is_new → row_held self.old row.now.key ≡ None }
+        ensures { OnOk result (self.new ≡ put self.old (held_at local row.now)) }
+    {
+        let key = row.key();
+        let lost = self.lost_by(alloc, &key)?;
+        let objects = self.objects_with(&key, is_new)?;
+        let links = self.links_with(&key)?;
+        put_over(alloc, &mut self.over, local, row)?;
+        self.objects = objects;
+        self.links = links - lost;
+        Ok(())
+    }
+
+    /// Whether there is no row of a key.
+    fn lacks(&self, key: &Key) -> bool
+        ensures { result ≡ is_none (row_held self.now (key_of key.now)) }
+    {
+        self.row(*key).is_none()
+    }
+
+    /// How many objects there are with a row of this key.
     fn objects_with(&self, key: &Key, is_new: bool) -> Result<usize, NoMemory>
         requires { IsTrue is_new → row_held self.now (key_of key.now) ≡ None }
         ensures { IfOk result (λ count. count ≡ length (objects_of (updates_of self.now))
             + one (is_birth_row (key_of key.now) && is_none (row_held self.now (key_of key.now)))) }
     {
-        if key.born().is_some() && (is_new || self.row(*key).is_none()) {
-            self.objects.checked_add(1).ok_or(AllocError)
+        if key.born().is_some() && (is_new || self.lacks(key)) {
+            sum(self.objects, 1)
         } else {
             Ok(self.objects)
         }
     }
 
-    /// How many link rows there are with a row of this key. More than there is a number for count as want of memory.
+    /// How many link rows there are with a row of this key.
     fn links_with(&self, key: &Key) -> Result<usize, NoMemory>
         ensures { IfOk result (λ count. count
             ≡ links_in self.now + one (is_link_row (key_of key.now) && is_none (row_held self.now (key_of key.now)))) }
     {
-        if key.is_link() && self.row(*key).is_none() {
-            self.links.checked_add(1).ok_or(AllocError)
+        if key.is_link() && self.lacks(key) {
+            sum(self.links, 1)
         } else {
             Ok(self.links)
         }
@@ -180,17 +185,30 @@ impl<'a> Told<'a> {
         ensures { IfOk result (λ count. count ≡ links_lost (killed_by (key_of key.now)) self.now) }
     {
         match key.killed() {
-            Some(object) => self.lost_with(alloc, &object),
+            Some(object) => count_at(alloc, &self.over, self.base, &object),
             None => Ok(0),
         }
     }
+}
 
-    /// How many links go with an object.
-    fn lost_with(&self, alloc: Global, object: &Oid) -> Result<usize, NoMemory>
-        ensures { IfOk result (λ count. count ≡ links_lost (Some object.now) self.now) }
-    {
-        count_at(alloc, &self.over, self.base, object)
-    }
+/// Two counts together. More than there is a number for counts as want of memory.
+fn sum(one: usize, other: usize) -> Result<usize, NoMemory>
+    ensures { IfOk result (λ sum. sum ≡ one + other) }
+{
+    one.checked_add(other).ok_or(AllocError)
+}
+
+/// Puts a row over the others, under an update sequence number.
+fn put_over(alloc: Global, over: &mut Table, local: u64, row: &Update) -> Result<(), NoMemory>
+    requires { IsKept over.old }
+    ensures kept { IsKept over.new }
+    ensures ok { OnOk result (rows_in over.new ≡ put (rows_in over.old) (held_at local row.now)) }
+    ensures err { OnErr result (rows_in over.new ≡ rows_in over.old) }
+{
+    let rows = vec![in alloc; Held::new(row.copy(alloc)?, local)]?;
+    let spare = over.reserve(alloc, rows.as_slice(), &[])?;
+    over.write(rows, &[], spare);
+    Ok(())
 }
 
 /// Whether a row is one of an object, if there is one.
@@ -211,9 +229,19 @@ fn count_at(alloc: Global, over: &Table, base: &Table, object: &Oid) -> Result<u
         ≡ length (filter (λ h. is_left (rows_in over.now) h.update.key) (links_found object.now (rows_in base.now)))
         + length (links_found object.now (rows_in over.now))) }
 {
-    let above = links_above(alloc, over, object)?.len();
+    let above = count_above(alloc, over, object)?;
     let below = count_below(alloc, over, base, object)?;
-    below.checked_add(above).ok_or(AllocError)
+    sum(below, above)
+}
+
+/// How many links there are at an object, of the rows over the others.
+fn count_above(alloc: Global, over: &Table, object: &Oid) -> Result<usize, NoMemory>
+    requires { IsKept over.now }
+    ensures { IfOk result (λ count. count ≡ length (links_found object.now (rows_in over.now))) }
+{
+    let from = over.links_from(alloc, object)?.as_slice().len();
+    let to = over.links_to(alloc, object)?;
+    sum(from, count_others(object, to.as_slice()))
 }
 
 /// How many links at an object, of those below the others, still count. Of an object that died by one of them there is
@@ -227,7 +255,9 @@ fn count_below(alloc: Global, over: &Table, base: &Table, object: &Oid) -> Resul
     if over.is_dead(object) {
         return Ok(0);
     }
-    Ok(count_left(over, links_below(alloc, base, object)?.as_slice()))
+    let from = count_left(over, base.links_from(alloc, object)?.as_slice());
+    let to = base.links_to(alloc, object)?;
+    sum(from, count_others_left(over, object, to.as_slice()))
 }
 
 /// The row of a key below the others, if it didn't go with an object that died by one of them.
@@ -282,6 +312,35 @@ fn count_left(over: &Table, rows: &[&Held]) -> usize
     count
 }
 
+/// How many of these links aren't from an object.
+fn count_others(object: &Oid, links: &[&Held]) -> usize
+    ensures { result ≡ length (filter (λ h. not (is_link_from object.now h.update.key)) (referents links.now)) }
+{
+    let mut count = 0;
+    for link in links {
+        if !link.key().is_link_from(object) {
+            count += 1;
+        }
+    }
+    count
+}
+
+/// How many of these links, which lie below the others, aren't from an object and still count.
+fn count_others_left(over: &Table, object: &Oid, links: &[&Held]) -> usize
+    requires { IsKept over.now }
+    ensures { let others = filter (λ h. not (is_link_from object.now h.update.key)) (referents links.now) in
+        result ≡ length (filter (λ h. is_left (rows_in over.now) h.update.key) others) }
+{
+    let mut count = 0;
+    for link in links {
+        let key = link.key();
+        if !key.is_link_from(object) && is_left(over, key) {
+            count += 1;
+        }
+    }
+    count
+}
+
 /// Adds those of the rows, which lie below the others, that still count.
 fn push_left<'r>(rows: &mut Vec<&'r Held>, over: &Table, below: &[&'r Held]) -> Result<(), NoMemory>
     requires { IsKept over.now }
@@ -291,43 +350,6 @@ fn push_left<'r>(rows: &mut Vec<&'r Held>, over: &Table, below: &[&'r Held]) -> 
     for row in below {
         if is_left(over, row.key()) {
             rows.push(*row)?;
-        }
-    }
-    Ok(())
-}
-
-/// The links from an object, and then the other links to it, of the rows over the others.
-fn links_above<'r>(alloc: Global, over: &'r Table, object: &Oid) -> Result<Vec<&'r Held>, NoMemory>
-    requires { IsKept over.now }
-    ensures { IfOk result (λ links. referents links.items ≡ links_found object.now (rows_in over.now)) }
-{
-    let mut links = over.links_from(alloc, object)?;
-    push_others(&mut links, object, over.links_to(alloc, object)?.as_slice())?;
-    Ok(links)
-}
-
-/// The links from an object, and then the other links to it, of the rows below the others.
-fn links_below<'r>(alloc: Global, base: &'r Table, object: &Oid) -> Result<Vec<&'r Held>, NoMemory>
-    requires { IsKept base.now }
-    ensures { IfOk result (λ links. referents links.items ≡ links_found object.now (rows_in base.now)) }
-{
-    let mut links = base.links_from(alloc, object)?;
-    push_others(&mut links, object, base.links_to(alloc, object)?.as_slice())?;
-    Ok(links)
-}
-
-/// Adds those of the links that aren't from an object.
-fn push_others<'r>(
-    links: &mut Vec<&'r Held>,
-    object: &Oid,
-    others: &[&'r Held],
-) -> Result<(), NoMemory>
-    ensures { OnOk result (referents links.new.items ≡ referents links.old.items
-        ++ filter (λ h. not (is_link_from object.now h.update.key)) (referents others.now)) }
-{
-    for link in others {
-        if !link.key().is_link_from(object) {
-            links.push(*link)?;
         }
     }
     Ok(())

@@ -1,31 +1,33 @@
-use Rattle.std.proofs.Common.{◌≡◌, List, [], ap, ◌∙◌}
-use Rattle.adr_model.specs.Change.{rows_after}
-use Rattle.adr_model.specs.Store.{Held}
+use Rattle.std.proofs.Common.{◌≡◌, arith, sym, subst}
+use Rattle.adr_model.specs.Change.{killed_by}
+use Rattle.adr_model.specs.Formed.{AreRising}
 use Rattle.adr_update.specs.Key.{key_of}
 use Rattle.adr_table.specs.Table.{rows_in}
-use Rattle.adr_told.proofs.Telling.{told_call, within_call, counted_call}
+use Rattle.adr_told.specs.HeldAt.{held_at}
+use Rattle.adr_told.proofs.Telling.{told_rises, told_call, counted_call, objects_put, links_put, lost_few}
 use Rattle.adr_told.proofs.told.Told.put.Goals as goal
 
 pub overflow_sub-self : goal.overflow_sub-self
-overflow_sub-self c =
-    within_call (rows_in c.self.inside.over) (rows_in c.self.inside.base.now) c.args.self.now (rows_in c.write.new.self) c.in_ok-rows.rows.items (key_of c.key-key.result) c.args.row c.self.view_is c.key-key.ensures
-    c.in_ok-objects.objects c.in_ok-links.links c.in_ok-lost.lost c.in_ok-links.ensures c.in_ok-lost.ensures c.self.invariant.counted.base_rises
+overflow_sub-self c = omega (arith, lost_few c.args.self.now (killed_by (key_of c.key-key.result)), c.in_ok-links.ensures, c.in_ok-lost.ensures)
 
 pub invariant_of-self-2 : goal.invariant_of-self-2
 invariant_of-self-2 c =
-    let after : rows_in c.write.new.self ≡ rows_after [] c.in_ok-rows.rows.items (rows_in c.self.inside.over) =
-    c.write.ensures.rows ∙ ap (λ (hs : List Held). rows_after [] c.in_ok-rows.rows.items hs) c.reserve.ensures.rows in
+    let over = rows_in c.self.inside.over in
+    let base = rows_in c.self.inside.base.now in
+    let h = held_at c.args.local c.args.row.now in
+    let k = key_of c.key-key.result in
+    let of : h.update.key ≡ k = sym c.key-key.ensures in
+    let rise = subst AreRising c.self.view_is (told_rises over base c.self.invariant.counted.base_rises) in
     record {
-      kept = c.write.ensures.kept;
+      kept = c.put_over.ensures.kept;
       based = c.self.invariant.based;
-      counted = counted_call (rows_in c.self.inside.over) (rows_in c.self.inside.base.now) c.args.self.now (rows_in c.write.new.self) c.in_ok-rows.rows.items (key_of c.key-key.result) c.args.row c.self.view_is c.key-key.ensures
-          c.in_ok-objects.objects c.in_ok-links.links c.in_ok-lost.lost c.in_ok-links.ensures c.in_ok-lost.ensures c.self.invariant.counted.over_rises c.self.invariant.counted.base_rises
-          after c.in_ok-rows.ensures.items c.in_ok-objects.ensures;
+      counted = counted_call over base c.args.self.now (rows_in c.put_over.new.over) h c.self.view_is c.self.invariant.counted.over_rises c.self.invariant.counted.base_rises
+          c.in_ok-put_over.ensures.ok _ _
+          (objects_put c.args.self.now h k rise of c.in_ok-objects.objects c.in_ok-objects.ensures)
+          (links_put c.args.self.now h k rise of c.in_ok-links.links c.in_ok-lost.lost c.in_ok-links.ensures c.in_ok-lost.ensures);
     }
 
 pub returns : goal.returns
 returns c =
-    let after : rows_in c.write.new.self ≡ rows_after [] c.in_ok-rows.rows.items (rows_in c.self.inside.over) =
-    c.write.ensures.rows ∙ ap (λ (hs : List Held). rows_after [] c.in_ok-rows.rows.items hs) c.reserve.ensures.rows in
-    told_call (rows_in c.self.inside.over) (rows_in c.self.inside.base.now) c.args.self.now (rows_in c.write.new.self) c.in_ok-rows.rows.items (key_of c.key-key.result) c.args.row c.self.view_is c.key-key.ensures
-    c.self.invariant.counted.over_rises c.self.invariant.counted.base_rises after c.in_ok-rows.ensures.items
+    told_call (rows_in c.self.inside.over) (rows_in c.self.inside.base.now) c.args.self.now (rows_in c.put_over.new.over) (held_at c.args.local c.args.row.now) c.self.view_is
+    c.self.invariant.counted.over_rises c.self.invariant.counted.base_rises c.in_ok-put_over.ensures.ok
