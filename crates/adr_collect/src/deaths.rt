@@ -1,11 +1,13 @@
 //! The deaths that are collected.
 
-ghost use Rattle.std.specs.Prelude.{◌≡◌, ◌+◌, IfOk, IfSome, OnOk, map, nat_le, true};
+ghost use Rattle.std.specs.Prelude.{◌≡◌, ◌+◌, ◌++◌, [], IfOk, IfSome, OnOk, map, nat_le, true};
+ghost use Rattle.std.specs.List.{cons_option};
 ghost use Rattle.adr_vector.specs.Vector.{IsVector, at, covers, raised};
 ghost use Rattle.adr_model.specs.Reflects.{AtMost};
 ghost use Rattle.adr_model.specs.Update.{inv_of, usn_of};
 ghost use Rattle.adr_model.specs.Visible.{covers_birth, covers_update};
 ghost use Rattle.adr_model.specs.Collect.{collected_by, covering, deaths_to_collect};
+ghost use Rattle.adr_collect.specs.Covering.{covering_with};
 
 use crate::NoMemory;
 use adr_event::Failure;
@@ -31,15 +33,40 @@ pub fn dead_to_collect(
     ensures objects { IfOk result (λ dead. dead.objects.items ≡ map (λ d. d.0) (deaths_to_collect state.now now lifetime)) }
     ensures covering { IfOk result (λ dead. dead.covering ≡ covering (deaths_to_collect state.now now lifetime)) }
 {
-    let mut objects = Vec::new(alloc);
-    let mut covering = Vector::new(alloc);
-    for row in state.rows().deaths(alloc)? {
-        if let Some(object) = collected_by(state.vector(), now, lifetime, row.update()) {
-            cover(&mut covering, state.vector(), &object, row.update())?;
-            objects.push(object)?;
-        }
+    let deaths = state.rows().deaths(alloc)?;
+    let mut dead = Dead {
+        objects: Vec::new(alloc),
+        covering: Vector::new(alloc),
+    };
+    for row in deaths {
+        dead.take(state.vector(), now, lifetime, row.update())?;
     }
-    Ok(Dead { objects, covering })
+    Ok(dead)
+}
+
+impl Dead {
+    /// Takes the object of a death, if it may be collected.
+    fn take(
+        &mut self,
+        seen: &Vector,
+        now: u64,
+        lifetime: u64,
+        death: &Update,
+    ) -> Result<(), NoMemory>
+        requires { AtMost (at self.old.covering) (at seen.now) }
+        ensures objects { OnOk result (self.new.objects.items
+            ≡ self.old.objects.items ++ cons_option (collected_by seen.now now lifetime death.now) []) }
+        ensures covering { OnOk result (self.new.covering
+            ≡ covering_with self.old.covering death.now (collected_by seen.now now lifetime death.now)) }
+        ensures within { OnOk result (AtMost (at self.new.covering) (at seen.now)) }
+    {
+        let Some(object) = collected_by(seen, now, lifetime, death) else {
+            return Ok(());
+        };
+        cover(&mut self.covering, seen, &object, death)?;
+        self.objects.push(object)?;
+        Ok(())
+    }
 }
 
 /// The dead object of a death that may be collected.

@@ -13,7 +13,7 @@ abbrev pub invariant-loop-row : goal.invariant-loop-row
 invariant-loop-row l =
     let left = deaths_among l.state.store.vector l.now l.lifetime (referents l.row-iterator.rest.items) in
     record {
-      objects : l.objects.items ++ map (λ (d : Oid × Update). d.0) left ≡ map (λ (d : Oid × Update). d.0) (deaths_to_collect l.state l.now l.lifetime);
-      within : AtMost (at l.covering) (at l.state.store.vector);
-      covers : fold (λ (v : Cursors) (d : Oid × Update). raised (raised v d.0.birth.inv d.0.birth.usn) (inv_of d.1) (usn_of d.1)) l.covering left ≡ covering (deaths_to_collect l.state l.now l.lifetime);
+      objects : l.dead.objects.items ++ map (λ (d : Oid × Update). d.0) left ≡ map (λ (d : Oid × Update). d.0) (deaths_to_collect l.state l.now l.lifetime);
+      within : AtMost (at l.dead.covering) (at l.state.store.vector);
+      covers : fold (λ (v : Cursors) (d : Oid × Update). raised (raised v d.0.birth.inv d.0.birth.usn) (inv_of d.1) (usn_of d.1)) l.dead.covering left ≡ covering (deaths_to_collect l.state l.now l.lifetime);
     }
