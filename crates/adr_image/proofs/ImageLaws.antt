@@ -15,7 +15,7 @@ use Rattle.adr_model.specs.Store.{Kept}
 use Rattle.adr_model.specs.Live.{is_among}
 use Rattle.adr_wire.specs.Reading.{Rest, Reading, ◌>>=◌, as_at, where_at, then_at, is_above}
 use Rattle.adr_wire.specs.Fields.{u16_at, id_at, flag_at, usn_at, u16, u64, id, flag}
-use Rattle.adr_wire.specs.Composites.{mark_at, mark, oid_at, oid, row_of, row, link_stamp_at, link_stamp, link_key}
+use Rattle.adr_wire.specs.Composites.{mark_at, mark, oid_at, oid, row_of, row_after, row, link_stamp_at, link_stamp, link_key}
 use Rattle.adr_wire.specs.Spelling.{IsSpelling}
 use Rattle.adr_wire.specs.Ranges.{IsU16, IsU64, IsId, IsUsn, IsFlag, IsMark, IsOid, IsStamp, IsRowAbove}
 use Rattle.adr_wire.proofs.Combining.{bind_ok, made, in_range_too, passed, both, pair, followed}
@@ -24,7 +24,7 @@ use Rattle.adr_wire.proofs.CompositeLaws.{mark_spelled, oid_spelled, IsBehind, b
 use Rattle.adr_image.specs.declared.rows.Before.{Before}
 use Rattle.adr_model.specs.Write.{usn_limit}
 use Rattle.adr_wire.specs.Gathering.{passing_at, gathered_at, GivesToo}
-use Rattle.adr_image.specs.Image.{HeldRow, Rows, HeldLink, local_at, no_rows, with_held, is_allowed, row_after, held_row_at, held_row, Earlier, is_whole, object_with, object_at, object, Linked, key_with, local_and_key, link_behind, link_at, held_link, is_ordered, Marked, kept_above, kept}
+use Rattle.adr_image.specs.Image.{HeldRow, Rows, HeldLink, local_at, no_rows, with_held, is_allowed, held_row_at, held_row, Earlier, is_whole, object_with, object_at, object, Linked, key_with, local_and_key, link_behind, link_at, held_link, is_ordered, Marked, kept_above, kept}
 use Rattle.adr_image.specs.Ranged.{IsLocal, IsHeldRow, AreHeldRows, IsObjectIn, IsKeyIn, IsForward, IsLinkIn, IsMarked}
 use Rattle.adr_wire.proofs.Gathering.{passed_at, placed, counted_too, looked, gives_same, gives_tested, gives_passed, gives_as, gives_then, gives_all}
 

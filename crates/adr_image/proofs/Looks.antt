@@ -12,10 +12,6 @@ use Rattle.adr_image.specs.Image.{Rows, HeldLink, local_at, Earlier, object_with
 use Rattle.adr_wire.proofs.Gathering.{refused_not}
 use Rattle.adr_image.proofs.ImageLaws.{object_gives, seen_too}
 
-pub given_too : {X Y : Type 0} (view : X → Y) (r : Result X (Failure Malformed)) (rest : Rest) (a b : Read Y) → is_ok r ≡ true → ((y : Y × Rest) → a ≡ Ok y → b ≡ Ok y) → GivesAs view r rest a → GivesAs view r rest b
-given_too view (Ok x) rest a b ok to h = to (view x, rest) h
-given_too view (Err e) rest a b ok to h = absurd (cc)
-
 module _ (usn : ℕ) (table : Table) (e : Earlier) (rest : Rest) where
   abbrev look : Read Rows
   look = object_with (local_at usn_limit) table e rest
@@ -26,14 +22,6 @@ module _ (usn : ℕ) (table : Table) (e : Earlier) (rest : Rest) where
   pub ok_too : usn ≤ usn_limit → (y : Rows × Rest) → read ≡ Ok y → object_at usn table e rest ≡ Ok y
   unfolding object_at
   ok_too fits y h = refused_not rest.place look y read (object_gives usn table e fits rest y h) ∙ h
-
-  pub seen_at_first : is_refused_at rest.place look ≡ true → object_at usn table e rest ≡ Err rest.place
-  unfolding object_at
-  seen_at_first h = ap (λ (b : Bool). cond b (Err rest.place) read) h
-
-  pub not_seen : is_refused_at rest.place look ≡ false → read ≡ object_at usn table e rest
-  unfolding object_at
-  not_seen h = sym (ap (λ (b : Bool). cond b (Err rest.place) read) h)
 
 pub told_too : {X : Type 0} (r : Result X (Failure Malformed)) (rest : Rest) (a b : Read X) → is_ok r ≡ true → ((y : X × Rest) → a ≡ Ok y → b ≡ Ok y) → Tells r rest a → Tells r rest b
 told_too (Ok x) rest a b ok to h = to (x, rest) h

@@ -1,7 +1,6 @@
 -- The parts of an image as bytes: held rows, objects with their held rows, links and marks.
 use Rattle.std.specs.Prelude.{if◌then◌else◌, ℕ, List, [], ◌∷◌, ◌++◌, length, Bool, true, false, not, ◌&&◌, ◌||◌, ◌==◌, nat_le, max, fold, Option, None, Some, is_none, is_some, unwrap_or}
 use Rattle.std.specs.List.{flat_map, list_any, list_all}
-use Rattle.std.specs.Ordering.{nat_cmp}
 use Rattle.adr_stamp.specs.declared.Oid.{Oid}
 use Rattle.adr_stamp.specs.declared.Stamp.{Stamp}
 use Rattle.adr_stamp.specs.declared.LinkKey.{LinkKey}
@@ -12,9 +11,9 @@ use Rattle.adr_schema.specs.Table.{Table, class_at, must_of, has, kind_at, is_fo
 use Rattle.adr_schema.specs.Names.{name_fault}
 use Rattle.adr_schema.specs.Rules.{row_refusal}
 use Rattle.adr_vector.specs.declared.mark.Mark.{Mark}
-use Rattle.adr_wire.specs.Reading.{Reading, ◌>>=◌, as_at, where_at, then_at, elements_at, is_above, above_at}
+use Rattle.adr_wire.specs.Reading.{Reading, as_at, where_at, then_at, elements_at, is_above, above_at}
 use Rattle.adr_wire.specs.Fields.{u16_at, id_at, usn_at, flag_at, u16, u64, id}
-use Rattle.adr_wire.specs.Composites.{oid_at, oid, Row, row_of, row, link_stamp_at, LinkItem, link, mark_at, mark}
+use Rattle.adr_wire.specs.Composites.{oid_at, oid, Row, row_after, row, link_stamp_at, LinkItem, link, mark_at, mark}
 use Rattle.adr_model.specs.Update.{Identifier, same_identifier}
 use Rattle.adr_model.specs.Store.{Kept}
 use Rattle.adr_model.specs.Live.{is_among}
@@ -67,10 +66,6 @@ is_allowed table o b r = by r.2
     by (Name text parent) = is_none (name_fault text)
     by Dead = true
     by (Values vs) = not b.dead && nat_le 1 r.0 && is_none (row_refusal table b.class r.0 vs)
-
--- a row whose attribute is above the last one, else a fault at this place
-unfoldable pub row_after : ℕ → Option ℕ → Reading Row
-row_after place last rest = passing_at place (is_above nat_cmp last) u16_at rest >>= λ k. row_of k.0 k.1
 
 -- a row of the object whose first byte is at `owner`; a row out of order is refused at its local USN
 unfoldable pub held_row_at : Reading ℕ → ℕ → Table → Oid → Before → Reading HeldRow

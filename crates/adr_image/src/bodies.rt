@@ -1,8 +1,9 @@
 //! The bodies of a journal's records are written.
 
-ghost use Rattle.std.specs.Prelude.{◌≡◌, ◌++◌, All, IfOk, OnOk};
+ghost use Rattle.std.specs.Prelude.{◌≡◌, ◌++◌, ◌<◌, ◌^◌, All, IfOk, OnOk, length};
 ghost use Rattle.std.specs.List.{flat_map};
 ghost use Rattle.adr_wire.specs.Composites.{oid};
+ghost use Rattle.adr_wire.specs.Fields.{u32};
 ghost use Rattle.adr_image.specs.Body.{mark_if};
 ghost use Rattle.adr_image.specs.Changes.{AreShort, IsShortChange, change_bytes, unit_bytes, update_bytes, written_bytes};
 ghost use Rattle.adr_image.specs.Written.{IsShortSaid};
@@ -63,21 +64,27 @@ fn write_written(writer: &mut Writer, written: &Written) -> Result<(), NoMemory>
     write_unit(writer, &item.unit(), item.rows())
 }
 
-/// Writes what is written, one local USN behind the other.
+/// Writes a count, and what is written, one local USN behind the other.
 fn write_writes(writer: &mut Writer, writes: &[Written]) -> Result<(), NoMemory>
-    requires { All (λ written. AreShort written.item.rows) writes.now }
-    ensures { OnOk result (writer.new ≡ writer.old ++ flat_map written_bytes writes.now) }
+    requires few { length writes.now < 2 ^ 32 }
+    requires short { All (λ written. AreShort written.item.rows) writes.now }
+    ensures { OnOk result (writer.new
+        ≡ writer.old ++ (u32 (length writes.now) ++ flat_map written_bytes writes.now)) }
 {
+    writer.write_u32(&(writes.len() as u32))?;
     for written in writes {
         write_written(writer, written)?;
     }
     Ok(())
 }
 
-/// Writes objects, one behind the other.
+/// Writes a count, and objects, one behind the other.
 fn write_removed(writer: &mut Writer, removed: &[Oid]) -> Result<(), NoMemory>
-    ensures { OnOk result (writer.new ≡ writer.old ++ flat_map oid removed.now) }
+    requires { length removed.now < 2 ^ 32 }
+    ensures { OnOk result (writer.new
+        ≡ writer.old ++ (u32 (length removed.now) ++ flat_map oid removed.now)) }
 {
+    writer.write_u32(&(removed.len() as u32))?;
     for object in removed {
         writer.write_oid(object)?;
     }
@@ -97,22 +104,26 @@ fn write_mark_if(writer: &mut Writer, mark: &Option<(Uuid, Kept)>) -> Result<(),
     }
 }
 
+/// Writes a change.
+fn write_change(writer: &mut Writer, change: &Change) -> Result<(), NoMemory>
+    requires { IsShortChange change.now }
+    ensures { OnOk result (writer.new ≡ writer.old ++ change_bytes change.now) }
+{
+    writer.write_usn0(&change.usn())?;
+    writer.write_flag(&change.mode().is_quarantined())?;
+    write_mark_if(writer, &change.mark())?;
+    writer.write_vector(change.joined())?;
+    writer.write_vector(change.purged())?;
+    write_removed(writer, change.removed())?;
+    write_writes(writer, change.writes())
+}
+
 /// Writes a change as the body of a record.
 pub fn encode_change(alloc: Global, change: &Change) -> Result<Vec<u8>, NoMemory>
     requires { IsShortChange change.now }
     ensures { IfOk result (λ bytes. bytes.items ≡ change_bytes change.now) }
 {
     let mut writer = Writer::new(alloc);
-    writer.write_usn0(&change.usn())?;
-    writer.write_flag(&change.mode().is_quarantined())?;
-    write_mark_if(&mut writer, &change.mark())?;
-    writer.write_vector(change.joined())?;
-    writer.write_vector(change.purged())?;
-    let removed = change.removed();
-    writer.write_u32(&(removed.len() as u32))?;
-    write_removed(&mut writer, removed)?;
-    let writes = change.writes();
-    writer.write_u32(&(writes.len() as u32))?;
-    write_writes(&mut writer, writes)?;
+    write_change(&mut writer, change)?;
     Ok(writer.into_bytes())
 }

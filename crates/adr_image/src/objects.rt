@@ -159,14 +159,15 @@ pub fn read_object(
         (form.object_at usn schema.now (record { last = last.now; used = used.now.keys }) reader.old) }
 {
     let start = reader.again();
-    let read = read_object_with(reader, alloc, usn, schema, *last, used);
-    if read.is_ok() {
-        return read;
+    match read_object_with(reader, alloc, usn, schema, *last, used) {
+        Ok(object) => Ok(object),
+        Err(refusal) => {
+            if is_refused_at_first(&start, alloc, schema, last, used)? {
+                return Err(Failure::Refused(Malformed {
+                    place: start.place(),
+                }));
+            }
+            Err(refusal)
+        }
     }
-    if is_refused_at_first(&start, alloc, schema, last, used)? {
-        return Err(Failure::Refused(Malformed {
-            place: start.place(),
-        }));
-    }
-    read
 }

@@ -1,8 +1,7 @@
 //! The rows of an object, read one after the other.
 
 ghost use Rattle.std.specs.Prelude.{◌≡◌};
-ghost use Rattle.std.specs.Ordering.{nat_cmp};
-ghost use Rattle.adr_wire.specs.Reading.{Gives, GivesAs, Tells, is_above};
+ghost use Rattle.adr_wire.specs.Reading.{Gives, GivesAs, Tells};
 ghost use Rattle.adr_wire.specs.Gathering.{gathered_at};
 ghost use Rattle.adr_image.specs.Image as form;
 
@@ -19,16 +18,6 @@ pub struct Before {
     pub dead: bool,
 }
 
-/// Whether an attribute comes behind the last one.
-fn rises(last: Option<u16>, attr: u16) -> bool
-    ensures { result ≡ is_above nat_cmp last attr }
-{
-    match last {
-        None => true,
-        Some(last) => last.cmp(&attr).is_lt(),
-    }
-}
-
 /// A local USN, at most the USN of the image.
 #[tactic(auto, unfolding(crate::specs::Image::local_at))]
 pub fn read_local(reader: &mut Reader<'_>, usn: u64) -> Result<u64, WireRefusal>
@@ -40,25 +29,6 @@ pub fn read_local(reader: &mut Reader<'_>, usn: u64) -> Result<u64, WireRefusal>
         return Err(Failure::Refused(Malformed { place }));
     }
     Ok(local)
-}
-
-/// A row whose attribute comes behind the last one, else a fault at `place`.
-#[tactic(auto, unfolding(crate::specs::Image::row_after, adr_wire::specs::Composites::row_of))]
-pub fn read_row_after(
-    reader: &mut Reader<'_>,
-    alloc: Global,
-    place: u64,
-    last: Option<u16>,
-) -> Result<(u16, Stamp, Content), WireRefusal>
-    ensures { Gives result reader.new (form.row_after place last reader.old) }
-{
-    let attr = reader.read_u16()?;
-    if !rises(last, attr) {
-        return Err(Failure::Refused(Malformed { place }));
-    }
-    let stamp = reader.read_stamp()?;
-    let content = reader.read_content(alloc, attr)?;
-    Ok((attr, stamp, content))
 }
 
 /// Whether the stamp is that of the creation of the object.
@@ -139,7 +109,7 @@ pub fn read_held_row(
 {
     let place = reader.place();
     let local = read_local(reader, usn)?;
-    let row = read_row_after(reader, alloc, place, before.attr)?;
+    let row = reader.read_row_after(alloc, place, before.attr)?;
     if !is_allowed(schema, oid, before, &row) {
         return Err(Failure::Refused(Malformed { place: owner }));
     }
