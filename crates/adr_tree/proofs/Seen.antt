@@ -155,15 +155,6 @@ length_seen (e ∷ es) = by e.1 (length_seen es)
     by None less = omega (arith, less)
     by (Some n) less = omega (arith, less)
 
--- the nodes in slots without their GUIDs
-abbrev pub kept : List (Option Node) → List Node
-kept [] = []
-kept (o ∷ os) = and_seen o (kept os)
-
-pub kept_values : (es : Slots) → kept (map (λ (e : Identifier × Option Node). e.1) es) ≡ seen es
-kept_values [] = refl
-kept_values (e ∷ es) = ap (and_seen e.1) (kept_values es)
-
 -- a flag that isn't set needs not be cleared
 pub not_set : (f : Identifier → Bool) (g h : Identifier) → f g ≡ false → f h ≡ (f h && not (same_identifier g h))
 not_set f g h none = by (same_identifier g h) refl

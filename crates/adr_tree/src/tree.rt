@@ -61,7 +61,7 @@ impl Tree {
         ensures { IfOk result (λ live. referents live.items ≡ nodes_in self.now) }
     {
         let mut live = Vec::new(alloc);
-        for slot in self.slots.values() {
+        for (_, slot) in &self.slots {
             if let Some(node) = slot {
                 live.push(node)?;
             }
