@@ -3,3 +3,4 @@ mod Gathered
 mod LiveObjects
 mod LiveParts
 mod YoungestNames
+mod NextRow

@@ -80,31 +80,31 @@ fn push_back(rows: &Rows, ends: &mut Vec<(u16, Uuid)>, update: &Update) -> Resul
     }
 }
 
-/// What links from an object show there, link by link.
-fn forward_ends(alloc: Global, rows: &Rows, links: &[&Held]) -> Result<Vec<(u16, Uuid)>, NoMemory>
-    ensures { IfOk result (λ ends.
-        ends.items
-        ≡ flat_map (λ h. forward_end (nodes_held (updates_of rows.now)) h.update.key h.update.said) (referents links.now)) }
+/// Adds what links from an object show there, link by link.
+fn push_all_forward(
+    rows: &Rows,
+    ends: &mut Vec<(u16, Uuid)>,
+    links: &[&Held],
+) -> Result<(), NoMemory>
+    ensures { OnOk result (ends.new.items ≡ ends.old.items
+        ++ flat_map (λ h. forward_end (nodes_held (updates_of rows.now)) h.update.key h.update.said) (referents links.now)) }
 {
-    let mut ends = Vec::new(alloc);
     for held in links {
-        push_forward(rows, &mut ends, held.update())?;
+        push_forward(rows, ends, held.update())?;
     }
-    Ok(ends)
+    Ok(())
 }
 
-/// What links to an object show there, link by link.
-fn back_ends(alloc: Global, rows: &Rows, links: &[&Held]) -> Result<Vec<(u16, Uuid)>, NoMemory>
+/// Adds what links to an object show there, link by link.
+fn push_all_back(rows: &Rows, ends: &mut Vec<(u16, Uuid)>, links: &[&Held]) -> Result<(), NoMemory>
     requires { IsTrue (have_back_links (updates_of (referents links.now))) }
-    ensures { IfOk result (λ ends.
-        ends.items
-        ≡ flat_map (λ h. back_end (nodes_held (updates_of rows.now)) h.update.key h.update.said) (referents links.now)) }
+    ensures { OnOk result (ends.new.items ≡ ends.old.items
+        ++ flat_map (λ h. back_end (nodes_held (updates_of rows.now)) h.update.key h.update.said) (referents links.now)) }
 {
-    let mut ends = Vec::new(alloc);
     for held in links {
-        push_back(rows, &mut ends, held.update())?;
+        push_back(rows, ends, held.update())?;
     }
-    Ok(ends)
+    Ok(())
 }
 
 /// The attributes of ends, rising.
@@ -119,20 +119,6 @@ fn attributes_of(alloc: Global, ends: &[(u16, Uuid)]) -> Result<BTreeSet<u16>, N
     Ok(attributes)
 }
 
-/// The GUIDs of the ends under an attribute, rising.
-fn guids_at(alloc: Global, ends: &[(u16, Uuid)], attr: u16) -> Result<BTreeSet<Uuid>, NoMemory>
-    ensures { IfOk result (λ guids.
-        guids.keys ≡ fold (insert_key identifier_order) [] (filter_map (of_attribute attr) ends.now)) }
-{
-    let mut guids = BTreeSet::new(alloc);
-    for (own, guid) in ends {
-        if *own == attr {
-            guids.insert(*guid)?;
-        }
-    }
-    Ok(guids)
-}
-
 /// A set of GUIDs as a list.
 fn listed(alloc: Global, guids: BTreeSet<Uuid>) -> Result<Guids, NoMemory>
     ensures { IfOk result (λ list. list ≡ guids.keys) }
@@ -144,14 +130,27 @@ fn listed(alloc: Global, guids: BTreeSet<Uuid>) -> Result<Guids, NoMemory>
     Ok(Guids::of(list))
 }
 
+/// The GUIDs of the ends under an attribute, rising.
+fn guids_at(alloc: Global, ends: &[(u16, Uuid)], attr: u16) -> Result<Guids, NoMemory>
+    ensures { IfOk result (λ guids.
+        guids ≡ fold (insert_key identifier_order) [] (filter_map (of_attribute attr) ends.now)) }
+{
+    let mut guids = BTreeSet::new(alloc);
+    for (own, guid) in ends {
+        if *own == attr {
+            guids.insert(*guid)?;
+        }
+    }
+    listed(alloc, guids)
+}
+
 /// Ends, gathered by attribute; the attributes and the GUIDs rise.
 fn gathered(alloc: Global, ends: &[(u16, Uuid)]) -> Result<EntryLinks, NoMemory>
     ensures { IfOk result (λ links. links ≡ gathered ends.now) }
 {
     let mut list = Vec::new(alloc);
     for attr in attributes_of(alloc, ends)? {
-        let guids = guids_at(alloc, ends, attr)?;
-        list.push((attr, listed(alloc, guids)?))?;
+        list.push((attr, guids_at(alloc, ends, attr)?))?;
     }
     Ok(EntryLinks::of(list))
 }
@@ -164,10 +163,8 @@ pub fn links_at(alloc: Global, rows: &Rows, object: &Oid) -> Result<EntryLinks, 
     ensures { IfOk result (λ links. links ≡ links_at (live_rows (updates_of rows.now)) object.now) }
 {
     rows.are_rising();
-    let from = rows.links_from(alloc, object)?;
-    let mut ends = forward_ends(alloc, rows, from.as_slice())?;
-    let to = rows.links_to(alloc, object)?;
-    let mut back = back_ends(alloc, rows, to.as_slice())?;
-    ends.append(&mut back)?;
+    let mut ends = Vec::new(alloc);
+    push_all_forward(rows, &mut ends, rows.links_from(alloc, object)?.as_slice())?;
+    push_all_back(rows, &mut ends, rows.links_to(alloc, object)?.as_slice())?;
     gathered(alloc, ends.as_slice())
 }

@@ -1,7 +1,7 @@
 //! The values that the rows of an object give.
 
-ghost use Rattle.std.specs.Prelude.{◌≡◌, true, IfOk};
-ghost use Rattle.adr_model.specs.Directory.{values_in, values_at};
+ghost use Rattle.std.specs.Prelude.{◌≡◌, ◌∷◌, ◌++◌, [], true, IfOk, OnOk};
+ghost use Rattle.adr_model.specs.Directory.{values_at};
 ghost use Rattle.adr_model.specs.Live.{live_rows};
 ghost use Rattle.adr_model.specs.Store.{updates_of};
 ghost use Rattle.adr_model.specs.Write.{nodes_held};
@@ -15,20 +15,21 @@ use adr_stamp::Oid;
 use adr_state::{Held, Key, Rows, Said, Update, is_same_object};
 use std::alloc::Global;
 
-/// The attribute and the values that a row of an object gives, where there are any.
-fn values_in(
+/// Adds the attribute and the values that a row of an object gives, where there are any.
+fn push_values(
     alloc: Global,
+    list: &mut Vec<(u16, Values)>,
     object: &Oid,
     update: &Update,
-) -> Result<Option<(u16, Values)>, NoMemory>
-    ensures { IfOk result (λ given. given ≡ values_in object.now update.now.key update.now.said) }
+) -> Result<(), NoMemory>
+    ensures { OnOk result (list.new.items ≡ list.old.items ++ values_at (update.now ∷ []) object.now) }
 {
     match (update.key(), update.said()) {
         (Key::Row { object: own, attr }, Said::Holds(Content::Values(values)))
             if is_same_object(&own, object) && !values.items().is_empty() => {
-            Ok(Some((attr, values.copy(alloc)?)))
+            Ok(list.push((attr, values.copy(alloc)?))?)
         }
-        _ => Ok(None),
+        _ => Ok(()),
     }
 }
 
@@ -38,9 +39,7 @@ fn values_among(alloc: Global, object: &Oid, rows: &[&Held]) -> Result<EntryValu
 {
     let mut list = Vec::new(alloc);
     for held in rows {
-        if let Some(given) = values_in(alloc, object, held.update())? {
-            list.push(given)?;
-        }
+        push_values(alloc, &mut list, object, held.update())?;
     }
     Ok(EntryValues::of(list))
 }

@@ -6,12 +6,12 @@ use Rattle.adr_model.specs.Write.{nodes_held}
 use Rattle.adr_update.specs.Referents.{referents}
 use Rattle.adr_view.specs.BackLinks.{have_back_links}
 use Rattle.adr_view.specs.Ends.{back_end}
-use Rattle.adr_view.proofs.links.back_ends.Given as goal
+use Rattle.adr_view.proofs.links.push_all_back.Given as goal
 
 -- with the ends in the rows that are left they are all
 abbrev pub invariant-loop-held : goal.invariant-loop-held
 invariant-loop-held l = record {
   linked : IsTrue (have_back_links (updates_of (referents (drop l.held-index l.links))));
   same : l.ends.items ++ flat_map (λ (h : Held). back_end (nodes_held (updates_of l.rows)) h.update.key h.update.said) (referents (drop l.held-index l.links))
-      ≡ flat_map (λ (h : Held). back_end (nodes_held (updates_of l.rows)) h.update.key h.update.said) (referents l.links);
+      ≡ l.initial.ends.items ++ flat_map (λ (h : Held). back_end (nodes_held (updates_of l.rows)) h.update.key h.update.said) (referents l.links);
 }
