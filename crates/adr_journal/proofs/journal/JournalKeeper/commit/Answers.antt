@@ -1,12 +1,6 @@
 use Rattle.std.proofs.Common.{◌≤◌, ℕ, ◌+◌, List, length, sym, ◌∙◌, ap, subst, arith, length-append, ◌∷◌}
-use Rattle.adr_law_journal.specs.Log.{Started, start_of}
-use Rattle.adr_law_journal.specs.Kept.{IsEither}
-use Rattle.adr_law_journal.proofs.Told.{at_told, if_mapped}
-use Rattle.adr_law_journal.proofs.Lifts.{lifted, finds_each}
-use Rattle.adr_model.specs.Store.{State}
 use Rattle.adr_model.specs.Lengths.{log_limit}
-use Rattle.adr_journal.specs.Ended.{found_after}
-use Rattle.adr_journal.proofs.Found.{takes, taken_at, among_so, leaves_so}
+use Rattle.adr_journal.proofs.Found.{takes, taken_at, either_moments, either_left}
 use Rattle.adr_journal.proofs.journal.JournalKeeper.commit.Goals as goal
 
 pub write_record-requires-clause-within : goal.write_record-requires-clause-within
@@ -19,49 +13,58 @@ returns-in-Ok-clause-ok g c = λ f0 at can up.
     let d = g.D.Disk in
     let f = g.F.Form in
     let law = g.met.F.Form in
-    taken_at f.head f.following d.content d.may_leave c.args.self.now.disk c.args.self.now.end c.deref.result.now f0 c.args._change.now (f.body_of c.args._change.now) (at c.requires.up) (c.deref.ensures.value ∙ c.requires.prepared.is) (subst (λ (l : List ℕ). c.args.self.now.end + length l ≤ log_limit) (sym c.deref.ensures.value) c.requires.prepared.room) (law.body_follows f0.state c.args._change.now can) (law.body_length f0.state c.args._change.now can) c.write_record.new.disk (c.args.self.now.end + c.len.result) (ap (λ (n : ℕ). c.args.self.now.end + n) (c.len.ensures ∙ sym c.deref.ensures.len))
-    (c.in-Ok.ensures.settled f.head f.following f0.state _ (f.body_of c.args._change.now) (takes f.head f.following d.content d.may_leave c.args.self.now.disk c.args.self.now.end c.deref.result.now f0 c.args._change.now (f.body_of c.args._change.now) (at c.requires.up) (c.deref.ensures.value ∙ c.requires.prepared.is) (subst (λ (l : List ℕ). c.args.self.now.end + length l ≤ log_limit) (sym c.deref.ensures.value) c.requires.prepared.room) (law.body_follows f0.state c.args._change.now can) (law.body_length f0.state c.args._change.now can)))
+    let change = c.args._change.now in
+    taken_at f.head f.following (λ j. j.disk) d.content d.may_leave c.args.self.now c.args.self.now.end c.deref.result.now f0 change (f.body_of change) (at c.requires.up) (c.deref.ensures.value ∙ c.requires.prepared.is)
+    (subst (λ (l : List ℕ). c.args.self.now.end + length l ≤ log_limit) (sym c.deref.ensures.value) c.requires.prepared.room) (law.body_follows f0.state change can) (law.body_length f0.state change can)
+    c.write_record.new.disk (c.args.self.now.end + c.len.result) (ap (λ (n : ℕ). c.args.self.now.end + n) (c.len.ensures ∙ sym c.deref.ensures.len))
+    (c.in-Ok.ensures.settled f.head f.following f0.state _ (f.body_of change)
+    (takes f.head f.following (λ j. j.disk) d.content d.may_leave c.args.self.now c.args.self.now.end c.deref.result.now f0 change (f.body_of change) (at c.requires.up) (c.deref.ensures.value ∙ c.requires.prepared.is)
+    (subst (λ (l : List ℕ). c.args.self.now.end + length l ≤ log_limit) (sym c.deref.ensures.value) c.requires.prepared.room) (law.body_follows f0.state change can) (law.body_length f0.state change can)))
 
 pub returns-in-Ok-clause-any_moment : goal.returns-in-Ok-clause-any_moment
 returns-in-Ok-clause-any_moment g c = λ f0 at can.
     let d = g.D.Disk in
     let f = g.F.Form in
     let law = g.met.F.Form in
-    let P : Started State → Type 0 = IsEither f0 (found_after f0 c.args._change.now) in
-    if_mapped (start_of f.head f.following) (d.content c.args.self.now.disk) _ (λ there is.
-    lifted f.head f.following (λ j. j.disk) d.content d.may_leave d.moment d.left_since c.args.self.now _ P
-    (leaves_so f.head f.following d.content d.may_leave c.args.self.now.disk c.args.self.now.end c.deref.result.now f0 c.args._change.now (f.body_of c.args._change.now) (at c.requires.up) (c.deref.ensures.value ∙ c.requires.prepared.is) (subst (λ (l : List ℕ). c.args.self.now.end + length l ≤ log_limit) (sym c.deref.ensures.value) c.requires.prepared.room) (law.body_follows f0.state c.args._change.now can) (law.body_length f0.state c.args._change.now can) d.moment d.left_since c.write_record.new.disk
-    (at_told (d.content c.args.self.now.disk) _ there is (c.write_record.ensures.any_moment f.head f.following f0.state _ (f.body_of c.args._change.now) (takes f.head f.following d.content d.may_leave c.args.self.now.disk c.args.self.now.end c.deref.result.now f0 c.args._change.now (f.body_of c.args._change.now) (at c.requires.up) (c.deref.ensures.value ∙ c.requires.prepared.is) (subst (λ (l : List ℕ). c.args.self.now.end + length l ≤ log_limit) (sym c.deref.ensures.value) c.requires.prepared.room) (law.body_follows f0.state c.args._change.now can) (law.body_length f0.state c.args._change.now can))))))
+    let change = c.args._change.now in
+    either_moments f.head f.following (λ j. j.disk) d.content d.may_leave c.args.self.now c.args.self.now.end c.deref.result.now f0 change (f.body_of change) (at c.requires.up) (c.deref.ensures.value ∙ c.requires.prepared.is)
+    (subst (λ (l : List ℕ). c.args.self.now.end + length l ≤ log_limit) (sym c.deref.ensures.value) c.requires.prepared.room) (law.body_follows f0.state change can) (law.body_length f0.state change can)
+    d.moment d.left_since _ (c.write_record.ensures.any_moment f.head f.following f0.state _ (f.body_of change)
+    (takes f.head f.following (λ j. j.disk) d.content d.may_leave c.args.self.now c.args.self.now.end c.deref.result.now f0 change (f.body_of change) (at c.requires.up) (c.deref.ensures.value ∙ c.requires.prepared.is)
+    (subst (λ (l : List ℕ). c.args.self.now.end + length l ≤ log_limit) (sym c.deref.ensures.value) c.requires.prepared.room) (law.body_follows f0.state change can) (law.body_length f0.state change can)))
 
 pub returns-in-Ok-clause-left : goal.returns-in-Ok-clause-left
 returns-in-Ok-clause-left g c = λ f0 at can.
     let d = g.D.Disk in
     let f = g.F.Form in
     let law = g.met.F.Form in
-    let P : Started State → Type 0 = IsEither f0 (found_after f0 c.args._change.now) in
-    if_mapped (start_of f.head f.following) (d.content c.args.self.now.disk) _ (λ there is.
-    finds_each f.head f.following (d.may_leave c.write_record.new.disk) P
-    (among_so f.head f.following d.content d.may_leave c.args.self.now.disk c.args.self.now.end c.deref.result.now f0 c.args._change.now (f.body_of c.args._change.now) (at c.requires.up) (c.deref.ensures.value ∙ c.requires.prepared.is) (subst (λ (l : List ℕ). c.args.self.now.end + length l ≤ log_limit) (sym c.deref.ensures.value) c.requires.prepared.room) (law.body_follows f0.state c.args._change.now can) (law.body_length f0.state c.args._change.now can) (d.may_leave c.write_record.new.disk)
-    (at_told (d.content c.args.self.now.disk) _ there is (c.write_record.ensures.left f.head f.following f0.state _ (f.body_of c.args._change.now) (takes f.head f.following d.content d.may_leave c.args.self.now.disk c.args.self.now.end c.deref.result.now f0 c.args._change.now (f.body_of c.args._change.now) (at c.requires.up) (c.deref.ensures.value ∙ c.requires.prepared.is) (subst (λ (l : List ℕ). c.args.self.now.end + length l ≤ log_limit) (sym c.deref.ensures.value) c.requires.prepared.room) (law.body_follows f0.state c.args._change.now can) (law.body_length f0.state c.args._change.now can))))))
+    let change = c.args._change.now in
+    either_left f.head f.following (λ j. j.disk) d.content d.may_leave c.args.self.now c.args.self.now.end c.deref.result.now f0 change (f.body_of change) (at c.requires.up) (c.deref.ensures.value ∙ c.requires.prepared.is)
+    (subst (λ (l : List ℕ). c.args.self.now.end + length l ≤ log_limit) (sym c.deref.ensures.value) c.requires.prepared.room) (law.body_follows f0.state change can) (law.body_length f0.state change can)
+    d.moment d.left_since (record (c.args.self.now) { disk = c.write_record.new.disk }) (c.write_record.ensures.left f.head f.following f0.state _ (f.body_of change)
+    (takes f.head f.following (λ j. j.disk) d.content d.may_leave c.args.self.now c.args.self.now.end c.deref.result.now f0 change (f.body_of change) (at c.requires.up) (c.deref.ensures.value ∙ c.requires.prepared.is)
+    (subst (λ (l : List ℕ). c.args.self.now.end + length l ≤ log_limit) (sym c.deref.ensures.value) c.requires.prepared.room) (law.body_follows f0.state change can) (law.body_length f0.state change can)))
 
 pub returns-in-Err-clause-any_moment : goal.returns-in-Err-clause-any_moment
 returns-in-Err-clause-any_moment g c = λ f0 at can.
     let d = g.D.Disk in
     let f = g.F.Form in
     let law = g.met.F.Form in
-    let P : Started State → Type 0 = IsEither f0 (found_after f0 c.args._change.now) in
-    if_mapped (start_of f.head f.following) (d.content c.args.self.now.disk) _ (λ there is.
-    lifted f.head f.following (λ j. j.disk) d.content d.may_leave d.moment d.left_since c.args.self.now _ P
-    (leaves_so f.head f.following d.content d.may_leave c.args.self.now.disk c.args.self.now.end c.deref.result.now f0 c.args._change.now (f.body_of c.args._change.now) (at c.requires.up) (c.deref.ensures.value ∙ c.requires.prepared.is) (subst (λ (l : List ℕ). c.args.self.now.end + length l ≤ log_limit) (sym c.deref.ensures.value) c.requires.prepared.room) (law.body_follows f0.state c.args._change.now can) (law.body_length f0.state c.args._change.now can) d.moment d.left_since c.write_record.new.disk
-    (at_told (d.content c.args.self.now.disk) _ there is (c.write_record.ensures.any_moment f.head f.following f0.state _ (f.body_of c.args._change.now) (takes f.head f.following d.content d.may_leave c.args.self.now.disk c.args.self.now.end c.deref.result.now f0 c.args._change.now (f.body_of c.args._change.now) (at c.requires.up) (c.deref.ensures.value ∙ c.requires.prepared.is) (subst (λ (l : List ℕ). c.args.self.now.end + length l ≤ log_limit) (sym c.deref.ensures.value) c.requires.prepared.room) (law.body_follows f0.state c.args._change.now can) (law.body_length f0.state c.args._change.now can))))))
+    let change = c.args._change.now in
+    either_moments f.head f.following (λ j. j.disk) d.content d.may_leave c.args.self.now c.args.self.now.end c.deref.result.now f0 change (f.body_of change) (at c.requires.up) (c.deref.ensures.value ∙ c.requires.prepared.is)
+    (subst (λ (l : List ℕ). c.args.self.now.end + length l ≤ log_limit) (sym c.deref.ensures.value) c.requires.prepared.room) (law.body_follows f0.state change can) (law.body_length f0.state change can)
+    d.moment d.left_since _ (c.write_record.ensures.any_moment f.head f.following f0.state _ (f.body_of change)
+    (takes f.head f.following (λ j. j.disk) d.content d.may_leave c.args.self.now c.args.self.now.end c.deref.result.now f0 change (f.body_of change) (at c.requires.up) (c.deref.ensures.value ∙ c.requires.prepared.is)
+    (subst (λ (l : List ℕ). c.args.self.now.end + length l ≤ log_limit) (sym c.deref.ensures.value) c.requires.prepared.room) (law.body_follows f0.state change can) (law.body_length f0.state change can)))
 
 pub returns-in-Err-clause-left : goal.returns-in-Err-clause-left
 returns-in-Err-clause-left g c = λ f0 at can.
     let d = g.D.Disk in
     let f = g.F.Form in
     let law = g.met.F.Form in
-    let P : Started State → Type 0 = IsEither f0 (found_after f0 c.args._change.now) in
-    if_mapped (start_of f.head f.following) (d.content c.args.self.now.disk) _ (λ there is.
-    finds_each f.head f.following (d.may_leave c.write_record.new.disk) P
-    (among_so f.head f.following d.content d.may_leave c.args.self.now.disk c.args.self.now.end c.deref.result.now f0 c.args._change.now (f.body_of c.args._change.now) (at c.requires.up) (c.deref.ensures.value ∙ c.requires.prepared.is) (subst (λ (l : List ℕ). c.args.self.now.end + length l ≤ log_limit) (sym c.deref.ensures.value) c.requires.prepared.room) (law.body_follows f0.state c.args._change.now can) (law.body_length f0.state c.args._change.now can) (d.may_leave c.write_record.new.disk)
-    (at_told (d.content c.args.self.now.disk) _ there is (c.write_record.ensures.left f.head f.following f0.state _ (f.body_of c.args._change.now) (takes f.head f.following d.content d.may_leave c.args.self.now.disk c.args.self.now.end c.deref.result.now f0 c.args._change.now (f.body_of c.args._change.now) (at c.requires.up) (c.deref.ensures.value ∙ c.requires.prepared.is) (subst (λ (l : List ℕ). c.args.self.now.end + length l ≤ log_limit) (sym c.deref.ensures.value) c.requires.prepared.room) (law.body_follows f0.state c.args._change.now can) (law.body_length f0.state c.args._change.now can))))))
+    let change = c.args._change.now in
+    either_left f.head f.following (λ j. j.disk) d.content d.may_leave c.args.self.now c.args.self.now.end c.deref.result.now f0 change (f.body_of change) (at c.requires.up) (c.deref.ensures.value ∙ c.requires.prepared.is)
+    (subst (λ (l : List ℕ). c.args.self.now.end + length l ≤ log_limit) (sym c.deref.ensures.value) c.requires.prepared.room) (law.body_follows f0.state change can) (law.body_length f0.state change can)
+    d.moment d.left_since (record (c.args.self.now) { disk = c.write_record.new.disk }) (c.write_record.ensures.left f.head f.following f0.state _ (f.body_of change)
+    (takes f.head f.following (λ j. j.disk) d.content d.may_leave c.args.self.now c.args.self.now.end c.deref.result.now f0 change (f.body_of change) (at c.requires.up) (c.deref.ensures.value ∙ c.requires.prepared.is)
+    (subst (λ (l : List ℕ). c.args.self.now.end + length l ≤ log_limit) (sym c.deref.ensures.value) c.requires.prepared.room) (law.body_follows f0.state change can) (law.body_length f0.state change can)))

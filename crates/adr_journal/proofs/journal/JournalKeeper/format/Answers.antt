@@ -1,12 +1,10 @@
 use Rattle.std.proofs.Common.{◌≡◌, inr, ℕ, ◌+◌, ◌++◌, [], ◌∷◌, length, Some, sym, ◌∙◌, ap, subst, arith}
-use Rattle.adr_model.specs.Store.{State}
 use Rattle.adr_model.specs.Lengths.{new_log_end}
-use Rattle.adr_law_journal.specs.Log.{Started, start_of}
 use Rattle.adr_law_journal.specs.Kept.{IsSettled}
-use Rattle.adr_law_journal.proofs.Told.{at_told, if_mapped}
-use Rattle.adr_law_journal.proofs.Lifts.{lifted, finds_each, after_kept}
+use Rattle.adr_law_journal.proofs.Lifts.{kept_same}
 use Rattle.adr_journal.specs.Ended.{IsNewOrNone}
 use Rattle.adr_journal.specs.Ran.{Formats}
+use Rattle.adr_journal.proofs.Found.{left_behind, moments_behind, none_left, none_moments, same_keeps}
 use Rattle.adr_journal.proofs.Heads.{begun_rests, begun_long, no_memory_left}
 use Rattle.adr_journal.proofs.journal.JournalKeeper.format.Goals as goal
 
@@ -32,17 +30,9 @@ returns-in-Ok-write_log-clause-any_moment g c =
     let f = g.F.Form in
     let law = g.met.F.Form in
     let s = c.args.state.now in
-    let is : c.deref.result.now ≡ f.head_of s ++ 0 ∷ [] = c.deref.ensures.value ∙ c.in-Ok.ensures in
-    let rests = begun_rests f.head f.following f.can_begin f.head_of law.spells_head law.head_length s c.requires.begins c.deref.result.now is in
-    let P : Started State → Type 0 = IsNewOrNone s in
-    let old = c.args.self.now.disk in
-    let mid = c.reserve.new.self in
-    let new = c.write_log.new.disk in
-    let keeps = c.reserve.ensures.keeps in
-    if_mapped (start_of f.head f.following) (d.content old) _ (λ there told.
-    lifted f.head f.following (λ j. j.disk) d.content d.may_leave d.moment d.left_since c.args.self.now _ P
-    (after_kept d.content d.may_leave d.moment d.left_since old mid new (λ bytes. P (start_of f.head f.following bytes)) keeps
-    (at_told (d.content mid) _ there (keeps.content_stays ∙ told) (c.write_log.ensures.any_moment f.head f.following s (new_log_end s) rests))))
+    moments_behind f.head f.following (λ j. j.disk) d.content d.may_leave d.moment d.left_since c.args.self.now _ c.reserve.new.self c.reserve.ensures.keeps (IsNewOrNone s)
+    (c.write_log.ensures.any_moment f.head f.following s (new_log_end s)
+    (begun_rests f.head f.following f.can_begin f.head_of law.spells_head law.head_length s c.requires.begins c.deref.result.now (c.deref.ensures.value ∙ c.in-Ok.ensures)))
 
 pub returns-in-Ok-write_log-clause-left : goal.returns-in-Ok-write_log-clause-left
 returns-in-Ok-write_log-clause-left g c =
@@ -50,13 +40,9 @@ returns-in-Ok-write_log-clause-left g c =
     let f = g.F.Form in
     let law = g.met.F.Form in
     let s = c.args.state.now in
-    let is : c.deref.result.now ≡ f.head_of s ++ 0 ∷ [] = c.deref.ensures.value ∙ c.in-Ok.ensures in
-    let rests = begun_rests f.head f.following f.can_begin f.head_of law.spells_head law.head_length s c.requires.begins c.deref.result.now is in
-    let P : Started State → Type 0 = IsNewOrNone s in
-    let mid = c.reserve.new.self in
-    if_mapped (start_of f.head f.following) (d.content c.args.self.now.disk) _ (λ there told.
-    finds_each f.head f.following (d.may_leave c.write_log.new.disk) P
-    (at_told (d.content mid) _ there (c.reserve.ensures.keeps.content_stays ∙ told) (c.write_log.ensures.left f.head f.following s (new_log_end s) rests)))
+    left_behind f.head f.following (λ j. j.disk) d.content d.may_leave d.moment d.left_since c.args.self.now (record (c.args.self.now) { disk = c.write_log.new.disk }) c.reserve.new.self c.reserve.ensures.keeps (IsNewOrNone s)
+    (c.write_log.ensures.left f.head f.following s (new_log_end s)
+    (begun_rests f.head f.following f.can_begin f.head_of law.spells_head law.head_length s c.requires.begins c.deref.result.now (c.deref.ensures.value ∙ c.in-Ok.ensures)))
 
 pub returns-clause-any_moment : goal.returns-clause-any_moment
 returns-clause-any_moment g c =
@@ -64,17 +50,9 @@ returns-clause-any_moment g c =
     let f = g.F.Form in
     let law = g.met.F.Form in
     let s = c.args.state.now in
-    let is : c.deref.result.now ≡ f.head_of s ++ 0 ∷ [] = c.deref.ensures.value ∙ c.in-Ok.ensures in
-    let rests = begun_rests f.head f.following f.can_begin f.head_of law.spells_head law.head_length s c.requires.begins c.deref.result.now is in
-    let P : Started State → Type 0 = IsNewOrNone s in
-    let old = c.args.self.now.disk in
-    let mid = c.reserve.new.self in
-    let new = c.write_log.new.disk in
-    let keeps = c.reserve.ensures.keeps in
-    if_mapped (start_of f.head f.following) (d.content old) _ (λ there told.
-    lifted f.head f.following (λ j. j.disk) d.content d.may_leave d.moment d.left_since c.args.self.now _ P
-    (after_kept d.content d.may_leave d.moment d.left_since old mid new (λ bytes. P (start_of f.head f.following bytes)) keeps
-    (at_told (d.content mid) _ there (keeps.content_stays ∙ told) (c.write_log.ensures.any_moment f.head f.following s (new_log_end s) rests))))
+    moments_behind f.head f.following (λ j. j.disk) d.content d.may_leave d.moment d.left_since c.args.self.now _ c.reserve.new.self c.reserve.ensures.keeps (IsNewOrNone s)
+    (c.write_log.ensures.any_moment f.head f.following s (new_log_end s)
+    (begun_rests f.head f.following f.can_begin f.head_of law.spells_head law.head_length s c.requires.begins c.deref.result.now (c.deref.ensures.value ∙ c.in-Ok.ensures)))
 
 pub returns-clause-left : goal.returns-clause-left
 returns-clause-left g c =
@@ -82,13 +60,9 @@ returns-clause-left g c =
     let f = g.F.Form in
     let law = g.met.F.Form in
     let s = c.args.state.now in
-    let is : c.deref.result.now ≡ f.head_of s ++ 0 ∷ [] = c.deref.ensures.value ∙ c.in-Ok.ensures in
-    let rests = begun_rests f.head f.following f.can_begin f.head_of law.spells_head law.head_length s c.requires.begins c.deref.result.now is in
-    let P : Started State → Type 0 = IsNewOrNone s in
-    let mid = c.reserve.new.self in
-    if_mapped (start_of f.head f.following) (d.content c.args.self.now.disk) _ (λ there told.
-    finds_each f.head f.following (d.may_leave c.write_log.new.disk) P
-    (at_told (d.content mid) _ there (c.reserve.ensures.keeps.content_stays ∙ told) (c.write_log.ensures.left f.head f.following s (new_log_end s) rests)))
+    left_behind f.head f.following (λ j. j.disk) d.content d.may_leave d.moment d.left_since c.args.self.now (record (c.args.self.now) { disk = c.write_log.new.disk }) c.reserve.new.self c.reserve.ensures.keeps (IsNewOrNone s)
+    (c.write_log.ensures.left f.head f.following s (new_log_end s)
+    (begun_rests f.head f.following f.can_begin f.head_of law.spells_head law.head_length s c.requires.begins c.deref.result.now (c.deref.ensures.value ∙ c.in-Ok.ensures)))
 
 pub returns-clause-formats : goal.returns-clause-formats
 returns-clause-formats g c =
@@ -104,3 +78,51 @@ returns-clause-formats g c =
             c.in-Err.ensures.no_memory_only spare.0 (omega (arith, spare.1, c.len.ensures, c.deref.ensures.len)) c.in-Err.ensures.gives,
       ),
     )
+
+pub returns-in_default-clause-any_moment : goal.returns-in_default-clause-any_moment
+returns-in_default-clause-any_moment g c =
+    let d = g.D.Disk in
+    none_moments g.F.Form.head g.F.Form.following (λ j. j.disk) d.content d.may_leave d.moment d.left_since g.met.D.Disk.only_now c.args.self.now c.args.self.now c.args.self.now.end c.args.state.now c.requires.empty
+    (same_keeps d.content d.may_leave d.moment d.left_since c.args.self.now.disk)
+
+pub returns-in_default-clause-left : goal.returns-in_default-clause-left
+returns-in_default-clause-left g c =
+    let d = g.D.Disk in
+    none_left g.F.Form.head g.F.Form.following (λ j. j.disk) d.content d.may_leave d.moment d.left_since g.met.D.Disk.only_now c.args.self.now c.args.self.now c.args.self.now.end c.args.state.now c.requires.empty
+    (same_keeps d.content d.may_leave d.moment d.left_since c.args.self.now.disk)
+
+pub returns-in_default-clause-no_memory : goal.returns-in_default-clause-no_memory
+returns-in_default-clause-no_memory g c = λ refused.
+    let d = g.D.Disk in
+    kept_same g.F.Form.head g.F.Form.following (λ j. j.disk) d.content d.may_leave d.moment d.left_since c.args.self.now c.args.self.now
+    (same_keeps d.content d.may_leave d.moment d.left_since c.args.self.now.disk)
+
+pub returns-in-Err-Failed-clause-any_moment : goal.returns-in-Err-Failed-clause-any_moment
+returns-in-Err-Failed-clause-any_moment g c =
+    let d = g.D.Disk in
+    none_moments g.F.Form.head g.F.Form.following (λ j. j.disk) d.content d.may_leave d.moment d.left_since g.met.D.Disk.only_now c.args.self.now _ c.args.self.now.end c.args.state.now c.requires.empty
+    c.reserve.ensures.keeps
+
+pub returns-in-Err-Failed-clause-left : goal.returns-in-Err-Failed-clause-left
+returns-in-Err-Failed-clause-left g c =
+    let d = g.D.Disk in
+    none_left g.F.Form.head g.F.Form.following (λ j. j.disk) d.content d.may_leave d.moment d.left_since g.met.D.Disk.only_now c.args.self.now (record (c.args.self.now) { disk = c.reserve.new.self }) c.args.self.now.end c.args.state.now c.requires.empty
+    c.reserve.ensures.keeps
+
+pub returns-in-Err-NoMemory-clause-any_moment : goal.returns-in-Err-NoMemory-clause-any_moment
+returns-in-Err-NoMemory-clause-any_moment g c =
+    let d = g.D.Disk in
+    none_moments g.F.Form.head g.F.Form.following (λ j. j.disk) d.content d.may_leave d.moment d.left_since g.met.D.Disk.only_now c.args.self.now _ c.args.self.now.end c.args.state.now c.requires.empty
+    c.reserve.ensures.keeps
+
+pub returns-in-Err-NoMemory-clause-left : goal.returns-in-Err-NoMemory-clause-left
+returns-in-Err-NoMemory-clause-left g c =
+    let d = g.D.Disk in
+    none_left g.F.Form.head g.F.Form.following (λ j. j.disk) d.content d.may_leave d.moment d.left_since g.met.D.Disk.only_now c.args.self.now (record (c.args.self.now) { disk = c.reserve.new.self }) c.args.self.now.end c.args.state.now c.requires.empty
+    c.reserve.ensures.keeps
+
+pub returns-in-Err-NoMemory-clause-no_memory : goal.returns-in-Err-NoMemory-clause-no_memory
+returns-in-Err-NoMemory-clause-no_memory g c = λ refused.
+    let d = g.D.Disk in
+    kept_same g.F.Form.head g.F.Form.following (λ j. j.disk) d.content d.may_leave d.moment d.left_since c.args.self.now _
+    c.reserve.ensures.keeps

@@ -2,7 +2,7 @@ use Rattle.std.proofs.Common.{◌≡◌, ℕ, List, Some, Ok, refl, sym, ◌∙�
 use Rattle.adr_law_journal.specs.Log.{found, start_of, IsAtRest}
 use Rattle.adr_law_journal.proofs.Logs.{at_rest_stands}
 use Rattle.adr_law_journal.proofs.Told.{at_told, if_mapped}
-use Rattle.adr_journal.proofs.Found.{for_some}
+use Rattle.adr_journal.proofs.Found.{for_some, left_before}
 use Rattle.adr_journal.proofs.journal.JournalKeeper.start.Goals as goal
 
 pub returns-in-Ok-replay-clause-ok : goal.returns-in-Ok-replay-clause-ok
@@ -29,3 +29,35 @@ returns-in-Ok-replay-clause-ok g c =
       }),
       if_mapped (start_of f.head f.following) (d.content old) _ finds,
     )
+
+pub returns-in-Err-DiskFault-clause-any_moment : goal.returns-in-Err-DiskFault-clause-any_moment
+returns-in-Err-DiskFault-clause-any_moment g c =
+    let d = g.D.Disk in
+    left_before g.F.Form.head g.F.Form.following (λ j. j.disk) d.may_leave d.moment d.left_since c.args.self.now _ c.read_synced.ensures.any_moment
+
+pub returns-in-Err-DiskFault-clause-left : goal.returns-in-Err-DiskFault-clause-left
+returns-in-Err-DiskFault-clause-left g c = λ t left. (left.0, c.read_synced.ensures.left left.0 left.1, left.2)
+
+pub returns-in-Err-NoMemory-clause-any_moment : goal.returns-in-Err-NoMemory-clause-any_moment
+returns-in-Err-NoMemory-clause-any_moment g c =
+    let d = g.D.Disk in
+    left_before g.F.Form.head g.F.Form.following (λ j. j.disk) d.may_leave d.moment d.left_since c.args.self.now _ c.read_synced.ensures.any_moment
+
+pub returns-in-Err-NoMemory-clause-left : goal.returns-in-Err-NoMemory-clause-left
+returns-in-Err-NoMemory-clause-left g c = λ t left. (left.0, c.read_synced.ensures.left left.0 left.1, left.2)
+
+pub returns-in-Ok-replay-clause-any_moment : goal.returns-in-Ok-replay-clause-any_moment
+returns-in-Ok-replay-clause-any_moment g c =
+    let d = g.D.Disk in
+    left_before g.F.Form.head g.F.Form.following (λ j. j.disk) d.may_leave d.moment d.left_since c.args.self.now _ c.read_synced.ensures.any_moment
+
+pub returns-in-Ok-replay-clause-left : goal.returns-in-Ok-replay-clause-left
+returns-in-Ok-replay-clause-left g c = λ t left. (left.0, c.read_synced.ensures.left left.0 left.1, left.2)
+
+pub returns-clause-any_moment : goal.returns-clause-any_moment
+returns-clause-any_moment g c =
+    let d = g.D.Disk in
+    left_before g.F.Form.head g.F.Form.following (λ j. j.disk) d.may_leave d.moment d.left_since c.args.self.now _ c.read_synced.ensures.any_moment
+
+pub returns-clause-left : goal.returns-clause-left
+returns-clause-left g c = λ t left. (left.0, c.read_synced.ensures.left left.0 left.1, left.2)
