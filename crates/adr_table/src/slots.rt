@@ -240,10 +240,8 @@ fn make(map: &mut BTreeMap<Place, Option<Held>>, place: Place) -> Result<Option<
     ensures there { OnOk result (IsSome (get place_order map.new place)) }
     ensures err { OnErr result (map.new.entries ≡ map.old.entries) }
 {
-    match map.entry(place)?.or_insert(None) {
-        Some(row) => Ok(Some(row.local())),
-        None => Ok(None),
-    }
+    let slot = map.entry(place)?.or_insert(None);
+    Ok(slot.as_ref().map(|row| row.local()))
 }
 
 /// Puts something into a slot, and tells whether a row was there.
