@@ -2,7 +2,7 @@
 
 ghost use Rattle.std.specs.Prelude.{◌≡◌, ◌+◌, ◌++◌, [], IfOk, IfSome, OnOk, map, nat_le, true};
 ghost use Rattle.std.specs.List.{cons_option};
-ghost use Rattle.adr_vector.specs.Vector.{IsVector, at, covers, raised};
+ghost use Rattle.adr_vector.specs.Vector.{at, covers, raised};
 ghost use Rattle.adr_model.specs.Reflects.{AtMost};
 ghost use Rattle.adr_model.specs.Update.{inv_of, usn_of};
 ghost use Rattle.adr_model.specs.Visible.{covers_birth, covers_update};
@@ -128,18 +128,11 @@ fn raise(vector: &mut Vector, seen: &Vector, inv: Uuid, usn: u64) -> Result<(), 
     ensures raised { OnOk result (vector.new ≡ raised vector.old inv usn) }
     ensures within { OnOk result (AtMost (at vector.new) (at seen.now)) }
 {
-    is_vector(vector);
-    is_vector(seen);
+    vector.is_vector();
+    seen.is_vector();
     match vector.raise(inv, usn) {
         Ok(()) => Ok(()),
         Err(Failure::NoMemory) => Err(AllocError),
         Err(Failure::Refused(_)) => unreachable!(),
     }
-}
-
-/// Identifiers rise, and there are few enough.
-fn is_vector(vector: &Vector)
-    ensures { IsVector vector.now }
-{
-    vector.cursors();
 }

@@ -1,12 +1,13 @@
 //! A disk over a file. It tells nothing of its bytes.
 
-ghost use Rattle.std.specs.Prelude.{◌≡◌, ◌-◌, ◌^◌, ◌≤◌, Option, Some, None, ⊤, IfSome, length};
+ghost use Rattle.std.specs.Prelude.{◌≡◌, ◌-◌, ◌^◌, ◌≤◌, Option, Some, None, ⊤, IfOk, length};
 ghost use Rattle.adr_disk.specs.Disk.{Torn};
 
 use crate::Disk;
 use adr_io::{Failures, Fault};
 use std::alloc::Global;
 use std::fs::{File, Files, OpenFile, OpenOptions};
+use std::io;
 use std::os::unix::fs::FileExt;
 
 /// A file in the present folder, and how many calls have failed.
@@ -31,42 +32,39 @@ impl<R: Files<File = File> + Drop> FileDisk<R> {
         }
     }
 
-    fn open_or_make(&self, path: &str) -> Option<File> {
-        OpenOptions::new()
-            .read(true)
-            .write(true)
-            .create(true)
-            .open(&self.files, path)
-            .ok()
+    fn opened(&self) -> io::Result<&File> {
+        match &self.file {
+            Some(file) => Ok(file),
+            None => Err(io::Error::from(io::ErrorKind::NotFound)),
+        }
     }
 
-    fn count_bytes(&self) -> Option<u64> {
-        let metadata = self.file.as_ref()?.metadata().ok()?;
-        Some(metadata.len())
+    fn count_bytes(&self) -> io::Result<u64> {
+        Ok(self.opened()?.metadata()?.len())
     }
 
     /// Reads until the buffer is full or the file ends.
-    fn fill(&self, at: u64, into: &mut [u8]) -> Option<usize>
-        ensures { IfSome result (λ n. n ≤ length into.new) }
+    fn fill(&self, at: u64, into: &mut [u8]) -> io::Result<usize>
+        ensures { IfOk result (λ n. n ≤ length into.new) }
     {
-        let file = self.file.as_ref()?;
+        let file = self.opened()?;
         let mut filled = 0;
         'parts: while filled < into.len() {
             let place = at.saturating_add(filled as u64);
-            match file.read_at(&mut into[filled..], place).ok()? {
+            match file.read_at(&mut into[filled..], place)? {
                 0 => break,
                 n => filled += n,
             }
         }
-        Some(filled)
+        Ok(filled)
     }
 
-    fn write_whole(&self, at: u64, bytes: &[u8]) -> Option<()> {
-        self.file.as_ref()?.write_all_at(bytes, at).ok()
+    fn write_whole(&self, at: u64, bytes: &[u8]) -> io::Result<()> {
+        self.opened()?.write_all_at(bytes, at)
     }
 
-    fn sync_whole(&self) -> Option<()> {
-        self.file.as_ref()?.sync_all().ok()
+    fn sync_whole(&self) -> io::Result<()> {
+        self.opened()?.sync_all()
     }
 }
 
@@ -97,40 +95,45 @@ impl<R: Files<File = File> + Drop> Disk for FileDisk<R> {
         let Ok(path) = format!(in self.alloc; "{name}.adr") else {
             return Err(Fault::NoMemory);
         };
-        match self.open_or_make(path.as_str()) {
-            Some(file) => {
+        let opened = OpenOptions::new()
+            .read(true)
+            .write(true)
+            .create(true)
+            .open(&self.files, path.as_str());
+        match opened {
+            Ok(file) => {
                 self.file = Some(file);
                 Ok(())
             }
-            None => Err(self.failures.fail()),
+            Err(_) => Err(self.failures.fail()),
         }
     }
 
     fn len(&mut self) -> Result<u64, Fault> {
         match self.count_bytes() {
-            Some(count) => Ok(count),
-            None => Err(self.failures.fail()),
+            Ok(count) => Ok(count),
+            Err(_) => Err(self.failures.fail()),
         }
     }
 
     fn read(&mut self, at: u64, into: &mut [u8]) -> Result<usize, Fault> {
         match self.fill(at, into) {
-            Some(count) => Ok(count),
-            None => Err(self.failures.fail()),
+            Ok(count) => Ok(count),
+            Err(_) => Err(self.failures.fail()),
         }
     }
 
     fn write_at(&mut self, at: u64, bytes: &[u8]) -> Result<(), Fault> {
         match self.write_whole(at, bytes) {
-            Some(()) => Ok(()),
-            None => Err(self.failures.fail()),
+            Ok(()) => Ok(()),
+            Err(_) => Err(self.failures.fail()),
         }
     }
 
     fn sync(&mut self) -> Result<(), Fault> {
         match self.sync_whole() {
-            Some(()) => Ok(()),
-            None => Err(self.failures.fail()),
+            Ok(()) => Ok(()),
+            Err(_) => Err(self.failures.fail()),
         }
     }
 

@@ -6,9 +6,9 @@ ghost use Rattle.adr_model.specs.Change.{after, with_mark};
 ghost use Rattle.adr_model.specs.Serve.{is_quarantined};
 ghost use Rattle.adr_model.specs.Take.{mark_limit};
 
-use adr_judge::seen_by_both;
 use adr_state::{CURSOR_LIMIT, Change, MARK_LIMIT, State, is_same};
 use adr_told::len_after;
+use adr_vector::seen_by_both;
 use uuid::Uuid;
 
 /// Whether a change goes on from a state that is up, at its USN or above it.

@@ -7,12 +7,10 @@
 
 mod forms;
 mod removed;
-mod seen;
 mod touched;
 mod writes;
 
 pub use adr_update::NoMemory;
 pub use removed::are_removable;
-pub use seen::seen_by_both;
 pub use touched::are_touched_formed;
 pub use writes::may_follow_in_turn;

@@ -8,12 +8,11 @@ ghost use Rattle.adr_vector.specs.Vector.{covers, joined};
 ghost use Rattle.adr_law_formed.specs.Tested.{is_removable};
 
 use crate::NoMemory;
-use crate::seen::seen_by_both;
 use adr_change::Change;
 use adr_stamp::Oid;
 use adr_told::Told;
 use adr_update::Key;
-use adr_vector::Vector;
+use adr_vector::{Vector, seen_by_both};
 use std::alloc::Global;
 use std::collections::BTreeSet;
 use uuid::Uuid;

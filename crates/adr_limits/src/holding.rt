@@ -13,7 +13,7 @@ pub fn id(number: u128) -> Uuid {
 }
 
 pub fn text(alloc: Global, text: &str) -> Result<Text, NoMemory> {
-    Ok(Text::from_string(String::from_str(alloc, text)?))
+    Text::from_str(alloc, text)
 }
 
 pub fn list<T: Drop, const N: usize>(alloc: Global, items: [T; N]) -> Result<Vec<T>, NoMemory> {

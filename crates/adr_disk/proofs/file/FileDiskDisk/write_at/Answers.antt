@@ -3,8 +3,8 @@ use Rattle.adr_disk.specs.Bytes.{Torn-same}
 use Rattle.adr_disk.proofs.file.FileDiskDisk.write_at.Goals as goal
 
 -- each list of bytes is one that a write has left as it was
-pub returns-in-Some-clause-crash : goal.returns-in-Some-clause-crash
-returns-in-Some-clause-crash g c = λ bytes left. (bytes, tt, Torn-same c.args.at (length c.args.bytes.now) bytes)
+pub returns-in-Ok-clause-crash : goal.returns-in-Ok-clause-crash
+returns-in-Ok-clause-crash g c = λ bytes left. (bytes, tt, Torn-same c.args.at (length c.args.bytes.now) bytes)
 
-pub returns-in-None-clause-crash : goal.returns-in-None-clause-crash
-returns-in-None-clause-crash g c = λ bytes left. (bytes, tt, Torn-same c.args.at (length c.args.bytes.now) bytes)
+pub returns-in-Err-clause-crash : goal.returns-in-Err-clause-crash
+returns-in-Err-clause-crash g c = λ bytes left. (bytes, tt, Torn-same c.args.at (length c.args.bytes.now) bytes)
