@@ -251,8 +251,8 @@ impl Rows {
         ensures err { OnErr result (self.new ≡ self.old) }
     {
         let edits = edits_of(alloc, &self.table, rows.as_slice(), removed)?;
-        let spare = self.table.reserve(alloc, rows.as_slice(), removed)?;
         self.tree.reserve(edits.as_slice())?;
+        let spare = self.table.reserve(alloc, rows.as_slice(), removed)?;
         self.table.write(rows, removed, spare);
         self.tree.apply(edits);
         self.table.are_rising();

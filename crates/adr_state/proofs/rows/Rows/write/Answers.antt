@@ -12,12 +12,12 @@ pub invariant_of-self-2 : goal.invariant_of-self-2
 invariant_of-self-2 c =
     let rows = rows_in c.self.inside.table in
     let after : rows_in c.write.new.self ≡ rows_after c.args.removed.now c.as_slice.result.now rows =
-    c.write.ensures.rows ∙ ap (λ (hs : List Held). rows_after c.args.removed.now c.args.rows.items hs) c.reserve.ensures.rows
+    c.write.ensures.rows ∙ ap (λ (hs : List Held). rows_after c.args.removed.now c.args.rows.items hs) c.reserve-2.ensures.rows
     ∙ ap (λ (ws : List Held). rows_after c.args.removed.now ws rows) (sym c.as_slice.ensures.value) in
     record {
       kept = c.write.ensures.kept;
       live = c.apply.ensures.tree;
-      same = still_tied rows (rows_in c.write.new.self) c.in_ok-edits.edits.items (nodes_in c.reserve-2.new.self) (nodes_in c.apply.new.self)
-          c.are_rising.ensures c.are_in_order.ensures (c.reserve-2.ensures.nodes ∙ c.self.invariant.same) c.apply.ensures.nodes
+      same = still_tied rows (rows_in c.write.new.self) c.in_ok-edits.edits.items (nodes_in c.reserve.new.self) (nodes_in c.apply.new.self)
+          c.are_rising.ensures c.are_in_order.ensures (c.reserve.ensures.nodes ∙ c.self.invariant.same) c.apply.ensures.nodes
           (λ g. c.in_ok-edits.ensures.nodes g ∙ ap (λ (hs : List Held). node_at (nodes_held (updates_of hs)) g) (sym after));
     }
