@@ -2,3 +2,4 @@ mod Kept
 mod Orders
 mod Calling
 mod Planning
+mod Ran
