@@ -1,8 +1,11 @@
 -- What is decided before the items, and after them.
-use Rattle.std.proofs.Common.{◌≡◌, ◌≤◌, ℕ, Bool, List, ◌∷◌, Option, Some, None, Ok, Err, refl, ap, ◌∙◌, subst, arith, true, false}
+use Rattle.std.proofs.Common.{◌≡◌, ◌≤◌, ◌<◌, ℕ, Bool, List, [], ◌∷◌, length, Option, Some, None, Ok, Err, refl, ap, ◌∙◌, subst, arith, true, false}
 use Rattle.std.specs.Prelude.{nat_lt}
 use Rattle.std.specs.Bool.{then_some}
+use Rattle.std.specs.Option.{option_or}
 use Rattle.std.proofs.lemmas.Bool.Decides.{nat_tests}
+use Rattle.adr_vector.specs.Vector.{cursor_limit}
+use Rattle.adr_event.specs.declared.refusal.Table.TheVariants.{Objects, Links, Cursors as CursorTable, Marks}
 use Rattle.adr_event.specs.declared.refusal.TakeRefusal.TheVariants.{UsnLimit}
 use Rattle.adr_event.specs.declared.refusal.TakeRefusal.{TakeRefusal}
 use Rattle.adr_model.specs.Change.{Change, after}
@@ -10,8 +13,9 @@ use Rattle.adr_failure.specs.First.{first_of}
 use Rattle.adr_model.specs.Refusing.{unless}
 use Rattle.adr_model.specs.Serve.{Reply}
 use Rattle.adr_model.specs.Store.{State}
-use Rattle.adr_model.specs.Take.{Taking, refusal_of, take, take_items, taken_change}
-use Rattle.adr_model.specs.Write.{usn_limit}
+use Rattle.adr_model.specs.Take.{Taking, mark_limit, passes, refusal_of, take, take_items, taken_change}
+use Rattle.adr_model.proofs.Firsts.{first_of_more, first_of_two}
+use Rattle.adr_model.specs.Write.{link_limit, object_limit, usn_limit}
 use Rattle.adr_take.specs.Before.{refusal_before}
 
 -- what comes behind a refusal doesn't matter
@@ -38,6 +42,53 @@ pub late : (s : State) (r : Reply) (t : Taking) → t ≡ take_items s r.items �
 late s r t is o e =
     ap (λ p. unless p (taken_change r t)) e
     ∙ ap (λ (u : Taking). unless (refusal_of s r u (after s (taken_change r u))) (taken_change r u)) is
+
+six_none : (a b c d e f : Option TakeRefusal) (other rest : List (Option TakeRefusal)) → first_of (a ∷ b ∷ c ∷ d ∷ e ∷ f ∷ other) ≡ None
+    → first_of rest ≡ first_of (a ∷ b ∷ c ∷ d ∷ e ∷ f ∷ rest)
+six_none None None None None None None other rest is = refl
+six_none None None None None None (Some y) other rest is = cc
+six_none None None None None (Some y) f other rest is = cc
+six_none None None None (Some y) e f other rest is = cc
+six_none None None (Some y) d e f other rest is = cc
+six_none None (Some y) c d e f other rest is = cc
+six_none (Some y) b c d e f other rest is = cc
+
+-- what is looked at behind the items
+abbrev pub tables : Taking → State → List (Option TakeRefusal)
+tables t taken =
+    passes Objects object_limit t.objects
+    ∷ passes Links link_limit t.links
+    ∷ passes CursorTable cursor_limit (length taken.store.vector)
+    ∷ passes Marks mark_limit (length taken.store.marks)
+    ∷ []
+
+abbrev pub later : Taking → State → List (Option TakeRefusal)
+later t taken = then_some (nat_lt usn_limit t.usn) UsnLimit ∷ tables t taken
+
+-- it decides alone, with what the items say, where nothing was refused before
+pub behind : (s : State) (r : Reply) (t : Taking) (taken : State) → refusal_before s r ≡ None → first_of (t.refusal ∷ later t taken) ≡ refusal_of s r t taken
+behind s r t taken is = search six_none
+
+-- the first of four, where each was told by a call
+pub calls_of_four : {a b c d w x y z p q r : Option TakeRefusal} → w ≡ a → x ≡ b → y ≡ c → z ≡ d → p ≡ option_or w x → q ≡ option_or p y → r ≡ option_or q z → r ≡ first_of (a ∷ b ∷ c ∷ d ∷ [])
+calls_of_four {a} {b} {c} {d} one two three four o1 o2 o3 =
+    let two_of = option_or a b in
+    let three_of = option_or two_of c in
+    rw (o3, o2, o1, one, two, three, four) (first_of_two three_of d ∙ first_of_more two_of c (d ∷ []) ∙ first_of_more a b (c ∷ d ∷ []))
+
+pub beyond : (n : ℕ) → usn_limit < n → Some UsnLimit ≡ then_some (nat_lt usn_limit n) UsnLimit
+beyond n more = by (nat_lt usn_limit n) refl
+  where
+    by : (b : Bool) → nat_lt usn_limit n ≡ b → Some UsnLimit ≡ then_some b UsnLimit
+    by true is = refl
+    by false is = absurd (grind (arith, nat_tests))
+
+pub within_limit : (n : ℕ) → n ≤ usn_limit → None ≡ then_some (nat_lt usn_limit n) UsnLimit
+within_limit n few = by (nat_lt usn_limit n) refl
+  where
+    by : (b : Bool) → nat_lt usn_limit n ≡ b → None ≡ then_some b UsnLimit
+    by true is = absurd (grind (arith, nat_tests))
+    by false is = refl
 
 eighth_passes : (a b c d e f g h : Option TakeRefusal) (rest : List (Option TakeRefusal)) → first_of (a ∷ b ∷ c ∷ d ∷ e ∷ f ∷ g ∷ h ∷ rest) ≡ None → h ≡ None
 eighth_passes None None None None None None None None rest is = refl
