@@ -23,10 +23,10 @@ use Rattle.adr_schema.specs.declared.content.Content.TheVariants.{Dead}
 use Rattle.adr_vector.specs.Vector.{Cursors}
 use Rattle.adr_wire.specs.Composites.{Row}
 use Rattle.adr_wire.specs.Pieces.{Piece, OfRows, OfLink, IsPiece}
-use Rattle.adr_wire.specs.Ranges.{InTurn, IsId, IsMark, IsOid, IsRow, IsRowAbove}
+use Rattle.adr_wire.specs.Ranges.{InTurn, IsId, IsMark, IsOid, IsRow, IsRowAbove, IsUsn0}
 use Rattle.adr_wire.specs.Reading.{is_above}
 use Rattle.adr_law_lengths.specs.Written.{update_of}
-use Rattle.adr_model.specs.Change.{Change, Item, Written}
+use Rattle.adr_model.specs.Change.{Change, Item, Written, only_writes, updates_written}
 use Rattle.adr_model.specs.LocalLog.{IsOrdered}
 use Rattle.adr_model.specs.Member.{Each, Member}
 use Rattle.adr_model.specs.Serve.{is_quarantined}
@@ -326,6 +326,22 @@ has_writes last usn (w ∷ ws) fits rise right =
       in_range = ((((omega (arith, above), omega (arith, most, fits)), less_told last w.local above), p.in_range), rest.in_range);
       says = ap (λ i. (let v : Written = record { local = w.local; item = i } in v) ∷ map written_of rest.writes) p.says ∙ ap (λ vs. w ∷ vs) rest.says;
     }
+
+-- ---- a change that only writes
+
+pub writes_in_range : (usn : ℕ) (mode : Mode) (writes : List Written) → IsUsn0 usn → length writes < 2 ^ 32
+    → Each (λ (u : Update). IsSpelledRow u.key u.said u.stamp) (updates_written (only_writes usn writes))
+    → IsInRange (record (only_writes usn writes) { mode = mode })
+writes_in_range usn mode writes most few rows = record {
+  usn = most;
+  mark = tt;
+  joined = tt;
+  purged = tt;
+  removed = λ o m. absurd m;
+  few_removed = omega arith;
+  few = few;
+  rows = rows;
+}
 
 -- ---- the whole
 

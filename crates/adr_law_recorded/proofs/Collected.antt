@@ -22,7 +22,7 @@ use Rattle.adr_model.specs.Formed.{IsNamed}
 use Rattle.adr_model.specs.Live.{objects_of}
 use Rattle.adr_model.specs.Member.{Each, Member}
 use Rattle.adr_model.specs.Serve.{is_quarantined}
-use Rattle.adr_model.specs.Store.{Normal, State, updates_of}
+use Rattle.adr_model.specs.Store.{Normal, Quarantined, State, updates_of}
 use Rattle.adr_model.specs.Update.{Identifier, Key, RowOf, LinkOf, Said, Holds, IsPresent, Update, inv_of, usn_of, deleted_attr}
 use Rattle.adr_model.specs.Write.{usn_limit}
 use Rattle.adr_model.proofs.Members.{mapped_member}
@@ -40,19 +40,11 @@ use Rattle.adr_law_formed.proofs.Still.{quarantine_follows}
 use Rattle.adr_image.specs.Stored.{IsSpelledRow}
 use Rattle.adr_records.specs.Logged.{IsLogged, MayBeRecorded}
 use Rattle.adr_law_recorded.specs.InRange.{IsInRange}
-use Rattle.adr_law_recorded.proofs.Bodied.{recorded}
+use Rattle.adr_law_recorded.proofs.Bodied.{recorded, writes_in_range}
 
 pub quarantine_is_recorded : (s : State) → IsLogged s → s.mode ≡ Normal → MayBeRecorded s (quarantine s)
-quarantine_is_recorded s logged normal = recorded s (quarantine s) logged (quarantine_follows s logged.formed logged.classes normal) (λ w m. absurd m) (record {
-  usn = logged.spelled.usn;
-  mark = tt;
-  joined = tt;
-  purged = tt;
-  removed = λ o m. absurd m;
-  few_removed = omega arith;
-  few = omega arith;
-  rows = λ u m. absurd m;
-})
+quarantine_is_recorded s logged normal = recorded s (quarantine s) logged (quarantine_follows s logged.formed logged.classes normal) (λ w m. absurd m)
+    (writes_in_range s.store.usn Quarantined [] logged.spelled.usn (omega arith) (λ u m. absurd m))
 
 -- ---- what covers births and deaths in range is in range
 

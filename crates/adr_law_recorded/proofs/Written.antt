@@ -17,7 +17,7 @@ use Rattle.adr_event.specs.declared.refusal.Table.TheVariants.{Links}
 use Rattle.adr_wire.specs.Ranges.{IsId, IsU16, IsOid, IsStamp, IsContent}
 use Rattle.adr_model.specs.Member.{Member, Each}
 use Rattle.adr_model.specs.Update.{Identifier, RowOf, LinkOf, Said, Holds, IsPresent, Update, name_attr, deleted_attr}
-use Rattle.adr_model.specs.Store.{State, updates_of}
+use Rattle.adr_model.specs.Store.{Normal, State, updates_of}
 use Rattle.adr_model.specs.Change.{Written, updates_written}
 use Rattle.adr_model.specs.Write.{Write, AddObject, Modify, Rename, Delete, AddLink, RemoveLink, IsWellGiven, where_true, full_refusal, link_limit, links_in, more_links, version_refusal, add_refusals, modify_refusals, rename_refusals, delete_refusals, any_link_refusals, any_link_refusal, nodes_held, object_of, link_of, next_row, first_stamp, new_object, new_rows, row, write_refusal, rows_written, items_written, own_change}
 use Rattle.adr_model.proofs.Members.{mapped_member, member_mapped, flat_member}
@@ -34,7 +34,7 @@ use Rattle.adr_records.specs.Logged.{IsLogged}
 use Rattle.adr_law_recorded.specs.Typed.{IsTypedValue, IsTypedWrite}
 use Rattle.adr_law_recorded.specs.InRange.{IsInRange}
 use Rattle.adr_law_recorded.specs.Laws.{WrittenIsRecorded}
-use Rattle.adr_law_recorded.proofs.Bodied.{recorded}
+use Rattle.adr_law_recorded.proofs.Bodied.{recorded, writes_in_range}
 use Rattle.adr_law_recorded.proofs.Values.{class_in_range, forward_in_range, name_is_short, values_in_range}
 use Rattle.adr_law_recorded.proofs.Known.{object_in_range, live, version_at, usn_in_range, version_free, death_free, own_usn, first_in_range, next_in_range, row_created, link_created_in_range}
 
@@ -273,16 +273,8 @@ module _ (s : State) where
 
       change_in_range : (w : Write) → IsWellGiven w → IsTypedWrite w → write_refusal s w ≡ None
           → IsInRange (own_change s (items_written s w now))
-      change_in_range w given typed none = record {
-        usn = range.0;
-        mark = tt;
-        joined = tt;
-        purged = tt;
-        removed = λ o m. absurd m;
-        few_removed = omega arith;
-        few = omega arith;
-        rows = rows;
-      }
+      change_in_range w given typed none =
+          writes_in_range (s.store.usn + 1) Normal (items_written s w now) range.0 (omega arith) rows
         where
           range : IsWritten w
           range = rows_in_range w given typed none

@@ -12,10 +12,10 @@ use Rattle.adr_vector.proofs.Joining.{raised_here, at-joined, from_one-joined, r
 use Rattle.adr_model.specs.Change.{Change, Written, after, held_of, rows_after, with_mark}
 use Rattle.adr_model.specs.Collect.{woken}
 use Rattle.adr_model.specs.Formed.{IsFormedStore}
-use Rattle.adr_model.specs.Store.{Held, Kept, Normal, State, Store, empty_state, empty_store}
+use Rattle.adr_model.specs.Store.{Held, Kept, Normal, State, Store}
 use Rattle.adr_model.specs.Update.{Identifier, Update}
 use Rattle.adr_state.specs.Refusal.{IsOverfull}
-use Rattle.adr_records.specs.Woken.{MakesAll, keeping, keeping_all, with_marks}
+use Rattle.adr_records.specs.Woken.{MakesAll, keeping, keeping_all, unmade, with_marks}
 use Rattle.adr_records.proofs.Anew.{entries_anew, rows_anew}
 
 -- ---- what is written
@@ -41,12 +41,9 @@ joined_anew v q =
     same_cursors (joined [] v) v (rising-joined v [] nil_rising) q.rising (from_one-joined v [] tt) q.from_one
     (λ inv. at-joined v [] inv q.rising ∙ (let none : max 0 (at v inv) ≡ at v inv = omega arith in none))
 
-abbrev pub empty : ℕ → Identifier → Identifier → State
-empty schema dsa inv = record (empty_state dsa inv) { store = empty_store schema }
-
-made_of_all : (s : Store) (dsa inv : Identifier) (c : Change) → IsFormedStore s → MakesAll s c → after (empty s.schema dsa inv) c ≡ with_marks [] (woken s dsa inv)
+made_of_all : (s : Store) (dsa inv : Identifier) (c : Change) → IsFormedStore s → MakesAll s c → after (unmade s.schema dsa inv) c ≡ with_marks [] (woken s dsa inv)
 made_of_all s dsa inv c formed makes =
-    ap (after (empty s.schema dsa inv)) makes.is
+    ap (after (unmade s.schema dsa inv)) makes.is
     ∙ ap (λ (hs : List Held). made (rows_after [] hs []) (joined [] s.vector) (joined [] s.purged)) makes.writes
     ∙ ap (λ (hs : List Held). made hs (joined [] s.vector) (joined [] s.purged)) (rows_anew (numbered s.schema) s.rows formed.rows formed.rising)
     ∙ ap (λ (v : Cursors). made s.rows v (joined [] s.purged)) (joined_anew s.vector formed.vector)
@@ -56,9 +53,14 @@ made_of_all s dsa inv c formed makes =
     made rows vector purged =
         record { dsa = dsa; inv = inv; mode = Normal; store = record { schema = s.schema; usn = s.usn; rows = rows; vector = raised vector inv s.usn; purged = purged; marks = [] } }
 
-pub first_state : (s : Store) (dsa inv : Identifier) (schema : ℕ) (t : State) (c : Change) → schema ≡ s.schema → t ≡ empty schema dsa inv → IsFormedStore s → MakesAll s c → after t c ≡ with_marks [] (woken s dsa inv)
-first_state s dsa inv schema t c same is formed makes =
-    ap (λ (u : State). after u c) (is ∙ ap (λ (n : ℕ). empty n dsa inv) same) ∙ made_of_all s dsa inv c formed makes
+pub first_state : (s : Store) (t : State) (c : Change) → t ≡ unmade s.schema t.dsa t.inv → IsFormedStore s → MakesAll s c → after t c ≡ with_marks [] (woken s t.dsa t.inv)
+first_state s t c is formed makes = ap (λ (u : State). after u c) is ∙ made_of_all s t.dsa t.inv c formed makes
+
+-- a controller that is new is one of nothing, under its own identifiers
+pub new_unmade : (s : Store) (dsa inv : Identifier) (schema : ℕ) (t : State) → schema ≡ s.schema → t ≡ unmade schema dsa inv → t ≡ unmade s.schema t.dsa t.inv
+new_unmade s dsa inv schema t same is =
+    let all : t ≡ unmade s.schema dsa inv = is ∙ ap (λ (n : ℕ). unmade n dsa inv) same in
+    all ∙ sym (ap (λ (u : State). unmade s.schema u.dsa u.inv) all)
 
 -- what it makes has room for all cursors where the own one has
 pub overfull_is : (s : Store) (dsa inv : Identifier) → IsFormedStore s → IsOverfull (with_marks [] (woken s dsa inv)) → cursor_limit < length (raised s.vector inv s.usn)

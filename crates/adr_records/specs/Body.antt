@@ -1,5 +1,5 @@
 -- What a record makes of a state.
-use Rattle.std.specs.Prelude.{if◌then◌else◌, ◌≡◌, ◌&&◌, ℕ, nat_le, List, Bool, true, Option, Some, None}
+use Rattle.std.specs.Prelude.{if◌then◌else◌, ◌&&◌, ℕ, nat_le, List, Bool, Option, Some, None}
 use Rattle.std.specs.List.{list_all}
 use Rattle.adr_model.specs.Change.{Change, Written, after}
 use Rattle.adr_model.specs.Store.{State}
@@ -17,9 +17,3 @@ by_change s (Some c) = if are_locals_within c && can_follow s c then Some (after
 -- the state after the change whose body these bytes are, where it can follow
 abbrev pub following : State → List ℕ → Option State
 following s bytes = by_change s (decoded_change s.store.usn bytes)
-
--- a change that can follow, and whose body these bytes are
-pub record SaysChange (s : State) (bytes : List ℕ) (c : Change) : Type 0 where
-  pub says : decoded_change s.store.usn bytes ≡ Some c
-  pub within : are_locals_within c ≡ true
-  pub follows : can_follow s c ≡ true

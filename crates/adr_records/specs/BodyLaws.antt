@@ -35,7 +35,7 @@ use Rattle.adr_image.proofs.Recorded.{change_again, change_long, change_only}
 use Rattle.adr_image.proofs.Staying.{stays_spelled}
 use Rattle.adr_image.proofs.Storing.{chain, less_from_test}
 use Rattle.adr_image.proofs.Taking.{less_is}
-use Rattle.adr_records.specs.Body.{SaysChange, are_locals_within, by_change, following}
+use Rattle.adr_records.specs.Body.{are_locals_within, by_change, following}
 use Rattle.adr_records.specs.Logged.{IsLogged, MayBeRecorded}
 
 -- ---- what a body in range says is of the form of a change
@@ -149,15 +149,13 @@ body_long s c may = change_long s.store.usn c may.body
 
 -- ---- what follows is recorded
 
--- a change that was read of bytes and can follow
-pub change_follows : (s : State) (body : List ℕ) (c : Change) → AreBytes body → IsLogged s → SaysChange s body c → MayBeRecorded s c
-change_follows s body c are logged says =
-    let has = (change_only s.store.usn body c are says.says).0 in
-    record {
-      logged = logged;
-      follows = follows_where_tested s c logged.formed logged.classes (change_spelled s.store.usn c has says.within) says.follows;
-      body = has;
-    }
+-- a change that has a body and can follow
+pub change_follows : (s : State) (c : Change) → IsLogged s → HasBody s.store.usn c → are_locals_within c ≡ true → can_follow s c ≡ true → MayBeRecorded s c
+change_follows s c logged has within follows = record {
+  logged = logged;
+  follows = follows_where_tested s c logged.formed logged.classes (change_spelled s.store.usn c has within) follows;
+  body = has;
+}
 
 pub logged_after : (s : State) (c : Change) → MayBeRecorded s c → IsLogged (after s c)
 logged_after s c may = record {
@@ -175,7 +173,7 @@ stays_logged s t body are logged follows = by (decoded_change s.store.usn body) 
     on c true says passes h =
         let a = and_parts (are_locals_within c) (can_follow s c) passes in
         let is : after s c ≡ t = cc in
-        subst IsLogged is (logged_after s c (change_follows s body c are logged (record { says = says; within = a.0; follows = a.1 })))
+        subst IsLogged is (logged_after s c (change_follows s c logged (change_only s.store.usn body c are says).0 a.0 a.1))
     on c false says passes h = absurd (cc)
 
     by : (r : Option Change) → decoded_change s.store.usn body ≡ r → by_change s r ≡ Some t → IsLogged t

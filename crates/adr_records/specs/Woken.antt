@@ -1,8 +1,12 @@
 -- A controller is made of a store by changes.
-use Rattle.std.specs.Prelude.{◌≡◌, List, [], fold, None, Some}
+use Rattle.std.specs.Prelude.{◌≡◌, ℕ, List, [], fold, None, Some}
 use Rattle.adr_model.specs.Change.{Change, held_of, with_mark}
-use Rattle.adr_model.specs.Store.{Kept, Normal, State, Store}
+use Rattle.adr_model.specs.Store.{Kept, Normal, State, Store, empty_state, empty_store}
 use Rattle.adr_model.specs.Update.{Identifier}
+
+-- a controller of nothing, under this schema
+abbrev pub unmade : ℕ → Identifier → Identifier → State
+unmade schema dsa inv = record (empty_state dsa inv) { store = empty_store schema }
 
 -- a change of an empty store that makes all of this one but the marks
 pub record MakesAll (s : Store) (c : Change) : Type 0 where

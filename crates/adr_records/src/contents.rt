@@ -1,12 +1,23 @@
-//! What a state says, as the contents of an image.
+//! What a state says, as an image.
 
-ghost use Rattle.std.specs.Prelude.{◌≡◌, IfOk};
+ghost use Rattle.std.specs.Prelude.{◌≡◌, [], ◌∷◌, ◌++◌, IfOk, OnOk, length};
 ghost use Rattle.adr_update.specs.Referents.{referents};
+ghost use Rattle.adr_model.specs.Lengths.{image_length};
+ghost use Rattle.adr_image.specs.Stored.{image};
+ghost use Rattle.adr_records.specs.Logged.{IsLogged};
 
 use adr_failure::NoMemory;
-use adr_image::Contents;
+use adr_image::{Contents, encode};
 use adr_state::{Held, State};
 use std::alloc::Global;
+
+/// An equal row, behind the others.
+fn push_copy(alloc: Global, copy: &mut Vec<Held>, row: &Held) -> Result<(), NoMemory>
+    ensures { OnOk result (copy.new.items ≡ copy.old.items ++ row.now ∷ []) }
+{
+    copy.push(row.copy(alloc)?)?;
+    Ok(())
+}
 
 /// Equal rows, in their order.
 fn copy_rows(alloc: Global, rows: &[&Held]) -> Result<Vec<Held>, NoMemory>
@@ -14,22 +25,45 @@ fn copy_rows(alloc: Global, rows: &[&Held]) -> Result<Vec<Held>, NoMemory>
 {
     let mut copy = Vec::new(alloc);
     for row in rows {
-        copy.push(row.copy(alloc)?)?;
+        push_copy(alloc, &mut copy, row)?;
     }
     Ok(copy)
 }
 
-/// What a state's database says.
-pub fn contents_of(alloc: Global, state: &State) -> Result<Contents, NoMemory>
-    ensures { IfOk result (λ contents. contents ≡ state.now.store) }
+/// Copies of a state's rows.
+fn rows_of(alloc: Global, state: &State) -> Result<Vec<Held>, NoMemory>
+    ensures { IfOk result (λ rows. rows.items ≡ state.now.store.rows) }
 {
     let rows = state.rows().to_vec(alloc)?;
+    copy_rows(alloc, rows.as_slice())
+}
+
+/// What a state's database says.
+fn contents_of(alloc: Global, state: &State) -> Result<Contents, NoMemory>
+    ensures { IfOk result (λ contents. contents ≡ state.now.store) }
+{
+    let marks = state.marks().to_vec(alloc)?;
+    let vector = state.vector().copy(alloc)?;
+    let purged = state.purged().copy(alloc)?;
+    let rows = rows_of(alloc, state)?;
     Ok(Contents {
         schema: state.schema(),
         usn: state.usn(),
-        rows: copy_rows(alloc, rows.as_slice())?,
-        vector: state.vector().copy(alloc)?,
-        purged: state.purged().copy(alloc)?,
-        marks: state.marks().to_vec(alloc)?,
+        rows,
+        vector,
+        purged,
+        marks,
     })
+}
+
+/// The image of a state of a log, as bytes.
+pub fn image_of(alloc: Global, state: &State) -> Result<Vec<u8>, NoMemory>
+    requires { IsLogged state.now }
+    ensures written { IfOk result (λ bytes. bytes.items ≡ image state.now.store) }
+    ensures long { IfOk result (λ bytes. length bytes.items ≡ image_length state.now.store) }
+{
+    let contents = contents_of(alloc, state)?;
+    let bytes = encode(alloc, &contents);
+    drop(contents);
+    bytes
 }

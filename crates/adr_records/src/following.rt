@@ -1,7 +1,8 @@
 //! Records are read.
 
-ghost use Rattle.std.specs.Prelude.{◌≡◌, None, Some, IfOk, OnOk, OnErr, IsErrOf};
-ghost use Rattle.adr_records.specs.Body.{SaysChange, are_locals_within, following};
+ghost use Rattle.std.specs.Prelude.{◌≡◌, None, Some, OnOk, OnErr, IsErrOf};
+ghost use Rattle.adr_image.specs.Changes.{HasBody};
+ghost use Rattle.adr_records.specs.Body.{are_locals_within, by_change, following};
 ghost use Rattle.adr_records.specs.Logged.{IsLogged};
 
 use adr_failure::Failure;
@@ -19,23 +20,26 @@ fn are_locals_within(change: &Change) -> bool
     change.writes().iter().all(|written| written.local() <= usn)
 }
 
-/// The change that a record of this body says, if it can follow the state.
-fn change_of(alloc: Global, state: &State, body: &[u8]) -> Result<Change, FollowRefusal>
-    ensures ok { IfOk result (λ change. SaysChange state.now body.now change) }
-    ensures refused { IsErrOf result FollowRefusal.CannotFollow → following state.now body.now ≡ None }
+/// Takes a change that was read, if it can follow the state.
+fn take(alloc: Global, state: &mut State, change: &Change) -> Result<(), FollowRefusal>
+    requires logged { IsLogged state.old }
+    requires body { HasBody state.old.store.usn change.now }
+    ensures ok { OnOk result (by_change state.old (Some change.now) ≡ Some state.new) }
+    ensures refused { IsErrOf result FollowRefusal.CannotFollow → by_change state.old (Some change.now) ≡ None }
+    ensures err { OnErr result (state.new ≡ state.old) }
 {
-    let change = match decode_change(alloc, state.usn(), body) {
-        Ok(Some(change)) => change,
-        Ok(None) => return Err(FollowRefusal::CannotFollow),
-        Err(_) => return Err(FollowRefusal::NoMemory),
-    };
-    if !are_locals_within(&change) {
+    if !are_locals_within(change) {
         return Err(FollowRefusal::CannotFollow);
     }
-    match can_follow(alloc, state, &change) {
-        Ok(true) => Ok(change),
-        Ok(false) => Err(FollowRefusal::CannotFollow),
-        Err(_) => Err(FollowRefusal::NoMemory),
+    match can_follow(alloc, state, change) {
+        Ok(true) => {}
+        Ok(false) => return Err(FollowRefusal::CannotFollow),
+        Err(_) => return Err(FollowRefusal::NoMemory),
+    }
+    match state.apply(change) {
+        Ok(()) => Ok(()),
+        Err(Failure::NoMemory) => Err(FollowRefusal::NoMemory),
+        Err(Failure::Refused(_)) => unreachable!(),
     }
 }
 
@@ -46,13 +50,13 @@ pub(crate) fn follow(alloc: Global, state: &mut State, body: &[u8]) -> Result<()
     ensures refused { IsErrOf result FollowRefusal.CannotFollow → following state.old body.now ≡ None }
     ensures err { OnErr result (state.new ≡ state.old) }
 {
-    let change = match change_of(alloc, state, body) {
-        Ok(change) => change,
-        Err(refusal) => return Err(refusal),
-    };
-    match state.apply(&change) {
-        Ok(()) => Ok(()),
-        Err(Failure::NoMemory) => Err(FollowRefusal::NoMemory),
-        Err(Failure::Refused(_)) => unreachable!(),
+    match decode_change(alloc, state.usn(), body) {
+        Ok(Some(change)) => {
+            let taken = take(alloc, state, &change);
+            drop(change);
+            taken
+        }
+        Ok(None) => Err(FollowRefusal::CannotFollow),
+        Err(_) => Err(FollowRefusal::NoMemory),
     }
 }

@@ -4,17 +4,18 @@ ghost use Rattle.std.specs.Prelude.{◌≡◌, ◌==◌, ◌+◌, ◌≤◌, ◌
 ghost use Rattle.std.specs.Str.{bytes_eq};
 ghost use Rattle.adr_wire.specs.Fields.{u16_at};
 ghost use Rattle.adr_wire.specs.Reading.{Gives, Refuses, Rest, Tells, bytes_at, where_at};
-ghost use Rattle.adr_image.specs.Stored.{image, image_at};
+ghost use Rattle.adr_image.specs.Stored.{image_at};
 ghost use Rattle.adr_records.specs.Head as form;
+ghost use Rattle.adr_records.specs.HeadLaws.{IsOwn};
 ghost use Rattle.adr_records.specs.Logged.{MayBegin};
 
-use crate::contents::contents_of;
+use crate::contents::image_of;
 use crate::waking::wake;
 use adr_failure::{Failure, NoMemory};
-use adr_image::{Contents, encode, read_image};
+use adr_image::{Contents, read_image};
 use adr_state::State;
 use adr_wire::{Malformed, Reader, WireRefusal, Writer};
-use std::alloc::Global;
+use std::alloc::{AllocError, Global};
 use uuid::Uuid;
 
 /// The bytes with which the head of a log begins.
@@ -44,15 +45,6 @@ fn write_owner(writer: &mut Writer, owner: &Owner) -> Result<(), NoMemory>
     writer.write_id(&owner.inv)?;
     writer.write_u32(&owner.len)?;
     Ok(())
-}
-
-/// The image of a state's database.
-fn image_of(alloc: Global, state: &State) -> Result<Vec<u8>, NoMemory>
-    requires { MayBegin state.now }
-    ensures { IfOk result (λ bytes. bytes.items ≡ image state.now.store) }
-{
-    let contents = contents_of(alloc, state)?;
-    encode(alloc, &contents)
 }
 
 /// The head of a log that begins with this state.
@@ -173,6 +165,18 @@ fn read_own(alloc: Global, bytes: &[u8], owner: &Owner) -> Result<Contents, Wire
     Ok(contents)
 }
 
+/// A controller of a log's owner and of what its image says.
+fn woken(alloc: Global, contents: &Contents, owner: &Owner) -> Result<State, NoMemory>
+    requires { IsOwn owner.now contents.now }
+    ensures { IfOk result (λ state. state ≡ form.state_of owner.now contents.now) }
+{
+    match wake(alloc, contents, owner.dsa, owner.inv) {
+        Ok(state) => Ok(state),
+        Err(Failure::NoMemory) => Err(AllocError),
+        Err(Failure::Refused(_)) => unreachable!(),
+    }
+}
+
 /// Reads the head of a log, and tells the place behind it. The gate in front of it isn't looked at.
 pub(crate) fn read_head(alloc: Global, bytes: &[u8]) -> Result<(State, usize), WireRefusal>
     ensures ok { IfOk result (λ r. form.head_at (record { place = 1; bytes = drop 1 bytes.now })
@@ -181,9 +185,7 @@ pub(crate) fn read_head(alloc: Global, bytes: &[u8]) -> Result<(State, usize), W
 {
     let owner = read_owner_of(bytes)?;
     let contents = read_own(alloc, bytes, &owner)?;
-    match wake(alloc, &contents, owner.dsa, owner.inv) {
-        Ok(state) => Ok((state, IMAGE_PLACE + owner.len as usize)),
-        Err(Failure::NoMemory) => Err(Failure::NoMemory),
-        Err(Failure::Refused(_)) => unreachable!(),
-    }
+    let state = woken(alloc, &contents, &owner);
+    drop(contents);
+    Ok((state?, IMAGE_PLACE + owner.len as usize))
 }

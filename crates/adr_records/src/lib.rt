@@ -12,6 +12,6 @@ mod records;
 mod waking;
 
 pub use adr_journal::{Change, FollowRefusal, Form, NoMemory, State};
-pub use contents::contents_of;
+pub use contents::image_of;
 pub use records::Records;
 pub use waking::wake;

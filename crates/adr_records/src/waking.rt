@@ -8,7 +8,7 @@ ghost use Rattle.adr_model.specs.Collect.{woken};
 ghost use Rattle.adr_model.specs.Formed.{IsFormedStore};
 ghost use Rattle.adr_image.specs.Stored.{IsSpelled};
 ghost use Rattle.adr_state.specs.Refusal.{IsOverfull};
-ghost use Rattle.adr_records.specs.Woken.{MakesAll, keeping, keeping_all, with_marks};
+ghost use Rattle.adr_records.specs.Woken.{MakesAll, keeping, keeping_all, unmade, with_marks};
 
 use adr_failure::{Failure, NoMemory};
 use adr_image::Contents;
@@ -55,22 +55,23 @@ fn first_change(alloc: Global, contents: &Contents) -> Result<Change, NoMemory>
     ))
 }
 
-/// A controller of what an image says, but for the marks.
-fn wake_without_marks(
+/// Makes all of an empty controller but its marks.
+fn fill_without_marks(
     alloc: Global,
+    state: &mut State,
     contents: &Contents,
-    dsa: Uuid,
-    inv: Uuid,
-) -> Result<State, Failure<Full>>
-    requires { IsFormedStore contents.now }
-    ensures ok { IfOk result (λ state. state ≡ with_marks [] (woken contents.now dsa inv)) }
-    ensures room { IfOk result (λ state. ¬ IsOverfull state) }
-    ensures full { IsErrOf result full → cursor_limit < length (raised contents.now.vector inv contents.now.usn) }
+) -> Result<(), Failure<Full>>
+    requires formed { IsFormedStore contents.now }
+    requires empty { state.old ≡ unmade contents.now.schema state.old.dsa state.old.inv }
+    ensures ok { OnOk result (state.new ≡ with_marks [] (woken contents.now state.old.dsa state.old.inv)) }
+    ensures room { OnOk result (¬ IsOverfull (with_marks [] (woken contents.now state.old.dsa state.old.inv))) }
+    ensures full { IsErrOf result full
+        → cursor_limit < length (raised contents.now.vector state.old.inv contents.now.usn) }
 {
     let change = first_change(alloc, contents)?;
-    let mut state = State::new(alloc, dsa, inv, contents.schema);
-    state.apply(&change)?;
-    Ok(state)
+    let applied = state.apply(&change);
+    drop(change);
+    applied
 }
 
 /// Keeps how far a partner was read.
@@ -88,7 +89,9 @@ fn keep(alloc: Global, state: &mut State, mark: (Uuid, Kept)) -> Result<(), Fail
         Vec::new(alloc),
         Vec::new(alloc),
     );
-    state.apply(&change)
+    let applied = state.apply(&change);
+    drop(change);
+    applied
 }
 
 /// Keeps how far each partner was read.
@@ -101,6 +104,19 @@ fn keep_each(alloc: Global, state: &mut State, marks: &[(Uuid, Kept)]) -> Result
         keep(alloc, state, *mark)?;
     }
     Ok(())
+}
+
+/// Makes all of an empty controller.
+fn fill(alloc: Global, state: &mut State, contents: &Contents) -> Result<(), Failure<Full>>
+    requires formed { IsFormedStore contents.now }
+    requires spelled { IsSpelled contents.now }
+    requires empty { state.old ≡ unmade contents.now.schema state.old.dsa state.old.inv }
+    ensures ok { OnOk result (state.new ≡ woken contents.now state.old.dsa state.old.inv) }
+    ensures full { IsErrOf result full
+        → cursor_limit < length (raised contents.now.vector state.old.inv contents.now.usn) }
+{
+    fill_without_marks(alloc, state, contents)?;
+    keep_each(alloc, state, &contents.marks)
 }
 
 /// A controller of what an image says: its own cursor is raised to the update sequence number. `Full` where that needs one
@@ -116,7 +132,7 @@ pub fn wake(
     ensures ok { IfOk result (λ state. state ≡ woken contents.now dsa inv) }
     ensures full { IsErrOf result full → cursor_limit < length (raised contents.now.vector inv contents.now.usn) }
 {
-    let mut state = wake_without_marks(alloc, contents, dsa, inv)?;
-    keep_each(alloc, &mut state, &contents.marks)?;
+    let mut state = State::new(alloc, dsa, inv, contents.schema);
+    fill(alloc, &mut state, contents)?;
     Ok(state)
 }

@@ -10,12 +10,11 @@ ghost use Rattle.adr_model.specs.Update.{Identifier};
 ghost use Rattle.adr_image.specs.Stored.{IsSpelled, image};
 ghost use Rattle.adr_records.specs.Logged.{IsLogged};
 
-use crate::lengths::image_of;
 use crate::naming::names_inv;
 use adr_event::{AdoptRefusal, Failure, Table};
 use adr_failure::NoMemory;
 use adr_image::{Contents, Dormant, decode};
-use adr_records::wake;
+use adr_records::{image_of, wake};
 use adr_state::{CURSOR_LIMIT, State};
 use std::alloc::{AllocError, Global};
 use std::marker::Model;
@@ -84,7 +83,9 @@ impl Image {
         ensures logged { IfOk result (λ state. IsLogged state × (state.mode ≡ Normal)) }
     {
         let dormant = self.read(alloc)?;
-        adopted(alloc, dormant.contents(), dsa, inv)
+        let state = adopted(alloc, dormant.contents(), dsa, inv);
+        drop(dormant);
+        state
     }
 
     /// What it says.

@@ -1,15 +1,26 @@
-use Rattle.std.proofs.Common.{◌<◌, Err, ap, arith, length, ⊎_elim}
-use Rattle.adr_vector.specs.Vector.{cursor_limit}
-use Rattle.adr_model.specs.Change.{after}
-use Rattle.adr_records.specs.BodyLaws.{change_follows}
+use Rattle.std.proofs.Common.{◌≡◌, ◌∙◌, ℕ, List, Option, Some, ap, sym}
+use Rattle.std.proofs.lemmas.Result.{on_ok_weaker}
+use Rattle.adr_model.specs.Change.{Change}
+use Rattle.adr_image.specs.Changes.{decoded_change}
+use Rattle.adr_image.proofs.Recorded.{change_only}
+use Rattle.adr_records.specs.Body.{by_change}
 use Rattle.adr_records.proofs.following.follow.Goals as goal
 
-pub unreachable-requires : goal.unreachable-requires
-unreachable-requires c =
-    let next = after c.args.state.now c.in-Ok.change in
-    let may = change_follows c.args.state.now c.args.body.now c.in-Ok.change (λ i. (c.type_inv.body i).fits) c.requires c.in-Ok.ensures.ok in
-    let seen = may.follows.formed.store.vector.few in
-    let purged = may.follows.formed.store.purged.few in
-    ⊎_elim (λ (many : cursor_limit < length next.store.vector). let no : ⊥ = omega (arith, seen, many) in no)
-    (λ (many : cursor_limit < length next.store.purged). let no : ⊥ = omega (arith, purged, many) in no)
-    (c.in-Err-Refused.ensures.full (ap Err c.in-Err-Refused.field-0-is))
+says : (usn before : ℕ) (body : List ℕ) (read : Option Change) (c : Change) → before ≡ usn → read ≡ decoded_change before body → read ≡ Some c → decoded_change usn body ≡ Some c
+says usn before body read c same is some = ap (λ (n : ℕ). decoded_change n body) (sym same) ∙ sym is ∙ some
+
+pub take-taken-requires-clause-body : goal.take-taken-requires-clause-body
+take-taken-requires-clause-body c =
+    let change = c.in-Ok-Some.change in
+    (change_only c.args.state.now.store.usn c.args.body.now change (λ i. (c.type_inv.body i).fits)
+    (says c.args.state.now.store.usn c.usn.result c.args.body.now c.in-Ok-Some.field-0 change c.usn.ensures c.in-Ok-Some.ensures c.in-Ok-Some.field-0-is)).0
+
+pub returns-in-Ok-Some-clause-ok : goal.returns-in-Ok-Some-clause-ok
+returns-in-Ok-Some-clause-ok c =
+    on_ok_weaker c.take-taken.result
+    (λ is. ap (by_change c.args.state.now) (says c.args.state.now.store.usn c.usn.result c.args.body.now c.in-Ok-Some.field-0 c.in-Ok-Some.change c.usn.ensures c.in-Ok-Some.ensures c.in-Ok-Some.field-0-is) ∙ is)
+    c.take-taken.ensures.ok
+
+pub returns-in-Ok-Some-clause-refused : goal.returns-in-Ok-Some-clause-refused
+returns-in-Ok-Some-clause-refused c = λ refused.
+    ap (by_change c.args.state.now) (says c.args.state.now.store.usn c.usn.result c.args.body.now c.in-Ok-Some.field-0 c.in-Ok-Some.change c.usn.ensures c.in-Ok-Some.ensures c.in-Ok-Some.field-0-is) ∙ c.take-taken.ensures.refused refused
