@@ -147,6 +147,7 @@ fn read_framed(alloc: Global, bytes: &[u8], len: u32) -> Result<Contents, WireRe
 {
     let contents = read_there(alloc, bytes, len)?;
     if bytes.len() < IMAGE_PLACE + len as usize {
+        drop(contents);
         return Err(malformed(bytes.len()));
     }
     Ok(contents)
@@ -160,6 +161,7 @@ fn read_own(alloc: Global, bytes: &[u8], owner: &Owner) -> Result<Contents, Wire
 {
     let contents = read_framed(alloc, bytes, owner.len)?;
     if contents.vector.at(owner.inv) != contents.usn {
+        drop(contents);
         return Err(malformed(IMAGE_PLACE));
     }
     Ok(contents)

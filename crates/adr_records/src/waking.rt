@@ -41,9 +41,9 @@ fn writes_of(alloc: Global, rows: &[Held]) -> Result<Vec<Written>, NoMemory>
 fn first_change(alloc: Global, contents: &Contents) -> Result<Change, NoMemory>
     ensures { IfOk result (λ change. MakesAll contents.now change) }
 {
-    let writes = writes_of(alloc, &contents.rows)?;
     let joined = contents.vector.copy(alloc)?;
     let purged = contents.purged.copy(alloc)?;
+    let writes = writes_of(alloc, &contents.rows)?;
     Ok(Change::new(
         contents.usn,
         Mode::Normal,

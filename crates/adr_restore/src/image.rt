@@ -83,9 +83,7 @@ impl Image {
         ensures logged { IfOk result (λ state. IsLogged state × (state.mode ≡ Normal)) }
     {
         let dormant = self.read(alloc)?;
-        let state = adopted(alloc, dormant.contents(), dsa, inv);
-        drop(dormant);
-        state
+        adopted(alloc, dormant.contents(), dsa, inv)
     }
 
     /// What it says.
