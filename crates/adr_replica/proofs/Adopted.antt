@@ -1,40 +1,20 @@
 -- What comes of an image that is adopted.
 use Rattle.std.proofs.Common.{◌≡◌, ◌∙◌, refl, sym, ap, ℕ, ◌≤◌, Bool, true, false, Option, Some, None, Ok, Err, nat_lt, if◌then◌else◌, arith}
-use Rattle.std.specs.Prelude.{is_none}
 use Rattle.std.proofs.lemmas.Bool.Decides.{nat_tests}
-use Rattle.adr_event.specs.declared.answer.Outcome.{Outcome}
 use Rattle.adr_event.specs.declared.answer.Outcome.TheVariants as outcomes
 use Rattle.adr_event.specs.declared.refusal.AdoptRefusal.{AdoptRefusal}
 use Rattle.adr_event.specs.declared.refusal.Table.TheVariants.{Log}
 use Rattle.adr_model.specs.Collect.{adopt, woken}
 use Rattle.adr_model.specs.Lengths.{log_limit, new_log_end}
-use Rattle.adr_model.specs.Refused.{adopt_refused, full}
+use Rattle.adr_model.specs.Refused.{full}
 use Rattle.adr_model.specs.Refusing.{unless}
 use Rattle.adr_model.specs.Replica.{Replica, Up, begun, on_new_disk}
 use Rattle.adr_model.specs.Store.{State, Store}
 use Rattle.adr_model.specs.Update.{Identifier}
 use Rattle.adr_model.specs.World.{Gone, Name, adopts}
-use Rattle.adr_replica.specs.Led.{Adopts, Unadopted}
+use Rattle.adr_replica.specs.Led.{Adopts}
 
--- ---- the log of a new disk, which has room or not
-
-abbrev EndOf : ℕ → ℕ → Option ℕ → Type 0
-EndOf limit end o = o ≡ (if nat_lt limit end then None else Some end)
-
-pub beyond_of : (limit end : ℕ) (o : Option ℕ) → EndOf limit end o → is_none o ≡ true → nat_lt limit end ≡ true
-beyond_of limit end o is none = by (nat_lt limit end) is
-  where
-    by : (b : Bool) → o ≡ (if b then None else Some end) → b ≡ true
-    by true is = refl
-    by false is = absurd (cc (is, none))
-
-pub within_of : (limit end : ℕ) (o : Option ℕ) → EndOf limit end o → is_none o ≡ false → nat_lt limit end ≡ false
-within_of limit end o is some = by (nat_lt limit end) is
-  where
-    by : (b : Bool) → o ≡ (if b then None else Some end) → b ≡ false
-    by true is = absurd (cc (is, some))
-    by false is = refl
-
+-- a new disk has room for the log
 pub at_most : (limit end : ℕ) → nat_lt limit end ≡ false → end ≤ limit
 at_most limit end within = grind (arith, nat_tests)
 
@@ -59,11 +39,3 @@ module _ (name : Name) (image : Store) (dsa inv : Identifier) where
           ap (λ (m : Replica). m.safe.dsa) same ∙ sym (ap (λ (s : State). s.dsa) woke),
           ap (λ (m : Replica). m.safe.inv) same ∙ sym (ap (λ (s : State). s.inv) woke),
         )
-
-    pub beyond_so : nat_lt log_limit (new_log_end s) ≡ true → (outcome : Outcome) → outcome ≡ full Log log_limit → Unadopted name (adopt image dsa inv) outcome
-    beyond_so beyond outcome tells w placed =
-        let gone : Gone = (record w { book = begun w.book s; replicas = placed (on_new_disk name s) }, outcomes.Ok) in
-        ap (adopts w placed name) is ∙ ap (λ b. if b then (w, full Log log_limit) else gone) beyond ∙ ap (λ t. (w, t)) (sym tells)
-
-  pub refused_so : (refusal : AdoptRefusal) → adopt image dsa inv ≡ Err refusal → (outcome : Outcome) → outcome ≡ adopt_refused refusal → Unadopted name (adopt image dsa inv) outcome
-  refused_so refusal is outcome tells w placed = ap (adopts w placed name) is ∙ ap (λ t. (w, t)) (sym tells)

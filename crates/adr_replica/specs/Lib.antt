@@ -6,3 +6,4 @@ pub mod Settled
 pub mod Led
 pub mod Put
 pub mod Planned
+pub mod Refused

@@ -54,23 +54,23 @@ pub(crate) fn settle(
     ensures kept { kept.new ≡ come how kept.old ahead.kept }
     ensures past { past.new ≡ come how past.old ahead.past }
 {
-    match how {
-        None => {}
-        Some(Hindrance::DiskFault) => stop_if_stopped(controller),
-        Some(_) => return controller.is_down(),
+    let down = leave(controller, how);
+    if matches!(how, None | Some(Hindrance::DiskFault)) {
+        *past = ahead.past;
+        *kept = ahead.kept;
     }
-    *past = ahead.past;
-    *kept = ahead.kept;
-    controller.is_down()
+    down
 }
 
-/// A controller whose disk has stopped is down.
-fn stop_if_stopped<K: PlannedKeeper>(controller: &mut Controller<K>)
-    ensures { controller.new ≡ left_by K.is_down (Some Hindrance.DiskFault) controller.old }
+/// A controller whose disk stopped within a call is down. Tells whether it is.
+fn leave<K: PlannedKeeper>(controller: &mut Controller<K>, how: Option<Hindrance>) -> bool
+    ensures down { result ≡ controller.new.down }
+    ensures controller { controller.new ≡ left_by K.is_down how controller.old }
 {
-    if controller.is_stopped() {
+    if matches!(how, Some(Hindrance::DiskFault)) && controller.is_stopped() {
         controller.stop();
     }
+    controller.is_down()
 }
 
 /// What is answered to a call that was hindered, behind which the controller is down or not.

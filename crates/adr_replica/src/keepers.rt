@@ -8,12 +8,14 @@ use adr_disk::MemDisk;
 use adr_journal::Journal;
 use adr_records::Records;
 
-/// Every keeper under a plan goes as planned.
+/// Every controller over a keeper under a plan is in order, and the keeper goes as planned.
 #[tactic(none)]
-fn keepers_go_as_planned<K: PlannedKeeper>()
-    ensures { GoesAsPlanned ⟦<K as Keeper>⟧ K.read K.safe K.torn K.plan K.is_down }
+fn keepers_go_as_planned<K: PlannedKeeper>(controller: &Controller<K>)
+    ensures in_order { IsInOrder ⟦<K as Keeper>⟧ controller.now }
+    ensures planned { GoesAsPlanned ⟦<K as Keeper>⟧ K.read K.safe K.torn K.plan K.is_down }
 {
     commits_go_as_planned::<K>();
+    let _ = controller.state();
 }
 
 /// A controller of a run is in order, and its journal goes as planned.
@@ -23,6 +25,5 @@ pub(crate) fn goes_as_planned(controller: &Controller<Journal<MemDisk, Records>>
         ⟦<Journal<MemDisk, Records> as PlannedKeeper>⟧.safe ⟦<Journal<MemDisk, Records> as PlannedKeeper>⟧.torn
         ⟦<Journal<MemDisk, Records> as PlannedKeeper>⟧.plan ⟦<Journal<MemDisk, Records> as PlannedKeeper>⟧.is_down }
 {
-    keepers_go_as_planned::<Journal<MemDisk, Records>>();
-    let _ = controller.state();
+    keepers_go_as_planned(controller);
 }

@@ -2,8 +2,6 @@
 
 ghost use Rattle.std.specs.Prelude.{◌≡◌, ◌≢◌, ◌⊎◌, ◌<◌, ◌^◌, Some, Ok, Err, true, OnErr, OnOk, IfErr, IfOk, IfSome, IsSomeAnd};
 ghost use Rattle.adr_wire.specs.Ranges.{IsId};
-ghost use Rattle.adr_law_journal.specs.Log.{start_of};
-ghost use Rattle.adr_law_journal.specs.Replicas.{read_found};
 ghost use Rattle.adr_law_formed.specs.Spelled.{IsSpelledReply};
 ghost use Rattle.adr_law_recorded.specs.Typed.{IsTypedWrite};
 ghost use Rattle.adr_law_recorded.specs.Ranged.{IsRangedReply, IsRangedRequest};
@@ -14,8 +12,6 @@ ghost use Rattle.adr_model.specs.Store.{empty_state};
 ghost use Rattle.adr_model.specs.Take.{take};
 ghost use Rattle.adr_model.specs.World.{World as Defined, after_serve, after_take, after_write, not_sent, nothing, starts, stays, stops, where_up, with_plan};
 ghost use Rattle.adr_model.specs.Write.{IsWellGiven, write};
-ghost use Rattle.adr_records.specs.Body.{following};
-ghost use Rattle.adr_records.specs.Head.{head_at};
 ghost use Rattle.adr_records.specs.Logged.{IsLogged, MayBegin};
 ghost use Rattle.adr_replica.specs.Led.{IsDone, IsUndone, Leads, LeadsTo, StandsIn, synced, world_with};
 
@@ -331,12 +327,5 @@ impl Replica {
             Err(StartRefusal::NoMemory { .. }) => Err(AllocError),
             Err(StartRefusal::Damaged { .. }) => unreachable!(),
         }
-    }
-
-    /// A copy of the bytes on its disk, which a start would read.
-    pub fn bytes(&self) -> Result<Vec<u8>, NoMemory>
-        ensures { IfOk result (λ bytes. start_of head_at following bytes.items ≡ Ok (read_found self.now)) }
-    {
-        self.controller.bytes()
     }
 }

@@ -1,21 +1,20 @@
 //! Images of controllers, and controllers that adopt them.
 
-ghost use Rattle.std.specs.Prelude.{◌≡◌, Ok, false, true, IfOk, IsErrOf, OnOk, nat_lt};
+ghost use Rattle.std.specs.Prelude.{◌≡◌, Ok, false, IfOk, IsErrOf, nat_lt};
 ghost use Rattle.adr_event.specs.declared.answer.Outcome.{Outcome};
 ghost use Rattle.adr_wire.specs.Ranges.{IsId};
 ghost use Rattle.adr_model.specs.Collect.{adopt, backup};
-ghost use Rattle.adr_event.specs.declared.refusal.Table.TheVariants.{Log};
 ghost use Rattle.adr_model.specs.Lengths.{log_limit, new_log_end};
-ghost use Rattle.adr_model.specs.Refused.{full};
+ghost use Rattle.adr_model.specs.Refused.{adopt_refused};
 ghost use Rattle.adr_model.specs.Replica.{Up as stands_up};
 ghost use Rattle.adr_model.specs.Store.{Normal};
 ghost use Rattle.adr_model.specs.World.{Name, World as Defined, backed_up, nothing, where_up};
 ghost use Rattle.adr_records.specs.Logged.{IsLogged};
 ghost use Rattle.adr_replica.specs.Led.{Adopts, Unadopted};
 
-use crate::refused::{adopt_refused, full, quarantined};
+use crate::refused::{adopt_refused, quarantined};
 use crate::replica::Replica;
-use adr_event::{Failure, Outcome, Table};
+use adr_event::{AdoptRefusal, Failure, Outcome, Table};
 use adr_law_recorded::fitting_states_may_begin;
 use adr_restore::{Image, new_log_end};
 use adr_schema::{NoMemory, Text};
@@ -23,33 +22,24 @@ use adr_state::{LOG_LIMIT, State};
 use std::alloc::Global;
 use uuid::Uuid;
 
-/// The state of an image under a fresh invocation identifier, or what is answered.
-fn woken(alloc: Global, image: &Image, dsa: Uuid, inv: Uuid) -> Result<State, Failure<Outcome>>
+/// The state of an image under a fresh invocation identifier, where a new disk has room for it, or why it isn't adopted.
+fn woken(alloc: Global, image: &Image, dsa: Uuid, inv: Uuid) -> Result<State, Failure<AdoptRefusal>>
     requires dsa { IsId dsa }
     requires inv { IsId inv }
     ensures adopted { IfOk result (λ state. adopt image.now dsa inv ≡ Ok state) }
     ensures logged { IfOk result (λ state. IsLogged state × (state.mode ≡ Normal)) }
-    ensures other { (outcome : Outcome) → IsErrOf result (Failure.Refused outcome)
-        → (name : Name) → Unadopted name (adopt image.now dsa inv) outcome }
+    ensures room { IfOk result (λ state. nat_lt log_limit (new_log_end state) ≡ false) }
+    ensures other { (refusal : AdoptRefusal) → IsErrOf result (Failure.Refused refusal)
+        → (name : Name) → Unadopted name (adopt image.now dsa inv) (adopt_refused refusal) }
 {
-    match image.adopt(alloc, dsa, inv) {
-        Ok(state) => Ok(state),
-        Err(Failure::Refused(refusal)) => Err(Failure::Refused(adopt_refused(alloc, refusal)?)),
-        Err(Failure::NoMemory) => Err(Failure::NoMemory),
+    let state = image.adopt(alloc, dsa, inv)?;
+    if new_log_end(alloc, &state)?.is_none() {
+        return Err(Failure::Refused(AdoptRefusal::Full {
+            table: Table::Log,
+            limit: LOG_LIMIT,
+        }));
     }
-}
-
-/// A new disk has room for a log that begins with the state, or what is answered.
-fn has_room(alloc: Global, state: &State) -> Result<(), Failure<Outcome>>
-    requires { IsLogged state.now }
-    ensures ok { OnOk result (nat_lt log_limit (new_log_end state.now) ≡ false) }
-    ensures other { (outcome : Outcome) → IsErrOf result (Failure.Refused outcome)
-        → (nat_lt log_limit (new_log_end state.now) ≡ true) × (outcome ≡ full Log log_limit) }
-{
-    if new_log_end(alloc, state)?.is_some() {
-        return Ok(());
-    }
-    Err(Failure::Refused(full(alloc, Table::Log, LOG_LIMIT)?))
+    Ok(state)
 }
 
 impl Replica {
@@ -84,8 +74,10 @@ impl Replica {
             → Unadopted name (adopt image.now dsa inv) outcome }
     {
         fitting_states_may_begin();
-        let state = woken(alloc, image, dsa, inv)?;
-        has_room(alloc, &state)?;
-        Ok(Replica::on_new_disk(alloc, name, state)?)
+        match woken(alloc, image, dsa, inv) {
+            Ok(state) => Ok(Replica::on_new_disk(alloc, name, state)?),
+            Err(Failure::Refused(refusal)) => Err(Failure::Refused(adopt_refused(alloc, refusal)?)),
+            Err(Failure::NoMemory) => Err(Failure::NoMemory),
+        }
     }
 }

@@ -1,19 +1,17 @@
 -- Controllers that come of images, and disks that are put back.
 use Rattle.std.proofs.Common.{◌≡◌, ◌∙◌, sym, ap, ℕ, List, [], ◌∷◌, ◌++◌, slice_set, Option, Some, None, false, codes}
 use Rattle.std.specs.Prelude.{slice_get}
-use Rattle.adr_event.specs.declared.answer.Answer.{Answer}
 use Rattle.adr_event.specs.declared.answer.Outcome.{Outcome}
 use Rattle.adr_event.specs.declared.answer.Outcome.TheVariants as outcomes
 use Rattle.adr_event.specs.declared.event.Event.TheVariants.{Install, Restore}
 use Rattle.adr_model.specs.Update.{Identifier}
 use Rattle.adr_model.specs.Replica.{Replica, begun, on_disk}
-use Rattle.adr_model.specs.World.{World, Name, Sent, Snapshot, answer, of_made, put_back, replica_at, stays, with_replica}
+use Rattle.adr_model.specs.World.{World, Name, Sent, Snapshot, of_made, put_back, replica_at, stays, with_replica}
 use Rattle.adr_model.specs.Step.{gives, step, told, told_bound}
 use Rattle.adr_law_convergence.proofs.Found.{replica_found}
 use Rattle.adr_world.specs.declared.run.Run.{Run}
 use Rattle.adr_world.specs.Adopted.{adoption}
 use Rattle.adr_world.specs.Run.{AreApart, IsTidy, world_of}
-use Rattle.adr_world.proofs.Bindings.{told_so}
 use Rattle.adr_world.proofs.Places.{apart_still, placed}
 
 -- a line that binds what was made, by what comes of its call
@@ -30,23 +28,18 @@ module _ (w : World) (name image : Name) (inv : Identifier) where
   abbrev comes : Replica → World × Outcome
   comes r = adoption w.images image name r.safe.dsa inv given (with_replica w.replicas)
 
-  pub restored_step : (r : Replica) (o : Outcome) (v : World) (made : Answer) → replica_at w name ≡ Some r → adoption w.images image name r.safe.dsa inv (gives w [] (inv ∷ [])) (with_replica w.replicas) ≡ (v, o)
-      → made ≡ answer (codes "restore") name o → step w (Restore name image inv) ≡ (v, made ∷ [])
-  restored_step r o v made found is said =
-      told_so (codes "restore") name (of_made (stays given) (replica_at given name) comes) v o made
-      (ap (λ x. of_made (stays given) x comes) found ∙ is) said
+  pub restored_step : (r : Replica) (o : Outcome) (v : World) → replica_at w name ≡ Some r → adoption w.images image name r.safe.dsa inv (gives w [] (inv ∷ [])) (with_replica w.replicas) ≡ (v, o)
+      → step w (Restore name image inv) ≡ told (codes "restore") name (v, o)
+  restored_step r o v found is = ap (told (codes "restore") name) (ap (λ x. of_made (stays given) x comes) found ∙ is)
 
-  pub restore_absent : (made : Answer) → replica_at w name ≡ None → made ≡ answer (codes "restore") name outcomes.Absent → step w (Restore name image inv) ≡ (gives w [] (inv ∷ []), made ∷ [])
-  restore_absent made none said =
-      told_so (codes "restore") name (of_made (stays given) (replica_at given name) comes) given outcomes.Absent made
-      (ap (λ x. of_made (stays given) x comes) none) said
+  pub restore_absent : replica_at w name ≡ None → step w (Restore name image inv) ≡ told (codes "restore") name (gives w [] (inv ∷ []), outcomes.Absent)
+  restore_absent none = ap (λ x. told (codes "restore") name (of_made (stays given) x comes)) none
 
 -- an installation, by what comes of its image
-pub installed_step : (w : World) (name : Name) (dsa : Identifier) (image : Name) (inv : Identifier) (o : Outcome) (v : World) (made : Answer)
+pub installed_step : (w : World) (name : Name) (dsa : Identifier) (image : Name) (inv : Identifier) (o : Outcome) (v : World)
     → adoption w.images image name dsa inv (gives w (dsa ∷ []) (inv ∷ [])) (λ r. w.replicas ++ r ∷ []) ≡ (v, o)
-    → made ≡ answer (codes "install") name o → step w (Install name dsa image inv) ≡ (v, made ∷ [])
-installed_step w name dsa image inv o v made is said =
-    told_so (codes "install") name (adoption w.images image name dsa inv (gives w (dsa ∷ []) (inv ∷ [])) (λ r. w.replicas ++ r ∷ [])) v o made is said
+    → step w (Install name dsa image inv) ≡ told (codes "install") name (v, o)
+installed_step w name dsa image inv o v is = ap (told (codes "install") name) is
 
 -- the world in which one more controller begins
 pub begun_last : (w : World) (dsa inv : Identifier) (made : Replica) (v : World) → made.safe.dsa ≡ dsa → made.safe.inv ≡ inv

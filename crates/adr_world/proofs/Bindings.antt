@@ -8,7 +8,7 @@ use Rattle.adr_law_formed.specs.Spelled.{IsSpelledReply}
 use Rattle.adr_law_recorded.specs.Ranged.{IsRangedRequest, IsRangedReply}
 use Rattle.adr_model.specs.Member.{Member, Each}
 use Rattle.adr_model.specs.Serve.{Request, Reply}
-use Rattle.adr_model.specs.World.{Name, World, Gone, Sent, bound, bound_at, serves_request, answer}
+use Rattle.adr_model.specs.World.{Name, World, Sent, bound, bound_at, serves_request, answer}
 use Rattle.adr_model.specs.Step.{told, told_bound, step}
 use Rattle.adr_model.proofs.Members.{member_of_either}
 use Rattle.adr_law_convergence.proofs.Found.{bound_member}
@@ -34,10 +34,6 @@ each_bound {A = A} P xs name (Some a) all new = λ x m. by x (member_of_either x
 -- an answer, by the heading that was made before
 pub headed : (made : Answer) (v n verb : List ℕ) (name : Name) (o : Outcome) → made ≡ answer v n o → (v ≡ verb) × (n ≡ name) → made ≡ answer verb name o
 headed made v n verb name o is made_of = is ∙ ap (λ x. answer x n o) made_of.0 ∙ ap (λ x. answer verb x o) made_of.1
-
--- a line with one answer, by what comes of its call
-pub told_so : (verb : List ℕ) (name : Name) (g : Gone) (v : World) (o : Outcome) (made : Answer) → g ≡ (v, o) → made ≡ answer verb name o → told verb name g ≡ (v, made ∷ [])
-told_so verb name g v o made gone said = ap (λ (x : Gone). told verb name x) gone ∙ ap (λ m. (v, m ∷ [])) (sym said)
 
 -- the line of a serve, by what comes of its request
 module _ (w : World) (name request bind : Name) where

@@ -1,6 +1,6 @@
 -- Which lines have one answer.
 use Rattle.adr_event.specs.declared.event.Event.{Event}
-use Rattle.adr_event.specs.declared.event.Event.TheVariants.{Cycle, Install, Pull, Restore, Time}
+use Rattle.adr_event.specs.declared.event.Event.TheVariants.{Cycle, Pull, Time}
 
 -- a line that is done before its answers are written: there are at most three
 abbrev pub IsAtOnce : Event → Type 0
@@ -12,9 +12,3 @@ abbrev pub HasOneAnswer : Event → Type 0
 HasOneAnswer (Time now) = ⊥
 HasOneAnswer (Pull name source max) = ⊥
 HasOneAnswer e = IsAtOnce e
-
--- a line that has one answer, and adopts no image
-abbrev pub IsPlain : Event → Type 0
-IsPlain (Restore name image inv) = ⊥
-IsPlain (Install name dsa image inv) = ⊥
-IsPlain e = HasOneAnswer e

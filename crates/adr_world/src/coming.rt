@@ -1,6 +1,6 @@
 //! New controllers.
 
-ghost use Rattle.std.specs.Prelude.{◌≡◌, ◌+◌, ◌<◌, ◌≤◌, ◌++◌, ◌∷◌, [], codes, length, slice_set, vec_len, IfOk, OnErr};
+ghost use Rattle.std.specs.Prelude.{◌≡◌, ◌+◌, ◌≤◌, ◌++◌, ◌∷◌, [], codes, vec_len, IfOk, OnErr};
 ghost use Rattle.std.specs.Vec.{vec_capacity};
 ghost use Rattle.adr_event.specs.declared.event.Event.TheVariants.{Controller as NewController};
 ghost use Rattle.adr_wire.specs.Ranges.{IsId};
@@ -9,20 +9,13 @@ ghost use Rattle.adr_model.specs.Replica.{Up, begun};
 ghost use Rattle.adr_model.specs.Step.{gives, step, told};
 ghost use Rattle.adr_world.specs.Run.{IsTidy, world_of};
 
+use crate::lists::put;
 use crate::run::Run;
 use adr_event::Outcome;
 use adr_replica::{Past, Replica};
 use adr_schema::{NoMemory, Text};
 use std::alloc::Global;
 use uuid::Uuid;
-
-/// Puts a controller in place of another.
-pub fn replace(controllers: &mut Vec<Replica>, place: usize, controller: Replica)
-    requires { place < length controllers.old.items }
-    ensures { controllers.new.items ≡ slice_set controllers.old.items place controller }
-{
-    controllers[place] = controller;
-}
 
 /// Begins the incarnation of a controller that is up, and gives its invocation identifier.
 pub fn begin_in(past: &mut Past, controller: &Replica) -> Uuid
@@ -76,6 +69,6 @@ impl Run {
     {
         let inv = begin_in(&mut self.past, &controller);
         self.past.give(controller.dsa(), inv);
-        let _ = self.controllers.push(controller);
+        put(&mut self.controllers, controller);
     }
 }

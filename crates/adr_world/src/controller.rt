@@ -1,20 +1,16 @@
 //! Controllers by their names.
 
-ghost use Rattle.std.specs.Prelude.{◌≡◌, ◌<◌, None, Ok, length, slice_get, IfNone, IfOk, IfSome, IsSomeAnd};
+ghost use Rattle.std.specs.Prelude.{◌≡◌, ◌<◌, None, length, slice_get, IfNone, IfSome};
 ghost use Rattle.std.specs.List.{find};
 ghost use Rattle.std.specs.Str.{bytes_eq};
-ghost use Rattle.adr_law_journal.specs.Log.{start_of};
-ghost use Rattle.adr_law_journal.specs.Replicas.{read_found};
 ghost use Rattle.adr_model.specs.Replica.{Replica as Held};
 ghost use Rattle.adr_model.specs.World.{World, replica_at, stays, where_up};
-ghost use Rattle.adr_records.specs.Body.{following};
-ghost use Rattle.adr_records.specs.Head.{head_at};
 ghost use Rattle.adr_world.specs.Run.{world_of};
 
 use crate::run::Run;
 use adr_event::Outcome;
 use adr_replica::Replica;
-use adr_schema::{NoMemory, Text};
+use adr_schema::Text;
 
 /// Where the controller of a name stands.
 fn place_of(controllers: &[Replica], name: &Text) -> Option<usize>
@@ -50,17 +46,5 @@ impl Run {
         ensures none { IfNone result (replica_at (world_of self.now) name.now ≡ None) }
     {
         place_of(self.controllers.as_slice(), name)
-    }
-
-    /// A copy of the bytes on a controller's disk.
-    pub fn disk(&self, name: &Text) -> Result<Option<Vec<u8>>, NoMemory>
-        ensures none { IfOk result (λ found. IfNone found (replica_at (world_of self.now) name.now ≡ None)) }
-        ensures some { IfOk result (λ found. IfSome found (λ bytes.
-            IsSomeAnd (replica_at (world_of self.now) name.now) (λ r. start_of head_at following bytes.items ≡ Ok (read_found r)))) }
-    {
-        let Some(place) = self.place_of(name) else {
-            return Ok(None);
-        };
-        Ok(Some(self.controllers[place].bytes()?))
     }
 }

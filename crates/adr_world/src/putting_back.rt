@@ -7,7 +7,7 @@ ghost use Rattle.adr_model.specs.Step.{step, told};
 ghost use Rattle.adr_model.specs.World.{bound_at, nothing, of_made, put_back, replica_at, stays};
 ghost use Rattle.adr_world.specs.Run.{IsTidy, world_of};
 
-use crate::coming::replace;
+use crate::lists::replace;
 use crate::run::Run;
 use adr_event::Outcome;
 use adr_replica::{Replica, Snapshot};

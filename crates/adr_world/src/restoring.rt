@@ -12,10 +12,10 @@ ghost use Rattle.adr_model.specs.World.{backed_up, nothing, of_controller};
 ghost use Rattle.adr_world.specs.Adopted.{AdoptsBound, UnadoptedBound};
 ghost use Rattle.adr_world.specs.Run.{IsTidy, world_of};
 
-use crate::answers::Heading;
-use crate::coming::{begin_in, replace};
+use crate::coming::begin_in;
+use crate::lists::replace;
 use crate::run::Run;
-use adr_event::{Answer, Failure, Outcome};
+use adr_event::{Failure, Outcome};
 use adr_replica::{Image, Replica};
 use adr_schema::{NoMemory, Text};
 use std::alloc::{AllocError, Global};
@@ -47,41 +47,40 @@ impl Run {
         self.controllers[place].backup(alloc)
     }
 
-    /// An image is adopted as a controller, under a fresh invocation identifier.
+    /// What is answered where an image is adopted as a controller, under a fresh invocation identifier.
     pub fn restore(
         &mut self,
         alloc: Global,
         name: &Text,
         image: &Text,
         inv: Uuid,
-    ) -> Result<Answer, NoMemory>
+    ) -> Result<Outcome, NoMemory>
         requires tidy { IsTidy self.old }
         requires inv { IsId inv }
-        ensures stepped { IfOk result (λ made.
-            step (world_of self.old) (Restore name.now image.now inv) ≡ (world_of self.new, made ∷ [])) }
+        ensures stepped { IfOk result (λ outcome.
+            step (world_of self.old) (Restore name.now image.now inv) ≡ told (codes "restore") name.now (world_of self.new, outcome)) }
         ensures err { OnErr result (world_of self.new ≡ world_of self.old) }
         ensures tidy { IsTidy self.new }
     {
-        let heading = Heading::new(alloc, "restore", name)?;
         let Some(place) = self.place_of(name) else {
             self.past.give_inv(inv);
-            return Ok(heading.of(Outcome::Absent));
+            return Ok(Outcome::Absent);
         };
         let dsa = self.controllers[place].dsa();
         match self.adopted(alloc, name, image, dsa, inv) {
             Ok(controller) => {
                 self.begin_at(place, controller);
-                Ok(heading.of(Outcome::Ok))
+                Ok(Outcome::Ok)
             }
             Err(Failure::Refused(outcome)) => {
                 self.past.give_inv(inv);
-                Ok(heading.of(outcome))
+                Ok(outcome)
             }
             Err(Failure::NoMemory) => Err(AllocError),
         }
     }
 
-    /// An image is adopted as a new controller, under a new name.
+    /// What is answered where an image is adopted as a new controller, under a new name.
     pub fn install(
         &mut self,
         alloc: Global,
@@ -89,26 +88,25 @@ impl Run {
         dsa: Uuid,
         image: &Text,
         inv: Uuid,
-    ) -> Result<Answer, NoMemory>
+    ) -> Result<Outcome, NoMemory>
         requires tidy { IsTidy self.old }
         requires dsa { IsId dsa }
         requires inv { IsId inv }
         requires new { IsNewName (world_of self.old) name.now }
-        ensures stepped { IfOk result (λ made.
-            step (world_of self.old) (Install name.now dsa image.now inv) ≡ (world_of self.new, made ∷ [])) }
+        ensures stepped { IfOk result (λ outcome.
+            step (world_of self.old) (Install name.now dsa image.now inv) ≡ told (codes "install") name.now (world_of self.new, outcome)) }
         ensures err { OnErr result (world_of self.new ≡ world_of self.old) }
         ensures tidy { IsTidy self.new }
     {
         self.controllers.reserve(1)?;
-        let heading = Heading::new(alloc, "install", name)?;
         match self.adopted(alloc, name, image, dsa, inv) {
             Ok(controller) => {
                 self.begin(controller);
-                Ok(heading.of(Outcome::Ok))
+                Ok(Outcome::Ok)
             }
             Err(Failure::Refused(outcome)) => {
                 self.past.give(dsa, inv);
-                Ok(heading.of(outcome))
+                Ok(outcome)
             }
             Err(Failure::NoMemory) => Err(AllocError),
         }

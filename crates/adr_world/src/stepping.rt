@@ -1,13 +1,12 @@
 //! What each line does, by its kind.
 
 ghost use Rattle.std.specs.Prelude.{◌≡◌, ◌<◌, ◌≤◌, [], ◌∷◌, IfOk, OnErr, OnOk, IsErrOf, flat_map};
-ghost use Rattle.adr_event.specs.declared.event.Event.TheVariants.{Time};
 ghost use Rattle.adr_io.specs.Told.{Adds, AddsFront};
 ghost use Rattle.adr_law_recorded.specs.Typed.{IsTyped};
 ghost use Rattle.adr_model.specs.Convergence.{MayHappen};
 ghost use Rattle.adr_model.specs.Step.{step, told};
 ghost use Rattle.adr_report.specs.Line.{line};
-ghost use Rattle.adr_world.specs.Alone.{HasOneAnswer, IsAtOnce, IsPlain};
+ghost use Rattle.adr_world.specs.Alone.{HasOneAnswer};
 ghost use Rattle.adr_world.specs.Door.{IsLeftBy};
 ghost use Rattle.adr_world.specs.Heading.{name_of, verb_of};
 ghost use Rattle.adr_world.specs.Pulls.{IsTurn};
@@ -67,39 +66,20 @@ impl Run {
             Event::Cycle { name, source, max } => {
                 self.cycle_turn(alloc, name, source, *max, turn)
             }
-            _ => Ok((self.answers(alloc, event)?, false)),
+            Event::Pull { name, source, max } => {
+                let (answers, _) = self.pull(alloc, name, source, *max)?;
+                Ok((answers, false))
+            }
+            Event::Time { now } => {
+                self.time = *now;
+                Ok((Vec::new(alloc), false))
+            }
+            _ => Ok((self.step_alone(alloc, event)?, false)),
         }
     }
 
-    /// What a line does that is no cycle, and its answers.
-    fn answers(&mut self, alloc: Global, event: &Event) -> Result<Vec<Answer>, NoMemory>
-        requires sound { IsSoundRun self.old }
-        requires at_once { IsAtOnce event.now }
-        requires may { MayHappen (world_of self.old) event.now }
-        requires typed { IsTyped event.now }
-        ensures stepped { IfOk result (λ answers.
-            step (world_of self.old) event.now ≡ (world_of self.new, answers.items)) }
-        ensures err { OnErr result (IsCutShort (world_of self.old) event.now (world_of self.new)) }
-        ensures tidy { IsTidy self.new }
-    {
-        match event {
-            Event::Time { now } => Ok(self.time(alloc, *now)),
-            Event::Pull { name, source, max } => Ok(self.pull(alloc, name, source, *max)?.0),
-            _ => self.step_alone(alloc, event),
-        }
-    }
-
-    /// The time of the lines that follow.
-    fn time(&mut self, alloc: Global, now: u64) -> Vec<Answer>
-        requires { IsTidy self.old }
-        ensures stepped { step (world_of self.old) (Time now) ≡ (world_of self.new, result.items) }
-        ensures tidy { IsTidy self.new }
-    {
-        self.time = now;
-        Vec::new(alloc)
-    }
-
-    /// A line that has one answer. There is room for it before anything is done.
+    /// A line that has one answer. There is room for it, and its heading is made, before anything is done: then nothing fails
+    /// behind the change.
     fn step_alone(&mut self, alloc: Global, event: &Event) -> Result<Vec<Answer>, NoMemory>
         requires sound { IsSoundRun self.old }
         requires alone { HasOneAnswer event.now }
@@ -112,53 +92,16 @@ impl Run {
     {
         let mut answers = Vec::new(alloc);
         answers.reserve(1)?;
-        put(&mut answers, self.answered(alloc, event)?);
+        let heading = Heading::new(alloc, verb_of(event), name_of(event))?;
+        let outcome = self.outcome(alloc, event)?;
+        put(&mut answers, heading.of(outcome));
         Ok(answers)
     }
 
-    /// The answer to a line that has one.
-    fn answered(&mut self, alloc: Global, event: &Event) -> Result<Answer, NoMemory>
-        requires sound { IsSoundRun self.old }
-        requires alone { HasOneAnswer event.now }
-        requires may { MayHappen (world_of self.old) event.now }
-        requires typed { IsTyped event.now }
-        ensures stepped { IfOk result (λ made.
-            step (world_of self.old) event.now ≡ (world_of self.new, made ∷ [])) }
-        ensures err { OnErr result (IsCutShort (world_of self.old) event.now (world_of self.new)) }
-        ensures tidy { IsTidy self.new }
-    {
-        match event {
-            Event::Restore { name, image, inv } => self.restore(alloc, name, image, *inv),
-            Event::Install {
-                name,
-                dsa,
-                image,
-                inv,
-            } => self.install(alloc, name, *dsa, image, *inv),
-            _ => self.plainly(alloc, event),
-        }
-    }
-
-    /// The answer to a line that adopts no image. Its heading is made first: then nothing fails behind the change.
-    fn plainly(&mut self, alloc: Global, event: &Event) -> Result<Answer, NoMemory>
-        requires sound { IsSoundRun self.old }
-        requires plain { IsPlain event.now }
-        requires may { MayHappen (world_of self.old) event.now }
-        requires typed { IsTyped event.now }
-        ensures stepped { IfOk result (λ made.
-            step (world_of self.old) event.now ≡ (world_of self.new, made ∷ [])) }
-        ensures err { OnErr result (IsCutShort (world_of self.old) event.now (world_of self.new)) }
-        ensures tidy { IsTidy self.new }
-    {
-        let heading = Heading::new(alloc, verb_of(event), name_of(event))?;
-        let outcome = self.outcome(alloc, event)?;
-        Ok(heading.of(outcome))
-    }
-
-    /// What a line is answered that adopts no image.
+    /// What a line is answered that has one answer.
     fn outcome(&mut self, alloc: Global, event: &Event) -> Result<Outcome, NoMemory>
         requires sound { IsSoundRun self.old }
-        requires plain { IsPlain event.now }
+        requires alone { HasOneAnswer event.now }
         requires may { MayHappen (world_of self.old) event.now }
         requires typed { IsTyped event.now }
         ensures stepped { IfOk result (λ outcome.
@@ -188,6 +131,13 @@ impl Run {
             Event::Deliver { name, reply } => self.take_bound(alloc, name, reply),
             Event::Collect { name, lifetime } => self.collected(alloc, name, *lifetime),
             Event::Backup { name, bound } => self.backup(alloc, name, bound),
+            Event::Restore { name, image, inv } => self.restore(alloc, name, image, *inv),
+            Event::Install {
+                name,
+                dsa,
+                image,
+                inv,
+            } => self.install(alloc, name, *dsa, image, *inv),
             Event::Snapshot { name, bound } => self.snapshot(alloc, name, bound),
             Event::Rollback { name, snapshot } => self.put_back(alloc, name, snapshot),
             Event::StopAfter { name, calls, how } => Ok(self.stop_after(name, *calls, *how)),
@@ -197,7 +147,6 @@ impl Run {
             Event::Show { name } => self.directory_told(alloc, name),
             Event::Vector { name } => self.vector_told(alloc, name),
             Event::Marks { name } => self.marks_told(alloc, name),
-            Event::Restore { .. } | Event::Install { .. } => unreachable!(),
             Event::Time { .. } | Event::Pull { .. } | Event::Cycle { .. } => unreachable!(),
         }
     }

@@ -1,23 +1,18 @@
 //! The world of a run.
 
-ghost use Rattle.std.specs.Prelude.{◌≡◌, ◌<◌, ◌≤◌, None, Ok, true, IfNone, IfOk, IfSome, IsSomeAnd, OnErr, OnOk, IsErrOf, flat_map};
+ghost use Rattle.std.specs.Prelude.{◌≡◌, ◌<◌, ◌≤◌, true, OnErr, OnOk, IsErrOf, flat_map};
 ghost use Rattle.adr_io.specs.Told.{Adds, AddsFront};
-ghost use Rattle.adr_law_journal.specs.Log.{start_of};
-ghost use Rattle.adr_law_journal.specs.Replicas.{read_found};
 ghost use Rattle.adr_law_recorded.specs.Typed.{IsTyped};
 ghost use Rattle.adr_model.specs.Convergence.{AreAcknowledged, MayHappen, OwnIsInView, ShowAlike, ShowWhatIsVisible};
 ghost use Rattle.adr_model.specs.Sound.{IsWorldOfRun};
 ghost use Rattle.adr_model.specs.Step.{step};
-ghost use Rattle.adr_model.specs.World.{empty_world, replica_at};
-ghost use Rattle.adr_records.specs.Body.{following};
-ghost use Rattle.adr_records.specs.Head.{head_at};
+ghost use Rattle.adr_model.specs.World.{empty_world};
 ghost use Rattle.adr_report.specs.Line.{line};
 ghost use Rattle.adr_world.specs.Door.{IsCompletedBy, IsLeftBy};
 
 use crate::run::Run;
 use adr_event::Event;
 use adr_io::{Fault, Sink};
-use adr_schema::{NoMemory, Text};
 use std::alloc::Global;
 use std::marker::Model;
 
@@ -80,14 +75,5 @@ impl World {
     {
         self.run.step(alloc, event, sink)?;
         Ok(())
-    }
-
-    /// A copy of the bytes on a controller's disk, which a start would read.
-    pub fn disk(&self, name: &Text) -> Result<Option<Vec<u8>>, NoMemory>
-        ensures none { IfOk result (λ found. IfNone found (replica_at self.now name.now ≡ None)) }
-        ensures some { IfOk result (λ found. IfSome found (λ bytes.
-            IsSomeAnd (replica_at self.now name.now) (λ r. start_of head_at following bytes.items ≡ Ok (read_found r)))) }
-    {
-        self.run.disk(name)
     }
 }

@@ -2,11 +2,10 @@ use Rattle.std.proofs.Common.{◌≢◌, ◌∙◌, ◌++◌, sym, ap, subst, []
 use Rattle.adr_event.specs.declared.answer.Outcome.TheVariants as outcomes
 use Rattle.adr_model.specs.Member.{Each}
 use Rattle.adr_model.specs.Replica.{Replica, begun}
-use Rattle.adr_model.specs.Step.{gives}
+use Rattle.adr_model.specs.Step.{gives, told}
 use Rattle.adr_replica.specs.Past.{Past}
 use Rattle.adr_world.specs.Run.{AreApart, AreRanged, AreSpelled, world_of}
 use Rattle.adr_world.proofs.Adoptions.{begun_last, installed_step}
-use Rattle.adr_world.proofs.Bindings.{headed}
 use Rattle.adr_world.proofs.Places.{apart_more}
 use Rattle.adr_world.proofs.run.Run.install.Goals as goal
 
@@ -21,11 +20,10 @@ returns-in-Ok-clause-stepped c =
     let made = c.in-Ok.controller in
     let adopts = c.in-Ok.ensures.made in
     let up = c.in-Ok.ensures.up in
-    installed_step w c.args.name.now c.args.dsa c.args.image.now c.args.inv outcomes.Ok v c.of.result
+    installed_step w c.args.name.now c.args.dsa c.args.image.now c.args.inv outcomes.Ok v
     (adopts (gives w (c.args.dsa ∷ []) (c.args.inv ∷ [])) (λ r. w.replicas ++ r ∷ [])
     ∙ ap (λ x. (x, outcomes.Ok)) (begun_last w c.args.dsa c.args.inv made v up.2 up.3
     (c.begin.ensures.world ∙ ap (λ rs. record (gives w (made.safe.dsa ∷ []) (made.safe.inv ∷ [])) { book = begun w.book made.safe; replicas = rs ++ made ∷ [] }) c.reserve.ensures.items)))
-    (headed c.of.result c.in_ok-heading.heading.verb c.in_ok-heading.heading.name (codes "install") c.args.name.now outcomes.Ok c.of.ensures c.in_ok-heading.ensures)
 
 pub returns-in-Ok-clause-tidy : goal.returns-in-Ok-clause-tidy
 returns-in-Ok-clause-tidy c =
@@ -44,11 +42,10 @@ returns-in-Err-Refused-clause-stepped c =
     let w = world_of c.args.self.now in
     let o = c.in-Err-Refused.outcome in
     let un = c.in-Err-Refused.ensures.other o (ap Err c.in-Err-Refused.field-0-is) in
-    installed_step w c.args.name.now c.args.dsa c.args.image.now c.args.inv o (gives w (c.args.dsa ∷ []) (c.args.inv ∷ [])) c.of-in-Err-Refused.result
+    installed_step w c.args.name.now c.args.dsa c.args.image.now c.args.inv o (gives w (c.args.dsa ∷ []) (c.args.inv ∷ []))
     (un (gives w (c.args.dsa ∷ []) (c.args.inv ∷ [])) (λ r. w.replicas ++ r ∷ []))
-    (headed c.of-in-Err-Refused.result c.in_ok-heading.heading.verb c.in_ok-heading.heading.name (codes "install") c.args.name.now o c.of-in-Err-Refused.ensures c.in_ok-heading.ensures)
-    ∙ ap (λ (p : Past). (record w { book = p.book; given = p.given }, c.of-in-Err-Refused.result ∷ [])) (sym c.give.ensures)
-    ∙ ap (λ rs. (record w { book = c.give.new.self.book; replicas = rs; given = c.give.new.self.given }, c.of-in-Err-Refused.result ∷ [])) (sym c.reserve.ensures.items)
+    ∙ ap (λ (p : Past). told (codes "install") c.args.name.now (record w { book = p.book; given = p.given }, o)) (sym c.give.ensures)
+    ∙ ap (λ rs. told (codes "install") c.args.name.now (record w { book = c.give.new.self.book; replicas = rs; given = c.give.new.self.given }, o)) (sym c.reserve.ensures.items)
 
 pub returns-in-Err-Refused-clause-tidy : goal.returns-in-Err-Refused-clause-tidy
 returns-in-Err-Refused-clause-tidy c = record {

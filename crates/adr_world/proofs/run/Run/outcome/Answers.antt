@@ -68,6 +68,12 @@ returns-in-Collect-clause-stepped c =
 pub returns-in-Backup-clause-stepped : goal.returns-in-Backup-clause-stepped
 returns-in-Backup-clause-stepped c = line_so (world_of c.args.self.now) (world_of c.backup.new.self) c.args.event.now _ c.backup.result c.in-Backup.is c.backup.ensures.stepped
 
+pub returns-in-Restore-clause-stepped : goal.returns-in-Restore-clause-stepped
+returns-in-Restore-clause-stepped c = line_so (world_of c.args.self.now) (world_of c.restore.new.self) c.args.event.now _ c.restore.result c.in-Restore.is c.restore.ensures.stepped
+
+pub returns-in-Install-clause-stepped : goal.returns-in-Install-clause-stepped
+returns-in-Install-clause-stepped c = line_so (world_of c.args.self.now) (world_of c.install.new.self) c.args.event.now _ c.install.result c.in-Install.is c.install.ensures.stepped
+
 pub returns-in-Snapshot-clause-stepped : goal.returns-in-Snapshot-clause-stepped
 returns-in-Snapshot-clause-stepped c = line_so (world_of c.args.self.now) (world_of c.snapshot.new.self) c.args.event.now _ c.snapshot.result c.in-Snapshot.is c.snapshot.ensures.stepped
 

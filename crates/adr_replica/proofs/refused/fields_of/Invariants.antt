@@ -1,0 +1,7 @@
+use Rattle.std.proofs.Common.{◌≡◌, map, take}
+use Rattle.adr_replica.specs.Refused.{field_of}
+use Rattle.adr_replica.proofs.refused.fields_of.Given as goal
+
+-- the fields so far
+abbrev pub invariant-loop-name : goal.invariant-loop-name
+invariant-loop-name l = l.fields.items ≡ map field_of (take l.name-index l.told)
