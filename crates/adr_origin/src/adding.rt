@@ -45,7 +45,6 @@ pub fn add(
 }
 
 /// Tests that an object may be added.
-#[tactic(auto, using(crate::proofs::InParts::add_in_parts))]
 fn check_add(
     alloc: Global,
     state: &State,

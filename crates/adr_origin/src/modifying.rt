@@ -13,9 +13,10 @@ use crate::adding::own_change;
 use crate::checks::{
     check_mode, check_not_fixed, check_object, check_schema, check_usn, check_version,
 };
+use crate::new_object::values_content;
 use crate::stamps::{class_of, next_row, object_of};
 use adr_event::{Failure, WriteRefusal};
-use adr_schema::{Assignments, Content, Values, copy_values};
+use adr_schema::Assignments;
 use adr_stamp::{Oid, Unit};
 use adr_state::{Change, Item, Key, Rows, State, Update};
 use std::alloc::Global;
@@ -106,7 +107,7 @@ fn next_rows(
     let mut rows = Vec::new(alloc);
     let mut above = None;
     'attributes: while let Some((attr, list)) = values.next(above) {
-        let content = Content::Values(Values::of(copy_values(alloc, list)?));
+        let content = values_content(alloc, list)?;
         rows.push(next_row(state, object, attr, content, now))?;
         above = Some(attr);
     }

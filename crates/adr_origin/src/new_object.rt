@@ -1,11 +1,12 @@
 //! A new object, and its rows.
 
 ghost use Rattle.std.specs.Prelude.{◌≡◌, ◌++◌, IfOk, OnOk};
+ghost use Rattle.adr_schema.specs.declared.content.Content.TheVariants.{Name as named, Values as valued};
 ghost use Rattle.adr_model.specs.Write.{new_rows, row};
 ghost use Rattle.adr_origin.specs.GivenRows.{given_rows};
 
 use crate::NoMemory;
-use adr_schema::{Assignments, Content, Text, Values, copy_values};
+use adr_schema::{Assignments, Content, Text, Value, Values, copy_values};
 use adr_stamp::{LinkStamp, Oid};
 use adr_state::{CLASS, Key, NAME, Said, Update};
 use std::alloc::Global;
@@ -35,6 +36,23 @@ pub fn row(object: &Oid, stamp: &LinkStamp, attr: u16, content: Content) -> Upda
     Update::new(key, *stamp, Said::Holds(content))
 }
 
+/// A name under a parent, as the content of a row.
+pub fn name_content(alloc: Global, text: &Text, parent: Uuid) -> Result<Content, NoMemory>
+    ensures { IfOk result (λ content. content ≡ named text.now parent) }
+{
+    Ok(Content::Name {
+        text: text.copy(alloc)?,
+        parent,
+    })
+}
+
+/// Values, as the content of a row.
+pub fn values_content(alloc: Global, list: &[Value]) -> Result<Content, NoMemory>
+    ensures { IfOk result (λ content. content ≡ valued list.now) }
+{
+    Ok(Content::Values(Values::of(copy_values(alloc, list)?)))
+}
+
 /// Adds the rows of the attributes that are given values, rising.
 fn push_given(
     alloc: Global,
@@ -47,7 +65,7 @@ fn push_given(
 {
     let mut above = None;
     'attributes: while let Some((attr, list)) = values.next(above) {
-        let content = Content::Values(Values::of(copy_values(alloc, list)?));
+        let content = values_content(alloc, list)?;
         rows.push(row(object, stamp, attr, content))?;
         above = Some(attr);
     }
@@ -65,13 +83,12 @@ pub fn new_rows(
         rows.items
         ≡ new_rows object.now stamp.now new.now.class new.now.parent new.now.text.now new.now.values.now) }
 {
-    let name = Content::Name {
-        text: new.text.copy(alloc)?,
-        parent: new.parent,
-    };
-    let mut rows = Vec::new(alloc);
-    rows.push(row(object, stamp, CLASS, Content::Class(new.class)))?;
-    rows.push(row(object, stamp, NAME, name))?;
+    let name = name_content(alloc, new.text, new.parent)?;
+    let class = Content::Class(new.class);
+    let mut rows = vec![in alloc;
+        row(object, stamp, CLASS, class),
+        row(object, stamp, NAME, name),
+    ]?;
     push_given(alloc, &mut rows, object, stamp, new.values)?;
     Ok(rows)
 }

@@ -14,10 +14,11 @@ use crate::adding::own_change;
 use crate::checks::{
     check_mode, check_not_fixed, check_object, check_schema, check_usn, check_version,
 };
+use crate::new_object::name_content;
 use crate::placing::{check_new_name, check_no_loop, check_parent, check_superior};
 use crate::stamps::{class_of, next_item, object_of};
 use adr_event::{Failure, WriteRefusal};
-use adr_schema::{Content, Text, check_name};
+use adr_schema::{Text, check_name};
 use adr_stamp::Oid;
 use adr_state::{Change, Key, NAME, State};
 use std::alloc::Global;
@@ -41,10 +42,7 @@ pub fn rename(
 {
     check_rename(alloc, state, guid, parent, text)?;
     let usn = state.usn() + 1;
-    let name = Content::Name {
-        text: text.copy(alloc)?,
-        parent,
-    };
+    let name = name_content(alloc, text, parent)?;
     let object = object_of(state, guid);
     let item = next_item(alloc, state, &object, NAME, name, now)?;
     Ok(own_change(alloc, usn, item)?)

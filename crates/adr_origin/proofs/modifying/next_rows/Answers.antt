@@ -1,6 +1,6 @@
 use Rattle.std.proofs.Common.{◌∷◌, [], ◌++◌, List, None, sym, ap, ◌∙◌}
 use Rattle.adr_schema.specs.Assignments.{Given}
-use Rattle.adr_schema.specs.declared.content.Value.{Value}
+use Rattle.adr_schema.specs.declared.content.Content.{Content}
 use Rattle.adr_schema.specs.declared.content.Content.TheVariants.{Values}
 use Rattle.adr_model.specs.Update.{RowOf, Update}
 use Rattle.adr_model.specs.Write.{next_row, version_refusal}
@@ -38,7 +38,7 @@ attributes-preserved c =
           first c.attributes.invariant.rows
           (c.in_ok-push.ensures.items
           ∙ ap (λ (u : Update). c.attributes.rows.items ++ u ∷ [])
-          (c.next_row.ensures ∙ ap (λ (vs : List Value). next_row c.args.state.now c.args.now c.args.object.now c.in-Some.attr (Values vs)) (c.of.ensures ∙ c.in_ok-copy_values.ensures)));
+          (c.next_row.ensures ∙ ap (λ (content : Content). next_row c.args.state.now c.args.now c.args.object.now c.in-Some.attr content) c.in_ok-content.ensures));
       versions =
           (next_passes (λ (g : Given). version_refusal c.args.state.now.store.rows (RowOf c.args.object.now g.0) g.0) c.attributes.above c.args.values.now (c.in-Some.attr, c.in-Some.list.now)
           first c.attributes.invariant.versions).1;

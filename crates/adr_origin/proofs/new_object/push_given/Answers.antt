@@ -1,5 +1,5 @@
-use Rattle.std.proofs.Common.{◌∷◌, [], ◌++◌, List, sym, ap, ◌∙◌}
-use Rattle.adr_schema.specs.declared.content.Value.{Value}
+use Rattle.std.proofs.Common.{◌∷◌, [], ◌++◌, sym, ap, ◌∙◌}
+use Rattle.adr_schema.specs.declared.content.Content.{Content}
 use Rattle.adr_schema.specs.declared.content.Content.TheVariants.{Values}
 use Rattle.adr_schema.specs.Assignments.{Given}
 use Rattle.adr_model.specs.Update.{Update}
@@ -24,7 +24,7 @@ attributes-preserved c =
     c.attributes.invariant
     (c.in_ok-push.ensures.items
     ∙ ap (λ (u : Update). c.attributes.rows.items ++ u ∷ [])
-    (c.row.ensures ∙ ap (λ (vs : List Value). row c.args.object.now c.args.stamp.now c.in-Some.attr (Values vs)) (c.of.ensures ∙ c.in_ok-copy_values.ensures)))
+    (c.row.ensures ∙ ap (λ (content : Content). row c.args.object.now c.args.stamp.now c.in-Some.attr content) c.in_ok-content.ensures))
 
 pub returns : goal.returns
 returns c = all_written (λ (g : Given). row c.args.object.now c.args.stamp.now g.0 (Values g.1)) c.attributes.rows.items _ c.attributes.above c.args.values.now (sym c.in_default.ensures.next) c.attributes.invariant
