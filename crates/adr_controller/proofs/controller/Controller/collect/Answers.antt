@@ -1,5 +1,5 @@
 use Rattle.std.proofs.Common.{◌≡◌, sym, ◌∙◌, ap, subst, length, Result, Ok, Err}
-use Rattle.std.proofs.lemmas.Result.{err_from_is_err_and, IfOk-at_ok, IfOk-weaker}
+use Rattle.std.proofs.lemmas.Result.{IfOk-at_ok, IfOk-weaker, err_from_is_err_and}
 use Rattle.adr_failure.specs.declared.Failure.{Failure}
 use Rattle.adr_event.specs.declared.refusal.CollectRefusal.{CollectRefusal}
 use Rattle.adr_model.specs.Change.{Change}
@@ -7,8 +7,14 @@ use Rattle.adr_model.specs.Collect.{collect}
 use Rattle.adr_model.specs.Replica.{change_in}
 use Rattle.adr_controller.specs.Able.{CanCommit, collected_in}
 use Rattle.adr_law_journal.proofs.Told.{some_is}
-use Rattle.adr_controller.proofs.Calling.{unmade, failed_so}
+use Rattle.adr_controller.proofs.Calling.{failed_so, hindered_so, not_running, unmade}
 use Rattle.adr_controller.proofs.controller.Controller.collect.Goals as goal
+
+pub returns-in_err-state-clause-calls : goal.returns-in_err-state-clause-calls
+returns-in_err-state-clause-calls g c =
+    let h = c.in_err-state.field-0.0 in
+    let p = err_from_is_err_and c.from_residual.result c.from_residual.ensures.1 in
+    not_running g.K.Keeper (collected_in c.args.now c.args.lifetime) c.args.self.now h c.in_err-state.ensures.err _ (hindered_so h c.from_residual.result p.0 p.1 p.2)
 
 pub returns-in_err-change-clause-calls : goal.returns-in_err-change-clause-calls
 returns-in_err-change-clause-calls g c =

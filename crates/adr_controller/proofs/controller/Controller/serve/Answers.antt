@@ -1,4 +1,5 @@
 use Rattle.std.proofs.Common.{◌≡◌, inl, refl, sym, ◌∙◌, ap, subst, Some, Err}
+use Rattle.std.proofs.lemmas.Result.{err_from_is_err_and}
 use Rattle.std.specs.Bool.{then_some}
 use Rattle.adr_model.specs.Collect.{quarantine}
 use Rattle.adr_model.specs.Serve.{serve}
@@ -6,8 +7,14 @@ use Rattle.adr_controller.specs.declared.refusal.Hindrance.TheVariants.{NoMemory
 use Rattle.adr_controller.specs.Able.{CanCommit, request_shows, change_of_served, served_in}
 use Rattle.adr_law_journal.proofs.Told.{some_is}
 use Rattle.adr_controller.proofs.Kept.{err_same}
-use Rattle.adr_controller.proofs.Calling.{as_made, unmade}
+use Rattle.adr_controller.proofs.Calling.{as_made, hindered_so, not_running, unmade}
 use Rattle.adr_controller.proofs.controller.Controller.serve.Goals as goal
+
+pub returns-in_err-state-clause-calls : goal.returns-in_err-state-clause-calls
+returns-in_err-state-clause-calls g c =
+    let h = c.in_err-state.field-0.0 in
+    let p = err_from_is_err_and c.from_residual.result c.from_residual.ensures.1 in
+    not_running g.K.Keeper (served_in c.args.request.now) c.args.self.now h c.in_err-state.ensures.err _ (hindered_so h c.from_residual.result p.0 p.1 p.2)
 
 pub refuse_request-requires-clause-follows : goal.refuse_request-requires-clause-follows
 refuse_request-requires-clause-follows g c = λ x is shows.

@@ -1,14 +1,20 @@
 use Rattle.std.proofs.Common.{◌≡◌, inl, refl, sym, ◌∙◌, ap, subst, Some, Ok, Err}
 use Rattle.std.specs.Bool.{then_some}
-use Rattle.std.proofs.lemmas.Result.{IfOk-at_ok, IfOk-weaker}
+use Rattle.std.proofs.lemmas.Result.{IfOk-at_ok, IfOk-weaker, err_from_is_err_and}
 use Rattle.adr_model.specs.Collect.{quarantine}
 use Rattle.adr_model.specs.Take.{take}
 use Rattle.adr_controller.specs.declared.refusal.Hindrance.TheVariants.{NoMemory}
 use Rattle.adr_controller.specs.Able.{CanCommit, reply_shows, change_of_taken, taken_in}
 use Rattle.adr_law_journal.proofs.Told.{some_is}
 use Rattle.adr_controller.proofs.Kept.{err_same}
-use Rattle.adr_controller.proofs.Calling.{as_made, unmade}
+use Rattle.adr_controller.proofs.Calling.{as_made, hindered_so, not_running, unmade}
 use Rattle.adr_controller.proofs.controller.Controller.take.Goals as goal
+
+pub returns-in_err-state-clause-calls : goal.returns-in_err-state-clause-calls
+returns-in_err-state-clause-calls g c =
+    let h = c.in_err-state.field-0.0 in
+    let p = err_from_is_err_and c.from_residual.result c.from_residual.ensures.1 in
+    not_running g.K.Keeper (taken_in c.args.reply.now) c.args.self.now h c.in_err-state.ensures.err _ (hindered_so h c.from_residual.result p.0 p.1 p.2)
 
 pub conclude-concluded-requires : goal.conclude-concluded-requires
 conclude-concluded-requires g c = λ x is.

@@ -1,11 +1,17 @@
 use Rattle.std.proofs.Common.{◌≡◌, sym, ◌∙◌, subst, Ok}
-use Rattle.std.proofs.lemmas.Result.{err_from_is_err_and, IfOk-at_ok, IfOk-weaker}
+use Rattle.std.proofs.lemmas.Result.{IfOk-at_ok, IfOk-weaker, err_from_is_err_and}
 use Rattle.adr_model.specs.Step.{write_of}
 use Rattle.adr_model.specs.Write.{write}
 use Rattle.adr_controller.specs.Able.{CanCommit, written_in}
 use Rattle.adr_law_journal.proofs.Told.{at_told, some_is}
-use Rattle.adr_controller.proofs.Calling.{unmade, failed_so, write_makes, write_refuses}
+use Rattle.adr_controller.proofs.Calling.{failed_so, hindered_so, not_running, unmade, write_makes, write_refuses}
 use Rattle.adr_controller.proofs.controller.Controller.write.Goals as goal
+
+pub returns-in_err-state-clause-calls : goal.returns-in_err-state-clause-calls
+returns-in_err-state-clause-calls g c =
+    let h = c.in_err-state.field-0.0 in
+    let p = err_from_is_err_and c.from_residual.result c.from_residual.ensures.1 in
+    not_running g.K.Keeper (written_in c.args.event.now c.args.now) c.args.self.now h c.in_err-state.ensures.err _ (hindered_so h c.from_residual.result p.0 p.1 p.2)
 
 pub returns-in_err-change-clause-calls : goal.returns-in_err-change-clause-calls
 returns-in_err-change-clause-calls g c =
