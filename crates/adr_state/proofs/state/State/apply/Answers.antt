@@ -1,0 +1,33 @@
+use Rattle.std.proofs.Common.{◌≡◌, ◌∙◌, ℕ, List, Option, Some, None, refl, sym, ap, subst}
+use Rattle.std.specs.Prelude.{IfSome, unwrap_or}
+use Rattle.adr_vector.specs.Vector.{Cursors, joined, raised}
+use Rattle.adr_model.specs.Update.{Identifier}
+use Rattle.adr_model.specs.Change.{Change, after, held_of, rows_after, with_mark}
+use Rattle.adr_model.specs.Store.{Held, Kept, Mode, State}
+use Rattle.adr_state.specs.contracts.state.State.{the_view}
+use Rattle.adr_state.proofs.state.State.apply.Goals as goal
+
+-- what is made anew is what else is kept
+either : {X : Type 0} (o : Option X) (x : X) → IfSome o (λ v. v ≡ x) → unwrap_or o x ≡ x
+either None x is = refl
+either (Some v) x is = is
+
+state_is : (s : State) (change : Change) (mode : Mode) (usn : ℕ) (rows : List Held) (vector purged : Cursors) (marks : List (Identifier × Kept)) → mode ≡ change.mode → usn ≡ change.usn
+    → rows ≡ (after s change).store.rows → vector ≡ (after s change).store.vector → purged ≡ (after s change).store.purged → marks ≡ (after s change).store.marks
+    → record { dsa = s.dsa; inv = s.inv; mode = mode; store = record { schema = s.store.schema; usn = usn; rows = rows; vector = vector; purged = purged; marks = marks } } ≡ after s change
+state_is s change mode usn rows vector purged marks m u r v p k = rw m (rw u (rw r (rw v (rw p (rw k refl)))))
+
+pub returns-clause-ok : goal.returns-clause-ok
+returns-clause-ok c =
+    let change = c.args.change.now in
+    let old = c.self.inside in
+    let vector : c.renew_seen.new.vector ≡ raised (joined old.vector change.joined) old.inv change.usn =
+    c.renew_seen.ensures ∙ either c.in_ok-vector.vector _ (subst (λ (s : State). IfSome c.in_ok-vector.vector (λ seen. seen ≡ (after s change).store.vector)) (sym c.self.view_is) c.in_ok-vector.ensures.new) in
+    let purged : c.renew.new.vector ≡ joined old.purged change.purged =
+    c.renew.ensures ∙ subst (λ (s : State). unwrap_or c.in_ok-purged.purged s.store.purged ≡ (after s change).store.purged) (sym c.self.view_is) c.in_ok-purged.ensures.ok in
+    let marks : c.renew-2.new.self ≡ with_mark change.mark old.marks =
+    c.renew-2.ensures ∙ ap (λ m. unwrap_or c.in_ok-marks.marks (with_mark m old.marks)) c.mark-2.ensures
+    ∙ either c.in_ok-marks.marks _ (subst (λ m. IfSome c.in_ok-marks.marks (λ w. w ≡ with_mark m old.marks)) c.mark.ensures c.in_ok-marks.ensures.new) in
+    let rows : c.write.new.self ≡ rows_after change.removed (held_of change.writes) old.rows =
+    c.in_ok-write.ensures.ok ∙ ap (λ os. rows_after os c.in_ok-rows.rows.items old.rows) c.removed.ensures ∙ ap (λ hs. rows_after change.removed hs old.rows) c.in_ok-rows.ensures in
+    rw (← c.self.view_is) (state_is (the_view old) change _ _ _ _ _ _ c.mode-self-inside.ensures c.usn-self-inside.ensures rows vector purged marks)
