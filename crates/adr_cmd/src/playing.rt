@@ -42,5 +42,7 @@ pub fn play<K: Sink>(alloc: Global, events: &[Event], sink: &mut K) -> Result<()
     ensures failed { IsErrOf result Fault.Failed → K.faults sink.old < K.faults sink.new }
 {
     let mut world = World::new(alloc);
-    play_on(alloc, &mut world, events, sink)
+    let played = play_on(alloc, &mut world, events, sink);
+    drop(world);
+    played
 }
