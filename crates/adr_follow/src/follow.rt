@@ -1,10 +1,11 @@
 //! The whole change.
 
-ghost use Rattle.std.specs.Prelude.{◌≡◌, ◌↔◌, IfOk, IsTrue};
+ghost use Rattle.std.specs.Prelude.{◌≡◌, ◌↔◌, ◌&&◌, IfOk, IsTrue};
 ghost use Rattle.adr_model.specs.Formed.{IsFormed};
 ghost use Rattle.adr_law_formed.specs.Follow.{CanFollow, HasKnownClasses};
 ghost use Rattle.adr_law_formed.specs.Spelled.{IsSpelledChange};
 ghost use Rattle.adr_law_formed.specs.Tested.{can_follow};
+ghost use Rattle.adr_follow.specs.Parts.{are_removable, are_touched_formed, writes_follow};
 
 use crate::NoMemory;
 use crate::vectors::{are_in_order, goes_on};
@@ -34,16 +35,30 @@ fn passes(alloc: Global, state: &State, change: &Change) -> Result<bool, NoMemor
     if !goes_on(state, change) {
         return Ok(false);
     }
-    let mut told = Told::new(alloc, state.rows().table());
-    let schema = state.schema();
-    if !may_follow_in_turn(alloc, schema, state.vector(), &mut told, change.writes())? {
-        return Ok(false);
-    }
-    if !are_removable(&told, state.purged(), change) {
-        return Ok(false);
-    }
     if !are_in_order(state, change) {
         return Ok(false);
     }
-    are_touched_formed(alloc, schema, &told, change)
+    let mut told = Told::new(alloc, state.rows().table());
+    writes_pass(alloc, state, &mut told, change)
+}
+
+/// Whether the writes of a change may follow on the state's rows, its removals may, and what it touches is formed then.
+fn writes_pass(
+    alloc: Global,
+    state: &State,
+    told: &mut Told,
+    change: &Change,
+) -> Result<bool, NoMemory>
+    requires { told.old ≡ state.now.store.rows }
+    ensures { IfOk result (λ pass. pass ≡ (writes_follow state.now change.now
+        && (are_removable state.now change.now && are_touched_formed state.now change.now))) }
+{
+    let schema = state.schema();
+    if !may_follow_in_turn(alloc, schema, state.vector(), told, change.writes())? {
+        return Ok(false);
+    }
+    if !are_removable(told, state.purged(), change) {
+        return Ok(false);
+    }
+    are_touched_formed(alloc, schema, told, change)
 }
