@@ -1,6 +1,6 @@
 //! What becomes of the live objects.
 
-ghost use Rattle.std.specs.Prelude.{◌≡◌, IfOk, map};
+ghost use Rattle.std.specs.Prelude.{◌≡◌, ◌∷◌, ◌++◌, [], IfOk, OnOk, map};
 ghost use Rattle.std.specs.BTreeMap.{IsOrdered};
 ghost use Rattle.adr_stamp.specs.Order.{identifier_order};
 ghost use Rattle.adr_model.specs.Change.{rows_after};
@@ -59,18 +59,22 @@ fn edits_to(alloc: Global, drafts: &BTreeMap<Uuid, Draft<'_>>) -> Result<Vec<Edi
 {
     let mut edits = Vec::with_capacity(alloc, drafts.len())?;
     for (guid, draft) in drafts {
-        edits.push(edit_of(alloc, *guid, draft)?)?;
+        push_edit(alloc, &mut edits, *guid, draft)?;
     }
     Ok(edits)
 }
 
-/// The edit to which a draft of a GUID comes.
-fn edit_of(alloc: Global, guid: Uuid, draft: &Draft<'_>) -> Result<Edit, NoMemory>
+/// Adds the edit to which a draft of a GUID comes.
+fn push_edit(
+    alloc: Global,
+    edits: &mut Vec<Edit>,
+    guid: Uuid,
+    draft: &Draft<'_>,
+) -> Result<(), NoMemory>
     requires { AreRising draft.now }
-    ensures { IfOk result (λ edit. edit ≡ edit_of (guid, draft.now)) }
+    ensures { OnOk result (edits.new.items ≡ edits.old.items ++ edit_of (guid, draft.now) ∷ []) }
 {
-    Ok(Edit {
-        guid,
-        node: draft.node(alloc, guid)?,
-    })
+    let node = draft.node(alloc, guid)?;
+    edits.push(Edit { guid, node })?;
+    Ok(())
 }
