@@ -1,10 +1,11 @@
 //! What lines bound to names.
 
-ghost use Rattle.std.specs.Prelude.{◌≡◌, [], IsSome, OnErr, OnOk};
+ghost use Rattle.std.specs.Prelude.{◌≡◌, [], IfOk, IsSome, OnErr, OnOk};
 ghost use Rattle.std.specs.Option.{option_copied};
 ghost use Rattle.adr_model.specs.Convergence.{IsUnbound};
 ghost use Rattle.adr_model.specs.World.{bound, bound_at};
 
+use adr_event::Outcome;
 use adr_schema::{NoMemory, Text};
 use indexmap::IndexMap;
 use std::alloc::Global;
@@ -42,21 +43,28 @@ impl<M> Bindings<M> {
         self.table.get(name.as_str())
     }
 
-    /// Binds this to a name, if there is something.
-    pub fn bind(&mut self, alloc: Global, name: &Text, made: Option<M>) -> Result<(), NoMemory>
+    /// Binds what a call sent to a name, if it sent something, and gives what is answered.
+    pub fn bind(
+        &mut self,
+        alloc: Global,
+        name: &Text,
+        sent: (Outcome, Option<M>),
+    ) -> Result<Outcome, NoMemory>
     where
         M: Drop,
         requires { IsUnbound self.old name.now }
-        ensures ok { OnOk result (self.new ≡ bound self.old name.now made) }
+        ensures outcome { IfOk result (λ outcome. outcome ≡ sent.0) }
+        ensures ok { OnOk result (self.new ≡ bound self.old name.now sent.1) }
         ensures err { OnErr result (self.new ≡ self.old) }
-        ensures some { OnErr result (IsSome made) }
+        ensures some { OnErr result (IsSome sent.1) }
     {
+        let (outcome, made) = sent;
         match made {
-            None => Ok(()),
+            None => Ok(outcome),
             Some(made) => {
                 let name = String::from_str(alloc, name.as_str())?;
                 self.table.insert(name, made)?;
-                Ok(())
+                Ok(outcome)
             }
         }
     }

@@ -34,9 +34,8 @@ impl Run {
         ensures err { OnErr result (world_of self.new ≡ world_of self.old) }
         ensures tidy { IsTidy self.new }
     {
-        let (outcome, request) = self.request(alloc, name, partner, max)?;
-        self.requests.bind(alloc, bound, request)?;
-        Ok(outcome)
+        let sent = self.request(alloc, name, partner, max)?;
+        self.requests.bind(alloc, bound, sent)
     }
 
     /// What a controller that asks a partner is answered, and the request if there is one.
@@ -76,9 +75,8 @@ impl Run {
         ensures err { OnErr result (IsAllOrNone (world_of self.old) (step (world_of self.old) (Serve name.now request.now bound.now)).0 (world_of self.new)) }
         ensures tidy { IsTidy self.new }
     {
-        let (outcome, reply) = self.reply_bound(alloc, name, request)?;
-        self.replies.bind(alloc, bound, reply)?;
-        Ok(outcome)
+        let sent = self.reply_bound(alloc, name, request)?;
+        self.replies.bind(alloc, bound, sent)
     }
 
     /// What comes of a request that was bound to a name. It is read where it stands.

@@ -29,9 +29,8 @@ impl Run {
         ensures err { OnErr result (world_of self.new ≡ world_of self.old) }
         ensures tidy { IsTidy self.new }
     {
-        let (outcome, snapshot) = self.put_aside(name)?;
-        self.snapshots.bind(alloc, bound, snapshot)?;
-        Ok(outcome)
+        let sent = self.put_aside(name)?;
+        self.snapshots.bind(alloc, bound, sent)
     }
 
     /// What is answered where a controller's disk is put aside, however the controller stands, and its bytes.

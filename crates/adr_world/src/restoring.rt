@@ -31,9 +31,8 @@ impl Run {
         ensures err { OnErr result (world_of self.new ≡ world_of self.old) }
         ensures tidy { IsTidy self.new }
     {
-        let (outcome, image) = self.image(alloc, name)?;
-        self.images.bind(alloc, bound, image)?;
-        Ok(outcome)
+        let sent = self.image(alloc, name)?;
+        self.images.bind(alloc, bound, sent)
     }
 
     /// What a controller is answered that is backed up, and its image if there is one.
