@@ -1,13 +1,12 @@
 -- A reader that looks at an object again only where it was refused.
-use Rattle.std.proofs.Common.{List, ◌≡◌, ℕ, ◌≤◌, Bool, true, false, cond, Result, Ok, Err, sym, ap, ◌∙◌}
+use Rattle.std.proofs.Common.{List, ◌≡◌, ℕ, ◌≤◌, true, Result, Ok, Err, ◌∙◌}
 use Rattle.std.specs.Prelude.{is_ok}
 use Rattle.adr_schema.specs.Table.{Table}
 use Rattle.adr_failure.specs.declared.Failure.{Failure}
 use Rattle.adr_wire.specs.declared.refusal.Malformed.{Malformed}
 use Rattle.adr_stamp.specs.declared.Oid.{Oid}
-use Rattle.adr_wire.specs.Reading.{Rest, Read, GivesAs, Tells}
+use Rattle.adr_wire.specs.Reading.{Rest, Read, Tells}
 use Rattle.adr_model.specs.Write.{usn_limit}
-use Rattle.adr_wire.specs.Gathering.{is_refused_at}
 use Rattle.adr_image.specs.Image.{Rows, HeldLink, local_at, Earlier, object_with, object_at, Linked, local_and_key, link_behind, link_at}
 use Rattle.adr_wire.proofs.Gathering.{refused_not}
 use Rattle.adr_image.proofs.ImageLaws.{object_gives, seen_too}

@@ -4,6 +4,7 @@ ghost use Rattle.std.specs.Prelude.{◌≡◌, None, Some, IfOk, map};
 ghost use Rattle.std.specs.Ordering.{nat_cmp};
 ghost use Rattle.adr_law_lengths.specs.Written.{link_item, object_item, update_of};
 ghost use Rattle.adr_change.specs.Mode.{mode_of};
+ghost use Rattle.adr_model.specs.Update.{IsPresent, LinkOf};
 ghost use Rattle.adr_wire.specs.Fields.{usn_at};
 ghost use Rattle.adr_wire.specs.Pieces.{piece_at};
 ghost use Rattle.adr_wire.specs.Composites.{oid_at};
@@ -26,7 +27,7 @@ use uuid::Uuid;
 type Row = (u16, Stamp, Content);
 
 /// A row of an object, as an update.
-fn update_of(object: &Oid, row: Row) -> Update
+pub fn update_of(object: &Oid, row: Row) -> Update
     ensures { result ≡ update_of object.now row }
 {
     let (attr, stamp, content) = row;
@@ -38,6 +39,13 @@ fn update_of(object: &Oid, row: Row) -> Update
         LinkStamp { created: 0, stamp },
         Said::Holds(content),
     )
+}
+
+/// A link, as an update.
+pub fn link_update(link: &LinkItem) -> Update
+    ensures { result ≡ record { key = LinkOf link.now.0; stamp = link.now.1; said = IsPresent link.now.2 } }
+{
+    Update::new(Key::Link(link.0), link.1, Said::IsPresent(link.2))
 }
 
 /// An object with its rows, as an item.
@@ -56,7 +64,7 @@ fn link_item(alloc: Global, link: &LinkItem) -> Result<Item, NoMemory>
     ensures { IfOk result (λ item. item ≡ link_item link.now) }
 {
     let mut updates = Vec::new(alloc);
-    updates.push(Update::new(Key::Link(link.0), link.1, Said::IsPresent(link.2)))?;
+    updates.push(link_update(link))?;
     Ok(Item::new(Unit::Link(link.0), updates))
 }
 

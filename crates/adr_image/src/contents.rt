@@ -27,10 +27,15 @@ use uuid::Uuid;
 #[derive(Drop)]
 pub struct Contents {
     pub schema: Schema,
+    /// The last update sequence number that was used.
     pub usn: u64,
+    /// The rows, in order of their keys.
     pub rows: Vec<Held>,
+    /// Up to where the writes of each incarnation have been seen.
     pub vector: Vector,
+    /// What covers the births and deaths of the objects that were collected.
     pub purged: Vector,
+    /// How far each partner was read, by its controller's identifier, rising.
     pub marks: Vec<(Uuid, Kept)>,
 }
 

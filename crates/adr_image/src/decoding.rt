@@ -37,8 +37,7 @@ fn read_version(reader: &mut Reader<'_>) -> Result<u16, WireRefusal>
     ensures { Tells result reader.new (version_at reader.old) }
 {
     read_magic(reader)?;
-    let version = reader.read_u16()?;
-    Ok(version)
+    reader.read_u16()
 }
 
 /// All that stands behind the version of an image, to its end.

@@ -65,18 +65,6 @@ fn write_each(writer: &mut Writer, rows: &[Held]) -> Result<(), NoMemory>
     Ok(())
 }
 
-/// Writes an object with its rows.
-fn write_object(writer: &mut Writer, object: &Oid, rows: &[Held]) -> Result<(), NoMemory>
-    requires few { length rows.now < 2 ^ 16 }
-    requires short { All (λ row. IsShortSaid row.update.said) rows.now }
-    ensures { OnOk result (writer.new
-        ≡ writer.old ++ (oid object.now ++ (u16 (length rows.now) ++ flat_map held rows.now))) }
-{
-    writer.write_oid(object)?;
-    writer.write_u16(&(rows.len() as u16))?;
-    write_each(writer, rows)
-}
-
 /// How many rows at the front are the object's.
 fn own_rows(rows: &[Held], object: &Oid) -> usize
     ensures value { result ≡ own_rows object.now rows.now }
@@ -114,7 +102,9 @@ fn write_next_object<'a>(
     ensures others { IfOk result (λ others. others.now ≡ drop (own_rows object.now rows.now) rows.now) }
 {
     let own = own_rows(rows, object);
-    write_object(writer, object, &rows[..own])?;
+    writer.write_oid(object)?;
+    writer.write_u16(&(own as u16))?;
+    write_each(writer, &rows[..own])?;
     Ok(&rows[own..])
 }
 

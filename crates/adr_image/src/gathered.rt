@@ -8,11 +8,12 @@ ghost use Rattle.adr_image.specs.Whole.{dead_of, links_at, no_links, objects_at}
 ghost use Rattle.adr_image.specs.Seen.{GivesSeen, IsDeadToo, KeepsLinks, KeepsObjects};
 ghost use Rattle.adr_image.specs.Stored.{held_of, link_of};
 
+use crate::changes::{link_update, update_of};
 use crate::links::{HeldLink, Links};
 use crate::objects::{HeldRow, has_attr, last_of, read_object};
 use adr_schema::Schema;
-use adr_stamp::{LinkStamp, Oid};
-use adr_update::{DELETED, Held, Key, LINK_LIMIT, NoMemory, OBJECT_LIMIT, Said, Update};
+use adr_stamp::Oid;
+use adr_update::{DELETED, Held, LINK_LIMIT, NoMemory, OBJECT_LIMIT};
 use adr_wire::{Failure, Malformed, Reader, WireRefusal};
 use std::alloc::Global;
 use std::collections::BTreeSet;
@@ -31,16 +32,8 @@ pub struct Objects {
 fn held_row(object: &Oid, row: HeldRow) -> Held
     ensures { result ≡ held_of object.now row }
 {
-    let (local, (attr, stamp, content)) = row;
-    let update = Update::new(
-        Key::Row {
-            object: *object,
-            attr,
-        },
-        LinkStamp { created: 0, stamp },
-        Said::Holds(content),
-    );
-    Held::new(update, local)
+    let (local, row) = row;
+    Held::new(update_of(object, row), local)
 }
 
 /// Adds the rows of an object to others.
@@ -147,8 +140,7 @@ pub fn read_objects(
 fn held_link(link: &HeldLink) -> Held
     ensures { result ≡ link_of link.now }
 {
-    let update = Update::new(Key::Link(link.1.0), link.1.1, Said::IsPresent(link.1.2));
-    Held::new(update, link.0)
+    Held::new(link_update(&link.1), link.0)
 }
 
 impl Links {

@@ -71,7 +71,7 @@ fn an_image_is_read_and_written_again(rt: HostRuntime) -> Result<(), Fail> {
     let bytes = image(alloc)?;
     assert_eq!(rt; bytes.len(), 563);
     let read = decode(alloc, &bytes)?;
-    assert_eq!(rt; read.rows().len(), 5);
+    assert_eq!(rt; read.contents().rows.len(), 5);
     let written = encode(alloc, read.contents())?;
     assert_eq!(rt; written.as_slice(), bytes.as_slice());
     Ok(())
