@@ -1,6 +1,6 @@
 //! What a state says, as an image.
 
-ghost use Rattle.std.specs.Prelude.{◌≡◌, [], ◌∷◌, ◌++◌, IfOk, OnOk, length};
+ghost use Rattle.std.specs.Prelude.{◌≡◌, IfOk, length};
 ghost use Rattle.adr_update.specs.Referents.{referents};
 ghost use Rattle.adr_model.specs.Lengths.{image_length};
 ghost use Rattle.adr_image.specs.Stored.{image};
@@ -11,21 +11,13 @@ use adr_image::{Contents, encode};
 use adr_state::{Held, State};
 use std::alloc::Global;
 
-/// An equal row, behind the others.
-fn push_copy(alloc: Global, copy: &mut Vec<Held>, row: &Held) -> Result<(), NoMemory>
-    ensures { OnOk result (copy.new.items ≡ copy.old.items ++ row.now ∷ []) }
-{
-    copy.push(row.copy(alloc)?)?;
-    Ok(())
-}
-
 /// Equal rows, in their order.
 fn copy_rows(alloc: Global, rows: &[&Held]) -> Result<Vec<Held>, NoMemory>
     ensures { IfOk result (λ copy. copy.items ≡ referents rows.now) }
 {
     let mut copy = Vec::new(alloc);
     for row in rows {
-        push_copy(alloc, &mut copy, row)?;
+        copy.push(row.copy(alloc)?)?;
     }
     Ok(copy)
 }
