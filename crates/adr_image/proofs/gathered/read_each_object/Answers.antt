@@ -1,9 +1,15 @@
+use Rattle.std.proofs.Common.{refl}
 use Rattle.std.proofs.lemmas.Result.{err_from_is_err_and}
 use Rattle.adr_wire.specs.Gathering.{gathered_at}
 use Rattle.adr_image.specs.Image.{no_objects, with_rows, object_at}
 use Rattle.adr_image.specs.Seen.{KeepsObjects}
-use Rattle.adr_image.proofs.Keeping.{goes_further, breaks_off}
+use Rattle.adr_image.proofs.Keeping.{sets_out, goes_further, breaks_off, arrives}
 use Rattle.adr_image.proofs.gathered.read_each_object.Goals as goal
+
+pub loop-init : goal.loop-init
+loop-init c =
+    sets_out with_rows (object_at c.args.usn c.args.schema.now) no_objects KeepsObjects c.args.count
+    (gathered_at with_rows (object_at c.args.usn c.args.schema.now) c.args.count no_objects c.args.reader.now) c.new-objects.result c.args.reader.now c.new-objects.ensures refl
 
 pub returns-in_err-read_next : goal.returns-in_err-read_next
 returns-in_err-read_next c =
@@ -16,3 +22,8 @@ pub loop-preserved : goal.loop-preserved
 loop-preserved c =
     goes_further with_rows (object_at c.args.usn c.args.schema.now) no_objects KeepsObjects c.args.count (gathered_at with_rows (object_at c.args.usn c.args.schema.now) c.args.count no_objects c.args.reader.now)
     c.loop.counter c.loop.objects c.read_next.new.self c.loop.reader c.read_next.new.reader c.loop-test.true c.loop.invariant (λ os h. c.in_ok-read_next.ensures os h)
+
+pub returns : goal.returns
+returns c =
+    arrives with_rows (object_at c.args.usn c.args.schema.now) no_objects KeepsObjects c.args.count (gathered_at with_rows (object_at c.args.usn c.args.schema.now) c.args.count no_objects c.args.reader.now)
+    c.loop.counter c.loop.objects c.loop.reader c.loop-test.false c.loop.invariant
