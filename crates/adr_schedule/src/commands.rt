@@ -3,7 +3,7 @@
 ghost use Rattle.std.specs.Prelude.{◌≡◌, ◌==◌, ◌<◌, ◌≤◌, ℕ, List, length, Some, None};
 ghost use Rattle.adr_token.specs.Gives.{Gives, Answers, bad};
 ghost use Rattle.adr_token.specs.Words.{ended, unspaced};
-ghost use Rattle.adr_schedule.specs.Commands.{add_line, ask_line, binding_line, bound_at, by_verb, calls_at, collect_line, controller_line, crash_at, delete_line, deliver_line, event_of, fail_line, install_line, is_passed, limit_at, link_line, modify_line, name_line, pull_line, rename_line, restore_line, rollback_line, serve_line, stop_after, stop_line, time_line};
+ghost use Rattle.adr_schedule.specs.Commands.{add_line, ask_line, binding_line, bound_at, by_verb, calls_at, collect_line, controller_line, copied, crash_at, delete_line, event_of, fail_line, install_line, is_passed, limit_at, link_line, linked, modify_line, name_line, named, pull_line, pulled, rename_line, restore_line, serve_line, stop_after, stop_line, time_line, use_line, used};
 
 use crate::crashes::crash_of;
 use crate::limits::{ASK_LIMIT, PLAN_LIMIT};
@@ -28,25 +28,62 @@ fn ended<T: Drop>(line: &Line<'_>, value: T) -> Result<T, Stop>
     }
 }
 
-/// NAME
+/// NAME, behind one of four verbs.
 #[tactic(auto, unfolding(crate::specs::Commands::name_line))]
-fn name(alloc: Global, line: &mut Line<'_>) -> Result<Text, Stop>
-    ensures { Answers result (name_line line.old) }
+fn named(alloc: Global, verb: Verb, line: &mut Line<'_>) -> Result<Event, Stop>
+    ensures { Answers result (name_line verb line.old) }
 {
     let name = line.name(alloc)?;
-    ended(line, name)
+    let event = match verb {
+        Verb::Start => Event::Start { name },
+        Verb::Show => Event::Show { name },
+        Verb::Vector => Event::Vector { name },
+        _ => Event::Marks { name },
+    };
+    ended(line, event)
 }
 
-/// NAME ID ATTR ID
+/// NAME NAME, behind `deliver` or `rollback`.
+#[tactic(auto, unfolding(crate::specs::Commands::use_line))]
+fn used(alloc: Global, verb: Verb, line: &mut Line<'_>) -> Result<Event, Stop>
+    ensures { Answers result (use_line verb line.old) }
+{
+    let name = line.name(alloc)?;
+    let other = line.name(alloc)?;
+    let event = match verb {
+        Verb::Deliver => Event::Deliver { name, reply: other },
+        _ => Event::Rollback {
+            name,
+            snapshot: other,
+        },
+    };
+    ended(line, event)
+}
+
+/// NAME ID ATTR ID, behind `link` or `unlink`.
 #[tactic(auto, unfolding(crate::specs::Commands::link_line))]
-fn link(alloc: Global, line: &mut Line<'_>) -> Result<(Text, Uuid, u16, Uuid), Stop>
-    ensures { Answers result (link_line line.old) }
+fn linked(alloc: Global, verb: Verb, line: &mut Line<'_>) -> Result<Event, Stop>
+    ensures { Answers result (link_line verb line.old) }
 {
     let name = line.name(alloc)?;
     let from = line.identifier()?;
     let attr = line.attribute()?;
     let to = line.identifier()?;
-    ended(line, (name, from, attr, to))
+    let event = match verb {
+        Verb::Link => Event::Link {
+            name,
+            from,
+            attr,
+            to,
+        },
+        _ => Event::Unlink {
+            name,
+            from,
+            attr,
+            to,
+        },
+    };
+    ended(line, event)
 }
 
 /// MAX: how many items are asked for.
@@ -62,15 +99,19 @@ fn limit(line: &mut Line<'_>) -> Result<u32, Stop>
     }
 }
 
-/// NAME NAME MAX
+/// NAME NAME MAX, behind `pull` or `cycle`.
 #[tactic(auto, unfolding(crate::specs::Commands::pull_line))]
-fn pull(alloc: Global, line: &mut Line<'_>) -> Result<(Text, Text, u32), Stop>
-    ensures { Answers result (pull_line line.old) }
+fn pulled(alloc: Global, verb: Verb, line: &mut Line<'_>) -> Result<Event, Stop>
+    ensures { Answers result (pull_line verb line.old) }
 {
     let name = line.name(alloc)?;
     let source = line.name(alloc)?;
     let max = limit(line)?;
-    ended(line, (name, source, max))
+    let event = match verb {
+        Verb::Pull => Event::Pull { name, source, max },
+        _ => Event::Cycle { name, source, max },
+    };
+    ended(line, event)
 }
 
 /// The name that the line binds, behind `as`.
@@ -82,14 +123,18 @@ fn bound(alloc: Global, line: &mut Line<'_>) -> Result<Text, Stop>
     line.name(alloc)
 }
 
-/// NAME as NAME
+/// NAME as NAME, behind `backup` or `snapshot`.
 #[tactic(auto, unfolding(crate::specs::Commands::binding_line))]
-fn binding(alloc: Global, line: &mut Line<'_>) -> Result<(Text, Text), Stop>
-    ensures { Answers result (binding_line line.old) }
+fn copied(alloc: Global, verb: Verb, line: &mut Line<'_>) -> Result<Event, Stop>
+    ensures { Answers result (binding_line verb line.old) }
 {
     let name = line.name(alloc)?;
     let bound = bound(alloc, line)?;
-    ended(line, (name, bound))
+    let event = match verb {
+        Verb::Backup => Event::Backup { name, bound },
+        _ => Event::Snapshot { name, bound },
+    };
+    ended(line, event)
 }
 
 #[tactic(auto, unfolding(crate::specs::Commands::controller_line))]
@@ -209,15 +254,6 @@ fn serve(alloc: Global, line: &mut Line<'_>) -> Result<Event, Stop>
     )
 }
 
-#[tactic(auto, unfolding(crate::specs::Commands::deliver_line))]
-fn deliver(alloc: Global, line: &mut Line<'_>) -> Result<Event, Stop>
-    ensures { Answers result (deliver_line line.old) }
-{
-    let name = line.name(alloc)?;
-    let reply = line.name(alloc)?;
-    ended(line, Event::Deliver { name, reply })
-}
-
 #[tactic(auto, unfolding(crate::specs::Commands::collect_line))]
 fn collect(alloc: Global, line: &mut Line<'_>) -> Result<Event, Stop>
     ensures { Answers result (collect_line line.old) }
@@ -254,15 +290,6 @@ fn install(alloc: Global, line: &mut Line<'_>) -> Result<Event, Stop>
             inv,
         },
     )
-}
-
-#[tactic(auto, unfolding(crate::specs::Commands::rollback_line))]
-fn rollback(alloc: Global, line: &mut Line<'_>) -> Result<Event, Stop>
-    ensures { Answers result (rollback_line line.old) }
-{
-    let name = line.name(alloc)?;
-    let snapshot = line.name(alloc)?;
-    ended(line, Event::Rollback { name, snapshot })
 }
 
 /// NUM, behind `after`: how many device calls a plan lets pass.
@@ -333,61 +360,18 @@ fn by_verb(alloc: Global, verb: Verb, line: &mut Line<'_>) -> Result<Event, Stop
         Verb::Modify => modify(alloc, line),
         Verb::Rename => rename(alloc, line),
         Verb::Delete => delete(alloc, line),
-        Verb::Link => {
-            let (name, from, attr, to) = link(alloc, line)?;
-            Ok(Event::Link {
-                name,
-                from,
-                attr,
-                to,
-            })
-        }
-        Verb::Unlink => {
-            let (name, from, attr, to) = link(alloc, line)?;
-            Ok(Event::Unlink {
-                name,
-                from,
-                attr,
-                to,
-            })
-        }
+        Verb::Link | Verb::Unlink => linked(alloc, verb, line),
         Verb::Ask => ask(alloc, line),
         Verb::Serve => serve(alloc, line),
-        Verb::Deliver => deliver(alloc, line),
-        Verb::Pull => {
-            let (name, source, max) = pull(alloc, line)?;
-            Ok(Event::Pull { name, source, max })
-        }
-        Verb::Cycle => {
-            let (name, source, max) = pull(alloc, line)?;
-            Ok(Event::Cycle { name, source, max })
-        }
+        Verb::Deliver | Verb::Rollback => used(alloc, verb, line),
+        Verb::Pull | Verb::Cycle => pulled(alloc, verb, line),
         Verb::Collect => collect(alloc, line),
-        Verb::Backup => {
-            let (name, bound) = binding(alloc, line)?;
-            Ok(Event::Backup { name, bound })
-        }
+        Verb::Backup | Verb::Snapshot => copied(alloc, verb, line),
         Verb::Restore => restore(alloc, line),
         Verb::Install => install(alloc, line),
-        Verb::Snapshot => {
-            let (name, bound) = binding(alloc, line)?;
-            Ok(Event::Snapshot { name, bound })
-        }
-        Verb::Rollback => rollback(alloc, line),
         Verb::Stop => stop(alloc, line),
         Verb::Fail => fail(alloc, line),
-        Verb::Start => Ok(Event::Start {
-            name: name(alloc, line)?,
-        }),
-        Verb::Show => Ok(Event::Show {
-            name: name(alloc, line)?,
-        }),
-        Verb::Vector => Ok(Event::Vector {
-            name: name(alloc, line)?,
-        }),
-        Verb::Marks => Ok(Event::Marks {
-            name: name(alloc, line)?,
-        }),
+        Verb::Start | Verb::Show | Verb::Vector | Verb::Marks => named(alloc, verb, line),
     }
 }
 

@@ -1,7 +1,7 @@
 //! Why a text is no schedule.
 
 /// What is wrong with a line.
-#[derive(Clone, Copy, PartialEq, Eq)]
+#[derive(Clone, Copy)]
 pub enum Cause {
     NotUtf8,
     /// The line is outside the grammar.
@@ -19,7 +19,7 @@ pub enum Cause {
 }
 
 /// The first bad line of a text, from 1; 0 stands for the text as a whole.
-#[derive(Clone, Copy, PartialEq, Eq)]
+#[derive(Clone, Copy)]
 pub struct ScheduleFault {
     pub line: u32,
     pub cause: Cause,

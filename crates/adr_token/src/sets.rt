@@ -56,10 +56,12 @@ fn some_octets(alloc: Global, figures: &[u8]) -> Result<Octets, Stop>
 fn flag_of(token: &[u8]) -> Option<bool>
     ensures { result ≡ flag_of token.now }
 {
-    match token {
-        b"true" => Some(true),
-        b"false" => Some(false),
-        _ => None,
+    if token == b"true".as_slice() {
+        Some(true)
+    } else if token == b"false".as_slice() {
+        Some(false)
+    } else {
+        None
     }
 }
 
