@@ -1,2 +1,3 @@
 mod Deciding
 mod Standings
+mod Items

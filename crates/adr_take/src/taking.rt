@@ -56,7 +56,6 @@ impl<'a> Taking<'a> {
     }
 
     /// Takes one item, which is judged against what the items before it left, with the vector of the start.
-    #[tactic(auto, using(adr_model::proofs::Firsts::first_of_two))]
     pub fn take_item(
         &mut self,
         alloc: Global,
