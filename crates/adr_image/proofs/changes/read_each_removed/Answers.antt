@@ -2,7 +2,7 @@ use Rattle.std.proofs.Common.{None, Some, ap, ◌∙◌, ◌++◌, ◌∷◌, []
 use Rattle.std.proofs.lemmas.Result.{err_from_is_err_and}
 use Rattle.adr_wire.specs.Composites.{oid_at}
 use Rattle.adr_wire.specs.Reading.{elements_at}
-use Rattle.adr_wire.proofs.Loops.{with_front, any_last, goes_on, ends, names_refuses}
+use Rattle.adr_wire.proofs.Loops.{with_front, any_last, goes_on, ends, is_done, names_refuses}
 use Rattle.adr_image.specs.Body.{one_name}
 use Rattle.adr_image.proofs.changes.read_each_removed.Goals as goal
 
@@ -19,3 +19,8 @@ loop-preserved c =
     (ap (with_front (c.loop.removed.items ++ c.in_ok-object.object ∷ [])) (any_last one_name oid_at (c.args.count - (c.loop.counter + 1)) None (Some tt) c.read_oid.new.self)
     ∙ goes_on one_name (λ _. oid_at) c.loop.removed.items c.args.count c.loop.counter None c.loop.reader (elements_at one_name (λ _. oid_at) c.args.count None c.args.reader.now)
     c.in_ok-object.object c.read_oid.new.self c.loop-test.true c.in_ok-object.ensures c.loop.invariant)
+
+pub returns : goal.returns
+returns c =
+    is_done one_name (λ _. oid_at) c.loop.removed.items c.args.count c.loop.counter None c.loop.reader (elements_at one_name (λ _. oid_at) c.args.count None c.args.reader.now)
+    c.loop-test.false c.loop.invariant

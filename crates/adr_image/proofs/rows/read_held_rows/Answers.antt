@@ -1,7 +1,7 @@
 use Rattle.std.proofs.lemmas.Result.{err_from_is_err_and}
 use Rattle.adr_wire.specs.Gathering.{gathered_at}
 use Rattle.adr_image.specs.Image.{local_at, held_row_at, with_held, no_rows}
-use Rattle.adr_wire.proofs.Gathering.{goes_on, ends}
+use Rattle.adr_wire.proofs.Gathering.{goes_on, ends, is_done}
 use Rattle.adr_image.proofs.rows.read_held_rows.Goals as goal
 
 pub returns-in_err-row : goal.returns-in_err-row
@@ -18,3 +18,9 @@ loop-preserved c =
     (goes_on with_held (held_row_at (local_at c.args.usn) c.args.owner c.args.schema.now c.args.oid.now) c.loop.rows.items c.args.count c.loop.counter c.loop.before c.loop.reader
     (gathered_at with_held (held_row_at (local_at c.args.usn) c.args.owner c.args.schema.now c.args.oid.now) c.args.count no_rows c.args.reader.now)
     c.in_ok-row.row c.read_held_row.new.reader c.loop-test.true c.in_ok-row.ensures c.loop.invariant)
+
+pub returns : goal.returns
+returns c =
+    is_done with_held (held_row_at (local_at c.args.usn) c.args.owner c.args.schema.now c.args.oid.now) c.loop.rows.items c.args.count c.loop.counter c.loop.before c.loop.reader
+    (gathered_at with_held (held_row_at (local_at c.args.usn) c.args.owner c.args.schema.now c.args.oid.now) c.args.count no_rows c.args.reader.now)
+    c.loop-test.false c.loop.invariant
