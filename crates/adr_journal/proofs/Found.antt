@@ -1,5 +1,6 @@
 -- What is found, by other words.
-use Rattle.std.proofs.Common.{◌≡◌, inl, inr, ⊎_elim, ℕ, ◌+◌, ◌≤◌, List, [], ◌∷◌, length, Option, Some, Ok, IfSome, refl, sym, ◌∙◌, ap, subst, arith, length-append}
+use Rattle.std.proofs.Common.{◌≡◌, inl, inr, ⊎_elim, ℕ, ◌+◌, ◌≤◌, List, [], ◌∷◌, length, Option, Some, None, Ok, IfSome, refl, sym, ◌∙◌, ap, subst, arith, length-append}
+use Rattle.std.specs.Prelude.{◌↔◌, IsSome}
 use Rattle.std.specs.Option.{ForSome, option_map}
 use Rattle.std.proofs.lemmas.Option.{IfSome_then}
 use Rattle.adr_disk.specs.Disk.{Among, Elapses, Keeps, LeavesOnly}
@@ -34,6 +35,13 @@ same_keeps content may_leave moment left_since d = record {
   past_stays = λ t x h. h;
   past_kept = λ t x h. h;
 }
+
+-- what is found is told where the bytes are
+pub told_as : {A B : Type 0} (f : A → B) (o p : Option A) → (IsSome o ↔ IsSome p) → IsSome (option_map f o) ↔ IsSome (option_map f p)
+told_as f None None both = both
+told_as f None (Some y) both = absurd (cc (both.1 refl))
+told_as f (Some x) None both = absurd (cc (both.0 refl))
+told_as f (Some x) (Some y) both = (λ is. refl, λ is. refl)
 
 -- ---- a sync, and calls that change nothing behind it
 

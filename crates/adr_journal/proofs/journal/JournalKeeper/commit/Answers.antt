@@ -1,6 +1,7 @@
 use Rattle.std.proofs.Common.{◌≤◌, ℕ, ◌+◌, List, length, sym, ◌∙◌, ap, subst, arith, length-append, ◌∷◌}
 use Rattle.adr_model.specs.Lengths.{log_limit}
-use Rattle.adr_journal.proofs.Found.{takes, taken_at, either_moments, either_left}
+use Rattle.adr_law_journal.specs.Log.{start_of}
+use Rattle.adr_journal.proofs.Found.{takes, taken_at, told_as, either_moments, either_left}
 use Rattle.adr_journal.proofs.journal.JournalKeeper.commit.Goals as goal
 
 pub write_record-requires-clause-within : goal.write_record-requires-clause-within
@@ -68,3 +69,9 @@ returns-in-Err-clause-left g c = λ f0 at can.
     d.moment d.left_since (record (c.args.self.now) { disk = c.write_record.new.disk }) (c.write_record.ensures.left f.head f.following f0.state _ (f.body_of change)
     (takes f.head f.following (λ j. j.disk) d.content d.may_leave c.args.self.now c.args.self.now.end c.deref.result.now f0 change (f.body_of change) (at c.requires.up) (c.deref.ensures.value ∙ c.requires.prepared.is)
     (subst (λ (l : List ℕ). c.args.self.now.end + length l ≤ log_limit) (sym c.deref.ensures.value) c.requires.prepared.room) (law.body_follows f0.state change can) (law.body_length f0.state change can)))
+
+pub returns-in-Ok-clause-told : goal.returns-in-Ok-clause-told
+returns-in-Ok-clause-told g c = told_as (start_of g.F.Form.head g.F.Form.following) (g.D.Disk.content c.write_record.new.disk) (g.D.Disk.content c.args.self.now.disk) c.write_record.ensures.told
+
+pub returns-in-Err-clause-told : goal.returns-in-Err-clause-told
+returns-in-Err-clause-told g c = told_as (start_of g.F.Form.head g.F.Form.following) (g.D.Disk.content c.write_record.new.disk) (g.D.Disk.content c.args.self.now.disk) c.write_record.ensures.told
