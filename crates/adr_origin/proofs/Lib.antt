@@ -6,3 +6,4 @@ mod Living
 mod Superiors
 mod Versions
 mod LinkInParts
+mod Writes

@@ -1,0 +1,18 @@
+-- What a write gives that is not refused: the change of its rows.
+use Rattle.std.proofs.Common.{◌≡◌, ℕ, ◌+◌, [], ◌∷◌, None, Ok, ap, sym, ◌∙◌}
+use Rattle.std.specs.Prelude.{Option}
+use Rattle.adr_event.specs.declared.refusal.WriteRefusal.{WriteRefusal}
+use Rattle.adr_model.specs.Change.{Change, Item, only_writes}
+use Rattle.adr_model.specs.Refusing.{unless}
+use Rattle.adr_model.specs.Store.{State}
+use Rattle.adr_model.specs.Write.{Write, items_written, own_change, rows_written, write, write_refusal}
+
+pub passed : (s : State) (w : Write) (now : ℕ) (d : Change) (usn : ℕ) (item : Item) → write_refusal s w ≡ None → usn ≡ s.store.usn + 1 → item ≡ rows_written s w now
+    → d ≡ only_writes usn (record { local = usn; item = item } ∷ []) → write s w now ≡ Ok d
+passed s w now d usn item none next written is =
+    ap (λ (r : Option WriteRefusal). unless r (own_change s (items_written s w now))) none
+    ∙ ap (λ (c : Change). Ok c)
+    (sym
+    (is
+    ∙ (ap (λ (n : ℕ). only_writes n (record { local = n; item = item } ∷ [])) next
+    ∙ ap (λ (i : Item). only_writes (s.store.usn + 1) (record { local = s.store.usn + 1; item = i } ∷ [])) written)))
