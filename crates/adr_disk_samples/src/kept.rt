@@ -28,7 +28,7 @@ fn new_state(alloc: Global) -> State
 }
 
 /// Begins to keep the new controller.
-pub fn begin<K: Keeper + Drop>(alloc: Global, keeper: K) -> Result<Controller<K>, K>
+fn begin<K: Keeper + Drop>(alloc: Global, keeper: K) -> Result<Controller<K>, K>
     requires takes { TakesAll K.Keeper }
     requires empty { K.is_empty keeper }
 {
@@ -56,11 +56,19 @@ fn addition(alloc: Global) -> Result<Event, NoMemory>
 }
 
 /// Adds the container at the time 0, and tells whether it is acknowledged.
-pub fn add<K: Keeper>(alloc: Global, controller: &mut Controller<K>) -> Result<bool, NoMemory>
+fn add<K: Keeper>(alloc: Global, controller: &mut Controller<K>) -> Result<bool, NoMemory>
     requires { TakesAll K.Keeper }
 {
     let event = addition(alloc)?;
     Ok(controller.write(alloc, &event, 0).is_ok())
+}
+
+/// The USN of a controller that answers.
+fn usn_of<K: Keeper>(controller: &Controller<K>) -> Finding {
+    match controller.state() {
+        Some(state) => Finding::Usn(state.usn()),
+        None => Finding::Nothing,
+    }
 }
 
 /// What a start finds.
@@ -77,10 +85,11 @@ pub enum Finding {
 /// Starts a keeper.
 pub fn start<K: Keeper + Drop>(keeper: K) -> Finding {
     match Controller::resume(keeper) {
-        Ok(controller) => match controller.state() {
-            Some(state) => Finding::Usn(state.usn()),
-            None => Finding::Nothing,
-        },
+        Ok(controller) => {
+            let found = usn_of(&controller);
+            drop(controller.into_keeper());
+            found
+        }
         Err((StartRefusal::Damaged { place }, _)) => Finding::Damage(place),
         Err(_) => Finding::Nothing,
     }
@@ -112,24 +121,31 @@ pub fn format<K: PlannedKeeper + Drop>(alloc: Global, keeper: K, how: Crash) -> 
     }
 }
 
-/// Adds the container where a call meets a mishap, and tells whether it is acknowledged; then what a start finds behind a
-/// crash.
+/// Begins and adds the container where a call meets a mishap, and tells whether that is acknowledged; then what a start
+/// finds behind a crash. None where it can't begin.
 pub fn commit<K: PlannedKeeper + Drop>(
     alloc: Global,
-    mut controller: Controller<K>,
+    keeper: K,
     calls: u32,
     mishap: Mishap,
     how: Crash,
-) -> Result<(bool, Finding), NoMemory>
-    requires { TakesAll K.Keeper }
+) -> Result<Option<(bool, Finding)>, NoMemory>
+    requires takes { TakesAll K.Keeper }
+    requires empty { K.is_empty keeper }
 {
-    plan(&mut controller, calls, mishap);
-    let done = add(alloc, &mut controller)?;
-    Ok((done, start_behind(controller.into_keeper(), how)))
+    match begin(alloc, keeper) {
+        Ok(mut controller) => {
+            plan(&mut controller, calls, mishap);
+            let done = add(alloc, &mut controller);
+            let found = start_behind(controller.into_keeper(), how);
+            Ok(Some((done?, found)))
+        }
+        Err(_) => Ok(None),
+    }
 }
 
 /// Starts where a call meets a mishap, and tells whether it could; then what a start finds behind a crash.
-pub fn start_again<K: PlannedKeeper + Drop>(
+fn start_again<K: PlannedKeeper + Drop>(
     mut controller: Controller<K>,
     calls: u32,
     mishap: Mishap,
@@ -142,7 +158,74 @@ pub fn start_again<K: PlannedKeeper + Drop>(
     }
 }
 
-/// The bytes on its disk.
-pub fn bytes_of<K: PlannedKeeper>(controller: &Controller<K>) -> Result<Vec<u8>, NoMemory> {
-    controller.bytes()
+/// Begins, adds the container, and starts where a call meets a mishap: whether it could, and what a start finds behind a
+/// crash. None where it can't begin, or the container isn't acknowledged.
+pub fn add_and_start<K: PlannedKeeper + Drop>(
+    alloc: Global,
+    keeper: K,
+    calls: u32,
+    mishap: Mishap,
+    how: Crash,
+) -> Result<Option<(bool, Finding)>, NoMemory>
+    requires takes { TakesAll K.Keeper }
+    requires empty { K.is_empty keeper }
+{
+    match begin(alloc, keeper) {
+        Ok(mut controller) => {
+            let added = add(alloc, &mut controller);
+            let ended = start_again(controller, calls, mishap, how);
+            Ok(if added? { Some(ended) } else { None })
+        }
+        Err(_) => Ok(None),
+    }
+}
+
+/// Begins, adds the container, and finds what a start does.
+pub fn run<K: Keeper + Drop>(alloc: Global, keeper: K) -> Result<Finding, NoMemory>
+    requires takes { TakesAll K.Keeper }
+    requires empty { K.is_empty keeper }
+{
+    match begin(alloc, keeper) {
+        Ok(mut controller) => {
+            let added = add(alloc, &mut controller);
+            let found = start(controller.into_keeper());
+            added?;
+            Ok(found)
+        }
+        Err(_) => Ok(Finding::Nothing),
+    }
+}
+
+/// The bytes on a disk, and those behind the addition of the container; none where that isn't acknowledged.
+fn bytes_added<K: PlannedKeeper>(
+    alloc: Global,
+    controller: &mut Controller<K>,
+) -> Result<Option<(Vec<u8>, Vec<u8>)>, NoMemory>
+    requires { TakesAll K.Keeper }
+{
+    let before = controller.bytes()?;
+    if !add(alloc, controller)? {
+        return Ok(None);
+    }
+    let after = controller.bytes()?;
+    Ok(Some((before, after)))
+}
+
+/// The bytes on the disk of a new controller, and those behind the addition of the container; none where it can't begin,
+/// or that isn't acknowledged.
+pub fn bytes_of<K: PlannedKeeper + Drop>(
+    alloc: Global,
+    keeper: K,
+) -> Result<Option<(Vec<u8>, Vec<u8>)>, NoMemory>
+    requires takes { TakesAll K.Keeper }
+    requires empty { K.is_empty keeper }
+{
+    match begin(alloc, keeper) {
+        Ok(mut controller) => {
+            let bytes = bytes_added(alloc, &mut controller);
+            drop(controller.into_keeper());
+            bytes
+        }
+        Err(_) => Ok(None),
+    }
 }

@@ -3,8 +3,8 @@
 ghost use Rattle.std.specs.Prelude.{◌≡◌};
 ghost use Rattle.adr_disk_samples.specs.Takes.{TakesAll};
 
-use crate::kept::{Finding, Mishap, add, begin, format, start};
-use adr_controller::{Controller, Keeper};
+use crate::kept::{Finding, Mishap, add_and_start, bytes_of, commit, format, run, start};
+use adr_controller::Keeper;
 use adr_disk::{Crash, MemDisk};
 use adr_journal::{Journal, Plain};
 use adr_law_recorded::{
@@ -63,10 +63,34 @@ pub fn format_log(alloc: Global, calls: u32, mishap: Mishap, how: Crash) -> (boo
     format(alloc, planned(alloc, calls, mishap), how)
 }
 
-/// A new controller on a disk in memory.
-pub fn new_controller(alloc: Global) -> Option<Controller<Log>> {
+/// Begins on a disk in memory and adds the container where a call meets a mishap: whether that is acknowledged, and what a
+/// start finds behind a crash.
+pub fn commit_log(
+    alloc: Global,
+    calls: u32,
+    mishap: Mishap,
+    how: Crash,
+) -> Result<Option<(bool, Finding)>, NoMemory> {
     logs_take_all();
-    begin(alloc, Journal::in_memory(alloc)).ok()
+    commit(alloc, Log::in_memory(alloc), calls, mishap, how)
+}
+
+/// Begins on a disk in memory, adds the container, and starts where a call meets a mishap: whether it could, and what a
+/// start finds behind a crash.
+pub fn start_log(
+    alloc: Global,
+    calls: u32,
+    mishap: Mishap,
+    how: Crash,
+) -> Result<Option<(bool, Finding)>, NoMemory> {
+    logs_take_all();
+    add_and_start(alloc, Log::in_memory(alloc), calls, mishap, how)
+}
+
+/// The bytes of a new log in memory, and those behind the addition of the container.
+pub fn log_bytes(alloc: Global) -> Result<Option<(Vec<u8>, Vec<u8>)>, NoMemory> {
+    logs_take_all();
+    bytes_of(alloc, Log::in_memory(alloc))
 }
 
 /// Starts a log of these bytes.
@@ -78,11 +102,5 @@ pub fn start_of(alloc: Global, bytes: Vec<u8>) -> Result<Finding, NoMemory> {
 /// Adds the container to a new controller in memory alone, and starts it.
 pub fn run_plain(alloc: Global) -> Result<Finding, NoMemory> {
     plain_logs_take_all();
-    match begin(alloc, Plain::<Records>::new(alloc)) {
-        Ok(mut controller) => {
-            add(alloc, &mut controller)?;
-            Ok(start(controller.into_keeper()))
-        }
-        Err(_) => Ok(Finding::Nothing),
-    }
+    run(alloc, Plain::<Records>::new(alloc))
 }

@@ -1,7 +1,7 @@
 //! The bytes of a log, what calls leave that meet a mishap, logs that are cut, and the limit of logs.
 
-use crate::kept::{Finding, Mishap, add, bytes_of, commit, start_again};
-use crate::logs::{format_log, logs_take_all, new_controller, run_plain, start_of};
+use crate::kept::{Finding, Mishap};
+use crate::logs::{commit_log, format_log, log_bytes, run_plain, start_log, start_of};
 use adr_disk::Crash;
 use adr_state::{Change, LOG_LIMIT, Mode, Vector, log_end_after};
 use std::alloc::Global;
@@ -60,17 +60,9 @@ fn log_with(alloc: Global, gate: u8) -> Result<Vec<u8>, Fail> {
 #[test]
 fn a_log_has_its_bytes(rt: HostRuntime) -> Result<(), Fail> {
     let alloc = rt.alloc();
-    let mut controller = new_controller(alloc).ok_or("no format")?;
-    assert_eq!(rt;
-        bytes_of(&controller)?.as_slice(),
-        NEW.concat(alloc)?.as_slice()
-    );
-    logs_take_all();
-    assert!(rt; add(alloc, &mut controller)?);
-    assert_eq!(rt;
-        bytes_of(&controller)?.as_slice(),
-        log_with(alloc, 0xC3)?.as_slice()
-    );
+    let (new, added) = log_bytes(alloc)?.ok_or("not acknowledged")?;
+    assert_eq!(rt; new.as_slice(), NEW.concat(alloc)?.as_slice());
+    assert_eq!(rt; added.as_slice(), log_with(alloc, 0xC3)?.as_slice());
     Ok(())
 }
 
@@ -94,20 +86,13 @@ fn format_holds(alloc: Global, calls: u32, mishap: Mishap, how: Crash) -> bool {
 
 /// A commit makes four calls. It leaves the state before or the one after.
 fn commit_holds(alloc: Global, calls: u32, mishap: Mishap, how: Crash) -> Result<bool, Fail> {
-    let controller = new_controller(alloc).ok_or("no format")?;
-    logs_take_all();
-    let (done, found) = commit(alloc, controller, calls, mishap, how)?;
+    let (done, found) = commit_log(alloc, calls, mishap, how)?.ok_or("no format")?;
     Ok(done == (4 <= calls) && (found == Finding::Usn(1) || !done && found == Finding::Usn(0)))
 }
 
 /// A start makes one call. It leaves what was there.
 fn start_holds(alloc: Global, calls: u32, mishap: Mishap, how: Crash) -> Result<bool, Fail> {
-    let mut controller = new_controller(alloc).ok_or("no format")?;
-    logs_take_all();
-    if !add(alloc, &mut controller)? {
-        return Ok(false);
-    }
-    let (done, found) = start_again(controller, calls, mishap, how);
+    let (done, found) = start_log(alloc, calls, mishap, how)?.ok_or("not acknowledged")?;
     Ok(done == (1 <= calls) && found == Finding::Usn(1))
 }
 
