@@ -190,34 +190,28 @@ fn push_report(alloc: Global, out: &mut Vec<u8>, outcome: &Outcome) -> Result<()
         Outcome::Show(directory) => push_entries(alloc, out, directory.entries()),
         Outcome::Vector(vector) => push_cursors(alloc, out, vector.cursors()),
         Outcome::Marks(marks) => push_partners(alloc, out, marks.items()),
-        Outcome::Ok => Ok(()),
-        Outcome::Usn(_) => Ok(()),
-        Outcome::Served { .. } => Ok(()),
-        Outcome::Took { .. } => Ok(()),
-        Outcome::Removed(_) => Ok(()),
-        Outcome::More => Ok(()),
-        Outcome::Up => Ok(()),
-        Outcome::Down => Ok(()),
-        Outcome::Failed => Ok(()),
-        Outcome::Disk => Ok(()),
-        Outcome::Stopped => Ok(()),
-        Outcome::Absent => Ok(()),
-        Outcome::Refused { .. } => Ok(()),
+        _ => Ok(()),
     }
 }
 
-/// An answer's line, with a line feed, and the lines of its report.
 #[tactic(auto, unfolding(crate::specs::Line::line))]
+fn push_line(alloc: Global, out: &mut Vec<u8>, answer: &Answer) -> Result<(), NoMemory>
+    ensures { OnOk result (out.new.items ≡ out.old.items ++ line answer.now) }
+{
+    push(out, answer.verb.items())?;
+    push(out, b" ")?;
+    push(out, answer.name.items())?;
+    push(out, b": ")?;
+    push_result(alloc, out, &answer.outcome)?;
+    push(out, b"\n")?;
+    push_report(alloc, out, &answer.outcome)
+}
+
+/// An answer's line, with a line feed, and the lines of its report.
 pub fn line(alloc: Global, answer: &Answer) -> Result<Vec<u8>, NoMemory>
     ensures { IfOk result (λ bytes. bytes.items ≡ line answer.now) }
 {
     let mut out = Vec::new(alloc);
-    push(&mut out, answer.verb.items())?;
-    push(&mut out, b" ")?;
-    push(&mut out, answer.name.items())?;
-    push(&mut out, b": ")?;
-    push_result(alloc, &mut out, &answer.outcome)?;
-    push(&mut out, b"\n")?;
-    push_report(alloc, &mut out, &answer.outcome)?;
+    push_line(alloc, &mut out, answer)?;
     Ok(out)
 }
