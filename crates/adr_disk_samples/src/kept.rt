@@ -60,7 +60,9 @@ fn add<K: Keeper>(alloc: Global, controller: &mut Controller<K>) -> Result<bool,
     requires { TakesAll K.Keeper }
 {
     let event = addition(alloc)?;
-    Ok(controller.write(alloc, &event, 0).is_ok())
+    let acknowledged = controller.write(alloc, &event, 0).is_ok();
+    drop(event);
+    Ok(acknowledged)
 }
 
 /// The USN of a controller that answers.
