@@ -63,11 +63,25 @@ fn add_all<K: Keeper>(
     Ok(())
 }
 
+/// Tells where a controller stands that was started, and adds so many objects.
+fn go_on<K: Keeper>(
+    rt: &HostRuntime,
+    controller: &mut Controller<K>,
+    first: u64,
+    count: u64,
+) -> Result<(), Ending>
+    requires { AdditionsFollow K.Keeper }
+{
+    let usn = usn_of(controller)?;
+    tell(rt, format!(in rt.alloc(); "started {usn}\n")?.as_str())?;
+    add_all(rt, controller, first, count)
+}
+
 /// Starts the controller in a file, and adds so many objects.
 pub fn run(rt: &HostRuntime, name: &str, first: u64, count: u64) -> Result<(), Ending> {
     let mut controller = wake(rt, name)?;
-    let usn = usn_of(&controller)?;
-    tell(rt, format!(in rt.alloc(); "started {usn}\n")?.as_str())?;
     additions_follow::<FileDisk<&HostRuntime>>();
-    add_all(rt, &mut controller, first, count)
+    let ended = go_on(rt, &mut controller, first, count);
+    drop(controller);
+    ended
 }

@@ -6,7 +6,7 @@ ghost use Rattle.adr_model.specs.Store.{empty_state};
 
 use crate::ending::Ending;
 use crate::objects::number_of;
-use adr_controller::{Controller, State};
+use adr_controller::{Controller, Keeper, State};
 use adr_disk::{Disk, FileDisk};
 use adr_journal::Journal;
 use adr_law_recorded::new_controllers_may_begin;
@@ -45,6 +45,24 @@ fn file_at<'a>(rt: &'a HostRuntime, name: &str) -> Result<FileDisk<&'a HostRunti
     Ok(disk)
 }
 
+/// Formats a controller on a keeper, and tells that it stands.
+fn begin_on<K: Keeper + Drop>(rt: &HostRuntime, keeper: K, state: State) -> Result<(), Ending>
+    requires empty { K.is_empty keeper }
+    requires begins { K.can_begin state }
+    requires formed { K.is_formed state }
+{
+    match Controller::format(keeper, state) {
+        Ok(controller) => {
+            drop(controller);
+            tell(rt, "ready\n")
+        }
+        Err((refusal, keeper)) => {
+            drop(keeper);
+            Err(Ending::from(refusal))
+        }
+    }
+}
+
 /// Formats a new controller in an empty file.
 pub fn begin(rt: &HostRuntime, name: &str) -> Result<(), Ending> {
     let mut disk = file_at(rt, name)?;
@@ -53,23 +71,28 @@ pub fn begin(rt: &HostRuntime, name: &str) -> Result<(), Ending> {
     }
     let log: Log = Journal::new(rt.alloc(), disk);
     new_controllers_may_begin();
-    match Controller::format(log, new_state(rt.alloc())) {
-        Ok(_) => tell(rt, "ready\n"),
-        Err((refusal, _)) => Err(Ending::from(refusal)),
+    begin_on(rt, log, new_state(rt.alloc()))
+}
+
+/// Starts a controller from a keeper.
+fn resumed<K: Keeper + Drop>(keeper: K) -> Result<Controller<K>, Ending> {
+    match Controller::resume(keeper) {
+        Ok(controller) => Ok(controller),
+        Err((refusal, keeper)) => {
+            drop(keeper);
+            Err(Ending::from(refusal))
+        }
     }
 }
 
 /// Starts the controller in a file.
 pub fn wake<'a>(rt: &'a HostRuntime, name: &str) -> Result<Controller<Log<'a>>, Ending> {
     let disk = file_at(rt, name)?;
-    match Controller::resume(Journal::new(rt.alloc(), disk)) {
-        Ok(controller) => Ok(controller),
-        Err((refusal, _)) => Err(Ending::from(refusal)),
-    }
+    resumed(Journal::new(rt.alloc(), disk))
 }
 
 /// The USN of a controller that was started.
-pub fn usn_of(controller: &Controller<Log<'_>>) -> Result<u64, Ending> {
+pub fn usn_of<K: Keeper>(controller: &Controller<K>) -> Result<u64, Ending> {
     match controller.state() {
         Some(state) => Ok(state.usn()),
         None => Err(Ending::DiskFault),
@@ -86,13 +109,20 @@ fn tell_objects(rt: &HostRuntime, state: &State) -> Result<(), Ending> {
     Ok(())
 }
 
-/// Starts the controller in a file, and tells which objects are there, and the USN.
-pub fn show(rt: &HostRuntime, name: &str) -> Result<(), Ending> {
-    let controller = wake(rt, name)?;
+/// Tells which objects a controller has that was started, and its USN.
+fn tell_all<K: Keeper>(rt: &HostRuntime, controller: &Controller<K>) -> Result<(), Ending> {
     let Some(state) = controller.state() else {
         return Err(Ending::DiskFault);
     };
     tell_objects(rt, state)?;
     let usn = state.usn();
     tell(rt, format!(in rt.alloc(); "usn {usn}\n")?.as_str())
+}
+
+/// Starts the controller in a file, and tells which objects are there, and the USN.
+pub fn show(rt: &HostRuntime, name: &str) -> Result<(), Ending> {
+    let controller = wake(rt, name)?;
+    let told = tell_all(rt, &controller);
+    drop(controller);
+    told
 }

@@ -3,5 +3,5 @@ use Rattle.adr_model.specs.Place.{identifier}
 use Rattle.adr_records.specs.Logged.{MayBegin}
 use Rattle.adr_survivor.proofs.keeping.begin.Goals as goal
 
-pub format-requires-clause-begins : goal.format-requires-clause-begins
-format-requires-clause-begins c = subst MayBegin (sym c.new_state.ensures) (c.new_controllers_may_begin.ensures (identifier 0xa0) (identifier 0xa1) refl refl)
+pub begin_on-requires-clause-begins : goal.begin_on-requires-clause-begins
+begin_on-requires-clause-begins c = subst MayBegin (sym c.new_state.ensures) (c.new_controllers_may_begin.ensures (identifier 0xa0) (identifier 0xa1) refl refl)
