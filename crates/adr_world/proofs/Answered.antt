@@ -2,16 +2,16 @@
 use Rattle.std.proofs.Common.{◌≡◌, sym, ap, subst, ℕ, List}
 use Rattle.std.proofs.lemmas.Result.{IfOk-weaker}
 use Rattle.std.specs.Prelude.{Result, IfOk, IfSome}
+use Rattle.adr_event.specs.Verbs.{name_of, verb_of, word_of}
 use Rattle.adr_event.specs.declared.answer.Outcome.{Outcome}
 use Rattle.adr_event.specs.declared.event.Event.{Event}
 use Rattle.adr_model.specs.World.{Gone, Name, World, writes}
 use Rattle.adr_model.specs.Step.{step, told, write_of}
-use Rattle.adr_world.specs.Heading.{name_of, verb_of}
 use Rattle.adr_world.proofs.Writings.{IsWriteTo, write_line}
 
 -- the line comes to this outcome
 abbrev pub ComesTo : World → Event → World → Outcome → Type 0
-ComesTo w e v o = step w e ≡ told (verb_of e) (name_of e) (v, o)
+ComesTo w e v o = step w e ≡ told (word_of (verb_of e)) (name_of e) (v, o)
 
 -- what comes of a line, by its kind
 pub one_so : (w v : World) (e d : Event) (o : Outcome) → e ≡ d → ComesTo w d v o → ComesTo w e v o

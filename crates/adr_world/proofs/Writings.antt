@@ -1,13 +1,13 @@
 -- A line that is a client's write.
 use Rattle.std.proofs.Common.{◌≡◌, ◌∙◌, refl, ap, List, ℕ, Option, Some, None, codes}
 use Rattle.std.specs.Prelude.{IfSome, IsSomeAnd}
+use Rattle.adr_event.specs.Verbs.{name_of, verb_of, word_of}
 use Rattle.adr_event.specs.declared.answer.Outcome.{Outcome}
 use Rattle.adr_event.specs.declared.event.Event.{Event}
 use Rattle.adr_event.specs.declared.event.Event.TheVariants as events
 use Rattle.adr_model.specs.Write.{Write, AddObject, Modify, Rename, Delete, AddLink, RemoveLink}
 use Rattle.adr_model.specs.World.{Name, World, writes}
 use Rattle.adr_model.specs.Step.{write_of, told, step}
-use Rattle.adr_world.specs.Heading.{name_of, verb_of}
 
 pub each_some : {A : Type 0} (o : Option A) (P : A → Type 0) → ((x : A) → o ≡ Some x → P x) → IfSome o P
 each_some None P each = tt
@@ -22,7 +22,7 @@ module _ (w v : World) (name : Name) (o : Outcome) where
   write_told verb n what is gone = ap (told verb n) (ap (λ m. writes w m what) is ∙ gone)
 
   -- the line of a write, by what comes of it
-  pub write_line : (e : Event) → IsWriteTo name e → IfSome (write_of e) (λ x. writes w name x.what ≡ (v, o)) → step w e ≡ told (verb_of e) (name_of e) (v, o)
+  pub write_line : (e : Event) → IsWriteTo name e → IfSome (write_of e) (λ x. writes w name x.what ≡ (v, o)) → step w e ≡ told (word_of (verb_of e)) (name_of e) (v, o)
   write_line (events.Add n guid class parent text values) to is = write_told (codes "add") n (AddObject guid class parent text values) to.0 is
   write_line (events.Modify n guid values) to is = write_told (codes "modify") n (Modify guid values) to.0 is
   write_line (events.Rename n guid parent text) to is = write_told (codes "rename") n (Rename guid parent text) to.0 is

@@ -1,6 +1,5 @@
 pub mod Run
 pub mod Alone
-pub mod Heading
 pub mod Adopted
 pub mod Pulls
 pub mod Short

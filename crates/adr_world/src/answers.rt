@@ -1,9 +1,9 @@
 //! Answers, made.
 
 ghost use Rattle.std.specs.Prelude.{◌≡◌, IfOk};
+ghost use Rattle.adr_event.specs.Verbs.{name_of};
 ghost use Rattle.adr_model.specs.World.{answer};
 ghost use Rattle.adr_world.specs.Alone.{HasOneAnswer};
-ghost use Rattle.adr_world.specs.Heading.{name_of, verb_of};
 
 use adr_event::{Answer, Event, Outcome};
 use adr_replica::word;
@@ -37,40 +37,6 @@ impl Heading {
             name: self.name,
             outcome,
         }
-    }
-}
-
-/// The word of a line.
-pub fn verb_of(event: &Event) -> &'static str
-    ensures { result.now ≡ verb_of event.now }
-{
-    match event {
-        Event::Controller { .. } => "controller",
-        Event::Time { .. } => "time",
-        Event::Add { .. } => "add",
-        Event::Modify { .. } => "modify",
-        Event::Rename { .. } => "rename",
-        Event::Delete { .. } => "delete",
-        Event::Link { .. } => "link",
-        Event::Unlink { .. } => "unlink",
-        Event::Ask { .. } => "ask",
-        Event::Serve { .. } => "serve",
-        Event::Deliver { .. } => "deliver",
-        Event::Pull { .. } => "pull",
-        Event::Cycle { .. } => "cycle",
-        Event::Collect { .. } => "collect",
-        Event::Backup { .. } => "backup",
-        Event::Restore { .. } => "restore",
-        Event::Install { .. } => "install",
-        Event::Snapshot { .. } => "snapshot",
-        Event::Rollback { .. } => "rollback",
-        Event::StopAfter { .. } => "stop",
-        Event::Fail { .. } => "fail",
-        Event::Stop { .. } => "stop",
-        Event::Start { .. } => "start",
-        Event::Show { .. } => "show",
-        Event::Vector { .. } => "vector",
-        Event::Marks { .. } => "marks",
     }
 }
 

@@ -1,6 +1,7 @@
 //! What each line does, by its kind.
 
 ghost use Rattle.std.specs.Prelude.{◌≡◌, ◌<◌, ◌≤◌, [], ◌∷◌, IfOk, OnErr, OnOk, IsErrOf, flat_map};
+ghost use Rattle.adr_event.specs.Verbs.{name_of, verb_of, word_of};
 ghost use Rattle.adr_io.specs.Told.{Adds, AddsFront};
 ghost use Rattle.adr_law_recorded.specs.Typed.{IsTyped};
 ghost use Rattle.adr_model.specs.Convergence.{MayHappen};
@@ -8,12 +9,11 @@ ghost use Rattle.adr_model.specs.Step.{step, told};
 ghost use Rattle.adr_report.specs.Line.{line};
 ghost use Rattle.adr_world.specs.Alone.{HasOneAnswer};
 ghost use Rattle.adr_world.specs.Door.{IsLeftBy};
-ghost use Rattle.adr_world.specs.Heading.{name_of, verb_of};
 ghost use Rattle.adr_world.specs.Pulls.{IsTurn};
 ghost use Rattle.adr_world.specs.Run.{IsSoundRun, IsTidy, world_of};
 ghost use Rattle.adr_world.specs.Short.{IsCutShort, IsTurnCutShort};
 
-use crate::answers::{Heading, name_of, verb_of};
+use crate::answers::{Heading, name_of};
 use crate::lists::put;
 use crate::pulling::REPLY_LIMIT;
 use crate::run::Run;
@@ -92,7 +92,7 @@ impl Run {
     {
         let mut answers = Vec::new(alloc);
         answers.reserve(1)?;
-        let heading = Heading::new(alloc, verb_of(event), name_of(event))?;
+        let heading = Heading::new(alloc, event.verb().word(), name_of(event))?;
         let outcome = self.outcome(alloc, event)?;
         put(&mut answers, heading.of(outcome));
         Ok(answers)
@@ -105,7 +105,7 @@ impl Run {
         requires may { MayHappen (world_of self.old) event.now }
         requires typed { IsTyped event.now }
         ensures stepped { IfOk result (λ outcome.
-            step (world_of self.old) event.now ≡ told (verb_of event.now) (name_of event.now) (world_of self.new, outcome)) }
+            step (world_of self.old) event.now ≡ told (word_of (verb_of event.now)) (name_of event.now) (world_of self.new, outcome)) }
         ensures err { OnErr result (IsCutShort (world_of self.old) event.now (world_of self.new)) }
         ensures tidy { IsTidy self.new }
     {
