@@ -19,7 +19,6 @@ mod restoring;
 mod sent;
 mod snapshot;
 mod told;
-mod words;
 
 pub use adr_event::{Event, Outcome};
 pub use adr_packet::{Reply, Request};
@@ -29,4 +28,3 @@ pub use past::Past;
 pub use refused::full;
 pub use replica::Replica;
 pub use snapshot::Snapshot;
-pub use words::word;

@@ -4,12 +4,11 @@ ghost use Rattle.std.specs.Prelude.{◌≡◌, ◌∷◌, [], IfOk, codes, map};
 ghost use Rattle.adr_model.specs.Refused.{adopt_refused, attr_field, collect_refused, fault_name, field, full, id_field, quarantined, rolled_back, schema_name, schemas_differ, serve_refused, table_name, take_refused, write_refused};
 ghost use Rattle.adr_replica.specs.Refused.{field_of, value_of};
 
-use crate::words::word;
 use adr_event::{
     AdoptRefusal, CollectRefusal, Field, Fields, ItemFault, Outcome, Plainly, ServeRefusal, Table,
     TakeRefusal, WriteRefusal,
 };
-use adr_schema::{NoMemory, SchemaRefusal};
+use adr_schema::{NoMemory, SchemaRefusal, Text};
 use adr_vector::Mark;
 use std::alloc::Global;
 use uuid::Uuid;
@@ -70,8 +69,8 @@ fn value_of(alloc: Global, telling: Telling) -> Result<Plainly, NoMemory>
         Telling::Number(number) => Ok(Plainly::Number(number)),
         Telling::Mark(mark) => Ok(Plainly::Mark(mark)),
         Telling::Attr(attr) => Ok(Plainly::Attr(attr)),
-        Telling::Table(table) => Ok(Plainly::Word(word(alloc, table_name(table))?)),
-        Telling::Fault(fault) => Ok(Plainly::Word(word(alloc, fault_name(fault))?)),
+        Telling::Table(table) => Ok(Plainly::Word(Text::from_str(alloc, table_name(table))?)),
+        Telling::Fault(fault) => Ok(Plainly::Word(Text::from_str(alloc, fault_name(fault))?)),
     }
 }
 
@@ -80,7 +79,7 @@ fn field_of(alloc: Global, name: &str, telling: Telling) -> Result<Field, NoMemo
     ensures { IfOk result (λ made. made ≡ field name.now (value_of telling)) }
 {
     Ok(Field {
-        name: word(alloc, name)?,
+        name: Text::from_str(alloc, name)?,
         value: value_of(alloc, telling)?,
     })
 }
@@ -106,7 +105,7 @@ fn refused(
 {
     Ok(Outcome::Refused {
         number,
-        label: word(alloc, label)?,
+        label: Text::from_str(alloc, label)?,
         fields: fields_of(alloc, told)?,
     })
 }

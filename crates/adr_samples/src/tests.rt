@@ -186,7 +186,7 @@ fn names_are_checked_and_folded(rt: HostRuntime) -> Result<(), Fail> {
 
 /// A value of each syntax.
 fn values(alloc: Global) -> Result<[Value; 5], Fail> {
-    let text = Text::from_string(String::from_str(alloc, "a\"\n\u{7f}é")?);
+    let text = Text::from_str(alloc, "a\"\n\u{7f}é")?;
     let octets = Octets::of(Vec::from_slice(alloc, b"\x0a\xff")?);
     Ok([
         Value::Text(text),

@@ -6,7 +6,6 @@ ghost use Rattle.adr_model.specs.World.{answer};
 ghost use Rattle.adr_world.specs.Alone.{HasOneAnswer};
 
 use adr_event::{Answer, Event, Outcome};
-use adr_replica::word;
 use adr_schema::{NoMemory, Text};
 use std::alloc::Global;
 
@@ -23,7 +22,7 @@ impl Heading {
         ensures { IfOk result (λ made. (made.verb ≡ verb.now) × (made.name ≡ name.now)) }
     {
         Ok(Heading {
-            verb: word(alloc, verb)?,
+            verb: Text::from_str(alloc, verb)?,
             name: name.copy(alloc)?,
         })
     }
