@@ -94,8 +94,12 @@ impl Replica {
         let dsa = state.dsa();
 
         // A disk without a plan doesn't fail.
-        let Ok(controller) = Controller::format(Journal::in_memory(alloc), state) else {
-            return Err(AllocError);
+        let controller = match Controller::format(Journal::in_memory(alloc), state) {
+            Ok(controller) => controller,
+            Err(refused) => {
+                drop(refused);
+                return Err(AllocError);
+            }
         };
         goes_as_planned(&controller);
         Ok(Replica {
@@ -310,10 +314,10 @@ impl Replica {
         ensures name { self.new.name ≡ self.old.name }
         ensures given { past.new.given ≡ past.old.given }
     {
-        let ahead = Ahead::of(past, &Deed::Starts(&*self));
         if self.controller.state().is_some() {
             return Ok(Outcome::Up);
         }
+        let ahead = Ahead::of(past, &Deed::Starts(&*self));
         self.controller.revive();
         goes_as_planned(&self.controller);
         let started = self.controller.start();

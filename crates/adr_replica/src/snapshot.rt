@@ -46,8 +46,12 @@ impl Replica {
         let journal = Journal::with_bytes(alloc, snapshot.bytes.to_vec(alloc)?)?;
 
         // A disk without a plan doesn't fail, and nothing of it is damaged.
-        let Ok(controller) = Controller::resume(journal) else {
-            return Err(AllocError);
+        let controller = match Controller::resume(journal) {
+            Ok(controller) => controller,
+            Err(refused) => {
+                drop(refused);
+                return Err(AllocError);
+            }
         };
         goes_as_planned(&controller);
         let Some(state) = controller.state() else {
