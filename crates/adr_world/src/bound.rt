@@ -5,7 +5,6 @@ ghost use Rattle.std.specs.Option.{option_copied};
 ghost use Rattle.adr_model.specs.Convergence.{IsUnbound};
 ghost use Rattle.adr_model.specs.World.{bound, bound_at};
 
-use adr_event::Outcome;
 use adr_schema::{NoMemory, Text};
 use indexmap::IndexMap;
 use std::alloc::Global;
@@ -44,12 +43,12 @@ impl<M> Bindings<M> {
     }
 
     /// Binds what a call sent to a name, if it sent something, and gives what is answered.
-    pub fn bind(
+    pub fn bind<O: Drop>(
         &mut self,
         alloc: Global,
         name: &Text,
-        sent: (Outcome, Option<M>),
-    ) -> Result<Outcome, NoMemory>
+        sent: (O, Option<M>),
+    ) -> Result<O, NoMemory>
     where
         M: Drop,
         requires { IsUnbound self.old name.now }
