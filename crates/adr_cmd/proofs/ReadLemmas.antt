@@ -3,7 +3,6 @@ use Rattle.std.proofs.Common.{◌≡◌, ℕ, ◌+◌, ◌≤◌, List, [], ◌+
 use Rattle.std.specs.Prelude.{IfSome}
 use Rattle.std.proofs.Math.Seq.{take-add}
 use Rattle.std.proofs.lemmas.List.{drop-drop, drop_all}
-use Rattle.adr_io.specs.Told.{Reads}
 
 -- the bytes are the front of what was told at first, and the rest is told now
 abbrev pub HasRead : Option (List ℕ) → Option (List ℕ) → List ℕ → Type 0
@@ -68,11 +67,3 @@ gone_more None now next bytes room most told gone small = tt
 gone_more (Some text) now next bytes room most told gone small =
     let p = subst (λ (o : Option (List ℕ)). IfSome o (λ before. (n : ℕ) × (n ≤ room) × (next ≡ Some (drop n before)))) told.2 gone in
     let few : p.0 ≤ room = p.1 in (length bytes + p.0, omega arith, p.2 ∙ ap Some (drop-drop p.0 (length bytes) text))
-
-pub none_gone : (first now : Option (List ℕ)) (most : ℕ) → now ≡ first → GoneAtMost most first now
-none_gone None now most same = tt
-none_gone (Some text) now most same = (0, omega arith, same)
-
-pub some_gone : (first now : Option (List ℕ)) (buffer : List ℕ) (n most : ℕ) → n ≤ most → IfSome first (λ before. Reads before now buffer n) → GoneAtMost most first now
-some_gone None now buffer n most few read = tt
-some_gone (Some text) now buffer n most few read = (n, few, read.left)

@@ -5,7 +5,7 @@ use Rattle.std.specs.Bool.{then_some}
 use Rattle.adr_failure.specs.declared.Failure.{Failure}
 use Rattle.adr_failure.specs.declared.Failure.TheVariants as failures
 use Rattle.adr_event.specs.declared.refusal.WriteRefusal.{WriteRefusal}
-use Rattle.adr_disk.specs.Disk.{Keeps, LeavesOnly}
+use Rattle.adr_disk.specs.Disk.{LeavesOnly}
 use Rattle.adr_disk.proofs.Moments.{started}
 use Rattle.adr_model.specs.Store.{State}
 use Rattle.adr_model.specs.Change.{Change, after}
@@ -23,17 +23,7 @@ use Rattle.adr_controller.specs.Running.{Running, IsInOrder}
 use Rattle.adr_controller.specs.Able.{change_of_write}
 use Rattle.adr_controller.specs.Ended.{call_hindrance, of_failure}
 use Rattle.adr_controller.specs.Did.{FindsEither, Ran, Commits, Calls, IsMade}
-use Rattle.adr_law_journal.proofs.Told.{if_told, is_some_of, some_is}
-
-same_keeps : {D C O : Type 0} (content : D → Option C) (may_leave : D → O → Type 0) (moment : D → ℕ) (left_since : D → ℕ → O → Type 0) (d : D) → Keeps content may_leave moment left_since d d
-same_keeps content may_leave moment left_since d = record {
-  content_stays = refl;
-  no_more = λ x h. h;
-  no_fewer = λ x h. h;
-  moment_stays = refl;
-  past_stays = λ t x h. h;
-  past_kept = λ t x h. h;
-}
+use Rattle.adr_law_journal.proofs.Told.{if_told, is_some_of, same_keeps, some_is}
 
 module _ {K : Type 0} (k : Ghosts K) where
   -- the change that was committed, told as what a call makes of the state

@@ -1,5 +1,5 @@
 -- What is kept of the units read so far is all that the next one needs of them.
-use Rattle.std.proofs.Common.{◌≡◌, ℕ, ◌+◌, ◌-◌, ◌<◌, ◌≤◌, Bool, true, false, cond, eqb, List, [], ◌∷◌, ◌++◌, map, fold, Option, Some, None, Result, Ok, Err, refl, sym, ap, ◌∙◌, append_assoc, append-nil, arith}
+use Rattle.std.proofs.Common.{◌≡◌, ℕ, ◌+◌, ◌-◌, ◌<◌, ◌≤◌, Bool, true, false, cond, eqb, List, [], ◌∷◌, ◌++◌, map, fold, Option, Some, Result, Ok, Err, refl, sym, ap, ◌∙◌, append_assoc, append-nil, arith}
 use Rattle.std.specs.Prelude.{OnOk, not, ◌&&◌, ◌||◌, filter, unwrap_or}
 use Rattle.std.specs.List.{flat_map, list_all}
 use Rattle.std.specs.Ordering.{nat_cmp}
@@ -90,9 +90,6 @@ or_none false = refl
 pub one_dead : (keys : List Oid) (o : Oid) → IsDeadToo keys (insert_key object_order keys o) true o
 one_dead keys o p = any_folded object_order exact_objects (λ x. same_object x p) (o ∷ []) keys ∙ ap (λ (b : Bool). is_among keys p || b) (or_none (same_object o p))
 
-pub none_dead : (keys : List Oid) (o : Oid) → IsDeadToo keys keys false o
-none_dead keys o p = sym (or_none (is_among keys p))
-
 or_assoc : (a b c : Bool) → (a || (b || c)) ≡ ((a || b) || c)
 or_assoc true b c = refl
 or_assoc false b c = refl
@@ -128,12 +125,6 @@ object_next usn table k os h rest =
     object_same usn table k.last k.used.keys (fold with_rows no_objects os).used h.used rest
     ∙ ap (λ (last : Option Oid). object_at usn table (record { last = last; used = (fold with_rows no_objects os).used }) rest) h.last
 
-pub keeps_none : (k : Objects) (j : Links) (os : List Rows) → KeepsObjects k os → j.rows ≡ k.rows → j.last ≡ None → j.used ≡ k.used → j.dead ≡ k.dead → KeepsLinks os j []
-keeps_none k j os h rows last used dead = record {
-  rows = ap (λ v. v.items) rows ∙ h.rows ∙ sym (append-nil (flat_map rows_of_object os));
-  last = last;
-  used = λ n. ap (λ s. has s.keys n) used ∙ h.used n;
-  dead = λ p. ap (λ s. is_among s.keys p) dead ∙ h.dead p;
 }
 
 pub keeps_link : (os : List Rows) (k j : Links) (ls : List HeldLink) (l : HeldLink) → KeepsLinks os k ls → j.rows.items ≡ k.rows.items ++ (link_of l ∷ []) → j.last ≡ Some l.1.0 → j.used.keys ≡ insert_key nat_cmp k.used.keys l.0

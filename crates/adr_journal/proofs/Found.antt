@@ -14,7 +14,7 @@ use Rattle.adr_law_journal.specs.Log.{Found, found, Started, Following, start_of
 use Rattle.adr_law_journal.specs.Kept.{Finds, IsEither, IsSettled}
 use Rattle.adr_law_journal.proofs.Lifts.{after_kept, finds_each, kept_leaves, lifted, settled_kept}
 use Rattle.adr_law_journal.proofs.Logs.{length_u32}
-use Rattle.adr_law_journal.proofs.Told.{at_told, if_mapped}
+use Rattle.adr_law_journal.proofs.Told.{at_told, if_mapped, same_keeps}
 use Rattle.adr_journal.specs.Ended.{IsNewOrNone, found_after}
 use Rattle.adr_journal.specs.Kept.{IsAt, IsEmpty}
 use Rattle.adr_journal.specs.Written.{Takes}
@@ -25,16 +25,6 @@ record_length body = omega (arith, length-append (with_length body) (0 ∷ []), 
 -- a told list has this
 pub for_some : {A : Type 0} (o : Option A) (P : A → Type 0) → IfSome o P → ForSome o P
 for_some {A} o P h x is = let Q : Option A → Type 0 = λ o. IfSome o P in subst Q is h
-
-pub same_keeps : {D C O : Type 0} (content : D → Option C) (may_leave : D → O → Type 0) (moment : D → ℕ) (left_since : D → ℕ → O → Type 0) (d : D) → Keeps content may_leave moment left_since d d
-same_keeps content may_leave moment left_since d = record {
-  content_stays = refl;
-  no_more = λ x h. h;
-  no_fewer = λ x h. h;
-  moment_stays = refl;
-  past_stays = λ t x h. h;
-  past_kept = λ t x h. h;
-}
 
 -- what is found is told where the bytes are
 pub told_as : {A B : Type 0} (f : A → B) (o p : Option A) → (IsSome o ↔ IsSome p) → IsSome (option_map f o) ↔ IsSome (option_map f p)

@@ -1,9 +1,9 @@
 -- From a disk's bytes to what a start finds.
-use Rattle.std.proofs.Common.{◌≡◌, inl, inr, ⊎_elim, ℕ, List, Option, Some, Ok, Err, sym, ◌∙◌, ap, subst, arith}
+use Rattle.std.proofs.Common.{inl, inr, ⊎_elim, ℕ, List, Option, sym, ◌∙◌, ap, subst, arith}
 use Rattle.std.specs.Option.{option_map}
 use Rattle.adr_disk.specs.Disk.{Among, Keeps, LeavesOnly}
 use Rattle.adr_wire.specs.Reading.{Reading}
-use Rattle.adr_law_journal.specs.Log.{Found, found, Started, Following, start_of}
+use Rattle.adr_law_journal.specs.Log.{Started, Following, start_of}
 use Rattle.adr_law_journal.specs.Kept.{Finds, IsSettled}
 
 -- what each crash image has, what a start finds has
@@ -56,11 +56,6 @@ module _ {K D S : Type 0} (head : Reading S) (following : Following S) (disk : K
     before = λ t bytes le left. inl (h.past_stays t bytes left);
   }
 
--- what is left of a settled log
-pub settled_finds : {D S : Type 0} (head : Reading S) (following : Following S) (content : D → Option (List ℕ)) (may_leave : D → List ℕ → Type 0) (d : D) (s : S) (end : ℕ) (there : List ℕ) → content d ≡ Some there
-    → IsSettled head following content may_leave d end s → Among (λ bytes. start_of head following bytes ≡ Ok (found s end)) (may_leave d)
-settled_finds head following content may_leave d s end there is settled bytes left = ap (start_of head following) (settled.synced there is bytes left) ∙ settled.finds there is
-
 -- one run of calls behind one that changed nothing
 module _ {D : Type 0} (content : D → Option (List ℕ)) (may_leave : D → List ℕ → Type 0) (moment : D → ℕ) (left_since : D → ℕ → List ℕ → Type 0) (old mid new : D) where
   pub after_kept : (P : List ℕ → Type 0) → Keeps content may_leave moment left_since old mid → LeavesOnly moment left_since mid new P → LeavesOnly moment left_since old new P
@@ -69,12 +64,3 @@ module _ {D : Type 0} (content : D → Option (List ℕ)) (may_leave : D → Lis
     each = λ bytes left. then.each bytes (subst (λ (t : ℕ). left_since new t bytes) (sym h.moment_stays) left);
     before = λ t bytes le left. ⊎_elim (λ was. inl (h.past_stays t bytes was)) inr (then.before t bytes (omega (arith, le, h.moment_stays)) left);
   }
-
-the_found : {S : Type 0} → Started S → Found S → Found S
-the_found (Ok f) other = f
-the_found (Err place) other = other
-
--- bytes stand for one thing
-pub only_found : {S : Type 0} (head : Reading S) (following : Following S) (there : List ℕ) (f g : Found S) → start_of head following there ≡ Ok f → start_of head following there ≡ Ok g → f ≡ g
-unfolding the_found
-only_found head following there f g is also = ap (λ x. the_found x f) (sym is ∙ also)

@@ -1,7 +1,8 @@
 -- What may be told or not.
-use Rattle.std.proofs.Common.{◌≡◌, Option, Some, None, Result, Ok, Err, IfSome, IsSome, refl, sym, ap, subst}
+use Rattle.std.proofs.Common.{◌≡◌, ℕ, Option, Some, None, Result, Ok, Err, IfSome, IsSome, refl, sym, ap, subst}
 use Rattle.std.specs.Prelude.{unwrap_or, OnOk}
 use Rattle.std.specs.Option.{option_map}
+use Rattle.adr_disk.specs.Disk.{Keeps}
 
 pub if_told : {A : Type 0} (o : Option A) (P : A → Type 0) → ((there : A) → o ≡ Some there → P there) → IfSome o P
 if_told None P h = tt
@@ -27,3 +28,14 @@ if_mapped f (Some there) Q h = h there refl
 pub both_ok : {T E A B C : Type 0} (r : Result T E) → OnOk r A → OnOk r B → (A → B → C) → OnOk r C
 both_ok (Ok x) a b f = f a b
 both_ok (Err e) a b f = tt
+
+-- a disk that is as it was
+pub same_keeps : {D C O : Type 0} (content : D → Option C) (may_leave : D → O → Type 0) (moment : D → ℕ) (left_since : D → ℕ → O → Type 0) (d : D) → Keeps content may_leave moment left_since d d
+same_keeps content may_leave moment left_since d = record {
+  content_stays = refl;
+  no_more = λ x h. h;
+  no_fewer = λ x h. h;
+  moment_stays = refl;
+  past_stays = λ t x h. h;
+  past_kept = λ t x h. h;
+}

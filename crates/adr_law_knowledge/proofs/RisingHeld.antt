@@ -1,5 +1,5 @@
--- Rows in order of their keys stay so where one is put.
-use Rattle.std.proofs.Common.{◌≡◌, List, [], ◌∷◌, Bool, refl, sym, ap, ◌∙◌, subst, filter, fold, map, Option, Some, None, not}
+-- Rows in order of their keys stay so where one is put, and which rows stand then.
+use Rattle.std.proofs.Common.{◌≡◌, ◌⊎◌, inl, inr, ⊎_elim, List, [], ◌∷◌, Bool, refl, sym, ap, ◌∙◌, subst, filter, fold, map, Option, Some, None, not}
 use Rattle.std.specs.List.{AllByRecursion}
 use Rattle.std.specs.List.Sorted.{IsStrictlySortedBy}
 use Rattle.std.specs.Ordering.{match_ordering, ordering_reverse}
@@ -7,6 +7,7 @@ use Rattle.std.specs.declared.cmp.Ordering.{Ordering}
 use Rattle.std.specs.declared.cmp.Ordering.TheVariants.{Less, Equal, Greater}
 use Rattle.std.proofs.lemmas.Map.Keys.{sorted_head, sorted_tail}
 use Rattle.adr_stamp.specs.declared.Oid.{Oid}
+use Rattle.adr_model.specs.Member.{Member}
 use Rattle.adr_model.specs.Update.{Key, key_order}
 use Rattle.adr_model.specs.Store.{Held, with_row, is_row_of}
 use Rattle.adr_model.specs.Change.{goes_with, killed_by, stripped, put, without_object, rows_after}
@@ -81,3 +82,17 @@ removals_rise (o ∷ os) rows r = removals_rise os (without_object rows o) (fewe
 
 pub rows_after_rise : (removed : List Oid) (writes rows : List Held) → AreRising rows → AreRising (rows_after removed writes rows)
 rows_after_rise removed writes rows r = removals_rise removed (fold put rows writes) (puts_rise writes rows r)
+
+-- a row that stands behind a put is that row, or stood before
+pub of_with_row : (rows : List Held) (x h : Held) → Member h (with_row rows x) → (h ≡ x) ⊎ Member h rows
+of_with_row [] x h (inl e) = inl e
+of_with_row [] x h (inr m) = absurd m
+of_with_row (y ∷ ys) x h m = by (key_order x.update.key y.update.key) m (of_with_row ys x h)
+  where
+    by : (o : Ordering) → Member h (match_ordering o (x ∷ y ∷ ys) (x ∷ ys) (y ∷ with_row ys x)) → (Member h (with_row ys x) → (h ≡ x) ⊎ Member h ys) → (h ≡ x) ⊎ Member h (y ∷ ys)
+    by Less (inl e) rest = inl e
+    by Less (inr n) rest = inr n
+    by Equal (inl e) rest = inl e
+    by Equal (inr n) rest = inr (inr n)
+    by Greater (inl e) rest = inr (inl e)
+    by Greater (inr n) rest = ⊎_elim (λ e. inl e) (λ o. inr (inr o)) (rest n)

@@ -20,6 +20,7 @@ use Rattle.adr_model.specs.Take.{is_reserved_row}
 use Rattle.adr_model.proofs.Keys.{exact_keys, equal_order, objects_tell}
 use Rattle.adr_model.proofs.Members.{in_filter, of_filter, member_mapped, mapped_member}
 use Rattle.adr_law_knowledge.proofs.Comparing.{objects_same}
+use Rattle.adr_law_knowledge.proofs.RisingHeld.{of_with_row}
 
 -- ---- rows as updates
 
@@ -88,19 +89,6 @@ written_itself (x ∷ xs) h = by (key_order h.update.key x.update.key) (written_
     by Less rest = inl refl
     by Equal rest = inl refl
     by Greater rest = inr rest
-
-written_from : (rows : List Held) (h x : Held) → Member x (with_row rows h) → (x ≡ h) ⊎ Member x rows
-written_from [] h x (inl e) = inl e
-written_from [] h x (inr m) = absurd m
-written_from (y ∷ ys) h x m = by (key_order h.update.key y.update.key) m (written_from ys h x)
-  where
-    by : (o : Ordering) → Member x (match_ordering o (h ∷ y ∷ ys) (h ∷ ys) (y ∷ with_row ys h)) → (Member x (with_row ys h) → (x ≡ h) ⊎ Member x ys) → (x ≡ h) ⊎ Member x (y ∷ ys)
-    by Less (inl e) rest = inl e
-    by Less (inr n) rest = inr n
-    by Equal (inl e) rest = inl e
-    by Equal (inr n) rest = inr (inr n)
-    by Greater (inl e) rest = inr (inl e)
-    by Greater (inr n) rest = ⊎_elim (λ e. inl e) (λ i. inr (inr i)) (rest n)
 
 -- a row that stood still stands, unless the row is of its key
 written_keeps : (rows : List Held) (h x : Held) → Member x rows → (h.update.key ≡ x.update.key) ⊎ Member x (with_row rows h)
@@ -175,7 +163,7 @@ put_itself rows h = ⊎_elim
     (stripped_keeps (killed_by h.update.key) (with_row rows h) h (written_itself rows h))
 
 pub put_from : (rows : List Held) (h x : Held) → Member x (put rows h) → (x ≡ h) ⊎ Member x rows
-put_from rows h x m = written_from rows h x (stripped_from (killed_by h.update.key) (with_row rows h) x m)
+put_from rows h x m = of_with_row rows h x (stripped_from (killed_by h.update.key) (with_row rows h) x m)
 
 -- a row that stood was replaced, or stripped by a death, or still stands
 pub put_keeps : (rows : List Held) (h x : Held) → Member x rows

@@ -20,7 +20,8 @@ use Rattle.adr_model.proofs.Keys.{equal_order, exact_keys, objects_tell}
 use Rattle.adr_law_tree.specs.Local.{LocalLaw}
 use Rattle.adr_law_tree.proofs.Fuel.{same_guid}
 use Rattle.adr_law_knowledge.proofs.Filters.{filters_swap}
-use Rattle.adr_law_tree.proofs.Kept.{any_kept, find_kept, any_alike, any_of_filter, any_folded, filter_maps_alike, find_of_kept}
+use Rattle.std.proofs.lemmas.Map.Views.{any-filter_same}
+use Rattle.adr_law_tree.proofs.Kept.{find_kept, any_alike, any_of_filter, any_folded, filter_maps_alike, find_of_kept}
 use Rattle.adr_law_tree.proofs.RisingRows.{rising_win}
 
 key_of_guid : (g : Identifier) (k : Key) (o : Oid) (a : ℕ) → same_key k (RowOf o a) ≡ true → same_identifier o.guid g ≡ true → is_of_guid g k ≡ true
@@ -87,11 +88,11 @@ module _ (g : Identifier) where
     of_birth : (t : Oid → Bool) → Mine t → list_any t (objects_of (filter of us)) ≡ list_any t (objects_of us)
     of_birth t only =
         any_folded object_order exact_objects t (births (filter of us)) []
-        ∙ ap (list_any t) (births_kept us) ∙ any_kept t mine only (births us)
+        ∙ ap (list_any t) (births_kept us) ∙ any-filter_same t mine true only (births us)
         ∙ sym (any_folded object_order exact_objects t (births us) [])
 
     dies : (o : Oid) → mine o ≡ true → list_any (is_death_of o) (filter of us) ≡ list_any (is_death_of o) us
-    dies o is = any_kept (is_death_of o) of (λ u same. key_of_guid g u.key o deleted_attr same is) us
+    dies o is = any-filter_same (is_death_of o) of true (λ u same. key_of_guid g u.key o deleted_attr same is) us
 
     and_second : (a c : Bool) → (a && c) ≡ true → c ≡ true
     and_second a c e = (and_parts a c e).1

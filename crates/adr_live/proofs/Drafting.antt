@@ -6,7 +6,7 @@ use Rattle.std.specs.List.{AllByRecursion}
 use Rattle.std.specs.Ordering.{is_eq, ordering_reverse}
 use Rattle.std.specs.declared.cmp.Ordering.TheVariants.{Less}
 use Rattle.std.specs.Map.{lookup, keys_of}
-use Rattle.std.specs.BTreeMap.{BTreeMap, get, is_at, IsOrdered, IsEmpty, Updates}
+use Rattle.std.specs.BTreeMap.{BTreeMap, get, is_at, IsOrdered, Updates}
 use Rattle.std.specs.List.Sorted.{IsStrictlySortedBy}
 use Rattle.std.proofs.lemmas.Cmp.{nat_list_cmp_total}
 use Rattle.std.proofs.lemmas.List.{take_more}
@@ -60,9 +60,6 @@ step rows seen seen' old new g draft after are is up here there h = by (same_ide
 -- nothing that decides changes
 pub same_drafts : (rows seen seen' : List Held) (drafts : Drafts) → ((h : Identifier) → core_of h seen' ≡ core_of h seen) → AreDrafts rows seen drafts → AreDrafts rows seen' drafts
 same_drafts rows seen seen' drafts same are h = rw (same h) (are h)
-
-pub no_drafts : (rows : List Held) (drafts : Drafts) → IsEmpty drafts → AreDrafts rows rows drafts
-no_drafts rows drafts none h = let f : get identifier_order drafts h ≡ None = ap (lookup (is_at (identifier_order h))) none in rw f refl
 
 -- the key of a reserved row
 is_reserved : (k : Key) (o : Oid) → core_object k ≡ Some o → (attr : ℕ) × (k ≡ RowOf o attr) × (is_core k ≡ true)

@@ -1,6 +1,6 @@
 -- What is said of an `Ok` or of an `Err` alone, and of an option that is there.
-use Rattle.std.proofs.Common.{◌≡◌, refl, sym, subst, Option, None, Some, Result, Ok, Err}
-use Rattle.std.specs.Prelude.{IfOk, IfSome, OnErr, IsSome, IsSomeAnd}
+use Rattle.std.proofs.Common.{◌≡◌, sym, subst, Option, Some, Result, Ok, Err}
+use Rattle.std.specs.Prelude.{IfOk, IfSome, OnErr}
 use Rattle.adr_event.specs.declared.answer.Outcome.{Outcome}
 use Rattle.adr_replica.specs.Settled.{unsent}
 
@@ -15,10 +15,6 @@ on_err_so P Q (Err e) p so = so p
 pub if_ok_so : {X Y : Type 0} (P Q : X → Type 0) (r : Result X Y) → IfOk r P → ((x : X) → P x → Q x) → IfOk r Q
 if_ok_so P Q (Ok x) p so = so x p
 if_ok_so P Q (Err e) p so = tt
-
-pub is_some_so : {A : Type 0} (P : A → Type 0) (o : Option A) → IsSomeAnd o P → IsSome o
-is_some_so P None is = absurd is
-is_some_so P (Some x) is = refl
 
 pub if_ok_at : {X Y : Type 0} (P : X → Type 0) (r : Result X Y) (x : X) → r ≡ Ok x → P x → IfOk r P
 if_ok_at P r x is p = subst (λ r. IfOk r P) (sym is) p

@@ -1,12 +1,12 @@
 -- What a stop and a start leave of a controller.
-use Rattle.std.proofs.Common.{◌≡◌, ◌∙◌, refl, sym, ap, subst, ℕ, List, [], ◌∷◌, Bool, true, false, Option, Some, None, fold}
+use Rattle.std.proofs.Common.{◌≡◌, ◌∙◌, refl, sym, ap, subst, ℕ, List, Bool, true, false, Option, Some, None, fold}
 use Rattle.adr_io.specs.declared.Fault.TheVariants.{Failed as failed_call}
 use Rattle.adr_event.specs.declared.answer.Outcome.{Outcome}
 use Rattle.adr_event.specs.declared.answer.Outcome.TheVariants as outcomes
 use Rattle.adr_model.specs.Update.{Identifier}
 use Rattle.adr_model.specs.Store.{State}
-use Rattle.adr_model.specs.Replica.{Replica, Pending, Plan, Book, Move, Settle, moved, went, moves_of_start, standing_after, plan_after, outcome_after, Standing, Up, Down, Failed}
-use Rattle.adr_model.specs.World.{World, Gone, after_moves, starts, stops, with_replica}
+use Rattle.adr_model.specs.Replica.{Replica, Pending, Plan, Book, Move, moved, went, moves_of_start, standing_after, plan_after, outcome_after, Standing, Up, Failed}
+use Rattle.adr_model.specs.World.{World, Gone, after_moves, starts, with_replica}
 use Rattle.adr_law_journal.specs.Log.{Started}
 use Rattle.adr_law_journal.specs.Replicas.{Has, started, standing_of}
 use Rattle.adr_controller.specs.Running.{Running}
@@ -53,42 +53,8 @@ module _ {K : Type 0} (read safe torn : K → Started State) (plan : K → Optio
           has,
         )
 
-    pub planned_held : is_down new.keeper ≡ is_down old.keeper → IsHeld read safe torn plan is_down name dsa new kept
-    planned_held runs =
-        held_so read safe torn plan is_down name dsa new kept (record r { plan = plan new.keeper }) with_plan_so.0 with_plan_so.1
-        (λ s there. (runs ∙ held.runs s (sym state ∙ there), held.none_kept s (sym state ∙ there))) held.is_id held.reads held.keeps
-
     pub same_seen : plan new.keeper ≡ plan old.keeper → seen read safe plan name new kept ≡ r
     same_seen planned = with_plan_so.0 ∙ ap (λ x. record r { plan = x }) planned
-
-    pub same_held : old.state ≡ None → IsHeld read safe torn plan is_down name dsa new kept
-    same_held none =
-        held_so read safe torn plan is_down name dsa new kept (record r { plan = plan new.keeper }) with_plan_so.0 with_plan_so.1
-        (λ s there. absurd (cc (state, there, none))) held.is_id held.reads held.keeps
-
-  -- ---- a stop
-
-  module _ (past : Past) (new : Running K) (reads : read new.keeper ≡ read old.keeper) (safes : safe new.keeper ≡ read new.keeper) (torns : torn new.keeper ≡ read new.keeper)
-      (planned : plan new.keeper ≡ None) (state : new.state ≡ None) (down : new.down ≡ true) where
-    abbrev ahead : Ahead
-    ahead = ahead_of past r (Settle ∷ [])
-
-    abbrev left : Replica
-    left = record (moved (past.book, r) Settle).1 { standing = Down; plan = None }
-
-    stop_has : Has read safe torn plan new.keeper left
-    stop_has =
-        let finds = reads ∙ held.has.is_read in
-        record { is_read = finds; is_safe = safes ∙ finds; is_torn = torns ∙ finds; is_plan = planned }
-
-    pub stop_seen : seen read safe plan name new ahead.kept ≡ left
-    stop_seen = seen_so read safe torn plan name new ahead.kept left stop_has refl (ap (λ b. standing_by b new.state) down ∙ ap (λ o. standing_by true o) state) refl
-
-    pub stop_held : IsHeld read safe torn plan is_down name dsa new ahead.kept
-    stop_held = held_so read safe torn plan is_down name dsa new ahead.kept left stop_seen stop_has (λ s there. absurd (cc (there, state))) held.is_id held.reads held.reads
-
-    pub stop_leads : Leads r past (λ w. stops w r) (seen read safe plan name new ahead.kept) ahead.past outcomes.Ok
-    stop_leads w stands = moves_made w r (seen read safe plan name new ahead.kept) past ahead.past (Settle ∷ []) Down None outcomes.Ok outcomes.Ok stands stop_seen refl refl
 
   -- ---- a start
 

@@ -1,5 +1,5 @@
 -- The sets of a line are read as the values that they give, and what was read is spelled there.
-use Rattle.std.proofs.Common.{◌≡◌, ℕ, zero, suc, ◌+◌, ◌<◌, ◌≤◌, Bool, true, false, cond, List, [], ◌∷◌, ◌++◌, length, Option, Some, None, refl, sym, ap, ◌∙◌, length-append, length-drop, arith}
+use Rattle.std.proofs.Common.{◌≡◌, ℕ, zero, suc, ◌+◌, ◌<◌, ◌≤◌, Bool, true, false, cond, List, [], ◌∷◌, ◌++◌, length, Option, Some, refl, ap, ◌∙◌, length-append, length-drop, arith}
 use Rattle.std.specs.Prelude.{◌==◌, codes}
 use Rattle.std.proofs.lemmas.Bool.{eqb-true, ne_eqb}
 use Rattle.std.proofs.lemmas.List.{nil_from_length}
@@ -96,30 +96,11 @@ pub record Reads (given : List Given) (bytes : List ℕ) (all : Option (List Giv
   pub enough : length bytes ≤ most
   pub same : sets_within most given bytes ≡ all
 
-pub reads_all : (bytes : List ℕ) → Reads [] bytes (sets_at bytes)
-unfolding sets_at
-reads_all bytes = record { most = length bytes; enough = omega arith; same = refl }
-
-ended_by : (most : ℕ) (given : List Given) (bytes : List ℕ) (all : Option (List Given)) → length (unspaced bytes) ≡ 0 → sets_within most given bytes ≡ all → all ≡ Some given
-ended_by zero given bytes all none same = sym same ∙ rw none refl
-ended_by (suc most) given bytes all none same = sym same ∙ rw none refl
-
--- at the end the values are all that the line gives
-pub reads_ended : (given : List Given) (bytes : List ℕ) (all : Option (List Given)) → Reads given bytes all → length (unspaced bytes) ≡ 0 → all ≡ Some given
-reads_ended given bytes all r none = ended_by r.most given bytes all none r.same
-
 -- before the end the next set tells
 on_by : (most : ℕ) (given : List Given) (bytes : List ℕ) (all : Option (List Given)) → length bytes ≤ most → (length (unspaced bytes) ≡ 0 → ⊥) → sets_within most given bytes ≡ all
     → (fewer : ℕ) × (length bytes ≤ suc fewer) × ((set_at bytes >>= λ set. with_set given set.0 >>= λ more. sets_within fewer more set.1) ≡ all)
 on_by zero given bytes all small more same = let within : length (unspaced bytes) ≤ length bytes = simp length-drop (omega arith) in absurd (more (omega arith))
 on_by (suc most) given bytes all small more same = (most, small, rw (ne_eqb (length (unspaced bytes)) 0 more) at same)
-
-pub reads_bad : (given : List Given) (bytes : List ℕ) (all : Option (List Given)) → Reads given bytes all → (length (unspaced bytes) ≡ 0 → ⊥) → set_at bytes ≡ None → all ≡ None
-reads_bad given bytes all r more none = let on = on_by r.most given bytes all r.enough more r.same in sym on.2 ∙ rw none refl
-
-pub reads_repeated : (given : List Given) (bytes rest : List ℕ) (set : Given) (all : Option (List Given)) → Reads given bytes all → (length (unspaced bytes) ≡ 0 → ⊥)
-    → set_at bytes ≡ Some (set, rest) → with_set given set ≡ None → all ≡ None
-reads_repeated given bytes rest set all r more at none = let on = on_by r.most given bytes all r.enough more r.same in sym on.2 ∙ rw (at, none) refl
 
 pub set_shorter : (bytes rest : List ℕ) (set : Given) → set_at bytes ≡ Some (set, rest) → length rest < length bytes
 set_shorter bytes rest set at = (goes_on set.0 set.1 bytes rest (set_next bytes (set, rest) at)).shorter

@@ -1,5 +1,5 @@
 -- Hints of the links to an object, from one to the next.
-use Rattle.std.proofs.Common.{◌≡◌, ◌⊎◌, inl, inr, ⊎_elim, refl, sym, ap, ◌∙◌, subst, ℕ, List, [], ◌∷◌, Bool, true, false, cond, not, ◌&&◌, ◌||◌, Option, Some, None, filter}
+use Rattle.std.proofs.Common.{◌≡◌, ◌⊎◌, inl, inr, refl, sym, ap, ◌∙◌, subst, ℕ, List, [], ◌∷◌, Bool, true, false, not, ◌&&◌, ◌||◌, Option, Some, None, filter}
 use Rattle.std.specs.Prelude.{IsSome}
 use Rattle.std.specs.List.{AllByRecursion, list_any}
 use Rattle.std.specs.List.Sorted.{IsStrictlySortedBy}
@@ -13,6 +13,7 @@ use Rattle.std.specs.declared.cmp.Ordering.TheVariants.{Less, Equal, Greater}
 use Rattle.std.proofs.lemmas.Cmp.{tied_itself}
 use Rattle.std.proofs.lemmas.List.Kept.{IsStrictlySortedBy-filter}
 use Rattle.std.proofs.lemmas.Map.Keys.{sorted_head, sorted_tail}
+use Rattle.std.proofs.lemmas.Map.Views.{any-filter_same}
 use Rattle.std.proofs.lemmas.Map.Lookups.{CmpEqualImpliesEq, exact_pairs, exact_unsigned}
 use Rattle.adr_stamp.specs.declared.Oid.{Oid}
 use Rattle.adr_stamp.specs.declared.LinkKey.{LinkKey}
@@ -20,9 +21,9 @@ use Rattle.adr_stamp.specs.Order.{object_order}
 use Rattle.adr_stamp.proofs.Exact.{exact_objects}
 use Rattle.adr_stamp.specs.contracts.OidOrd.TheImpl.Laws.{total-law as objects_total}
 use Rattle.adr_model.proofs.Keys.{equal_order}
-use Rattle.adr_model.specs.Update.{Key, RowOf, LinkOf, same_object}
+use Rattle.adr_model.specs.Update.{Key, LinkOf, same_object}
 use Rattle.adr_model.specs.Store.{Held}
-use Rattle.adr_table.specs.declared.place.Place.{Place}
+use Rattle.adr_update.proofs.Starts.{from_all}
 use Rattle.adr_table.specs.declared.back.Source.{Source}
 use Rattle.adr_table.specs.declared.back.Behind.{Behind}
 use Rattle.adr_table.specs.Place.{place_of, place_order}
@@ -135,42 +136,13 @@ module _ (o : Oid) where
 
 -- ---- the hints from an object's first on
 
-told : (a b : Behind) → range_contains behind_order (Included a) Unbounded b ≡ true → IsLeBy behind_order a b
-told a b e = by (behind_order a b) e
-  where
-    by : (x : Ordering) → (is_le x && not false) ≡ true → is_gt x ≡ false
-    by Less e = refl
-    by Equal e = refl
-    by Greater e = cc
-
-pub all_told : (a : Behind) (bs : List Behind) → AllByRecursion (λ b. IsLeBy behind_order a b) (filter (range_contains behind_order (Included a) Unbounded) bs)
-all_told a [] = tt
-all_told a (b ∷ bs) = by (range_contains behind_order (Included a) Unbounded b) refl (all_told a bs)
-  where
-    rest : List Behind
-    rest = filter (range_contains behind_order (Included a) Unbounded) bs
-
-    by : (t : Bool) → range_contains behind_order (Included a) Unbounded b ≡ t → AllByRecursion (λ c. IsLeBy behind_order a c) rest → AllByRecursion (λ c. IsLeBy behind_order a c) (cond t (b ∷ rest) rest)
-    by true is h = (told a b is, h)
-    by false is h = h
-
-any_kept : (test keep : Behind → Bool) → ((b : Behind) → test b ≡ true → keep b ≡ true) → (bs : List Behind) → list_any test bs ≡ true → list_any test (filter keep bs) ≡ true
-any_kept test keep f [] any = any
-any_kept test keep f (b ∷ bs) any = by (keep b) (test b) refl (f b) any (any_kept test keep f bs)
-  where
-    by : (k t : Bool) → test b ≡ t → (t ≡ true → k ≡ true) → (t || list_any test bs) ≡ true → (list_any test bs ≡ true → list_any test (filter keep bs) ≡ true) → list_any test (cond k (b ∷ filter keep bs) (filter keep bs)) ≡ true
-    by true true is g any later = ap (λ x. x || list_any test (filter keep bs)) is
-    by true false is g any later = ap (λ x. x || list_any test (filter keep bs)) is ∙ later any
-    by false true is g any later = let no : false ≡ true = g refl in cc
-    by false false is g any later = later any
-
 pub first_hints : (o : Oid) (bs left : List Behind) → left ≡ filter (range_contains behind_order (Included (record { to = o; from = None })) Unbounded) bs → IsStrictlySortedBy behind_order bs → Stops o left
-first_hints o bs left is sorted = subst (Stops o) (sym is) (stops o (filter (range_contains behind_order (Included (record { to = o; from = None })) Unbounded) bs) (IsStrictlySortedBy-filter behind_order (range_contains behind_order (Included (record { to = o; from = None })) Unbounded) bs sorted) (all_told (record { to = o; from = None }) bs))
+first_hints o bs left is sorted = subst (Stops o) (sym is) (stops o (filter (range_contains behind_order (Included (record { to = o; from = None })) Unbounded) bs) (IsStrictlySortedBy-filter behind_order (range_contains behind_order (Included (record { to = o; from = None })) Unbounded) bs sorted) (from_all behind_order (record { to = o; from = None }) bs))
 
 pub hinted : (o : Oid) (bs left : List Behind) → left ≡ filter (range_contains behind_order (Included (record { to = o; from = None })) Unbounded) bs
     → (l : LinkKey) → same_object l.to o ≡ true → list_any (is_at (behind_order (hint l))) bs ≡ true → list_any (is_at (behind_order (hint l))) left ≡ true
 hinted o bs left is l to any = subst (λ xs. list_any (is_at (behind_order (hint l))) xs ≡ true) (sym is)
-    (any_kept (is_at (behind_order (hint l))) (range_contains behind_order (Included (record { to = o; from = None })) Unbounded) from bs any)
+    (any-filter_same (is_at (behind_order (hint l))) (range_contains behind_order (Included (record { to = o; from = None })) Unbounded) true from bs ∙ any)
   where
     here : (x : Ordering) → x ≡ Equal → (is_le (ordering_then x Less) && not false) ≡ true
     here Less e = refl
@@ -184,19 +156,3 @@ hinted o bs left is l to any = subst (λ xs. list_any (is_at (behind_order (hint
 pub some_or_none : {P : Type 0} (o : Option Held) → (IsSome o → P) → (o ≡ None) ⊎ P
 some_or_none None f = inl refl
 some_or_none (Some h) f = inr (f refl)
-
--- where no hint of the object is left, all links to it are empty
-pub all_gone : (o : Oid) (new old : Place → Option Held) (left : List Behind)
-    → ((k : Key) → is_link_to o k ≡ false → new (place_of k) ≡ old (place_of k))
-    → ((l : LinkKey) → same_object l.to o ≡ true → (new (place_of (LinkOf l)) ≡ None) ⊎ (list_any (is_at (behind_order (hint l))) left ≡ true))
-    → ((l : LinkKey) → same_object l.to o ≡ true → list_any (is_at (behind_order (hint l))) left ≡ false)
-    → (k : Key) → new (place_of k) ≡ cond (is_link_to o k) None (old (place_of k))
-all_gone o new old left rows gone none k = by k (is_link_to o k) refl
-  where
-    link : (l : LinkKey) → same_object l.to o ≡ true → new (place_of (LinkOf l)) ≡ None
-    link l to = ⊎_elim (λ e. e) (λ any. let no : true ≡ false = sym any ∙ none l to in cc) (gone l to)
-
-    by : (k : Key) (b : Bool) → is_link_to o k ≡ b → new (place_of k) ≡ cond b None (old (place_of k))
-    by k false is = rows k is
-    by (RowOf p a) true is = cc
-    by (LinkOf l) true is = link l is

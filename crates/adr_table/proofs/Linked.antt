@@ -28,6 +28,7 @@ use Rattle.adr_model.specs.Store.{Held, row_held}
 use Rattle.adr_model.specs.Formed.{AreRising}
 use Rattle.adr_law_knowledge.proofs.Counting.{rises_from}
 use Rattle.adr_update.specs.Sought.{is_link_to}
+use Rattle.adr_update.proofs.Starts.{from_all}
 use Rattle.adr_table.specs.declared.slots.Slots.{Slots}
 use Rattle.adr_table.specs.declared.back.Source.{Source}
 use Rattle.adr_table.specs.declared.back.Behind.{Behind}
@@ -35,7 +36,7 @@ use Rattle.adr_table.specs.Place.{place_of}
 use Rattle.adr_table.specs.Slots.{IsTidy, row_at, rows_seen}
 use Rattle.adr_table.specs.Back.{AreBacked, behind_order, hint, link_behind, row_of_link, source_order}
 use Rattle.adr_table.proofs.Seen.{found}
-use Rattle.adr_table.proofs.Behinds.{all_later, all_told, exact_behinds, first_part, hinted, strictly, symmetric}
+use Rattle.adr_table.proofs.Behinds.{all_later, exact_behinds, first_part, hinted, strictly, symmetric}
 use Rattle.adr_table.proofs.Queries.{rise}
 use Rattle.adr_table.proofs.Hinted.{all_read, held_is, is_held}
 use Rattle.adr_table.proofs.OneList.{one_list}
@@ -87,7 +88,7 @@ module _ (slots : Slots) (o : Oid) where
   links_end bs left is sorted =
       subst (LinksEnd slots o) (sym is)
       (ends (from_first bs) (IsStrictlySortedBy-filter behind_order (range_contains behind_order (Included (record { to = o; from = None })) Unbounded) bs sorted)
-      (all_told (record { to = o; from = None }) bs))
+      (from_all behind_order (record { to = o; from = None }) bs))
 
 -- ---- look-ups in lists of rows
 

@@ -4,10 +4,9 @@ use Rattle.std.specs.List.{list_any}
 use Rattle.std.specs.Option.{option_cmp}
 use Rattle.std.specs.BTreeMap.{is_at}
 use Rattle.std.specs.BTreeSet.{BTreeSet, contains}
-use Rattle.std.specs.Ordering.{nat_cmp, is_eq, match_ordering, ordering_then}
+use Rattle.std.specs.Ordering.{nat_cmp, is_eq, ordering_then}
 use Rattle.std.specs.declared.cmp.Ordering.{Ordering}
 use Rattle.std.specs.declared.cmp.Ordering.TheVariants.{Less, Equal, Greater}
-use Rattle.std.specs.Cmp.{IsTotalOrder}
 use Rattle.std.proofs.lemmas.Bool.{cases_lt}
 use Rattle.std.proofs.lemmas.Bool.Decides.{nat_tests}
 use Rattle.std.proofs.lemmas.Map.Lookups.{CmpEqualImpliesEq, exact_pairs, exact_unsigned}
@@ -15,10 +14,11 @@ use Rattle.adr_stamp.specs.declared.Oid.{Oid}
 use Rattle.adr_stamp.specs.declared.Unit.{Unit as Named}
 use Rattle.adr_model.proofs.Members.{each_fails, of_filter, one_passes}
 use Rattle.adr_model.specs.Member.{Member, Each}
-use Rattle.adr_model.specs.Update.{key_order, same_unit, unit_of}
+use Rattle.adr_model.specs.Update.{same_unit, unit_of}
 use Rattle.adr_model.specs.Store.{Held, is_row_of, with_row}
 use Rattle.adr_model.specs.Change.{stripped, without_object, goes_with}
 use Rattle.adr_model.specs.Serve.{last_local}
+use Rattle.adr_law_knowledge.proofs.RisingHeld.{of_with_row}
 use Rattle.adr_update.specs.Sought.{rows_of_unit}
 use Rattle.adr_table.specs.declared.place.Place.{Place}
 use Rattle.adr_table.specs.declared.slots.Slots.{Slots}
@@ -26,12 +26,8 @@ use Rattle.adr_table.specs.declared.locals.Local.{Local}
 use Rattle.adr_table.specs.Place.{place_order}
 use Rattle.adr_table.specs.Slots.{rows_seen}
 use Rattle.adr_table.specs.Locals.{local_order, local_of, unit_place, AreLocated, above, greatest, is_last, is_number, is_of_seat, rows_of_seat}
-use Rattle.adr_table.specs.contracts.locals.LocalOrd.TheImpl.Laws.{total-law}
 use Rattle.adr_table.proofs.Places.{exact_options, exact_places}
 use Rattle.adr_table.proofs.LocalsSeats.{rows_of, same_itself, seat_is, seat_tells, units_tell}
-
-pub locals_total : IsTotalOrder local_order
-locals_total = total-law
 
 pub exact_locals : CmpEqualImpliesEq local_order
 exact_locals a b h =
@@ -55,19 +51,6 @@ each_same old new P Q each more same = each_among old new P Q each more (λ h m.
 -- where rows went
 each_fewer : (old new : Slots) (P : Held → Type 0) (keep : Held → Bool) → Each P (rows_seen old) → rows_seen new ≡ filter keep (rows_seen old) → Each P (rows_seen new)
 each_fewer old new P keep each fewer = each_among old new P P each (λ h e. e) (λ h m. (of_filter keep (rows_seen old) h (subst (Member h) fewer m)).0)
-
-pub of_with_row : (rows : List Held) (x h : Held) → Member h (with_row rows x) → (h ≡ x) ⊎ Member h rows
-of_with_row [] x h (inl e) = inl e
-of_with_row [] x h (inr m) = absurd m
-of_with_row (y ∷ ys) x h m = by (key_order x.update.key y.update.key) m (of_with_row ys x h)
-  where
-    by : (o : Ordering) → Member h (match_ordering o (x ∷ y ∷ ys) (x ∷ ys) (y ∷ with_row ys x)) → (Member h (with_row ys x) → (h ≡ x) ⊎ Member h ys) → (h ≡ x) ⊎ Member h (y ∷ ys)
-    by Less (inl e) rest = inl e
-    by Less (inr n) rest = inr n
-    by Equal (inl e) rest = inl e
-    by Equal (inr n) rest = inr (inr n)
-    by Greater (inl e) rest = inr (inl e)
-    by Greater (inr n) rest = ⊎_elim (λ e. inl e) (λ o. inr (inr o)) (rest n)
 
 -- where a row is written
 pub each_written : (old new : Slots) (P : Held → Type 0) (row : Held) → Each P (rows_seen old) → P row → rows_seen new ≡ with_row (rows_seen old) row → Each P (rows_seen new)

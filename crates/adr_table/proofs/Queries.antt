@@ -11,7 +11,7 @@ use Rattle.std.proofs.lemmas.Cmp.{tied_itself}
 use Rattle.std.proofs.lemmas.Map.Keys.{sorted_head, sorted_tail}
 use Rattle.adr_stamp.specs.declared.Oid.{Oid}
 use Rattle.adr_stamp.specs.declared.LinkKey.{LinkKey}
-use Rattle.adr_stamp.specs.declared.Unit.TheVariants.{Object, Link}
+use Rattle.adr_stamp.specs.declared.Unit.TheVariants.{Link}
 use Rattle.adr_model.proofs.Keys.{equal_order, exact_keys, keys_total}
 use Rattle.adr_model.specs.Formed.{AreRising}
 use Rattle.adr_model.specs.Update.{Identifier, Key, RowOf, LinkOf, Update, key_order, same_key, same_unit, unit_of}
@@ -126,13 +126,6 @@ one_of_key k (h ∷ hs) rising = by (same_key h.update.key k) refl (one_of_key k
         ap (λ xs. h ∷ xs) (none_above k hs
         (subst (λ j. AllByRecursion (λ i. key_order j i ≡ Less) (map (λ (x : Held). x.update.key) hs)) same (sorted_head key_order h.update.key (map (λ (x : Held). x.update.key) hs) rising)))
     by false is later = later
-
-pub unit_of_object : (o : Oid) (rows : List Held) → filter (λ h. is_row_of o h.update.key) rows ≡ rows_of_unit rows (Object o)
-unit_of_object o rows = filter_alike (λ h. is_row_of o h.update.key) (λ h. same_unit (unit_of h.update.key) (Object o)) (λ h. alike h.update.key) rows
-  where
-    alike : (k : Key) → is_row_of o k ≡ same_unit (unit_of k) (Object o)
-    alike (RowOf p a) = refl
-    alike (LinkOf l) = refl
 
 pub unit_of_link : (l : LinkKey) (rows : List Held) → AreRising rows → and_seen (row_held rows (LinkOf l)) [] ≡ rows_of_unit rows (Link l)
 unit_of_link l rows rising =

@@ -50,10 +50,6 @@ sum_first : (f : ℕ → ℕ) (k : ℕ) → sum_through f (suc k) ≡ f 0 + sum_
 sum_first f zero = refl
 sum_first f (suc k) = rw (sum_first f k) (omega arith)
 
-worth_suc : (k b : ℕ) → byte_worth k b ≡ b * 256 ^ k
-worth_suc zero b = rw (pow-zero 256) (omega arith)
-worth_suc (suc k) b = refl
-
 sum_value : (k : ℕ) (bs : List ℕ) → length bs ≡ suc k → sum_through (λ i. byte_worth (k - i) (slice_index bs i)) k ≡ value bs
 unfolding value
 sum_value k [] l = absurd (omega arith)

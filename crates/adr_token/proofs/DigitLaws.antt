@@ -95,11 +95,6 @@ fits : (hex : Bool) (n : ℕ) → n < 2 ^ 64 → n < base hex ^ 64
 fits true n h = omega arith
 fits false n h = omega arith
 
-none_again : (hex : Bool) → number_of hex 0 (digits (base hex) false 0) ≡ Some 0
-unfolding digits
-none_again true = refl
-none_again false = refl
-
 zero_short : (hex : Bool) → is_short (digits (base hex) false 0) ≡ true
 unfolding digits
 zero_short true = refl

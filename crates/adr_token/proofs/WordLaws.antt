@@ -57,9 +57,6 @@ word_again (b ∷ bs) rest h n e =
     let some : (length (b ∷ (bs ++ rest)) == 0) ≡ false = ne_eqb _ 0 (λ z. omega arith) in
     rw (starts b (bs ++ rest) p.0, at_stop is_space (b ∷ bs) rest h (word_stops is_space rest refl e), take-append_seam (b ∷ bs) rest, drop-append_seam (b ∷ bs) rest, some) refl
 
-pub word_skips : (bytes : List ℕ) → word_at (32 ∷ bytes) ≡ word_at bytes
-word_skips bytes = rw (skips bytes) refl
-
 rest_ends_from : (b : ℕ) (bs : List ℕ) (t : Bool) → is_space b ≡ t → ends_word (drop (position_or_len is_space bs) bs) ≡ true → ends_word (drop (position_or_len is_space (b ∷ bs)) (b ∷ bs)) ≡ true
 rest_ends_from b bs true h more = rw (h, h) refl
 rest_ends_from b bs false h more =

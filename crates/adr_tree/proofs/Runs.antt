@@ -1,5 +1,5 @@
 -- Hints of one run, from one to the next.
-use Rattle.std.proofs.Common.{◌≡◌, refl, sym, ap, ◌∙◌, subst, ℕ, List, [], ◌∷◌, Bool, true, false, cond, not, ◌&&◌, ◌||◌, Option, Some, None, filter}
+use Rattle.std.proofs.Common.{◌≡◌, refl, sym, ap, ◌∙◌, subst, ℕ, List, [], ◌∷◌, Bool, true, false, not, ◌&&◌, ◌||◌, Option, Some, None, filter}
 use Rattle.std.specs.List.{AllByRecursion, list_any}
 use Rattle.std.specs.List.Sorted.{IsStrictlySortedBy}
 use Rattle.std.specs.Option.{option_cmp}
@@ -13,10 +13,12 @@ use Rattle.std.specs.declared.cmp.Ordering.TheVariants.{Less, Equal, Greater}
 use Rattle.std.proofs.lemmas.Cmp.{on_total, tied_itself}
 use Rattle.std.proofs.lemmas.List.Kept.{IsStrictlySortedBy-filter}
 use Rattle.std.proofs.lemmas.Map.Keys.{sorted_head, sorted_tail}
+use Rattle.std.proofs.lemmas.Map.Views.{any-filter_same}
 use Rattle.std.proofs.lemmas.Map.Lookups.{CmpEqualImpliesEq, exact_pairs, exact_unsigned, exact_bytes}
 use Rattle.adr_stamp.specs.Order.{identifier_order}
 use Rattle.adr_model.specs.Update.{Identifier}
 use Rattle.adr_model.proofs.Keys.{equal_order}
+use Rattle.adr_update.proofs.Starts.{from_all}
 use Rattle.adr_tree.specs.declared.hints.Hint.{Hint}
 use Rattle.adr_tree.specs.Hints.{hint_order, is_in_run}
 use Rattle.adr_tree.specs.contracts.hints.HintOrd.TheImpl.Laws.{total-law}
@@ -137,38 +139,9 @@ behind start h hs left is run q any = greater_later h q hs (sorted_head hint_ord
 
 -- ---- the hints from the start of a run on
 
-told : (a b : Hint) → range_contains hint_order (Included a) Unbounded b ≡ true → IsLeBy hint_order a b
-told a b e = by (hint_order a b) e
-  where
-    by : (x : Ordering) → (is_le x && not false) ≡ true → is_gt x ≡ false
-    by Less e = refl
-    by Equal e = refl
-    by Greater e = cc
-
-all_told : (a : Hint) (bs : List Hint) → AllByRecursion (λ b. IsLeBy hint_order a b) (filter (range_contains hint_order (Included a) Unbounded) bs)
-all_told a [] = tt
-all_told a (b ∷ bs) = by (range_contains hint_order (Included a) Unbounded b) refl (all_told a bs)
-  where
-    rest : List Hint
-    rest = filter (range_contains hint_order (Included a) Unbounded) bs
-
-    by : (t : Bool) → range_contains hint_order (Included a) Unbounded b ≡ t → AllByRecursion (λ c. IsLeBy hint_order a c) rest → AllByRecursion (λ c. IsLeBy hint_order a c) (cond t (b ∷ rest) rest)
-    by true is h = (told a b is, h)
-    by false is h = h
-
 pub begins : (start : Hint) (hs left : List Hint) → left ≡ filter (range_contains hint_order (Included start) Unbounded) hs → IsStrictlySortedBy hint_order hs → Run start left
 begins start hs left is sorted =
-    subst (Run start) (sym is) (IsStrictlySortedBy-filter hint_order (range_contains hint_order (Included start) Unbounded) hs sorted, all_told start hs)
-
-any_kept : (test keep : Hint → Bool) → ((b : Hint) → test b ≡ true → keep b ≡ true) → (bs : List Hint) → list_any test bs ≡ true → list_any test (filter keep bs) ≡ true
-any_kept test keep f [] any = any
-any_kept test keep f (b ∷ bs) any = by (keep b) (test b) refl (f b) any (any_kept test keep f bs)
-  where
-    by : (k t : Bool) → test b ≡ t → (t ≡ true → k ≡ true) → (t || list_any test bs) ≡ true → (list_any test bs ≡ true → list_any test (filter keep bs) ≡ true) → list_any test (cond k (b ∷ filter keep bs) (filter keep bs)) ≡ true
-    by true true is g any later = ap (λ x. x || list_any test (filter keep bs)) is
-    by true false is g any later = ap (λ x. x || list_any test (filter keep bs)) is ∙ later any
-    by false true is g any later = let no : false ≡ true = g refl in cc
-    by false false is g any later = later any
+    subst (Run start) (sym is) (IsStrictlySortedBy-filter hint_order (range_contains hint_order (Included start) Unbounded) hs sorted, from_all hint_order start hs)
 
 -- a hint of the run is not before its start
 pub from_start : (start q : Hint) → start.guid ≡ None → is_in_run start q ≡ true → range_contains hint_order (Included start) Unbounded q ≡ true
@@ -187,8 +160,8 @@ pub left_of_run : (start : Hint) → start.guid ≡ None → (hs left : List Hin
     → (q : Hint) → is_in_run start q ≡ true → list_any (is_at (hint_order q)) hs ≡ true → list_any (is_at (hint_order q)) left ≡ true
 left_of_run start bare_start hs left is q in_run any =
     subst (λ xs. list_any (is_at (hint_order q)) xs ≡ true) (sym is)
-    (any_kept (is_at (hint_order q)) (range_contains hint_order (Included start) Unbounded)
-    (λ b at. subst (λ r. range_contains hint_order (Included start) Unbounded r ≡ true) (told_apart q b at) (from_start start q bare_start in_run)) hs any)
+    (any-filter_same (is_at (hint_order q)) (range_contains hint_order (Included start) Unbounded) true
+    (λ b at. subst (λ r. range_contains hint_order (Included start) Unbounded r ≡ true) (told_apart q b at) (from_start start q bare_start in_run)) hs ∙ any)
 
 -- in a run the order is that of the GUIDs
 pub guid_less : (start h q : Hint) → is_in_run start h ≡ true → is_in_run start q ≡ true → hint_order h q ≡ Less → option_cmp identifier_order h.guid q.guid ≡ Less

@@ -113,10 +113,6 @@ pub flat_either : (b : Bool) (v : Option Node) (old : Option (Option Node)) → 
 flat_either true v old = refl
 flat_either false v old = refl
 
-pub flag_either : (b v : Bool) (old : Option Bool) → unwrap_or (cond b (Some v) old) false ≡ cond b v (unwrap_or old false)
-flag_either true v old = refl
-flag_either false v old = refl
-
 -- a flag that is written as it is, or not set where there is none, leaves what is looked up
 pub same_flag : (f : Identifier → Option Bool) (g h : Identifier) (v : Bool) → v ≡ unwrap_or (f g) false → unwrap_or (cond (is_at (identifier_order g) h) (Some v) (f h)) false ≡ unwrap_or (f h) false
 same_flag f g h v is = by (is_at (identifier_order g) h) refl

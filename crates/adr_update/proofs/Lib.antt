@@ -1,2 +1,3 @@
 pub mod Referred
 pub mod Slots
+pub mod Starts

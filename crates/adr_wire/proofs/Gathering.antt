@@ -1,5 +1,5 @@
 -- The laws of readings that know what was read before: each follows from the laws of its parts.
-use Rattle.std.proofs.Common.{◌≡◌, ℕ, zero, suc, ◌+◌, ◌-◌, ◌<◌, ◌≤◌, append-nil, Bool, true, false, cond, eqb, List, [], ◌∷◌, ◌++◌, length, Result, Ok, Err, refl, sym, ap, subst, ◌∙◌, append_assoc, arith}
+use Rattle.std.proofs.Common.{◌≡◌, ℕ, zero, suc, ◌+◌, ◌-◌, ◌<◌, ◌≤◌, append-nil, Bool, true, false, cond, List, [], ◌∷◌, ◌++◌, length, Ok, Err, refl, sym, ap, subst, ◌∙◌, append_assoc, arith}
 use Rattle.std.specs.List.{flat_map}
 use Rattle.std.proofs.lemmas.List.{length-append}
 use Rattle.adr_failure.specs.declared.Failure.{Failure}
@@ -114,12 +114,6 @@ looked P s look a law sees = record {
 
 pub gives_same : {A : Type 0} (a : Reading A) → GivesToo a a
 gives_same a rest y e = e
-
-pub gives_untested : {A : Type 0} (test : A → Bool) (a : Reading A) → GivesToo (where_at test a) a
-gives_untested test a rest y e =
-    let b = bind_ok (a rest) (λ x. cond (test x.0) (Ok x) (Err rest.place)) y e in
-    let g = passed_ok (test b.0.0) rest.place b.0 y b.2 in
-    b.1 ∙ ap (λ (x : _ × Rest). Ok x) g.1
 
 pub gives_passed : {A : Type 0} (fault : ℕ) (test : A → Bool) (a b : Reading A) → GivesToo a b → GivesToo (passing_at fault test a) (passing_at fault test b)
 gives_passed {A} fault test a b gives rest y e =

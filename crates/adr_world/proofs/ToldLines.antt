@@ -6,7 +6,7 @@ use Rattle.std.proofs.lemmas.List.{append-nil}
 use Rattle.adr_event.specs.declared.answer.Answer.{Answer}
 use Rattle.adr_io.specs.Told.{Adds, AddsFront}
 use Rattle.adr_report.specs.Line.{line}
-use Rattle.adr_world.proofs.Due.{Remains, all_remains, rest_remains, less_remains, adds_more, front_remains}
+use Rattle.adr_world.proofs.Due.{Remains, all_remains, rest_remains, adds_more, front_remains}
 
 module _ (first now next : Option (List ℕ)) (told more : List Answer) (so_far : Adds first now (flat_map line told)) where
   -- the lines of more answers are written
@@ -37,6 +37,3 @@ module _ (first now next : Option (List ℕ)) (answers : List Answer) (i : ℕ) 
 
   pub line_front : AddsFront now next (line a) → AddsFront first next (flat_map line answers)
   line_front added = front_remains first now next (flat_map line answers) (line a) (flat_map line (drop (suc i) answers)) due_next added
-
-  pub line_added : Adds now next (line a) → Remains first next (flat_map line answers) (flat_map line (drop (suc i) answers))
-  line_added added = less_remains first now next (flat_map line answers) (line a) (flat_map line (drop (suc i) answers)) due_next added

@@ -2,9 +2,10 @@ use Rattle.std.proofs.Common.{◌≡◌, inr, ℕ, ◌+◌, ◌++◌, [], ◌∷
 use Rattle.adr_model.specs.Lengths.{new_log_end}
 use Rattle.adr_law_journal.specs.Kept.{IsSettled}
 use Rattle.adr_law_journal.proofs.Lifts.{kept_same}
+use Rattle.adr_law_journal.proofs.Told.{same_keeps}
 use Rattle.adr_journal.specs.Ended.{IsNewOrNone}
 use Rattle.adr_journal.specs.Ran.{Formats}
-use Rattle.adr_journal.proofs.Found.{left_behind, moments_behind, none_left, none_moments, same_keeps}
+use Rattle.adr_journal.proofs.Found.{left_behind, moments_behind, none_left, none_moments}
 use Rattle.adr_journal.proofs.Heads.{begun_rests, begun_long, no_memory_left}
 use Rattle.adr_journal.proofs.journal.JournalKeeper.format.Goals as goal
 

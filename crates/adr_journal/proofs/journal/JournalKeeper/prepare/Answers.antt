@@ -1,6 +1,7 @@
 use Rattle.std.proofs.Common.{length, ap, arith}
 use Rattle.adr_law_journal.proofs.Lifts.{kept_same}
-use Rattle.adr_journal.proofs.Found.{record_length, same_keeps, still_at}
+use Rattle.adr_law_journal.proofs.Told.{same_keeps}
+use Rattle.adr_journal.proofs.Found.{record_length, still_at}
 use Rattle.adr_journal.proofs.journal.JournalKeeper.prepare.Goals as goal
 
 pub returns-in-Ok-reserve-clause-prepared : goal.returns-in-Ok-reserve-clause-prepared
