@@ -39,14 +39,14 @@ pub fn dead_to_collect(
         covering: Vector::new(alloc),
     };
     for row in deaths {
-        dead.take(state.vector(), now, lifetime, row.update())?;
+        dead.add(state.vector(), now, lifetime, row.update())?;
     }
     Ok(dead)
 }
 
 impl Dead {
-    /// Takes the object of a death, if it may be collected.
-    fn take(
+    /// Adds the object of a death, if it may be collected.
+    fn add(
         &mut self,
         seen: &Vector,
         now: u64,

@@ -125,8 +125,6 @@ object_next usn table k os h rest =
     object_same usn table k.last k.used.keys (fold with_rows no_objects os).used h.used rest
     ∙ ap (λ (last : Option Oid). object_at usn table (record { last = last; used = (fold with_rows no_objects os).used }) rest) h.last
 
-}
-
 pub keeps_link : (os : List Rows) (k j : Links) (ls : List HeldLink) (l : HeldLink) → KeepsLinks os k ls → j.rows.items ≡ k.rows.items ++ (link_of l ∷ []) → j.last ≡ Some l.1.0 → j.used.keys ≡ insert_key nat_cmp k.used.keys l.0
     → j.dead ≡ k.dead → KeepsLinks os j (ls ++ l ∷ [])
 keeps_link os k j ls l h rows last used dead =

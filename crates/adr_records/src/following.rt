@@ -20,8 +20,8 @@ fn are_locals_within(change: &Change) -> bool
     change.writes().iter().all(|written| written.local() <= usn)
 }
 
-/// Takes a change that was read, if it can follow the state.
-fn take(alloc: Global, state: &mut State, change: &Change) -> Result<(), FollowRefusal>
+/// Applies a change that was read, if it can follow the state.
+fn apply_read(alloc: Global, state: &mut State, change: &Change) -> Result<(), FollowRefusal>
     requires logged { IsLogged state.old }
     requires body { HasBody state.old.store.usn change.now }
     ensures ok { OnOk result (by_change state.old (Some change.now) ≡ Some state.new) }
@@ -52,9 +52,9 @@ pub(crate) fn follow(alloc: Global, state: &mut State, body: &[u8]) -> Result<()
 {
     match decode_change(alloc, state.usn(), body) {
         Ok(Some(change)) => {
-            let taken = take(alloc, state, &change);
+            let applied = apply_read(alloc, state, &change);
             drop(change);
-            taken
+            applied
         }
         Ok(None) => Err(FollowRefusal::CannotFollow),
         Err(_) => Err(FollowRefusal::NoMemory),

@@ -124,7 +124,6 @@ module _ (w : World) (run : IsWorldOfRun w) (name : Name) (r : Replica) (is : re
 
 -- a report of a controller, by what its state is
 module _ (w : World) (name : Name) (act : Replica → Outcome) (r : Replica) (is : replica_at w name ≡ Some r) where
-
   pub told_other : (o : Outcome) → ((r.standing ≡ Down) × (o ≡ outcomes.Down)) ⊎ ((r.standing ≡ Failed) × (o ≡ outcomes.Failed)) → of_controller w name (stays w) (λ x. (w, act x)) ≡ (w, o)
   told_other o (inl so) = reaches w name (stays w) (λ x. (w, act x)) r is ∙ ap (λ s. where_up (stays w) s (w, act r)) so.0 ∙ ap (λ x. (w, x)) (sym so.1)
   told_other o (inr so) = reaches w name (stays w) (λ x. (w, act x)) r is ∙ ap (λ s. where_up (stays w) s (w, act r)) so.0 ∙ ap (λ x. (w, x)) (sym so.1)

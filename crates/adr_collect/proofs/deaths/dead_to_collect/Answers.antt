@@ -20,19 +20,19 @@ loop-row-preserved c =
     let more : c.loop-row.row-iterator.rest.items ≡ c.in-Some.row ∷ c.next.new.self.rest.items = grind (arith, common_steps) in
     let whole = sym (ap (λ rows. among (referents rows)) more) in
     let object = collected_by seen c.args.now c.args.lifetime death in
-    let taken = ap (λ v. collected_by v c.args.now c.args.lifetime c.update.result.now) c.vector.ensures ∙ ap (collected_by seen c.args.now c.args.lifetime) c.update.ensures in
+    let added = ap (λ v. collected_by v c.args.now c.args.lifetime c.update.result.now) c.vector.ensures ∙ ap (collected_by seen c.args.now c.args.lifetime) c.update.ensures in
     record {
       objects =
-          ap (λ os. os ++ map (λ (d : Oid × Update). d.0) left) (c.in_ok-take.ensures.objects ∙ ap (λ o. before.objects.items ++ cons_option o []) taken)
+          ap (λ os. os ++ map (λ (d : Oid × Update). d.0) left) (c.in_ok-add.ensures.objects ∙ ap (λ o. before.objects.items ++ cons_option o []) added)
           ∙ objects_more death object before.objects.items left
           ∙ ap (λ ds. before.objects.items ++ map (λ (d : Oid × Update). d.0) ds) whole
           ∙ c.loop-row.invariant.objects;
-      within = λ i. subst (λ v. at c.take.new.self.covering i ≤ at v i) c.vector.ensures (c.in_ok-take.ensures.within i);
+      within = λ i. subst (λ v. at c.add.new.self.covering i ≤ at v i) c.vector.ensures (c.in_ok-add.ensures.within i);
       covers =
           ap (λ v. fold (λ (v : Cursors) (d : Oid × Update). raised (raised v d.0.birth.inv d.0.birth.usn) (inv_of d.1) (usn_of d.1)) v left)
-          (c.in_ok-take.ensures.covering
+          (c.in_ok-add.ensures.covering
           ∙ ap (λ u. covering_with before.covering u (collected_by c.vector.result.now c.args.now c.args.lifetime c.update.result.now)) c.update.ensures
-          ∙ ap (covering_with before.covering death) taken)
+          ∙ ap (covering_with before.covering death) added)
           ∙ covering_more death object before.covering left
           ∙ ap (fold (λ (v : Cursors) (d : Oid × Update). raised (raised v d.0.birth.inv d.0.birth.usn) (inv_of d.1) (usn_of d.1)) before.covering) whole
           ∙ c.loop-row.invariant.covers;

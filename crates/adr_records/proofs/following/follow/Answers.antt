@@ -9,18 +9,18 @@ use Rattle.adr_records.proofs.following.follow.Goals as goal
 says : (usn before : ℕ) (body : List ℕ) (read : Option Change) (c : Change) → before ≡ usn → read ≡ decoded_change before body → read ≡ Some c → decoded_change usn body ≡ Some c
 says usn before body read c same is some = ap (λ (n : ℕ). decoded_change n body) (sym same) ∙ sym is ∙ some
 
-pub take-taken-requires-clause-body : goal.take-taken-requires-clause-body
-take-taken-requires-clause-body c =
+pub apply_read-applied-requires-clause-body : goal.apply_read-applied-requires-clause-body
+apply_read-applied-requires-clause-body c =
     let change = c.in-Ok-Some.change in
     (change_only c.args.state.now.store.usn c.args.body.now change (λ i. (c.type_inv.body i).fits)
     (says c.args.state.now.store.usn c.usn.result c.args.body.now c.in-Ok-Some.field-0 change c.usn.ensures c.in-Ok-Some.ensures c.in-Ok-Some.field-0-is)).0
 
 pub returns-in-Ok-Some-clause-ok : goal.returns-in-Ok-Some-clause-ok
 returns-in-Ok-Some-clause-ok c =
-    on_ok_weaker c.take-taken.result
+    on_ok_weaker c.apply_read-applied.result
     (λ is. ap (by_change c.args.state.now) (says c.args.state.now.store.usn c.usn.result c.args.body.now c.in-Ok-Some.field-0 c.in-Ok-Some.change c.usn.ensures c.in-Ok-Some.ensures c.in-Ok-Some.field-0-is) ∙ is)
-    c.take-taken.ensures.ok
+    c.apply_read-applied.ensures.ok
 
 pub returns-in-Ok-Some-clause-refused : goal.returns-in-Ok-Some-clause-refused
 returns-in-Ok-Some-clause-refused c = λ refused.
-    ap (by_change c.args.state.now) (says c.args.state.now.store.usn c.usn.result c.args.body.now c.in-Ok-Some.field-0 c.in-Ok-Some.change c.usn.ensures c.in-Ok-Some.ensures c.in-Ok-Some.field-0-is) ∙ c.take-taken.ensures.refused refused
+    ap (by_change c.args.state.now) (says c.args.state.now.store.usn c.usn.result c.args.body.now c.in-Ok-Some.field-0 c.in-Ok-Some.change c.usn.ensures c.in-Ok-Some.ensures c.in-Ok-Some.field-0-is) ∙ c.apply_read-applied.ensures.refused refused

@@ -2,7 +2,7 @@ use Rattle.std.proofs.Common.{◌<◌, ◌∙◌, Err, ap, arith, length, sym, �
 use Rattle.adr_vector.specs.Vector.{cursor_limit}
 use Rattle.adr_model.specs.Change.{after}
 use Rattle.adr_records.specs.BodyLaws.{change_follows}
-use Rattle.adr_records.proofs.following.take.Goals as goal
+use Rattle.adr_records.proofs.following.apply_read.Goals as goal
 
 pub unreachable-requires : goal.unreachable-requires
 unreachable-requires c =
