@@ -1,6 +1,7 @@
 //! Lines that say something, and lines that are bad, with their causes.
 
-use adr_schedule::{Cause, Failure, TEXT_LIMIT, parse, print};
+use adr_print::print;
+use adr_schedule::{Cause, Failure, TEXT_LIMIT, parse};
 use std::alloc::{AllocError, Global};
 use std::process::Abort;
 use std::test::Fail;

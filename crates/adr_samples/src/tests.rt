@@ -1,7 +1,8 @@
 //! Values from outside: the tables of the schema, spellings, the bytes of the formats and crash images, all worked out
 //! by hand; and what no clause tells of readers, writers and files.
 
-use adr_disk::{Crash, Disk, FileDisk, MemDisk};
+use adr_disk::{Crash, Disk, MemDisk};
+use adr_file::FileDisk;
 use adr_io::{Fault, ReadSource, Sink, Source, WriteSink};
 use adr_schema::{
     Content, Kind, Octets, Schema, SchemaRefusal, Syntax, Text, Value, Values, attribute_kind,
@@ -291,8 +292,8 @@ const VECTOR: [&[u8]; 5] = [&[0, 0, 0, 2], A, FIVE, B, NINE];
 fn a_vector_is_written_in_order(rt: HostRuntime) -> Result<(), Fail> {
     let alloc = rt.alloc();
     let mut seen = Vector::new(alloc);
-    seen.raise(Uuid::from_u128(0xb0), 9)?;
-    seen.raise(Uuid::from_u128(0xa0), 5)?;
+    assert!(rt; seen.raise(Uuid::from_u128(0xb0), 9).is_ok());
+    assert!(rt; seen.raise(Uuid::from_u128(0xa0), 5).is_ok());
     let mut writer = Writer::new(alloc);
     writer.write_vector(&seen)?;
     assert_eq!(rt;

@@ -1,7 +1,6 @@
 pub mod LineLemmas
 pub mod NameLemmas
 pub mod EventLemmas
-pub mod PlainBytes
 pub mod TokenLaws
 pub mod VerbLaws
 pub mod RisingLemmas
@@ -9,5 +8,3 @@ pub mod LineSets
 pub mod EventLaws
 pub mod AllowedLaws
 pub mod ScheduleLaws
-pub mod PrintLaws
-pub mod SetLemmas

@@ -9,4 +9,3 @@ pub mod Grammar
 pub mod Seen
 pub mod Events
 pub mod Schedules
-pub mod Printed

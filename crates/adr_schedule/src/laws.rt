@@ -2,7 +2,6 @@
 
 ghost use Rattle.adr_schedule.specs.Grammar.{SpelledLinesAreRead, LinesWereSpelled, LinesSpellOneEvent, SpelledEventsAreAllowed};
 ghost use Rattle.adr_schedule.specs.Schedules.{SchedulesAreRead, ReadTextsAreSchedules, FaultyTextsAreRefused, RefusedTextsHaveTheFault};
-ghost use Rattle.adr_schedule.specs.Printed.{AllowedEventsHaveLines, PrintedEventsAreRead, EventsAreReadAgain};
 
 /// A line is read as an event exactly where the grammar spells that event so.
 pub fn lines_read_back()
@@ -22,11 +21,4 @@ pub fn schedules_read_back()
 pub fn faults_read_back()
     ensures again { FaultyTextsAreRefused }
     ensures only { RefusedTextsHaveTheFault }
-{}
-
-/// Events are read again from their printed form, and so are those of a text.
-pub fn events_are_read_again()
-    ensures lines { AllowedEventsHaveLines }
-    ensures printed { PrintedEventsAreRead }
-    ensures again { EventsAreReadAgain }
 {}

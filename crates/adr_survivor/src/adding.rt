@@ -14,7 +14,8 @@ use crate::ending::Ending;
 use crate::keeping::{tell, usn_of, wake};
 use crate::objects::addition;
 use adr_controller::{Controller, Keeper};
-use adr_disk::{Disk, FileDisk};
+use adr_disk::Disk;
+use adr_file::FileDisk;
 use adr_journal::Journal;
 use adr_law_recorded::{
     logged_states_fit, recorded_changes_leave_logged_states, writes_are_recorded,

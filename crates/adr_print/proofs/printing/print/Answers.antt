@@ -2,8 +2,8 @@ use Rattle.std.proofs.Common.{[], ◌++◌, ap, ◌∙◌, append_assoc}
 use Rattle.std.specs.Prelude.{codes}
 use Rattle.adr_event.specs.declared.event.Event.{Event}
 use Rattle.adr_token.proofs.Lists.{added}
-use Rattle.adr_schedule.specs.Printed.{line_of}
-use Rattle.adr_schedule.proofs.printing.print.Goals as goal
+use Rattle.adr_print.specs.Printed.{line_of}
+use Rattle.adr_print.proofs.printing.print.Goals as goal
 
 pub loop-event-preserved : goal.loop-event-preserved
 loop-event-preserved c =

@@ -1,5 +1,5 @@
-use Rattle.adr_schedule.proofs.PrintLaws.{allowed_spells, printed_read, read_again}
-use Rattle.adr_schedule.proofs.laws.events_are_read_again.Goals as goal
+use Rattle.adr_print.proofs.PrintLaws.{allowed_spells, printed_read, read_again}
+use Rattle.adr_print.proofs.laws.events_are_read_again.Goals as goal
 
 pub returns-clause-lines : goal.returns-clause-lines
 returns-clause-lines c = allowed_spells

@@ -30,12 +30,12 @@ use Rattle.adr_schedule.specs.Commands.{event_of, is_passed}
 use Rattle.adr_schedule.specs.Grammar.{Token, Word, Name, Number, Identifier, Class, Attribute, Quoted, Set, sets, given_by, tokens_behind, tokens_in, tokens_of, AreRising, AreSpelled, HasLine, HaveSpellings, IsAllowed, IsSpelled, Spells}
 use Rattle.adr_schedule.specs.Seen.{Seen, nothing_seen, cause_after, seen_after, IsFollowing}
 use Rattle.adr_schedule.specs.Events.{events_from, events_of, line_after}
-use Rattle.adr_schedule.specs.Printed.{AllowedEventsHaveLines, EventsAreReadAgain, PrintedEventsAreRead, joined, line_of, printed, spaced, token_text}
+use Rattle.adr_print.specs.Printed.{AllowedEventsHaveLines, EventsAreReadAgain, PrintedEventsAreRead, joined, line_of, printed, spaced, token_text}
 use Rattle.adr_schedule.proofs.VerbLaws.{verb_says, verb_seen}
 use Rattle.adr_schedule.proofs.EventLaws.{lines_read}
 use Rattle.adr_schedule.proofs.RisingLemmas.{rising_stays}
 use Rattle.adr_schedule.proofs.ScheduleLaws.{text_follows}
-use Rattle.adr_schedule.proofs.PlainBytes.{IsPlain, field_plain, graphic_plain, is_feedless, nothing_plain, plain_append, text_plain}
+use Rattle.adr_print.proofs.PlainBytes.{IsPlain, field_plain, graphic_plain, is_feedless, nothing_plain, plain_append, text_plain}
 
 -- a token as it is written: it has no line feed, it spells the token, and no space stands in front of it
 record IsPrinted (token : Token) : Type 0 where

@@ -1,5 +1,5 @@
 use Rattle.std.proofs.Common.{length, ◌-◌, ◌≤◌}
-use Rattle.adr_disk.proofs.file.FileDisk.fill.Given as goal
+use Rattle.adr_file.proofs.FileDisk.fill.Given as goal
 
 abbrev pub invariant-parts : goal.invariant-parts
 invariant-parts g l = l.filled ≤ length l.into

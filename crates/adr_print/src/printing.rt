@@ -5,10 +5,10 @@ ghost use Rattle.std.specs.Fmt.{decimal};
 ghost use Rattle.adr_token.specs.Spelling.{attribute_token, class_token, identifier_token, set_token, text_token};
 ghost use Rattle.adr_schedule.specs.Crashes.{crash_word};
 ghost use Rattle.adr_schedule.specs.Grammar.{given_by, tokens_behind};
-ghost use Rattle.adr_schedule.specs.Printed.{line_of, printed, set_tokens, spaced, token_of, token_text};
+ghost use Rattle.adr_print.specs.Printed.{line_of, printed, set_tokens, spaced, token_of, token_text};
 
-use crate::crashes::crash_word;
 use adr_event::Event;
+use adr_schedule::crash_word;
 use adr_schema::{Assignments, NoMemory, Text, Value};
 use adr_token::{
     push, push_attribute, push_class, push_identifier, push_number, push_set, push_text,

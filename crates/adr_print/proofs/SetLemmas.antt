@@ -5,7 +5,7 @@ use Rattle.std.proofs.lemmas.List.{append-nil}
 use Rattle.adr_schema.specs.Assignments.{Given, next_given}
 use Rattle.adr_schema.proofs.LeftAbove.{left_above, IsFirst, none_left}
 use Rattle.adr_token.specs.Spelling.{set_token}
-use Rattle.adr_schedule.specs.Printed.{set_tokens, spaced}
+use Rattle.adr_print.specs.Printed.{set_tokens, spaced}
 
 -- one more attribute is written
 pub set_written : (out out' all : List ℕ) (above : Option ℕ) (gs : List Given) (g : Given) → IsFirst above gs g

@@ -1,6 +1,6 @@
 use Rattle.std.proofs.Common.{length}
 use Rattle.adr_disk.specs.Bytes.{Torn-same}
-use Rattle.adr_disk.proofs.file.FileDiskDisk.write_at.Goals as goal
+use Rattle.adr_file.proofs.FileDiskDisk.write_at.Goals as goal
 
 -- each list of bytes is one that a write has left as it was
 pub returns-in-Ok-clause-crash : goal.returns-in-Ok-clause-crash

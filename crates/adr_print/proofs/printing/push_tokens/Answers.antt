@@ -1,9 +1,9 @@
 use Rattle.std.proofs.Common.{◌≡◌, ◌+◌, List, [], ◌∷◌, ◌++◌, map, flat_map, take, refl, sym, ap, ◌∙◌, append_assoc}
 use Rattle.std.specs.Prelude.{codes}
 use Rattle.adr_token.proofs.Lists.{added}
-use Rattle.adr_schedule.specs.declared.printing.Token.{Token}
-use Rattle.adr_schedule.specs.Printed.{spaced, token_of, token_text}
-use Rattle.adr_schedule.proofs.printing.push_tokens.Goals as goal
+use Rattle.adr_print.specs.declared.printing.Token.{Token}
+use Rattle.adr_print.specs.Printed.{spaced, token_of, token_text}
+use Rattle.adr_print.proofs.printing.push_tokens.Goals as goal
 
 -- a space before each token
 spaced_each : (tokens : List Token) → spaced (map (λ token. token_text (token_of token)) tokens) ≡ flat_map (λ token. codes " " ++ token_text (token_of token)) tokens

@@ -4,8 +4,8 @@ use Rattle.std.specs.Fmt.{decimal}
 use Rattle.adr_schema.specs.Assignments.{Given}
 use Rattle.adr_event.specs.declared.event.Event.{Event}
 use Rattle.adr_token.specs.Spelling.{attribute_token, class_token, identifier_token, set_token, text_token}
-use Rattle.adr_schedule.specs.declared.printing.Token.{Token as Piece}
-use Rattle.adr_schedule.specs.declared.printing.Token.TheVariants as pieces
+use Rattle.adr_print.specs.declared.printing.Token.{Token as Piece}
+use Rattle.adr_print.specs.declared.printing.Token.TheVariants as pieces
 use Rattle.adr_schedule.specs.Limits.{text_limit}
 use Rattle.adr_schedule.specs.Grammar.{Token, Word, Name, Number, Identifier, Class, Attribute, Quoted, Set, sets, tokens_of, IsAllowed, Spells}
 use Rattle.adr_schedule.specs.Seen.{nothing_seen, IsFollowing}

@@ -1,6 +1,6 @@
 use Rattle.std.proofs.Common.{◌≡◌, ◌++◌, map, take}
-use Rattle.adr_schedule.specs.Printed.{spaced, token_of, token_text}
-use Rattle.adr_schedule.proofs.printing.push_tokens.Given as goal
+use Rattle.adr_print.specs.Printed.{spaced, token_of, token_text}
+use Rattle.adr_print.proofs.printing.push_tokens.Given as goal
 
 -- what is written is that of the tokens so far
 abbrev pub invariant-loop-token : goal.invariant-loop-token

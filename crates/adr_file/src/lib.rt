@@ -1,9 +1,10 @@
-//! A disk over a file. It tells nothing of its bytes.
+//! A disk over a file. It stands on the trait of `adr_disk`, and tells nothing of its bytes.
+#![tactic(auto)]
 
 ghost use Rattle.std.specs.Prelude.{◌≡◌, ◌-◌, ◌^◌, ◌≤◌, Option, Some, None, ⊤, IfOk, length};
 ghost use Rattle.adr_disk.specs.Disk.{Torn};
 
-use crate::Disk;
+use adr_disk::Disk;
 use adr_io::{Failures, Fault};
 use std::alloc::Global;
 use std::fs::{File, Files, OpenFile, OpenOptions};

@@ -1,6 +1,6 @@
 use Rattle.std.proofs.Common.{◌≡◌, take}
-use Rattle.adr_schedule.specs.Printed.{printed}
-use Rattle.adr_schedule.proofs.printing.print.Given as goal
+use Rattle.adr_print.specs.Printed.{printed}
+use Rattle.adr_print.proofs.printing.print.Given as goal
 
 -- the lines so far are those of the events so far
 abbrev pub invariant-loop-event : goal.invariant-loop-event

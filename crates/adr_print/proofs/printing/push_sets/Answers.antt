@@ -1,8 +1,8 @@
 use Rattle.std.proofs.Common.{◌++◌, sym, ap}
-use Rattle.adr_schedule.specs.Printed.{set_tokens, spaced}
+use Rattle.adr_print.specs.Printed.{set_tokens, spaced}
 use Rattle.adr_schema.proofs.LeftAbove.{all_left, fewer_left, next_left}
-use Rattle.adr_schedule.proofs.SetLemmas.{all_written, set_written}
-use Rattle.adr_schedule.proofs.printing.push_sets.Goals as goal
+use Rattle.adr_print.proofs.SetLemmas.{all_written, set_written}
+use Rattle.adr_print.proofs.printing.push_sets.Goals as goal
 
 pub attributes-init : goal.attributes-init
 attributes-init c = ap (λ given. c.args.out.now.items ++ spaced (set_tokens given)) (all_left c.args.values.now)

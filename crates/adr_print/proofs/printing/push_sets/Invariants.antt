@@ -1,7 +1,7 @@
 use Rattle.std.proofs.Common.{◌≡◌, ◌++◌, length}
-use Rattle.adr_schedule.specs.Printed.{set_tokens, spaced}
+use Rattle.adr_print.specs.Printed.{set_tokens, spaced}
 use Rattle.adr_schema.proofs.LeftAbove.{left_above}
-use Rattle.adr_schedule.proofs.printing.push_sets.Given as goal
+use Rattle.adr_print.proofs.printing.push_sets.Given as goal
 
 -- what is written, and what is left, is all
 abbrev pub invariant-attributes : goal.invariant-attributes

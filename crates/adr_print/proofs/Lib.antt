@@ -1,0 +1,3 @@
+mod PlainBytes
+mod SetLemmas
+mod PrintLaws
