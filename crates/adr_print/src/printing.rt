@@ -94,7 +94,7 @@ fn push_with_sets(
 
 /// Adds what stands behind the verb in the line of an event, by one call for each kind: an arm with
 /// many steps makes a long proof.
-#[tactic(auto, unfolding(crate::specs::Grammar::tokens_behind))]
+#[tactic(auto, unfolding(adr_schedule::specs::Grammar::tokens_behind))]
 fn push_behind(alloc: Global, out: &mut Vec<u8>, event: &Event) -> Result<(), NoMemory>
     ensures { OnOk result (out.new.items
         ≡ out.old.items ++ spaced (map token_text (tokens_behind (given_by event.now) event.now))) }
