@@ -4,6 +4,7 @@ use Rattle.std.specs.Prelude.{if◌then◌else◌, nat_lt}
 use Rattle.std.specs.List.{list_any, list_all}
 use Rattle.std.specs.List.Sorted.{IsStrictlySortedBy}
 use Rattle.std.specs.Option.{option_and_then}
+use Rattle.std.proofs.lemmas.Map.Views.{any-filter_same}
 use Rattle.adr_stamp.specs.declared.Oid.{Oid}
 use Rattle.adr_schema.specs.declared.content.Content.TheVariants.{Class, Name, Dead, Values}
 use Rattle.adr_model.specs.Update.{Key, RowOf, LinkOf, Said, Holds, IsPresent, Update, same_identifier, same_key, key_order, class_attr, name_attr, deleted_attr, is_death_of, ends}
@@ -15,7 +16,7 @@ use Rattle.adr_model.proofs.Keys.{equal_order, exact_keys}
 use Rattle.adr_law_knowledge.proofs.Counting.{filtered_rise}
 use Rattle.adr_law_knowledge.proofs.Filters.{filters_turn, givers_kept}
 use Rattle.adr_law_knowledge.proofs.Lists.{same_filter}
-use Rattle.adr_law_tree.proofs.Kept.{any_alike, any_kept, filter_maps_alike, find_kept}
+use Rattle.adr_law_tree.proofs.Kept.{any_alike, filter_maps_alike, find_kept}
 use Rattle.adr_law_tree.proofs.RisingRows.{rising_win}
 use Rattle.adr_live.specs.Core.{is_core}
 
@@ -68,7 +69,7 @@ objects_kept us = rw (givers_kept (λ (u : Update). born u.key) core none_born u
 
 standing_kept : (us : List Update) → standing (filter core us) ≡ standing us
 standing_kept us =
-    same_filter _ _ (objects_of (filter core us)) (λ o m. ap not (any_kept (is_death_of o) core (λ u same. core_at u o deleted_attr refl same) us))
+    same_filter _ _ (objects_of (filter core us)) (λ o m. ap not (any-filter_same (is_death_of o) core true (λ u same. core_at u o deleted_attr refl same) us))
     ∙ ap (filter (λ o. not (list_any (is_death_of o) us))) (objects_kept us)
 
 class_kept : (us : List Update) (o : Oid) → winner (filter core us) (RowOf o class_attr) ≡ winner us (RowOf o class_attr)
