@@ -1,3 +1,4 @@
+use Rattle.std.proofs.Common.{refl}
 use Rattle.adr_law_journal.proofs.Told.{same_keeps}
 use Rattle.adr_journal.proofs.plain.PlainKeeper.prepare.Goals as goal
 
@@ -23,4 +24,11 @@ pub returns-clause-at : goal.returns-clause-at
 returns-clause-at g c = λ f at. at
 
 pub returns-clause-keeps : goal.returns-clause-keeps
-returns-clause-keeps g c = same_keeps _ _ _ _ _
+returns-clause-keeps g c = record {
+  content_stays = refl;
+  no_more = λ x h. h;
+  no_fewer = λ x h. h;
+  moment_stays = refl;
+  past_stays = λ t x h. h;
+  past_kept = λ t x h. h;
+}
