@@ -43,7 +43,7 @@ fn addition(alloc: Global) -> Result<Event, NoMemory>
     ensures typed { IfOk result IsWrite }
     ensures write { IfOk result (λ e. IsSome (write_of e)) }
 {
-    let text = Text::from_str(alloc, "x")?;
+    let text = Text::from_string(String::from_str(alloc, "x")?);
     let _ = text.items();
     Ok(Event::Add {
         name: Text::empty(alloc),
