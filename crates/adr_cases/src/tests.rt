@@ -3,7 +3,7 @@
 ghost use Rattle.std.specs.Prelude.{◌<◌};
 
 use adr_cmd::run;
-use adr_io::{MemSink, MemSource};
+use adr_io_memory::{MemSink, MemSource};
 use std::alloc::Global;
 use std::test::Fail;
 

@@ -3,7 +3,7 @@
 #![tactic(auto)]
 
 use adr_cmd::run;
-use adr_io::{MemSink, MemSource};
+use adr_io_memory::{MemSink, MemSource};
 use std::alloc::Global;
 use std::process::ExitCode;
 use std::{env, fs, io};
