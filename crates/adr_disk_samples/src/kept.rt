@@ -4,10 +4,11 @@ ghost use Rattle.std.specs.Prelude.{◌≡◌, IfOk, IsSome};
 ghost use Rattle.adr_model.specs.Step.{write_of};
 ghost use Rattle.adr_disk_samples.specs.Takes.{IsWrite, TakesAll, new_state};
 
+use adr_checks::Schema;
 use adr_controller::{Controller, Keeper, PlannedKeeper, StartRefusal, State};
 use adr_disk::Crash;
 use adr_event::Event;
-use adr_schema::{Assignments, NoMemory, Schema, Text};
+use adr_schema::{Assignments, NoMemory, Text};
 use adr_update::root;
 use std::alloc::Global;
 use uuid::Uuid;

@@ -15,7 +15,7 @@ ghost use Rattle.adr_image.specs.Whole.{links_at, objects_at, parts_at};
 use crate::gathered::{read_links, read_objects};
 use crate::marks::read_marks;
 use adr_change::Kept;
-use adr_schema::Schema;
+use adr_checks::Schema;
 use adr_update::Held;
 use adr_vector::Vector;
 use adr_wire::{Failure, Malformed, Reader, WireRefusal};

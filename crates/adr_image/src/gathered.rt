@@ -11,7 +11,7 @@ ghost use Rattle.adr_image.specs.Stored.{held_of, link_of};
 use crate::changes::{link_update, update_of};
 use crate::links::{HeldLink, Links};
 use crate::objects::{HeldRow, has_attr, last_of, read_object};
-use adr_schema::Schema;
+use adr_checks::Schema;
 use adr_stamp::Oid;
 use adr_update::{DELETED, Held, LINK_LIMIT, NoMemory, OBJECT_LIMIT};
 use adr_wire::{Failure, Malformed, Reader, WireRefusal};

@@ -12,7 +12,7 @@ ghost use Rattle.adr_image.specs.Image as form;
 
 use crate::known::{is_dead, is_used};
 use crate::rows::read_local;
-use adr_schema::Schema;
+use adr_checks::Schema;
 use adr_stamp::{LinkKey, LinkStamp, Oid};
 use adr_update::Held;
 use adr_wire::{Failure, Malformed, Reader, WireRefusal};

@@ -11,7 +11,8 @@ ghost use Rattle.adr_image.specs.Image as form;
 
 use crate::known::is_used;
 use crate::rows::{Before, read_held_rows, with_held};
-use adr_schema::{Content, Schema};
+use adr_checks::Schema;
+use adr_schema::Content;
 use adr_stamp::{Oid, Stamp};
 use adr_update::USN_LIMIT;
 use adr_wire::{Failure, Malformed, NoMemory, Reader, WireRefusal};

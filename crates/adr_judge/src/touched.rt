@@ -19,7 +19,7 @@ use crate::forms::{
 };
 use crate::removed::set_of;
 use adr_change::Change;
-use adr_schema::Schema;
+use adr_checks::Schema;
 use adr_stamp::{Oid, Unit};
 use adr_told::{Told, class_said, is_birth};
 use adr_update::{CLASS, Held, Key, NAME};

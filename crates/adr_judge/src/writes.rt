@@ -14,7 +14,7 @@ ghost use Rattle.adr_told.specs.Presence.{defined};
 ghost use Rattle.adr_told.specs.Standing.{IsStanding};
 
 use crate::NoMemory;
-use adr_schema::Schema;
+use adr_checks::Schema;
 use adr_told::{Presence, Standing, Told, is_above, is_of_attr, lacks, new_object, standing_of};
 use adr_update::{DELETED, Item, LINK_LIMIT, OBJECT_LIMIT, Update, Written};
 use adr_vector::Vector;

@@ -1,6 +1,7 @@
 //! A controller, and what the tests have it hold.
 
-use adr_schema::{Content, Schema, Text};
+use adr_checks::Schema;
+use adr_schema::{Content, Text};
 use adr_stamp::{Birth, LinkStamp, Oid, Stamp, Unit};
 use adr_state::{Change, Item, Key, Mode, NoMemory, Said, State, Update, Written};
 use adr_vector::Vector;

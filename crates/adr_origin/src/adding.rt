@@ -16,8 +16,8 @@ use crate::checks::{
 };
 use crate::new_object::{NewObject, new_rows};
 use crate::placing::{check_name_free, check_parent, check_superior};
+use adr_checks::check_name;
 use adr_event::{Failure, WriteRefusal};
-use adr_schema::check_name;
 use adr_stamp::{Birth, LinkStamp, Oid, Stamp, Unit};
 use adr_state::{Change, Item, Mode, State, Written};
 use adr_vector::Vector;

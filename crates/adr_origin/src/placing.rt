@@ -15,8 +15,9 @@ ghost use Rattle.adr_origin.specs.Telling.{Tells};
 
 use crate::live::{first_child, holder, is_met_above, is_taken, node};
 use crate::stamps::class_of;
+use adr_checks::{LOST_AND_FOUND_CLASS, ROOT_CLASS};
 use adr_event::{Failure, WriteRefusal};
-use adr_schema::{LOST_AND_FOUND_CLASS, ROOT_CLASS, Text};
+use adr_schema::Text;
 use adr_state::State;
 use adr_update::{is_fixed, is_lost_and_found, is_root};
 use std::alloc::Global;

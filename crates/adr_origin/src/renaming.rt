@@ -17,8 +17,9 @@ use crate::checks::{
 use crate::new_object::name_content;
 use crate::placing::{check_new_name, check_no_loop, check_parent, check_superior};
 use crate::stamps::{class_of, next_item, object_of};
+use adr_checks::check_name;
 use adr_event::{Failure, WriteRefusal};
-use adr_schema::{Text, check_name};
+use adr_schema::Text;
 use adr_stamp::Oid;
 use adr_state::{Change, Key, NAME, State};
 use std::alloc::Global;

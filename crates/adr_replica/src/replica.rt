@@ -21,6 +21,7 @@ use crate::past::{Ahead, Kept, Past};
 use crate::refused::{serve_refused, take_refused, write_refused};
 use crate::sent::{sent, unsent};
 use crate::told::Deed;
+use adr_checks::Schema;
 use adr_controller::{CallRefusal, Controller, Keeper, PlannedKeeper, StartRefusal};
 use adr_disk::{Crash, MemDisk};
 use adr_event::{Event, Outcome};
@@ -32,7 +33,7 @@ use adr_law_recorded::{
 };
 use adr_packet::{Reply, Request};
 use adr_records::Records;
-use adr_schema::{NoMemory, Schema, Text};
+use adr_schema::{NoMemory, Text};
 use adr_state::State;
 use std::alloc::{AllocError, Global};
 use std::marker::Model;

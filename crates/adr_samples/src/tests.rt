@@ -1,13 +1,13 @@
 //! Values from outside: the tables of the schema, spellings, the bytes of the formats and crash images, all worked out
 //! by hand; and what no clause tells of readers, writers and files.
 
+use adr_checks::{
+    Schema, attribute_kind, attribute_name, attribute_number, check_name, class_name, class_number,
+};
 use adr_disk::{Crash, Disk, MemDisk};
 use adr_file::FileDisk;
 use adr_io::{Fault, ReadSource, Sink, Source, WriteSink};
-use adr_schema::{
-    Content, Kind, Octets, Schema, SchemaRefusal, Syntax, Text, Value, Values, attribute_kind,
-    attribute_name, attribute_number, check_name, class_name, class_number, fold_name,
-};
+use adr_schema::{Content, Kind, Octets, SchemaRefusal, Syntax, Text, Value, Values, fold_name};
 use adr_stamp::{Birth, LinkKey, LinkStamp, Oid, Stamp};
 use adr_token::{Line, Stop, push_class, push_set};
 use adr_vector::{Mark, Vector};

@@ -53,11 +53,6 @@ added_refusal t class g = first_refusal
     ∷ then_some (length g.1 == 0) (BadValue g.0 0)
     ∷ [])
 
--- one attribute of an object that is new, or of one that is modified
-abbrev pub given_refusal : Bool → Table → ℕ → Given → Option SchemaRefusal
-given_refusal true t class g = added_refusal t class g
-given_refusal false t class g = values_refusal t (Some class) g.0 g.1
-
 -- an object that is added
 unfoldable pub add_refusal : Table → ℕ → List Given → Option SchemaRefusal
 add_refusal t class gs = first_refusal

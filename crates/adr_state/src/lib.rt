@@ -11,8 +11,9 @@ mod rows;
 mod state;
 
 pub use adr_change::{Change, Kept, Mode};
+pub use adr_checks::Schema;
 pub use adr_failure::{Failure, NoMemory};
-pub use adr_schema::{Content, Schema};
+pub use adr_schema::Content;
 pub use adr_stamp::{LinkKey, LinkStamp, Oid, Unit};
 pub use adr_update::{
     CLASS, DELETED, Held, Item, Key, LINK_LIMIT, LOG_LIMIT, MARK_LIMIT, NAME, Node, OBJECT_LIMIT,

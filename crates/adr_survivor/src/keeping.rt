@@ -6,13 +6,13 @@ ghost use Rattle.adr_model.specs.Store.{empty_state};
 
 use crate::ending::Ending;
 use crate::objects::number_of;
+use adr_checks::Schema;
 use adr_controller::{Controller, Keeper, State};
 use adr_disk::Disk;
 use adr_file::FileDisk;
 use adr_journal::Journal;
 use adr_law_recorded::new_controllers_may_begin;
 use adr_records::Records;
-use adr_schema::Schema;
 use std::alloc::Global;
 use uuid::Uuid;
 

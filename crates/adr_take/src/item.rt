@@ -9,8 +9,8 @@ ghost use Rattle.adr_told.specs.Presence.{defined};
 ghost use Rattle.adr_told.specs.Standing.{IsStanding};
 
 use crate::NoMemory;
+use adr_checks::Schema;
 use adr_event::{ItemFault, TakeRefusal};
-use adr_schema::Schema;
 use adr_stamp::Unit;
 use adr_state::{DELETED, Item, Update};
 use adr_told::{Presence, Standing, class_among, first_fault, has_row, lacks};

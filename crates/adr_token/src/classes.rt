@@ -7,8 +7,8 @@ ghost use Rattle.adr_token.specs.Classes.{attribute_at, attribute_of, class_at, 
 use crate::numbers::number_of;
 use crate::stop::{Bad, Stop};
 use crate::words::{Line, strip_byte};
+use adr_checks::{attribute_number, class_number};
 use adr_failure::Failure;
-use adr_schema::{attribute_number, class_number};
 
 /// The number behind a `%`.
 fn percent_number(token: &[u8]) -> Option<u16>

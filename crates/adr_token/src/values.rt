@@ -6,7 +6,8 @@ ghost use Rattle.std.specs.Option.{option_copied};
 ghost use Rattle.adr_token.specs.Spelling.{two_figures, flag_text, value_token, name_or_number, class_token, attribute_token, values_token, set_token};
 
 use crate::writing::{push, push_identifier, push_number, push_text, push_two_figures};
-use adr_schema::{Value, attribute_name, class_name};
+use adr_checks::{attribute_name, class_name};
+use adr_schema::Value;
 use std::alloc::{AllocError, Global};
 
 fn push_signed(alloc: Global, out: &mut Vec<u8>, number: i64) -> Result<(), AllocError>

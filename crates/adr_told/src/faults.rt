@@ -8,8 +8,9 @@ ghost use Rattle.adr_failure.specs.First.{first_of};
 ghost use Rattle.adr_model.specs.Take.{broken, class_among, has_row, is_birth, is_reserved_row, lacks, row_fault};
 
 use crate::keys::{class_among, has_row, is_reserved};
+use adr_checks::{Schema, check_name};
 use adr_event::ItemFault;
-use adr_schema::{Content, Schema, SchemaRefusal, check_name};
+use adr_schema::{Content, SchemaRefusal};
 use adr_stamp::Oid;
 use adr_update::{CLASS, DELETED, Key, NAME, Said, Update, is_same};
 

@@ -1,0 +1,9 @@
+use Rattle.std.proofs.Common.{◌≡◌, drop, is_none}
+use Rattle.std.specs.List.{find}
+use Rattle.adr_schema.specs.Assignments.{given}
+use Rattle.adr_checks.proofs.schema.Schema.first_missing.Given as goal
+
+-- the first is among those that are left
+abbrev pub invariant-loop-attr : goal.invariant-loop-attr
+invariant-loop-attr l =
+    find (λ attr. is_none (given attr l.values)) (drop l.attr-index l.attr-items) ≡ find (λ attr. is_none (given attr l.values)) l.attr-items

@@ -1,8 +1,0 @@
-use Rattle.std.proofs.Common.{refl}
-use Rattle.adr_schema.specs.Schemas.{schema_1}
-use Rattle.adr_schema.proofs.table.table_1.Goals as goal
-
--- the two tables are one, cell by cell
-pub returns : goal.returns
-unfolding schema_1
-returns c = refl
