@@ -1,12 +1,11 @@
-//! A disk that may crash: the trait that a journal stands on, and its form in memory, where a crash is planned and its
-//! outcome exact. It stands on adr_io, and doesn't know what the bytes mean.
+//! A disk that may crash: the trait that a journal stands on, and what is said of a disk in memory, where a crash is
+//! planned and its outcome exact. It stands on adr_io, and doesn't know what the bytes mean.
 #![tactic(auto)]
 
 mod disk;
 mod memory;
-mod platter;
 mod through;
 
 pub use disk::Disk;
-pub use memory::{Crash, MemDisk};
+pub use memory::{Crash, Mishap, Plan};
 pub use through::write_through;

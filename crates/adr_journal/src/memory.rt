@@ -6,7 +6,8 @@ use crate::form::Form;
 use crate::journal::Journal;
 use crate::keeper::Keeper;
 use crate::planned::PlannedKeeper;
-use adr_disk::{Crash, MemDisk};
+use adr_disk::Crash;
+use adr_disk_memory::MemDisk;
 use adr_failure::NoMemory;
 use std::alloc::Global;
 

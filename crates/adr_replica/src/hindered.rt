@@ -8,7 +8,7 @@ ghost use Rattle.adr_replica.specs.Settled.{come, hindered_so, hindrance_of_star
 use crate::past::{Ahead, Kept, Past};
 use crate::refused::full;
 use adr_controller::{CallRefusal, Controller, Hindrance, PlannedKeeper, StartRefusal};
-use adr_disk::MemDisk;
+use adr_disk_memory::MemDisk;
 use adr_event::{Outcome, Table};
 use adr_journal::Journal;
 use adr_records::Records;

@@ -4,7 +4,7 @@ ghost use Rattle.adr_controller.specs.Running.{IsInOrder};
 ghost use Rattle.adr_replica.specs.Planned.{GoesAsPlanned};
 
 use adr_controller::{Controller, Keeper, PlannedKeeper, commits_go_as_planned};
-use adr_disk::MemDisk;
+use adr_disk_memory::MemDisk;
 use adr_journal::Journal;
 use adr_records::Records;
 

@@ -23,7 +23,8 @@ use crate::sent::{sent, unsent};
 use crate::told::Deed;
 use adr_checks::Schema;
 use adr_controller::{CallRefusal, Controller, Keeper, PlannedKeeper, StartRefusal};
-use adr_disk::{Crash, MemDisk};
+use adr_disk::Crash;
+use adr_disk_memory::MemDisk;
 use adr_event::{Event, Outcome};
 use adr_journal::Journal;
 use adr_law_recorded::{

@@ -4,7 +4,8 @@
 use adr_checks::{
     Schema, attribute_kind, attribute_name, attribute_number, check_name, class_name, class_number,
 };
-use adr_disk::{Crash, Disk, MemDisk};
+use adr_disk::{Crash, Disk};
+use adr_disk_memory::MemDisk;
 use adr_file::FileDisk;
 use adr_io::{Fault, ReadSource, Sink, Source, WriteSink};
 use adr_schema::{Content, Kind, Octets, SchemaRefusal, Syntax, Text, Value, Values, fold_name};
