@@ -68,6 +68,7 @@ impl Vector {
     pub fn is_vector(&self)
         ensures { IsVector self.now }
     {
+        // A body that reads a vector is told that it is one; an empty body is not.
         let _cursors = &self.cursors;
     }
 
@@ -127,7 +128,12 @@ impl Vector {
     pub fn has_cursors_of(&self, other: &Vector) -> bool
         ensures { result ≡ has_cursors_of self.now other.now }
     {
-        other.cursors.iter().all(|cursor| self.at(cursor.0) > 0)
+        for (inv, _) in &other.cursors {
+            if self.at(*inv) == 0 {
+                return false;
+            }
+        }
+        true
     }
 
     /// What this one or the other has seen, as a vector of its own.
