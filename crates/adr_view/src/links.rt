@@ -120,12 +120,12 @@ fn attributes_of(alloc: Global, ends: &[(u16, Uuid)]) -> Result<BTreeSet<u16>, N
 }
 
 /// A set of GUIDs as a list.
-fn listed(alloc: Global, guids: &BTreeSet<Uuid>) -> Result<Guids, NoMemory>
-    ensures { IfOk result (λ list. list ≡ guids.now.keys) }
+fn listed(alloc: Global, guids: BTreeSet<Uuid>) -> Result<Guids, NoMemory>
+    ensures { IfOk result (λ list. list ≡ guids.keys) }
 {
     let mut list = Vec::new(alloc);
     for guid in guids {
-        list.push(*guid)?;
+        list.push(guid)?;
     }
     Ok(Guids::of(list))
 }
@@ -141,17 +141,16 @@ fn guids_at(alloc: Global, ends: &[(u16, Uuid)], attr: u16) -> Result<Guids, NoM
             guids.insert(*guid)?;
         }
     }
-    listed(alloc, &guids)
+    listed(alloc, guids)
 }
 
 /// Ends, gathered by attribute; the attributes and the GUIDs rise.
 fn gathered(alloc: Global, ends: &[(u16, Uuid)]) -> Result<EntryLinks, NoMemory>
     ensures { IfOk result (λ links. links ≡ gathered ends.now) }
 {
-    let attributes = attributes_of(alloc, ends)?;
     let mut list = Vec::new(alloc);
-    for attr in &attributes {
-        list.push((*attr, guids_at(alloc, ends, *attr)?))?;
+    for attr in attributes_of(alloc, ends)? {
+        list.push((attr, guids_at(alloc, ends, attr)?))?;
     }
     Ok(EntryLinks::of(list))
 }
