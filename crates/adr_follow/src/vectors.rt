@@ -53,11 +53,12 @@ fn len_marks(state: &State, change: &Change) -> usize
 fn is_purged_within(state: &State, change: &Change) -> bool
     ensures { result ≡ at_most change.now.purged (after state.now change.now).store.vector }
 {
-    change
-        .purged()
-        .cursors()
-        .iter()
-        .all(|(inv, usn)| *usn <= seen_after(state, change, *inv))
+    for (inv, usn) in change.purged().cursors() {
+        if seen_after(state, change, *inv) < *usn {
+            return false;
+        }
+    }
+    true
 }
 
 /// How much of an incarnation will have been seen.

@@ -74,13 +74,22 @@ fn fits_class(schema: Schema, class: u16, row: &Update) -> bool
 pub fn all_fit(schema: Schema, class: u16, rows: &[&Held]) -> bool
     ensures { result ≡ list_all (λ row. fits_class schema class row.now.update) rows.now }
 {
-    rows.iter()
-        .all(|row| fits_class(schema, class, row.update()))
+    for row in rows {
+        if !fits_class(schema, class, row.update()) {
+            return false;
+        }
+    }
+    true
 }
 
 /// Whether rows are those that stay of a dead object.
 pub fn all_reserved(rows: &[&Held]) -> bool
     ensures { result ≡ list_all (λ row. is_reserved_row row.now.update.key) rows.now }
 {
-    rows.iter().all(|row| is_reserved(row.key()))
+    for row in rows {
+        if !is_reserved(row.key()) {
+            return false;
+        }
+    }
+    true
 }

@@ -23,10 +23,12 @@ pub fn are_removable(told: &Told, purged: &Vector, change: &Change) -> bool
         ≡ list_all (is_removable told.now (joined purged.now change.now.purged)) change.now.removed }
 {
     let more = change.purged();
-    change
-        .removed()
-        .iter()
-        .all(|object| is_removable(told, purged, more, object))
+    for object in change.removed() {
+        if !is_removable(told, purged, more, object) {
+            return false;
+        }
+    }
+    true
 }
 
 /// Whether an object is held dead, and its birth and its death are purged.

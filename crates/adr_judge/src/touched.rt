@@ -173,8 +173,10 @@ fn has_must(schema: Schema, told: &Told, object: &Oid, class: u16) -> bool
     ensures { result
         ≡ list_all (λ attr. is_some (row_held told.now (RowOf object.now attr))) (must_of schema class) }
 {
-    schema
-        .must(class)
-        .iter()
-        .all(|attr| told.row(row_key(object, *attr)).is_some())
+    for attr in schema.must(class) {
+        if told.row(row_key(object, *attr)).is_none() {
+            return false;
+        }
+    }
+    true
 }

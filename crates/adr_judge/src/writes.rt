@@ -87,7 +87,12 @@ fn may_follow(schema: Schema, told: &Told, standing: Standing, item: &Item) -> b
 fn are_above(told: &Told, rows: &[Update]) -> bool
     ensures { result ≡ list_all (is_above told.now) rows.now }
 {
-    rows.iter().all(|row| is_above(told, row))
+    for row in rows {
+        if !is_above(told, row) {
+            return false;
+        }
+    }
+    true
 }
 
 /// Whether rows may be written to a unit, by what stands of it: no end of a link is dead or gone.
@@ -117,5 +122,10 @@ fn may_write_object(schema: Schema, presence: Presence, rows: &[Update]) -> bool
 fn are_deaths(rows: &[Update]) -> bool
     ensures { result ≡ list_all (λ u. is_of_attr deleted_attr u.key) rows.now }
 {
-    rows.iter().all(|row| is_of_attr(DELETED, row.key()))
+    for row in rows {
+        if !is_of_attr(DELETED, row.key()) {
+            return false;
+        }
+    }
+    true
 }

@@ -1,9 +1,9 @@
 -- The live object of a GUID is that of the first birth there that is live.
-use Rattle.std.proofs.Common.{◌≡◌, ℕ, inl, inr, Bool, true, false, cond, not, ◌&&◌, ◌||◌, List, [], ◌∷◌, Option, Some, None, refl, sym, ap, ap₂, ◌∙◌, map, filter, filter_map, find, ◌==◌}
+use Rattle.std.proofs.Common.{◌≡◌, ℕ, inl, inr, Bool, true, false, cond, not, ◌&&◌, ◌||◌, List, [], ◌∷◌, Option, Some, None, refl, sym, ap, ap₂, ◌∙◌, map, filter, filter_map, find, ◌==◌, Bor}
 use Rattle.std.specs.Prelude.{if◌then◌else◌}
 use Rattle.std.specs.List.{list_any, list_all, cons_option}
 use Rattle.std.specs.List.Sorted.{IsStrictlySortedBy}
-use Rattle.std.specs.Option.{option_and_then, option_map_or, option_or}
+use Rattle.std.specs.Option.{is_some, option_and_then, option_copied, option_map_or, option_or}
 use Rattle.std.specs.Ordering.{is_eq}
 use Rattle.std.proofs.lemmas.Cmp.{tied_itself}
 use Rattle.adr_stamp.specs.Order.{object_order}
@@ -71,7 +71,20 @@ module _ {A B : Type 0} where
       by None is = is
       by (Some y) is = ap (λ b. t y || b) is
 
+-- what a reference refers to is there where the reference is
+pub is_copied : {A : Type 0} (o : Option (Bor A)) → is_some o ≡ is_some (option_copied o)
+is_copied None = refl
+is_copied (Some x) = refl
+
 module _ {A : Type 0} where
+  pub is_found : (t : A → Bool) (xs : List A) → is_some (find t xs) ≡ list_any t xs
+  is_found t [] = refl
+  is_found t (x ∷ xs) = by (t x) (is_found t xs)
+    where
+      by : (b : Bool) → is_some (find t xs) ≡ list_any t xs → is_some (cond b (Some x) (find t xs)) ≡ (b || list_any t xs)
+      by true is = refl
+      by false is = is
+
   any_of_members : (t s : A → Bool) (xs : List A) → ((x : A) → Member x xs → t x ≡ s x) → list_any t xs ≡ list_any s xs
   any_of_members t s [] same = refl
   any_of_members t s (x ∷ xs) same = ap₂ (λ b c. b || c) (same x (inl refl)) (any_of_members t s xs (λ y m. same y (inr m)))

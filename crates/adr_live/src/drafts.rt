@@ -1,6 +1,8 @@
 //! The rows of the GUIDs that a change touches, as it leaves them.
 
-ghost use Rattle.std.specs.Prelude.{◌≡◌, List, Some, IfOk, OnOk, fold};
+ghost use Rattle.std.specs.Prelude.{◌≡◌, List, Some, IfOk, IsSome, OnOk, fold};
+ghost use Rattle.std.specs.BTreeMap.{get};
+ghost use Rattle.adr_stamp.specs.Order.{identifier_order};
 ghost use Rattle.adr_model.specs.Change.{put, rows_after, without_object};
 ghost use Rattle.adr_model.specs.Formed.{AreRising};
 ghost use Rattle.adr_model.specs.Store.{Held as Row};
@@ -70,7 +72,27 @@ fn remove_all<'a>(
     Ok(())
 }
 
-/// Removes an object from the draft of its GUID, which begins with what the table has.
+/// Begins the draft of a GUID with what the table has, unless it has begun.
+fn begin<'a>(
+    alloc: Global,
+    table: &'a Table,
+    drafts: &mut BTreeMap<Uuid, Draft<'a>>,
+    guid: Uuid,
+) -> Result<(), NoMemory>
+    requires { IsKept table.now }
+    ensures same { OnOk result ((seen : List Row) → AreDrafts (rows_in table.now) seen drafts.old
+        → AreDrafts (rows_in table.now) seen drafts.new) }
+    ensures begun { OnOk result (IsSome (get identifier_order drafts.new guid)) }
+{
+    if drafts.contains_key(&guid) {
+        return Ok(());
+    }
+    let draft = Draft::of(alloc, table, guid)?;
+    drafts.insert(guid, draft)?;
+    Ok(())
+}
+
+/// Removes an object from the draft of its GUID.
 fn remove_object<'a>(
     alloc: Global,
     table: &'a Table,
@@ -81,17 +103,13 @@ fn remove_object<'a>(
     ensures { OnOk result ((seen : List Row) → AreDrafts (rows_in table.now) seen drafts.old
         → AreDrafts (rows_in table.now) (without_object seen object.now) drafts.new) }
 {
+    begin(alloc, table, drafts, object.guid)?;
     match drafts.get_mut(&object.guid) {
         Some(draft) => {
             draft.remove(object);
             Ok(())
         }
-        None => {
-            let mut draft = Draft::of(alloc, table, object.guid)?;
-            draft.remove(object);
-            drafts.insert(object.guid, draft)?;
-            Ok(())
-        }
+        None => unreachable!(),
     }
 }
 
@@ -112,7 +130,7 @@ fn write_row<'a>(
     }
 }
 
-/// Writes a row of an object into the draft of its GUID, which begins with what the table has.
+/// Writes a row of an object into the draft of its GUID.
 fn write_core<'a>(
     alloc: Global,
     table: &'a Table,
@@ -125,13 +143,9 @@ fn write_core<'a>(
     ensures { OnOk result ((seen : List Row) → AreRising seen → AreDrafts (rows_in table.now) seen drafts.old
         → AreDrafts (rows_in table.now) (put seen row.now) drafts.new) }
 {
+    begin(alloc, table, drafts, object.guid)?;
     match drafts.get_mut(&object.guid) {
         Some(draft) => draft.write(row),
-        None => {
-            let mut draft = Draft::of(alloc, table, object.guid)?;
-            draft.write(row)?;
-            drafts.insert(object.guid, draft)?;
-            Ok(())
-        }
+        None => unreachable!(),
     }
 }

@@ -2,7 +2,9 @@
 
 ghost use Rattle.std.specs.Prelude.{◌≡◌};
 ghost use Rattle.std.specs.List.{list_any};
-ghost use Rattle.adr_model.specs.Update.{is_death_of, same_key};
+ghost use Rattle.std.specs.Option.{option_copied};
+ghost use Rattle.adr_model.specs.Update.{is_death_of};
+ghost use Rattle.adr_model.specs.Place.{row_at};
 ghost use Rattle.adr_model.specs.Store.{updates_of};
 ghost use Rattle.adr_update.specs.Key.{key_of};
 ghost use Rattle.adr_update.specs.Referents.{referents};
@@ -11,18 +13,23 @@ ghost use Rattle.adr_live.specs.Alive.{beats, is_elder, is_live};
 use adr_stamp::Oid;
 use adr_update::{Held, Key, Update, is_same};
 
-/// Whether there is a row of a key.
-fn has_row(rows: &[&Held], key: &Key) -> bool
-    ensures { result ≡ list_any (λ h. same_key h.now.update.key (key_of key.now)) rows.now }
+/// The first row of a key.
+pub fn row_at<'a>(rows: &[&'a Held], key: &Key) -> Option<&'a Update>
+    ensures { option_copied result ≡ row_at (updates_of (referents rows.now)) (key_of key.now) }
 {
-    rows.iter().any(|row| row.key().is_same(key))
+    for row in rows {
+        if row.key().is_same(key) {
+            return Some(row.update());
+        }
+    }
+    None
 }
 
 /// Whether the object died.
 fn is_dead(rows: &[&Held], object: &Oid) -> bool
     ensures { result ≡ list_any (is_death_of object.now) (updates_of (referents rows.now)) }
 {
-    has_row(rows, &Key::deleted(object))
+    row_at(rows, &Key::deleted(object)).is_some()
 }
 
 /// Whether the first object was born by the lesser stamp, or at equal stamps has the lesser birth.
@@ -50,10 +57,14 @@ fn beats(rows: &[&Held], birth: &Update, object: &Oid, update: &Update) -> bool
 /// Whether an update gives birth to an object that beats this one.
 fn is_beaten(rows: &[&Held], birth: &Update, object: &Oid) -> bool
     ensures { result
-        ≡ list_any (λ h. beats (updates_of (referents rows.now)) birth.now.stamp object.now h.now.update) rows.now }
+        ≡ list_any (beats (updates_of (referents rows.now)) birth.now.stamp object.now) (updates_of (referents rows.now)) }
 {
-    rows.iter()
-        .any(|row| beats(rows, birth, object, row.update()))
+    for row in rows {
+        if beats(rows, birth, object, row.update()) {
+            return true;
+        }
+    }
+    false
 }
 
 /// Whether an object, with the update that gave birth to it, is live.

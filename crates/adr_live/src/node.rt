@@ -1,35 +1,22 @@
 //! Live objects as their rows name them.
 
 ghost use Rattle.std.specs.Prelude.{◌≡◌, IfOk};
-ghost use Rattle.std.specs.Option.{option_copied, option_and_then};
+ghost use Rattle.std.specs.Option.{option_and_then};
 ghost use Rattle.adr_model.specs.Formed.{AreRising};
 ghost use Rattle.adr_model.specs.Update.{RowOf, name_attr};
 ghost use Rattle.adr_model.specs.Place.{with_name, row_at, node_of, node_at};
 ghost use Rattle.adr_model.specs.Store.{updates_of};
 ghost use Rattle.adr_model.specs.Write.{nodes_held};
-ghost use Rattle.adr_update.specs.Key.{key_of};
 ghost use Rattle.adr_update.specs.Referents.{referents};
 ghost use Rattle.adr_live.specs.Alive.{node_by};
 
 use crate::NoMemory;
-use crate::live::is_live;
+use crate::live::{is_live, row_at};
 use adr_schema::Content;
 use adr_stamp::Oid;
 use adr_update::{CLASS, Held, Key, NAME, Node, Said, Update, is_same};
 use std::alloc::Global;
 use uuid::Uuid;
-
-/// The first row of a key.
-fn row_at<'a>(rows: &[&'a Held], key: &Key) -> Option<&'a Update>
-    ensures { option_copied result ≡ row_at (updates_of (referents rows.now)) (key_of key.now) }
-{
-    for row in rows {
-        if row.key().is_same(key) {
-            return Some(row.update());
-        }
-    }
-    None
-}
 
 /// An object of a class by the row that names it.
 fn with_name(

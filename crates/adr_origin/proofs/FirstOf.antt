@@ -12,6 +12,12 @@ module _ {A : Type 0} where
   in_two (None ∷ xs) ys = in_two xs ys
   in_two (Some x ∷ xs) ys = refl
 
+  -- the first of some refusals, and then others
+  pub in_front : (xs ys : List (Option A)) → first_of (xs ++ ys) ≡ first_of (first_of xs ∷ ys)
+  in_front [] ys = refl
+  in_front (None ∷ xs) ys = in_front xs ys
+  in_front (Some x ∷ xs) ys = refl
+
   pub in_three : (xs ys zs : List (Option A)) → first_of (xs ++ (ys ++ zs)) ≡ first_of (first_of xs ∷ first_of ys ∷ first_of zs ∷ [])
   in_three [] ys zs = in_two ys zs
   in_three (None ∷ xs) ys zs = in_three xs ys zs

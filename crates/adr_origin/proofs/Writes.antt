@@ -1,6 +1,8 @@
--- What a write gives that is not refused: the change of its rows.
-use Rattle.std.proofs.Common.{◌≡◌, ℕ, ◌+◌, [], ◌∷◌, None, Ok, ap, sym, ◌∙◌}
-use Rattle.std.specs.Prelude.{Option}
+-- What a write gives: the change of its rows, or why it is refused.
+use Rattle.std.proofs.Common.{◌≡◌, ℕ, ◌+◌, [], ◌∷◌, None, Some, Result, Ok, Err, ap, sym, ◌∙◌}
+use Rattle.std.specs.Prelude.{IsErrAnd, IsErrOf, Option}
+use Rattle.adr_failure.specs.declared.Failure.{Failure}
+use Rattle.adr_failure.specs.declared.Failure.TheVariants.{Refused}
 use Rattle.adr_event.specs.declared.refusal.WriteRefusal.{WriteRefusal}
 use Rattle.adr_model.specs.Change.{Change, Item, only_writes}
 use Rattle.adr_model.specs.Refusing.{unless}
@@ -16,3 +18,20 @@ passed s w now d usn item none next written is =
     (is
     ∙ (ap (λ (n : ℕ). only_writes n (record { local = n; item = item } ∷ [])) next
     ∙ ap (λ (i : Item). only_writes (s.store.usn + 1) (record { local = s.store.usn + 1; item = i } ∷ [])) written)))
+
+-- a write that is refused
+pub refused : (s : State) (w : Write) (now : ℕ) (refusal : WriteRefusal) → write_refusal s w ≡ Some refusal → write s w now ≡ Err refusal
+refused s w now refusal is = ap (λ (r : Option WriteRefusal). unless r (own_change s (items_written s w now))) is
+
+-- an error that is passed on is the one that came
+pub passed_on : {V E : Type 0} (r : Result V E) (e refusal : E) → IsErrAnd r (λ x. x ≡ e) → IsErrOf r refusal → e ≡ refusal
+passed_on (Ok v) e refusal h is = absurd h
+passed_on (Err x) e refusal h is = cc
+
+-- what a test of a write tells, passed on as why it is refused
+pub refused_by : {T : Type 0} (s : State) (w : Write) (now : ℕ) (x : WriteRefusal) → Some x ≡ write_refusal s w → (refusal : WriteRefusal)
+    → ◌≡◌ {A = Result T (Failure WriteRefusal)} (Err (Refused x)) (Err (Refused refusal)) → write s w now ≡ Err refusal
+refused_by {T} s w now x told refusal same = refused s w now refusal (sym told ∙ by same)
+  where
+    by : ◌≡◌ {A = Result T (Failure WriteRefusal)} (Err (Refused x)) (Err (Refused refusal)) → Some x ≡ Some refusal
+    by e = cc

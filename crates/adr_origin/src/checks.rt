@@ -1,15 +1,16 @@
 //! The tests that a write has to pass, each with its refusal.
 
-ghost use Rattle.std.specs.Prelude.{◌≡◌, ◌≢◌, ◌||◌, ◌+◌, ◌<◌, IsSome, OnOk, length};
+ghost use Rattle.std.specs.Prelude.{◌≡◌, ◌≢◌, ◌||◌, ◌+◌, ◌<◌, IsSome, OnOk, false, length};
 ghost use Rattle.std.specs.Option.{option_map};
 ghost use Rattle.std.specs.Result.{result_err};
 ghost use Rattle.adr_event.specs.declared.refusal.WriteRefusal.TheVariants.{GuidThere as guid_there, Quarantined as quarantined};
 ghost use Rattle.adr_event.specs.declared.refusal.Table.TheVariants.{Objects as objects};
+ghost use Rattle.adr_failure.specs.First.{first_of};
 ghost use Rattle.adr_model.specs.Live.{objects_of};
 ghost use Rattle.adr_model.specs.Place.{is_fixed, node_at};
 ghost use Rattle.adr_model.specs.Serve.{is_quarantined};
 ghost use Rattle.adr_model.specs.Store.{row_held, updates_of};
-ghost use Rattle.adr_model.specs.Write.{cursor_refusal, fixed_refusal, full_refusal, holds_guid, nodes_held, object_limit, object_refusal, of_schema, usn_limit, usn_refusal, version_limit, version_of, version_refusal, where_true};
+ghost use Rattle.adr_model.specs.Write.{cursor_refusal, fixed_refusal, full_refusal, holds_guid, live_refusals, nodes_held, object_limit, object_refusal, of_schema, usn_limit, usn_refusal, version_limit, version_of, version_refusal, where_true};
 ghost use Rattle.adr_update.specs.Key.{key_of};
 ghost use Rattle.adr_change.specs.Mode.{mode_of};
 
@@ -68,6 +69,17 @@ pub fn check_object(state: &State, guid: Uuid) -> Result<(), WriteRefusal>
         return Err(WriteRefusal::Deleted { guid });
     }
     Ok(())
+}
+
+/// Tests that a controller takes writes, and that a GUID is that of a live object, but not of the root or of LostAndFound.
+pub fn check_live(state: &State, guid: Uuid) -> Result<(), WriteRefusal>
+    ensures told { result_err result ≡ first_of (live_refusals state.now guid) }
+    ensures free { OnOk result (is_fixed guid ≡ false) }
+    ensures live { OnOk result (IsSome (node_at (nodes_held (updates_of state.now.store.rows)) guid)) }
+{
+    check_mode(state.mode())?;
+    check_not_fixed(guid)?;
+    check_object(state, guid)
 }
 
 /// What the schema refuses, as the refusal of a write.

@@ -9,7 +9,7 @@ ghost use Rattle.adr_model.specs.Write.{Delete, delete_refusal, nodes_held, rows
 
 use crate::NoMemory;
 use crate::adding::own_change;
-use crate::checks::{check_mode, check_not_fixed, check_object, check_usn};
+use crate::checks::{check_live, check_usn};
 use crate::placing::check_no_child;
 use crate::stamps::{next_item, object_of};
 use adr_event::{Failure, WriteRefusal};
@@ -44,9 +44,7 @@ fn check_delete(state: &State, guid: Uuid) -> Result<(), WriteRefusal>
     ensures room { OnOk result (state.now.store.usn < usn_limit) }
     ensures live { OnOk result (IsSome (node_at (nodes_held (updates_of state.now.store.rows)) guid)) }
 {
-    check_mode(state.mode())?;
-    check_not_fixed(guid)?;
-    check_object(state, guid)?;
+    check_live(state, guid)?;
     check_no_child(state, guid)?;
     check_usn(state.usn())
 }

@@ -10,9 +10,7 @@ ghost use Rattle.adr_origin.specs.NextRows.{next_rows, versions_refusal};
 
 use crate::NoMemory;
 use crate::adding::own_change;
-use crate::checks::{
-    check_mode, check_not_fixed, check_object, check_schema, check_usn, check_version,
-};
+use crate::checks::{check_live, check_schema, check_usn, check_version};
 use crate::new_object::values_content;
 use crate::stamps::{class_of, next_row, object_of};
 use adr_event::{Failure, WriteRefusal};
@@ -59,9 +57,7 @@ fn check_modify(state: &State, guid: Uuid, values: &Assignments) -> Result<(), W
 fn check_given(state: &State, guid: Uuid, values: &Assignments) -> Result<(), WriteRefusal>
     ensures { result_err result ≡ given_refusal state.now guid values.now }
 {
-    check_mode(state.mode())?;
-    check_not_fixed(guid)?;
-    check_object(state, guid)?;
+    check_live(state, guid)?;
     let class = class_of(state, guid);
     check_schema(state.schema().check_modify(class, values))
 }

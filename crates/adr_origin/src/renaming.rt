@@ -11,9 +11,7 @@ ghost use Rattle.adr_origin.specs.LiveParts.{moved_refusal, named_refusal, row_r
 ghost use Rattle.adr_origin.specs.Telling.{Tells};
 
 use crate::adding::own_change;
-use crate::checks::{
-    check_mode, check_not_fixed, check_object, check_schema, check_usn, check_version,
-};
+use crate::checks::{check_live, check_schema, check_usn, check_version};
 use crate::new_object::name_content;
 use crate::placing::{check_new_name, check_no_loop, check_parent, check_superior};
 use crate::stamps::{class_of, next_item, object_of};
@@ -72,9 +70,7 @@ fn check_rename(
 fn check_named(state: &State, guid: Uuid, text: &Text) -> Result<(), WriteRefusal>
     ensures { result_err result ≡ named_refusal state.now guid text.now }
 {
-    check_mode(state.mode())?;
-    check_not_fixed(guid)?;
-    check_object(state, guid)?;
+    check_live(state, guid)?;
     check_schema(check_name(text.as_str()))
 }
 

@@ -1,6 +1,6 @@
 //! How far each partner has been read.
 
-ghost use Rattle.std.specs.Prelude.{◌≡◌, [], length, Some, IfOk, IfSome, IfNone, IsSome, OnOk, OnErr, is_some, unwrap_or};
+ghost use Rattle.std.specs.Prelude.{◌≡◌, [], length, Some, IfOk, IfSome, IfNone, IsSome, OnOk, is_some, unwrap_or};
 ghost use Rattle.std.specs.BTreeMap.{IsOrdered, insert_entry, is_at};
 ghost use Rattle.std.specs.Map.{lookup};
 ghost use Rattle.adr_stamp.specs.Order.{identifier_order};
@@ -65,16 +65,6 @@ impl Marks {
         self.kept(partner).mark_of(inv)
     }
 
-    /// Keeps how far an incarnation of a partner was read, in place of what was kept of the partner.
-    pub fn keep(&mut self, partner: Uuid, inv: Uuid, mark: Mark) -> Result<(), NoMemory>
-        ensures ok { OnOk result (self.new
-            ≡ with_mark (Some (partner, record { inv = inv; mark = mark })) self.old) }
-        ensures err { OnErr result (self.new ≡ self.old) }
-    {
-        self.map.insert(partner, Kept::new(inv, mark))?;
-        Ok(())
-    }
-
     /// Whether anything is kept of a partner.
     fn has(&self, partner: Uuid) -> bool
         ensures { result ≡ is_some (lookup (is_at (identifier_order partner)) self.now) }
@@ -98,7 +88,7 @@ impl Marks {
             return Ok(None);
         }
         let mut marks = self.copy(alloc)?;
-        marks.keep(partner, kept.inv(), kept.mark())?;
+        put(&mut marks.map, partner, kept)?;
         Ok(Some(marks))
     }
 
@@ -167,7 +157,8 @@ impl Marks {
 
 /// Puts what is kept of a partner into a table, over what is there.
 fn put(map: &mut BTreeMap<Uuid, Kept>, partner: Uuid, kept: Kept) -> Result<(), NoMemory>
-    ensures { OnOk result (map.new.entries ≡ insert_entry identifier_order map.old.entries partner kept) }
+    ensures entries { OnOk result (map.new.entries ≡ insert_entry identifier_order map.old.entries partner kept) }
+    ensures ordered { IsOrdered identifier_order map.new }
 {
     map.insert(partner, kept)?;
     Ok(())

@@ -89,8 +89,10 @@ fn lacks_must(schema: Schema, rows: &[Update]) -> bool
     ensures { result
         ≡ list_any (λ attr. not (has_row attr rows.now)) (must_of schema (unwrap_or (class_among rows.now) 0)) }
 {
-    schema
-        .must(class_among(rows).unwrap_or(0))
-        .iter()
-        .any(|attr| !has_row(*attr, rows))
+    for attr in schema.must(class_among(rows).unwrap_or(0)) {
+        if !has_row(*attr, rows) {
+            return true;
+        }
+    }
+    false
 }

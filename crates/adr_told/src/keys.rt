@@ -32,7 +32,12 @@ pub fn is_reserved(key: Key) -> bool
 pub fn has_row(attr: u16, rows: &[Update]) -> bool
     ensures { result ≡ has_row attr rows.now }
 {
-    rows.iter().any(|row| is_of_attr(attr, row.key()))
+    for row in rows {
+        if is_of_attr(attr, row.key()) {
+            return true;
+        }
+    }
+    false
 }
 
 /// The class that a class row gives.
@@ -49,7 +54,12 @@ pub fn class_said(said: &Said) -> Option<u16>
 fn first_row(attr: u16, rows: &[Update]) -> Option<&Update>
     ensures { option_copied result ≡ find (λ u. is_of_attr attr u.key) rows.now }
 {
-    rows.iter().find(|row| is_of_attr(attr, row.key()))
+    for row in rows {
+        if is_of_attr(attr, row.key()) {
+            return Some(row);
+        }
+    }
+    None
 }
 
 /// The class that one of the rows gives.

@@ -1,9 +1,11 @@
 -- Edits, one after the other, and what is forgotten after them.
-use Rattle.std.proofs.Common.{◌≡◌, ◌<◌, inl, inr, ℕ, suc, Bool, true, false, cond, List, [], ◌∷◌, Option, Some, None, refl, sym, ap, ◌∙◌, subst, length, arith, slice_index_or}
+use Rattle.std.proofs.Common.{◌≡◌, ◌<◌, ◌+◌, ◌⊎◌, inl, inr, ℕ, suc, Bool, true, false, cond, List, [], ◌∷◌, Option, Some, None, refl, sym, ap, ◌∙◌, subst, length, arith, slice_index_or}
 use Rattle.std.specs.Prelude.{IfSome, IsSome, unwrap_or}
 use Rattle.std.specs.Option.{option_map_or}
 use Rattle.std.specs.BTreeMap.{BTreeMap, get, is_at}
 use Rattle.std.specs.BTreeSet.{BTreeSet, contains}
+use Rattle.std.proofs.Math.Nat.{eq-or-lt_of_le}
+use Rattle.std.proofs.lemmas.List.{get_or_default}
 use Rattle.adr_stamp.specs.Order.{identifier_order}
 use Rattle.adr_model.specs.Member.{Each}
 use Rattle.adr_model.specs.Update.{Identifier, same_identifier}
@@ -35,12 +37,24 @@ fresh_after all out guid nodes (Some n) own =
 pub own_later : (e : Edit) (es : List Edit) → AreOwn (e ∷ es) → AreOwn es
 own_later e es own x m = own x (inr m)
 
-pub room_later : (t u : Tree) (e : Edit) (es : List Edit) → ((n : Node) → HasRoom t n → HasRoom u n) → HaveRoom t (e ∷ es) → HaveRoom u es
-room_later t u e es more room x m = by x.node (room x (inr m))
-  where
-    by : (o : Option Node) → IfSome o (HasRoom t) → IfSome o (HasRoom u)
-    by None r = tt
-    by (Some n) r = more n r
+module _ (t u : Tree) (more : (n : Node) → HasRoom t n → HasRoom u n) where
+  still_room : (o : Option Node) → IfSome o (HasRoom t) → IfSome o (HasRoom u)
+  still_room None r = tt
+  still_room (Some n) r = more n r
+
+  pub room_later : (e : Edit) (es : List Edit) → HaveRoom t (e ∷ es) → HaveRoom u es
+  room_later e es room x m = still_room x.node (room x (inr m))
+
+  -- an edit more for which there is room
+  pub room_more : (es : List Edit) (k : ℕ) (e : Edit) → k < length es → e ≡ slice_index_or es k e → IfSome e.node (HasRoom u)
+      → ((i : ℕ) (d : Edit) → i < k → IfSome (slice_index_or es i d).node (HasRoom t)) → (i : ℕ) (d : Edit) → i < k + 1 → IfSome (slice_index_or es i d).node (HasRoom u)
+  room_more es k e within is room before i d less = by (eq-or-lt_of_le (omega (arith, less)))
+    where
+      by : (i ≡ k) ⊎ (i < k) → IfSome (slice_index_or es i d).node (HasRoom u)
+      by (inl same) =
+          subst (λ (j : ℕ). IfSome (slice_index_or es j d).node (HasRoom u)) (sym same)
+          (subst (λ (x : Edit). IfSome x.node (HasRoom u)) (is ∙ get_or_default es k e d within) room)
+      by (inr below) = still_room (slice_index_or es i d).node (before i d below)
 
 -- ---- a slot and a flag freed
 

@@ -34,12 +34,12 @@ fn has_name(node: &Node, name: &Text) -> bool
 }
 
 /// The object whose name is the youngest.
-fn youngest(nodes: Vec<&Node>) -> Option<&Node>
-    ensures { option_copied result ≡ youngest (referents nodes.entry.items) }
+fn youngest<'a>(nodes: &[&'a Node]) -> Option<&'a Node>
+    ensures { option_copied result ≡ youngest (referents nodes.now) }
 {
-    let mut best: Option<&Node> = None;
+    let mut best = None;
     for node in nodes {
-        best = Some(younger_of(best, node));
+        best = Some(younger_of(best, *node));
     }
     best
 }
@@ -65,8 +65,8 @@ fn guid_of(node: Option<&Node>) -> Option<Uuid>
 }
 
 /// Whether there is another object than that of a GUID.
-fn has_other(nodes: Vec<&Node>, guid: Uuid) -> bool
-    ensures { result ≡ list_any (λ m. not (same_identifier m.object.guid guid)) (referents nodes.entry.items) }
+fn has_other(nodes: &[&Node], guid: Uuid) -> bool
+    ensures { result ≡ list_any (λ m. not (same_identifier m.object.guid guid)) (referents nodes.now) }
 {
     for node in nodes {
         if !is_same(node.object().guid, guid) {
@@ -132,7 +132,7 @@ impl Tree {
             return Ok(Some(lost_and_found()));
         }
         let bearers = self.bearers(alloc, parent, name)?;
-        Ok(guid_of(youngest(bearers)))
+        Ok(guid_of(youngest(bearers.as_slice())))
     }
 
     /// Whether a place has another object than that of a GUID, or LostAndFound, of a folded name.
@@ -152,7 +152,7 @@ impl Tree {
             return Ok(true);
         }
         let bearers = self.bearers(alloc, parent, name)?;
-        Ok(has_other(bearers, guid))
+        Ok(has_other(bearers.as_slice(), guid))
     }
 
     /// The GUID of the object that keeps a text in a place, in whatever case it is written.

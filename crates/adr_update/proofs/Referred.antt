@@ -1,9 +1,6 @@
 -- Lists of references, by what they refer to.
-use Rattle.std.proofs.Common.{◌≡◌, ◌<◌, ℕ, zero, suc, Bool, true, false, cond, ◌||◌, List, [], ◌∷◌, ◌++◌, refl, sym, ap, ◌∙◌, append_assoc, drop, drop-cons, filter, map, length, get_or, slice_set, Bor}
+use Rattle.std.proofs.Common.{◌≡◌, ◌<◌, ℕ, zero, suc, Bool, true, false, cond, List, [], ◌∷◌, ◌++◌, refl, sym, ap, ◌∙◌, append_assoc, drop, drop-cons, filter, map, length, get_or, slice_set, Bor}
 use Rattle.std.specs.Prelude.{insert}
-use Rattle.std.specs.List.{list_any}
-use Rattle.adr_model.specs.Update.{Update}
-use Rattle.adr_model.specs.Store.{Held, updates_of}
 use Rattle.adr_update.specs.Referents.{referents}
 
 module _ {A : Type 0} where
@@ -52,8 +49,3 @@ module _ {A : Type 0} where
       ap (λ ws. ws ++ map f (referents (drop j xs))) grown
       ∙ (append_assoc ys (f x.now ∷ []) (map f (referents (drop j xs)))
       ∙ (ap (λ (ws : List (Bor A)). ys ++ map f (referents ws)) (sym (from_here xs i j x within is next)) ∙ so_far))
-
--- a test of the updates of rows
-pub any_of_updates : (test : Update → Bool) (rows : List (Bor Held)) → list_any (λ h. test h.now.update) rows ≡ list_any test (updates_of (referents rows))
-any_of_updates test [] = refl
-any_of_updates test (h ∷ hs) = ap (λ b. test h.now.update || b) (any_of_updates test hs)

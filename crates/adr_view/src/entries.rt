@@ -48,19 +48,18 @@ fn entry_of<'a>(
     })
 }
 
-/// Live objects as they are shown, in their order.
-fn all_entries<'a>(
+/// The directory of live objects, in their order.
+fn directory_of<'a>(
     alloc: Global,
     rows: &Rows,
     names: &BTreeMap<Slot<'a>, Rank>,
     nodes: &[&'a Node],
-) -> Result<Vec<Entry>, NoMemory>
+) -> Result<Directory, NoMemory>
     requires links { IsTrue (have_back_links (updates_of rows.now)) }
     requires named { AreNamed (updates_of rows.now) }
     requires names { AreYoungest (nodes_held (updates_of rows.now)) names.now }
     requires nodes { referents nodes.now ≡ nodes_held (updates_of rows.now) }
-    ensures { IfOk result (λ entries.
-        entries.items
+    ensures { IfOk result (λ shown. shown
         ≡ map (entry_of (live_rows (updates_of rows.now)) (nodes_held (updates_of rows.now))) (referents nodes.now)) }
 {
     rows.are_rising();
@@ -68,7 +67,7 @@ fn all_entries<'a>(
     for node in nodes {
         entries.push(entry_of(alloc, rows, names, node)?)?;
     }
-    Ok(entries)
+    Ok(Directory::of(entries))
 }
 
 /// The directory that the rows of a controller define: its live objects, rising by GUID.
@@ -79,6 +78,5 @@ pub fn directory(alloc: Global, rows: &Rows) -> Result<Directory, NoMemory>
 {
     let nodes = rows.nodes(alloc)?;
     let names = youngest_names(alloc, rows, nodes.as_slice())?;
-    let entries = all_entries(alloc, rows, &names, nodes.as_slice())?;
-    Ok(Directory::of(entries))
+    directory_of(alloc, rows, &names, nodes.as_slice())
 }

@@ -1,7 +1,7 @@
-use Rattle.std.proofs.Common.{◌≡◌, ◌∙◌, List, Option, Some, refl, ap, subst}
+use Rattle.std.proofs.Common.{◌≡◌, List, Option, refl, ap, subst}
 use Rattle.std.specs.Prelude.{IsSome, unwrap_or}
 use Rattle.std.specs.Option.{option_copied_mut}
-use Rattle.std.specs.BTreeMap.{Updates, get}
+use Rattle.std.specs.BTreeMap.{get}
 use Rattle.adr_stamp.specs.Order.{identifier_order}
 use Rattle.adr_model.specs.Store.{Held}
 use Rattle.adr_table.specs.Table.{rows_in}
@@ -9,22 +9,13 @@ use Rattle.adr_live.specs.Core.{core_of}
 use Rattle.adr_live.proofs.Drafting.{object_removed}
 use Rattle.adr_live.proofs.drafts.remove_object.Goals as goal
 
-pub returns-in-Some : goal.returns-in-Some
-returns-in-Some c seen are =
+pub returns : goal.returns
+returns c seen are =
     let rows = rows_in c.args.table.now in
     let guid = c.args.object.now.guid in
+    let begun = c.begin.new.drafts in
     let after = c.remove.new.self in
-    let found = subst (λ r. option_copied_mut r ≡ get identifier_order c.args.drafts.now guid) c.in-Some.is c.get_mut.ensures.value in
-    object_removed rows seen c.args.drafts.now (c.get_mut.follows.lender after) c.args.object.now c.in-Some.draft.now after are
+    let found = subst (λ r. option_copied_mut r ≡ get identifier_order begun guid) c.in-Some.is c.get_mut.ensures.value in
+    object_removed rows seen begun (c.get_mut.follows.lender after) c.args.object.now c.in-Some.draft.now after (c.in_ok-begin.ensures.same seen are)
     (ap (λ (o : Option (List Held)). unwrap_or o (core_of guid rows)) found) c.remove.ensures
     ((c.get_mut.follows.holds after).3 (subst IsSome found refl))
-
-pub returns-in_ok-insert-in-None : goal.returns-in_ok-insert-in-None
-returns-in_ok-insert-in-None c seen are =
-    let rows = rows_in c.args.table.now in
-    let guid = c.args.object.now.guid in
-    let after = c.remove-in-None.new.self in
-    let none = subst (λ r. option_copied_mut r ≡ get identifier_order c.args.drafts.now guid) c.in-None.is c.get_mut.ensures.value in
-    object_removed rows seen c.args.drafts.now c.insert.new.self c.args.object.now c.in_ok-draft-in-None.draft after are
-    (c.in_ok-draft-in-None.ensures ∙ ap (λ (o : Option (List Held)). unwrap_or o (core_of guid rows)) none) c.remove-in-None.ensures
-    (subst (λ m. Updates identifier_order m c.insert.new.self guid (Some after)) c.get_mut.follows.holds-at-none c.in_ok-insert-in-None.ensures.updates)

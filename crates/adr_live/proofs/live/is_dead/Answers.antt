@@ -1,11 +1,14 @@
-use Rattle.std.proofs.Common.{ap, ◌∙◌, Bor}
-use Rattle.std.specs.List.{list_any}
-use Rattle.adr_model.specs.Update.{Key, same_key, is_death_of}
-use Rattle.adr_model.specs.Store.{Held}
-use Rattle.adr_update.proofs.Referred.{any_of_updates}
+use Rattle.std.proofs.Common.{ap, ◌∙◌, Option}
+use Rattle.std.specs.Option.{is_some}
+use Rattle.adr_model.specs.Place.{row_at}
+use Rattle.adr_model.specs.Store.{updates_of}
+use Rattle.adr_model.specs.Update.{Key, Update, is_death_of}
+use Rattle.adr_update.specs.Referents.{referents}
+use Rattle.adr_live.proofs.Alive.{is_copied, is_found}
 use Rattle.adr_live.proofs.live.is_dead.Goals as goal
 
 pub returns : goal.returns
 returns c =
-    c.has_row.ensures ∙ ap (λ (k : Key). list_any (λ (h : Bor Held). same_key h.now.update.key k) c.args.rows.now) c.deleted.ensures
-    ∙ any_of_updates (is_death_of c.args.object.now) c.args.rows.now
+    let us = updates_of (referents c.args.rows.now) in
+    c.is_some.ensures ∙ is_copied c.row_at.result ∙ ap (λ (o : Option Update). is_some o) c.row_at.ensures
+    ∙ ap (λ (k : Key). is_some (row_at us k)) c.deleted.ensures ∙ is_found (is_death_of c.args.object.now) us

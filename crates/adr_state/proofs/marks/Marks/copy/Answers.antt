@@ -21,4 +21,4 @@ pub loop-partner-preserved : goal.loop-partner-preserved
 loop-partner-preserved c =
     moved c.args.self.now c.loop-partner.map.entries c.put.new.map.entries c.loop-partner.partner-iterator c.next.new.self c.in-Some.partner.now c.in-Some.kept.now
     (let P : List (Identifier × Kept) → Type 0 = λ es. IsStrictlySortedBy identifier_order (keys_of es) in subst P c.self.view_is c.self.invariant)
-    c.loop-partner.invariant (rw c.in-Some.is at c.next.ensures.steps) c.in_ok-put.ensures
+    c.loop-partner.invariant (rw c.in-Some.is at c.next.ensures.steps) c.in_ok-put.ensures.entries

@@ -21,3 +21,7 @@ invariant_of-self-2 c =
           c.are_rising.ensures c.are_in_order.ensures (c.reserve.ensures.nodes ∙ c.self.invariant.same) c.apply.ensures.nodes
           (λ g. c.in_ok-edits.ensures.nodes g ∙ ap (λ (hs : List Held). node_at (nodes_held (updates_of hs)) g) (sym after));
     }
+
+pub returns-clause-ok : goal.returns-clause-ok
+returns-clause-ok c =
+    c.write.ensures.rows ∙ ap (λ (hs : List Held). rows_after c.args.removed.now c.args.rows.items hs) (c.reserve-2.ensures.rows ∙ c.self.view_is)

@@ -1,6 +1,6 @@
-use Rattle.std.proofs.Common.{◌≡◌, ◌∙◌, ℕ, List, Option, Some, None, refl, sym, ap, subst}
+use Rattle.std.proofs.Common.{◌≡◌, ◌∙◌, ◌<◌, ◌≤◌, ◌⊎◌, inl, inr, ℕ, List, length, Option, Some, None, refl, sym, ap, subst, arith}
 use Rattle.std.specs.Prelude.{IfSome, unwrap_or}
-use Rattle.adr_vector.specs.Vector.{Cursors, joined, raised}
+use Rattle.adr_vector.specs.Vector.{Cursors, cursor_limit, joined, raised}
 use Rattle.adr_model.specs.Update.{Identifier}
 use Rattle.adr_model.specs.Change.{Change, after, held_of, rows_after, with_mark}
 use Rattle.adr_model.specs.Store.{Held, Kept, Mode, State}
@@ -16,6 +16,20 @@ state_is : (s : State) (change : Change) (mode : Mode) (usn : ℕ) (rows : List 
     → rows ≡ (after s change).store.rows → vector ≡ (after s change).store.vector → purged ≡ (after s change).store.purged → marks ≡ (after s change).store.marks
     → record { dsa = s.dsa; inv = s.inv; mode = mode; store = record { schema = s.store.schema; usn = usn; rows = rows; vector = vector; purged = purged; marks = marks } } ≡ after s change
 state_is s change mode usn rows vector purged marks m u r v p k = rw m (rw u (rw r (rw v (rw p (rw k refl)))))
+
+few : (vector purged : Cursors) → length vector ≤ cursor_limit → length purged ≤ cursor_limit → (cursor_limit < length vector) ⊎ (cursor_limit < length purged) → ⊥
+few vector purged v p (inl over) = omega (arith, over, v)
+few vector purged v p (inr over) = omega (arith, over, p)
+
+pub returns-clause-room : goal.returns-clause-room
+returns-clause-room c =
+    let change = c.args.change.now in
+    let old = c.self.inside in
+    let vector : c.renew_seen.new.vector ≡ raised (joined old.vector change.joined) old.inv change.usn =
+    c.renew_seen.ensures ∙ either c.in_ok-vector.vector _ (subst (λ (s : State). IfSome c.in_ok-vector.vector (λ seen. seen ≡ (after s change).store.vector)) (sym c.self.view_is) c.in_ok-vector.ensures.new) in
+    rw (← c.self.view_is)
+    (few _ _ (subst (λ (v : Cursors). length v ≤ cursor_limit) vector c.are_few.ensures)
+    (subst (λ (s : State). length (after s change).store.purged ≤ cursor_limit) (sym c.self.view_is) c.in_ok-purged.ensures.few))
 
 pub returns-clause-ok : goal.returns-clause-ok
 returns-clause-ok c =

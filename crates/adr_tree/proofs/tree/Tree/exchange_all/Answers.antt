@@ -16,7 +16,7 @@ loop-edit-preserved c =
       c.exchange.ensures.tree,
       subst AreOwn (sym after) (own_later (get_or c.loop-edit.edits c.loop-edit.edit-index c.edit-item.result) (drop (c.loop-edit.edit-index + 1) c.loop-edit.edits) (subst AreOwn left c.loop-edit.invariant.1)),
       subst (HaveRoom c.exchange.new.self) (sym after)
-          (room_later c.loop-edit.self c.exchange.new.self (get_or c.loop-edit.edits c.loop-edit.edit-index c.edit-item.result) (drop (c.loop-edit.edit-index + 1) c.loop-edit.edits) c.exchange.ensures.more (subst (HaveRoom c.loop-edit.self) left c.loop-edit.invariant.2)),
+          (room_later c.loop-edit.self c.exchange.new.self c.exchange.ensures.more (get_or c.loop-edit.edits c.loop-edit.edit-index c.edit-item.result) (drop (c.loop-edit.edit-index + 1) c.loop-edit.edits) (subst (HaveRoom c.loop-edit.self) left c.loop-edit.invariant.2)),
       (λ g.
           ap (λ es. edited es g (node_at (nodes_in c.exchange.new.self) g)) after
           ∙ ap (edited (drop (c.loop-edit.edit-index + 1) c.loop-edit.edits) g) (c.exchange.ensures.nodes g)

@@ -1,5 +1,6 @@
-use Rattle.std.proofs.Common.{◌≡◌, ◌&&◌, true, Some, ap, sym, ◌∙◌, subst}
+use Rattle.std.proofs.Common.{◌≡◌, ◌&&◌, true, not, Some, ap, sym, ◌∙◌, subst}
 use Rattle.std.specs.Prelude.{codes}
+use Rattle.std.specs.List.{list_any}
 use Rattle.std.specs.Str.{bytes_eq}
 use Rattle.adr_schema.specs.Folding.{folded}
 use Rattle.adr_model.specs.Member.{Each, Member}
@@ -20,6 +21,7 @@ returns-then-is_lost_name c text e =
 pub returns : goal.returns
 returns c text e =
     c.has_other.ensures
+    ∙ ap (list_any (λ (m : Node). not (same_identifier m.object.guid c.args.guid))) (ap referents c.as_slice.ensures.value)
     ∙ taken_is (nodes_in c.args.self.now) (in_order c.args.self.now.slots.entries c.requires.tree.tidy.ordered c.requires.tree.tidy.home) c.args.parent text c.args.guid (referents c.in_ok-bearers.bearers.items)
     (ap (λ n. same_identifier c.args.parent root && bytes_eq n (folded (codes "LostAndFound"))) (sym e) ∙ sym c.is_lost_name.ensures ∙ c.if-is_lost_name.false)
     c.in_ok-bearers.ensures.live

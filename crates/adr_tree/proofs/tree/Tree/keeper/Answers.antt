@@ -5,6 +5,7 @@ use Rattle.adr_schema.specs.Folding.{folded}
 use Rattle.adr_model.specs.Member.{Each, Member}
 use Rattle.adr_model.specs.Place.{Node, node_at, root}
 use Rattle.adr_model.specs.Update.{same_identifier}
+use Rattle.adr_law_tree.specs.Breaker.{youngest}
 use Rattle.adr_update.specs.Referents.{referents}
 use Rattle.adr_tree.specs.Names.{is_called}
 use Rattle.adr_tree.specs.Tree.{nodes_in}
@@ -20,7 +21,7 @@ returns-then-is_lost_name c text e =
 pub returns : goal.returns
 returns c text e =
     c.guid_of.ensures
-    ∙ ap (option_map (λ (n : Node). n.object.guid)) c.youngest.ensures
+    ∙ ap (option_map (λ (n : Node). n.object.guid)) (c.youngest.ensures ∙ ap youngest (ap referents c.as_slice.ensures.value))
     ∙ holder_is (nodes_in c.args.self.now) (in_order c.args.self.now.slots.entries c.requires.tree.tidy.ordered c.requires.tree.tidy.home) c.args.parent text (referents c.in_ok-bearers.bearers.items)
     (ap (λ n. same_identifier c.args.parent root && bytes_eq n (folded (codes "LostAndFound"))) (sym e) ∙ sym c.is_lost_name.ensures ∙ c.if-is_lost_name.false)
     c.in_ok-bearers.ensures.live

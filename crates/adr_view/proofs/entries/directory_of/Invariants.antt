@@ -4,7 +4,7 @@ use Rattle.adr_model.specs.Live.{live_rows}
 use Rattle.adr_model.specs.Store.{updates_of}
 use Rattle.adr_model.specs.Write.{nodes_held}
 use Rattle.adr_update.specs.Referents.{referents}
-use Rattle.adr_view.proofs.entries.all_entries.Given as goal
+use Rattle.adr_view.proofs.entries.directory_of.Given as goal
 
 -- with the entries of the objects that are left they are all
 abbrev pub invariant-loop-node : goal.invariant-loop-node

@@ -3,7 +3,7 @@ use Rattle.adr_model.specs.Place.{row_at}
 use Rattle.adr_model.specs.Store.{updates_of}
 use Rattle.adr_update.specs.Key.{key_of}
 use Rattle.adr_update.specs.Referents.{referents}
-use Rattle.adr_live.proofs.node.row_at.Given as goal
+use Rattle.adr_live.proofs.live.row_at.Given as goal
 
 -- the row is the first of those that are left
 abbrev pub invariant-loop-row : goal.invariant-loop-row

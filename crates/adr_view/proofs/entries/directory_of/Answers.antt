@@ -6,7 +6,7 @@ use Rattle.adr_model.specs.Store.{updates_of}
 use Rattle.adr_model.specs.Write.{nodes_held}
 use Rattle.adr_view.proofs.LiveObjects.{node_found}
 use Rattle.adr_update.proofs.Referred.{next_mapped}
-use Rattle.adr_view.proofs.entries.all_entries.Goals as goal
+use Rattle.adr_view.proofs.entries.directory_of.Goals as goal
 
 pub entry_of-requires-clause-live : goal.entry_of-requires-clause-live
 entry_of-requires-clause-live c = node_found c.args.rows.now c.are_rising.ensures c.args.nodes.now c.requires.nodes c.loop-node.node-index c.node-item.result c.loop-node-test.true c.node-item.is
