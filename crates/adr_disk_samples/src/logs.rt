@@ -6,11 +6,12 @@ ghost use Rattle.adr_disk_samples.specs.Takes.{TakesAll};
 use crate::kept::{Finding, Mishap, add_and_start, bytes_of, commit, format, run, start};
 use adr_controller::Keeper;
 use adr_disk::{Crash, MemDisk};
-use adr_journal::{Journal, Plain};
+use adr_journal::Journal;
 use adr_law_recorded::{
     logged_states_fit, new_controllers_may_begin, recorded_changes_leave_logged_states,
     writes_are_recorded,
 };
+use adr_plain::Plain;
 use adr_records::Records;
 use adr_schema::NoMemory;
 use std::alloc::Global;
