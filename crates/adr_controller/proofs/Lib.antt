@@ -1,5 +1,5 @@
-mod Kept
+mod Results
 mod Orders
 mod Calling
 mod Planning
-mod Ran
+mod Keeps

@@ -4,7 +4,7 @@ use Rattle.adr_model.specs.Store.{State}
 use Rattle.adr_law_journal.specs.Log.{Found, found}
 use Rattle.adr_journal.specs.declared.keeper.Keeper.{Ghosts}
 use Rattle.adr_controller.specs.Running.{Running, IsUp, IsInOrder}
-use Rattle.adr_controller.proofs.Kept.{none_of}
+use Rattle.adr_controller.proofs.Results.{none_of}
 
 module _ {K : Type 0} (k : Ghosts K) where
   pub none_when_down : (c : Running K) → IsInOrder k c → c.down ≡ true → c.state ≡ None

@@ -79,6 +79,19 @@ pub record Commits {K : Type 0} (k : Ghosts K) (s : State) (c : Change) (old new
   -- what the keeper was asked for
   pub ran : Ran k old.keeper c how new.keeper
 
+-- A controller that is up keeps a change, or is hindered: it commits it, and is in order.
+pub record Kept {K : Type 0} (k : Ghosts K) (s : State) (c : Change) (old new : Running K) (how : Option Hindrance)
+    : Type 0 where
+  pub commits : Commits k s c old new how
+  pub in_order : IsInOrder k new
+  pub not_down : how ≡ Some Down → ⊥
+  pub not_failed : how ≡ Some Failed → ⊥
+
+-- it has this state in memory, and behind a fault of its disk none
+abbrev pub up_behind : {K : Type 0} → Option Hindrance → K → State → Running K
+up_behind (Some DiskFault) keeper s = record { keeper = keeper; state = None; down = false }
+up_behind _ keeper s = record { keeper = keeper; state = Some s; down = false }
+
 -- ---- a call
 
 -- the change that a call makes of the state of a controller in order

@@ -31,10 +31,6 @@ kept_as keeps.Failed = Failed
 kept_as keeps.Full = Full
 kept_as keeps.NoMemory = NoMemory
 
-abbrev pub kept_hindrance : {T : Type 0} → Result T KeeperRefusal → Option Hindrance
-kept_hindrance (Ok _) = None
-kept_hindrance (Err refusal) = Some (kept_as refusal)
-
 -- a pure call that didn't answer
 abbrev pub of_failure : {R : Type 0} → Failure R → CallRefusal R
 of_failure (failures.Refused refusal) = Refused refusal

@@ -196,13 +196,11 @@ impl<K: Keeper> Controller<K> {
         };
         match keep(&mut self.keeper, state, change) {
             Ok(()) => Ok(()),
-            Err(KeeperRefusal::DiskFault) => {
+            Err(Hindrance::DiskFault) => {
                 forget(&mut self.state);
                 Err(Hindrance::DiskFault)
             }
-            Err(KeeperRefusal::Full) => Err(Hindrance::Full),
-            Err(KeeperRefusal::NoMemory) => Err(Hindrance::NoMemory),
-            Err(KeeperRefusal::Failed) => unreachable!(),
+            Err(hindrance) => Err(hindrance),
         }
     }
 

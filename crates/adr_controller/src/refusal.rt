@@ -3,9 +3,10 @@
 ghost use Rattle.std.specs.Prelude.{◌≡◌};
 ghost use Rattle.adr_controller.specs.declared.refusal.CallRefusal.TheVariants.{Hindered as hindered};
 ghost use Rattle.adr_controller.specs.declared.refusal.Hindrance.TheVariants.{NoMemory as no_memory};
-ghost use Rattle.adr_controller.specs.Ended.{of_failure};
+ghost use Rattle.adr_controller.specs.Ended.{kept_as, of_failure};
 
 use adr_failure::Failure;
+use adr_journal::KeeperRefusal;
 use std::alloc::AllocError;
 
 /// What keeps a controller from making a call, whatever the call.
@@ -34,6 +35,19 @@ impl From<AllocError> for Hindrance {
 
     fn from(_e: AllocError) -> Hindrance {
         Hindrance::NoMemory
+    }
+}
+
+impl From<KeeperRefusal> for Hindrance {
+    ghost from_gives = { λ refusal h. h ≡ kept_as refusal };
+
+    fn from(refusal: KeeperRefusal) -> Hindrance {
+        match refusal {
+            KeeperRefusal::DiskFault => Hindrance::DiskFault,
+            KeeperRefusal::Failed => Hindrance::Failed,
+            KeeperRefusal::Full => Hindrance::Full,
+            KeeperRefusal::NoMemory => Hindrance::NoMemory,
+        }
     }
 }
 

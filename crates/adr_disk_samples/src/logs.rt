@@ -7,11 +7,12 @@ use crate::kept::{Finding, Mishap, add_and_start, bytes_of, commit, format, run,
 use adr_controller::Keeper;
 use adr_disk::Crash;
 use adr_disk_memory::MemDisk;
-use adr_journal::{Journal, Plain};
+use adr_journal::Journal;
 use adr_law_recorded::{
     logged_states_fit, new_controllers_may_begin, recorded_changes_leave_logged_states,
     writes_are_recorded,
 };
+use adr_plain::Plain;
 use adr_records::Records;
 use adr_schema::NoMemory;
 use std::alloc::Global;

@@ -1,4 +1,3 @@
 mod Steps
 pub mod Heads
-mod Found
-mod InMemory
+pub mod Found

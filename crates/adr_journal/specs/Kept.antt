@@ -1,11 +1,11 @@
 -- What a journal stands for, and what it is ready to write.
-use Rattle.std.specs.Prelude.{◌≡◌, ℕ, ◌+◌, ◌-◌, ◌≤◌, ◌<◌, ◌^◌, List, [], ◌∷◌, ◌++◌, take, length, Option}
+use Rattle.std.specs.Prelude.{◌≡◌, ℕ, ◌+◌, ◌≤◌, List, [], length, Option}
 use Rattle.std.specs.Option.{ForSome}
 use Rattle.adr_disk.specs.Disk.{Only, IsSpare}
 use Rattle.adr_wire.specs.Reading.{Reading}
 use Rattle.adr_model.specs.Store.{State}
 use Rattle.adr_model.specs.Lengths.{log_limit}
-use Rattle.adr_law_journal.specs.Log.{Found, Following, open_gate, record_of, IsAtRest}
+use Rattle.adr_law_journal.specs.Log.{Found, Following, record_of}
 use Rattle.adr_law_journal.specs.Kept.{IsSettled}
 
 -- it has no log: it was never formatted or started, and its disk, where it tells its bytes, has none
@@ -25,13 +25,3 @@ pub record IsPrepared {D : Type 0} (spare_calls spare_bytes : D → ℕ) (disk :
   pub is : written ≡ record_of body
   pub room : end + length written ≤ log_limit
   pub spare : IsSpare 4 (length written + 1) (spare_calls disk) (spare_bytes disk)
-
--- a log in memory that stands for this, and ends here
-pub record IsLog (head : Reading State) (following : Following State) (log : List ℕ) (end : ℕ) (f : Found State) : Type 0 where
-  pub ends : f.log_end ≡ end
-  pub rests : IsAtRest head following f.state end log
-
--- the same log with one more record, of this body, where it ends
-pub record IsNext (log : List ℕ) (end : ℕ) (next body : List ℕ) : Type 0 where
-  pub is : next ≡ take (end - 1) log ++ open_gate ∷ record_of body
-  pub fits : length body < 2 ^ 32

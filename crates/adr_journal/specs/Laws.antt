@@ -7,8 +7,7 @@ use Rattle.adr_wire.specs.Reading.{Reading}
 use Rattle.adr_model.specs.Store.{State}
 use Rattle.adr_law_journal.specs.Log.{Found, found, Started, Following, start_of}
 use Rattle.adr_law_journal.specs.Kept.{Finds}
-use Rattle.adr_law_journal.proofs.Logs.{at_rest_stands}
-use Rattle.adr_journal.specs.Kept.{IsAt, IsLog}
+use Rattle.adr_journal.specs.Kept.{IsAt}
 
 module _ (head : Reading State) (following : Following State) where
   tells_so : (content : Option (List ℕ)) (f : Found State) → ForSome content (λ there. start_of head following there ≡ Ok f) → IfSome (option_map (start_of head following) content) (λ t. t ≡ Ok f)
@@ -34,11 +33,3 @@ module _ (head : Reading State) (following : Following State) where
 
     pub at_leaves : (t : Started State) → IsSome (option_map (start_of head following) (content disk)) → Finds head following (may_leave disk) t → t ≡ Ok f
     at_leaves t told left = leaves_so (content disk) (may_leave disk) f finds_it at.settled.synced t told left
-
-  module _ (log : List ℕ) (end : ℕ) (f : Found State) (at : IsLog head following log end f) where
-    -- a log in memory stands for what it is at
-    pub log_tells : start_of head following log ≡ Ok f
-    log_tells = at_rest_stands head following f.state end log at.rests ∙ ap (λ (n : ℕ). let x : Started State = Ok (found f.state n) in x) (sym at.ends)
-
-    pub log_leaves : (t : Started State) → t ≡ start_of head following log → t ≡ Ok f
-    log_leaves t is = is ∙ log_tells

@@ -19,12 +19,12 @@ use adr_state::{Change, LOG_LIMIT, State, log_end_after};
 use std::alloc::Global;
 
 /// A gate that is open; every other byte is a closed one.
-pub(crate) const OPEN: u8 = 0xC3;
+pub const OPEN: u8 = 0xC3;
 
 pub(crate) const CLOSED: u8 = 0;
 
 /// Whether a log that ends here has room for a change's record.
-pub(crate) fn has_room(end: u64, change: &Change) -> bool
+pub fn has_room(end: u64, change: &Change) -> bool
     ensures room { result ≡ true → log_end_after end change.now ≤ log_limit }
     ensures none { result ≡ false → log_limit < log_end_after end change.now }
 {
@@ -32,7 +32,7 @@ pub(crate) fn has_room(end: u64, change: &Change) -> bool
 }
 
 /// What stands behind the first gate of a new log: the head of a state, and a closed gate.
-pub(crate) fn begun<F: Form>(alloc: Global, state: &State) -> Result<Vec<u8>, NoMemory>
+pub fn begun<F: Form>(alloc: Global, state: &State) -> Result<Vec<u8>, NoMemory>
     requires { F.can_begin state.now }
     ensures { IfOk result (λ bytes. bytes.items ≡ F.head_of state.now ++ 0 ∷ []) }
 {
@@ -43,7 +43,7 @@ pub(crate) fn begun<F: Form>(alloc: Global, state: &State) -> Result<Vec<u8>, No
 
 /// A change's body behind its length, and the next gate, which is closed.
 #[tactic(auto, unfolding(adr_wire::specs::Fields::u32))]
-pub(crate) fn spelled<F: Form>(alloc: Global, change: &Change) -> Result<Vec<u8>, NoMemory>
+pub fn spelled<F: Form>(alloc: Global, change: &Change) -> Result<Vec<u8>, NoMemory>
     requires follows { (s : Defined) × F.can_follow s change.now }
     requires fits { length (F.body_of change.now) < 2 ^ 32 }
     ensures { IfOk result (λ bytes. bytes.items ≡ record_of (F.body_of change.now)) }

@@ -124,7 +124,7 @@ fn take_records<F: Form>(
 }
 
 /// The state that a log leads to, and the place behind its closed gate.
-pub(crate) fn replay<F: Form>(alloc: Global, bytes: &[u8]) -> Result<(State, usize), StartRefusal>
+pub fn replay<F: Form>(alloc: Global, bytes: &[u8]) -> Result<(State, usize), StartRefusal>
     requires { length bytes.now < 2 ^ 63 }
     ensures rests { IfOk result (λ r. IsAtRest F.head F.following r.0 r.1 bytes.now) }
     ensures formed { IfOk result (λ r. F.is_formed r.0) }

@@ -7,7 +7,7 @@ use Rattle.adr_model.specs.Collect.{collect}
 use Rattle.adr_model.specs.Replica.{change_in}
 use Rattle.adr_controller.specs.Able.{CanCommit, collected_in}
 use Rattle.adr_law_journal.proofs.Told.{some_is}
-use Rattle.adr_controller.proofs.Calling.{failed_so, hindered_so, not_running, unmade}
+use Rattle.adr_controller.proofs.Calling.{failed_so, hindered_so, not_refused_by, not_running, refused_by, unmade}
 use Rattle.adr_controller.proofs.controller.Controller.collect.Goals as goal
 
 pub returns-in_err-state-clause-calls : goal.returns-in_err-state-clause-calls
@@ -25,6 +25,18 @@ returns-in_err-change-clause-calls g c =
     unmade g.K.Keeper law.leaves law.only_now c.args.self.now c.running.ensures.in_order (collected_in c.args.now c.args.lifetime) s c.in_ok-state.ensures.ok.0 _
     (failed_so e (collected_in c.args.now c.args.lifetime s) c.from_residual-in_err-change.result p.0 p.1 p.2
     (λ r is. ap change_in (c.in_err-change.ensures.refused r (ap (λ e. let x : Result Change (Failure CollectRefusal) = Err e in x) is))))
+
+pub returns-in_err-state-clause-refused : goal.returns-in_err-state-clause-refused
+returns-in_err-state-clause-refused g c = λ x refusal is refused.
+    let p = err_from_is_err_and c.from_residual.result c.from_residual.ensures.1 in
+    absurd (not_refused_by c.in_err-state.field-0.0 c.from_residual.result p.0 refusal p.1 p.2 refused)
+
+pub returns-in_err-change-clause-refused : goal.returns-in_err-change-clause-refused
+returns-in_err-change-clause-refused g c = λ x refusal is refused.
+    let e : Failure CollectRefusal = c.in_err-change.field-0.0 in
+    let p = err_from_is_err_and c.from_residual-in_err-change.result c.from_residual-in_err-change.ensures.1 in
+    subst (λ y. collect y c.args.now c.args.lifetime ≡ Err refusal) (some_is c.in_ok-state.state.now x (sym c.in_ok-state.ensures.ok.0 ∙ is))
+    (c.in_err-change.ensures.refused refusal (ap (λ e. let x : Result Change (Failure CollectRefusal) = Err e in x) (refused_by e c.from_residual-in_err-change.result p.0 refusal p.1 p.2 refused)))
 
 pub conclude-concluded-requires : goal.conclude-concluded-requires
 conclude-concluded-requires g c = λ x is.

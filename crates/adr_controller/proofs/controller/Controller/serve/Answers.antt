@@ -1,4 +1,4 @@
-use Rattle.std.proofs.Common.{◌≡◌, inl, refl, sym, ◌∙◌, ap, subst, Some, Err}
+use Rattle.std.proofs.Common.{◌≡◌, inl, inr, refl, sym, ◌∙◌, ap, subst, Some, None, Err}
 use Rattle.std.proofs.lemmas.Result.{err_from_is_err_and}
 use Rattle.std.specs.Bool.{then_some}
 use Rattle.adr_model.specs.Collect.{quarantine}
@@ -6,7 +6,7 @@ use Rattle.adr_model.specs.Serve.{serve}
 use Rattle.adr_controller.specs.declared.refusal.Hindrance.TheVariants.{NoMemory}
 use Rattle.adr_controller.specs.Able.{CanCommit, request_shows, change_of_served, served_in}
 use Rattle.adr_law_journal.proofs.Told.{some_is}
-use Rattle.adr_controller.proofs.Kept.{err_same}
+use Rattle.adr_controller.proofs.Results.{err_same}
 use Rattle.adr_controller.proofs.Calling.{as_made, hindered_so, not_running, unmade}
 use Rattle.adr_controller.proofs.controller.Controller.serve.Goals as goal
 
@@ -23,6 +23,12 @@ refuse_request-requires-clause-follows g c = λ x is shows.
     let refused : serve s c.args.request.now ≡ Err c.in-Err-Refused.refusal = (c.serve.ensures.refused c.in-Err-Refused.refusal).0 (c.in-Err-Refused.is ∙ ap Err c.in-Err-Refused.field-0-is) in
     subst (λ y. CanCommit g.K.Keeper y (quarantine y)) (some_is s x (sym was.0 ∙ is))
     (c.requires.follows s (quarantine s) was.2 (ap (change_of_served s) refused ∙ ap (λ asked. then_some asked (quarantine s)) shows))
+
+pub returns-in-Ok-clause-calls : goal.returns-in-Ok-clause-calls
+returns-in-Ok-clause-calls g c =
+    let law = g.met.K.Keeper in
+    let s = c.in_ok-state.state.now in
+    unmade g.K.Keeper law.leaves law.only_now c.args.self.now c.running.ensures.in_order (served_in c.args.request.now) s c.in_ok-state.ensures.ok.0 None (inr (refl, ap (change_of_served s) c.in-Ok.ensures.ok))
 
 pub returns-in-Err-NoMemory-clause-calls : goal.returns-in-Err-NoMemory-clause-calls
 returns-in-Err-NoMemory-clause-calls g c =

@@ -6,7 +6,7 @@ use Rattle.adr_model.specs.Take.{take}
 use Rattle.adr_controller.specs.declared.refusal.Hindrance.TheVariants.{NoMemory}
 use Rattle.adr_controller.specs.Able.{CanCommit, reply_shows, change_of_taken, taken_in}
 use Rattle.adr_law_journal.proofs.Told.{some_is}
-use Rattle.adr_controller.proofs.Kept.{err_same}
+use Rattle.adr_controller.proofs.Results.{err_same}
 use Rattle.adr_controller.proofs.Calling.{as_made, hindered_so, not_running, unmade}
 use Rattle.adr_controller.proofs.controller.Controller.take.Goals as goal
 

@@ -1,10 +1,15 @@
-use Rattle.std.proofs.Common.{◌≡◌, sym, ◌∙◌, subst, Ok}
+use Rattle.std.proofs.Common.{◌≡◌, sym, ◌∙◌, ap, subst, Result, Ok, Err}
+use Rattle.std.specs.Prelude.{IsErrOf}
 use Rattle.std.proofs.lemmas.Result.{IfOk-at_ok, IfOk-weaker, err_from_is_err_and}
+use Rattle.adr_failure.specs.declared.Failure.{Failure}
+use Rattle.adr_failure.specs.declared.Failure.TheVariants as failures
+use Rattle.adr_event.specs.declared.refusal.WriteRefusal.{WriteRefusal}
+use Rattle.adr_model.specs.Change.{Change}
 use Rattle.adr_model.specs.Step.{write_of}
 use Rattle.adr_model.specs.Write.{write}
 use Rattle.adr_controller.specs.Able.{CanCommit, written_in}
 use Rattle.adr_law_journal.proofs.Told.{at_told, some_is}
-use Rattle.adr_controller.proofs.Calling.{failed_so, hindered_so, not_running, unmade, write_makes, write_refuses}
+use Rattle.adr_controller.proofs.Calling.{failed_so, hindered_so, not_refused_by, not_running, refused_by, unmade, write_makes, write_refuses}
 use Rattle.adr_controller.proofs.controller.Controller.write.Goals as goal
 
 pub returns-in_err-state-clause-calls : goal.returns-in_err-state-clause-calls
@@ -21,6 +26,20 @@ returns-in_err-change-clause-calls g c =
     let p = err_from_is_err_and c.from_residual-in_err-change.result c.from_residual-in_err-change.ensures.1 in
     unmade g.K.Keeper law.leaves law.only_now c.args.self.now c.running.ensures.in_order (written_in c.args.event.now c.args.now) s c.in_ok-state.ensures.ok.0 _
     (failed_so e (written_in c.args.event.now c.args.now s) c.from_residual-in_err-change.result p.0 p.1 p.2 (λ r is. write_refuses c.args.now s (write_of c.args.event.now) r e is c.requires.write c.in_err-change.ensures.refused))
+
+pub returns-in_err-state-clause-refused : goal.returns-in_err-state-clause-refused
+returns-in_err-state-clause-refused g c = λ x w refusal is of_event refused.
+    let p = err_from_is_err_and c.from_residual.result c.from_residual.ensures.1 in
+    absurd (not_refused_by c.in_err-state.field-0.0 c.from_residual.result p.0 refusal p.1 p.2 refused)
+
+pub returns-in_err-change-clause-refused : goal.returns-in_err-change-clause-refused
+returns-in_err-change-clause-refused g c = λ x w refusal is of_event refused.
+    let s = c.in_ok-state.state.now in
+    let e : Failure WriteRefusal = c.in_err-change.field-0.0 in
+    let p = err_from_is_err_and c.from_residual-in_err-change.result c.from_residual-in_err-change.ensures.1 in
+    subst (λ y. write y w.what c.args.now ≡ Err refusal) (some_is s x (sym c.in_ok-state.ensures.ok.0 ∙ is))
+    (at_told (write_of c.args.event.now) (λ v. (r : WriteRefusal) → IsErrOf {T = Change} (Err e) (failures.Refused r) → write s v.what c.args.now ≡ Err r) w of_event c.in_err-change.ensures.refused refusal
+    (ap (λ e. let x : Result Change (Failure WriteRefusal) = Err e in x) (refused_by e c.from_residual-in_err-change.result p.0 refusal p.1 p.2 refused)))
 
 pub conclude-concluded-requires : goal.conclude-concluded-requires
 conclude-concluded-requires g c = λ x is.

@@ -1,8 +1,8 @@
 use Rattle.std.proofs.Common.{inr, ◌∙◌, ap, arith}
 use Rattle.adr_journal.specs.Ended.{found_after}
-use Rattle.adr_journal.specs.Laws.{log_tells}
-use Rattle.adr_journal.proofs.InMemory.{taken_in}
-use Rattle.adr_journal.proofs.plain.PlainKeeper.commit.Goals as goal
+use Rattle.adr_plain.specs.Laws.{log_tells}
+use Rattle.adr_plain.proofs.InMemory.{taken_in}
+use Rattle.adr_plain.proofs.PlainKeeper.commit.Goals as goal
 
 pub returns-clause-ok : goal.returns-clause-ok
 returns-clause-ok g c = λ f at can.

@@ -1,7 +1,7 @@
 use Rattle.std.proofs.Common.{ℕ, List, refl, subst}
 use Rattle.adr_law_journal.specs.Log.{IsAtRest}
 use Rattle.adr_law_journal.proofs.Logs.{at_rest_stands}
-use Rattle.adr_journal.proofs.plain.PlainKeeper.start.Goals as goal
+use Rattle.adr_plain.proofs.PlainKeeper.start.Goals as goal
 
 pub returns-in-Ok-clause-ok : goal.returns-in-Ok-clause-ok
 returns-in-Ok-clause-ok g c =

@@ -9,7 +9,7 @@ use Rattle.adr_model.specs.Lengths.{change_length}
 use Rattle.adr_law_journal.specs.Log.{Found, Following, open_gate, with_length, record_of, end_behind, IsAtRest}
 use Rattle.adr_law_journal.proofs.Logs.{length_u32, reaches_more}
 use Rattle.adr_journal.specs.Ended.{found_after}
-use Rattle.adr_journal.specs.Kept.{IsLog, IsNext}
+use Rattle.adr_plain.specs.Kept.{IsLog, IsNext}
 use Rattle.adr_journal.proofs.Found.{record_length}
 
 module _ (head : Reading State) (following : Following State) where

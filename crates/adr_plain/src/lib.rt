@@ -1,13 +1,13 @@
-//! A keeper in memory alone.
+//! A keeper in memory alone. It stands on the keepers of `adr_journal`, and on the bytes of logs there.
+#![tactic(auto)]
 
 ghost use Rattle.std.specs.Prelude.{◌≡◌, ◌+◌, ◌-◌, ◌≤◌, ◌<◌, ◌^◌, ◌∷◌, ◌++◌, [], take, length, IfOk};
 ghost use Rattle.adr_law_journal.specs.Log.{open_gate};
 
-use crate::form::Form;
-use crate::keeper::{Keeper, KeeperRefusal, StartRefusal};
-use crate::recording::{OPEN, begun, has_room, spelled};
-use crate::replaying::replay;
 use adr_failure::NoMemory;
+use adr_journal::{
+    Form, Keeper, KeeperRefusal, OPEN, StartRefusal, begun, has_room, replay, spelled,
+};
 use adr_state::{Change, State};
 use std::alloc::Global;
 use std::marker::PhantomData;
@@ -65,8 +65,8 @@ impl<F: Form> Keeper for Plain<F> {
     ghost use Rattle.std.specs.Prelude.{◌≡◌, false, Some, []};
     ghost use Rattle.std.proofs.Common.{refl};
     ghost use Rattle.adr_law_journal.specs.Log.{start_of};
-    ghost use Rattle.adr_journal.specs.Kept.{IsLog, IsNext};
-    ghost use Rattle.adr_journal.specs.Laws.{log_tells, log_leaves};
+    ghost use Rattle.adr_plain.specs.Kept.{IsLog, IsNext};
+    ghost use Rattle.adr_plain.specs.Laws.{log_tells, log_leaves};
 
     ghost faults = { λ _. 0 };
 

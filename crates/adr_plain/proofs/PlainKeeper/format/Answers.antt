@@ -1,9 +1,9 @@
 use Rattle.std.proofs.Common.{◌≡◌, ◌++◌, [], ◌∷◌, ℕ, List, length, inl, inr, sym, ◌∙◌, ap, subst, arith}
 use Rattle.adr_model.specs.Lengths.{new_log_end}
 use Rattle.adr_law_journal.specs.Log.{IsAtRest, found, start_of}
-use Rattle.adr_journal.specs.Laws.{log_tells}
+use Rattle.adr_plain.specs.Laws.{log_tells}
 use Rattle.adr_journal.proofs.Heads.{begun_rests, begun_long}
-use Rattle.adr_journal.proofs.plain.PlainKeeper.format.Goals as goal
+use Rattle.adr_plain.proofs.PlainKeeper.format.Goals as goal
 
 pub returns-clause-ok : goal.returns-clause-ok
 returns-clause-ok g c =

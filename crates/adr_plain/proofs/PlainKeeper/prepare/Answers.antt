@@ -1,6 +1,6 @@
 use Rattle.std.proofs.Common.{refl}
 use Rattle.adr_law_journal.proofs.Told.{same_keeps}
-use Rattle.adr_journal.proofs.plain.PlainKeeper.prepare.Goals as goal
+use Rattle.adr_plain.proofs.PlainKeeper.prepare.Goals as goal
 
 pub returns-then-not-has_room-clause-at : goal.returns-then-not-has_room-clause-at
 returns-then-not-has_room-clause-at g c = λ f at. at
