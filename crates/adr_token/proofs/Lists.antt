@@ -1,9 +1,9 @@
--- What a search finds passes its test, what each element of the list passes, and what a loop over a list adds.
-use Rattle.std.proofs.Common.{◌≡◌, ℕ, ◌+◌, ◌<◌, Bool, true, false, cond, List, [], ◌∷◌, ◌++◌, length, get_or, take, Option, Some, None, refl, sym, ap, ◌∙◌, subst, add-one, take-suc}
-use Rattle.std.specs.List.{list_all, find, flat_map}
+-- What a search finds passes its test, what each element of the list passes, what a loop over a list adds, and where it stops.
+use Rattle.std.proofs.Common.{◌≡◌, ℕ, ◌+◌, ◌<◌, ◌≤◌, Bool, true, false, cond, List, [], ◌∷◌, ◌++◌, length, get_or, take, Option, Some, None, refl, sym, ap, ◌∙◌, subst, add-one, take-suc, arith, drop}
+use Rattle.std.specs.List.{list_all, find, flat_map, position_or_len}
 use Rattle.std.specs.Option.{option_map}
 use Rattle.std.proofs.lemmas.Bool.{and_from, and_parts}
-use Rattle.std.proofs.lemmas.List.{flat_map_more}
+use Rattle.std.proofs.lemmas.List.{flat_map_more, at_drop_more, take_all}
 
 -- what passes a test passes a weaker one
 pub all_more : {A : Type 0} (p q : A → Bool) → ((x : A) → p x ≡ true → q x ≡ true) → (xs : List A) → list_all p xs ≡ true → list_all q xs ≡ true
@@ -33,3 +33,19 @@ mapped f (Some x) y e =
 -- what the elements up to one add, and then what that one adds
 pub added : {X A : Type 0} (f : X → List A) (front now next : List A) (xs : List X) (i : ℕ) (d x : X) → i < length xs → x ≡ get_or xs i d → now ≡ front ++ flat_map f (take i xs) → next ≡ now ++ f x → next ≡ front ++ flat_map f (take (i + 1) xs)
 added f front now next xs i d x h e before step = step ∙ ap (λ out. out ++ f x) before ∙ flat_map_more f front (take i xs) x ∙ ap (λ ys. front ++ flat_map f ys) (rw e (sym (ap (λ n. take n xs) (add-one i) ∙ take-suc xs i d h)))
+
+-- what all elements add
+pub all_added : {X A : Type 0} (f : X → List A) (front now : List A) (xs : List X) (i : ℕ) → length xs ≤ i → now ≡ front ++ flat_map f (take i xs) → now ≡ front ++ flat_map f xs
+all_added {X} f front now xs i past before = before ∙ ap (λ (ys : List X). front ++ flat_map f ys) (take_all i xs past)
+
+-- the first element that passes, where none before it does
+pub first_here : {X : Type 0} (p : X → Bool) (xs : List X) (i : ℕ) (d : X) → i < length xs → p (get_or xs i d) ≡ true → position_or_len p xs ≡ i + position_or_len p (drop i xs) → i ≡ position_or_len p xs
+first_here p xs i d h e before =
+    let here : position_or_len p (drop i xs) ≡ 0 = at_drop_more (position_or_len p) xs i d h ∙ rw e refl in
+    omega arith
+
+-- one that doesn't pass is gone past
+pub first_later : {X : Type 0} (p : X → Bool) (xs : List X) (i : ℕ) (d : X) → i < length xs → p (get_or xs i d) ≡ false → position_or_len p xs ≡ i + position_or_len p (drop i xs) → position_or_len p xs ≡ i + 1 + position_or_len p (drop (i + 1) xs)
+first_later p xs i d h e before =
+    let later : position_or_len p (drop i xs) ≡ 1 + position_or_len p (drop (i + 1) xs) = at_drop_more (position_or_len p) xs i d h ∙ rw e refl in
+    omega arith

@@ -5,7 +5,7 @@ use Rattle.std.proofs.lemmas.Str.{IsUtf8-from_is_utf8}
 use Rattle.std.specs.Prelude.{slice_index, nat_le}
 use Rattle.std.specs.List.{list_all}
 use Rattle.std.proofs.lemmas.Bool.{and_parts}
-use Rattle.std.proofs.lemmas.List.{at_drop_more}
+use Rattle.std.proofs.lemmas.List.{append-nil, at_drop_more, drop_all}
 use Rattle.std.proofs.lemmas.Bool.Decides.{nat_tests}
 use Rattle.std.proofs.lemmas.Str.{IsUtf8-from_ascii}
 use Rattle.adr_token.specs.Words.{is_letter, is_name_byte, is_name}
@@ -13,7 +13,7 @@ use Rattle.adr_token.specs.Gives.{Reading, with_first}
 use Rattle.adr_token.specs.declared.texts.Place.{Place}
 use Rattle.adr_token.specs.declared.texts.Place.TheVariants.{Plain}
 use Rattle.adr_token.specs.declared.texts.Move.{Move}
-use Rattle.adr_token.specs.declared.texts.Move.TheVariants.{Go, Byte}
+use Rattle.adr_token.specs.declared.texts.Move.TheVariants.{Close, Go, Byte, Stray}
 use Rattle.adr_token.specs.Texts.{follow, is_text, move, quoted}
 
 -- a front put before what is read behind it
@@ -36,6 +36,18 @@ gone_on text bs place next i moved h e g = ap (onto text) (sym (quoted_at place 
 -- a byte that adds one
 pub grown : (text bs : List ℕ) (place : Place) (byte i : ℕ) (moved : Move) → i < length bs → moved ≡ move place (get_or bs i 0) → moved ≡ Byte byte → onto (text ++ byte ∷ []) (quoted Plain (drop (i + 1) bs)) ≡ onto text (quoted place (drop i bs))
 grown text bs place byte i moved h e g = onto_push text byte (quoted Plain (drop (i + 1) bs)) ∙ ap (onto text) (sym (quoted_at place bs i (Byte byte) h (sym g ∙ e)))
+
+-- a quote ends the text
+pub closed : (text bs : List ℕ) (place : Place) (i : ℕ) (moved : Move) (all : Reading (List ℕ)) → i < length bs → moved ≡ move place (get_or bs i 0) → moved ≡ Close → onto text (quoted place (drop i bs)) ≡ all → all ≡ Some (text, drop (i + 1) bs)
+closed text bs place i moved all h e g same = sym same ∙ ap (onto text) (quoted_at place bs i Close h (sym g ∙ e)) ∙ ap (λ (xs : List ℕ). Some (xs, drop (i + 1) bs)) (append-nil text)
+
+-- a stray byte leaves no text
+pub strayed : (text bs : List ℕ) (place : Place) (i : ℕ) (moved : Move) (all : Reading (List ℕ)) → i < length bs → moved ≡ move place (get_or bs i 0) → moved ≡ Stray → onto text (quoted place (drop i bs)) ≡ all → all ≡ None
+strayed text bs place i moved all h e g same = sym same ∙ ap (onto text) (quoted_at place bs i Stray h (sym g ∙ e))
+
+-- nor is there one without a closing quote
+pub unclosed : (text bs : List ℕ) (place : Place) (i : ℕ) (all : Reading (List ℕ)) → length bs ≤ i → onto text (quoted place (drop i bs)) ≡ all → all ≡ None
+unclosed text bs place i all past same = sym same ∙ ap (λ (left : List ℕ). onto text (quoted place left)) (drop_all i bs past)
 
 -- a test that doesn't hold fails
 fails : (b : Bool) → (b ≡ true → ⊥) → b ≡ false
