@@ -13,25 +13,23 @@ ghost use Rattle.adr_view.specs.Youngest.{AreYoungest};
 
 use crate::NoMemory;
 use crate::links::links_at;
-use crate::names::{Rank, youngest_names};
+use crate::names::{Names, youngest_names};
 use crate::shown::shown_name;
-use crate::slot::Slot;
 use crate::values::values_at;
 use adr_event::{Directory, Entry};
 use adr_state::{Node, Rows};
 use std::alloc::Global;
-use std::collections::BTreeMap;
 
 /// A live object as it is shown.
 fn entry_of<'a>(
     alloc: Global,
     rows: &Rows,
-    names: &BTreeMap<Slot<'a>, Rank>,
+    names: &Names<'a>,
     node: &'a Node,
 ) -> Result<Entry, NoMemory>
     requires links { IsTrue (have_back_links (updates_of rows.now)) }
     requires named { AreNamed (updates_of rows.now) }
-    requires names { AreYoungest (nodes_held (updates_of rows.now)) names.now }
+    requires names { AreYoungest (nodes_held (updates_of rows.now)) names.now.map }
     requires live { node_at (nodes_held (updates_of rows.now)) node.now.object.guid ≡ Some node.now }
     ensures { IfOk result (λ entry.
         entry ≡ entry_of (live_rows (updates_of rows.now)) (nodes_held (updates_of rows.now)) node.now) }
@@ -52,12 +50,12 @@ fn entry_of<'a>(
 fn directory_of<'a>(
     alloc: Global,
     rows: &Rows,
-    names: &BTreeMap<Slot<'a>, Rank>,
+    names: &Names<'a>,
     nodes: &[&'a Node],
 ) -> Result<Directory, NoMemory>
     requires links { IsTrue (have_back_links (updates_of rows.now)) }
     requires named { AreNamed (updates_of rows.now) }
-    requires names { AreYoungest (nodes_held (updates_of rows.now)) names.now }
+    requires names { AreYoungest (nodes_held (updates_of rows.now)) names.now.map }
     requires nodes { referents nodes.now ≡ nodes_held (updates_of rows.now) }
     ensures { IfOk result (λ shown. shown
         ≡ map (entry_of (live_rows (updates_of rows.now)) (nodes_held (updates_of rows.now))) (referents nodes.now)) }

@@ -20,7 +20,13 @@ use std::collections::BTreeMap;
 use uuid::Uuid;
 
 /// The stamp of a name, and the GUID of the object that has it.
-pub type Rank = (LinkStamp, Uuid);
+type Rank = (LinkStamp, Uuid);
+
+/// The youngest name wherever there is one.
+#[derive(Drop)]
+pub struct Names<'a> {
+    pub(crate) map: BTreeMap<Slot<'a>, Rank>,
+}
 
 fn rank_of(node: &Node) -> Rank
     ensures { result ≡ rank_of node.now }
@@ -66,9 +72,9 @@ pub fn youngest_names<'a>(
     alloc: Global,
     rows: &Rows,
     nodes: &[&'a Node],
-) -> Result<BTreeMap<Slot<'a>, Rank>, NoMemory>
+) -> Result<Names<'a>, NoMemory>
     requires { referents nodes.now ≡ nodes_held (updates_of rows.now) }
-    ensures { IfOk result (λ names. AreYoungest (nodes_held (updates_of rows.now)) names) }
+    ensures { IfOk result (λ names. AreYoungest (nodes_held (updates_of rows.now)) names.map) }
 {
     rows.are_rising();
     let mut names = BTreeMap::new(alloc);
@@ -76,15 +82,15 @@ pub fn youngest_names<'a>(
         let slot = Slot::new(rows.place(node), node.name());
         put(&mut names, slot, rank_of(node))?;
     }
-    Ok(names)
+    Ok(Names { map: names })
 }
 
 /// Whether another object has the name of this one in this place and is younger.
-pub fn gives_way<'a>(names: &BTreeMap<Slot<'a>, Rank>, place: Uuid, node: &'a Node) -> bool
+pub fn gives_way<'a>(names: &Names<'a>, place: Uuid, node: &'a Node) -> bool
     ensures { result
-        ≡ option_map_or (is_before (rank_of node.now)) (get slot_order names.now (place, folded node.now.text)) false }
+        ≡ option_map_or (is_before (rank_of node.now)) (get slot_order names.now.map (place, folded node.now.text)) false }
 {
-    match names.get(&Slot::new(place, node.name())) {
+    match names.map.get(&Slot::new(place, node.name())) {
         Some(youngest) => is_before(&rank_of(node), youngest),
         None => false,
     }

@@ -7,13 +7,11 @@ ghost use Rattle.adr_model.specs.Shown.{conflict_name, gives_way, is_lost_name, 
 ghost use Rattle.adr_view.specs.Youngest.{AreYoungest};
 
 use crate::NoMemory;
-use crate::names::{Rank, gives_way};
-use crate::slot::Slot;
+use crate::names::{Names, gives_way};
 use adr_schema::Text;
 use adr_state::Node;
 use adr_update::is_lost_name;
 use std::alloc::Global;
-use std::collections::BTreeMap;
 use uuid::Uuid;
 
 /// The name of an object whose text another keeps.
@@ -28,8 +26,8 @@ fn conflict_name(alloc: Global, text: &Text, guid: Uuid) -> Result<Text, NoMemor
 }
 
 /// Whether another object, or LostAndFound, keeps the text of this one in its place.
-fn is_kept_by_another<'a>(names: &BTreeMap<Slot<'a>, Rank>, place: Uuid, node: &'a Node) -> bool
-    ensures { (nodes : List Live) → AreYoungest nodes names.now → place ≡ place_in nodes node.now
+fn is_kept_by_another<'a>(names: &Names<'a>, place: Uuid, node: &'a Node) -> bool
+    ensures { (nodes : List Live) → AreYoungest nodes names.now.map → place ≡ place_in nodes node.now
         → result ≡ (gives_way nodes node.now || is_lost_name (place_in nodes node.now) node.now.text) }
 {
     gives_way(names, place, node) || is_lost_name(place, node.name())
@@ -39,11 +37,11 @@ fn is_kept_by_another<'a>(names: &BTreeMap<Slot<'a>, Rank>, place: Uuid, node: &
 /// with a line feed, `CNF:` and the GUID in lower case (MS-ADTS, naming conflicts; RFC 9562 for the GUID).
 pub fn shown_name<'a>(
     alloc: Global,
-    names: &BTreeMap<Slot<'a>, Rank>,
+    names: &Names<'a>,
     place: Uuid,
     node: &'a Node,
 ) -> Result<Text, NoMemory>
-    ensures { IfOk result (λ name. (nodes : List Live) → AreYoungest nodes names.now → place ≡ place_in nodes node.now
+    ensures { IfOk result (λ name. (nodes : List Live) → AreYoungest nodes names.now.map → place ≡ place_in nodes node.now
         → name ≡ shown_name nodes node.now) }
 {
     if is_kept_by_another(names, place, node) {

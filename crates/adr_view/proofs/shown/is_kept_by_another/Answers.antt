@@ -31,10 +31,10 @@ lost all n gives is_lost at name is way there named found =
 pub returns-then-gives_way : goal.returns-then-gives_way
 returns-then-gives_way c = λ nodes youngest there.
     gave nodes c.args.node.now c.gives_way.result c.if-gives_way.true
-    (told nodes c.args.names.now youngest c.args.node.now c.args.place c.gives_way.result there c.gives_way.ensures)
+    (told nodes c.args.names.now.map youngest c.args.node.now c.args.place c.gives_way.result there c.gives_way.ensures)
 
 pub returns-else-gives_way : goal.returns-else-gives_way
 returns-else-gives_way c = λ nodes youngest there.
     lost nodes c.args.node.now c.gives_way.result c.is_lost_name.result c.args.place c.name.result.now c.if-gives_way.false
-    (told nodes c.args.names.now youngest c.args.node.now c.args.place c.gives_way.result there c.gives_way.ensures)
+    (told nodes c.args.names.now.map youngest c.args.node.now c.args.place c.gives_way.result there c.gives_way.ensures)
     there c.name.ensures c.is_lost_name.ensures

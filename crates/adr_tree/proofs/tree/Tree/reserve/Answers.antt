@@ -10,8 +10,8 @@ returns-clause-ok c =
 
 pub loop-edit-preserved : goal.loop-edit-preserved
 loop-edit-preserved c = (
-    c.reserve_edit.ensures.tree,
-    c.reserve_edit.ensures.nodes ∙ c.loop-edit.invariant.1,
-    room_more c.loop-edit.self c.reserve_edit.new.self c.reserve_edit.ensures.more c.args.edits.now c.loop-edit.edit-index c.edit-item.result c.loop-edit-test.true c.edit-item.is
-        c.in_ok-reserve_edit.ensures.ok c.loop-edit.invariant.2,
-  )
+  c.reserve_edit.ensures.tree,
+  c.reserve_edit.ensures.nodes ∙ c.loop-edit.invariant.1,
+  room_more c.loop-edit.self c.reserve_edit.new.self c.reserve_edit.ensures.more c.args.edits.now c.loop-edit.edit-index c.edit-item.result c.loop-edit-test.true c.edit-item.is
+      c.in_ok-reserve_edit.ensures.ok c.loop-edit.invariant.2,
+)
