@@ -1,8 +1,10 @@
 -- A reply from what its parts are read from.
-use Rattle.std.proofs.Common.{◌≡◌, ◌∙◌, ℕ, ◌≤◌, List, Bool, ◌==◌, is_none, sym, ap, subst, length}
+use Rattle.std.proofs.Common.{◌≡◌, ◌∙◌, ℕ, ◌≤◌, List, Bool, ◌==◌, Option, is_none, map, sym, ap, subst, length}
+use Rattle.std.specs.Bool.{then_some}
 use Rattle.adr_vector.specs.Vector.{Cursors}
 use Rattle.adr_vector.specs.declared.mark.Mark.{Mark}
 use Rattle.adr_model.specs.Change.{Item}
+use Rattle.adr_model.specs.Update.{Identifier}
 use Rattle.adr_model.specs.Store.{Held, State}
 use Rattle.adr_model.specs.Serve.{Request, Reply, begins_at, byte_limit, candidates, first_items, reply_of, reply_to}
 use Rattle.adr_cycle.proofs.Choosing.{candidates_rise}
@@ -33,3 +35,22 @@ module _ (rows : List Held) (from : Mark) (asked : Cursors) (most last : ℕ) (s
     where
       by : List Held → Mark → Cursors → ℕ → Reply
       by r f v m = reply_of s q f (first_items m byte_limit (candidates r f v)) (length (first_items m byte_limit (candidates r f v)) == length (candidates r f v))
+
+-- a reply is made of its parts
+pub made_of : (s : State) (q : Request) (from : Mark) (sent : List (ℕ × Item)) (last : Bool) (x : Reply) (dest source inv : Identifier) (to : Mark) (schema : ℕ) (asked : Cursors) (vector : Option Cursors) (items : List Item)
+    → x ≡ record { dest = dest; source = source; inv = inv; from = from; to = to; schema = schema; asked = asked; last = vector; items = items }
+    → dest ≡ q.dest → source ≡ s.dsa → inv ≡ s.inv → to ≡ (reply_of s q from sent last).to → schema ≡ s.store.schema → asked ≡ q.vector → vector ≡ then_some last s.store.vector → items ≡ map (λ (c : ℕ × Item). c.1) sent
+    → x ≡ reply_of s q from sent last
+made_of s q from sent last x dest source inv to schema asked vector items is its_dest its_source its_inv its_to its_schema its_asked its_vector its_items =
+    let made : x ≡ record {
+      dest = q.dest;
+      source = s.dsa;
+      inv = s.inv;
+      from = from;
+      to = (reply_of s q from sent last).to;
+      schema = s.store.schema;
+      asked = q.vector;
+      last = then_some last s.store.vector;
+      items = map (λ (c : ℕ × Item). c.1) sent;
+    } = cc in
+    made

@@ -1,5 +1,5 @@
 -- What is decided before the items, and after them.
-use Rattle.std.proofs.Common.{◌≡◌, ◌≤◌, ◌<◌, ℕ, Bool, List, [], ◌∷◌, length, Option, Some, None, Ok, Err, refl, ap, ◌∙◌, subst, arith, true, false}
+use Rattle.std.proofs.Common.{◌≡◌, ◌≤◌, ◌<◌, ℕ, Bool, List, [], ◌∷◌, length, Option, Some, None, Result, Ok, Err, refl, sym, ap, ◌∙◌, subst, arith, true, false}
 use Rattle.std.specs.Prelude.{nat_lt}
 use Rattle.std.specs.Bool.{then_some}
 use Rattle.std.specs.Option.{option_or}
@@ -8,8 +8,10 @@ use Rattle.adr_vector.specs.Vector.{cursor_limit}
 use Rattle.adr_event.specs.declared.refusal.Table.TheVariants.{Objects, Links, Cursors as CursorTable, Marks}
 use Rattle.adr_event.specs.declared.refusal.TakeRefusal.TheVariants.{UsnLimit}
 use Rattle.adr_event.specs.declared.refusal.TakeRefusal.{TakeRefusal}
-use Rattle.adr_model.specs.Change.{Change, after}
+use Rattle.adr_model.specs.Change.{Change, Item, after}
 use Rattle.adr_failure.specs.First.{first_of}
+use Rattle.adr_failure.specs.declared.Failure.{Failure}
+use Rattle.adr_failure.specs.declared.Failure.TheVariants as failures
 use Rattle.adr_model.specs.Refusing.{unless}
 use Rattle.adr_model.specs.Serve.{Reply}
 use Rattle.adr_model.specs.Store.{State}
@@ -17,6 +19,10 @@ use Rattle.adr_model.specs.Take.{Taking, mark_limit, passes, refusal_of, take, t
 use Rattle.adr_model.proofs.Firsts.{first_of_more, first_of_two}
 use Rattle.adr_model.specs.Write.{link_limit, object_limit, usn_limit}
 use Rattle.adr_take.specs.Before.{refusal_before}
+
+-- what refused so is this refusal
+pub refused_is : {T R : Type 0} (r q : R) → (let x : Result T (Failure R) = Err (failures.Refused r) in x) ≡ Err (failures.Refused q) → r ≡ q
+refused_is r q is = cc
 
 -- what comes behind a refusal doesn't matter
 one_of_six : (a b c d e f : Option TakeRefusal) (rest other : List (Option TakeRefusal)) (x : TakeRefusal) → first_of other ≡ None
@@ -37,11 +43,22 @@ pub early : (s : State) (r : Reply) (x : TakeRefusal) → refusal_before s r ≡
 early s r x is = rw (refused_before s r (take_items s r.items) (after s (taken_change r (take_items s r.items))) x is) refl
 
 -- after the items the refusal, or that there is none, decides
-pub late : (s : State) (r : Reply) (t : Taking) → t ≡ take_items s r.items → (o : Option TakeRefusal) → o ≡ refusal_of s r t (after s (taken_change r t))
+late : (s : State) (r : Reply) (t : Taking) → t ≡ take_items s r.items → (o : Option TakeRefusal) → o ≡ refusal_of s r t (after s (taken_change r t))
     → unless o (taken_change r t) ≡ take s r
 late s r t is o e =
     ap (λ p. unless p (taken_change r t)) e
     ∙ ap (λ (u : Taking). unless (refusal_of s r u (after s (taken_change r u))) (taken_change r u)) is
+
+-- what the items came to is refused, or makes the change
+module _ (s : State) (r : Reply) (items : List Item) (t : Taking) (o : Option TakeRefusal) (taking : t ≡ take_items s items) (same : items ≡ r.items) (found : o ≡ refusal_of s r t (after s (taken_change r t))) where
+  decided : (p : Option TakeRefusal) → o ≡ p → unless p (taken_change r t) ≡ take s r
+  decided p is = late s r t (taking ∙ ap (take_items s) same) p (sym is ∙ found)
+
+  pub refuses : (x y : TakeRefusal) → o ≡ Some x → x ≡ y → take s r ≡ Err y
+  refuses x y is equal = sym (decided (Some x) is) ∙ ap (λ z. let e : Result Change TakeRefusal = Err z in e) equal
+
+  pub makes : (c : Change) → o ≡ None → c ≡ taken_change r t → take s r ≡ Ok c
+  makes c none is = sym (decided None none) ∙ ap (λ d. let e : Result Change TakeRefusal = Ok d in e) (sym is)
 
 six_none : (a b c d e f : Option TakeRefusal) (other rest : List (Option TakeRefusal)) → first_of (a ∷ b ∷ c ∷ d ∷ e ∷ f ∷ other) ≡ None
     → first_of rest ≡ first_of (a ∷ b ∷ c ∷ d ∷ e ∷ f ∷ rest)
