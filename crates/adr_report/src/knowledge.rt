@@ -11,16 +11,27 @@ use adr_vector::Mark;
 use std::alloc::Global;
 use uuid::Uuid;
 
+/// Adds a number behind some text.
+pub fn push_number_behind(
+    alloc: Global,
+    out: &mut Vec<u8>,
+    text: &[u8],
+    number: u64,
+) -> Result<(), NoMemory>
+    ensures { OnOk result (out.new.items ≡ out.old.items ++ (text.now ++ decimal number)) }
+{
+    push(out, text)?;
+    push_number(alloc, out, number)
+}
+
 /// Adds a mark.
 #[tactic(auto, unfolding(crate::specs::Line::mark_text))]
 pub fn push_mark(alloc: Global, out: &mut Vec<u8>, mark: Mark) -> Result<(), NoMemory>
     ensures { OnOk result (out.new.items ≡ out.old.items ++ mark_text mark) }
 {
     push_number(alloc, out, mark.obj)?;
-    push(out, b"/")?;
-    push_number(alloc, out, mark.prop)?;
-    push(out, b"/")?;
-    push_number(alloc, out, mark.seen)
+    push_number_behind(alloc, out, b"/", mark.prop)?;
+    push_number_behind(alloc, out, b"/", mark.seen)
 }
 
 /// Adds the identifier that a line begins with.

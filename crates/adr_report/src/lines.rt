@@ -5,7 +5,7 @@ ghost use Rattle.std.specs.Fmt.{decimal};
 ghost use Rattle.adr_report.specs.Line.{plain_text, mark_text, from_to, left_text, counts_text, field_text, result_text, report_lines, line};
 
 use crate::entries::push_entries;
-use crate::knowledge::{push_cursors, push_mark, push_partners};
+use crate::knowledge::{push_cursors, push_mark, push_number_behind, push_partners};
 use adr_event::{Answer, Field, Outcome, Plainly};
 use adr_schema::NoMemory;
 use adr_token::{push, push_attribute, push_identifier, push_number};
@@ -44,13 +44,6 @@ fn push_fields(alloc: Global, out: &mut Vec<u8>, fields: &[Field]) -> Result<(),
     Ok(())
 }
 
-fn push_usn(alloc: Global, out: &mut Vec<u8>, usn: u64) -> Result<(), NoMemory>
-    ensures { OnOk result (out.new.items ≡ out.old.items ++ (codes "ok usn=" ++ decimal usn)) }
-{
-    push(out, b"ok usn=")?;
-    push_number(alloc, out, usn)
-}
-
 fn push_from_to(alloc: Global, out: &mut Vec<u8>, from: Mark, to: Mark) -> Result<(), NoMemory>
     ensures { OnOk result (out.new.items ≡ out.old.items ++ from_to from to) }
 {
@@ -79,10 +72,8 @@ fn push_counts(
 ) -> Result<(), NoMemory>
     ensures { OnOk result (out.new.items ≡ out.old.items ++ counts_text items rows last) }
 {
-    push(out, b" items=")?;
-    push_number(alloc, out, u64::from(items))?;
-    push(out, b" rows=")?;
-    push_number(alloc, out, u64::from(rows))?;
+    push_number_behind(alloc, out, b" items=", u64::from(items))?;
+    push_number_behind(alloc, out, b" rows=", u64::from(rows))?;
     push(out, left_text(last))
 }
 
@@ -98,19 +89,9 @@ fn push_took(
         ++ (codes "ok items=" ++ decimal items ++ codes " wrote=" ++ decimal wrote ++ codes " usn="
         ++ decimal usn)) }
 {
-    push(out, b"ok items=")?;
-    push_number(alloc, out, u64::from(items))?;
-    push(out, b" wrote=")?;
-    push_number(alloc, out, u64::from(wrote))?;
-    push(out, b" usn=")?;
-    push_number(alloc, out, usn)
-}
-
-fn push_removed(alloc: Global, out: &mut Vec<u8>, removed: u32) -> Result<(), NoMemory>
-    ensures { OnOk result (out.new.items ≡ out.old.items ++ (codes "ok removed=" ++ decimal removed)) }
-{
-    push(out, b"ok removed=")?;
-    push_number(alloc, out, u64::from(removed))
+    push_number_behind(alloc, out, b"ok items=", u64::from(items))?;
+    push_number_behind(alloc, out, b" wrote=", u64::from(wrote))?;
+    push_number_behind(alloc, out, b" usn=", usn)
 }
 
 fn push_served(
@@ -139,8 +120,7 @@ fn push_refused(
         ≡ out.old.items
         ++ (codes "refused " ++ decimal number ++ codes " " ++ label.now ++ flat_map field_text fields.now)) }
 {
-    push(out, b"refused ")?;
-    push_number(alloc, out, u64::from(number))?;
+    push_number_behind(alloc, out, b"refused ", u64::from(number))?;
     push(out, b" ")?;
     push(out, label)?;
     push_fields(alloc, out, fields)
@@ -153,7 +133,7 @@ fn push_result(alloc: Global, out: &mut Vec<u8>, outcome: &Outcome) -> Result<()
 {
     match outcome {
         Outcome::Ok => push(out, b"ok"),
-        Outcome::Usn(usn) => push_usn(alloc, out, *usn),
+        Outcome::Usn(usn) => push_number_behind(alloc, out, b"ok usn=", *usn),
         Outcome::Served {
             from,
             to,
@@ -162,7 +142,12 @@ fn push_result(alloc: Global, out: &mut Vec<u8>, outcome: &Outcome) -> Result<()
             last,
         } => push_served(alloc, out, *from, *to, *items, *rows, *last),
         Outcome::Took { items, wrote, usn } => push_took(alloc, out, *items, *wrote, *usn),
-        Outcome::Removed(removed) => push_removed(alloc, out, *removed),
+        Outcome::Removed(removed) => push_number_behind(
+            alloc,
+            out,
+            b"ok removed=",
+            u64::from(*removed),
+        ),
         Outcome::Show(directory) => push_number(alloc, out, directory.entries().len() as u64),
         Outcome::Vector(vector) => push_number(alloc, out, vector.len() as u64),
         Outcome::Marks(marks) => push_number(alloc, out, marks.items().len() as u64),

@@ -23,7 +23,7 @@ use Rattle.adr_schedule.specs.Limits.{plan_limit}
 use Rattle.adr_schedule.specs.Crashes.{crash_word}
 use Rattle.adr_schedule.specs.Sets.{rising, sets_at}
 use Rattle.adr_schedule.specs.Verbs.{verb_said, verbs as all_verbs}
-use Rattle.adr_schedule.specs.Commands.{add_line, ask_line, binding_line, bound_at, by_verb, calls_at, collect_line, controller_line, copied, crash_at, delete_line, event_of, fail_line, install_line, limit_at, link_line, linked, modify_line, name_line, named, pull_line, pulled, rename_line, restore_line, serve_line, stop_after, stop_line, time_line, use_line, used}
+use Rattle.adr_schedule.specs.Commands.{add_line, ask_line, binding_line, bound_at, by_verb, calls_at, collect_line, controller_line, crash_at, delete_line, event_of, fail_line, install_line, limit_at, link_line, modify_line, name_line, pull_line, rename_line, restore_line, serve_line, stop_after, stop_line, time_line, use_line}
 use Rattle.adr_schedule.specs.Grammar.{Word, Name, Number, Identifier, Class, Attribute, Quoted, sets, tokens_behind, IsNext, AreSpelled, IsLimit, Spells, SpelledLinesAreRead, LinesSpellOneEvent, LinesWereSpelled}
 use Rattle.adr_schedule.proofs.LineSets.{none_left, sets_read, sets_were}
 use Rattle.adr_schedule.proofs.VerbLaws.{verb_read}
@@ -47,46 +47,46 @@ made P f None each y h = absurd (cc)
 made P f (Some x) each y h = let same : f x ≡ y = cc in subst P same (each x refl)
 
 -- NAME
-name_was : (P : Event → Type 0) (verb : Verb) (bytes : List ℕ) → ((name : List ℕ) → AreSpelled (Name name ∷ []) bytes → P (named verb name)) → (e : Event) → name_line verb bytes ≡ Some e → P e
+name_was : (P : Event → Type 0) (event : List ℕ → Event) (bytes : List ℕ) → ((name : List ℕ) → AreSpelled (Name name ∷ []) bytes → P (event name)) → (e : Event) → name_line event bytes ≡ Some e → P e
 unfolding name_line
-name_was P verb bytes go e h =
-    each_step P (name_at bytes) _ (λ name n. at_end P name.1 (named verb name.0) (λ last. go name.0 (name.1, name_next bytes name n, last))) e h
+name_was P event bytes go e h =
+    each_step P (name_at bytes) _ (λ name n. at_end P name.1 (event name.0) (λ last. go name.0 (name.1, name_next bytes name n, last))) e h
 
 -- NAME NAME
-use_was : (P : Event → Type 0) (verb : Verb) (bytes : List ℕ) → ((name other : List ℕ) → AreSpelled (Name name ∷ Name other ∷ []) bytes → P (used verb name other)) → (e : Event) → use_line verb bytes ≡ Some e → P e
+use_was : (P : Event → Type 0) (event : List ℕ → List ℕ → Event) (bytes : List ℕ) → ((name other : List ℕ) → AreSpelled (Name name ∷ Name other ∷ []) bytes → P (event name other)) → (e : Event) → use_line event bytes ≡ Some e → P e
 unfolding use_line
-use_was P verb bytes go e h =
-    each_step P (name_at bytes) _ (λ name n. each_step P (name_at name.1) _ (λ other o. at_end P other.1 (used verb name.0 other.0) (λ last.
+use_was P event bytes go e h =
+    each_step P (name_at bytes) _ (λ name n. each_step P (name_at name.1) _ (λ other o. at_end P other.1 (event name.0 other.0) (λ last.
     go name.0 other.0 (name.1, name_next bytes name n, (other.1, name_next name.1 other o, last))))) e h
 
 -- NAME ID ATTR ID
-link_was : (P : Event → Type 0) (verb : Verb) (bytes : List ℕ)
-    → ((name from : List ℕ) (attr : ℕ) (to : List ℕ) → AreSpelled (Name name ∷ Identifier from ∷ Attribute attr ∷ Identifier to ∷ []) bytes → P (linked verb name from attr to))
-    → (e : Event) → link_line verb bytes ≡ Some e → P e
+link_was : (P : Event → Type 0) (event : List ℕ → List ℕ → ℕ → List ℕ → Event) (bytes : List ℕ)
+    → ((name from : List ℕ) (attr : ℕ) (to : List ℕ) → AreSpelled (Name name ∷ Identifier from ∷ Attribute attr ∷ Identifier to ∷ []) bytes → P (event name from attr to))
+    → (e : Event) → link_line event bytes ≡ Some e → P e
 unfolding link_line
-link_was P verb bytes go e h =
+link_was P event bytes go e h =
     each_step P (name_at bytes) _ (λ name n. each_step P (identifier_at name.1) _ (λ from f. each_step P (attribute_at from.1) _ (λ attr a. each_step P (identifier_at attr.1) _ (λ to t.
-    at_end P to.1 (linked verb name.0 from.0 attr.0 to.0) (λ last.
+    at_end P to.1 (event name.0 from.0 attr.0 to.0) (λ last.
     go name.0 from.0 attr.0 to.0 (name.1, name_next bytes name n, (from.1, identifier_next name.1 from f, (attr.1, attribute_next from.1 attr a, (to.1, identifier_next attr.1 to t, last))))))))) e h
 
 -- NAME NAME MAX
-pull_was : (P : Event → Type 0) (verb : Verb) (bytes : List ℕ)
-    → ((name source : List ℕ) (max : ℕ) → IsLimit max → AreSpelled (Name name ∷ Name source ∷ Number max ∷ []) bytes → P (pulled verb name source max))
-    → (e : Event) → pull_line verb bytes ≡ Some e → P e
+pull_was : (P : Event → Type 0) (event : List ℕ → List ℕ → ℕ → Event) (bytes : List ℕ)
+    → ((name source : List ℕ) (max : ℕ) → IsLimit max → AreSpelled (Name name ∷ Name source ∷ Number max ∷ []) bytes → P (event name source max))
+    → (e : Event) → pull_line event bytes ≡ Some e → P e
 unfolding pull_line
-pull_was P verb bytes go e h =
+pull_was P event bytes go e h =
     each_step P (name_at bytes) _ (λ name n. each_step P (name_at name.1) _ (λ source s. each_step P (limit_at source.1) _ (λ limit l.
-    at_end P limit.1 (pulled verb name.0 source.0 limit.0) (λ last.
+    at_end P limit.1 (event name.0 source.0 limit.0) (λ last.
     let most = limit_next source.1 limit l in
     go name.0 source.0 limit.0 most.0 (name.1, name_next bytes name n, (source.1, name_next name.1 source s, (limit.1, most.1, last))))))) e h
 
 -- NAME as NAME
-binding_was : (P : Event → Type 0) (verb : Verb) (bytes : List ℕ)
-    → ((name bound : List ℕ) → AreSpelled (Name name ∷ Word (codes "as") ∷ Name bound ∷ []) bytes → P (copied verb name bound))
-    → (e : Event) → binding_line verb bytes ≡ Some e → P e
+binding_was : (P : Event → Type 0) (event : List ℕ → List ℕ → Event) (bytes : List ℕ)
+    → ((name bound : List ℕ) → AreSpelled (Name name ∷ Word (codes "as") ∷ Name bound ∷ []) bytes → P (event name bound))
+    → (e : Event) → binding_line event bytes ≡ Some e → P e
 unfolding binding_line
-binding_was P verb bytes go e h =
-    each_step P (name_at bytes) _ (λ name n. each_step P (bound_at name.1) _ (λ bound b. at_end P bound.1 (copied verb name.0 bound.0) (λ last.
+binding_was P event bytes go e h =
+    each_step P (name_at bytes) _ (λ name n. each_step P (bound_at name.1) _ (λ bound b. at_end P bound.1 (event name.0 bound.0) (λ last.
     let binds = bound_next name.1 bound b in
     go name.0 bound.0 (name.1, name_next bytes name n, (binds.0, binds.1, (bound.1, binds.2, last)))))) e h
 
@@ -254,25 +254,25 @@ verb_was verbs.Add line rest verb e h = add_was line rest verb e h
 verb_was verbs.Modify line rest verb e h = modify_was line rest verb e h
 verb_was verbs.Rename line rest verb e h = rename_was line rest verb e h
 verb_was verbs.Delete line rest verb e h = delete_was line rest verb e h
-verb_was verbs.Link line rest verb e h = link_was (Spells line) verbs.Link rest (λ name from attr to l. (tt, ([], refl, (rest, verb, l)))) e h
-verb_was verbs.Unlink line rest verb e h = link_was (Spells line) verbs.Unlink rest (λ name from attr to l. (tt, ([], refl, (rest, verb, l)))) e h
+verb_was verbs.Link line rest verb e h = link_was (Spells line) Link rest (λ name from attr to l. (tt, ([], refl, (rest, verb, l)))) e h
+verb_was verbs.Unlink line rest verb e h = link_was (Spells line) Unlink rest (λ name from attr to l. (tt, ([], refl, (rest, verb, l)))) e h
 verb_was verbs.Ask line rest verb e h = ask_was line rest verb e h
 verb_was verbs.Serve line rest verb e h = serve_was line rest verb e h
-verb_was verbs.Deliver line rest verb e h = use_was (Spells line) verbs.Deliver rest (λ name other u. (tt, ([], refl, (rest, verb, u)))) e h
-verb_was verbs.Pull line rest verb e h = pull_was (Spells line) verbs.Pull rest (λ name source max most p. (most, ([], refl, (rest, verb, p)))) e h
-verb_was verbs.Cycle line rest verb e h = pull_was (Spells line) verbs.Cycle rest (λ name source max most p. (most, ([], refl, (rest, verb, p)))) e h
+verb_was verbs.Deliver line rest verb e h = use_was (Spells line) Deliver rest (λ name other u. (tt, ([], refl, (rest, verb, u)))) e h
+verb_was verbs.Pull line rest verb e h = pull_was (Spells line) Pull rest (λ name source max most p. (most, ([], refl, (rest, verb, p)))) e h
+verb_was verbs.Cycle line rest verb e h = pull_was (Spells line) Cycle rest (λ name source max most p. (most, ([], refl, (rest, verb, p)))) e h
 verb_was verbs.Collect line rest verb e h = collect_was line rest verb e h
-verb_was verbs.Backup line rest verb e h = binding_was (Spells line) verbs.Backup rest (λ name bound b. (tt, ([], refl, (rest, verb, b)))) e h
+verb_was verbs.Backup line rest verb e h = binding_was (Spells line) Backup rest (λ name bound b. (tt, ([], refl, (rest, verb, b)))) e h
 verb_was verbs.Restore line rest verb e h = restore_was line rest verb e h
 verb_was verbs.Install line rest verb e h = install_was line rest verb e h
-verb_was verbs.Snapshot line rest verb e h = binding_was (Spells line) verbs.Snapshot rest (λ name bound b. (tt, ([], refl, (rest, verb, b)))) e h
-verb_was verbs.Rollback line rest verb e h = use_was (Spells line) verbs.Rollback rest (λ name other u. (tt, ([], refl, (rest, verb, u)))) e h
+verb_was verbs.Snapshot line rest verb e h = binding_was (Spells line) Snapshot rest (λ name bound b. (tt, ([], refl, (rest, verb, b)))) e h
+verb_was verbs.Rollback line rest verb e h = use_was (Spells line) Rollback rest (λ name other u. (tt, ([], refl, (rest, verb, u)))) e h
 verb_was verbs.Stop line rest verb e h = stop_was line rest verb e h
 verb_was verbs.Fail line rest verb e h = fail_was line rest verb e h
-verb_was verbs.Start line rest verb e h = name_was (Spells line) verbs.Start rest (λ name n. (tt, ([], refl, (rest, verb, n)))) e h
-verb_was verbs.Show line rest verb e h = name_was (Spells line) verbs.Show rest (λ name n. (tt, ([], refl, (rest, verb, n)))) e h
-verb_was verbs.Vector line rest verb e h = name_was (Spells line) verbs.Vector rest (λ name n. (tt, ([], refl, (rest, verb, n)))) e h
-verb_was verbs.Marks line rest verb e h = name_was (Spells line) verbs.Marks rest (λ name n. (tt, ([], refl, (rest, verb, n)))) e h
+verb_was verbs.Start line rest verb e h = name_was (Spells line) Start rest (λ name n. (tt, ([], refl, (rest, verb, n)))) e h
+verb_was verbs.Show line rest verb e h = name_was (Spells line) Show rest (λ name n. (tt, ([], refl, (rest, verb, n)))) e h
+verb_was verbs.Vector line rest verb e h = name_was (Spells line) Vector rest (λ name n. (tt, ([], refl, (rest, verb, n)))) e h
+verb_was verbs.Marks line rest verb e h = name_was (Spells line) Marks rest (λ name n. (tt, ([], refl, (rest, verb, n)))) e h
 
 pub lines_spelled : LinesWereSpelled
 unfolding event_of
@@ -284,25 +284,25 @@ lines_spelled line e h =
 
 -- ---- what is spelled is read
 
-name_again : (verb : Verb) (bytes name : List ℕ) → AreSpelled (Name name ∷ []) bytes → name_line verb bytes ≡ Some (named verb name)
+name_again : (event : List ℕ → Event) (bytes name : List ℕ) → AreSpelled (Name name ∷ []) bytes → name_line event bytes ≡ Some (event name)
 unfolding name_line
-name_again verb bytes name h = rw (name_read name bytes h.0 h.1, h.2) refl
+name_again event bytes name h = rw (name_read name bytes h.0 h.1, h.2) refl
 
-use_again : (verb : Verb) (bytes name other : List ℕ) → AreSpelled (Name name ∷ Name other ∷ []) bytes → use_line verb bytes ≡ Some (used verb name other)
+use_again : (event : List ℕ → List ℕ → Event) (bytes name other : List ℕ) → AreSpelled (Name name ∷ Name other ∷ []) bytes → use_line event bytes ≡ Some (event name other)
 unfolding use_line
-use_again verb bytes name other h = rw (name_read name bytes h.0 h.1, name_read other h.0 h.2.0 h.2.1, h.2.2) refl
+use_again event bytes name other h = rw (name_read name bytes h.0 h.1, name_read other h.0 h.2.0 h.2.1, h.2.2) refl
 
-link_again : (verb : Verb) (bytes name from : List ℕ) (attr : ℕ) (to : List ℕ) → AreSpelled (Name name ∷ Identifier from ∷ Attribute attr ∷ Identifier to ∷ []) bytes
-    → link_line verb bytes ≡ Some (linked verb name from attr to)
+link_again : (event : List ℕ → List ℕ → ℕ → List ℕ → Event) (bytes name from : List ℕ) (attr : ℕ) (to : List ℕ) → AreSpelled (Name name ∷ Identifier from ∷ Attribute attr ∷ Identifier to ∷ []) bytes
+    → link_line event bytes ≡ Some (event name from attr to)
 unfolding link_line
-link_again verb bytes name from attr to h =
+link_again event bytes name from attr to h =
     let a = h.2.2 in
     rw (name_read name bytes h.0 h.1, identifier_read from h.0 h.2.0 h.2.1, attribute_read attr h.2.0 a.0 a.1, identifier_read to a.0 a.2.0 a.2.1, a.2.2) refl
 
-pull_again : (verb : Verb) (bytes name source : List ℕ) (max : ℕ) → IsLimit max → AreSpelled (Name name ∷ Name source ∷ Number max ∷ []) bytes
-    → pull_line verb bytes ≡ Some (pulled verb name source max)
+pull_again : (event : List ℕ → List ℕ → ℕ → Event) (bytes name source : List ℕ) (max : ℕ) → IsLimit max → AreSpelled (Name name ∷ Name source ∷ Number max ∷ []) bytes
+    → pull_line event bytes ≡ Some (event name source max)
 unfolding pull_line
-pull_again verb bytes name source max l h =
+pull_again event bytes name source max l h =
     rw (name_read name bytes h.0 h.1, name_read source h.0 h.2.0 h.2.1, limit_read max h.2.0 h.2.2.0 l h.2.2.1, h.2.2.2) refl
 
 controller_again : (bytes name dsa inv : List ℕ) → AreSpelled (Name name ∷ Identifier dsa ∷ Identifier inv ∷ []) bytes → controller_line bytes ≡ Some (Controller name dsa inv)
@@ -366,9 +366,9 @@ serve_again bytes name request bound h =
     let m = h.2 in
     rw (name_read name bytes h.0 h.1, name_read request h.0 m.0 m.1, bound_read bound m.0 m.2.0 m.2.2.0 m.2.1 m.2.2.1, m.2.2.2) refl
 
-binding_again : (verb : Verb) (bytes name bound : List ℕ) → AreSpelled (Name name ∷ Word (codes "as") ∷ Name bound ∷ []) bytes → binding_line verb bytes ≡ Some (copied verb name bound)
+binding_again : (event : List ℕ → List ℕ → Event) (bytes name bound : List ℕ) → AreSpelled (Name name ∷ Word (codes "as") ∷ Name bound ∷ []) bytes → binding_line event bytes ≡ Some (event name bound)
 unfolding binding_line
-binding_again verb bytes name bound h = rw (name_read name bytes h.0 h.1, bound_read bound h.0 h.2.0 h.2.2.0 h.2.1 h.2.2.1, h.2.2.2) refl
+binding_again event bytes name bound h = rw (name_read name bytes h.0 h.1, bound_read bound h.0 h.2.0 h.2.2.0 h.2.1 h.2.2.1, h.2.2.2) refl
 
 collect_again : (bytes name : List ℕ) (lifetime : ℕ) → AreSpelled (Name name ∷ Number lifetime ∷ []) bytes → collect_line bytes ≡ Some (Collect name lifetime)
 unfolding collect_line
@@ -419,26 +419,26 @@ behind_read line (Add name guid class parent text values) h = add_again h.1.2.0 
 behind_read line (Modify name guid values) h = modify_again h.1.2.0 name guid values h.1.0 h.0.1 h.1.1 h.1.2.2
 behind_read line (Rename name guid parent text) h = rename_again h.1.2.0 name guid parent text h.1.2.2
 behind_read line (Delete name guid) h = delete_again h.1.2.0 name guid h.1.2.2
-behind_read line (Link name from attr to) h = link_again verbs.Link h.1.2.0 name from attr to h.1.2.2
-behind_read line (Unlink name from attr to) h = link_again verbs.Unlink h.1.2.0 name from attr to h.1.2.2
+behind_read line (Link name from attr to) h = link_again Link h.1.2.0 name from attr to h.1.2.2
+behind_read line (Unlink name from attr to) h = link_again Unlink h.1.2.0 name from attr to h.1.2.2
 behind_read line (Ask name partner max bound) h = ask_again h.1.2.0 name partner bound max h.0 h.1.2.2
 behind_read line (Serve name request bound) h = serve_again h.1.2.0 name request bound h.1.2.2
-behind_read line (Deliver name reply) h = use_again verbs.Deliver h.1.2.0 name reply h.1.2.2
-behind_read line (Pull name source max) h = pull_again verbs.Pull h.1.2.0 name source max h.0 h.1.2.2
-behind_read line (Cycle name source max) h = pull_again verbs.Cycle h.1.2.0 name source max h.0 h.1.2.2
+behind_read line (Deliver name reply) h = use_again Deliver h.1.2.0 name reply h.1.2.2
+behind_read line (Pull name source max) h = pull_again Pull h.1.2.0 name source max h.0 h.1.2.2
+behind_read line (Cycle name source max) h = pull_again Cycle h.1.2.0 name source max h.0 h.1.2.2
 behind_read line (Collect name lifetime) h = collect_again h.1.2.0 name lifetime h.1.2.2
-behind_read line (Backup name bound) h = binding_again verbs.Backup h.1.2.0 name bound h.1.2.2
+behind_read line (Backup name bound) h = binding_again Backup h.1.2.0 name bound h.1.2.2
 behind_read line (Restore name image inv) h = restore_again h.1.2.0 name image inv h.1.2.2
 behind_read line (Install name dsa image inv) h = install_again h.1.2.0 name dsa image inv h.1.2.2
-behind_read line (Snapshot name bound) h = binding_again verbs.Snapshot h.1.2.0 name bound h.1.2.2
-behind_read line (Rollback name snapshot) h = use_again verbs.Rollback h.1.2.0 name snapshot h.1.2.2
+behind_read line (Snapshot name bound) h = binding_again Snapshot h.1.2.0 name bound h.1.2.2
+behind_read line (Rollback name snapshot) h = use_again Rollback h.1.2.0 name snapshot h.1.2.2
 behind_read line (StopAfter name calls how) h = stop_after_again h.1.2.0 name calls how h.0 h.1.2.2
 behind_read line (Fail name calls) h = fail_again h.1.2.0 name calls h.0 h.1.2.2
 behind_read line (Stop name) h = stop_again h.1.2.0 name h.1.2.2
-behind_read line (Start name) h = name_again verbs.Start h.1.2.0 name h.1.2.2
-behind_read line (Show name) h = name_again verbs.Show h.1.2.0 name h.1.2.2
-behind_read line (Vector name) h = name_again verbs.Vector h.1.2.0 name h.1.2.2
-behind_read line (Marks name) h = name_again verbs.Marks h.1.2.0 name h.1.2.2
+behind_read line (Start name) h = name_again Start h.1.2.0 name h.1.2.2
+behind_read line (Show name) h = name_again Show h.1.2.0 name h.1.2.2
+behind_read line (Vector name) h = name_again Vector h.1.2.0 name h.1.2.2
+behind_read line (Marks name) h = name_again Marks h.1.2.0 name h.1.2.2
 
 pub lines_read : SpelledLinesAreRead
 lines_read line event h = verb_read (verb_of event) line h.1.2.0 h.1.2.1 ∙ behind_read line event h

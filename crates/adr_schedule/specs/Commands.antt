@@ -21,40 +21,26 @@ use Rattle.adr_schedule.specs.Verbs.{verb_said}
 -- ---- lines that some verbs share
 
 -- NAME
-abbrev pub named : Verb → List ℕ → Event
-named verbs.Start name = Start name
-named verbs.Show name = Show name
-named verbs.Vector name = Vector name
-named _ name = Marks name
-
-unfoldable pub name_line : Verb → List ℕ → Option Event
-name_line verb bytes = do
+unfoldable pub name_line : (List ℕ → Event) → List ℕ → Option Event
+name_line event bytes = do
   name ← name_at bytes
-  ended name.1 (named verb name.0)
+  ended name.1 (event name.0)
 
 -- NAME NAME
-abbrev pub used : Verb → List ℕ → List ℕ → Event
-used verbs.Deliver name other = Deliver name other
-used _ name other = Rollback name other
-
-unfoldable pub use_line : Verb → List ℕ → Option Event
-use_line verb bytes = do
+unfoldable pub use_line : (List ℕ → List ℕ → Event) → List ℕ → Option Event
+use_line event bytes = do
   name ← name_at bytes
   other ← name_at name.1
-  ended other.1 (used verb name.0 other.0)
+  ended other.1 (event name.0 other.0)
 
 -- NAME ID ATTR ID
-abbrev pub linked : Verb → List ℕ → List ℕ → ℕ → List ℕ → Event
-linked verbs.Link name from attr to = Link name from attr to
-linked _ name from attr to = Unlink name from attr to
-
-unfoldable pub link_line : Verb → List ℕ → Option Event
-link_line verb bytes = do
+unfoldable pub link_line : (List ℕ → List ℕ → ℕ → List ℕ → Event) → List ℕ → Option Event
+link_line event bytes = do
   name ← name_at bytes
   from ← identifier_at name.1
   attr ← attribute_at from.1
   to ← identifier_at attr.1
-  ended to.1 (linked verb name.0 from.0 attr.0 to.0)
+  ended to.1 (event name.0 from.0 attr.0 to.0)
 
 -- how many items may be asked for
 abbrev pub is_limit : ℕ → Bool
@@ -67,16 +53,12 @@ limit_at bytes = do
   if is_limit limit.0 then Some limit else None
 
 -- NAME NAME MAX
-abbrev pub pulled : Verb → List ℕ → List ℕ → ℕ → Event
-pulled verbs.Pull name source max = Pull name source max
-pulled _ name source max = Cycle name source max
-
-unfoldable pub pull_line : Verb → List ℕ → Option Event
-pull_line verb bytes = do
+unfoldable pub pull_line : (List ℕ → List ℕ → ℕ → Event) → List ℕ → Option Event
+pull_line event bytes = do
   name ← name_at bytes
   source ← name_at name.1
   limit ← limit_at source.1
-  ended limit.1 (pulled verb name.0 source.0 limit.0)
+  ended limit.1 (event name.0 source.0 limit.0)
 
 -- as NAME
 unfoldable pub bound_at : List ℕ → Reading (List ℕ)
@@ -85,15 +67,11 @@ bound_at bytes = do
   name_at word.1
 
 -- NAME as NAME
-abbrev pub copied : Verb → List ℕ → List ℕ → Event
-copied verbs.Backup name bound = Backup name bound
-copied _ name bound = Snapshot name bound
-
-unfoldable pub binding_line : Verb → List ℕ → Option Event
-binding_line verb bytes = do
+unfoldable pub binding_line : (List ℕ → List ℕ → Event) → List ℕ → Option Event
+binding_line event bytes = do
   name ← name_at bytes
   bound ← bound_at name.1
-  ended bound.1 (copied verb name.0 bound.0)
+  ended bound.1 (event name.0 bound.0)
 
 -- after NUM: how many device calls a plan lets pass
 unfoldable pub calls_at : List ℕ → Reading ℕ
@@ -217,25 +195,25 @@ by_verb verbs.Add rest = add_line rest
 by_verb verbs.Modify rest = modify_line rest
 by_verb verbs.Rename rest = rename_line rest
 by_verb verbs.Delete rest = delete_line rest
-by_verb verbs.Link rest = link_line verbs.Link rest
-by_verb verbs.Unlink rest = link_line verbs.Unlink rest
+by_verb verbs.Link rest = link_line Link rest
+by_verb verbs.Unlink rest = link_line Unlink rest
 by_verb verbs.Ask rest = ask_line rest
 by_verb verbs.Serve rest = serve_line rest
-by_verb verbs.Deliver rest = use_line verbs.Deliver rest
-by_verb verbs.Pull rest = pull_line verbs.Pull rest
-by_verb verbs.Cycle rest = pull_line verbs.Cycle rest
+by_verb verbs.Deliver rest = use_line Deliver rest
+by_verb verbs.Pull rest = pull_line Pull rest
+by_verb verbs.Cycle rest = pull_line Cycle rest
 by_verb verbs.Collect rest = collect_line rest
-by_verb verbs.Backup rest = binding_line verbs.Backup rest
+by_verb verbs.Backup rest = binding_line Backup rest
 by_verb verbs.Restore rest = restore_line rest
 by_verb verbs.Install rest = install_line rest
-by_verb verbs.Snapshot rest = binding_line verbs.Snapshot rest
-by_verb verbs.Rollback rest = use_line verbs.Rollback rest
+by_verb verbs.Snapshot rest = binding_line Snapshot rest
+by_verb verbs.Rollback rest = use_line Rollback rest
 by_verb verbs.Stop rest = stop_line rest
 by_verb verbs.Fail rest = fail_line rest
-by_verb verbs.Start rest = name_line verbs.Start rest
-by_verb verbs.Show rest = name_line verbs.Show rest
-by_verb verbs.Vector rest = name_line verbs.Vector rest
-by_verb verbs.Marks rest = name_line verbs.Marks rest
+by_verb verbs.Start rest = name_line Start rest
+by_verb verbs.Show rest = name_line Show rest
+by_verb verbs.Vector rest = name_line Vector rest
+by_verb verbs.Marks rest = name_line Marks rest
 
 -- what a line says
 unfoldable pub event_of : List ℕ → Option Event

@@ -5,6 +5,7 @@ pub mod Verbs
 pub mod Crashes
 pub mod Sets
 pub mod Commands
+pub mod Shared
 pub mod Grammar
 pub mod Seen
 pub mod Events

@@ -3,12 +3,13 @@
 ghost use Rattle.std.specs.Prelude.{◌≡◌, ◌==◌, ◌<◌, ◌≤◌, ℕ, List, length, Some, None};
 ghost use Rattle.adr_token.specs.Gives.{Gives, Answers, bad};
 ghost use Rattle.adr_token.specs.Words.{ended, unspaced};
-ghost use Rattle.adr_schedule.specs.Commands.{add_line, ask_line, binding_line, bound_at, by_verb, calls_at, collect_line, controller_line, copied, crash_at, delete_line, event_of, fail_line, install_line, is_passed, limit_at, link_line, linked, modify_line, name_line, named, pull_line, pulled, rename_line, restore_line, serve_line, stop_after, stop_line, time_line, use_line, used};
+ghost use Rattle.adr_schedule.specs.Commands.{add_line, ask_line, binding_line, bound_at, by_verb, calls_at, collect_line, controller_line, crash_at, delete_line, event_of, fail_line, install_line, is_passed, limit_at, link_line, modify_line, name_line, pull_line, rename_line, restore_line, serve_line, stop_after, stop_line, time_line, use_line};
+ghost use Rattle.adr_schedule.specs.Shared.{copied, linked, named, pulled, used};
 
 use crate::crashes::crash_of;
 use crate::limits::{ASK_LIMIT, PLAN_LIMIT};
 use crate::sets::sets;
-use crate::verb::verb_said;
+use crate::verb::{CopyVerb, LinkVerb, NameVerb, PullVerb, UseVerb, verb_said};
 use adr_disk::Crash;
 use adr_event::{Event, Failure, Verb};
 use adr_schema::Text;
@@ -30,29 +31,29 @@ fn ended<T: Drop>(line: &Line<'_>, value: T) -> Result<T, Stop>
 
 /// NAME, behind one of four verbs.
 #[tactic(auto, unfolding(crate::specs::Commands::name_line))]
-fn named(alloc: Global, verb: Verb, line: &mut Line<'_>) -> Result<Event, Stop>
-    ensures { Answers result (name_line verb line.old) }
+fn named(alloc: Global, verb: NameVerb, line: &mut Line<'_>) -> Result<Event, Stop>
+    ensures { Answers result (name_line (named verb) line.old) }
 {
     let name = line.name(alloc)?;
     let event = match verb {
-        Verb::Start => Event::Start { name },
-        Verb::Show => Event::Show { name },
-        Verb::Vector => Event::Vector { name },
-        _ => Event::Marks { name },
+        NameVerb::Start => Event::Start { name },
+        NameVerb::Show => Event::Show { name },
+        NameVerb::Vector => Event::Vector { name },
+        NameVerb::Marks => Event::Marks { name },
     };
     ended(line, event)
 }
 
 /// NAME NAME, behind `deliver` or `rollback`.
 #[tactic(auto, unfolding(crate::specs::Commands::use_line))]
-fn used(alloc: Global, verb: Verb, line: &mut Line<'_>) -> Result<Event, Stop>
-    ensures { Answers result (use_line verb line.old) }
+fn used(alloc: Global, verb: UseVerb, line: &mut Line<'_>) -> Result<Event, Stop>
+    ensures { Answers result (use_line (used verb) line.old) }
 {
     let name = line.name(alloc)?;
     let other = line.name(alloc)?;
     let event = match verb {
-        Verb::Deliver => Event::Deliver { name, reply: other },
-        _ => Event::Rollback {
+        UseVerb::Deliver => Event::Deliver { name, reply: other },
+        UseVerb::Rollback => Event::Rollback {
             name,
             snapshot: other,
         },
@@ -62,21 +63,21 @@ fn used(alloc: Global, verb: Verb, line: &mut Line<'_>) -> Result<Event, Stop>
 
 /// NAME ID ATTR ID, behind `link` or `unlink`.
 #[tactic(auto, unfolding(crate::specs::Commands::link_line))]
-fn linked(alloc: Global, verb: Verb, line: &mut Line<'_>) -> Result<Event, Stop>
-    ensures { Answers result (link_line verb line.old) }
+fn linked(alloc: Global, verb: LinkVerb, line: &mut Line<'_>) -> Result<Event, Stop>
+    ensures { Answers result (link_line (linked verb) line.old) }
 {
     let name = line.name(alloc)?;
     let from = line.identifier()?;
     let attr = line.attribute()?;
     let to = line.identifier()?;
     let event = match verb {
-        Verb::Link => Event::Link {
+        LinkVerb::Link => Event::Link {
             name,
             from,
             attr,
             to,
         },
-        _ => Event::Unlink {
+        LinkVerb::Unlink => Event::Unlink {
             name,
             from,
             attr,
@@ -101,15 +102,15 @@ fn limit(line: &mut Line<'_>) -> Result<u32, Stop>
 
 /// NAME NAME MAX, behind `pull` or `cycle`.
 #[tactic(auto, unfolding(crate::specs::Commands::pull_line))]
-fn pulled(alloc: Global, verb: Verb, line: &mut Line<'_>) -> Result<Event, Stop>
-    ensures { Answers result (pull_line verb line.old) }
+fn pulled(alloc: Global, verb: PullVerb, line: &mut Line<'_>) -> Result<Event, Stop>
+    ensures { Answers result (pull_line (pulled verb) line.old) }
 {
     let name = line.name(alloc)?;
     let source = line.name(alloc)?;
     let max = limit(line)?;
     let event = match verb {
-        Verb::Pull => Event::Pull { name, source, max },
-        _ => Event::Cycle { name, source, max },
+        PullVerb::Pull => Event::Pull { name, source, max },
+        PullVerb::Cycle => Event::Cycle { name, source, max },
     };
     ended(line, event)
 }
@@ -125,14 +126,14 @@ fn bound(alloc: Global, line: &mut Line<'_>) -> Result<Text, Stop>
 
 /// NAME as NAME, behind `backup` or `snapshot`.
 #[tactic(auto, unfolding(crate::specs::Commands::binding_line))]
-fn copied(alloc: Global, verb: Verb, line: &mut Line<'_>) -> Result<Event, Stop>
-    ensures { Answers result (binding_line verb line.old) }
+fn copied(alloc: Global, verb: CopyVerb, line: &mut Line<'_>) -> Result<Event, Stop>
+    ensures { Answers result (binding_line (copied verb) line.old) }
 {
     let name = line.name(alloc)?;
     let bound = bound(alloc, line)?;
     let event = match verb {
-        Verb::Backup => Event::Backup { name, bound },
-        _ => Event::Snapshot { name, bound },
+        CopyVerb::Backup => Event::Backup { name, bound },
+        CopyVerb::Snapshot => Event::Snapshot { name, bound },
     };
     ended(line, event)
 }
@@ -360,18 +361,25 @@ fn by_verb(alloc: Global, verb: Verb, line: &mut Line<'_>) -> Result<Event, Stop
         Verb::Modify => modify(alloc, line),
         Verb::Rename => rename(alloc, line),
         Verb::Delete => delete(alloc, line),
-        Verb::Link | Verb::Unlink => linked(alloc, verb, line),
+        Verb::Link => linked(alloc, LinkVerb::Link, line),
+        Verb::Unlink => linked(alloc, LinkVerb::Unlink, line),
         Verb::Ask => ask(alloc, line),
         Verb::Serve => serve(alloc, line),
-        Verb::Deliver | Verb::Rollback => used(alloc, verb, line),
-        Verb::Pull | Verb::Cycle => pulled(alloc, verb, line),
+        Verb::Deliver => used(alloc, UseVerb::Deliver, line),
+        Verb::Pull => pulled(alloc, PullVerb::Pull, line),
+        Verb::Cycle => pulled(alloc, PullVerb::Cycle, line),
         Verb::Collect => collect(alloc, line),
-        Verb::Backup | Verb::Snapshot => copied(alloc, verb, line),
+        Verb::Backup => copied(alloc, CopyVerb::Backup, line),
         Verb::Restore => restore(alloc, line),
         Verb::Install => install(alloc, line),
+        Verb::Snapshot => copied(alloc, CopyVerb::Snapshot, line),
+        Verb::Rollback => used(alloc, UseVerb::Rollback, line),
         Verb::Stop => stop(alloc, line),
         Verb::Fail => fail(alloc, line),
-        Verb::Start | Verb::Show | Verb::Vector | Verb::Marks => named(alloc, verb, line),
+        Verb::Start => named(alloc, NameVerb::Start, line),
+        Verb::Show => named(alloc, NameVerb::Show, line),
+        Verb::Vector => named(alloc, NameVerb::Vector, line),
+        Verb::Marks => named(alloc, NameVerb::Marks, line),
     }
 }
 

@@ -182,12 +182,6 @@ impl Seen {
         match event {
             Event::Controller { name, dsa, inv } => self.cause_of_controller(name, dsa, inv),
             Event::Time { .. } => None,
-            Event::Add { name, .. } => self.unless_controller(name),
-            Event::Modify { name, .. } => self.unless_controller(name),
-            Event::Rename { name, .. } => self.unless_controller(name),
-            Event::Delete { name, .. } => self.unless_controller(name),
-            Event::Link { name, .. } => self.unless_controller(name),
-            Event::Unlink { name, .. } => self.unless_controller(name),
             Event::Ask {
                 name,
                 partner,
@@ -200,9 +194,9 @@ impl Seen {
                 bound,
             } => self.cause_of_serve(name, request, bound),
             Event::Deliver { name, reply } => self.cause_of_use(name, &self.replies, reply),
-            Event::Pull { name, source, .. } => self.cause_of_use(name, &self.controllers, source),
-            Event::Cycle { name, source, .. } => self.cause_of_use(name, &self.controllers, source),
-            Event::Collect { name, .. } => self.unless_controller(name),
+            Event::Pull { name, source, .. } | Event::Cycle { name, source, .. } => {
+                self.cause_of_use(name, &self.controllers, source)
+            }
             Event::Backup { name, bound } => self.cause_of_copy(name, &self.images, bound),
             Event::Restore { name, image, inv } => self.cause_of_restore(name, image, inv),
             Event::Install {
@@ -217,13 +211,20 @@ impl Seen {
                 &self.snapshots,
                 snapshot,
             ),
-            Event::StopAfter { name, .. } => self.unless_controller(name),
-            Event::Fail { name, .. } => self.unless_controller(name),
-            Event::Stop { name } => self.unless_controller(name),
-            Event::Start { name } => self.unless_controller(name),
-            Event::Show { name } => self.unless_controller(name),
-            Event::Vector { name } => self.unless_controller(name),
-            Event::Marks { name } => self.unless_controller(name),
+            Event::Add { name, .. }
+            | Event::Modify { name, .. }
+            | Event::Rename { name, .. }
+            | Event::Delete { name, .. }
+            | Event::Link { name, .. }
+            | Event::Unlink { name, .. }
+            | Event::Collect { name, .. }
+            | Event::StopAfter { name, .. }
+            | Event::Fail { name, .. }
+            | Event::Stop { name }
+            | Event::Start { name }
+            | Event::Show { name }
+            | Event::Vector { name }
+            | Event::Marks { name } => self.unless_controller(name),
         }
     }
 

@@ -5,6 +5,43 @@ ghost use Rattle.adr_schedule.specs.Verbs.{verb_said};
 
 use adr_event::Verb;
 
+/// A verb that stands before one name alone.
+#[derive(Clone, Copy)]
+pub enum NameVerb {
+    Start,
+    Show,
+    Vector,
+    Marks,
+}
+
+/// A verb by which a controller uses what a name stands for.
+#[derive(Clone, Copy)]
+pub enum UseVerb {
+    Deliver,
+    Rollback,
+}
+
+/// A verb of links.
+#[derive(Clone, Copy)]
+pub enum LinkVerb {
+    Link,
+    Unlink,
+}
+
+/// A verb by which a controller asks its source.
+#[derive(Clone, Copy)]
+pub enum PullVerb {
+    Pull,
+    Cycle,
+}
+
+/// A verb that copies a controller.
+#[derive(Clone, Copy)]
+pub enum CopyVerb {
+    Backup,
+    Snapshot,
+}
+
 /// All verbs.
 const VERBS: [Verb; 25] = [
     Verb::Controller,
