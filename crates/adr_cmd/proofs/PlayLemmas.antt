@@ -8,7 +8,7 @@ use Rattle.adr_model.specs.Member.{Member}
 use Rattle.adr_model.specs.World.{World}
 use Rattle.adr_model.specs.Step.{step, answers}
 use Rattle.adr_report.specs.Line.{line}
-use Rattle.adr_world.proofs.Due.{Remains, front_remains}
+use Rattle.adr_report.proofs.Due.{Remains, front_remains}
 use Rattle.adr_cmd.specs.Outcome.{output_from}
 
 -- what events write, first the lines of the answers to the first

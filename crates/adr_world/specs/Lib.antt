@@ -1,5 +1,4 @@
 pub mod Run
-pub mod Alone
 pub mod Adopted
 pub mod Pulls
 pub mod Short

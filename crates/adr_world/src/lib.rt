@@ -7,7 +7,6 @@
 //! an answer are of `adr_report`. It knows nothing of the texts that lines are read from.
 #![tactic(auto)]
 
-mod answers;
 mod bound;
 mod collecting;
 mod coming;
@@ -21,7 +20,6 @@ mod restoring;
 mod run;
 mod stepping;
 mod stopping;
-mod telling;
 mod world;
 mod writing;
 
