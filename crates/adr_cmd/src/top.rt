@@ -132,11 +132,7 @@ fn usage<K: Sink>(sink: &mut K) -> u8
     ensures failed { result ≡ 5 → K.faults sink.old < K.faults sink.new }
     ensures sink_faults { K.faults sink.old ≤ K.faults sink.new }
 {
-    match sink.write(USAGE.as_bytes()) {
-        Ok(()) => 2,
-        Err(Fault::Failed) => 5,
-        Err(Fault::NoMemory) => 8,
-    }
+    ended(2, sink.write(USAGE.as_bytes()))
 }
 
 /// Runs the program's words, without its name, over a source and a sink, and answers the status: 0
