@@ -12,3 +12,4 @@ pub mod Tables
 pub mod Adoptions
 pub mod Answered
 pub mod Shows
+pub mod PlayLemmas

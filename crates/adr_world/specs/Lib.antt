@@ -3,3 +3,4 @@ pub mod Adopted
 pub mod Pulls
 pub mod Short
 pub mod Door
+pub mod Played

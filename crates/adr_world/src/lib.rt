@@ -13,6 +13,7 @@ mod coming;
 mod controller;
 mod lists;
 mod messages;
+mod playing;
 mod pulling;
 mod putting_back;
 mod reports;
@@ -23,4 +24,4 @@ mod stopping;
 mod world;
 mod writing;
 
-pub use world::World;
+pub use playing::play;
