@@ -1,4 +1,3 @@
 pub mod ReadLemmas
-pub mod PlayLemmas
 pub mod TopLemmas
 pub mod ShowLemmas

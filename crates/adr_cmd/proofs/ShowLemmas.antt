@@ -17,7 +17,8 @@ use Rattle.adr_law_headline.specs.Headline.{behind}
 use Rattle.adr_law_headline.proofs.Claimed.{first_may, show_so}
 use Rattle.adr_law_headline.proofs.Following.{following_may}
 use Rattle.adr_schedule.proofs.ScheduleLaws.{text_follows}
-use Rattle.adr_cmd.specs.Outcome.{output_from, outcome, outcome_of}
+use Rattle.adr_cmd.specs.Outcome.{outcome, outcome_of}
+use Rattle.adr_world.specs.Played.{output_from}
 use Rattle.adr_cmd.specs.Shown.{view_line, AtEachShow}
 
 -- what an event gives, and then the others

@@ -48,6 +48,26 @@ a_fault : {P : Type 0} (r status : ℕ) (written : Result (Unit {0}) Fault) → 
 a_fault r status (Ok done) is plain h p = absurd (elim h [ inl e ↦ elim plain [ inl z ↦ omega arith | inr z ↦ omega arith ] | inr e ↦ elim plain [ inl z ↦ omega arith | inr z ↦ omega arith ] ])
 a_fault r status (Err fault) is plain h p = p
 
+-- the status of a write that goes well with 2, as the usage line's does
+pub usage_status : (r : ℕ) (written : Result (Unit {0}) Fault) → r ≡ ended 2 written → (r ≡ 2) ⊎ ((r ≡ 5) ⊎ (r ≡ 8))
+usage_status r (Ok done) is = inl is
+usage_status r (Err Failed) is = inr (inl is)
+usage_status r (Err NoMemory) is = inr (inr is)
+
+pub usage_added : {P : Type 0} (r : ℕ) (written : Result (Unit {0}) Fault) → r ≡ ended 2 written → OnOk written P → r ≡ 2 → P
+usage_added r (Ok done) is p two = p
+usage_added r (Err Failed) is p two = absurd (omega arith)
+usage_added r (Err NoMemory) is p two = absurd (omega arith)
+
+pub usage_front : {P : Type 0} (r : ℕ) (written : Result (Unit {0}) Fault) → r ≡ ended 2 written → OnErr written P → (r ≡ 5) ⊎ (r ≡ 8) → P
+usage_front r (Ok done) is p h = absurd (elim h [ inl e ↦ omega arith | inr e ↦ omega arith ])
+usage_front r (Err fault) is p h = p
+
+pub usage_failed : {P : Type 0} (r : ℕ) (written : Result (Unit {0}) Fault) → r ≡ ended 2 written → (written ≡ Err Failed → P) → r ≡ 5 → P
+usage_failed r (Ok done) is p five = absurd (omega arith)
+usage_failed r (Err Failed) is p five = p refl
+usage_failed r (Err NoMemory) is p five = absurd (omega arith)
+
 pub told_status : (left : Option (List ℕ)) (bytes : List ℕ) (r status : ℕ) (written : Result (Unit {0}) Fault) → IfSome left (λ text. bytes ≡ take (text_limit + 1) text) → r ≡ ended status written
     → OnOk written (status ≡ (outcome bytes).0) → (r ≡ 0) ⊎ (r ≡ 3) → IfSome left (λ text. r ≡ (outcome text).0)
 told_status left bytes r status written read is ok h =

@@ -1,5 +1,5 @@
 -- What the text of a schedule gives: a status, and what is written.
-use Rattle.std.specs.Prelude.{ℕ, List, [], ◌∷◌, ◌++◌, Bool, false, Result, Ok, Err, flat_map, codes}
+use Rattle.std.specs.Prelude.{ℕ, List, [], ◌∷◌, ◌++◌, Bool, false, Result, Ok, Err, codes}
 use Rattle.std.specs.Str.{bytes_eq}
 use Rattle.std.specs.Fmt.{decimal}
 use Rattle.adr_event.specs.declared.event.Event.{Event}
@@ -9,13 +9,8 @@ use Rattle.adr_schedule.specs.declared.fault.Cause.{Cause}
 use Rattle.adr_schedule.specs.declared.fault.Cause.TheVariants.{NotUtf8, NoCommand, UnknownName, NameUsed, IdentifierUsed, TooMany, TooLong}
 use Rattle.adr_schedule.specs.declared.fault.ScheduleFault.{ScheduleFault}
 use Rattle.adr_schedule.specs.Events.{events_of}
-use Rattle.adr_model.specs.World.{World, empty_world}
-use Rattle.adr_model.specs.Step.{answers}
-use Rattle.adr_report.specs.Line.{line}
-
--- what events write from a world on: the lines of their answers
-abbrev pub output_from : World → List Event → List ℕ
-output_from w events = flat_map line (answers w events)
+use Rattle.adr_model.specs.World.{empty_world}
+use Rattle.adr_world.specs.Played.{output_from}
 
 abbrev pub cause_text : Cause → List ℕ
 cause_text NotUtf8 = codes "not UTF-8"

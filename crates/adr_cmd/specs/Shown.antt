@@ -11,7 +11,7 @@ use Rattle.adr_model.specs.Convergence.{in_view}
 use Rattle.adr_report.specs.Line.{line}
 use Rattle.adr_schedule.specs.Events.{events_of}
 use Rattle.adr_law_headline.specs.Headline.{behind}
-use Rattle.adr_cmd.specs.Outcome.{output_from}
+use Rattle.adr_world.specs.Played.{output_from}
 
 -- the lines of the directory of the issued updates that a controller covers or holds
 abbrev pub view_line : World → Replica → List ℕ

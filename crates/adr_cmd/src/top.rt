@@ -9,11 +9,11 @@ ghost use Rattle.adr_schedule.specs.Limits.{text_limit};
 ghost use Rattle.adr_cmd.specs.Outcome.{outcome, cause_text, fault_line, is_replay, usage_line, ended};
 ghost use Rattle.adr_cmd.specs.Shown.{AtEachShow};
 
-use crate::playing::play;
 use crate::reading::read_all;
 use adr_io::{Fault, Sink, Source};
 use adr_schedule::{Cause, Failure, ScheduleFault, parse};
 use adr_token::{push, push_number};
+use adr_world::play;
 use std::alloc::{AllocError, Global};
 
 /// Whether the words are the one command that there is.
@@ -132,11 +132,7 @@ fn usage<K: Sink>(sink: &mut K) -> u8
     ensures failed { result ≡ 5 → K.faults sink.old < K.faults sink.new }
     ensures sink_faults { K.faults sink.old ≤ K.faults sink.new }
 {
-    match sink.write(USAGE.as_bytes()) {
-        Ok(()) => 2,
-        Err(Fault::Failed) => 5,
-        Err(Fault::NoMemory) => 8,
-    }
+    ended(2, sink.write(USAGE.as_bytes()))
 }
 
 /// Runs the program's words, without its name, over a source and a sink, and answers the status: 0

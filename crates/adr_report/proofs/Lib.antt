@@ -6,3 +6,6 @@ pub mod EntryLines
 pub mod KnowledgeLines
 pub mod ReportLines
 pub mod Allowed
+pub mod Due
+pub mod ToldLines
+pub mod Results

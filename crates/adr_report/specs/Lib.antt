@@ -1,3 +1,4 @@
 pub mod Line
 pub mod Printable
 pub mod Laws
+pub mod Alone

@@ -3,3 +3,4 @@ pub mod Ends
 pub mod Named
 pub mod Slots
 pub mod Youngest
+pub mod Report

@@ -1,21 +1,14 @@
 -- What calls by a name come to.
-use Rattle.std.proofs.Common.{◌≡◌, ◌∙◌, ◌⊎◌, ℕ, refl, sym, ap, inl, inr, List, Option, Some, None, Result, Ok, Err, Bool, true, false, if◌then◌else◌}
+use Rattle.std.proofs.Common.{◌≡◌, ◌∙◌, ℕ, refl, sym, ap, inl, inr, Option, Some, None, Result, Ok, Err}
 use Rattle.std.specs.Prelude.{IsSome}
 use Rattle.adr_event.specs.declared.answer.Outcome.{Outcome}
 use Rattle.adr_event.specs.declared.answer.Outcome.TheVariants as outcomes
-use Rattle.adr_event.specs.declared.directory.Entry.{Entry}
 use Rattle.adr_event.specs.declared.refusal.ServeRefusal.{ServeRefusal}
 use Rattle.adr_event.specs.declared.refusal.ServeRefusal.TheVariants as serves
 use Rattle.adr_model.specs.Update.{Identifier}
-use Rattle.adr_model.specs.Directory.{directory}
-use Rattle.adr_model.specs.Store.{updates_of}
 use Rattle.adr_model.specs.Serve.{Request, Reply, ask, serve}
-use Rattle.adr_model.specs.Visible.{visible}
 use Rattle.adr_model.specs.Replica.{Standing, Up, Down, Failed, Replica}
 use Rattle.adr_model.specs.World.{World, Name, Sent, replica_at, of_made, of_controller, where_up, nothing, not_sent, stays, asks, serves_request, after_serve, served, delivers, delivered, shown}
-use Rattle.adr_model.specs.Sound.{IsWorldOfRun}
-use Rattle.adr_law_convergence.proofs.Controllers.{shows_what_is_visible}
-use Rattle.adr_law_convergence.proofs.Found.{replica_found}
 use Rattle.adr_world.specs.Short.{IsUnsent}
 
 module _ {A : Type 0} (w : World) (name : Name) (other : Outcome → A) (act : Replica → A) where
@@ -105,25 +98,3 @@ module _ (w : World) (name : Name) (q : Option Request) where
 pub sent_keeps : (w : World) (name : Name) (q : Option Request) (v : World) (o : Outcome) (sent : Option Reply) → IsSome sent → serves_request w name q ≡ (v, o, sent) → v ≡ w
 sent_keeps w name q v o None some e = absurd (cc)
 sent_keeps w name q v o (Some reply) some e = reply_keeps w name q v o reply e
-
--- ---- the directory of a controller
-
-module _ (w : World) (run : IsWorldOfRun w) (name : Name) (r : Replica) (is : replica_at w name ≡ Some r) where
-  -- its rows show what it has in view while the world is clean, and else it shows just them
-  rows_shown : (b : Bool) → w.clean ≡ b → shown w r.safe ≡ directory (updates_of r.safe.store.rows)
-  rows_shown true clean =
-      ap (λ b. directory (if b then visible w.book.issued r.safe.store.vector (updates_of r.safe.store.rows) else updates_of r.safe.store.rows)) clean
-      ∙ sym (shows_what_is_visible w (run.sound clean) r (replica_found w name r is).0)
-  rows_shown false unclean = ap (λ b. directory (if b then visible w.book.issued r.safe.store.vector (updates_of r.safe.store.rows) else updates_of r.safe.store.rows)) unclean
-
-  pub shown_so : (d : List Entry) → r.standing ≡ Up → d ≡ directory (updates_of r.safe.store.rows) → of_controller w name (stays w) (λ x. (w, outcomes.Show (shown w x.safe))) ≡ (w, outcomes.Show d)
-  shown_so d up made =
-      reaches w name (stays w) (λ x. (w, outcomes.Show (shown w x.safe))) r is
-      ∙ ap (λ s. where_up (stays w) s (w, outcomes.Show (shown w r.safe))) up
-      ∙ ap (λ x. (w, outcomes.Show x)) (rows_shown w.clean refl ∙ sym made)
-
--- a report of a controller, by what its state is
-module _ (w : World) (name : Name) (act : Replica → Outcome) (r : Replica) (is : replica_at w name ≡ Some r) where
-  pub told_other : (o : Outcome) → ((r.standing ≡ Down) × (o ≡ outcomes.Down)) ⊎ ((r.standing ≡ Failed) × (o ≡ outcomes.Failed)) → of_controller w name (stays w) (λ x. (w, act x)) ≡ (w, o)
-  told_other o (inl so) = reaches w name (stays w) (λ x. (w, act x)) r is ∙ ap (λ s. where_up (stays w) s (w, act r)) so.0 ∙ ap (λ x. (w, x)) (sym so.1)
-  told_other o (inr so) = reaches w name (stays w) (λ x. (w, act x)) r is ∙ ap (λ s. where_up (stays w) s (w, act r)) so.0 ∙ ap (λ x. (w, x)) (sym so.1)

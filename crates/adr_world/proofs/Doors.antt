@@ -12,7 +12,7 @@ use Rattle.adr_law_convergence.proofs.Acknowledged.{acknowledged_is_issued}
 use Rattle.adr_law_convergence.proofs.CutShort.{cut_short_sound}
 use Rattle.adr_law_convergence.proofs.Completing.{cycle_ends}
 use Rattle.adr_law_convergence.proofs.Found.{replica_found}
-use Rattle.adr_world.specs.Alone.{IsAtOnce}
+use Rattle.adr_report.specs.Alone.{IsAtOnce}
 use Rattle.adr_world.specs.Door.{IsCompletedBy}
 use Rattle.adr_world.specs.Pulls.{IsCycleTurn, IsTurn}
 use Rattle.adr_world.specs.Short.{IsAllOrNone, IsSyncedBy, IsCutShort, IsTurnCutShort}

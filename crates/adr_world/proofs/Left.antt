@@ -11,7 +11,7 @@ use Rattle.adr_report.specs.Line.{line}
 use Rattle.adr_world.specs.Door.{IsDone, IsLeftBy}
 use Rattle.adr_world.specs.Short.{IsSyncedBy, IsTurnCutShort}
 use Rattle.adr_world.proofs.Turns.{IsFirst, IsSoFar, IsBehind, told_first, turns_so_far, behind}
-use Rattle.adr_world.proofs.ToldLines.{lines_begin}
+use Rattle.adr_report.proofs.ToldLines.{lines_begin}
 
 is_done : (t : World × List Answer) (v : World) (all : List Answer) (first now : Option (List ℕ)) → t ≡ (v, all) → AddsFront first now (flat_map line all) → IsDone t v first now
 is_done t v all first now is front = subst (λ (x : World × List Answer). IsDone x v first now) (sym is) (refl, front)

@@ -5,11 +5,11 @@ pub mod Pulls
 pub mod Turns
 pub mod Bindings
 pub mod Doors
-pub mod Due
 pub mod Results
-pub mod ToldLines
 pub mod Left
 pub mod Writings
 pub mod Tables
 pub mod Adoptions
 pub mod Answered
+pub mod Shows
+pub mod PlayLemmas

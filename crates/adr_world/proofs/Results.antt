@@ -2,10 +2,6 @@
 use Rattle.std.proofs.Common.{subst, sym}
 use Rattle.std.specs.Prelude.{◌≡◌, Result, Ok, Err, IfOk, OnErr, OnOk, IsErrAnd}
 
-pub on_err : {X Y P : Type 0} (r : Result X Y) → P → OnErr r P
-on_err (Ok x) p = tt
-on_err (Err e) p = p
-
 pub on_err_so : {X Y P Q : Type 0} (r : Result X Y) → OnErr r P → (P → Q) → OnErr r Q
 on_err_so (Ok x) p so = tt
 on_err_so (Err e) p so = so p

@@ -1,6 +1,6 @@
 pub mod Run
-pub mod Alone
 pub mod Adopted
 pub mod Pulls
 pub mod Short
 pub mod Door
+pub mod Played

@@ -7,13 +7,13 @@
 //! an answer are of `adr_report`. It knows nothing of the texts that lines are read from.
 #![tactic(auto)]
 
-mod answers;
 mod bound;
 mod collecting;
 mod coming;
 mod controller;
 mod lists;
 mod messages;
+mod playing;
 mod pulling;
 mod putting_back;
 mod reports;
@@ -21,8 +21,7 @@ mod restoring;
 mod run;
 mod stepping;
 mod stopping;
-mod telling;
 mod world;
 mod writing;
 
-pub use world::World;
+pub use playing::play;

@@ -60,7 +60,8 @@ impl Run {
         self.controllers[asker].ask(alloc, dsa, max)
     }
 
-    /// What a controller is answered that serves a request, which was bound to a name; the reply is bound to another.
+    /// What a controller is answered that serves a request, which was bound to a name and is read where it stands;
+    /// the reply is bound to another.
     pub fn serve(
         &mut self,
         alloc: Global,
@@ -75,33 +76,14 @@ impl Run {
         ensures err { OnErr result (IsAllOrNone (world_of self.old) (step (world_of self.old) (Serve name.now request.now bound.now)).0 (world_of self.new)) }
         ensures tidy { IsTidy self.new }
     {
-        let sent = self.reply_bound(alloc, name, request)?;
-        self.replies.bind(alloc, bound, sent)
-    }
-
-    /// What comes of a request that was bound to a name. It is read where it stands.
-    fn reply_bound(
-        &mut self,
-        alloc: Global,
-        name: &Text,
-        request: &Text,
-    ) -> Result<(Outcome, Option<Reply>), NoMemory>
-        requires { IsTidy self.old }
-        ensures served { IfOk result (λ sent.
-            serves_request (world_of self.old) name.now (bound_at (world_of self.old).requests request.now)
-            ≡ (world_of self.new, sent.0, sent.1)) }
-        ensures spelled { IfOk result (λ sent. IfSome sent.1 (λ reply. IsSpelledReply reply × IsRangedReply reply)) }
-        ensures err { OnErr result (IsUnsent (world_of self.old) (serves_request (world_of self.old) name.now (bound_at (world_of self.old).requests request.now)) (world_of self.new)) }
-        ensures replies { self.new.replies ≡ self.old.replies }
-        ensures tidy { IsTidy self.new }
-    {
         let Some(place) = self.place_of(name) else {
-            return Ok((Outcome::Absent, None));
+            return Ok(Outcome::Absent);
         };
         let Some(request) = self.requests.get(request) else {
-            return Ok((not_there(&self.controllers[place]), None));
+            return Ok(not_there(&self.controllers[place]));
         };
-        self.controllers[place].serve(alloc, &mut self.past, request)
+        let sent = self.controllers[place].serve(alloc, &mut self.past, request)?;
+        self.replies.bind(alloc, bound, sent)
     }
 
     /// What comes of a request, and the reply if it isn't refused.

@@ -11,11 +11,11 @@ ghost use Rattle.adr_world.specs.Pulls.{IsCycleTurn, behind};
 ghost use Rattle.adr_world.specs.Run.{IsTidy, world_of};
 ghost use Rattle.adr_world.specs.Short.{IsAllOrNone, IsTurnCutShort, IsUnsent};
 
-use crate::answers::Heading;
 use crate::lists::put;
 use crate::run::Run;
 use adr_event::{Answer, Outcome};
 use adr_packet::{Reply, Request};
+use adr_report::Heading;
 use adr_schema::{NoMemory, Text};
 use std::alloc::Global;
 

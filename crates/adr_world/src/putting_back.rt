@@ -1,16 +1,16 @@
 //! Disks that are put aside, and put back.
 
-ghost use Rattle.std.specs.Prelude.{◌≡◌, Some, codes, IfOk, OnErr};
+ghost use Rattle.std.specs.Prelude.{◌≡◌, codes, IfOk, OnErr};
 ghost use Rattle.adr_event.specs.declared.event.Event.TheVariants.{Snapshot as PutAside};
 ghost use Rattle.adr_model.specs.Convergence.{IsUnbound};
 ghost use Rattle.adr_model.specs.Step.{step, told};
-ghost use Rattle.adr_model.specs.World.{bound_at, nothing, of_made, put_back, replica_at, stays};
+ghost use Rattle.adr_model.specs.World.{bound_at, of_made, put_back, replica_at, stays};
 ghost use Rattle.adr_world.specs.Run.{IsTidy, world_of};
 
 use crate::lists::replace;
 use crate::run::Run;
 use adr_event::Outcome;
-use adr_replica::{Replica, Snapshot};
+use adr_replica::Replica;
 use adr_schema::{NoMemory, Text};
 use std::alloc::Global;
 
@@ -29,20 +29,12 @@ impl Run {
         ensures err { OnErr result (world_of self.new ≡ world_of self.old) }
         ensures tidy { IsTidy self.new }
     {
-        let sent = self.put_aside(name)?;
-        self.snapshots.bind(alloc, bound, sent)
-    }
-
-    /// What is answered where a controller's disk is put aside, however the controller stands, and its bytes.
-    fn put_aside(&self, name: &Text) -> Result<(Outcome, Option<Snapshot>), NoMemory>
-        ensures { IfOk result (λ sent. let w = world_of self.now in
-            of_made (nothing w) (replica_at w name.now) (λ r. (w, Outcome.Ok, Some (record { state = r.read; log_end = r.read_end }))) ≡ (w, sent.0, sent.1)) }
-    {
         let Some(place) = self.place_of(name) else {
-            return Ok((Outcome::Absent, None));
+            return Ok(Outcome::Absent);
         };
         let snapshot = self.controllers[place].snapshot()?;
-        Ok((Outcome::Ok, Some(snapshot)))
+        self.snapshots
+            .bind(alloc, bound, (Outcome::Ok, Some(snapshot)))
     }
 
     /// What is answered where a snapshot is put back as a controller's disk, with no fresh identifier. From here on the world

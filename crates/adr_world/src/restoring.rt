@@ -4,11 +4,9 @@ ghost use Rattle.std.specs.Prelude.{◌≡◌, ◌<◌, ◌∷◌, [], codes, le
 ghost use Rattle.adr_event.specs.declared.answer.Outcome.{Outcome};
 ghost use Rattle.adr_event.specs.declared.event.Event.TheVariants.{Backup, Install, Restore};
 ghost use Rattle.adr_wire.specs.Ranges.{IsId};
-ghost use Rattle.adr_model.specs.Collect.{backup};
 ghost use Rattle.adr_model.specs.Convergence.{IsNewName, IsUnbound};
 ghost use Rattle.adr_model.specs.Replica.{Up, begun};
 ghost use Rattle.adr_model.specs.Step.{gives, step, told};
-ghost use Rattle.adr_model.specs.World.{backed_up, nothing, of_controller};
 ghost use Rattle.adr_world.specs.Adopted.{AdoptsBound, UnadoptedBound};
 ghost use Rattle.adr_world.specs.Run.{IsTidy, world_of};
 
@@ -16,7 +14,7 @@ use crate::coming::begin_in;
 use crate::lists::replace;
 use crate::run::Run;
 use adr_event::{Failure, Outcome};
-use adr_replica::{Image, Replica};
+use adr_replica::Replica;
 use adr_schema::{NoMemory, Text};
 use std::alloc::{AllocError, Global};
 use uuid::Uuid;
@@ -31,19 +29,11 @@ impl Run {
         ensures err { OnErr result (world_of self.new ≡ world_of self.old) }
         ensures tidy { IsTidy self.new }
     {
-        let sent = self.image(alloc, name)?;
-        self.images.bind(alloc, bound, sent)
-    }
-
-    /// What a controller is answered that is backed up, and its image if there is one.
-    fn image(&self, alloc: Global, name: &Text) -> Result<(Outcome, Option<Image>), NoMemory>
-        ensures { IfOk result (λ sent. let w = world_of self.now in
-            of_controller w name.now (nothing w) (λ r. backed_up w (backup r.safe)) ≡ (w, sent.0, sent.1)) }
-    {
         let Some(place) = self.place_of(name) else {
-            return Ok((Outcome::Absent, None));
+            return Ok(Outcome::Absent);
         };
-        self.controllers[place].backup(alloc)
+        let sent = self.controllers[place].backup(alloc)?;
+        self.images.bind(alloc, bound, sent)
     }
 
     /// What is answered where an image is adopted as a controller, under a fresh invocation identifier.

@@ -1,25 +1,24 @@
 //! What each line does, by its kind.
 
-ghost use Rattle.std.specs.Prelude.{◌≡◌, ◌<◌, ◌≤◌, [], ◌∷◌, IfOk, OnErr, OnOk, IsErrOf, flat_map};
+ghost use Rattle.std.specs.Prelude.{◌≡◌, ◌<◌, ◌≤◌, IfOk, OnErr, OnOk, IsErrOf, flat_map};
 ghost use Rattle.adr_event.specs.Verbs.{name_of, verb_of, word_of};
 ghost use Rattle.adr_io.specs.Told.{Adds, AddsFront};
 ghost use Rattle.adr_law_recorded.specs.Typed.{IsTyped};
 ghost use Rattle.adr_model.specs.Convergence.{MayHappen};
 ghost use Rattle.adr_model.specs.Step.{step, told};
 ghost use Rattle.adr_report.specs.Line.{line};
-ghost use Rattle.adr_world.specs.Alone.{HasOneAnswer};
+ghost use Rattle.adr_report.specs.Alone.{HasOneAnswer};
 ghost use Rattle.adr_world.specs.Door.{IsLeftBy};
 ghost use Rattle.adr_world.specs.Pulls.{IsTurn};
 ghost use Rattle.adr_world.specs.Run.{IsSoundRun, IsTidy, world_of};
 ghost use Rattle.adr_world.specs.Short.{IsCutShort, IsTurnCutShort};
 
-use crate::answers::{Heading, name_of};
 use crate::lists::put;
 use crate::pulling::REPLY_LIMIT;
 use crate::run::Run;
-use crate::telling::tell;
 use adr_event::{Answer, Event, Outcome};
 use adr_io::{Fault, Sink};
+use adr_report::{Heading, name_of, tell};
 use adr_schema::NoMemory;
 use std::alloc::Global;
 
@@ -111,12 +110,12 @@ impl Run {
     {
         match event {
             Event::Controller { name, dsa, inv } => self.controller(alloc, name, *dsa, *inv),
-            Event::Add { name, .. } => self.written(alloc, name, event),
-            Event::Modify { name, .. } => self.written(alloc, name, event),
-            Event::Rename { name, .. } => self.written(alloc, name, event),
-            Event::Delete { name, .. } => self.written(alloc, name, event),
-            Event::Link { name, .. } => self.written(alloc, name, event),
-            Event::Unlink { name, .. } => self.written(alloc, name, event),
+            Event::Add { name, .. }
+            | Event::Modify { name, .. }
+            | Event::Rename { name, .. }
+            | Event::Delete { name, .. }
+            | Event::Link { name, .. }
+            | Event::Unlink { name, .. } => self.written(alloc, name, event),
             Event::Ask {
                 name,
                 partner,
@@ -144,9 +143,9 @@ impl Run {
             Event::Fail { name, calls } => Ok(self.fail_after(name, *calls)),
             Event::Stop { name } => Ok(self.stop(name)),
             Event::Start { name } => self.start(name),
-            Event::Show { name } => self.directory_told(alloc, name),
-            Event::Vector { name } => self.vector_told(alloc, name),
-            Event::Marks { name } => self.marks_told(alloc, name),
+            Event::Show { name } | Event::Vector { name } | Event::Marks { name } => {
+                self.reported(alloc, name, event)
+            }
             Event::Time { .. } | Event::Pull { .. } | Event::Cycle { .. } => unreachable!(),
         }
     }

@@ -1,11 +1,10 @@
-use Rattle.std.proofs.Common.{refl, sym, ap, subst, codes}
-use Rattle.adr_event.specs.declared.answer.Outcome.TheVariants as outcomes
+use Rattle.std.proofs.Common.{◌≡◌, inl, inr, refl, sym, ap, subst, codes}
+use Rattle.adr_event.specs.declared.event.Event.{Event}
 use Rattle.adr_event.specs.declared.event.Event.TheVariants.{Serve, Deliver}
 use Rattle.adr_model.specs.Collect.{collect}
 use Rattle.adr_model.specs.Convergence.{MayHappen}
-use Rattle.adr_model.specs.Replica.{Replica}
 use Rattle.adr_model.specs.Step.{told}
-use Rattle.adr_model.specs.World.{after_collect, bound_at, delivers, marks_shown, of_controller, of_made, put_back, replica_at, shown, starts, stays}
+use Rattle.adr_model.specs.World.{after_collect, bound_at, delivers, of_controller, of_made, put_back, replica_at, starts, stays}
 use Rattle.adr_world.specs.Run.{world_of}
 use Rattle.adr_world.specs.Short.{IsCutShort}
 use Rattle.adr_world.proofs.Answered.{call_so, line_so, one_so, written_so}
@@ -29,23 +28,23 @@ snapshot-requires-clause-unbound c = subst (MayHappen (world_of c.args.self.now)
 pub returns-in-Controller-clause-stepped : goal.returns-in-Controller-clause-stepped
 returns-in-Controller-clause-stepped c = line_so (world_of c.args.self.now) (world_of c.controller.new.self) c.args.event.now _ c.controller.result c.in-Controller.is c.controller.ensures.stepped
 
+-- whichever write it is, it goes to the controller that it names
 pub returns-in-Add-clause-stepped : goal.returns-in-Add-clause-stepped
-returns-in-Add-clause-stepped c = written_so (world_of c.args.self.now) (world_of c.written.new.self) c.in-Add.name c.args.event.now c.written.result (subst (IsWriteTo c.in-Add.name) (sym c.in-Add.is) (refl, tt)) c.written.ensures.written
-
-pub returns-in-Modify-clause-stepped : goal.returns-in-Modify-clause-stepped
-returns-in-Modify-clause-stepped c = written_so (world_of c.args.self.now) (world_of c.written-in-Modify.new.self) c.in-Modify.name c.args.event.now c.written-in-Modify.result (subst (IsWriteTo c.in-Modify.name) (sym c.in-Modify.is) (refl, tt)) c.written-in-Modify.ensures.written
-
-pub returns-in-Rename-clause-stepped : goal.returns-in-Rename-clause-stepped
-returns-in-Rename-clause-stepped c = written_so (world_of c.args.self.now) (world_of c.written-in-Rename.new.self) c.in-Rename.name c.args.event.now c.written-in-Rename.result (subst (IsWriteTo c.in-Rename.name) (sym c.in-Rename.is) (refl, tt)) c.written-in-Rename.ensures.written
-
-pub returns-in-Delete-clause-stepped : goal.returns-in-Delete-clause-stepped
-returns-in-Delete-clause-stepped c = written_so (world_of c.args.self.now) (world_of c.written-in-Delete.new.self) c.in-Delete.name c.args.event.now c.written-in-Delete.result (subst (IsWriteTo c.in-Delete.name) (sym c.in-Delete.is) (refl, tt)) c.written-in-Delete.ensures.written
-
-pub returns-in-Link-clause-stepped : goal.returns-in-Link-clause-stepped
-returns-in-Link-clause-stepped c = written_so (world_of c.args.self.now) (world_of c.written-in-Link.new.self) c.in-Link.name c.args.event.now c.written-in-Link.result (subst (IsWriteTo c.in-Link.name) (sym c.in-Link.is) (refl, tt)) c.written-in-Link.ensures.written
-
-pub returns-in-Unlink-clause-stepped : goal.returns-in-Unlink-clause-stepped
-returns-in-Unlink-clause-stepped c = written_so (world_of c.args.self.now) (world_of c.written-in-Unlink.new.self) c.in-Unlink.name c.args.event.now c.written-in-Unlink.result (subst (IsWriteTo c.in-Unlink.name) (sym c.in-Unlink.is) (refl, tt)) c.written-in-Unlink.ensures.written
+returns-in-Add-clause-stepped c =
+    let n = c.in-Add.name in
+    let goes : (e : Event) → c.args.event.now ≡ e → IsWriteTo n e → IsWriteTo n c.args.event.now = λ e is to. subst (IsWriteTo n) (sym is) to in
+    written_so (world_of c.args.self.now) (world_of c.written.new.self) n c.args.event.now c.written.result
+    (elim c.in-Add.is [
+      | inl add ↦ goes _ add.5 (refl, tt)
+      | inr r ↦ elim r [
+        | inl modify ↦ goes _ modify.2 (refl, tt)
+        | inr r ↦ elim r [
+          | inl rename ↦ goes _ rename.3 (refl, tt)
+          | inr r ↦ elim r [ inl delete ↦ goes _ delete.1 (refl, tt) | inr r ↦ elim r [ inl link ↦ goes _ link.3 (refl, tt) | inr unlink ↦ goes _ unlink.3 (refl, tt) ] ]
+        ]
+      ]
+    ])
+    c.written.ensures.written
 
 pub returns-in-Ask-clause-stepped : goal.returns-in-Ask-clause-stepped
 returns-in-Ask-clause-stepped c = line_so (world_of c.args.self.now) (world_of c.ask.new.self) c.args.event.now _ c.ask.result c.in-Ask.is c.ask.ensures.stepped
@@ -99,22 +98,7 @@ returns-in-Start-clause-stepped c =
     (call_so (codes "start") c.in-Start.name (of_made (stays w) (replica_at w c.in-Start.name) (λ r. starts w r r.standing)) (world_of c.start.new.self) c.start.result c.start.ensures.done)
 
 pub returns-in-Show-clause-stepped : goal.returns-in-Show-clause-stepped
-returns-in-Show-clause-stepped c =
-    let w = world_of c.args.self.now in
-    line_so w w c.args.event.now _ c.directory_told.result c.in-Show.is
-    (call_so (codes "show") c.in-Show.name (of_controller w c.in-Show.name (stays w) (λ (r : Replica). (w, outcomes.Show (shown w r.safe)))) w c.directory_told.result c.directory_told.ensures)
-
-pub returns-in-Vector-clause-stepped : goal.returns-in-Vector-clause-stepped
-returns-in-Vector-clause-stepped c =
-    let w = world_of c.args.self.now in
-    line_so w w c.args.event.now _ c.vector_told.result c.in-Vector.is
-    (call_so (codes "vector") c.in-Vector.name (of_controller w c.in-Vector.name (stays w) (λ (r : Replica). (w, outcomes.Vector r.safe.store.vector))) w c.vector_told.result c.vector_told.ensures)
-
-pub returns-in-Marks-clause-stepped : goal.returns-in-Marks-clause-stepped
-returns-in-Marks-clause-stepped c =
-    let w = world_of c.args.self.now in
-    line_so w w c.args.event.now _ c.marks_told.result c.in-Marks.is
-    (call_so (codes "marks") c.in-Marks.name (of_controller w c.in-Marks.name (stays w) (λ (r : Replica). (w, outcomes.Marks (marks_shown r.safe.store)))) w c.marks_told.result c.marks_told.ensures)
+returns-in-Show-clause-stepped c = c.reported.ensures
 
 pub returns-in-Serve-clause-err : goal.returns-in-Serve-clause-err
 returns-in-Serve-clause-err c =

@@ -5,7 +5,8 @@ use Rattle.adr_model.specs.Serve.{Reply}
 use Rattle.adr_model.specs.World.{Sent, serves_request}
 use Rattle.adr_world.specs.Run.{world_of}
 use Rattle.adr_world.proofs.Pulls.{behind_none, asked_on, unsent_short, served_short}
-use Rattle.adr_world.proofs.Results.{on_err, on_err_so}
+use Rattle.adr_report.proofs.Results.{on_err}
+use Rattle.adr_world.proofs.Results.{on_err_so}
 use Rattle.adr_world.proofs.run.Run.pull_asked.Goals as goal
 
 pub returns-in-None-clause-pulled : goal.returns-in-None-clause-pulled

@@ -1,50 +1,85 @@
-use Rattle.std.proofs.Common.{◌≡◌, ◌∙◌, sym, ap, subst, inl, codes}
+use Rattle.std.proofs.Common.{◌≡◌, ◌∙◌, Some, None, sym, ap, subst, inl, refl, codes}
 use Rattle.adr_event.specs.declared.answer.Outcome.{Outcome}
+use Rattle.adr_event.specs.declared.answer.Outcome.TheVariants as outcomes
 use Rattle.adr_event.specs.declared.event.Event.TheVariants.{Serve}
 use Rattle.adr_law_formed.specs.Spelled.{IsSpelledReply}
 use Rattle.adr_law_recorded.specs.Ranged.{IsRangedReply}
 use Rattle.adr_model.specs.Serve.{Reply}
-use Rattle.adr_model.specs.Convergence.{IsUnbound}
 use Rattle.adr_model.specs.Step.{step, told}
-use Rattle.adr_model.specs.World.{bound_at}
+use Rattle.adr_model.specs.World.{bound_at, nothing, served, serves_request}
+use Rattle.adr_report.proofs.Results.{on_err}
 use Rattle.adr_world.specs.Run.{AreSpelled, world_of}
-use Rattle.adr_world.proofs.Bindings.{each_bound, served_step, serve_short}
-use Rattle.adr_world.proofs.Calls.{sent_keeps}
-use Rattle.adr_world.proofs.Results.{either_so, on_err, on_err_both, on_ok_as}
+use Rattle.adr_world.specs.Short.{IsUnsent}
+use Rattle.adr_world.proofs.Becoming.{run_with, found_there, stands, apart_with, led_to, unsent}
+use Rattle.adr_world.proofs.Bindings.{each_bound, request_ranged, served_step, serve_short}
+use Rattle.adr_world.proofs.Calls.{no_request_so, reaches_none, sent_keeps}
+use Rattle.adr_world.proofs.Results.{either_so, on_err_both, on_ok_as}
 use Rattle.adr_world.proofs.run.Run.serve.Goals as goal
 
-pub bind-requires : goal.bind-requires
-bind-requires c = subst (λ rs. IsUnbound rs c.args.bound.now) (sym c.reply_bound.ensures.replies) c.requires.unbound
+pub returns-in_default-clause-stepped : goal.returns-in_default-clause-stepped
+returns-in_default-clause-stepped c =
+    let w = world_of c.args.self.now in
+    served_step w c.args.name.now c.args.request.now c.args.bound.now w outcomes.Absent None
+    (reaches_none w c.args.name.now (nothing w) (λ r. served w r (bound_at w.requests c.args.request.now)) c.in_default.ensures.none)
+
+pub returns-in_default-get-clause-stepped : goal.returns-in_default-get-clause-stepped
+returns-in_default-get-clause-stepped c =
+    let w = world_of c.args.self.now in
+    served_step w c.args.name.now c.args.request.now c.args.bound.now w c.not_there.result None
+    (no_request_so w c.args.name.now c.index.result.now (found_there c.args.self.now c.args.name.now c.in-Some.place c.index.result.now c.in-Some.ensures.place c.index.ensures c.in-Some.ensures.found) c.not_there.result (c.not_there.ensures w) (bound_at w.requests c.args.request.now) c.in_default-get.ensures)
+
+pub serve-requires : goal.serve-requires
+serve-requires c = request_ranged c.args.self.now.requests c.args.request.now c.in-Some-get.request.now c.requires.tidy.requests c.in-Some-get.ensures
 
 pub returns-in_err-sent-clause-err : goal.returns-in_err-sent-clause-err
 returns-in_err-sent-clause-err c =
+    let w = world_of c.args.self.now in
+    let v = run_with c.args.self.now c.in-Some.place c.serve.new.self c.serve.new.past in
     on_err c.from_residual.result
-    (serve_short (world_of c.args.self.now) c.args.name.now c.args.request.now c.args.bound.now (world_of c.reply_bound.new.self) c.in_err-sent.ensures.err)
+    (serve_short w c.args.name.now c.args.request.now c.args.bound.now v
+    (subst (λ q. IsUnsent w (serves_request w c.args.name.now q) v) c.in-Some-get.ensures
+    (unsent c.args.self.now c.args.name.now c.in-Some.place c.index_mut.result.now c.in-Some.ensures.place c.index_mut.ensures.value c.in-Some.ensures.found c.requires.tidy c.serve.new.self c.serve.ensures.name c.serve.new.past c.serve.ensures.given
+    c.in-Some-get.request.now _ refl c.in_err-sent.ensures.err)))
+
+pub returns-in_err-sent-clause-tidy : goal.returns-in_err-sent-clause-tidy
+returns-in_err-sent-clause-tidy c = record {
+  apart = apart_with c.args.self.now c.args.name.now c.in-Some.place c.index_mut.result.now c.in-Some.ensures.place c.index_mut.ensures.value c.in-Some.ensures.found c.requires.tidy c.serve.new.self c.serve.ensures.name;
+  requests = c.requires.tidy.requests;
+  replies = c.requires.tidy.replies;
+}
 
 pub returns-clause-err : goal.returns-clause-err
 returns-clause-err c =
     let w = world_of c.args.self.now in
-    let v = world_of c.reply_bound.new.self in
+    let v = run_with c.args.self.now c.in-Some.place c.serve.new.self c.serve.new.past in
     let sent = c.in_ok-sent.sent in
     on_err_both c.bind.result c.bind.ensures.err c.bind.ensures.some
     (λ same some. inl (ap (λ rs. record v { replies = rs }) same
-    ∙ sent_keeps w c.args.name.now (bound_at w.requests c.args.request.now) v sent.0 sent.1 some c.in_ok-sent.ensures.served))
+    ∙ sent_keeps w c.args.name.now (bound_at w.requests c.args.request.now) v sent.0 sent.1 some
+    (ap (serves_request w c.args.name.now) (sym c.in-Some-get.ensures)
+    ∙ led_to c.args.self.now c.args.name.now c.in-Some.place c.index_mut.result.now c.in-Some.ensures.place c.index_mut.ensures.value c.in-Some.ensures.found c.requires.tidy c.serve.new.self c.serve.ensures.name c.serve.new.past c.serve.ensures.given
+    (λ r. served w r (Some c.in-Some-get.request.now)) sent.0 sent.1
+    (c.in_ok-sent.ensures.served w (stands c.args.self.now c.args.name.now c.in-Some.place c.index_mut.result.now c.in-Some.ensures.place c.index_mut.ensures.value c.in-Some.ensures.found c.requires.tidy)))))
 
 pub returns-clause-stepped : goal.returns-clause-stepped
 returns-clause-stepped c =
     let w = world_of c.args.self.now in
-    let v = world_of c.reply_bound.new.self in
+    let v = run_with c.args.self.now c.in-Some.place c.serve.new.self c.serve.new.past in
     let sent = c.in_ok-sent.sent in
     on_ok_as c.bind.result sent.0 (λ (o : Outcome). step w (Serve c.args.name.now c.args.request.now c.args.bound.now) ≡ told (codes "serve") c.args.name.now (record v { replies = c.bind.new.self }, o)) c.bind.ensures.outcome c.bind.ensures.ok
-    (λ made. served_step w c.args.name.now c.args.request.now c.args.bound.now v sent.0 sent.1 c.in_ok-sent.ensures.served
+    (λ made. served_step w c.args.name.now c.args.request.now c.args.bound.now v sent.0 sent.1
+    (ap (serves_request w c.args.name.now) (sym c.in-Some-get.ensures)
+    ∙ led_to c.args.self.now c.args.name.now c.in-Some.place c.index_mut.result.now c.in-Some.ensures.place c.index_mut.ensures.value c.in-Some.ensures.found c.requires.tidy c.serve.new.self c.serve.ensures.name c.serve.new.past c.serve.ensures.given
+    (λ r. served w r (Some c.in-Some-get.request.now)) sent.0 sent.1
+    (c.in_ok-sent.ensures.served w (stands c.args.self.now c.args.name.now c.in-Some.place c.index_mut.result.now c.in-Some.ensures.place c.index_mut.ensures.value c.in-Some.ensures.found c.requires.tidy)))
     ∙ ap (λ rs. told (codes "serve") c.args.name.now (record v { replies = rs }, sent.0)) (sym made))
 
 pub returns-clause-tidy : goal.returns-clause-tidy
 returns-clause-tidy c = record {
-  apart = c.reply_bound.ensures.tidy.apart;
-  requests = c.reply_bound.ensures.tidy.requests;
+  apart = apart_with c.args.self.now c.args.name.now c.in-Some.place c.index_mut.result.now c.in-Some.ensures.place c.index_mut.ensures.value c.in-Some.ensures.found c.requires.tidy c.serve.new.self c.serve.ensures.name;
+  requests = c.requires.tidy.requests;
   replies = either_so c.bind.result (AreSpelled c.bind.new.self) c.bind.ensures.ok c.bind.ensures.err
       (λ made. subst AreSpelled (sym made)
-      (each_bound (λ (p : Reply). IsSpelledReply p × IsRangedReply p) c.reply_bound.new.self.replies c.args.bound.now c.in_ok-sent.sent.1 c.reply_bound.ensures.tidy.replies c.in_ok-sent.ensures.spelled))
-      (λ same. subst AreSpelled (sym same) c.reply_bound.ensures.tidy.replies);
+      (each_bound (λ (p : Reply). IsSpelledReply p × IsRangedReply p) c.args.self.now.replies c.args.bound.now c.in_ok-sent.sent.1 c.requires.tidy.replies c.in_ok-sent.ensures.spelled))
+      (λ same. subst AreSpelled (sym same) c.requires.tidy.replies);
 }

@@ -8,10 +8,10 @@ use Rattle.adr_model.specs.Cycles.{Pulled, reply_limit}
 use Rattle.adr_report.specs.Line.{line}
 use Rattle.adr_world.specs.Run.{world_of}
 use Rattle.adr_world.proofs.Doors.{turned_of_run, short_of_run}
-use Rattle.adr_world.proofs.Due.{adds_none, all_added}
+use Rattle.adr_report.proofs.Due.{adds_none, all_added}
 use Rattle.adr_world.proofs.Left.{front_so_far, left_behind, left_short, front_behind}
-use Rattle.adr_world.proofs.Results.{on_err}
-use Rattle.adr_world.proofs.ToldLines.{lines_more, lines_front}
+use Rattle.adr_report.proofs.Results.{on_err}
+use Rattle.adr_report.proofs.ToldLines.{lines_more, lines_front}
 use Rattle.adr_world.proofs.Turns.{at_first, behind, goes_on, ends}
 use Rattle.adr_world.proofs.run.Run.step.Goals as goal
 

@@ -1,11 +1,11 @@
 use Rattle.std.proofs.Common.{rules, subst, sym}
 use Rattle.adr_event.specs.declared.event.Event.{Event}
 use Rattle.adr_event.specs.declared.event.Event.TheVariants.{Pull}
-use Rattle.adr_world.specs.Alone.{IsAtOnce}
+use Rattle.adr_report.specs.Alone.{IsAtOnce}
 use Rattle.adr_world.specs.Run.{world_of}
 use Rattle.adr_world.specs.Short.{IsTurnCutShort}
 use Rattle.adr_world.proofs.Doors.{line_short, turn_short}
-use Rattle.adr_world.proofs.Results.{on_err}
+use Rattle.adr_report.proofs.Results.{on_err}
 use Rattle.adr_world.proofs.run.Run.turn.Goals as goal
 
 pub returns-in_err-answers-in-Pull-clause-err : goal.returns-in_err-answers-in-Pull-clause-err

@@ -1,7 +1,7 @@
 use Rattle.std.proofs.Common.{◌≡◌, ◌++◌, map}
 use Rattle.adr_model.specs.Update.{Identifier}
 use Rattle.adr_model.specs.Store.{Kept}
-use Rattle.adr_world.proofs.reports.partner_marks.Given as goal
+use Rattle.adr_view.proofs.reports.partner_marks.Given as goal
 
 -- what is told and what is left are the whole
 abbrev pub invariant-loop-partner : goal.invariant-loop-partner

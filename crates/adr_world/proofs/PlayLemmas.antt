@@ -8,8 +8,8 @@ use Rattle.adr_model.specs.Member.{Member}
 use Rattle.adr_model.specs.World.{World}
 use Rattle.adr_model.specs.Step.{step, answers}
 use Rattle.adr_report.specs.Line.{line}
-use Rattle.adr_world.proofs.Due.{Remains, front_remains}
-use Rattle.adr_cmd.specs.Outcome.{output_from}
+use Rattle.adr_report.proofs.Due.{Remains, front_remains}
+use Rattle.adr_world.specs.Played.{output_from}
 
 -- what events write, first the lines of the answers to the first
 pub output_first : (w : World) (e : Event) (es : List Event) → output_from w (e ∷ es) ≡ flat_map line (step w e).1 ++ output_from (step w e).0 es

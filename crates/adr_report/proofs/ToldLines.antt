@@ -6,7 +6,7 @@ use Rattle.std.proofs.lemmas.List.{append-nil}
 use Rattle.adr_event.specs.declared.answer.Answer.{Answer}
 use Rattle.adr_io.specs.Told.{Adds, AddsFront}
 use Rattle.adr_report.specs.Line.{line}
-use Rattle.adr_world.proofs.Due.{Remains, all_remains, rest_remains, adds_more, front_remains}
+use Rattle.adr_report.proofs.Due.{Remains, all_remains, rest_remains, adds_more, front_remains}
 
 module _ (first now next : Option (List ℕ)) (told more : List Answer) (so_far : Adds first now (flat_map line told)) where
   -- the lines of more answers are written

@@ -2,10 +2,10 @@ use Rattle.std.proofs.Common.{◌∙◌, subst, List, ℕ}
 use Rattle.std.specs.Prelude.{flat_map}
 use Rattle.adr_io.specs.Told.{AddsFront}
 use Rattle.adr_report.specs.Line.{line}
-use Rattle.adr_world.proofs.Due.{front_so_far}
-use Rattle.adr_world.proofs.ToldLines.{line_front}
-use Rattle.adr_world.proofs.Results.{on_err}
-use Rattle.adr_world.proofs.telling.tell.Goals as goal
+use Rattle.adr_report.proofs.Due.{front_so_far}
+use Rattle.adr_report.proofs.ToldLines.{line_front}
+use Rattle.adr_report.proofs.Results.{on_err}
+use Rattle.adr_report.proofs.telling.tell.Goals as goal
 
 pub returns-in_err-bytes-clause-front : goal.returns-in_err-bytes-clause-front
 returns-in_err-bytes-clause-front g c = on_err c.from_residual.result

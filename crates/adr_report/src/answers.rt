@@ -1,9 +1,8 @@
-//! Answers, made.
+//! What stands at the head of an answer.
 
 ghost use Rattle.std.specs.Prelude.{◌≡◌, IfOk};
 ghost use Rattle.adr_event.specs.Verbs.{name_of};
-ghost use Rattle.adr_model.specs.World.{answer};
-ghost use Rattle.adr_world.specs.Alone.{HasOneAnswer};
+ghost use Rattle.adr_report.specs.Alone.{HasOneAnswer};
 
 use adr_event::{Answer, Event, Outcome};
 use adr_schema::{NoMemory, Text};
@@ -12,8 +11,8 @@ use std::alloc::Global;
 /// What stands before an outcome: the word of a call, and a controller's name.
 #[derive(Drop)]
 pub struct Heading {
-    verb: Text,
-    name: Text,
+    pub verb: Text,
+    pub name: Text,
 }
 
 impl Heading {
@@ -29,7 +28,7 @@ impl Heading {
 
     /// The answer of this outcome.
     pub fn of(self, outcome: Outcome) -> Answer
-        ensures { result ≡ answer self.verb self.name outcome }
+        ensures { result ≡ record { verb = self.verb; name = self.name; outcome = outcome } }
     {
         Answer {
             verb: self.verb,

@@ -1,8 +1,8 @@
 use Rattle.std.proofs.Common.{◌≤◌, drop}
 use Rattle.adr_model.specs.Convergence.{MayAllHappen}
-use Rattle.adr_cmd.specs.Outcome.{output_from}
-use Rattle.adr_world.proofs.Due.{Remains}
-use Rattle.adr_cmd.proofs.playing.play_on.Given as goal
+use Rattle.adr_world.specs.Played.{output_from}
+use Rattle.adr_report.proofs.Due.{Remains}
+use Rattle.adr_world.proofs.playing.play_on.Given as goal
 
 -- what is due is what the events that are left write
 abbrev pub invariant-loop-event : goal.invariant-loop-event

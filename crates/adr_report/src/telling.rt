@@ -4,9 +4,9 @@ ghost use Rattle.std.specs.Prelude.{◌≡◌, ◌<◌, ◌≤◌, OnErr, OnOk, 
 ghost use Rattle.adr_io.specs.Told.{Adds, AddsFront};
 ghost use Rattle.adr_report.specs.Line.{line};
 
+use crate::lines::line;
 use adr_event::Answer;
 use adr_io::{Fault, Sink};
-use adr_report::line;
 use std::alloc::Global;
 
 /// Writes the lines of answers, one write each.

@@ -1,8 +1,8 @@
 use Rattle.std.proofs.Common.{Result, Ok, Err}
 use Rattle.std.specs.Prelude.{OnErr}
-use Rattle.adr_cmd.specs.Outcome.{output_from}
-use Rattle.adr_cmd.proofs.PlayLemmas.{front_step, member_got}
-use Rattle.adr_cmd.proofs.playing.play_on.Goals as goal
+use Rattle.adr_world.specs.Played.{output_from}
+use Rattle.adr_world.proofs.PlayLemmas.{front_step, member_got}
+use Rattle.adr_world.proofs.playing.play_on.Goals as goal
 
 on_err : {X Y P : Type 0} (r : Result X Y) → P → OnErr r P
 on_err (Ok x) p = tt

@@ -5,11 +5,11 @@ ghost use Rattle.adr_io.specs.Told.{Adds, AddsFront};
 ghost use Rattle.adr_law_recorded.specs.Typed.{AreTyped};
 ghost use Rattle.adr_model.specs.Convergence.{MayAllHappen};
 ghost use Rattle.adr_model.specs.World.{empty_world};
-ghost use Rattle.adr_cmd.specs.Outcome.{output_from};
+ghost use Rattle.adr_world.specs.Played.{output_from};
 
+use crate::world::World;
 use adr_event::Event;
 use adr_io::{Fault, Sink};
-use adr_world::World;
 use std::alloc::Global;
 
 /// Runs the events from where the world stands on, and writes the answers to each as they come.

@@ -1,8 +1,8 @@
 use Rattle.std.proofs.Common.{◌≤◌, drop}
 use Rattle.std.specs.Prelude.{flat_map}
 use Rattle.adr_report.specs.Line.{line}
-use Rattle.adr_world.proofs.Due.{Remains}
-use Rattle.adr_world.proofs.telling.tell.Given as goal
+use Rattle.adr_report.proofs.Due.{Remains}
+use Rattle.adr_report.proofs.telling.tell.Given as goal
 
 -- what is due is the lines of the answers that are left
 abbrev pub invariant-loop-answer : goal.invariant-loop-answer
