@@ -1,5 +1,5 @@
 -- The body of a record is read field by field.
-use Rattle.std.proofs.Common.{◌≡◌, ℕ, zero, suc, Bool, ◌∷◌, ◌++◌, [], List, map, fold, Option, Some, Ok, refl, sym, ap, ◌∙◌}
+use Rattle.std.proofs.Common.{◌≡◌, ℕ, zero, suc, Bool, ◌∷◌, ◌++◌, [], List, map, fold, Option, Some, Result, Ok, Err, refl, sym, ap, ◌∙◌}
 use Rattle.std.specs.Ordering.{nat_cmp}
 use Rattle.std.proofs.lemmas.List.Sums.{fold-append}
 use Rattle.adr_failure.specs.declared.Failure.{Failure}
@@ -11,10 +11,13 @@ use Rattle.adr_wire.specs.Composites.{LinkItem, Row, link_at, object_at, vector_
 use Rattle.adr_wire.specs.Pieces.{Piece, OfRows, OfLink, piece_of, piece_at}
 use Rattle.adr_wire.specs.Reading.{Rest, Read, Reading, ◌>>=◌, Refuses, where_at, then_at, elements_at, is_above}
 use Rattle.adr_wire.specs.Gathering.{gathered_at}
-use Rattle.adr_model.specs.Change.{Written}
+use Rattle.adr_wire.proofs.Loops.{refuses_is, refuses_then}
+use Rattle.adr_model.specs.Change.{Item, Written}
+use Rattle.adr_law_lengths.specs.Written.{link_item, object_item}
 use Rattle.adr_image.specs.Image.{Marked}
 use Rattle.adr_image.specs.Body.{Write, write_above, mark_if_at, removed_at, writes_at, body_at}
-use Rattle.adr_image.specs.Changes.{written_of}
+use Rattle.adr_image.specs.Changes.{item_of, written_of}
+use Rattle.adr_image.specs.Seen.{GivesSeen}
 use Rattle.adr_image.proofs.Steps.{then_ok, then_first, then_second}
 
 -- elements by the key before them are elements by all that is known before them
@@ -119,15 +122,28 @@ module _ (before : ℕ) where
 
 -- ---- pieces, behind their kind
 
-pub rows_piece : (rest mid end : Rest) (x : Oid × List Row) → u8_at rest ≡ Ok (1, mid) → object_at mid ≡ Ok (x, end) → piece_at rest ≡ Ok (OfRows x, end)
-unfolding piece_at
-rows_piece rest mid end x p q =
-    ap (λ (r : Read ℕ). r >>= λ kind. piece_of rest.place kind.0 kind.1) p ∙ ap (λ (r : Read (Oid × List Row)). r >>= λ z. Ok (OfRows z.0, z.1)) q
+module _ (r : Result Item (Failure Malformed)) (rest mid end : Rest) where
+  pub rows_seen : u8_at rest ≡ Ok (1, mid) → GivesSeen (λ item x. item ≡ object_item x) r end (object_at mid) → GivesSeen (λ item p. item ≡ item_of p) r end (piece_at rest)
+  unfolding piece_at
+  rows_seen kind = by r
+    where
+      here : piece_at rest ≡ (object_at mid >>= λ z. Ok (OfRows z.0, z.1))
+      here = ap (λ (k : Read ℕ). k >>= λ x. piece_of rest.place x.0 x.1) kind
 
-pub link_piece : (rest mid end : Rest) (l : LinkItem) → u8_at rest ≡ Ok (2, mid) → link_at mid ≡ Ok (l, end) → piece_at rest ≡ Ok (OfLink l, end)
-unfolding piece_at
-link_piece rest mid end l p q =
-    ap (λ (r : Read ℕ). r >>= λ kind. piece_of rest.place kind.0 kind.1) p ∙ ap (λ (r : Read LinkItem). r >>= λ z. Ok (OfLink z.0, z.1)) q
+      by : (s : Result Item (Failure Malformed)) → GivesSeen (λ item x. item ≡ object_item x) s end (object_at mid) → GivesSeen (λ item p. item ≡ item_of p) s end (piece_at rest)
+      by (Ok item) g = (OfRows g.0, here ∙ ap (λ (x : Read (Oid × List Row)). x >>= λ z. Ok (OfRows z.0, z.1)) g.1, g.2)
+      by (Err e) g = refuses_is e (object_at mid >>= λ z. Ok (OfRows z.0, z.1)) (piece_at rest) (sym here) (refuses_then e (object_at mid) (λ z. Ok (OfRows z.0, z.1)) g)
+
+  pub link_seen : u8_at rest ≡ Ok (2, mid) → GivesSeen (λ item l. item ≡ link_item l) r end (link_at mid) → GivesSeen (λ item p. item ≡ item_of p) r end (piece_at rest)
+  unfolding piece_at
+  link_seen kind = by r
+    where
+      here : piece_at rest ≡ (link_at mid >>= λ z. Ok (OfLink z.0, z.1))
+      here = ap (λ (k : Read ℕ). k >>= λ x. piece_of rest.place x.0 x.1) kind
+
+      by : (s : Result Item (Failure Malformed)) → GivesSeen (λ item l. item ≡ link_item l) s end (link_at mid) → GivesSeen (λ item p. item ≡ item_of p) s end (piece_at rest)
+      by (Ok item) g = (OfLink g.0, here ∙ ap (λ (x : Read LinkItem). x >>= λ z. Ok (OfLink z.0, z.1)) g.1, g.2)
+      by (Err e) g = refuses_is e (link_at mid >>= λ z. Ok (OfLink z.0, z.1)) (piece_at rest) (sym here) (refuses_then e (link_at mid) (λ z. Ok (OfLink z.0, z.1)) g)
 
 pub write_read : (rest mid end : Rest) (last local : ℕ) (p : Piece) → where_at (is_above nat_cmp (Some last)) usn_at rest ≡ Ok (local, mid) → piece_at mid ≡ Ok (p, end) → write_above (Some last) rest ≡ Ok ((local, p), end)
 unfolding write_above

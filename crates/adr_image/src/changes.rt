@@ -7,7 +7,7 @@ ghost use Rattle.adr_change.specs.Mode.{mode_of};
 ghost use Rattle.adr_model.specs.Update.{IsPresent, LinkOf};
 ghost use Rattle.adr_wire.specs.Fields.{usn_at};
 ghost use Rattle.adr_wire.specs.Pieces.{piece_at};
-ghost use Rattle.adr_wire.specs.Composites.{oid_at};
+ghost use Rattle.adr_wire.specs.Composites.{link_at, object_at, oid_at};
 ghost use Rattle.adr_wire.specs.Reading.{GivesAs, Tells, elements_at, is_above, where_at};
 ghost use Rattle.adr_image.specs.Body as form;
 ghost use Rattle.adr_image.specs.Changes.{change_of, decoded_change, item_of, mode_of_flag, written_of};
@@ -49,22 +49,24 @@ pub fn link_update(link: &LinkItem) -> Update
 }
 
 /// An object with its rows, as an item.
-fn object_item(alloc: Global, object: &Oid, rows: Vec<Row>) -> Result<Item, NoMemory>
-    ensures { IfOk result (λ item. item ≡ object_item (object.now, rows.items)) }
+fn read_object_item(reader: &mut Reader<'_>, alloc: Global) -> Result<Item, WireRefusal>
+    ensures { GivesSeen (λ item x. item ≡ object_item x) result reader.new (object_at reader.old) }
 {
+    let (object, rows) = reader.read_object(alloc)?;
     let mut updates = Vec::new(alloc);
     for row in rows {
-        updates.push(update_of(object, row))?;
+        updates.push(update_of(&object, row))?;
     }
-    Ok(Item::new(Unit::Object(*object), updates))
+    Ok(Item::new(Unit::Object(object), updates))
 }
 
 /// A link, as an item of its one row.
-fn link_item(alloc: Global, link: &LinkItem) -> Result<Item, NoMemory>
-    ensures { IfOk result (λ item. item ≡ link_item link.now) }
+fn read_link_item(reader: &mut Reader<'_>, alloc: Global) -> Result<Item, WireRefusal>
+    ensures { GivesSeen (λ item l. item ≡ link_item l) result reader.new (link_at reader.old) }
 {
+    let link = reader.read_link()?;
     let mut updates = Vec::new(alloc);
-    updates.push(link_update(link))?;
+    updates.push(link_update(&link))?;
     Ok(Item::new(Unit::Link(link.0), updates))
 }
 
@@ -75,14 +77,8 @@ fn read_item(reader: &mut Reader<'_>, alloc: Global) -> Result<Item, WireRefusal
 {
     let place = reader.place();
     match reader.read_u8()? {
-        1 => {
-            let (object, rows) = reader.read_object(alloc)?;
-            Ok(object_item(alloc, &object, rows)?)
-        }
-        2 => {
-            let link = reader.read_link()?;
-            Ok(link_item(alloc, &link)?)
-        }
+        1 => read_object_item(reader, alloc),
+        2 => read_link_item(reader, alloc),
         _ => Err(Failure::Refused(Malformed { place })),
     }
 }

@@ -1,6 +1,6 @@
 //! All objects of an image, and then all links.
 
-ghost use Rattle.std.specs.Prelude.{◌≡◌, ◌∷◌, ◌++◌, ◌≤◌, [], List, OnOk, fold, map};
+ghost use Rattle.std.specs.Prelude.{◌≡◌, ◌∷◌, ◌++◌, ◌≤◌, [], List, OnOk, map};
 ghost use Rattle.adr_model.specs.Write.{usn_limit};
 ghost use Rattle.adr_wire.specs.Gathering.{gathered_at};
 ghost use Rattle.adr_image.specs.Image as form;
@@ -78,24 +78,6 @@ impl Objects {
         self.last = Some(*object);
         push_rows(&mut self.rows, object, rows)
     }
-
-    /// Reads one more object.
-    fn read_next(
-        &mut self,
-        reader: &mut Reader<'_>,
-        alloc: Global,
-        usn: u64,
-        schema: &Schema,
-    ) -> Result<(), WireRefusal>
-        requires { usn ≤ usn_limit }
-        ensures { (os : List form.Rows) → KeepsObjects self.old os
-            → GivesSeen (λ _ o. KeepsObjects self.new (os ++ o ∷ [])) result reader.new
-            (form.object_at usn schema.now (fold form.with_rows form.no_objects os) reader.old) }
-    {
-        let (object, rows) = read_object(reader, alloc, usn, schema, &self.last, &self.used)?;
-        self.take(&object, rows)?;
-        Ok(())
-    }
 }
 
 /// So many objects, one behind the other.
@@ -112,7 +94,8 @@ fn read_each_object(
 {
     let mut objects = Objects::new(alloc);
     for _ in 0..count {
-        objects.read_next(reader, alloc, usn, schema)?;
+        let (object, rows) = read_object(reader, alloc, usn, schema, &objects.last, &objects.used)?;
+        objects.take(&object, rows)?;
     }
     Ok(objects)
 }
@@ -167,22 +150,6 @@ impl Links {
         Ok(())
     }
 
-    /// Reads one more link.
-    fn read_next(
-        &mut self,
-        reader: &mut Reader<'_>,
-        usn: u64,
-        schema: &Schema,
-    ) -> Result<(), WireRefusal>
-        ensures { (os : List form.Rows) (ls : List form.HeldLink) → KeepsLinks os self.old ls
-            → GivesSeen (λ _ l. KeepsLinks os self.new (ls ++ l ∷ [])) result reader.new
-            (form.link_at usn schema.now (dead_of os) (fold form.with_link (no_links os) ls) reader.old) }
-    {
-        let link = self.read_link(reader, usn, schema)?;
-        self.take(&link)?;
-        Ok(())
-    }
-
     /// So many links, one behind the other.
     fn read_each(
         self,
@@ -197,7 +164,8 @@ impl Links {
     {
         let mut links = self;
         for _ in 0..count {
-            links.read_next(reader, usn, schema)?;
+            let link = links.read_link(reader, usn, schema)?;
+            links.take(&link)?;
         }
         Ok(links)
     }
