@@ -9,7 +9,7 @@ use Rattle.adr_wire.specs.declared.refusal.Malformed.{Malformed}
 use Rattle.adr_wire.specs.Fields.{u8_at, u32_at, usn_at, usn0_at, flag_at}
 use Rattle.adr_wire.specs.Composites.{LinkItem, Row, link_at, object_at, oid_at, vector_at}
 use Rattle.adr_wire.specs.Pieces.{Piece, OfRows, OfLink, piece_of, piece_at}
-use Rattle.adr_wire.specs.Reading.{Rest, Read, Reading, ◌>>=◌, Refuses, as_at, where_at, then_at, elements_at, is_above}
+use Rattle.adr_wire.specs.Reading.{Rest, Read, Reading, ◌>>=◌, Refuses, where_at, then_at, elements_at, is_above}
 use Rattle.adr_wire.specs.Gathering.{gathered_at}
 use Rattle.adr_wire.proofs.Loops.{refuses_is, refuses_then, with_front}
 use Rattle.adr_model.specs.Change.{Item, Written}
@@ -18,7 +18,7 @@ use Rattle.adr_image.specs.Image.{Marked}
 use Rattle.adr_image.specs.Body.{Write, one_name, write_above, mark_if_at, removed_at, writes_at, body_at}
 use Rattle.adr_image.specs.Changes.{item_of, written_of}
 use Rattle.adr_image.specs.Seen.{GivesSeen}
-use Rattle.adr_image.proofs.Steps.{then_ok, then_first, then_second}
+use Rattle.adr_image.proofs.Steps.{behind_count, then_ok, then_first, then_second}
 
 -- elements by the key before them are elements by all that is known before them
 elements_gathered : {K E : Type 0} (key : E → K) (element : Option K → Reading E) (n : ℕ) (last : Option K) (rest : Rest)
@@ -26,21 +26,6 @@ elements_gathered : {K E : Type 0} (key : E → K) (element : Option K → Readi
 elements_gathered key element zero last rest = refl
 elements_gathered {K} {E} key element (suc n) last rest =
     ap (λ (f : E × Rest → Read (List E)). element last rest >>= f) (λ i e. (elements_gathered key element n (Some (key e.0)) e.1) i >>= λ es. Ok (e.0 ∷ es.0, es.1))
-
--- what stands behind a count is read by it
-module _ {B : Type 0} (b : ℕ → Reading B) where
-  abbrev counted : Read ℕ → Read (ℕ × B)
-  counted r = r >>= λ x. b x.0 x.1 >>= λ y. Ok ((x.0, y.0), y.1)
-
-  abbrev behind : Read (ℕ × B) → Read B
-  behind r = r >>= λ z. Ok (z.0.1, z.1)
-
-  behind_count : (a : Reading ℕ) (rest mid : Rest) (n : ℕ) → a rest ≡ Ok (n, mid) → as_at (λ p. p.1) (then_at a b) rest ≡ b n mid
-  behind_count a rest mid n p = ap (λ (r : Read ℕ). behind (counted r)) p ∙ same (b n mid)
-    where
-      same : (r : Read B) → behind (r >>= λ y. Ok ((n, y.0), y.1)) ≡ r
-      same (Ok y) = refl
-      same (Err place) = refl
 
 -- ---- removed objects
 

@@ -80,27 +80,7 @@ impl Objects {
     }
 }
 
-/// So many objects, one behind the other.
-fn read_each_object(
-    reader: &mut Reader<'_>,
-    alloc: Global,
-    usn: u64,
-    schema: &Schema,
-    count: u32,
-) -> Result<Objects, WireRefusal>
-    requires { usn ≤ usn_limit }
-    ensures { GivesSeen KeepsObjects result reader.new
-        (gathered_at form.with_rows (form.object_at usn schema.now) count form.no_objects reader.old) }
-{
-    let mut objects = Objects::new(alloc);
-    for _ in 0..count {
-        let (object, rows) = read_object(reader, alloc, usn, schema, &objects.last, &objects.used)?;
-        objects.take(&object, rows)?;
-    }
-    Ok(objects)
-}
-
-/// The objects of an image.
+/// The objects of an image, one behind the other.
 #[tactic(auto, unfolding(crate::specs::Whole::objects_at))]
 pub fn read_objects(
     reader: &mut Reader<'_>,
@@ -116,7 +96,12 @@ pub fn read_objects(
     if count as u64 > OBJECT_LIMIT {
         return Err(Failure::Refused(Malformed { place }));
     }
-    read_each_object(reader, alloc, usn, schema, count)
+    let mut objects = Objects::new(alloc);
+    for _ in 0..count {
+        let (object, rows) = read_object(reader, alloc, usn, schema, &objects.last, &objects.used)?;
+        objects.take(&object, rows)?;
+    }
+    Ok(objects)
 }
 
 /// A link row, as it is held.
