@@ -1,18 +1,22 @@
 -- What stands behind the version is read part by part.
-use Rattle.std.proofs.Common.{◌≡◌, ℕ, ◌≤◌, ◌^◌, cond, List, Ok, Err, sym, ap, ◌∙◌, arith}
-use Rattle.std.proofs.lemmas.Bool.{ltb-true}
+use Rattle.std.proofs.Common.{◌≡◌, ℕ, ◌-◌, ◌≤◌, ◌^◌, Bool, cond, List, [], None, Ok, Err, refl, sym, ap, ◌∙◌, arith}
+use Rattle.std.specs.Prelude.{nat_le}
+use Rattle.std.proofs.lemmas.Bool.{le-leb, ltb-true}
 use Rattle.adr_failure.specs.declared.Failure.{Failure}
 use Rattle.adr_schema.specs.Numbered.{numbered}
+use Rattle.adr_schema.specs.Table.{Table}
 use Rattle.adr_vector.specs.Vector.{Cursors, at_most}
 use Rattle.adr_wire.specs.declared.refusal.Malformed.{Malformed}
-use Rattle.adr_wire.specs.Reading.{Rest, Read, Reading, ◌>>=◌, Refuses, where_at, then_at}
+use Rattle.adr_wire.specs.Reading.{Rest, Read, Reading, ◌>>=◌, Refuses, as_at, elements_at, where_at, then_at}
+use Rattle.adr_wire.specs.Gathering.{gathered_at}
 use Rattle.adr_wire.specs.Fields.{u32_at, u64_at, is_usn0, usn0_at}
 use Rattle.adr_wire.specs.Composites.{vector_at}
 use Rattle.adr_wire.proofs.Combining.{bind_ok, passed_ok}
-use Rattle.adr_wire.proofs.Loops.{refuses_then, refuses_is}
-use Rattle.adr_model.specs.Write.{usn_limit}
-use Rattle.adr_image.specs.Image.{Marked}
-use Rattle.adr_image.specs.Whole.{marks_at, tuple_at, parts_of, parts_at}
+use Rattle.adr_wire.proofs.Loops.{refuses_then, refuses_is, with_front}
+use Rattle.adr_model.specs.Take.{mark_limit}
+use Rattle.adr_model.specs.Write.{object_limit, usn_limit}
+use Rattle.adr_image.specs.Image.{Marked, kept_above, marks_of, no_objects, object_at, with_rows}
+use Rattle.adr_image.specs.Whole.{count_at, marks_at, objects_at, tuple_at, parts_of, parts_at}
 use Rattle.adr_image.proofs.WholeLaws.{is_known, Tail, tail_at, three_at, four_at, five_at, six_at}
 
 pub then_ok : {A B : Type 0} (a : Reading A) (b : A → Reading B) (rest mid end : Rest) (x : A) (y : B) → a rest ≡ Ok (x, mid) → b x mid ≡ Ok (y, end) → then_at a b rest ≡ Ok ((x, y), end)
@@ -26,6 +30,43 @@ then_second {A} {B} e a b rest mid x p h =
 
 pub then_first : {A B : Type 0} (e : Failure Malformed) (a : Reading A) (b : A → Reading B) (rest : Rest) → Refuses e (a rest) → Refuses e (then_at a b rest)
 then_first e a b rest h = refuses_then e (a rest) (λ z. b z.0 z.1 >>= λ w. Ok ((z.0, w.0), w.1)) h
+
+-- what stands behind a count is read by it
+module _ {B : Type 0} (b : ℕ → Reading B) where
+  abbrev counted : Read ℕ → Read (ℕ × B)
+  counted r = r >>= λ x. b x.0 x.1 >>= λ y. Ok ((x.0, y.0), y.1)
+
+  abbrev behind : Read (ℕ × B) → Read B
+  behind r = r >>= λ z. Ok (z.0.1, z.1)
+
+  pub behind_count : (a : Reading ℕ) (rest mid : Rest) (n : ℕ) → a rest ≡ Ok (n, mid) → as_at (λ p. p.1) (then_at a b) rest ≡ b n mid
+  behind_count a rest mid n p = ap (λ (r : Read ℕ). behind (counted r)) p ∙ same (b n mid)
+    where
+      same : (r : Read B) → behind (r >>= λ y. Ok ((n, y.0), y.1)) ≡ r
+      same (Ok y) = refl
+      same (Err place) = refl
+
+pub count_fits : (most count : ℕ) (rest mid : Rest) → u32_at rest ≡ Ok (count, mid) → count ≤ most → count_at most rest ≡ Ok (count, mid)
+count_fits most count rest mid p le =
+    ap (λ (r : Read ℕ). r >>= λ x. cond (nat_le x.0 most) (Ok x) (Err rest.place)) p ∙ ap (λ (b : Bool). let r : Read ℕ = cond b (Ok (count, mid)) (Err rest.place) in r) (le-leb count most le)
+
+pub marks_begin : (items : List Marked) (count : ℕ) (rest mid : Rest) → items ≡ [] → u32_at rest ≡ Ok (count, mid) → count ≤ mark_limit → with_front items (elements_at (λ k. k.0) kept_above (count - 0) None mid) ≡ marks_at rest
+unfolding marks_at marks_of
+marks_begin items count rest mid none p le =
+    let all : count - 0 ≡ count = omega arith in
+    ap (λ (ms : List Marked). with_front ms (elements_at (λ k. k.0) kept_above (count - 0) None mid)) none
+    ∙ nothing_before (elements_at (λ k. k.0) kept_above (count - 0) None mid)
+    ∙ ap (λ (n : ℕ). elements_at (λ k. k.0) kept_above n None mid) all
+    ∙ sym (behind_count marks_of (count_at mark_limit) rest mid count (count_fits mark_limit count rest mid p le))
+  where
+    nothing_before : (r : Read (List Marked)) → with_front [] r ≡ r
+    nothing_before (Ok x) = refl
+    nothing_before (Err place) = refl
+
+pub objects_begin : (usn : ℕ) (table : Table) (count : ℕ) (rest mid : Rest) → u32_at rest ≡ Ok (count, mid) → count ≤ object_limit → gathered_at with_rows (object_at usn table) count no_objects mid ≡ objects_at usn table rest
+unfolding objects_at
+objects_begin usn table count rest mid p le =
+    sym (behind_count (λ n. gathered_at with_rows (object_at usn table) n no_objects) (count_at object_limit) rest mid count (count_fits object_limit count rest mid p le))
 
 abbrev pub purged_at : Cursors → Reading Cursors
 purged_at seen = where_at (λ p. at_most p seen) vector_at

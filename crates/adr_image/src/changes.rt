@@ -7,8 +7,8 @@ ghost use Rattle.adr_change.specs.Mode.{mode_of};
 ghost use Rattle.adr_model.specs.Update.{IsPresent, LinkOf};
 ghost use Rattle.adr_wire.specs.Fields.{usn_at};
 ghost use Rattle.adr_wire.specs.Pieces.{piece_at};
-ghost use Rattle.adr_wire.specs.Composites.{oid_at};
-ghost use Rattle.adr_wire.specs.Reading.{GivesAs, Tells, elements_at, is_above, where_at};
+ghost use Rattle.adr_wire.specs.Composites.{link_at, object_at};
+ghost use Rattle.adr_wire.specs.Reading.{GivesAs, Tells, is_above, where_at};
 ghost use Rattle.adr_image.specs.Body as form;
 ghost use Rattle.adr_image.specs.Changes.{change_of, decoded_change, item_of, mode_of_flag, written_of};
 ghost use Rattle.adr_image.specs.Seen.{GivesSeen};
@@ -49,22 +49,24 @@ pub fn link_update(link: &LinkItem) -> Update
 }
 
 /// An object with its rows, as an item.
-fn object_item(alloc: Global, object: &Oid, rows: Vec<Row>) -> Result<Item, NoMemory>
-    ensures { IfOk result (λ item. item ≡ object_item (object.now, rows.items)) }
+fn read_object_item(reader: &mut Reader<'_>, alloc: Global) -> Result<Item, WireRefusal>
+    ensures { GivesSeen (λ item x. item ≡ object_item x) result reader.new (object_at reader.old) }
 {
+    let (object, rows) = reader.read_object(alloc)?;
     let mut updates = Vec::new(alloc);
     for row in rows {
-        updates.push(update_of(object, row))?;
+        updates.push(update_of(&object, row))?;
     }
-    Ok(Item::new(Unit::Object(*object), updates))
+    Ok(Item::new(Unit::Object(object), updates))
 }
 
 /// A link, as an item of its one row.
-fn link_item(alloc: Global, link: &LinkItem) -> Result<Item, NoMemory>
-    ensures { IfOk result (λ item. item ≡ link_item link.now) }
+fn read_link_item(reader: &mut Reader<'_>, alloc: Global) -> Result<Item, WireRefusal>
+    ensures { GivesSeen (λ item l. item ≡ link_item l) result reader.new (link_at reader.old) }
 {
+    let link = reader.read_link()?;
     let mut updates = Vec::new(alloc);
-    updates.push(link_update(link))?;
+    updates.push(link_update(&link))?;
     Ok(Item::new(Unit::Link(link.0), updates))
 }
 
@@ -75,14 +77,8 @@ fn read_item(reader: &mut Reader<'_>, alloc: Global) -> Result<Item, WireRefusal
 {
     let place = reader.place();
     match reader.read_u8()? {
-        1 => {
-            let (object, rows) = reader.read_object(alloc)?;
-            Ok(object_item(alloc, &object, rows)?)
-        }
-        2 => {
-            let link = reader.read_link()?;
-            Ok(link_item(alloc, &link)?)
-        }
+        1 => read_object_item(reader, alloc),
+        2 => read_link_item(reader, alloc),
         _ => Err(Failure::Refused(Malformed { place })),
     }
 }
@@ -109,27 +105,7 @@ fn read_write(reader: &mut Reader<'_>, alloc: Global, last: u64) -> Result<Writt
     Ok(Written::new(local, item))
 }
 
-/// So many writes, rising by their local USNs from the one before.
-fn read_each_write(
-    reader: &mut Reader<'_>,
-    alloc: Global,
-    before: u64,
-    count: u32,
-) -> Result<Vec<Written>, WireRefusal>
-    ensures { GivesSeen (λ writes ws. writes.items ≡ map written_of ws) result reader.new
-        (elements_at (λ w. w.0) form.write_above count (Some before) reader.old) }
-{
-    let mut writes = Vec::new(alloc);
-    let mut last = before;
-    for _ in 0..count {
-        let write = read_write(reader, alloc, last)?;
-        last = write.local();
-        writes.push(write)?;
-    }
-    Ok(writes)
-}
-
-/// The writes of a change.
+/// The writes of a change, rising by their local USNs from the one before.
 #[tactic(auto, unfolding(crate::specs::Body::writes_at))]
 fn read_writes(
     reader: &mut Reader<'_>,
@@ -140,24 +116,14 @@ fn read_writes(
         (form.writes_at before reader.old) }
 {
     let count = reader.read_u32()?;
-    read_each_write(reader, alloc, before, count)
-}
-
-/// So many objects.
-fn read_each_removed(
-    reader: &mut Reader<'_>,
-    alloc: Global,
-    count: u32,
-) -> Result<Vec<Oid>, WireRefusal>
-    ensures { GivesAs (λ removed. removed.items) result reader.new
-        (elements_at form.one_name (λ _. oid_at) count None reader.old) }
-{
-    let mut removed = Vec::new(alloc);
+    let mut writes = Vec::new(alloc);
+    let mut last = before;
     for _ in 0..count {
-        let object = reader.read_oid()?;
-        removed.push(object)?;
+        let write = read_write(reader, alloc, last)?;
+        last = write.local();
+        writes.push(write)?;
     }
-    Ok(removed)
+    Ok(writes)
 }
 
 /// The objects that a change removes.
@@ -166,7 +132,12 @@ fn read_removed(reader: &mut Reader<'_>, alloc: Global) -> Result<Vec<Oid>, Wire
     ensures { GivesAs (λ removed. removed.items) result reader.new (form.removed_at reader.old) }
 {
     let count = reader.read_u32()?;
-    read_each_removed(reader, alloc, count)
+    let mut removed = Vec::new(alloc);
+    for _ in 0..count {
+        let object = reader.read_oid()?;
+        removed.push(object)?;
+    }
+    Ok(removed)
 }
 
 /// The mark that a change keeps, if there is one.

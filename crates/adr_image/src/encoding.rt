@@ -149,23 +149,16 @@ pub fn write_kept(writer: &mut Writer, mark: &(Uuid, Kept)) -> Result<(), NoMemo
     writer.write_mark(&mark.1.mark())
 }
 
-/// Writes marks, one behind the other.
-fn write_each_mark(writer: &mut Writer, marks: &[(Uuid, Kept)]) -> Result<(), NoMemory>
-    ensures { OnOk result (writer.new ≡ writer.old ++ flat_map form.kept marks.now) }
-{
-    for mark in marks {
-        write_kept(writer, mark)?;
-    }
-    Ok(())
-}
-
 /// Writes how far each partner was read.
 fn write_marks(writer: &mut Writer, marks: &[(Uuid, Kept)]) -> Result<(), NoMemory>
     requires { length marks.now ≤ mark_limit }
     ensures { OnOk result (writer.new ≡ writer.old ++ whole.marks marks.now) }
 {
     writer.write_u32(&(marks.len() as u32))?;
-    write_each_mark(writer, marks)
+    for mark in marks {
+        write_kept(writer, mark)?;
+    }
+    Ok(())
 }
 
 /// Writes the image of a database.
@@ -181,8 +174,7 @@ pub fn write_image(writer: &mut Writer, contents: &Contents) -> Result<(), NoMem
     writer.write_vector(&contents.vector)?;
     writer.write_vector(&contents.purged)?;
     write_marks(writer, &contents.marks)?;
-    write_rows(writer, &contents.rows)?;
-    Ok(())
+    write_rows(writer, &contents.rows)
 }
 
 /// The image of a database.

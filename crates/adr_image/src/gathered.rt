@@ -1,6 +1,6 @@
 //! All objects of an image, and then all links.
 
-ghost use Rattle.std.specs.Prelude.{◌≡◌, ◌∷◌, ◌++◌, ◌≤◌, [], List, OnOk, fold, map};
+ghost use Rattle.std.specs.Prelude.{◌≡◌, ◌∷◌, ◌++◌, ◌≤◌, [], List, OnOk, map};
 ghost use Rattle.adr_model.specs.Write.{usn_limit};
 ghost use Rattle.adr_wire.specs.Gathering.{gathered_at};
 ghost use Rattle.adr_image.specs.Image as form;
@@ -78,46 +78,9 @@ impl Objects {
         self.last = Some(*object);
         push_rows(&mut self.rows, object, rows)
     }
-
-    /// Reads one more object.
-    fn read_next(
-        &mut self,
-        reader: &mut Reader<'_>,
-        alloc: Global,
-        usn: u64,
-        schema: &Schema,
-    ) -> Result<(), WireRefusal>
-        requires { usn ≤ usn_limit }
-        ensures { (os : List form.Rows) → KeepsObjects self.old os
-            → GivesSeen (λ _ o. KeepsObjects self.new (os ++ o ∷ [])) result reader.new
-            (form.object_at usn schema.now (fold form.with_rows form.no_objects os) reader.old) }
-    {
-        let (object, rows) = read_object(reader, alloc, usn, schema, &self.last, &self.used)?;
-        self.take(&object, rows)?;
-        Ok(())
-    }
 }
 
-/// So many objects, one behind the other.
-fn read_each_object(
-    reader: &mut Reader<'_>,
-    alloc: Global,
-    usn: u64,
-    schema: &Schema,
-    count: u32,
-) -> Result<Objects, WireRefusal>
-    requires { usn ≤ usn_limit }
-    ensures { GivesSeen KeepsObjects result reader.new
-        (gathered_at form.with_rows (form.object_at usn schema.now) count form.no_objects reader.old) }
-{
-    let mut objects = Objects::new(alloc);
-    for _ in 0..count {
-        objects.read_next(reader, alloc, usn, schema)?;
-    }
-    Ok(objects)
-}
-
-/// The objects of an image.
+/// The objects of an image, one behind the other.
 #[tactic(auto, unfolding(crate::specs::Whole::objects_at))]
 pub fn read_objects(
     reader: &mut Reader<'_>,
@@ -133,7 +96,12 @@ pub fn read_objects(
     if count as u64 > OBJECT_LIMIT {
         return Err(Failure::Refused(Malformed { place }));
     }
-    read_each_object(reader, alloc, usn, schema, count)
+    let mut objects = Objects::new(alloc);
+    for _ in 0..count {
+        let (object, rows) = read_object(reader, alloc, usn, schema, &objects.last, &objects.used)?;
+        objects.take(&object, rows)?;
+    }
+    Ok(objects)
 }
 
 /// A link row, as it is held.
@@ -167,22 +135,6 @@ impl Links {
         Ok(())
     }
 
-    /// Reads one more link.
-    fn read_next(
-        &mut self,
-        reader: &mut Reader<'_>,
-        usn: u64,
-        schema: &Schema,
-    ) -> Result<(), WireRefusal>
-        ensures { (os : List form.Rows) (ls : List form.HeldLink) → KeepsLinks os self.old ls
-            → GivesSeen (λ _ l. KeepsLinks os self.new (ls ++ l ∷ [])) result reader.new
-            (form.link_at usn schema.now (dead_of os) (fold form.with_link (no_links os) ls) reader.old) }
-    {
-        let link = self.read_link(reader, usn, schema)?;
-        self.take(&link)?;
-        Ok(())
-    }
-
     /// So many links, one behind the other.
     fn read_each(
         self,
@@ -197,7 +149,8 @@ impl Links {
     {
         let mut links = self;
         for _ in 0..count {
-            links.read_next(reader, usn, schema)?;
+            let link = links.read_link(reader, usn, schema)?;
+            links.take(&link)?;
         }
         Ok(links)
     }

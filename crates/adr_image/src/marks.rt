@@ -4,7 +4,7 @@ ghost use Rattle.std.specs.Prelude.{◌≡◌, None};
 ghost use Rattle.adr_stamp.specs.Order.{identifier_order};
 ghost use Rattle.adr_wire.specs.Composites.{mark_at};
 ghost use Rattle.adr_wire.specs.Reading.{GivesAs, Tells, is_above, where_at};
-ghost use Rattle.adr_image.specs.Image.{is_ordered, kept_above, marks_of};
+ghost use Rattle.adr_image.specs.Image.{is_ordered, kept_above};
 ghost use Rattle.adr_image.specs.Whole.{marks_at};
 
 use adr_change::Kept;
@@ -51,26 +51,7 @@ pub fn read_kept(reader: &mut Reader<'_>, last: Option<Uuid>) -> Result<(Uuid, K
     Ok((partner, Kept::new(inv, mark)))
 }
 
-/// So many partners' marks, rising by partner.
-#[tactic(auto, unfolding(crate::specs::Image::marks_of))]
-fn read_each_mark(
-    reader: &mut Reader<'_>,
-    alloc: Global,
-    count: u32,
-) -> Result<Vec<(Uuid, Kept)>, WireRefusal>
-    ensures { GivesAs (λ marks. marks.items) result reader.new (marks_of count reader.old) }
-{
-    let mut marks = Vec::new(alloc);
-    let mut last = None;
-    for _ in 0..count {
-        let (partner, kept) = read_kept(reader, last)?;
-        last = Some(partner);
-        marks.push((partner, kept))?;
-    }
-    Ok(marks)
-}
-
-/// The marks of an image.
+/// The marks of an image, rising by partner.
 #[tactic(auto, unfolding(crate::specs::Whole::marks_at))]
 pub fn read_marks(reader: &mut Reader<'_>, alloc: Global) -> Result<Vec<(Uuid, Kept)>, WireRefusal>
     ensures { GivesAs (λ marks. marks.items) result reader.new (marks_at reader.old) }
@@ -80,5 +61,12 @@ pub fn read_marks(reader: &mut Reader<'_>, alloc: Global) -> Result<Vec<(Uuid, K
     if count as u64 > MARK_LIMIT {
         return Err(Failure::Refused(Malformed { place }));
     }
-    read_each_mark(reader, alloc, count)
+    let mut marks = Vec::new(alloc);
+    let mut last = None;
+    for _ in 0..count {
+        let (partner, kept) = read_kept(reader, last)?;
+        last = Some(partner);
+        marks.push((partner, kept))?;
+    }
+    Ok(marks)
 }

@@ -4,6 +4,7 @@ use Rattle.std.proofs.Common.{inl, inr}
 use Rattle.std.specs.List.Sorted.{IsStrictlySortedBy}
 use Rattle.std.proofs.lemmas.Cmp.{nat_list_cmp_total}
 use Rattle.std.proofs.lemmas.List.{take_more}
+use Rattle.std.proofs.lemmas.List.Sums.{fold_more}
 use Rattle.adr_schema.specs.Numbered.{numbered}
 use Rattle.adr_stamp.specs.Order.{identifier_order}
 use Rattle.adr_vector.specs.Vector.{Cursors, IsVector, at, cursor_limit, joined, raised}
@@ -68,6 +69,11 @@ overfull_is s dsa inv formed (inl many) = many
 overfull_is s dsa inv formed (inr many) = let few = formed.purged.few in absurd (omega (arith, few, many))
 
 -- ---- marks
+
+-- one mark more is kept
+pub kept_more : (marks : List (Identifier × Kept)) (s t u : State) (i : ℕ) (m : Identifier × Kept) → u ≡ keeping m t → t ≡ keeping_all (take i marks) s → m ≡ get_or marks i m → i < length marks → u ≡ keeping_all (take (i + 1) marks) s
+kept_more marks s t u i m is so_far there lt =
+    is ∙ ap (keeping m) so_far ∙ ap (λ (k : Identifier × Kept). keeping k (keeping_all (take i marks) s)) there ∙ sym (fold_more (λ (x : State) (k : Identifier × Kept). keeping k x) s marks i m lt)
 
 kept_all : (marks : List (Identifier × Kept)) (s : State) → keeping_all marks s ≡ with_marks (fold (λ ms (m : Identifier × Kept). with_mark (Some m) ms) s.store.marks marks) s
 kept_all [] s = refl

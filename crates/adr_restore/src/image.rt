@@ -51,17 +51,8 @@ impl Image {
         if state.mode().is_quarantined() {
             return Ok(None);
         }
-        let image = Image::of_database(alloc, state)?;
-        Ok(Some(image))
-    }
-
-    /// The image of a controller's database.
-    fn of_database(alloc: Global, state: &State) -> Result<Image, NoMemory>
-        requires { IsLogged state.now }
-        ensures { IfOk result (λ image. image ≡ state.now.store) }
-    {
         let bytes = image_of(alloc, state)?;
-        Ok(Image { bytes })
+        Ok(Some(Image { bytes }))
     }
 
     /// Its bytes: the one spelling of what it says, which is formed and spelled.
