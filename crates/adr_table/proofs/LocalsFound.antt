@@ -33,7 +33,7 @@ use Rattle.adr_table.specs.Place.{place_order}
 use Rattle.adr_table.specs.Slots.{rows_seen}
 use Rattle.adr_table.specs.Locals.{local_order, unit_place, unit_at, unit_hinted, AreLocated, is_last}
 use Rattle.adr_table.proofs.LocalsSeats.{unit_is, unit_order_is, units_tell}
-use Rattle.adr_table.proofs.LocalsKept.{exact_locals, held_by, holds_unit, is_last_of, last_hinted, last_tells, local_at, same_number, itself}
+use Rattle.adr_table.proofs.LocalsKept.{exact_locals, held_by, holds_unit, is_last_of, last_hinted, last_tells, local_at, same_number, itself, unequal}
 
 -- ---- units of rows
 
@@ -273,9 +273,6 @@ taken : (rows : List Held) (usn : ℕ) (b : Local) (bs : List Local) (o : Option
 taken rows usn b bs o number is =
     ap (λ t. cons_option (cond t (unit_hinted rows b) None) (picked rows usn bs)) (ap (λ n. eqb n usn) number ∙ itself usn)
     ∙ ap (λ p. cons_option p (picked rows usn bs)) (sym is)
-
-unequal : (m n : ℕ) → (m ≡ n → ⊥) → eqb m n ≡ false
-unequal m n other = grind (arith, nat_tests)
 
 -- the units so far and those of the hints that are left are all units
 pub record IsWalked (rows : List Held) (usn : ℕ) (units : List Named) (left : List Local) : Type 0 where

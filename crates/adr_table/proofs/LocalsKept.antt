@@ -24,7 +24,7 @@ use Rattle.adr_table.specs.declared.place.Place.{Place}
 use Rattle.adr_table.specs.declared.slots.Slots.{Slots}
 use Rattle.adr_table.specs.declared.locals.Local.{Local}
 use Rattle.adr_table.specs.Place.{place_order}
-use Rattle.adr_table.specs.Slots.{rows_seen}
+use Rattle.adr_table.specs.Slots.{and_seen, rows_seen}
 use Rattle.adr_table.specs.Locals.{local_order, local_of, unit_place, AreLocated, above, greatest, is_last, is_number, is_of_seat, rows_of_seat}
 use Rattle.adr_table.proofs.Places.{exact_options, exact_places}
 use Rattle.adr_table.proofs.LocalsSeats.{rows_of, same_itself, seat_is, seat_tells, units_tell}
@@ -160,6 +160,9 @@ same_number m n e = grind (arith, nat_tests)
 pub itself : (n : ℕ) → eqb n n ≡ true
 itself n = grind (arith, nat_tests)
 
+pub unequal : (m n : ℕ) → (m ≡ n → ⊥) → eqb m n ≡ false
+unequal m n other = grind (arith, nat_tests)
+
 last_at : (rows : List Held) (u : Named) (n : ℕ) → is_last rows (local_at u n) ≡ is_number (cond (holds_unit rows u) (Some (last_local rows u)) None) n
 last_at rows u n = ap (λ (hs : List Held). is_number (greatest None hs) n) (rows_of u rows) ∙ ap (λ o. is_number o n) (greatest_is u rows)
 
@@ -219,7 +222,7 @@ in_both Greater x = refl
 tied_numbers : (m n : ℕ) → is_eq (nat_cmp m n) ≡ eqb n m
 tied_numbers m n = grind (arith, nat_tests)
 
-pub needs_both : (hint : Local) (p : Place) (h : Held) → hint.unit ≡ Some p → needs hint h ≡ (eqb h.local hint.usn && is_of_seat p h)
+needs_both : (hint : Local) (p : Place) (h : Held) → hint.unit ≡ Some p → needs hint h ≡ (eqb h.local hint.usn && is_of_seat p h)
 needs_both hint p h there =
     ap (λ o. is_eq (ordering_then (nat_cmp hint.usn h.local) (option_cmp place_order o (Some (unit_place (unit_of h.update.key)))))) there
     ∙ in_both (nat_cmp hint.usn h.local) (place_order p (unit_place (unit_of h.update.key)))
@@ -239,3 +242,36 @@ needed_within hint p (h ∷ hs) there = by (is_of_seat p h) refl (needed_within 
         → list_any (needs hint) (cond b (h ∷ rows_of_seat p hs) (rows_of_seat p hs)) ≡ (needs hint h || list_any (needs hint) hs)
     by true is rest = ap (λ b. needs hint h || b) rest
     by false is rest = rest ∙ ap (λ b. b || list_any (needs hint) hs) (sym (needs_both hint p h there ∙ ap (λ b. eqb h.local hint.usn && b) is ∙ none (eqb h.local hint.usn)))
+
+-- what a walk over the rows of a hint's unit has left of those that have the hint
+abbrev pub IsAny : Local → List Held → List Held → Type 0
+IsAny hint all rows = list_any (needs hint) rows ≡ list_any (needs hint) all
+
+-- a row of the unit has the hint by its number alone
+pub any_here : (hint : Local) (p : Place) (all rows : List Held) (slot : Option Held) (h : Held) → hint.unit ≡ Some p → slot ≡ Some h → is_of_seat p h ≡ true → h.local ≡ hint.usn
+    → IsAny hint all (and_seen slot rows) → true ≡ list_any (needs hint) all
+any_here hint p all rows slot h there some own number any =
+    sym (ap (λ b. b || list_any (needs hint) rows) yes) ∙ subst (λ o. IsAny hint all (and_seen o rows)) some any
+  where
+    yes : needs hint h ≡ true
+    yes =
+        needs_both hint p h there
+        ∙ ap (λ b. eqb h.local hint.usn && b) own
+        ∙ ap (λ n. eqb n hint.usn && true) number
+        ∙ ap (λ b. b && true) (itself hint.usn)
+
+pub any_later : (hint : Local) (p : Place) (all rows : List Held) (slot : Option Held) (h : Held) → hint.unit ≡ Some p → slot ≡ Some h → (h.local ≡ hint.usn → ⊥)
+    → IsAny hint all (and_seen slot rows) → IsAny hint all rows
+any_later hint p all rows slot h there some other any =
+    sym (ap (λ b. b || list_any (needs hint) rows) no) ∙ subst (λ o. IsAny hint all (and_seen o rows)) some any
+  where
+    no : needs hint h ≡ false
+    no = needs_both hint p h there ∙ ap (λ b. b && is_of_seat p h) (unequal h.local hint.usn other)
+
+-- the same of the greatest number so far and of what is left
+abbrev pub IsGreatest : List Held → Option ℕ → List Held → Type 0
+IsGreatest all so_far rows = greatest so_far rows ≡ greatest None all
+
+pub greatest_next : (all rows : List Held) (so_far : Option ℕ) (n : ℕ) (slot : Option Held) (h : Held) → slot ≡ Some h → n ≡ above so_far h.local → IsGreatest all so_far (and_seen slot rows)
+    → IsGreatest all (Some n) rows
+greatest_next all rows so_far n slot h some is read = ap (λ m. greatest (Some m) rows) is ∙ subst (λ o. IsGreatest all so_far (and_seen o rows)) some read

@@ -25,7 +25,7 @@ use Rattle.adr_table.specs.Slots.{seen, AreAtHome}
 use Rattle.adr_table.specs.Locals.{unit_place, seat_at, unit_at, is_of_seat, rows_of_seat}
 use Rattle.adr_table.proofs.Seen.{Entries, AreSorted}
 use Rattle.adr_table.proofs.Runs.{between, none_first, tied_then}
-use Rattle.adr_table.proofs.Spans.{behind, from_start, tested, whole_from, ends_behind, Ends as NoneAfter}
+use Rattle.adr_table.proofs.Spans.{behind, from_start, tested, begun, Walk}
 use Rattle.adr_table.proofs.Places.{places_total, exact_places, then_then}
 
 -- ---- the order of units
@@ -135,7 +135,8 @@ seat_first p = by p.is_link
 -- ---- a unit's rows from its place on
 
 module _ (s : Place) where
-  abbrev at : Place → Bool
+  -- whether a place is of the unit
+  abbrev pub at : Place → Bool
   at q = is_at (place_order s) (seat_at q)
 
   seat_of : (q : Place) → at q ≡ true → s ≡ seat_at q
@@ -162,12 +163,5 @@ module _ (s : Place) where
       by false is = refl
       by true is = let in_range : behind s q ≡ true = tested (place_order s q) (subst (λ r. IsLeBy place_order r q) (sym (seat_of q is)) (seat_first q)) in cc
 
-  pub whole : (es : Entries) → AreAtHome es → rows_of_seat s (seen (from_start s es)) ≡ rows_of_seat s (seen es)
-  whole = whole_from s at (is_of_seat s) (λ h. refl) before
-
-  -- at the first slot of another unit no row of this one is left
-  abbrev pub Ends : Entries → Type 0
-  Ends es = NoneAfter at (is_of_seat s) es
-
-  pub ends_from : (es left : Entries) → left ≡ from_start s es → AreAtHome es → AreSorted es → Ends left
-  ends_from = ends_behind s at (is_of_seat s) (λ h. refl) later
+  pub unit_begun : (P : List Held → Type 0) (es left : Entries) → left ≡ from_start s es → AreAtHome es → AreSorted es → P (rows_of_seat s (seen es)) → Walk at P left
+  unit_begun = begun s at later before

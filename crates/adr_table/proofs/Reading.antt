@@ -1,20 +1,19 @@
 -- The rows of a run, read from its first place on.
-use Rattle.std.proofs.Common.{◌≡◌, refl, sym, ap, ◌∙◌, Bool, true, false}
+use Rattle.std.proofs.Common.{◌≡◌, refl, sym, ap, ◌∙◌, List, [], ◌∷◌, ◌++◌, append_assoc, Bool, true, false, Option, Some, None, filter_map}
+use Rattle.std.specs.Prelude.{is_some, slice_get}
+use Rattle.std.specs.List.{cons_option}
 use Rattle.std.specs.BTreeMap.Range.{IsLeBy}
 use Rattle.std.specs.Ordering.{is_gt}
 use Rattle.std.specs.declared.cmp.Ordering.TheVariants.{Less}
 use Rattle.adr_model.specs.Store.{Held}
 use Rattle.adr_table.specs.declared.place.Place.{Place}
-use Rattle.adr_table.specs.Place.{IsStart, place_of, place_order, is_in_run}
-use Rattle.adr_table.specs.Slots.{seen, AreAtHome, rows_in_run}
+use Rattle.adr_table.specs.Place.{IsStart, place_order, is_in_run}
+use Rattle.adr_table.specs.Slots.{and_seen, seen, AreAtHome, rows_in_run}
 use Rattle.adr_table.proofs.Seen.{Entries, AreSorted}
 use Rattle.adr_table.proofs.Runs.{run_behind, run_between}
-use Rattle.adr_table.proofs.Spans.{behind, from_start, tested, whole_from, ends_behind, Ends as NoneAfter}
+use Rattle.adr_table.proofs.Spans.{behind, from_start, tested, begun, Walk}
 
 module _ (s : Place) where
-  abbrev in_run : Held → Bool
-  in_run h = is_in_run s (place_of h.update.key)
-
   -- no place before the start is of the run
   before : IsStart s → (q : Place) → behind s q ≡ false → is_in_run s q ≡ false
   before bare q out = by (is_in_run s q) refl
@@ -23,13 +22,6 @@ module _ (s : Place) where
       by true is = let no : true ≡ false = sym (tested (place_order s q) (run_behind s bare q is)) ∙ out in cc
       by false is = refl
 
-  pub whole : IsStart s → (es : Entries) → AreAtHome es → rows_in_run s (seen (from_start s es)) ≡ rows_in_run s (seen es)
-  whole bare es home = whole_from s (is_in_run s) in_run (λ h. refl) (before bare) es home
-
-  -- at the first slot outside the run no row of it is left
-  abbrev pub Ends : Entries → Type 0
-  Ends es = NoneAfter (is_in_run s) (λ h. is_in_run s (place_of h.update.key)) es
-
   later : (p : Place) → is_in_run s p ≡ false → IsLeBy place_order s p → (q : Place) → place_order p q ≡ Less → is_in_run s q ≡ false
   later p out above q less = by (is_in_run s q) refl
     where
@@ -37,5 +29,34 @@ module _ (s : Place) where
       by true is = let no : true ≡ false = sym (run_between s p q above (ap is_gt less) is) ∙ out in cc
       by false is = refl
 
-  pub ends_from : (es left : Entries) → left ≡ from_start s es → AreAtHome es → AreSorted es → Ends left
-  ends_from = ends_behind s (is_in_run s) in_run (λ h. refl) later
+  pub run_begun : IsStart s → (P : List Held → Type 0) (es left : Entries) → left ≡ from_start s es → AreAtHome es → AreSorted es → P (rows_in_run s (seen es)) → Walk (is_in_run s) P left
+  run_begun bare = begun s (is_in_run s) later (before bare)
+
+-- the rows so far and others are all
+abbrev pub AreRead : List Held → List Held → List Held → Type 0
+AreRead all so_far rows = so_far ++ rows ≡ all
+
+seen_first : (o : Option Held) (rows : List Held) → and_seen o [] ++ rows ≡ and_seen o rows
+seen_first None rows = refl
+seen_first (Some h) rows = refl
+
+-- the row of a slot is added to those so far
+pub added : (all so_far new : List Held) (row slot : Option Held) (rows : List Held) → new ≡ so_far ++ and_seen row [] → row ≡ slot → AreRead all so_far (and_seen slot rows) → AreRead all new rows
+added all so_far new row slot rows is own read =
+    ap (λ xs. xs ++ rows) is ∙ append_assoc so_far (and_seen row []) rows ∙ ap (λ xs. so_far ++ xs) (seen_first row rows ∙ ap (λ o. and_seen o rows) own) ∙ read
+
+-- that of a hint is so too
+pub added_next : {H : Type 0} (row_of : H → Option Held) (all so_far new : List Held) (row : Option Held) (h : H) (hs left : List H) → left ≡ h ∷ hs → new ≡ so_far ++ and_seen row [] → row ≡ row_of h
+    → AreRead all so_far (filter_map row_of left) → AreRead all new (filter_map row_of hs)
+added_next row_of all so_far new row h hs left left_is is own read =
+    ap (λ xs. xs ++ filter_map row_of hs) is ∙ append_assoc so_far (and_seen row []) (filter_map row_of hs)
+    ∙ ap (λ xs. so_far ++ xs) (first row ∙ ap (λ o. cons_option o (filter_map row_of hs)) own ∙ sym (ap (filter_map row_of) left_is)) ∙ read
+  where
+    first : (o : Option Held) → and_seen o [] ++ filter_map row_of hs ≡ cons_option o (filter_map row_of hs)
+    first None = refl
+    first (Some h) = refl
+
+-- the first row of a slot that isn't empty
+pub first_seen : (o : Option Held) (rows : List Held) → is_some o ≡ true → true ≡ is_some (slice_get (and_seen o rows) 0)
+first_seen None rows is = cc
+first_seen (Some h) rows is = refl

@@ -18,9 +18,12 @@ use Rattle.adr_table.specs.declared.back.Behind.{Behind}
 use Rattle.adr_table.specs.declared.locals.Local.{Local}
 use Rattle.adr_table.specs.declared.table.Table.{Table}
 use Rattle.adr_table.specs.Place.{place_of, place_order}
-use Rattle.adr_table.specs.Slots.{HasSlot, flat, places, row_at}
+use Rattle.adr_table.specs.Slots.{HasSlot, IsTidy, flat, places, row_at, rows_seen}
 use Rattle.adr_table.specs.Back.{AreBacked, IsHinted, behind_order, hint, link_behind}
-use Rattle.adr_table.specs.Table.{HasRoom, HaveRoom}
+use Rattle.adr_table.specs.Deaths.{IsListed}
+use Rattle.adr_table.specs.Locals.{IsLocated}
+use Rattle.adr_table.specs.Table.{HasRoom, HaveRoom, IsKept}
+use Rattle.adr_table.proofs.LocalsKept.{each_same}
 use Rattle.adr_table.proofs.Seen.{Entries}
 use Rattle.adr_table.proofs.Places.{exact_places, same_place}
 use Rattle.adr_table.proofs.Behinds.{exact_behinds}
@@ -108,6 +111,28 @@ backed_without old new back back' link backed none without same l some =
     by : (t : Bool) → is_at (behind_order (hint link)) (hint l) ≡ t → cond t false (contains behind_order back (hint l)) ≡ true
     by true at = absurd (nothing (row_at old (place_of (LinkOf l))) (subst (λ k. row_at old (place_of (LinkOf k)) ≡ None) (links_apart link l at) none) there)
     by false at = backed l there
+
+-- ---- slots and hints are made
+
+-- where all stay and more are made, room stays
+pub room_more : (t s : Table) (h : Held) → ((q : Place) → HasSlot t.slots q → HasSlot s.slots q) → ((k : Key) → IsHinted t.back k → IsHinted s.back k)
+    → ((k : Key) → IsListed t.dead k → IsListed s.dead k) → ((x : Held) → IsLocated t.locals x → IsLocated s.locals x) → HasRoom t h → HasRoom s h
+room_more t s h slots back dead locals room = record {
+  slot = slots (place_of h.update.key) room.slot;
+  hinted = back h.update.key room.hinted;
+  listed = dead h.update.key room.listed;
+  located = locals h room.located;
+}
+
+-- and so does what keeps them together
+pub kept_more : (t s : Table) → IsKept t → IsTidy s.slots → rows_seen s.slots ≡ rows_seen t.slots → ((q : Place) → row_at s.slots q ≡ row_at t.slots q) → ((k : Key) → IsHinted t.back k → IsHinted s.back k)
+    → ((k : Key) → IsListed t.dead k → IsListed s.dead k) → ((x : Held) → IsLocated t.locals x → IsLocated s.locals x) → IsKept s
+kept_more t s kept tidy seen same back dead locals = record {
+  tidy = tidy;
+  backed = backed_same t.slots s.slots t.back s.back kept.backed back same;
+  listed = each_same t.slots s.slots (λ h. IsListed t.dead h.update.key) (λ h. IsListed s.dead h.update.key) kept.listed (λ h is. dead h.update.key is) seen;
+  located = each_same t.slots s.slots (IsLocated t.locals) (IsLocated s.locals) kept.located locals seen;
+}
 
 -- ---- room for several rows
 

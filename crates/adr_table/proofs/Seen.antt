@@ -4,7 +4,6 @@ use Rattle.std.specs.Prelude.{IfSome, IsSome, is_some}
 use Rattle.std.specs.List.{AllByRecursion}
 use Rattle.std.specs.List.Sorted.{IsStrictlySortedBy}
 use Rattle.std.specs.Map.{keys_of, lookup}
-use Rattle.std.specs.Option.{unwrap_or}
 use Rattle.std.specs.BTreeMap.{insert_entry, is_at}
 use Rattle.std.specs.Ordering.{is_eq, match_ordering}
 use Rattle.std.specs.declared.cmp.Ordering.{Ordering}
@@ -14,7 +13,7 @@ use Rattle.std.proofs.lemmas.Map.Keys.{sorted_head, sorted_tail}
 use Rattle.adr_model.specs.Update.{Key, key_order, same_key}
 use Rattle.adr_model.proofs.Keys.{equal_order}
 use Rattle.adr_model.specs.Store.{Held, row_held, with_row}
-use Rattle.adr_update.proofs.Slots.{found as at_home_found, home_still as still_at_home, later_none as none_later, made as unseen_made, none_below as none_under, slot_made as made_or_there, still_some}
+use Rattle.adr_update.proofs.Slots.{found as at_home_found, home_still as still_at_home, later_none as none_later, made as unseen_made, none_below as none_under, still_some}
 use Rattle.adr_table.specs.declared.place.Place.{Place}
 use Rattle.adr_table.specs.Place.{place_of, place_order}
 use Rattle.adr_table.specs.Slots.{and_seen, seen, AreAtHome, flat}
@@ -53,11 +52,6 @@ found es key sorted home =
 
 pub made : (es : Entries) (p : Place) → lookup (is_at (place_order p)) es ≡ None → seen (insert_entry place_order es p None) ≡ seen es
 made = unseen_made place_order seen (λ p es. refl) (λ e es fs is. ap (λ hs. and_seen e.1 hs) is)
-
--- an empty slot is made where there is none, and else all stays
-pub slot_made : (P : Entries → Type 0) (es new : Entries) (p : Place) → AreSorted es → new ≡ insert_entry place_order es p (unwrap_or (lookup (is_at (place_order p)) es) None)
-    → P es → (lookup (is_at (place_order p)) es ≡ None → P (insert_entry place_order es p None)) → P new
-slot_made P es new p sorted is stays made = made_or_there place_order places_total P es new p None sorted is stays made
 
 pub home_still : (es : Entries) (p : Place) (v : Option Held) → IfSome v (λ h. place_of h.update.key ≡ p) → AreAtHome es → AreAtHome (insert_entry place_order es p v)
 home_still = still_at_home place_order IsAt AreAtHome (λ e es at rest. (at, rest)) (λ e es h. h) exact_places

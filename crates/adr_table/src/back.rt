@@ -153,7 +153,7 @@ pub(crate) fn rows_behind<'a>(
     let mut rows = Vec::new(alloc);
     for behind in back.range((Bound::Included(start), Bound::Unbounded)) {
         if !behind.to.cmp(object).is_eq() {
-            break;
+            return Ok(rows);
         }
         push_row(&mut rows, row_behind(slots, behind))?;
     }

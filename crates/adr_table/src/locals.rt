@@ -6,6 +6,7 @@ ghost use Rattle.std.specs.BTreeMap.{is_at};
 ghost use Rattle.std.specs.BTreeSet.{contains};
 ghost use Rattle.adr_model.specs.Store.{Held as Row};
 ghost use Rattle.adr_update.specs.Sought.{IsNextLocal, units_at};
+ghost use Rattle.adr_table.specs.Place.{place_order};
 ghost use Rattle.adr_table.specs.Slots.{IsTidy, rows_seen};
 ghost use Rattle.adr_table.specs.Locals.{AreLocated, IsLocated, above, greatest, is_last, local_of, local_order, rows_of_seat, seat_at, unit_at, unit_hinted};
 
@@ -131,14 +132,21 @@ fn above(so_far: Option<u64>, local: u64) -> u64
     }
 }
 
+/// Whether the row at a place is one of the unit at another.
+fn is_of_unit(unit: &Place, place: &Place) -> bool
+    ensures { result ≡ is_at (place_order unit.now) (seat_at place.now) }
+{
+    unit.cmp(&seat_at(place)).is_eq()
+}
+
 /// The greatest local update sequence number of the rows of the unit at a place.
 fn last_local(slots: &Slots, unit: Place) -> Option<u64>
     requires { IsTidy slots.now }
     ensures { result ≡ greatest None (rows_of_seat unit (rows_seen slots.now)) }
 {
     let mut last = None;
-    for (place, slot) in slots.map.range((Bound::Included(unit), Bound::Unbounded)) {
-        if !unit.cmp(&seat_at(place)).is_eq() {
+    for (place, slot) in slots.entries_from(unit) {
+        if !is_of_unit(&unit, place) {
             return last;
         }
         if let Some(row) = slot {
@@ -220,8 +228,8 @@ fn is_needed(slots: &Slots, hint: &Local) -> bool
     let Some(unit) = hint.unit else {
         return false;
     };
-    for (place, slot) in slots.map.range((Bound::Included(unit), Bound::Unbounded)) {
-        if !unit.cmp(&seat_at(place)).is_eq() {
+    for (place, slot) in slots.entries_from(unit) {
+        if !is_of_unit(&unit, place) {
             return false;
         }
         if let Some(row) = slot {

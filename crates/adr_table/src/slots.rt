@@ -1,9 +1,10 @@
 //! Slots for rows.
 
 ghost use Rattle.std.specs.Prelude.{◌≡◌, ◌≤◌, ◌++◌, [], IsTrue, IsSome, IfSome, IfNone, IfOk, OnOk, OnErr, cond, is_some, length, not, ◌&&◌, slice_get, Some, None};
-ghost use Rattle.std.specs.Option.{option_copied, option_map, unwrap_or};
+ghost use Rattle.std.specs.Option.{option_copied, option_map};
 ghost use Rattle.std.specs.BTreeMap.{IsOrdered, get, insert_entry, is_at, keys};
-ghost use Rattle.std.specs.BTreeMap.Range.{IsFromStart, IsLeBy};
+ghost use Rattle.std.specs.BTreeMap.Range.{IsFromStart, IsLeBy, entries_between};
+ghost use Rattle.std.specs.declared.ops.Bound.TheVariants.{Included, Unbounded};
 ghost use Rattle.adr_model.specs.Store.{row_held, with_row};
 ghost use Rattle.adr_update.specs.Key.{key_of};
 ghost use Rattle.adr_update.specs.Referents.{referents};
@@ -13,8 +14,9 @@ ghost use Rattle.adr_table.specs.Slots.{HasSlot, IsTidy, and_seen, flat, one_mor
 use crate::NoMemory;
 use crate::place::Place;
 use adr_update::{Held, Key};
-use std::alloc::Global;
+use std::alloc::{AllocError, Global};
 use std::collections::BTreeMap;
+use std::collections::btree_map::Range;
 use std::ops::Bound;
 
 /// Slots for rows, in order of their places, and how many class rows and how many link rows are in them.
@@ -60,8 +62,11 @@ impl Slots {
         ensures ok { OnOk result (HasSlot self.new place) }
         ensures local { IfOk result (λ local. local ≡ option_map (λ h. h.local) (row_at self.old place)) }
     {
-        let usn = make(&mut self.map, place)?;
-        Ok(usn)
+        if let Some(slot) = self.map.get(&place) {
+            return Ok(local_in(slot));
+        }
+        make(&mut self.map, place)?;
+        Ok(None)
     }
 
     /// Puts a row into the slot of its key.
@@ -173,6 +178,13 @@ impl Slots {
         }
     }
 
+    /// The slots from a place on.
+    pub(crate) fn entries_from(&self, start: Place) -> Range<'_, Place, Option<Held>>
+        ensures { result ≡ entries_between place_order (Included start) Unbounded self.now.map.entries }
+    {
+        self.map.range((Bound::Included(start), Bound::Unbounded))
+    }
+
     /// The rows in the slots of a run of places.
     pub(crate) fn rows_in_run(&self, alloc: Global, start: Place) -> Result<Vec<&Held>, NoMemory>
         requires tidy { IsTidy self.now }
@@ -180,9 +192,9 @@ impl Slots {
         ensures { IfOk result (λ rows. referents rows.items ≡ rows_in_run start (rows_seen self.now)) }
     {
         let mut rows = Vec::new(alloc);
-        for (place, slot) in self.map.range((Bound::Included(start), Bound::Unbounded)) {
+        for (place, slot) in self.entries_from(start) {
             if !start.begins_run_of(place) {
-                break;
+                return Ok(rows);
             }
             push_row(&mut rows, slot.as_ref())?;
         }
@@ -206,7 +218,7 @@ impl Slots {
         requires start { IsStart start }
         ensures { result ≡ is_some (slice_get (rows_in_run start (rows_seen self.now)) 0) }
     {
-        for (place, slot) in self.map.range((Bound::Included(start), Bound::Unbounded)) {
+        for (place, slot) in self.entries_from(start) {
             if !start.begins_run_of(place) {
                 return false;
             }
@@ -229,19 +241,28 @@ pub(crate) fn push_row<'a>(rows: &mut Vec<&'a Held>, row: Option<&'a Held>) -> R
     Ok(())
 }
 
-/// Makes a slot where there is none, and tells the local update sequence number of the row in it.
-fn make(map: &mut BTreeMap<Place, Option<Held>>, place: Place) -> Result<Option<u64>, NoMemory>
+/// Makes a slot where there is none.
+fn make(map: &mut BTreeMap<Place, Option<Held>>, place: Place) -> Result<(), NoMemory>
     requires { IsOrdered place_order map.old }
-    ensures local { IfOk result (λ local.
-        local ≡ option_map (λ h. h.local) (unwrap_or (get place_order map.old place) None)) }
     ensures ordered { IsOrdered place_order map.new }
-    ensures entries { OnOk result (map.new.entries
-        ≡ insert_entry place_order map.old.entries place (unwrap_or (get place_order map.old place) None)) }
+    ensures entries { OnOk result (map.new.entries ≡ insert_entry place_order map.old.entries place None) }
     ensures there { OnOk result (IsSome (get place_order map.new place)) }
     ensures err { OnErr result (map.new.entries ≡ map.old.entries) }
 {
-    let slot = map.entry(place)?.or_insert(None);
-    Ok(slot.as_ref().map(|row| row.local()))
+    match map.insert(place, None) {
+        Ok(_) => Ok(()),
+        Err(_) => Err(AllocError),
+    }
+}
+
+/// The local update sequence number of the row in a slot.
+fn local_in(slot: &Option<Held>) -> Option<u64>
+    ensures { result ≡ option_map (λ h. h.local) slot.now }
+{
+    match slot {
+        Some(row) => Some(row.local()),
+        None => None,
+    }
 }
 
 /// Puts something into a slot, and tells whether a row was there.

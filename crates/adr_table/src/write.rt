@@ -35,17 +35,6 @@ fn strip(slots: &mut Slots, back: &BTreeSet<Behind>, object: &Oid)
     slots.empty_run(Place::before_links(object));
 }
 
-/// Empties the slots of an object's rows.
-fn remove(slots: &mut Slots, object: &Oid)
-    requires { IsTidy slots.old }
-    ensures tidy { IsTidy slots.new }
-    ensures seen { rows_seen slots.new ≡ without_object (rows_seen slots.old) object.now }
-    ensures fewer { (q : Seat) → row_at slots.old q ≡ None → row_at slots.new q ≡ None }
-    ensures places { places slots.new ≡ places slots.old }
-{
-    slots.empty_run(Place::before_rows(object));
-}
-
 /// Frees the empty slots of objects. Nobody sees them.
 fn free_all(slots: &mut Slots, objects: &[Oid])
     requires { IsTidy slots.old }
@@ -122,12 +111,13 @@ impl Table {
         }
     }
 
+    /// Empties the slots of an object's rows.
     fn remove(&mut self, object: &Oid)
         requires { IsKept self.old }
         ensures rows { rows_in self.new ≡ without_object (rows_in self.old) object.now }
         ensures kept { IsKept self.new }
     {
-        remove(&mut self.slots, object);
+        self.slots.empty_run(Place::before_rows(object));
     }
 
     /// Removes objects. Their links stay.

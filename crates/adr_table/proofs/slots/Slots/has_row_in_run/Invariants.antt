@@ -1,6 +1,7 @@
 use Rattle.std.proofs.Common.{◌≡◌}
-use Rattle.adr_table.specs.Slots.{AreAtHome, rows_in_run, rows_seen, seen}
-use Rattle.adr_table.proofs.Reading.{Ends}
+use Rattle.adr_table.specs.Place.{is_in_run}
+use Rattle.adr_table.specs.Slots.{rows_in_run, rows_seen}
+use Rattle.adr_table.proofs.Spans.{Walk}
 use Rattle.adr_table.proofs.slots.Slots.has_row_in_run.Given as goal
 
 -- the rows of the run that are left are all
@@ -8,6 +9,4 @@ abbrev pub invariant-loop-place : goal.invariant-loop-place
 invariant-loop-place l =
     (goal.iterator-loop-place).can_next l.place-iterator
     × (goal.iterator-loop-place).is_finite l.place-iterator
-    × (rows_in_run l.start (seen l.place-iterator) ≡ rows_in_run l.start (rows_seen l.self))
-    × AreAtHome l.place-iterator
-    × Ends l.start l.place-iterator
+    × Walk (is_in_run l.start) (λ rows. rows ≡ rows_in_run l.start (rows_seen l.self)) l.place-iterator

@@ -1,13 +1,36 @@
+use Rattle.std.proofs.Common.{◌≡◌, ◌∙◌, ap, cond, None}
+use Rattle.adr_model.specs.Change.{without_object}
+use Rattle.adr_model.specs.Store.{is_row_of}
+use Rattle.adr_table.specs.declared.place.Place.{Place}
+use Rattle.adr_table.specs.Place.{is_in_run, place_of, rows_start}
+use Rattle.adr_table.specs.Slots.{row_at, rows_seen}
 use Rattle.adr_table.specs.Deaths.{IsListed}
 use Rattle.adr_table.specs.Locals.{IsLocated}
-use Rattle.adr_table.proofs.Rooms.{backed_fewer}
+use Rattle.adr_table.proofs.Rooms.{backed_fewer, still_none}
 use Rattle.adr_table.proofs.LocalsKept.{each_without}
+use Rattle.adr_table.proofs.Stripped.{leaves, kept, stripped_seen}
 use Rattle.adr_table.proofs.table.Table.remove.Goals as goal
+
+pub emptied : (c : goal.After-empty_run) (q : Place) → row_at c.empty_run.new.self q ≡ cond (is_in_run (rows_start c.args.object.now) q) None (row_at c.args.self.now.slots q)
+emptied c q = c.empty_run.ensures.rows q ∙ ap (λ s. cond (is_in_run s q) None (row_at c.args.self.now.slots q)) c.before_rows.ensures.place
+
+pub fewer : (c : goal.After-empty_run) (q : Place) → row_at c.args.self.now.slots q ≡ None → row_at c.empty_run.new.self q ≡ None
+fewer c q none = emptied c q ∙ still_none (is_in_run (rows_start c.args.object.now) q) (row_at c.args.self.now.slots q) none
+
+pub without : (c : goal.After-empty_run) → rows_seen c.empty_run.new.self ≡ without_object (rows_seen c.args.self.now.slots) c.args.object.now
+without c =
+    stripped_seen (is_row_of c.args.object.now) c.args.self.now.slots.map.entries c.empty_run.new.self.map.entries c.empty_run.ensures.places c.requires.tidy.ordered
+    (kept (is_row_of c.args.object.now) c.args.self.now.slots.map.entries c.empty_run.new.self.map.entries c.requires.tidy.home
+    (λ k. emptied c (place_of k) ∙ leaves c.args.object.now k (row_at c.args.self.now.slots (place_of k)))
+    (fewer c))
+
+pub returns-clause-rows : goal.returns-clause-rows
+returns-clause-rows c = without c
 
 pub returns-clause-kept : goal.returns-clause-kept
 returns-clause-kept c = record {
-  tidy = c.remove.ensures.tidy;
-  backed = backed_fewer c.args.self.now.slots c.remove.new.slots c.args.self.now.back c.requires.backed c.remove.ensures.fewer;
-  listed = each_without c.args.self.now.slots c.remove.new.slots (λ h. IsListed c.args.self.now.dead h.update.key) c.args.object.now c.requires.listed c.remove.ensures.seen;
-  located = each_without c.args.self.now.slots c.remove.new.slots (IsLocated c.args.self.now.locals) c.args.object.now c.requires.located c.remove.ensures.seen;
+  tidy = c.empty_run.ensures.tidy;
+  backed = backed_fewer c.args.self.now.slots c.empty_run.new.self c.args.self.now.back c.requires.backed (fewer c);
+  listed = each_without c.args.self.now.slots c.empty_run.new.self (λ h. IsListed c.args.self.now.dead h.update.key) c.args.object.now c.requires.listed (without c);
+  located = each_without c.args.self.now.slots c.empty_run.new.self (IsLocated c.args.self.now.locals) c.args.object.now c.requires.located (without c);
 }

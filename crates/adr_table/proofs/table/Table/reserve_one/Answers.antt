@@ -1,47 +1,47 @@
-use Rattle.std.proofs.Common.{sym, ap, ◌∙◌, subst}
+use Rattle.std.proofs.Common.{sym, ap, ◌∙◌, refl, subst}
 use Rattle.std.specs.Option.{option_map}
 use Rattle.adr_model.specs.Store.{Held}
 use Rattle.adr_table.specs.Place.{place_of}
 use Rattle.adr_table.specs.Slots.{HasSlot, row_at}
-use Rattle.adr_table.specs.Deaths.{IsListed}
-use Rattle.adr_table.specs.Locals.{IsLocated}
 use Rattle.adr_table.proofs.Listed.{listed_held}
-use Rattle.adr_table.proofs.Rooms.{backed_same, hinted_held, mapped_some}
-use Rattle.adr_table.proofs.LocalsKept.{each_same}
+use Rattle.adr_table.proofs.Rooms.{hinted_held, kept_more, mapped_some, room_more}
 use Rattle.adr_table.proofs.table.Table.reserve_one.Goals as goal
 
+pub returns-in_err-remember-clause-kept : goal.returns-in_err-remember-clause-kept
+returns-in_err-remember-clause-kept c = kept_more c.args.self.now _ c.requires.kept c.requires.kept.tidy refl (λ q. refl) (λ k is. is) (λ k is. is) c.remember.ensures.more
+
+pub returns-in_err-remember-clause-more : goal.returns-in_err-remember-clause-more
+returns-in_err-remember-clause-more c h = room_more c.args.self.now _ h (λ q is. is) (λ k is. is) (λ k is. is) c.remember.ensures.more
+
+pub returns-in_err-usn-clause-kept : goal.returns-in_err-usn-clause-kept
+returns-in_err-usn-clause-kept c = kept_more c.args.self.now _ c.requires.kept c.reserve.ensures.tidy c.reserve.ensures.seen c.reserve.ensures.same (λ k is. is) (λ k is. is) c.remember.ensures.more
+
+pub returns-in_err-usn-clause-more : goal.returns-in_err-usn-clause-more
+returns-in_err-usn-clause-more c h = room_more c.args.self.now _ h c.reserve.ensures.more (λ k is. is) (λ k is. is) c.remember.ensures.more
+
+pub returns-in-Some-clause-kept : goal.returns-in-Some-clause-kept
+returns-in-Some-clause-kept c = kept_more c.args.self.now _ c.requires.kept c.reserve.ensures.tidy c.reserve.ensures.seen c.reserve.ensures.same (λ k is. is) (λ k is. is) c.remember.ensures.more
+
+pub returns-in-Some-clause-more : goal.returns-in-Some-clause-more
+returns-in-Some-clause-more c h = room_more c.args.self.now _ h c.reserve.ensures.more (λ k is. is) (λ k is. is) c.remember.ensures.more
+
 pub returns-in_err-remember-2-clause-kept : goal.returns-in_err-remember-2-clause-kept
-returns-in_err-remember-2-clause-kept c =
-    record {
-      tidy = c.reserve.ensures.tidy;
-      backed = backed_same c.args.self.now.slots c.reserve.new.self c.args.self.now.back c.remember-2.new.back c.requires.kept.backed c.remember-2.ensures.more c.reserve.ensures.same;
-      listed = each_same c.args.self.now.slots c.reserve.new.self (λ h. IsListed c.args.self.now.dead h.update.key) (λ h. IsListed c.args.self.now.dead h.update.key)
-          c.requires.kept.listed (λ h e. e) c.reserve.ensures.seen;
-      located = each_same c.args.self.now.slots c.reserve.new.self (IsLocated c.args.self.now.locals) (IsLocated c.remember.new.locals)
-          c.requires.kept.located c.remember.ensures.more c.reserve.ensures.seen;
-    }
+returns-in_err-remember-2-clause-kept c = kept_more c.args.self.now _ c.requires.kept c.reserve.ensures.tidy c.reserve.ensures.seen c.reserve.ensures.same c.remember-2.ensures.more (λ k is. is) c.remember.ensures.more
+
+pub returns-in_err-remember-2-clause-more : goal.returns-in_err-remember-2-clause-more
+returns-in_err-remember-2-clause-more c h = room_more c.args.self.now _ h c.reserve.ensures.more c.remember-2.ensures.more (λ k is. is) c.remember.ensures.more
 
 pub returns-in_err-remember-3-clause-kept : goal.returns-in_err-remember-3-clause-kept
-returns-in_err-remember-3-clause-kept c =
-    record {
-      tidy = c.reserve.ensures.tidy;
-      backed = backed_same c.args.self.now.slots c.reserve.new.self c.args.self.now.back c.remember-2.new.back c.requires.kept.backed c.remember-2.ensures.more c.reserve.ensures.same;
-      listed = each_same c.args.self.now.slots c.reserve.new.self (λ h. IsListed c.args.self.now.dead h.update.key) (λ h. IsListed c.remember-3.new.dead h.update.key)
-          c.requires.kept.listed (λ h e. c.remember-3.ensures.more h.update.key e) c.reserve.ensures.seen;
-      located = each_same c.args.self.now.slots c.reserve.new.self (IsLocated c.args.self.now.locals) (IsLocated c.remember.new.locals)
-          c.requires.kept.located c.remember.ensures.more c.reserve.ensures.seen;
-    }
+returns-in_err-remember-3-clause-kept c = kept_more c.args.self.now _ c.requires.kept c.reserve.ensures.tidy c.reserve.ensures.seen c.reserve.ensures.same c.remember-2.ensures.more c.remember-3.ensures.more c.remember.ensures.more
+
+pub returns-in_err-remember-3-clause-more : goal.returns-in_err-remember-3-clause-more
+returns-in_err-remember-3-clause-more c h = room_more c.args.self.now _ h c.reserve.ensures.more c.remember-2.ensures.more c.remember-3.ensures.more c.remember.ensures.more
 
 pub returns-clause-kept : goal.returns-clause-kept
-returns-clause-kept c =
-    record {
-      tidy = c.reserve.ensures.tidy;
-      backed = backed_same c.args.self.now.slots c.reserve.new.self c.args.self.now.back c.remember-2.new.back c.requires.kept.backed c.remember-2.ensures.more c.reserve.ensures.same;
-      listed = each_same c.args.self.now.slots c.reserve.new.self (λ h. IsListed c.args.self.now.dead h.update.key) (λ h. IsListed c.remember-3.new.dead h.update.key)
-          c.requires.kept.listed (λ h e. c.remember-3.ensures.more h.update.key e) c.reserve.ensures.seen;
-      located = each_same c.args.self.now.slots c.reserve.new.self (IsLocated c.args.self.now.locals) (IsLocated c.remember.new.locals)
-          c.requires.kept.located c.remember.ensures.more c.reserve.ensures.seen;
-    }
+returns-clause-kept c = kept_more c.args.self.now _ c.requires.kept c.reserve.ensures.tidy c.reserve.ensures.seen c.reserve.ensures.same c.remember-2.ensures.more c.remember-3.ensures.more c.remember.ensures.more
+
+pub returns-clause-more : goal.returns-clause-more
+returns-clause-more c h = room_more c.args.self.now _ h c.reserve.ensures.more c.remember-2.ensures.more c.remember-3.ensures.more c.remember.ensures.more
 
 pub returns-in-Some-clause-ok : goal.returns-in-Some-clause-ok
 returns-in-Some-clause-ok c =
