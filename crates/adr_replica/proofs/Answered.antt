@@ -106,7 +106,7 @@ serve_makes w r (Err _) = (λ none. refl, λ p of. absurd (cc of))
 
 -- ---- a call that was made
 
-module _ (is_held : Type 0) (r q : Replica) (past later : Past) (po : Option Pending) (state : Option State) (down : Bool) (how : Option Hindrance) (came : Came is_held r q past later po state down how) (none : how ≡ None) where
+module _ (is_held : Type 0) (r q : Replica) (past later : Past) (po : Option Pending) (state : Option State) (stopped : Bool) (how : Option Hindrance) (came : Came is_held r q past later po state stopped how) (none : how ≡ None) where
   pub gone_made : (w : World) (gone : Gone) (told : Outcome) → StandsIn w r past → Makes w r po gone told → where_up (stays w) r.standing gone ≡ (world_with w q later, told)
   gone_made w gone told stands makes =
       ap (λ st. where_up (stays w) st gone) (came.was_up none).0

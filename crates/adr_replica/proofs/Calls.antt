@@ -22,16 +22,17 @@ use Rattle.adr_controller.specs.declared.messages.Taken.{Taken}
 use Rattle.adr_controller.specs.declared.refusal.Hindrance.{Hindrance}
 use Rattle.adr_replica.specs.Past.{Past}
 use Rattle.adr_replica.specs.Pending.{with_call, written_by, writing, serving, taking, collecting}
-use Rattle.adr_replica.specs.Settled.{hindered_so, unsent}
+use Rattle.adr_outcome.specs.Unsent.{unsent}
+use Rattle.adr_replica.specs.Settled.{hindered_so}
 use Rattle.adr_replica.specs.Led.{StandsIn, world_with, IsDone, IsUndone, Leads, LeadsTo}
 use Rattle.adr_replica.proofs.Came.{Came, by_option, gone_so, sent_so}
 use Rattle.adr_replica.proofs.Results.{if_ok_at, if_ok_as}
 use Rattle.adr_replica.proofs.Answered.{Makes, write_told, write_makes, take_told, take_makes, collect_told, collect_makes, serve_told, serve_sent, serve_makes, gone_made, sent_made}
 
-module _ (is_held : Type 0) (v q : Replica) (past later : Past) (state : Option State) (down : Bool) (how : Option Hindrance) where
+module _ (is_held : Type 0) (v q : Replica) (past later : Past) (state : Option State) (stopped : Bool) (how : Option Hindrance) where
   -- ---- a client's write
 
-  module _ (event : Event) (now : ℕ) (came : Came is_held v q past later (writing event now v.safe) state down how) where
+  module _ (event : Event) (now : ℕ) (came : Came is_held v q past later (writing event now v.safe) state stopped how) where
     abbrev WrittenAs : Outcome → Type 0
     WrittenAs told =
         (c : ClientWrite) → write_of event ≡ Some c → (w : World) → w.time ≡ now → StandsIn w v past
@@ -47,7 +48,7 @@ module _ (is_held : Type 0) (v q : Replica) (past later : Past) (state : Option 
 
     made_as : how ≡ None → (told : Outcome) → ((c : ClientWrite) → write_of event ≡ Some c → write_told (write v.safe c.what now) ≡ told) → WrittenAs told
     made_as none told tells c of w time stands =
-        gone_made is_held v q past later (writing event now v.safe) state down how came none w (after_write w v c.what (write v.safe c.what now)) (write_told (write v.safe c.what now)) stands
+        gone_made is_held v q past later (writing event now v.safe) state stopped how came none w (after_write w v c.what (write v.safe c.what now)) (write_told (write v.safe c.what now)) stands
         (makes c of w time) ∙ ap (λ t. (world_with w q later, t)) (tells c of)
 
     pub written_so : how ≡ None → (usn : ℕ) → ((s : State) (c : ClientWrite) → state ≡ Some s → write_of event ≡ Some c → (x : Change) × (write s c.what now ≡ Ok x) × (usn ≡ x.usn))
@@ -67,7 +68,7 @@ module _ (is_held : Type 0) (v q : Replica) (past later : Past) (state : Option 
         by None refused = refl
         by (Some c) refused = ap (λ t. with_call (ToWrite c.what now) (change_in t)) (refused c refl)
 
-    pub hindered_write : (h : Hindrance) → how ≡ Some h → (d : Bool) → d ≡ down → (told : Outcome) → hindered_so h d ≡ Some told → WrittenAs told
+    pub hindered_write : (h : Hindrance) → how ≡ Some h → (d : Bool) → d ≡ stopped → (told : Outcome) → hindered_so h d ≡ Some told → WrittenAs told
     hindered_write h is d same told tells c of w time stands =
         gone_so w v q past later (writing event now v.safe) told (after_write w v c.what (write v.safe c.what now)) (came.hinders h is told (ap (hindered_so h) (sym same) ∙ tells)) stands
         (λ p up ofp. (write_told (write v.safe c.what now), (makes c of w time).1 p ofp))
@@ -82,18 +83,18 @@ module _ (is_held : Type 0) (v q : Replica) (past later : Past) (state : Option 
           → (t : Result Outcome E) → r ≡ t → IfOk t (λ told. told ≡ write_refused refusal) → IfOk r WrittenAs
       ok_refused none refusal refuses t is tells = if_ok_as (λ told. told ≡ write_refused refusal) WrittenAs r t is tells (λ told. refused_so none refusal refuses told)
 
-      pub ok_hindered : (h : Hindrance) → how ≡ Some h → (d : Bool) → d ≡ down → (t : Result Outcome E) → r ≡ t → IfOk t (λ told. hindered_so h d ≡ Some told) → IfOk r WrittenAs
+      pub ok_hindered : (h : Hindrance) → how ≡ Some h → (d : Bool) → d ≡ stopped → (t : Result Outcome E) → r ≡ t → IfOk t (λ told. hindered_so h d ≡ Some told) → IfOk r WrittenAs
       ok_hindered h ish d same t is tells = if_ok_as (λ told. hindered_so h d ≡ Some told) WrittenAs r t is tells (λ told. hindered_write h ish d same told)
 
   -- ---- a reply
 
-  module _ (reply : Reply) (came : Came is_held v q past later (taking reply v.safe) state down how) where
+  module _ (reply : Reply) (came : Came is_held v q past later (taking reply v.safe) state stopped how) where
     abbrev TakenAs : Outcome → Type 0
     TakenAs told = Leads v past (λ w. where_up (stays w) v.standing (after_take w v reply (take v.safe reply))) q later told
 
     take_made_as : how ≡ None → (told : Outcome) → take_told reply (take v.safe reply) ≡ told → TakenAs told
     take_made_as none told tells w stands =
-        gone_made is_held v q past later (taking reply v.safe) state down how came none w (after_take w v reply (take v.safe reply)) (take_told reply (take v.safe reply)) stands
+        gone_made is_held v q past later (taking reply v.safe) state stopped how came none w (after_take w v reply (take v.safe reply)) (take_told reply (take v.safe reply)) stands
         (take_makes w v reply (take v.safe reply)) ∙ ap (λ t. (world_with w q later, t)) tells
 
     pub taken_so : how ≡ None → (taken : Taken)
@@ -113,7 +114,7 @@ module _ (is_held : Type 0) (v q : Replica) (past later : Past) (state : Option 
         (λ idle. inl (came.idle none idle))
         (λ p of. inr (λ w stands. ap (λ (g : Gone). g.0) (take_made_as none (take_told reply (take v.safe reply)) refl w stands)))
 
-    pub hindered_take : (h : Hindrance) → how ≡ Some h → (d : Bool) → d ≡ down → (told : Outcome) → hindered_so h d ≡ Some told → TakenAs told
+    pub hindered_take : (h : Hindrance) → how ≡ Some h → (d : Bool) → d ≡ stopped → (told : Outcome) → hindered_so h d ≡ Some told → TakenAs told
     hindered_take h is d same told tells w stands =
         gone_so w v q past later (taking reply v.safe) told (after_take w v reply (take v.safe reply)) (came.hinders h is told (ap (hindered_so h) (sym same) ∙ tells)) stands
         (λ p up ofp. (take_told reply (take v.safe reply), (take_makes w v reply (take v.safe reply)).1 p ofp))
@@ -127,12 +128,12 @@ module _ (is_held : Type 0) (v q : Replica) (past later : Past) (state : Option 
           → (t : Result Outcome E) → r ≡ t → IfOk t (λ told. told ≡ take_refused refusal) → IfOk r TakenAs
       ok_untaken none refusal refuses t is tells = if_ok_as (λ told. told ≡ take_refused refusal) TakenAs r t is tells (λ told. untaken_so none refusal refuses told)
 
-      pub ok_hindered_take : (h : Hindrance) → how ≡ Some h → (d : Bool) → d ≡ down → (t : Result Outcome E) → r ≡ t → IfOk t (λ told. hindered_so h d ≡ Some told) → IfOk r TakenAs
+      pub ok_hindered_take : (h : Hindrance) → how ≡ Some h → (d : Bool) → d ≡ stopped → (t : Result Outcome E) → r ≡ t → IfOk t (λ told. hindered_so h d ≡ Some told) → IfOk r TakenAs
       ok_hindered_take h ish d same t is tells = if_ok_as (λ told. hindered_so h d ≡ Some told) TakenAs r t is tells (λ told. hindered_take h ish d same told)
 
   -- ---- a collection
 
-  module _ (now lifetime : ℕ) (came : Came is_held v q past later (collecting now lifetime v.safe) state down how) where
+  module _ (now lifetime : ℕ) (came : Came is_held v q past later (collecting now lifetime v.safe) state stopped how) where
     abbrev CollectedAs : Outcome → Type 0
     CollectedAs told =
         (w : World) → w.time ≡ now → StandsIn w v past
@@ -146,14 +147,14 @@ module _ (is_held : Type 0) (v q : Replica) (past later : Past) (state : Option 
 
     collect_made_as : how ≡ None → (told : Outcome) → collect_told (collect v.safe now lifetime) ≡ told → CollectedAs told
     collect_made_as none told tells w time stands =
-        gone_made is_held v q past later (collecting now lifetime v.safe) state down how came none w (after_collect w v lifetime (collect v.safe now lifetime))
+        gone_made is_held v q past later (collecting now lifetime v.safe) state stopped how came none w (after_collect w v lifetime (collect v.safe now lifetime))
         (collect_told (collect v.safe now lifetime)) stands (collects w time) ∙ ap (λ t. (world_with w q later, t)) tells
 
     pub uncollected_undone : how ≡ None → (refusal : CollectRefusal) → ((s : State) → state ≡ Some s → collect s now lifetime ≡ Err refusal) → IsUndone v past q later
     uncollected_undone none refusal refuses =
         came.idle none (ap (λ t. with_call (ToCollect now lifetime) (change_in t)) (refuses v.safe (came.was_up none).1))
 
-    hindered_collect : (h : Hindrance) → how ≡ Some h → (d : Bool) → d ≡ down → (told : Outcome) → hindered_so h d ≡ Some told → CollectedAs told
+    hindered_collect : (h : Hindrance) → how ≡ Some h → (d : Bool) → d ≡ stopped → (told : Outcome) → hindered_so h d ≡ Some told → CollectedAs told
     hindered_collect h is d same told tells w time stands =
         gone_so w v q past later (collecting now lifetime v.safe) told (after_collect w v lifetime (collect v.safe now lifetime))
         (came.hinders h is told (ap (hindered_so h) (sym same) ∙ tells)) stands (λ p up ofp. (collect_told (collect v.safe now lifetime), (collects w time).1 p ofp))
@@ -172,18 +173,18 @@ module _ (is_held : Type 0) (v q : Replica) (past later : Past) (state : Option 
           if_ok_as (λ told. told ≡ collect_refused refusal) CollectedAs r t is tells
           (λ told so. collect_made_as none told (ap collect_told (refuses v.safe (came.was_up none).1) ∙ sym so))
 
-      pub ok_hindered_collect : (h : Hindrance) → how ≡ Some h → (d : Bool) → d ≡ down → (t : Result Outcome E) → r ≡ t → IfOk t (λ told. hindered_so h d ≡ Some told) → IfOk r CollectedAs
+      pub ok_hindered_collect : (h : Hindrance) → how ≡ Some h → (d : Bool) → d ≡ stopped → (t : Result Outcome E) → r ≡ t → IfOk t (λ told. hindered_so h d ≡ Some told) → IfOk r CollectedAs
       ok_hindered_collect h ish d same t is tells =
           if_ok_as (λ told. hindered_so h d ≡ Some told) CollectedAs r t is tells (λ told. hindered_collect h ish d same told)
 
   -- ---- a request
 
-  module _ (request : Request) (came : Came is_held v q past later (serving request v.safe) state down how) where
+  module _ (request : Request) (came : Came is_held v q past later (serving request v.safe) state stopped how) where
     abbrev ServedAs : Outcome → Option Reply → Type 0
     ServedAs told sent = LeadsTo v past (λ w. where_up (nothing w) v.standing (after_serve w v (serve v.safe request))) q later told sent
 
     made_sent : how ≡ None → ServedAs (serve_told (serve v.safe request)) (serve_sent (serve v.safe request))
-    made_sent none w stands = sent_made is_held v q past later (serving request v.safe) state down how came none w (serve v.safe request) stands refl
+    made_sent none w stands = sent_made is_held v q past later (serving request v.safe) state stopped how came none w (serve v.safe request) stands refl
 
     pub served_so : how ≡ None → (reply : Reply) → ((s : State) → state ≡ Some s → serve s request ≡ Ok reply)
         → (told : Outcome) (sent : Option Reply) → sent ≡ Some reply → told ≡ outcomes.Served reply.from reply.to (length reply.items) (rows_in reply) (is_some reply.last)
@@ -201,7 +202,7 @@ module _ (is_held : Type 0) (v q : Replica) (past later : Past) (state : Option 
     pub unserved_left : how ≡ None → IsUndone v past q later ⊎ IsDone v past (λ w. (where_up (nothing w) v.standing (after_serve w v (serve v.safe request))).0) q later
     unserved_left none = inr (λ w stands. ap (λ (s : Sent Reply). s.0) (made_sent none w stands))
 
-    pub hindered_serve : (h : Hindrance) → how ≡ Some h → (d : Bool) → d ≡ down → (told : Outcome) → hindered_so h d ≡ Some told → ServedAs told None
+    pub hindered_serve : (h : Hindrance) → how ≡ Some h → (d : Bool) → d ≡ stopped → (told : Outcome) → hindered_so h d ≡ Some told → ServedAs told None
     hindered_serve h is d same told tells w stands =
         sent_so w v q past later (serving request v.safe) told (after_serve w v (serve v.safe request)) (came.hinders h is told (ap (hindered_so h) (sym same) ∙ tells)) stands
         (λ p up ofp. (serve_told (serve v.safe request), ((serve_makes w v (serve v.safe request)).1 p ofp).0))
@@ -228,5 +229,5 @@ module _ (is_held : Type 0) (v q : Replica) (past later : Past) (state : Option 
           → (o : Result Outcome E) → r ≡ unsent o → IfOk o (λ told. told ≡ serve_refused refusal) → IfOk r ServedBy
       ok_unserved none refusal refuses o is tells = if_unsent (λ told. told ≡ serve_refused refusal) o is tells (λ told. unserved_so none refusal refuses told)
 
-      pub ok_hindered_serve : (h : Hindrance) → how ≡ Some h → (d : Bool) → d ≡ down → (o : Result Outcome E) → r ≡ unsent o → IfOk o (λ told. hindered_so h d ≡ Some told) → IfOk r ServedBy
+      pub ok_hindered_serve : (h : Hindrance) → how ≡ Some h → (d : Bool) → d ≡ stopped → (o : Result Outcome E) → r ≡ unsent o → IfOk o (λ told. hindered_so h d ≡ Some told) → IfOk r ServedBy
       ok_hindered_serve h ish d same o is tells = if_unsent (λ told. hindered_so h d ≡ Some told) o is tells (λ told. hindered_serve h ish d same told)

@@ -71,13 +71,13 @@ pub data Hindered (r q : Replica) (past later : Past) (po : Option Pending) (tol
       → Hindered r q past later po told
 
 -- by how it ended
-pub record Came (is_held : Type 0) (r q : Replica) (past later : Past) (po : Option Pending) (state : Option State) (down : Bool) (how : Option Hindrance) : Type 0 where
+pub record Came (is_held : Type 0) (r q : Replica) (past later : Past) (po : Option Pending) (state : Option State) (stopped : Bool) (how : Option Hindrance) : Type 0 where
   pub held : is_held
   pub given : later.given ≡ past.given
   pub was_up : how ≡ None → (r.standing ≡ Up) × (state ≡ Some r.safe)
   pub idle : how ≡ None → po ≡ None → IsUndone r past q later
   pub done : how ≡ None → (p : Pending) → po ≡ Some p → (w : World) (o : Outcome) → StandsIn w r past → commit w r p o ≡ (world_with w q later, o)
-  pub hinders : (h : Hindrance) → how ≡ Some h → (told : Outcome) → hindered_so h down ≡ Some told → Hindered r q past later po told
+  pub hinders : (h : Hindrance) → how ≡ Some h → (told : Outcome) → hindered_so h stopped ≡ Some told → Hindered r q past later po told
   pub wanted : (h : Hindrance) → how ≡ Some h → (h ≡ Full) ⊎ (h ≡ NoMemory) → IsUndone r past q later
 
 the_one : {A : Type 0} → A → Option A → A
@@ -107,10 +107,6 @@ module _ {K : Type 0} where
   pub downed_state : (b : Bool) (c : Running K) → c.state ≡ None → (downed b c).state ≡ None
   downed_state true c none = refl
   downed_state false c none = none
-
-  pub downed_down : (b : Bool) (c : Running K) → c.down ≡ false → (downed b c).down ≡ b
-  downed_down true c up = refl
-  downed_down false c up = up
 
   downed_stands : (b : Bool) (c : Running K) → c.state ≡ None → c.down ≡ false → standing_by (downed b c).down (downed b c).state ≡ standing_of (Some failed_call) b stands_failed
   downed_stands true c none up = refl
@@ -170,7 +166,7 @@ module _ {K : Type 0} (k : Ghosts K) (read safe torn : K → Started State) (pla
     CameBy how =
         let new = left_by is_down how mid in
         let x = come how kept ahead.kept in
-        Came (IsHeld read safe torn plan is_down name dsa new x) r (seen read safe plan name new x) past (come how past ahead.past) (po r.safe) old.state new.down how
+        Came (IsHeld read safe torn plan is_down name dsa new x) r (seen read safe plan name new x) past (come how past ahead.past) (po r.safe) old.state (is_down new.keeper) how
 
     running : (how : Option Hindrance) → Calls k changes old mid how → (how ≡ Some Down → ⊥) → (how ≡ Some Failed → ⊥) → AtRest
     running how calls up sound =
@@ -239,10 +235,10 @@ module _ {K : Type 0} (k : Ghosts K) (read safe torn : K → Started State) (pla
             idle = λ none. absurd (cc none);
             done = λ none. absurd (cc none);
             hinders = λ h ish told tells.
-                let tells_it : hindered_so DiskFault new.down ≡ Some told = ap (λ x. hindered_so x new.down) (some_same DiskFault h ish) ∙ tells in
+                let tells_it : hindered_so DiskFault (is_down new.keeper) ≡ Some told = ap (λ x. hindered_so x (is_down new.keeper)) (some_same DiskFault h ish) ∙ tells in
                 Ended p rest.up of
                 (λ w o stands. commit_made w r (seen read safe plan name new ahead.kept) past ahead.past p o told stands (commits.within (inr refl) r.safe_end rest.at) is past_ahead
-                (fault_answers (went r.plan 4) o stopped g.1 ∙ ap of_fault (sym (downed_down stopped mid commits.still_up)) ∙ some_same (of_fault new.down) told tells_it));
+                (fault_answers (went r.plan 4) o stopped g.1 ∙ ap of_fault (ap is_down (downed_keeper stopped mid)) ∙ some_same (of_fault (is_down new.keeper)) told tells_it));
             wanted = λ h ish wants. absurd (⊎_elim (λ (f : h ≡ Full). let no : ⊥ = cc (ish, f) in no) (λ (f : h ≡ NoMemory). let no : ⊥ = cc (ish, f) in no) wants);
           }
 
@@ -257,7 +253,7 @@ module _ {K : Type 0} (k : Ghosts K) (read safe torn : K → Started State) (pla
             idle = λ none. absurd (cc none);
             done = λ none. absurd (cc none);
             hinders = λ h ish told tells.
-                let tells_it : hindered_so Full mid.down ≡ Some told = ap (λ x. hindered_so x mid.down) (some_same Full h ish) ∙ tells in
+                let tells_it : hindered_so Full (is_down mid.keeper) ≡ Some told = ap (λ x. hindered_so x (is_down mid.keeper)) (some_same Full h ish) ∙ tells in
                 Ended p rest.up of
                 (λ w o stands. commit_full w r (seen read safe plan name mid kept) past past p o o stands (commits.beyond refl r.safe_end rest.at) (still_seen mid kept is refl) refl
                 ∙ ap (λ t. (world_with w (seen read safe plan name mid kept) past, t)) (some_same (full Log log_limit) told tells_it));
@@ -277,7 +273,7 @@ module _ {K : Type 0} (k : Ghosts K) (read safe torn : K → Started State) (pla
             was_up = λ none. absurd (cc none);
             idle = λ none. absurd (cc none);
             done = λ none. absurd (cc none);
-            hinders = λ h ish told tells. absurd (let tells_it : hindered_so NoMemory mid.down ≡ Some told = ap (λ x. hindered_so x mid.down) (some_same NoMemory h ish) ∙ tells in cc tells_it);
+            hinders = λ h ish told tells. absurd (let tells_it : hindered_so NoMemory (is_down mid.keeper) ≡ Some told = ap (λ x. hindered_so x (is_down mid.keeper)) (some_same NoMemory h ish) ∙ tells in cc tells_it);
             wanted = λ h ish wants. (is, refl);
           }
 
@@ -306,7 +302,7 @@ module _ {K : Type 0} (k : Ghosts K) (read safe torn : K → Started State) (pla
           was_up = λ none. absurd (cc none);
           idle = λ none. absurd (cc none);
           done = λ none. absurd (cc none);
-          hinders = λ h ish told tells. absurd (let tells_it : hindered_so NoMemory mid.down ≡ Some told = ap (λ x. hindered_so x mid.down) (some_same NoMemory h ish) ∙ tells in cc tells_it);
+          hinders = λ h ish told tells. absurd (let tells_it : hindered_so NoMemory (is_down mid.keeper) ≡ Some told = ap (λ x. hindered_so x (is_down mid.keeper)) (some_same NoMemory h ish) ∙ tells in cc tells_it);
           wanted = λ h ish wants. (still_seen mid kept is refl, refl);
         }
 
@@ -323,7 +319,7 @@ module _ {K : Type 0} (k : Ghosts K) (read safe torn : K → Started State) (pla
           idle = λ none. absurd (cc none);
           done = λ none. absurd (cc none);
           hinders = λ h ish told tells.
-              let tells_it : hindered_so Down mid.down ≡ Some told = ap (λ x. hindered_so x mid.down) (some_same Down h ish) ∙ tells in
+              let tells_it : hindered_so Down (is_down mid.keeper) ≡ Some told = ap (λ x. hindered_so x (is_down mid.keeper)) (some_same Down h ish) ∙ tells in
               WasDown (ap (λ b. standing_by b old.state) down) (sym (some_same outcomes.Down told tells_it)) (still_seen mid kept is refl) refl;
           wanted = λ h ish wants. (still_seen mid kept is refl, refl);
         }
@@ -339,7 +335,7 @@ module _ {K : Type 0} (k : Ghosts K) (read safe torn : K → Started State) (pla
           idle = λ none. absurd (cc none);
           done = λ none. absurd (cc none);
           hinders = λ h ish told tells.
-              let tells_it : hindered_so Failed mid.down ≡ Some told = ap (λ x. hindered_so x mid.down) (some_same Failed h ish) ∙ tells in
+              let tells_it : hindered_so Failed (is_down mid.keeper) ≡ Some told = ap (λ x. hindered_so x (is_down mid.keeper)) (some_same Failed h ish) ∙ tells in
               WasFailed (ap (λ b. standing_by b old.state) both.0 ∙ ap (λ o. standing_by false o) both.1) (sym (some_same outcomes.Failed told tells_it)) (still_seen mid kept is refl) refl;
           wanted = λ h ish wants. (still_seen mid kept is refl, refl);
         }
@@ -368,9 +364,9 @@ module _ {K : Type 0} (k : Ghosts K) (read safe torn : K → Started State) (pla
     pub came_so : (v : Replica) (past_then : Past) (kept_then : Option Pending) (how said : Option Hindrance) (new : Running K) (x : Option Pending) (later : Past) → r ≡ v
         → past_then ≡ (after_commit past v (po v.safe)).past → kept_then ≡ (after_commit past v (po v.safe)).kept
         → new ≡ left_by is_down how mid → x ≡ come how kept kept_then → later ≡ come how past past_then
-        → how ≡ said → Calls k changes old mid said → Came (IsHeld read safe torn plan is_down name dsa new x) v (seen read safe plan name new x) past later (po v.safe) old.state new.down how
+        → how ≡ said → Calls k changes old mid said → Came (IsHeld read safe torn plan is_down name dsa new x) v (seen read safe plan name new x) past later (po v.safe) old.state (is_down new.keeper) how
     came_so v past_then kept_then how said new x later is aheadp aheadk newly keeps comes says calls =
-        let Told : Replica → Running K → Option Pending → Past → Type 0 = λ v n y l. Came (IsHeld read safe torn plan is_down name dsa n y) v (seen read safe plan name n y) past l (po v.safe) old.state n.down how in
+        let Told : Replica → Running K → Option Pending → Past → Type 0 = λ v n y l. Came (IsHeld read safe torn plan is_down name dsa n y) v (seen read safe plan name n y) past l (po v.safe) old.state (is_down n.keeper) how in
         let kept_is : x ≡ come how kept ahead.kept = keeps ∙ ap (come how kept) (aheadk ∙ ap (λ v. (after_commit past v (po v.safe)).kept) (sym is)) in
         let past_is : later ≡ come how past ahead.past = comes ∙ ap (come how past) (aheadp ∙ ap (λ v. (after_commit past v (po v.safe)).past) (sym is)) in
         subst (λ v. Told v new x later) is
@@ -384,7 +380,7 @@ module _ {K : Type 0} (k : Ghosts K) (read safe torn : K → Started State) (pla
 abbrev pub CameTo : {K : Type 0} {read safe torn : K → Started State} {plan : K → Option Plan} {is_down : K → Bool} {name : List ℕ} {dsa : Identifier} {old : Running K} {kept : Option Pending}
     → IsHeld read safe torn plan is_down name dsa old kept → Replica → Past → (State → Option Pending) → Running K → Option Pending → Past → Option Hindrance → Type 0
 CameTo {K} {read} {safe} {torn} {plan} {is_down} {name} {dsa} {old} {kept} held v past po new x later how =
-    Came (IsHeld read safe torn plan is_down name dsa new x) v (seen read safe plan name new x) past later (po v.safe) old.state new.down how
+    Came (IsHeld read safe torn plan is_down name dsa new x) v (seen read safe plan name new x) past later (po v.safe) old.state (is_down new.keeper) how
 
 pub came_to : {K : Type 0} {k : Ghosts K} {read safe torn : K → Started State} {plan : K → Option Plan} {is_down : K → Bool} {name : List ℕ} {dsa : Identifier} {old mid new : Running K}
     {kept kept_then x : Option Pending} {v : Replica} {ahead later : Past} {how said : Option Hindrance} {changes : State → Option Change}

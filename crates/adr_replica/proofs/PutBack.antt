@@ -1,12 +1,11 @@
 -- Bytes of a disk that are put aside, and a disk with such bytes that is started.
-use Rattle.std.proofs.Common.{◌≡◌, ◌∙◌, refl, sym, ap, subst, ℕ, List, [], Bool, false, Option, Some, None, Ok}
-use Rattle.std.specs.Prelude.{IfSome}
+use Rattle.std.proofs.Common.{◌≡◌, ◌∙◌, refl, sym, ap, subst, ℕ, List, [], Bool, false, Option, None, Ok}
 use Rattle.adr_wire.specs.Ranges.{IsId}
 use Rattle.adr_model.specs.Update.{Identifier}
 use Rattle.adr_model.specs.Store.{State}
 use Rattle.adr_model.specs.Replica.{Replica, Pending, Plan, Book, on_disk}
 use Rattle.adr_model.specs.World.{Snapshot}
-use Rattle.adr_law_journal.specs.Log.{Found, found, Started}
+use Rattle.adr_law_journal.specs.Log.{Started}
 use Rattle.adr_law_journal.specs.Replicas.{Has, read_found, started}
 use Rattle.adr_journal.specs.Planned.{StartsAs}
 use Rattle.adr_journal.specs.declared.keeper.Keeper.{Ghosts}
@@ -14,7 +13,6 @@ use Rattle.adr_controller.specs.Running.{Running, IsStarted}
 use Rattle.adr_replica.specs.Planned.{GoesAsPlanned}
 use Rattle.adr_replica.specs.Held.{found_or_none, standing_by, seen, IsHeld}
 use Rattle.adr_replica.specs.Put.{IsWhole, aside, found_on}
-use Rattle.adr_replica.proofs.Came.{some_same}
 use Rattle.adr_replica.proofs.Seen.{seen_so, held_so}
 
 -- bytes of which a start finds what is read of a keeper
@@ -32,6 +30,9 @@ module _ {K : Type 0} (read safe torn : K → Started State) (plan : K → Optio
     is_id = subst IsId (sym (ap (λ t. (found_or_none t).state.dsa) finds ∙ held.reads)) held.is_id;
   }
 
+  pub aside_dsa : dsa ≡ (aside bytes).state.dsa
+  aside_dsa = sym (ap (λ t. (found_or_none t).state.dsa) finds ∙ held.reads)
+
   pub aside_so : (v : Replica) → r ≡ v → aside bytes ≡ record { state = v.read; log_end = v.read_end }
   aside_so v is =
       ap (λ t. let f = found_or_none t in let s : Snapshot = record { state = f.state; log_end = f.log_end } in s) finds
@@ -42,7 +43,7 @@ module _ {K : Type 0} (k : Ghosts K) (read safe torn : K → Started State) (pla
     (law : GoesAsPlanned k read safe torn plan is_down)
     (bytes : List ℕ) (whole : IsWhole bytes) (old : K) (reads : read old ≡ found_on bytes) (safes : safe old ≡ found_on bytes) (torns : torn old ≡ found_on bytes)
     (planned : plan old ≡ None) (runs : is_down old ≡ false) (begun : IsStarted k old c) (ran : k.starts old None c.keeper)
-    (s : State) (there : c.state ≡ Some s) (given : dsa ≡ s.dsa) (none : kept ≡ None) where
+    (given : dsa ≡ (aside bytes).state.dsa) (none : kept ≡ None) where
   abbrev put : Replica
   put = on_disk name (aside bytes).state (aside bytes).log_end
 
@@ -52,17 +53,10 @@ module _ {K : Type 0} (k : Ghosts K) (read safe torn : K → Started State) (pla
   put_goes : StartsAs (Has read safe torn plan) is_down None put (started no_book put) c.keeper
   put_goes = law.starts old c.keeper None no_book put runs (record { is_read = reads ∙ whole.finds; is_safe = safes ∙ whole.finds; is_torn = torns ∙ whole.finds; is_plan = planned }) ran
 
-  put_dsa : dsa ≡ (aside bytes).state.dsa
-  put_dsa =
-      let told : IfSome (Some (read old)) (λ t. t ≡ Ok (found begun.state begun.log_end)) =
-      subst (λ o. IfSome o (λ t. t ≡ Ok (found begun.state begun.log_end))) (law.tells old) begun.told in
-      let same : found_or_none (found_on bytes) ≡ found begun.state begun.log_end = ap found_or_none (sym reads ∙ told) in
-      given ∙ ap (λ (s : State). s.dsa) (some_same s begun.state (sym there ∙ begun.in_memory) ∙ sym (ap (λ (f : Found State). f.state) same))
-
   pub put_seen : seen read safe plan name c kept ≡ put
   put_seen =
       seen_so read safe torn plan name c kept put put_goes.0 refl (ap (λ b. standing_by b c.state) begun.up ∙ ap (λ o. standing_by false o) begun.in_memory) none
 
   pub put_held : IsHeld read safe torn plan is_down name dsa c kept
   put_held =
-      held_so read safe torn plan is_down name dsa c kept put put_seen put_goes.0 (λ s there. (put_goes.2, none)) (subst IsId (sym put_dsa) whole.is_id) (sym put_dsa) (sym put_dsa)
+      held_so read safe torn plan is_down name dsa c kept put put_seen put_goes.0 (λ s there. (put_goes.2, none)) (subst IsId (sym given) whole.is_id) (sym given) (sym given)

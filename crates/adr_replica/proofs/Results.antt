@@ -2,7 +2,7 @@
 use Rattle.std.proofs.Common.{◌≡◌, sym, subst, Option, Some, Result, Ok, Err}
 use Rattle.std.specs.Prelude.{IfOk, IfSome, OnErr}
 use Rattle.adr_event.specs.declared.answer.Outcome.{Outcome}
-use Rattle.adr_replica.specs.Settled.{unsent}
+use Rattle.adr_outcome.specs.Unsent.{unsent}
 
 pub on_err : {X Y : Type 0} (P : Type 0) (r : Result X Y) → P → OnErr r P
 on_err P (Ok x) p = tt

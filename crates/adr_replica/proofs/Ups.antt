@@ -1,5 +1,5 @@
 -- A controller that is up, one that is new, and what one asks.
-use Rattle.std.proofs.Common.{◌≡◌, ◌∙◌, refl, sym, ap, subst, ℕ, List, Bool, false, Option, Some, None, Ok}
+use Rattle.std.proofs.Common.{◌≡◌, ◌∙◌, refl, sym, ap, subst, ℕ, List, Bool, false, Option, Some, None}
 use Rattle.adr_wire.specs.Ranges.{IsId}
 use Rattle.adr_event.specs.declared.answer.Outcome.TheVariants as outcomes
 use Rattle.adr_model.specs.Update.{Identifier}

@@ -6,4 +6,3 @@ pub mod Settled
 pub mod Led
 pub mod Put
 pub mod Planned
-pub mod Refused

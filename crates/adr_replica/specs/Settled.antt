@@ -1,5 +1,5 @@
 -- What a call leaves that was hindered, or not.
-use Rattle.std.specs.Prelude.{Bool, true, false, Option, Some, None, Result, Ok, Err}
+use Rattle.std.specs.Prelude.{Bool, true, false, Option, Some, None}
 use Rattle.adr_event.specs.declared.answer.Outcome.{Outcome}
 use Rattle.adr_event.specs.declared.answer.Outcome.TheVariants as outcomes
 use Rattle.adr_event.specs.declared.refusal.Table.TheVariants.{Log}
@@ -41,13 +41,8 @@ of_fault true = outcomes.Stopped
 of_fault false = outcomes.Disk
 
 abbrev pub hindered_so : Hindrance → Bool → Option Outcome
-hindered_so Down down = Some outcomes.Down
-hindered_so Failed down = Some outcomes.Failed
-hindered_so Full down = Some (full Log log_limit)
-hindered_so DiskFault down = Some (of_fault down)
-hindered_so NoMemory down = None
-
--- an answer without a message
-abbrev pub unsent : {A E : Type 0} → Result Outcome E → Result (Outcome × Option A) E
-unsent (Ok outcome) = Ok (outcome, None)
-unsent (Err e) = Err e
+hindered_so Down stopped = Some outcomes.Down
+hindered_so Failed stopped = Some outcomes.Failed
+hindered_so Full stopped = Some (full Log log_limit)
+hindered_so DiskFault stopped = Some (of_fault stopped)
+hindered_so NoMemory stopped = None

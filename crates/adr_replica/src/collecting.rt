@@ -8,7 +8,6 @@ ghost use Rattle.adr_replica.specs.Led.{IsUndone, StandsIn, world_with};
 use crate::hindered::{hindered, hindrance_in, settle};
 use crate::keepers::goes_as_planned;
 use crate::past::{Ahead, Past};
-use crate::refused::collect_refused;
 use crate::replica::Replica;
 use crate::told::Deed;
 use adr_controller::CallRefusal;
@@ -16,6 +15,7 @@ use adr_event::Outcome;
 use adr_law_recorded::{
     collections_are_recorded, logged_states_fit, recorded_changes_leave_logged_states,
 };
+use adr_outcome::collect_refused;
 use adr_schema::NoMemory;
 use std::alloc::Global;
 
@@ -48,11 +48,11 @@ impl Replica {
         collections_are_recorded();
         let made = self.controller.collect(alloc, now, lifetime);
         let how = hindrance_in(&made);
-        let down = settle(&mut self.controller, &mut self.kept, past, ahead, how);
+        let stopped = settle(&mut self.controller, &mut self.kept, past, ahead, how);
         match made {
             Ok(removed) => Ok(Outcome::Removed(removed)),
             Err(CallRefusal::Refused(refusal)) => collect_refused(alloc, refusal),
-            Err(CallRefusal::Hindered(hindrance)) => hindered(alloc, hindrance, down),
+            Err(CallRefusal::Hindered(hindrance)) => hindered(alloc, hindrance, stopped),
         }
     }
 }

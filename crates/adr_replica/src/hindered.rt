@@ -6,11 +6,11 @@ ghost use Rattle.adr_controller.specs.Ended.{call_hindrance};
 ghost use Rattle.adr_replica.specs.Settled.{come, hindered_so, hindrance_of_start, left_by};
 
 use crate::past::{Ahead, Kept, Past};
-use crate::refused::full;
 use adr_controller::{CallRefusal, Controller, Hindrance, PlannedKeeper, StartRefusal};
 use adr_disk_memory::MemDisk;
 use adr_event::{Outcome, Table};
 use adr_journal::Journal;
+use adr_outcome::full;
 use adr_records::Records;
 use adr_schema::NoMemory;
 use adr_state::LOG_LIMIT;
@@ -41,7 +41,7 @@ pub(crate) fn hindrance_of_start(started: &Result<(), StartRefusal>) -> Option<H
 }
 
 /// Makes the past and the kept call those ahead, where a call reached the disk or had nothing to do there. A controller
-/// whose disk stopped within the call is down. Tells whether it is.
+/// whose disk stopped within the call is down. Tells whether its disk is stopped.
 pub(crate) fn settle(
     controller: &mut Controller<Journal<MemDisk, Records>>,
     kept: &mut Kept,
@@ -49,40 +49,45 @@ pub(crate) fn settle(
     ahead: Ahead,
     how: Option<Hindrance>,
 ) -> bool
-    ensures down { result ≡ controller.new.down }
+    ensures stopped { result ≡ ⟦<Journal<MemDisk, Records> as PlannedKeeper>⟧.is_down controller.new.keeper }
     ensures controller { controller.new ≡ left_by ⟦<Journal<MemDisk, Records> as PlannedKeeper>⟧.is_down how controller.old }
     ensures kept { kept.new ≡ come how kept.old ahead.kept }
     ensures past { past.new ≡ come how past.old ahead.past }
 {
-    let down = leave(controller, how);
+    let stopped = leave(controller, how);
     if matches!(how, None | Some(Hindrance::DiskFault)) {
         *past = ahead.past;
         *kept = ahead.kept;
     }
-    down
+    stopped
 }
 
-/// A controller whose disk stopped within a call is down. Tells whether it is.
+/// A controller whose disk stopped within a call is down. Tells whether its disk is stopped.
 fn leave<K: PlannedKeeper>(controller: &mut Controller<K>, how: Option<Hindrance>) -> bool
-    ensures down { result ≡ controller.new.down }
+    ensures stopped { result ≡ K.is_down controller.new.keeper }
     ensures controller { controller.new ≡ left_by K.is_down how controller.old }
 {
-    if matches!(how, Some(Hindrance::DiskFault)) && controller.is_stopped() {
+    let stopped = controller.is_stopped();
+    if stopped && matches!(how, Some(Hindrance::DiskFault)) {
         controller.stop();
     }
-    controller.is_down()
+    stopped
 }
 
-/// What is answered to a call that was hindered, behind which the controller is down or not.
-pub(crate) fn hindered(alloc: Global, hindrance: Hindrance, down: bool) -> Result<Outcome, NoMemory>
-    ensures ok { IfOk result (λ outcome. hindered_so hindrance down ≡ Some outcome) }
+/// What is answered to a call that was hindered, behind which the disk is stopped or not.
+pub(crate) fn hindered(
+    alloc: Global,
+    hindrance: Hindrance,
+    stopped: bool,
+) -> Result<Outcome, NoMemory>
+    ensures ok { IfOk result (λ outcome. hindered_so hindrance stopped ≡ Some outcome) }
     ensures err { OnErr result ((hindrance ≡ Hindrance.Full) ⊎ (hindrance ≡ Hindrance.NoMemory)) }
 {
     match hindrance {
         Hindrance::Down => Ok(Outcome::Down),
         Hindrance::Failed => Ok(Outcome::Failed),
         Hindrance::Full => full(alloc, Table::Log, LOG_LIMIT),
-        Hindrance::DiskFault if down => Ok(Outcome::Stopped),
+        Hindrance::DiskFault if stopped => Ok(Outcome::Stopped),
         Hindrance::DiskFault => Ok(Outcome::Disk),
         Hindrance::NoMemory => Err(AllocError),
     }

@@ -9,14 +9,11 @@
 #![tactic(auto)]
 
 mod collecting;
-mod counts;
 mod hindered;
 mod keepers;
 mod past;
-mod refused;
 mod replica;
 mod restoring;
-mod sent;
 mod snapshot;
 mod told;
 
@@ -25,6 +22,5 @@ pub use adr_packet::{Reply, Request};
 pub use adr_restore::Image;
 pub use adr_state::State;
 pub use past::Past;
-pub use refused::full;
 pub use replica::Replica;
 pub use snapshot::Snapshot;

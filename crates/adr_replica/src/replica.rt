@@ -18,8 +18,6 @@ ghost use Rattle.adr_replica.specs.Led.{IsDone, IsUndone, Leads, LeadsTo, Stands
 use crate::hindered::{hindered, hindrance_in, hindrance_of_start, settle};
 use crate::keepers::goes_as_planned;
 use crate::past::{Ahead, Kept, Past};
-use crate::refused::{serve_refused, take_refused, write_refused};
-use crate::sent::{sent, unsent};
 use crate::told::Deed;
 use adr_checks::Schema;
 use adr_controller::{CallRefusal, Controller, Keeper, PlannedKeeper, StartRefusal};
@@ -32,6 +30,7 @@ use adr_law_recorded::{
     recorded_changes_leave_logged_states, replies_are_in_range, requests_are_in_range,
     taken_replies_are_recorded, writes_are_recorded,
 };
+use adr_outcome::{sent, serve_refused, take_refused, unsent, write_refused};
 use adr_packet::{Reply, Request};
 use adr_records::Records;
 use adr_schema::{NoMemory, Text};
@@ -173,11 +172,11 @@ impl Replica {
         writes_are_recorded();
         let made = self.controller.write(alloc, event, now);
         let how = hindrance_in(&made);
-        let down = settle(&mut self.controller, &mut self.kept, past, ahead, how);
+        let stopped = settle(&mut self.controller, &mut self.kept, past, ahead, how);
         match made {
             Ok(usn) => Ok(Outcome::Usn(usn)),
             Err(CallRefusal::Refused(refusal)) => write_refused(alloc, refusal),
-            Err(CallRefusal::Hindered(hindrance)) => hindered(alloc, hindrance, down),
+            Err(CallRefusal::Hindered(hindrance)) => hindered(alloc, hindrance, stopped),
         }
     }
 
@@ -195,10 +194,8 @@ impl Replica {
         requests_are_in_range();
         match self.controller.ask(alloc, partner, max) {
             Ok(request) => Ok((Outcome::Ok, Some(request))),
-            Err(hindrance) => {
-                let down = self.controller.is_down();
-                Ok((hindered(alloc, hindrance, down)?, None))
-            }
+            // Asking calls no disk, so that none stopped within it.
+            Err(hindrance) => Ok((hindered(alloc, hindrance, false)?, None)),
         }
     }
 
@@ -231,11 +228,11 @@ impl Replica {
         replies_are_in_range();
         let made = self.controller.serve(alloc, request);
         let how = hindrance_in(&made);
-        let down = settle(&mut self.controller, &mut self.kept, past, ahead, how);
+        let stopped = settle(&mut self.controller, &mut self.kept, past, ahead, how);
         match made {
             Ok(reply) => sent(reply),
             Err(CallRefusal::Refused(refusal)) => unsent(serve_refused(alloc, refusal)),
-            Err(CallRefusal::Hindered(hindrance)) => unsent(hindered(alloc, hindrance, down)),
+            Err(CallRefusal::Hindered(hindrance)) => unsent(hindered(alloc, hindrance, stopped)),
         }
     }
 
@@ -268,7 +265,7 @@ impl Replica {
         quarantines_are_recorded();
         let made = self.controller.take(alloc, reply);
         let how = hindrance_in(&made);
-        let down = settle(&mut self.controller, &mut self.kept, past, ahead, how);
+        let stopped = settle(&mut self.controller, &mut self.kept, past, ahead, how);
         match made {
             Ok(taken) => Ok(Outcome::Took {
                 items: taken.items,
@@ -276,7 +273,7 @@ impl Replica {
                 usn: taken.usn,
             }),
             Err(CallRefusal::Refused(refusal)) => take_refused(alloc, refusal),
-            Err(CallRefusal::Hindered(hindrance)) => hindered(alloc, hindrance, down),
+            Err(CallRefusal::Hindered(hindrance)) => hindered(alloc, hindrance, stopped),
         }
     }
 
@@ -324,8 +321,7 @@ impl Replica {
         goes_as_planned(&self.controller);
         let started = self.controller.start();
         let how = hindrance_of_start(&started);
-        settle(&mut self.controller, &mut self.kept, past, ahead, how);
-        let stopped = self.controller.is_stopped();
+        let stopped = settle(&mut self.controller, &mut self.kept, past, ahead, how);
         match started {
             Ok(()) => Ok(Outcome::Ok),
             Err(StartRefusal::DiskFault) if stopped => Ok(Outcome::Stopped),

@@ -12,10 +12,10 @@ ghost use Rattle.adr_model.specs.World.{Name, World as Defined, backed_up, nothi
 ghost use Rattle.adr_records.specs.Logged.{IsLogged};
 ghost use Rattle.adr_replica.specs.Led.{Adopts, Unadopted};
 
-use crate::refused::{adopt_refused, quarantined};
 use crate::replica::Replica;
 use adr_event::{AdoptRefusal, Failure, Outcome, Table};
 use adr_law_recorded::fitting_states_may_begin;
+use adr_outcome::{adopt_refused, quarantined};
 use adr_restore::{Image, new_log_end};
 use adr_schema::{NoMemory, Text};
 use adr_state::{LOG_LIMIT, State};
@@ -33,13 +33,20 @@ fn woken(alloc: Global, image: &Image, dsa: Uuid, inv: Uuid) -> Result<State, Fa
         → (name : Name) → Unadopted name (adopt image.now dsa inv) (adopt_refused refusal) }
 {
     let state = image.adopt(alloc, dsa, inv)?;
-    if new_log_end(alloc, &state)?.is_none() {
-        return Err(Failure::Refused(AdoptRefusal::Full {
-            table: Table::Log,
-            limit: LOG_LIMIT,
-        }));
+    match new_log_end(alloc, &state) {
+        Ok(Some(_)) => Ok(state),
+        Ok(None) => {
+            drop(state);
+            Err(Failure::Refused(AdoptRefusal::Full {
+                table: Table::Log,
+                limit: LOG_LIMIT,
+            }))
+        }
+        Err(_) => {
+            drop(state);
+            Err(Failure::NoMemory)
+        }
     }
-    Ok(state)
 }
 
 impl Replica {

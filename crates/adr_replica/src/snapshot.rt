@@ -11,14 +11,17 @@ use adr_journal::Journal;
 use adr_schema::{NoMemory, Text};
 use std::alloc::{AllocError, Global};
 use std::marker::Model;
+use uuid::Uuid;
 
-/// The bytes of a controller's disk, put aside: a start of them finds a state.
+/// The bytes of a controller's disk, put aside, and its identifier: a start of them finds a state of that controller.
 #[derive(Drop)]
 pub struct Snapshot {
     bytes: Vec<u8>,
+    dsa: Uuid,
 }
 
 impl Model for Snapshot {
+    ghost use Rattle.std.specs.Prelude.{◌≡◌};
     ghost use Rattle.adr_model.specs.World.{Snapshot as Defined};
     ghost use Rattle.adr_replica.specs.Put.{IsWhole, aside};
 
@@ -26,7 +29,7 @@ impl Model for Snapshot {
 
     ghost view = { λ s. aside s.bytes.items };
 
-    ghost invariant = { λ s. IsWhole s.bytes.items };
+    ghost invariant = { λ s. IsWhole s.bytes.items × (s.dsa ≡ (aside s.bytes.items).state.dsa) };
 }
 
 impl Replica {
@@ -36,6 +39,7 @@ impl Replica {
     {
         Ok(Snapshot {
             bytes: self.controller.bytes()?,
+            dsa: self.dsa,
         })
     }
 
@@ -54,13 +58,9 @@ impl Replica {
             }
         };
         goes_as_planned(&controller);
-        let Some(state) = controller.state() else {
-            unreachable!()
-        };
-        let dsa = state.dsa();
         Ok(Replica {
             name,
-            dsa,
+            dsa: snapshot.dsa,
             controller,
             kept: Kept::none(),
         })

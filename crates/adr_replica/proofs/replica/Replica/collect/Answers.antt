@@ -17,13 +17,13 @@ collect-made-requires c = record {
 }
 
 -- what the call came to
-came : (c : goal.Joined-made) → CameTo c.self.invariant c.args.self.now c.args.past.now (collecting c.args.now c.args.lifetime) c.settle-down.new.controller c.settle-down.new.kept c.settle-down.new.past c.hindrance_in-how.result
+came : (c : goal.Joined-made) → CameTo c.self.invariant c.args.self.now c.args.past.now (collecting c.args.now c.args.lifetime) c.settle-stopped.new.controller c.settle-stopped.new.kept c.settle-stopped.new.past c.hindrance_in-how.result
 came c =
     came_to c.self.invariant c.goes_as_planned.ensures.in_order c.goes_as_planned.ensures.planned c.args.past.now (collecting c.args.now c.args.lifetime) (same_collected c.args.now c.args.lifetime)
     (λ s ch formed makes.
     let f = collected_follows c.recorded_changes_leave_logged_states.ensures c.logged_states_fit.ensures c.collections_are_recorded.ensures c.args.now c.args.lifetime s ch formed makes in
     record { follows = f.follows; fits = f.fits; formed = f.formed })
-    c.self.view_is c.of-ahead.ensures.past c.of-ahead.ensures.kept c.settle-down.ensures.controller c.settle-down.ensures.kept c.settle-down.ensures.past c.hindrance_in-how.ensures c.collect-made.ensures.calls
+    c.self.view_is c.of-ahead.ensures.past c.of-ahead.ensures.kept c.settle-stopped.ensures.controller c.settle-stopped.ensures.kept c.settle-stopped.ensures.past c.hindrance_in-how.ensures c.collect-made.ensures.calls
 
 pub invariant_of-self : goal.invariant_of-self
 invariant_of-self c =
@@ -43,7 +43,7 @@ returns-clause-collected c =
           (λ s there. c.collect-made.ensures.refused s w.in-Err-Refused.refusal there is) w.collect_refused.result w.result-is w.collect_refused.ensures
       | in-Err-Hindered w ↦
           let is = w.in-Err-Hindered.is ∙ ap Err (rw w.in-Err-Hindered.is at w.in-Err-Hindered.field-0-is) in
-          ok_hindered_collect _ _ _ _ _ _ _ _ c.args.now c.args.lifetime m c.match-made.result w.in-Err-Hindered.hindrance (how ∙ ap call_hindrance is) c.settle-down.result c.settle-down.ensures.down
+          ok_hindered_collect _ _ _ _ _ _ _ _ c.args.now c.args.lifetime m c.match-made.result w.in-Err-Hindered.hindrance (how ∙ ap call_hindrance is) c.settle-stopped.result c.settle-stopped.ensures.stopped
           w.hindered.result w.result-is w.hindered.ensures.ok
     ]
 

@@ -1,9 +1,11 @@
-use Rattle.adr_replica.proofs.PutBack.{aside_so, aside_whole}
+use Rattle.adr_replica.proofs.PutBack.{aside_dsa, aside_so, aside_whole}
 use Rattle.adr_replica.proofs.replica.Replica.snapshot.Goals as goal
 
 pub invariant_of-result : goal.invariant_of-result
-invariant_of-result c =
-    aside_whole _ _ _ _ _ c.self.inside.name c.self.inside.dsa c.self.inside.controller c.self.inside.kept c.self.invariant c.in_ok-bytes.field-0.items c.in_ok-bytes.ensures
+invariant_of-result c = (
+  aside_whole _ _ _ _ _ c.self.inside.name c.self.inside.dsa c.self.inside.controller c.self.inside.kept c.self.invariant c.in_ok-bytes.field-0.items c.in_ok-bytes.ensures,
+  aside_dsa _ _ _ _ _ c.self.inside.name c.self.inside.dsa c.self.inside.controller c.self.inside.kept c.self.invariant c.in_ok-bytes.field-0.items c.in_ok-bytes.ensures,
+)
 
 pub returns : goal.returns
 returns c =

@@ -10,12 +10,12 @@ returns-then-is_some-clause-started c = λ w stands.
     up_already _ _ _ _ _ _ _ _ _ _ c.self.invariant c.args.self.now c.args.past.now _ c.self.view_is up.1 c.state.ensures.in_order w stands
 
 -- what the start came to
-begins : (c : goal.Joined-started) → BeginsTo c.self.invariant c.args.self.now c.args.past.now c.start-started.result c.settle.new.controller c.settle.new.kept c.settle.new.past
+begins : (c : goal.Joined-started) → BeginsTo c.self.invariant c.args.self.now c.args.past.now c.start-started.result c.settle-stopped.new.controller c.settle-stopped.new.kept c.settle-stopped.new.past
 begins c =
     begins_to c.self.invariant c.state.ensures.in_order c.goes_as_planned.ensures.planned c.args.past.now
     (not_there _ _ c.state.result c.state.ensures.state (sym c.is_some.ensures ∙ c.if-is_some.false))
     c.revive.ensures.plan c.revive.ensures.same c.revive.ensures.running c.revive.ensures.stays c.self.view_is c.of-ahead.ensures.past c.of-ahead.ensures.kept
-    c.start-started.new.self c.start-started.result c.hindrance_of_start-how.ensures c.settle.ensures.controller c.settle.ensures.kept c.settle.ensures.past
+    c.start-started.new.self c.start-started.result c.hindrance_of_start-how.ensures c.settle-stopped.ensures.controller c.settle-stopped.ensures.kept c.settle-stopped.ensures.past
     c.start-started.ensures.ok c.start-started.ensures.err c.start-started.ensures.damaged c.start-started.ensures.starts
 
 pub invariant_of-self : goal.invariant_of-self
@@ -28,9 +28,9 @@ returns-clause-started c =
     elim c.match-started.branch [
       | in-Ok w ↦ if_ok_at _ _ _ w.result-is (b.passed _ w.in-Ok.is)
       | in-Err-DiskFault w ↦
-          if_ok_at _ _ _ w.result-is (faulty_as _ _ _ _ _ _ _ b (w.in-Err-DiskFault.is ∙ ap Err (rw w.in-Err-DiskFault.is at w.in-Err-DiskFault.field-0-is)) c.is_stopped-stopped.result true c.is_stopped-stopped.ensures w.if-stopped.true)
+          if_ok_at _ _ _ w.result-is (faulty_as _ _ _ _ _ _ _ b (w.in-Err-DiskFault.is ∙ ap Err (rw w.in-Err-DiskFault.is at w.in-Err-DiskFault.field-0-is)) c.settle-stopped.result true c.settle-stopped.ensures.stopped w.if-stopped.true)
       | in-Err-DiskFault-2 w ↦
-          if_ok_at _ _ _ w.result-is (faulty_as _ _ _ _ _ _ _ b (w.in-Err-DiskFault-2.is ∙ ap Err (rw w.in-Err-DiskFault-2.is at w.in-Err-DiskFault-2.field-0-is)) c.is_stopped-stopped.result false c.is_stopped-stopped.ensures w.if-stopped.false)
+          if_ok_at _ _ _ w.result-is (faulty_as _ _ _ _ _ _ _ b (w.in-Err-DiskFault-2.is ∙ ap Err (rw w.in-Err-DiskFault-2.is at w.in-Err-DiskFault-2.field-0-is)) c.settle-stopped.result false c.settle-stopped.ensures.stopped w.if-stopped.false)
       | in-Err-NoMemory w ↦ no_ok _ _ _ w.result-is
     ]
 

@@ -18,13 +18,13 @@ take-made-requires-clause-follows c = λ s ch formed makes.
     record { follows = f.follows; fits = f.fits; formed = f.formed }
 
 -- what the call came to
-came : (c : goal.Joined-made) → CameTo c.self.invariant c.args.self.now c.args.past.now (taking c.args.reply.now) c.settle-down.new.controller c.settle-down.new.kept c.settle-down.new.past c.hindrance_in-how.result
+came : (c : goal.Joined-made) → CameTo c.self.invariant c.args.self.now c.args.past.now (taking c.args.reply.now) c.settle-stopped.new.controller c.settle-stopped.new.kept c.settle-stopped.new.past c.hindrance_in-how.result
 came c =
     came_to c.self.invariant c.goes_as_planned.ensures.in_order c.goes_as_planned.ensures.planned c.args.past.now (taking c.args.reply.now) (same_taken c.args.reply.now)
     (λ s ch formed makes.
     let f = taken_follows c.recorded_changes_leave_logged_states.ensures c.logged_states_fit.ensures c.taken_replies_are_recorded.ensures c.quarantines_are_recorded.ensures c.args.reply.now c.requires.spelled c.requires.ranged s ch formed makes in
     record { follows = f.follows; fits = f.fits; formed = f.formed })
-    c.self.view_is c.of-ahead.ensures.past c.of-ahead.ensures.kept c.settle-down.ensures.controller c.settle-down.ensures.kept c.settle-down.ensures.past c.hindrance_in-how.ensures c.take-made.ensures.calls
+    c.self.view_is c.of-ahead.ensures.past c.of-ahead.ensures.kept c.settle-stopped.ensures.controller c.settle-stopped.ensures.kept c.settle-stopped.ensures.past c.hindrance_in-how.ensures c.take-made.ensures.calls
 
 pub invariant_of-self : goal.invariant_of-self
 invariant_of-self c =
@@ -43,7 +43,7 @@ returns-clause-taken c =
           w.take_refused.result w.result-is w.take_refused.ensures
       | in-Err-Hindered w ↦
           let is = w.in-Err-Hindered.is ∙ ap Err w.in-Err-Hindered.field-0-is in
-          ok_hindered_take _ _ _ _ _ _ _ _ c.args.reply.now m c.match-made.result w.in-Err-Hindered.hindrance (how ∙ ap call_hindrance is) c.settle-down.result c.settle-down.ensures.down
+          ok_hindered_take _ _ _ _ _ _ _ _ c.args.reply.now m c.match-made.result w.in-Err-Hindered.hindrance (how ∙ ap call_hindrance is) c.settle-stopped.result c.settle-stopped.ensures.stopped
           w.hindered.result w.result-is w.hindered.ensures.ok
     ]
 

@@ -15,13 +15,13 @@ write-made-requires-clause-follows c = λ s ch formed makes.
     record { follows = f.follows; fits = f.fits; formed = f.formed }
 
 -- what the call came to
-came : (c : goal.Joined-made) → CameTo c.self.invariant c.args.self.now c.args.past.now (writing c.args.event.now c.args.now) c.settle-down.new.controller c.settle-down.new.kept c.settle-down.new.past c.hindrance_in-how.result
+came : (c : goal.Joined-made) → CameTo c.self.invariant c.args.self.now c.args.past.now (writing c.args.event.now c.args.now) c.settle-stopped.new.controller c.settle-stopped.new.kept c.settle-stopped.new.past c.hindrance_in-how.result
 came c =
     came_to c.self.invariant c.goes_as_planned.ensures.in_order c.goes_as_planned.ensures.planned c.args.past.now (writing c.args.event.now c.args.now) (same_written c.args.event.now c.args.now)
     (λ s ch formed makes.
     let f = written_follows c.recorded_changes_leave_logged_states.ensures c.logged_states_fit.ensures c.writes_are_recorded.ensures c.args.event.now c.args.now c.requires c.ranges.now.fits s ch formed makes in
     record { follows = f.follows; fits = f.fits; formed = f.formed })
-    c.self.view_is c.of-ahead.ensures.past c.of-ahead.ensures.kept c.settle-down.ensures.controller c.settle-down.ensures.kept c.settle-down.ensures.past c.hindrance_in-how.ensures c.write-made.ensures.calls
+    c.self.view_is c.of-ahead.ensures.past c.of-ahead.ensures.kept c.settle-stopped.ensures.controller c.settle-stopped.ensures.kept c.settle-stopped.ensures.past c.hindrance_in-how.ensures c.write-made.ensures.calls
 
 pub invariant_of-self : goal.invariant_of-self
 invariant_of-self c =
@@ -40,7 +40,7 @@ returns-clause-written c =
           w.write_refused.result w.result-is w.write_refused.ensures
       | in-Err-Hindered w ↦
           let is = w.in-Err-Hindered.is ∙ ap Err w.in-Err-Hindered.field-0-is in
-          ok_hindered _ _ _ _ _ _ _ _ _ _ m c.match-made.result w.in-Err-Hindered.hindrance (how ∙ ap call_hindrance is) c.settle-down.result c.settle-down.ensures.down w.hindered.result w.result-is w.hindered.ensures.ok
+          ok_hindered _ _ _ _ _ _ _ _ _ _ m c.match-made.result w.in-Err-Hindered.hindrance (how ∙ ap call_hindrance is) c.settle-stopped.result c.settle-stopped.ensures.stopped w.hindered.result w.result-is w.hindered.ensures.ok
     ]
 
 pub returns-clause-err : goal.returns-clause-err

@@ -2,7 +2,7 @@
 
 ghost use Rattle.std.specs.Prelude.{◌≡◌, ◌∷◌, [], IfOk, map};
 ghost use Rattle.adr_model.specs.Refused.{adopt_refused, attr_field, collect_refused, fault_name, field, full, id_field, quarantined, rolled_back, schema_name, schemas_differ, serve_refused, table_name, take_refused, write_refused};
-ghost use Rattle.adr_replica.specs.Refused.{field_of, value_of};
+ghost use Rattle.adr_outcome.specs.Refused.{field_of, value_of};
 
 use adr_event::{
     AdoptRefusal, CollectRefusal, Field, Fields, ItemFault, Outcome, Plainly, ServeRefusal, Table,

@@ -1,6 +1,6 @@
 use Rattle.std.proofs.Common.{◌≡◌, map, take}
-use Rattle.adr_replica.specs.Refused.{field_of}
-use Rattle.adr_replica.proofs.refused.fields_of.Given as goal
+use Rattle.adr_outcome.specs.Refused.{field_of}
+use Rattle.adr_outcome.proofs.refused.fields_of.Given as goal
 
 -- the fields so far
 abbrev pub invariant-loop-name : goal.invariant-loop-name

@@ -5,8 +5,8 @@ use Rattle.adr_event.specs.declared.answer.Field.{Field}
 use Rattle.adr_event.specs.declared.answer.Plainly.{Plainly}
 use Rattle.adr_event.specs.declared.answer.Plainly.TheVariants as values
 use Rattle.adr_model.specs.Refused.{fault_name, field, table_name}
-use Rattle.adr_replica.specs.declared.refused.Telling.{Telling}
-use Rattle.adr_replica.specs.declared.refused.Telling.TheVariants as tells
+use Rattle.adr_outcome.specs.declared.refused.Telling.{Telling}
+use Rattle.adr_outcome.specs.declared.refused.Telling.TheVariants as tells
 
 abbrev pub value_of : Telling → Plainly
 value_of (tells.Id id) = values.Id id

@@ -1,7 +1,8 @@
 //! What is told of a reply. A count that needs more than 32 bits counts as want of memory.
 
-ghost use Rattle.std.specs.Prelude.{◌≡◌, is_some, length, IfOk};
+ghost use Rattle.std.specs.Prelude.{◌≡◌, Some, is_some, length, IfOk};
 ghost use Rattle.adr_model.specs.World.{rows_in};
+ghost use Rattle.adr_outcome.specs.Unsent.{unsent};
 
 use adr_event::Outcome;
 use adr_packet::Reply;
@@ -29,7 +30,7 @@ fn rows_in(reply: &Reply) -> Result<u32, NoMemory>
 }
 
 /// What is answered where a reply was made.
-pub fn served(reply: &Reply) -> Result<Outcome, NoMemory>
+fn served(reply: &Reply) -> Result<Outcome, NoMemory>
     ensures { IfOk result (λ outcome.
         outcome
         ≡ Outcome.Served reply.now.from reply.now.to (length reply.now.items) (rows_in reply.now) (is_some reply.now.last)) }
@@ -41,4 +42,23 @@ pub fn served(reply: &Reply) -> Result<Outcome, NoMemory>
         rows: rows_in(reply)?,
         last: reply.last().is_some(),
     })
+}
+
+/// A reply, with what is answered where it was made.
+pub fn sent(reply: Reply) -> Result<(Outcome, Option<Reply>), NoMemory>
+    ensures { IfOk result (λ sent. (sent.1 ≡ Some reply)
+        × (sent.0 ≡ Outcome.Served reply.from reply.to (length reply.items) (rows_in reply) (is_some reply.last))) }
+{
+    let outcome = served(&reply)?;
+    Ok((outcome, Some(reply)))
+}
+
+/// An answer without a reply.
+pub fn unsent(told: Result<Outcome, NoMemory>) -> Result<(Outcome, Option<Reply>), NoMemory>
+    ensures { result ≡ unsent told }
+{
+    match told {
+        Ok(outcome) => Ok((outcome, None)),
+        Err(failure) => Err(failure),
+    }
 }

@@ -1,0 +1,7 @@
+-- An answer without a message.
+use Rattle.std.specs.Prelude.{Option, None, Result, Ok, Err}
+use Rattle.adr_event.specs.declared.answer.Outcome.{Outcome}
+
+abbrev pub unsent : {A E : Type 0} → Result Outcome E → Result (Outcome × Option A) E
+unsent (Ok outcome) = Ok (outcome, None)
+unsent (Err e) = Err e
