@@ -33,6 +33,8 @@ class Crate:
         self.root = "src/main.rt" if name == PROGRAM else "src/lib.rt"
         self.folder = f"{TOP}/crates/{name}"
         self.log = f"{self.folder}/out/build.log"
+        # From 0 to 19: the more wait for a crate, the sooner its processes run.
+        self.niceness = 0
         # Where rt has a crate's library too; it removes the folder when it builds its own.
         self.built = f"{self.folder}/out/rlib"
         self.library = f"{self.built}/{name}.rlib"
@@ -46,9 +48,9 @@ class Crate:
         """Its files in some of its folders, in order."""
         return sorted(f"{folder}/{file}" for part in parts for folder, _, files in os.walk(f"{self.folder}/{part}") for file in files)
 
-    def seconds(self):
-        """A guess of what its check takes: ten lines of code a second, behind what each check loads."""
-        return 8 + sum(read(it).count(b"\n") for it in self.files("src")) / 10
+    def seconds(self, below):
+        """A guess of what its check takes: ten lines of code a second, half as many where it stands on 50 crates, behind what each check loads."""
+        return 8 + sum(read(it).count(b"\n") for it in self.files("src")) / 10 * (1 + below / 50)
 
 
 def read(file):
@@ -77,11 +79,16 @@ def crates_of_program():
 def times_that_wait(crates):
     """For each crate the time of the longest chain of crates that begins with it, each waiting for the one before."""
     above = {name: [it.name for it in crates.values() if name in it.below] for name in crates}
-    lengths = {}
+    stands_on, lengths = {}, {}
+
+    def below(name):
+        if name not in stands_on:
+            stands_on[name] = set(crates[name].below).union(*map(below, crates[name].below))
+        return stands_on[name]
 
     def length(name):
         if name not in lengths:
-            lengths[name] = crates[name].seconds() + max((length(it) for it in above[name]), default=0)
+            lengths[name] = crates[name].seconds(len(below(name))) + max((length(it) for it in above[name]), default=0)
         return lengths[name]
 
     return {name: length(name) for name in crates}
@@ -140,7 +147,7 @@ def output(*words):
 def call(crate, *words):
     """Runs a tool in a crate's folder, with its log; whether it went well."""
     with open(crate.log, "ab") as log:
-        return subprocess.call(words, cwd=crate.folder, stdin=subprocess.DEVNULL, stdout=log, stderr=log) == 0
+        return subprocess.call(["nice", "-n", str(crate.niceness), *words], cwd=crate.folder, stdin=subprocess.DEVNULL, stdout=log, stderr=log) == 0
 
 
 class Build:
@@ -149,6 +156,9 @@ class Build:
     def __init__(self, crates, toolchain, workers):
         self.crates, self.toolchain, self.workers = crates, toolchain, workers
         self.waiting, self.sums = times_that_wait(crates), sums_of(crates, toolchain.line)
+        longest = max(self.waiting.values())
+        for it in crates.values():
+            it.niceness = round(19 * (1 - self.waiting[it.name] / longest))
         self.state = threading.Condition()
         self.left, self.under_way, self.done, self.failed = set(crates), set(), set(), []
         self.begun = time.monotonic()
@@ -157,10 +167,10 @@ class Build:
         return [it for it in self.left if set(self.crates[it].below) <= self.done]
 
     def jobs_for(self, name):
-        """Processes for a crate's check: those that no other crate is ready for, and two for the one that most wait for. Each loads the same files again."""
-        spare = self.workers - len(self.under_way) - len(self.ready())
-        most = self.waiting[name] == max(self.waiting[it] for it in self.under_way)
-        return max(2 if most else 1, 1 + spare)
+        """Processes for a crate's check: as many as there are for the one that most wait for, and for others those that no crate is ready for."""
+        if self.waiting[name] == max(self.waiting[it] for it in self.under_way):
+            return self.workers
+        return max(1, 1 + self.workers - len(self.under_way) - len(self.ready()))
 
     def next(self):
         """The name of a crate to prove and how many processes it may take, once there is one; None when nothing is left."""

@@ -7,12 +7,12 @@ ghost use Rattle.adr_change.specs.Mode.{mode_of};
 
 use crate::NoMemory;
 use crate::kept::Kept;
+use adr_guid::Guid;
 use adr_stamp::Oid;
 use adr_update::{Held, Written};
 use adr_vector::Vector;
 use std::alloc::Global;
 use std::marker::Model;
-use uuid::Uuid;
 
 /// Whether a controller serves and takes changes, or was put back without a fresh identifier and stopped.
 #[derive(Clone, Copy)]
@@ -39,7 +39,7 @@ impl Mode {
 pub struct Change {
     usn: u64,
     mode: Mode,
-    mark: Option<(Uuid, Kept)>,
+    mark: Option<(Guid, Kept)>,
     joined: Vector,
     purged: Vector,
     removed: Vec<Oid>,
@@ -60,7 +60,7 @@ impl Change {
     pub fn new(
         usn: u64,
         mode: Mode,
-        mark: Option<(Uuid, Kept)>,
+        mark: Option<(Guid, Kept)>,
         joined: Vector,
         purged: Vector,
         removed: Vec<Oid>,
@@ -95,7 +95,7 @@ impl Change {
     }
 
     /// A partner, and what is kept of it from now on.
-    pub fn mark(&self) -> Option<(Uuid, Kept)>
+    pub fn mark(&self) -> Option<(Guid, Kept)>
         ensures { result ≡ self.now.mark }
     {
         self.mark

@@ -3,15 +3,15 @@
 ghost use Rattle.std.specs.Prelude.{◌≡◌};
 ghost use Rattle.adr_model.specs.Store.{mark_of, no_mark};
 
+use adr_guid::Guid;
 use adr_update::is_same;
 use adr_vector::Mark;
 use std::marker::Model;
-use uuid::Uuid;
 
 /// How far an incarnation of a partner's database was read (MS-DRSR, USN_VECTOR).
 #[derive(Clone, Copy)]
 pub struct Kept {
-    inv: Uuid,
+    inv: Guid,
     mark: Mark,
 }
 
@@ -26,14 +26,14 @@ impl Model for Kept {
 }
 
 impl Kept {
-    pub fn new(inv: Uuid, mark: Mark) -> Kept
+    pub fn new(inv: Guid, mark: Mark) -> Kept
         ensures { result ≡ record { inv = inv; mark = mark } }
     {
         Kept { inv, mark }
     }
 
     /// The invocation identifier that was read.
-    pub fn inv(&self) -> Uuid
+    pub fn inv(&self) -> Guid
         ensures { result ≡ self.now.inv }
     {
         self.inv
@@ -46,7 +46,7 @@ impl Kept {
     }
 
     /// The mark, as far as it is of this incarnation.
-    pub fn mark_of(&self, inv: Uuid) -> Mark
+    pub fn mark_of(&self, inv: Guid) -> Mark
         ensures { result ≡ mark_of self.now inv }
     {
         if is_same(self.inv, inv) {

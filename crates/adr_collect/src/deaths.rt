@@ -11,9 +11,9 @@ ghost use Rattle.adr_collect.specs.Covering.{covering_with};
 
 use crate::NoMemory;
 use adr_event::Failure;
+use adr_guid::Guid;
 use adr_state::{Oid, State, Update, Vector};
 use std::alloc::{AllocError, Global};
-use uuid::Uuid;
 
 /// The objects that go, and the least vector that covers their births and deaths.
 #[derive(Drop)]
@@ -122,7 +122,7 @@ fn cover(vector: &mut Vector, seen: &Vector, object: &Oid, death: &Update) -> Re
 
 /// Brings up one number, which another vector covers. There are never too many cursors: the other one has them all.
 #[tactic(auto, using(crate::proofs::Within::raised_within, crate::proofs::Within::raised_few))]
-fn raise(vector: &mut Vector, seen: &Vector, inv: Uuid, usn: u64) -> Result<(), NoMemory>
+fn raise(vector: &mut Vector, seen: &Vector, inv: Guid, usn: u64) -> Result<(), NoMemory>
     requires within { AtMost (at vector.old) (at seen.now) }
     requires covered { covers seen.now inv usn ≡ true }
     ensures raised { OnOk result (vector.new ≡ raised vector.old inv usn) }

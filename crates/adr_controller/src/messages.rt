@@ -19,12 +19,12 @@ use crate::refusal::{CallRefusal, Hindrance};
 use adr_cycle::{ask, serve};
 use adr_event::{Failure, ServeRefusal, TakeRefusal};
 use adr_failure::NoMemory;
+use adr_guid::Guid;
 use adr_journal::Keeper;
 use adr_packet::{Reply, Request};
 use adr_state::{Change, Mode, State, Vector};
 use adr_take::take;
 use std::alloc::{AllocError, Global};
-use uuid::Uuid;
 
 /// What comes of a reply that was taken: how many items it had, how many of them were written, and the USN then.
 #[derive(Clone, Copy)]
@@ -136,7 +136,7 @@ impl<K: Keeper> Controller<K> {
     }
 
     /// What it asks a partner: the changes behind the mark that it has of the partner, at most `max` items in one reply.
-    pub fn ask(&self, alloc: Global, partner: Uuid, max: u32) -> Result<Request, Hindrance>
+    pub fn ask(&self, alloc: Global, partner: Guid, max: u32) -> Result<Request, Hindrance>
         ensures ok { IfOk result (λ request.
             (s : Defined) × (self.now.state ≡ Some s) × (request ≡ ask s partner max)) }
         ensures down { (hindrance_of result ≡ Some Hindrance.Down) ↔ (self.now.down ≡ true) }

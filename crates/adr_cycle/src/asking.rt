@@ -4,14 +4,14 @@ ghost use Rattle.std.specs.Prelude.{◌≡◌, IfOk};
 ghost use Rattle.adr_model.specs.Serve.{ask};
 
 use crate::NoMemory;
+use adr_guid::Guid;
 use adr_packet::Request;
 use adr_state::State;
 use std::alloc::Global;
-use uuid::Uuid;
 
 /// What the controller asks a partner: the changes behind the mark that it has of the partner, at most `max` items in
 /// one reply (MS-DRSR, DRS_MSG_GETCHGREQ).
-pub fn ask(alloc: Global, state: &State, partner: Uuid, max: u32) -> Result<Request, NoMemory>
+pub fn ask(alloc: Global, state: &State, partner: Guid, max: u32) -> Result<Request, NoMemory>
     ensures { IfOk result (λ request. request ≡ ask state.now partner max) }
 {
     let kept = state.marks().kept(partner);

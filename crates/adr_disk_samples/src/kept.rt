@@ -8,10 +8,10 @@ use adr_checks::Schema;
 use adr_controller::{Controller, Keeper, PlannedKeeper, StartRefusal, State};
 use adr_disk::Crash;
 use adr_event::Event;
+use adr_guid::Guid;
 use adr_schema::{Assignments, NoMemory, Text};
 use adr_update::root;
 use std::alloc::Global;
-use uuid::Uuid;
 
 /// What meets a call of a disk: a crash within it, or else a failure.
 pub type Mishap = Option<Crash>;
@@ -20,8 +20,8 @@ pub type Mishap = Option<Crash>;
 fn new_state(alloc: Global) -> State
     ensures { result ≡ new_state }
 {
-    let dsa = Uuid::from_u128(0xa0);
-    let inv = Uuid::from_u128(0xa1);
+    let dsa = Guid::from_u128(0xa0);
+    let inv = Guid::from_u128(0xa1);
     match Schema::new(1) {
         Some(schema) => State::new(alloc, dsa, inv, schema),
         None => unreachable!(),
@@ -48,7 +48,7 @@ fn addition(alloc: Global) -> Result<Event, NoMemory>
     let _ = text.items();
     Ok(Event::Add {
         name: Text::empty(alloc),
-        guid: Uuid::from_u128(0x10),
+        guid: Guid::from_u128(0x10),
         class: 4,
         parent: root(),
         text,

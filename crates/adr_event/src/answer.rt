@@ -4,16 +4,16 @@ ghost use Rattle.std.specs.Prelude.{◌≡◌};
 
 use crate::directory::Directory;
 use crate::partners::PartnerMarks;
+use adr_guid::Guid;
 use adr_schema::Text;
 use adr_vector::{Mark, Vector};
 use std::marker::Model;
-use uuid::Uuid;
 
 /// A value in a refusal.
 #[derive(Drop)]
 pub enum Plainly {
     /// An identifier.
-    Id(Uuid),
+    Id(Guid),
     /// A number.
     Number(u64),
     /// A high watermark.

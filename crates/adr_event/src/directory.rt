@@ -2,14 +2,14 @@
 
 ghost use Rattle.std.specs.Prelude.{◌≡◌};
 
+use adr_guid::Guid;
 use adr_schema::{Text, Values};
 use std::marker::Model;
-use uuid::Uuid;
 
 /// GUIDs of objects. In an entry they rise.
 #[derive(Drop)]
 pub struct Guids {
-    list: Vec<Uuid>,
+    list: Vec<Guid>,
 }
 
 impl Model for Guids {
@@ -21,13 +21,13 @@ impl Model for Guids {
 }
 
 impl Guids {
-    pub fn of(items: Vec<Uuid>) -> Guids
+    pub fn of(items: Vec<Guid>) -> Guids
         ensures { result ≡ items.items }
     {
         Guids { list: items }
     }
 
-    pub fn items(&self) -> &[Uuid]
+    pub fn items(&self) -> &[Guid]
         ensures { result.now ≡ self.now }
     {
         self.list.as_slice()
@@ -94,9 +94,9 @@ impl EntryLinks {
 /// A live object as it is shown: under its parent, by its shown name.
 #[derive(Drop)]
 pub struct Entry {
-    pub guid: Uuid,
+    pub guid: Guid,
     pub class: u16,
-    pub parent: Uuid,
+    pub parent: Guid,
     pub name: Text,
     pub values: EntryValues,
     pub links: EntryLinks,

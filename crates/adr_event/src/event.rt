@@ -1,8 +1,8 @@
 //! The events of a run.
 
 use adr_disk::Crash;
+use adr_guid::Guid;
 use adr_schema::{Assignments, Text};
-use uuid::Uuid;
 
 /// What happens. `name` names the controller that it happens to.
 #[derive(Drop)]
@@ -10,8 +10,8 @@ pub enum Event {
     /// A new, empty controller.
     Controller {
         name: Text,
-        dsa: Uuid,
-        inv: Uuid,
+        dsa: Guid,
+        inv: Guid,
     },
     /// The time, in seconds, of the events that follow.
     Time {
@@ -20,43 +20,43 @@ pub enum Event {
     /// A client adds an object under a parent, with a name and the values of its attributes.
     Add {
         name: Text,
-        guid: Uuid,
+        guid: Guid,
         class: u16,
-        parent: Uuid,
+        parent: Guid,
         text: Text,
         values: Assignments,
     },
     /// A client replaces the values of attributes.
     Modify {
         name: Text,
-        guid: Uuid,
+        guid: Guid,
         values: Assignments,
     },
     /// A client gives an object a name and a parent.
     Rename {
         name: Text,
-        guid: Uuid,
-        parent: Uuid,
+        guid: Guid,
+        parent: Guid,
         text: Text,
     },
     /// A client deletes an object.
     Delete {
         name: Text,
-        guid: Uuid,
+        guid: Guid,
     },
     /// A client links two objects.
     Link {
         name: Text,
-        from: Uuid,
+        from: Guid,
         attr: u16,
-        to: Uuid,
+        to: Guid,
     },
     /// A client removes a link.
     Unlink {
         name: Text,
-        from: Uuid,
+        from: Guid,
         attr: u16,
-        to: Uuid,
+        to: Guid,
     },
     /// The controller asks a partner for at most `max` items; the request is bound to a name.
     Ask {
@@ -102,14 +102,14 @@ pub enum Event {
     Restore {
         name: Text,
         image: Text,
-        inv: Uuid,
+        inv: Guid,
     },
     /// An image is adopted as a new controller.
     Install {
         name: Text,
-        dsa: Uuid,
+        dsa: Guid,
         image: Text,
-        inv: Uuid,
+        inv: Guid,
     },
     /// The bytes of the controller's disk are bound to a name.
     Snapshot {

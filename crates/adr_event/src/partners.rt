@@ -2,15 +2,15 @@
 
 ghost use Rattle.std.specs.Prelude.{◌≡◌};
 
+use adr_guid::Guid;
 use adr_vector::Mark;
 use std::marker::Model;
-use uuid::Uuid;
 
 /// For each partner, by its controller's identifier, the invocation identifier of its database that was read, and how
 /// far. In an answer the partners rise.
 #[derive(Drop)]
 pub struct PartnerMarks {
-    list: Vec<(Uuid, Uuid, Mark)>,
+    list: Vec<(Guid, Guid, Mark)>,
 }
 
 impl Model for PartnerMarks {
@@ -23,13 +23,13 @@ impl Model for PartnerMarks {
 }
 
 impl PartnerMarks {
-    pub fn of(items: Vec<(Uuid, Uuid, Mark)>) -> PartnerMarks
+    pub fn of(items: Vec<(Guid, Guid, Mark)>) -> PartnerMarks
         ensures { result ≡ items.items }
     {
         PartnerMarks { list: items }
     }
 
-    pub fn items(&self) -> &[(Uuid, Uuid, Mark)]
+    pub fn items(&self) -> &[(Guid, Guid, Mark)]
         ensures { result.now ≡ self.now }
     {
         self.list.as_slice()

@@ -4,10 +4,10 @@ ghost use Rattle.std.specs.Prelude.{◌≡◌};
 ghost use Rattle.adr_failure.specs.declared.Failure.TheVariants.{Refused as refused};
 
 use adr_failure::Failure;
+use adr_guid::Guid;
 use adr_schema::SchemaRefusal;
 use adr_stamp::Oid;
 use adr_vector::Mark;
-use uuid::Uuid;
 
 /// A table that has a limit.
 #[derive(Clone, Copy)]
@@ -46,21 +46,21 @@ pub enum WriteRefusal {
     /// The name is wrong at `place`, counted in bytes.
     BadName { place: u32 },
     /// No object of the GUID is held.
-    NoObject { guid: Uuid },
+    NoObject { guid: Guid },
     /// Objects of the GUID are held, and all are dead.
-    Deleted { guid: Uuid },
+    Deleted { guid: Guid },
     /// The parent is neither fixed nor a live object.
-    NoParent { guid: Uuid },
+    NoParent { guid: Guid },
     /// An object under the parent has a name that folds alike; `holder` keeps that name.
-    NameTaken { holder: Uuid },
+    NameTaken { holder: Guid },
     /// The object would come to stand under itself.
     WouldLoop,
     /// A live object is placed under it; `child` is the least.
-    HasChildren { child: Uuid },
+    HasChildren { child: Guid },
     /// The GUID is that of the root or of LostAndFound.
-    Fixed { guid: Uuid },
+    Fixed { guid: Guid },
     /// The GUID is that of the root or of LostAndFound, or an object of it is held, live or dead.
-    GuidThere { guid: Uuid },
+    GuidThere { guid: Guid },
     /// The link is there.
     LinkThere,
     /// The link is not there.
@@ -89,15 +89,15 @@ pub enum ServeRefusal {
     /// The controller is quarantined.
     Quarantined,
     /// The request is for another controller.
-    WrongController { mine: Uuid, asked: Uuid },
+    WrongController { mine: Guid, asked: Guid },
     /// The mark's numbers are out of order.
     BadMark { prop: u64, obj: u64, seen: u64 },
     /// The asker has seen more of this incarnation than there is: the database was put back.
-    RolledBack { inv: Uuid, mine: u64, shown: u64 },
+    RolledBack { inv: Guid, mine: u64, shown: u64 },
     /// The two controllers have different schemas.
     SchemaMismatch { mine: u32, theirs: u32 },
     /// Objects were collected whose deaths the asker hasn't seen.
-    TooOld { inv: Uuid, purged: u64, has: u64 },
+    TooOld { inv: Guid, purged: u64, has: u64 },
 }
 
 /// What is wrong with a row of an item.
@@ -115,15 +115,15 @@ pub enum TakeRefusal {
     /// The controller is quarantined.
     Quarantined,
     /// The reply is for another controller.
-    NotMine { dest: Uuid },
+    NotMine { dest: Guid },
     /// The reply doesn't begin where the last one of its source ended.
     Stale { mark: Mark, from: Mark },
     /// The reply was made for a vector that this controller doesn't have.
-    VectorBehind { inv: Uuid, has: u64, needs: u64 },
+    VectorBehind { inv: Guid, has: u64, needs: u64 },
     /// The two controllers have different schemas.
     SchemaMismatch { mine: u32, theirs: u32 },
     /// The source has seen more of this incarnation than there is: the database was put back.
-    RolledBack { inv: Uuid, mine: u64, shown: u64 },
+    RolledBack { inv: Guid, mine: u64, shown: u64 },
     /// A row of the item at `place`, from 0, breaks the schema.
     BadItem { place: u32, cause: ItemFault },
     /// An object that isn't held comes without its class, its name or a value that it must have.

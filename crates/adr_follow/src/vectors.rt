@@ -6,10 +6,10 @@ ghost use Rattle.adr_model.specs.Change.{after, with_mark};
 ghost use Rattle.adr_model.specs.Serve.{is_quarantined};
 ghost use Rattle.adr_model.specs.Take.{mark_limit};
 
+use adr_guid::Guid;
 use adr_state::{CURSOR_LIMIT, Change, MARK_LIMIT, State, is_same};
 use adr_told::len_after;
 use adr_vector::seen_by_both;
-use uuid::Uuid;
 
 /// Whether a change goes on from a state that is up, at its USN or above it.
 pub fn goes_on(state: &State, change: &Change) -> bool
@@ -62,7 +62,7 @@ fn is_purged_within(state: &State, change: &Change) -> bool
 }
 
 /// How much of an incarnation will have been seen.
-fn seen_after(state: &State, change: &Change, inv: Uuid) -> u64
+fn seen_after(state: &State, change: &Change, inv: Guid) -> u64
     ensures { result ≡ at (after state.now change.now).store.vector inv }
 {
     let seen = seen_by_both(state.vector(), change.joined(), inv);

@@ -10,11 +10,11 @@ ghost use Rattle.adr_image.specs.Written.{IsShortSaid};
 
 use crate::encoding::{write_kept, write_told};
 use adr_change::{Change, Kept};
+use adr_guid::Guid;
 use adr_stamp::{Oid, Unit};
 use adr_update::{NoMemory, Update, Written};
 use adr_wire::Writer;
 use std::alloc::Global;
-use uuid::Uuid;
 
 /// Writes an update, but not the unit that it is of.
 fn write_update(writer: &mut Writer, update: &Update) -> Result<(), NoMemory>
@@ -92,7 +92,7 @@ fn write_removed(writer: &mut Writer, removed: &[Oid]) -> Result<(), NoMemory>
 }
 
 /// Writes whether there is a mark, and the mark.
-fn write_mark_if(writer: &mut Writer, mark: &Option<(Uuid, Kept)>) -> Result<(), NoMemory>
+fn write_mark_if(writer: &mut Writer, mark: &Option<(Guid, Kept)>) -> Result<(), NoMemory>
     ensures { OnOk result (writer.new ≡ writer.old ++ mark_if mark.now) }
 {
     match mark {

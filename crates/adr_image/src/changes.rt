@@ -16,12 +16,12 @@ ghost use Rattle.adr_image.specs.Seen.{GivesSeen};
 use crate::links::LinkItem;
 use crate::marks::read_kept;
 use adr_change::{Change, Kept, Mode};
+use adr_guid::Guid;
 use adr_schema::Content;
 use adr_stamp::{LinkStamp, Oid, Stamp, Unit};
 use adr_update::{Item, Key, NoMemory, Said, Update, Written};
 use adr_wire::{Failure, Malformed, Reader, WireRefusal};
 use std::alloc::{AllocError, Global};
-use uuid::Uuid;
 
 /// A row: its attribute, its stamp and its content.
 type Row = (u16, Stamp, Content);
@@ -142,7 +142,7 @@ fn read_removed(reader: &mut Reader<'_>, alloc: Global) -> Result<Vec<Oid>, Wire
 
 /// The mark that a change keeps, if there is one.
 #[tactic(auto, unfolding(crate::specs::Body::mark_if_at))]
-fn read_mark_if(reader: &mut Reader<'_>) -> Result<Option<(Uuid, Kept)>, WireRefusal>
+fn read_mark_if(reader: &mut Reader<'_>) -> Result<Option<(Guid, Kept)>, WireRefusal>
     ensures { Tells result reader.new (form.mark_if_at reader.old) }
 {
     if !reader.read_flag()? {

@@ -16,12 +16,12 @@ use crate::gathered::{read_links, read_objects};
 use crate::marks::read_marks;
 use adr_change::Kept;
 use adr_checks::Schema;
+use adr_guid::Guid;
 use adr_update::Held;
 use adr_vector::Vector;
 use adr_wire::{Failure, Malformed, Reader, WireRefusal};
 use std::alloc::Global;
 use std::marker::Model;
-use uuid::Uuid;
 
 /// A database, as it was read.
 #[derive(Drop)]
@@ -36,7 +36,7 @@ pub struct Contents {
     /// What covers the births and deaths of the objects that were collected.
     pub purged: Vector,
     /// How far each partner was read, by its controller's identifier, rising.
-    pub marks: Vec<(Uuid, Kept)>,
+    pub marks: Vec<(Guid, Kept)>,
 }
 
 impl Model for Contents {

@@ -17,11 +17,11 @@ ghost use Rattle.adr_image.specs.Written.{HaveFewRows, IsShortSaid, IsWritable, 
 use crate::contents::Contents;
 use crate::decoding::{MAGIC, VERSION};
 use adr_change::Kept;
+use adr_guid::Guid;
 use adr_stamp::{LinkStamp, Oid};
 use adr_update::{Held, Key, NoMemory, Said};
 use adr_wire::Writer;
 use std::alloc::Global;
-use uuid::Uuid;
 
 /// Writes what a row says, behind its local USN.
 pub fn write_told(
@@ -141,7 +141,7 @@ fn write_rows(writer: &mut Writer, rows: &[Held]) -> Result<(), NoMemory>
 }
 
 /// Writes how far a partner was read.
-pub fn write_kept(writer: &mut Writer, mark: &(Uuid, Kept)) -> Result<(), NoMemory>
+pub fn write_kept(writer: &mut Writer, mark: &(Guid, Kept)) -> Result<(), NoMemory>
     ensures { OnOk result (writer.new ≡ writer.old ++ form.kept mark.now) }
 {
     writer.write_id(&mark.0)?;
@@ -150,7 +150,7 @@ pub fn write_kept(writer: &mut Writer, mark: &(Uuid, Kept)) -> Result<(), NoMemo
 }
 
 /// Writes how far each partner was read.
-fn write_marks(writer: &mut Writer, marks: &[(Uuid, Kept)]) -> Result<(), NoMemory>
+fn write_marks(writer: &mut Writer, marks: &[(Guid, Kept)]) -> Result<(), NoMemory>
     requires { length marks.now ≤ mark_limit }
     ensures { OnOk result (writer.new ≡ writer.old ++ whole.marks marks.now) }
 {

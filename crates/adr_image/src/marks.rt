@@ -8,14 +8,14 @@ ghost use Rattle.adr_image.specs.Image.{is_ordered, kept_above};
 ghost use Rattle.adr_image.specs.Whole.{marks_at};
 
 use adr_change::Kept;
+use adr_guid::Guid;
 use adr_update::MARK_LIMIT;
 use adr_vector::Mark;
 use adr_wire::{Failure, Malformed, Reader, WireRefusal};
 use std::alloc::Global;
-use uuid::Uuid;
 
 /// Whether a partner comes behind the last one.
-fn rises(last: Option<Uuid>, partner: Uuid) -> bool
+fn rises(last: Option<Guid>, partner: Guid) -> bool
     ensures { result ≡ is_above identifier_order last partner }
 {
     match last {
@@ -38,7 +38,7 @@ fn read_ordered_mark(reader: &mut Reader<'_>) -> Result<Mark, WireRefusal>
 
 /// How far a partner behind the last one was read.
 #[tactic(auto, unfolding(crate::specs::Image::kept_above))]
-pub fn read_kept(reader: &mut Reader<'_>, last: Option<Uuid>) -> Result<(Uuid, Kept), WireRefusal>
+pub fn read_kept(reader: &mut Reader<'_>, last: Option<Guid>) -> Result<(Guid, Kept), WireRefusal>
     ensures { Tells result reader.new (kept_above last reader.old) }
 {
     let place = reader.place();
@@ -53,7 +53,7 @@ pub fn read_kept(reader: &mut Reader<'_>, last: Option<Uuid>) -> Result<(Uuid, K
 
 /// The marks of an image, rising by partner.
 #[tactic(auto, unfolding(crate::specs::Whole::marks_at))]
-pub fn read_marks(reader: &mut Reader<'_>, alloc: Global) -> Result<Vec<(Uuid, Kept)>, WireRefusal>
+pub fn read_marks(reader: &mut Reader<'_>, alloc: Global) -> Result<Vec<(Guid, Kept)>, WireRefusal>
     ensures { GivesAs (λ marks. marks.items) result reader.new (marks_at reader.old) }
 {
     let place = reader.place();

@@ -9,13 +9,13 @@ ghost use Rattle.adr_law_formed.specs.Tested.{is_removable};
 
 use crate::NoMemory;
 use adr_change::Change;
+use adr_guid::Guid;
 use adr_stamp::Oid;
 use adr_told::Told;
 use adr_update::Key;
 use adr_vector::{Vector, seen_by_both};
 use std::alloc::Global;
 use std::collections::BTreeSet;
-use uuid::Uuid;
 
 /// Whether the objects that a change removes are held dead, and the births and deaths of all are purged.
 pub fn are_removable(told: &Told, purged: &Vector, change: &Change) -> bool
@@ -46,7 +46,7 @@ fn is_removable(told: &Told, purged: &Vector, more: &Vector, object: &Oid) -> bo
 }
 
 /// Whether one of two vectors covers a write.
-fn covers(one: &Vector, other: &Vector, inv: Uuid, usn: u64) -> bool
+fn covers(one: &Vector, other: &Vector, inv: Guid, usn: u64) -> bool
     ensures { result ≡ covers (joined one.now other.now) inv usn }
 {
     usn <= seen_by_both(one, other, inv)

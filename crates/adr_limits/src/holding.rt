@@ -1,16 +1,16 @@
 //! A controller, and what the tests have it hold.
 
 use adr_checks::Schema;
+use adr_guid::Guid;
 use adr_schema::{Content, Text};
 use adr_stamp::{Birth, LinkStamp, Oid, Stamp, Unit};
 use adr_state::{Change, Item, Key, Mode, NoMemory, Said, State, Update, Written};
 use adr_vector::Vector;
 use std::alloc::Global;
 use std::process::Abort;
-use uuid::Uuid;
 
-pub fn id(number: u128) -> Uuid {
-    Uuid::from_u128(number)
+pub fn id(number: u128) -> Guid {
+    Guid::from_u128(number)
 }
 
 pub fn text(alloc: Global, text: &str) -> Result<Text, NoMemory> {

@@ -14,13 +14,13 @@ ghost use Rattle.adr_live.specs.Gap.{IsPlaceOf, IsGapFor};
 
 use crate::NoMemory;
 use crate::node::live_node;
+use adr_guid::Guid;
 use adr_stamp::Oid;
 use adr_table::Table;
 use adr_update::{DELETED, Held, Key, Node};
 use std::alloc::Global;
 use std::cmp::Ordering;
 use std::marker::Model;
-use uuid::Uuid;
 
 /// The class, name and death rows of the objects of one GUID, in order of their keys. None of them is copied.
 #[derive(Drop)]
@@ -66,7 +66,7 @@ pub fn core_object(key: &Key) -> Option<Oid>
 
 impl<'a> Draft<'a> {
     /// The rows of a GUID as a table has them.
-    pub fn of(alloc: Global, table: &'a Table, guid: Uuid) -> Result<Draft<'a>, NoMemory>
+    pub fn of(alloc: Global, table: &'a Table, guid: Guid) -> Result<Draft<'a>, NoMemory>
         requires { IsKept table.now }
         ensures { IfOk result (λ draft. draft ≡ core_of guid (rows_in table.now)) }
     {
@@ -99,7 +99,7 @@ impl<'a> Draft<'a> {
     }
 
     /// The live object that a GUID has by these rows.
-    pub fn node(&self, alloc: Global, guid: Uuid) -> Result<Option<Node>, NoMemory>
+    pub fn node(&self, alloc: Global, guid: Guid) -> Result<Option<Node>, NoMemory>
         requires { AreRising self.now }
         ensures { IfOk result (λ node. node ≡ node_at (nodes_held (updates_of self.now)) guid) }
     {

@@ -12,12 +12,12 @@ ghost use Rattle.adr_live.specs.Drafts.{AreDrafts};
 
 use crate::NoMemory;
 use crate::draft::{Draft, core_object};
+use adr_guid::Guid;
 use adr_stamp::Oid;
 use adr_table::Table;
 use adr_update::Held;
 use std::alloc::Global;
 use std::collections::BTreeMap;
-use uuid::Uuid;
 
 /// The drafts of rows that are written and objects that are removed.
 pub fn drafts_of<'a>(
@@ -25,7 +25,7 @@ pub fn drafts_of<'a>(
     table: &'a Table,
     rows: &'a [Held],
     removed: &[Oid],
-) -> Result<BTreeMap<Uuid, Draft<'a>>, NoMemory>
+) -> Result<BTreeMap<Guid, Draft<'a>>, NoMemory>
     requires kept { IsKept table.now }
     requires rising { AreRising (rows_in table.now) }
     ensures { IfOk result (λ drafts.
@@ -41,7 +41,7 @@ pub fn drafts_of<'a>(
 fn write_rows<'a>(
     alloc: Global,
     table: &'a Table,
-    drafts: &mut BTreeMap<Uuid, Draft<'a>>,
+    drafts: &mut BTreeMap<Guid, Draft<'a>>,
     rows: &'a [Held],
 ) -> Result<(), NoMemory>
     requires kept { IsKept table.now }
@@ -59,7 +59,7 @@ fn write_rows<'a>(
 fn remove_all<'a>(
     alloc: Global,
     table: &'a Table,
-    drafts: &mut BTreeMap<Uuid, Draft<'a>>,
+    drafts: &mut BTreeMap<Guid, Draft<'a>>,
     objects: &[Oid],
 ) -> Result<(), NoMemory>
     requires { IsKept table.now }
@@ -76,8 +76,8 @@ fn remove_all<'a>(
 fn begin<'a>(
     alloc: Global,
     table: &'a Table,
-    drafts: &mut BTreeMap<Uuid, Draft<'a>>,
-    guid: Uuid,
+    drafts: &mut BTreeMap<Guid, Draft<'a>>,
+    guid: Guid,
 ) -> Result<(), NoMemory>
     requires { IsKept table.now }
     ensures same { OnOk result ((seen : List Row) → AreDrafts (rows_in table.now) seen drafts.old
@@ -96,7 +96,7 @@ fn begin<'a>(
 fn remove_object<'a>(
     alloc: Global,
     table: &'a Table,
-    drafts: &mut BTreeMap<Uuid, Draft<'a>>,
+    drafts: &mut BTreeMap<Guid, Draft<'a>>,
     object: &Oid,
 ) -> Result<(), NoMemory>
     requires { IsKept table.now }
@@ -117,7 +117,7 @@ fn remove_object<'a>(
 fn write_row<'a>(
     alloc: Global,
     table: &'a Table,
-    drafts: &mut BTreeMap<Uuid, Draft<'a>>,
+    drafts: &mut BTreeMap<Guid, Draft<'a>>,
     row: &'a Held,
 ) -> Result<(), NoMemory>
     requires { IsKept table.now }
@@ -134,7 +134,7 @@ fn write_row<'a>(
 fn write_core<'a>(
     alloc: Global,
     table: &'a Table,
-    drafts: &mut BTreeMap<Uuid, Draft<'a>>,
+    drafts: &mut BTreeMap<Guid, Draft<'a>>,
     object: &Oid,
     row: &'a Held,
 ) -> Result<(), NoMemory>

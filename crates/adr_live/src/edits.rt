@@ -16,13 +16,13 @@ ghost use Rattle.adr_live.specs.Drafts.{AreDrafts, DoRise, edit_of};
 use crate::NoMemory;
 use crate::draft::Draft;
 use crate::drafts::drafts_of;
+use adr_guid::Guid;
 use adr_stamp::Oid;
 use adr_table::Table;
 use adr_tree::Edit;
 use adr_update::Held;
 use std::alloc::Global;
 use std::collections::BTreeMap;
-use uuid::Uuid;
 
 /// What becomes of the live objects where rows are written and then objects removed. A GUID of which neither a class,
 /// nor a name, nor a death is written, and no object removed, has no edit.
@@ -46,14 +46,14 @@ pub fn edits_of(
 }
 
 /// Drafts are in order of GUID.
-fn are_ordered(drafts: &BTreeMap<Uuid, Draft<'_>>)
+fn are_ordered(drafts: &BTreeMap<Guid, Draft<'_>>)
     ensures { IsOrdered identifier_order drafts.now }
 {
     drafts.len();
 }
 
 /// The edits to which drafts come.
-fn edits_to(alloc: Global, drafts: &BTreeMap<Uuid, Draft<'_>>) -> Result<Vec<Edit>, NoMemory>
+fn edits_to(alloc: Global, drafts: &BTreeMap<Guid, Draft<'_>>) -> Result<Vec<Edit>, NoMemory>
     requires { DoRise drafts.now.entries }
     ensures { IfOk result (λ edits. edits.items ≡ map edit_of drafts.now.entries) }
 {
@@ -68,7 +68,7 @@ fn edits_to(alloc: Global, drafts: &BTreeMap<Uuid, Draft<'_>>) -> Result<Vec<Edi
 fn push_edit(
     alloc: Global,
     edits: &mut Vec<Edit>,
-    guid: Uuid,
+    guid: Guid,
     draft: &Draft<'_>,
 ) -> Result<(), NoMemory>
     requires { AreRising draft.now }

@@ -12,11 +12,11 @@ ghost use Rattle.adr_live.specs.Alive.{node_by};
 
 use crate::NoMemory;
 use crate::live::{is_live, row_at};
+use adr_guid::Guid;
 use adr_schema::Content;
 use adr_stamp::Oid;
 use adr_update::{CLASS, Held, Key, NAME, Node, Said, Update, is_same};
 use std::alloc::Global;
-use uuid::Uuid;
 
 /// An object of a class by the row that names it.
 fn with_name(
@@ -79,7 +79,7 @@ fn node_of(alloc: Global, rows: &[&Held], update: &Update) -> Result<Option<Node
 fn node_by(
     alloc: Global,
     rows: &[&Held],
-    guid: Uuid,
+    guid: Guid,
     update: &Update,
 ) -> Result<Option<Node>, NoMemory>
     ensures { IfOk result (λ node. node ≡ node_by (updates_of (referents rows.now)) guid update.now) }
@@ -97,7 +97,7 @@ fn node_by(
 }
 
 /// The live object that a GUID has by rows.
-pub fn live_node(alloc: Global, rows: &[&Held], guid: Uuid) -> Result<Option<Node>, NoMemory>
+pub fn live_node(alloc: Global, rows: &[&Held], guid: Guid) -> Result<Option<Node>, NoMemory>
     requires { AreRising (referents rows.now) }
     ensures { IfOk result (λ node. node ≡ node_at (nodes_held (updates_of (referents rows.now))) guid) }
 {

@@ -17,10 +17,10 @@ ghost use Rattle.adr_change.specs.Mode.{mode_of};
 use crate::live::node;
 use crate::stamps::version_of;
 use adr_event::{Table, WriteRefusal};
+use adr_guid::Guid;
 use adr_schema::SchemaRefusal;
 use adr_state::{CURSOR_LIMIT, Key, Mode, OBJECT_LIMIT, Rows, State, USN_LIMIT, VERSION_LIMIT};
 use adr_update::is_fixed;
-use uuid::Uuid;
 
 /// Tests that a controller takes writes.
 pub fn check_mode(mode: Mode) -> Result<(), WriteRefusal>
@@ -34,7 +34,7 @@ pub fn check_mode(mode: Mode) -> Result<(), WriteRefusal>
 }
 
 /// Tests that a GUID is free.
-pub fn check_guid(rows: &Rows, guid: Uuid) -> Result<(), WriteRefusal>
+pub fn check_guid(rows: &Rows, guid: Guid) -> Result<(), WriteRefusal>
     ensures { result_err result
         ≡ where_true (is_fixed guid || holds_guid (updates_of rows.now) guid) (guid_there guid) }
 {
@@ -46,7 +46,7 @@ pub fn check_guid(rows: &Rows, guid: Uuid) -> Result<(), WriteRefusal>
 }
 
 /// Tests that a GUID isn't that of the root or of LostAndFound.
-pub fn check_not_fixed(guid: Uuid) -> Result<(), WriteRefusal>
+pub fn check_not_fixed(guid: Guid) -> Result<(), WriteRefusal>
     ensures { result_err result ≡ fixed_refusal guid }
 {
     if is_fixed(guid) {
@@ -57,7 +57,7 @@ pub fn check_not_fixed(guid: Uuid) -> Result<(), WriteRefusal>
 }
 
 /// Tests that there is a live object of a GUID.
-pub fn check_object(state: &State, guid: Uuid) -> Result<(), WriteRefusal>
+pub fn check_object(state: &State, guid: Guid) -> Result<(), WriteRefusal>
     ensures told { result_err result
         ≡ object_refusal (updates_of state.now.store.rows) (nodes_held (updates_of state.now.store.rows)) guid }
     ensures live { OnOk result (IsSome (node_at (nodes_held (updates_of state.now.store.rows)) guid)) }
@@ -72,7 +72,7 @@ pub fn check_object(state: &State, guid: Uuid) -> Result<(), WriteRefusal>
 }
 
 /// Tests that a controller takes writes, and that a GUID is that of a live object, but not of the root or of LostAndFound.
-pub fn check_live(state: &State, guid: Uuid) -> Result<(), WriteRefusal>
+pub fn check_live(state: &State, guid: Guid) -> Result<(), WriteRefusal>
     ensures told { result_err result ≡ first_of (live_refusals state.now guid) }
     ensures free { OnOk result (is_fixed guid ≡ false) }
     ensures live { OnOk result (IsSome (node_at (nodes_held (updates_of state.now.store.rows)) guid)) }

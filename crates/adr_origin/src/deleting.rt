@@ -13,10 +13,10 @@ use crate::checks::{check_live, check_usn};
 use crate::placing::check_no_child;
 use crate::stamps::{next_item, object_of};
 use adr_event::{Failure, WriteRefusal};
+use adr_guid::Guid;
 use adr_schema::Content;
 use adr_state::{Change, DELETED, Item, State};
 use std::alloc::Global;
-use uuid::Uuid;
 
 /// What a client's deleting an object makes of a controller at a time in seconds: the change, or why it is refused,
 /// first in order (MS-ADTS, delete operation; the refusals and their order are this project's own). The controller
@@ -24,7 +24,7 @@ use uuid::Uuid;
 pub fn delete(
     alloc: Global,
     state: &State,
-    guid: Uuid,
+    guid: Guid,
     now: u64,
 ) -> Result<Change, Failure<WriteRefusal>>
     ensures ok { IfOk result (λ change. write state.now (Delete guid) now ≡ Ok change) }
@@ -39,7 +39,7 @@ pub fn delete(
 }
 
 /// Tests that an object may be deleted.
-fn check_delete(state: &State, guid: Uuid) -> Result<(), WriteRefusal>
+fn check_delete(state: &State, guid: Guid) -> Result<(), WriteRefusal>
     ensures told { result_err result ≡ delete_refusal state.now guid }
     ensures room { OnOk result (state.now.store.usn < usn_limit) }
     ensures live { OnOk result (IsSome (node_at (nodes_held (updates_of state.now.store.rows)) guid)) }
@@ -50,7 +50,7 @@ fn check_delete(state: &State, guid: Uuid) -> Result<(), WriteRefusal>
 }
 
 /// The object with the row that says that it is dead, under the next update sequence number.
-fn dead_item(alloc: Global, state: &State, guid: Uuid, now: u64) -> Result<Item, NoMemory>
+fn dead_item(alloc: Global, state: &State, guid: Guid, now: u64) -> Result<Item, NoMemory>
     requires usn { state.now.store.usn < usn_limit }
     requires live { IsSome (node_at (nodes_held (updates_of state.now.store.rows)) guid) }
     ensures { IfOk result (λ item. item ≡ rows_written state.now (Delete guid) now) }

@@ -18,17 +18,17 @@ use crate::checks::{
 };
 use crate::stamps::{class_of, next_stamp, object_of};
 use adr_event::{Failure, Table, WriteRefusal};
+use adr_guid::Guid;
 use adr_stamp::{LinkKey, Unit};
 use adr_state::{Change, Item, Key, LINK_LIMIT, Mode, Rows, Said, State, Update};
 use std::alloc::Global;
-use uuid::Uuid;
 
 /// What a link that a client makes or removes goes between: live objects, by their GUIDs, and under which attribute.
 #[derive(Drop)]
 pub struct LinkEnds {
-    pub from: Uuid,
+    pub from: Guid,
     pub attr: u16,
-    pub to: Uuid,
+    pub to: Guid,
 }
 
 /// What a client's making a link under an attribute makes of a controller at a time in seconds: the change, or why it is
@@ -103,7 +103,7 @@ fn check_any_link(state: &State, ends: &LinkEnds, present: bool) -> Result<LinkK
 }
 
 /// Tests that a controller takes writes, and that neither end is always there.
-fn check_start(mode: Mode, from: Uuid, to: Uuid) -> Result<(), WriteRefusal>
+fn check_start(mode: Mode, from: Guid, to: Guid) -> Result<(), WriteRefusal>
     ensures { result_err result ≡ start_refusal (mode_of mode) from to }
 {
     check_mode(mode)?;

@@ -11,20 +11,20 @@ ghost use Rattle.adr_model.specs.Write.{is_taken, nodes_held};
 ghost use Rattle.adr_tree.specs.Parent.{IsParent};
 
 use crate::NoMemory;
+use adr_guid::Guid;
 use adr_schema::Text;
 use adr_state::{Node, State};
 use std::alloc::Global;
-use uuid::Uuid;
 
 /// The live object of a GUID.
-pub fn node(state: &State, guid: Uuid) -> Option<&Node>
+pub fn node(state: &State, guid: Guid) -> Option<&Node>
     ensures { option_copied result ≡ node_at (nodes_held (updates_of state.now.store.rows)) guid }
 {
     state.rows().node(guid)
 }
 
 /// Whether an object of a GUID is met going up from a place, which it may be itself.
-pub fn is_met_above(state: &State, place: Uuid, guid: Uuid) -> bool
+pub fn is_met_above(state: &State, place: Guid, guid: Guid) -> bool
     ensures { let nodes = nodes_held (updates_of state.now.store.rows) in
         result ≡ list_any (λ m. same_identifier m.object.guid guid) (upward nodes (length nodes) place) }
 {
@@ -32,7 +32,7 @@ pub fn is_met_above(state: &State, place: Uuid, guid: Uuid) -> bool
 }
 
 /// The least GUID of an object that is shown under a live one.
-pub fn first_child(state: &State, guid: Uuid) -> Option<Uuid>
+pub fn first_child(state: &State, guid: Guid) -> Option<Guid>
     requires live { IsSome (node_at (nodes_held (updates_of state.now.store.rows)) guid) }
     requires free { is_fixed guid ≡ false }
     ensures { let nodes = nodes_held (updates_of state.now.store.rows) in
@@ -45,9 +45,9 @@ pub fn first_child(state: &State, guid: Uuid) -> Option<Uuid>
 pub fn holder(
     alloc: Global,
     state: &State,
-    parent: Uuid,
+    parent: Guid,
     text: &Text,
-) -> Result<Option<Uuid>, NoMemory>
+) -> Result<Option<Guid>, NoMemory>
     requires { IsParent (nodes_held (updates_of state.now.store.rows)) parent }
     ensures { IfOk result (λ holder.
         holder ≡ name_holder (nodes_held (updates_of state.now.store.rows)) parent text.now) }
@@ -59,8 +59,8 @@ pub fn holder(
 pub fn is_taken(
     alloc: Global,
     state: &State,
-    guid: Uuid,
-    parent: Uuid,
+    guid: Guid,
+    parent: Guid,
     text: &Text,
 ) -> Result<bool, NoMemory>
     requires { IsParent (nodes_held (updates_of state.now.store.rows)) parent }

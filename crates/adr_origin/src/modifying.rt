@@ -14,11 +14,11 @@ use crate::checks::{check_live, check_schema, check_usn, check_version};
 use crate::new_object::values_content;
 use crate::stamps::{class_of, next_row, object_of};
 use adr_event::{Failure, WriteRefusal};
+use adr_guid::Guid;
 use adr_schema::Assignments;
 use adr_stamp::{Oid, Unit};
 use adr_state::{Change, Item, Key, Rows, State, Update};
 use std::alloc::Global;
-use uuid::Uuid;
 
 /// What a client's giving an object values makes of a controller at a time in seconds: the change, or why it is
 /// refused, first in order (MS-ADTS, modify operation; the refusals and their order are this project's own). The values
@@ -26,7 +26,7 @@ use uuid::Uuid;
 pub fn modify(
     alloc: Global,
     state: &State,
-    guid: Uuid,
+    guid: Guid,
     values: &Assignments,
     now: u64,
 ) -> Result<Change, Failure<WriteRefusal>>
@@ -43,7 +43,7 @@ pub fn modify(
 }
 
 /// Tests that an object may be given values.
-fn check_modify(state: &State, guid: Uuid, values: &Assignments) -> Result<(), WriteRefusal>
+fn check_modify(state: &State, guid: Guid, values: &Assignments) -> Result<(), WriteRefusal>
     ensures told { result_err result ≡ modify_refusal state.now guid values.now }
     ensures room { OnOk result (state.now.store.usn < usn_limit) }
     ensures versions { let object = object_of (nodes_held (updates_of state.now.store.rows)) guid in
@@ -54,7 +54,7 @@ fn check_modify(state: &State, guid: Uuid, values: &Assignments) -> Result<(), W
 }
 
 /// Tests that an object is live and that the schema allows the values.
-fn check_given(state: &State, guid: Uuid, values: &Assignments) -> Result<(), WriteRefusal>
+fn check_given(state: &State, guid: Guid, values: &Assignments) -> Result<(), WriteRefusal>
     ensures { result_err result ≡ given_refusal state.now guid values.now }
 {
     check_live(state, guid)?;

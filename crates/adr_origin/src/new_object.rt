@@ -6,19 +6,19 @@ ghost use Rattle.adr_model.specs.Write.{new_rows, row};
 ghost use Rattle.adr_origin.specs.GivenRows.{given_rows};
 
 use crate::NoMemory;
+use adr_guid::Guid;
 use adr_schema::{Assignments, Content, Text, Value, Values, copy_values};
 use adr_stamp::{LinkStamp, Oid};
 use adr_state::{CLASS, Key, NAME, Said, Update};
 use std::alloc::Global;
-use uuid::Uuid;
 
 /// An object that a client adds.
 #[derive(Drop)]
 pub struct NewObject<'a> {
-    pub guid: Uuid,
+    pub guid: Guid,
     pub class: u16,
     /// The GUID of the object above, or of the root or LostAndFound.
-    pub parent: Uuid,
+    pub parent: Guid,
     /// The name.
     pub text: &'a Text,
     /// What its attributes hold.
@@ -37,7 +37,7 @@ pub fn row(object: &Oid, stamp: &LinkStamp, attr: u16, content: Content) -> Upda
 }
 
 /// A name under a parent, as the content of a row.
-pub fn name_content(alloc: Global, text: &Text, parent: Uuid) -> Result<Content, NoMemory>
+pub fn name_content(alloc: Global, text: &Text, parent: Guid) -> Result<Content, NoMemory>
     ensures { IfOk result (λ content. content ≡ named text.now parent) }
 {
     Ok(Content::Name {

@@ -17,14 +17,14 @@ use crate::live::{first_child, holder, is_met_above, is_taken, node};
 use crate::stamps::class_of;
 use adr_checks::{LOST_AND_FOUND_CLASS, ROOT_CLASS};
 use adr_event::{Failure, WriteRefusal};
+use adr_guid::Guid;
 use adr_schema::Text;
 use adr_state::State;
 use adr_update::{is_fixed, is_lost_and_found, is_root};
 use std::alloc::Global;
-use uuid::Uuid;
 
 /// Tests that an object may come to stand here: under the root, LostAndFound or a live object.
-pub fn check_parent(state: &State, parent: Uuid) -> Result<(), WriteRefusal>
+pub fn check_parent(state: &State, parent: Guid) -> Result<(), WriteRefusal>
     ensures told { result_err result ≡ parent_refusal (nodes_held (updates_of state.now.store.rows)) parent }
     ensures there { OnOk result (is_fixed parent || is_some (node_at (nodes_held (updates_of state.now.store.rows)) parent)
         ≡ true) }
@@ -37,7 +37,7 @@ pub fn check_parent(state: &State, parent: Uuid) -> Result<(), WriteRefusal>
 }
 
 /// The class that a parent counts as.
-fn class_of_place(state: &State, parent: Uuid) -> u16
+fn class_of_place(state: &State, parent: Guid) -> u16
     ensures { result ≡ class_of_place (nodes_held (updates_of state.now.store.rows)) parent }
 {
     if is_root(parent) {
@@ -50,7 +50,7 @@ fn class_of_place(state: &State, parent: Uuid) -> u16
 }
 
 /// Tests that an object of a class may stand under a parent. Under LostAndFound none may.
-pub fn check_superior(state: &State, class: u16, parent: Uuid) -> Result<(), WriteRefusal>
+pub fn check_superior(state: &State, class: u16, parent: Guid) -> Result<(), WriteRefusal>
     ensures told { result_err result
         ≡ superior_refusal (numbered state.now.store.schema) (nodes_held (updates_of state.now.store.rows)) class parent }
     ensures other { OnOk result (same_identifier parent lost_and_found ≡ false) }
@@ -67,7 +67,7 @@ pub fn check_superior(state: &State, class: u16, parent: Uuid) -> Result<(), Wri
 pub fn check_name_free(
     alloc: Global,
     state: &State,
-    parent: Uuid,
+    parent: Guid,
     text: &Text,
 ) -> Result<(), Failure<WriteRefusal>>
     requires { IsParent (nodes_held (updates_of state.now.store.rows)) parent }
@@ -83,8 +83,8 @@ pub fn check_name_free(
 pub fn check_new_name(
     alloc: Global,
     state: &State,
-    guid: Uuid,
-    parent: Uuid,
+    guid: Guid,
+    parent: Guid,
     text: &Text,
 ) -> Result<(), Failure<WriteRefusal>>
     requires { IsParent (nodes_held (updates_of state.now.store.rows)) parent }
@@ -98,7 +98,7 @@ pub fn check_new_name(
 }
 
 /// Tests that an object would not come to stand under itself.
-pub fn check_no_loop(state: &State, guid: Uuid, parent: Uuid) -> Result<(), WriteRefusal>
+pub fn check_no_loop(state: &State, guid: Guid, parent: Guid) -> Result<(), WriteRefusal>
     ensures { result_err result ≡ loop_refusal (nodes_held (updates_of state.now.store.rows)) guid parent }
 {
     if is_met_above(state, parent, guid) {
@@ -109,7 +109,7 @@ pub fn check_no_loop(state: &State, guid: Uuid, parent: Uuid) -> Result<(), Writ
 }
 
 /// Tests that no live object is shown under another one.
-pub fn check_no_child(state: &State, guid: Uuid) -> Result<(), WriteRefusal>
+pub fn check_no_child(state: &State, guid: Guid) -> Result<(), WriteRefusal>
     requires live { IsSome (node_at (nodes_held (updates_of state.now.store.rows)) guid) }
     requires free { is_fixed guid ≡ false }
     ensures { result_err result ≡ child_refusal (nodes_held (updates_of state.now.store.rows)) guid }

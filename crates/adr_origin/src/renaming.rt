@@ -17,11 +17,11 @@ use crate::placing::{check_new_name, check_no_loop, check_parent, check_superior
 use crate::stamps::{class_of, next_item, object_of};
 use adr_checks::check_name;
 use adr_event::{Failure, WriteRefusal};
+use adr_guid::Guid;
 use adr_schema::Text;
 use adr_stamp::Oid;
 use adr_state::{Change, Key, NAME, State};
 use std::alloc::Global;
-use uuid::Uuid;
 
 /// What a client's giving an object a name and a parent makes of a controller at a time in seconds: the change, or why
 /// it is refused, first in order (MS-ADTS, modify DN operation; the refusals and their order are this project's own).
@@ -29,8 +29,8 @@ use uuid::Uuid;
 pub fn rename(
     alloc: Global,
     state: &State,
-    guid: Uuid,
-    parent: Uuid,
+    guid: Guid,
+    parent: Guid,
     text: &Text,
     now: u64,
 ) -> Result<Change, Failure<WriteRefusal>>
@@ -51,8 +51,8 @@ pub fn rename(
 fn check_rename(
     alloc: Global,
     state: &State,
-    guid: Uuid,
-    parent: Uuid,
+    guid: Guid,
+    parent: Guid,
     text: &Text,
 ) -> Result<(), Failure<WriteRefusal>>
     ensures told { Tells result (rename_refusal state.now guid parent text.now) }
@@ -67,7 +67,7 @@ fn check_rename(
 }
 
 /// Tests that an object is live and that it may have a name.
-fn check_named(state: &State, guid: Uuid, text: &Text) -> Result<(), WriteRefusal>
+fn check_named(state: &State, guid: Guid, text: &Text) -> Result<(), WriteRefusal>
     ensures { result_err result ≡ named_refusal state.now guid text.now }
 {
     check_live(state, guid)?;
@@ -78,8 +78,8 @@ fn check_named(state: &State, guid: Uuid, text: &Text) -> Result<(), WriteRefusa
 fn check_moved(
     alloc: Global,
     state: &State,
-    guid: Uuid,
-    parent: Uuid,
+    guid: Guid,
+    parent: Guid,
     text: &Text,
 ) -> Result<(), Failure<WriteRefusal>>
     ensures { Tells result (moved_refusal (numbered state.now.store.schema) (nodes_held (updates_of state.now.store.rows)) guid parent text.now) }

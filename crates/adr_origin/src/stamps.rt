@@ -10,15 +10,15 @@ ghost use Rattle.adr_update.specs.Key.{key_of};
 use crate::NoMemory;
 use crate::live::node;
 use crate::new_object::row;
+use adr_guid::Guid;
 use adr_schema::Content;
 use adr_stamp::{Birth, LinkStamp, Oid, Stamp, Unit};
 use adr_state::{Item, Key, Rows, State, Update};
 use adr_update::root;
 use std::alloc::Global;
-use uuid::Uuid;
 
 /// The live object of a GUID. A write of a GUID that has none is refused.
-pub fn object_of(state: &State, guid: Uuid) -> Oid
+pub fn object_of(state: &State, guid: Guid) -> Oid
     ensures { result ≡ object_of (nodes_held (updates_of state.now.store.rows)) guid }
 {
     match node(state, guid) {
@@ -34,7 +34,7 @@ pub fn object_of(state: &State, guid: Uuid) -> Oid
 }
 
 /// The class of a live object, or 0 where there is none.
-pub fn class_of(state: &State, guid: Uuid) -> u16
+pub fn class_of(state: &State, guid: Guid) -> u16
     ensures { result ≡ class_of (nodes_held (updates_of state.now.store.rows)) guid }
 {
     match node(state, guid) {

@@ -8,15 +8,15 @@ use adr_event::{
     AdoptRefusal, CollectRefusal, Field, Fields, ItemFault, Outcome, Plainly, ServeRefusal, Table,
     TakeRefusal, WriteRefusal,
 };
+use adr_guid::Guid;
 use adr_schema::{NoMemory, SchemaRefusal, Text};
 use adr_vector::Mark;
 use std::alloc::Global;
-use uuid::Uuid;
 
 /// What a field tells.
 #[derive(Clone, Copy)]
 enum Telling {
-    Id(Uuid),
+    Id(Guid),
     Number(u64),
     Mark(Mark),
     Attr(u16),
@@ -122,7 +122,7 @@ fn of_attr(alloc: Global, number: u8, label: &str, attr: u16) -> Result<Outcome,
     refused(alloc, number, label, &[("attr", Telling::Attr(attr))])
 }
 
-fn of_id(alloc: Global, number: u8, label: &str, name: &str, id: Uuid) -> Result<Outcome, NoMemory>
+fn of_id(alloc: Global, number: u8, label: &str, name: &str, id: Guid) -> Result<Outcome, NoMemory>
     ensures { IfOk result (λ outcome. outcome ≡ Outcome.Refused number label.now (id_field name.now id ∷ [])) }
 {
     refused(alloc, number, label, &[(name, Telling::Id(id))])
@@ -193,7 +193,7 @@ fn schemas_differ(alloc: Global, mine: u32, theirs: u32) -> Result<Outcome, NoMe
     refused(alloc, 31, "SchemaMismatch", &told)
 }
 
-fn rolled_back(alloc: Global, inv: Uuid, mine: u64, shown: u64) -> Result<Outcome, NoMemory>
+fn rolled_back(alloc: Global, inv: Guid, mine: u64, shown: u64) -> Result<Outcome, NoMemory>
     ensures { IfOk result (λ outcome. outcome ≡ rolled_back inv mine shown) }
 {
     let told = [

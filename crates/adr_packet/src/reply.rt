@@ -3,19 +3,19 @@
 ghost use Rattle.std.specs.Prelude.{◌≡◌};
 ghost use Rattle.std.specs.Option.{option_copied};
 
+use adr_guid::Guid;
 use adr_state::Item;
 use adr_vector::{Mark, Vector};
 use std::marker::Model;
-use uuid::Uuid;
 
 /// A reply (MS-DRSR, DRS_MSG_GETCHGREPLY): to whom it goes, from whom and from which incarnation, the marks between
 /// which it lies, the number of the source's schema, what the asker had seen, what the source has seen if nothing is
 /// left to send, and the items.
 #[derive(Drop)]
 pub struct Reply {
-    dest: Uuid,
-    source: Uuid,
-    inv: Uuid,
+    dest: Guid,
+    source: Guid,
+    inv: Guid,
     from: Mark,
     to: Mark,
     schema: u32,
@@ -34,9 +34,9 @@ impl Model for Reply {
 
 impl Reply {
     pub fn new(
-        dest: Uuid,
-        source: Uuid,
-        inv: Uuid,
+        dest: Guid,
+        source: Guid,
+        inv: Guid,
         from: Mark,
         to: Mark,
         schema: u32,
@@ -61,21 +61,21 @@ impl Reply {
     }
 
     /// The controller that asked.
-    pub fn dest(&self) -> Uuid
+    pub fn dest(&self) -> Guid
         ensures { result ≡ self.now.dest }
     {
         self.dest
     }
 
     /// The controller that answers.
-    pub fn source(&self) -> Uuid
+    pub fn source(&self) -> Guid
         ensures { result ≡ self.now.source }
     {
         self.source
     }
 
     /// The invocation identifier of its database.
-    pub fn inv(&self) -> Uuid
+    pub fn inv(&self) -> Guid
         ensures { result ≡ self.now.inv }
     {
         self.inv

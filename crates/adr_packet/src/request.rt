@@ -2,18 +2,18 @@
 
 ghost use Rattle.std.specs.Prelude.{◌≡◌};
 
+use adr_guid::Guid;
 use adr_vector::{Mark, Vector};
 use std::marker::Model;
-use uuid::Uuid;
 
 /// A request for changes (MS-DRSR, DRS_MSG_GETCHGREQ): who asks, which partner, the incarnation of the partner's
 /// database that was read and how far, the number of the asker's schema, how many items a reply has at most, and what
 /// the asker has seen.
 #[derive(Drop)]
 pub struct Request {
-    dest: Uuid,
-    source: Uuid,
-    inv: Uuid,
+    dest: Guid,
+    source: Guid,
+    inv: Guid,
     mark: Mark,
     schema: u32,
     max: u32,
@@ -30,9 +30,9 @@ impl Model for Request {
 
 impl Request {
     pub fn new(
-        dest: Uuid,
-        source: Uuid,
-        inv: Uuid,
+        dest: Guid,
+        source: Guid,
+        inv: Guid,
         mark: Mark,
         schema: u32,
         max: u32,
@@ -53,21 +53,21 @@ impl Request {
     }
 
     /// The controller that asks, and to which the reply goes.
-    pub fn dest(&self) -> Uuid
+    pub fn dest(&self) -> Guid
         ensures { result ≡ self.now.dest }
     {
         self.dest
     }
 
     /// The controller that is asked.
-    pub fn source(&self) -> Uuid
+    pub fn source(&self) -> Guid
         ensures { result ≡ self.now.source }
     {
         self.source
     }
 
     /// The invocation identifier of the source that was read so far.
-    pub fn inv(&self) -> Uuid
+    pub fn inv(&self) -> Guid
         ensures { result ≡ self.now.inv }
     {
         self.inv

@@ -8,13 +8,13 @@ ghost use Rattle.adr_schedule.specs.Grammar.{given_by, tokens_behind};
 ghost use Rattle.adr_print.specs.Printed.{line_of, printed, set_tokens, spaced, token_of, token_text};
 
 use adr_event::Event;
+use adr_guid::Guid;
 use adr_schedule::crash_word;
 use adr_schema::{Assignments, NoMemory, Text, Value};
 use adr_token::{
     push, push_attribute, push_class, push_identifier, push_number, push_set, push_text,
 };
 use std::alloc::Global;
-use uuid::Uuid;
 
 /// A token of a line.
 #[derive(Clone, Copy)]
@@ -22,7 +22,7 @@ enum Token<'a> {
     Word(&'a [u8]),
     Name(&'a Text),
     Number(u64),
-    Identifier(Uuid),
+    Identifier(Guid),
     Class(u16),
     Attribute(u16),
     Quoted(&'a Text),

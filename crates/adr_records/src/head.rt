@@ -12,11 +12,11 @@ ghost use Rattle.adr_records.specs.Logged.{MayBegin};
 use crate::contents::image_of;
 use crate::waking::wake;
 use adr_failure::{Failure, NoMemory};
+use adr_guid::Guid;
 use adr_image::{Contents, read_image};
 use adr_state::State;
 use adr_wire::{Malformed, Reader, WireRefusal, Writer};
 use std::alloc::{AllocError, Global};
-use uuid::Uuid;
 
 /// The bytes with which the head of a log begins.
 const MAGIC: [u8; 4] = [65, 68, 74, 76];
@@ -30,8 +30,8 @@ const IMAGE_PLACE: usize = 43;
 /// Whose log it is: the controller's identifier, that of its database, and how many bytes the image has.
 #[derive(Clone, Copy)]
 pub struct Owner {
-    pub dsa: Uuid,
-    pub inv: Uuid,
+    pub dsa: Guid,
+    pub inv: Guid,
     pub len: u32,
 }
 

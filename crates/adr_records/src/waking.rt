@@ -11,10 +11,10 @@ ghost use Rattle.adr_state.specs.Refusal.{IsOverfull};
 ghost use Rattle.adr_records.specs.Woken.{MakesAll, keeping, keeping_all, unmade, with_marks};
 
 use adr_failure::{Failure, NoMemory};
+use adr_guid::Guid;
 use adr_image::Contents;
 use adr_state::{Change, Full, Held, Item, Kept, Mode, State, Vector, Written};
 use std::alloc::Global;
-use uuid::Uuid;
 
 /// A row as what is written under its local update sequence number.
 fn write_of(alloc: Global, row: &Held) -> Result<Written, NoMemory>
@@ -75,7 +75,7 @@ fn fill_without_marks(
 }
 
 /// Keeps how far a partner was read.
-fn keep(alloc: Global, state: &mut State, mark: (Uuid, Kept)) -> Result<(), Failure<Full>>
+fn keep(alloc: Global, state: &mut State, mark: (Guid, Kept)) -> Result<(), Failure<Full>>
     requires { state.old.store.usn ≤ at state.old.store.vector state.old.inv }
     ensures ok { OnOk result (state.new ≡ keeping mark state.old) }
     ensures full { IsErrOf result full → IsOverfull state.old }
@@ -95,7 +95,7 @@ fn keep(alloc: Global, state: &mut State, mark: (Uuid, Kept)) -> Result<(), Fail
 }
 
 /// Keeps how far each partner was read.
-fn keep_each(alloc: Global, state: &mut State, marks: &[(Uuid, Kept)]) -> Result<(), Failure<Full>>
+fn keep_each(alloc: Global, state: &mut State, marks: &[(Guid, Kept)]) -> Result<(), Failure<Full>>
     requires { state.old.store.usn ≤ at state.old.store.vector state.old.inv }
     ensures ok { OnOk result (state.new ≡ keeping_all marks.now state.old) }
     ensures full { IsErrOf result full → IsOverfull state.old }
@@ -124,8 +124,8 @@ fn fill(alloc: Global, state: &mut State, contents: &Contents) -> Result<(), Fai
 pub fn wake(
     alloc: Global,
     contents: &Contents,
-    dsa: Uuid,
-    inv: Uuid,
+    dsa: Guid,
+    inv: Guid,
 ) -> Result<State, Failure<Full>>
     requires formed { IsFormedStore contents.now }
     requires spelled { IsSpelled contents.now }

@@ -8,10 +8,10 @@ ghost use Rattle.adr_replica.specs.Told.{told_of};
 use crate::replica::Replica;
 use crate::told::{Call, Deed, Told};
 use adr_event::Event;
+use adr_guid::Guid;
 use adr_packet::{Reply, Request};
 use adr_state::State;
 use std::marker::Model;
-use uuid::Uuid;
 
 /// The book of a run: what clients wrote, in the order in which it became safe, and the log of each incarnation, by its
 /// invocation identifier; and the identifiers that lines gave to controllers and to their databases, in order. It keeps
@@ -46,7 +46,7 @@ impl Past {
     }
 
     /// A line gives the identifiers of a controller and of its database.
-    pub fn give(&mut self, dsa: Uuid, inv: Uuid)
+    pub fn give(&mut self, dsa: Guid, inv: Guid)
         ensures { self.new
             ≡ record self.old { given = record { dsas = self.old.given.dsas ++ dsa ∷ []; invs = self.old.given.invs ++ inv ∷ [] } } }
     {
@@ -55,7 +55,7 @@ impl Past {
     }
 
     /// A line gives the identifier of a database alone.
-    pub fn give_inv(&mut self, inv: Uuid)
+    pub fn give_inv(&mut self, inv: Guid)
         ensures { self.new
             ≡ record self.old { given = record { dsas = self.old.given.dsas ++ []; invs = self.old.given.invs ++ inv ∷ [] } } }
     {

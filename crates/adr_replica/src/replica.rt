@@ -24,6 +24,7 @@ use adr_controller::{CallRefusal, Controller, Keeper, PlannedKeeper, StartRefusa
 use adr_disk::Crash;
 use adr_disk_memory::MemDisk;
 use adr_event::{Event, Outcome};
+use adr_guid::Guid;
 use adr_journal::Journal;
 use adr_law_recorded::{
     logged_states_fit, new_controllers_may_begin, quarantines_are_recorded,
@@ -37,7 +38,6 @@ use adr_schema::{NoMemory, Text};
 use adr_state::State;
 use std::alloc::{AllocError, Global};
 use std::marker::Model;
-use uuid::Uuid;
 
 /// The number of the schema that new controllers have.
 const FIRST_SCHEMA: u32 = 1;
@@ -47,7 +47,7 @@ const FIRST_SCHEMA: u32 = 1;
 #[derive(Drop)]
 pub struct Replica {
     pub(crate) name: Text,
-    pub(crate) dsa: Uuid,
+    pub(crate) dsa: Guid,
     pub(crate) controller: Controller<Journal<MemDisk, Records>>,
     pub(crate) kept: Kept,
 }
@@ -67,7 +67,7 @@ impl Model for Replica {
 }
 
 /// A new, empty controller.
-fn new_state(alloc: Global, dsa: Uuid, inv: Uuid) -> State
+fn new_state(alloc: Global, dsa: Guid, inv: Guid) -> State
     ensures { result ≡ empty_state dsa inv }
 {
     match Schema::new(FIRST_SCHEMA) {
@@ -78,7 +78,7 @@ fn new_state(alloc: Global, dsa: Uuid, inv: Uuid) -> State
 
 impl Replica {
     /// A new, empty controller on a new disk.
-    pub fn new(alloc: Global, name: Text, dsa: Uuid, inv: Uuid) -> Result<Replica, NoMemory>
+    pub fn new(alloc: Global, name: Text, dsa: Guid, inv: Guid) -> Result<Replica, NoMemory>
         requires dsa { IsId dsa }
         requires inv { IsId inv }
         ensures { IfOk result (λ made. made ≡ on_new_disk name (empty_state dsa inv)) }
@@ -119,7 +119,7 @@ impl Replica {
     }
 
     /// Its identifier, also while it is down.
-    pub fn dsa(&self) -> Uuid
+    pub fn dsa(&self) -> Guid
         ensures { result ≡ self.now.safe.dsa }
     {
         self.dsa
@@ -184,7 +184,7 @@ impl Replica {
     pub fn ask(
         &self,
         alloc: Global,
-        partner: Uuid,
+        partner: Guid,
         max: u32,
     ) -> Result<(Outcome, Option<Request>), NoMemory>
         ensures asked { IfOk result (λ sent. (w : Defined) → where_up (nothing w) self.now.standing (w, Outcome.Ok, Some (ask self.now.safe partner max)) ≡ (w, sent.0, sent.1)) }

@@ -14,16 +14,16 @@ ghost use Rattle.adr_replica.specs.Led.{Adopts, Unadopted};
 
 use crate::replica::Replica;
 use adr_event::{AdoptRefusal, Failure, Outcome, Table};
+use adr_guid::Guid;
 use adr_law_recorded::fitting_states_may_begin;
 use adr_outcome::{adopt_refused, quarantined};
 use adr_restore::{Image, new_log_end};
 use adr_schema::{NoMemory, Text};
 use adr_state::{LOG_LIMIT, State};
 use std::alloc::Global;
-use uuid::Uuid;
 
 /// The state of an image under a fresh invocation identifier, where a new disk has room for it, or why it isn't adopted.
-fn woken(alloc: Global, image: &Image, dsa: Uuid, inv: Uuid) -> Result<State, Failure<AdoptRefusal>>
+fn woken(alloc: Global, image: &Image, dsa: Guid, inv: Guid) -> Result<State, Failure<AdoptRefusal>>
     requires dsa { IsId dsa }
     requires inv { IsId inv }
     ensures adopted { IfOk result (λ state. adopt image.now dsa inv ≡ Ok state) }
@@ -69,8 +69,8 @@ impl Replica {
         alloc: Global,
         name: Text,
         image: &Image,
-        dsa: Uuid,
-        inv: Uuid,
+        dsa: Guid,
+        inv: Guid,
     ) -> Result<Replica, Failure<Outcome>>
         requires dsa { IsId dsa }
         requires inv { IsId inv }

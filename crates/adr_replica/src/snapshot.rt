@@ -7,17 +7,17 @@ use crate::keepers::goes_as_planned;
 use crate::past::Kept;
 use crate::replica::Replica;
 use adr_controller::Controller;
+use adr_guid::Guid;
 use adr_journal::Journal;
 use adr_schema::{NoMemory, Text};
 use std::alloc::{AllocError, Global};
 use std::marker::Model;
-use uuid::Uuid;
 
 /// The bytes of a controller's disk, put aside, and its identifier: a start of them finds a state of that controller.
 #[derive(Drop)]
 pub struct Snapshot {
     bytes: Vec<u8>,
-    dsa: Uuid,
+    dsa: Guid,
 }
 
 impl Model for Snapshot {

@@ -7,10 +7,10 @@ ghost use Rattle.adr_replica.specs.Told.{told_of};
 
 use crate::replica::Replica;
 use adr_event::Event;
+use adr_guid::Guid;
 use adr_packet::{Reply, Request};
 use adr_state::State;
 use std::marker::Model;
-use uuid::Uuid;
 
 /// What a past is told, also before a call that may commit something. The types behind the references are parameters,
 /// since the check isn't told which modules hold a type that an enum has behind a reference.
@@ -20,12 +20,12 @@ pub(crate) enum Deed<'a, S, R, E, Q, A> {
     Begun(&'a S),
     /// A line gives the identifiers of a controller and of its database.
     Gave {
-        dsa: Uuid,
-        inv: Uuid,
+        dsa: Guid,
+        inv: Guid,
     },
     /// A line gives the identifier of a database alone.
     GaveInv {
-        inv: Uuid,
+        inv: Guid,
     },
     /// A controller is about to write what an event says, at a time.
     Writes {

@@ -5,10 +5,10 @@ ghost use Rattle.adr_token.specs.Spelling.{identifier_token, text_token, class_t
 ghost use Rattle.adr_report.specs.Line.{listed, values_text, links_text, entry_line};
 
 use adr_event::{Entry, Guids};
+use adr_guid::Guid;
 use adr_schema::{NoMemory, Values};
 use adr_token::{push, push_attribute, push_class, push_identifier, push_set, push_text};
 use std::alloc::Global;
-use uuid::Uuid;
 
 fn push_attribute_sign(alloc: Global, out: &mut Vec<u8>, attr: u16) -> Result<(), NoMemory>
     ensures { OnOk result (out.new.items ≡ out.old.items ++ (codes " " ++ attribute_token attr ++ codes "=")) }
@@ -36,14 +36,14 @@ fn push_all_values(alloc: Global, out: &mut Vec<u8>, list: &[(u16, Values)]) -> 
     Ok(())
 }
 
-fn push_further_guid(alloc: Global, out: &mut Vec<u8>, guid: Uuid) -> Result<(), NoMemory>
+fn push_further_guid(alloc: Global, out: &mut Vec<u8>, guid: Guid) -> Result<(), NoMemory>
     ensures { OnOk result (out.new.items ≡ out.old.items ++ (codes "," ++ identifier_token guid)) }
 {
     push(out, b",")?;
     push_identifier(alloc, out, guid)
 }
 
-fn push_further_guids(alloc: Global, out: &mut Vec<u8>, guids: &[Uuid]) -> Result<(), NoMemory>
+fn push_further_guids(alloc: Global, out: &mut Vec<u8>, guids: &[Guid]) -> Result<(), NoMemory>
     ensures { OnOk result (out.new.items
         ≡ out.old.items ++ flat_map (λ (i : List ℕ). codes "," ++ identifier_token i) guids.now) }
 {
@@ -53,7 +53,7 @@ fn push_further_guids(alloc: Global, out: &mut Vec<u8>, guids: &[Uuid]) -> Resul
     Ok(())
 }
 
-fn push_listed_guids(alloc: Global, out: &mut Vec<u8>, guids: &[Uuid]) -> Result<(), NoMemory>
+fn push_listed_guids(alloc: Global, out: &mut Vec<u8>, guids: &[Guid]) -> Result<(), NoMemory>
     ensures { OnOk result (out.new.items ≡ out.old.items ++ listed guids.now) }
 {
     match guids.split_first() {

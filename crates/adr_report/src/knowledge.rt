@@ -5,11 +5,11 @@ ghost use Rattle.std.specs.Fmt.{decimal};
 ghost use Rattle.adr_token.specs.Spelling.{identifier_token};
 ghost use Rattle.adr_report.specs.Line.{mark_text, cursor_line, partner_line};
 
+use adr_guid::Guid;
 use adr_schema::NoMemory;
 use adr_token::{push, push_identifier, push_number};
 use adr_vector::Mark;
 use std::alloc::Global;
-use uuid::Uuid;
 
 /// Adds a number behind some text.
 pub fn push_number_behind(
@@ -35,7 +35,7 @@ pub fn push_mark(alloc: Global, out: &mut Vec<u8>, mark: Mark) -> Result<(), NoM
 }
 
 /// Adds the identifier that a line begins with.
-fn push_first_identifier(alloc: Global, out: &mut Vec<u8>, id: Uuid) -> Result<(), NoMemory>
+fn push_first_identifier(alloc: Global, out: &mut Vec<u8>, id: Guid) -> Result<(), NoMemory>
     ensures { OnOk result (out.new.items ≡ out.old.items ++ (codes "  " ++ identifier_token id ++ codes " ")) }
 {
     push(out, b"  ")?;
@@ -44,7 +44,7 @@ fn push_first_identifier(alloc: Global, out: &mut Vec<u8>, id: Uuid) -> Result<(
 }
 
 #[tactic(auto, unfolding(crate::specs::Line::cursor_line))]
-fn push_cursor(alloc: Global, out: &mut Vec<u8>, inv: Uuid, usn: u64) -> Result<(), NoMemory>
+fn push_cursor(alloc: Global, out: &mut Vec<u8>, inv: Guid, usn: u64) -> Result<(), NoMemory>
     ensures { OnOk result (out.new.items ≡ out.old.items ++ cursor_line (inv, usn)) }
 {
     push_first_identifier(alloc, out, inv)?;
@@ -56,7 +56,7 @@ fn push_cursor(alloc: Global, out: &mut Vec<u8>, inv: Uuid, usn: u64) -> Result<
 pub fn push_cursors(
     alloc: Global,
     out: &mut Vec<u8>,
-    cursors: &[(Uuid, u64)],
+    cursors: &[(Guid, u64)],
 ) -> Result<(), NoMemory>
     ensures { OnOk result (out.new.items ≡ out.old.items ++ flat_map cursor_line cursors.now) }
 {
@@ -70,8 +70,8 @@ pub fn push_cursors(
 fn push_partner(
     alloc: Global,
     out: &mut Vec<u8>,
-    dsa: Uuid,
-    inv: Uuid,
+    dsa: Guid,
+    inv: Guid,
     mark: Mark,
 ) -> Result<(), NoMemory>
     ensures { OnOk result (out.new.items ≡ out.old.items ++ partner_line (dsa, inv, mark)) }
@@ -87,7 +87,7 @@ fn push_partner(
 pub fn push_partners(
     alloc: Global,
     out: &mut Vec<u8>,
-    partners: &[(Uuid, Uuid, Mark)],
+    partners: &[(Guid, Guid, Mark)],
 ) -> Result<(), NoMemory>
     ensures { OnOk result (out.new.items ≡ out.old.items ++ flat_map partner_line partners.now) }
 {

@@ -13,12 +13,12 @@ ghost use Rattle.adr_records.specs.Logged.{IsLogged};
 use crate::naming::names_inv;
 use adr_event::{AdoptRefusal, Failure, Table};
 use adr_failure::NoMemory;
+use adr_guid::Guid;
 use adr_image::{Contents, Dormant, decode};
 use adr_records::{image_of, wake};
 use adr_state::{CURSOR_LIMIT, State};
 use std::alloc::{AllocError, Global};
 use std::marker::Model;
-use uuid::Uuid;
 
 /// The image of a controller: its database as bytes, which belongs to no controller. Whatever it says is formed and
 /// spelled.
@@ -65,7 +65,7 @@ impl Image {
     }
 
     /// A controller of the image under a fresh invocation identifier.
-    pub fn adopt(&self, alloc: Global, dsa: Uuid, inv: Uuid) -> Result<State, Failure<AdoptRefusal>>
+    pub fn adopt(&self, alloc: Global, dsa: Guid, inv: Guid) -> Result<State, Failure<AdoptRefusal>>
         requires dsa { IsId dsa }
         requires inv { IsId inv }
         ensures ok { IfOk result (λ state. adopt self.now dsa inv ≡ Ok state) }
@@ -90,7 +90,7 @@ impl Image {
 }
 
 /// Why a database can't be adopted under an identifier, first in order.
-fn adopt_refusal(contents: &Contents, inv: Uuid) -> Option<AdoptRefusal>
+fn adopt_refusal(contents: &Contents, inv: Guid) -> Option<AdoptRefusal>
     ensures { (dsa : Identifier) → result ≡ adopt_refusal contents.now inv (woken contents.now dsa inv) }
 {
     if names_inv(contents, inv) {
@@ -106,7 +106,7 @@ fn adopt_refusal(contents: &Contents, inv: Uuid) -> Option<AdoptRefusal>
 }
 
 /// A controller of a database that can be adopted under the identifier.
-fn woken(alloc: Global, contents: &Contents, dsa: Uuid, inv: Uuid) -> Result<State, NoMemory>
+fn woken(alloc: Global, contents: &Contents, dsa: Guid, inv: Guid) -> Result<State, NoMemory>
     requires formed { IsFormedStore contents.now }
     requires spelled { IsSpelled contents.now }
     requires fits { adopt_refusal contents.now inv (woken contents.now dsa inv) ≡ None }
@@ -123,8 +123,8 @@ fn woken(alloc: Global, contents: &Contents, dsa: Uuid, inv: Uuid) -> Result<Sta
 fn adopted(
     alloc: Global,
     contents: &Contents,
-    dsa: Uuid,
-    inv: Uuid,
+    dsa: Guid,
+    inv: Guid,
 ) -> Result<State, Failure<AdoptRefusal>>
     requires formed { IsFormedStore contents.now }
     requires spelled { IsSpelled contents.now }

@@ -6,19 +6,19 @@ ghost use Rattle.adr_model.specs.Update.{inv_of, same_identifier};
 ghost use Rattle.adr_update.specs.Key.{key_of};
 ghost use Rattle.adr_restore.specs.Naming.{cursors_name, key_names, marks_name, rows_name};
 
+use adr_guid::Guid;
 use adr_image::Contents;
 use adr_state::{Held, Kept, Key, Vector, is_same};
-use uuid::Uuid;
 
 /// Whether a cursor is of the identifier.
-fn cursors_name(vector: &Vector, inv: Uuid) -> bool
+fn cursors_name(vector: &Vector, inv: Guid) -> bool
     ensures { result ≡ cursors_name vector.now inv }
 {
     vector.cursors().iter().any(|cursor| is_same(cursor.0, inv))
 }
 
 /// Whether an object of the key was born under the identifier.
-fn key_names(key: &Key, inv: Uuid) -> bool
+fn key_names(key: &Key, inv: Guid) -> bool
     ensures { result ≡ key_names (key_of key.now) inv }
 {
     match key {
@@ -28,27 +28,27 @@ fn key_names(key: &Key, inv: Uuid) -> bool
 }
 
 /// Whether the stamp of a row or an object that it is of names the identifier.
-fn row_names(row: &Held, inv: Uuid) -> bool
+fn row_names(row: &Held, inv: Guid) -> bool
     ensures { result ≡ (same_identifier (inv_of row.now.update) inv || key_names row.now.update.key inv) }
 {
     is_same(row.update().stamp().stamp.inv, inv) || key_names(&row.key(), inv)
 }
 
-fn rows_name(rows: &[Held], inv: Uuid) -> bool
+fn rows_name(rows: &[Held], inv: Guid) -> bool
     ensures { result ≡ rows_name rows.now inv }
 {
     rows.iter().any(|row| row_names(row, inv))
 }
 
 /// Whether a mark is of the incarnation with the identifier.
-fn marks_name(marks: &[(Uuid, Kept)], inv: Uuid) -> bool
+fn marks_name(marks: &[(Guid, Kept)], inv: Guid) -> bool
     ensures { result ≡ marks_name marks.now inv }
 {
     marks.iter().any(|mark| is_same(mark.1.inv(), inv))
 }
 
 /// Whether a database names the identifier.
-pub fn names_inv(contents: &Contents, inv: Uuid) -> bool
+pub fn names_inv(contents: &Contents, inv: Guid) -> bool
     ensures { result ≡ names_inv contents.now inv }
 {
     cursors_name(&contents.vector, inv)

@@ -7,6 +7,7 @@ use adr_checks::{
 use adr_disk::{Crash, Disk};
 use adr_disk_memory::MemDisk;
 use adr_file::FileDisk;
+use adr_guid::Guid;
 use adr_io::{Fault, ReadSource, Sink, Source, WriteSink};
 use adr_schema::{Content, Kind, Octets, SchemaRefusal, Syntax, Text, Value, Values, fold_name};
 use adr_stamp::{Birth, LinkKey, LinkStamp, Oid, Stamp};
@@ -17,7 +18,6 @@ use std::alloc::Global;
 use std::fs;
 use std::io::{Error, ErrorKind, Read, Write};
 use std::test::Fail;
-use uuid::Uuid;
 
 /// A class: its number, its name, what its objects must and may have, and its superiors.
 type ClassRow = (
@@ -195,7 +195,7 @@ fn values(alloc: Global) -> Result<[Value; 5], Fail> {
         Value::Octets(octets),
         Value::Number(-7),
         Value::Flag(true),
-        Value::Ref(Uuid::from_u128(0xa1)),
+        Value::Ref(Guid::from_u128(0xa1)),
     ])
 }
 
@@ -212,7 +212,7 @@ fn values_and_names_are_spelled(rt: HostRuntime) -> Result<(), Fail> {
 }
 
 /// A name, a number and an identifier behind a word.
-fn read_line(alloc: Global, text: &[u8]) -> Result<(Text, u64, Uuid, bool), Stop> {
+fn read_line(alloc: Global, text: &[u8]) -> Result<(Text, u64, Guid, bool), Stop> {
     let mut line = Line::new(text);
     line.said(b"add")?;
     let name = line.name(alloc)?;
@@ -225,7 +225,7 @@ fn read_line(alloc: Global, text: &[u8]) -> Result<(Text, u64, Uuid, bool), Stop
 fn a_line_is_read_token_by_token(rt: HostRuntime) -> Result<(), Fail> {
     let (name, number, id, ended) = read_line(rt.alloc(), b" add  A 12 #a0  ")?;
     assert!(rt; name.as_str() == "A" && ended);
-    assert_eq!(rt; (number, id), (12, Uuid::from_u128(0xa0)));
+    assert_eq!(rt; (number, id), (12, Guid::from_u128(0xa0)));
     Ok(())
 }
 
@@ -247,16 +247,16 @@ const ONE: &[u8] = &[0, 0, 0, 1];
 
 fn oid() -> Oid {
     Oid {
-        guid: Uuid::from_u128(0xa0),
+        guid: Guid::from_u128(0xa0),
         birth: Birth {
-            inv: Uuid::from_u128(0xb0),
+            inv: Guid::from_u128(0xb0),
             usn: 5,
         },
     }
 }
 
 fn stamp() -> Stamp {
-    Stamp::first(0, Uuid::from_u128(0xa0), 5)
+    Stamp::first(0, Guid::from_u128(0xa0), 5)
 }
 
 #[rattlefmt::skip]
@@ -293,8 +293,8 @@ const VECTOR: [&[u8]; 5] = [&[0, 0, 0, 2], A, FIVE, B, NINE];
 fn a_vector_is_written_in_order(rt: HostRuntime) -> Result<(), Fail> {
     let alloc = rt.alloc();
     let mut seen = Vector::new(alloc);
-    assert!(rt; seen.raise(Uuid::from_u128(0xb0), 9).is_ok());
-    assert!(rt; seen.raise(Uuid::from_u128(0xa0), 5).is_ok());
+    assert!(rt; seen.raise(Guid::from_u128(0xb0), 9).is_ok());
+    assert!(rt; seen.raise(Guid::from_u128(0xa0), 5).is_ok());
     let mut writer = Writer::new(alloc);
     writer.write_vector(&seen)?;
     assert_eq!(rt;

@@ -12,10 +12,10 @@ use crate::sets::sets;
 use crate::verb::{CopyVerb, LinkVerb, NameVerb, PullVerb, UseVerb, verb_said};
 use adr_disk::Crash;
 use adr_event::{Event, Failure, Verb};
+use adr_guid::Guid;
 use adr_schema::Text;
 use adr_token::{Bad, Line, Stop, without_spaces};
 use std::alloc::Global;
-use uuid::Uuid;
 
 /// A value, if nothing but spaces is left.
 fn ended<T: Drop>(line: &Line<'_>, value: T) -> Result<T, Stop>

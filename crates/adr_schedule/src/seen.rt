@@ -9,10 +9,10 @@ use crate::fault::Cause;
 use crate::limits::CONTROLLER_LIMIT;
 use crate::names::Names;
 use adr_event::{Event, Failure};
+use adr_guid::Guid;
 use adr_schema::Text;
 use std::alloc::Global;
 use std::marker::Model;
-use uuid::Uuid;
 
 /// The names that lines bound, and the identifiers that they gave.
 #[derive(Drop)]
@@ -22,8 +22,8 @@ pub struct Seen {
     replies: Names,
     images: Names,
     snapshots: Names,
-    dsas: Vec<Uuid>,
-    invs: Vec<Uuid>,
+    dsas: Vec<Guid>,
+    invs: Vec<Guid>,
 }
 
 impl Model for Seen {
@@ -36,14 +36,14 @@ impl Model for Seen {
 }
 
 /// Whether an identifier is among these.
-fn is_given(ids: &[Uuid], id: &Uuid) -> bool
+fn is_given(ids: &[Guid], id: &Guid) -> bool
     ensures { result ≡ is_bound ids.now id.now }
 {
     ids.iter().any(|given| *given == *id)
 }
 
 /// Adds an identifier.
-fn give(ids: &mut Vec<Uuid>, id: &Uuid) -> Result<(), Failure<Cause>>
+fn give(ids: &mut Vec<Guid>, id: &Guid) -> Result<(), Failure<Cause>>
     ensures given { OnOk result (ids.new.items ≡ ids.old.items ++ id.now ∷ []) }
     ensures memory { IfErr result (λ failure. failure ≡ Failure.NoMemory) }
 {
@@ -105,7 +105,7 @@ impl Seen {
         None
     }
 
-    fn cause_of_controller(&self, name: &Text, dsa: &Uuid, inv: &Uuid) -> Option<Cause>
+    fn cause_of_controller(&self, name: &Text, dsa: &Guid, inv: &Guid) -> Option<Cause>
         ensures { result
             ≡ first_of (if_bound self.now.controllers name.now ∷ if_given self.now dsa.now inv.now
             ∷ if_full self.now ∷ []) }
@@ -150,7 +150,7 @@ impl Seen {
         None
     }
 
-    fn cause_of_restore(&self, name: &Text, image: &Text, inv: &Uuid) -> Option<Cause>
+    fn cause_of_restore(&self, name: &Text, image: &Text, inv: &Guid) -> Option<Cause>
         ensures { result
             ≡ first_of (unless_bound self.now.controllers name.now ∷ unless_bound self.now.images image.now
             ∷ if_inv_given self.now inv.now ∷ []) }
@@ -164,7 +164,7 @@ impl Seen {
         None
     }
 
-    fn cause_of_install(&self, name: &Text, dsa: &Uuid, image: &Text, inv: &Uuid) -> Option<Cause>
+    fn cause_of_install(&self, name: &Text, dsa: &Guid, image: &Text, inv: &Guid) -> Option<Cause>
         ensures { result
             ≡ first_of (unless_bound self.now.images image.now ∷ if_bound self.now.controllers name.now
             ∷ if_given self.now dsa.now inv.now ∷ if_full self.now ∷ []) }
@@ -233,8 +233,8 @@ impl Seen {
         &mut self,
         alloc: Global,
         name: &Text,
-        dsa: &Uuid,
-        inv: &Uuid,
+        dsa: &Guid,
+        inv: &Guid,
     ) -> Result<(), Failure<Cause>>
         requires { is_bound self.old.controllers name.now ≡ false }
         ensures seen { OnOk result (self.new ≡ with_controller self.old name.now dsa.now inv.now) }

@@ -11,16 +11,16 @@ ghost use Rattle.adr_state.specs.Marks.{of_marks};
 
 use crate::NoMemory;
 use adr_change::{Kept, no_mark};
+use adr_guid::Guid;
 use adr_vector::Mark;
 use std::alloc::Global;
 use std::collections::BTreeMap;
 use std::marker::Model;
-use uuid::Uuid;
 
 /// What is kept of each partner, by its controller's identifier.
 #[derive(Drop)]
 pub struct Marks {
-    map: BTreeMap<Uuid, Kept>,
+    map: BTreeMap<Guid, Kept>,
 }
 
 impl Model for Marks {
@@ -49,24 +49,24 @@ impl Marks {
     }
 
     /// What is kept of a partner; of one of whom nothing was read, the mark at nothing of no incarnation.
-    pub fn kept(&self, partner: Uuid) -> Kept
+    pub fn kept(&self, partner: Guid) -> Kept
         ensures { result ≡ kept_of (of_marks self.now) partner }
     {
         match self.map.get(&partner) {
             Some(kept) => *kept,
-            None => Kept::new(Uuid::from_u128(0), no_mark()),
+            None => Kept::new(Guid::from_u128(0), no_mark()),
         }
     }
 
     /// The mark of a partner, as far as it is of this incarnation.
-    pub fn mark(&self, partner: Uuid, inv: Uuid) -> Mark
+    pub fn mark(&self, partner: Guid, inv: Guid) -> Mark
         ensures { result ≡ mark_of (kept_of (of_marks self.now) partner) inv }
     {
         self.kept(partner).mark_of(inv)
     }
 
     /// Whether anything is kept of a partner.
-    fn has(&self, partner: Uuid) -> bool
+    fn has(&self, partner: Guid) -> bool
         ensures { result ≡ is_some (lookup (is_at (identifier_order partner)) self.now) }
     {
         self.map.contains_key(&partner)
@@ -76,7 +76,7 @@ impl Marks {
     pub(crate) fn with_new(
         &self,
         alloc: Global,
-        mark: Option<(Uuid, Kept)>,
+        mark: Option<(Guid, Kept)>,
     ) -> Result<Option<Marks>, NoMemory>
         ensures new { IfOk result (λ marks. IfSome marks (λ with. with ≡ with_mark mark self.now)) }
         ensures known { IfOk result (λ marks. IfNone marks (IsOfKnown self.now mark)) }
@@ -93,7 +93,7 @@ impl Marks {
     }
 
     /// Other marks take the place of these, if there are any; else what is given of a known partner is kept.
-    pub(crate) fn renew(&mut self, marks: Option<Marks>, mark: Option<(Uuid, Kept)>)
+    pub(crate) fn renew(&mut self, marks: Option<Marks>, mark: Option<(Guid, Kept)>)
         requires { IfNone marks (IsOfKnown self.old mark) }
         ensures { self.new ≡ unwrap_or marks (with_mark mark self.old) }
     {
@@ -104,7 +104,7 @@ impl Marks {
     }
 
     /// Keeps what is given of a known partner, in place of what was kept of it.
-    fn keep_known(&mut self, mark: Option<(Uuid, Kept)>)
+    fn keep_known(&mut self, mark: Option<(Guid, Kept)>)
         requires { IsOfKnown self.old mark }
         ensures { self.new ≡ with_mark mark self.old }
     {
@@ -121,7 +121,7 @@ impl Marks {
     }
 
     /// How many partners there are of whom something is kept, together with this one.
-    pub fn len_with(&self, partner: Uuid) -> usize
+    pub fn len_with(&self, partner: Guid) -> usize
         ensures { (kept : Defined) → result ≡ length (with_mark (Some (partner, kept)) self.now) }
     {
         let len = self.map.len();
@@ -133,7 +133,7 @@ impl Marks {
     }
 
     /// What is kept of each partner, by its controller's identifier, rising.
-    pub fn to_vec(&self, alloc: Global) -> Result<Vec<(Uuid, Kept)>, NoMemory>
+    pub fn to_vec(&self, alloc: Global) -> Result<Vec<(Guid, Kept)>, NoMemory>
         ensures { IfOk result (λ list. list.items ≡ self.now) }
     {
         let mut list = Vec::new(alloc);
@@ -156,7 +156,7 @@ impl Marks {
 }
 
 /// Puts what is kept of a partner into a table, over what is there.
-fn put(map: &mut BTreeMap<Uuid, Kept>, partner: Uuid, kept: Kept) -> Result<(), NoMemory>
+fn put(map: &mut BTreeMap<Guid, Kept>, partner: Guid, kept: Kept) -> Result<(), NoMemory>
     ensures entries { OnOk result (map.new.entries ≡ insert_entry identifier_order map.old.entries partner kept) }
     ensures ordered { IsOrdered identifier_order map.new }
 {
@@ -165,7 +165,7 @@ fn put(map: &mut BTreeMap<Uuid, Kept>, partner: Uuid, kept: Kept) -> Result<(), 
 }
 
 /// Puts what is kept of a partner in the place of what a table has of it.
-fn overwrite(map: &mut BTreeMap<Uuid, Kept>, partner: Uuid, kept: Kept)
+fn overwrite(map: &mut BTreeMap<Guid, Kept>, partner: Guid, kept: Kept)
     requires { IsSome (lookup (is_at (identifier_order partner)) map.old.entries) }
     ensures entries { map.new.entries ≡ insert_entry identifier_order map.old.entries partner kept }
     ensures ordered { IsOrdered identifier_order map.new }

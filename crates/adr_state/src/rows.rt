@@ -18,6 +18,7 @@ ghost use Rattle.adr_table.specs.Table.{IsKept, rows_in};
 ghost use Rattle.adr_tree.specs.Parent.{IsParent};
 
 use crate::NoMemory;
+use adr_guid::Guid;
 use adr_live::edits_of;
 use adr_schema::Text;
 use adr_stamp::{Oid, Unit};
@@ -26,7 +27,6 @@ use adr_tree::Tree;
 use adr_update::{Held, Key, Node};
 use std::alloc::Global;
 use std::marker::Model;
-use uuid::Uuid;
 
 /// The rows of a controller, each under its key, and the live objects that they make.
 #[derive(Drop)]
@@ -81,7 +81,7 @@ impl Rows {
     }
 
     /// Whether an object of a GUID is held, live or dead.
-    pub fn holds_guid(&self, guid: Uuid) -> bool
+    pub fn holds_guid(&self, guid: Guid) -> bool
         ensures { result ≡ holds_guid (updates_of self.now) guid }
     {
         self.table.holds_guid(guid)
@@ -179,7 +179,7 @@ impl Rows {
 
 impl Rows {
     /// The live object of a GUID.
-    pub fn node(&self, guid: Uuid) -> Option<&Node>
+    pub fn node(&self, guid: Guid) -> Option<&Node>
         ensures { option_copied result ≡ node_at (nodes_held (updates_of self.now)) guid }
     {
         self.tree.get(guid)
@@ -193,7 +193,7 @@ impl Rows {
     }
 
     /// The GUID under which a live object is shown (MS-ADTS, LostAndFound container).
-    pub fn place(&self, node: &Node) -> Uuid
+    pub fn place(&self, node: &Node) -> Guid
         requires { node_at (nodes_held (updates_of self.now)) node.now.object.guid ≡ Some node.now }
         ensures { result ≡ place (nodes_held (updates_of self.now)) node.now }
     {
@@ -201,7 +201,7 @@ impl Rows {
     }
 
     /// Whether an object of a GUID is met going up from a place, which it may be itself.
-    pub fn is_met_above(&self, place: Uuid, guid: Uuid) -> bool
+    pub fn is_met_above(&self, place: Guid, guid: Guid) -> bool
         ensures { let nodes = nodes_held (updates_of self.now) in
             result ≡ list_any (λ m. same_identifier m.object.guid guid) (upward nodes (length nodes) place) }
     {
@@ -209,7 +209,7 @@ impl Rows {
     }
 
     /// The least GUID of an object that is shown under a live one.
-    pub fn first_child(&self, guid: Uuid) -> Option<Uuid>
+    pub fn first_child(&self, guid: Guid) -> Option<Guid>
         requires live { IsSome (node_at (nodes_held (updates_of self.now)) guid) }
         requires free { is_fixed guid ≡ false }
         ensures { let nodes = nodes_held (updates_of self.now) in
@@ -219,7 +219,7 @@ impl Rows {
     }
 
     /// The GUID of the object that keeps a text in a place, in whatever case it is written.
-    pub fn holder(&self, alloc: Global, parent: Uuid, text: &Text) -> Result<Option<Uuid>, NoMemory>
+    pub fn holder(&self, alloc: Global, parent: Guid, text: &Text) -> Result<Option<Guid>, NoMemory>
         requires { IsParent (nodes_held (updates_of self.now)) parent }
         ensures { IfOk result (λ holder.
             holder ≡ name_holder (nodes_held (updates_of self.now)) parent text.now) }
@@ -231,8 +231,8 @@ impl Rows {
     pub fn is_taken(
         &self,
         alloc: Global,
-        guid: Uuid,
-        parent: Uuid,
+        guid: Guid,
+        parent: Guid,
         text: &Text,
     ) -> Result<bool, NoMemory>
         requires { IsParent (nodes_held (updates_of self.now)) parent }

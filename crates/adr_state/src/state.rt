@@ -16,17 +16,17 @@ use crate::rows::Rows;
 use adr_change::{Change, Mode};
 use adr_checks::Schema;
 use adr_failure::Failure;
+use adr_guid::Guid;
 use adr_vector::{Full, Vector};
 use std::alloc::Global;
 use std::marker::Model;
-use uuid::Uuid;
 
 /// A controller: its own identifier, the invocation identifier of its database, its mode, and the database.
 #[derive(Drop)]
 pub struct State {
     alloc: Global,
-    dsa: Uuid,
-    inv: Uuid,
+    dsa: Guid,
+    inv: Guid,
     usn: u64,
     mode: Mode,
     schema: Schema,
@@ -52,7 +52,7 @@ impl Model for State {
 
 impl State {
     /// A new, empty controller.
-    pub fn new(alloc: Global, dsa: Uuid, inv: Uuid, schema: Schema) -> State
+    pub fn new(alloc: Global, dsa: Guid, inv: Guid, schema: Schema) -> State
         ensures empty { result ≡ record (empty_state dsa inv) { store = empty_store schema.number } }
         ensures log { new_log_end result ≡ first_log_end }
     {
@@ -71,14 +71,14 @@ impl State {
     }
 
     /// The controller's identifier.
-    pub fn dsa(&self) -> Uuid
+    pub fn dsa(&self) -> Guid
         ensures { result ≡ self.now.dsa }
     {
         self.dsa
     }
 
     /// The invocation identifier of the controller's database.
-    pub fn inv(&self) -> Uuid
+    pub fn inv(&self) -> Guid
         ensures { result ≡ self.now.inv }
     {
         self.inv
@@ -190,14 +190,14 @@ impl State {
 }
 
 /// Whether a vector has all the cursors that a change needs.
-fn has_cursors_for(vector: &Vector, inv: Uuid, change: &Change) -> bool
+fn has_cursors_for(vector: &Vector, inv: Guid, change: &Change) -> bool
     ensures { result ≡ has_cursors_for vector.now inv change.now }
 {
     vector.has_cursors_of(change.joined()) && (change.usn() == 0 || vector.at(inv) > 0)
 }
 
 /// Another vector takes the place of this one, if there is one; else its cursors are raised.
-fn renew_seen(vector: &mut Vector, other: Option<Vector>, inv: Uuid, change: &Change)
+fn renew_seen(vector: &mut Vector, other: Option<Vector>, inv: Guid, change: &Change)
     requires { IfNone other (has_cursors_for vector.old inv change.now ≡ true) }
     ensures { vector.new
         ≡ unwrap_or other (raised (joined vector.old change.now.joined) inv change.now.usn) }
@@ -209,7 +209,7 @@ fn renew_seen(vector: &mut Vector, other: Option<Vector>, inv: Uuid, change: &Ch
 }
 
 /// Raises the cursors of a vector to what a change brings.
-fn raise_cursors(vector: &mut Vector, inv: Uuid, change: &Change)
+fn raise_cursors(vector: &mut Vector, inv: Guid, change: &Change)
     requires { has_cursors_for vector.old inv change.now ≡ true }
     ensures { vector.new ≡ raised (joined vector.old change.now.joined) inv change.now.usn }
 {

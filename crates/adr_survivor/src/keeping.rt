@@ -10,11 +10,11 @@ use adr_checks::Schema;
 use adr_controller::{Controller, Keeper, State};
 use adr_disk::Disk;
 use adr_file::FileDisk;
+use adr_guid::Guid;
 use adr_journal::Journal;
 use adr_law_recorded::new_controllers_may_begin;
 use adr_records::Records;
 use std::alloc::Global;
-use uuid::Uuid;
 
 /// The log of a controller, in a file.
 pub type Log<'a> = Journal<FileDisk<&'a HostRuntime>, Records>;
@@ -31,8 +31,8 @@ pub fn tell(rt: &HostRuntime, line: &str) -> Result<(), Ending> {
 fn new_state(alloc: Global) -> State
     ensures { result ≡ empty_state (identifier 0xa0) (identifier 0xa1) }
 {
-    let dsa = Uuid::from_u128(0xa0);
-    let inv = Uuid::from_u128(0xa1);
+    let dsa = Guid::from_u128(0xa0);
+    let inv = Guid::from_u128(0xa1);
     match Schema::new(1) {
         Some(schema) => State::new(alloc, dsa, inv, schema),
         None => unreachable!(),

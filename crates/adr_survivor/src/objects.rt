@@ -4,10 +4,10 @@ ghost use Rattle.std.specs.Prelude.{◌≡◌, ◌<◌, ◌^◌, ℕ, IfOk, Some
 ghost use Rattle.adr_survivor.specs.Objects.{IsAddition, guid_of};
 
 use adr_event::Event;
+use adr_guid::Guid;
 use adr_schema::{Assignments, NoMemory, Text};
 use adr_update::root;
 use std::alloc::Global;
-use uuid::Uuid;
 
 /// The high half of the GUIDs of objects: "objects" and a zero.
 const OBJECTS: u64 = 0x6f62_6a65_6374_7300;
@@ -16,14 +16,14 @@ const OBJECTS: u64 = 0x6f62_6a65_6374_7300;
 const CONTAINER: u16 = 4;
 
 /// The GUID of a number.
-fn guid_of(number: u64) -> Uuid
+fn guid_of(number: u64) -> Guid
     ensures { result ≡ guid_of number }
 {
-    Uuid::from_u64_pair(OBJECTS, number)
+    Guid::from_u128((u128::from(OBJECTS) << 64) | u128::from(number))
 }
 
 /// The number of a GUID, if it has one.
-pub fn number_of(guid: Uuid) -> Option<u64>
+pub fn number_of(guid: Guid) -> Option<u64>
     ensures { (number : ℕ) → number < 2 ^ 64 → guid ≡ guid_of number → result ≡ Some number }
 {
     let (high, number) = guid.as_u64_pair();

@@ -5,9 +5,9 @@ ghost use Rattle.adr_model.specs.Update.{LinkOf};
 ghost use Rattle.adr_update.specs.Key.{key_of};
 ghost use Rattle.adr_table.specs.Place.{IsStart, guid_start, is_in_run, is_of_class, links_start, place_of, rows_start, values_start};
 
+use adr_guid::Guid;
 use adr_stamp::{Birth, LinkKey, Oid};
 use adr_update::{CLASS, Key};
-use uuid::Uuid;
 
 /// The first attribute that isn't reserved.
 const FIRST_VALUE: u16 = 4;
@@ -19,7 +19,7 @@ const FIRST_VALUE: u16 = 4;
 pub struct Place {
     pub is_link: bool,
     /// The GUID of the object, or of the link's source.
-    pub guid: Uuid,
+    pub guid: Guid,
     /// The birth of that object.
     pub birth: Option<Birth>,
     pub attr: u16,
@@ -57,7 +57,7 @@ impl Place {
     }
 
     /// Where the rows of the objects of a GUID begin.
-    pub fn before_guid(guid: Uuid) -> Place
+    pub fn before_guid(guid: Guid) -> Place
         ensures place { result ≡ guid_start guid }
         ensures start { IsStart result }
     {

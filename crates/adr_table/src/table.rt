@@ -19,11 +19,11 @@ use crate::deaths::deaths;
 use crate::locals::{Local, next_local, units_at};
 use crate::place::Place;
 use crate::slots::{Slots, push_row};
+use adr_guid::Guid;
 use adr_stamp::{Oid, Unit};
 use adr_update::{Held, Key};
 use std::alloc::Global;
 use std::collections::BTreeSet;
-use uuid::Uuid;
 
 /// Rows in slots, with hints of the links that end at each object, of the objects that are held dead, and of the units that
 /// were written last under each local update sequence number.
@@ -74,7 +74,7 @@ impl Table {
     }
 
     /// Whether an object of a GUID is held, live or dead.
-    pub fn holds_guid(&self, guid: Uuid) -> bool
+    pub fn holds_guid(&self, guid: Guid) -> bool
         requires { IsKept self.now }
         ensures { result ≡ holds_guid (updates_of (rows_in self.now)) guid }
     {
@@ -114,7 +114,7 @@ impl Table {
     }
 
     /// The rows of the objects of a GUID, in order.
-    pub fn rows_of_guid(&self, alloc: Global, guid: Uuid) -> Result<Vec<&Held>, NoMemory>
+    pub fn rows_of_guid(&self, alloc: Global, guid: Guid) -> Result<Vec<&Held>, NoMemory>
         requires { IsKept self.now }
         ensures { IfOk result (λ rows.
             referents rows.items ≡ filter (λ h. is_of_guid guid h.update.key) (rows_in self.now)) }

@@ -68,10 +68,6 @@ neither false = refl
 pub unfit : (bs : List ℕ) → is_utf8 bs ≡ false → is_text bs ≡ false
 unfit bs u = rw u (neither (nat_le (length bs) 65535))
 
-pub nothing : {X : Type 0} (o : Option X) → ((x : X) × (o ≡ Some x) → ⊥) → o ≡ None
-nothing None h = refl
-nothing (Some x) h = absurd (h (x, refl))
-
 -- names are ASCII
 name_byte_ascii : (b : ℕ) → is_name_byte b ≡ true → b < 128
 name_byte_ascii b h = grind (arith, nat_tests)

@@ -1,7 +1,6 @@
 //! Identifiers.
 
 ghost use Rattle.std.specs.Prelude.{◌≡◌, ℕ, List};
-ghost use Rattle.uuid.specs.Text.{parsed};
 ghost use Rattle.adr_token.specs.Gives.{Gives};
 ghost use Rattle.adr_token.specs.Identifiers.{spelled_back, full_identifier, short_identifier, identifier_of, identifier_at};
 
@@ -10,33 +9,24 @@ use crate::stop::{Bad, Stop};
 use crate::texts::utf8;
 use crate::words::Line;
 use adr_failure::Failure;
-use uuid::Uuid;
+use adr_guid::Guid;
 
-fn parsed(text: &str) -> Option<Uuid>
-    ensures { result ≡ parsed text.now }
-{
-    match Uuid::parse_str(text) {
-        Ok(id) => Some(id),
-        Err(_) => None,
-    }
-}
-
-fn spelled_back(text: &[u8], id: Uuid) -> Option<Uuid>
+fn spelled_back(text: &[u8], id: Guid) -> Option<Guid>
     ensures { result ≡ spelled_back text.now id }
 {
-    let mut buffer = Uuid::encode_buffer();
-    if id.hyphenated().encode_lower(&mut buffer).as_bytes() == text {
+    let mut buffer = [0; 36];
+    if id.hyphenated(&mut buffer).as_bytes() == text {
         Some(id)
     } else {
         None
     }
 }
 
-fn full_identifier(text: &[u8]) -> Option<Uuid>
+fn full_identifier(text: &[u8]) -> Option<Guid>
     ensures { result ≡ full_identifier text.now }
 {
     match utf8(text) {
-        Some(read) => match parsed(read) {
+        Some(read) => match Guid::parse_str(read) {
             Some(id) => spelled_back(text, id),
             None => None,
         },
@@ -44,18 +34,18 @@ fn full_identifier(text: &[u8]) -> Option<Uuid>
     }
 }
 
-fn short_identifier(figures: &[u8]) -> Option<Uuid>
+fn short_identifier(figures: &[u8]) -> Option<Guid>
     ensures { result ≡ short_identifier figures.now }
 {
     match number_of(true, 0xffff_ffff, figures) {
-        Some(number) => Some(Uuid::from_u128(u128::from(number))),
+        Some(number) => Some(Guid::from_u128(u128::from(number))),
         None => None,
     }
 }
 
 /// The identifier that a word names: `#`, and then either 1 to 8 lower-case hexadecimal digits without
 /// a leading zero, or the 36-byte text of RFC 9562 in lower case.
-pub fn identifier_of(word: &[u8]) -> Option<Uuid>
+pub fn identifier_of(word: &[u8]) -> Option<Guid>
     ensures { result ≡ identifier_of word.now }
 {
     match word.split_first() {
@@ -75,7 +65,7 @@ pub fn identifier_of(word: &[u8]) -> Option<Uuid>
 impl Line<'_> {
     /// An identifier.
     #[tactic(auto, unfolding(crate::specs::Identifiers::identifier_at))]
-    pub fn identifier(&mut self) -> Result<Uuid, Stop>
+    pub fn identifier(&mut self) -> Result<Guid, Stop>
         ensures { Gives result self.new (identifier_at self.old) }
     {
         let word = self.word()?;

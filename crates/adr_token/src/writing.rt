@@ -5,8 +5,8 @@ ghost use Rattle.std.specs.Fmt.{decimal, digits};
 ghost use Rattle.adr_token.specs.Spelling.{escaped, two_figures, text_token, identifier_text, identifier_token};
 ghost use Rattle.uuid.specs.Text.{hex_digit, lower, hyphenated_text};
 
+use adr_guid::Guid;
 use std::alloc::{AllocError, Global};
-use uuid::Uuid;
 
 /// Adds bytes.
 pub fn push(out: &mut Vec<u8>, bytes: &[u8]) -> Result<(), AllocError>
@@ -71,14 +71,14 @@ fn push_figures(alloc: Global, out: &mut Vec<u8>, number: u64) -> Result<(), All
     push(out, text.as_bytes())
 }
 
-fn push_full(out: &mut Vec<u8>, id: Uuid) -> Result<(), AllocError>
+fn push_full(out: &mut Vec<u8>, id: Guid) -> Result<(), AllocError>
     ensures { OnOk result (out.new.items ≡ out.old.items ++ hyphenated_text lower id) }
 {
-    let mut buffer = Uuid::encode_buffer();
-    push(out, id.hyphenated().encode_lower(&mut buffer).as_bytes())
+    let mut buffer = [0; 36];
+    push(out, id.hyphenated(&mut buffer).as_bytes())
 }
 
-fn push_identifier_text(alloc: Global, out: &mut Vec<u8>, id: Uuid) -> Result<(), AllocError>
+fn push_identifier_text(alloc: Global, out: &mut Vec<u8>, id: Guid) -> Result<(), AllocError>
     ensures { OnOk result (out.new.items ≡ out.old.items ++ identifier_text id) }
 {
     let number = id.as_u128();
@@ -91,7 +91,7 @@ fn push_identifier_text(alloc: Global, out: &mut Vec<u8>, id: Uuid) -> Result<()
 
 /// Adds an identifier: its short form below 2^32, else its full form.
 #[tactic(auto, unfolding(crate::specs::Spelling::identifier_token))]
-pub fn push_identifier(alloc: Global, out: &mut Vec<u8>, id: Uuid) -> Result<(), AllocError>
+pub fn push_identifier(alloc: Global, out: &mut Vec<u8>, id: Guid) -> Result<(), AllocError>
     ensures { OnOk result (out.new.items ≡ out.old.items ++ identifier_token id) }
 {
     push(out, b"#")?;

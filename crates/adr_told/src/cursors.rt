@@ -5,12 +5,12 @@ ghost use Rattle.std.specs.Option.{option_copied};
 ghost use Rattle.adr_vector.specs.Vector.{IsVector, at, cursor_limit, joined, raised};
 ghost use Rattle.adr_told.specs.Cursors.{new_at};
 
+use adr_guid::Guid;
 use adr_vector::Vector;
-use uuid::Uuid;
 
 /// How many cursors there are when a vector takes over what another has seen, if there is another, and is then raised
 /// at one identifier.
-pub fn len_after(vector: &Vector, other: Option<&Vector>, inv: Uuid, usn: u64) -> usize
+pub fn len_after(vector: &Vector, other: Option<&Vector>, inv: Guid, usn: u64) -> usize
     ensures { result ≡ length (raised (joined vector.now (unwrap_or (option_copied other.entry) [])) inv usn) }
 {
     match other {
@@ -37,7 +37,7 @@ fn len_joined(vector: &Vector, other: &Vector) -> usize
 }
 
 /// How many of these cursors are of identifiers at which a vector has none.
-fn count_new(vector: &Vector, cursors: &[(Uuid, u64)]) -> usize
+fn count_new(vector: &Vector, cursors: &[(Guid, u64)]) -> usize
     ensures new { result ≡ length (filter (λ c. at vector.now c.0 == 0) cursors.now) }
     ensures few { result ≤ length cursors.now }
 {

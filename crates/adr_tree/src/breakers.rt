@@ -16,10 +16,10 @@ ghost use Rattle.adr_tree.specs.Slots.{KeepsPlaces, flag_at};
 use crate::hints::Hint;
 use crate::slots::{flag, set_flag};
 use crate::walks::{closing, comes_to, first_breaker};
+use adr_guid::Guid;
 use adr_update::{Node, is_fixed};
 use std::collections::{BTreeMap, BTreeSet};
 use std::ops::Bound;
-use uuid::Uuid;
 
 /// The first hint from another one on.
 fn first_hint(hints: &BTreeSet<Hint>, start: Hint) -> Option<Hint>
@@ -39,7 +39,7 @@ fn first_hint(hints: &BTreeSet<Hint>, start: Hint) -> Option<Hint>
 }
 
 /// Whether an object of a GUID may be the parent of another one, or its own, as parents were written.
-pub(crate) fn may_be_parent(hints: &BTreeSet<Hint>, guid: Uuid) -> bool
+pub(crate) fn may_be_parent(hints: &BTreeSet<Hint>, guid: Guid) -> bool
     ensures { OnFalse result (IsChildless hints.now guid) }
 {
     let start = Hint {
@@ -55,10 +55,10 @@ pub(crate) fn may_be_parent(hints: &BTreeSet<Hint>, guid: Uuid) -> bool
 
 /// The GUID of the object that breaks the loop that a new object closes.
 fn closer(
-    slots: &BTreeMap<Uuid, Option<Node>>,
-    flags: &BTreeMap<Uuid, bool>,
+    slots: &BTreeMap<Guid, Option<Node>>,
+    flags: &BTreeMap<Guid, bool>,
     new: &Node,
-) -> Option<Uuid>
+) -> Option<Guid>
     ensures { result ≡ closed_by slots.now flags.now new.now }
 {
     if is_fixed(new.object().guid) {
@@ -72,11 +72,11 @@ fn closer(
 
 /// The same, where nobody breaks one if the new object is nobody's parent.
 pub(crate) fn closer_if(
-    slots: &BTreeMap<Uuid, Option<Node>>,
-    flags: &BTreeMap<Uuid, bool>,
+    slots: &BTreeMap<Guid, Option<Node>>,
+    flags: &BTreeMap<Guid, bool>,
     is_parent: bool,
     new: &Node,
-) -> Option<Uuid>
+) -> Option<Guid>
     ensures { result ≡ (if is_parent then closed_by slots.now flags.now new.now else None) }
 {
     if is_parent {
@@ -88,10 +88,10 @@ pub(crate) fn closer_if(
 
 /// The GUID of the object that broke the loop of an object that goes.
 fn opener(
-    slots: &BTreeMap<Uuid, Option<Node>>,
-    flags: &BTreeMap<Uuid, bool>,
+    slots: &BTreeMap<Guid, Option<Node>>,
+    flags: &BTreeMap<Guid, bool>,
     old: &Node,
-) -> Option<Uuid>
+) -> Option<Guid>
     ensures { result ≡ opened_by slots.now flags.now old.now }
 {
     let guid = old.object().guid;
@@ -116,11 +116,11 @@ fn opener(
 
 /// The same, where nobody broke one if the object was nobody's parent.
 pub(crate) fn opener_if(
-    slots: &BTreeMap<Uuid, Option<Node>>,
-    flags: &BTreeMap<Uuid, bool>,
+    slots: &BTreeMap<Guid, Option<Node>>,
+    flags: &BTreeMap<Guid, bool>,
     is_parent: bool,
     old: &Option<Node>,
-) -> Option<Uuid>
+) -> Option<Guid>
     ensures { result
         ≡ (if is_parent then option_and_then (λ x. opened_by slots.now flags.now x) old.now else None) }
 {
@@ -134,7 +134,7 @@ pub(crate) fn opener_if(
 }
 
 /// Sets the flag of an object, if one is named.
-pub(crate) fn set(flags: &mut BTreeMap<Uuid, bool>, breaker: Option<Uuid>)
+pub(crate) fn set(flags: &mut BTreeMap<Guid, bool>, breaker: Option<Guid>)
     requires { IfSome breaker (λ h. IsSome (get identifier_order flags.old h)) }
     ensures flag { (g : Identifier) → flag_at flags.new g
         ≡ (option_map_or (λ h. same_identifier h g) breaker false || flag_at flags.old g) }
@@ -147,7 +147,7 @@ pub(crate) fn set(flags: &mut BTreeMap<Uuid, bool>, breaker: Option<Uuid>)
 }
 
 /// Clears the flag of a GUID.
-fn clear_flag(flags: &mut BTreeMap<Uuid, bool>, guid: Uuid)
+fn clear_flag(flags: &mut BTreeMap<Guid, bool>, guid: Guid)
     ensures flag { (g : Identifier) → flag_at flags.new g
         ≡ (flag_at flags.old g && not (same_identifier guid g)) }
     ensures more { KeepsPlaces flags.old flags.new }
@@ -158,7 +158,7 @@ fn clear_flag(flags: &mut BTreeMap<Uuid, bool>, guid: Uuid)
 }
 
 /// Clears the flag of an object, if one is named.
-pub(crate) fn clear(flags: &mut BTreeMap<Uuid, bool>, breaker: Option<Uuid>)
+pub(crate) fn clear(flags: &mut BTreeMap<Guid, bool>, breaker: Option<Guid>)
     ensures flag { (g : Identifier) → flag_at flags.new g
         ≡ (flag_at flags.old g && not (option_map_or (λ h. same_identifier h g) breaker false)) }
     ensures more { KeepsPlaces flags.old flags.new }

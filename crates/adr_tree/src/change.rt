@@ -14,12 +14,12 @@ use crate::edit::Edit;
 use crate::hints::{Hint, remember};
 use crate::slots::{empty, fill, free, reserve_flag, reserve_slot};
 use crate::tree::Tree;
+use adr_guid::Guid;
 use adr_update::Node;
-use uuid::Uuid;
 
 impl Tree {
     /// Takes the live object of a GUID out.
-    fn take_out(&mut self, guid: Uuid) -> Option<Node>
+    fn take_out(&mut self, guid: Guid) -> Option<Node>
         requires { IsTree self.old }
         ensures tree { IsTree self.new }
         ensures nodes { (g : Identifier) → node_at (nodes_in self.new) g
@@ -122,7 +122,7 @@ impl Tree {
     }
 
     /// Frees the slot and the flag of a GUID without a live object.
-    fn free(&mut self, guid: Uuid)
+    fn free(&mut self, guid: Guid)
         requires { IsTree self.old }
         ensures tree { IsTree self.new }
         ensures nodes { nodes_in self.new ≡ nodes_in self.old }

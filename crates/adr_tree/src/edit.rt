@@ -1,11 +1,11 @@
 //! Edits of live objects.
 
+use adr_guid::Guid;
 use adr_update::Node;
-use uuid::Uuid;
 
 /// What becomes of the live object of a GUID.
 #[derive(Drop)]
 pub struct Edit {
-    pub guid: Uuid,
+    pub guid: Guid,
     pub node: Option<Node>,
 }

@@ -7,19 +7,19 @@ ghost use Rattle.adr_tree.specs.declared.hints.Hint.{Hint as Defined};
 ghost use Rattle.adr_tree.specs.Hints.{child_hint, hint_order, is_in_run, name_hint, number_of};
 
 use crate::NoMemory;
+use adr_guid::Guid;
 use adr_schema::Text;
 use adr_update::Node;
 use std::alloc::AllocError;
 use std::collections::BTreeSet;
-use uuid::Uuid;
 
 /// A hint that an object may have a parent, as it was written, or with `name` that it may have a name of this number
 /// there. The one without a GUID comes before the others of its run.
 #[derive(Clone, Copy, PartialEq, Eq, PartialOrd, Ord)]
 pub struct Hint {
-    pub parent: Uuid,
+    pub parent: Guid,
     pub name: Option<u64>,
-    pub guid: Option<Uuid>,
+    pub guid: Option<Guid>,
 }
 
 impl Hint {

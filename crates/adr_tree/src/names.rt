@@ -20,11 +20,11 @@ use crate::NoMemory;
 use crate::hints::{Hint, number_of};
 use crate::tree::Tree;
 use crate::walks::younger;
+use adr_guid::Guid;
 use adr_schema::{Text, fold_name};
 use adr_update::{Node, is_lost_name, is_same, lost_and_found};
 use std::alloc::Global;
 use std::ops::Bound;
-use uuid::Uuid;
 
 /// Whether the folded name of an object is this one.
 fn has_name(node: &Node, name: &Text) -> bool
@@ -55,7 +55,7 @@ fn younger_of<'a>(best: Option<&'a Node>, node: &'a Node) -> &'a Node
 }
 
 /// The GUID of an object, where there is one.
-fn guid_of(node: Option<&Node>) -> Option<Uuid>
+fn guid_of(node: Option<&Node>) -> Option<Guid>
     ensures { result ≡ option_map (λ n. n.object.guid) (option_copied node.entry) }
 {
     match node {
@@ -65,7 +65,7 @@ fn guid_of(node: Option<&Node>) -> Option<Uuid>
 }
 
 /// Whether there is another object than that of a GUID.
-fn has_other(nodes: &[&Node], guid: Uuid) -> bool
+fn has_other(nodes: &[&Node], guid: Guid) -> bool
     ensures { result ≡ list_any (λ m. not (same_identifier m.object.guid guid)) (referents nodes.now) }
 {
     for node in nodes {
@@ -78,7 +78,7 @@ fn has_other(nodes: &[&Node], guid: Uuid) -> bool
 
 impl Tree {
     /// The live object of a hint, if it stands in a place under a folded name.
-    fn called(&self, parent: Uuid, name: &Text, hint: &Hint) -> Option<&Node>
+    fn called(&self, parent: Guid, name: &Text, hint: &Hint) -> Option<&Node>
         requires { IsTree self.now }
         ensures live { IfSome result (λ n. IsLive (nodes_in self.now) n.now) }
         ensures own { IfSome result (λ n. hint.now.guid ≡ Some n.now.object.guid) }
@@ -95,7 +95,7 @@ impl Tree {
     }
 
     /// The live objects that stand in a place under a folded name.
-    fn bearers(&self, alloc: Global, parent: Uuid, name: &Text) -> Result<Vec<&Node>, NoMemory>
+    fn bearers(&self, alloc: Global, parent: Guid, name: &Text) -> Result<Vec<&Node>, NoMemory>
         requires tree { IsTree self.now }
         requires parent { IsParent (nodes_in self.now) parent }
         ensures live { IfOk result (λ nodes. Each (IsLive (nodes_in self.now)) (referents nodes.items)) }
@@ -122,7 +122,7 @@ impl Tree {
     }
 
     /// The GUID of the object that keeps a folded name in a place.
-    fn keeper(&self, alloc: Global, parent: Uuid, name: &Text) -> Result<Option<Uuid>, NoMemory>
+    fn keeper(&self, alloc: Global, parent: Guid, name: &Text) -> Result<Option<Guid>, NoMemory>
         requires tree { IsTree self.now }
         requires parent { IsParent (nodes_in self.now) parent }
         ensures { IfOk result (λ keeper. (text : List ℕ)
@@ -139,8 +139,8 @@ impl Tree {
     fn is_kept(
         &self,
         alloc: Global,
-        guid: Uuid,
-        parent: Uuid,
+        guid: Guid,
+        parent: Guid,
         name: &Text,
     ) -> Result<bool, NoMemory>
         requires tree { IsTree self.now }
@@ -156,7 +156,7 @@ impl Tree {
     }
 
     /// The GUID of the object that keeps a text in a place, in whatever case it is written.
-    pub fn holder(&self, alloc: Global, parent: Uuid, text: &Text) -> Result<Option<Uuid>, NoMemory>
+    pub fn holder(&self, alloc: Global, parent: Guid, text: &Text) -> Result<Option<Guid>, NoMemory>
         requires tree { IsTree self.now }
         requires parent { IsParent (nodes_in self.now) parent }
         ensures { IfOk result (λ holder. holder ≡ name_holder (nodes_in self.now) parent text.now) }
@@ -169,8 +169,8 @@ impl Tree {
     pub fn is_taken(
         &self,
         alloc: Global,
-        guid: Uuid,
-        parent: Uuid,
+        guid: Guid,
+        parent: Guid,
         text: &Text,
     ) -> Result<bool, NoMemory>
         requires tree { IsTree self.now }

@@ -8,12 +8,12 @@ ghost use Rattle.adr_model.specs.Update.{Identifier, same_identifier};
 ghost use Rattle.adr_tree.specs.Slots.{IsTidy, KeepsPlaces, flag_at, seen, slot_at};
 
 use crate::NoMemory;
+use adr_guid::Guid;
 use adr_update::Node;
 use std::collections::BTreeMap;
-use uuid::Uuid;
 
 /// The live object in the slot of a GUID.
-pub(crate) fn slot(slots: &BTreeMap<Uuid, Option<Node>>, guid: Uuid) -> Option<&Node>
+pub(crate) fn slot(slots: &BTreeMap<Guid, Option<Node>>, guid: Guid) -> Option<&Node>
     ensures { option_copied result ≡ slot_at slots.now guid }
 {
     match slots.get(&guid) {
@@ -23,7 +23,7 @@ pub(crate) fn slot(slots: &BTreeMap<Uuid, Option<Node>>, guid: Uuid) -> Option<&
 }
 
 /// Whether the flag of a GUID is set.
-pub(crate) fn flag(flags: &BTreeMap<Uuid, bool>, guid: Uuid) -> bool
+pub(crate) fn flag(flags: &BTreeMap<Guid, bool>, guid: Guid) -> bool
     ensures { result ≡ flag_at flags.now guid }
 {
     match flags.get(&guid) {
@@ -34,8 +34,8 @@ pub(crate) fn flag(flags: &BTreeMap<Uuid, bool>, guid: Uuid) -> bool
 
 /// Makes a slot for a GUID, if there is none. Nobody sees it.
 pub(crate) fn reserve_slot(
-    slots: &mut BTreeMap<Uuid, Option<Node>>,
-    guid: Uuid,
+    slots: &mut BTreeMap<Guid, Option<Node>>,
+    guid: Guid,
 ) -> Result<(), NoMemory>
     requires { IsTidy slots.old }
     ensures seen { seen slots.new.entries ≡ seen slots.old.entries }
@@ -48,7 +48,7 @@ pub(crate) fn reserve_slot(
 }
 
 /// Makes a flag for a GUID, if there is none. It isn't set.
-pub(crate) fn reserve_flag(flags: &mut BTreeMap<Uuid, bool>, guid: Uuid) -> Result<(), NoMemory>
+pub(crate) fn reserve_flag(flags: &mut BTreeMap<Guid, bool>, guid: Guid) -> Result<(), NoMemory>
     ensures same { (g : Identifier) → flag_at flags.new g ≡ flag_at flags.old g }
     ensures more { KeepsPlaces flags.old flags.new }
     ensures ok { OnOk result (IsSome (get identifier_order flags.new guid)) }
@@ -61,7 +61,7 @@ pub(crate) fn reserve_flag(flags: &mut BTreeMap<Uuid, bool>, guid: Uuid) -> Resu
 }
 
 /// Puts a live object into the slot of its GUID.
-pub(crate) fn fill(slots: &mut BTreeMap<Uuid, Option<Node>>, node: Node)
+pub(crate) fn fill(slots: &mut BTreeMap<Guid, Option<Node>>, node: Node)
     requires tidy { IsTidy slots.old }
     requires room { IsSome (get identifier_order slots.old node.object.guid) }
     ensures tidy { IsTidy slots.new }
@@ -77,7 +77,7 @@ pub(crate) fn fill(slots: &mut BTreeMap<Uuid, Option<Node>>, node: Node)
 }
 
 /// Takes the live object out of the slot of a GUID, if there is one.
-pub(crate) fn empty(slots: &mut BTreeMap<Uuid, Option<Node>>, guid: Uuid) -> Option<Node>
+pub(crate) fn empty(slots: &mut BTreeMap<Guid, Option<Node>>, guid: Guid) -> Option<Node>
     requires { IsTidy slots.old }
     ensures old { result ≡ slot_at slots.old guid }
     ensures tidy { IsTidy slots.new }
@@ -93,7 +93,7 @@ pub(crate) fn empty(slots: &mut BTreeMap<Uuid, Option<Node>>, guid: Uuid) -> Opt
 }
 
 /// Whether the GUID has a slot that is empty.
-fn is_empty_slot(slots: &BTreeMap<Uuid, Option<Node>>, guid: Uuid) -> bool
+fn is_empty_slot(slots: &BTreeMap<Guid, Option<Node>>, guid: Guid) -> bool
     ensures { IsTrue result → get identifier_order slots.now guid ≡ Some None }
 {
     match slots.get(&guid) {
@@ -103,7 +103,7 @@ fn is_empty_slot(slots: &BTreeMap<Uuid, Option<Node>>, guid: Uuid) -> bool
 }
 
 /// Frees the slot of a GUID, if it is empty. Nobody sees it.
-pub(crate) fn free(slots: &mut BTreeMap<Uuid, Option<Node>>, guid: Uuid) -> bool
+pub(crate) fn free(slots: &mut BTreeMap<Guid, Option<Node>>, guid: Guid) -> bool
     requires { IsTidy slots.old }
     ensures seen { seen slots.new.entries ≡ seen slots.old.entries }
     ensures tidy { IsTidy slots.new }
@@ -117,7 +117,7 @@ pub(crate) fn free(slots: &mut BTreeMap<Uuid, Option<Node>>, guid: Uuid) -> bool
 }
 
 /// Sets or clears the flag of a GUID.
-pub(crate) fn set_flag(flags: &mut BTreeMap<Uuid, bool>, guid: Uuid, value: bool)
+pub(crate) fn set_flag(flags: &mut BTreeMap<Guid, bool>, guid: Guid, value: bool)
     requires { IsSome (get identifier_order flags.old guid) }
     ensures flag { (g : Identifier) → flag_at flags.new g
         ≡ cond (same_identifier guid g) value (flag_at flags.old g) }

@@ -13,18 +13,18 @@ use crate::NoMemory;
 use crate::hints::Hint;
 use crate::slots::{flag, slot};
 use crate::walks::climbs;
+use adr_guid::Guid;
 use adr_update::{Node, is_fixed, is_same, lost_and_found};
 use std::alloc::Global;
 use std::collections::{BTreeMap, BTreeSet};
 use std::ops::Bound;
-use uuid::Uuid;
 
 /// The live objects, each in the slot of its GUID, who of them breaks a loop of parents, and hints of who has which
 /// parent and which name.
 #[derive(Drop)]
 pub struct Tree {
-    pub(crate) slots: BTreeMap<Uuid, Option<Node>>,
-    pub(crate) flags: BTreeMap<Uuid, bool>,
+    pub(crate) slots: BTreeMap<Guid, Option<Node>>,
+    pub(crate) flags: BTreeMap<Guid, bool>,
     pub(crate) hints: BTreeSet<Hint>,
 }
 
@@ -48,7 +48,7 @@ impl Tree {
     {}
 
     /// The live object of a GUID.
-    pub fn get(&self, guid: Uuid) -> Option<&Node>
+    pub fn get(&self, guid: Guid) -> Option<&Node>
         requires { IsTree self.now }
         ensures { option_copied result ≡ node_at (nodes_in self.now) guid }
     {
@@ -70,7 +70,7 @@ impl Tree {
     }
 
     /// The GUID under which a live object is shown (MS-ADTS, LostAndFound container).
-    pub fn place(&self, node: &Node) -> Uuid
+    pub fn place(&self, node: &Node) -> Guid
         requires tree { IsTree self.now }
         requires live { node_at (nodes_in self.now) node.now.object.guid ≡ Some node.now }
         ensures { result ≡ place (nodes_in self.now) node.now }
@@ -87,7 +87,7 @@ impl Tree {
     }
 
     /// Whether an object of a GUID is met going up from a place, which it may be itself.
-    pub fn is_met_above(&self, place: Uuid, guid: Uuid) -> bool
+    pub fn is_met_above(&self, place: Guid, guid: Guid) -> bool
         requires { IsTree self.now }
         ensures { result
             ≡ list_any (λ m. same_identifier m.object.guid guid)
@@ -110,7 +110,7 @@ impl Tree {
     }
 
     /// The live object of a hint, if it is placed there.
-    pub(crate) fn placed(&self, parent: Uuid, hint: &Hint) -> Option<&Node>
+    pub(crate) fn placed(&self, parent: Guid, hint: &Hint) -> Option<&Node>
         requires { IsTree self.now }
         ensures live { IfSome result (λ n. IsLive (nodes_in self.now) n.now) }
         ensures own { IfSome result (λ n. hint.now.guid ≡ Some n.now.object.guid) }
@@ -127,7 +127,7 @@ impl Tree {
     }
 
     /// The least GUID of an object that is shown under a live one.
-    pub fn first_child(&self, guid: Uuid) -> Option<Uuid>
+    pub fn first_child(&self, guid: Guid) -> Option<Guid>
         requires tree { IsTree self.now }
         requires live { IsSome (node_at (nodes_in self.now) guid) }
         requires free { is_fixed guid ≡ false }

@@ -8,12 +8,12 @@ ghost use Rattle.adr_law_tree.specs.Opening.{climbs, comes_to, first_breaker};
 ghost use Rattle.adr_tree.specs.Slots.{looks, flagged};
 
 use crate::slots::{flag, slot};
+use adr_guid::Guid;
 use adr_update::{Node, is_fixed, is_same};
 use std::collections::BTreeMap;
-use uuid::Uuid;
 
 /// The live object of a GUID that isn't fixed.
-fn at(slots: &BTreeMap<Uuid, Option<Node>>, guid: Uuid) -> Option<&Node>
+fn at(slots: &BTreeMap<Guid, Option<Node>>, guid: Guid) -> Option<&Node>
     ensures { option_copied result ≡ looks slots.now guid }
 {
     if is_fixed(guid) {
@@ -23,7 +23,7 @@ fn at(slots: &BTreeMap<Uuid, Option<Node>>, guid: Uuid) -> Option<&Node>
     }
 }
 
-fn is_breaker(flags: &BTreeMap<Uuid, bool>, node: &Node) -> bool
+fn is_breaker(flags: &BTreeMap<Guid, bool>, node: &Node) -> bool
     ensures { result ≡ flagged flags.now node.now }
 {
     flag(flags, node.object().guid)
@@ -31,8 +31,8 @@ fn is_breaker(flags: &BTreeMap<Uuid, bool>, node: &Node) -> bool
 
 /// Who breaks the loop that a new object closes.
 pub(crate) fn closing<'a>(
-    slots: &'a BTreeMap<Uuid, Option<Node>>,
-    flags: &BTreeMap<Uuid, bool>,
+    slots: &'a BTreeMap<Guid, Option<Node>>,
+    flags: &BTreeMap<Guid, bool>,
     new: &'a Node,
     steps: usize,
 ) -> Option<&'a Node>
@@ -77,9 +77,9 @@ pub(crate) fn younger<'a>(best: &'a Node, node: &'a Node) -> &'a Node
 
 /// The first object on the way up that breaks a loop.
 pub(crate) fn first_breaker<'a>(
-    slots: &'a BTreeMap<Uuid, Option<Node>>,
-    flags: &BTreeMap<Uuid, bool>,
-    from: Uuid,
+    slots: &'a BTreeMap<Guid, Option<Node>>,
+    flags: &BTreeMap<Guid, bool>,
+    from: Guid,
     steps: usize,
 ) -> Option<&'a Node>
     ensures { option_copied result ≡ first_breaker (looks slots.now) (flagged flags.now) steps from }
@@ -101,9 +101,9 @@ pub(crate) fn first_breaker<'a>(
 
 /// Whether the way up comes to a GUID.
 pub(crate) fn comes_to(
-    slots: &BTreeMap<Uuid, Option<Node>>,
-    target: Uuid,
-    from: Uuid,
+    slots: &BTreeMap<Guid, Option<Node>>,
+    target: Guid,
+    from: Guid,
     steps: usize,
 ) -> bool
     ensures { result ≡ comes_to (looks slots.now) target steps from }
@@ -125,10 +125,10 @@ pub(crate) fn comes_to(
 
 /// Whether an object of a GUID is met going up. The walk goes round no loop twice.
 pub(crate) fn climbs(
-    slots: &BTreeMap<Uuid, Option<Node>>,
-    flags: &BTreeMap<Uuid, bool>,
-    target: Uuid,
-    from: Uuid,
+    slots: &BTreeMap<Guid, Option<Node>>,
+    flags: &BTreeMap<Guid, bool>,
+    target: Guid,
+    from: Guid,
     steps: usize,
 ) -> bool
     ensures { result ≡ climbs (looks slots.now) (flagged flags.now) target false steps from }

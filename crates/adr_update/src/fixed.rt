@@ -7,44 +7,44 @@ ghost use Rattle.adr_model.specs.Update.{same_identifier};
 ghost use Rattle.adr_model.specs.Place.{root, lost_and_found, is_fixed};
 
 use crate::key::is_same;
+use adr_guid::Guid;
 use adr_schema::Text;
-use uuid::Uuid;
 
 /// The identifier of the root.
-pub fn root() -> Uuid
+pub fn root() -> Guid
     ensures { result ≡ root }
 {
-    Uuid::from_u128(1)
+    Guid::from_u128(1)
 }
 
 /// The identifier of LostAndFound.
-pub fn lost_and_found() -> Uuid
+pub fn lost_and_found() -> Guid
     ensures { result ≡ lost_and_found }
 {
-    Uuid::from_u128(2)
+    Guid::from_u128(2)
 }
 
-pub fn is_root(guid: Uuid) -> bool
+pub fn is_root(guid: Guid) -> bool
     ensures { result ≡ same_identifier guid root }
 {
     is_same(guid, root())
 }
 
-pub fn is_lost_and_found(guid: Uuid) -> bool
+pub fn is_lost_and_found(guid: Guid) -> bool
     ensures { result ≡ same_identifier guid lost_and_found }
 {
     is_same(guid, lost_and_found())
 }
 
 /// Whether the identifier is that of the root or of LostAndFound.
-pub fn is_fixed(guid: Uuid) -> bool
+pub fn is_fixed(guid: Guid) -> bool
     ensures { result ≡ is_fixed guid }
 {
     is_root(guid) || is_lost_and_found(guid)
 }
 
 /// Whether a folded name is that of LostAndFound, which keeps it, in this place.
-pub fn is_lost_name(parent: Uuid, name: &Text) -> bool
+pub fn is_lost_name(parent: Guid, name: &Text) -> bool
     ensures { result
         ≡ (same_identifier parent root && bytes_eq name.now (folded (codes "LostAndFound"))) }
 {

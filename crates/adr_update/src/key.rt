@@ -10,9 +10,9 @@ ghost use Rattle.adr_model.specs.Change.{goes_with, killed_by};
 ghost use Rattle.adr_update.specs.Sought.{is_link_from};
 
 use crate::limits::{CLASS, DELETED};
+use adr_guid::Guid;
 use adr_stamp::{LinkKey, Oid, Unit};
 use std::cmp::Ordering;
-use uuid::Uuid;
 
 /// What an update is an update of.
 #[derive(Clone, Copy)]
@@ -138,7 +138,7 @@ impl Key {
 }
 
 /// Whether the two identifiers are one.
-pub fn is_same(a: Uuid, b: Uuid) -> bool
+pub fn is_same(a: Guid, b: Guid) -> bool
     ensures { result ≡ same_identifier a b }
 {
     a == b

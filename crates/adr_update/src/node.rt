@@ -4,11 +4,11 @@ ghost use Rattle.std.specs.Prelude.{◌≡◌, IfOk};
 ghost use Rattle.adr_schema.specs.Folding.{folded};
 
 use crate::NoMemory;
+use adr_guid::Guid;
 use adr_schema::{Text, fold_name};
 use adr_stamp::{LinkStamp, Oid};
 use std::alloc::Global;
 use std::marker::Model;
-use uuid::Uuid;
 
 /// A live object with its class and its name as it was written.
 #[derive(Drop)]
@@ -18,7 +18,7 @@ pub struct Node {
     text: Text,
     /// The text in the form in which names are compared.
     name: Text,
-    parent: Uuid,
+    parent: Guid,
     stamp: LinkStamp,
 }
 
@@ -41,7 +41,7 @@ impl Node {
         object: Oid,
         class: u16,
         text: Text,
-        parent: Uuid,
+        parent: Guid,
         stamp: LinkStamp,
     ) -> Result<Node, NoMemory>
         ensures { IfOk result (λ node.
@@ -85,7 +85,7 @@ impl Node {
     }
 
     /// The GUID of the object above, as it was written.
-    pub fn parent(&self) -> Uuid
+    pub fn parent(&self) -> Guid
         ensures { result ≡ self.now.parent }
     {
         self.parent

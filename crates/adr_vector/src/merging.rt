@@ -4,16 +4,16 @@ ghost use Rattle.std.specs.Prelude.{◌≡◌, ◌++◌, option_to_list, length,
 ghost use Rattle.adr_vector.specs.Merging.{merged};
 
 use adr_failure::NoMemory;
+use adr_guid::Guid;
 use std::alloc::Global;
 use std::cmp::Ordering;
 use std::marker::Model;
-use uuid::Uuid;
 
 /// What is left to read of the two lists.
 #[derive(Drop)]
 pub struct Fronts<'a> {
-    left: &'a [(Uuid, u64)],
-    right: &'a [(Uuid, u64)],
+    left: &'a [(Guid, u64)],
+    right: &'a [(Guid, u64)],
 }
 
 impl<'a> Model for Fronts<'a> {
@@ -26,14 +26,14 @@ impl<'a> Model for Fronts<'a> {
 }
 
 impl<'a> Fronts<'a> {
-    pub fn new(left: &'a [(Uuid, u64)], right: &'a [(Uuid, u64)]) -> Fronts<'a>
+    pub fn new(left: &'a [(Guid, u64)], right: &'a [(Guid, u64)]) -> Fronts<'a>
         ensures { result ≡ merged left.now right.now }
     {
         Fronts { left, right }
     }
 
     /// Reads one cursor.
-    pub fn next(&mut self) -> Option<(Uuid, u64)>
+    pub fn next(&mut self) -> Option<(Guid, u64)>
         ensures front { self.old ≡ option_to_list result ++ self.new }
         ensures end { IfNone result (self.old ≡ []) }
     {
@@ -65,7 +65,7 @@ impl<'a> Fronts<'a> {
 }
 
 /// How many cursors there are of the two lists as one.
-pub fn count(left: &[(Uuid, u64)], right: &[(Uuid, u64)]) -> usize
+pub fn count(left: &[(Guid, u64)], right: &[(Guid, u64)]) -> usize
     requires { length left.now + length right.now < 2 ^ 32 }
     ensures { result ≡ length (merged left.now right.now) }
 {
@@ -80,9 +80,9 @@ pub fn count(left: &[(Uuid, u64)], right: &[(Uuid, u64)]) -> usize
 /// The two lists as one.
 pub fn merge(
     alloc: Global,
-    left: &[(Uuid, u64)],
-    right: &[(Uuid, u64)],
-) -> Result<Vec<(Uuid, u64)>, NoMemory>
+    left: &[(Guid, u64)],
+    right: &[(Guid, u64)],
+) -> Result<Vec<(Guid, u64)>, NoMemory>
     ensures { IfOk result (λ cursors. cursors.items ≡ merged left.now right.now) }
 {
     let mut fronts = Fronts::new(left, right);

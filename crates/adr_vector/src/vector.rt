@@ -10,9 +10,9 @@ ghost use Rattle.adr_vector.specs.Refusal.{full};
 
 use crate::merging::{count, merge};
 use adr_failure::{Failure, NoMemory};
+use adr_guid::Guid;
 use std::alloc::Global;
 use std::marker::Model;
-use uuid::Uuid;
 
 /// How many cursors a vector has at most: `cursor_limit` of the definitions.
 pub const CURSOR_LIMIT: u64 = 10_000;
@@ -25,7 +25,7 @@ pub struct Full;
 /// UPTODATE_VECTOR_V1_EXT). A contract sees a vector as the list of its cursors, rising by identifier.
 #[derive(Drop)]
 pub struct Vector {
-    cursors: Vec<(Uuid, u64)>,
+    cursors: Vec<(Guid, u64)>,
 }
 
 impl Model for Vector {
@@ -49,7 +49,7 @@ impl Vector {
     }
 
     /// The vector of these cursors.
-    pub fn of(cursors: Vec<(Uuid, u64)>) -> Vector
+    pub fn of(cursors: Vec<(Guid, u64)>) -> Vector
         requires { IsVector cursors.items }
         ensures { result ≡ cursors.items }
     {
@@ -57,7 +57,7 @@ impl Vector {
     }
 
     /// The identifiers with their numbers, rising by identifier.
-    pub fn cursors(&self) -> &[(Uuid, u64)]
+    pub fn cursors(&self) -> &[(Guid, u64)]
         ensures all { result.now ≡ self.now }
         ensures vector { IsVector self.now }
     {
@@ -85,7 +85,7 @@ impl Vector {
     }
 
     /// The number at an identifier, 0 where it has no cursor.
-    pub fn at(&self, inv: Uuid) -> u64
+    pub fn at(&self, inv: Guid) -> u64
         ensures { result ≡ at self.now inv }
     {
         match self.search(inv) {
@@ -95,14 +95,14 @@ impl Vector {
     }
 
     /// Whether the write of this number has been seen.
-    pub fn covers(&self, inv: Uuid, usn: u64) -> bool
+    pub fn covers(&self, inv: Guid, usn: u64) -> bool
         ensures { result ≡ covers self.now inv usn }
     {
         usn <= self.at(inv)
     }
 
     /// Whether there would be too many cursors with the number at one identifier brought up to this one.
-    pub fn is_full_for(&self, inv: Uuid, usn: u64) -> bool
+    pub fn is_full_for(&self, inv: Guid, usn: u64) -> bool
         ensures { result ≡ nat_lt cursor_limit (length (raised self.now inv usn)) }
     {
         match self.search(inv) {
@@ -112,7 +112,7 @@ impl Vector {
     }
 
     /// The least identifier at which this vector is above the other, with the number of the other there and its own.
-    pub fn first_gap(&self, other: &Vector) -> Option<(Uuid, u64, u64)>
+    pub fn first_gap(&self, other: &Vector) -> Option<(Guid, u64, u64)>
         ensures value { result ≡ first_gap self.now other.now }
         ensures none { IsNone result ↔ (at_most self.now other.now ≡ true) }
         ensures theirs { IfSome result (λ gap. gap.1 ≡ at other.now gap.0) }
@@ -161,7 +161,7 @@ impl Vector {
     }
 
     /// Brings the number at one identifier up to this one. A number that is 0, or that has been seen, changes nothing.
-    pub fn raise(&mut self, inv: Uuid, usn: u64) -> Result<(), Failure<Full>>
+    pub fn raise(&mut self, inv: Guid, usn: u64) -> Result<(), Failure<Full>>
         ensures ok { OnOk result (self.new ≡ raised self.old inv usn) }
         ensures here { OnOk result (at self.new inv ≡ max (at self.old inv) usn) }
         ensures elsewhere { OnOk result ((other : List ℕ) → other ≢ inv → at self.new other ≡ at self.old other) }
@@ -178,7 +178,7 @@ impl Vector {
     }
 
     /// Brings the number at one identifier up to this one, where that needs no new cursor and so no memory.
-    pub fn raise_known(&mut self, inv: Uuid, usn: u64)
+    pub fn raise_known(&mut self, inv: Guid, usn: u64)
         requires { usn ≢ 0 → at self.old inv ≢ 0 }
         ensures { self.new ≡ raised self.old inv usn }
     {
@@ -199,7 +199,7 @@ impl Vector {
 
 impl Vector {
     /// Where the identifier stands, or where it would.
-    fn search(&self, inv: Uuid) -> Result<usize, usize>
+    fn search(&self, inv: Guid) -> Result<usize, usize>
         ensures found { IfOk result (IsAt self.now inv) }
         ensures gap { IfErr result (IsGapFor self.now inv) }
         ensures vector { IsVector self.now }
@@ -207,7 +207,7 @@ impl Vector {
         self.cursors.binary_search_by_key(&inv, |cursor| cursor.0)
     }
 
-    fn search_gap(&self, other: &Vector) -> Option<(Uuid, u64, u64)>
+    fn search_gap(&self, other: &Vector) -> Option<(Guid, u64, u64)>
         ensures gap { result ≡ first_gap self.now other.now }
         ensures vector { IsVector self.now }
     {
@@ -220,7 +220,7 @@ impl Vector {
     }
 
     /// Brings up the number of a cursor that is there.
-    fn raise_at(&mut self, place: usize, inv: Uuid, usn: u64)
+    fn raise_at(&mut self, place: usize, inv: Guid, usn: u64)
         requires { IsAt self.old inv place }
         ensures raised { self.new ≡ raised self.old inv usn }
         ensures few { length self.new ≤ cursor_limit }
@@ -231,7 +231,7 @@ impl Vector {
     }
 
     /// Puts a cursor where its identifier would stand.
-    fn enter(&mut self, place: usize, inv: Uuid, usn: u64) -> Result<(), Failure<Full>>
+    fn enter(&mut self, place: usize, inv: Guid, usn: u64) -> Result<(), Failure<Full>>
         requires { IsGapFor self.old inv place }
         ensures ok { OnOk result (self.new ≡ raised self.old inv usn) }
         ensures full { IsErrOf result full ↔ (cursor_limit < length (raised self.old inv usn)) }
@@ -251,7 +251,7 @@ impl Vector {
 }
 
 /// How much of an incarnation one of two vectors has seen.
-pub fn seen_by_both(one: &Vector, other: &Vector, inv: Uuid) -> u64
+pub fn seen_by_both(one: &Vector, other: &Vector, inv: Guid) -> u64
     ensures { result ≡ at (joined one.now other.now) inv }
 {
     other.is_vector();

@@ -17,11 +17,11 @@ ghost use Rattle.adr_view.specs.Named.{AreNamed};
 
 use crate::NoMemory;
 use adr_event::{EntryLinks, Guids};
+use adr_guid::Guid;
 use adr_stamp::Oid;
 use adr_state::{Held, Key, Rows, Said, Update, is_same_object};
 use std::alloc::Global;
 use std::collections::BTreeSet;
-use uuid::Uuid;
 
 /// Whether an object is the live one of its GUID.
 fn is_live(rows: &Rows, object: &Oid) -> bool
@@ -35,10 +35,10 @@ fn is_live(rows: &Rows, object: &Oid) -> bool
 
 /// Adds an end if it is shown.
 fn push_where(
-    ends: &mut Vec<(u16, Uuid)>,
+    ends: &mut Vec<(u16, Guid)>,
     is_shown: bool,
     attr: u16,
-    guid: Uuid,
+    guid: Guid,
 ) -> Result<(), NoMemory>
     ensures { OnOk result (ends.new.items ≡ ends.old.items ++ one_where is_shown (attr, guid) []) }
 {
@@ -49,7 +49,7 @@ fn push_where(
 }
 
 /// Adds what a row shows at the object that it is a link from.
-fn push_forward(rows: &Rows, ends: &mut Vec<(u16, Uuid)>, update: &Update) -> Result<(), NoMemory>
+fn push_forward(rows: &Rows, ends: &mut Vec<(u16, Guid)>, update: &Update) -> Result<(), NoMemory>
     ensures { OnOk result (ends.new.items
         ≡ ends.old.items ++ forward_end (nodes_held (updates_of rows.now)) update.now.key update.now.said) }
 {
@@ -62,7 +62,7 @@ fn push_forward(rows: &Rows, ends: &mut Vec<(u16, Uuid)>, update: &Update) -> Re
 }
 
 /// Adds what a row shows at the object that it is a link to.
-fn push_back(rows: &Rows, ends: &mut Vec<(u16, Uuid)>, update: &Update) -> Result<(), NoMemory>
+fn push_back(rows: &Rows, ends: &mut Vec<(u16, Guid)>, update: &Update) -> Result<(), NoMemory>
     requires { IsTrue (has_back_link update.now.key) }
     ensures { OnOk result (ends.new.items
         ≡ ends.old.items ++ back_end (nodes_held (updates_of rows.now)) update.now.key update.now.said) }
@@ -83,7 +83,7 @@ fn push_back(rows: &Rows, ends: &mut Vec<(u16, Uuid)>, update: &Update) -> Resul
 /// Adds what links from an object show there, link by link.
 fn push_all_forward(
     rows: &Rows,
-    ends: &mut Vec<(u16, Uuid)>,
+    ends: &mut Vec<(u16, Guid)>,
     links: &[&Held],
 ) -> Result<(), NoMemory>
     ensures { OnOk result (ends.new.items ≡ ends.old.items
@@ -96,7 +96,7 @@ fn push_all_forward(
 }
 
 /// Adds what links to an object show there, link by link.
-fn push_all_back(rows: &Rows, ends: &mut Vec<(u16, Uuid)>, links: &[&Held]) -> Result<(), NoMemory>
+fn push_all_back(rows: &Rows, ends: &mut Vec<(u16, Guid)>, links: &[&Held]) -> Result<(), NoMemory>
     requires { IsTrue (have_back_links (updates_of (referents links.now))) }
     ensures { OnOk result (ends.new.items ≡ ends.old.items
         ++ flat_map (λ h. back_end (nodes_held (updates_of rows.now)) h.update.key h.update.said) (referents links.now)) }
@@ -108,7 +108,7 @@ fn push_all_back(rows: &Rows, ends: &mut Vec<(u16, Uuid)>, links: &[&Held]) -> R
 }
 
 /// The attributes of ends, rising.
-fn attributes_of(alloc: Global, ends: &[(u16, Uuid)]) -> Result<BTreeSet<u16>, NoMemory>
+fn attributes_of(alloc: Global, ends: &[(u16, Guid)]) -> Result<BTreeSet<u16>, NoMemory>
     ensures { IfOk result (λ attributes.
         attributes.keys ≡ fold (insert_key nat_cmp) [] (map (λ (e : ℕ × Identifier). e.0) ends.now)) }
 {
@@ -120,7 +120,7 @@ fn attributes_of(alloc: Global, ends: &[(u16, Uuid)]) -> Result<BTreeSet<u16>, N
 }
 
 /// A set of GUIDs as a list.
-fn listed(alloc: Global, guids: BTreeSet<Uuid>) -> Result<Guids, NoMemory>
+fn listed(alloc: Global, guids: BTreeSet<Guid>) -> Result<Guids, NoMemory>
     ensures { IfOk result (λ list. list ≡ guids.keys) }
 {
     let mut list = Vec::new(alloc);
@@ -131,7 +131,7 @@ fn listed(alloc: Global, guids: BTreeSet<Uuid>) -> Result<Guids, NoMemory>
 }
 
 /// The GUIDs of the ends under an attribute, rising.
-fn guids_at(alloc: Global, ends: &[(u16, Uuid)], attr: u16) -> Result<Guids, NoMemory>
+fn guids_at(alloc: Global, ends: &[(u16, Guid)], attr: u16) -> Result<Guids, NoMemory>
     ensures { IfOk result (λ guids.
         guids ≡ fold (insert_key identifier_order) [] (filter_map (of_attribute attr) ends.now)) }
 {
@@ -145,7 +145,7 @@ fn guids_at(alloc: Global, ends: &[(u16, Uuid)], attr: u16) -> Result<Guids, NoM
 }
 
 /// Ends, gathered by attribute; the attributes and the GUIDs rise.
-fn gathered(alloc: Global, ends: &[(u16, Uuid)]) -> Result<EntryLinks, NoMemory>
+fn gathered(alloc: Global, ends: &[(u16, Guid)]) -> Result<EntryLinks, NoMemory>
     ensures { IfOk result (λ links. links ≡ gathered ends.now) }
 {
     let mut list = Vec::new(alloc);

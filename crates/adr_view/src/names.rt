@@ -13,14 +13,14 @@ ghost use Rattle.adr_view.specs.Youngest.{AreYoungest, is_before, later, rank_of
 
 use crate::NoMemory;
 use crate::slot::Slot;
+use adr_guid::Guid;
 use adr_stamp::LinkStamp;
 use adr_state::{Node, Rows};
 use std::alloc::Global;
 use std::collections::BTreeMap;
-use uuid::Uuid;
 
 /// The stamp of a name, and the GUID of the object that has it.
-type Rank = (LinkStamp, Uuid);
+type Rank = (LinkStamp, Guid);
 
 /// The youngest name wherever there is one.
 #[derive(Drop)]
@@ -86,7 +86,7 @@ pub fn youngest_names<'a>(
 }
 
 /// Whether another object has the name of this one in this place and is younger.
-pub fn gives_way<'a>(names: &Names<'a>, place: Uuid, node: &'a Node) -> bool
+pub fn gives_way<'a>(names: &Names<'a>, place: Guid, node: &'a Node) -> bool
     ensures { result
         ≡ option_map_or (is_before (rank_of node.now)) (get slot_order names.now.map (place, folded node.now.text)) false }
 {

@@ -8,25 +8,25 @@ ghost use Rattle.adr_view.specs.Youngest.{AreYoungest};
 
 use crate::NoMemory;
 use crate::names::{Names, gives_way};
+use adr_guid::Guid;
 use adr_schema::Text;
 use adr_state::Node;
 use adr_update::is_lost_name;
 use std::alloc::Global;
-use uuid::Uuid;
 
 /// The name of an object whose text another keeps.
-fn conflict_name(alloc: Global, text: &Text, guid: Uuid) -> Result<Text, NoMemory>
+fn conflict_name(alloc: Global, text: &Text, guid: Guid) -> Result<Text, NoMemory>
     ensures { IfOk result (λ name. name ≡ conflict_name text.now guid) }
 {
-    let mut buffer = Uuid::encode_buffer();
+    let mut buffer = [0; 36];
     let mut name = String::from_str(alloc, text.as_str())?;
     name.push_str("\nCNF:")?;
-    name.push_str(guid.hyphenated().encode_lower(&mut buffer))?;
+    name.push_str(guid.hyphenated(&mut buffer))?;
     Ok(Text::from_string(name))
 }
 
 /// Whether another object, or LostAndFound, keeps the text of this one in its place.
-fn is_kept_by_another<'a>(names: &Names<'a>, place: Uuid, node: &'a Node) -> bool
+fn is_kept_by_another<'a>(names: &Names<'a>, place: Guid, node: &'a Node) -> bool
     ensures { (nodes : List Live) → AreYoungest nodes names.now.map → place ≡ place_in nodes node.now
         → result ≡ (gives_way nodes node.now || is_lost_name (place_in nodes node.now) node.now.text) }
 {
@@ -38,7 +38,7 @@ fn is_kept_by_another<'a>(names: &Names<'a>, place: Uuid, node: &'a Node) -> boo
 pub fn shown_name<'a>(
     alloc: Global,
     names: &Names<'a>,
-    place: Uuid,
+    place: Guid,
     node: &'a Node,
 ) -> Result<Text, NoMemory>
     ensures { IfOk result (λ name. (nodes : List Live) → AreYoungest nodes names.now.map → place ≡ place_in nodes node.now

@@ -5,15 +5,15 @@ ghost use Rattle.std.specs.Cmp.{partial_equiv_from_equiv};
 ghost use Rattle.std.specs.Ordering.{as_partial_cmp};
 ghost use Rattle.adr_view.specs.Slots.{same_slot, slot_order, slots_equivalent, slots_partly, slots_total};
 
+use adr_guid::Guid;
 use adr_schema::Text;
 use std::cmp::Ordering;
 use std::marker::Model;
-use uuid::Uuid;
 
 /// A place, and a name in the form in which names are compared.
 #[derive(Drop)]
 pub struct Slot<'a> {
-    place: Uuid,
+    place: Guid,
     name: &'a Text,
 }
 
@@ -26,7 +26,7 @@ impl<'a> Model for Slot<'a> {
 }
 
 impl<'a> Slot<'a> {
-    pub fn new(place: Uuid, name: &'a Text) -> Slot<'a>
+    pub fn new(place: Guid, name: &'a Text) -> Slot<'a>
         ensures { result ≡ (place, name.now) }
     {
         Slot { place, name }

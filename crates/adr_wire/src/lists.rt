@@ -9,10 +9,10 @@ ghost use Rattle.adr_wire.specs.Composites.{values_at, row_above, row_after, row
 use crate::reader::Reader;
 use crate::refusal::{Malformed, WireRefusal};
 use adr_failure::Failure;
+use adr_guid::Guid;
 use adr_schema::{Content, Value, Values};
 use adr_stamp::Stamp;
 use std::alloc::Global;
-use uuid::Uuid;
 
 /// Whether an attribute comes behind the last one.
 fn rises(last: Option<u16>, attr: u16) -> bool
@@ -25,7 +25,7 @@ fn rises(last: Option<u16>, attr: u16) -> bool
 }
 
 /// Whether an identifier comes behind the last one.
-fn id_rises(last: Option<Uuid>, inv: Uuid) -> bool
+fn id_rises(last: Option<Guid>, inv: Guid) -> bool
     ensures { result ≡ is_above identifier_order last inv }
 {
     match last {
@@ -101,7 +101,7 @@ impl Reader<'_> {
 
     /// A cursor whose identifier comes behind the last one.
     #[tactic(auto, unfolding(crate::specs::Composites::cursor_above))]
-    fn read_cursor_above(&mut self, last: Option<Uuid>) -> Result<(Uuid, u64), WireRefusal>
+    fn read_cursor_above(&mut self, last: Option<Guid>) -> Result<(Guid, u64), WireRefusal>
         ensures { Tells result self.new (cursor_above last self.old) }
     {
         let place = self.place();
@@ -119,7 +119,7 @@ impl Reader<'_> {
         &mut self,
         alloc: Global,
         count: u32,
-    ) -> Result<Vec<(Uuid, u64)>, WireRefusal>
+    ) -> Result<Vec<(Guid, u64)>, WireRefusal>
         ensures { GivesAs (λ cursors. cursors.items) result self.new (cursors_at count None self.old) }
     {
         let mut cursors = Vec::new(alloc);

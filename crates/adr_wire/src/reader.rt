@@ -7,10 +7,10 @@ ghost use Rattle.adr_wire.specs.Fields.{u8_at, u16_at, u32_at, u64_at, i64_at, i
 
 use crate::refusal::{Malformed, WireRefusal};
 use adr_failure::Failure;
+use adr_guid::Guid;
 use adr_schema::{Octets, Text};
 use std::alloc::Global;
 use std::marker::Model;
-use uuid::Uuid;
 
 /// Reads bytes from the front. After a refusal a reader is of no more use.
 #[derive(Drop)]
@@ -126,10 +126,10 @@ impl<'a> Reader<'a> {
     }
 
     #[tactic(auto, unfolding(crate::specs::Fields::id_at))]
-    pub fn read_id(&mut self) -> Result<Uuid, WireRefusal>
+    pub fn read_id(&mut self) -> Result<Guid, WireRefusal>
         ensures { Tells result self.new (id_at self.old) }
     {
-        self.take::<16>().map(Uuid::from_bytes)
+        self.take::<16>().map(Guid::from_bytes)
     }
 
     #[tactic(auto, unfolding(crate::specs::Fields::usn_at))]

@@ -5,10 +5,10 @@ ghost use Rattle.adr_wire.specs.Fields.{u8, u16, u32, u64, i64, id, flag, text, 
 ghost use Rattle.adr_wire.specs.Composites.{IsShort};
 
 use adr_failure::NoMemory;
+use adr_guid::Guid;
 use adr_schema::{Octets, Text};
 use std::alloc::Global;
 use std::marker::Model;
-use uuid::Uuid;
 
 /// Writes bytes at the end. Where memory runs out within a value, a part of its bytes may have been written.
 #[derive(Drop)]
@@ -87,7 +87,7 @@ impl Writer {
         self.write_bytes(&value.to_be_bytes())
     }
 
-    pub fn write_id(&mut self, value: &Uuid) -> Result<(), NoMemory>
+    pub fn write_id(&mut self, value: &Guid) -> Result<(), NoMemory>
         ensures ok { OnOk result (self.new ≡ self.old ++ id value.now) }
         ensures err { OnErr result (self.new ≡ self.old) }
     {

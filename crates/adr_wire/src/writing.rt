@@ -8,10 +8,10 @@ ghost use Rattle.adr_wire.specs.Composites as spelled;
 
 use crate::writer::Writer;
 use adr_failure::NoMemory;
+use adr_guid::Guid;
 use adr_schema::{Content, Value};
 use adr_stamp::{LinkKey, LinkStamp, Oid, Stamp};
 use adr_vector::{Mark, Vector};
-use uuid::Uuid;
 
 /// The kind of a value, which says how it is read again.
 fn kind_of(value: &Value) -> u8
@@ -169,7 +169,7 @@ impl Writer {
     }
 
     /// Cursors, one behind the other.
-    fn write_cursors(&mut self, cursors: &[(Uuid, u64)]) -> Result<(), NoMemory>
+    fn write_cursors(&mut self, cursors: &[(Guid, u64)]) -> Result<(), NoMemory>
         ensures { OnOk result (self.new ≡ self.old ++ flat_map spelled.cursor cursors.now) }
     {
         for cursor in cursors {

@@ -12,13 +12,13 @@ ghost use Rattle.adr_world.specs.Run.{IsTidy, world_of};
 use crate::lists::put;
 use crate::run::Run;
 use adr_event::Outcome;
+use adr_guid::Guid;
 use adr_replica::{Past, Replica};
 use adr_schema::{NoMemory, Text};
 use std::alloc::Global;
-use uuid::Uuid;
 
 /// Begins the incarnation of a controller that is up, and gives its invocation identifier.
-pub fn begin_in(past: &mut Past, controller: &Replica) -> Uuid
+pub fn begin_in(past: &mut Past, controller: &Replica) -> Guid
     requires { controller.now.standing ≡ Up }
     ensures past { past.new ≡ record past.old { book = begun past.old.book controller.now.safe } }
     ensures inv { result ≡ controller.now.safe.inv }
@@ -38,8 +38,8 @@ impl Run {
         &mut self,
         alloc: Global,
         name: &Text,
-        dsa: Uuid,
-        inv: Uuid,
+        dsa: Guid,
+        inv: Guid,
     ) -> Result<Outcome, NoMemory>
         requires tidy { IsTidy self.old }
         requires dsa { IsId dsa }

@@ -14,10 +14,10 @@ use crate::coming::begin_in;
 use crate::lists::replace;
 use crate::run::Run;
 use adr_event::{Failure, Outcome};
+use adr_guid::Guid;
 use adr_replica::Replica;
 use adr_schema::{NoMemory, Text};
 use std::alloc::{AllocError, Global};
-use uuid::Uuid;
 
 impl Run {
     /// What is answered where the image of a controller is bound to a name.
@@ -42,7 +42,7 @@ impl Run {
         alloc: Global,
         name: &Text,
         image: &Text,
-        inv: Uuid,
+        inv: Guid,
     ) -> Result<Outcome, NoMemory>
         requires tidy { IsTidy self.old }
         requires inv { IsId inv }
@@ -74,9 +74,9 @@ impl Run {
         &mut self,
         alloc: Global,
         name: &Text,
-        dsa: Uuid,
+        dsa: Guid,
         image: &Text,
-        inv: Uuid,
+        inv: Guid,
     ) -> Result<Outcome, NoMemory>
         requires tidy { IsTidy self.old }
         requires dsa { IsId dsa }
@@ -107,8 +107,8 @@ impl Run {
         alloc: Global,
         name: &Text,
         image: &Text,
-        dsa: Uuid,
-        inv: Uuid,
+        dsa: Guid,
+        inv: Guid,
     ) -> Result<Replica, Failure<Outcome>>
         requires dsa { IsId dsa }
         requires inv { IsId inv }

@@ -1,0 +1,74 @@
+//! GUIDs: the sixteen bytes that name an object, a controller or a database (MS-DTYP 2.3.4, RFC 9562).
+//!
+//! This crate keeps their bytes, their order, that of the bytes, the first byte first, and their text, which `uuid`
+//! reads and writes. It stands on `uuid` alone, and no signature names it: a crate whose public types reach one of
+//! another library carries all that the library states.
+#![tactic(auto)]
+
+ghost use Rattle.std.specs.Prelude.{◌≡◌};
+ghost use Rattle.std.specs.Int.{from_be_bytes, to_be_bytes, w128};
+ghost use Rattle.uuid.specs.Text.{hyphenated_text, lower, parsed};
+
+use std::marker::Model;
+use uuid::Uuid;
+
+/// A GUID.
+#[derive(Clone, Copy, PartialEq, Eq, PartialOrd, Ord)]
+pub struct Guid([u8; 16]);
+
+impl Model for Guid {
+    ghost use Rattle.std.specs.Prelude.{List, ℕ};
+
+    ghost Value = { List ℕ };
+
+    ghost view = { λ guid. guid.0 };
+
+    ghost inverse = { λ bytes. record { 0 = bytes } };
+}
+
+impl Guid {
+    /// The GUID of these bytes.
+    pub const fn from_bytes(bytes: [u8; 16]) -> Guid
+        ensures { result ≡ bytes }
+    {
+        Guid(bytes)
+    }
+
+    /// The GUID whose bytes are a number's, the high byte first.
+    pub const fn from_u128(number: u128) -> Guid
+        ensures { result ≡ to_be_bytes w128 number }
+    {
+        Guid(number.to_be_bytes())
+    }
+
+    /// The bytes.
+    pub const fn as_bytes(&self) -> &[u8; 16]
+        ensures { result.now ≡ self.now }
+    {
+        &self.0
+    }
+
+    /// The bytes as one number, the high byte first.
+    pub const fn as_u128(&self) -> u128
+        ensures { result ≡ from_be_bytes w128 self.now }
+    {
+        u128::from_be_bytes(self.0)
+    }
+
+    /// The GUID that a text spells, in one of the forms that `uuid` reads.
+    pub fn parse_str(text: &str) -> Option<Guid>
+        ensures { result ≡ parsed text.now }
+    {
+        match Uuid::parse_str(text) {
+            Ok(uuid) => Some(Guid(uuid.into_bytes())),
+            Err(_) => None,
+        }
+    }
+
+    /// Its text of 36 bytes, in lower case (RFC 9562).
+    pub fn hyphenated<'b>(&self, buffer: &'b mut [u8; 36]) -> &'b str
+        ensures { result.now ≡ hyphenated_text lower self.now }
+    {
+        Uuid::from_bytes(self.0).hyphenated().encode_lower(buffer)
+    }
+}
