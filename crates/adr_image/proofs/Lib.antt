@@ -24,3 +24,4 @@ pub mod Changing
 pub mod Recorded
 pub mod Staying
 pub mod Placed
+mod Writes

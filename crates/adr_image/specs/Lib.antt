@@ -8,3 +8,5 @@ pub mod Lengths
 pub mod Seen
 pub mod Written
 pub mod Changes
+pub mod Naming
+pub mod Anew

@@ -1,15 +1,14 @@
 //! Images are read.
 
-ghost use Rattle.std.specs.Prelude.{◌≡◌, ◌==◌, IfErr, IfOk};
-ghost use Rattle.std.specs.Str.{bytes_eq};
-ghost use Rattle.adr_wire.specs.Fields.{u16_at};
-ghost use Rattle.adr_wire.specs.Reading.{Gives, Tells, bytes_at, where_at};
+ghost use Rattle.std.specs.Prelude.{◌≡◌, IfErr, IfOk};
+ghost use Rattle.adr_wire.specs.Reading.{Gives, Tells};
 ghost use Rattle.adr_image.specs.Seen.{Ends, IsRefusedSo, as_decoding};
 ghost use Rattle.adr_image.specs.Stored.{decoded, image_at};
-ghost use Rattle.adr_image.specs.Whole.{magic, parts_at, version_at};
+ghost use Rattle.adr_image.specs.Whole.{parts_at, version_at};
 
 use crate::contents::{Contents, read_contents};
 use crate::dormant::Dormant;
+use crate::heads::{read_magic, read_own_version};
 use adr_wire::{DecodeRefusal, Failure, Malformed, Reader, WireRefusal};
 use std::alloc::Global;
 
@@ -19,24 +18,12 @@ pub const MAGIC: [u8; 4] = [65, 68, 73, 77];
 /// The version of the images that are read and written.
 pub const VERSION: u16 = 1;
 
-/// The first bytes of an image.
-fn read_magic(reader: &mut Reader<'_>) -> Result<[u8; 4], WireRefusal>
-    ensures { Tells result reader.new (where_at (bytes_eq magic) (bytes_at 4) reader.old) }
-{
-    let place = reader.place();
-    let bytes = reader.take::<4>()?;
-    if bytes != MAGIC {
-        return Err(Failure::Refused(Malformed { place }));
-    }
-    Ok(bytes)
-}
-
 /// The version of an image, behind its first bytes.
 #[tactic(auto, unfolding(crate::specs::Whole::version_at))]
 fn read_version(reader: &mut Reader<'_>) -> Result<u16, WireRefusal>
     ensures { Tells result reader.new (version_at reader.old) }
 {
-    read_magic(reader)?;
+    read_magic(reader, &MAGIC)?;
     reader.read_u16()
 }
 
@@ -49,25 +36,13 @@ fn read_to_end(reader: &mut Reader<'_>, alloc: Global) -> Result<Contents, WireR
     Ok(contents)
 }
 
-/// The version of an image that stands in other bytes; one that isn't read is refused at its place.
-fn read_own_version(reader: &mut Reader<'_>) -> Result<u16, WireRefusal>
-    ensures { Tells result reader.new (where_at (λ version. version == 1) u16_at reader.old) }
-{
-    let place = reader.place();
-    let version = reader.read_u16()?;
-    if version != VERSION {
-        return Err(Failure::Refused(Malformed { place }));
-    }
-    Ok(version)
-}
-
 /// Reads an image that stands in other bytes.
 #[tactic(auto, unfolding(crate::specs::Stored::image_at))]
 pub fn read_image(reader: &mut Reader<'_>, alloc: Global) -> Result<Contents, WireRefusal>
     ensures { Gives result reader.new (image_at reader.old) }
 {
-    read_magic(reader)?;
-    read_own_version(reader)?;
+    read_magic(reader, &MAGIC)?;
+    read_own_version(reader, VERSION)?;
     let contents = read_contents(reader, alloc)?;
     Ok(contents)
 }

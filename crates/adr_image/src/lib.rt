@@ -5,6 +5,7 @@
 //! and on the definitions in `adr_model`. It knows nothing of disks, of journals or of the controllers that own a store.
 #![tactic(auto)]
 
+mod anew;
 mod bodies;
 mod changes;
 mod contents;
@@ -12,10 +13,12 @@ mod decoding;
 mod dormant;
 mod encoding;
 mod gathered;
+mod heads;
 mod known;
 mod laws;
 mod links;
 mod marks;
+mod naming;
 mod objects;
 mod rows;
 
@@ -26,7 +29,9 @@ pub use contents::Contents;
 pub use decoding::{decode, read_image};
 pub use dormant::Dormant;
 pub use encoding::{encode, write_image};
+pub use heads::{read_magic, read_own_version};
 pub use laws::{
     bodies_have_one_spelling, changes_have_one_spelling, images_are_as_long_as_counted,
     images_have_one_spelling, parts_have_one_spelling, stores_stay_spelled, worked_images,
 };
+pub use naming::names_inv;

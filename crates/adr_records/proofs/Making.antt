@@ -1,39 +1,23 @@
 -- A controller is made of a store.
-use Rattle.std.proofs.Common.{◌≡◌, ℕ, ◌+◌, ◌<◌, ◌≤◌, List, [], ◌∷◌, ◌++◌, length, take, get_or, map, max, fold, Some, refl, sym, ap, ◌∙◌, arith, append_assoc}
+use Rattle.std.proofs.Common.{◌≡◌, ℕ, ◌+◌, ◌<◌, ◌≤◌, List, [], ◌∷◌, length, take, get_or, map, max, fold, Some, refl, sym, ap, ◌∙◌, arith}
 use Rattle.std.proofs.Common.{inl, inr}
 use Rattle.std.specs.List.Sorted.{IsStrictlySortedBy}
 use Rattle.std.proofs.lemmas.Cmp.{nat_list_cmp_total}
-use Rattle.std.proofs.lemmas.List.{take_more}
 use Rattle.std.proofs.lemmas.List.Sums.{fold_more}
 use Rattle.adr_schema.specs.Numbered.{numbered}
 use Rattle.adr_stamp.specs.Order.{identifier_order}
 use Rattle.adr_vector.specs.Vector.{Cursors, IsVector, at, cursor_limit, joined, raised}
 use Rattle.adr_vector.proofs.Cursors.{nil_rising, same_cursors}
 use Rattle.adr_vector.proofs.Joining.{raised_here, at-joined, from_one-joined, rising-joined}
-use Rattle.adr_model.specs.Change.{Change, Written, after, held_of, rows_after, with_mark}
+use Rattle.adr_model.specs.Change.{Change, after, rows_after, with_mark}
 use Rattle.adr_model.specs.Collect.{woken}
 use Rattle.adr_model.specs.Formed.{IsFormedStore}
 use Rattle.adr_model.specs.Store.{Held, Kept, Normal, State, Store}
-use Rattle.adr_model.specs.Update.{Identifier, Update}
+use Rattle.adr_model.specs.Update.{Identifier}
 use Rattle.adr_state.specs.Refusal.{IsOverfull}
-use Rattle.adr_records.specs.Woken.{MakesAll, keeping, keeping_all, unmade, with_marks}
+use Rattle.adr_image.specs.Anew.{MakesAll}
+use Rattle.adr_records.specs.Woken.{keeping, keeping_all, unmade, with_marks}
 use Rattle.adr_records.proofs.Anew.{entries_anew, rows_anew}
-
--- ---- what is written
-
-abbrev own : Written → List Held
-own w = map (λ (u : Update). let h : Held = record { update = u; local = w.local } in h) w.item.rows
-
-held_more : (ws : List Written) (w : Written) → held_of (ws ++ w ∷ []) ≡ held_of ws ++ held_of (w ∷ [])
-held_more [] w = refl
-held_more (v ∷ vs) w = ap (λ (hs : List Held). own v ++ hs) (held_more vs w) ∙ sym (append_assoc (own v) (held_of vs) (held_of (w ∷ [])))
-
--- one write more says one row more
-pub written_more : (ws more : List Written) (w : Written) (rows : List Held) (i : ℕ) (h : Held) → more ≡ ws ++ w ∷ [] → held_of ws ≡ take i rows → held_of (w ∷ []) ≡ h ∷ [] → h ≡ get_or rows i h → i < length rows
-    → held_of more ≡ take (i + 1) rows
-written_more ws more w rows i h is so_far says there lt =
-    ap (λ (vs : List Written). held_of vs) is ∙ held_more ws w ∙ ap (λ (hs : List Held). hs ++ held_of (w ∷ [])) so_far ∙ ap (λ (hs : List Held). take i rows ++ hs) says
-    ∙ ap (λ (g : Held). take i rows ++ g ∷ []) there ∙ sym (take_more rows i h lt)
 
 -- ---- the first change
 

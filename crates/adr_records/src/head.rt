@@ -1,9 +1,7 @@
 //! The head of a log is written and read.
 
-ghost use Rattle.std.specs.Prelude.{◌≡◌, ◌==◌, ◌+◌, ◌≤◌, ◌<◌, ◌^◌, ◌++◌, Ok, IfOk, IfErr, OnOk, length, take, drop};
-ghost use Rattle.std.specs.Str.{bytes_eq};
-ghost use Rattle.adr_wire.specs.Fields.{u16_at};
-ghost use Rattle.adr_wire.specs.Reading.{Gives, Refuses, Rest, Tells, bytes_at, where_at};
+ghost use Rattle.std.specs.Prelude.{◌≡◌, ◌+◌, ◌≤◌, ◌<◌, ◌^◌, ◌++◌, Ok, IfOk, IfErr, OnOk, length, take, drop};
+ghost use Rattle.adr_wire.specs.Reading.{Gives, Refuses, Rest, Tells};
 ghost use Rattle.adr_image.specs.Stored.{image_at};
 ghost use Rattle.adr_records.specs.Head as form;
 ghost use Rattle.adr_records.specs.HeadLaws.{IsOwn};
@@ -13,7 +11,7 @@ use crate::contents::image_of;
 use crate::waking::wake;
 use adr_failure::{Failure, NoMemory};
 use adr_guid::Guid;
-use adr_image::{Contents, read_image};
+use adr_image::{Contents, read_image, read_magic, read_own_version};
 use adr_state::State;
 use adr_wire::{Malformed, Reader, WireRefusal, Writer};
 use std::alloc::{AllocError, Global};
@@ -43,8 +41,7 @@ fn write_owner(writer: &mut Writer, owner: &Owner) -> Result<(), NoMemory>
     writer.write_u16(&VERSION)?;
     writer.write_id(&owner.dsa)?;
     writer.write_id(&owner.inv)?;
-    writer.write_u32(&owner.len)?;
-    Ok(())
+    writer.write_u32(&owner.len)
 }
 
 /// The head of a log that begins with this state.
@@ -72,37 +69,13 @@ fn malformed(place: usize) -> WireRefusal
     })
 }
 
-/// The first bytes of a head.
-fn read_magic(reader: &mut Reader<'_>) -> Result<[u8; 4], WireRefusal>
-    ensures { Tells result reader.new (where_at (bytes_eq form.magic) (bytes_at 4) reader.old) }
-{
-    let place = reader.place();
-    let bytes = reader.take::<4>()?;
-    if bytes != MAGIC {
-        return Err(Failure::Refused(Malformed { place }));
-    }
-    Ok(bytes)
-}
-
-/// The version of a log; one that isn't read is refused.
-fn read_version(reader: &mut Reader<'_>) -> Result<u16, WireRefusal>
-    ensures { Tells result reader.new (where_at (λ version. version == 1) u16_at reader.old) }
-{
-    let place = reader.place();
-    let version = reader.read_u16()?;
-    if version != VERSION {
-        return Err(Failure::Refused(Malformed { place }));
-    }
-    Ok(version)
-}
-
 /// Whose log it is.
 #[tactic(auto, unfolding(crate::specs::Head::owner_at))]
 fn read_owner(reader: &mut Reader<'_>) -> Result<Owner, WireRefusal>
     ensures { Tells result reader.new (form.owner_at reader.old) }
 {
-    read_magic(reader)?;
-    read_version(reader)?;
+    read_magic(reader, &MAGIC)?;
+    read_own_version(reader, VERSION)?;
     let dsa = reader.read_id()?;
     let inv = reader.read_id()?;
     let len = reader.read_u32()?;

@@ -1,59 +1,19 @@
 //! A controller is made of what an image says.
 
-ghost use Rattle.std.specs.Prelude.{◌≡◌, ◌≤◌, ◌<◌, [], ◌∷◌, IfOk, OnOk, IsErrOf, length};
+ghost use Rattle.std.specs.Prelude.{◌≡◌, ◌≤◌, ◌<◌, [], IfOk, OnOk, IsErrOf, length};
 ghost use Rattle.adr_vector.specs.Refusal.{full};
 ghost use Rattle.adr_vector.specs.Vector.{at, cursor_limit, raised};
-ghost use Rattle.adr_model.specs.Change.{held_of};
 ghost use Rattle.adr_model.specs.Collect.{woken};
 ghost use Rattle.adr_model.specs.Formed.{IsFormedStore};
 ghost use Rattle.adr_image.specs.Stored.{IsSpelled};
 ghost use Rattle.adr_state.specs.Refusal.{IsOverfull};
-ghost use Rattle.adr_records.specs.Woken.{MakesAll, keeping, keeping_all, unmade, with_marks};
+ghost use Rattle.adr_records.specs.Woken.{keeping, keeping_all, unmade, with_marks};
 
-use adr_failure::{Failure, NoMemory};
+use adr_failure::Failure;
 use adr_guid::Guid;
 use adr_image::Contents;
-use adr_state::{Change, Full, Held, Item, Kept, Mode, State, Vector, Written};
+use adr_state::{Change, Full, Kept, State, Vector};
 use std::alloc::Global;
-
-/// A row as what is written under its local update sequence number.
-fn write_of(alloc: Global, row: &Held) -> Result<Written, NoMemory>
-    ensures { IfOk result (λ write. held_of (write ∷ []) ≡ row.now ∷ []) }
-{
-    let mut updates = Vec::new(alloc);
-    updates.push(row.update().copy(alloc)?)?;
-    let item = Item::new(row.key().unit(), updates);
-    Ok(Written::new(row.local(), item))
-}
-
-/// Rows as what is written, each under its local update sequence number.
-fn writes_of(alloc: Global, rows: &[Held]) -> Result<Vec<Written>, NoMemory>
-    ensures { IfOk result (λ writes. held_of writes.items ≡ rows.now) }
-{
-    let mut writes = Vec::new(alloc);
-    for row in rows {
-        writes.push(write_of(alloc, row)?)?;
-    }
-    Ok(writes)
-}
-
-/// The change that makes all of an empty controller but its marks.
-fn first_change(alloc: Global, contents: &Contents) -> Result<Change, NoMemory>
-    ensures { IfOk result (λ change. MakesAll contents.now change) }
-{
-    let joined = contents.vector.copy(alloc)?;
-    let purged = contents.purged.copy(alloc)?;
-    let writes = writes_of(alloc, &contents.rows)?;
-    Ok(Change::new(
-        contents.usn,
-        Mode::Normal,
-        None,
-        joined,
-        purged,
-        Vec::new(alloc),
-        writes,
-    ))
-}
 
 /// Makes all of an empty controller but its marks.
 fn fill_without_marks(
@@ -68,7 +28,7 @@ fn fill_without_marks(
     ensures full { IsErrOf result full
         → cursor_limit < length (raised contents.now.vector state.old.inv contents.now.usn) }
 {
-    let change = first_change(alloc, contents)?;
+    let change = contents.as_change(alloc)?;
     let applied = state.apply(&change);
     drop(change);
     applied

@@ -10,11 +10,10 @@ ghost use Rattle.adr_model.specs.Update.{Identifier};
 ghost use Rattle.adr_image.specs.Stored.{IsSpelled, image};
 ghost use Rattle.adr_records.specs.Logged.{IsLogged};
 
-use crate::naming::names_inv;
 use adr_event::{AdoptRefusal, Failure, Table};
 use adr_failure::NoMemory;
 use adr_guid::Guid;
-use adr_image::{Contents, Dormant, decode};
+use adr_image::{Contents, Dormant, decode, names_inv};
 use adr_records::{image_of, wake};
 use adr_state::{CURSOR_LIMIT, State};
 use std::alloc::{AllocError, Global};

@@ -7,7 +7,6 @@
 
 mod image;
 mod lengths;
-mod naming;
 
 pub use adr_event::{AdoptRefusal, Failure};
 pub use adr_state::{NoMemory, State};

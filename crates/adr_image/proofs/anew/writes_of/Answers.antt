@@ -1,6 +1,6 @@
 use Rattle.std.proofs.Common.{◌∙◌, take_all}
-use Rattle.adr_records.proofs.Making.{written_more}
-use Rattle.adr_records.proofs.waking.writes_of.Goals as goal
+use Rattle.adr_image.proofs.Writes.{written_more}
+use Rattle.adr_image.proofs.anew.writes_of.Goals as goal
 
 pub loop-row-preserved : goal.loop-row-preserved
 loop-row-preserved c =

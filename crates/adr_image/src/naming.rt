@@ -4,11 +4,13 @@ ghost use Rattle.std.specs.Prelude.{◌≡◌, ◌||◌};
 ghost use Rattle.adr_model.specs.Collect.{names_inv};
 ghost use Rattle.adr_model.specs.Update.{inv_of, same_identifier};
 ghost use Rattle.adr_update.specs.Key.{key_of};
-ghost use Rattle.adr_restore.specs.Naming.{cursors_name, key_names, marks_name, rows_name};
+ghost use Rattle.adr_image.specs.Naming.{cursors_name, key_names, marks_name, rows_name};
 
+use crate::contents::Contents;
+use adr_change::Kept;
 use adr_guid::Guid;
-use adr_image::Contents;
-use adr_state::{Held, Kept, Key, Vector, is_same};
+use adr_update::{Held, Key, is_same};
+use adr_vector::Vector;
 
 /// Whether a cursor is of the identifier.
 fn cursors_name(vector: &Vector, inv: Guid) -> bool
