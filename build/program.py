@@ -33,8 +33,6 @@ class Crate:
         self.root = "src/main.rt" if name == PROGRAM else "src/lib.rt"
         self.folder = f"{TOP}/crates/{name}"
         self.log = f"{self.folder}/out/build.log"
-        # From 0 to 19: the more wait for a crate, the sooner its processes run.
-        self.niceness = 0
         # Where rt has a crate's library too; it removes the folder when it builds its own.
         self.built = f"{self.folder}/out/rlib"
         self.library = f"{self.built}/{name}.rlib"
@@ -126,11 +124,11 @@ class Toolchain:
             words += ["-L", f"dependency={folder}"]
         return [*words, "--antt-project", f"{self.kit}/rattle/logic/antt-project.json", "--logic-built", f"{self.kit}/logic_built", "--jobs", str(jobs)]
 
-    def build_library(self, crate, words):
+    def build_library(self, crate, words, niceness):
         """Proves a library and builds it; whether it went well."""
         shutil.rmtree(crate.built, ignore_errors=True)
         os.makedirs(crate.built)
-        return call(crate, f"{self.kit}/bin/rattle", "build", *words, "--statements", "-o", crate.library)
+        return call(crate, "nice", "-n", str(niceness), f"{self.kit}/bin/rattle", "build", *words, "--statements", "-o", crate.library)
 
     def build_program(self, crate, words):
         """Proves the program, compiles it and links it; whether it went well."""
@@ -147,7 +145,7 @@ def output(*words):
 def call(crate, *words):
     """Runs a tool in a crate's folder, with its log; whether it went well."""
     with open(crate.log, "ab") as log:
-        return subprocess.call(["nice", "-n", str(crate.niceness), *words], cwd=crate.folder, stdin=subprocess.DEVNULL, stdout=log, stderr=log) == 0
+        return subprocess.call(words, cwd=crate.folder, stdin=subprocess.DEVNULL, stdout=log, stderr=log) == 0
 
 
 class Build:
@@ -156,9 +154,6 @@ class Build:
     def __init__(self, crates, toolchain, workers):
         self.crates, self.toolchain, self.workers = crates, toolchain, workers
         self.waiting, self.sums = times_that_wait(crates), sums_of(crates, toolchain.line)
-        longest = max(self.waiting.values())
-        for it in crates.values():
-            it.niceness = round(19 * (1 - self.waiting[it.name] / longest))
         self.state = threading.Condition()
         self.left, self.under_way, self.done, self.failed = set(crates), set(), set(), []
         self.begun = time.monotonic()
@@ -166,14 +161,14 @@ class Build:
     def ready(self):
         return [it for it in self.left if set(self.crates[it].below) <= self.done]
 
-    def jobs_for(self, name):
-        """Processes for a crate's check: as many as there are for the one that most wait for, and for others those that no crate is ready for."""
+    def share_of(self, name):
+        """Processes for a crate's check, and their niceness: the crate that most wait for may take all processors, and others take what it leaves."""
         if self.waiting[name] == max(self.waiting[it] for it in self.under_way):
-            return self.workers
-        return max(1, 1 + self.workers - len(self.under_way) - len(self.ready()))
+            return self.workers, 0
+        return max(1, 1 + self.workers - len(self.under_way) - len(self.ready())), 19
 
     def next(self):
-        """The name of a crate to prove and how many processes it may take, once there is one; None when nothing is left."""
+        """The name of a crate to prove and its share of the processors, once there is one; None when nothing is left."""
         with self.state:
             while not self.failed and self.left and not self.ready():
                 self.state.wait()
@@ -182,19 +177,20 @@ class Build:
             name = max(self.ready(), key=self.waiting.get)
             self.left.discard(name)
             self.under_way.add(name)
-            return name, self.jobs_for(name)
+            return name, self.share_of(name)
 
-    def build(self, crate, jobs):
+    def build(self, crate, share):
         """Proves and builds a crate, unless its library was built of the same files before; whether it went well."""
         if crate.is_built_of(self.sums[crate.name]):
             return True
         os.makedirs(os.path.dirname(crate.log), exist_ok=True)
         with contextlib.suppress(FileNotFoundError):
             os.remove(crate.log)
+        jobs, niceness = share
         words = self.toolchain.words(crate, self.crates, jobs)
         if crate.name == PROGRAM:
             return self.toolchain.build_program(crate, words)
-        if not self.toolchain.build_library(crate, words):
+        if not self.toolchain.build_library(crate, words, niceness):
             return False
         with open(crate.sum, "w", encoding="utf-8") as it:
             it.write(self.sums[crate.name])
@@ -202,8 +198,8 @@ class Build:
 
     def work(self):
         while (found := self.next()) is not None:
-            name, jobs = found
-            well = self.build(self.crates[name], jobs)
+            name, share = found
+            well = self.build(self.crates[name], share)
             with self.state:
                 self.under_way.discard(name)
                 if well:

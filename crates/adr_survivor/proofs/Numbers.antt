@@ -1,5 +1,5 @@
 -- A GUID with a number has it.
-use Rattle.std.proofs.Common.{◌≡◌, ◌<◌, ◌+◌, ◌*◌, ◌%◌, ◌^◌, ℕ, List, arith, ap, ◌∙◌}
+use Rattle.std.proofs.Common.{◌≡◌, ◌<◌, ◌+◌, ◌*◌, ◌/◌, ◌%◌, ◌^◌, ℕ, List, arith, ap, ◌∙◌}
 use Rattle.std.specs.Int.{from_be_bytes, w128}
 use Rattle.uuid.proofs.OrderLemmas.{from_be_bytes-to_be_bytes_16}
 use Rattle.adr_survivor.specs.Objects.{guid_of}
@@ -10,3 +10,6 @@ module _ (number : ℕ) (fits : number < 2 ^ 64) (guid : List ℕ) (is : guid �
 
   pub low_half : from_be_bytes w128 guid % 2 ^ 64 ≡ number
   low_half = omega (arith, value)
+
+  pub high_half : from_be_bytes w128 guid / 2 ^ 64 ≡ 8026094469620462336
+  high_half = omega (arith, value)

@@ -8,6 +8,7 @@ use adr_guid::Guid;
 use adr_schema::{Assignments, NoMemory, Text};
 use adr_update::root;
 use std::alloc::Global;
+use uuid::Uuid;
 
 /// The high half of the GUIDs of objects: "objects" and a zero.
 const OBJECTS: u64 = 0x6f62_6a65_6374_7300;
@@ -19,14 +20,14 @@ const CONTAINER: u16 = 4;
 fn guid_of(number: u64) -> Guid
     ensures { result ≡ guid_of number }
 {
-    Guid::from_u128((u128::from(OBJECTS) << 64) | u128::from(number))
+    Guid::from_bytes(Uuid::from_u64_pair(OBJECTS, number).into_bytes())
 }
 
 /// The number of a GUID, if it has one.
 pub fn number_of(guid: Guid) -> Option<u64>
     ensures { (number : ℕ) → number < 2 ^ 64 → guid ≡ guid_of number → result ≡ Some number }
 {
-    let (high, number) = guid.as_u64_pair();
+    let (high, number) = Uuid::from_bytes(*guid.as_bytes()).as_u64_pair();
     if high == OBJECTS { Some(number) } else { None }
 }
 
