@@ -225,7 +225,7 @@ fn read_line(alloc: Global, text: &[u8]) -> Result<(Text, u64, Guid, bool), Stop
 fn a_line_is_read_token_by_token(rt: HostRuntime) -> Result<(), Fail> {
     let (name, number, id, ended) = read_line(rt.alloc(), b" add  A 12 #a0  ")?;
     assert!(rt; name.as_str() == "A" && ended);
-    assert_eq!(rt; (number, id), (12, Guid::from_u128(0xa0)));
+    assert_eq!(rt; (number, id.as_u128()), (12, 0xa0));
     Ok(())
 }
 
