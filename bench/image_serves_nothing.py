@@ -15,10 +15,9 @@ TOP = os.path.dirname(os.path.dirname(os.path.abspath(__file__)))
 LIB = """//! One call of `serve`.
 #![tactic(auto)]
 
-use adr_cycle::serve;
+use adr_cycle::{Reply, Request, serve};
 use adr_event::{Failure, ServeRefusal};
 use adr_image::Dormant;
-use adr_packet::{Reply, Request};
 use adr_state::State;
 use std::alloc::Global;
 

@@ -149,10 +149,13 @@ def call(crate, *words):
 
 
 class Build:
-    """Crates that are proved by several workers, each one once those below it are."""
+    """Crates that are proved side by side, each one once those below it are.
 
-    def __init__(self, crates, toolchain, workers):
-        self.crates, self.toolchain, self.workers = crates, toolchain, workers
+    More may be under way than there are processors: then no crate of the longest chain waits until one that can wait is done.
+    """
+
+    def __init__(self, crates, toolchain, processors, workers):
+        self.crates, self.toolchain, self.processors, self.workers = crates, toolchain, processors, workers
         self.waiting, self.sums = times_that_wait(crates), sums_of(crates, toolchain.line)
         self.state = threading.Condition()
         self.left, self.under_way, self.done, self.failed = set(crates), set(), set(), []
@@ -162,10 +165,9 @@ class Build:
         return [it for it in self.left if set(self.crates[it].below) <= self.done]
 
     def share_of(self, name):
-        """Processes for a crate's check, and their niceness: the crate that most wait for may take all processors, and others take what it leaves."""
-        if self.waiting[name] == max(self.waiting[it] for it in self.under_way):
-            return self.workers, 0
-        return max(1, 1 + self.workers - len(self.under_way) - len(self.ready())), 19
+        """Processes for a crate's check, and their niceness: a step back for each ten seconds by which it may end later than the crate that most wait for."""
+        slack = max(self.waiting[it] for it in self.under_way) - self.waiting[name]
+        return self.processors if slack < 30 else min(2, self.processors), min(19, int(slack / 10))
 
     def next(self):
         """The name of a crate to prove and its share of the processors, once there is one; None when nothing is left."""
@@ -223,10 +225,11 @@ class Build:
 
 def main():
     memory = os.sysconf("SC_PAGE_SIZE") * os.sysconf("SC_PHYS_PAGES")
-    workers = max(1, min(len(os.sched_getaffinity(0)), memory // MEMORY))
+    processors = len(os.sched_getaffinity(0))
+    workers = max(1, min(processors + processors // 2, memory // MEMORY))
     crates = crates_of_program()
     tell(f"building the program: its {len(crates)} crates are proved, {workers} at a time, which takes some minutes once")
-    if not Build(crates, Toolchain(), workers).run():
+    if not Build(crates, Toolchain(), processors, workers).run():
         sys.exit("adrep: the program could not be built")
     tell("built")
 

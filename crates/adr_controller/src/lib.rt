@@ -13,9 +13,9 @@ mod planned;
 mod refusal;
 mod writing;
 
+pub use adr_cycle::{Reply, Request};
 pub use adr_event::{CollectRefusal, Event, ServeRefusal, TakeRefusal, WriteRefusal};
 pub use adr_journal::{Keeper, KeeperRefusal, PlannedKeeper, StartRefusal};
-pub use adr_packet::{Reply, Request};
 pub use adr_state::{Change, State};
 pub use controller::Controller;
 pub use messages::Taken;

@@ -16,14 +16,12 @@ ghost use Rattle.adr_controller.specs.Did.{Calls};
 
 use crate::controller::Controller;
 use crate::refusal::{CallRefusal, Hindrance};
-use adr_cycle::{ask, serve};
+use adr_cycle::{Reply, Request, ask, serve, take};
 use adr_event::{Failure, ServeRefusal, TakeRefusal};
 use adr_failure::NoMemory;
 use adr_guid::Guid;
 use adr_journal::Keeper;
-use adr_packet::{Reply, Request};
 use adr_state::{Change, Mode, State, Vector};
-use adr_take::take;
 use std::alloc::{AllocError, Global};
 
 /// What comes of a reply that was taken: how many items it had, how many of them were written, and the USN then.

@@ -3,3 +3,6 @@ pub mod Numbered
 pub mod Choosing
 pub mod Cutting
 pub mod Replies
+mod Deciding
+mod Standings
+mod Items

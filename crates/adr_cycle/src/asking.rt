@@ -3,9 +3,8 @@
 ghost use Rattle.std.specs.Prelude.{◌≡◌, IfOk};
 ghost use Rattle.adr_model.specs.Serve.{ask};
 
-use crate::NoMemory;
+use crate::{NoMemory, Request};
 use adr_guid::Guid;
-use adr_packet::Request;
 use adr_state::State;
 use std::alloc::Global;
 

@@ -1,18 +1,28 @@
-//! Cycles of replication: what a controller asks a partner, and what it answers to a request.
+//! Cycles of replication: what a controller asks a partner, what it answers to a request, and why a reply that comes is
+//! refused, or the change that it makes.
 //!
-//! It stands on the definitions of requests and replies in `adr_model` and meets them, on `adr_state` for what a
-//! controller holds, and on `adr_packet` for what is exchanged. It knows nothing of what a reply changes where it is
-//! taken, of bytes, or of the disk.
+//! It stands on the definitions of requests, replies and what is taken in `adr_model` and meets them, and on `adr_state`
+//! for what a controller holds. No row of the state is copied where a reply is taken: what comes is told over the rows
+//! that are there, by `adr_told`. It knows nothing of bytes, of the disk, or of how a change is made.
 #![tactic(auto)]
 
 mod asking;
 mod candidate;
 mod candidates;
+mod item;
+mod judging;
+mod reply;
 mod replying;
+mod request;
+mod rows;
 mod serving;
+mod taking;
 
-pub use adr_event::{Failure, ServeRefusal};
-pub use adr_packet::{Reply, Request};
-pub use adr_state::{NoMemory, State};
+pub use adr_event::{Failure, ServeRefusal, TakeRefusal};
+pub use adr_state::{Change, Item, NoMemory, State};
+pub use adr_vector::{Mark, Vector};
 pub use asking::ask;
+pub use judging::take;
+pub use reply::Reply;
+pub use request::Request;
 pub use serving::serve;

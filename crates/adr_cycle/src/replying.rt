@@ -5,9 +5,8 @@ ghost use Rattle.std.specs.Bool.{then_some};
 ghost use Rattle.adr_model.specs.Change.{Item as Defined};
 ghost use Rattle.adr_model.specs.Serve.{begins_at, byte_limit, candidates, first_items, reply_of, reply_to};
 
-use crate::NoMemory;
 use crate::candidates::{is_none_behind, next_candidate};
-use adr_packet::{Reply, Request};
+use crate::{NoMemory, Reply, Request};
 use adr_state::{Item, Rows, State, is_same, item_length_within};
 use adr_vector::{Mark, Vector};
 use std::alloc::Global;

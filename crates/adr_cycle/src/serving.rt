@@ -9,8 +9,8 @@ ghost use Rattle.adr_model.specs.Serve.{is_quarantined, serve, serve_refusal, sh
 ghost use Rattle.adr_event.specs.declared.refusal.ServeRefusal.{ServeRefusal};
 
 use crate::replying::{begins_at, reply_to};
+use crate::{Reply, Request};
 use adr_event::{Failure, ServeRefusal};
-use adr_packet::{Reply, Request};
 use adr_state::{State, is_same};
 use adr_vector::Mark;
 use std::alloc::Global;

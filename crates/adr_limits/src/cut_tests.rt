@@ -1,9 +1,8 @@
 //! Where a reply is cut by its bytes, which no line of a schedule can reach yet.
 
 use crate::holding::{controller, east, holding, list};
-use adr_cycle::{ask, serve};
+use adr_cycle::{Reply, ask, serve};
 use adr_event::{Failure, ServeRefusal};
-use adr_packet::Reply;
 use adr_schema::{Content, Octets, Value, Values};
 use adr_state::{Mode, NoMemory, State, Written};
 use adr_vector::Mark;

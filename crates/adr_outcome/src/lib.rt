@@ -9,7 +9,7 @@ mod refused;
 mod replies;
 
 pub use adr_event::Outcome;
-pub use adr_packet::Reply;
+pub use adr_cycle::Reply;
 pub use refused::{
     adopt_refused, collect_refused, full, quarantined, serve_refused, take_refused, write_refused,
 };

@@ -5,7 +5,7 @@ ghost use Rattle.adr_model.specs.World.{rows_in};
 ghost use Rattle.adr_outcome.specs.Unsent.{unsent};
 
 use adr_event::Outcome;
-use adr_packet::Reply;
+use adr_cycle::Reply;
 use adr_schema::NoMemory;
 use std::alloc::AllocError;
 

@@ -18,7 +18,7 @@ mod snapshot;
 mod told;
 
 pub use adr_event::{Event, Outcome};
-pub use adr_packet::{Reply, Request};
+pub use adr_cycle::{Reply, Request};
 pub use adr_restore::Image;
 pub use adr_state::State;
 pub use past::Past;

@@ -9,7 +9,7 @@ use crate::replica::Replica;
 use crate::told::{Call, Deed, Told};
 use adr_event::Event;
 use adr_guid::Guid;
-use adr_packet::{Reply, Request};
+use adr_cycle::{Reply, Request};
 use adr_state::State;
 use std::marker::Model;
 

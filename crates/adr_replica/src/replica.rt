@@ -32,7 +32,7 @@ use adr_law_recorded::{
     taken_replies_are_recorded, writes_are_recorded,
 };
 use adr_outcome::{sent, serve_refused, take_refused, unsent, write_refused};
-use adr_packet::{Reply, Request};
+use adr_cycle::{Reply, Request};
 use adr_records::Records;
 use adr_schema::{NoMemory, Text};
 use adr_state::State;

@@ -5,7 +5,7 @@ ghost use Rattle.adr_model.specs.World.{empty_world};
 ghost use Rattle.adr_world.specs.Run.{IsTidy, world_of};
 
 use crate::bound::Bindings;
-use adr_packet::{Reply, Request};
+use adr_cycle::{Reply, Request};
 use adr_replica::{Image, Past, Replica, Snapshot};
 use std::alloc::Global;
 

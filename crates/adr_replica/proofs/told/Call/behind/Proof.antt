@@ -15,8 +15,8 @@ use denote.Steps.{nothing}
 use denote.Triple.Entry.{alive}
 use denote.Triple.Walked.{says, Stays, stay_dropped, walk_of, ends_at, Goes-dropped}
 use Rattle.adr_event.specs.contracts.event.Event as Event
-use Rattle.adr_packet.specs.contracts.reply.Reply as Reply
-use Rattle.adr_packet.specs.contracts.request.Request as Request
+use Rattle.adr_cycle.specs.contracts.reply.Reply as Reply
+use Rattle.adr_cycle.specs.contracts.request.Request as Request
 use Rattle.adr_state.specs.contracts.state.State as State
 use Rattle.adr_replica.proofs.Walks.{none, none_made}
 use Rattle.adr_replica.specs.Told.{told_of}

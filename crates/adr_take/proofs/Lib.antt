@@ -1,3 +1,0 @@
-mod Deciding
-mod Standings
-mod Items

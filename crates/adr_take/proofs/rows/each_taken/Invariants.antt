@@ -1,7 +1,0 @@
-use Rattle.std.proofs.Common.{◌≡◌, filter, take}
-use Rattle.adr_take.specs.Rows.{is_taken}
-use Rattle.adr_take.proofs.rows.each_taken.Given as goal
-
--- those so far are taken
-abbrev pub invariant-loop-row : goal.invariant-loop-row
-invariant-loop-row l = l.taken.items ≡ filter (is_taken l.held l.standing) (take l.row-index l.rows)
