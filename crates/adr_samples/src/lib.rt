@@ -1,6 +1,17 @@
-//! Tests of the words against values from outside: bytes of the formats, spellings, the schema's table, crash images;
-//! and what no clause tells of readers, writers and files.
+//! Tests of what no clause tells and no schedule comes to: words, images and the bodies of records against values from
+//! outside (bytes of the formats, spellings, the schema's table, crash images), readers, writers and files, and calls at
+//! their limits (replies that are cut by their bytes, vectors with too many cursors, the last version and the last USN).
 #![tactic(auto)]
 
 #[cfg(test)]
-mod tests;
+mod cut_tests;
+#[cfg(test)]
+mod holding;
+#[cfg(test)]
+mod images;
+#[cfg(test)]
+mod origin_tests;
+#[cfg(test)]
+mod state_tests;
+#[cfg(test)]
+mod words;
