@@ -1,2 +1,3 @@
+mod Left
 mod Parts
 mod Seen

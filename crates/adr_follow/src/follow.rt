@@ -1,15 +1,17 @@
 //! The whole change.
 
-ghost use Rattle.std.specs.Prelude.{◌≡◌, ◌↔◌, ◌&&◌, IfOk, IsTrue};
+ghost use Rattle.std.specs.Prelude.{◌≡◌, ◌↔◌, IfOk, IsTrue};
 ghost use Rattle.adr_model.specs.Formed.{IsFormed};
 ghost use Rattle.adr_law_formed.specs.Follow.{CanFollow, HasKnownClasses};
 ghost use Rattle.adr_law_formed.specs.Spelled.{IsSpelledChange};
 ghost use Rattle.adr_law_formed.specs.Tested.{can_follow};
-ghost use Rattle.adr_follow.specs.Parts.{are_removable, are_touched_formed, writes_follow};
+ghost use Rattle.adr_follow.specs.Parts.{writes_pass};
 
 use crate::NoMemory;
+use crate::removed::are_removable;
+use crate::touched::are_touched_formed;
 use crate::vectors::{are_in_order, goes_on};
-use adr_judge::{are_removable, are_touched_formed, may_follow_in_turn};
+use crate::writes::may_follow_in_turn;
 use adr_law_formed::changes_are_tested;
 use adr_state::{Change, State};
 use adr_told::Told;
@@ -50,8 +52,7 @@ fn writes_pass(
     change: &Change,
 ) -> Result<bool, NoMemory>
     requires { told.old ≡ state.now.store.rows }
-    ensures { IfOk result (λ pass. pass ≡ (writes_follow state.now change.now
-        && (are_removable state.now change.now && are_touched_formed state.now change.now))) }
+    ensures { IfOk result (λ pass. pass ≡ writes_pass state.now change.now) }
 {
     let schema = state.schema();
     if !may_follow_in_turn(alloc, schema, state.vector(), told, change.writes())? {

@@ -1,10 +1,9 @@
 //! The numbers of a change: its USN, its vectors and how many cursors and marks there come to be.
 
-ghost use Rattle.std.specs.Prelude.{◌≡◌, ◌&&◌, length, nat_le, not};
-ghost use Rattle.adr_vector.specs.Vector.{at, at_most, cursor_limit};
+ghost use Rattle.std.specs.Prelude.{◌≡◌, length};
+ghost use Rattle.adr_vector.specs.Vector.{at, at_most};
 ghost use Rattle.adr_model.specs.Change.{after, with_mark};
-ghost use Rattle.adr_model.specs.Serve.{is_quarantined};
-ghost use Rattle.adr_model.specs.Take.{mark_limit};
+ghost use Rattle.adr_follow.specs.Parts.{are_in_order, goes_on};
 
 use adr_guid::Guid;
 use adr_state::{CURSOR_LIMIT, Change, MARK_LIMIT, State, is_same};
@@ -12,20 +11,16 @@ use adr_told::len_after;
 use adr_vector::seen_by_both;
 
 /// Whether a change goes on from a state that is up, at its USN or above it.
-pub fn goes_on(state: &State, change: &Change) -> bool
-    ensures { result ≡ (not (is_quarantined state.now.mode) && nat_le state.now.store.usn change.now.usn) }
+pub(crate) fn goes_on(state: &State, change: &Change) -> bool
+    ensures { result ≡ goes_on state.now change.now }
 {
     !state.mode().is_quarantined() && state.usn() <= change.usn()
 }
 
 /// Whether the vectors of a change fit the state: no more of its own writes is joined than the change brings, no more is
 /// purged than was seen, and there are few enough cursors and marks.
-pub fn are_in_order(state: &State, change: &Change) -> bool
-    ensures { let store = (after state.now change.now).store in result
-        ≡ (nat_le (at change.now.joined state.now.inv) change.now.usn
-        && at_most change.now.purged store.vector
-        && nat_le (length store.vector) cursor_limit
-        && nat_le (length store.marks) mark_limit) }
+pub(crate) fn are_in_order(state: &State, change: &Change) -> bool
+    ensures { result ≡ are_in_order state.now change.now }
 {
     let cursors = len_after(
         state.vector(),
