@@ -18,7 +18,7 @@ use Rattle.adr_model.specs.Collect.{collection, deaths_to_collect, collect_refus
 use Rattle.adr_model.specs.Replica.{Pending, ToWrite, ToTake, ToCollect, change_of, change_in, Standing, Up, Plan, Replica, Book, Settle, moved, went, moves_of_commit, moves_of_start, standing_after, plan_after, Failed}
 use Rattle.adr_model.specs.World.{World, Gone, with_replica, committed, commit, after_write, after_collect, after_take, after_moves}
 use Rattle.adr_model.specs.Sound.{IsSoundCall, IsSettled, IsSoundReplica, IsSoundReply, IsGiven, IsSoundWorld}
-use Rattle.adr_law_taking.proofs.Refused.{no_rollback as reply_shows_no_rollback}
+use Rattle.adr_law_calls.proofs.Refused.{no_rollback as reply_shows_no_rollback}
 use Rattle.adr_law_knowledge.proofs.Refusing.{answered}
 use Rattle.adr_law_convergence.proofs.Reached.{within_case}
 use Rattle.adr_law_convergence.proofs.Replacing.{MayStand, replaced}

@@ -14,9 +14,9 @@ use Rattle.adr_law_logs.specs.Later.{AreIssuedBy, MayIssue}
 use Rattle.adr_law_logs.specs.Settling.{Leaves, MaySettle}
 use Rattle.adr_law_logs.proofs.Leaving.{sound_state_is_left}
 use Rattle.adr_law_logs.proofs.Written.{write_may_follow}
-use Rattle.adr_law_collecting.proofs.Leaving.{collection_leaves}
-use Rattle.adr_law_writing.proofs.Sound.{write_leaves_sound}
-use Rattle.adr_law_taking.proofs.TakenLeaves.{taken_leaves}
+use Rattle.adr_law_calls.proofs.CollectionLeaves.{collection_leaves}
+use Rattle.adr_law_calls.proofs.WriteSound.{write_leaves_sound}
+use Rattle.adr_law_calls.proofs.TakenLeaves.{taken_leaves}
 
 -- what is asked of a call before it settles
 pub record Settles (sc : Book) (s : State) (p : Pending) : Type 0 where

@@ -28,8 +28,8 @@ use Rattle.adr_model.specs.Cycles.{Pulled, first_told, pull_delivered, pull_serv
 use Rattle.adr_model.specs.Sound.{last_of, IsSoundState, IsSoundReply, IsSent, IsSoundWorld}
 use Rattle.adr_model.specs.Convergence.{units_beyond, IsRefused}
 use Rattle.adr_law_logs.specs.Settling.{Leaves}
-use Rattle.adr_law_taking.proofs.TakenLeaves.{taken_leaves}
-use Rattle.adr_law_taking.proofs.TakenLacked.{taken_idle, taken_lacked}
+use Rattle.adr_law_calls.proofs.TakenLeaves.{taken_leaves}
+use Rattle.adr_law_calls.proofs.TakenLacked.{taken_idle, taken_lacked}
 use Rattle.adr_law_convergence.proofs.Found.{same_name, same_name_tests, replica_found}
 use Rattle.adr_law_convergence.proofs.Pulling.{IsLimit, serves_it, reply_sound, taken_or_limited, sent_is_held, sent_is_new, kept_so, kept_there, nearer}
 use Rattle.adr_law_knowledge.proofs.Comparing.{supersedes_self}

@@ -39,8 +39,8 @@ use Rattle.adr_law_logs.proofs.Asked.{asked_is_sound}
 use Rattle.adr_law_logs.proofs.Granted.{served_is_sound, shown_within}
 use Rattle.adr_law_logs.proofs.Served.{item_is, row_is}
 use Rattle.adr_law_logs.proofs.Tables.{entry_there, entry_itself}
-use Rattle.adr_law_taking.proofs.Granted.{kept_is_sound}
-use Rattle.adr_law_taking.proofs.Refused.{items_are_whole}
+use Rattle.adr_law_calls.proofs.Granted.{kept_is_sound}
+use Rattle.adr_law_calls.proofs.Refused.{items_are_whole}
 use Rattle.adr_law_convergence.proofs.Progress.{beyond, progress}
 
 normal : (m : Mode) → m ≡ Normal → is_quarantined m ≡ false

@@ -20,7 +20,7 @@ use Rattle.adr_model.specs.Step.{step}
 use Rattle.adr_model.specs.Sound.{IsSoundRequest, IsSoundReply, IsSoundWorld}
 use Rattle.adr_model.specs.Convergence.{MayHappen, IsRefused, IsPurgedCovered, NoDamage, NeverTooOld}
 use Rattle.adr_law_logs.proofs.Granted.{no_rollback}
-use Rattle.adr_law_taking.proofs.Refused.{no_rollback as reply_shows_no_rollback, no_broken_item, no_incomplete_item}
+use Rattle.adr_law_calls.proofs.Refused.{no_rollback as reply_shows_no_rollback, no_broken_item, no_incomplete_item}
 use Rattle.adr_law_convergence.proofs.Found.{bound_member}
 use Rattle.adr_law_convergence.proofs.Refusals.{number, refused_by_number, is_grave, IsPlain}
 use Rattle.adr_law_convergence.proofs.RefusalsServed.{is_for_age, not_too_old}

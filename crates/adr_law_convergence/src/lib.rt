@@ -2,9 +2,8 @@
 //! controllers of a sound world show, which refusals don't come, and that a cycle ends.
 //!
 //! Stands on the definitions of `adr_model` and on the laws of knowledge (`adr_law_knowledge`), of local
-//! logs (`adr_law_logs`), and of what each kind of call leaves (`adr_law_taking`, `adr_law_writing`,
-//! `adr_law_collecting`). Its functions have no code: each contract is a statement of the definitions'
-//! `Convergence`.
+//! logs (`adr_law_logs`), and of what each kind of call leaves (`adr_law_calls`). Its functions have no code:
+//! each contract is a statement of the definitions' `Convergence`.
 #![tactic(auto)]
 
 mod cycles;

@@ -27,8 +27,8 @@ use Rattle.adr_law_steps.proofs.Rows.{updated, held_as}
 use Rattle.adr_law_steps.proofs.Locals.{unit_or_not}
 use Rattle.adr_law_steps.proofs.FormedSame.{named_same, object_same}
 use Rattle.adr_law_knowledge.proofs.RisingHeld.{removals_rise}
-use Rattle.adr_law_collecting.proofs.Removing.{stood_before, update_stood, update_stands, removed_is_absent, row_of_tells, stay_alone}
-use Rattle.adr_law_collecting.proofs.Sizes.{objects_fewer, links_fewer}
+use Rattle.adr_law_calls.proofs.Removing.{stood_before, update_stood, update_stands, removed_is_absent, row_of_tells, stay_alone}
+use Rattle.adr_law_calls.proofs.RemovingSizes.{objects_fewer, links_fewer}
 use Rattle.adr_law_formed.specs.Spelled.{IsSaidOfKey}
 use Rattle.adr_law_formed.specs.Follow.{AreWithinLimits, HasKnownClasses, CanFollow}
 use Rattle.adr_law_formed.specs.Touched.{IsInForm, CanFollowByTouched}

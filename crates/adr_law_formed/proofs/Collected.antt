@@ -26,16 +26,16 @@ use Rattle.adr_model.specs.Collect.{collected_by, deaths_to_collect, covering, c
 use Rattle.adr_model.proofs.Members.{mapped_member}
 use Rattle.adr_law_knowledge.proofs.Refusing.{answered}
 use Rattle.adr_law_steps.proofs.Rows.{updated}
-use Rattle.adr_law_collecting.specs.Collectable.{IsCollectable}
+use Rattle.adr_law_calls.specs.Collectable.{IsCollectable}
 use Rattle.adr_law_knowledge.proofs.Fewer.{no_more_cursors}
-use Rattle.adr_law_collecting.proofs.Covering.{covering_within, covering_rises}
-use Rattle.adr_law_collecting.proofs.Removing.{update_stood}
-use Rattle.adr_law_collecting.proofs.Taken.{collect_is_collection}
-use Rattle.adr_law_collecting.proofs.Deaths.{with_death, collected_dies}
-use Rattle.adr_law_collecting.proofs.Formed.{collectable, covered, usn_rises, covers as purged_all, collection_formed}
+use Rattle.adr_law_calls.proofs.Covering.{covering_within, covering_rises}
+use Rattle.adr_law_calls.proofs.Removing.{update_stood}
+use Rattle.adr_law_calls.proofs.CollectionFollows.{collect_is_collection}
+use Rattle.adr_law_calls.proofs.Deaths.{with_death, collected_dies}
+use Rattle.adr_law_calls.proofs.CollectionFormed.{collectable, covered, usn_rises, covers as purged_all, collection_formed}
 use Rattle.adr_law_formed.specs.Follow.{IsRemovable, HasKnownClasses, CanFollow}
 use Rattle.adr_law_formed.proofs.Said.{neither}
-use Rattle.adr_law_taking.proofs.Passed.{normal_where_not_quarantined}
+use Rattle.adr_law_calls.proofs.Passed.{normal_where_not_quarantined}
 use Rattle.adr_law_formed.proofs.TakenFollow.{nothing_is_vector}
 
 -- ---- the objects that go rise

@@ -42,19 +42,20 @@ use Rattle.adr_law_knowledge.proofs.Refusing.{none_there, answered}
 use Rattle.adr_law_steps.specs.Forms.{IsWellSaid, MayCome}
 use Rattle.adr_law_steps.proofs.Rows.{updated, row_of_unit}
 use Rattle.adr_law_steps.proofs.Rising.{one_update}
-use Rattle.adr_law_taking.proofs.Tests.{IsFound, row_found}
-use Rattle.adr_law_writing.specs.MayWrites.{MayWrite, Changes, Comes, IsHeldAlive}
-use Rattle.adr_law_writing.proofs.Stamps.{written}
-use Rattle.adr_law_writing.proofs.Issues.{change_of}
-use Rattle.adr_law_writing.proofs.Nodes.{object_is_live}
-use Rattle.adr_law_writing.proofs.Saids.{live_is_held}
-use Rattle.adr_law_writing.proofs.Refusals.{not_so}
-use Rattle.adr_law_writing.proofs.Sound.{may_write}
+use Rattle.adr_law_calls.proofs.Tests.{IsFound, row_found}
+use Rattle.adr_law_calls.specs.MayWrites.{MayWrite, Changes, Comes, IsHeldAlive}
+use Rattle.adr_law_calls.proofs.Stamps.{written}
+use Rattle.adr_law_calls.proofs.Issues.{change_of}
+use Rattle.adr_law_calls.proofs.Nodes.{object_is_live}
+use Rattle.adr_law_calls.proofs.Saids.{live_is_held}
+use Rattle.adr_law_calls.proofs.Refusals.{not_so}
+use Rattle.adr_law_calls.proofs.WriteSound.{may_write}
 use Rattle.adr_law_formed.specs.Taken.{AreBare}
 use Rattle.adr_law_formed.specs.Follow.{HasKnownClasses, CanFollow}
 use Rattle.adr_law_formed.proofs.Sorted.{keys}
 use Rattle.adr_law_formed.proofs.ItemMay.{new_is_above}
-use Rattle.adr_law_taking.proofs.Passed.{normal_where_not_quarantined}
+use Rattle.adr_law_calls.proofs.ItemPut.{some_or_none}
+use Rattle.adr_law_calls.proofs.Passed.{normal_where_not_quarantined}
 use Rattle.adr_law_formed.proofs.OwnWrite.{new_placed, live_placed, link_placed, written_follows}
 
 -- ---- a row that is written next is greater than the held one
@@ -122,10 +123,6 @@ values_above schema class o u attr vs is says well = by attr is
     by (suc (suc (suc zero))) e = absurd
         (let f : Holds (Values vs) ≡ Holds Dead = sym says ∙ well.of_death e in cc)
     by (suc (suc (suc (suc n)))) e = omega arith
-
-some_or_none : {A : Type 0} (xs : List A) → (xs ≡ []) ⊎ ((x : A) × Member x xs)
-some_or_none [] = inl refl
-some_or_none (x ∷ xs) = inr (x, inl refl)
 
 module _ (s : State) (formed : IsFormed s) (known : HasKnownClasses s) where
   abbrev rows : List Update

@@ -33,10 +33,10 @@ use Rattle.adr_law_steps.specs.Puts.{MayPut}
 use Rattle.adr_law_steps.specs.Forms.{HasKey, IsWellSaid}
 use Rattle.adr_law_steps.proofs.Rows.{updated, held_as, row_of_unit, link_of_unit}
 use Rattle.adr_law_steps.proofs.Rising.{one_of_key as one_held_of_key, one_update}
-use Rattle.adr_law_taking.proofs.Tests.{IsFound, row_found, above_supersedes}
-use Rattle.adr_law_taking.proofs.Standings.{each_presence, IsThere, there_where_untested, attr_itself, left_from, reserved_is_left, bare_beside_death}
-use Rattle.adr_law_taking.proofs.ItemPut.{above_of_held, some_or_none}
-use Rattle.adr_law_writing.proofs.Saids.{death_well_said}
+use Rattle.adr_law_calls.proofs.Tests.{IsFound, row_found, above_supersedes}
+use Rattle.adr_law_calls.proofs.Standings.{each_presence, IsThere, there_where_untested, attr_itself, left_from, reserved_is_left, bare_beside_death}
+use Rattle.adr_law_calls.proofs.ItemPut.{above_of_held, some_or_none}
+use Rattle.adr_law_calls.proofs.Saids.{death_well_said}
 use Rattle.adr_law_formed.specs.Spelled.{IsContentOfAttr, IsSpelledItem}
 use Rattle.adr_law_formed.specs.Follow.{IsWhole, MayWriteUnit, MayFollow}
 use Rattle.adr_law_formed.specs.Taken.{MayBeTaken}

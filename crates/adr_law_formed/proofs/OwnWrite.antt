@@ -17,11 +17,11 @@ use Rattle.adr_model.specs.Take.{is_above}
 use Rattle.adr_law_steps.specs.Puts.{ArePut}
 use Rattle.adr_law_steps.specs.Forms.{IsWellSaid, MayCome}
 use Rattle.adr_law_steps.proofs.Rows.{row_of_unit, link_of_unit}
-use Rattle.adr_law_writing.specs.MayWrites.{MayWrite, Changes, Comes, IsHeldAlive}
-use Rattle.adr_law_writing.proofs.Rooms.{objects_within_limit, links_within_limit}
-use Rattle.adr_law_writing.proofs.Formed.{stands, are_written, written_rise, write_formed}
-use Rattle.adr_law_writing.proofs.Issues.{change_of}
-use Rattle.adr_law_writing.proofs.Forms.{classes_stay}
+use Rattle.adr_law_calls.specs.MayWrites.{MayWrite, Changes, Comes, IsHeldAlive}
+use Rattle.adr_law_calls.proofs.Rooms.{objects_within_limit, links_within_limit}
+use Rattle.adr_law_calls.proofs.WriteFormed.{stands, are_written, written_rise, write_formed}
+use Rattle.adr_law_calls.proofs.Issues.{change_of}
+use Rattle.adr_law_calls.proofs.WriteForms.{classes_stay}
 use Rattle.adr_law_formed.specs.Spelled.{IsSaidOfKey}
 use Rattle.adr_law_formed.specs.Follow.{MayWriteUnit, HasKnownClasses, CanFollow}
 use Rattle.adr_law_formed.proofs.TakenFollow.{nothing_is_vector}

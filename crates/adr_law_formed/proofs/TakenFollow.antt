@@ -11,9 +11,9 @@ use Rattle.adr_model.specs.Serve.{Reply}
 use Rattle.adr_model.specs.Write.{usn_limit}
 use Rattle.adr_model.specs.Take.{take}
 use Rattle.adr_law_logs.proofs.Empty.{empty_is_formed}
-use Rattle.adr_law_taking.specs.OnTheWay.{Passes, taken_items, change_taken, state_behind}
-use Rattle.adr_law_taking.proofs.Passed.{passed}
-use Rattle.adr_law_taking.proofs.TakenFormed.{taken_formed}
+use Rattle.adr_law_calls.specs.OnTheWay.{Passes, taken_items, change_taken, state_behind}
+use Rattle.adr_law_calls.proofs.Passed.{passed}
+use Rattle.adr_law_calls.proofs.TakenFormed.{taken_formed}
 use Rattle.adr_law_formed.specs.Spelled.{IsSpelledReply}
 use Rattle.adr_law_formed.specs.Taken.{AreBare}
 use Rattle.adr_law_formed.specs.Follow.{HasKnownClasses, CanFollow}

@@ -24,10 +24,10 @@ use Rattle.adr_model.proofs.Members.{some_passes}
 use Rattle.adr_law_steps.proofs.Rows.{updated, held_as, row_is_of}
 use Rattle.adr_law_steps.proofs.Rising.{one_update}
 use Rattle.adr_law_steps.proofs.FormedMust.{must_above}
-use Rattle.adr_law_taking.proofs.Tests.{IsFound, row_found}
-use Rattle.adr_law_collecting.proofs.Removing.{row_of_itself}
-use Rattle.adr_law_writing.proofs.Stamps.{row_held_is}
-use Rattle.adr_law_writing.proofs.Values.{plain_is_above}
+use Rattle.adr_law_calls.proofs.Tests.{IsFound, row_found}
+use Rattle.adr_law_calls.proofs.Removing.{row_of_itself}
+use Rattle.adr_law_calls.proofs.Stamps.{row_held_is}
+use Rattle.adr_law_calls.proofs.Values.{plain_is_above}
 use Rattle.adr_law_formed.specs.Touched.{IsInForm}
 use Rattle.adr_law_formed.specs.Tested.{is_class_known, says_allowed_name, says_dead, fits_class, all_of_object, is_alive_formed, is_formed_by, is_object_formed}
 use Rattle.adr_law_formed.proofs.WritesTested.{all_pass, passes_all}

@@ -25,7 +25,7 @@ use Rattle.adr_law_logs.proofs.Units.{change_from}
 use Rattle.adr_law_logs.proofs.Tables.{entry_from}
 use Rattle.adr_law_steps.specs.Puts.{held_at}
 use Rattle.adr_law_steps.proofs.Rows.{updated, held_as}
-use Rattle.adr_law_taking.proofs.ItemPut.{taken_from}
+use Rattle.adr_law_calls.proofs.ItemPut.{taken_from}
 
 -- ---- rows
 

@@ -23,14 +23,14 @@ use Rattle.adr_model.specs.Formed.{AreRising, IsFormed}
 use Rattle.adr_model.specs.Take.{mark_limit}
 use Rattle.adr_law_steps.proofs.Rows.{updated, held_as}
 use Rattle.adr_law_steps.proofs.Order.{puts_rise}
-use Rattle.adr_law_taking.proofs.Tests.{IsFound, row_found, holds_where_tested, lacks_where_untested}
+use Rattle.adr_law_calls.proofs.Tests.{IsFound, row_found, holds_where_tested, lacks_where_untested}
 use Rattle.adr_law_knowledge.proofs.RisingHeld.{removals_rise}
-use Rattle.adr_law_writing.proofs.Stamps.{row_held_is}
+use Rattle.adr_law_calls.proofs.Stamps.{row_held_is}
 use Rattle.adr_law_formed.specs.Follow.{IsRemovable, HasKnownClasses, CanFollow}
 use Rattle.adr_law_formed.specs.Touched.{IsInForm, AreTouchedInForm, CanFollowByTouched}
 use Rattle.adr_law_formed.specs.Spelled.{IsSpelledChange}
 use Rattle.adr_law_formed.specs.Tested.{may_follow_in_turn, is_removable, is_object_formed, is_touched_formed, can_follow}
-use Rattle.adr_law_taking.proofs.Passed.{normal_where_not_quarantined}
+use Rattle.adr_law_calls.proofs.Passed.{normal_where_not_quarantined}
 use Rattle.adr_law_formed.proofs.WritesTested.{all_pass, passes_all, following_where_tested, tested_where_following}
 use Rattle.adr_law_formed.proofs.UnitTested.{unit_where_tested, tested_where_unit}
 use Rattle.adr_law_formed.proofs.ByTouched.{touched_is_enough, touched_is_asked}

@@ -9,7 +9,7 @@ use Rattle.adr_model.specs.Reflects.{IsDeath}
 use Rattle.adr_model.specs.Store.{Held, updates_of}
 use Rattle.adr_model.specs.Take.{is_reserved_row}
 use Rattle.adr_law_steps.specs.Puts.{MayPut}
-use Rattle.adr_law_taking.specs.OnTheWay.{KeepForms}
+use Rattle.adr_law_calls.specs.KeepForms.{KeepForms}
 use Rattle.adr_law_formed.specs.Follow.{MayFollow}
 
 -- rows may be put, keep the forms, and may follow

@@ -31,8 +31,8 @@ use Rattle.adr_law_knowledge.proofs.Refusing.{answered}
 use Rattle.adr_law_knowledge.proofs.Standing.{among_objects}
 use Rattle.adr_law_logs.proofs.Tables.{entry_from}
 use Rattle.adr_law_steps.proofs.Rows.{updated}
-use Rattle.adr_law_collecting.specs.Collectable.{IsCollectable}
-use Rattle.adr_law_collecting.proofs.Deaths.{all_collectable}
+use Rattle.adr_law_calls.specs.Collectable.{IsCollectable}
+use Rattle.adr_law_calls.proofs.Deaths.{all_collectable}
 use Rattle.adr_law_formed.specs.Taken.{AreBare}
 use Rattle.adr_law_formed.proofs.Collected.{collected_follows, collected_rise}
 use Rattle.adr_law_formed.proofs.Said.{neither}

@@ -17,11 +17,11 @@ use Rattle.adr_model.specs.Write.{object_refusal, nodes_held, object_of, usn_lim
 use Rattle.adr_image.specs.Stored.{IsSpelledRow}
 use Rattle.adr_law_steps.proofs.Rows.{updated, held_as}
 use Rattle.adr_law_steps.proofs.Rising.{one_update}
-use Rattle.adr_law_taking.proofs.Tests.{IsFound, row_found}
-use Rattle.adr_law_writing.specs.MayWrites.{IsHeldAlive}
-use Rattle.adr_law_writing.proofs.Nodes.{object_is_live}
-use Rattle.adr_law_writing.proofs.Refusals.{not_so}
-use Rattle.adr_law_writing.proofs.Saids.{live_is_held}
+use Rattle.adr_law_calls.proofs.Tests.{IsFound, row_found}
+use Rattle.adr_law_calls.specs.MayWrites.{IsHeldAlive}
+use Rattle.adr_law_calls.proofs.Nodes.{object_is_live}
+use Rattle.adr_law_calls.proofs.Refusals.{not_so}
+use Rattle.adr_law_calls.proofs.Saids.{live_is_held}
 use Rattle.adr_records.specs.Logged.{IsLogged}
 
 -- ---- the parts of a row in range

@@ -22,7 +22,7 @@ use Rattle.adr_wire.specs.Ranges.{IsU16, IsValue, IsContent}
 use Rattle.adr_model.specs.Member.{Each}
 use Rattle.adr_model.specs.Update.{deleted_attr}
 use Rattle.adr_model.proofs.Members.{found_member, each_passes}
-use Rattle.adr_law_writing.proofs.Values.{place_of}
+use Rattle.adr_law_calls.proofs.Values.{place_of}
 use Rattle.adr_law_recorded.specs.Typed.{IsTypedValue}
 
 -- ---- the bounds of a table, which are computed

@@ -25,10 +25,10 @@ use Rattle.adr_image.specs.Stored.{IsSpelledRow}
 use Rattle.adr_law_knowledge.proofs.Refusing.{none_there, answered}
 use Rattle.adr_law_steps.specs.Forms.{IsWellSaid}
 use Rattle.adr_law_steps.proofs.Rows.{row_of_unit}
-use Rattle.adr_law_writing.specs.MayWrites.{Fits, MayWrite, IsHeldAlive}
-use Rattle.adr_law_writing.proofs.Sound.{may_write}
-use Rattle.adr_law_writing.proofs.Stamps.{written}
-use Rattle.adr_law_writing.proofs.Writes.{well_said}
+use Rattle.adr_law_calls.specs.MayWrites.{Fits, MayWrite, IsHeldAlive}
+use Rattle.adr_law_calls.proofs.WriteSound.{may_write}
+use Rattle.adr_law_calls.proofs.Stamps.{written}
+use Rattle.adr_law_calls.proofs.Writes.{well_said}
 use Rattle.adr_law_formed.proofs.EachWrite.{write_follows, write_is_bare}
 use Rattle.adr_records.specs.Logged.{IsLogged}
 use Rattle.adr_law_recorded.specs.Typed.{IsTypedValue, IsTypedWrite}

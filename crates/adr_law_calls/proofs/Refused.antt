@@ -1,0 +1,159 @@
+-- By what a sound reply isn't refused.
+use Rattle.std.proofs.Common.{◌≡◌, ◌≢◌, inl, inr, ℕ, ◌≤◌, List, [], ◌∷◌, Bool, true, false, Option, Some, None, refl, sym, ◌∙◌, subst, arith, not, length, fold, Err}
+use Rattle.std.specs.Prelude.{nat_lt}
+use Rattle.std.specs.Bool.{then_some}
+use Rattle.std.specs.Option.{option_map, option_map_or, IfSome}
+use Rattle.std.proofs.lemmas.Bool.{true≢false, le-ltb}
+use Rattle.adr_stamp.specs.declared.Oid.{Oid}
+use Rattle.adr_stamp.specs.declared.Unit.{Unit as Named}
+use Rattle.adr_stamp.specs.declared.Unit.TheVariants.{Object, Link}
+use Rattle.adr_schema.specs.Numbered.{numbered}
+use Rattle.adr_schema.specs.Table.{Table as Schema}
+use Rattle.adr_vector.specs.Vector.{Cursors, at, first_gap, cursor_limit}
+use Rattle.adr_vector.specs.declared.mark.Mark.{Mark}
+use Rattle.adr_event.specs.declared.refusal.Table.{Table}
+use Rattle.adr_event.specs.declared.refusal.Table.TheVariants.{Objects, Links, Cursors as CursorTable, Marks}
+use Rattle.adr_event.specs.declared.refusal.ItemFault.{ItemFault}
+use Rattle.adr_event.specs.declared.refusal.TakeRefusal.{TakeRefusal}
+use Rattle.adr_event.specs.declared.refusal.TakeRefusal.TheVariants.{Quarantined, NotMine, Stale, VectorBehind, SchemaMismatch, RolledBack, BadItem, Incomplete, UsnLimit, Full}
+use Rattle.adr_model.specs.Member.{Member, Each}
+use Rattle.adr_failure.specs.First.{first_of}
+use Rattle.adr_model.specs.Update.{Identifier, Update, same_identifier}
+use Rattle.adr_model.specs.Store.{Held, State}
+use Rattle.adr_model.specs.Change.{Item, after}
+use Rattle.adr_model.specs.Serve.{Reply, is_quarantined}
+use Rattle.adr_model.specs.Write.{object_limit, link_limit, usn_limit}
+use Rattle.adr_model.specs.Take.{Taking, begin, lacks, Presence, object_lacks, incomplete, item_fault, item_refusal, take_item, kept_mark, shown_by_last, passes, mark_limit, take_items, taken_change, refusal_of, take}
+use Rattle.adr_model.specs.Replica.{Book}
+use Rattle.adr_model.specs.Sound.{IsSoundBook, IsSoundState, IsSoundLast, IsSoundReply}
+use Rattle.adr_law_knowledge.proofs.Refusing.{unmet, where_it_is, none_is, first_is, tested_is, refused_by, mapped_is}
+use Rattle.adr_law_calls.specs.OnTheWay.{IsTakeable, IsOnTheWay, stale, lags, other_schema, put_back}
+use Rattle.adr_law_calls.proofs.Standings.{each_presence}
+use Rattle.adr_law_calls.proofs.Granted.{takeable}
+use Rattle.adr_law_calls.proofs.Items.{starts, on_the_way}
+use Rattle.adr_law_calls.proofs.ItemWhole.{item_is_sound, item_is_whole}
+
+module _ (harm : TakeRefusal → Bool) where
+  -- a refusal that is none of the harmful ones
+  abbrev pub IsCalm : TakeRefusal → Type 0
+  IsCalm x = harm x ≡ false
+
+  abbrev pub IsHarmless : Option TakeRefusal → Type 0
+  IsHarmless o = IfSome o IsCalm
+
+  twelve_are_harmless : (a b c d e f g h i j k l : Option TakeRefusal) → IsHarmless a → IsHarmless b → IsHarmless c → IsHarmless d → IsHarmless e → IsHarmless f
+      → (c ≡ None → d ≡ None → e ≡ None → IsHarmless g) → IsHarmless h → IsHarmless i → IsHarmless j → IsHarmless k → IsHarmless l
+      → IsHarmless (first_of (a ∷ b ∷ c ∷ d ∷ e ∷ f ∷ g ∷ h ∷ i ∷ j ∷ k ∷ l ∷ []))
+  twelve_are_harmless a b c d e f g h i j k l pa pb pc pd pe pf pg ph pi pj pk pl =
+      first_is IsCalm a _ pa (λ na. first_is IsCalm b _ pb (λ nb. first_is IsCalm c _ pc (λ nc. first_is IsCalm d _ pd (λ nd. first_is IsCalm e _ pe (λ ne.
+      first_is IsCalm f _ pf (λ nf. first_is IsCalm g _ (pg nc nd ne) (λ ng. first_is IsCalm h _ ph (λ nh. first_is IsCalm i _ pi (λ ni. first_is IsCalm j _ pj (λ nj.
+      first_is IsCalm k _ pk (λ nk. first_is IsCalm l [] pl (λ nl. tt))))))))))))
+
+-- a test that is met by refusals of items and by a rollback alone
+pub record IsOfItems (harm : TakeRefusal → Bool) : Type 0 where
+  pub quarantined : harm Quarantined ≡ false
+  pub not_mine : (dest : Identifier) → harm (NotMine dest) ≡ false
+  pub stale : (mark from : Mark) → harm (Stale mark from) ≡ false
+  pub behind : (inv : Identifier) (has needs : ℕ) → harm (VectorBehind inv has needs) ≡ false
+  pub schema : (mine theirs : ℕ) → harm (SchemaMismatch mine theirs) ≡ false
+  pub usn : harm UsnLimit ≡ false
+  pub full : (table : Table) (limit : ℕ) → harm (Full table limit) ≡ false
+
+module _ (harm : TakeRefusal → Bool) (sc : Book) (s : State) (r : Reply) (may : IsTakeable sc s r)
+    (item : (t : Taking) → IsOnTheWay sc s r t → (i : Item) → Member i r.items → IsHarmless harm (item_refusal (numbered s.store.schema) s.store.vector t.rows t.place i)) where
+  items_are_harmless : (is : List Item) (t : Taking) → IsOnTheWay sc s r t → Each (λ i. Member i r.items) is → IsHarmless harm t.refusal → IsHarmless harm (fold (take_item (numbered s.store.schema) s.store.vector) t is).refusal
+  items_are_harmless [] t way among h = h
+  items_are_harmless (i ∷ is) t way among h =
+      items_are_harmless is (take_item (numbered s.store.schema) s.store.vector t i) (on_the_way sc s r may t way i (among i (inl refl))) (λ j m. among j (inr m))
+      (first_is (IsCalm harm) t.refusal (item_refusal (numbered s.store.schema) s.store.vector t.rows t.place i ∷ []) h
+      (λ _. first_is (IsCalm harm) (item_refusal (numbered s.store.schema) s.store.vector t.rows t.place i) [] (item t way i (among i (inl refl))) (λ _. tt)))
+
+  all_are_harmless : IsHarmless harm (take_items s r.items).refusal
+  all_are_harmless = items_are_harmless r.items (begin s) (starts sc s r may) (λ i m. m) (none_is (IsCalm harm) None refl)
+
+module _ (harm : TakeRefusal → Bool) (of_items : IsOfItems harm) (sc : Book) (s : State) (r : Reply) (book : IsSoundBook sc) (state : IsSoundState sc s) (reply : IsSoundReply sc r)
+    (rolled : IsHarmless harm (put_back s r)) (items : IsTakeable sc s r → IsHarmless harm (take_items s r.items).refusal) where
+  full_is_harmless : (table : Table) (limit count : ℕ) → IsHarmless harm (passes table limit count)
+  full_is_harmless table limit count = tested_is (IsCalm harm) (nat_lt limit count) (Full table limit) (of_items.full table limit)
+
+  pub not_refused : (x : TakeRefusal) → take s r ≡ Err x → harm x ≡ false
+  not_refused x e = where_it_is (IsCalm harm) (refusal_of s r (take_items s r.items) (after s (taken_change r (take_items s r.items)))) x (judged (take_items s r.items) (after s (taken_change r (take_items s r.items))) items) (refused_by (refusal_of s r (take_items s r.items) (after s (taken_change r (take_items s r.items)))) (taken_change r (take_items s r.items)) x e)
+    where
+      judged : (t : Taking) (d : State) → (IsTakeable sc s r → IsHarmless harm t.refusal) → IsHarmless harm (refusal_of s r t d)
+      judged t d found = twelve_are_harmless harm
+          (then_some (is_quarantined s.mode) Quarantined) (then_some (not (same_identifier r.dest s.dsa)) (NotMine r.dest)) (stale s r) (lags s r) (other_schema s r) (put_back s r)
+          t.refusal (then_some (nat_lt usn_limit t.usn) UsnLimit) (passes Objects object_limit t.objects) (passes Links link_limit t.links)
+          (passes CursorTable cursor_limit (length d.store.vector)) (passes Marks mark_limit (length d.store.marks))
+          (tested_is (IsCalm harm) _ Quarantined of_items.quarantined) (tested_is (IsCalm harm) _ (NotMine r.dest) (of_items.not_mine r.dest)) (tested_is (IsCalm harm) _ (Stale (kept_mark s r) r.from) (of_items.stale (kept_mark s r) r.from)) (mapped_is (λ g. VectorBehind g.0 g.1 g.2) (IsCalm harm) (λ g. of_items.behind g.0 g.1 g.2) (first_gap r.asked s.store.vector)) (tested_is (IsCalm harm) _ (SchemaMismatch s.store.schema r.schema) (of_items.schema s.store.schema r.schema)) rolled
+          (λ nc nd ne. found (takeable sc s r book state reply nc nd ne)) (tested_is (IsCalm harm) _ UsnLimit of_items.usn)
+          (full_is_harmless Objects object_limit t.objects) (full_is_harmless Links link_limit t.links) (full_is_harmless CursorTable cursor_limit (length d.store.vector)) (full_is_harmless Marks mark_limit (length d.store.marks))
+
+-- ---- no item is broken, and no rollback is found
+
+abbrev is_broken : TakeRefusal → Bool
+is_broken (BadItem place cause) = true
+is_broken (RolledBack inv mine shown) = true
+is_broken _ = false
+
+abbrev is_incomplete : TakeRefusal → Bool
+is_incomplete (Incomplete o) = true
+is_incomplete _ = false
+
+breaks : IsOfItems is_broken
+breaks = record { quarantined = refl; not_mine = λ d. refl; stale = λ m f. refl; behind = λ i h n. refl; schema = λ m t. refl; usn = refl; full = λ t l. refl }
+
+lack : IsOfItems is_incomplete
+lack = record { quarantined = refl; not_mine = λ d. refl; stale = λ m f. refl; behind = λ i h n. refl; schema = λ m t. refl; usn = refl; full = λ t l. refl }
+
+incomplete_alone : (table : Schema) (vector : Cursors) (rows : List Held) (unit : Named) (xs : List Update) → IsHarmless is_broken (incomplete table vector rows (record { unit = unit; rows = xs }))
+incomplete_alone table vector rows (Object o) xs = each_presence vector rows o (λ (p : Presence). IsHarmless is_broken (then_some (object_lacks table xs p) (Incomplete o)))
+    (λ tombstone. none_is (IsCalm is_broken) None refl) (λ alive holds. none_is (IsCalm is_broken) None refl) (λ absent covers. none_is (IsCalm is_broken) None refl) (λ absent missed. tested_is (IsCalm is_broken) (lacks table xs) (Incomplete o) refl)
+incomplete_alone table vector rows (Link l) xs = none_is (IsCalm is_broken) None refl
+
+faultless : (fault : Option ItemFault) (place : ℕ) → fault ≡ None → (other : Option TakeRefusal) → first_of (option_map (BadItem place) fault ∷ other ∷ []) ≡ other
+faultless None place e None = refl
+faultless None place e (Some x) = refl
+faultless (Some x) place e other = absurd (cc)
+
+shown_within : (sc : Book) (s : State) (r : Reply) → IsSoundState sc s → (last : Option Cursors) → IfSome last (IsSoundLast sc r) → option_map_or (λ v. at v s.inv) last 0 ≤ s.store.usn
+shown_within sc s r state None h = omega arith
+shown_within sc s r state (Some w) h = omega (arith, h.bounded s.inv, state.last)
+
+module _ (sc : Book) (s : State) (r : Reply) (book : IsSoundBook sc) (state : IsSoundState sc s) (reply : IsSoundReply sc r) where
+  sound_item : (may : IsTakeable sc s r) (t : Taking) → IsOnTheWay sc s r t → (i : Item) → Member i r.items
+      → item_refusal (numbered s.store.schema) s.store.vector t.rows t.place i ≡ incomplete (numbered s.store.schema) s.store.vector t.rows i
+  sound_item may t way i m = faultless (item_fault (numbered s.store.schema) s.store.vector t.rows i) t.place (item_is_sound sc s r may t.rows way.rows i.unit i.rows (reply.exact i m)) (incomplete (numbered s.store.schema) s.store.vector t.rows i)
+
+  pub not_broken : (x : TakeRefusal) → take s r ≡ Err x → is_broken x ≡ false
+  not_broken = not_refused is_broken breaks sc s r book state reply
+      (none_is (IsCalm is_broken) (put_back s r) (unmet _ _ (le-ltb s.store.usn (shown_by_last s r) (shown_within sc s r state r.last reply.last))))
+      (λ may. all_are_harmless is_broken sc s r may (λ t way i m. subst (IsHarmless is_broken) (sym (sound_item may t way i m)) (incomplete_alone (numbered s.store.schema) s.store.vector t.rows i.unit i.rows)))
+
+  whole_item : (may : IsTakeable sc s r) (t : Taking) → IsOnTheWay sc s r t → (i : Item) → Member i r.items → item_refusal (numbered s.store.schema) s.store.vector t.rows t.place i ≡ None
+  whole_item may t way i m = let first = (reply.exact i m).some in sound_item may t way i m ∙ item_is_whole sc s r may t.rows way.rows i.unit i.rows (reply.exact i m) first.0 first.1
+
+  pub not_incomplete : (x : TakeRefusal) → take s r ≡ Err x → is_incomplete x ≡ false
+  not_incomplete = not_refused is_incomplete lack sc s r book state reply
+      (tested_is (IsCalm is_incomplete) (nat_lt s.store.usn (shown_by_last s r)) (RolledBack s.inv s.store.usn (shown_by_last s r)) refl)
+      (λ may. all_are_harmless is_incomplete sc s r may (λ t way i m. none_is (IsCalm is_incomplete) (item_refusal (numbered s.store.schema) s.store.vector t.rows t.place i) (whole_item may t way i m)))
+
+pub no_broken_item : (sc : Book) (s : State) (r : Reply) (place : ℕ) (cause : ItemFault) → IsSoundBook sc → IsSoundState sc s → IsSoundReply sc r → take s r ≢ Err (BadItem place cause)
+no_broken_item sc s r place cause book state reply e = true≢false (not_broken sc s r book state reply (BadItem place cause) e)
+
+pub no_rollback : (sc : Book) (s : State) (r : Reply) (inv : Identifier) (mine shown : ℕ) → IsSoundBook sc → IsSoundState sc s → IsSoundReply sc r → take s r ≢ Err (RolledBack inv mine shown)
+no_rollback sc s r inv mine shown book state reply e = true≢false (not_broken sc s r book state reply (RolledBack inv mine shown) e)
+
+pub no_incomplete_item : (sc : Book) (s : State) (r : Reply) (o : Oid) → IsSoundBook sc → IsSoundState sc s → IsSoundReply sc r → take s r ≢ Err (Incomplete o)
+no_incomplete_item sc s r o book state reply e = true≢false (not_incomplete sc s r book state reply (Incomplete o) e)
+
+-- no item of a reply that may be taken is refused
+pub items_are_whole : (sc : Book) (s : State) (r : Reply) → IsTakeable sc s r → (take_items s r.items).refusal ≡ None
+items_are_whole sc s r may = by (take_items s r.items).refusal refl
+  where
+    harmless : IsHarmless (λ x. true) (take_items s r.items).refusal
+    harmless = all_are_harmless (λ x. true) sc s r may
+        (λ t way i m. none_is (IsCalm (λ x. true)) (item_refusal (numbered s.store.schema) s.store.vector t.rows t.place i) (whole_item sc s r may.book may.state may.reply may t way i m))
+
+    by : (o : Option TakeRefusal) → (take_items s r.items).refusal ≡ o → o ≡ None
+    by None e = refl
+    by (Some x) e = absurd (true≢false (where_it_is (IsCalm (λ x. true)) (take_items s r.items).refusal x harmless e))

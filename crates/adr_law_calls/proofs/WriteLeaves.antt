@@ -1,0 +1,94 @@
+-- What a write leaves: nothing is lost, what is written is held, and the store is formed and closed.
+use Rattle.std.proofs.Common.{inl, ⊎_elim, ℕ, ◌+◌, List, [], ◌++◌, arith}
+use Rattle.adr_stamp.specs.declared.Unit.{Unit as Named}
+use Rattle.adr_schema.specs.Numbered.{numbered}
+use Rattle.adr_vector.specs.Vector.{IsVector, at, raised}
+use Rattle.adr_vector.proofs.Comparing.{everywhere_from_at_most}
+use Rattle.adr_model.specs.Member.{Member, Each}
+use Rattle.adr_model.specs.Update.{Update}
+use Rattle.adr_model.specs.Reflects.{Numbers, Covers, AtMost, Knowledge, knowledge_of, Reflects}
+use Rattle.adr_model.specs.Store.{Held, Store, State, updates_of}
+use Rattle.adr_model.specs.Change.{Item}
+use Rattle.adr_model.specs.Write.{Write}
+use Rattle.adr_model.specs.Formed.{IsClosed}
+use Rattle.adr_model.specs.Replica.{Book, ToWrite}
+use Rattle.adr_model.specs.Sound.{AreClassesKnown, IsSoundBook, IsSoundState}
+use Rattle.adr_model.proofs.Members.{member_left, member_right}
+use Rattle.adr_law_knowledge.proofs.Comparing.{supersedes_self}
+use Rattle.adr_law_knowledge.proofs.Knows.{grows_keeps, grows_trans, more_covered}
+use Rattle.adr_law_logs.proofs.Empty.{empty_is_formed}
+use Rattle.adr_law_logs.specs.Settling.{Leaves}
+use Rattle.adr_law_steps.specs.Puts.{held_at, ArePut}
+use Rattle.adr_law_steps.proofs.Rows.{updated}
+use Rattle.adr_law_steps.proofs.Putting.{puts_grow}
+use Rattle.adr_law_calls.specs.MayWrites.{MayWrite}
+use Rattle.adr_law_knowledge.proofs.Raised.{raised_up}
+use Rattle.adr_law_calls.proofs.PutForms.{whence_update}
+use Rattle.adr_law_calls.proofs.WriteForms.{classes_stay, stays_closed}
+use Rattle.adr_law_calls.proofs.WriteFormed.{stands, are_written, write_formed}
+use Rattle.adr_law_calls.proofs.Issues.{change_of}
+use Rattle.adr_law_knowledge.proofs.Lists.{alone_from}
+
+module _ (sc : Book) (s : State) (unit : Named) (us : List Update) (rows : List Held)
+    (book : IsSoundBook sc) (state : IsSoundState sc s) (may : MayWrite s unit us)
+    (are : ArePut (s.store.usn + 1) us s.store.rows rows) where
+  abbrev V : Numbers
+  V = at s.store.vector
+
+  abbrev P : Numbers
+  P = at s.store.purged
+
+  -- the store with the rows
+  abbrev left : Store
+  left = record {
+    schema = s.store.schema;
+    usn = s.store.usn + 1;
+    rows = rows;
+    vector = raised s.store.vector s.inv (s.store.usn + 1);
+    purged = s.store.purged;
+    marks = s.store.marks;
+  }
+
+  purged_within : AtMost P V
+  purged_within i = everywhere_from_at_most s.store.purged s.store.vector state.store.formed.purged_within i
+
+  keeps : (u : Update) → Reflects sc.issued (knowledge_of s.store) u → Reflects sc.issued (knowledge_of left) u
+  keeps = grows_keeps sc.issued (knowledge_of s.store) (knowledge_of left) (grows_trans sc.issued (knowledge_of s.store) put_alone (knowledge_of left)
+      (puts_grow sc.issued (s.store.usn + 1) s.store.rows rows V P unit us may.put are purged_within)
+      (more_covered sc.issued (updates_of rows) V (at left.vector) P P (raised_up s.store.vector s.inv (s.store.usn + 1)) (λ i. omega arith)))
+    where
+      put_alone : Knowledge
+      put_alone = record { rows = updates_of rows; vector = V; purged = P }
+
+  known : Each (λ u. Member u (sc.issued ++ (us ++ []))) (updates_of rows)
+  known u m = ⊎_elim (λ n. member_right sc.issued (us ++ []) u (member_left us [] u n)) (λ n. member_left sc.issued (us ++ []) u (state.store.known u n)) (whence_update (s.store.usn + 1) us s.store.rows rows are u m)
+
+  written : Each (λ u. Reflects sc.issued (knowledge_of left) u) (us ++ [])
+  written u m = inl (u, updated rows (held_at (s.store.usn + 1) u) (are.written u (alone_from us u m)), supersedes_self u)
+
+  closed : IsClosed left
+  closed l r m is o n = stays_closed s us rows are sc book state unit may r m l is o n
+
+  classes : AreClassesKnown (numbered s.store.schema) (updates_of rows)
+  classes = classes_stay s us rows are unit may state.store.classes
+
+  nothing_joined : IsVector []
+  nothing_joined = empty_is_formed.vector
+
+  nothing_carried : Each (λ u. Covers (at []) u → Reflects sc.issued (knowledge_of left) u) sc.issued
+  nothing_carried u m c = absurd (omega (arith, (book.once u m).0, c))
+
+module _ (sc : Book) (s : State) (item : Item) (book : IsSoundBook sc) (state : IsSoundState sc s) (may : MayWrite s item.unit item.rows) where
+  pub write_leaves : (w : Write) (now : ℕ) → Leaves sc s (record { call = ToWrite w now; change = change_of s item })
+  write_leaves w now = record {
+    keeps = keeps sc s item.unit item.rows (stands s item) book state may (are_written s item state.formed may);
+    known = known sc s item.unit item.rows (stands s item) book state may (are_written s item state.formed may);
+    issued = written sc s item.unit item.rows (stands s item) book state may (are_written s item state.formed may);
+    joined = nothing_joined sc s item.unit item.rows (stands s item) book state may (are_written s item state.formed may);
+    bounded = λ i. omega arith;
+    carried = nothing_carried sc s item.unit item.rows (stands s item) book state may (are_written s item state.formed may);
+    formed = (write_formed s item state.formed may).store;
+    closed = closed sc s item.unit item.rows (stands s item) book state may (are_written s item state.formed may);
+    classes = classes sc s item.unit item.rows (stands s item) book state may (are_written s item state.formed may);
+    mark = tt;
+  }

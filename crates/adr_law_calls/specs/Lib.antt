@@ -1,0 +1,4 @@
+pub mod KeepForms
+pub mod OnTheWay
+pub mod MayWrites
+pub mod Collectable

@@ -1,0 +1,107 @@
+-- A reply that may be taken, and what holds of the rows on the way through its items.
+use Rattle.std.specs.Prelude.{◌≡◌, ◌≤◌, ◌<◌, ◌==◌, List, [], length, not, nat_lt, Option, None}
+use Rattle.std.specs.Bool.{then_some}
+use Rattle.std.specs.Option.{option_map}
+use Rattle.adr_schema.specs.Numbered.{numbered}
+use Rattle.adr_vector.specs.Vector.{at, first_gap, cursor_limit}
+use Rattle.adr_event.specs.declared.refusal.TakeRefusal.{TakeRefusal}
+use Rattle.adr_event.specs.declared.refusal.TakeRefusal.TheVariants.{Stale, VectorBehind, SchemaMismatch, RolledBack}
+use Rattle.adr_model.specs.Member.{Member, Each}
+use Rattle.adr_model.specs.Reflects.{AtMost, Knowledge, knowledge_of}
+use Rattle.adr_model.specs.Store.{Held, Normal, State, updates_of}
+use Rattle.adr_model.specs.Change.{Change, held_of, rows_after, after}
+use Rattle.adr_model.specs.Formed.{AreRising, AreAlone, AreFormedRows}
+use Rattle.adr_model.specs.LocalLog.{rows_at}
+use Rattle.adr_model.specs.Replica.{Book, log_of}
+use Rattle.adr_model.specs.Serve.{Reply}
+use Rattle.adr_model.specs.Sound.{IsSoundBook, IsSoundState, IsSoundReply, IsSoundMark, IsSent}
+use Rattle.adr_model.specs.Take.{Taking, take_items, taken_change, same_mark, kept_mark, shown_by_last, mark_limit}
+use Rattle.adr_model.specs.Write.{object_limit, link_limit, usn_limit}
+use Rattle.adr_law_knowledge.specs.Grows.{Grows}
+use Rattle.adr_law_steps.specs.Puts.{AreClosed}
+
+-- the mark at which the reply begins tells the truth, what it was asked with is covered, and both keep to one schema
+pub record IsTakeable (sc : Book) (s : State) (r : Reply) : Type 0 where
+  pub book : IsSoundBook sc
+  pub state : IsSoundState sc s
+  pub reply : IsSoundReply sc r
+  pub mark : IsSoundMark sc (knowledge_of s.store) r.inv r.from
+  pub asked : AtMost (at r.asked) (at s.store.vector)
+  pub schema : r.schema ≡ s.store.schema
+
+-- what is known on the way: other rows, under the vectors of the start
+abbrev pub known_with : State → List Held → Knowledge
+known_with s rows = record { rows = updates_of rows; vector = at s.store.vector; purged = at s.store.purged }
+
+-- the rows that the source had
+abbrev pub source_rows : Book → Reply → List Held
+source_rows sc r = rows_at (log_of sc r.inv) r.to.seen
+
+-- rows on the way are in order, formed, closed and stem from the start or the reply, and nothing was lost
+pub record AreOnTheWay (sc : Book) (s : State) (rows : List Held) : Type 0 where
+  pub rising : AreRising rows
+  pub known : Each (λ u. Member u sc.issued) (updates_of rows)
+  pub grows : Grows sc.issued (knowledge_of s.store) (known_with s rows)
+  pub formed : AreFormedRows (numbered s.store.schema) (updates_of rows)
+  pub closed : AreClosed (at s.store.vector) (updates_of rows)
+
+-- whatever the reply is: so far the rows are those after the writes, in order and formed, and follow the USN of the start
+pub record StaysFormed (s : State) (t : Taking) : Type 0 where
+  pub rising : AreRising t.rows
+  pub formed : AreFormedRows (numbered s.store.schema) (updates_of t.rows)
+  pub alone : AreAlone t.rows
+  pub locals : Each (λ h. (1 ≤ h.local) × (h.local ≤ t.usn)) t.rows
+  pub made : rows_after [] (held_of t.writes) s.store.rows ≡ t.rows
+  pub rises : s.store.usn ≤ t.usn
+
+-- and of a sound reply: what is written is of the reply and follows the USN of the start
+pub record IsOnTheWay (sc : Book) (s : State) (r : Reply) (t : Taking) : Type 0 where
+  pub steady : StaysFormed s t
+  pub rows : AreOnTheWay sc s t.rows
+  pub sent : Each (λ h. IsSent r h.update) (held_of t.writes)
+  pub above : Each (λ h. s.store.usn < h.local) (held_of t.writes)
+  pub within : Each (λ h. h.local ≤ t.usn) (held_of t.writes)
+  pub idle : t.usn ≤ s.store.usn → t.writes ≡ []
+
+-- four of the refusals of a reply
+abbrev pub stale : State → Reply → Option TakeRefusal
+stale s r = then_some (not (same_mark r.from (kept_mark s r))) (Stale (kept_mark s r) r.from)
+
+abbrev pub lags : State → Reply → Option TakeRefusal
+lags s r = option_map (λ gap. VectorBehind gap.0 gap.1 gap.2) (first_gap r.asked s.store.vector)
+
+abbrev pub other_schema : State → Reply → Option TakeRefusal
+other_schema s r = then_some (not (r.schema == s.store.schema)) (SchemaMismatch s.store.schema r.schema)
+
+abbrev pub put_back : State → Reply → Option TakeRefusal
+put_back s r = then_some (nat_lt s.store.usn (shown_by_last s r)) (RolledBack s.inv s.store.usn (shown_by_last s r))
+
+-- a reply passes all tests, with what is known after its items and of the state behind it
+pub record Passes (s : State) (r : Reply) (t : Taking) (behind : State) : Type 0 where
+  pub normal : s.mode ≡ Normal
+  pub fresh : stale s r ≡ None
+  pub asked : lags s r ≡ None
+  pub schema : other_schema s r ≡ None
+  pub shown : shown_by_last s r ≤ s.store.usn
+  pub items : t.refusal ≡ None
+  pub usn : t.usn ≤ usn_limit
+  pub objects : t.objects ≤ object_limit
+  pub links : t.links ≤ link_limit
+  pub cursors : length behind.store.vector ≤ cursor_limit
+  pub marks : length behind.store.marks ≤ mark_limit
+
+-- what the items of a reply come to, the change that they make, and the state behind it
+abbrev pub taken_items : State → Reply → Taking
+taken_items s r = take_items s r.items
+
+abbrev pub change_taken : State → Reply → Change
+change_taken s r = taken_change r (taken_items s r)
+
+abbrev pub state_behind : State → Reply → State
+state_behind s r = after s (change_taken s r)
+
+-- the reply may be taken, its change is the one of its items, and it passes all tests
+pub record IsTaken (sc : Book) (s : State) (r : Reply) (c : Change) : Type 0 where
+  pub may : IsTakeable sc s r
+  pub is : change_taken s r ≡ c
+  pub passes : Passes s r (taken_items s r) (state_behind s r)

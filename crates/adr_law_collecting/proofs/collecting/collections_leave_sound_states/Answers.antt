@@ -1,5 +1,0 @@
-use Rattle.adr_law_collecting.proofs.Leaving.{collection_leaves}
-use Rattle.adr_law_collecting.proofs.collecting.collections_leave_sound_states.Goals as goal
-
-pub returns : goal.returns
-returns c = collection_leaves

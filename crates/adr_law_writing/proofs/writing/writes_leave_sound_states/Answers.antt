@@ -1,5 +1,0 @@
-use Rattle.adr_law_writing.proofs.Sound.{write_leaves_sound}
-use Rattle.adr_law_writing.proofs.writing.writes_leave_sound_states.Goals as goal
-
-pub returns : goal.returns
-returns c = write_leaves_sound
