@@ -1,21 +1,14 @@
--- What is told of a store to a line that asks for it.
+-- What is told of a store to a client that asks for a report.
 use Rattle.adr_event.specs.declared.answer.Outcome.{Outcome}
 use Rattle.adr_event.specs.declared.answer.Outcome.TheVariants as outcomes
-use Rattle.adr_event.specs.declared.event.Event.{Event}
-use Rattle.adr_event.specs.declared.event.Event.TheVariants as events
 use Rattle.adr_model.specs.Directory.{directory}
 use Rattle.adr_model.specs.Store.{Store, updates_of}
 use Rattle.adr_model.specs.World.{marks_shown}
-
--- a line that asks a controller for what it has
-abbrev pub IsReport : Event → Type 0
-IsReport (events.Show name) = Unit {0}
-IsReport (events.Vector name) = Unit {0}
-IsReport (events.Marks name) = Unit {0}
-IsReport e = ⊥
+use Rattle.adr_view.specs.declared.reports.Report.{Report}
+use Rattle.adr_view.specs.declared.reports.Report.TheVariants.{Directory, Vector, Marks}
 
 -- the directory of its rows, what it has seen, or how far it has read its partners
-abbrev pub report_of : Event → Store → Outcome
-report_of (events.Show name) s = outcomes.Show (directory (updates_of s.rows))
-report_of (events.Vector name) s = outcomes.Vector s.vector
-report_of e s = outcomes.Marks (marks_shown s)
+abbrev pub report_of : Report → Store → Outcome
+report_of Directory s = outcomes.Show (directory (updates_of s.rows))
+report_of Vector s = outcomes.Vector s.vector
+report_of Marks s = outcomes.Marks (marks_shown s)

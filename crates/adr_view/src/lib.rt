@@ -1,8 +1,9 @@
 //! What a controller shows of its rows: the live objects under their shown names, each with its
-//! values and its links. And what it tells to a line that asks for what it has.
+//! values and its links. And what it tells a client that asks for a report: that directory, what the
+//! controller has seen, or how far it has read its partners.
 //!
 //! It stands on the rows of `adr_state` and on the entries of `adr_event`, and meets the definitions
-//! in `adr_model`. It knows nothing of how rows come to be, or of other controllers.
+//! in `adr_model`. It knows nothing of how rows come to be, of other controllers, or of lines.
 #![tactic(auto)]
 
 mod entries;
@@ -19,4 +20,4 @@ pub use adr_state::Rows;
 pub use adr_vector::NoMemory;
 pub use entries::directory;
 pub use laws::formed_rows_have_back_links;
-pub use reports::report;
+pub use reports::Report;

@@ -5,11 +5,11 @@ ghost use Rattle.adr_model.specs.Store.{Kept as IsKept, updates_of};
 ghost use Rattle.adr_model.specs.Update.{Identifier};
 ghost use Rattle.adr_view.specs.BackLinks.{have_back_links};
 ghost use Rattle.adr_view.specs.Named.{AreNamed};
-ghost use Rattle.adr_view.specs.Report.{IsReport, report_of};
+ghost use Rattle.adr_view.specs.Report.{report_of};
 
 use crate::NoMemory;
 use crate::entries::directory;
-use adr_event::{Event, Outcome, PartnerMarks};
+use adr_event::{Outcome, PartnerMarks};
 use adr_state::{Marks, State};
 use std::alloc::Global;
 
@@ -24,17 +24,28 @@ fn partner_marks(alloc: Global, marks: &Marks) -> Result<PartnerMarks, NoMemory>
     Ok(PartnerMarks::of(list))
 }
 
-/// What a client is answered that asks for the directory, for what was seen, or how far partners were read.
-pub fn report(alloc: Global, state: &State, event: &Event) -> Result<Outcome, NoMemory>
-    requires asked { IsReport event.now }
-    requires links { IsTrue (have_back_links (updates_of state.now.store.rows)) }
-    requires named { AreNamed (updates_of state.now.store.rows) }
-    ensures { IfOk result (λ outcome. outcome ≡ report_of event.now state.now.store) }
-{
-    match event {
-        Event::Show { .. } => Ok(Outcome::Show(directory(alloc, state.rows())?)),
-        Event::Vector { .. } => Ok(Outcome::Vector(state.vector().copy(alloc)?)),
-        Event::Marks { .. } => Ok(Outcome::Marks(partner_marks(alloc, state.marks())?)),
-        _ => unreachable!(),
+/// What a client asks a controller for.
+#[derive(Clone, Copy)]
+pub enum Report {
+    /// The directory of live objects.
+    Directory,
+    /// What the controller has seen of each incarnation.
+    Vector,
+    /// How far it has read its partners.
+    Marks,
+}
+
+impl Report {
+    /// What a client is answered that asks for it.
+    pub fn of(self, alloc: Global, state: &State) -> Result<Outcome, NoMemory>
+        requires links { IsTrue (have_back_links (updates_of state.now.store.rows)) }
+        requires named { AreNamed (updates_of state.now.store.rows) }
+        ensures { IfOk result (λ outcome. outcome ≡ report_of self state.now.store) }
+    {
+        match self {
+            Report::Directory => Ok(Outcome::Show(directory(alloc, state.rows())?)),
+            Report::Vector => Ok(Outcome::Vector(state.vector().copy(alloc)?)),
+            Report::Marks => Ok(Outcome::Marks(partner_marks(alloc, state.marks())?)),
+        }
     }
 }

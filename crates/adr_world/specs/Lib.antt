@@ -2,5 +2,6 @@ pub mod Run
 pub mod Adopted
 pub mod Pulls
 pub mod Short
+pub mod Asking
 pub mod Door
 pub mod Played

@@ -20,6 +20,7 @@ use adr_event::{Answer, Event, Outcome};
 use adr_io::{Fault, Sink};
 use adr_report::{Heading, name_of, tell};
 use adr_schema::NoMemory;
+use adr_view::Report;
 use std::alloc::Global;
 
 impl Run {
@@ -143,9 +144,9 @@ impl Run {
             Event::Fail { name, calls } => Ok(self.fail_after(name, *calls)),
             Event::Stop { name } => Ok(self.stop(name)),
             Event::Start { name } => self.start(name),
-            Event::Show { name } | Event::Vector { name } | Event::Marks { name } => {
-                self.reported(alloc, name, event)
-            }
+            Event::Show { name } => self.reported(alloc, name, Report::Directory),
+            Event::Vector { name } => self.reported(alloc, name, Report::Vector),
+            Event::Marks { name } => self.reported(alloc, name, Report::Marks),
             Event::Time { .. } | Event::Pull { .. } | Event::Cycle { .. } => unreachable!(),
         }
     }

@@ -98,7 +98,19 @@ returns-in-Start-clause-stepped c =
     (call_so (codes "start") c.in-Start.name (of_made (stays w) (replica_at w c.in-Start.name) (λ r. starts w r r.standing)) (world_of c.start.new.self) c.start.result c.start.ensures.done)
 
 pub returns-in-Show-clause-stepped : goal.returns-in-Show-clause-stepped
-returns-in-Show-clause-stepped c = c.reported.ensures
+returns-in-Show-clause-stepped c =
+    let w = world_of c.args.self.now in
+    line_so w w c.args.event.now _ c.reported.result c.in-Show.is c.reported.ensures
+
+pub returns-in-Vector-clause-stepped : goal.returns-in-Vector-clause-stepped
+returns-in-Vector-clause-stepped c =
+    let w = world_of c.args.self.now in
+    line_so w w c.args.event.now _ c.reported-in-Vector.result c.in-Vector.is c.reported-in-Vector.ensures
+
+pub returns-in-Marks-clause-stepped : goal.returns-in-Marks-clause-stepped
+returns-in-Marks-clause-stepped c =
+    let w = world_of c.args.self.now in
+    line_so w w c.args.event.now _ c.reported-in-Marks.result c.in-Marks.is c.reported-in-Marks.ensures
 
 pub returns-in-Serve-clause-err : goal.returns-in-Serve-clause-err
 returns-in-Serve-clause-err c =
