@@ -1,23 +1,21 @@
 -- A whole image is spelled in one way.
 use Rattle.std.proofs.Common.{◌≡◌, ℕ, ◌+◌, ◌≤◌, Bool, true, false, cond, leb, eqb, List, [], ◌++◌, length, Result, Ok, Err, refl, sym, ap, ◌∙◌, append_assoc, append-nil, arith}
 use Rattle.std.specs.Prelude.{is_some}
-use Rattle.std.specs.Str.{bytes_eq}
 use Rattle.std.proofs.lemmas.Bool.{eqb-true}
 use Rattle.std.proofs.lemmas.List.{nil_from_length}
-use Rattle.std.proofs.lemmas.Slice.Eq.{bytes_eq-Decides}
 use Rattle.adr_schema.specs.Table.{Table}
 use Rattle.adr_schema.specs.Schemas.{schema_table}
 use Rattle.adr_schema.specs.Numbered.{numbered}
 use Rattle.adr_vector.specs.Vector.{Cursors, at_most}
-use Rattle.adr_wire.specs.Reading.{Rest, Read, Reading, where_at, then_at, bytes_at}
-use Rattle.adr_wire.specs.Fields.{u16_at, u32_at, usn0_at, u16, u32, u64}
+use Rattle.adr_wire.specs.Reading.{Rest, Read, Reading, where_at, then_at}
+use Rattle.adr_wire.specs.Fields.{u16_at, u32_at, usn0_at, magic_at, u16, u32, u64}
 use Rattle.adr_wire.specs.Composites.{vector_at, vector}
 use Rattle.adr_wire.specs.declared.refusal.DecodeRefusal.{DecodeRefusal}
 use Rattle.adr_wire.specs.declared.refusal.DecodeRefusal.TheVariants.{Malformed, WrongVersion}
 use Rattle.adr_wire.specs.Spelling.{AreBytes, IsSpelling}
 use Rattle.adr_wire.specs.Ranges.{IsU16, IsU32, IsUsn0, IsCursors}
-use Rattle.adr_wire.proofs.Combining.{from, rest_bytes, made, passed, both, pair, counted, bytes_spelled, HasLength, as_they_are}
-use Rattle.adr_wire.proofs.FieldLaws.{u16_spelled, u32_spelled, usn0_spelled}
+use Rattle.adr_wire.proofs.Combining.{from, rest_bytes, made, passed, both, pair, counted, as_they_are}
+use Rattle.adr_wire.proofs.FieldLaws.{u16_spelled, u32_spelled, usn0_spelled, magic_spelled}
 use Rattle.adr_wire.proofs.VectorLaws.{vector_spelled}
 use Rattle.adr_model.specs.Take.{mark_limit}
 use Rattle.adr_model.specs.Write.{object_limit, link_limit, usn_limit}
@@ -152,20 +150,14 @@ parts_spelled =
 abbrev head : ℕ → List ℕ
 head v = magic ++ u16 v
 
-abbrev pub IsMagic : List ℕ → Type 0
-IsMagic m = HasLength 4 m × (bytes_eq magic m ≡ true)
-
-pub magic_is : (m : List ℕ) → bytes_eq magic m ≡ true → magic ≡ m
-magic_is m e = (bytes_eq-Decides magic m).0 e
-
 version_spelled : IsSpelling IsU16 head version_at
 unfolding version_at
 version_spelled =
-    made (λ (p : List ℕ × ℕ). IsMagic p.0 × IsU16 p.1) (λ p. p.0 ++ u16 p.1) (then_at (where_at (bytes_eq magic) (bytes_at 4)) (λ _. u16_at))
-    (pair IsMagic as_they_are (where_at (bytes_eq magic) (bytes_at 4)) (passed (HasLength 4) as_they_are (bytes_at 4) (bytes_spelled 4) (bytes_eq magic)) IsU16 u16 u16_at u16_spelled)
+    made (λ (p : List ℕ × ℕ). (p.0 ≡ magic) × IsU16 p.1) (λ p. p.0 ++ u16 p.1) (then_at (magic_at magic) (λ _. u16_at))
+    (pair (λ m. m ≡ magic) as_they_are (magic_at magic) (magic_spelled magic refl) IsU16 u16 u16_at u16_spelled)
     (λ p. p.1) IsU16 head
-    (λ v q. ((magic, v), refl, ((refl, refl), q), refl))
-    (λ p q fits. (q.1, ap (λ (m : List ℕ). m ++ u16 p.1) (magic_is p.0 q.0.1)))
+    (λ v q. ((magic, v), refl, (refl, q), refl))
+    (λ p q fits. (q.1, ap (λ (m : List ℕ). m ++ u16 p.1) (sym q.0)))
 
 abbrev said : {X : Type 0} → X → Result X DecodeRefusal
 said x = Ok x

@@ -1,6 +1,5 @@
 -- A store as the parts of an image, and the image of a store.
-use Rattle.std.specs.Prelude.{if◌then◌else◌, ◌==◌, ◌≡◌, ℕ, List, [], ◌∷◌, ◌++◌, map, true, false, is_some, Result, Ok, Err, ⊤}
-use Rattle.std.specs.Str.{bytes_eq}
+use Rattle.std.specs.Prelude.{if◌then◌else◌, ◌≡◌, ℕ, List, [], ◌∷◌, ◌++◌, map, true, false, is_some, Result, Ok, Err, ⊤}
 use Rattle.std.specs.List.{flat_map, AllByRecursion}
 use Rattle.std.specs.List.Sorted.{IsStrictlySortedBy}
 use Rattle.adr_stamp.specs.Order.{identifier_order}
@@ -11,8 +10,8 @@ use Rattle.adr_schema.specs.Table.{class_at}
 use Rattle.adr_schema.specs.Schemas.{schema_table}
 use Rattle.adr_schema.specs.Numbered.{numbered}
 use Rattle.adr_wire.specs.declared.refusal.DecodeRefusal.{DecodeRefusal}
-use Rattle.adr_wire.specs.Fields.{u16_at}
-use Rattle.adr_wire.specs.Reading.{Reading, as_at, bytes_at, then_at, where_at}
+use Rattle.adr_wire.specs.Fields.{format_version_at, magic_at}
+use Rattle.adr_wire.specs.Reading.{Reading, as_at, then_at}
 use Rattle.adr_wire.specs.Ranges.{IsU16, IsU64, IsId, IsUsn0, IsMark, IsOid, IsStamp, IsContent, IsCursor}
 use Rattle.adr_model.specs.Member.{Each}
 use Rattle.adr_model.specs.Update.{Key, RowOf, LinkOf, Said, Holds, IsPresent, same_object}
@@ -83,8 +82,7 @@ decoded bytes = stored (read_parts bytes)
 -- an image of version 1 that stands in other bytes
 unfoldable pub image_at : Reading Store
 image_at =
-    as_at (λ p. store_of p.1.1)
-    (then_at (where_at (bytes_eq magic) (bytes_at 4)) (λ _. then_at (where_at (λ version. version == 1) u16_at) (λ _. parts_at)))
+    as_at (λ p. store_of p.1.1) (then_at (magic_at magic) (λ _. then_at (format_version_at 1) (λ _. parts_at)))
 
 -- ---- which stores have a spelling
 

@@ -1,7 +1,6 @@
 -- A whole image: its parts as bytes, and the store that they are.
 use Rattle.std.specs.Prelude.{if◌then◌else◌, ℕ, List, [], ◌∷◌, ◌++◌, length, map, ◌==◌, nat_le, filter, fold, None, is_some, Result, Ok, Err}
 use Rattle.std.specs.List.{flat_map}
-use Rattle.std.specs.Str.{bytes_eq}
 use Rattle.adr_stamp.specs.declared.Oid.{Oid}
 use Rattle.adr_schema.specs.Table.{Table}
 use Rattle.adr_schema.specs.Schemas.{schema_table}
@@ -9,8 +8,8 @@ use Rattle.adr_schema.specs.Numbered.{numbered}
 use Rattle.adr_vector.specs.Vector.{Cursors, at_most}
 use Rattle.adr_wire.specs.declared.refusal.DecodeRefusal.{DecodeRefusal}
 use Rattle.adr_wire.specs.declared.refusal.DecodeRefusal.TheVariants.{Malformed, WrongVersion}
-use Rattle.adr_wire.specs.Reading.{Read, Reading, bytes_at, as_at, where_at, then_at}
-use Rattle.adr_wire.specs.Fields.{u16_at, u32_at, usn0_at, u16, u32, u64}
+use Rattle.adr_wire.specs.Reading.{Read, Reading, as_at, where_at, then_at}
+use Rattle.adr_wire.specs.Fields.{u16_at, u32_at, usn0_at, magic_at, u16, u32, u64}
 use Rattle.adr_wire.specs.Composites.{vector_at, vector}
 use Rattle.adr_model.specs.Write.{object_limit, link_limit}
 use Rattle.adr_model.specs.Take.{mark_limit}
@@ -83,7 +82,7 @@ abbrev pub magic : List ℕ
 magic = 65 ∷ 68 ∷ 73 ∷ 77 ∷ []
 
 unfoldable pub version_at : Reading ℕ
-version_at = as_at (λ p. p.1) (then_at (where_at (bytes_eq magic) (bytes_at 4)) (λ _. u16_at))
+version_at = as_at (λ p. p.1) (then_at (magic_at magic) (λ _. u16_at))
 
 -- all bytes are read
 abbrev pub ended : {X : Type 0} → Read X → Result X DecodeRefusal

@@ -8,7 +8,6 @@ ghost use Rattle.adr_image.specs.Whole.{parts_at, version_at};
 
 use crate::contents::{Contents, read_contents};
 use crate::dormant::Dormant;
-use crate::heads::{read_magic, read_own_version};
 use adr_wire::{DecodeRefusal, Failure, Malformed, Reader, WireRefusal};
 use std::alloc::Global;
 
@@ -23,7 +22,7 @@ pub const VERSION: u16 = 1;
 fn read_version(reader: &mut Reader<'_>) -> Result<u16, WireRefusal>
     ensures { Tells result reader.new (version_at reader.old) }
 {
-    read_magic(reader, &MAGIC)?;
+    reader.read_magic(&MAGIC)?;
     reader.read_u16()
 }
 
@@ -41,8 +40,8 @@ fn read_to_end(reader: &mut Reader<'_>, alloc: Global) -> Result<Contents, WireR
 pub fn read_image(reader: &mut Reader<'_>, alloc: Global) -> Result<Contents, WireRefusal>
     ensures { Gives result reader.new (image_at reader.old) }
 {
-    read_magic(reader, &MAGIC)?;
-    read_own_version(reader, VERSION)?;
+    reader.read_magic(&MAGIC)?;
+    reader.read_format_version(VERSION)?;
     let contents = read_contents(reader, alloc)?;
     Ok(contents)
 }

@@ -13,7 +13,6 @@ mod decoding;
 mod dormant;
 mod encoding;
 mod gathered;
-mod heads;
 mod known;
 mod laws;
 mod links;
@@ -29,7 +28,6 @@ pub use contents::Contents;
 pub use decoding::{decode, read_image};
 pub use dormant::Dormant;
 pub use encoding::{encode, write_image};
-pub use heads::{read_magic, read_own_version};
 pub use laws::{
     bodies_have_one_spelling, changes_have_one_spelling, images_are_as_long_as_counted,
     images_have_one_spelling, parts_have_one_spelling, stores_stay_spelled, worked_images,

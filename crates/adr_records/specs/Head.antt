@@ -1,9 +1,8 @@
 -- The head of a log: whose it is, and the image of its state.
 use Rattle.std.specs.Prelude.{if◌then◌else◌, ◌==◌, ℕ, ◌+◌, List, [], ◌∷◌, ◌++◌, length, take, drop, nat_lt, Ok, Err}
-use Rattle.std.specs.Str.{bytes_eq}
 use Rattle.adr_vector.specs.Vector.{at}
-use Rattle.adr_wire.specs.Reading.{Reading, ◌>>=◌, as_at, bytes_at, then_at, where_at}
-use Rattle.adr_wire.specs.Fields.{u16_at, u32_at, id_at, u16, u32, id}
+use Rattle.adr_wire.specs.Reading.{Reading, ◌>>=◌, as_at, then_at, where_at}
+use Rattle.adr_wire.specs.Fields.{format_version_at, id_at, magic_at, u32_at, u16, u32, id}
 use Rattle.adr_model.specs.Update.{Identifier}
 use Rattle.adr_model.specs.Store.{Normal, State, Store}
 use Rattle.adr_image.specs.Stored.{image, image_at}
@@ -21,8 +20,8 @@ owner_of p = record { dsa = p.0; inv = p.1.0; len = p.1.1 }
 unfoldable pub owner_at : Reading Owner
 owner_at =
     as_at (λ p. owner_of p.1.1)
-    (then_at (where_at (bytes_eq magic) (bytes_at 4)) (λ _.
-    then_at (where_at (λ version. version == 1) u16_at) (λ _.
+    (then_at (magic_at magic) (λ _.
+    then_at (format_version_at 1) (λ _.
     then_at id_at (λ _. then_at id_at (λ _. u32_at)))))
 
 abbrev pub owner : Owner → List ℕ

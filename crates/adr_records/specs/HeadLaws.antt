@@ -1,15 +1,14 @@
 -- The head of a log is spelled in one way, and is as long as is counted.
 use Rattle.std.proofs.Common.{◌≡◌, ℕ, ◌+◌, ◌<◌, Bool, true, false, cond, eqb, ltb, List, [], ◌++◌, length, take, drop, Ok, Err, refl, sym, ap, subst, ◌∙◌, arith, append-nil}
-use Rattle.std.specs.Str.{bytes_eq}
 use Rattle.std.proofs.lemmas.Bool.{eq-eqb, eqb-true, le-ltb, ltb-false}
 use Rattle.std.proofs.lemmas.List.{take_at, drop_at, take-append-drop, length-append, length-take, nil_from_length}
 use Rattle.adr_vector.specs.Vector.{at}
-use Rattle.adr_wire.specs.Fields.{u16_at, u32_at, id_at, u16, u32, id}
-use Rattle.adr_wire.specs.Ranges.{IsId, IsU16, IsU32}
-use Rattle.adr_wire.specs.Reading.{Rest, Read, Reading, ◌>>=◌, bytes_at, then_at, where_at}
+use Rattle.adr_wire.specs.Fields.{format_version_at, id_at, magic_at, u32_at, u16, u32, id}
+use Rattle.adr_wire.specs.Ranges.{IsId, IsU32}
+use Rattle.adr_wire.specs.Reading.{Rest, Read, Reading, ◌>>=◌, then_at}
 use Rattle.adr_wire.specs.Spelling.{AreBytes, behind, Was, IsSpelling}
-use Rattle.adr_wire.proofs.Combining.{HasLength, as_they_are, bind_ok, both, bytes_spelled, from, guard_ok, made, pair, passed, spelled_bytes}
-use Rattle.adr_wire.proofs.FieldLaws.{id_spelled, u16_spelled, u32_spelled}
+use Rattle.adr_wire.proofs.Combining.{as_they_are, bind_ok, both, from, guard_ok, made, pair, passed, spelled_bytes}
+use Rattle.adr_wire.proofs.FieldLaws.{format_version_spelled, id_spelled, magic_spelled, u32_spelled}
 use Rattle.adr_model.specs.Formed.{IsFormedStore}
 use Rattle.adr_model.specs.Lengths.{new_log_end}
 use Rattle.adr_model.specs.Store.{Held, Mode, State, Store}
@@ -22,7 +21,6 @@ use Rattle.adr_image.proofs.Placed.{image_spelled}
 use Rattle.adr_records.specs.Head.{framed_at, head, head_at, magic, own_image_at, owner, owner_at, owner_in, owner_of, state_of, within_at}
 use Rattle.adr_records.specs.Logged.{MayBegin}
 use Rattle.adr_records.specs.declared.head.Owner.{Owner}
-use Rattle.std.proofs.lemmas.Slice.Eq.{bytes_eq-Decides}
 
 -- ---- what stands in so many bytes
 
@@ -81,21 +79,6 @@ module _ {A : Type 0} (P : A → Type 0) (s : A → List ℕ) (a : Reading A) (l
 
 -- ---- whose log it is
 
-abbrev is_one : ℕ → Bool
-is_one version = eqb version 1
-
-abbrev magic_at : Reading (List ℕ)
-magic_at = where_at (bytes_eq magic) (bytes_at 4)
-
-abbrev one_at : Reading ℕ
-one_at = where_at is_one u16_at
-
-abbrev IsMagic : List ℕ → Type 0
-IsMagic m = HasLength 4 m × (bytes_eq magic m ≡ true)
-
-abbrev IsOne : ℕ → Type 0
-IsOne v = IsU16 v × (is_one v ≡ true)
-
 abbrev Ids : Type 0
 Ids = Identifier × (Identifier × ℕ)
 
@@ -115,19 +98,18 @@ abbrev Whole : Type 0
 Whole = List ℕ × (ℕ × Ids)
 
 abbrev IsWhole : Whole → Type 0
-IsWhole p = IsMagic p.0 × (IsOne p.1.0 × AreIds p.1.1)
+IsWhole p = (p.0 ≡ magic) × ((p.1.0 ≡ 1) × AreIds p.1.1)
 
 abbrev whole : Whole → List ℕ
 whole p = p.0 ++ (u16 p.1.0 ++ ids p.1.1)
 
 abbrev whole_at : Reading Whole
-whole_at = then_at magic_at (λ _. then_at one_at (λ _. ids_at))
+whole_at = then_at (magic_at magic) (λ _. then_at (format_version_at 1) (λ _. ids_at))
 
 whole_spelled : IsSpelling IsWhole whole whole_at
 whole_spelled =
-    pair IsMagic as_they_are magic_at (passed (HasLength 4) as_they_are (bytes_at 4) (bytes_spelled 4) (bytes_eq magic))
-    (λ p. IsOne p.0 × AreIds p.1) (λ p. u16 p.0 ++ ids p.1) (then_at one_at (λ _. ids_at))
-    (pair IsOne u16 one_at (passed IsU16 u16 u16_at u16_spelled is_one) AreIds ids ids_at ids_spelled)
+    pair (λ m. m ≡ magic) as_they_are (magic_at magic) (magic_spelled magic refl) (λ p. (p.0 ≡ 1) × AreIds p.1) (λ p. u16 p.0 ++ ids p.1) (then_at (format_version_at 1) (λ _. ids_at))
+    (pair (λ v. v ≡ 1) u16 (format_version_at 1) (format_version_spelled 1 (omega arith)) AreIds ids ids_at ids_spelled)
 
 abbrev pub IsOwner : Owner → Type 0
 IsOwner o = IsId o.dsa × (IsId o.inv × IsU32 o.len)
@@ -136,10 +118,10 @@ pub owner_spelled : IsSpelling IsOwner owner owner_at
 unfolding owner_at
 owner_spelled =
     made IsWhole whole whole_at whole_spelled (λ p. owner_of p.1.1) IsOwner owner
-    (λ o q. ((magic, (1, (o.dsa, (o.inv, o.len)))), refl, ((refl, refl), ((omega arith, refl), q)), refl))
+    (λ o q. ((magic, (1, (o.dsa, (o.inv, o.len)))), refl, (refl, (refl, q)), refl))
     (λ p q fits. (
       q.1.1,
-      ap (λ (m : List ℕ). m ++ (u16 1 ++ ids p.1.1)) ((bytes_eq-Decides magic p.0).0 q.0.1) ∙ ap (λ (v : ℕ). p.0 ++ (u16 v ++ ids p.1.1)) (sym (eqb-true p.1.0 1 q.1.0.1)),
+      ap (λ (m : List ℕ). m ++ (u16 1 ++ ids p.1.1)) (sym q.0) ∙ ap (λ (v : ℕ). p.0 ++ (u16 v ++ ids p.1.1)) (sym q.1.0),
     ))
 
 pub owner_long : (o : Owner) → IsOwner o → length (owner o) ≡ 42

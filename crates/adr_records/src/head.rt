@@ -11,7 +11,7 @@ use crate::contents::image_of;
 use crate::waking::wake;
 use adr_failure::{Failure, NoMemory};
 use adr_guid::Guid;
-use adr_image::{Contents, read_image, read_magic, read_own_version};
+use adr_image::{Contents, read_image};
 use adr_state::State;
 use adr_wire::{Malformed, Reader, WireRefusal, Writer};
 use std::alloc::{AllocError, Global};
@@ -74,8 +74,8 @@ fn malformed(place: usize) -> WireRefusal
 fn read_owner(reader: &mut Reader<'_>) -> Result<Owner, WireRefusal>
     ensures { Tells result reader.new (form.owner_at reader.old) }
 {
-    read_magic(reader, &MAGIC)?;
-    read_own_version(reader, VERSION)?;
+    reader.read_magic(&MAGIC)?;
+    reader.read_format_version(VERSION)?;
     let dsa = reader.read_id()?;
     let inv = reader.read_id()?;
     let len = reader.read_u32()?;

@@ -1,15 +1,16 @@
 -- Each field and each composite is spelled in one way.
-use Rattle.std.proofs.Common.{◌≡◌, ℕ, zero, suc, ◌<◌, ◌^◌, Bool, true, false, cond, ltb, leb, eqb, ◌&&◌, List, [], ◌∷◌, ◌++◌, length, Ok, Err, refl, sym, ap, ◌∙◌, arith}
+use Rattle.std.proofs.Common.{◌≡◌, ℕ, zero, suc, ◌<◌, ◌^◌, Bool, true, false, cond, ltb, leb, eqb, ◌&&◌, List, [], ◌∷◌, ◌++◌, length, Ok, Err, refl, sym, ap, subst, ◌∙◌, arith}
 use Rattle.std.specs.Prelude.{⊤}
 use Rattle.std.specs.Int.{Width, w16, w32, w64, byte_len, from_be_bytes, to_be_bytes, cast_signed, cast_unsigned}
-use Rattle.std.specs.Str.{is_utf8}
-use Rattle.std.proofs.lemmas.Bool.{ltb-true, le-ltb, lt-ltb, leb-true, le-leb}
+use Rattle.std.specs.Str.{bytes_eq, is_utf8}
+use Rattle.std.proofs.lemmas.Bool.{eq-eqb, eqb-true, ltb-true, le-ltb, lt-ltb, leb-true, le-leb}
 use Rattle.std.proofs.lemmas.List.{length-append}
+use Rattle.std.proofs.lemmas.Slice.Eq.{bytes_eq-Decides}
 use Rattle.std.proofs.lemmas.Nat.{be_bytes_2, be_bytes_4, be_bytes_8, from_be_bytes-to_be_bytes_2, from_be_bytes-to_be_bytes_4, from_be_bytes-to_be_bytes_8}
 use Rattle.std.proofs.lemmas.Int.{to_z-of_z, of_z-to_z}
 use Rattle.std.proofs.Math.Facts.{Fits-of_z, sfits_to_z}
 use Rattle.adr_wire.specs.Reading.{Rest, Read, bytes_at, where_at}
-use Rattle.adr_wire.specs.Fields.{byte_of, u8_at, number_at, u16_at, u32_at, u64_at, i64_at, id_at, flag_at, is_usn, is_usn0, is_version, usn_at, usn0_at, version_at, octets_at, text_at, u8, u16, u32, u64, i64, id, flag, octets, text}
+use Rattle.adr_wire.specs.Fields.{byte_of, u8_at, number_at, u16_at, u32_at, u64_at, i64_at, id_at, flag_at, is_usn, is_usn0, is_version, usn_at, usn0_at, version_at, octets_at, text_at, magic_at, format_version_at, u8, u16, u32, u64, i64, id, flag, octets, text}
 use Rattle.adr_wire.specs.Spelling.{AreBytes, IsSpelling}
 use Rattle.adr_wire.specs.Ranges.{IsU8, IsU16, IsU32, IsU64, IsI64, IsId, IsFlag, IsUsn, IsUsn0, IsVersion, IsOctets, IsText}
 use Rattle.adr_wire.proofs.Combining.{from, HasLength, as_they_are, bytes_spelled, made, in_range_too, passed, followed}
@@ -156,3 +157,17 @@ octets_spelled =
 pub text_spelled : IsSpelling IsText text text_at
 unfolding text_at text
 text_spelled = passed IsOctets octets octets_at octets_spelled is_utf8
+
+-- ---- with what a format begins
+
+pub magic_spelled : (magic : List ℕ) → length magic ≡ 4 → IsSpelling (λ found. found ≡ magic) as_they_are (magic_at magic)
+magic_spelled magic long =
+    in_range_too (λ m. HasLength 4 m × (bytes_eq magic m ≡ true)) as_they_are (magic_at magic) (passed (HasLength 4) as_they_are (bytes_at 4) (bytes_spelled 4) (bytes_eq magic)) (λ m. m ≡ magic)
+    (λ m is. (ap (λ (l : List ℕ). length l) is ∙ long, (bytes_eq-Decides magic m).1 (sym is)))
+    (λ m h. sym ((bytes_eq-Decides magic m).0 h.1))
+
+pub format_version_spelled : (version : ℕ) → IsU16 version → IsSpelling (λ found. found ≡ version) u16 (format_version_at version)
+format_version_spelled version fits =
+    in_range_too (λ v. IsU16 v × (eqb v version ≡ true)) u16 (format_version_at version) (passed IsU16 u16 u16_at u16_spelled (λ v. eqb v version)) (λ v. v ≡ version)
+    (λ v is. (subst IsU16 (sym is) fits, eq-eqb v version is))
+    (λ v h. eqb-true v version h.1)

@@ -1,8 +1,8 @@
 -- A piece is spelled in one way.
-use Rattle.std.proofs.Common.{◌≡◌, ℕ, ◌≤◌, Bool, true, false, eqb, List, length, refl, sym, ap, arith}
+use Rattle.std.proofs.Common.{◌≡◌, ℕ, true, false, eqb, List, refl, sym, ap, arith}
 use Rattle.std.proofs.lemmas.Bool.{eqb-true}
 use Rattle.adr_stamp.specs.declared.Oid.{Oid}
-use Rattle.adr_wire.specs.Reading.{Reading, as_at}
+use Rattle.adr_wire.specs.Reading.{as_at}
 use Rattle.adr_wire.specs.Fields.{u8_at, u8}
 use Rattle.adr_wire.specs.Composites.{Row, LinkItem, object_at, object, link_at, link}
 use Rattle.adr_wire.specs.Spelling.{IsSpelling}

@@ -1,7 +1,7 @@
 -- The fields: how each value is spelled in bytes, and how it is read.
 use Rattle.std.specs.Prelude.{ℕ, ◌^◌, List, [], ◌∷◌, ◌++◌, length, Bool, nat_lt, nat_le, ◌&&◌, if◌then◌else◌, ◌==◌, Err, ℤ}
 use Rattle.std.specs.Int.{Width, w16, w32, w64, byte_len, from_be_bytes, to_be_bytes, cast_signed, cast_unsigned}
-use Rattle.std.specs.Str.{is_utf8}
+use Rattle.std.specs.Str.{bytes_eq, is_utf8}
 use Rattle.adr_wire.specs.Reading.{Reading, ◌>>=◌, bytes_at, as_at, where_at}
 
 -- ---- numbers, the high byte first
@@ -92,3 +92,11 @@ octets bytes = u16 (length bytes) ++ bytes
 
 unfoldable pub text : List ℕ → List ℕ
 text bytes = octets bytes
+
+-- ---- with what a format begins: its magic of four bytes, and its version
+
+abbrev pub magic_at : List ℕ → Reading (List ℕ)
+magic_at magic = where_at (bytes_eq magic) (bytes_at 4)
+
+abbrev pub format_version_at : ℕ → Reading ℕ
+format_version_at version = where_at (λ found. found == version) u16_at

@@ -1,6 +1,6 @@
 //! What is written is read again, and what is read was written so.
 
-ghost use Rattle.std.specs.Prelude.{ℕ};
+ghost use Rattle.std.specs.Prelude.{◌≡◌, ℕ, List, length};
 ghost use Rattle.adr_wire.specs.Spelling.{IsSpelling};
 ghost use Rattle.adr_wire.specs.Ranges as range;
 ghost use Rattle.adr_wire.specs.Fields as field;
@@ -21,6 +21,10 @@ pub fn fields_have_one_spelling()
     ensures version { IsSpelling range.IsVersion field.u32 field.version_at }
     ensures text { IsSpelling range.IsText field.text field.text_at }
     ensures octets { IsSpelling range.IsOctets field.octets field.octets_at }
+    ensures magic { (magic : List ℕ) → length magic ≡ 4
+        → IsSpelling (λ found. found ≡ magic) (λ found. found) (field.magic_at magic) }
+    ensures format_version { (version : ℕ) → range.IsU16 version
+        → IsSpelling (λ found. found ≡ version) field.u16 (field.format_version_at version) }
 {}
 
 /// So has each composite. The spelling of a content is that of a row of its attribute.

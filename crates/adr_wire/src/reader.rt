@@ -3,7 +3,7 @@
 ghost use Rattle.std.specs.Prelude.{◌≡◌, ◌↔◌, ◌+◌, ◌<◌, ◌^◌, IsOk, IfErr, [], length};
 ghost use Rattle.std.specs.Str.{is_utf8};
 ghost use Rattle.adr_wire.specs.Reading.{Gives, Tells, TellsAs, bytes_at};
-ghost use Rattle.adr_wire.specs.Fields.{u8_at, u16_at, u32_at, u64_at, i64_at, id_at, flag_at, usn_at, usn0_at, version_at, text_at, octets_at};
+ghost use Rattle.adr_wire.specs.Fields.{u8_at, u16_at, u32_at, u64_at, i64_at, id_at, flag_at, usn_at, usn0_at, version_at, text_at, octets_at, magic_at, format_version_at};
 
 use crate::refusal::{Malformed, WireRefusal};
 use adr_failure::Failure;
@@ -185,6 +185,30 @@ impl<'a> Reader<'a> {
     {
         let bytes = self.take_octets()?;
         Ok(Octets::of(Vec::from_slice(alloc, bytes)?))
+    }
+
+    /// The magic with which a format begins; other bytes are refused at the first of them.
+    pub fn read_magic(&mut self, magic: &[u8; 4]) -> Result<[u8; 4], WireRefusal>
+        ensures { Tells result self.new (magic_at magic.now self.old) }
+    {
+        let place = self.place;
+        let found = self.take::<4>()?;
+        if found != *magic {
+            return Err(Failure::Refused(Malformed { place }));
+        }
+        Ok(found)
+    }
+
+    /// The version of a format; another one is refused at its place.
+    pub fn read_format_version(&mut self, version: u16) -> Result<u16, WireRefusal>
+        ensures { Tells result self.new (format_version_at version self.old) }
+    {
+        let place = self.place;
+        let found = self.read_u16()?;
+        if found != version {
+            return Err(Failure::Refused(Malformed { place }));
+        }
+        Ok(found)
     }
 
     /// Reads a length, and so many bytes.

@@ -1,4 +1,4 @@
-use Rattle.adr_wire.proofs.FieldLaws.{u8_spelled, u16_spelled, u32_spelled, u64_spelled, i64_spelled, id_spelled, flag_spelled, usn_spelled, usn0_spelled, version_spelled, text_spelled, octets_spelled}
+use Rattle.adr_wire.proofs.FieldLaws.{u8_spelled, u16_spelled, u32_spelled, u64_spelled, i64_spelled, id_spelled, flag_spelled, usn_spelled, usn0_spelled, version_spelled, text_spelled, octets_spelled, magic_spelled, format_version_spelled}
 use Rattle.adr_wire.proofs.laws.fields_have_one_spelling.Goals as goal
 
 pub returns-clause-u8 : goal.returns-clause-u8
@@ -36,3 +36,9 @@ returns-clause-text c = text_spelled
 
 pub returns-clause-octets : goal.returns-clause-octets
 returns-clause-octets c = octets_spelled
+
+pub returns-clause-magic : goal.returns-clause-magic
+returns-clause-magic c = magic_spelled
+
+pub returns-clause-format_version : goal.returns-clause-format_version
+returns-clause-format_version c = format_version_spelled
