@@ -17,8 +17,8 @@ mod restoring;
 mod snapshot;
 mod told;
 
-pub use adr_event::{Event, Outcome};
 pub use adr_cycle::{Reply, Request};
+pub use adr_event::{Event, Outcome};
 pub use adr_restore::Image;
 pub use adr_state::State;
 pub use past::Past;

@@ -7,9 +7,9 @@ ghost use Rattle.adr_replica.specs.Told.{told_of};
 
 use crate::replica::Replica;
 use crate::told::{Call, Deed, Told};
+use adr_cycle::{Reply, Request};
 use adr_event::Event;
 use adr_guid::Guid;
-use adr_cycle::{Reply, Request};
 use adr_state::State;
 use std::marker::Model;
 

@@ -21,6 +21,7 @@ use crate::past::{Ahead, Kept, Past};
 use crate::told::Deed;
 use adr_checks::Schema;
 use adr_controller::{CallRefusal, Controller, Keeper, PlannedKeeper, StartRefusal};
+use adr_cycle::{Reply, Request};
 use adr_disk::Crash;
 use adr_disk_memory::MemDisk;
 use adr_event::{Event, Outcome};
@@ -32,7 +33,6 @@ use adr_law_recorded::{
     taken_replies_are_recorded, writes_are_recorded,
 };
 use adr_outcome::{sent, serve_refused, take_refused, unsent, write_refused};
-use adr_cycle::{Reply, Request};
 use adr_records::Records;
 use adr_schema::{NoMemory, Text};
 use adr_state::State;

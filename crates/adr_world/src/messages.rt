@@ -12,8 +12,8 @@ ghost use Rattle.adr_world.specs.Short.{IsAllOrNone, IsUnsent};
 
 use crate::controller::not_there;
 use crate::run::Run;
-use adr_event::Outcome;
 use adr_cycle::{Reply, Request};
+use adr_event::Outcome;
 use adr_schema::{NoMemory, Text};
 use std::alloc::Global;
 

@@ -13,8 +13,8 @@ ghost use Rattle.adr_world.specs.Short.{IsAllOrNone, IsTurnCutShort, IsUnsent};
 
 use crate::lists::put;
 use crate::run::Run;
-use adr_event::{Answer, Outcome};
 use adr_cycle::{Reply, Request};
+use adr_event::{Answer, Outcome};
 use adr_report::Heading;
 use adr_schema::{NoMemory, Text};
 use std::alloc::Global;
