@@ -17,7 +17,7 @@ LIB = """//! One call of `serve`.
 
 use adr_cycle::{Reply, Request, serve};
 use adr_event::{Failure, ServeRefusal};
-use adr_image::Dormant;
+use adr_image::{Contents, Dormant};
 use adr_state::State;
 use std::alloc::Global;
 
@@ -25,8 +25,8 @@ pub fn served(alloc: Global, source: &SOURCE, request: &Request) -> Result<Reply
     serve(alloc, source, request)
 }
 
-pub fn usn(dormant: &Dormant, state: &State) -> u64 {
-    dormant.usn().max(state.usn())
+pub fn contents(dormant: &Dormant) -> &Contents {
+    dormant.contents()
 }
 
 #[cfg(test)]
