@@ -19,6 +19,10 @@ TOP = os.path.dirname(os.path.dirname(os.path.abspath(__file__)))
 PROGRAM = "adrep"
 # What the check of a large crate takes, in bytes.
 MEMORY = 3_000_000_000
+# By how many seconds a crate may end later than the one that most wait for, and still take all processors.
+NEAR = 30
+# Seconds of such slack for each step of niceness.
+STEP = 10
 
 
 def tell(text):
@@ -165,9 +169,9 @@ class Build:
         return [it for it in self.left if set(self.crates[it].below) <= self.done]
 
     def share_of(self, name):
-        """Processes for a crate's check, and their niceness: a step back for each ten seconds by which it may end later than the crate that most wait for."""
+        """Processes for a crate's check, and their niceness, by how much later it may end than the crate that most wait for."""
         slack = max(self.waiting[it] for it in self.under_way) - self.waiting[name]
-        return self.processors if slack < 30 else min(2, self.processors), min(19, int(slack / 10))
+        return self.processors if slack < NEAR else min(2, self.processors), min(19, int(slack / STEP))
 
     def next(self):
         """The name of a crate to prove and its share of the processors, once there is one; None when nothing is left."""
