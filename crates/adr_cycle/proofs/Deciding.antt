@@ -18,7 +18,7 @@ use Rattle.adr_model.specs.Store.{State}
 use Rattle.adr_model.specs.Take.{Taking, mark_limit, passes, refusal_of, take, take_items, taken_change}
 use Rattle.adr_model.proofs.Firsts.{first_of_more, first_of_two}
 use Rattle.adr_model.specs.Write.{link_limit, object_limit, usn_limit}
-use Rattle.adr_cycle.specs.Before.{refusal_before}
+use Rattle.adr_cycle.specs.ReplyRefused.{refusal_before}
 
 -- what refused so is this refusal
 pub refused_is : {T R : Type 0} (r q : R) → (let x : Result T (Failure R) = Err (failures.Refused r) in x) ≡ Err (failures.Refused q) → r ≡ q

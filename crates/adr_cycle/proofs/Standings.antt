@@ -17,7 +17,7 @@ use Rattle.adr_told.specs.Standing.{IsStanding}
 use Rattle.adr_told.specs.declared.presence.Presence.TheVariants.{Dead, Held, Gone, New}
 use Rattle.adr_told.specs.declared.standing.Standing.{Standing}
 use Rattle.adr_told.specs.declared.standing.Standing.TheVariants.{OfObject, OfLink}
-use Rattle.adr_cycle.specs.Rows.{can_die, is_taken}
+use Rattle.adr_cycle.specs.RowsTaken.{can_die, is_taken}
 
 abbrev pub taken_by : List Row → List Update → Standing → List Update
 taken_by rows us (OfObject presence class) = object_rows_taken rows us (defined presence)

@@ -1,3 +1,3 @@
 pub mod Candidates
-pub mod Before
-pub mod Rows
+pub mod ReplyRefused
+pub mod RowsTaken

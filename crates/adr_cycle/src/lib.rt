@@ -9,20 +9,20 @@
 mod asking;
 mod candidate;
 mod candidates;
-mod item;
-mod judging;
 mod reply;
 mod replying;
 mod request;
-mod rows;
 mod serving;
+mod taken_item;
+mod taken_reply;
+mod taken_rows;
 mod taking;
 
 pub use adr_event::{Failure, ServeRefusal, TakeRefusal};
 pub use adr_state::{Change, Item, NoMemory, State};
 pub use adr_vector::{Mark, Vector};
 pub use asking::ask;
-pub use judging::take;
 pub use reply::Reply;
 pub use request::Request;
 pub use serving::serve;
+pub use taken_reply::take;

@@ -1,4 +1,4 @@
-//! What a partner answers to a request.
+//! A reply: what a partner answers to a request.
 
 ghost use Rattle.std.specs.Prelude.{◌≡◌};
 ghost use Rattle.std.specs.Option.{option_copied};

@@ -1,4 +1,4 @@
-//! What a controller asks a partner.
+//! A request for what a partner has above a mark.
 
 ghost use Rattle.std.specs.Prelude.{◌≡◌};
 

@@ -7,8 +7,8 @@ ghost use Rattle.adr_model.specs.Take.{begin, take_item, take_items, writes_of};
 ghost use Rattle.adr_model.specs.Write.{usn_limit};
 
 use crate::NoMemory;
-use crate::item::item_refusal;
-use crate::rows::rows_taken;
+use crate::taken_item::item_refusal;
+use crate::taken_rows::rows_taken;
 use adr_checks::Schema;
 use adr_event::TakeRefusal;
 use adr_stamp::Oid;

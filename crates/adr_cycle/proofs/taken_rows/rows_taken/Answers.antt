@@ -1,9 +1,9 @@
 use Rattle.std.proofs.Common.{List, cond, filter, ap, ◌∙◌}
 use Rattle.adr_model.specs.Update.{Update}
 use Rattle.adr_model.specs.Take.{left_by_death}
-use Rattle.adr_cycle.specs.Rows.{can_die, is_taken}
+use Rattle.adr_cycle.specs.RowsTaken.{can_die, is_taken}
 use Rattle.adr_cycle.proofs.Standings.{each_so, taken_so}
-use Rattle.adr_cycle.proofs.rows.rows_taken.Goals as goal
+use Rattle.adr_cycle.proofs.taken_rows.rows_taken.Goals as goal
 
 pub returns : goal.returns
 returns c = λ vector stands.

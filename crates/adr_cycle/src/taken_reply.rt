@@ -5,7 +5,7 @@ ghost use Rattle.adr_event.specs.declared.refusal.TakeRefusal.{TakeRefusal};
 ghost use Rattle.adr_model.specs.Change.{after};
 ghost use Rattle.adr_model.specs.Take.{passes, refusal_of, same_mark, shown_by_last, take, taken_change};
 ghost use Rattle.adr_model.specs.Write.{usn_limit};
-ghost use Rattle.adr_cycle.specs.Before.{refusal_before};
+ghost use Rattle.adr_cycle.specs.ReplyRefused.{refusal_before};
 
 use crate::taking::{Taking, take_items};
 use crate::{NoMemory, Reply};

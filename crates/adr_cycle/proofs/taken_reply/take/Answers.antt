@@ -1,7 +1,7 @@
 use Rattle.std.proofs.Common.{sym, ap, ◌∙◌, Some}
 use Rattle.std.proofs.lemmas.Result.{IfOk-weaker}
 use Rattle.adr_cycle.proofs.Deciding.{early, refused_is, within}
-use Rattle.adr_cycle.proofs.judging.take.Goals as goal
+use Rattle.adr_cycle.proofs.taken_reply.take.Goals as goal
 
 pub returns-in-Some-clause-refused : goal.returns-in-Some-clause-refused
 returns-in-Some-clause-refused c refusal is =

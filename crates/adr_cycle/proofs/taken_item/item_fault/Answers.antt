@@ -5,7 +5,7 @@ use Rattle.adr_model.specs.Update.{Update}
 use Rattle.adr_model.specs.Take.{class_among, object_rows_tested, row_fault}
 use Rattle.adr_told.specs.Presence.{defined}
 use Rattle.adr_cycle.proofs.Standings.{fault_by, fault_so}
-use Rattle.adr_cycle.proofs.item.item_fault.Goals as goal
+use Rattle.adr_cycle.proofs.taken_item.item_fault.Goals as goal
 
 pub returns-in-OfObject : goal.returns-in-OfObject
 returns-in-OfObject c vector rows stands =

@@ -1,5 +1,5 @@
 use Rattle.adr_cycle.proofs.Deciding.{makes, refused_is, refuses}
-use Rattle.adr_cycle.proofs.judging.outcome.Goals as goal
+use Rattle.adr_cycle.proofs.taken_reply.outcome.Goals as goal
 
 pub returns-in-Some-clause-refused : goal.returns-in-Some-clause-refused
 returns-in-Some-clause-refused c = λ refusal is.

@@ -8,7 +8,7 @@ use Rattle.adr_model.specs.Change.{after, with_mark}
 use Rattle.adr_model.specs.Take.{mark_limit, passes, taken_change}
 use Rattle.adr_model.specs.Write.{link_limit, object_limit, usn_limit}
 use Rattle.adr_cycle.proofs.Deciding.{behind, beyond, calls_of_four, later, tables, within_limit}
-use Rattle.adr_cycle.proofs.judging.refusal_after.Goals as goal
+use Rattle.adr_cycle.proofs.taken_reply.refusal_after.Goals as goal
 
 pub returns-in-Some : goal.returns-in-Some
 returns-in-Some c =

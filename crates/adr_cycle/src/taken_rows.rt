@@ -4,7 +4,7 @@ ghost use Rattle.std.specs.Prelude.{◌≡◌, ◌++◌, ◌∷◌, [], IfOk, On
 ghost use Rattle.adr_vector.specs.Vector.{Cursors};
 ghost use Rattle.adr_model.specs.Take.{is_reserved_row, left_by_death, rows_taken};
 ghost use Rattle.adr_told.specs.Standing.{IsStanding};
-ghost use Rattle.adr_cycle.specs.Rows.{can_die, is_taken};
+ghost use Rattle.adr_cycle.specs.RowsTaken.{can_die, is_taken};
 
 use crate::NoMemory;
 use adr_state::{CLASS, DELETED, Item, Update};

@@ -1,6 +1,6 @@
 use Rattle.std.proofs.Common.{◌≡◌, filter, take}
-use Rattle.adr_cycle.specs.Rows.{is_taken}
-use Rattle.adr_cycle.proofs.rows.each_taken.Given as goal
+use Rattle.adr_cycle.specs.RowsTaken.{is_taken}
+use Rattle.adr_cycle.proofs.taken_rows.each_taken.Given as goal
 
 -- those so far are taken
 abbrev pub invariant-loop-row : goal.invariant-loop-row
