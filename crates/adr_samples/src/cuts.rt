@@ -1,4 +1,4 @@
-//! Where a reply is cut by its bytes, which no line of a schedule can reach yet.
+//! Where a reply is cut by its bytes, which no line of a schedule can reach.
 
 use crate::holding::{controller, east, holding, list};
 use adr_cycle::{Reply, ask, serve};

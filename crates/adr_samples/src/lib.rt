@@ -4,14 +4,14 @@
 #![tactic(auto)]
 
 #[cfg(test)]
-mod cut_tests;
+mod cuts;
+#[cfg(test)]
+mod full_vectors;
 #[cfg(test)]
 mod holding;
 #[cfg(test)]
 mod images;
 #[cfg(test)]
-mod origin_tests;
-#[cfg(test)]
-mod state_tests;
-#[cfg(test)]
 mod words;
+#[cfg(test)]
+mod writes;
