@@ -22,12 +22,10 @@ use std::{env, io};
 /// The words, without the program's name.
 fn words(rt: &HostRuntime) -> io::Result<Vec<String>> {
     let mut words = Vec::new(rt.alloc());
-    let mut first = true;
-    for word in env::args(rt)? {
-        if !first {
-            words.push(word)?;
-        }
-        first = false;
+    let mut args = env::args(rt)?;
+    let _program = args.next();
+    for word in args {
+        words.push(word)?;
     }
     Ok(words)
 }
