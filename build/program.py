@@ -19,10 +19,10 @@ TOP = os.path.dirname(os.path.dirname(os.path.abspath(__file__)))
 PROGRAM = "adrep"
 # What the check of a large crate takes, in bytes.
 MEMORY = 3_000_000_000
-# By how many seconds a crate may end later than the one that most wait for, and still take all processors.
-NEAR = 30
-# Seconds of such slack for each step of niceness.
-STEP = 10
+# Processes for a check that others wait for: it ends in half of the time, and takes a third more of the processors.
+JOBS = 3
+# By how many seconds a crate may end later than the one that most wait for, for each step of niceness.
+STEP = 30
 
 
 def tell(text):
@@ -162,16 +162,24 @@ class Build:
         self.crates, self.toolchain, self.processors, self.workers = crates, toolchain, processors, workers
         self.waiting, self.sums = times_that_wait(crates), sums_of(crates, toolchain.line)
         self.state = threading.Condition()
-        self.left, self.under_way, self.done, self.failed = set(crates), set(), set(), []
+        self.left, self.done, self.failed = set(crates), set(), []
+        # How many processes each crate's check has that is under way.
+        self.under_way = {}
         self.begun = time.monotonic()
 
     def ready(self):
         return [it for it in self.left if set(self.crates[it].below) <= self.done]
 
     def share_of(self, name):
-        """Processes for a crate's check, and their niceness, by how much later it may end than the crate that most wait for."""
-        slack = max(self.waiting[it] for it in self.under_way) - self.waiting[name]
-        return self.processors if slack < NEAR else min(2, self.processors), min(19, int(slack / STEP))
+        """Processes for a crate's check, and their niceness, by how much later it may end than the crate that most wait for.
+
+        It has several where most wait for it, or where processors would have nothing to do.
+        """
+        slack = max(map(self.waiting.get, [name, *self.under_way])) - self.waiting[name]
+        beside = min(len(self.ready()), self.workers - len(self.under_way) - 1)
+        idle = self.processors - sum(self.under_way.values()) - beside
+        jobs = self.processors if slack == 0 else idle
+        return max(1, min(JOBS, jobs)), min(19, int(slack / STEP))
 
     def next(self):
         """The name of a crate to prove and its share of the processors, once there is one; None when nothing is left."""
@@ -182,8 +190,9 @@ class Build:
                 return None
             name = max(self.ready(), key=self.waiting.get)
             self.left.discard(name)
-            self.under_way.add(name)
-            return name, self.share_of(name)
+            share = self.share_of(name)
+            self.under_way[name], _ = share
+            return name, share
 
     def build(self, crate, share):
         """Proves and builds a crate, unless its library was built of the same files before; whether it went well."""
@@ -207,7 +216,7 @@ class Build:
             name, share = found
             well = self.build(self.crates[name], share)
             with self.state:
-                self.under_way.discard(name)
+                del self.under_way[name]
                 if well:
                     self.done.add(name)
                     tell(f"{name} is proved; {len(self.done)} of {len(self.crates)} crates, {(time.monotonic() - self.begun) / 60:.0f} min gone")
