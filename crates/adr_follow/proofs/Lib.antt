@@ -1,3 +1,2 @@
 mod Left
-mod Parts
 mod Seen

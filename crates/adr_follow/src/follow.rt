@@ -4,8 +4,7 @@ ghost use Rattle.std.specs.Prelude.{◌≡◌, ◌↔◌, IfOk, IsTrue};
 ghost use Rattle.adr_model.specs.Formed.{IsFormed};
 ghost use Rattle.adr_law_formed.specs.Follow.{CanFollow, HasKnownClasses};
 ghost use Rattle.adr_law_formed.specs.Spelled.{IsSpelledChange};
-ghost use Rattle.adr_law_formed.specs.Tested.{can_follow};
-ghost use Rattle.adr_follow.specs.Parts.{writes_pass};
+ghost use Rattle.adr_law_formed.specs.Tested.{can_follow, writes_pass};
 
 use crate::NoMemory;
 use crate::removed::are_removable;

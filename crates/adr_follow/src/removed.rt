@@ -4,8 +4,7 @@ ghost use Rattle.std.specs.Prelude.{◌≡◌, [], IfOk, fold};
 ghost use Rattle.std.specs.BTreeSet.{insert_key};
 ghost use Rattle.adr_stamp.specs.Order.{object_order};
 ghost use Rattle.adr_vector.specs.Vector.{covers, joined};
-ghost use Rattle.adr_law_formed.specs.Tested.{is_removable};
-ghost use Rattle.adr_follow.specs.Parts.{are_removable};
+ghost use Rattle.adr_law_formed.specs.Tested.{are_removable, is_removable};
 
 use crate::NoMemory;
 use adr_guid::Guid;
@@ -19,7 +18,7 @@ use std::collections::BTreeSet;
 
 /// Whether the objects that a change removes are held dead, and the births and deaths of all are purged.
 pub(crate) fn are_removable(told: &Told, purged: &Vector, change: &Change) -> bool
-    ensures { result ≡ are_removable told.now purged.now change.now }
+    ensures { result ≡ are_removable told.now (joined purged.now change.now.purged) change.now.removed }
 {
     let more = change.purged();
     for object in change.removed() {

@@ -11,8 +11,7 @@ ghost use Rattle.adr_model.specs.Take.{is_reserved_row};
 ghost use Rattle.adr_model.specs.Update.{RowOf, deleted_attr};
 ghost use Rattle.adr_schema.specs.Table.{must_of};
 ghost use Rattle.adr_update.specs.Key.{key_of};
-ghost use Rattle.adr_law_formed.specs.Tested.{all_of_object, fits_class, is_alive_formed, is_formed_by, is_object_formed, is_touched_formed};
-ghost use Rattle.adr_follow.specs.Parts.{are_touched_formed};
+ghost use Rattle.adr_law_formed.specs.Tested.{all_of_object, are_touched_formed, fits_class, is_alive_formed, is_formed_by, is_object_formed, is_touched_formed};
 
 use crate::NoMemory;
 use crate::forms::{
@@ -34,7 +33,8 @@ pub(crate) fn are_touched_formed(
     told: &Told,
     change: &Change,
 ) -> Result<bool, NoMemory>
-    ensures { IfOk result (λ are. are ≡ are_touched_formed schema told.now change.now) }
+    ensures { IfOk result (λ are. are
+        ≡ are_touched_formed schema (fold without_object told.now change.now.removed) change.now.writes) }
 {
     let removed = set_of(alloc, change.removed())?;
     for written in change.writes() {

@@ -3,7 +3,7 @@
 ghost use Rattle.std.specs.Prelude.{◌≡◌, length};
 ghost use Rattle.adr_vector.specs.Vector.{at, at_most};
 ghost use Rattle.adr_model.specs.Change.{after, with_mark};
-ghost use Rattle.adr_follow.specs.Parts.{are_in_order, goes_on};
+ghost use Rattle.adr_law_formed.specs.Tested.{are_in_order, goes_on};
 
 use adr_guid::Guid;
 use adr_state::{CURSOR_LIMIT, Change, MARK_LIMIT, State, is_same};

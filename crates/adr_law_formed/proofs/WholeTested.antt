@@ -1,7 +1,6 @@
 -- The whole test tells what can follow.
 use Rattle.std.proofs.Common.{◌≡◌, inl, inr, ℕ, List, [], Bool, true, false, Option, Some, None, refl, sym, ap, ◌∙◌, subst, not, ◌&&◌, ◌||◌, length}
 use Rattle.std.specs.Prelude.{nat_le, is_none}
-use Rattle.std.specs.List.{list_all}
 use Rattle.std.specs.Option.{option_map_or}
 use Rattle.std.proofs.lemmas.Bool.{and_parts, and_from, both_ways, not-true, leb-true, le-leb}
 use Rattle.adr_stamp.specs.declared.Oid.{Oid}
@@ -29,7 +28,7 @@ use Rattle.adr_law_calls.proofs.Stamps.{row_held_is}
 use Rattle.adr_law_formed.specs.Follow.{IsRemovable, HasKnownClasses, CanFollow}
 use Rattle.adr_law_formed.specs.Touched.{IsInForm, AreTouchedInForm, CanFollowByTouched}
 use Rattle.adr_law_formed.specs.Spelled.{IsSpelledChange}
-use Rattle.adr_law_formed.specs.Tested.{may_follow_in_turn, is_removable, is_object_formed, is_touched_formed, can_follow}
+use Rattle.adr_law_formed.specs.Tested.{may_follow_in_turn, is_removable, are_removable, is_object_formed, is_touched_formed, are_touched_formed, goes_on, are_in_order, writes_pass, can_follow}
 use Rattle.adr_law_calls.proofs.Passed.{normal_where_not_quarantined}
 use Rattle.adr_law_formed.proofs.WritesTested.{all_pass, passes_all, following_where_tested, tested_where_following}
 use Rattle.adr_law_formed.proofs.UnitTested.{unit_where_tested, tested_where_unit}
@@ -120,8 +119,7 @@ module _ (schema : ℕ) (rows : List Held) (rising : AreRising rows) where
       by p (inr (none, g)) = subst
           (λ (q : Option Held). (is_none q || is_forward (kind_at table l.attr)) ≡ true) (sym g) refl
 
-  touched_tells : (c : Change)
-      → list_all (λ (w : Written). is_touched_formed table rows w.item.unit) c.writes ≡ true
+  touched_tells : (c : Change) → are_touched_formed table rows c.writes ≡ true
       → AreTouchedInForm table (updates_of rows) c
   touched_tells c h = record {
     objects = λ w m o e. object_tells o
@@ -131,7 +129,7 @@ module _ (schema : ℕ) (rows : List Held) (rising : AreRising rows) where
   }
 
   touched_passes : (c : Change) → AreTouchedInForm table (updates_of rows) c
-      → list_all (λ (w : Written). is_touched_formed table rows w.item.unit) c.writes ≡ true
+      → are_touched_formed table rows c.writes ≡ true
   touched_passes c f = passes_all (λ (w : Written). is_touched_formed table rows w.item.unit) c.writes
       (λ w m. by w m w.item.unit refl)
     where
@@ -152,45 +150,54 @@ module _ (s : State) (c : Change) (formed : IsFormed s) where
 pub follows_where_tested : (s : State) (c : Change) → IsFormed s → HasKnownClasses s
     → IsSpelledChange s.store.usn c → can_follow s c ≡ true → CanFollow s c
 follows_where_tested s c formed known spelled h =
-    let a = and_parts _ (list_all (λ (w : Written). is_touched_formed (numbered s.store.schema) (after s c).store.rows w.item.unit) c.writes) h in
-    let b = and_parts _ (nat_le (length (after s c).store.marks) mark_limit) a.0 in
-    let d = and_parts _ (nat_le (length (after s c).store.vector) cursor_limit) b.0 in
-    let e = and_parts _ (at_most c.purged (after s c).store.vector) d.0 in
-    let f = and_parts _ (nat_le (at c.joined s.inv) c.usn) e.0 in
-    let i = and_parts _ (list_all (is_removable (rows_after [] (held_of c.writes) s.store.rows) (after s c).store.purged) c.removed) f.0 in
-    let j = and_parts _ (may_follow_in_turn (numbered s.store.schema) s.store.vector s.store.rows c.writes) i.0 in
-    let k = and_parts (not (is_quarantined s.mode)) (nat_le s.store.usn c.usn) j.0 in
+    let table = numbered s.store.schema in
+    let written = rows_after [] (held_of c.writes) s.store.rows in
+    let left = (after s c).store in
+    let whole = and_parts (goes_on s c && are_in_order s c) (writes_pass s c) h in
+    let numbers = and_parts (goes_on s c) (are_in_order s c) whole.0 in
+    let on = and_parts (not (is_quarantined s.mode)) (nat_le s.store.usn c.usn) numbers.0 in
+    let marks = and_parts _ (nat_le (length left.marks) mark_limit) numbers.1 in
+    let cursors = and_parts _ (nat_le (length left.vector) cursor_limit) marks.0 in
+    let vectors = and_parts (nat_le (at c.joined s.inv) c.usn) (at_most c.purged left.vector) cursors.0 in
+    let touched = and_parts _ (are_touched_formed table left.rows c.writes) whole.1 in
+    let writes = and_parts (may_follow_in_turn table s.store.vector s.store.rows c.writes) (are_removable written left.purged c.removed) touched.0 in
     touched_is_enough s c formed known (record {
       goes_on = record {
-        normal = normal_where_not_quarantined s.mode (not-true (is_quarantined s.mode) k.0);
-        rises = leb-true s.store.usn c.usn k.1;
+        normal = normal_where_not_quarantined s.mode (not-true (is_quarantined s.mode) on.0);
+        rises = leb-true s.store.usn c.usn on.1;
         locals = spelled.locals;
         mark = spelled.mark;
         joined = spelled.joined;
         purged = spelled.purged;
-        writes = following_where_tested
-            (numbered s.store.schema) s.store.vector s.store.rows c.writes spelled.items j.1;
-        removed = λ o m. removable_where_tested (rows_after [] (held_of c.writes) s.store.rows)
-            (after s c).store.purged o
-            (all_pass (is_removable (rows_after [] (held_of c.writes) s.store.rows) (after s c).store.purged) c.removed i.1 o m);
+        writes = following_where_tested table s.store.vector s.store.rows c.writes spelled.items writes.0;
+        removed = λ o m. removable_where_tested written left.purged o
+            (all_pass (is_removable written left.purged) c.removed writes.1 o m);
       };
-      touched = touched_tells s.store.schema (after s c).store.rows (rows_rise s c formed) c a.1;
-      own = leb-true (at c.joined s.inv) c.usn f.1;
-      within = everywhere_from_at_most c.purged (after s c).store.vector e.1;
-      cursors = leb-true (length (after s c).store.vector) cursor_limit d.1;
-      marks = leb-true (length (after s c).store.marks) mark_limit b.1;
+      touched = touched_tells s.store.schema left.rows (rows_rise s c formed) c touched.1;
+      own = leb-true (at c.joined s.inv) c.usn vectors.0;
+      within = everywhere_from_at_most c.purged left.vector vectors.1;
+      cursors = leb-true (length left.vector) cursor_limit cursors.1;
+      marks = leb-true (length left.marks) mark_limit marks.1;
     })
 
 pub tested_where_follows : (s : State) (c : Change) → IsFormed s → CanFollow s c → can_follow s c ≡ true
 tested_where_follows s c formed can =
     let f : CanFollowByTouched s c = touched_is_asked s c formed can in
-    and_from _ _ (and_from _ _ (and_from _ _ (and_from _ _ (and_from _ _ (and_from _ _ (and_from _ _ (and_from _ _
+    let table = numbered s.store.schema in
+    let written = rows_after [] (held_of c.writes) s.store.rows in
+    let left = (after s c).store in
+    let on : goes_on s c ≡ true = and_from _ _
     (ap (λ m. not (is_quarantined m)) f.goes_on.normal)
-    (le-leb s.store.usn c.usn f.goes_on.rises))
-    (tested_where_following (numbered s.store.schema) s.store.vector s.store.rows c.writes f.goes_on.writes))
-    (passes_all (is_removable (rows_after [] (held_of c.writes) s.store.rows) (after s c).store.purged) c.removed (λ o m. tested_where_removable (rows_after [] (held_of c.writes) s.store.rows) (after s c).store.purged o (written_rise s c formed) (f.goes_on.removed o m))))
-    (le-leb (at c.joined s.inv) c.usn f.own))
-    (at_most_from_everywhere c.purged (after s c).store.vector f.goes_on.purged.rising f.within))
-    (le-leb (length (after s c).store.vector) cursor_limit f.cursors))
-    (le-leb (length (after s c).store.marks) mark_limit f.marks))
-    (touched_passes s.store.schema (after s c).store.rows (rows_rise s c formed) c f.touched)
+    (le-leb s.store.usn c.usn f.goes_on.rises) in
+    let ordered : are_in_order s c ≡ true = and_from _ _ (and_from _ _ (and_from _ _
+    (le-leb (at c.joined s.inv) c.usn f.own)
+    (at_most_from_everywhere c.purged left.vector f.goes_on.purged.rising f.within))
+    (le-leb (length left.vector) cursor_limit f.cursors))
+    (le-leb (length left.marks) mark_limit f.marks) in
+    let removed : are_removable written left.purged c.removed ≡ true = passes_all (is_removable written left.purged) c.removed
+    (λ o m. tested_where_removable written left.purged o (written_rise s c formed) (f.goes_on.removed o m)) in
+    let writes : writes_pass s c ≡ true = and_from _ _ (and_from _ _
+    (tested_where_following table s.store.vector s.store.rows c.writes f.goes_on.writes)
+    removed)
+    (touched_passes s.store.schema left.rows (rows_rise s c formed) c f.touched) in
+    and_from _ _ (and_from _ _ on ordered) writes

@@ -56,6 +56,10 @@ is_removable rows purged o =
     option_map_or (λ h. covers_birth purged o && covers_update purged h.update)
     (row_held rows (RowOf o deleted_attr)) false
 
+-- all of these objects may go
+abbrev pub are_removable : List Held → Cursors → List Oid → Bool
+are_removable rows purged os = list_all (is_removable rows purged) os
+
 -- ---- a touched unit behind the change
 
 -- whether a class is said, and the table has it
@@ -125,18 +129,35 @@ is_touched_formed table rows (Object o) = not (holds_object rows o) || is_object
 is_touched_formed table rows (Link l) =
     is_none (row_held rows (LinkOf l)) || is_forward (kind_at table l.attr)
 
+-- each unit that is written to passes so
+abbrev pub are_touched_formed : Table → List Held → List Written → Bool
+are_touched_formed table rows ws = list_all (λ (w : Written). is_touched_formed table rows w.item.unit) ws
+
 -- ---- the whole
 
-abbrev pub can_follow : State → Change → Bool
-can_follow s c =
+-- the state is up, and the change at its USN or above it
+abbrev pub goes_on : State → Change → Bool
+goes_on s c = not (is_quarantined s.mode) && nat_le s.store.usn c.usn
+
+-- the vectors of the change fit the state, and there are few enough cursors and marks behind it
+abbrev pub are_in_order : State → Change → Bool
+are_in_order s c =
+    let left = (after s c).store in
+    nat_le (at c.joined s.inv) c.usn
+    && at_most c.purged left.vector
+    && nat_le (length left.vector) cursor_limit
+    && nat_le (length left.marks) mark_limit
+
+-- each write may follow, what is removed may go behind the writes, and what was touched is formed behind it all
+abbrev pub writes_pass : State → Change → Bool
+writes_pass s c =
     let table = numbered s.store.schema in
-    let d = after s c in
-    not (is_quarantined s.mode)
-    && nat_le s.store.usn c.usn
-    && may_follow_in_turn table s.store.vector s.store.rows c.writes
-    && list_all (is_removable (rows_after [] (held_of c.writes) s.store.rows) d.store.purged) c.removed
-    && nat_le (at c.joined s.inv) c.usn
-    && at_most c.purged d.store.vector
-    && nat_le (length d.store.vector) cursor_limit
-    && nat_le (length d.store.marks) mark_limit
-    && list_all (λ (w : Written). is_touched_formed table d.store.rows w.item.unit) c.writes
+    let written = rows_after [] (held_of c.writes) s.store.rows in
+    let left = (after s c).store in
+    may_follow_in_turn table s.store.vector s.store.rows c.writes
+    && are_removable written left.purged c.removed
+    && are_touched_formed table left.rows c.writes
+
+-- whether a change can follow a state
+abbrev pub can_follow : State → Change → Bool
+can_follow s c = goes_on s c && are_in_order s c && writes_pass s c

@@ -1,6 +1,6 @@
-use Rattle.std.proofs.Common.{sym, ◌∙◌}
+use Rattle.std.proofs.Common.{◌≡◌, Bool, true, ◌&&◌, sym, ap₂, ◌∙◌}
 use Rattle.std.proofs.lemmas.Result.{IfOk-weaker}
-use Rattle.adr_follow.proofs.Parts.{writes_decide}
+use Rattle.adr_law_formed.specs.Tested.{are_in_order, goes_on, writes_pass}
 use Rattle.adr_follow.proofs.follow.passes.Goals as goal
 
 pub writes_pass-requires : goal.writes_pass-requires
@@ -8,8 +8,10 @@ writes_pass-requires c = c.new-told.ensures ∙ c.table.ensures.rows ∙ c.rows.
 
 pub returns : goal.returns
 returns c =
+    let s = c.args.state.now in
+    let d = c.args.change.now in
+    let goes : true ≡ goes_on s d = sym c.if-not-goes_on.false ∙ c.goes_on.ensures in
+    let ordered : true ≡ are_in_order s d = sym c.if-not-are_in_order.false ∙ c.are_in_order.ensures in
     IfOk-weaker c.writes_pass.result _ _
-    (λ pass e.
-    e
-    ∙ writes_decide c.args.state.now c.args.change.now (sym c.goes_on.ensures ∙ c.if-not-goes_on.false) (sym c.are_in_order.ensures ∙ c.if-not-are_in_order.false))
+    (λ pass e. e ∙ ap₂ (λ (on : Bool) (order : Bool). on && order && writes_pass s d) goes ordered)
     c.writes_pass.ensures
