@@ -28,44 +28,46 @@ fn shown(alloc: Global, text: &[u8]) -> Result<Vec<u8>, AllocError> {
     }
 }
 
+/// Texts, and what is printed of each, or its fault.
+const TEXTS: &[(&[u8], &[u8])] = &[
+    // lines and spaces
+    (b"", b""),
+    (b"; a bad byte \xff\ntime 5", b"time 5\n"),
+    (b"\n   \n  time   7  \n", b"time 7\n"),
+    (b"time 1\n\xff\n", b"line 2: not UTF-8"),
+    (b"time 1\r\n", b"line 1: no command"),
+    (b"time 1\n\ntime 2 3\n", b"line 3: no command"),
+    // numbers
+    (
+        b"time 18446744073709551615\n",
+        b"time 18446744073709551615\n",
+    ),
+    (b"time 18446744073709551616\n", b"line 1: no command"),
+    (b"time 01\n", b"line 1: no command"),
+    // identifiers
+    (
+        b"controller A #00000000-0000-0000-0000-0000000000a0 #0\n",
+        b"controller A #a0 #0\n",
+    ),
+    (
+        b"controller A_1 #00000001-0000-0000-0000-0000000000af #ffffffff\n",
+        b"controller A_1 #00000001-0000-0000-0000-0000000000af #ffffffff\n",
+    ),
+    (b"controller A #00 #1\n", b"line 1: no command"),
+    (b"controller A #A0 #1\n", b"line 1: no command"),
+    // names
+    (b"show A\n", b"line 1: unknown name"),
+    (
+        b"controller A #a0 #a1\nshow A\nshow B\n",
+        b"line 3: unknown name",
+    ),
+    (b"controller 1A #a0 #a1\n", b"line 1: no command"),
+];
+
 #[test]
 fn texts_are_events_or_have_a_fault(rt: HostRuntime) -> Result<(), Fail> {
-    let cases = [
-        // lines and spaces
-        (b"".as_slice(), b"".as_slice()),
-        (b"; a bad byte \xff\ntime 5", b"time 5\n"),
-        (b"\n   \n  time   7  \n", b"time 7\n"),
-        (b"time 1\n\xff\n", b"line 2: not UTF-8"),
-        (b"time 1\r\n", b"line 1: no command"),
-        (b"time 1\n\ntime 2 3\n", b"line 3: no command"),
-        // numbers
-        (
-            b"time 18446744073709551615\n",
-            b"time 18446744073709551615\n",
-        ),
-        (b"time 18446744073709551616\n", b"line 1: no command"),
-        (b"time 01\n", b"line 1: no command"),
-        // identifiers
-        (
-            b"controller A #00000000-0000-0000-0000-0000000000a0 #0\n",
-            b"controller A #a0 #0\n",
-        ),
-        (
-            b"controller A_1 #00000001-0000-0000-0000-0000000000af #ffffffff\n",
-            b"controller A_1 #00000001-0000-0000-0000-0000000000af #ffffffff\n",
-        ),
-        (b"controller A #00 #1\n", b"line 1: no command"),
-        (b"controller A #A0 #1\n", b"line 1: no command"),
-        // names
-        (b"show A\n", b"line 1: unknown name"),
-        (
-            b"controller A #a0 #a1\nshow A\nshow B\n",
-            b"line 3: unknown name",
-        ),
-        (b"controller 1A #a0 #a1\n", b"line 1: no command"),
-    ];
-    for (text, want) in cases {
-        assert_eq!(rt; shown(rt.alloc(), text)?.as_slice(), want);
+    for (text, want) in TEXTS {
+        assert_eq!(rt; shown(rt.alloc(), text)?.as_slice(), *want);
     }
     Ok(())
 }
@@ -75,9 +77,14 @@ const MADE: &[u8] = b"controller A #a0 #a1\n";
 
 /// The printed events of lines and one more behind them, or their fault.
 fn shown_behind(alloc: Global, front: &[u8], line: &[u8]) -> Result<Vec<u8>, AllocError> {
-    let mut text = front.to_vec(alloc)?;
-    text.extend_from_slice(line)?;
-    shown(alloc, text.as_slice())
+    shown(alloc, [front, line].concat(alloc)?.as_slice())
+}
+
+/// What stands behind a text is printed with it as it is.
+fn is_printed(rt: &impl Abort, alloc: Global, front: &[u8], lines: &[u8]) -> Result<(), Fail> {
+    let text = [front, lines].concat(alloc)?;
+    assert_eq!(rt; shown(alloc, text.as_slice())?.as_slice(), text.as_slice());
+    Ok(())
 }
 
 /// Each line, behind that of a controller, is answered so.
@@ -106,29 +113,25 @@ fn have_answers(
     Ok(())
 }
 
+/// Writes as they are printed.
+const WRITES: &[&[u8]] = &[
+    b"add A #10 user #1 \"Ann\" sAMAccountName=\"ann\"\n",
+    b"add A #10 user #1 \"A \\\"\\\\\" sAMAccountName=\"\\0a\\7f\"\n",
+    b"add A #10 container #2 \"\"\n",
+    b"add A #10 %900 #7 \" \" %77=\n",
+    b"modify A #10 description=\"a\",\"b c\" employeeNumber=-9223372036854775808,9223372036854775807,0 disabled=true,false\n",
+    b"modify A #10 thumbprint=x00ff,x1a seeAlso=#a,#00000001-0000-0000-0000-000000000000\n",
+    b"modify A #10 class=5 name=\"n\" deleted=true memberOf=#2 %65535=\n",
+    b"rename A #10 #1 \"Ann\"\n",
+    b"delete A #10\n",
+    b"link A #10 member #11\n",
+    b"unlink A #10 %900 #11\n",
+];
+
 #[test]
 fn writes_are_read_and_printed(rt: HostRuntime) -> Result<(), Fail> {
-    let lines = [
-        b"add A #10 user #1 \"Ann\" sAMAccountName=\"ann\"\n".as_slice(),
-        b"add A #10 user #1 \"A \\\"\\\\\" sAMAccountName=\"\\0a\\7f\"\n",
-        b"add A #10 container #2 \"\"\n",
-        b"add A #10 %900 #7 \" \" %77=\n",
-        b"modify A #10 description=\"a\",\"b c\" employeeNumber=-9223372036854775808,9223372036854775807,0 disabled=true,false\n",
-        b"modify A #10 thumbprint=x00ff,x1a seeAlso=#a,#00000001-0000-0000-0000-000000000000\n",
-        b"modify A #10 class=5 name=\"n\" deleted=true memberOf=#2 %65535=\n",
-        b"rename A #10 #1 \"Ann\"\n",
-        b"delete A #10\n",
-        b"link A #10 member #11\n",
-        b"unlink A #10 %900 #11\n",
-    ];
-    let alloc = rt.alloc();
-    for line in lines {
-        let mut text = MADE.to_vec(alloc)?;
-        text.extend_from_slice(line)?;
-        assert_eq!(rt;
-            shown_behind(alloc, MADE, line)?.as_slice(),
-            text.as_slice()
-        );
+    for line in WRITES {
+        is_printed(&rt, rt.alloc(), MADE, line)?;
     }
     Ok(())
 }
@@ -149,221 +152,224 @@ link A #10 member #11
     Ok(())
 }
 
+/// Writes outside the grammar.
+const BAD_WRITES: &[&[u8]] = &[
+    // a token is missing, doubled or of a wrong kind
+    b"add A #10 user #1",
+    b"add A #10 #1 \"Ann\"",
+    b"add A user #1 \"Ann\"",
+    b"add A #10 user \"Ann\"",
+    b"add #10 user #1 \"Ann\"",
+    b"add A #10 user #1 Ann",
+    b"add A #10 user #1 \"Ann\" \"Ann\"",
+    b"add A #10 user user #1 \"Ann\"",
+    b"modify A #10",
+    b"modify A mail=\"m\"",
+    b"modify #10 mail=\"m\"",
+    b"modify A #10 #11 mail=\"m\"",
+    b"rename A #10 #1",
+    b"rename A #10 \"Ann\"",
+    b"rename A #10 #1 Ann",
+    b"rename A #10 #1 \"Ann\" \"Ann\"",
+    b"rename A #10 #1 \"Ann\" mail=\"m\"",
+    b"delete A",
+    b"delete #10",
+    b"delete A #10 #11",
+    b"delete A \"x\"",
+    b"link A #10 member",
+    b"link A #10 #11",
+    b"link A member #10 #11",
+    b"link A #10 member #11 #12",
+    b"link A #10 member= #11",
+    b"unlink A #10 member",
+    b"unlink A #10 #11 member",
+    b"unlink A #10 member #11 #12",
+    // classes and attributes
+    b"add A #10 person #1 \"Ann\"",
+    b"add A #10 User #1 \"Ann\"",
+    b"add A #10 5 #1 \"Ann\"",
+    b"add A #10 % #1 \"Ann\"",
+    b"add A #10 %05 #1 \"Ann\"",
+    b"add A #10 %65536 #1 \"Ann\"",
+    b"link A #10 members #11",
+    b"link A #10 %65536 #11",
+    b"unlink A #10 %030 #11",
+    b"modify A #10 nothing=\"x\"",
+    b"modify A #10 =\"x\"",
+    b"modify A #10 %65536=\"x\"",
+    // sets
+    b"modify A #10 mail",
+    b"modify A #10 mail = \"m\"",
+    b"modify A #10 mail= \"m\"",
+    b"modify A #10 mail=\"m\",",
+    b"modify A #10 mail=,\"m\"",
+    b"modify A #10 mail=\"m\",,\"n\"",
+    b"modify A #10 mail=\"m\", \"n\"",
+    b"modify A #10 mail=\"m\"\"n\"",
+    b"modify A #10 mail=\"m\" mail=\"n\"",
+    b"modify A #10 mail=\"m\" disabled=true %13=",
+    // values
+    b"modify A #10 mail=m",
+    b"modify A #10 mail=\"m",
+    b"modify A #10 mail=\"\\41\"",
+    b"modify A #10 mail=\"\t\"",
+    b"modify A #10 employeeNumber=-0",
+    b"modify A #10 employeeNumber=01",
+    b"modify A #10 employeeNumber=-01",
+    b"modify A #10 employeeNumber=+1",
+    b"modify A #10 employeeNumber=-",
+    b"modify A #10 employeeNumber=9223372036854775808",
+    b"modify A #10 employeeNumber=-9223372036854775809",
+    b"modify A #10 disabled=True",
+    b"modify A #10 disabled=truefalse",
+    b"modify A #10 thumbprint=x",
+    b"modify A #10 thumbprint=x0",
+    b"modify A #10 thumbprint=xaB",
+    b"modify A #10 thumbprint=x0g",
+    b"modify A #10 seeAlso=#00",
+];
+
 #[test]
 fn writes_outside_the_grammar(rt: HostRuntime) -> Result<(), Fail> {
-    let lines = [
-        // a token is missing, doubled or of a wrong kind
-        b"add A #10 user #1".as_slice(),
-        b"add A #10 #1 \"Ann\"",
-        b"add A user #1 \"Ann\"",
-        b"add A #10 user \"Ann\"",
-        b"add #10 user #1 \"Ann\"",
-        b"add A #10 user #1 Ann",
-        b"add A #10 user #1 \"Ann\" \"Ann\"",
-        b"add A #10 user user #1 \"Ann\"",
-        b"modify A #10",
-        b"modify A mail=\"m\"",
-        b"modify #10 mail=\"m\"",
-        b"modify A #10 #11 mail=\"m\"",
-        b"rename A #10 #1",
-        b"rename A #10 \"Ann\"",
-        b"rename A #10 #1 Ann",
-        b"rename A #10 #1 \"Ann\" \"Ann\"",
-        b"rename A #10 #1 \"Ann\" mail=\"m\"",
-        b"delete A",
-        b"delete #10",
-        b"delete A #10 #11",
-        b"delete A \"x\"",
-        b"link A #10 member",
-        b"link A #10 #11",
-        b"link A member #10 #11",
-        b"link A #10 member #11 #12",
-        b"link A #10 member= #11",
-        b"unlink A #10 member",
-        b"unlink A #10 #11 member",
-        b"unlink A #10 member #11 #12",
-        // classes and attributes
-        b"add A #10 person #1 \"Ann\"",
-        b"add A #10 User #1 \"Ann\"",
-        b"add A #10 5 #1 \"Ann\"",
-        b"add A #10 % #1 \"Ann\"",
-        b"add A #10 %05 #1 \"Ann\"",
-        b"add A #10 %65536 #1 \"Ann\"",
-        b"link A #10 members #11",
-        b"link A #10 %65536 #11",
-        b"unlink A #10 %030 #11",
-        b"modify A #10 nothing=\"x\"",
-        b"modify A #10 =\"x\"",
-        b"modify A #10 %65536=\"x\"",
-        // sets
-        b"modify A #10 mail",
-        b"modify A #10 mail = \"m\"",
-        b"modify A #10 mail= \"m\"",
-        b"modify A #10 mail=\"m\",",
-        b"modify A #10 mail=,\"m\"",
-        b"modify A #10 mail=\"m\",,\"n\"",
-        b"modify A #10 mail=\"m\", \"n\"",
-        b"modify A #10 mail=\"m\"\"n\"",
-        b"modify A #10 mail=\"m\" mail=\"n\"",
-        b"modify A #10 mail=\"m\" disabled=true %13=",
-        // values
-        b"modify A #10 mail=m",
-        b"modify A #10 mail=\"m",
-        b"modify A #10 mail=\"\\41\"",
-        b"modify A #10 mail=\"\t\"",
-        b"modify A #10 employeeNumber=-0",
-        b"modify A #10 employeeNumber=01",
-        b"modify A #10 employeeNumber=-01",
-        b"modify A #10 employeeNumber=+1",
-        b"modify A #10 employeeNumber=-",
-        b"modify A #10 employeeNumber=9223372036854775808",
-        b"modify A #10 employeeNumber=-9223372036854775809",
-        b"modify A #10 disabled=True",
-        b"modify A #10 disabled=truefalse",
-        b"modify A #10 thumbprint=x",
-        b"modify A #10 thumbprint=x0",
-        b"modify A #10 thumbprint=xaB",
-        b"modify A #10 thumbprint=x0g",
-        b"modify A #10 seeAlso=#00",
-    ];
-    all_are_answered(&rt, rt.alloc(), &lines, b"line 2: no command")
+    all_are_answered(&rt, rt.alloc(), BAD_WRITES, b"line 2: no command")
 }
+
+/// Stops and faults outside the grammar.
+const BAD_STOPS: &[&[u8]] = &[
+    // a token is missing, doubled or of a wrong kind
+    b"stop",
+    b"stop #a0",
+    b"stop A kept",
+    b"stop A 7",
+    b"stop A after",
+    b"stop A after 7",
+    b"stop A after kept",
+    b"stop A after kept 7",
+    b"stop A 7 kept",
+    b"stop A after 7 kept lost",
+    b"stop A after 7 7 kept",
+    b"stop A A",
+    b"fail",
+    b"fail A",
+    b"fail A 7",
+    b"fail A after",
+    b"fail A after 7 kept",
+    b"fail A after 7 7",
+    b"fail after 7",
+    b"start",
+    b"start #a0",
+    b"start A A",
+    b"start A after 7",
+    // words
+    b"Stop A",
+    b"stopped A",
+    b"stop A After 7 kept",
+    b"stop A after7 kept",
+    b"stop A after 7 Kept",
+    b"stop A after 7 keptlost",
+    b"stop A after 7 \"kept\"",
+    b"stop A after 7 ke",
+    b"stop A after 7 all",
+    b"fail A as 7",
+    // numbers
+    b"stop A after 07 kept",
+    b"stop A after -1 kept",
+    b"stop A after 1001 torn",
+    b"stop A after 18446744073709551616 lost",
+    b"fail A after 07",
+    b"fail A after 1001",
+    b"fail A after 4294967296",
+    b"fail A after 18446744073709551616",
+];
 
 #[test]
 fn stops_and_faults_outside_the_grammar(rt: HostRuntime) -> Result<(), Fail> {
-    let lines = [
-        // a token is missing, doubled or of a wrong kind
-        b"stop".as_slice(),
-        b"stop #a0",
-        b"stop A kept",
-        b"stop A 7",
-        b"stop A after",
-        b"stop A after 7",
-        b"stop A after kept",
-        b"stop A after kept 7",
-        b"stop A 7 kept",
-        b"stop A after 7 kept lost",
-        b"stop A after 7 7 kept",
-        b"stop A A",
-        b"fail",
-        b"fail A",
-        b"fail A 7",
-        b"fail A after",
-        b"fail A after 7 kept",
-        b"fail A after 7 7",
-        b"fail after 7",
-        b"start",
-        b"start #a0",
-        b"start A A",
-        b"start A after 7",
-        // words
-        b"Stop A",
-        b"stopped A",
-        b"stop A After 7 kept",
-        b"stop A after7 kept",
-        b"stop A after 7 Kept",
-        b"stop A after 7 keptlost",
-        b"stop A after 7 \"kept\"",
-        b"stop A after 7 ke",
-        b"stop A after 7 all",
-        b"fail A as 7",
-        // numbers
-        b"stop A after 07 kept",
-        b"stop A after -1 kept",
-        b"stop A after 1001 torn",
-        b"stop A after 18446744073709551616 lost",
-        b"fail A after 07",
-        b"fail A after 1001",
-        b"fail A after 4294967296",
-        b"fail A after 18446744073709551616",
-    ];
-    all_are_answered(&rt, rt.alloc(), &lines, b"line 2: no command")
+    all_are_answered(&rt, rt.alloc(), BAD_STOPS, b"line 2: no command")
 }
+
+/// Images and snapshots outside the grammar.
+const BAD_COPIES: &[&[u8]] = &[
+    // a token is missing, doubled or of a wrong kind
+    b"collect",
+    b"collect A",
+    b"collect 5",
+    b"collect A #5",
+    b"collect A 5 5",
+    b"backup",
+    b"backup A",
+    b"backup A as",
+    b"backup A i",
+    b"backup as i",
+    b"backup A as #1",
+    b"backup A as i i",
+    b"restore",
+    b"restore A i",
+    b"restore A #a2",
+    b"restore A #a2 i",
+    b"restore A i a2",
+    b"restore A i #a2 #a3",
+    b"install",
+    b"install C",
+    b"install C #c0 i",
+    b"install C #c0 #c1",
+    b"install C i #c0 #c1",
+    b"install C #c0 #c1 i",
+    b"install #c0 C i #c1",
+    b"install C #c0 i #c1 #c2",
+    b"snapshot",
+    b"snapshot A",
+    b"snapshot A as",
+    b"snapshot A s",
+    b"snapshot A as s #a2",
+    b"rollback",
+    b"rollback A",
+    b"rollback A #1",
+    b"rollback A s s",
+    // words
+    b"Collect A 5",
+    b"back A as i",
+    b"backup A AS i",
+    b"backup A asi",
+    b"Restore A i #a2",
+    b"roll A s",
+    // numbers and identifiers
+    b"collect A 05",
+    b"collect A -1",
+    b"collect A 18446744073709551616",
+    b"restore A i #0a",
+    b"install C #0c i #c1",
+];
 
 #[test]
 fn images_and_snapshots_outside_the_grammar(rt: HostRuntime) -> Result<(), Fail> {
-    let lines = [
-        // a token is missing, doubled or of a wrong kind
-        b"collect".as_slice(),
-        b"collect A",
-        b"collect 5",
-        b"collect A #5",
-        b"collect A 5 5",
-        b"backup",
-        b"backup A",
-        b"backup A as",
-        b"backup A i",
-        b"backup as i",
-        b"backup A as #1",
-        b"backup A as i i",
-        b"restore",
-        b"restore A i",
-        b"restore A #a2",
-        b"restore A #a2 i",
-        b"restore A i a2",
-        b"restore A i #a2 #a3",
-        b"install",
-        b"install C",
-        b"install C #c0 i",
-        b"install C #c0 #c1",
-        b"install C i #c0 #c1",
-        b"install C #c0 #c1 i",
-        b"install #c0 C i #c1",
-        b"install C #c0 i #c1 #c2",
-        b"snapshot",
-        b"snapshot A",
-        b"snapshot A as",
-        b"snapshot A s",
-        b"snapshot A as s #a2",
-        b"rollback",
-        b"rollback A",
-        b"rollback A #1",
-        b"rollback A s s",
-        // words
-        b"Collect A 5",
-        b"back A as i",
-        b"backup A AS i",
-        b"backup A asi",
-        b"Restore A i #a2",
-        b"roll A s",
-        // numbers and identifiers
-        b"collect A 05",
-        b"collect A -1",
-        b"collect A 18446744073709551616",
-        b"restore A i #0a",
-        b"install C #0c i #c1",
-    ];
-    all_are_answered(&rt, rt.alloc(), &lines, b"line 2: no command")
+    all_are_answered(&rt, rt.alloc(), BAD_COPIES, b"line 2: no command")
 }
+
+/// Writes to a controller that no line made.
+const WRITES_OF_NOBODY: &[&[u8]] = &[
+    b"add B #10 user #1 \"Ann\"",
+    b"modify B #10 mail=",
+    b"rename B #10 #1 \"Ann\"",
+    b"delete B #10",
+    b"link B #10 member #11",
+    b"unlink B #10 member #11",
+];
 
 #[test]
 fn writes_name_a_controller(rt: HostRuntime) -> Result<(), Fail> {
-    let lines = [
-        b"add B #10 user #1 \"Ann\"".as_slice(),
-        b"modify B #10 mail=",
-        b"rename B #10 #1 \"Ann\"",
-        b"delete B #10",
-        b"link B #10 member #11",
-        b"unlink B #10 member #11",
-    ];
-    all_are_answered(&rt, rt.alloc(), &lines, b"line 2: unknown name")
+    all_are_answered(&rt, rt.alloc(), WRITES_OF_NOBODY, b"line 2: unknown name")
 }
 
 #[test]
 fn a_text_of_65536_bytes_is_outside_the_grammar(rt: HostRuntime) -> Result<(), Fail> {
     let alloc = rt.alloc();
-    let mut line = b"rename A #10 #1 \"".to_vec(alloc)?;
-    line.resize(17 + 65_535, b'a')?;
-    line.extend_from_slice(b"\"\n")?;
-    let mut text = MADE.to_vec(alloc)?;
-    text.extend_from_slice(line.as_slice())?;
-    assert_eq!(rt; shown(alloc, text.as_slice())?.as_slice(), text.as_slice());
-    line.resize(17 + 65_535, b'a')?;
-    line.extend_from_slice(b"a\"")?;
-    assert_eq!(rt;
-        shown_behind(alloc, MADE, line.as_slice())?.as_slice(),
-        b"line 2: no command".as_slice()
-    );
+    let front = [MADE, b"rename A #10 #1 \""].concat(alloc)?;
+    let mut name = vec![in alloc; b'a'; 65_535]?;
+    name.extend_from_slice(b"\"\n")?;
+    is_printed(&rt, alloc, front.as_slice(), name.as_slice())?;
+    let longer = [front.as_slice(), b"a"].concat(alloc)?;
+    let told = shown_behind(alloc, longer.as_slice(), name.as_slice())?;
+    assert_eq!(rt; told.as_slice(), b"line 2: no command".as_slice());
     Ok(())
 }
 
@@ -376,7 +382,6 @@ serve B q as r
 
 #[test]
 fn lines_that_may_follow_are_read_and_printed(rt: HostRuntime) -> Result<(), Fail> {
-    let alloc = rt.alloc();
     let lines = b"deliver A r
 pull A B 10000
 cycle B A 1
@@ -396,38 +401,37 @@ serve A A as q
 deliver B q
 controller q #b1 #b0
 ";
-    let mut text = BOUND.to_vec(alloc)?;
-    text.extend_from_slice(lines)?;
-    assert_eq!(rt; shown(alloc, text.as_slice())?.as_slice(), text.as_slice());
-    Ok(())
+    is_printed(&rt, rt.alloc(), BOUND, lines)
 }
+
+/// Lines that may not follow those, each with its cause.
+const MISPLACED: &[(&[u8], &[u8])] = &[
+    (b"pull A B 0", b"line 5: no command"),
+    (b"cycle A B 10001", b"line 5: no command"),
+    (b"ask A B 5 q", b"line 5: no command"),
+    (b"ask A C 5 as q", b"line 5: unknown name"),
+    (b"ask A B 5 as q", b"line 5: name used"),
+    (b"serve B r as r", b"line 5: unknown name"),
+    (b"serve B q as r", b"line 5: name used"),
+    (b"deliver A q", b"line 5: unknown name"),
+    (b"cycle A q 5", b"line 5: unknown name"),
+    (b"stop A after 1001 kept", b"line 5: no command"),
+    (b"fail A after 1001", b"line 5: no command"),
+    (b"stop C after 1001 kept", b"line 5: no command"),
+    (b"stop C", b"line 5: unknown name"),
+    (b"stop q", b"line 5: unknown name"),
+    (b"stop C after 7 kept", b"line 5: unknown name"),
+    (b"fail C after 7", b"line 5: unknown name"),
+    (b"start C", b"line 5: unknown name"),
+    (b"start r", b"line 5: unknown name"),
+    (b"controller A #a0 #c1", b"line 5: name used"),
+    (b"controller C #a0 #c1", b"line 5: identifier used"),
+    (b"controller C #c0 #b1", b"line 5: identifier used"),
+];
 
 #[test]
 fn lines_that_may_not_follow_have_a_cause(rt: HostRuntime) -> Result<(), Fail> {
-    let cases = [
-        (b"pull A B 0".as_slice(), b"line 5: no command".as_slice()),
-        (b"cycle A B 10001", b"line 5: no command"),
-        (b"ask A B 5 q", b"line 5: no command"),
-        (b"ask A C 5 as q", b"line 5: unknown name"),
-        (b"ask A B 5 as q", b"line 5: name used"),
-        (b"serve B r as r", b"line 5: unknown name"),
-        (b"serve B q as r", b"line 5: name used"),
-        (b"deliver A q", b"line 5: unknown name"),
-        (b"cycle A q 5", b"line 5: unknown name"),
-        (b"stop A after 1001 kept", b"line 5: no command"),
-        (b"fail A after 1001", b"line 5: no command"),
-        (b"stop C after 1001 kept", b"line 5: no command"),
-        (b"stop C", b"line 5: unknown name"),
-        (b"stop q", b"line 5: unknown name"),
-        (b"stop C after 7 kept", b"line 5: unknown name"),
-        (b"fail C after 7", b"line 5: unknown name"),
-        (b"start C", b"line 5: unknown name"),
-        (b"start r", b"line 5: unknown name"),
-        (b"controller A #a0 #c1", b"line 5: name used"),
-        (b"controller C #a0 #c1", b"line 5: identifier used"),
-        (b"controller C #c0 #b1", b"line 5: identifier used"),
-    ];
-    have_answers(&rt, rt.alloc(), BOUND, &cases)
+    have_answers(&rt, rt.alloc(), BOUND, MISPLACED)
 }
 
 /// Two controllers, an image and a snapshot.
@@ -439,7 +443,6 @@ snapshot A as s
 
 #[test]
 fn images_and_snapshots_are_read_and_printed(rt: HostRuntime) -> Result<(), Fail> {
-    let alloc = rt.alloc();
     let lines = b"collect A 0
 collect B 18446744073709551615
 backup B as s
@@ -456,92 +459,86 @@ snapshot C as A
 restore i A #c2
 rollback i A
 ";
-    let mut text = COPIED.to_vec(alloc)?;
-    text.extend_from_slice(lines)?;
-    assert_eq!(rt; shown(alloc, text.as_slice())?.as_slice(), text.as_slice());
-    Ok(())
+    is_printed(&rt, rt.alloc(), COPIED, lines)
 }
+
+/// Lines that may not follow those, each with its cause.
+const MISPLACED_COPIES: &[(&[u8], &[u8])] = &[
+    (b"collect C 5", b"line 5: unknown name"),
+    (b"collect i 5", b"line 5: unknown name"),
+    (b"backup C as j", b"line 5: unknown name"),
+    (b"backup C as i", b"line 5: unknown name"),
+    (b"backup A as i", b"line 5: name used"),
+    (b"snapshot s as t", b"line 5: unknown name"),
+    (b"snapshot B as s", b"line 5: name used"),
+    (b"restore C i #c1", b"line 5: unknown name"),
+    (b"restore A s #a2", b"line 5: unknown name"),
+    (b"restore A j #a1", b"line 5: unknown name"),
+    (b"restore A i #a1", b"line 5: identifier used"),
+    (b"restore A i #b1", b"line 5: identifier used"),
+    (b"install C #c0 s #c1", b"line 5: unknown name"),
+    (b"install A #a0 j #a1", b"line 5: unknown name"),
+    (b"install A #c0 i #c1", b"line 5: name used"),
+    (b"install A #a0 i #a1", b"line 5: name used"),
+    (b"install C #b0 i #c1", b"line 5: identifier used"),
+    (b"install C #c0 i #b1", b"line 5: identifier used"),
+    (b"rollback C s", b"line 5: unknown name"),
+    (b"rollback A i", b"line 5: unknown name"),
+    // what the line before bound and gave
+    (b"backup B as j\nbackup A as j", b"line 6: name used"),
+    (b"snapshot B as t\nsnapshot A as t", b"line 6: name used"),
+    (b"snapshot B as t\nrestore A t #a2", b"line 6: unknown name"),
+    (
+        b"restore A i #a2\nrestore B i #a2",
+        b"line 6: identifier used",
+    ),
+    (
+        b"restore A i #a2\ncontroller C #c0 #a2",
+        b"line 6: identifier used",
+    ),
+    (
+        b"install C #c0 i #c1\ninstall C #d0 i #d1",
+        b"line 6: name used",
+    ),
+    (
+        b"install C #c0 i #c1\ncontroller D #c0 #d1",
+        b"line 6: identifier used",
+    ),
+    (
+        b"install C #c0 i #c1\nrestore A i #c1",
+        b"line 6: identifier used",
+    ),
+];
 
 #[test]
 fn images_and_snapshots_that_may_not_follow_have_a_cause(rt: HostRuntime) -> Result<(), Fail> {
-    let cases = [
-        (
-            b"collect C 5".as_slice(),
-            b"line 5: unknown name".as_slice(),
-        ),
-        (b"collect i 5", b"line 5: unknown name"),
-        (b"backup C as j", b"line 5: unknown name"),
-        (b"backup C as i", b"line 5: unknown name"),
-        (b"backup A as i", b"line 5: name used"),
-        (b"snapshot s as t", b"line 5: unknown name"),
-        (b"snapshot B as s", b"line 5: name used"),
-        (b"restore C i #c1", b"line 5: unknown name"),
-        (b"restore A s #a2", b"line 5: unknown name"),
-        (b"restore A j #a1", b"line 5: unknown name"),
-        (b"restore A i #a1", b"line 5: identifier used"),
-        (b"restore A i #b1", b"line 5: identifier used"),
-        (b"install C #c0 s #c1", b"line 5: unknown name"),
-        (b"install A #a0 j #a1", b"line 5: unknown name"),
-        (b"install A #c0 i #c1", b"line 5: name used"),
-        (b"install A #a0 i #a1", b"line 5: name used"),
-        (b"install C #b0 i #c1", b"line 5: identifier used"),
-        (b"install C #c0 i #b1", b"line 5: identifier used"),
-        (b"rollback C s", b"line 5: unknown name"),
-        (b"rollback A i", b"line 5: unknown name"),
-        // what the line before bound and gave
-        (b"backup B as j\nbackup A as j", b"line 6: name used"),
-        (b"snapshot B as t\nsnapshot A as t", b"line 6: name used"),
-        (b"snapshot B as t\nrestore A t #a2", b"line 6: unknown name"),
-        (
-            b"restore A i #a2\nrestore B i #a2",
-            b"line 6: identifier used",
-        ),
-        (
-            b"restore A i #a2\ncontroller C #c0 #a2",
-            b"line 6: identifier used",
-        ),
-        (
-            b"install C #c0 i #c1\ninstall C #d0 i #d1",
-            b"line 6: name used",
-        ),
-        (
-            b"install C #c0 i #c1\ncontroller D #c0 #d1",
-            b"line 6: identifier used",
-        ),
-        (
-            b"install C #c0 i #c1\nrestore A i #c1",
-            b"line 6: identifier used",
-        ),
-    ];
-    have_answers(&rt, rt.alloc(), COPIED, &cases)
+    have_answers(&rt, rt.alloc(), COPIED, MISPLACED_COPIES)
+}
+
+/// Lines that make so many controllers.
+fn controllers(alloc: Global, count: u32) -> Result<String, Fail> {
+    let mut text = String::new(alloc);
+    for number in 0..count {
+        let line = format!(in alloc; "controller C{number} #{number:x} #{number:x}\n")?;
+        text.push_str(line.as_str())?;
+    }
+    Ok(text)
 }
 
 #[test]
 fn an_installed_controller_is_counted(rt: HostRuntime) -> Result<(), Fail> {
-    let mut text = String::new(rt.alloc());
-    for number in 1..64u32 {
-        let line = format!(in rt.alloc(); "controller C{number} #{number:x} #{number:x}\n")?;
-        text.push_str(line.as_str())?;
-    }
-    text.push_str("backup C1 as i\ninstall C64 #40 i #40\ninstall C65 #41 i #41\n")?;
-    assert_eq!(rt;
-        shown(rt.alloc(), text.as_bytes())?.as_slice(),
-        b"line 66: too many".as_slice()
-    );
+    let made = controllers(rt.alloc(), 63)?;
+    let lines = b"backup C1 as i\ninstall C64 #40 i #40\ninstall C65 #41 i #41\n";
+    let told = shown_behind(rt.alloc(), made.as_bytes(), lines)?;
+    assert_eq!(rt; told.as_slice(), b"line 66: too many".as_slice());
     Ok(())
 }
 
 #[test]
 fn the_65th_controller_is_one_too_many(rt: HostRuntime) -> Result<(), Fail> {
-    let mut text = String::new(rt.alloc());
-    for number in 1..66u32 {
-        let line = format!(in rt.alloc(); "controller C{number} #{number:x} #{number:x}\n")?;
-        text.push_str(line.as_str())?;
-    }
-    assert_eq!(rt;
-        shown(rt.alloc(), text.as_bytes())?.as_slice(),
-        b"line 65: too many".as_slice()
-    );
+    let made = controllers(rt.alloc(), 65)?;
+    let told = shown(rt.alloc(), made.as_bytes())?;
+    assert_eq!(rt; told.as_slice(), b"line 65: too many".as_slice());
     Ok(())
 }
 
