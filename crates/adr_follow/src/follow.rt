@@ -9,7 +9,7 @@ ghost use Rattle.adr_law_formed.specs.Tested.{can_follow, writes_pass};
 use crate::NoMemory;
 use crate::removed::are_removable;
 use crate::touched::are_touched_formed;
-use crate::vectors::{are_in_order, goes_on};
+use crate::vectors::{are_in_order, comes_after};
 use crate::writes::may_follow_in_turn;
 use adr_law_formed::changes_are_tested;
 use adr_state::{Change, State};
@@ -33,7 +33,7 @@ pub fn can_follow(alloc: Global, state: &State, change: &Change) -> Result<bool,
 fn passes(alloc: Global, state: &State, change: &Change) -> Result<bool, NoMemory>
     ensures { IfOk result (λ can. can ≡ can_follow state.now change.now) }
 {
-    if !goes_on(state, change) {
+    if !comes_after(state, change) {
         return Ok(false);
     }
     if !are_in_order(state, change) {

@@ -3,7 +3,7 @@
 ghost use Rattle.std.specs.Prelude.{◌≡◌, length};
 ghost use Rattle.adr_vector.specs.Vector.{at, at_most};
 ghost use Rattle.adr_model.specs.Change.{after, with_mark};
-ghost use Rattle.adr_law_formed.specs.Tested.{are_in_order, goes_on};
+ghost use Rattle.adr_law_formed.specs.Tested.{are_in_order, comes_after};
 
 use adr_guid::Guid;
 use adr_state::{CURSOR_LIMIT, Change, MARK_LIMIT, State, is_same};
@@ -11,8 +11,8 @@ use adr_told::len_after;
 use adr_vector::seen_by_both;
 
 /// Whether a change goes on from a state that is up, at its USN or above it.
-pub(crate) fn goes_on(state: &State, change: &Change) -> bool
-    ensures { result ≡ goes_on state.now change.now }
+pub(crate) fn comes_after(state: &State, change: &Change) -> bool
+    ensures { result ≡ comes_after state.now change.now }
 {
     !state.mode().is_quarantined() && state.usn() <= change.usn()
 }

@@ -28,7 +28,7 @@ use Rattle.adr_law_calls.proofs.Stamps.{row_held_is}
 use Rattle.adr_law_formed.specs.Follow.{IsRemovable, HasKnownClasses, CanFollow}
 use Rattle.adr_law_formed.specs.Touched.{IsInForm, AreTouchedInForm, CanFollowByTouched}
 use Rattle.adr_law_formed.specs.Spelled.{IsSpelledChange}
-use Rattle.adr_law_formed.specs.Tested.{may_follow_in_turn, is_removable, are_removable, is_object_formed, is_touched_formed, are_touched_formed, goes_on, are_in_order, writes_pass, can_follow}
+use Rattle.adr_law_formed.specs.Tested.{may_follow_in_turn, is_removable, are_removable, is_object_formed, is_touched_formed, are_touched_formed, comes_after, are_in_order, writes_pass, can_follow}
 use Rattle.adr_law_calls.proofs.Passed.{normal_where_not_quarantined}
 use Rattle.adr_law_formed.proofs.WritesTested.{all_pass, passes_all, following_where_tested, tested_where_following}
 use Rattle.adr_law_formed.proofs.UnitTested.{unit_where_tested, tested_where_unit}
@@ -153,8 +153,8 @@ follows_where_tested s c formed known spelled h =
     let table = numbered s.store.schema in
     let written = rows_after [] (held_of c.writes) s.store.rows in
     let left = (after s c).store in
-    let whole = and_parts (goes_on s c && are_in_order s c) (writes_pass s c) h in
-    let numbers = and_parts (goes_on s c) (are_in_order s c) whole.0 in
+    let whole = and_parts (comes_after s c && are_in_order s c) (writes_pass s c) h in
+    let numbers = and_parts (comes_after s c) (are_in_order s c) whole.0 in
     let on = and_parts (not (is_quarantined s.mode)) (nat_le s.store.usn c.usn) numbers.0 in
     let marks = and_parts _ (nat_le (length left.marks) mark_limit) numbers.1 in
     let cursors = and_parts _ (nat_le (length left.vector) cursor_limit) marks.0 in
@@ -186,7 +186,7 @@ tested_where_follows s c formed can =
     let table = numbered s.store.schema in
     let written = rows_after [] (held_of c.writes) s.store.rows in
     let left = (after s c).store in
-    let on : goes_on s c ≡ true = and_from _ _
+    let on : comes_after s c ≡ true = and_from _ _
     (ap (λ m. not (is_quarantined m)) f.goes_on.normal)
     (le-leb s.store.usn c.usn f.goes_on.rises) in
     let ordered : are_in_order s c ≡ true = and_from _ _ (and_from _ _ (and_from _ _

@@ -136,8 +136,8 @@ are_touched_formed table rows ws = list_all (λ (w : Written). is_touched_formed
 -- ---- the whole
 
 -- the state is up, and the change at its USN or above it
-abbrev pub goes_on : State → Change → Bool
-goes_on s c = not (is_quarantined s.mode) && nat_le s.store.usn c.usn
+abbrev pub comes_after : State → Change → Bool
+comes_after s c = not (is_quarantined s.mode) && nat_le s.store.usn c.usn
 
 -- the vectors of the change fit the state, and there are few enough cursors and marks behind it
 abbrev pub are_in_order : State → Change → Bool
@@ -160,4 +160,4 @@ writes_pass s c =
 
 -- whether a change can follow a state
 abbrev pub can_follow : State → Change → Bool
-can_follow s c = goes_on s c && are_in_order s c && writes_pass s c
+can_follow s c = comes_after s c && are_in_order s c && writes_pass s c
