@@ -1,29 +1,14 @@
 -- What the text of a schedule gives: a status, and what is written.
-use Rattle.std.specs.Prelude.{ℕ, List, [], ◌∷◌, ◌++◌, Bool, false, Result, Ok, Err, codes}
+use Rattle.std.specs.Prelude.{ℕ, List, [], ◌∷◌, Bool, false, Result, Ok, Err, codes}
 use Rattle.std.specs.Str.{bytes_eq}
-use Rattle.std.specs.Fmt.{decimal}
 use Rattle.adr_event.specs.declared.event.Event.{Event}
 use Rattle.adr_io.specs.declared.Fault.{Fault}
 use Rattle.adr_io.specs.declared.Fault.TheVariants.{Failed, NoMemory}
-use Rattle.adr_schedule.specs.declared.fault.Cause.{Cause}
-use Rattle.adr_schedule.specs.declared.fault.Cause.TheVariants.{NotUtf8, NoCommand, UnknownName, NameUsed, IdentifierUsed, TooMany, TooLong}
 use Rattle.adr_schedule.specs.declared.fault.ScheduleFault.{ScheduleFault}
 use Rattle.adr_schedule.specs.Events.{events_of}
+use Rattle.adr_schedule.specs.Telling.{fault_line}
 use Rattle.adr_model.specs.World.{empty_world}
 use Rattle.adr_world.specs.Played.{output_from}
-
-abbrev pub cause_text : Cause → List ℕ
-cause_text NotUtf8 = codes "not UTF-8"
-cause_text NoCommand = codes "no command"
-cause_text UnknownName = codes "unknown name"
-cause_text NameUsed = codes "name used"
-cause_text IdentifierUsed = codes "identifier used"
-cause_text TooMany = codes "too many"
-cause_text TooLong = codes "too long"
-
--- the line of a text's first fault
-unfoldable pub fault_line : ScheduleFault → List ℕ
-fault_line f = codes "line " ++ decimal f.line ++ codes ": " ++ cause_text f.cause ++ codes "\n"
 
 -- a text's status, and what is written for it: the run of its events, or its first fault
 abbrev pub outcome_of : Result (List Event) ScheduleFault → ℕ × List ℕ

@@ -2,7 +2,6 @@
 //! parser of schedules, the run and the lines of answers, and on sources and sinks of any kind.
 #![tactic(auto)]
 
-mod reading;
 mod top;
 
 pub use top::run;

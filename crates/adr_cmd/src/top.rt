@@ -1,20 +1,18 @@
 //! The top call.
 
-ghost use Rattle.std.specs.Prelude.{◌≡◌, ◌⊎◌, ◌<◌, ◌≤◌, ◌++◌, ◌∷◌, ◌+◌, ℕ, List, [], map, string_bytes, true, false, OnOk, OnErr, IfOk, IfErr, IfSome, IsErrOf, drop, Some, codes};
-ghost use Rattle.std.specs.Fmt.{decimal};
+ghost use Rattle.std.specs.Prelude.{◌≡◌, ◌⊎◌, ◌<◌, ◌≤◌, ◌+◌, ℕ, List, [], map, string_bytes, true, false, OnOk, OnErr, IfSome, IsErrOf, drop, Some};
 ghost use Rattle.adr_io.specs.Told.{Adds, AddsFront};
 ghost use Rattle.adr_law_headline.specs.Headline.{IsHeadline};
 ghost use Rattle.adr_report.specs.Laws.{EqualLinesMeanEqualDirectories};
 ghost use Rattle.adr_schedule.specs.Limits.{text_limit};
-ghost use Rattle.adr_cmd.specs.Outcome.{outcome, cause_text, fault_line, is_replay, usage_line, ended};
+ghost use Rattle.adr_schedule.specs.Telling.{fault_line};
+ghost use Rattle.adr_cmd.specs.Outcome.{outcome, is_replay, usage_line, ended};
 ghost use Rattle.adr_cmd.specs.Shown.{AtEachShow};
 
-use crate::reading::read_all;
-use adr_io::{Fault, Sink, Source};
-use adr_schedule::{Cause, Failure, ScheduleFault, parse};
-use adr_token::{push, push_number};
+use adr_io::{Fault, Sink, Source, read_at_most};
+use adr_schedule::{Failure, ScheduleFault, TEXT_LIMIT, fault_line, parse};
 use adr_world::play;
-use std::alloc::{AllocError, Global};
+use std::alloc::Global;
 
 /// Whether the words are the one command that there is.
 fn is_replay(words: &[String]) -> bool
@@ -24,34 +22,6 @@ fn is_replay(words: &[String]) -> bool
         [word] => word.as_bytes() == b"replay".as_slice(),
         _ => false,
     }
-}
-
-fn cause_text(cause: Cause) -> &'static str
-    ensures { result.now ≡ cause_text cause }
-{
-    match cause {
-        Cause::NotUtf8 => "not UTF-8",
-        Cause::NoCommand => "no command",
-        Cause::UnknownName => "unknown name",
-        Cause::NameUsed => "name used",
-        Cause::IdentifierUsed => "identifier used",
-        Cause::TooMany => "too many",
-        Cause::TooLong => "too long",
-    }
-}
-
-/// The line of a fault.
-#[tactic(auto, unfolding(crate::specs::Outcome::fault_line))]
-fn fault_line(alloc: Global, fault: ScheduleFault) -> Result<Vec<u8>, AllocError>
-    ensures { IfOk result (λ out. out.items ≡ fault_line fault) }
-{
-    let mut out = Vec::new(alloc);
-    push(&mut out, b"line ")?;
-    push_number(alloc, &mut out, u64::from(fault.line))?;
-    push(&mut out, b": ")?;
-    push(&mut out, cause_text(fault.cause).as_bytes())?;
-    push(&mut out, b"\n")?;
-    Ok(out)
 }
 
 /// The status after a write: this one, or that of the fault.
@@ -114,7 +84,7 @@ fn replay<S: Source, K: Sink>(alloc: Global, source: &mut S, sink: &mut K) -> u8
     ensures source_faults { S.faults source.old ≤ S.faults source.new }
     ensures sink_faults { K.faults sink.old ≤ K.faults sink.new }
 {
-    let text = match read_all(alloc, source) {
+    let text = match read_at_most(alloc, source, TEXT_LIMIT + 1) {
         Ok(text) => text,
         Err(Fault::Failed) => return 4,
         Err(Fault::NoMemory) => return 8,

@@ -1,5 +1,6 @@
 pub mod Limits
 pub mod Faults
+pub mod Telling
 pub mod Lines
 pub mod Verbs
 pub mod Crashes

@@ -1,4 +1,4 @@
-//! Schedules: the events that the lines of a text stand for. It stands on the tokens of `adr_token` and the events of
+//! Schedules: the events that the lines of a text stand for, or its first fault and the line that tells it. It stands on the tokens of `adr_token` and the events of
 //! `adr_event`, and knows nothing of what an event does.
 #![tactic(auto)]
 
@@ -12,6 +12,7 @@ mod names;
 mod parsing;
 mod seen;
 mod sets;
+mod telling;
 mod verb;
 
 pub use adr_event::{Event, Failure};
@@ -20,3 +21,4 @@ pub use fault::{Cause, ScheduleFault};
 pub use laws::{faults_read_back, lines_read_back, schedules_read_back};
 pub use limits::TEXT_LIMIT;
 pub use parsing::parse;
+pub use telling::fault_line;

@@ -20,7 +20,7 @@ returns-clause-front g c =
 
 pub returns-clause-ended : goal.returns-clause-ended
 returns-clause-ended g c zero =
-    told_end (g.S.Source.left c.args.source.now) (g.S.Source.left c.read_all.new.source) c.ended.result
+    told_end (g.S.Source.left c.args.source.now) (g.S.Source.left c.read_at_most.new.source) c.ended.result
     (told_status (g.S.Source.left c.args.source.now) c.as_slice.result.now c.ended.result c.perform-status.result.0 c.perform-status.result.1
     (rw c.as_slice.ensures.value c.in-Ok.ensures.read) c.ended.ensures c.perform-status.ensures.status (inl zero))
     c.in-Ok.ensures.left zero

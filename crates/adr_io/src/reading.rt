@@ -1,14 +1,9 @@
-//! Reading a source to its end.
+//! Reading a source to its end, or to a limit.
 
 ghost use Rattle.std.specs.Prelude.{◌≡◌, ◌<◌, ◌≤◌, ℕ, List, length, take, drop, [], ◌++◌, ◌+◌, Some, Ok, IfOk, IfSome, OnOk, IsErrOf};
-ghost use Rattle.adr_schedule.specs.Limits.{text_limit};
 
-use adr_io::{Fault, Source};
-use adr_schedule::TEXT_LIMIT;
+use crate::{Fault, Source};
 use std::alloc::Global;
-
-/// The most bytes that are read: one more than a text may have.
-const MOST: usize = TEXT_LIMIT + 1;
 
 /// Reads some bytes, at most so many; at the end none.
 fn read_some<S: Source>(source: &mut S, bytes: &mut Vec<u8>, room: usize) -> Result<usize, Fault>
@@ -30,20 +25,19 @@ fn read_some<S: Source>(source: &mut S, bytes: &mut Vec<u8>, room: usize) -> Res
     Ok(count)
 }
 
-/// Reads to the end, or until there are more bytes than a text may have.
-pub fn read_all<S: Source>(alloc: Global, source: &mut S) -> Result<Vec<u8>, Fault>
-    ensures read { IfOk result (λ bytes. IfSome (S.left source.old) (λ text.
-        bytes.items ≡ take (text_limit + 1) text)) }
-    ensures left { IfOk result (λ bytes. IfSome (S.left source.old) (λ text.
-        S.left source.new ≡ Some (drop (text_limit + 1) text))) }
-    ensures at_most { IfSome (S.left source.old) (λ text. (n : ℕ) × (n ≤ text_limit + 1)
-        × (S.left source.new ≡ Some (drop n text))) }
+/// Reads to the end, or until there are as many bytes as are wanted at most.
+pub fn read_at_most<S: Source>(alloc: Global, source: &mut S, most: usize) -> Result<Vec<u8>, Fault>
+    ensures read { IfOk result (λ bytes. IfSome (S.left source.old) (λ before. bytes.items ≡ take most before)) }
+    ensures left { IfOk result (λ bytes. IfSome (S.left source.old) (λ before.
+        S.left source.new ≡ Some (drop most before))) }
+    ensures at_most { IfSome (S.left source.old) (λ before. (n : ℕ) × (n ≤ most)
+        × (S.left source.new ≡ Some (drop n before))) }
     ensures never_falls { S.faults source.old ≤ S.faults source.new }
     ensures failed { IsErrOf result Fault.Failed → S.faults source.old < S.faults source.new }
 {
     let mut bytes = Vec::new(alloc);
-    'turns: for turn in 0..MOST {
-        let room = MOST - bytes.len();
+    'turns: for turn in 0..most {
+        let room = most - bytes.len();
         if room == 0 {
             return Ok(bytes);
         }

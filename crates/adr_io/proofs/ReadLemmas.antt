@@ -23,7 +23,7 @@ read_more (Some text) now next bytes bytes' n told piece len =
       p.1 ∙ ap Some (drop-drop n (length bytes) text ∙ ap (λ (m : ℕ). drop m text) (sym len)),
     )
 
--- there are as many as a text may have, and one more
+-- there are as many as are wanted at most
 pub read_most : (first now : Option (List ℕ)) (bytes : List ℕ) (most : ℕ) → HasRead first now bytes → length bytes ≡ most → IfSome first (λ text. bytes ≡ take most text)
 read_most None now bytes most told len = tt
 read_most (Some text) now bytes most told len = subst (λ k. bytes ≡ take k text) len told.1
