@@ -28,7 +28,7 @@ type ClassRow = (
     &'static [u16],
 );
 
-const CLASSES: [ClassRow; 5] = [
+const CLASSES: &[ClassRow] = &[
     (3, "organizationalUnit", &[], &[12, 18, 20, 32], &[1, 3]),
     (4, "container", &[], &[12], &[1, 3, 4]),
     (
@@ -77,17 +77,19 @@ fn stands_only_under(schema: Schema, class: u16, superiors: &[u16]) -> bool {
 fn classes_are_those_of_the_table(rt: HostRuntime) -> Result<(), Fail> {
     let schema = Schema::new(1).ok_or("schema 1")?;
     for (class, name, must, may, superiors) in CLASSES {
-        let named = class_name(class) == Some(name) && class_number(name.as_bytes()) == Some(class);
+        let class = *class;
+        let named = class_name(class) == Some(*name)
+            && class_number(name.as_bytes()) == Some(class);
         assert!(rt;
             named
-                && schema.must(class) == must
+                && schema.must(class) == *must
                 && has_only(schema, class, must, may)
                 && stands_only_under(schema, class, superiors),
             "{name}"
         );
     }
-    for class in [0, 1, 2, 8, 9] {
-        assert_eq!(rt; class_name(class), None);
+    for class in &[0, 1, 2, 8, 9] {
+        assert_eq!(rt; class_name(*class), None);
     }
     Ok(())
 }
@@ -128,7 +130,7 @@ const SIGNED: Syntax = Syntax::Number {
 };
 
 #[rattlefmt::skip]
-const ATTRIBUTES: [(u16, &str, Kind); 18] = [
+const ATTRIBUTES: &[(u16, &str, Kind)] = &[
     (1, "class", Kind::Reserved),
     (2, "name", Kind::Reserved),
     (3, "deleted", Kind::Reserved),
@@ -152,37 +154,46 @@ const ATTRIBUTES: [(u16, &str, Kind); 18] = [
 #[test]
 fn attributes_are_those_of_the_table(rt: HostRuntime) {
     for (attr, name, kind) in ATTRIBUTES {
-        let named = attribute_name(attr) == Some(name)
-            && attribute_number(name.as_bytes()) == Some(attr);
-        assert!(rt; named && attribute_kind(attr) == Some(kind), "{name}");
+        let named = attribute_name(*attr) == Some(*name)
+            && attribute_number(name.as_bytes()) == Some(*attr);
+        assert!(rt; named && attribute_kind(*attr) == Some(*kind), "{name}");
     }
-    for attr in [0, 4, 9, 21, 29, 34] {
-        assert_eq!(rt; attribute_name(attr), None);
+    for attr in &[0, 4, 9, 21, 29, 34] {
+        assert_eq!(rt; attribute_name(*attr), None);
+    }
+}
+
+/// Names, and where a bad one is wrong.
+const NAMES: &[(&str, Option<u32>)] = &[
+    ("Ann", None),
+    ("a b", None),
+    ("\u{80}", None),
+    ("", Some(0)),
+    (" n", Some(0)),
+    ("n ", Some(1)),
+    ("an\n", Some(2)),
+    ("a\u{7f}n ", Some(1)),
+];
+
+/// Where a name is wrong, if it is.
+fn wrong_at(name: &str) -> Option<u32> {
+    match check_name(name) {
+        Err(SchemaRefusal::BadName { place }) => Some(place),
+        _ => None,
     }
 }
 
 #[test]
 fn names_are_checked_and_folded(rt: HostRuntime) -> Result<(), Fail> {
-    for (name, wrong) in [
-        ("Ann", None),
-        ("a b", None),
-        ("\u{80}", None),
-        ("", Some(0)),
-        (" n", Some(0)),
-        ("n ", Some(1)),
-        ("an\n", Some(2)),
-        ("a\u{7f}n ", Some(1)),
-    ] {
-        let as_due = match check_name(name) {
-            Ok(()) => wrong.is_none(),
-            Err(SchemaRefusal::BadName { place }) => wrong == Some(place),
-            Err(_) => false,
-        };
-        assert!(rt; as_due, "{name:?}");
+    for (name, wrong) in NAMES {
+        assert_eq!(rt; check_name(name).is_ok(), wrong.is_none(), "{name:?}");
+        assert_eq!(rt; wrong_at(name), *wrong, "{name:?}");
     }
-    for (name, folded) in [("straße", "strasse"), ("LostAndFound", "lostandfound")] {
-        assert_eq!(rt; fold_name(rt.alloc(), name)?.as_str(), folded);
-    }
+    assert_eq!(rt; fold_name(rt.alloc(), "straße")?.as_str(), "strasse");
+    assert_eq!(rt;
+        fold_name(rt.alloc(), "LostAndFound")?.as_str(),
+        "lostandfound"
+    );
     Ok(())
 }
 
@@ -381,14 +392,14 @@ fn bytes_are_refused_at_the_first_wrong_field(rt: HostRuntime) -> Result<(), Fai
 /// How many calls pass, and what a crash then leaves where it keeps, loses or tears what wasn't synced.
 type Images = (u32, &'static [u8], &'static [u8], &'static [u8]);
 
-const AFTER: [Images; 4] = [
+const AFTER: &[Images] = &[
     (1, b"abcdXYZ", b"abcd", b"abcdX\xC3\xC3"),
     (2, b"abcdXYZ", b"abcdXYZ", b"abcdXYZ"),
     (3, b"pqrdXYZ", b"abcdXYZ", b"p\xC3\xC3dXYZ"),
     (4, b"pqrdXYZ", b"pqrdXYZ", b"pqrdXYZ"),
 ];
 
-const WITHIN: [Images; 4] = [
+const WITHIN: &[Images] = &[
     (0, b"abcdXYZ", b"abcd", b"abcdX\xC3\xC3"),
     (1, b"abcdXYZ", b"abcd", b"abcdX\xC3\xC3"),
     (2, b"pqrdXYZ", b"abcdXYZ", b"p\xC3\xC3dXYZ"),
@@ -439,24 +450,38 @@ fn leaves(alloc: Global, within: bool, row: Images) -> Result<bool, Fail> {
 #[test]
 fn a_crash_leaves_the_images_of_the_table(rt: HostRuntime) -> Result<(), Fail> {
     for row in AFTER {
-        assert!(rt; leaves(rt.alloc(), false, row)?, "after");
+        assert!(rt; leaves(rt.alloc(), false, *row)?, "after");
     }
     for row in WITHIN {
-        assert!(rt; leaves(rt.alloc(), true, row)?, "within");
+        assert!(rt; leaves(rt.alloc(), true, *row)?, "within");
     }
     Ok(())
 }
 
-#[test]
-fn a_file_is_written_and_opened_again(rt: HostRuntime) -> Result<(), Fail> {
-    let mut disk = FileDisk::new(rt.alloc(), &rt);
-    let told = [
+/// What a disk in a file answers: without a file, with one, and in a folder that isn't there.
+fn file_written(rt: &HostRuntime) -> [Result<(), Fault>; 5] {
+    let mut disk = FileDisk::new(rt.alloc(), rt);
+    [
         disk.sync(),
         disk.attach("disk_test"),
         disk.write_at(0, b"abcd"),
         disk.sync(),
         disk.attach("no_such_folder/disk_test"),
-    ];
+    ]
+}
+
+/// How long that file is, and what is read of its end.
+fn file_opened_again(rt: &HostRuntime) -> Result<(u64, usize, [u8; 8]), Fault> {
+    let mut disk = FileDisk::new(rt.alloc(), rt);
+    disk.attach("disk_test")?;
+    let mut into = [0; 8];
+    let len = disk.len()?;
+    let count = disk.read(2, &mut into)?;
+    Ok((len, count, into))
+}
+
+#[test]
+fn a_file_is_written_and_opened_again(rt: HostRuntime) -> Result<(), Fail> {
     let due = [
         Err(Fault::Failed),
         Ok(()),
@@ -464,12 +489,8 @@ fn a_file_is_written_and_opened_again(rt: HostRuntime) -> Result<(), Fail> {
         Ok(()),
         Err(Fault::Failed),
     ];
-    assert_eq!(rt; told, due);
-    let mut again = FileDisk::new(rt.alloc(), &rt);
-    let mut into = [0; 8];
-    assert_eq!(rt; again.attach("disk_test"), Ok(()));
-    assert_eq!(rt; (again.len(), again.read(2, &mut into)), (Ok(4), Ok(2)));
-    assert_eq!(rt; into, *b"cd\0\0\0\0\0\0");
+    assert_eq!(rt; file_written(&rt), due);
+    assert_eq!(rt; file_opened_again(&rt), Ok((4, 2, *b"cd\0\0\0\0\0\0")));
     fs::remove_file(&rt, "disk_test.adr")?;
     Ok(())
 }
