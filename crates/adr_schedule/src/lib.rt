@@ -1,5 +1,5 @@
-//! Schedules: the events that the lines of a text stand for, or its first fault and the line that tells it. It stands on the tokens of `adr_token` and the events of
-//! `adr_event`, and knows nothing of what an event does.
+//! Schedules: the events that the lines of a text stand for, or its first fault and the line that tells it. It stands
+//! on the tokens of `adr_token` and the events of `adr_event`, and knows nothing of what an event does.
 #![tactic(auto)]
 
 mod commands;
