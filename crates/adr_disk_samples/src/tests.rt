@@ -1,5 +1,8 @@
 //! The bytes of a log, what calls leave that meet a mishap, logs that are cut, and the limit of logs.
 
+ghost use Rattle.std.specs.Prelude.{◌≤◌};
+ghost use Rattle.adr_model.specs.Lengths.{log_limit};
+
 use crate::kept::{Finding, Mishap};
 use crate::logs::{commit_log, format_log, log_bytes, run_plain, start_log, start_of};
 use adr_disk::Crash;
@@ -67,10 +70,10 @@ fn a_log_has_its_bytes(rt: HostRuntime) -> Result<(), Fail> {
 }
 
 /// The kinds of crash.
-const CRASHES: [Crash; 3] = [Crash::Kept, Crash::Lost, Crash::Torn];
+const CRASHES: &[Crash] = &[Crash::Kept, Crash::Lost, Crash::Torn];
 
 /// What may meet a call.
-const MISHAPS: [Mishap; 4] = [
+const MISHAPS: &[Mishap] = &[
     Some(Crash::Kept),
     Some(Crash::Lost),
     Some(Crash::Torn),
@@ -99,9 +102,9 @@ fn start_holds(alloc: Global, calls: u32, mishap: Mishap, how: Crash) -> Result<
 /// Whether each call holds whose next call of the disk but so many meets this, with any crash behind it.
 fn all_hold(alloc: Global, calls: u32, mishap: Mishap) -> Result<bool, Fail> {
     for how in CRASHES {
-        let holds = format_holds(alloc, calls, mishap, how)
-            && commit_holds(alloc, calls, mishap, how)?
-            && start_holds(alloc, calls, mishap, how)?;
+        let holds = format_holds(alloc, calls, mishap, *how)
+            && commit_holds(alloc, calls, mishap, *how)?
+            && start_holds(alloc, calls, mishap, *how)?;
         if !holds {
             return Ok(false);
         }
@@ -115,14 +118,14 @@ fn whatever_meets_a_call_a_start_finds_the_state_before_or_after(
 ) -> Result<(), Fail> {
     for mishap in MISHAPS {
         for calls in 0..8 {
-            assert!(rt; all_hold(rt.alloc(), calls, mishap)?);
+            assert!(rt; all_hold(rt.alloc(), calls, *mishap)?);
         }
     }
     Ok(())
 }
 
 /// Where a log that is cut within its head is refused: each field's place.
-const FIELDS: [usize; 14] = [1, 5, 7, 23, 39, 43, 47, 49, 53, 61, 65, 69, 73, 77];
+const FIELDS: &[usize] = &[1, 5, 7, 23, 39, 43, 47, 49, 53, 61, 65, 69, 73, 77];
 
 /// The last place of these that the log reaches.
 fn place_in(places: &[usize], len: usize) -> u64 {
@@ -141,7 +144,7 @@ fn cut_place(len: usize) -> u64 {
         return 0;
     }
     if len < GATE {
-        return place_in(&FIELDS, len);
+        return place_in(FIELDS, len);
     }
     if len < LAST_GATE { 81 } else { 260 }
 }
@@ -176,16 +179,25 @@ fn a_log_in_memory_alone_is_started_again(rt: HostRuntime) -> Result<(), Fail> {
     Ok(())
 }
 
-#[test]
-fn a_log_ends_at_its_limit_at_the_most(rt: HostRuntime) -> Result<(), Fail> {
-    let alloc = rt.alloc();
+/// A quarantine. Its record is a length, a body of 26 bytes and a gate.
+fn quarantine(alloc: Global) -> Change {
     let (joined, purged) = (Vector::new(alloc), Vector::new(alloc));
     let (removed, writes) = (Vec::new(alloc), Vec::new(alloc));
-    // a record of its length, a body of 26 bytes and a gate
-    let change = Change::new(5, Mode::Quarantined, None, joined, purged, removed, writes);
+    Change::new(5, Mode::Quarantined, None, joined, purged, removed, writes)
+}
+
+/// Where a log ends behind that record which ended here.
+fn end_after(alloc: Global, end: u64) -> Option<u64>
+    requires { end ≤ log_limit }
+{
+    log_end_after(end, &quarantine(alloc))
+}
+
+#[test]
+fn a_log_ends_at_its_limit_at_the_most(rt: HostRuntime) {
+    let alloc = rt.alloc();
     assert_eq!(rt; LOG_LIMIT, 0x8000_0000);
-    assert_eq!(rt; log_end_after(LOG_LIMIT - 32, &change), Some(LOG_LIMIT - 1));
-    assert_eq!(rt; log_end_after(LOG_LIMIT - 31, &change), Some(LOG_LIMIT));
-    assert_eq!(rt; log_end_after(LOG_LIMIT - 30, &change), None);
-    Ok(())
+    assert_eq!(rt; end_after(alloc, LOG_LIMIT - 32), Some(LOG_LIMIT - 1));
+    assert_eq!(rt; end_after(alloc, LOG_LIMIT - 31), Some(LOG_LIMIT));
+    assert_eq!(rt; end_after(alloc, LOG_LIMIT - 30), None);
 }
