@@ -21,8 +21,10 @@ PROGRAM = "adrep"
 MEMORY = 3_000_000_000
 # Processes for a check that others wait for: it ends in half of the time, and takes a third more of the processors.
 JOBS = 3
-# By how many seconds a crate may end later than the one that most wait for, for each step of niceness.
-STEP = 30
+# By how many seconds a crate may end later than the one that most wait for, and still have as many.
+NEAR = 30
+# Seconds of such slack for each step of niceness.
+STEP = 10
 
 
 def tell(text):
@@ -173,12 +175,12 @@ class Build:
     def share_of(self, name):
         """Processes for a crate's check, and their niceness, by how much later it may end than the crate that most wait for.
 
-        It has several where most wait for it, or where processors would have nothing to do.
+        It has several processes where others wait for it, or where processors would have nothing to do.
         """
         slack = max(map(self.waiting.get, [name, *self.under_way])) - self.waiting[name]
         beside = min(len(self.ready()), self.workers - len(self.under_way) - 1)
         idle = self.processors - sum(self.under_way.values()) - beside
-        jobs = self.processors if slack == 0 else idle
+        jobs = self.processors if slack < NEAR else idle
         return max(1, min(JOBS, jobs)), min(19, int(slack / STEP))
 
     def next(self):
@@ -239,7 +241,7 @@ class Build:
 def main():
     memory = os.sysconf("SC_PAGE_SIZE") * os.sysconf("SC_PHYS_PAGES")
     processors = len(os.sched_getaffinity(0))
-    workers = max(1, min(processors + processors // 2, memory // MEMORY))
+    workers = max(1, min(processors + 1, memory // MEMORY))
     crates = crates_of_program()
     tell(f"building the program: its {len(crates)} crates are proved, {workers} at a time, which takes some minutes once")
     if not Build(crates, Toolchain(), processors, workers).run():

@@ -155,16 +155,17 @@ fn a_change_is_read_behind_its_usn(rt: HostRuntime) -> Result<(), Fail> {
 /// A quarantine at the USN 5.
 const QUARANTINE: [&[u8]; 6] = [LONG_5, &[1, 0], NONE, NONE, NONE, NONE];
 
-/// The change that says so.
-fn quarantine(alloc: Global) -> Change {
+/// The bytes of the change that says so.
+fn quarantine(alloc: Global) -> Result<Vec<u8>, Fail> {
     let (joined, purged) = (Vector::new(alloc), Vector::new(alloc));
     let (removed, writes) = (Vec::new(alloc), Vec::new(alloc));
-    Change::new(5, Mode::Quarantined, None, joined, purged, removed, writes)
+    let change = Change::new(5, Mode::Quarantined, None, joined, purged, removed, writes);
+    Ok(encode_change(alloc, &change)?)
 }
 
 #[test]
 fn a_change_is_written_as_its_bytes(rt: HostRuntime) -> Result<(), Fail> {
-    let bytes = encode_change(rt.alloc(), &quarantine(rt.alloc()))?;
+    let bytes = quarantine(rt.alloc())?;
     assert_eq!(rt; bytes.as_slice(), QUARANTINE.concat(rt.alloc())?.as_slice());
     Ok(())
 }
