@@ -1,30 +1,17 @@
 //! Lines that say something, and lines that are bad, with their causes.
 
 use adr_print::print;
-use adr_schedule::{Cause, Failure, TEXT_LIMIT, parse};
+use adr_schedule::{Failure, TEXT_LIMIT, fault_line, parse};
 use std::alloc::{AllocError, Global};
 use std::process::Abort;
 use std::test::Fail;
 
-/// The printed events of a text, or its fault.
+/// The printed events of a text, or the line of its fault.
 fn shown(alloc: Global, text: &[u8]) -> Result<Vec<u8>, AllocError> {
     match parse(alloc, text) {
         Ok(events) => print(alloc, events.as_slice()),
         Err(Failure::NoMemory) => Err(AllocError),
-        Err(Failure::Refused(fault)) => {
-            let line = fault.line;
-            let cause = match fault.cause {
-                Cause::NotUtf8 => "not UTF-8",
-                Cause::NoCommand => "no command",
-                Cause::UnknownName => "unknown name",
-                Cause::NameUsed => "name used",
-                Cause::IdentifierUsed => "identifier used",
-                Cause::TooMany => "too many",
-                Cause::TooLong => "too long",
-            };
-            let text = format!(in alloc; "line {line}: {cause}")?;
-            Vec::from_slice(alloc, text.as_bytes())
-        }
+        Err(Failure::Refused(fault)) => fault_line(alloc, fault),
     }
 }
 
@@ -34,16 +21,16 @@ const TEXTS: &[(&[u8], &[u8])] = &[
     (b"", b""),
     (b"; a bad byte \xff\ntime 5", b"time 5\n"),
     (b"\n   \n  time   7  \n", b"time 7\n"),
-    (b"time 1\n\xff\n", b"line 2: not UTF-8"),
-    (b"time 1\r\n", b"line 1: no command"),
-    (b"time 1\n\ntime 2 3\n", b"line 3: no command"),
+    (b"time 1\n\xff\n", b"line 2: not UTF-8\n"),
+    (b"time 1\r\n", b"line 1: no command\n"),
+    (b"time 1\n\ntime 2 3\n", b"line 3: no command\n"),
     // numbers
     (
         b"time 18446744073709551615\n",
         b"time 18446744073709551615\n",
     ),
-    (b"time 18446744073709551616\n", b"line 1: no command"),
-    (b"time 01\n", b"line 1: no command"),
+    (b"time 18446744073709551616\n", b"line 1: no command\n"),
+    (b"time 01\n", b"line 1: no command\n"),
     // identifiers
     (
         b"controller A #00000000-0000-0000-0000-0000000000a0 #0\n",
@@ -53,15 +40,15 @@ const TEXTS: &[(&[u8], &[u8])] = &[
         b"controller A_1 #00000001-0000-0000-0000-0000000000af #ffffffff\n",
         b"controller A_1 #00000001-0000-0000-0000-0000000000af #ffffffff\n",
     ),
-    (b"controller A #00 #1\n", b"line 1: no command"),
-    (b"controller A #A0 #1\n", b"line 1: no command"),
+    (b"controller A #00 #1\n", b"line 1: no command\n"),
+    (b"controller A #A0 #1\n", b"line 1: no command\n"),
     // names
-    (b"show A\n", b"line 1: unknown name"),
+    (b"show A\n", b"line 1: unknown name\n"),
     (
         b"controller A #a0 #a1\nshow A\nshow B\n",
-        b"line 3: unknown name",
+        b"line 3: unknown name\n",
     ),
-    (b"controller 1A #a0 #a1\n", b"line 1: no command"),
+    (b"controller 1A #a0 #a1\n", b"line 1: no command\n"),
 ];
 
 #[test]
@@ -231,7 +218,7 @@ const BAD_WRITES: &[&[u8]] = &[
 
 #[test]
 fn writes_outside_the_grammar(rt: HostRuntime) -> Result<(), Fail> {
-    all_are_answered(&rt, rt.alloc(), BAD_WRITES, b"line 2: no command")
+    all_are_answered(&rt, rt.alloc(), BAD_WRITES, b"line 2: no command\n")
 }
 
 /// Stops and faults outside the grammar.
@@ -284,7 +271,7 @@ const BAD_STOPS: &[&[u8]] = &[
 
 #[test]
 fn stops_and_faults_outside_the_grammar(rt: HostRuntime) -> Result<(), Fail> {
-    all_are_answered(&rt, rt.alloc(), BAD_STOPS, b"line 2: no command")
+    all_are_answered(&rt, rt.alloc(), BAD_STOPS, b"line 2: no command\n")
 }
 
 /// Images and snapshots outside the grammar.
@@ -342,7 +329,7 @@ const BAD_COPIES: &[&[u8]] = &[
 
 #[test]
 fn images_and_snapshots_outside_the_grammar(rt: HostRuntime) -> Result<(), Fail> {
-    all_are_answered(&rt, rt.alloc(), BAD_COPIES, b"line 2: no command")
+    all_are_answered(&rt, rt.alloc(), BAD_COPIES, b"line 2: no command\n")
 }
 
 /// Writes to a controller that no line made.
@@ -357,7 +344,7 @@ const WRITES_OF_NOBODY: &[&[u8]] = &[
 
 #[test]
 fn writes_name_a_controller(rt: HostRuntime) -> Result<(), Fail> {
-    all_are_answered(&rt, rt.alloc(), WRITES_OF_NOBODY, b"line 2: unknown name")
+    all_are_answered(&rt, rt.alloc(), WRITES_OF_NOBODY, b"line 2: unknown name\n")
 }
 
 #[test]
@@ -369,7 +356,7 @@ fn a_text_of_65536_bytes_is_outside_the_grammar(rt: HostRuntime) -> Result<(), F
     is_printed(&rt, alloc, front.as_slice(), name.as_slice())?;
     let longer = [front.as_slice(), b"a"].concat(alloc)?;
     let told = shown_behind(alloc, longer.as_slice(), name.as_slice())?;
-    assert_eq!(rt; told.as_slice(), b"line 2: no command".as_slice());
+    assert_eq!(rt; told.as_slice(), b"line 2: no command\n".as_slice());
     Ok(())
 }
 
@@ -406,27 +393,27 @@ controller q #b1 #b0
 
 /// Lines that may not follow those, each with its cause.
 const MISPLACED: &[(&[u8], &[u8])] = &[
-    (b"pull A B 0", b"line 5: no command"),
-    (b"cycle A B 10001", b"line 5: no command"),
-    (b"ask A B 5 q", b"line 5: no command"),
-    (b"ask A C 5 as q", b"line 5: unknown name"),
-    (b"ask A B 5 as q", b"line 5: name used"),
-    (b"serve B r as r", b"line 5: unknown name"),
-    (b"serve B q as r", b"line 5: name used"),
-    (b"deliver A q", b"line 5: unknown name"),
-    (b"cycle A q 5", b"line 5: unknown name"),
-    (b"stop A after 1001 kept", b"line 5: no command"),
-    (b"fail A after 1001", b"line 5: no command"),
-    (b"stop C after 1001 kept", b"line 5: no command"),
-    (b"stop C", b"line 5: unknown name"),
-    (b"stop q", b"line 5: unknown name"),
-    (b"stop C after 7 kept", b"line 5: unknown name"),
-    (b"fail C after 7", b"line 5: unknown name"),
-    (b"start C", b"line 5: unknown name"),
-    (b"start r", b"line 5: unknown name"),
-    (b"controller A #a0 #c1", b"line 5: name used"),
-    (b"controller C #a0 #c1", b"line 5: identifier used"),
-    (b"controller C #c0 #b1", b"line 5: identifier used"),
+    (b"pull A B 0", b"line 5: no command\n"),
+    (b"cycle A B 10001", b"line 5: no command\n"),
+    (b"ask A B 5 q", b"line 5: no command\n"),
+    (b"ask A C 5 as q", b"line 5: unknown name\n"),
+    (b"ask A B 5 as q", b"line 5: name used\n"),
+    (b"serve B r as r", b"line 5: unknown name\n"),
+    (b"serve B q as r", b"line 5: name used\n"),
+    (b"deliver A q", b"line 5: unknown name\n"),
+    (b"cycle A q 5", b"line 5: unknown name\n"),
+    (b"stop A after 1001 kept", b"line 5: no command\n"),
+    (b"fail A after 1001", b"line 5: no command\n"),
+    (b"stop C after 1001 kept", b"line 5: no command\n"),
+    (b"stop C", b"line 5: unknown name\n"),
+    (b"stop q", b"line 5: unknown name\n"),
+    (b"stop C after 7 kept", b"line 5: unknown name\n"),
+    (b"fail C after 7", b"line 5: unknown name\n"),
+    (b"start C", b"line 5: unknown name\n"),
+    (b"start r", b"line 5: unknown name\n"),
+    (b"controller A #a0 #c1", b"line 5: name used\n"),
+    (b"controller C #a0 #c1", b"line 5: identifier used\n"),
+    (b"controller C #c0 #b1", b"line 5: identifier used\n"),
 ];
 
 #[test]
@@ -464,49 +451,52 @@ rollback i A
 
 /// Lines that may not follow those, each with its cause.
 const MISPLACED_COPIES: &[(&[u8], &[u8])] = &[
-    (b"collect C 5", b"line 5: unknown name"),
-    (b"collect i 5", b"line 5: unknown name"),
-    (b"backup C as j", b"line 5: unknown name"),
-    (b"backup C as i", b"line 5: unknown name"),
-    (b"backup A as i", b"line 5: name used"),
-    (b"snapshot s as t", b"line 5: unknown name"),
-    (b"snapshot B as s", b"line 5: name used"),
-    (b"restore C i #c1", b"line 5: unknown name"),
-    (b"restore A s #a2", b"line 5: unknown name"),
-    (b"restore A j #a1", b"line 5: unknown name"),
-    (b"restore A i #a1", b"line 5: identifier used"),
-    (b"restore A i #b1", b"line 5: identifier used"),
-    (b"install C #c0 s #c1", b"line 5: unknown name"),
-    (b"install A #a0 j #a1", b"line 5: unknown name"),
-    (b"install A #c0 i #c1", b"line 5: name used"),
-    (b"install A #a0 i #a1", b"line 5: name used"),
-    (b"install C #b0 i #c1", b"line 5: identifier used"),
-    (b"install C #c0 i #b1", b"line 5: identifier used"),
-    (b"rollback C s", b"line 5: unknown name"),
-    (b"rollback A i", b"line 5: unknown name"),
+    (b"collect C 5", b"line 5: unknown name\n"),
+    (b"collect i 5", b"line 5: unknown name\n"),
+    (b"backup C as j", b"line 5: unknown name\n"),
+    (b"backup C as i", b"line 5: unknown name\n"),
+    (b"backup A as i", b"line 5: name used\n"),
+    (b"snapshot s as t", b"line 5: unknown name\n"),
+    (b"snapshot B as s", b"line 5: name used\n"),
+    (b"restore C i #c1", b"line 5: unknown name\n"),
+    (b"restore A s #a2", b"line 5: unknown name\n"),
+    (b"restore A j #a1", b"line 5: unknown name\n"),
+    (b"restore A i #a1", b"line 5: identifier used\n"),
+    (b"restore A i #b1", b"line 5: identifier used\n"),
+    (b"install C #c0 s #c1", b"line 5: unknown name\n"),
+    (b"install A #a0 j #a1", b"line 5: unknown name\n"),
+    (b"install A #c0 i #c1", b"line 5: name used\n"),
+    (b"install A #a0 i #a1", b"line 5: name used\n"),
+    (b"install C #b0 i #c1", b"line 5: identifier used\n"),
+    (b"install C #c0 i #b1", b"line 5: identifier used\n"),
+    (b"rollback C s", b"line 5: unknown name\n"),
+    (b"rollback A i", b"line 5: unknown name\n"),
     // what the line before bound and gave
-    (b"backup B as j\nbackup A as j", b"line 6: name used"),
-    (b"snapshot B as t\nsnapshot A as t", b"line 6: name used"),
-    (b"snapshot B as t\nrestore A t #a2", b"line 6: unknown name"),
+    (b"backup B as j\nbackup A as j", b"line 6: name used\n"),
+    (b"snapshot B as t\nsnapshot A as t", b"line 6: name used\n"),
+    (
+        b"snapshot B as t\nrestore A t #a2",
+        b"line 6: unknown name\n",
+    ),
     (
         b"restore A i #a2\nrestore B i #a2",
-        b"line 6: identifier used",
+        b"line 6: identifier used\n",
     ),
     (
         b"restore A i #a2\ncontroller C #c0 #a2",
-        b"line 6: identifier used",
+        b"line 6: identifier used\n",
     ),
     (
         b"install C #c0 i #c1\ninstall C #d0 i #d1",
-        b"line 6: name used",
+        b"line 6: name used\n",
     ),
     (
         b"install C #c0 i #c1\ncontroller D #c0 #d1",
-        b"line 6: identifier used",
+        b"line 6: identifier used\n",
     ),
     (
         b"install C #c0 i #c1\nrestore A i #c1",
-        b"line 6: identifier used",
+        b"line 6: identifier used\n",
     ),
 ];
 
@@ -530,7 +520,7 @@ fn an_installed_controller_is_counted(rt: HostRuntime) -> Result<(), Fail> {
     let made = controllers(rt.alloc(), 63)?;
     let lines = b"backup C1 as i\ninstall C64 #40 i #40\ninstall C65 #41 i #41\n";
     let told = shown_behind(rt.alloc(), made.as_bytes(), lines)?;
-    assert_eq!(rt; told.as_slice(), b"line 66: too many".as_slice());
+    assert_eq!(rt; told.as_slice(), b"line 66: too many\n".as_slice());
     Ok(())
 }
 
@@ -538,7 +528,7 @@ fn an_installed_controller_is_counted(rt: HostRuntime) -> Result<(), Fail> {
 fn the_65th_controller_is_one_too_many(rt: HostRuntime) -> Result<(), Fail> {
     let made = controllers(rt.alloc(), 65)?;
     let told = shown(rt.alloc(), made.as_bytes())?;
-    assert_eq!(rt; told.as_slice(), b"line 65: too many".as_slice());
+    assert_eq!(rt; told.as_slice(), b"line 65: too many\n".as_slice());
     Ok(())
 }
 
@@ -547,7 +537,7 @@ fn a_text_past_16_mib_is_too_long(rt: HostRuntime) -> Result<(), Fail> {
     let text = vec![in rt.alloc(); b'\n'; TEXT_LIMIT + 1]?;
     assert_eq!(rt;
         shown(rt.alloc(), text.as_slice())?.as_slice(),
-        b"line 0: too long".as_slice()
+        b"line 0: too long\n".as_slice()
     );
     Ok(())
 }
