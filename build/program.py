@@ -24,7 +24,7 @@ JOBS = 3
 # By how many seconds a crate may end later than the one that most wait for, and still have as many.
 NEAR = 30
 # Seconds of such slack for each step of niceness.
-STEP = 10
+STEP = 40
 
 
 def tell(text):

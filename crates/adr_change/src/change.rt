@@ -35,7 +35,6 @@ impl Mode {
 /// What one commit changes: the update sequence number and the mode after it, the mark of a partner, what is joined
 /// into the vectors of what was seen and of what was collected, the objects that are removed, and the rows that are
 /// written.
-#[derive(Drop)]
 pub struct Change {
     usn: u64,
     mode: Mode,
@@ -44,6 +43,20 @@ pub struct Change {
     purged: Vector,
     removed: Vec<Oid>,
     writes: Vec<Written>,
+}
+
+impl Drop for Change {
+    fn drop(self) {
+        let Change {
+            usn: _,
+            mode: _,
+            mark: _,
+            joined: _joined,
+            purged: _purged,
+            removed: _removed,
+            writes: _writes,
+        } = self;
+    }
 }
 
 impl Model for Change {

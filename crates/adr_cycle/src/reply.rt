@@ -11,7 +11,6 @@ use std::marker::Model;
 /// A reply (MS-DRSR, DRS_MSG_GETCHGREPLY): to whom it goes, from whom and from which incarnation, the marks between
 /// which it lies, the number of the source's schema, what the asker had seen, what the source has seen if nothing is
 /// left to send, and the items.
-#[derive(Drop)]
 pub struct Reply {
     dest: Guid,
     source: Guid,
@@ -22,6 +21,22 @@ pub struct Reply {
     asked: Vector,
     last: Option<Vector>,
     items: Vec<Item>,
+}
+
+impl Drop for Reply {
+    fn drop(self) {
+        let Reply {
+            dest: _,
+            source: _,
+            inv: _,
+            from: _,
+            to: _,
+            schema: _,
+            asked: _asked,
+            last: _last,
+            items: _items,
+        } = self;
+    }
 }
 
 impl Model for Reply {

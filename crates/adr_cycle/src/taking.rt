@@ -20,7 +20,6 @@ use std::marker::Model;
 
 /// How far a reply has been taken: what is told, the update sequence number and the writes so far, the first refusal,
 /// how many items there were, and the most objects and links on the way.
-#[derive(Drop)]
 pub struct Taking<'a> {
     told: Told<'a>,
     usn: u64,
@@ -29,6 +28,20 @@ pub struct Taking<'a> {
     place: usize,
     objects: usize,
     links: usize,
+}
+
+impl Drop for Taking<'_> {
+    fn drop(self) {
+        let Taking {
+            told: _told,
+            usn: _,
+            writes: _writes,
+            refusal: _,
+            place: _,
+            objects: _,
+            links: _,
+        } = self;
+    }
 }
 
 impl<'a> Model for Taking<'a> {
@@ -137,7 +150,16 @@ impl<'a> Taking<'a> {
     pub fn into_writes(self) -> Vec<Written>
         ensures { result.items ≡ self.entry.writes }
     {
-        self.writes
+        let Taking {
+            told: _told,
+            usn: _usn,
+            writes,
+            refusal: _refusal,
+            place: _place,
+            objects: _objects,
+            links: _links,
+        } = self;
+        writes
     }
 }
 

@@ -11,12 +11,22 @@ use std::alloc::{AllocError, Global};
 use std::marker::Model;
 
 /// A disk in memory. It keeps all that was ever written, so that each earlier moment can be told.
-#[derive(Drop)]
 pub struct MemDisk {
     platter: Platter,
     plan: Option<Plan>,
     stopped: bool,
     failures: Failures,
+}
+
+impl Drop for MemDisk {
+    fn drop(self) {
+        let MemDisk {
+            platter: _platter,
+            plan: _,
+            stopped: _,
+            failures: _failures,
+        } = self;
+    }
 }
 
 impl Model for MemDisk {

@@ -25,10 +25,18 @@ pub enum Plainly {
 }
 
 /// A named value in a refusal.
-#[derive(Drop)]
 pub struct Field {
     pub name: Text,
     pub value: Plainly,
+}
+
+impl Drop for Field {
+    fn drop(self) {
+        let Field {
+            name: _name,
+            value: _value,
+        } = self;
+    }
 }
 
 /// The fields of a refusal, in the order in which they are written.
@@ -61,7 +69,6 @@ impl Fields {
 }
 
 /// How an event went.
-#[derive(Drop)]
 pub enum Outcome {
     Ok,
     /// An originating write was made; its changes have this USN.
@@ -108,6 +115,43 @@ pub enum Outcome {
         label: Text,
         fields: Fields,
     },
+}
+
+impl Drop for Outcome {
+    fn drop(self) {
+        match self {
+            Outcome::Show(_directory) => {}
+            Outcome::Vector(_vector) => {}
+            Outcome::Marks(_marks) => {}
+            Outcome::Refused {
+                number: _,
+                label: _label,
+                fields: _fields,
+            } => {}
+            Outcome::Ok
+            | Outcome::Usn(_)
+            | Outcome::Served {
+                from: _,
+                to: _,
+                items: _,
+                rows: _,
+                last: _,
+            }
+            | Outcome::Took {
+                items: _,
+                wrote: _,
+                usn: _,
+            }
+            | Outcome::Removed(_)
+            | Outcome::More
+            | Outcome::Up
+            | Outcome::Down
+            | Outcome::Failed
+            | Outcome::Disk
+            | Outcome::Stopped
+            | Outcome::Absent => {}
+        }
+    }
 }
 
 /// The answer to an event: its verb, the controller that it happened to, and how it went.

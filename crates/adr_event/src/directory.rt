@@ -35,9 +35,14 @@ impl Guids {
 }
 
 /// Attributes with their values. In an entry the attributes rise and each has a value.
-#[derive(Drop)]
 pub struct EntryValues {
     list: Vec<(u16, Values)>,
+}
+
+impl Drop for EntryValues {
+    fn drop(self) {
+        let EntryValues { list: _list } = self;
+    }
 }
 
 impl Model for EntryValues {
@@ -64,9 +69,14 @@ impl EntryValues {
 }
 
 /// Link attributes, forward and back, with the GUIDs at their other ends. In an entry both rise.
-#[derive(Drop)]
 pub struct EntryLinks {
     list: Vec<(u16, Guids)>,
+}
+
+impl Drop for EntryLinks {
+    fn drop(self) {
+        let EntryLinks { list: _list } = self;
+    }
 }
 
 impl Model for EntryLinks {
@@ -92,7 +102,6 @@ impl EntryLinks {
 }
 
 /// A live object as it is shown: under its parent, by its shown name.
-#[derive(Drop)]
 pub struct Entry {
     pub guid: Guid,
     pub class: u16,
@@ -100,6 +109,19 @@ pub struct Entry {
     pub name: Text,
     pub values: EntryValues,
     pub links: EntryLinks,
+}
+
+impl Drop for Entry {
+    fn drop(self) {
+        let Entry {
+            guid: _,
+            class: _,
+            parent: _,
+            name: _name,
+            values: _values,
+            links: _links,
+        } = self;
+    }
 }
 
 /// The entries that a controller shows, rising by GUID.

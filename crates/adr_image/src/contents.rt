@@ -24,7 +24,6 @@ use std::alloc::Global;
 use std::marker::Model;
 
 /// A database, as it was read.
-#[derive(Drop)]
 pub struct Contents {
     pub schema: Schema,
     /// The last update sequence number that was used.
@@ -37,6 +36,19 @@ pub struct Contents {
     pub purged: Vector,
     /// How far each partner was read, by its controller's identifier, rising.
     pub marks: Vec<(Guid, Kept)>,
+}
+
+impl Drop for Contents {
+    fn drop(self) {
+        let Contents {
+            schema: _,
+            usn: _,
+            rows: _rows,
+            vector: _vector,
+            purged: _purged,
+            marks: _marks,
+        } = self;
+    }
 }
 
 impl Model for Contents {

@@ -44,12 +44,22 @@ const FIRST_SCHEMA: u32 = 1;
 
 /// A controller under the name that a line gave it, on a journal in memory. What only proofs see of it is the call that
 /// is on its disk and isn't safe.
-#[derive(Drop)]
 pub struct Replica {
     pub(crate) name: Text,
     pub(crate) dsa: Guid,
     pub(crate) controller: Controller<Journal<MemDisk, Records>>,
     pub(crate) kept: Kept,
+}
+
+impl Drop for Replica {
+    fn drop(self) {
+        let Replica {
+            name: _name,
+            dsa: _,
+            controller: _controller,
+            kept: _kept,
+        } = self;
+    }
 }
 
 impl Model for Replica {

@@ -11,9 +11,14 @@ use std::alloc::Global;
 use std::marker::Model;
 
 /// Names in the order in which they were bound. There may be very many, so they are looked up by hash.
-#[derive(Drop)]
 pub struct Names {
     set: IndexSet<String>,
+}
+
+impl Drop for Names {
+    fn drop(self) {
+        let Names { set: _set } = self;
+    }
 }
 
 impl Model for Names {

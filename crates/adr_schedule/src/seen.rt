@@ -15,7 +15,6 @@ use std::alloc::Global;
 use std::marker::Model;
 
 /// The names that lines bound, and the identifiers that they gave.
-#[derive(Drop)]
 pub struct Seen {
     controllers: Names,
     requests: Names,
@@ -24,6 +23,20 @@ pub struct Seen {
     snapshots: Names,
     dsas: Vec<Guid>,
     invs: Vec<Guid>,
+}
+
+impl Drop for Seen {
+    fn drop(self) {
+        let Seen {
+            controllers: _controllers,
+            requests: _requests,
+            replies: _replies,
+            images: _images,
+            snapshots: _snapshots,
+            dsas: _dsas,
+            invs: _invs,
+        } = self;
+    }
 }
 
 impl Model for Seen {

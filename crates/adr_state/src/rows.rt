@@ -29,10 +29,18 @@ use std::alloc::Global;
 use std::marker::Model;
 
 /// The rows of a controller, each under its key, and the live objects that they make.
-#[derive(Drop)]
 pub struct Rows {
     table: Table,
     tree: Tree,
+}
+
+impl Drop for Rows {
+    fn drop(self) {
+        let Rows {
+            table: _table,
+            tree: _tree,
+        } = self;
+    }
 }
 
 impl Model for Rows {

@@ -22,7 +22,6 @@ use std::alloc::Global;
 use std::marker::Model;
 
 /// A controller: its own identifier, the invocation identifier of its database, its mode, and the database.
-#[derive(Drop)]
 pub struct State {
     alloc: Global,
     dsa: Guid,
@@ -34,6 +33,23 @@ pub struct State {
     vector: Vector,
     purged: Vector,
     marks: Marks,
+}
+
+impl Drop for State {
+    fn drop(self) {
+        let State {
+            alloc: _,
+            dsa: _,
+            inv: _,
+            usn: _,
+            mode: _,
+            schema: _,
+            rows: _rows,
+            vector: _vector,
+            purged: _purged,
+            marks: _marks,
+        } = self;
+    }
 }
 
 impl Model for State {

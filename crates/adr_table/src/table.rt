@@ -27,12 +27,22 @@ use std::collections::BTreeSet;
 
 /// Rows in slots, with hints of the links that end at each object, of the objects that are held dead, and of the units that
 /// were written last under each local update sequence number.
-#[derive(Drop)]
 pub struct Table {
     pub(crate) slots: Slots,
     pub(crate) back: BTreeSet<Behind>,
     pub(crate) dead: BTreeSet<Oid>,
     pub(crate) locals: BTreeSet<Local>,
+}
+
+impl Drop for Table {
+    fn drop(self) {
+        let Table {
+            slots: _slots,
+            back: _back,
+            dead: _dead,
+            locals: _locals,
+        } = self;
+    }
 }
 
 impl Table {

@@ -23,12 +23,22 @@ use std::marker::Model;
 
 /// The rows of a controller, which stay as they are, and over them rows that are put, with how many objects and links
 /// there are together.
-#[derive(Drop)]
 pub struct Told<'a> {
     base: &'a Table,
     over: Table,
     objects: usize,
     links: usize,
+}
+
+impl Drop for Told<'_> {
+    fn drop(self) {
+        let Told {
+            base: _,
+            over: _over,
+            objects: _,
+            links: _,
+        } = self;
+    }
 }
 
 impl<'a> Model for Told<'a> {

@@ -4,8 +4,16 @@ use adr_guid::Guid;
 use adr_update::Node;
 
 /// What becomes of the live object of a GUID.
-#[derive(Drop)]
 pub struct Edit {
     pub guid: Guid,
     pub node: Option<Node>,
+}
+
+impl Drop for Edit {
+    fn drop(self) {
+        let Edit {
+            guid: _,
+            node: _node,
+        } = self;
+    }
 }

@@ -21,11 +21,20 @@ use std::ops::Bound;
 
 /// The live objects, each in the slot of its GUID, who of them breaks a loop of parents, and hints of who has which
 /// parent and which name.
-#[derive(Drop)]
 pub struct Tree {
     pub(crate) slots: BTreeMap<Guid, Option<Node>>,
     pub(crate) flags: BTreeMap<Guid, bool>,
     pub(crate) hints: BTreeSet<Hint>,
+}
+
+impl Drop for Tree {
+    fn drop(self) {
+        let Tree {
+            slots: _slots,
+            flags: _flags,
+            hints: _hints,
+        } = self;
+    }
 }
 
 impl Tree {

@@ -10,10 +10,18 @@ use std::alloc::Global;
 use std::marker::Model;
 
 /// An update that is held, with the update sequence number under which it was written here.
-#[derive(Drop)]
 pub struct Held {
     update: Update,
     local: u64,
+}
+
+impl Drop for Held {
+    fn drop(self) {
+        let Held {
+            update: _update,
+            local: _,
+        } = self;
+    }
 }
 
 impl Model for Held {

@@ -11,10 +11,18 @@ use std::alloc::Global;
 use std::marker::Model;
 
 /// Rows of one object, or a link row.
-#[derive(Drop)]
 pub struct Item {
     unit: Unit,
     rows: Vec<Update>,
+}
+
+impl Drop for Item {
+    fn drop(self) {
+        let Item {
+            unit: _,
+            rows: _rows,
+        } = self;
+    }
 }
 
 impl Model for Item {
@@ -57,10 +65,18 @@ pub fn copy_updates(alloc: Global, updates: &[Update]) -> Result<Vec<Update>, No
 }
 
 /// Rows of one unit that are written under one local update sequence number.
-#[derive(Drop)]
 pub struct Written {
     local: u64,
     item: Item,
+}
+
+impl Drop for Written {
+    fn drop(self) {
+        let Written {
+            local: _,
+            item: _item,
+        } = self;
+    }
 }
 
 impl Model for Written {

@@ -11,7 +11,6 @@ use std::alloc::Global;
 use std::marker::Model;
 
 /// A live object with its class and its name as it was written.
-#[derive(Drop)]
 pub struct Node {
     object: Oid,
     class: u16,
@@ -20,6 +19,19 @@ pub struct Node {
     name: Text,
     parent: Guid,
     stamp: LinkStamp,
+}
+
+impl Drop for Node {
+    fn drop(self) {
+        let Node {
+            object: _,
+            class: _,
+            text: _text,
+            name: _name,
+            parent: _,
+            stamp: _,
+        } = self;
+    }
 }
 
 impl Model for Node {

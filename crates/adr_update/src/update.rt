@@ -35,11 +35,20 @@ impl Said {
 
 /// A row of an object, or a link row, as it is written and sent (MS-DRSR, AttributeStamp and LinkValueStamp). In the
 /// stamp of an object's row the moment of creation is 0.
-#[derive(Drop)]
 pub struct Update {
     key: Key,
     stamp: LinkStamp,
     said: Said,
+}
+
+impl Drop for Update {
+    fn drop(self) {
+        let Update {
+            key: _,
+            stamp: _,
+            said: _said,
+        } = self;
+    }
 }
 
 impl Model for Update {
