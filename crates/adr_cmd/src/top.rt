@@ -10,7 +10,7 @@ ghost use Rattle.adr_cmd.specs.Outcome.{outcome, is_replay, usage_line, ended};
 ghost use Rattle.adr_cmd.specs.Shown.{AtEachShow};
 
 use adr_io::{Fault, Sink, Source, read_at_most};
-use adr_schedule::{Failure, ScheduleFault, TEXT_LIMIT, fault_line, parse};
+use adr_schedule::{Failure, ScheduleFault, TEXT_LIMIT, discard, fault_line, parse};
 use adr_world::play;
 use std::alloc::Global;
 
@@ -57,7 +57,11 @@ fn perform<K: Sink>(alloc: Global, text: &[u8], sink: &mut K) -> (u8, Result<(),
     ensures failed { IsErrOf result.1 Fault.Failed → K.faults sink.old < K.faults sink.new }
 {
     match parse(alloc, text) {
-        Ok(events) => (0, play(alloc, events.as_slice(), sink)),
+        Ok(events) => {
+            let played = play(alloc, events.as_slice(), sink);
+            discard(events);
+            (0, played)
+        }
         Err(Failure::Refused(fault)) => (3, tell_fault(alloc, fault, sink)),
         Err(Failure::NoMemory) => (0, Err(Fault::NoMemory)),
     }

@@ -20,5 +20,5 @@ pub use crashes::crash_word;
 pub use fault::{Cause, ScheduleFault};
 pub use laws::{faults_read_back, lines_read_back, schedules_read_back};
 pub use limits::TEXT_LIMIT;
-pub use parsing::parse;
+pub use parsing::{discard, parse};
 pub use telling::fault_line;
