@@ -323,19 +323,18 @@ const OBJECT: [&[u8]; 18] = [
 ];
 
 #[test]
-fn an_object_is_written_with_its_rows(rt: HostRuntime) -> Result<(), Fail> {
+fn rows_are_written_as_their_bytes(rt: HostRuntime) -> Result<(), Fail> {
     let alloc = rt.alloc();
     let mut values = Vec::new(alloc);
     values.push(Value::Octets(Octets::of(Vec::from_slice(alloc, b"hi")?)))?;
     values.push(Value::Number(-2))?;
-    let mut rows = Vec::new(alloc);
-    rows.push((1, stamp(), Content::Class(5)))?;
-    rows.push((9, stamp(), Content::Values(Values::of(values))))?;
+    let said = Content::Values(Values::of(values));
     let mut writer = Writer::new(alloc);
-    writer.write_object(&(oid(), rows))?;
+    writer.write_row_of(1, &stamp(), &Content::Class(5))?;
+    writer.write_row_of(9, &stamp(), &said)?;
     assert_eq!(rt;
         writer.into_bytes().as_slice(),
-        OBJECT.concat(alloc)?.as_slice()
+        OBJECT[4..].concat(alloc)?.as_slice()
     );
     Ok(())
 }

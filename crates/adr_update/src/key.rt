@@ -6,7 +6,7 @@ ghost use Rattle.adr_model.specs.Update.{RowOf, deleted_attr, key_order, same_id
 ghost use Rattle.adr_model.specs.Live.{born};
 ghost use Rattle.adr_model.specs.Write.{is_link_row};
 ghost use Rattle.adr_model.specs.Store.{is_row_of};
-ghost use Rattle.adr_model.specs.Change.{goes_with, killed_by};
+ghost use Rattle.adr_model.specs.Change.{killed_by};
 ghost use Rattle.adr_update.specs.Sought.{is_link_from};
 
 use crate::limits::{CLASS, DELETED};
@@ -86,18 +86,6 @@ impl Key {
         match self {
             Key::Row { .. } => false,
             Key::Link(link) => is_same_object(&link.from, object),
-        }
-    }
-
-    /// Whether the row goes when the object dies: a row that is not reserved, or a link from it or to it.
-    pub fn goes_with(&self, object: &Oid) -> bool
-        ensures { result ≡ goes_with object.now (key_of self.now) }
-    {
-        match self {
-            Key::Row { object: own, attr } => is_same_object(own, object) && DELETED < *attr,
-            Key::Link(link) => {
-                is_same_object(&link.from, object) || is_same_object(&link.to, object)
-            }
         }
     }
 

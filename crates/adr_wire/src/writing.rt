@@ -111,31 +111,6 @@ impl Writer {
         self.write_content(content)
     }
 
-    /// An object item without its kind.
-    pub fn write_object(
-        &mut self,
-        value: &(Oid, Vec<(u16, Stamp, Content)>),
-    ) -> Result<(), NoMemory>
-        requires count { length value.now.1.items < 2 ^ 16 }
-        requires short { All (λ row. IsShortContent row.2) value.now.1.items }
-        ensures { OnOk result (self.new ≡ self.old ++ spelled.object (value.now.0, value.now.1.items)) }
-    {
-        self.write_oid(&value.0)?;
-        self.write_u16(&(value.1.len() as u16))?;
-        self.write_rows(&value.1)
-    }
-
-    /// Rows, one behind the other.
-    fn write_rows(&mut self, rows: &[(u16, Stamp, Content)]) -> Result<(), NoMemory>
-        requires { All (λ row. IsShortContent row.2) rows.now }
-        ensures { OnOk result (self.new ≡ self.old ++ flat_map spelled.row rows.now) }
-    {
-        for row in rows {
-            self.write_row_of(row.0, &row.1, &row.2)?;
-        }
-        Ok(())
-    }
-
     fn write_link_key(&mut self, value: &LinkKey) -> Result<(), NoMemory>
         ensures { OnOk result (self.new ≡ self.old ++ spelled.link_key value.now) }
     {
