@@ -67,7 +67,7 @@ abbrev pub kept_tombstones : Option ℕ × Option ℕ
 kept_tombstones =
     adds first 10 16 (codes "x") (λ a. adds a 10 17 (codes "y") (λ a. pulls second a 10 (λ p b.
     writes a 10 (Delete (identifier 16)) (λ a. writes b 20 (Delete (identifier 17)) (λ b. adds b 20 18 (codes "z") (λ b.
-    pulls a b 1 (λ q a. (removed_by (collect a 50 50), removed_by (collect a 100 50)))))))))
+    pulls a b 1 (λ q a. (removed_by (collect a 59 50), removed_by (collect a 60 50)))))))))
 
 -- a change of an object that was collected here
 abbrev pub late_change : Pulled × List Entry

@@ -1,5 +1,5 @@
 -- Refused requests and replies, and the limits of versions and USNs.
-use Rattle.std.specs.Prelude.{pos, ℕ, List, [], ◌∷◌, map, filter, not, Option, Some, None, codes}
+use Rattle.std.specs.Prelude.{◌-◌, pos, ℕ, List, [], ◌∷◌, map, filter, not, Option, Some, None, codes}
 use Rattle.adr_schema.specs.declared.content.Value.TheVariants.{Text, Number}
 use Rattle.adr_schema.specs.declared.content.Content.TheVariants.{Values}
 use Rattle.adr_schema.specs.declared.refusal.SchemaRefusal.TheVariants.{BadValue}
@@ -75,18 +75,20 @@ refused_replies_told =
 abbrev pub at_usn : ℕ → State → State
 at_usn usn s = record s { store = record s.store { usn = usn } }
 
--- one row more, of the greatest version
-abbrev pub at_version : State → State
-at_version s =
-    let last : Held = record { update = row (object 16 161 1) (stamped 0 version_limit 0 161 1) 12 (Values (Text (codes "d") ∷ [])); local = 1 } in
+-- one row more, of a version
+abbrev pub at_version : ℕ → State → State
+at_version version s =
+    let last : Held = record { update = row (object 16 161 1) (stamped 0 version 0 161 1) 12 (Values (Text (codes "d") ∷ [])); local = 1 } in
     record s { store = record s.store { rows = with_row s.store.rows last } }
 
 abbrev pub at_the_limits : List (Option WriteRefusal)
 at_the_limits =
     adds first 0 16 (codes "x") (λ a.
     refusal_in (write (at_usn usn_limit a) (AddObject (identifier 17) 4 root (codes "y") []) 0)
-    ∷ refusal_in (write (at_version a) (Modify (identifier 16) ((12, Text (codes "e") ∷ []) ∷ [])) 0)
+    ∷ refusal_in (write (at_usn (usn_limit - 1) a) (AddObject (identifier 17) 4 root (codes "y") []) 0)
+    ∷ refusal_in (write (at_version version_limit a) (Modify (identifier 16) ((12, Text (codes "e") ∷ []) ∷ [])) 0)
+    ∷ refusal_in (write (at_version (version_limit - 1) a) (Modify (identifier 16) ((12, Text (codes "e") ∷ []) ∷ [])) 0)
     ∷ [])
 
 abbrev pub at_the_limits_told : List (Option WriteRefusal)
-at_the_limits_told = Some refused.UsnLimit ∷ Some (refused.VersionLimit 12) ∷ []
+at_the_limits_told = Some refused.UsnLimit ∷ None ∷ Some (refused.VersionLimit 12) ∷ None ∷ []

@@ -1,4 +1,4 @@
--- Refused writes, and the refusals of requests and replies.
+-- Refused writes.
 use Rattle.std.specs.Prelude.{List, [], ◌∷◌, map, Option, Some, None, codes}
 use Rattle.adr_schema.specs.declared.content.Value.TheVariants.{Text}
 use Rattle.adr_event.specs.declared.refusal.WriteRefusal.{WriteRefusal}
