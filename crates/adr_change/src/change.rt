@@ -14,7 +14,8 @@ use adr_vector::Vector;
 use std::alloc::Global;
 use std::marker::Model;
 
-/// Whether a controller serves and takes changes, or was put back without a fresh identifier and stopped.
+/// Whether a controller takes part, or is quarantined: it showed that it was put back without a fresh identifier, and
+/// refuses writes, requests, replies, collections and backups until it is restored, or put back again.
 #[derive(Clone, Copy)]
 pub enum Mode {
     Normal,

@@ -24,7 +24,7 @@ use Rattle.adr_model.specs.Lengths.{log_limit, new_log_end, log_end_after}
 use Rattle.adr_model.specs.Refused.{serve_refused, take_refused, adopt_refused, full}
 use Rattle.adr_model.specs.Replica.{Pending, ToWrite, ToTake, ToCollect, ToQuarantine, Standing, Up, Down, Failed, Stops, Fails, Plan, Replica, on_disk, on_new_disk, Book, begun, Move, Begin, Settle, Forget, moved, Went, Passed, Met, went, moves_of_commit, moves_of_start, standing_after, plan_after, outcome_after}
 use Rattle.adr_model.specs.World.{Name, World, Snapshot, Gone, Sent, stays, nothing, replica_at, with_replica, of_made, where_up, of_controller, within_log, committed, commit, writes, after_write, after_collect, asks, after_serve, served, serves_request, after_take, delivered, delivers, backed_up, begins, adopts, of_image, put_back, with_plan, stops, started, starts}
-use Rattle.adr_law_rollback.specs.ShutOff.{RefusesAll, RestsAs, IsShutOffAs, is_done}
+use Rattle.adr_law_rollback.specs.ShutOff.{RefusesAll, RestsAs, RestsIn, is_done}
 use Rattle.adr_law_rollback.proofs.Placing.{name_case, FoundAmong, found_named, replaced, spared, first_stays, rests_too}
 use Rattle.adr_law_rollback.proofs.Refusing.{refuses_all}
 
@@ -101,12 +101,12 @@ module _ (name : Name) (s : State) (end : ℕ) (closed : s.mode ≡ Quarantined)
 
   -- behind a call of a controller it is shut off still, and where the call was its own nothing was done
   abbrev pub Holds : Name → Gone → Type 0
-  Holds n g = IsShutOffAs s end g.0 name × (n ≡ name → is_done g.1 ≡ false)
+  Holds n g = RestsIn s end g.0 name × (n ≡ name → is_done g.1 ≡ false)
 
   abbrev pub HoldsSent : {A : Type 0} → Name → Sent A → Type 0
-  HoldsSent n t = IsShutOffAs s end t.0 name × (n ≡ name → is_done t.1 ≡ false)
+  HoldsSent n t = RestsIn s end t.0 name × (n ≡ name → is_done t.1 ≡ false)
 
-  module _ (w : World) (i : IsShutOffAs s end w name) where
+  module _ (w : World) (i : RestsIn s end w name) where
     put_in : (new : Replica) → (new.name ≡ name → RestsAs s end new) → Among (with_replica w.replicas new)
     put_in new rests = name_case (Among (with_replica w.replicas new)) new.name name
         (λ e. (new, replaced w.replicas new i.0 name e i.1, rests e))
@@ -132,27 +132,27 @@ module _ (name : Name) (s : State) (end : ℕ) (closed : s.mode ≡ Quarantined)
 
       -- a call of another one
       module _ (differ : n ≢ name) where
-        commits : (p : Pending) (o : Outcome) → IsShutOffAs s end (commit w r p o).0 name
-        commits p o = within (λ g. IsShutOffAs s end g.0 name) w (log_end_after r.safe_end p.change) (committed w r p o) i
+        commits : (p : Pending) (o : Outcome) → RestsIn s end (commit w r p o).0 name
+        commits p o = within (λ g. RestsIn s end g.0 name) w (log_end_after r.safe_end p.change) (committed w r p o) i
             (moves (moves_of_commit p (went r.plan 4)) (standing_after Failed (went r.plan 4)) (plan_after (went r.plan 4)) (λ e. absurd (differ e)))
 
         abbrev put_back_by : Pending
         put_back_by = record { call = ToQuarantine; change = quarantine r.safe }
 
-        other_wrote : (what : Write) (t : Result Change WriteRefusal) → IsShutOffAs s end (after_write w r what t).0 name
+        other_wrote : (what : Write) (t : Result Change WriteRefusal) → RestsIn s end (after_write w r what t).0 name
         other_wrote what (Err x) = i
         other_wrote what (Ok c) = commits (record { call = ToWrite what w.time; change = c }) (outcomes.Usn c.usn)
 
-        other_collected : (lifetime : ℕ) (t : Result Change CollectRefusal) → IsShutOffAs s end (after_collect w r lifetime t).0 name
+        other_collected : (lifetime : ℕ) (t : Result Change CollectRefusal) → RestsIn s end (after_collect w r lifetime t).0 name
         other_collected lifetime (Err x) = i
         other_collected lifetime (Ok c) = commits (record { call = ToCollect w.time lifetime; change = c }) (outcomes.Removed (length c.removed))
 
-        other_took : (reply : Reply) (t : Result Change TakeRefusal) → IsShutOffAs s end (after_take w r reply t).0 name
+        other_took : (reply : Reply) (t : Result Change TakeRefusal) → RestsIn s end (after_take w r reply t).0 name
         other_took reply (Ok c) = commits (record { call = ToTake reply; change = c }) (outcomes.Took (length reply.items) (length c.writes) c.usn)
         other_took reply (Err (takes.RolledBack inv mine shown)) = commits put_back_by (take_refused (takes.RolledBack inv mine shown))
         other_took reply (Err x) = i
 
-        other_served : (t : Result Reply ServeRefusal) → IsShutOffAs s end (after_serve w r t).0 name
+        other_served : (t : Result Reply ServeRefusal) → RestsIn s end (after_serve w r t).0 name
         other_served (Ok reply) = i
         other_served (Err (serves.RolledBack inv mine shown)) = commits put_back_by (serve_refused (serves.RolledBack inv mine shown))
         other_served (Err x) = i

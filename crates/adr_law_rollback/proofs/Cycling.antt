@@ -8,7 +8,7 @@ use Rattle.adr_model.specs.Serve.{Request, Reply}
 use Rattle.adr_model.specs.World.{Name, World, answer, asks, serves_request, delivers}
 use Rattle.adr_model.specs.Cycles.{Pulled, pull_served, pull_asked, pull, and_then, pulls}
 use Rattle.adr_model.proofs.Members.{member_of_either}
-use Rattle.adr_law_rollback.specs.ShutOff.{IsShutOffAs, is_done, DoesNothing}
+use Rattle.adr_law_rollback.specs.ShutOff.{RestsIn, is_done, DoesNothing}
 use Rattle.adr_law_rollback.proofs.Calls.{asks_hold, serves_hold, delivers_hold}
 
 module _ (name : Name) where
@@ -25,15 +25,15 @@ module _ (name : Name) where
 
 module _ (name : Name) (s : State) (end : ℕ) (closed : s.mode ≡ Quarantined) where
   abbrev pub Still : World → List Answer → Type 0
-  Still w told = IsShutOffAs s end w name × DoesNothing name told
+  Still w told = RestsIn s end w name × DoesNothing name told
 
   module _ (dest source : Name) (max : ℕ) where
-    delivered : (w : World) → IsShutOffAs s end w name → (o : Option Reply) → Still (pull_served dest w o).0 (pull_served dest w o).1
+    delivered : (w : World) → RestsIn s end w name → (o : Option Reply) → Still (pull_served dest w o).0 (pull_served dest w o).1
     delivered w i None = (i, silent name)
     delivered w i (Some r) = let t = delivers_hold name s end closed w i dest (Some r) in
         (t.0, one_more name (codes "deliver") dest (delivers w dest (Some r)).1 [] t.1 (silent name))
 
-    served : (w : World) → IsShutOffAs s end w name → (o : Option Request) → Still (pull_asked dest source w o).0 (pull_asked dest source w o).1
+    served : (w : World) → RestsIn s end w name → (o : Option Request) → Still (pull_asked dest source w o).0 (pull_asked dest source w o).1
     served w i None = (i, silent name)
     served w i (Some q) =
         let t = serves_hold name s end closed w i source (Some q) in
@@ -43,13 +43,13 @@ module _ (name : Name) (s : State) (end : ℕ) (closed : s.mode ≡ Quarantined)
               (pull_served dest (serves_request w source (Some q)).0 (serves_request w source (Some q)).2).1 t.1 v.1,
         )
 
-    pub pull_still : (w : World) → IsShutOffAs s end w name → Still (pull w dest source max).0 (pull w dest source max).1
+    pub pull_still : (w : World) → RestsIn s end w name → Still (pull w dest source max).0 (pull w dest source max).1
     pull_still w i =
         let t = asks_hold name s end closed w i dest source max in
         let v = served (asks w dest source max).0 t.0 (asks w dest source max).2 in
         (v.0, one_more name (codes "ask") dest (asks w dest source max).1 (pull_asked dest source (asks w dest source max).0 (asks w dest source max).2).1 t.1 v.1)
 
-    then_still : (p : Pulled) (go : World → World × List Answer) → Still p.0 p.1 → ((v : World) → IsShutOffAs s end v name → Still (go v).0 (go v).1)
+    then_still : (p : Pulled) (go : World → World × List Answer) → Still p.0 p.1 → ((v : World) → RestsIn s end v name → Still (go v).0 (go v).1)
         → Still (and_then p go).0 (and_then p go).1
     then_still p go is goes = by p.2
       where
@@ -57,6 +57,6 @@ module _ (name : Name) (s : State) (end : ℕ) (closed : s.mode ≡ Quarantined)
         by true = let t = goes p.0 is.0 in (t.0, both_silent name p.1 (go p.0).1 is.1 t.1)
         by false = is
 
-    pub pulls_still : (n : ℕ) (w : World) → IsShutOffAs s end w name → Still (pulls n w dest source max).0 (pulls n w dest source max).1
+    pub pulls_still : (n : ℕ) (w : World) → RestsIn s end w name → Still (pulls n w dest source max).0 (pulls n w dest source max).1
     pulls_still zero w i = (i, one_more name (codes "cycle") dest outcomes.More [] (λ e. refl) (silent name))
     pulls_still (suc n) w i = then_still (pull w dest source max) (λ v. pulls n v dest source max) (pull_still w i) (λ v j. pulls_still n v j)

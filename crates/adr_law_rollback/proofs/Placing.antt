@@ -7,7 +7,7 @@ use Rattle.adr_model.specs.Store.{State}
 use Rattle.adr_model.specs.Replica.{Replica}
 use Rattle.adr_model.specs.World.{Name, World, replica_at, with_replica}
 use Rattle.adr_model.proofs.Members.{found_member}
-use Rattle.adr_law_rollback.specs.ShutOff.{RestsAs, IsShutOffAs}
+use Rattle.adr_law_rollback.specs.ShutOff.{RestsAs, RestsIn}
 
 pub named : (a b : Name) → bytes_eq a b ≡ true → a ≡ b
 named a b h = (bytes_eq-Decides a b).0 h
@@ -85,5 +85,5 @@ first_stays (x ∷ xs) more r name h = by (bytes_eq x.name name) h (λ f. first_
     by false f next = next f
 
 -- who is found by the name of one that rests is that one
-pub rests_too : (s : State) (end : ℕ) (w : World) (name : Name) (r : Replica) → IsShutOffAs s end w name → replica_at w name ≡ Some r → RestsAs s end r
+pub rests_too : (s : State) (end : ℕ) (w : World) (name : Name) (r : Replica) → RestsIn s end w name → replica_at w name ≡ Some r → RestsAs s end r
 rests_too s end w name r (q, found, rests) h = let same : q ≡ r = cc in subst (RestsAs s end) same rests

@@ -13,7 +13,7 @@ use Rattle.adr_model.specs.Replica.{Stops, Fails, on_new_disk}
 use Rattle.adr_model.specs.World.{Name, World, Sent, answer, nothing, bound, bound_at, asks, serves_request, of_controller, backed_up, shown, marks_shown}
 use Rattle.adr_model.specs.Cycles.{reply_limit}
 use Rattle.adr_model.specs.Step.{gives, told_bound, step, after_lines, answers}
-use Rattle.adr_law_rollback.specs.ShutOff.{IsShutOffAs, is_done, DoesNothing, Spares, QuarantineHolds, QuarantineHoldsUntilARestore}
+use Rattle.adr_law_rollback.specs.ShutOff.{RestsIn, is_done, DoesNothing, Spares, QuarantineHolds, QuarantineHoldsThroughout}
 use Rattle.adr_law_rollback.proofs.Placing.{first_stays}
 use Rattle.adr_law_rollback.proofs.Calls.{HoldsSent, writes_hold, collects_hold, delivers_hold, serves_hold, asks_hold, backs_up_hold, copied, copies_hold, plans_hold, stops_hold, starts_hold, reports_hold, installs_hold, restores_hold, rollbacks_hold}
 use Rattle.adr_law_rollback.proofs.Cycling.{silent, one_more, both_silent, Still, pull_still, pulls_still}
@@ -26,10 +26,10 @@ module _ (name : Name) (s : State) (end : ℕ) (closed : s.mode ≡ Quarantined)
   one verb n o is = one_more name verb n o [] is (silent name)
 
   one_bound : {A : Type 0} (verb : List ℕ) (n : Name) (t : Sent A) (binds : World → Option A → World)
-      → ((v : World) (x : Option A) → IsShutOffAs s end v name → IsShutOffAs s end (binds v x) name) → HoldsSent name s end closed n t → Behind (told_bound verb n t binds)
+      → ((v : World) (x : Option A) → RestsIn s end v name → RestsIn s end (binds v x) name) → HoldsSent name s end closed n t → Behind (told_bound verb n t binds)
   one_bound verb n t binds still is = (still t.0 t.2 is.0, one verb n t.1 is.1)
 
-  module _ (w : World) (i : IsShutOffAs s end w name) where
+  module _ (w : World) (i : RestsIn s end w name) where
     pub step_still : (e : Event) → Spares name e → Behind (step w e)
     step_still (events.Controller n dsa inv) spares = ((i.0, first_stays w.replicas (on_new_disk n (empty_state dsa inv) ∷ []) i.0 name i.1, i.2), one _ n outcomes.Ok (λ e. refl))
     step_still (events.Time now) spares = (i, silent name)
@@ -66,7 +66,7 @@ module _ (name : Name) (s : State) (end : ℕ) (closed : s.mode ≡ Quarantined)
     step_still (events.Vector n) spares = let t = reports_hold name s end closed w i n (λ r. outcomes.Vector r.safe.store.vector) (λ r. refl) in (t.0, one _ n _ t.1)
     step_still (events.Marks n) spares = let t = reports_hold name s end closed w i n (λ r. outcomes.Marks (marks_shown r.safe.store)) (λ r. refl) in (t.0, one _ n _ t.1)
 
-  lines_still : (es : List Event) (w : World) → IsShutOffAs s end w name → Each (Spares name) es → Still name s end closed (after_lines w es) (answers w es)
+  lines_still : (es : List Event) (w : World) → RestsIn s end w name → Each (Spares name) es → Still name s end closed (after_lines w es) (answers w es)
   lines_still [] w i spares = (i, silent name)
   lines_still (e ∷ es) w i spares =
       let t = step_still w i e (spares e (inl refl)) in
@@ -76,5 +76,5 @@ module _ (name : Name) (s : State) (end : ℕ) (closed : s.mode ≡ Quarantined)
 pub quarantine_holds : QuarantineHolds
 quarantine_holds w name s end e closed i spares = step_still name s end closed w i e spares
 
-pub quarantine_holds_on : QuarantineHoldsUntilARestore
+pub quarantine_holds_on : QuarantineHoldsThroughout
 quarantine_holds_on w name s end es closed i spares = lines_still name s end closed es w i spares

@@ -14,7 +14,7 @@ use Rattle.adr_model.specs.Collect.{quarantine}
 use Rattle.adr_model.specs.Replica.{Replica, Up}
 use Rattle.adr_model.specs.Refused.{serve_refused, take_refused}
 use Rattle.adr_model.specs.World.{Name, World, replica_at, serves_request, delivers}
-use Rattle.adr_law_rollback.specs.ShutOff.{IsShutOffAs}
+use Rattle.adr_law_rollback.specs.ShutOff.{RestsIn}
 
 -- a request that reaches a controller in use, with a mark whose numbers are in order
 pub record IsWellAsked (s : State) (q : Request) : Type 0 where
@@ -70,7 +70,7 @@ pub record IsReady (w : World) (name : Name) (r : Replica) : Type 0 where
 
 -- behind its quarantine it is shut off
 abbrev pub IsShutOffNow : World → Name → Replica → Type 0
-IsShutOffNow v name r = IsShutOffAs (after r.safe (quarantine r.safe)) (log_end_after r.safe_end (quarantine r.safe)) v name
+IsShutOffNow v name r = RestsIn (after r.safe (quarantine r.safe)) (log_end_after r.safe_end (quarantine r.safe)) v name
 
 -- that state is quarantined
 abbrev pub QuarantineQuarantines : Type 0

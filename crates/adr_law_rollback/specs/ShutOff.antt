@@ -1,4 +1,4 @@
--- A controller that is shut off: what it refuses, and what it stays until a restore.
+-- A controller that is shut off: what it refuses, and what it stays until it is restored, or put back again.
 use Rattle.std.specs.Prelude.{◌≡◌, ◌≢◌, ℕ, List, Bool, true, false, Some, None, Err}
 use Rattle.adr_event.specs.declared.answer.Answer.{Answer}
 use Rattle.adr_event.specs.declared.answer.Outcome.{Outcome}
@@ -41,8 +41,8 @@ pub record RestsAs (s : State) (end : ℕ) (r : Replica) : Type 0 where
   pub kept : r.kept ≡ None
 
 -- the controller of a name rests as this state
-abbrev pub IsShutOffAs : State → ℕ → World → Name → Type 0
-IsShutOffAs s end w name = (r : Replica) × (replica_at w name ≡ Some r) × RestsAs s end r
+abbrev pub RestsIn : State → ℕ → World → Name → Type 0
+RestsIn s end w name = (r : Replica) × (replica_at w name ≡ Some r) × RestsAs s end r
 
 -- an answer that says that something was written, served, taken or collected
 abbrev pub is_done : Outcome → Bool
@@ -65,12 +65,12 @@ Spares name e = Unit {0}
 -- behind such a line a quarantined controller is as before, and has done nothing
 abbrev pub QuarantineHolds : Type 0
 QuarantineHolds =
-    (w : World) (name : Name) (s : State) (end : ℕ) (e : Event) → s.mode ≡ Quarantined → IsShutOffAs s end w name → Spares name e
-    → IsShutOffAs s end (step w e).0 name × DoesNothing name (step w e).1
+    (w : World) (name : Name) (s : State) (end : ℕ) (e : Event) → s.mode ≡ Quarantined → RestsIn s end w name → Spares name e
+    → RestsIn s end (step w e).0 name × DoesNothing name (step w e).1
 
 -- and so throughout such lines, however many come
-abbrev pub QuarantineHoldsUntilARestore : Type 0
-QuarantineHoldsUntilARestore =
-    (w : World) (name : Name) (s : State) (end : ℕ) (es : List Event) → s.mode ≡ Quarantined → IsShutOffAs s end w name
+abbrev pub QuarantineHoldsThroughout : Type 0
+QuarantineHoldsThroughout =
+    (w : World) (name : Name) (s : State) (end : ℕ) (es : List Event) → s.mode ≡ Quarantined → RestsIn s end w name
     → Each (Spares name) es
-    → IsShutOffAs s end (after_lines w es) name × DoesNothing name (answers w es)
+    → RestsIn s end (after_lines w es) name × DoesNothing name (answers w es)

@@ -90,6 +90,6 @@ adopt_refusal image inv s =
 abbrev pub adopt : Store → Identifier → Identifier → Result State AdoptRefusal
 adopt image dsa inv = let s = woken image dsa inv in unless (adopt_refusal image inv s) s
 
--- a controller that showed that it was put back stops; only a restore ends it
+-- a controller that showed that it was put back is quarantined: it refuses all calls but to ask, until it is restored, or put back again
 abbrev pub quarantine : State → Change
 quarantine s = record { usn = s.store.usn; mode = Quarantined; mark = None; joined = []; purged = []; removed = []; writes = [] }

@@ -1,5 +1,5 @@
 use Rattle.adr_law_rollback.proofs.Stepping.{quarantine_holds, quarantine_holds_on}
-use Rattle.adr_law_rollback.proofs.shut_off.quarantine_holds_until_a_restore.Goals as goal
+use Rattle.adr_law_rollback.proofs.shut_off.quarantine_holds.Goals as goal
 
 pub returns-clause-line : goal.returns-clause-line
 returns-clause-line c = quarantine_holds
