@@ -109,7 +109,7 @@ pub enum Outcome {
     Stopped,
     /// What a name stands for was never made.
     Absent,
-    /// The call was refused, and changed nothing.
+    /// The call was refused, and changed nothing, but that 33 quarantines the controller.
     Refused {
         number: u8,
         label: Text,

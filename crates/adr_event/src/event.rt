@@ -88,7 +88,7 @@ pub enum Event {
         source: Text,
         max: u32,
     },
-    /// The controller collects its tombstones that are older than a lifetime, in seconds.
+    /// The controller collects its tombstones that are as old as a lifetime, in seconds, or older.
     Collect {
         name: Text,
         lifetime: u64,

@@ -1,7 +1,7 @@
 //! The words of a run: what may happen to a controller, why a call is refused, and what is answered.
 //! Plain values, shared by the definitions, the schedule language and the answers. It stands on the
-//! small types of `adr_schema`, and knows nothing of text but the word of each line, and nothing of
-//! what an event does.
+//! small types of `adr_guid`, `adr_stamp`, `adr_schema` and `adr_vector` and on the kinds of crash of
+//! `adr_disk`, and knows nothing of text but the word of each line, and nothing of what an event does.
 #![tactic(auto)]
 
 mod answer;

@@ -96,7 +96,7 @@ pub enum ServeRefusal {
     RolledBack { inv: Guid, mine: u64, shown: u64 },
     /// The two controllers have different schemas.
     SchemaMismatch { mine: u32, theirs: u32 },
-    /// Objects were collected whose deaths the asker hasn't seen.
+    /// Objects were collected whose births or deaths the asker hasn't seen.
     TooOld { inv: Guid, purged: u64, has: u64 },
 }
 
@@ -109,7 +109,7 @@ pub enum ItemFault {
     WrongBirth,
 }
 
-/// Why a reply was not taken. It then changed nothing.
+/// Why a reply was not taken. Nothing of it was taken; a controller that answers `RolledBack` is quarantined.
 #[derive(Clone, Copy)]
 pub enum TakeRefusal {
     /// The controller is quarantined.

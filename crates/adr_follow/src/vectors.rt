@@ -10,7 +10,7 @@ use adr_state::{CURSOR_LIMIT, Change, MARK_LIMIT, State, is_same};
 use adr_told::len_after;
 use adr_vector::seen_by_both;
 
-/// Whether a change goes on from a state that is up, at its USN or above it.
+/// Whether a state is up, and a change at its USN or above it.
 pub(crate) fn comes_after(state: &State, change: &Change) -> bool
     ensures { result ≡ comes_after state.now change.now }
 {

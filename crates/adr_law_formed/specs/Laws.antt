@@ -1,4 +1,4 @@
--- The laws, as facts: every state is formed, and every change of a call can follow its state.
+-- The laws, as facts: a formed state is formed behind each change of a call, which can follow it.
 use Rattle.std.specs.Prelude.{◌≡◌, ◌⊎◌, ◌≤◌, ℕ, List, [], map, true, None, Some, unwrap_or, Ok}
 use Rattle.std.specs.List.Sorted.{IsStrictlySortedBy}
 use Rattle.adr_stamp.specs.Order.{identifier_order, object_order}

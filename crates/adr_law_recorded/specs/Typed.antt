@@ -1,4 +1,4 @@
--- Events as a program has them: identifiers have sixteen bytes, texts are UTF-8 and numbers have 64 bits. How long texts and lists may be is the schema's matter.
+-- What an event's types say beyond the definitions: the identifiers that it gives and writes have sixteen bytes, written texts are UTF-8, and number values have 64 bits.
 use Rattle.std.specs.Prelude.{◌≡◌, List, true, FitsSigned, IfSome}
 use Rattle.std.specs.Int.{w64}
 use Rattle.std.specs.Str.{is_utf8}

@@ -38,7 +38,8 @@ held_of writes = flat_map (λ (w : Written). map (λ (u : Update). let h : Held 
 abbrev pub updates_written : Change → List Update
 updates_written c = flat_map (λ (w : Written). w.item.rows) c.writes
 
--- whether a row goes when the object dies: it is none of the reserved rows, or a link that ends there
+-- whether a row goes when the object dies: it stands above the reserved rows (a formed store has none of attribute 0), or is a
+-- link that begins or ends there
 abbrev pub goes_with : Oid → Key → Bool
 goes_with o (RowOf p attr) = if same_object p o then nat_lt deleted_attr attr else false
 goes_with o (LinkOf l) = same_object l.from o || same_object l.to o

@@ -1,4 +1,4 @@
--- What a store has taken into account: an update that it holds, or what supersedes it.
+-- What a store has taken into account: an update that it holds, or what supersedes it, and one of whose ends it holds the death, or collected it.
 use Rattle.std.specs.Prelude.{◌≡◌, ◌⊎◌, ◌≤◌, ℕ, List, false}
 use Rattle.adr_stamp.specs.declared.Oid.{Oid}
 use Rattle.adr_vector.specs.Vector.{at}
@@ -62,6 +62,6 @@ pub record IsPurged (issued : List Update) (k : Knowledge) (o : Oid) : Type 0 wh
 abbrev pub Buried : List Update → Knowledge → Update → Oid → Type 0
 Buried issued k u o = (IsTombstoned k.rows o × (IsDeath u → Covers k.vector u)) ⊎ IsPurged issued k o
 
--- the store has taken the update, or what supersedes it
+-- the store has taken the update, or what supersedes it, or an end of it is buried there
 abbrev pub Reflects : List Update → Knowledge → Update → Type 0
 Reflects issued k u = HoldsAtLeast k.rows u ⊎ ((o : Oid) × Member o (ends u.key) × Buried issued k u o)

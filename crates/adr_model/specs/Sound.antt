@@ -119,7 +119,8 @@ pub record IsSoundReply (sc : Book) (r : Reply) : Type 0 where
   pub formed : AreFormedRows (numbered r.schema) (updates_of (rows_at (log_of sc r.inv) r.to.seen))
   pub classes : AreClassesKnown (numbered r.schema) (updates_of (rows_at (log_of sc r.inv) r.to.seen))
 
--- no controller shows that it was put back, and so none is quarantined
+-- a call that may be kept: a write as clients give it, a sound reply, or a collection. No controller shows that it was put back,
+-- so none is quarantined
 abbrev pub IsSoundCall : Book → Call → Type 0
 IsSoundCall sc (ToWrite w now) = IsWellGiven w
 IsSoundCall sc (ToTake reply) = IsSoundReply sc reply

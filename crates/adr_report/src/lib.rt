@@ -1,6 +1,7 @@
 //! Answers as bytes: the line of an answer, and the lines of a report behind it, with the law that a
-//! report tells what it reports, and how they are written. It stands on the tokens of `adr_token` and
-//! the answers of `adr_event`, and knows nothing of what made an answer.
+//! report tells what it reports; the head of an answer, by its event; and how answers are written. It
+//! stands on the tokens of `adr_token`, the events and answers of `adr_event` and the sinks of `adr_io`,
+//! and knows nothing of what an event does.
 #![tactic(auto)]
 
 mod answers;

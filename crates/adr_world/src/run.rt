@@ -9,7 +9,8 @@ use adr_cycle::{Reply, Request};
 use adr_replica::{Image, Past, Replica, Snapshot};
 use std::alloc::Global;
 
-/// The time, whether no database was put back so far, the past, the controllers, and what lines bound to names.
+/// What a world has, without its invariant, which holds between lines alone: the time, whether no database was put back
+/// so far, the past, the controllers, and what lines bound to names.
 #[derive(Drop)]
 pub struct Run {
     pub time: u64,

@@ -62,8 +62,8 @@ impl World {
         ensures failed { IsErrOf result Fault.Failed → K.faults sink.old < K.faults sink.new }
 
         // Wherever the run stands, the world is that of a run. While no database was put back as it was, each controller shows
-        // the directory of the issued updates that it covers or holds, controllers that cover the same show the same, and
-        // whatever was acknowledged is in view.
+        // the directory of the issued updates that it covers or holds, controllers that cover the same, and hold nothing
+        // beyond, show the same, and whatever was acknowledged is in view.
         ensures sound { IsWorldOfRun self.new }
         ensures shown { self.new.clean ≡ true → ShowWhatIsVisible self.new }
         ensures equal { self.new.clean ≡ true → ShowAlike self.new }
