@@ -4,7 +4,7 @@
 Usage: build/program.py        (called by ./adrep on first use and after a change of its sources)
 
 Each crate is one call of the toolchain's compiler, over the statements of the libraries below it, as `rt ci` has it. What is built of a
-crate stands until a file of it, or of a crate below, changes. Standard error tells how far it is.
+library stands until a file of it, or of a crate below, changes; the program itself is proved and linked at each call. Standard error tells how far it is.
 """
 import contextlib
 import hashlib
@@ -216,15 +216,22 @@ class Build:
     def work(self):
         while (found := self.next()) is not None:
             name, share = found
-            well = self.build(self.crates[name], share)
-            with self.state:
-                del self.under_way[name]
-                if well:
-                    self.done.add(name)
-                    tell(f"{name} is proved; {len(self.done)} of {len(self.crates)} crates, {(time.monotonic() - self.begun) / 60:.0f} min gone")
-                else:
-                    self.failed.append(name)
-                self.state.notify_all()
+            well = False
+            try:
+                well = self.build(self.crates[name], share)
+            finally:
+                self.end(name, well)
+
+    def end(self, name, well):
+        """A crate is done, or failed."""
+        with self.state:
+            del self.under_way[name]
+            if well:
+                self.done.add(name)
+                tell(f"{name} is proved; {len(self.done)} of {len(self.crates)} crates, {(time.monotonic() - self.begun) / 60:.0f} min gone")
+            else:
+                self.failed.append(name)
+            self.state.notify_all()
 
     def run(self):
         """Proves and builds all; whether it went well."""
