@@ -10,14 +10,13 @@ import subprocess
 import sys
 import second_reading as model
 
-SIX = ('collect', 'backup', 'restore', 'install', 'snapshot', 'rollback')
 BASE = {'time': 5, 'add': 10, 'modify': 7, 'rename': 5, 'delete': 4, 'link': 6, 'unlink': 3, 'ask': 4, 'serve': 4, 'deliver': 5,
         'pull': 10, 'cycle': 9, 'show': 2, 'vector': 1, 'marks': 1, 'stop': 0, 'stop after': 0, 'fail after': 0, 'start': 0,
         'collect': 0, 'backup': 0, 'restore': 0, 'install': 0, 'snapshot': 0, 'rollback': 0, 'controller': 0}
 FAULTS = {'stop': 1, 'stop after': 3, 'fail after': 3, 'start': 5}
 PROFILES = {
-    'old': {},
-    'oldfaults': FAULTS,
+    'plain': {},
+    'stops': FAULTS,
     'restore': {'backup': 4, 'restore': 3, 'install': 1},
     'collect': {'collect': 5, 'delete': 9, 'controller': 1, 'time': 8},
     'both': {'collect': 5, 'delete': 9, 'backup': 3, 'restore': 2, 'install': 1, 'time': 8},

@@ -722,7 +722,6 @@ class World:
     def __init__(self):
         self.now = 0
         self.controllers, self.requests, self.replies, self.images, self.snapshots = {}, {}, {}, {}, {}
-        self.trace = None
 
     # what a line names
     def there(self, name):
@@ -974,7 +973,6 @@ SET = PLAIN + r'=(?:' + VALUE + '(?:,' + VALUE + ')*)?'
 FORMS = {'NAME': NAME, 'ID': ID, 'NUM': NUM, 'MAX': NUM, 'CALLS': NUM, 'TEXT': TEXT, 'CLASS': PLAIN, 'ATTR': PLAIN, 'SET': SET,
          'HOW': 'kept|lost|torn'}
 FORMS = {word: re.compile('(?:' + form + ')(?= |$)') for word, form in FORMS.items()}
-FORMS = {word: form for word, form in FORMS.items()}
 GRAMMAR = {
     'controller': ['NAME ID ID'], 'time': ['NUM'], 'add': ['NAME ID CLASS ID TEXT SETS'], 'modify': ['NAME ID SETS1'],
     'rename': ['NAME ID ID TEXT'], 'delete': ['NAME ID'], 'link': ['NAME ID ATTR ID'], 'unlink': ['NAME ID ATTR ID'],
@@ -984,7 +982,6 @@ GRAMMAR = {
     'stop': ['NAME', 'NAME after CALLS HOW'], 'fail': ['NAME after CALLS'], 'start': ['NAME'], 'show': ['NAME'],
     'vector': ['NAME'], 'marks': ['NAME'],
 }
-WITHOUT_SIX = {'collect', 'backup', 'restore', 'install', 'snapshot', 'rollback'}
 
 
 def read_id(token):
