@@ -1,17 +1,17 @@
 -- What every run comes to, and what of it was acknowledged on the way.
-use Rattle.std.proofs.Common.{◌≡◌, ℕ, List, [], ◌∷◌, ◌++◌, Bool, true, false, refl, sym, ◌∙◌, subst}
+use Rattle.std.proofs.Common.{◌≡◌, inl, inr, ℕ, List, [], ◌∷◌, ◌++◌, Bool, true, false, refl, sym, ◌∙◌, subst}
 use Rattle.adr_event.specs.declared.event.Event.{Event}
 use Rattle.adr_model.specs.Change.{Written}
 use Rattle.adr_model.specs.Write.{items_written}
 use Rattle.adr_model.specs.World.{World, empty_world}
 use Rattle.adr_model.specs.Step.{step, after_lines}
 use Rattle.adr_model.specs.Sound.{IsSoundWorld}
-use Rattle.adr_model.specs.Convergence.{MayHappen, MayAllHappen, IsAcknowledged, acknowledged, AreInView, RunsConverge, AcknowledgedStaysInView}
+use Rattle.adr_model.specs.Convergence.{MayHappen, MayAllHappen, IsAcknowledged, acknowledged, AreInView, RunsConverge, AcknowledgedStaysInView, PutsNothingBack, RunsStayClean, puts_back}
 use Rattle.adr_model.proofs.Members.{flat_member}
 use Rattle.adr_law_convergence.proofs.Controllers.{shows_what_is_visible, own_is_visible, equal_coverage_shows}
 use Rattle.adr_law_convergence.proofs.Lines.{runs_are_sound}
 use Rattle.adr_law_convergence.proofs.Acknowledged.{acknowledged_is_issued}
-use Rattle.adr_law_convergence.proofs.Issuing.{Keeps, same, onward, step_keeps}
+use Rattle.adr_law_convergence.proofs.Issuing.{Keeps, same, onward, loosely, step_keeps}
 
 pub runs_converge : RunsConverge
 runs_converge es may clean = let sound = (runs_are_sound es may).sound clean in (shows_what_is_visible (after_lines empty_world es) sound, equal_coverage_shows (after_lines empty_world es) sound)
@@ -25,9 +25,16 @@ run_goes_on : (before after : List Event) (e : Event) (w : World) → after_line
 run_goes_on [] after e w = refl
 run_goes_on (f ∷ before) after e w = run_goes_on before after e (step w f).0
 
-lines_keep : (es : List Event) (w : World) → Keeps w (after_lines w es)
-lines_keep [] w = same w
-lines_keep (e ∷ es) w = onward w (step w e).0 (after_lines (step w e).0 es) (step_keeps w e) (lines_keep es (step w e).0)
+lines_keep : (es : List Event) (w : World) → Keeps true w (after_lines w es)
+lines_keep [] w = same true w
+lines_keep (e ∷ es) w = onward true w (step w e).0 (after_lines (step w e).0 es) (loosely (puts_back e) w (step w e).0 (step_keeps w e)) (lines_keep es (step w e).0)
+
+lines_stay_clean : (es : List Event) (w : World) → PutsNothingBack es → (after_lines w es).clean ≡ w.clean
+lines_stay_clean [] w none = refl
+lines_stay_clean (e ∷ es) w none = lines_stay_clean es (step w e).0 (λ f m. none f (inr m)) ∙ (step_keeps w e).alike (none e (inl refl))
+
+pub runs_stay_clean : RunsStayClean
+runs_stay_clean es none = lines_stay_clean es empty_world none
 
 module _ (before after : List Event) (e : Event) (may : MayAllHappen empty_world (before ++ e ∷ after)) (clean : (after_lines empty_world (before ++ e ∷ after)).clean ≡ true) where
   abbrev w : World
@@ -39,8 +46,8 @@ module _ (before after : List Event) (e : Event) (may : MayAllHappen empty_world
   parts : MayAllHappen empty_world before × MayHappen w e
   parts = line_may before after e empty_world may
 
-  from_line : Keeps (step w e).0 end
-  from_line = subst (λ (v : World). Keeps (step w e).0 v) (sym (run_goes_on before after e empty_world)) (lines_keep after (step w e).0)
+  from_line : Keeps true (step w e).0 end
+  from_line = subst (λ (v : World). Keeps true (step w e).0 v) (sym (run_goes_on before after e empty_world)) (lines_keep after (step w e).0)
 
   -- a run that ends clean was clean before
   sound_before : IsSoundWorld w
@@ -50,7 +57,7 @@ module _ (before after : List Event) (e : Event) (may : MayAllHappen empty_world
       by true is = refl
       by false is = let t : end.clean ≡ false = from_line.unclean ((step_keeps w e).unclean is) in cc
 
-  stays_in_view : (behind : World) → Keeps behind end → (usn : ℕ) (k : IsAcknowledged w e usn behind) → AreInView end k.writer.safe.inv (acknowledged w k)
+  stays_in_view : (behind : World) → Keeps true behind end → (usn : ℕ) (k : IsAcknowledged w e usn behind) → AreInView end k.writer.safe.inv (acknowledged w k)
   stays_in_view behind kept usn k r m own u n =
       let x = flat_member (λ (x : Written). x.item.rows) (items_written k.writer.safe k.write.what w.time) u n in
       let i = (k.issued x.0 x.1).rows u x.2 in

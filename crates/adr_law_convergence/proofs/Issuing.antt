@@ -1,5 +1,5 @@
--- What was issued stays issued, whatever line comes, and a world that isn't clean stays so.
-use Rattle.std.proofs.Common.{◌≡◌, ℕ, List, [], ◌∷◌, ◌++◌, false, Option, Some, None, Result, Ok, Err, refl, fold}
+-- What was issued stays issued, whatever line comes; a world that isn't clean stays so, and only a database that is put back makes one unclean.
+use Rattle.std.proofs.Common.{◌≡◌, ℕ, List, [], ◌∷◌, ◌++◌, Bool, true, false, Option, Some, None, Result, Ok, Err, refl, ◌∙◌, fold}
 use Rattle.adr_event.specs.declared.answer.Outcome.TheVariants as outcomes
 use Rattle.adr_event.specs.declared.event.Event.{Event}
 use Rattle.adr_event.specs.declared.event.Event.TheVariants as events
@@ -13,22 +13,31 @@ use Rattle.adr_model.specs.Replica.{Pending, issued_by, Standing, Stops, Fails, 
 use Rattle.adr_model.specs.World.{Name, World, Snapshot, Gone, Sent, stays, nothing, bound_at, with_replica, begins, adopts, of_image, put_back, after_moves, shown, marks_shown}
 use Rattle.adr_model.specs.Cycles.{pulls, reply_limit}
 use Rattle.adr_model.specs.Step.{gives, step}
-use Rattle.adr_model.specs.Convergence.{IssuedStays, StaysUnclean}
+use Rattle.adr_model.specs.Convergence.{IssuedStays, StaysClean, StaysUnclean, puts_back}
 use Rattle.adr_model.proofs.Members.{member_left}
 use Rattle.adr_law_convergence.proofs.Reached.{made_case, within_case}
 use Rattle.adr_law_convergence.proofs.Called.{writes_so, asks_so, serves_so, delivers_so, collects_so, backs_up_so, plans_so, stops_so, starts_so, reports_so}
 use Rattle.adr_law_convergence.proofs.Exchanges.{IsKeptByCalls, worlds_alone, pull_so, pulls_so, way_case}
 
--- all that was issued in the one world is so in the other, and what isn't clean stays so
-pub record Keeps (w v : World) : Type 0 where
+-- all that was issued in the one world is so in the other, and what isn't clean stays so; what is clean too, where no database is put back
+pub record Keeps (put : Bool) (w v : World) : Type 0 where
   pub issued : Each (λ u. Member u v.book.issued) w.book.issued
   pub unclean : w.clean ≡ false → v.clean ≡ false
+  pub alike : put ≡ false → v.clean ≡ w.clean
 
-pub same : (w : World) → Keeps w w
-same w = record { issued = λ u m. m; unclean = λ e. e }
+pub same : (put : Bool) (w : World) → Keeps put w w
+same put w = record { issued = λ u m. m; unclean = λ e. e; alike = λ e. refl }
 
-pub onward : (w v x : World) → Keeps w v → Keeps v x → Keeps w x
-onward w v x first next = record { issued = λ u m. next.issued u (first.issued u m); unclean = λ e. next.unclean (first.unclean e) }
+pub onward : (put : Bool) (w v x : World) → Keeps put w v → Keeps put v x → Keeps put w x
+onward put w v x first next = record {
+  issued = λ u m. next.issued u (first.issued u m);
+  unclean = λ e. next.unclean (first.unclean e);
+  alike = λ e. next.alike e ∙ first.alike e;
+}
+
+-- whatever was put back
+pub loosely : (put : Bool) (w v : World) → Keeps put w v → Keeps true w v
+loosely put w v k = record { issued = k.issued; unclean = k.unclean; alike = λ e. cc }
 
 moves_keep : (ms : List Move) (t : Book × Replica) → Each (λ u. Member u (fold moved t ms).0.issued) t.0.issued
 moves_keep [] t u m = m
@@ -40,86 +49,89 @@ moves_keep (Settle ∷ ms) t u m = moves_keep ms (moved t Settle) u (by t.1.kept
     by None = m
     by (Some p) = member_left t.0.issued (issued_by p.call p.change) u m
 
-module _ (w : World) where
+module _ (put : Bool) (w : World) where
   abbrev Kept : Gone → Type 0
-  Kept g = Keeps w g.0
+  Kept g = Keeps put w g.0
 
   abbrev KeptBy : {A : Type 0} → Sent A → Type 0
-  KeptBy t = Keeps w t.0
+  KeptBy t = Keeps put w t.0
 
-  moving : (v : World) → Keeps w v → (r : Replica) → Member r v.replicas → (ms : List Move) (standing : Standing) (plan : Option Plan) → Keeps w (after_moves v r ms standing plan outcomes.Ok).0
-  moving v kept r there ms standing plan = onward w v (after_moves v r ms standing plan outcomes.Ok).0 kept (record { issued = moves_keep ms (v.book, r); unclean = λ e. e })
+  moving : (v : World) → Keeps put w v → (r : Replica) → Member r v.replicas → (ms : List Move) (standing : Standing) (plan : Option Plan) → Keeps put w (after_moves v r ms standing plan outcomes.Ok).0
+  moving v kept r there ms standing plan = onward put w v (after_moves v r ms standing plan outcomes.Ok).0 kept (record { issued = moves_keep ms (v.book, r); unclean = λ e. e; alike = λ e. refl })
 
   begins_keep : (placed : Replica → List Replica) (name : Name) (s : State) → Kept (begins w placed name s)
-  begins_keep placed name s = within_case Kept w (new_log_end s) (record w { book = begun w.book s; replicas = placed (on_new_disk name s) }, outcomes.Ok) (same w) (record { issued = λ u m. m; unclean = λ e. e })
+  begins_keep placed name s = within_case Kept w (new_log_end s) (record w { book = begun w.book s; replicas = placed (on_new_disk name s) }, outcomes.Ok) (same put w) (record { issued = λ u m. m; unclean = λ e. e; alike = λ e. refl })
 
   adopts_keep : (placed : Replica → List Replica) (name : Name) (t : Result State AdoptRefusal) → Kept (adopts w placed name t)
-  adopts_keep placed name (Err x) = same w
+  adopts_keep placed name (Err x) = same put w
   adopts_keep placed name (Ok s) = begins_keep placed name s
 
   of_image_keeps : (o : Option Store) (act : Store → Gone) → ((i : Store) → Kept (act i)) → Kept (of_image w o act)
-  of_image_keeps None act acts = same w
+  of_image_keeps None act acts = same put w
   of_image_keeps (Some i) act acts = acts i
 
-  put_back_keeps : (name : Name) (o : Option Snapshot) → Kept (put_back w name o)
-  put_back_keeps name None = same w
-  put_back_keeps name (Some s) = record { issued = λ u m. m; unclean = λ e. refl }
+put_back_keeps : (w : World) (name : Name) (o : Option Snapshot) → Kept true w (put_back w name o)
+put_back_keeps w name None = same true w
+put_back_keeps w name (Some s) = record { issued = λ u m. m; unclean = λ e. refl; alike = λ e. cc }
 
 module _ (w : World) where
-  pub calls_keep : IsKeptByCalls (Keeps w) (λ v q. Unit {0}) (λ v r. Unit {0}) (λ o. Unit {0})
-  calls_keep = worlds_alone (Keeps w) (λ v name partner max kept. asks_so (Keeps w) v kept (moving w v kept) name partner max) (λ v name o kept. serves_so (Keeps w) v kept (moving w v kept) name o)
-      (λ v name o kept. delivers_so (Keeps w) v kept (moving w v kept) name o)
+  pub calls_keep : IsKeptByCalls (Keeps false w) (λ v q. Unit {0}) (λ v r. Unit {0}) (λ o. Unit {0})
+  calls_keep = worlds_alone (Keeps false w) (λ v name partner max kept. asks_so (Keeps false w) v kept (moving false w v kept) name partner max) (λ v name o kept. serves_so (Keeps false w) v kept (moving false w v kept) name o)
+      (λ v name o kept. delivers_so (Keeps false w) v kept (moving false w v kept) name o)
 
-  pulls_keep : (name source : Name) (max n : ℕ) → Keeps w (pulls n w name source max).0
-  pulls_keep name source max n = (pulls_so (Keeps w) (λ v q. Unit {0}) (λ v r. Unit {0}) (λ o. Unit {0}) calls_keep name source max n w (same w)).0
+  pulls_keep : (name source : Name) (max n : ℕ) → Keeps false w (pulls n w name source max).0
+  pulls_keep name source max n = (pulls_so (Keeps false w) (λ v q. Unit {0}) (λ v r. Unit {0}) (λ o. Unit {0}) calls_keep name source max n w (same false w)).0
 
   abbrev Q : World → Type 0
-  Q = Keeps w
+  Q = Keeps false w
 
-  abbrev moves : (r : Replica) → Member r w.replicas → (ms : List Move) (standing : Standing) (plan : Option Plan) → Keeps w (after_moves w r ms standing plan outcomes.Ok).0
-  moves = moving w w (same w)
+  abbrev moves : (r : Replica) → Member r w.replicas → (ms : List Move) (standing : Standing) (plan : Option Plan) → Keeps false w (after_moves w r ms standing plan outcomes.Ok).0
+  moves = moving false w w (same false w)
 
-  pub step_keeps : (e : Event) → Keeps w (step w e).0
-  step_keeps (events.Controller name dsa inv) = record { issued = λ u m. m; unclean = λ e. e }
-  step_keeps (events.Time now) = record { issued = λ u m. m; unclean = λ e. e }
-  step_keeps (events.Add name guid class parent text values) = writes_so Q w (same w) moves name (AddObject guid class parent text values)
-  step_keeps (events.Modify name guid values) = writes_so Q w (same w) moves name (Modify guid values)
-  step_keeps (events.Rename name guid parent text) = writes_so Q w (same w) moves name (Rename guid parent text)
-  step_keeps (events.Delete name guid) = writes_so Q w (same w) moves name (Delete guid)
-  step_keeps (events.Link name from attr to) = writes_so Q w (same w) moves name (AddLink from attr to)
-  step_keeps (events.Unlink name from attr to) = writes_so Q w (same w) moves name (RemoveLink from attr to)
-  step_keeps (events.Ask name partner max bind) = let k = asks_so Q w (same w) moves name partner max in record { issued = k.issued; unclean = k.unclean }
-  step_keeps (events.Serve name request bind) = let k = serves_so Q w (same w) moves name (bound_at w.requests request) in record { issued = k.issued; unclean = k.unclean }
-  step_keeps (events.Deliver name reply) = delivers_so Q w (same w) moves name (bound_at w.replies reply)
-  step_keeps (events.Pull name source max) = (pull_so Q (λ v q. Unit {0}) (λ v r. Unit {0}) (λ o. Unit {0}) calls_keep name source max w (same w)).0
+  pub step_keeps : (e : Event) → Keeps (puts_back e) w (step w e).0
+  step_keeps (events.Controller name dsa inv) = record { issued = λ u m. m; unclean = λ e. e; alike = λ e. refl }
+  step_keeps (events.Time now) = record { issued = λ u m. m; unclean = λ e. e; alike = λ e. refl }
+  step_keeps (events.Add name guid class parent text values) = writes_so Q w (same false w) moves name (AddObject guid class parent text values)
+  step_keeps (events.Modify name guid values) = writes_so Q w (same false w) moves name (Modify guid values)
+  step_keeps (events.Rename name guid parent text) = writes_so Q w (same false w) moves name (Rename guid parent text)
+  step_keeps (events.Delete name guid) = writes_so Q w (same false w) moves name (Delete guid)
+  step_keeps (events.Link name from attr to) = writes_so Q w (same false w) moves name (AddLink from attr to)
+  step_keeps (events.Unlink name from attr to) = writes_so Q w (same false w) moves name (RemoveLink from attr to)
+  step_keeps (events.Ask name partner max bind) = let k = asks_so Q w (same false w) moves name partner max in record { issued = k.issued; unclean = k.unclean; alike = k.alike }
+  step_keeps (events.Serve name request bind) = let k = serves_so Q w (same false w) moves name (bound_at w.requests request) in record { issued = k.issued; unclean = k.unclean; alike = k.alike }
+  step_keeps (events.Deliver name reply) = delivers_so Q w (same false w) moves name (bound_at w.replies reply)
+  step_keeps (events.Pull name source max) = (pull_so Q (λ v q. Unit {0}) (λ v r. Unit {0}) (λ o. Unit {0}) calls_keep name source max w (same false w)).0
   step_keeps (events.Cycle name source max) = pulls_keep name source max reply_limit
-  step_keeps (events.Collect name lifetime) = collects_so Q w (same w) moves name lifetime
-  step_keeps (events.Backup name bind) = let k = backs_up_so Q w (same w) moves name in record { issued = k.issued; unclean = k.unclean }
+  step_keeps (events.Collect name lifetime) = collects_so Q w (same false w) moves name lifetime
+  step_keeps (events.Backup name bind) = let k = backs_up_so Q w (same false w) moves name in record { issued = k.issued; unclean = k.unclean; alike = k.alike }
   step_keeps (events.Restore name image inv) =
-      made_case (Kept w) (gives w [] (inv ∷ [])) name (stays (gives w [] (inv ∷ []))) (λ o. given) (λ r. of_image (gives w [] (inv ∷ [])) (bound_at w.images image) (λ i. adopts (gives w [] (inv ∷ [])) (with_replica w.replicas) name (adopt i r.safe.dsa inv)))
-      (λ r called. from_given (of_image_keeps (gives w [] (inv ∷ [])) (bound_at w.images image) (λ i. adopts (gives w [] (inv ∷ [])) (with_replica w.replicas) name (adopt i r.safe.dsa inv)) (λ i. adopts_keep (gives w [] (inv ∷ [])) (with_replica w.replicas) name (adopt i r.safe.dsa inv))))
+      made_case (Kept false w) (gives w [] (inv ∷ [])) name (stays (gives w [] (inv ∷ []))) (λ o. given) (λ r. of_image (gives w [] (inv ∷ [])) (bound_at w.images image) (λ i. adopts (gives w [] (inv ∷ [])) (with_replica w.replicas) name (adopt i r.safe.dsa inv)))
+      (λ r called. from_given (of_image_keeps false (gives w [] (inv ∷ [])) (bound_at w.images image) (λ i. adopts (gives w [] (inv ∷ [])) (with_replica w.replicas) name (adopt i r.safe.dsa inv)) (λ i. adopts_keep false (gives w [] (inv ∷ [])) (with_replica w.replicas) name (adopt i r.safe.dsa inv))))
     where
-      given : Keeps w (gives w [] (inv ∷ []))
-      given = record { issued = λ u m. m; unclean = λ e. e }
+      given : Keeps false w (gives w [] (inv ∷ []))
+      given = record { issued = λ u m. m; unclean = λ e. e; alike = λ e. refl }
 
-      from_given : {v : World} → Keeps (gives w [] (inv ∷ [])) v → Keeps w v
-      from_given k = record { issued = k.issued; unclean = k.unclean }
+      from_given : {v : World} → Keeps false (gives w [] (inv ∷ [])) v → Keeps false w v
+      from_given k = record { issued = k.issued; unclean = k.unclean; alike = k.alike }
   step_keeps (events.Install name dsa image inv) =
-      let k = of_image_keeps (gives w (dsa ∷ []) (inv ∷ [])) (bound_at w.images image) (λ i. adopts (gives w (dsa ∷ []) (inv ∷ [])) (λ r. w.replicas ++ r ∷ []) name (adopt i dsa inv)) (λ i. adopts_keep (gives w (dsa ∷ []) (inv ∷ [])) (λ r. w.replicas ++ r ∷ []) name (adopt i dsa inv)) in
-      record { issued = k.issued; unclean = k.unclean }
+      let k = of_image_keeps false (gives w (dsa ∷ []) (inv ∷ [])) (bound_at w.images image) (λ i. adopts (gives w (dsa ∷ []) (inv ∷ [])) (λ r. w.replicas ++ r ∷ []) name (adopt i dsa inv)) (λ i. adopts_keep false (gives w (dsa ∷ []) (inv ∷ [])) (λ r. w.replicas ++ r ∷ []) name (adopt i dsa inv)) in
+      record { issued = k.issued; unclean = k.unclean; alike = k.alike }
   step_keeps (events.Snapshot name bind) =
-      let k = made_case (KeptBy w) w name (nothing w) (λ o. same w) (λ r. (w, outcomes.Ok, Some (record { state = r.read; log_end = r.read_end }))) (λ r called. same w) in record { issued = k.issued; unclean = k.unclean }
-  step_keeps (events.Rollback name snapshot) = made_case (Kept w) w name (stays w) (λ o. same w) (λ r. put_back w name (bound_at w.snapshots snapshot)) (λ r called. put_back_keeps w name (bound_at w.snapshots snapshot))
-  step_keeps (events.StopAfter name calls how) = plans_so Q w (same w) moves name (record { calls = calls; fault = Stops how })
-  step_keeps (events.Fail name calls) = plans_so Q w (same w) moves name (record { calls = calls; fault = Fails })
-  step_keeps (events.Stop name) = stops_so Q w (same w) moves name
-  step_keeps (events.Start name) = starts_so Q w (same w) moves name
-  step_keeps (events.Show name) = reports_so Q w (same w) moves name (λ r. outcomes.Show (shown w r.safe))
-  step_keeps (events.Vector name) = reports_so Q w (same w) moves name (λ r. outcomes.Vector r.safe.store.vector)
-  step_keeps (events.Marks name) = reports_so Q w (same w) moves name (λ r. outcomes.Marks (marks_shown r.safe.store))
+      let k = made_case (KeptBy false w) w name (nothing w) (λ o. same false w) (λ r. (w, outcomes.Ok, Some (record { state = r.read; log_end = r.read_end }))) (λ r called. same false w) in record { issued = k.issued; unclean = k.unclean; alike = k.alike }
+  step_keeps (events.Rollback name snapshot) = made_case (Kept true w) w name (stays w) (λ o. same true w) (λ r. put_back w name (bound_at w.snapshots snapshot)) (λ r called. put_back_keeps w name (bound_at w.snapshots snapshot))
+  step_keeps (events.StopAfter name calls how) = plans_so Q w (same false w) moves name (record { calls = calls; fault = Stops how })
+  step_keeps (events.Fail name calls) = plans_so Q w (same false w) moves name (record { calls = calls; fault = Fails })
+  step_keeps (events.Stop name) = stops_so Q w (same false w) moves name
+  step_keeps (events.Start name) = starts_so Q w (same false w) moves name
+  step_keeps (events.Show name) = reports_so Q w (same false w) moves name (λ r. outcomes.Show (shown w r.safe))
+  step_keeps (events.Vector name) = reports_so Q w (same false w) moves name (λ r. outcomes.Vector r.safe.store.vector)
+  step_keeps (events.Marks name) = reports_so Q w (same false w) moves name (λ r. outcomes.Marks (marks_shown r.safe.store))
 
 pub issued_stays : IssuedStays
 issued_stays w e = (step_keeps w e).issued
 
 pub stays_unclean : StaysUnclean
 stays_unclean w e v way = way_case (λ (x : World). w.clean ≡ false → x.clean ≡ false) w e (λ name source max n is. (pulls_keep w name source max n).unclean) (step_keeps w e).unclean v way
+
+pub stays_clean : StaysClean
+stays_clean w e v way none = way_case (λ (x : World). x.clean ≡ w.clean) w e (λ name source max n is. (pulls_keep w name source max n).alike refl) ((step_keeps w e).alike none) v way

@@ -26,7 +26,8 @@ pub fn equal_coverage_shows_equal()
 
 /// After every run that ends in a clean world, as each does in which no database is put back, whatever
 /// messages it loses, repeats or reorders, and whatever stops, faults and restores it has: each
-/// controller shows what is visible to it, and controllers that cover the same show the same (*shown*).
+/// controller shows what is visible to it, and controllers that cover the same, and hold nothing beyond,
+/// show the same (*shown*).
 /// What was acknowledged on the way is visible to its end to whoever has the identifier under which it
 /// was issued (*acknowledged*).
 pub fn every_run_converges()

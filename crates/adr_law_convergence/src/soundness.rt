@@ -1,7 +1,7 @@
 //! Which worlds are sound.
 
 ghost use Rattle.adr_law_convergence.specs.CutShort.{StartsCutShort};
-ghost use Rattle.adr_model.specs.Convergence.{BeginsSound, RunsAreSound, StaysSound, StaysUnclean};
+ghost use Rattle.adr_model.specs.Convergence.{BeginsSound, RunsAreSound, RunsStayClean, StaysClean, StaysSound, StaysUnclean};
 
 /// The world before the first line is that of a run.
 pub fn the_empty_world_is_sound()
@@ -11,12 +11,16 @@ pub fn the_empty_world_is_sound()
 /// A line that may happen leads from the world of a run only to worlds of a run, also within a cycle of
 /// pulls (*lines*): names, identifiers and rows are in order always, also after a database was put back,
 /// and while none was put back the world is sound. A world that isn't clean never becomes so again
-/// (*unclean*). So every run is in a world of a run after each of its lines, whatever messages it loses,
-/// repeats or reorders, and whatever stops, faults and restores it has (*runs*).
+/// (*unclean*), and only a line that puts a database back makes a clean one unclean (*clean*). So every
+/// run is in a world of a run after each of its lines, whatever messages it loses, repeats or reorders,
+/// and whatever stops, faults and restores it has (*runs*), and in a clean one as long as no line puts a
+/// database back (*runs_clean*).
 pub fn every_line_keeps_worlds_sound()
     ensures lines { StaysSound }
     ensures unclean { StaysUnclean }
+    ensures clean { StaysClean }
     ensures runs { RunsAreSound }
+    ensures runs_clean { RunsStayClean }
 {}
 
 /// A start that wants memory when its sync was made leaves the world of a run: the sync stands, and the

@@ -14,7 +14,7 @@ use Rattle.adr_model.specs.Sound.{IsSoundWorld}
 use Rattle.adr_model.specs.Convergence.{MayAllHappen, in_view}
 use Rattle.adr_law_convergence.proofs.Completing.{found_by_name}
 use Rattle.adr_law_convergence.proofs.Lines.{runs_are_sound}
-use Rattle.adr_law_convergence.proofs.Converging.{runs_converge, acknowledged_stays_in_view}
+use Rattle.adr_law_convergence.proofs.Converging.{runs_converge, runs_stay_clean, acknowledged_stays_in_view}
 use Rattle.adr_law_headline.specs.Headline.{behind, Headline}
 
 -- the first lines of those that may happen may happen
@@ -36,6 +36,7 @@ module _ (es : List Event) (may : MayAllHappen empty_world es) where
 
   pub headline : Headline es
   headline = record {
+    clean = λ before after is none. runs_stay_clean before none;
     answered = λ before after is clean r m up. show_so (behind before) r ((runs_are_sound before (front_may before after is)).sound clean) m up;
     shown = λ before after is clean. (runs_converge before (front_may before after is) clean).0;
     equal = λ before after is clean. (runs_converge before (front_may before after is) clean).1;

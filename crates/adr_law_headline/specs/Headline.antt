@@ -9,7 +9,7 @@ use Rattle.adr_model.specs.Directory.{directory}
 use Rattle.adr_model.specs.Replica.{Up}
 use Rattle.adr_model.specs.World.{World, answer, empty_world}
 use Rattle.adr_model.specs.Step.{step, after_lines}
-use Rattle.adr_model.specs.Convergence.{in_view, ShowWhatIsVisible, ShowAlike, IsAcknowledged, acknowledged, AreInView}
+use Rattle.adr_model.specs.Convergence.{PutsNothingBack, in_view, ShowWhatIsVisible, ShowAlike, IsAcknowledged, acknowledged, AreInView}
 
 -- the world behind the first lines of a run
 abbrev pub behind : List Event → World
@@ -32,10 +32,12 @@ StaysInView before e mid =
     × AreInView (behind (before ++ e ∷ mid)) k.writer.safe.inv (acknowledged (behind before) k))
     (step (behind before) e).1
 
--- wherever a run stands, as long as no database was put back: each controller that is up answers by the directory of the issued
--- updates that it covers or holds, and that of the rows which it holds is the same; controllers that cover the same show the same; and every write that was acknowledged so far is among what is
--- in view for whoever has its identifier, each row of it
+-- No database was put back where no line so far puts one back. Wherever a run stands, as long as none was: each controller that
+-- is up answers by the directory of the issued updates that it covers or holds, and that of the rows which it holds is the same;
+-- controllers that cover the same, and hold nothing beyond, show the same; and every write that was acknowledged so far is among
+-- what is in view for whoever has its identifier, each row of it
 pub record Headline (es : List Event) : Type 0 where
+  pub clean : (before after : List Event) → es ≡ before ++ after → PutsNothingBack before → (behind before).clean ≡ true
   pub answered : HoldsThroughout es AnswerByTheirView
   pub shown : HoldsThroughout es ShowWhatIsVisible
   pub equal : HoldsThroughout es ShowAlike

@@ -18,7 +18,8 @@ pub fn lines_may_happen()
     ensures { (events : List Event) → IsFollowing nothing_seen events → MayAllHappen empty_world events }
 {}
 
-/// What lines say is typed: identifiers have sixteen bytes, texts are UTF-8 and numbers have 64 bits.
+/// What lines say is typed: the identifiers that they give and write have sixteen bytes, written texts are UTF-8 and
+/// number values have 64 bits.
 #[tactic(auto, using(crate::proofs::Typing::following_typed))]
 pub fn lines_are_typed()
     ensures { (events : List Event) → IsFollowing nothing_seen events → AreTyped events }

@@ -1,5 +1,5 @@
 -- What is claimed of every run, as named facts: of sound worlds, and so of every run as long as no database was put back.
-use Rattle.std.specs.Prelude.{◌≡◌, ◌≢◌, ◌⊎◌, ◌<◌, ◌≤◌, ℕ, List, [], ◌∷◌, ◌++◌, length, filter, max, nat_lt, true, false, Some, None, Ok, codes}
+use Rattle.std.specs.Prelude.{◌≡◌, ◌≢◌, ◌⊎◌, ◌<◌, ◌≤◌, ℕ, List, [], ◌∷◌, ◌++◌, Bool, length, filter, max, nat_lt, true, false, Some, None, Ok, codes}
 use Rattle.std.specs.List.{flat_map}
 use Rattle.adr_stamp.specs.declared.Oid.{Oid}
 use Rattle.adr_vector.specs.Vector.{Cursors, at, at_most}
@@ -69,6 +69,15 @@ StaysSound = (w : World) (e : Event) → IsWorldOfRun w → MayHappen w e → (v
 abbrev pub StaysUnclean : Type 0
 StaysUnclean = (w : World) (e : Event) (v : World) → IsOnTheWay w e v → w.clean ≡ false → v.clean ≡ false
 
+-- whether a line puts a database back
+abbrev pub puts_back : Event → Bool
+puts_back (events.Rollback name snapshot) = true
+puts_back e = false
+
+-- and only a line that puts a database back makes a clean one unclean
+abbrev pub StaysClean : Type 0
+StaysClean = (w : World) (e : Event) (v : World) → IsOnTheWay w e v → puts_back e ≡ false → v.clean ≡ w.clean
+
 -- each line may happen where it is
 abbrev pub MayAllHappen : World → List Event → Type 0
 MayAllHappen w [] = Unit {0}
@@ -76,6 +85,13 @@ MayAllHappen w (e ∷ es) = MayHappen w e × MayAllHappen (step w e).0 es
 
 abbrev pub RunsAreSound : Type 0
 RunsAreSound = (es : List Event) → MayAllHappen empty_world es → IsWorldOfRun (after_lines empty_world es)
+
+-- no line puts a database back
+abbrev pub PutsNothingBack : List Event → Type 0
+PutsNothingBack es = Each (λ e. puts_back e ≡ false) es
+
+abbrev pub RunsStayClean : Type 0
+RunsStayClean = (es : List Event) → PutsNothingBack es → (after_lines empty_world es).clean ≡ true
 
 -- ---- what is shown
 
