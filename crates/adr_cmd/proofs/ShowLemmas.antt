@@ -13,7 +13,7 @@ use Rattle.adr_model.specs.Step.{step, after_lines, answers}
 use Rattle.adr_model.specs.Sound.{IsSoundWorld}
 use Rattle.adr_law_convergence.proofs.Lines.{runs_are_sound}
 use Rattle.adr_report.specs.Line.{line}
-use Rattle.adr_law_headline.specs.Headline.{behind}
+use Rattle.adr_model.specs.Convergence.{behind}
 use Rattle.adr_law_headline.proofs.Claimed.{first_may, show_so}
 use Rattle.adr_law_headline.proofs.Following.{following_may}
 use Rattle.adr_schedule.proofs.ScheduleLaws.{text_follows}

@@ -7,10 +7,9 @@ use Rattle.adr_model.specs.Member.{Member}
 use Rattle.adr_model.specs.Directory.{directory}
 use Rattle.adr_model.specs.Replica.{Replica, Up}
 use Rattle.adr_model.specs.World.{World, answer, empty_world}
-use Rattle.adr_model.specs.Convergence.{in_view}
+use Rattle.adr_model.specs.Convergence.{behind, in_view}
 use Rattle.adr_report.specs.Line.{line}
 use Rattle.adr_schedule.specs.Events.{events_of}
-use Rattle.adr_law_headline.specs.Headline.{behind}
 use Rattle.adr_world.specs.Played.{output_from}
 
 -- the lines of the directory of the issued updates that a controller covers or holds

@@ -64,6 +64,6 @@ module _ (before after : List Event) (e : Event) (may : MayAllHappen empty_world
       own_is_visible end ((runs_are_sound (before ++ e ∷ after) may).sound clean) r m u (kept.issued u i.0) (i.1.0 ∙ sym own)
 
 pub acknowledged_stays_in_view : AcknowledgedStaysInView
-acknowledged_stays_in_view before after e usn may clean a m is =
+acknowledged_stays_in_view before after e may clean usn a m is =
     let k = acknowledged_is_issued (w before after e may clean) e (sound_before before after e may clean) (parts before after e may clean).1 usn a m is in
     (k, stays_in_view before after e may clean (step (w before after e may clean) e).0 (from_line before after e may clean) usn k)

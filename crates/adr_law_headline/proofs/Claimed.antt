@@ -11,11 +11,11 @@ use Rattle.adr_model.specs.Replica.{Up, Replica}
 use Rattle.adr_model.specs.World.{World, empty_world, answer, stays, where_up, of_made, shown}
 use Rattle.adr_model.specs.Step.{step, told}
 use Rattle.adr_model.specs.Sound.{IsSoundWorld}
-use Rattle.adr_model.specs.Convergence.{MayAllHappen, in_view}
+use Rattle.adr_model.specs.Convergence.{MayAllHappen, in_view, behind}
 use Rattle.adr_law_convergence.proofs.Completing.{found_by_name}
 use Rattle.adr_law_convergence.proofs.Lines.{runs_are_sound}
 use Rattle.adr_law_convergence.proofs.Converging.{runs_converge, runs_stay_clean, acknowledged_stays_in_view}
-use Rattle.adr_law_headline.specs.Headline.{behind, Headline}
+use Rattle.adr_law_headline.specs.Headline.{Headline}
 
 -- the first lines of those that may happen may happen
 pub first_may : (before after : List Event) (w : World) → MayAllHappen w (before ++ after) → MayAllHappen w before
@@ -40,6 +40,5 @@ module _ (es : List Event) (may : MayAllHappen empty_world es) where
     answered = λ before after is clean r m up. show_so (behind before) r ((runs_are_sound before (front_may before after is)).sound clean) m up;
     shown = λ before after is clean. (runs_converge before (front_may before after is) clean).0;
     equal = λ before after is clean. (runs_converge before (front_may before after is) clean).1;
-    acknowledged = λ before mid after e is clean usn.
-        acknowledged_stays_in_view before mid e usn (front_may (before ++ e ∷ mid) after is) clean;
+    acknowledged = λ before mid after e is clean. acknowledged_stays_in_view before mid e (front_may (before ++ e ∷ mid) after is) clean;
   }

@@ -7,13 +7,9 @@ use Rattle.adr_schedule.specs.Events.{events_of}
 use Rattle.adr_model.specs.Member.{Each}
 use Rattle.adr_model.specs.Directory.{directory}
 use Rattle.adr_model.specs.Replica.{Up}
-use Rattle.adr_model.specs.World.{World, answer, empty_world}
-use Rattle.adr_model.specs.Step.{step, after_lines}
-use Rattle.adr_model.specs.Convergence.{PutsNothingBack, in_view, ShowWhatIsVisible, ShowAlike, IsAcknowledged, acknowledged, AreInView}
-
--- the world behind the first lines of a run
-abbrev pub behind : List Event → World
-behind es = after_lines empty_world es
+use Rattle.adr_model.specs.World.{World, answer}
+use Rattle.adr_model.specs.Step.{step}
+use Rattle.adr_model.specs.Convergence.{PutsNothingBack, in_view, ShowWhatIsVisible, ShowAlike, behind, StaysInView}
 
 -- what holds of the world at every place of a run, as long as no database was put back
 abbrev pub HoldsThroughout : List Event → (World → Type 0) → Type 0
@@ -23,14 +19,6 @@ HoldsThroughout es P = (before after : List Event) → es ≡ before ++ after �
 abbrev pub AnswerByTheirView : World → Type 0
 AnswerByTheirView w =
     Each (λ r. r.standing ≡ Up → step w (events.Show r.name) ≡ (w, answer (codes "show") r.name (outcomes.Show (directory (in_view w r))) ∷ [])) w.replicas
-
--- whatever a line acknowledged is in the view of whoever has the identifier under which it was issued, behind these lines more
-abbrev pub StaysInView : List Event → Event → List Event → Type 0
-StaysInView before e mid =
-    (usn : ℕ) → Each (λ a. a.outcome ≡ outcomes.Usn usn
-    → (k : IsAcknowledged (behind before) e usn (step (behind before) e).0)
-    × AreInView (behind (before ++ e ∷ mid)) k.writer.safe.inv (acknowledged (behind before) k))
-    (step (behind before) e).1
 
 -- No database was put back where no line so far puts one back. Wherever a run stands, as long as none was: each controller that
 -- is up answers by the directory of the issued updates that it covers or holds, and that of the rows which it holds is the same;

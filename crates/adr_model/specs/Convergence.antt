@@ -178,15 +178,23 @@ RunsConverge =
 abbrev pub AreInView : World → Identifier → List Update → Type 0
 AreInView w inv us = Each (λ r. r.safe.inv ≡ inv → Each (λ u. Member u (in_view w r)) us) w.replicas
 
--- an acknowledged write of a run is in the view of whoever has the identifier under which it was issued, from there on
+-- the world behind the first lines of a run
+abbrev pub behind : List Event → World
+behind es = after_lines empty_world es
+
+-- whatever a line acknowledged is in the view of whoever has the identifier under which it was issued, behind these lines more
+abbrev pub StaysInView : List Event → Event → List Event → Type 0
+StaysInView before e more =
+    (usn : ℕ) → Each (λ a. a.outcome ≡ outcomes.Usn usn
+    → (k : IsAcknowledged (behind before) e usn (step (behind before) e).0)
+    × AreInView (behind (before ++ e ∷ more)) k.writer.safe.inv (acknowledged (behind before) k))
+    (step (behind before) e).1
+
+-- an acknowledged write of a run stays in view to its end
 abbrev pub AcknowledgedStaysInView : Type 0
 AcknowledgedStaysInView =
-    (before after : List Event) (e : Event) (usn : ℕ) → MayAllHappen empty_world (before ++ e ∷ after)
-    → (after_lines empty_world (before ++ e ∷ after)).clean ≡ true
-    → Each (λ a. a.outcome ≡ outcomes.Usn usn
-    → (k : IsAcknowledged (after_lines empty_world before) e usn (step (after_lines empty_world before) e).0)
-    × AreInView (after_lines empty_world (before ++ e ∷ after)) k.writer.safe.inv (acknowledged (after_lines empty_world before) k))
-    (step (after_lines empty_world before) e).1
+    (before after : List Event) (e : Event) → MayAllHappen empty_world (before ++ e ∷ after)
+    → (behind (before ++ e ∷ after)).clean ≡ true → StaysInView before e after
 
 -- ---- refusals that don't come
 
@@ -291,9 +299,9 @@ AreUnlimited answers = NoneRefused 21 answers × NoneRefused 22 answers
 
 -- the answers say that there is more, or the last reply was taken, and the destination has everything in the world behind them
 abbrev pub EndsOrSaysMore : World → Replica → Replica → List Answer → World → Type 0
-EndsOrSaysMore w dest source answers behind =
+EndsOrSaysMore w dest source answers left =
     SaysMore dest.name dest.safe source.safe answers
-    ⊎ ((after : Replica) × Member after behind.replicas × (after.name ≡ dest.name) × IsCompleted w dest.safe source.safe answers after.safe)
+    ⊎ ((after : Replica) × Member after left.replicas × (after.name ≡ dest.name) × IsCompleted w dest.safe source.safe answers after.safe)
 
 -- a cycle with nothing in the way says that there is more, or ends with the last reply, and the destination has everything
 abbrev pub CycleEnds : Type 0
