@@ -15,7 +15,7 @@ use Rattle.adr_failure.specs.declared.Failure.TheVariants as failures
 use Rattle.adr_model.specs.Refusing.{unless}
 use Rattle.adr_model.specs.Serve.{Reply}
 use Rattle.adr_model.specs.Store.{State}
-use Rattle.adr_model.specs.Take.{Taking, mark_limit, passes, refusal_of, take, take_items, taken_change}
+use Rattle.adr_model.specs.Take.{Taking, mark_limit, over_limit, take_refusal, take, take_items, taken_change}
 use Rattle.adr_model.proofs.Firsts.{first_of_more, first_of_two}
 use Rattle.adr_model.specs.Write.{link_limit, object_limit, usn_limit}
 use Rattle.adr_cycle.specs.ReplyRefused.{refusal_before}
@@ -35,7 +35,7 @@ one_of_six None None None None (Some y) f rest other x none is = is
 one_of_six None None None None None (Some y) rest other x none is = is
 one_of_six None None None None None None rest other x none is = cc
 
-refused_before : (s : State) (r : Reply) (t : Taking) (taken : State) (x : TakeRefusal) → refusal_before s r ≡ Some x → refusal_of s r t taken ≡ Some x
+refused_before : (s : State) (r : Reply) (t : Taking) (taken : State) (x : TakeRefusal) → refusal_before s r ≡ Some x → take_refusal s r t taken ≡ Some x
 refused_before s r t taken x is = search one_of_six
 
 -- a refusal before the items is that of the whole
@@ -43,14 +43,14 @@ pub early : (s : State) (r : Reply) (x : TakeRefusal) → refusal_before s r ≡
 early s r x is = rw (refused_before s r (take_items s r.items) (after s (taken_change r (take_items s r.items))) x is) refl
 
 -- after the items the refusal, or that there is none, decides
-late : (s : State) (r : Reply) (t : Taking) → t ≡ take_items s r.items → (o : Option TakeRefusal) → o ≡ refusal_of s r t (after s (taken_change r t))
+late : (s : State) (r : Reply) (t : Taking) → t ≡ take_items s r.items → (o : Option TakeRefusal) → o ≡ take_refusal s r t (after s (taken_change r t))
     → unless o (taken_change r t) ≡ take s r
 late s r t is o e =
     ap (λ p. unless p (taken_change r t)) e
-    ∙ ap (λ (u : Taking). unless (refusal_of s r u (after s (taken_change r u))) (taken_change r u)) is
+    ∙ ap (λ (u : Taking). unless (take_refusal s r u (after s (taken_change r u))) (taken_change r u)) is
 
 -- what the items came to is refused, or makes the change
-module _ (s : State) (r : Reply) (items : List Item) (t : Taking) (o : Option TakeRefusal) (taking : t ≡ take_items s items) (same : items ≡ r.items) (found : o ≡ refusal_of s r t (after s (taken_change r t))) where
+module _ (s : State) (r : Reply) (items : List Item) (t : Taking) (o : Option TakeRefusal) (taking : t ≡ take_items s items) (same : items ≡ r.items) (found : o ≡ take_refusal s r t (after s (taken_change r t))) where
   decided : (p : Option TakeRefusal) → o ≡ p → unless p (taken_change r t) ≡ take s r
   decided p is = late s r t (taking ∙ ap (take_items s) same) p (sym is ∙ found)
 
@@ -73,17 +73,17 @@ six_none (Some y) b c d e f other rest is = cc
 -- what is looked at behind the items
 abbrev pub tables : Taking → State → List (Option TakeRefusal)
 tables t taken =
-    passes Objects object_limit t.objects
-    ∷ passes Links link_limit t.links
-    ∷ passes CursorTable cursor_limit (length taken.store.vector)
-    ∷ passes Marks mark_limit (length taken.store.marks)
+    over_limit Objects object_limit t.objects
+    ∷ over_limit Links link_limit t.links
+    ∷ over_limit CursorTable cursor_limit (length taken.store.vector)
+    ∷ over_limit Marks mark_limit (length taken.store.marks)
     ∷ []
 
 abbrev pub later : Taking → State → List (Option TakeRefusal)
 later t taken = then_some (nat_lt usn_limit t.usn) UsnLimit ∷ tables t taken
 
 -- it decides alone, with what the items say, where nothing was refused before
-pub behind : (s : State) (r : Reply) (t : Taking) (taken : State) → refusal_before s r ≡ None → first_of (t.refusal ∷ later t taken) ≡ refusal_of s r t taken
+pub behind : (s : State) (r : Reply) (t : Taking) (taken : State) → refusal_before s r ≡ None → first_of (t.refusal ∷ later t taken) ≡ take_refusal s r t taken
 behind s r t taken is = search six_none
 
 -- the first of four, where each was told by a call
@@ -118,7 +118,7 @@ eighth_passes None None (Some y) d e f g h rest is = cc
 eighth_passes None (Some y) c d e f g h rest is = cc
 eighth_passes (Some y) b c d e f g h rest is = cc
 
-usn_passes : (s : State) (r : Reply) (t : Taking) (taken : State) → refusal_of s r t taken ≡ None → then_some (nat_lt usn_limit t.usn) UsnLimit ≡ None
+usn_passes : (s : State) (r : Reply) (t : Taking) (taken : State) → take_refusal s r t taken ≡ None → then_some (nat_lt usn_limit t.usn) UsnLimit ≡ None
 usn_passes s r t taken is = search eighth_passes
 
 at_most : (n : ℕ) → then_some (nat_lt usn_limit n) UsnLimit ≡ None → n ≤ usn_limit
@@ -130,9 +130,9 @@ at_most n passes = by (nat_lt usn_limit n) refl passes
 
 -- a change that is made keeps the USN within its limit
 pub within : (s : State) (r : Reply) (change : Change) → take s r ≡ Ok change → change.usn ≤ usn_limit
-within s r change is = by (refusal_of s r (take_items s r.items) (after s (taken_change r (take_items s r.items)))) refl is
+within s r change is = by (take_refusal s r (take_items s r.items) (after s (taken_change r (take_items s r.items)))) refl is
   where
-    by : (o : Option TakeRefusal) → refusal_of s r (take_items s r.items) (after s (taken_change r (take_items s r.items))) ≡ o
+    by : (o : Option TakeRefusal) → take_refusal s r (take_items s r.items) (after s (taken_change r (take_items s r.items))) ≡ o
         → unless o (taken_change r (take_items s r.items)) ≡ Ok change → change.usn ≤ usn_limit
     by (Some x) found made = absurd (cc)
     by None found made =

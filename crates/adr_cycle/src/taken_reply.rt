@@ -3,7 +3,7 @@
 ghost use Rattle.std.specs.Prelude.{◌≡◌, ◌≤◌, [], None, Some, Ok, Err, IfOk, IsErrOf, unwrap_or};
 ghost use Rattle.adr_event.specs.declared.refusal.TakeRefusal.{TakeRefusal};
 ghost use Rattle.adr_model.specs.Change.{after};
-ghost use Rattle.adr_model.specs.Take.{passes, refusal_of, same_mark, shown_by_last, take, taken_change};
+ghost use Rattle.adr_model.specs.Take.{over_limit, take_refusal, same_mark, shown_by_last, take, taken_change};
 ghost use Rattle.adr_model.specs.Write.{usn_limit};
 ghost use Rattle.adr_cycle.specs.ReplyRefused.{refusal_before};
 
@@ -111,7 +111,7 @@ fn shown_by_last(state: &State, reply: &Reply) -> u64
 fn refusal_after(state: &State, reply: &Reply, taking: &Taking) -> Option<TakeRefusal>
     requires { refusal_before state.now reply.now ≡ None }
     ensures { let taken = after state.now (taken_change reply.now taking.now) in
-        result ≡ refusal_of state.now reply.now taking.now taken }
+        result ≡ take_refusal state.now reply.now taking.now taken }
 {
     if let Some(refusal) = taking.refusal() {
         return Some(refusal);
@@ -120,10 +120,10 @@ fn refusal_after(state: &State, reply: &Reply, taking: &Taking) -> Option<TakeRe
         return Some(TakeRefusal::UsnLimit);
     }
     let cursors = len_after(state.vector(), reply.last(), state.inv(), taking.usn());
-    passes(Table::Objects, OBJECT_LIMIT, taking.objects())
-        .or(passes(Table::Links, LINK_LIMIT, taking.links()))
-        .or(passes(Table::Cursors, CURSOR_LIMIT, cursors))
-        .or(passes(
+    over_limit(Table::Objects, OBJECT_LIMIT, taking.objects())
+        .or(over_limit(Table::Links, LINK_LIMIT, taking.links()))
+        .or(over_limit(Table::Cursors, CURSOR_LIMIT, cursors))
+        .or(over_limit(
             Table::Marks,
             MARK_LIMIT,
             state.marks().len_with(reply.source()),
@@ -131,8 +131,8 @@ fn refusal_after(state: &State, reply: &Reply, taking: &Taking) -> Option<TakeRe
 }
 
 /// The refusal of a table that passes its limit.
-fn passes(table: Table, limit: u64, count: usize) -> Option<TakeRefusal>
-    ensures { result ≡ passes table limit count }
+fn over_limit(table: Table, limit: u64, count: usize) -> Option<TakeRefusal>
+    ensures { result ≡ over_limit table limit count }
 {
     if limit < count as u64 {
         Some(TakeRefusal::Full { table, limit })

@@ -20,7 +20,7 @@ use Rattle.adr_law_knowledge.specs.Grows.{Grows}
 use Rattle.adr_law_knowledge.proofs.Knows.{grows_trans, grows_self}
 use Rattle.adr_law_steps.specs.Puts.{held_at, under, MayPut, ArePut}
 use Rattle.adr_law_calls.specs.KeepForms.{KeepForms}
-use Rattle.adr_law_calls.specs.OnTheWay.{IsTakeable, known_with, AreOnTheWay, IsOnTheWay, StaysFormed}
+use Rattle.adr_law_calls.specs.OnTheWay.{IsTakeable, known_with, AreOnTheWay, IsTakenSoFar, StaysFormed}
 use Rattle.adr_law_steps.proofs.Rows.{updated}
 use Rattle.adr_law_steps.proofs.Putting.{are_put, puts_grow}
 use Rattle.adr_law_steps.proofs.Order.{puts_rise, puts_stay_alone, puts_stay_within}
@@ -124,9 +124,9 @@ module _ (s : State) (t : Taking) (way : StaysFormed s t) (i : Item) (refusal : 
 
 -- ---- of a sound reply
 
-module _ (sc : Book) (s : State) (r : Reply) (may : IsTakeable sc s r) (t : Taking) (way : IsOnTheWay sc s r t) (i : Item) (refusal : Option TakeRefusal) (place objects links : ℕ) where
+module _ (sc : Book) (s : State) (r : Reply) (may : IsTakeable sc s r) (t : Taking) (way : IsTakenSoFar sc s r t) (i : Item) (refusal : Option TakeRefusal) (place objects links : ℕ) where
   -- nothing is written
-  idle : IsOnTheWay sc s r (goes_on t i [] refusal place objects links)
+  idle : IsTakenSoFar sc s r (goes_on t i [] refusal place objects links)
   idle = record {
     steady = steady_step s t way.steady i refusal place objects links [] (inl refl);
     rows = way.rows;
@@ -154,7 +154,7 @@ module _ (sc : Book) (s : State) (r : Reply) (may : IsTakeable sc s r) (t : Taki
         by (inl old) = inr old
         by (inr new) = inl (under_usn (t.usn + 1) (u ∷ us) h (subst (Member h) (held_where_written (t.usn + 1) i.unit (u ∷ us)) new))
 
-    written : IsOnTheWay sc s r behind
+    written : IsTakenSoFar sc s r behind
     written = record {
       steady = steady_step s t way.steady i refusal place objects links (u ∷ us) (inr (puts, keeps));
       rows = subst (AreOnTheWay sc s) (sym same) (rows_step sc s r may t.rows way.rows (t.usn + 1) i.unit (u ∷ us) (λ v m. may.reply.known v (of_item v m)) puts keeps);
@@ -166,7 +166,7 @@ module _ (sc : Book) (s : State) (r : Reply) (may : IsTakeable sc s r) (t : Taki
 
   pub step : (us : List Update) → Each (λ v. IsSent r v) us
       → (us ≡ []) ⊎ (MayPut (updates_of t.rows) (at s.store.vector) i.unit us × KeepForms (numbered s.store.schema) (at s.store.vector) (updates_of t.rows) i.unit us)
-      → IsOnTheWay sc s r (goes_on t i us refusal place objects links)
+      → IsTakenSoFar sc s r (goes_on t i us refusal place objects links)
   step [] of_item e = idle
   step (u ∷ us) of_item (inl e) = absurd (let f : u ∷ us ≡ [] = e in cc)
   step (u ∷ us) of_item (inr (puts, keeps)) = written u us of_item puts keeps

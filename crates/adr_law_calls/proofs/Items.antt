@@ -15,7 +15,7 @@ use Rattle.adr_model.specs.Replica.{Book}
 use Rattle.adr_model.specs.Sound.{IsSent}
 use Rattle.adr_law_knowledge.specs.Grows.{Grows}
 use Rattle.adr_law_knowledge.proofs.Knows.{grows_keeps, grows_self, grows_trans}
-use Rattle.adr_law_calls.specs.OnTheWay.{IsTakeable, known_with, StaysFormed, IsOnTheWay}
+use Rattle.adr_law_calls.specs.OnTheWay.{IsTakeable, known_with, StaysFormed, IsTakenSoFar}
 use Rattle.adr_law_calls.proofs.ItemPut.{MayWrite, taken_from, item_may}
 use Rattle.adr_law_calls.proofs.ItemStep.{step, step_grows, step_writes}
 use Rattle.adr_law_calls.proofs.ItemReflected.{item_reflected}
@@ -37,7 +37,7 @@ module _ (sc : Book) (s : State) (r : Reply) (may : IsTakeable sc s r) where
   abbrev all : Taking → List Item → Taking
   all t is = fold (take_item (numbered s.store.schema) s.store.vector) t is
 
-  pub starts : IsOnTheWay sc s r (begin s)
+  pub starts : IsTakenSoFar sc s r (begin s)
   starts = record {
     steady = begins_formed s may.state.formed;
     rows = record {
@@ -53,7 +53,7 @@ module _ (sc : Book) (s : State) (r : Reply) (may : IsTakeable sc s r) where
     idle = λ le. refl;
   }
 
-  module _ (t : Taking) (way : IsOnTheWay sc s r t) (i : Item) (m : Member i r.items) where
+  module _ (t : Taking) (way : IsTakenSoFar sc s r t) (i : Item) (m : Member i r.items) where
     abbrev us : List Update
     us = rows_taken s.store.vector t.rows i
 
@@ -63,7 +63,7 @@ module _ (sc : Book) (s : State) (r : Reply) (may : IsTakeable sc s r) where
     writes : MayWrite sc s r may t.rows way.rows i.unit us
     writes = item_may sc s r may t.rows way.rows i.unit i.rows (may.reply.exact i m)
 
-    pub on_the_way : IsOnTheWay sc s r (taken t i)
+    pub on_the_way : IsTakenSoFar sc s r (taken t i)
     on_the_way = step sc s r may t way i (taken t i).refusal (taken t i).place (taken t i).objects (taken t i).links us of_item writes
 
     pub item_grows : Grows sc.issued (known_with s t.rows) (known_with s (taken t i).rows)
@@ -73,11 +73,11 @@ module _ (sc : Book) (s : State) (r : Reply) (may : IsTakeable sc s r) where
     is_reflected = item_reflected sc s r may t.rows way.rows (taken t i).rows (grows_keeps sc.issued (known_with s t.rows) (known_with s (taken t i).rows) item_grows) i.unit i.rows (may.reply.exact i m)
         (step_writes sc s r may t way i (taken t i).refusal (taken t i).place (taken t i).objects (taken t i).links us writes)
 
-  pub all_on_the_way : (is : List Item) (t : Taking) → IsOnTheWay sc s r t → Each (λ i. Member i r.items) is → IsOnTheWay sc s r (all t is)
+  pub all_on_the_way : (is : List Item) (t : Taking) → IsTakenSoFar sc s r t → Each (λ i. Member i r.items) is → IsTakenSoFar sc s r (all t is)
   all_on_the_way [] t way among = way
   all_on_the_way (i ∷ is) t way among = all_on_the_way is (taken t i) (on_the_way t way i (among i (inl refl))) (λ j m. among j (inr m))
 
-  pub all_grow : (is : List Item) (t : Taking) → IsOnTheWay sc s r t → Each (λ i. Member i r.items) is → Grows sc.issued (known_with s t.rows) (known_with s (all t is).rows)
+  pub all_grow : (is : List Item) (t : Taking) → IsTakenSoFar sc s r t → Each (λ i. Member i r.items) is → Grows sc.issued (known_with s t.rows) (known_with s (all t is).rows)
   all_grow [] t way among = grows_self sc.issued (known_with s t.rows)
   all_grow (i ∷ is) t way among =
       let m = among i (inl refl) in
@@ -85,17 +85,17 @@ module _ (sc : Book) (s : State) (r : Reply) (may : IsTakeable sc s r) where
       (item_grows t way i m) (all_grow is (taken t i) (on_the_way t way i m) (λ j n. among j (inr n)))
 
   -- the rows of an item are reflected after it, and so after the items that follow
-  pub all_reflected : (is : List Item) (t : Taking) → IsOnTheWay sc s r t → Each (λ i. Member i r.items) is → Each (λ i. Each (λ u. Reflects sc.issued (known_with s (all t is).rows) u) i.rows) is
+  pub all_reflected : (is : List Item) (t : Taking) → IsTakenSoFar sc s r t → Each (λ i. Member i r.items) is → Each (λ i. Each (λ u. Reflects sc.issued (known_with s (all t is).rows) u) i.rows) is
   all_reflected [] t way among i m u n = absurd m
   all_reflected (j ∷ is) t way among i (inl e) u n =
-      let next : IsOnTheWay sc s r (taken t j) = on_the_way t way j (among j (inl refl)) in
+      let next : IsTakenSoFar sc s r (taken t j) = on_the_way t way j (among j (inl refl)) in
       grows_keeps sc.issued (known_with s (taken t j).rows) (known_with s (all (taken t j) is).rows) (all_grow is (taken t j) next (λ k o. among k (inr o))) u
       (is_reflected t way j (among j (inl refl)) u (subst (λ (k : Item). Member u k.rows) e n))
   all_reflected (j ∷ is) t way among i (inr m) u n = all_reflected is (taken t j) (on_the_way t way j (among j (inl refl))) (λ k o. among k (inr o)) i m u n
 
   -- ---- the whole reply
 
-  pub ends : IsOnTheWay sc s r (take_items s r.items)
+  pub ends : IsTakenSoFar sc s r (take_items s r.items)
   ends = all_on_the_way r.items (begin s) starts (λ i m. m)
 
   pub items_reflected : (u : Update) → IsSent r u → Reflects sc.issued (known_with s (take_items s r.items).rows) u

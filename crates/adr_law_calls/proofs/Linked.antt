@@ -17,7 +17,8 @@ use Rattle.adr_model.specs.Member.{Each}
 use Rattle.adr_model.specs.Update.{Identifier, LinkOf, IsPresent, Update, same_key, unit_of, ends}
 use Rattle.adr_model.specs.Store.{Held, State, updates_of, row_held}
 use Rattle.adr_model.specs.Formed.{IsFormed}
-use Rattle.adr_model.specs.Write.{AddLink, RemoveLink, where_true, of_schema, object_refusal, full_refusal, nodes_held, class_of, object_of, link_of, is_linked, says_present, links_in, link_limit, more_links, any_link_refusals, any_link_refusal, link_refusal, unlink_refusal, rows_written}
+use Rattle.adr_model.specs.Write.{AddLink, RemoveLink, of_schema, object_refusal, full_refusal, nodes_held, class_of, object_of, link_of, is_linked, says_present, links_in, link_limit, more_links, any_link_refusals, any_link_refusal, link_refusal, unlink_refusal, rows_written}
+use Rattle.std.specs.Bool.{then_some}
 use Rattle.adr_law_knowledge.proofs.Comparing.{keys_tell}
 use Rattle.adr_law_steps.proofs.Rows.{updated}
 use Rattle.adr_law_calls.specs.MayWrites.{IsHeldAlive, HoldsLink, MayWrite}
@@ -90,7 +91,7 @@ module _ (s : State) (formed : IsFormed s) (from : Identifier) (attr : ℕ) (to 
   may_add_link now none = link_row linked any now true (room (row_held s.store.rows (LinkOf link)) refl)
     where
       linked : Bool → Option WriteRefusal
-      linked b = where_true b LinkThere
+      linked b = then_some b LinkThere
 
       any : any_link_refusal s from attr to linked ≡ None
       any = none_there (any_link_refusal s from attr to linked ∷ full_refusal Links link_limit (links_in s.store.rows + more_links s from attr to) ∷ []) none _ (inl refl)
@@ -107,7 +108,7 @@ module _ (s : State) (formed : IsFormed s) (from : Identifier) (attr : ℕ) (to 
   may_remove_link now none = link_row wrong none now false (inl (by (row_held s.store.rows (LinkOf link)) refl there))
     where
       wrong : Bool → Option WriteRefusal
-      wrong b = where_true (not b) LinkNotThere
+      wrong b = then_some (not b) LinkNotThere
 
       there : is_linked s.store.rows link ≡ true
       there = is_so (is_linked s.store.rows link) LinkNotThere (not_wrong wrong none)

@@ -14,7 +14,8 @@ use Rattle.adr_model.specs.Reflects.{HoldsObject, IsTombstoned}
 use Rattle.adr_model.specs.Formed.{AreFormedRows, IsNamed, IsObjectFormed}
 use Rattle.adr_event.specs.declared.refusal.WriteRefusal.{WriteRefusal}
 use Rattle.adr_event.specs.declared.refusal.WriteRefusal.TheVariants.{NoObject, Deleted}
-use Rattle.adr_model.specs.Write.{where_true, holds_guid, nodes_held, object_refusal, object_of, class_of}
+use Rattle.adr_model.specs.Write.{holds_guid, nodes_held, object_refusal, object_of, class_of}
+use Rattle.std.specs.Bool.{then_some}
 use Rattle.adr_model.proofs.Nodes.{IsNodeOf, is_node_of}
 use Rattle.adr_model.proofs.Members.{of_filter, found_member, of_filter_map, some_passes, each_passes}
 use Rattle.adr_model.proofs.Keys.{objects_tell}
@@ -85,10 +86,10 @@ module _ (table : Table) (rows : List Update) (formed : AreFormedRows table rows
   object_is_live guid none = by (node_at (nodes_held rows) guid) refl (not_so (is_none (node_at (nodes_held rows) guid)) (Deleted guid) (none_there refusals none not_live (inr (inl refl))))
     where
       not_live : Option WriteRefusal
-      not_live = where_true (is_none (node_at (nodes_held rows) guid)) (Deleted guid)
+      not_live = then_some (is_none (node_at (nodes_held rows) guid)) (Deleted guid)
 
       refusals : List (Option WriteRefusal)
-      refusals = where_true (not (holds_guid rows guid)) (NoObject guid) ∷ not_live ∷ []
+      refusals = then_some (not (holds_guid rows guid)) (NoObject guid) ∷ not_live ∷ []
 
       none_given : Oid
       none_given = record { guid = guid; birth = record { inv = root; usn = 0 } }

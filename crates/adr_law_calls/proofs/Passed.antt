@@ -15,7 +15,7 @@ use Rattle.adr_model.specs.Store.{Mode, Normal, Quarantined as IsQuarantined, St
 use Rattle.adr_model.specs.Change.{Change}
 use Rattle.adr_model.specs.Serve.{Reply, is_quarantined}
 use Rattle.adr_model.specs.Write.{object_limit, link_limit, usn_limit}
-use Rattle.adr_model.specs.Take.{Taking, shown_by_last, passes, mark_limit, refusal_of, take}
+use Rattle.adr_model.specs.Take.{Taking, shown_by_last, over_limit, mark_limit, take_refusal, take}
 use Rattle.adr_model.specs.Replica.{Book}
 use Rattle.adr_model.specs.Sound.{IsSoundBook, IsSoundState, IsSoundReply}
 use Rattle.adr_law_knowledge.proofs.Refusing.{none_there, answered}
@@ -49,13 +49,13 @@ pub normal_where_not_quarantined : (m : Mode) → is_quarantined m ≡ false →
 normal_where_not_quarantined Normal e = refl
 normal_where_not_quarantined IsQuarantined e = absurd (cc)
 
-passes_where_granted : (s : State) (r : Reply) (t : Taking) (behind : State) → refusal_of s r t behind ≡ None → Passes s r t behind
+passes_where_granted : (s : State) (r : Reply) (t : Taking) (behind : State) → take_refusal s r t behind ≡ None → Passes s r t behind
 passes_where_granted s r t behind none =
     let n = each_of_twelve
     (then_some (is_quarantined s.mode) Quarantined) (then_some (not (same_identifier r.dest s.dsa)) (NotMine r.dest)) (stale s r) (lags s r) (other_schema s r)
     (put_back s r)
-    t.refusal (then_some (nat_lt usn_limit t.usn) UsnLimit) (passes Objects object_limit t.objects) (passes Links link_limit t.links)
-    (passes CursorTable cursor_limit (length behind.store.vector)) (passes Marks mark_limit (length behind.store.marks)) none in
+    t.refusal (then_some (nat_lt usn_limit t.usn) UsnLimit) (over_limit Objects object_limit t.objects) (over_limit Links link_limit t.links)
+    (over_limit CursorTable cursor_limit (length behind.store.vector)) (over_limit Marks mark_limit (length behind.store.marks)) none in
     record {
       normal = normal_where_not_quarantined s.mode (not_then (is_quarantined s.mode) Quarantined n.0);
       fresh = n.1;
@@ -73,7 +73,7 @@ passes_where_granted s r t behind none =
 -- a reply that is taken passes, and the change is the one of its items
 pub passed : (s : State) (r : Reply) (c : Change) → take s r ≡ Ok c → Passes s r (taken_items s r) (state_behind s r) × (change_taken s r ≡ c)
 passed s r c e =
-    let g = answered (refusal_of s r (taken_items s r) (state_behind s r)) (change_taken s r) c e in
+    let g = answered (take_refusal s r (taken_items s r) (state_behind s r)) (change_taken s r) c e in
     (passes_where_granted s r (taken_items s r) (state_behind s r) g.0, g.1)
 
 pub is_taken : (sc : Book) (s : State) (r : Reply) (c : Change) → IsSoundBook sc → IsSoundState sc s → IsSoundReply sc r → take s r ≡ Ok c → IsTaken sc s r c

@@ -5,13 +5,14 @@ use Rattle.std.proofs.lemmas.Bool.{not-false, ltb-false}
 use Rattle.adr_event.specs.declared.refusal.Table.{Table}
 use Rattle.adr_event.specs.declared.refusal.WriteRefusal.{WriteRefusal}
 use Rattle.adr_event.specs.declared.refusal.WriteRefusal.TheVariants.{Full}
-use Rattle.adr_model.specs.Write.{where_true, full_refusal}
+use Rattle.adr_model.specs.Write.{full_refusal}
+use Rattle.std.specs.Bool.{then_some}
 
-pub not_so : (b : Bool) (r : WriteRefusal) → where_true b r ≡ None → b ≡ false
+pub not_so : (b : Bool) (r : WriteRefusal) → then_some b r ≡ None → b ≡ false
 not_so true r none = absurd (cc)
 not_so false r none = refl
 
-pub is_so : (b : Bool) (r : WriteRefusal) → where_true (not b) r ≡ None → b ≡ true
+pub is_so : (b : Bool) (r : WriteRefusal) → then_some (not b) r ≡ None → b ≡ true
 is_so b r none = not-false b (not_so (not b) r none)
 
 pub not_full : (table : Table) (limit count : ℕ) → full_refusal table limit count ≡ None → count ≤ limit

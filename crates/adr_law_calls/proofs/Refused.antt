@@ -23,11 +23,11 @@ use Rattle.adr_model.specs.Store.{Held, State}
 use Rattle.adr_model.specs.Change.{Item, after}
 use Rattle.adr_model.specs.Serve.{Reply, is_quarantined}
 use Rattle.adr_model.specs.Write.{object_limit, link_limit, usn_limit}
-use Rattle.adr_model.specs.Take.{Taking, begin, lacks, Presence, object_lacks, incomplete, item_fault, item_refusal, take_item, kept_mark, shown_by_last, passes, mark_limit, take_items, taken_change, refusal_of, take}
+use Rattle.adr_model.specs.Take.{Taking, begin, lacks, Presence, object_lacks, incomplete, item_fault, item_refusal, take_item, kept_mark, shown_by_last, over_limit, mark_limit, take_items, taken_change, take_refusal, take}
 use Rattle.adr_model.specs.Replica.{Book}
 use Rattle.adr_model.specs.Sound.{IsSoundBook, IsSoundState, IsSoundLast, IsSoundReply}
 use Rattle.adr_law_knowledge.proofs.Refusing.{unmet, where_it_is, none_is, first_is, tested_is, refused_by, mapped_is}
-use Rattle.adr_law_calls.specs.OnTheWay.{IsTakeable, IsOnTheWay, stale, lags, other_schema, put_back}
+use Rattle.adr_law_calls.specs.OnTheWay.{IsTakeable, IsTakenSoFar, stale, lags, other_schema, put_back}
 use Rattle.adr_law_calls.proofs.Standings.{each_presence}
 use Rattle.adr_law_calls.proofs.Granted.{takeable}
 use Rattle.adr_law_calls.proofs.Items.{starts, on_the_way}
@@ -60,8 +60,8 @@ pub record IsOfItems (harm : TakeRefusal → Bool) : Type 0 where
   pub full : (table : Table) (limit : ℕ) → harm (Full table limit) ≡ false
 
 module _ (harm : TakeRefusal → Bool) (sc : Book) (s : State) (r : Reply) (may : IsTakeable sc s r)
-    (item : (t : Taking) → IsOnTheWay sc s r t → (i : Item) → Member i r.items → IsHarmless harm (item_refusal (numbered s.store.schema) s.store.vector t.rows t.place i)) where
-  items_are_harmless : (is : List Item) (t : Taking) → IsOnTheWay sc s r t → Each (λ i. Member i r.items) is → IsHarmless harm t.refusal → IsHarmless harm (fold (take_item (numbered s.store.schema) s.store.vector) t is).refusal
+    (item : (t : Taking) → IsTakenSoFar sc s r t → (i : Item) → Member i r.items → IsHarmless harm (item_refusal (numbered s.store.schema) s.store.vector t.rows t.place i)) where
+  items_are_harmless : (is : List Item) (t : Taking) → IsTakenSoFar sc s r t → Each (λ i. Member i r.items) is → IsHarmless harm t.refusal → IsHarmless harm (fold (take_item (numbered s.store.schema) s.store.vector) t is).refusal
   items_are_harmless [] t way among h = h
   items_are_harmless (i ∷ is) t way among h =
       items_are_harmless is (take_item (numbered s.store.schema) s.store.vector t i) (on_the_way sc s r may t way i (among i (inl refl))) (λ j m. among j (inr m))
@@ -73,17 +73,17 @@ module _ (harm : TakeRefusal → Bool) (sc : Book) (s : State) (r : Reply) (may 
 
 module _ (harm : TakeRefusal → Bool) (of_items : IsOfItems harm) (sc : Book) (s : State) (r : Reply) (book : IsSoundBook sc) (state : IsSoundState sc s) (reply : IsSoundReply sc r)
     (rolled : IsHarmless harm (put_back s r)) (items : IsTakeable sc s r → IsHarmless harm (take_items s r.items).refusal) where
-  full_is_harmless : (table : Table) (limit count : ℕ) → IsHarmless harm (passes table limit count)
+  full_is_harmless : (table : Table) (limit count : ℕ) → IsHarmless harm (over_limit table limit count)
   full_is_harmless table limit count = tested_is (IsCalm harm) (nat_lt limit count) (Full table limit) (of_items.full table limit)
 
   pub not_refused : (x : TakeRefusal) → take s r ≡ Err x → harm x ≡ false
-  not_refused x e = where_it_is (IsCalm harm) (refusal_of s r (take_items s r.items) (after s (taken_change r (take_items s r.items)))) x (judged (take_items s r.items) (after s (taken_change r (take_items s r.items))) items) (refused_by (refusal_of s r (take_items s r.items) (after s (taken_change r (take_items s r.items)))) (taken_change r (take_items s r.items)) x e)
+  not_refused x e = where_it_is (IsCalm harm) (take_refusal s r (take_items s r.items) (after s (taken_change r (take_items s r.items)))) x (judged (take_items s r.items) (after s (taken_change r (take_items s r.items))) items) (refused_by (take_refusal s r (take_items s r.items) (after s (taken_change r (take_items s r.items)))) (taken_change r (take_items s r.items)) x e)
     where
-      judged : (t : Taking) (d : State) → (IsTakeable sc s r → IsHarmless harm t.refusal) → IsHarmless harm (refusal_of s r t d)
+      judged : (t : Taking) (d : State) → (IsTakeable sc s r → IsHarmless harm t.refusal) → IsHarmless harm (take_refusal s r t d)
       judged t d found = twelve_are_harmless harm
           (then_some (is_quarantined s.mode) Quarantined) (then_some (not (same_identifier r.dest s.dsa)) (NotMine r.dest)) (stale s r) (lags s r) (other_schema s r) (put_back s r)
-          t.refusal (then_some (nat_lt usn_limit t.usn) UsnLimit) (passes Objects object_limit t.objects) (passes Links link_limit t.links)
-          (passes CursorTable cursor_limit (length d.store.vector)) (passes Marks mark_limit (length d.store.marks))
+          t.refusal (then_some (nat_lt usn_limit t.usn) UsnLimit) (over_limit Objects object_limit t.objects) (over_limit Links link_limit t.links)
+          (over_limit CursorTable cursor_limit (length d.store.vector)) (over_limit Marks mark_limit (length d.store.marks))
           (tested_is (IsCalm harm) _ Quarantined of_items.quarantined) (tested_is (IsCalm harm) _ (NotMine r.dest) (of_items.not_mine r.dest)) (tested_is (IsCalm harm) _ (Stale (kept_mark s r) r.from) (of_items.stale (kept_mark s r) r.from)) (mapped_is (λ g. VectorBehind g.0 g.1 g.2) (IsCalm harm) (λ g. of_items.behind g.0 g.1 g.2) (first_gap r.asked s.store.vector)) (tested_is (IsCalm harm) _ (SchemaMismatch s.store.schema r.schema) (of_items.schema s.store.schema r.schema)) rolled
           (λ nc nd ne. found (takeable sc s r book state reply nc nd ne)) (tested_is (IsCalm harm) _ UsnLimit of_items.usn)
           (full_is_harmless Objects object_limit t.objects) (full_is_harmless Links link_limit t.links) (full_is_harmless CursorTable cursor_limit (length d.store.vector)) (full_is_harmless Marks mark_limit (length d.store.marks))
@@ -120,7 +120,7 @@ shown_within sc s r state None h = omega arith
 shown_within sc s r state (Some w) h = omega (arith, h.bounded s.inv, state.last)
 
 module _ (sc : Book) (s : State) (r : Reply) (book : IsSoundBook sc) (state : IsSoundState sc s) (reply : IsSoundReply sc r) where
-  sound_item : (may : IsTakeable sc s r) (t : Taking) → IsOnTheWay sc s r t → (i : Item) → Member i r.items
+  sound_item : (may : IsTakeable sc s r) (t : Taking) → IsTakenSoFar sc s r t → (i : Item) → Member i r.items
       → item_refusal (numbered s.store.schema) s.store.vector t.rows t.place i ≡ incomplete (numbered s.store.schema) s.store.vector t.rows i
   sound_item may t way i m = faultless (item_fault (numbered s.store.schema) s.store.vector t.rows i) t.place (item_is_sound sc s r may t.rows way.rows i.unit i.rows (reply.exact i m)) (incomplete (numbered s.store.schema) s.store.vector t.rows i)
 
@@ -129,7 +129,7 @@ module _ (sc : Book) (s : State) (r : Reply) (book : IsSoundBook sc) (state : Is
       (none_is (IsCalm is_broken) (put_back s r) (unmet _ _ (le-ltb s.store.usn (shown_by_last s r) (shown_within sc s r state r.last reply.last))))
       (λ may. all_are_harmless is_broken sc s r may (λ t way i m. subst (IsHarmless is_broken) (sym (sound_item may t way i m)) (incomplete_alone (numbered s.store.schema) s.store.vector t.rows i.unit i.rows)))
 
-  whole_item : (may : IsTakeable sc s r) (t : Taking) → IsOnTheWay sc s r t → (i : Item) → Member i r.items → item_refusal (numbered s.store.schema) s.store.vector t.rows t.place i ≡ None
+  whole_item : (may : IsTakeable sc s r) (t : Taking) → IsTakenSoFar sc s r t → (i : Item) → Member i r.items → item_refusal (numbered s.store.schema) s.store.vector t.rows t.place i ≡ None
   whole_item may t way i m = let first = (reply.exact i m).some in sound_item may t way i m ∙ item_is_whole sc s r may t.rows way.rows i.unit i.rows (reply.exact i m) first.0 first.1
 
   pub not_incomplete : (x : TakeRefusal) → take s r ≡ Err x → is_incomplete x ≡ false

@@ -12,7 +12,7 @@ use Rattle.adr_model.specs.Take.{Taking, begin, rows_taken, writes_of, take_item
 use Rattle.adr_model.specs.Replica.{Book}
 use Rattle.adr_model.specs.Sound.{IsSoundBook, IsSoundState, IsSoundReply, IsSent}
 use Rattle.adr_law_knowledge.proofs.Knows.{grows_keeps}
-use Rattle.adr_law_calls.specs.OnTheWay.{IsTakeable, known_with, IsOnTheWay, IsTaken}
+use Rattle.adr_law_calls.specs.OnTheWay.{IsTakeable, known_with, IsTakenSoFar, IsTaken}
 use Rattle.adr_law_calls.proofs.Items.{starts, ends, on_the_way}
 use Rattle.adr_model.proofs.Members.{member_of_either}
 use Rattle.adr_law_knowledge.proofs.Lists.{no_members, alone_from}
@@ -27,20 +27,20 @@ use Rattle.adr_law_calls.proofs.Passed.{is_taken}
 
 module _ (sc : Book) (s : State) (r : Reply) (may : IsTakeable sc s r) (missed : (u : Update) → IsSent r u → Covers (at s.store.vector) u → ⊥) where
   -- a row that an item writes was not reflected at the start
-  lacked : (t : Taking) → IsOnTheWay sc s r t → (i : Item) → Member i r.items → Each (λ u. Reflects sc.issued (knowledge_of s.store) u → ⊥) (rows_taken s.store.vector t.rows i)
+  lacked : (t : Taking) → IsTakenSoFar sc s r t → (i : Item) → Member i r.items → Each (λ u. Reflects sc.issued (knowledge_of s.store) u → ⊥) (rows_taken s.store.vector t.rows i)
   lacked t way i m u w taken = item_lacked sc s r may t.rows way.rows i.unit i.rows (may.reply.exact i m) u w (missed u (i, m, taken_from s.store.vector t.rows i.unit i.rows u w))
       (grows_keeps sc.issued (knowledge_of s.store) (known_with s t.rows) way.rows.grows u taken)
 
   -- ---- nothing comes
 
   module _ (taken : (u : Update) → IsSent r u → Reflects sc.issued (knowledge_of s.store) u) where
-    stays : (t : Taking) → IsOnTheWay sc s r t → (i : Item) → Member i r.items → (take_item (numbered s.store.schema) s.store.vector t i).usn ≡ t.usn
+    stays : (t : Taking) → IsTakenSoFar sc s r t → (i : Item) → Member i r.items → (take_item (numbered s.store.schema) s.store.vector t i).usn ≡ t.usn
     stays t way i m = subst (λ us. t.usn + length (writes_of t.usn i us) ≡ t.usn) (sym nothing) (omega arith)
       where
         nothing : rows_taken s.store.vector t.rows i ≡ []
         nothing = no_members (rows_taken s.store.vector t.rows i) (λ u w. lacked t way i m u w (taken u (i, m, taken_from s.store.vector t.rows i.unit i.rows u w)))
 
-    all_stay : (is : List Item) (t : Taking) → IsOnTheWay sc s r t → Each (λ i. Member i r.items) is → (fold (take_item (numbered s.store.schema) s.store.vector) t is).usn ≡ t.usn
+    all_stay : (is : List Item) (t : Taking) → IsTakenSoFar sc s r t → Each (λ i. Member i r.items) is → (fold (take_item (numbered s.store.schema) s.store.vector) t is).usn ≡ t.usn
     all_stay [] t way among = refl
     all_stay (i ∷ is) t way among =
         let m = among i (inl refl) in
@@ -55,7 +55,7 @@ module _ (sc : Book) (s : State) (r : Reply) (may : IsTakeable sc s r) (missed :
   written_of usn i [] none h m = absurd m
   written_of usn i (u ∷ us) none h m = none h.update (under_usn (usn + 1) (u ∷ us) h (alone_from (under (usn + 1) (u ∷ us)) h m)).0
 
-  all_lack : (is : List Item) (t : Taking) → IsOnTheWay sc s r t → Each (λ i. Member i r.items) is → Lacks t → Lacks (fold (take_item (numbered s.store.schema) s.store.vector) t is)
+  all_lack : (is : List Item) (t : Taking) → IsTakenSoFar sc s r t → Each (λ i. Member i r.items) is → Lacks t → Lacks (fold (take_item (numbered s.store.schema) s.store.vector) t is)
   all_lack [] t way among lacks = lacks
   all_lack (i ∷ is) t way among lacks = all_lack is (take_item (numbered s.store.schema) s.store.vector t i) (on_the_way sc s r may t way i (among i (inl refl))) (λ j n. among j (inr n)) next
     where

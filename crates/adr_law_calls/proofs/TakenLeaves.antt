@@ -20,7 +20,7 @@ use Rattle.adr_law_steps.specs.Puts.{AreClosed}
 use Rattle.adr_law_logs.specs.Later.{MayIssue}
 use Rattle.adr_law_logs.specs.Settling.{Leaves}
 use Rattle.adr_law_logs.proofs.Units.{change_from}
-use Rattle.adr_law_calls.specs.OnTheWay.{IsTakeable, IsTaken, IsOnTheWay}
+use Rattle.adr_law_calls.specs.OnTheWay.{IsTakeable, IsTaken, IsTakenSoFar}
 use Rattle.adr_law_steps.proofs.Rows.{held_as, updated}
 use Rattle.adr_law_calls.proofs.Standings.{held_or_not}
 use Rattle.adr_law_calls.proofs.OnTheWay.{source_classes, purged_within}
@@ -43,7 +43,7 @@ module _ (sc : Book) (s : State) (r : Reply) (c : Change) (t : IsTaken sc s r c)
   abbrev d : State
   d = behind sc s r may
 
-  way : IsOnTheWay sc s r now
+  way : IsTakenSoFar sc s r now
   way = way_ends sc s r may
 
   -- a row that stands now stood before or was sent

@@ -55,7 +55,7 @@ pub record StaysFormed (s : State) (t : Taking) : Type 0 where
   pub rises : s.store.usn ≤ t.usn
 
 -- and of a sound reply: what is written is of the reply and follows the USN of the start
-pub record IsOnTheWay (sc : Book) (s : State) (r : Reply) (t : Taking) : Type 0 where
+pub record IsTakenSoFar (sc : Book) (s : State) (r : Reply) (t : Taking) : Type 0 where
   pub steady : StaysFormed s t
   pub rows : AreOnTheWay sc s t.rows
   pub sent : Each (λ h. IsSent r h.update) (held_of t.writes)

@@ -13,7 +13,7 @@ use Rattle.adr_model.specs.Change.{Change, after}
 use Rattle.adr_model.specs.Lengths.{log_end_after}
 use Rattle.adr_model.specs.Serve.{Reply}
 use Rattle.adr_model.specs.Write.{Write, IsWellGiven, items_written, own_change, write_refusal, write}
-use Rattle.adr_model.specs.Take.{take_items, taken_change, refusal_of, take}
+use Rattle.adr_model.specs.Take.{take_items, taken_change, take_refusal, take}
 use Rattle.adr_model.specs.Collect.{collection, deaths_to_collect, collect_refusal, collect}
 use Rattle.adr_model.specs.Replica.{Pending, ToWrite, ToTake, ToCollect, change_of, change_in, Standing, Up, Plan, Replica, Book, Settle, moved, went, moves_of_commit, moves_of_start, standing_after, plan_after, Failed}
 use Rattle.adr_model.specs.World.{World, Gone, with_replica, committed, commit, after_write, after_collect, after_take, after_moves}
@@ -93,4 +93,4 @@ module _ (w : World) (sound : IsSoundWorld w) (r : Replica) (there : Member r w.
         by : (t : Result Change TakeRefusal) → take r.safe reply ≡ t → IsSoundWorld (after_take w r reply t).0
         by (Err x) e = subst IsSoundWorld (sym (other_refusal reply x (λ inv mine shown s. reply_shows_no_rollback w.book r.safe reply inv mine shown sound.book (sound.replicas r there).safe is (e ∙ ap Err s)))) sound
         by (Ok c) e = commit_sound (record { call = ToTake reply; change = c }) (outcomes.Took (length reply.items) (length c.writes) c.usn) is (ap change_in e)
-            (subst (λ (d : Change). IfSome d.mark (λ m. IsGiven w m.1.inv)) (answered (refusal_of r.safe reply (take_items r.safe reply.items) (after r.safe (taken_change reply (take_items r.safe reply.items)))) (taken_change reply (take_items r.safe reply.items)) c e).1 given)
+            (subst (λ (d : Change). IfSome d.mark (λ m. IsGiven w m.1.inv)) (answered (take_refusal r.safe reply (take_items r.safe reply.items) (after r.safe (taken_change reply (take_items r.safe reply.items)))) (taken_change reply (take_items r.safe reply.items)) c e).1 given)

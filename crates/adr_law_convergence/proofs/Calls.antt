@@ -4,7 +4,7 @@ use Rattle.adr_model.specs.Member.{Member, Each}
 use Rattle.adr_model.specs.Store.{Normal, State}
 use Rattle.adr_model.specs.Change.{Change, Written, held_of, after}
 use Rattle.adr_model.specs.LocalLog.{Follows}
-use Rattle.adr_model.specs.Take.{take_items, taken_change, refusal_of, take}
+use Rattle.adr_model.specs.Take.{take_items, taken_change, take_refusal, take}
 use Rattle.adr_model.specs.Write.{items_written, own_change, write_refusal, write}
 use Rattle.adr_model.specs.Collect.{deaths_to_collect, collection, collect_refusal, collect}
 use Rattle.adr_model.specs.Replica.{Call, ToWrite, ToTake, ToCollect, ToQuarantine, change_in, change_of, Pending, issued_by, Replica, Book}
@@ -57,7 +57,7 @@ module _ (sc : Book) (s : State) (book : IsSoundBook sc) (state : IsSoundState s
       ok = in_change (take s r) c made
 
       change : taken_change r (take_items s r.items) ≡ c
-      change = (answered (refusal_of s r (take_items s r.items) (after s (taken_change r (take_items s r.items)))) (taken_change r (take_items s r.items)) c ok).1
+      change = (answered (take_refusal s r (take_items s r.items) (after s (taken_change r (take_items s r.items)))) (taken_change r (take_items s r.items)) c ok).1
 
       left : Follows (last_of sc s.inv) c × (MayIssue sc c [] × Leaves sc s (record { call = ToTake r; change = c }))
       left = taken_leaves sc s r c book state is ok

@@ -14,7 +14,7 @@ use Rattle.adr_model.specs.Sound.{IsSoundBook, IsSoundStore, IsSoundState, AreMa
 use Rattle.adr_model.specs.Convergence.{IsNewName, IsNewDsa, IsNewInv}
 use Rattle.adr_model.proofs.Members.{member_left, member_right}
 use Rattle.adr_law_logs.specs.Later.{IsLater}
-use Rattle.adr_law_logs.specs.Logs.{first_log}
+use Rattle.adr_model.specs.LocalLog.{first_log}
 use Rattle.adr_law_logs.proofs.Empty.{new_is_sound}
 use Rattle.adr_law_logs.proofs.Woken.{adopted_is_woken, adopted_is_sound}
 use Rattle.adr_law_logs.proofs.Tables.{entry_other}

@@ -16,7 +16,7 @@ use Rattle.adr_model.specs.Store.{Store, State, empty_state}
 use Rattle.adr_model.specs.Change.{Change, after}
 use Rattle.adr_model.specs.Serve.{Request, Reply, is_quarantined, ask, serve}
 use Rattle.adr_model.specs.Write.{Write, items_written, own_change, write_refusal, write}
-use Rattle.adr_model.specs.Take.{take_items, taken_change, refusal_of, take}
+use Rattle.adr_model.specs.Take.{take_items, taken_change, take_refusal, take}
 use Rattle.adr_model.specs.Collect.{collection, deaths_to_collect, collect_refusal, collect, backup, adopt, quarantine}
 use Rattle.adr_model.specs.Lengths.{new_log_end, log_end_after}
 use Rattle.adr_model.specs.Refused.{serve_refused, take_refused, quarantined}
@@ -61,7 +61,7 @@ module _ (w : World) (covered : IsPurgedCovered w) where
 
     took : (reply : Reply) (t : Result Change TakeRefusal) → take r.safe reply ≡ t → IsPurgedCovered (after_take w r reply t).0
     took reply (Ok c) e = commits (record { call = ToTake reply; change = c }) (outcomes.Took (length reply.items) (length c.writes) c.usn)
-        (unpurged (taken_change reply (take_items r.safe reply.items)) c (answered (refusal_of r.safe reply (take_items r.safe reply.items) (after r.safe (taken_change reply (take_items r.safe reply.items)))) (taken_change reply (take_items r.safe reply.items)) c e).1 refl)
+        (unpurged (taken_change reply (take_items r.safe reply.items)) c (answered (take_refusal r.safe reply (take_items r.safe reply.items) (after r.safe (taken_change reply (take_items r.safe reply.items)))) (taken_change reply (take_items r.safe reply.items)) c e).1 refl)
     took reply (Err (takes.RolledBack inv mine shown)) e = quarantining (take_refused (takes.RolledBack inv mine shown))
     took reply (Err _) e = covered
 

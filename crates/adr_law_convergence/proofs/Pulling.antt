@@ -27,7 +27,7 @@ use Rattle.adr_model.specs.Store.{Held, Normal, Mode, State, updates_of, no_mark
 use Rattle.adr_model.specs.Change.{Item, Change, after}
 use Rattle.adr_model.specs.Serve.{Request, Reply, is_quarantined, is_above_mark, is_unseen, sendable, item_of, candidates, byte_limit, first_items, ask, shown_by, serve_refusal, begins_at, reply_to, serve}
 use Rattle.adr_model.specs.Write.{usn_limit, object_limit, link_limit}
-use Rattle.adr_model.specs.Take.{Taking, same_mark, kept_mark, shown_by_last, mark_limit, passes, refusal_of, take_items, taken_change, take}
+use Rattle.adr_model.specs.Take.{Taking, same_mark, kept_mark, shown_by_last, mark_limit, over_limit, take_refusal, take_items, taken_change, take}
 use Rattle.adr_model.specs.Replica.{Book}
 use Rattle.adr_model.specs.Convergence.{units_beyond}
 use Rattle.adr_model.specs.Sound.{IsSoundBook, IsSoundState, IsSoundRequest, IsSoundReply, IsSent}
@@ -96,10 +96,10 @@ module _ (sc : Book) (d s : State) (most : ℕ) (book : IsSoundBook sc) (dest : 
   abbrev limits : List (Option TakeRefusal)
   limits =
       then_some (nat_lt usn_limit t.usn) takes.UsnLimit
-      ∷ passes Objects object_limit t.objects
-      ∷ passes Links link_limit t.links
-      ∷ passes CursorTable cursor_limit (length (after d c).store.vector)
-      ∷ passes Marks mark_limit (length (after d c).store.marks)
+      ∷ over_limit Objects object_limit t.objects
+      ∷ over_limit Links link_limit t.links
+      ∷ over_limit CursorTable cursor_limit (length (after d c).store.vector)
+      ∷ over_limit Marks mark_limit (length (after d c).store.marks)
       ∷ []
 
   shown_within_usn : shown_by_last d r ≤ d.store.usn
@@ -112,7 +112,7 @@ module _ (sc : Book) (d s : State) (most : ℕ) (book : IsSoundBook sc) (dest : 
   at_most_itself : at_most d.store.vector d.store.vector ≡ true
   at_most_itself = at_most_from_everywhere d.store.vector d.store.vector dest.store.formed.vector.rising (λ i. omega arith)
 
-  refusal_is : refusal_of d r t (after d c) ≡ first_of limits
+  refusal_is : take_refusal d r t (after d c) ≡ first_of limits
   refusal_is =
       none_comes (then_some (is_quarantined d.mode) takes.Quarantined) _ (unmet _ _ (normal d.mode d_normal))
       ∙ (none_comes (then_some (not (same_identifier r.dest d.dsa)) (takes.NotMine r.dest)) _ (unmet _ _ (ap not (test_itself d.dsa)))

@@ -34,7 +34,8 @@ use Rattle.adr_model.specs.Change.{Written, Change}
 use Rattle.adr_model.specs.Serve.{is_quarantined}
 use Rattle.adr_model.specs.Formed.{IsFormed}
 use Rattle.adr_model.specs.Take.{is_above}
-use Rattle.adr_model.specs.Write.{Write, AddObject, Modify, Rename, Delete, AddLink, RemoveLink, IsWellGiven, AreInOrder, object_limit, link_limit, where_true, of_schema, fixed_refusal, object_refusal, parent_refusal, loop_refusal, superior_refusal, name_refusal, child_refusal, version_refusal, usn_refusal, full_refusal, cursor_refusal, any_link_refusal, is_of_guid, holds_guid, link_of, is_linked, links_in, more_links, nodes_held, class_of, object_of, version_of, first_created, next_row, first_stamp, new_object, new_rows, row, write_refusal, items_written, own_change, write}
+use Rattle.adr_model.specs.Write.{Write, AddObject, Modify, Rename, Delete, AddLink, RemoveLink, IsWellGiven, AreInOrder, object_limit, link_limit, of_schema, fixed_refusal, object_refusal, parent_refusal, loop_refusal, superior_refusal, name_refusal, child_refusal, version_refusal, usn_refusal, full_refusal, cursor_refusal, any_link_refusal, is_of_guid, holds_guid, link_of, is_linked, links_in, more_links, nodes_held, class_of, object_of, version_of, first_created, next_row, first_stamp, new_object, new_rows, row, write_refusal, items_written, own_change, write}
+use Rattle.std.specs.Bool.{then_some}
 use Rattle.adr_model.proofs.Members.{mapped_member, member_mapped, each_fails}
 use Rattle.adr_model.proofs.Keys.{equal_order}
 use Rattle.adr_law_knowledge.proofs.Comparing.{older_by_version, objects_same}
@@ -133,7 +134,7 @@ module _ (s : State) (formed : IsFormed s) (known : HasKnownClasses s) where
   live guid none = live_is_held rows _ _
       (object_is_live (numbered s.store.schema) rows formed.store.rows (one_update s.store.rows formed.store.rising) guid none)
 
-  normal : where_true (is_quarantined s.mode) Quarantined ≡ None → s.mode ≡ Normal
+  normal : then_some (is_quarantined s.mode) Quarantined ≡ None → s.mode ≡ Normal
   normal none = normal_where_not_quarantined s.mode (not_so (is_quarantined s.mode) Quarantined none)
 
   -- a row written next of a live object
@@ -244,8 +245,8 @@ module _ (s : State) (formed : IsFormed s) (known : HasKnownClasses s) where
 
   abbrev of_add : Identifier → ℕ → Identifier → List ℕ → List Given → List (Option WriteRefusal)
   of_add guid class parent text values =
-      where_true (is_quarantined s.mode) Quarantined
-      ∷ where_true (is_fixed guid || holds_guid rows guid) (GuidThere guid)
+      then_some (is_quarantined s.mode) Quarantined
+      ∷ then_some (is_fixed guid || holds_guid rows guid) (GuidThere guid)
       ∷ option_map of_schema (schema_add_refusal (numbered s.store.schema) class values)
       ∷ option_map of_schema (schema_name_refusal text)
       ∷ parent_refusal (nodes_held rows) parent
@@ -258,7 +259,7 @@ module _ (s : State) (formed : IsFormed s) (known : HasKnownClasses s) where
 
   abbrev of_modify : Identifier → List Given → List (Option WriteRefusal)
   of_modify guid values =
-      where_true (is_quarantined s.mode) Quarantined
+      then_some (is_quarantined s.mode) Quarantined
       ∷ fixed_refusal guid
       ∷ object_refusal rows (nodes_held rows) guid
       ∷ option_map of_schema (schema_modify_refusal (numbered s.store.schema) (class_of (nodes_held rows) guid) values)
@@ -268,7 +269,7 @@ module _ (s : State) (formed : IsFormed s) (known : HasKnownClasses s) where
 
   abbrev of_rename : Identifier → Identifier → List ℕ → List (Option WriteRefusal)
   of_rename guid parent text =
-      where_true (is_quarantined s.mode) Quarantined
+      then_some (is_quarantined s.mode) Quarantined
       ∷ fixed_refusal guid
       ∷ object_refusal rows (nodes_held rows) guid
       ∷ option_map of_schema (schema_name_refusal text)
@@ -282,7 +283,7 @@ module _ (s : State) (formed : IsFormed s) (known : HasKnownClasses s) where
 
   abbrev of_delete : Identifier → List (Option WriteRefusal)
   of_delete guid =
-      where_true (is_quarantined s.mode) Quarantined
+      then_some (is_quarantined s.mode) Quarantined
       ∷ fixed_refusal guid
       ∷ object_refusal rows (nodes_held rows) guid
       ∷ child_refusal (nodes_held rows) guid
@@ -291,7 +292,7 @@ module _ (s : State) (formed : IsFormed s) (known : HasKnownClasses s) where
 
   abbrev of_any_link : Identifier → ℕ → Identifier → (Bool → Option WriteRefusal) → List (Option WriteRefusal)
   of_any_link from attr to wrong =
-      where_true (is_quarantined s.mode) Quarantined
+      then_some (is_quarantined s.mode) Quarantined
       ∷ fixed_refusal from
       ∷ fixed_refusal to
       ∷ object_refusal rows (nodes_held rows) from
@@ -327,12 +328,12 @@ module _ (s : State) (formed : IsFormed s) (known : HasKnownClasses s) where
       (normal (none_there (of_delete guid) none _ (inl refl)))
   each_write (AddLink from attr to) now given none = one_link now
       (link_of (nodes_held rows) from attr to) true (may_write s (AddLink from attr to) now formed given none)
-      (normal_link from attr to (λ linked. where_true linked LinkThere)
-      (none_there (any_link_refusal s from attr to (λ linked. where_true linked LinkThere) ∷ full_refusal Links link_limit (links_in s.store.rows + more_links s from attr to) ∷ []) none _ (inl refl)))
+      (normal_link from attr to (λ linked. then_some linked LinkThere)
+      (none_there (any_link_refusal s from attr to (λ linked. then_some linked LinkThere) ∷ full_refusal Links link_limit (links_in s.store.rows + more_links s from attr to) ∷ []) none _ (inl refl)))
   each_write (RemoveLink from attr to) now given none = one_link now
       (link_of (nodes_held rows) from attr to) false
       (may_write s (RemoveLink from attr to) now formed given none)
-      (normal_link from attr to (λ linked. where_true (not linked) LinkNotThere) none)
+      (normal_link from attr to (λ linked. then_some (not linked) LinkNotThere) none)
 
 pub write_follows : (s : State) (w : Write) (now : ℕ) (c : Change) → IsFormed s → HasKnownClasses s
     → IsWellGiven w → write s w now ≡ Ok c → CanFollow s c

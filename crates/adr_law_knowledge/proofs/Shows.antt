@@ -13,7 +13,8 @@ use Rattle.adr_model.specs.Winner.{winner, winners}
 use Rattle.adr_model.specs.Live.{standing, yields_to, unyielding, live, is_among, live_rows}
 use Rattle.adr_model.specs.Directory.{directory, entries_of}
 use Rattle.adr_model.proofs.Keys.{exact_keys, keys_total, objects_tell}
-use Rattle.adr_law_knowledge.specs.Known.{HasOneContent, IsInView}
+use Rattle.adr_law_knowledge.specs.Known.{IsInView}
+use Rattle.adr_model.specs.Sound.{HasOneContent}
 use Rattle.adr_law_knowledge.specs.Stands.{Stands}
 use Rattle.adr_law_knowledge.proofs.Comparing.{not_older_trans}
 use Rattle.adr_model.proofs.Members.{of_filter, in_filter, some_passes, each_passes}

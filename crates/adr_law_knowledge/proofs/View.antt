@@ -11,7 +11,8 @@ use Rattle.adr_model.specs.Formed.{IsFormedStore}
 use Rattle.adr_vector.proofs.Comparing.{everywhere_from_at_most}
 use Rattle.adr_model.specs.Directory.{directory}
 use Rattle.adr_model.proofs.Members.{one_passes, of_filter, in_filter, some_passes}
-use Rattle.adr_law_knowledge.specs.Known.{HasOneContent, CoverAlike, IsSoundKnowledge, IsInView}
+use Rattle.adr_law_knowledge.specs.Known.{CoverAlike, IsSoundKnowledge, IsInView}
+use Rattle.adr_model.specs.Sound.{HasOneContent}
 use Rattle.adr_law_knowledge.proofs.Comparing.{supersedes_self, supersedes_where_at_least, at_least_where_supersedes}
 use Rattle.adr_law_knowledge.proofs.Lists.{same_filter}
 use Rattle.adr_law_knowledge.proofs.Winners.{one_of_stamp}

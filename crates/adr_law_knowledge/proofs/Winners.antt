@@ -6,7 +6,7 @@ use Rattle.adr_model.specs.Update.{Key, Update, same_key, key_order, is_older}
 use Rattle.adr_model.specs.Winner.{or_younger, younger, winner, winners, keys_of}
 use Rattle.adr_model.proofs.Keys.{exact_keys, keys_total}
 use Rattle.adr_model.proofs.Members.{member_mapped, of_filter_map, in_filter_map}
-use Rattle.adr_law_knowledge.specs.Known.{HasOneContent}
+use Rattle.adr_model.specs.Sound.{HasOneContent}
 use Rattle.adr_law_knowledge.specs.Rises.{Rises}
 use Rattle.adr_law_knowledge.proofs.Comparing.{keys_tell, same_where_equal, not_older_trans, not_older_self, older_one_way, neither_older}
 use Rattle.adr_law_knowledge.proofs.Lists.{filter_map_rises, sorted_rises, in_sorted}

@@ -1,12 +1,8 @@
 -- What holds of a store that took its updates by replication, and the updates that it can be compared with.
 use Rattle.std.specs.Prelude.{◌≡◌, ◌↔◌, List}
 use Rattle.adr_model.specs.Member.{Member, Each}
-use Rattle.adr_model.specs.Update.{Update, inv_of, usn_of}
+use Rattle.adr_model.specs.Update.{Update}
 use Rattle.adr_model.specs.Reflects.{Numbers, Covers, AtMost, Knowledge, Reflects}
-
--- of one key and one write there is one update
-abbrev pub HasOneContent : List Update → Type 0
-HasOneContent issued = Each (λ u. Each (λ v. u.key ≡ v.key → inv_of u ≡ inv_of v → usn_of u ≡ usn_of v → u ≡ v) issued) issued
 
 -- of what was issued the two cover the same
 abbrev pub CoverAlike : List Update → Numbers → Numbers → Type 0

@@ -6,7 +6,7 @@ ghost use Rattle.std.proofs.lemmas.Map.Lookups.{CmpEqualImpliesEq};
 ghost use Rattle.adr_model.specs.Member.{Member};
 ghost use Rattle.adr_model.specs.Update.{Key, Update, at_least, is_older, key_order, same_key};
 ghost use Rattle.adr_model.specs.Reflects.{Supersedes};
-ghost use Rattle.adr_law_knowledge.specs.Known.{HasOneContent};
+ghost use Rattle.adr_model.specs.Sound.{HasOneContent};
 
 /// Keys are totally ordered, and told apart by their order.
 pub fn keys_are_ordered()

@@ -12,7 +12,8 @@ ghost use Rattle.adr_model.specs.Directory.{directory};
 ghost use Rattle.adr_model.specs.Reflects.{AtMost, Covers, Knowledge, Reflects, Supersedes, knowledge_of};
 ghost use Rattle.adr_model.specs.Formed.{IsFormedStore};
 ghost use Rattle.adr_model.specs.Store.{Store, updates_of};
-ghost use Rattle.adr_law_knowledge.specs.Known.{CoverAlike, HasOneContent, IsInView, IsSoundKnowledge};
+ghost use Rattle.adr_law_knowledge.specs.Known.{CoverAlike, IsInView, IsSoundKnowledge};
+ghost use Rattle.adr_model.specs.Sound.{HasOneContent};
 ghost use Rattle.adr_law_knowledge.specs.Stands.{Stands};
 
 /// The winner at a key is one of the updates of that key, and none of them is younger. An object

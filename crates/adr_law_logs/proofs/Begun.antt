@@ -7,7 +7,7 @@ use Rattle.adr_model.specs.LocalLog.{LocalLog, no_log, last_usn, rows_at, IsCut,
 use Rattle.adr_model.specs.Replica.{Book, log_of, begun}
 use Rattle.adr_model.specs.Sound.{last_of, IsOfOneChange, IsSoundBook}
 use Rattle.adr_law_knowledge.proofs.Lists.{no_members}
-use Rattle.adr_law_logs.specs.Logs.{first_log}
+use Rattle.adr_model.specs.LocalLog.{first_log}
 use Rattle.adr_law_logs.specs.Later.{IsLater}
 use Rattle.adr_law_logs.proofs.Bounds.{IsIn, start_from}
 use Rattle.adr_law_logs.proofs.Extended.{log_begins}

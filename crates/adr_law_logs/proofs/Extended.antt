@@ -7,7 +7,7 @@ use Rattle.adr_model.specs.Change.{Change, Written, held_of, rows_after}
 use Rattle.adr_stamp.specs.declared.Oid.{Oid}
 use Rattle.adr_model.specs.LocalLog.{LocalLog, last_usn, where_made, rows_at, IsCut, Follows, IsKept}
 use Rattle.adr_model.specs.Replica.{with_change}
-use Rattle.adr_law_logs.specs.Logs.{first_log}
+use Rattle.adr_model.specs.LocalLog.{first_log}
 use Rattle.adr_law_logs.proofs.Bounds.{made, rows_when_all_is_read}
 use Rattle.adr_law_logs.proofs.Past.{Tells, after_change}
 

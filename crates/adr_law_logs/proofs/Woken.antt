@@ -24,7 +24,7 @@ use Rattle.adr_model.specs.Formed.{IsFormedStore, IsClosed}
 use Rattle.adr_model.specs.Collect.{names_inv, woken, adopt_refusal, adopt}
 use Rattle.adr_model.specs.Replica.{Book, log_of, begun}
 use Rattle.adr_model.specs.Sound.{last_of, IsBounded, IsSoundMark, IsSoundBook, IsSoundStore, IsSoundState}
-use Rattle.adr_law_logs.specs.Logs.{first_log}
+use Rattle.adr_model.specs.LocalLog.{first_log}
 use Rattle.adr_law_logs.specs.Later.{IsLater}
 use Rattle.adr_model.proofs.Members.{each_fails}
 use Rattle.adr_law_knowledge.specs.Grows.{Keeps}

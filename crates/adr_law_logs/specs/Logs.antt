@@ -1,13 +1,9 @@
--- Logs that begin, units with no row behind a USN, and marks of a later moment.
-use Rattle.std.specs.Prelude.{◌≤◌, ℕ, List, []}
+-- Units with no row behind a USN, and marks of a later moment.
+use Rattle.std.specs.Prelude.{◌≤◌, ℕ, List}
 use Rattle.adr_vector.specs.declared.mark.Mark.{Mark}
 use Rattle.adr_model.specs.Member.{Each}
 use Rattle.adr_model.specs.Store.{Held}
-use Rattle.adr_model.specs.LocalLog.{LocalLog, SameUnit}
-
--- the log of an incarnation that has made no change yet
-abbrev pub first_log : ℕ → List Held → LocalLog
-first_log usn rows = record { start_usn = usn; start_rows = rows; changes = [] }
+use Rattle.adr_model.specs.LocalLog.{SameUnit}
 
 -- no row of the unit is behind the USN
 abbrev pub IsUnitWithin : List Held → Held → ℕ → Type 0

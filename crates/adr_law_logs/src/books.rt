@@ -12,7 +12,7 @@ ghost use Rattle.adr_model.specs.Collect.{adopt};
 ghost use Rattle.adr_model.specs.Serve.{Request, Reply};
 ghost use Rattle.adr_model.specs.Replica.{Pending, issued_by, Replica, Book, log_of, with_change, begun, recorded};
 ghost use Rattle.adr_model.specs.Sound.{last_of, IsBounded, IsSoundBook, IsSoundMark, IsSoundStore, IsSoundState, IsSoundRequest, IsSoundReply, IsSoundReplica};
-ghost use Rattle.adr_law_logs.specs.Logs.{first_log};
+ghost use Rattle.adr_model.specs.LocalLog.{first_log};
 ghost use Rattle.adr_law_logs.specs.Later.{IsLater, AreIssuedBy, MayIssue};
 ghost use Rattle.adr_law_logs.specs.Moved.{MayTake, HasTaken};
 ghost use Rattle.adr_law_logs.specs.Settling.{Leaves};

@@ -11,7 +11,8 @@ ghost use Rattle.adr_model.specs.Change.{Change, held_of, rows_after};
 ghost use Rattle.adr_model.specs.LocalLog.{LocalLog, last_usn, rows_at, IsCut, Follows, IsKept, IsOrdered, SameUnit, IsBelow, WatermarkHolds};
 ghost use Rattle.adr_model.specs.Replica.{with_change};
 ghost use Rattle.adr_law_logs.specs.Units.{IsAccountedFor};
-ghost use Rattle.adr_law_logs.specs.Logs.{first_log, IsUnitWithin, at_moment};
+ghost use Rattle.adr_law_logs.specs.Logs.{IsUnitWithin, at_moment};
+ghost use Rattle.adr_model.specs.LocalLog.{first_log};
 
 /// What a change leaves of rows: a row behind it was written by it or stood before it, and a row
 /// that stood before it still stands, or a row of its unit was written in its place, or its whole

@@ -19,7 +19,8 @@ use Rattle.adr_model.specs.Member.{Member, Each}
 use Rattle.adr_model.specs.Update.{Identifier, RowOf, LinkOf, Said, Holds, IsPresent, Update, name_attr, deleted_attr}
 use Rattle.adr_model.specs.Store.{Normal, State, updates_of}
 use Rattle.adr_model.specs.Change.{Written, updates_written}
-use Rattle.adr_model.specs.Write.{Write, AddObject, Modify, Rename, Delete, AddLink, RemoveLink, IsWellGiven, where_true, full_refusal, link_limit, links_in, more_links, version_refusal, add_refusals, modify_refusals, rename_refusals, delete_refusals, any_link_refusals, any_link_refusal, nodes_held, object_of, link_of, next_row, first_stamp, new_object, new_rows, row, write_refusal, rows_written, items_written, own_change}
+use Rattle.adr_model.specs.Write.{Write, AddObject, Modify, Rename, Delete, AddLink, RemoveLink, IsWellGiven, full_refusal, link_limit, links_in, more_links, version_refusal, add_refusals, modify_refusals, rename_refusals, delete_refusals, any_link_refusals, any_link_refusal, nodes_held, object_of, link_of, next_row, first_stamp, new_object, new_rows, row, write_refusal, rows_written, items_written, own_change}
+use Rattle.std.specs.Bool.{then_some}
 use Rattle.adr_model.proofs.Members.{mapped_member, member_mapped, flat_member}
 use Rattle.adr_image.specs.Stored.{IsSpelledRow}
 use Rattle.adr_law_knowledge.proofs.Refusing.{none_there, answered}
@@ -265,10 +266,10 @@ module _ (s : State) where
 
           alive : IsHeldAlive (updates_of s.store.rows) (nodes_guid guid)
           alive = live s logged guid (none_there refusals none _ (inr (inr (inl refl))))
-      rows_in_range (AddLink from attr to) given typed none = link_written from attr to true (λ linked. where_true linked LinkThere)
-          (none_there (any_link_refusal s from attr to (λ linked. where_true linked LinkThere) ∷ full_refusal Links link_limit (links_in s.store.rows + more_links s from attr to) ∷ []) none _ (inl refl))
+      rows_in_range (AddLink from attr to) given typed none = link_written from attr to true (λ linked. then_some linked LinkThere)
+          (none_there (any_link_refusal s from attr to (λ linked. then_some linked LinkThere) ∷ full_refusal Links link_limit (links_in s.store.rows + more_links s from attr to) ∷ []) none _ (inl refl))
           (may_write s (AddLink from attr to) now logged.formed given none)
-      rows_in_range (RemoveLink from attr to) given typed none = link_written from attr to false (λ linked. where_true (not linked) LinkNotThere) none
+      rows_in_range (RemoveLink from attr to) given typed none = link_written from attr to false (λ linked. then_some (not linked) LinkNotThere) none
           (may_write s (RemoveLink from attr to) now logged.formed given none)
 
       change_in_range : (w : Write) → IsWellGiven w → IsTypedWrite w → write_refusal s w ≡ None

@@ -21,7 +21,7 @@ use Rattle.adr_model.specs.Change.{Change, after}
 use Rattle.adr_model.specs.LocalLog.{IsOrdered}
 use Rattle.adr_model.specs.Formed.{IsFormed}
 use Rattle.adr_model.specs.Serve.{Request, is_quarantined, ask, begins_at, shown_by, serve_refusal, reply_to}
-use Rattle.adr_model.specs.Take.{same_mark, kept_mark, shown_by_last, refusal_of, take_items, taken_change}
+use Rattle.adr_model.specs.Take.{same_mark, kept_mark, shown_by_last, take_refusal, take_items, taken_change}
 use Rattle.adr_law_knowledge.proofs.Refusing.{none_comes, unmet, all_covered}
 use Rattle.adr_law_rollback.specs.Found.{IsWellAsked, IsFoundByServing, FoundByServing, FoundByWhoCoversMore, FoundByWhoReadMore, FoundByTaking}
 use Rattle.adr_law_rollback.proofs.Refusing.{first_met}
@@ -94,7 +94,7 @@ found_by_taking s r theirs is more = ap (λ o. unless o change) some ∙ ap (λ 
     shown : shown_by_last s r ≡ at theirs s.inv
     shown = ap (λ o. option_map_or (λ v. at v s.inv) o 0) is.last
 
-    some : refusal_of s r (take_items s r.items) (after s change) ≡ Some (takes.RolledBack s.inv s.store.usn (shown_by_last s r))
+    some : take_refusal s r (take_items s r.items) (after s change) ≡ Some (takes.RolledBack s.inv s.store.usn (shown_by_last s r))
     some =
         none_comes (then_some (is_quarantined s.mode) takes.Quarantined) _ (unmet _ _ (ap is_quarantined is.normal))
         ∙ (none_comes (then_some (not (same_identifier r.dest s.dsa)) (takes.NotMine r.dest)) _ (unmet _ _ (same_tests r.dest s.dsa is.dest))

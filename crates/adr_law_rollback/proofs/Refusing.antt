@@ -10,7 +10,7 @@ use Rattle.adr_event.specs.declared.refusal.CollectRefusal.TheVariants as collec
 use Rattle.adr_model.specs.Refusing.{unless}
 use Rattle.adr_model.specs.Store.{Quarantined, State}
 use Rattle.adr_model.specs.Serve.{is_quarantined, reply_to}
-use Rattle.adr_model.specs.Write.{Write, AddObject, Modify, Rename, Delete, AddLink, RemoveLink, where_true, any_link_refusal, items_written, own_change, write_refusal}
+use Rattle.adr_model.specs.Write.{Write, AddObject, Modify, Rename, Delete, AddLink, RemoveLink, any_link_refusal, items_written, own_change, write_refusal}
 use Rattle.adr_model.specs.Take.{take_items, taken_change}
 use Rattle.adr_model.specs.Collect.{deaths_to_collect, collection}
 use Rattle.adr_law_rollback.specs.ShutOff.{RefusesAll, QuarantinedRefusesAll}
@@ -34,7 +34,7 @@ module _ (s : State) (closed : s.mode ≡ Quarantined) where
   no_write (Modify guid values) = first _
   no_write (Rename guid parent text) = first _
   no_write (Delete guid) = first _
-  no_write (AddLink from attr to) = met_before (any_link_refusal s from attr to (λ linked. where_true linked writes.LinkThere)) writes.Quarantined _ (first _)
+  no_write (AddLink from attr to) = met_before (any_link_refusal s from attr to (λ linked. then_some linked writes.LinkThere)) writes.Quarantined _ (first _)
   no_write (RemoveLink from attr to) = first _
 
   pub refuses_all : RefusesAll s

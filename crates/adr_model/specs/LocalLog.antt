@@ -13,9 +13,13 @@ pub record LocalLog : Type 0 where
   pub start_rows : List Held
   pub changes : List Change
 
+-- the log of an incarnation that has made no change yet
+abbrev pub first_log : ℕ → List Held → LocalLog
+first_log usn rows = record { start_usn = usn; start_rows = rows; changes = [] }
+
 -- the log of an identifier that was never used
 abbrev pub no_log : LocalLog
-no_log = record { start_usn = 0; start_rows = []; changes = [] }
+no_log = first_log 0 []
 
 -- the last USN of an incarnation: that of its controller, or the last one that it had
 abbrev pub last_usn : LocalLog → ℕ

@@ -11,7 +11,7 @@ use Rattle.adr_model.specs.Update.{Identifier, Update}
 use Rattle.adr_model.specs.Store.{State}
 use Rattle.adr_model.specs.Change.{Change, after, updates_written}
 use Rattle.adr_model.specs.Lengths.{new_log_end, log_end_after}
-use Rattle.adr_model.specs.LocalLog.{LocalLog, no_log}
+use Rattle.adr_model.specs.LocalLog.{LocalLog, first_log, no_log}
 use Rattle.adr_model.specs.Serve.{Reply}
 use Rattle.adr_model.specs.Write.{Write, write}
 use Rattle.adr_model.specs.Take.{take}
@@ -93,7 +93,7 @@ abbrev pub begun : Book → State → Book
 begun sc s =
     record {
       issued = sc.issued;
-      logs = insert_entry identifier_order sc.logs s.inv (record { start_usn = s.store.usn; start_rows = s.store.rows; changes = [] });
+      logs = insert_entry identifier_order sc.logs s.inv (first_log s.store.usn s.store.rows);
     }
 
 abbrev pub with_change : LocalLog → Change → LocalLog

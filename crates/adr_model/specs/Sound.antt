@@ -34,10 +34,14 @@ IsBirthOf o u = (u.key ≡ RowOf o class_attr) × (is_birth o u ≡ true)
 abbrev pub IsOfOneChange : LocalLog → Update → Update → Type 0
 IsOfOneChange h u v = (c : Change) × Member c h.changes × Member u (updates_written c) × Member v (updates_written c)
 
+-- of one key and one write there is one update
+abbrev pub HasOneContent : List Update → Type 0
+HasOneContent issued = Each (λ u. Each (λ v. u.key ≡ v.key → inv_of u ≡ inv_of v → usn_of u ≡ usn_of v → u ≡ v) issued) issued
+
 -- what was issued and the logs: that an identifier's USNs were used once, each by one change, and each object that is named was
 -- born
 pub record IsSoundBook (sc : Book) : Type 0 where
-  pub one_content : Each (λ u. Each (λ v. u.key ≡ v.key → inv_of u ≡ inv_of v → usn_of u ≡ usn_of v → u ≡ v) sc.issued) sc.issued
+  pub one_content : HasOneContent sc.issued
   pub once : Each (λ u. (1 ≤ usn_of u) × (usn_of u ≤ last_of sc (inv_of u))) sc.issued
   pub one_change : Each (λ u. Each (λ v. inv_of u ≡ inv_of v → usn_of u ≡ usn_of v → IsOfOneChange (log_of sc (inv_of u)) u v) sc.issued) sc.issued
   pub born : Each (λ u. Each (λ o. (b : Update) × Member b sc.issued × IsBirthOf o b) (ends u.key)) sc.issued

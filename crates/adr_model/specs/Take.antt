@@ -222,8 +222,9 @@ taken_change r t =
 abbrev pub mark_limit : ℕ
 mark_limit = 10000
 
-abbrev pub passes : Table → ℕ → ℕ → Option TakeRefusal
-passes table limit count = then_some (nat_lt limit count) (Full table limit)
+-- a table is over its limit
+abbrev pub over_limit : Table → ℕ → ℕ → Option TakeRefusal
+over_limit table limit count = then_some (nat_lt limit count) (Full table limit)
 
 abbrev pub same_mark : Mark → Mark → Bool
 same_mark m n = (m.obj == n.obj) && (m.prop == n.prop) && (m.seen == n.seen)
@@ -236,8 +237,8 @@ abbrev pub shown_by_last : State → Reply → ℕ
 shown_by_last s r = option_map_or (λ v. at v s.inv) r.last 0
 
 -- why a reply is refused, first in order
-abbrev pub refusal_of : State → Reply → Taking → State → Option TakeRefusal
-refusal_of s r t taken =
+abbrev pub take_refusal : State → Reply → Taking → State → Option TakeRefusal
+take_refusal s r t taken =
     first_of (
     then_some (is_quarantined s.mode) Quarantined
     ∷ then_some (not (same_identifier r.dest s.dsa)) (NotMine r.dest)
@@ -247,10 +248,10 @@ refusal_of s r t taken =
     ∷ then_some (nat_lt s.store.usn (shown_by_last s r)) (RolledBack s.inv s.store.usn (shown_by_last s r))
     ∷ t.refusal
     ∷ then_some (nat_lt usn_limit t.usn) UsnLimit
-    ∷ passes Objects object_limit t.objects
-    ∷ passes Links link_limit t.links
-    ∷ passes CursorTable cursor_limit (length taken.store.vector)
-    ∷ passes Marks mark_limit (length taken.store.marks)
+    ∷ over_limit Objects object_limit t.objects
+    ∷ over_limit Links link_limit t.links
+    ∷ over_limit CursorTable cursor_limit (length taken.store.vector)
+    ∷ over_limit Marks mark_limit (length taken.store.marks)
     ∷ []
     )
 
@@ -259,4 +260,4 @@ abbrev pub take : State → Reply → Result Change TakeRefusal
 take s r =
     let t = take_items s r.items in
     let change = taken_change r t in
-    unless (refusal_of s r t (after s change)) change
+    unless (take_refusal s r t (after s change)) change

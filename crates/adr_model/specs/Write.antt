@@ -1,5 +1,6 @@
 -- Originating writes: the first refusal, or the rows that a client's write makes.
 use Rattle.std.specs.Prelude.{◌≢◌, ℕ, ◌+◌, List, [], ◌∷◌, ◌++◌, Bool, true, false, not, ◌&&◌, ◌||◌, ◌==◌, Option, Some, None, is_none, is_some, Result, map, filter, length, nat_lt, if◌then◌else◌}
+use Rattle.std.specs.Bool.{then_some}
 use Rattle.std.specs.List.{list_any, find}
 use Rattle.std.specs.List.Sorted.{IsStrictlySortedBy}
 use Rattle.std.specs.Option.{option_map, option_map_or}
@@ -69,9 +70,6 @@ IsWellGiven (RemoveLink from attr to) = Unit {0}
 
 -- ---- refusals
 
-abbrev pub where_true : Bool → WriteRefusal → Option WriteRefusal
-where_true b refusal = if b then Some refusal else None
-
 -- what the schema refuses, as a refusal of a write
 abbrev pub of_schema : SchemaRefusal → WriteRefusal
 of_schema schema.UnknownClass = refusal.UnknownClass
@@ -99,10 +97,10 @@ nodes_held held = nodes_of (live_rows held)
 -- an object that isn't live can't be written
 abbrev pub object_refusal : List Update → List Node → Identifier → Option WriteRefusal
 object_refusal held nodes guid =
-    first_of (where_true (not (holds_guid held guid)) (NoObject guid) ∷ where_true (is_none (node_at nodes guid)) (Deleted guid) ∷ [])
+    first_of (then_some (not (holds_guid held guid)) (NoObject guid) ∷ then_some (is_none (node_at nodes guid)) (Deleted guid) ∷ [])
 
 abbrev pub fixed_refusal : Identifier → Option WriteRefusal
-fixed_refusal guid = where_true (is_fixed guid) (Fixed guid)
+fixed_refusal guid = then_some (is_fixed guid) (Fixed guid)
 
 -- the class that a parent counts as: 1 for the root and 2 for LostAndFound
 abbrev pub class_of_place : List Node → Identifier → ℕ
@@ -112,10 +110,10 @@ class_of_place nodes parent =
     else option_map_or (λ n. n.class) (node_at nodes parent) 0
 
 abbrev pub parent_refusal : List Node → Identifier → Option WriteRefusal
-parent_refusal nodes parent = where_true (not (is_fixed parent || is_some (node_at nodes parent))) (NoParent parent)
+parent_refusal nodes parent = then_some (not (is_fixed parent || is_some (node_at nodes parent))) (NoParent parent)
 
 abbrev pub superior_refusal : Schema → List Node → ℕ → Identifier → Option WriteRefusal
-superior_refusal table nodes class parent = where_true (not (is_superior table class (class_of_place nodes parent))) BadSuperior
+superior_refusal table nodes class parent = then_some (not (is_superior table class (class_of_place nodes parent))) BadSuperior
 
 -- whether a place has another object, or LostAndFound, of a name that folds alike
 abbrev pub is_taken : List Node → Identifier → Identifier → List ℕ → Bool
@@ -128,7 +126,7 @@ name_refusal nodes guid parent text = if is_taken nodes guid parent text then op
 -- whether the object is met on the way up from the new parent
 abbrev pub loop_refusal : List Node → Identifier → Identifier → Option WriteRefusal
 loop_refusal nodes guid parent =
-    where_true (list_any (λ m. same_identifier m.object.guid guid) (upward nodes (length nodes) parent)) WouldLoop
+    then_some (list_any (λ m. same_identifier m.object.guid guid) (upward nodes (length nodes) parent)) WouldLoop
 
 -- the least object that is placed under this one
 abbrev pub child_refusal : List Node → Identifier → Option WriteRefusal
@@ -138,13 +136,13 @@ abbrev pub version_of : Option Held → ℕ
 version_of h = option_map_or (λ r. r.update.stamp.stamp.version) h 0
 
 abbrev pub version_refusal : List Held → Key → ℕ → Option WriteRefusal
-version_refusal rows key attr = where_true (version_of (row_held rows key) == version_limit) (VersionLimit attr)
+version_refusal rows key attr = then_some (version_of (row_held rows key) == version_limit) (VersionLimit attr)
 
 abbrev pub usn_refusal : ℕ → Option WriteRefusal
-usn_refusal usn = where_true (nat_lt usn_limit usn) UsnLimit
+usn_refusal usn = then_some (nat_lt usn_limit usn) UsnLimit
 
 abbrev pub full_refusal : Table → ℕ → ℕ → Option WriteRefusal
-full_refusal table limit count = where_true (nat_lt limit count) (Full table limit)
+full_refusal table limit count = then_some (nat_lt limit count) (Full table limit)
 
 -- the own cursor may be a new one
 abbrev pub cursor_refusal : State → Option WriteRefusal
@@ -155,8 +153,8 @@ abbrev pub add_refusals : State → Identifier → ℕ → Identifier → List �
 add_refusals s guid class parent text values =
     let held = updates_of s.store.rows in
     let nodes = nodes_held held in
-    where_true (is_quarantined s.mode) Quarantined
-    ∷ where_true (is_fixed guid || holds_guid held guid) (GuidThere guid)
+    then_some (is_quarantined s.mode) Quarantined
+    ∷ then_some (is_fixed guid || holds_guid held guid) (GuidThere guid)
     ∷ option_map of_schema (schema_add_refusal (numbered s.store.schema) class values)
     ∷ option_map of_schema (schema_name_refusal text)
     ∷ parent_refusal nodes parent
@@ -182,7 +180,7 @@ object_of nodes guid = option_map_or (λ n. n.object) (node_at nodes guid) (reco
 abbrev pub live_refusals : State → Identifier → List (Option WriteRefusal)
 live_refusals s guid =
     let held = updates_of s.store.rows in
-    where_true (is_quarantined s.mode) Quarantined ∷ fixed_refusal guid ∷ object_refusal held (nodes_held held) guid ∷ []
+    then_some (is_quarantined s.mode) Quarantined ∷ fixed_refusal guid ∷ object_refusal held (nodes_held held) guid ∷ []
 
 abbrev pub modify_refusals : State → Identifier → List Given → List (Option WriteRefusal)
 modify_refusals s guid values =
@@ -247,7 +245,7 @@ abbrev pub any_link_refusals : State → Identifier → ℕ → Identifier → (
 any_link_refusals s from attr to wrong =
     let held = updates_of s.store.rows in
     let nodes = nodes_held held in
-    where_true (is_quarantined s.mode) Quarantined
+    then_some (is_quarantined s.mode) Quarantined
     ∷ fixed_refusal from
     ∷ fixed_refusal to
     ∷ object_refusal held nodes from
@@ -270,13 +268,13 @@ more_links s from attr to =
 abbrev pub link_refusal : State → Identifier → ℕ → Identifier → Option WriteRefusal
 link_refusal s from attr to =
     first_of (
-    any_link_refusal s from attr to (λ linked. where_true linked LinkThere)
+    any_link_refusal s from attr to (λ linked. then_some linked LinkThere)
     ∷ full_refusal Links link_limit (links_in s.store.rows + more_links s from attr to)
     ∷ []
     )
 
 abbrev pub unlink_refusal : State → Identifier → ℕ → Identifier → Option WriteRefusal
-unlink_refusal s from attr to = any_link_refusal s from attr to (λ linked. where_true (not linked) LinkNotThere)
+unlink_refusal s from attr to = any_link_refusal s from attr to (λ linked. then_some (not linked) LinkNotThere)
 
 -- why a write is refused, first in order
 abbrev pub write_refusal : State → Write → Option WriteRefusal

@@ -16,7 +16,8 @@ use Rattle.adr_model.specs.Serve.{is_quarantined}
 use Rattle.adr_model.specs.Shown.{name_holder}
 use Rattle.adr_model.specs.Store.{State, updates_of}
 use Rattle.adr_model.specs.Update.{Identifier}
-use Rattle.adr_model.specs.Write.{add_refusal, cursor_refusal, full_refusal, holds_guid, nodes_held, object_limit, of_schema, parent_refusal, superior_refusal, usn_refusal, where_true}
+use Rattle.adr_model.specs.Write.{add_refusal, cursor_refusal, full_refusal, holds_guid, nodes_held, object_limit, of_schema, parent_refusal, superior_refusal, usn_refusal}
+use Rattle.std.specs.Bool.{then_some}
 use Rattle.adr_origin.proofs.FirstOf.{in_three, first_of_three, second_of_three, third_of_three}
 use Rattle.adr_origin.specs.Telling.{Tells}
 use Rattle.adr_origin.specs.Parts.{object_refusal, place_refusal, room_refusal}
@@ -35,8 +36,8 @@ module _ (s : State) (guid : Identifier) (class : ℕ) (parent : Identifier) (te
   add_in_parts =
       let nodes = nodes_held (updates_of s.store.rows) in
       in_three
-      (where_true (is_quarantined s.mode) Quarantined
-      ∷ where_true (is_fixed guid || holds_guid (updates_of s.store.rows) guid) (GuidThere guid)
+      (then_some (is_quarantined s.mode) Quarantined
+      ∷ then_some (is_fixed guid || holds_guid (updates_of s.store.rows) guid) (GuidThere guid)
       ∷ option_map of_schema (schema_add_refusal (numbered s.store.schema) class values)
       ∷ option_map of_schema (schema_name_refusal text)
       ∷ [])

@@ -8,7 +8,8 @@ use Rattle.adr_failure.specs.First.{first_of}
 use Rattle.adr_model.specs.Serve.{is_quarantined}
 use Rattle.adr_model.specs.Store.{State, updates_of}
 use Rattle.adr_model.specs.Update.{Identifier, LinkOf}
-use Rattle.adr_model.specs.Write.{any_link_refusal, class_of, fixed_refusal, is_linked, link_of, nodes_held, object_refusal, of_schema, usn_refusal, version_refusal, where_true}
+use Rattle.adr_model.specs.Write.{any_link_refusal, class_of, fixed_refusal, is_linked, link_of, nodes_held, object_refusal, of_schema, usn_refusal, version_refusal}
+use Rattle.std.specs.Bool.{then_some}
 use Rattle.adr_origin.proofs.FirstOf.{in_three}
 use Rattle.adr_origin.specs.LinkParts.{already_refusal, ends_refusal, start_refusal, write_refusal}
 
@@ -18,7 +19,7 @@ link_in_parts s from attr to present =
     let nodes = nodes_held (updates_of s.store.rows) in
     let link = link_of nodes from attr to in
     in_three
-    (where_true (is_quarantined s.mode) Quarantined ∷ fixed_refusal from ∷ fixed_refusal to ∷ [])
+    (then_some (is_quarantined s.mode) Quarantined ∷ fixed_refusal from ∷ fixed_refusal to ∷ [])
     (object_refusal (updates_of s.store.rows) nodes from
     ∷ option_map of_schema (schema_link_refusal (numbered s.store.schema) (class_of nodes from) attr)
     ∷ object_refusal (updates_of s.store.rows) nodes to

@@ -11,11 +11,12 @@ use Rattle.adr_failure.specs.First.{first_of}
 use Rattle.adr_model.specs.Serve.{is_quarantined}
 use Rattle.adr_model.specs.Store.{Mode, State, updates_of}
 use Rattle.adr_model.specs.Update.{Identifier, LinkOf}
-use Rattle.adr_model.specs.Write.{class_of, fixed_refusal, is_linked, object_refusal, of_schema, usn_refusal, version_refusal, where_true}
+use Rattle.adr_model.specs.Write.{class_of, fixed_refusal, is_linked, object_refusal, of_schema, usn_refusal, version_refusal}
+use Rattle.std.specs.Bool.{then_some}
 
 -- whatever is held
 abbrev pub start_refusal : Mode → Identifier → Identifier → Option WriteRefusal
-start_refusal mode from to = first_of (where_true (is_quarantined mode) Quarantined ∷ fixed_refusal from ∷ fixed_refusal to ∷ [])
+start_refusal mode from to = first_of (then_some (is_quarantined mode) Quarantined ∷ fixed_refusal from ∷ fixed_refusal to ∷ [])
 
 -- by the objects at its ends
 abbrev pub ends_refusal : State → List Node → Identifier → ℕ → Identifier → Option WriteRefusal
@@ -29,7 +30,7 @@ ends_refusal s nodes from attr to =
 
 -- a link that is already as it is to be
 abbrev pub already_refusal : Bool → Bool → Option WriteRefusal
-already_refusal present linked = if present then where_true linked LinkThere else where_true (not linked) LinkNotThere
+already_refusal present linked = if present then then_some linked LinkThere else then_some (not linked) LinkNotThere
 
 -- by its own row
 abbrev pub write_refusal : State → LinkKey → Bool → Option WriteRefusal

@@ -15,14 +15,15 @@ use Rattle.adr_model.specs.Serve.{is_quarantined}
 use Rattle.adr_model.specs.Shown.{name_holder}
 use Rattle.adr_model.specs.Store.{State, updates_of}
 use Rattle.adr_model.specs.Update.{Identifier}
-use Rattle.adr_model.specs.Write.{cursor_refusal, full_refusal, holds_guid, object_limit, of_schema, parent_refusal, superior_refusal, usn_refusal, where_true}
+use Rattle.adr_model.specs.Write.{cursor_refusal, full_refusal, holds_guid, object_limit, of_schema, parent_refusal, superior_refusal, usn_refusal}
+use Rattle.std.specs.Bool.{then_some}
 
 -- wherever it is to stand
 abbrev pub object_refusal : State → Identifier → ℕ → List ℕ → List Given → Option WriteRefusal
 object_refusal s guid class text values =
     first_of (
-    where_true (is_quarantined s.mode) Quarantined
-    ∷ where_true (is_fixed guid || holds_guid (updates_of s.store.rows) guid) (GuidThere guid)
+    then_some (is_quarantined s.mode) Quarantined
+    ∷ then_some (is_fixed guid || holds_guid (updates_of s.store.rows) guid) (GuidThere guid)
     ∷ option_map of_schema (schema_add_refusal (numbered s.store.schema) class values)
     ∷ option_map of_schema (schema_name_refusal text)
     ∷ []

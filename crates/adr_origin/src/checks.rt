@@ -10,7 +10,8 @@ ghost use Rattle.adr_model.specs.Live.{objects_of};
 ghost use Rattle.adr_model.specs.Place.{is_fixed, node_at};
 ghost use Rattle.adr_model.specs.Serve.{is_quarantined};
 ghost use Rattle.adr_model.specs.Store.{row_held, updates_of};
-ghost use Rattle.adr_model.specs.Write.{cursor_refusal, fixed_refusal, full_refusal, holds_guid, live_refusals, nodes_held, object_limit, object_refusal, of_schema, usn_limit, usn_refusal, version_limit, version_of, version_refusal, where_true};
+ghost use Rattle.adr_model.specs.Write.{cursor_refusal, fixed_refusal, full_refusal, holds_guid, live_refusals, nodes_held, object_limit, object_refusal, of_schema, usn_limit, usn_refusal, version_limit, version_of, version_refusal};
+ghost use Rattle.std.specs.Bool.{then_some};
 ghost use Rattle.adr_update.specs.Key.{key_of};
 ghost use Rattle.adr_change.specs.Mode.{mode_of};
 
@@ -24,7 +25,7 @@ use adr_update::is_fixed;
 
 /// Tests that a controller takes writes.
 pub fn check_mode(mode: Mode) -> Result<(), WriteRefusal>
-    ensures { result_err result ≡ where_true (is_quarantined (mode_of mode)) quarantined }
+    ensures { result_err result ≡ then_some (is_quarantined (mode_of mode)) quarantined }
 {
     if mode.is_quarantined() {
         Err(WriteRefusal::Quarantined)
@@ -36,7 +37,7 @@ pub fn check_mode(mode: Mode) -> Result<(), WriteRefusal>
 /// Tests that a GUID is free.
 pub fn check_guid(rows: &Rows, guid: Guid) -> Result<(), WriteRefusal>
     ensures { result_err result
-        ≡ where_true (is_fixed guid || holds_guid (updates_of rows.now) guid) (guid_there guid) }
+        ≡ then_some (is_fixed guid || holds_guid (updates_of rows.now) guid) (guid_there guid) }
 {
     if is_fixed(guid) || rows.holds_guid(guid) {
         Err(WriteRefusal::GuidThere { guid })

@@ -5,7 +5,7 @@ use Rattle.adr_vector.specs.Vector.{cursor_limit, joined, raised}
 use Rattle.adr_event.specs.declared.refusal.Table.TheVariants.{Objects, Links, Cursors as CursorTable, Marks}
 use Rattle.adr_event.specs.declared.refusal.TakeRefusal.{TakeRefusal}
 use Rattle.adr_model.specs.Change.{after, with_mark}
-use Rattle.adr_model.specs.Take.{mark_limit, passes, taken_change}
+use Rattle.adr_model.specs.Take.{mark_limit, over_limit, taken_change}
 use Rattle.adr_model.specs.Write.{link_limit, object_limit, usn_limit}
 use Rattle.adr_cycle.proofs.Deciding.{behind, beyond, calls_of_four, later, tables, within_limit}
 use Rattle.adr_cycle.proofs.taken_reply.refusal_after.Goals as goal
@@ -48,10 +48,10 @@ returns c =
     ∙ ap (λ marks. length (with_mark change.mark marks)) c.marks.ensures in
     let passing =
     calls_of_four
-    (c.passes.ensures ∙ ap (passes Objects object_limit) c.objects.ensures)
-    (c.passes-2.ensures ∙ ap (passes Links link_limit) c.links.ensures)
-    (c.passes-3.ensures ∙ ap (passes CursorTable cursor_limit) cursors)
-    (c.passes-4.ensures ∙ ap (passes Marks mark_limit) marks)
+    (c.over_limit.ensures ∙ ap (over_limit Objects object_limit) c.objects.ensures)
+    (c.over_limit-2.ensures ∙ ap (over_limit Links link_limit) c.links.ensures)
+    (c.over_limit-3.ensures ∙ ap (over_limit CursorTable cursor_limit) cursors)
+    (c.over_limit-4.ensures ∙ ap (over_limit Marks mark_limit) marks)
     c.or.ensures c.or-2.ensures c.or-3.ensures in
     let few : t.usn ≤ usn_limit = omega (arith, c.if-usn-gt-USN_LIMIT.false, c.usn.ensures) in
     passing

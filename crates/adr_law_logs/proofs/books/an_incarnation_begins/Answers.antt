@@ -1,5 +1,5 @@
 use Rattle.adr_model.specs.LocalLog.{no_log}
-use Rattle.adr_law_logs.specs.Logs.{first_log}
+use Rattle.adr_model.specs.LocalLog.{first_log}
 use Rattle.adr_law_logs.proofs.Tables.{entry_itself, entry_other}
 use Rattle.adr_law_logs.proofs.Begun.{begun_later, begun_sound}
 use Rattle.adr_law_logs.proofs.books.an_incarnation_begins.Goals as goal
