@@ -26,8 +26,8 @@ module _ (s : State) (closed : s.mode ≡ Quarantined) where
   is_closed : is_quarantined s.mode ≡ true
   is_closed = ap is_quarantined closed
 
-  first : (os : List (Option WriteRefusal)) → first_of ((if is_quarantined s.mode then Some writes.Quarantined else None) ∷ os) ≡ Some writes.Quarantined
-  first os = ap (λ b. first_of ((if b then Some writes.Quarantined else None) ∷ os)) is_closed
+  first : (os : List (Option WriteRefusal)) → first_of (then_some (is_quarantined s.mode) writes.Quarantined ∷ os) ≡ Some writes.Quarantined
+  first os = first_met (is_quarantined s.mode) writes.Quarantined os is_closed
 
   no_write : (what : Write) → write_refusal s what ≡ Some writes.Quarantined
   no_write (AddObject guid class parent text values) = first _
