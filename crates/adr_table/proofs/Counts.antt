@@ -1,12 +1,13 @@
 -- How many rows of a kind there are, after a slot is made or its row replaced.
 use Rattle.std.proofs.Common.{◌≡◌, ℕ, ◌≤◌, [], ◌∷◌, length, Bool, true, false, cond, not, ◌&&◌, Option, Some, None, refl, sym, ap, ◌∙◌, subst, arith}
 use Rattle.std.specs.Prelude.{IsSome, is_some}
-use Rattle.std.specs.Map.{lookup, keys_of}
+use Rattle.std.specs.Map.{lookup, keys_of, set_value}
 use Rattle.std.specs.BTreeMap.{insert_entry, is_at}
 use Rattle.std.specs.Ordering.{is_eq, match_ordering}
 use Rattle.std.specs.declared.cmp.Ordering.{Ordering}
 use Rattle.std.specs.declared.cmp.Ordering.TheVariants.{Less, Equal, Greater}
 use Rattle.std.proofs.lemmas.Map.Keys.{sorted_tail}
+use Rattle.adr_model.proofs.Keys.{equal_order}
 use Rattle.adr_model.specs.Store.{Held}
 use Rattle.adr_table.specs.declared.place.Place.{Place}
 use Rattle.adr_table.specs.Place.{place_order}
@@ -70,28 +71,42 @@ tally_replaced test (e ∷ es) p v sorted there = by (place_order p e.0) refl th
 
 -- ---- counts, as rows come and go
 
--- a slot that is emptied
-pub emptied : (test : Place → Bool) (es fs : Entries) (p : Place) → fs ≡ insert_entry place_order es p None → AreSorted es → IsSome (lookup (is_at (place_order p)) es)
-    → one_more_if (is_some (flat (lookup (is_at (place_order p)) es)) && test p) (tally test fs) ≡ tally test es
-emptied test es fs p is sorted there = ap (λ xs. one_more_if (is_some (flat (lookup (is_at (place_order p)) es)) && test p) (tally test xs)) is ∙ tally_replaced test es p None sorted there
+-- a slot that is emptied, if there is one
+emptied : (test : Place → Bool) (es : Entries) (p : Place)
+    → one_more_if (is_some (flat (lookup (is_at (place_order p)) es)) && test p) (tally test (set_value (is_at (place_order p)) es None)) ≡ tally test es
+emptied test [] p = refl
+emptied test (e ∷ es) p = by (is_at (place_order p) e.0) refl (emptied test es p)
+  where
+    old : Option (Option Held)
+    old = lookup (is_at (place_order p)) es
+
+    by : (b : Bool) → is_at (place_order p) e.0 ≡ b
+        → one_more_if (is_some (flat old) && test p) (tally test (set_value (is_at (place_order p)) es None)) ≡ tally test es
+        → one_more_if (is_some (flat (cond b (Some e.1) old)) && test p) (tally test (cond b ((e.0, None) ∷ es) (e ∷ set_value (is_at (place_order p)) es None))) ≡ tally test (e ∷ es)
+    by true at later = ap (λ b. one_more_if (is_some e.1 && b) (tally test es)) (ap test (exact_places p e.0 (equal_order (place_order p e.0) at)))
+    by false at later =
+        more_more (is_some (flat old) && test p) (is_some e.1 && test e.0) (tally test (set_value (is_at (place_order p)) es None))
+        ∙ ap (one_more_if (is_some e.1 && test e.0)) later
 
 at_least : (b : Bool) (n m : ℕ) → one_more_if b n ≡ m → one_more_if b 0 ≤ m
 at_least true n m e = omega (arith, e)
 at_least false n m e = omega (arith, e)
 
-pub emptied_room : (test : Place → Bool) (es fs : Entries) (p : Place) → fs ≡ insert_entry place_order es p None → AreSorted es → IsSome (lookup (is_at (place_order p)) es)
+pub emptied_room : (test : Place → Bool) (es : Entries) (p : Place)
     → (b : Bool) → b ≡ (is_some (flat (lookup (is_at (place_order p)) es)) && test p) → (n : ℕ) → n ≡ tally test es → one_more_if b 0 ≤ n
-emptied_room test es fs p is sorted there b e n count =
-    at_least b (tally test fs) n (ap (λ c. one_more_if c (tally test fs)) e ∙ emptied test es fs p is sorted there ∙ sym count)
+emptied_room test es p b e n count =
+    let fewer = tally test (set_value (is_at (place_order p)) es None) in
+    at_least b fewer n (ap (λ c. one_more_if c fewer) e ∙ emptied test es p ∙ sym count)
 
 cancelled : (b : Bool) (n m : ℕ) → one_more_if b n ≡ one_more_if b m → n ≡ m
 cancelled true n m e = omega (arith, e)
 cancelled false n m e = e
 
-pub emptied_count : (test : Place → Bool) (es fs : Entries) (p : Place) → fs ≡ insert_entry place_order es p None → AreSorted es → IsSome (lookup (is_at (place_order p)) es)
+pub emptied_count : (test : Place → Bool) (es fs : Entries) (p : Place) → fs ≡ set_value (is_at (place_order p)) es None
     → (b : Bool) → b ≡ (is_some (flat (lookup (is_at (place_order p)) es)) && test p) → (n m : ℕ) → n ≡ tally test es → one_more_if b m ≡ n → m ≡ tally test fs
-emptied_count test es fs p is sorted there b e n m count less =
-    cancelled b m (tally test fs) (less ∙ count ∙ sym (ap (λ c. one_more_if c (tally test fs)) e ∙ emptied test es fs p is sorted there))
+emptied_count test es fs p is b e n m count less =
+    let fewer = tally test (set_value (is_at (place_order p)) es None) in
+    cancelled b m fewer (less ∙ count ∙ sym (ap (λ c. one_more_if c fewer) e ∙ emptied test es p)) ∙ sym (ap (tally test) is)
 
 -- a row that is put
 put_either : (was here : Bool) (n m : ℕ) → one_more_if (was && here) m ≡ one_more_if here n → m ≡ one_more_if (not was && here) n

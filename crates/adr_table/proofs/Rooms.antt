@@ -3,7 +3,7 @@ use Rattle.std.proofs.Common.{◌≡◌, ◌⊎◌, inl, inr, refl, sym, ap, ◌
 use Rattle.std.specs.Prelude.{IsSome, is_some}
 use Rattle.std.specs.Map.{keys_of, lookup}
 use Rattle.std.specs.Option.{option_map}
-use Rattle.std.specs.BTreeMap.{get, is_at}
+use Rattle.std.specs.BTreeMap.{BTreeMap, get, is_at}
 use Rattle.std.specs.BTreeSet.{BTreeSet, contains}
 use Rattle.std.proofs.lemmas.Bool.{cases_lt}
 use Rattle.std.proofs.lemmas.List.{get_or_default}
@@ -29,11 +29,11 @@ use Rattle.adr_table.proofs.Places.{exact_places, same_place}
 use Rattle.adr_table.proofs.Behinds.{exact_behinds}
 
 -- a place without a slot
-pub none_there : (slots : Slots) (p q : Place) → get place_order slots.map p ≡ None → row_at slots q ≡ cond (is_at (place_order p) q) None (row_at slots q)
-none_there slots p q none = by (is_at (place_order p) q) refl
+pub none_there : (map : BTreeMap Place (Option Held)) (p q : Place) → get place_order map p ≡ None → flat (get place_order map q) ≡ cond (is_at (place_order p) q) None (flat (get place_order map q))
+none_there map p q none = by (is_at (place_order p) q) refl
   where
-    by : (b : Bool) → is_at (place_order p) q ≡ b → row_at slots q ≡ cond b None (row_at slots q)
-    by true at = subst (λ r. row_at slots r ≡ None) (exact_places p q (equal_order (place_order p q) at)) (ap flat none)
+    by : (b : Bool) → is_at (place_order p) q ≡ b → flat (get place_order map q) ≡ cond b None (flat (get place_order map q))
+    by true at = subst (λ r. flat (get place_order map r) ≡ None) (exact_places p q (equal_order (place_order p q) at)) (ap flat none)
     by false at = refl
 
 pub still_none : (b : Bool) (o : Option Held) → o ≡ None → cond b None o ≡ None

@@ -3,7 +3,7 @@ use Rattle.std.proofs.Common.{◌≡◌, List, [], ◌∷◌, Bool, true, false,
 use Rattle.std.specs.Prelude.{IfSome, IsSome, is_some}
 use Rattle.std.specs.List.{AllByRecursion}
 use Rattle.std.specs.List.Sorted.{IsStrictlySortedBy}
-use Rattle.std.specs.Map.{keys_of, lookup}
+use Rattle.std.specs.Map.{keys_of, lookup, set_value}
 use Rattle.std.specs.BTreeMap.{insert_entry, is_at}
 use Rattle.std.specs.Ordering.{is_eq, match_ordering}
 use Rattle.std.specs.declared.cmp.Ordering.{Ordering}
@@ -55,6 +55,27 @@ made = unseen_made place_order seen (λ p es. refl) (λ e es fs is. ap (λ hs. a
 
 pub home_still : (es : Entries) (p : Place) (v : Option Held) → IfSome v (λ h. place_of h.update.key ≡ p) → AreAtHome es → AreAtHome (insert_entry place_order es p v)
 home_still = still_at_home place_order IsAt AreAtHome (λ e es at rest. (at, rest)) (λ e es h. h) exact_places
+
+-- ---- a slot emptied
+
+pub emptied_home : (es : Entries) (p : Place) → AreAtHome es → AreAtHome (set_value (is_at (place_order p)) es None)
+emptied_home [] p home = home
+emptied_home (e ∷ es) p home = by (is_at (place_order p) e.0) (emptied_home es p home.1)
+  where
+    by : (b : Bool) → AreAtHome (set_value (is_at (place_order p)) es None) → AreAtHome (cond b ((e.0, None) ∷ es) (e ∷ set_value (is_at (place_order p)) es None))
+    by true later = (tt, home.1)
+    by false later = (home.0, later)
+
+-- and where there is none, all stays
+pub none_emptied : (es : Entries) (p : Place) → lookup (is_at (place_order p)) es ≡ None → set_value (is_at (place_order p)) es None ≡ es
+none_emptied [] p none = refl
+none_emptied (e ∷ es) p none = by (is_at (place_order p) e.0) none (none_emptied es p)
+  where
+    by : (b : Bool) → cond b (Some e.1) (lookup (is_at (place_order p)) es) ≡ None
+        → (lookup (is_at (place_order p)) es ≡ None → set_value (is_at (place_order p)) es None ≡ es)
+        → cond b ((e.0, None) ∷ es) (e ∷ set_value (is_at (place_order p)) es None) ≡ e ∷ es
+    by true wrong later = cc
+    by false none later = ap (λ xs. e ∷ xs) (later none)
 
 -- ---- a row written
 

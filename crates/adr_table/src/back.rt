@@ -96,7 +96,7 @@ fn empty_behind(slots: &mut Slots, behind: &Behind)
     ensures places { places slots.new ≡ places slots.old }
 {
     match behind.link() {
-        Some(link) => slots.empty_if_there(Place::of_link(&link)),
+        Some(link) => slots.empty(Place::of_link(&link)),
         None => {}
     }
 }

@@ -2,6 +2,7 @@
 
 ghost use Rattle.std.specs.Prelude.{◌≡◌, ◌≤◌, ◌++◌, [], IsTrue, IsSome, IfSome, IfNone, IfOk, OnOk, OnErr, cond, is_some, length, not, ◌&&◌, slice_get, Some, None};
 ghost use Rattle.std.specs.Option.{option_copied, option_map};
+ghost use Rattle.std.specs.Map.{set_value};
 ghost use Rattle.std.specs.BTreeMap.{IsOrdered, get, insert_entry, is_at, keys};
 ghost use Rattle.std.specs.BTreeMap.Range.{IsFromStart, IsLeBy, entries_between};
 ghost use Rattle.std.specs.declared.ops.Bound.TheVariants.{Included, Unbounded};
@@ -80,36 +81,22 @@ impl Slots {
         ensures places { places self.new ≡ places self.old }
     {
         let place = Place::of(&row.key());
-        let was = replace(&mut self.map, place, Some(row));
+        let was = replace(&mut self.map, place, row);
         self.objects = one_more(&self.map, self.objects, was, place.is_of_class());
         self.links = one_more(&self.map, self.links, was, place.is_link);
     }
 
-    /// Empties a slot.
-    pub(crate) fn empty(&mut self, place: Place)
-        requires tidy { IsTidy self.old }
-        requires room { HasSlot self.old place }
-        ensures tidy { IsTidy self.new }
-        ensures rows { (q : Place) →
-            row_at self.new q ≡ cond (is_at (place_order place) q) None (row_at self.old q) }
-        ensures places { places self.new ≡ places self.old }
-    {
-        let was = replace(&mut self.map, place, None);
-        self.objects = one_fewer(self.objects, was, place.is_of_class());
-        self.links = one_fewer(self.links, was, place.is_link);
-    }
-
     /// Empties the slot of a place, if there is one.
-    pub(crate) fn empty_if_there(&mut self, place: Place)
+    pub(crate) fn empty(&mut self, place: Place)
         requires { IsTidy self.old }
         ensures tidy { IsTidy self.new }
         ensures rows { (q : Place) →
             row_at self.new q ≡ cond (is_at (place_order place) q) None (row_at self.old q) }
         ensures places { places self.new ≡ places self.old }
     {
-        if self.map.contains_key(&place) {
-            self.empty(place);
-        }
+        let was = clear(&mut self.map, place);
+        self.objects = one_fewer(self.objects, was, place.is_of_class());
+        self.links = one_fewer(self.links, was, place.is_link);
     }
 
     /// Empties the slots of a run of places.
@@ -265,21 +252,36 @@ fn local_in(slot: &Option<Held>) -> Option<u64>
     }
 }
 
-/// Puts something into a slot, and tells whether a row was there.
-fn replace(map: &mut BTreeMap<Place, Option<Held>>, place: Place, slot: Option<Held>) -> bool
+/// Puts a row into a slot, and tells whether one was there.
+fn replace(map: &mut BTreeMap<Place, Option<Held>>, place: Place, row: Held) -> bool
     requires ordered { IsOrdered place_order map.old }
     requires room { IsSome (get place_order map.old place) }
     ensures was { result ≡ is_some (flat (get place_order map.old place)) }
     ensures ordered { IsOrdered place_order map.new }
-    ensures entries { map.new.entries ≡ insert_entry place_order map.old.entries place slot }
+    ensures entries { map.new.entries ≡ insert_entry place_order map.old.entries place (Some row) }
     ensures updates { (q : Place) →
-        get place_order map.new q ≡ cond (is_at (place_order place) q) (Some slot) (get place_order map.old q) }
+        get place_order map.new q ≡ cond (is_at (place_order place) q) (Some (Some row)) (get place_order map.old q) }
     ensures keys { keys map.new ≡ keys map.old }
 {
-    match map.insert(place, slot) {
-        Ok(Some(row)) => row.is_some(),
+    match map.insert(place, Some(row)) {
+        Ok(Some(slot)) => slot.is_some(),
         Ok(None) => false,
         Err(_) => unreachable!(),
+    }
+}
+
+/// Empties the slot of a place, if there is one, and tells whether a row was there.
+fn clear(map: &mut BTreeMap<Place, Option<Held>>, place: Place) -> bool
+    ensures was { result ≡ is_some (flat (get place_order map.old place)) }
+    ensures ordered { IsOrdered place_order map.new }
+    ensures entries { map.new.entries ≡ set_value (is_at (place_order place)) map.old.entries None }
+    ensures rows { (q : Place) → flat (get place_order map.new q)
+        ≡ cond (is_at (place_order place) q) None (flat (get place_order map.old q)) }
+    ensures keys { keys map.new ≡ keys map.old }
+{
+    match map.get_mut(&place) {
+        Some(slot) => slot.take().is_some(),
+        None => false,
     }
 }
 
