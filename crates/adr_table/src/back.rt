@@ -18,7 +18,7 @@ use crate::place::Place;
 use crate::slots::{Slots, push_row};
 use adr_stamp::{LinkKey, Oid};
 use adr_update::{Held, Key};
-use std::alloc::{AllocError, Global};
+use std::alloc::Global;
 use std::collections::BTreeSet;
 use std::ops::Bound;
 
@@ -81,10 +81,8 @@ fn insert(back: &mut BTreeSet<Behind>, behind: Behind) -> Result<(), NoMemory>
     ensures ok { OnOk result (contains behind_order back.new behind ≡ true) }
 {
     let _from = behind.from;
-    match back.insert(behind) {
-        Ok(_) => Ok(()),
-        Err(_) => Err(AllocError),
-    }
+    back.insert(behind)?;
+    Ok(())
 }
 
 /// Empties the slot of a hint.

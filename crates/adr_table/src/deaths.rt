@@ -15,7 +15,7 @@ use crate::NoMemory;
 use crate::slots::{Slots, push_row};
 use adr_stamp::Oid;
 use adr_update::{Held, Key};
-use std::alloc::{AllocError, Global};
+use std::alloc::Global;
 use std::collections::BTreeSet;
 
 /// Keeps the object of a death.
@@ -33,10 +33,8 @@ fn insert(dead: &mut BTreeSet<Oid>, object: Oid) -> Result<(), NoMemory>
     ensures more { (o : Named) → contains object_order dead.old o ≡ true → contains object_order dead.new o ≡ true }
     ensures ok { OnOk result (contains object_order dead.new object ≡ true) }
 {
-    match dead.insert(object) {
-        Ok(_) => Ok(()),
-        Err(_) => Err(AllocError),
-    }
+    dead.insert(object)?;
+    Ok(())
 }
 
 /// The rows of deaths, in order.

@@ -15,7 +15,7 @@ use crate::place::Place;
 use crate::slots::Slots;
 use adr_stamp::{LinkKey, Oid, Unit};
 use adr_update::Held;
-use std::alloc::{AllocError, Global};
+use std::alloc::Global;
 use std::collections::BTreeSet;
 use std::ops::Bound;
 
@@ -103,13 +103,11 @@ fn insert(locals: &mut BTreeSet<Local>, usn: u64, unit: Place) -> Result<(), NoM
     ensures more { (h : Row) → IsLocated locals.old h → IsLocated locals.new h }
     ensures ok { OnOk result (contains local_order locals.new (record { usn = usn; unit = Some unit }) ≡ true) }
 {
-    match locals.insert(Local {
+    locals.insert(Local {
         usn,
         unit: Some(unit),
-    }) {
-        Ok(_) => Ok(()),
-        Err(_) => Err(AllocError),
-    }
+    })?;
+    Ok(())
 }
 
 /// Adds a hint to a list, unless it is the last one there.
@@ -117,10 +115,8 @@ pub(crate) fn name(hints: &mut Vec<Local>, hint: Local) -> Result<(), NoMemory> 
     if hints.as_slice().last() == Some(&hint) {
         return Ok(());
     }
-    match hints.push(hint) {
-        Ok(()) => Ok(()),
-        Err(_) => Err(AllocError),
-    }
+    hints.push(hint)?;
+    Ok(())
 }
 
 fn above(so_far: Option<u64>, local: u64) -> u64

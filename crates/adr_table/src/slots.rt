@@ -15,7 +15,7 @@ ghost use Rattle.adr_table.specs.Slots.{HasSlot, IsTidy, and_seen, flat, one_mor
 use crate::NoMemory;
 use crate::place::Place;
 use adr_update::{Held, Key};
-use std::alloc::{AllocError, Global};
+use std::alloc::Global;
 use std::collections::BTreeMap;
 use std::collections::btree_map::Range;
 use std::ops::Bound;
@@ -236,10 +236,8 @@ fn make(map: &mut BTreeMap<Place, Option<Held>>, place: Place) -> Result<(), NoM
     ensures there { OnOk result (IsSome (get place_order map.new place)) }
     ensures err { OnErr result (map.new.entries ≡ map.old.entries) }
 {
-    match map.insert(place, None) {
-        Ok(_) => Ok(()),
-        Err(_) => Err(AllocError),
-    }
+    map.insert(place, None)?;
+    Ok(())
 }
 
 /// The local update sequence number of the row in a slot.

@@ -10,7 +10,6 @@ use crate::NoMemory;
 use adr_guid::Guid;
 use adr_schema::Text;
 use adr_update::Node;
-use std::alloc::AllocError;
 use std::collections::BTreeSet;
 
 /// A hint that an object may have a parent, as it was written, or with `name` that it may have a name of this number
@@ -87,8 +86,6 @@ pub(crate) fn remember(hints: &mut BTreeSet<Hint>, hint: Hint) -> Result<(), NoM
     ensures ok { OnOk result (contains hint_order hints.new hint ≡ true) }
 {
     let _guid = hint.guid;
-    match hints.insert(hint) {
-        Ok(_) => Ok(()),
-        Err(_) => Err(AllocError),
-    }
+    hints.insert(hint)?;
+    Ok(())
 }

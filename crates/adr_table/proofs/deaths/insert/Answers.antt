@@ -5,6 +5,6 @@ use Rattle.std.specs.BTreeSet.{contains}
 use Rattle.adr_stamp.specs.Order.{object_order}
 use Rattle.adr_table.proofs.deaths.insert.Goals as goal
 
-pub returns-in-Ok-clause-more : goal.returns-in-Ok-clause-more
-returns-in-Ok-clause-more c o there =
-    c.in-Ok.ensures.updates.0 o ∙ cond_both (is_at (object_order c.args.object) o) true (contains object_order c.args.dead.now o) (λ r. r ≡ true) (λ _. refl) (λ _. there)
+pub returns-clause-more : goal.returns-clause-more
+returns-clause-more c o there =
+    c.in_ok-insert.ensures.updates.0 o ∙ cond_both (is_at (object_order c.args.object) o) true (contains object_order c.args.dead.now o) (λ r. r ≡ true) (λ _. refl) (λ _. there)

@@ -7,6 +7,6 @@ use Rattle.adr_table.specs.Place.{place_order}
 use Rattle.adr_table.proofs.Places.{places_total}
 use Rattle.adr_table.proofs.slots.make.Goals as goal
 
-pub returns-in-Ok-clause-there : goal.returns-in-Ok-clause-there
-returns-in-Ok-clause-there c =
-    ap is_some (c.in-Ok.ensures.updates.0 c.args.place ∙ ap (λ b. cond b (Some None) (get place_order c.args.map.now c.args.place)) (ap is_eq (tied_itself places_total c.args.place)))
+pub returns-clause-there : goal.returns-clause-there
+returns-clause-there c =
+    ap is_some (c.in_ok-insert.ensures.updates.0 c.args.place ∙ ap (λ b. cond b (Some None) (get place_order c.args.map.now c.args.place)) (ap is_eq (tied_itself places_total c.args.place)))
