@@ -80,6 +80,7 @@ fn insert(back: &mut BTreeSet<Behind>, behind: Behind) -> Result<(), NoMemory>
     ensures more { (b : Hint) → contains behind_order back.old b ≡ true → contains behind_order back.new b ≡ true }
     ensures ok { OnOk result (contains behind_order back.new behind ≡ true) }
 {
+    // The check knows the type of the field only once it is read.
     let _from = behind.from;
     back.insert(behind)?;
     Ok(())

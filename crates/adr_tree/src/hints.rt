@@ -85,6 +85,7 @@ pub(crate) fn remember(hints: &mut BTreeSet<Hint>, hint: Hint) -> Result<(), NoM
         → contains hint_order hints.new h ≡ true }
     ensures ok { OnOk result (contains hint_order hints.new hint ≡ true) }
 {
+    // The check knows the type of the field only once it is read.
     let _guid = hint.guid;
     hints.insert(hint)?;
     Ok(())
