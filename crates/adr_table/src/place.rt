@@ -9,7 +9,7 @@ use adr_guid::Guid;
 use adr_stamp::{Birth, LinkKey, Oid};
 use adr_update::{CLASS, Key};
 
-/// The first attribute that isn't reserved.
+/// The first attribute whose rows go when the object dies.
 const FIRST_VALUE: u16 = 4;
 
 /// The place of a row of an object, which has no `other`, or of a link row, whose other end is `other`. No row stands at
