@@ -1,6 +1,6 @@
 //! Walks up the tree, by parents as they were written.
 
-ghost use Rattle.std.specs.Prelude.{◌≡◌, ◌&&◌, ◌||◌, false, if◌then◌else◌};
+ghost use Rattle.std.specs.Prelude.{◌≡◌, false, if◌then◌else◌};
 ghost use Rattle.std.specs.Option.{option_copied};
 ghost use Rattle.adr_model.specs.Place.{named_before};
 ghost use Rattle.adr_law_tree.specs.Closing.{closing};
@@ -145,23 +145,11 @@ pub(crate) fn climbs(
             return true;
         }
         let breaks = is_breaker(flags, node);
-        if both(breaks, seen) {
+        if breaks && seen {
             return false;
         }
-        seen = either(breaks, seen);
+        seen = breaks || seen;
         guid = node.parent();
     }
     false
-}
-
-fn both(a: bool, b: bool) -> bool
-    ensures { result ≡ (a && b) }
-{
-    a && b
-}
-
-fn either(a: bool, b: bool) -> bool
-    ensures { result ≡ (a || b) }
-{
-    a || b
 }
