@@ -121,12 +121,17 @@ impl Tree {
         Ok(bearers)
     }
 
-    /// The GUID of the object that keeps a folded name in a place.
-    fn keeper(&self, alloc: Global, parent: Guid, name: &Text) -> Result<Option<Guid>, NoMemory>
+    /// The GUID of the object that holds a folded name in a place.
+    fn holder_of_folded(
+        &self,
+        alloc: Global,
+        parent: Guid,
+        name: &Text,
+    ) -> Result<Option<Guid>, NoMemory>
         requires tree { IsTree self.now }
         requires parent { IsParent (nodes_in self.now) parent }
-        ensures { IfOk result (λ keeper. (text : List ℕ)
-            → name.now ≡ folded text → keeper ≡ name_holder (nodes_in self.now) parent text) }
+        ensures { IfOk result (λ holder. (text : List ℕ)
+            → name.now ≡ folded text → holder ≡ name_holder (nodes_in self.now) parent text) }
     {
         if is_lost_name(parent, name) {
             return Ok(Some(lost_and_found()));
@@ -136,7 +141,7 @@ impl Tree {
     }
 
     /// Whether a place has another object than that of a GUID, or LostAndFound, of a folded name.
-    fn is_kept(
+    fn is_taken_folded(
         &self,
         alloc: Global,
         guid: Guid,
@@ -145,8 +150,8 @@ impl Tree {
     ) -> Result<bool, NoMemory>
         requires tree { IsTree self.now }
         requires parent { IsParent (nodes_in self.now) parent }
-        ensures { IfOk result (λ kept. (text : List ℕ)
-            → name.now ≡ folded text → kept ≡ is_taken (nodes_in self.now) guid parent text) }
+        ensures { IfOk result (λ taken. (text : List ℕ)
+            → name.now ≡ folded text → taken ≡ is_taken (nodes_in self.now) guid parent text) }
     {
         if is_lost_name(parent, name) {
             return Ok(true);
@@ -155,14 +160,14 @@ impl Tree {
         Ok(has_other(bearers.as_slice(), guid))
     }
 
-    /// The GUID of the object that keeps a text in a place, in whatever case it is written.
+    /// The GUID of the object that holds a text in a place, in whatever case it is written.
     pub fn holder(&self, alloc: Global, parent: Guid, text: &Text) -> Result<Option<Guid>, NoMemory>
         requires tree { IsTree self.now }
         requires parent { IsParent (nodes_in self.now) parent }
         ensures { IfOk result (λ holder. holder ≡ name_holder (nodes_in self.now) parent text.now) }
     {
         let name = fold_name(alloc, text.as_str())?;
-        self.keeper(alloc, parent, &name)
+        self.holder_of_folded(alloc, parent, &name)
     }
 
     /// Whether a place has another object than that of a GUID, or LostAndFound, of a name that folds alike.
@@ -178,6 +183,6 @@ impl Tree {
         ensures { IfOk result (λ taken. taken ≡ is_taken (nodes_in self.now) guid parent text.now) }
     {
         let name = fold_name(alloc, text.as_str())?;
-        self.is_kept(alloc, guid, parent, &name)
+        self.is_taken_folded(alloc, guid, parent, &name)
     }
 }

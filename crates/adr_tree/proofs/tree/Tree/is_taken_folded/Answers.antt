@@ -11,7 +11,7 @@ use Rattle.adr_tree.specs.Names.{is_called}
 use Rattle.adr_tree.specs.Tree.{nodes_in}
 use Rattle.adr_tree.proofs.Found.{lost_taken, taken_is}
 use Rattle.adr_tree.proofs.Seen.{in_order}
-use Rattle.adr_tree.proofs.tree.Tree.is_kept.Goals as goal
+use Rattle.adr_tree.proofs.tree.Tree.is_taken_folded.Goals as goal
 
 pub returns-then-is_lost_name : goal.returns-then-is_lost_name
 returns-then-is_lost_name c text e =

@@ -11,7 +11,7 @@ use Rattle.adr_tree.specs.Names.{is_called}
 use Rattle.adr_tree.specs.Tree.{nodes_in}
 use Rattle.adr_tree.proofs.Found.{holder_is, lost_holder}
 use Rattle.adr_tree.proofs.Seen.{in_order}
-use Rattle.adr_tree.proofs.tree.Tree.keeper.Goals as goal
+use Rattle.adr_tree.proofs.tree.Tree.holder_of_folded.Goals as goal
 
 pub returns-then-is_lost_name : goal.returns-then-is_lost_name
 returns-then-is_lost_name c text e =
