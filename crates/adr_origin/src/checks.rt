@@ -114,7 +114,7 @@ pub fn check_version(rows: &Rows, key: Key, attr: u16) -> Result<(), WriteRefusa
     ensures told { result_err result ≡ version_refusal rows.now (key_of key) attr }
     ensures room { OnOk result (version_of (row_held rows.now (key_of key)) ≢ version_limit) }
 {
-    if version_of(rows, &key) == VERSION_LIMIT {
+    if version_of(rows.row(key)) == VERSION_LIMIT {
         Err(WriteRefusal::VersionLimit { attr })
     } else {
         Ok(())

@@ -1,7 +1,7 @@
 //! The live object of a GUID, and the rows that are written once more, with their stamps.
 
 ghost use Rattle.std.specs.Prelude.{◌≡◌, ◌≢◌, ◌<◌, ◌∷◌, [], IfOk};
-ghost use Rattle.std.specs.Option.{option_map_or};
+ghost use Rattle.std.specs.Option.{option_copied, option_map_or};
 ghost use Rattle.adr_model.specs.Store.{row_held, updates_of};
 ghost use Rattle.adr_model.specs.Update.{RowOf};
 ghost use Rattle.adr_model.specs.Write.{class_of, first_created, next_row, next_stamp, nodes_held, object_of, of_object, usn_limit, version_limit, version_of};
@@ -13,7 +13,7 @@ use crate::new_object::row;
 use adr_guid::Guid;
 use adr_schema::Content;
 use adr_stamp::{Birth, LinkStamp, Oid, Stamp, Unit};
-use adr_state::{Item, Key, Rows, State, Update};
+use adr_state::{Held, Item, Key, State, Update};
 use adr_update::root;
 use std::alloc::Global;
 
@@ -43,11 +43,11 @@ pub fn class_of(state: &State, guid: Guid) -> u16
     }
 }
 
-/// The version of the row of a key, or 0 where none is held.
-pub fn version_of(rows: &Rows, key: &Key) -> u32
-    ensures { result ≡ version_of (row_held rows.now (key_of key.now)) }
+/// The version of a row, or 0 where none is held.
+pub fn version_of(held: Option<&Held>) -> u32
+    ensures { result ≡ version_of (option_copied held.entry) }
 {
-    match rows.row(*key) {
+    match held {
         Some(held) => held.update().stamp().stamp.version,
         None => 0,
     }
@@ -64,11 +64,11 @@ fn first_created(key: &Key, now: u64) -> u64
 }
 
 /// The moment of creation of the row of a key, which a further write keeps.
-fn created(rows: &Rows, key: &Key, now: u64) -> u64
+fn created(held: Option<&Held>, key: &Key, now: u64) -> u64
     ensures { result
-        ≡ option_map_or (λ h. h.update.stamp.created) (row_held rows.now (key_of key.now)) (first_created (key_of key.now) now) }
+        ≡ option_map_or (λ h. h.update.stamp.created) (option_copied held.entry) (first_created (key_of key.now) now) }
 {
-    match rows.row(*key) {
+    match held {
         Some(held) => held.update().stamp().created,
         None => first_created(key, now),
     }
@@ -80,10 +80,11 @@ pub fn next_stamp(state: &State, key: Key, now: u64) -> LinkStamp
     requires version { version_of (row_held state.now.store.rows (key_of key)) ≢ version_limit }
     ensures { result ≡ next_stamp state.now (key_of key) now }
 {
+    let held = state.rows().row(key);
     LinkStamp {
-        created: created(state.rows(), &key, now),
+        created: created(held, &key, now),
         stamp: Stamp {
-            version: version_of(state.rows(), &key) + 1,
+            version: version_of(held) + 1,
             time: now,
             inv: state.inv(),
             usn: state.usn() + 1,
