@@ -1,9 +1,7 @@
 mod FirstOf
-mod GivenLemmas
 mod InLiveParts
 mod InParts
 mod Living
 mod Superiors
-mod Versions
 mod LinkInParts
 mod Writes

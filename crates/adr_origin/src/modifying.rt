@@ -11,11 +11,10 @@ ghost use Rattle.adr_origin.specs.NextRows.{next_rows, versions_refusal};
 use crate::NoMemory;
 use crate::adding::own_change;
 use crate::checks::{check_live, check_schema, check_usn, check_version};
-use crate::new_object::values_content;
 use crate::stamps::{class_of, next_row, object_of};
 use adr_event::{Failure, WriteRefusal};
 use adr_guid::Guid;
-use adr_schema::Assignments;
+use adr_schema::{Assignments, Content};
 use adr_stamp::{Oid, Unit};
 use adr_state::{Change, Item, Key, Rows, State, Update};
 use std::alloc::Global;
@@ -76,14 +75,12 @@ fn check_rows(state: &State, object: &Oid, values: &Assignments) -> Result<(), W
 fn check_versions(rows: &Rows, object: &Oid, values: &Assignments) -> Result<(), WriteRefusal>
     ensures { result_err result ≡ versions_refusal rows.now object.now values.now }
 {
-    let mut above = None;
-    'attributes: while let Some((attr, _)) = values.next(above) {
+    'attributes: for (attr, _) in values.entries() {
         let key = Key::Row {
             object: *object,
-            attr,
+            attr: *attr,
         };
-        check_version(rows, key, attr)?;
-        above = Some(attr);
+        check_version(rows, key, *attr)?;
     }
     Ok(())
 }
@@ -101,11 +98,9 @@ fn next_rows(
     ensures { IfOk result (λ rows. rows.items ≡ next_rows state.now now object.now values.now) }
 {
     let mut rows = Vec::new(alloc);
-    let mut above = None;
-    'attributes: while let Some((attr, list)) = values.next(above) {
-        let content = values_content(alloc, list)?;
-        rows.push(next_row(state, object, attr, content, now))?;
-        above = Some(attr);
+    'attributes: for (attr, list) in values.entries() {
+        let content = Content::Values(list.copy(alloc)?);
+        rows.push(next_row(state, object, *attr, content, now))?;
     }
     Ok(rows)
 }

@@ -1,13 +1,13 @@
 //! A new object, and its rows.
 
 ghost use Rattle.std.specs.Prelude.{◌≡◌, ◌++◌, IfOk, OnOk};
-ghost use Rattle.adr_schema.specs.declared.content.Content.TheVariants.{Name as named, Values as valued};
+ghost use Rattle.adr_schema.specs.declared.content.Content.TheVariants.{Name as named};
 ghost use Rattle.adr_model.specs.Write.{new_rows, row};
 ghost use Rattle.adr_origin.specs.GivenRows.{given_rows};
 
 use crate::NoMemory;
 use adr_guid::Guid;
-use adr_schema::{Assignments, Content, Text, Value, Values, copy_values};
+use adr_schema::{Assignments, Content, Text};
 use adr_stamp::{LinkStamp, Oid};
 use adr_state::{CLASS, Key, NAME, Said, Update};
 use std::alloc::Global;
@@ -46,13 +46,6 @@ pub fn name_content(alloc: Global, text: &Text, parent: Guid) -> Result<Content,
     })
 }
 
-/// Values, as the content of a row.
-pub fn values_content(alloc: Global, list: &[Value]) -> Result<Content, NoMemory>
-    ensures { IfOk result (λ content. content ≡ valued list.now) }
-{
-    Ok(Content::Values(Values::of(copy_values(alloc, list)?)))
-}
-
 /// Adds the rows of the attributes that are given values, rising.
 fn push_given(
     alloc: Global,
@@ -63,11 +56,9 @@ fn push_given(
 ) -> Result<(), NoMemory>
     ensures { OnOk result (rows.new.items ≡ rows.old.items ++ given_rows object.now stamp.now values.now) }
 {
-    let mut above = None;
-    'attributes: while let Some((attr, list)) = values.next(above) {
-        let content = values_content(alloc, list)?;
-        rows.push(row(object, stamp, attr, content))?;
-        above = Some(attr);
+    'attributes: for (attr, list) in values.entries() {
+        let content = Content::Values(list.copy(alloc)?);
+        rows.push(row(object, stamp, *attr, content))?;
     }
     Ok(())
 }
