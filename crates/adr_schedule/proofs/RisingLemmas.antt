@@ -11,10 +11,12 @@ use Rattle.std.proofs.lemmas.Bool.Decides.{nat_tests}
 use Rattle.std.proofs.lemmas.List.{append-nil}
 use Rattle.adr_schema.specs.Assignments.{Given, attributes, given, placed}
 use Rattle.adr_schema.specs.declared.content.Value.{Value as Item}
-use Rattle.adr_schema.proofs.LeftAbove.{less_below}
 use Rattle.adr_token.proofs.WordLaws.{bind_some}
 use Rattle.adr_schedule.specs.Sets.{with_set, with_sets}
 use Rattle.adr_schedule.specs.Grammar.{Set, sets, AreRising, HaveSpellings, IsSpelled}
+
+less_below : (a b : ℕ) → nat_cmp a b ≡ Less → a < b
+less_below a b h = grind (arith, nat_tests)
 
 below_less : (a b : ℕ) → a < b → nat_cmp a b ≡ Less
 below_less a b h = rw (lt-ltb a b h) refl

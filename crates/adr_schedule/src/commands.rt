@@ -184,7 +184,7 @@ fn modify(alloc: Global, line: &mut Line<'_>) -> Result<Event, Stop>
     let name = line.name(alloc)?;
     let guid = line.identifier()?;
     let values = sets(alloc, line)?;
-    if values.len() == 0 {
+    if values.is_empty() {
         return Err(Failure::Refused(Bad));
     }
     Ok(Event::Modify { name, guid, values })

@@ -1,5 +1,6 @@
-use Rattle.std.proofs.Common.{◌≡◌, ℕ, List, length, Some, None, refl, sym, ◌∙◌}
-use Rattle.std.proofs.lemmas.Bool.{eq-eqb, ne_eqb}
+use Rattle.std.proofs.Common.{◌≡◌, ℕ, List, [], length, Some, None, refl}
+use Rattle.std.proofs.lemmas.Bool.{ne_eqb}
+use Rattle.std.proofs.lemmas.List.{nil_from_length}
 use Rattle.adr_event.specs.declared.event.Event.TheVariants.{Modify}
 use Rattle.adr_schema.specs.Assignments.{Given}
 use Rattle.adr_token.specs.Identifiers.{identifier_at}
@@ -10,21 +11,21 @@ use Rattle.adr_schedule.proofs.commands.modify.Goals as goal
 
 -- no set stands there
 without_sets : (bytes name guid behind rest : List ℕ) (values : List Given) → name_at bytes ≡ Some (name, behind) → identifier_at behind ≡ Some (guid, rest) → sets_at rest ≡ Some values
-    → length values ≡ 0 → modify_line bytes ≡ None
+    → values ≡ [] → modify_line bytes ≡ None
 unfolding modify_line
-without_sets bytes name guid behind rest values n g v none = rw (n, g, v, eq-eqb (length values) 0 none) refl
+without_sets bytes name guid behind rest values n g v none = rw (n, g, v, none) refl
 
 with_some : (bytes name guid behind rest : List ℕ) (values : List Given) → name_at bytes ≡ Some (name, behind) → identifier_at behind ≡ Some (guid, rest) → sets_at rest ≡ Some values
-    → (length values ≡ 0 → ⊥) → modify_line bytes ≡ Some (Modify name guid values)
+    → (values ≡ [] → ⊥) → modify_line bytes ≡ Some (Modify name guid values)
 unfolding modify_line
-with_some bytes name guid behind rest values n g v some = rw (n, g, v, ne_eqb (length values) 0 some) refl
+with_some bytes name guid behind rest values n g v some = rw (n, g, v, ne_eqb (length values) 0 (λ none. some (nil_from_length values none))) refl
 
-pub returns-then-len-eq0 : goal.returns-then-len-eq0
-returns-then-len-eq0 c =
+pub returns-then-is_empty : goal.returns-then-is_empty
+returns-then-is_empty c =
     without_sets c.args.line.now c.in_ok-name.name c.in_ok-guid.guid c.name.new.self c.identifier.new.self c.in_ok-values.values c.in_ok-name.ensures.reading c.in_ok-guid.ensures c.in_ok-values.ensures
-    (sym c.len.ensures.len ∙ c.if-len-eq0.true)
+    (c.is_empty.ensures.0 c.if-is_empty.true)
 
 pub returns : goal.returns
 returns c =
     with_some c.args.line.now c.in_ok-name.name c.in_ok-guid.guid c.name.new.self c.identifier.new.self c.in_ok-values.values c.in_ok-name.ensures.reading c.in_ok-guid.ensures c.in_ok-values.ensures
-    (λ none. c.if-len-eq0.false (c.len.ensures.len ∙ none))
+    (λ none. let yes = c.is_empty.ensures.1 none in let no = c.if-is_empty.false in absurd (cc))
