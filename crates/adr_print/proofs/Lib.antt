@@ -1,3 +1,2 @@
 mod PlainBytes
-mod SetLemmas
 mod PrintLaws

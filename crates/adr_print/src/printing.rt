@@ -69,10 +69,8 @@ fn push_spaced_set(
 fn push_sets(alloc: Global, out: &mut Vec<u8>, values: &Assignments) -> Result<(), NoMemory>
     ensures { OnOk result (out.new.items ≡ out.old.items ++ spaced (set_tokens values.now)) }
 {
-    let mut above = None;
-    'attributes: while let Some((attr, list)) = values.next(above) {
-        push_spaced_set(alloc, out, attr, list)?;
-        above = Some(attr);
+    'attributes: for (attr, list) in values.entries() {
+        push_spaced_set(alloc, out, *attr, list.items())?;
     }
     Ok(())
 }
