@@ -4,9 +4,10 @@ ghost use Rattle.std.specs.Prelude.{◌≡◌, ◌++◌, ◌∷◌, [], ℕ, Lis
 ghost use Rattle.std.specs.Fmt.{decimal};
 ghost use Rattle.adr_token.specs.Spelling.{attribute_token, class_token, identifier_token, set_token, text_token};
 ghost use Rattle.adr_schedule.specs.Crashes.{crash_word};
-ghost use Rattle.adr_schedule.specs.Grammar.{given_by, tokens_behind};
+ghost use Rattle.adr_schedule.specs.Grammar.{Attribute as attributed, Class as classed, Identifier as identified, Name as named, Number as numbered, Quoted as quoted, Word as said, given_by, sets, tokens_behind};
 ghost use Rattle.adr_print.specs.Printed.{line_of, printed, set_tokens, spaced, token_of, token_text};
 
+use adr_disk::Crash;
 use adr_event::Event;
 use adr_guid::Guid;
 use adr_schedule::crash_word;
@@ -90,6 +91,329 @@ fn push_with_sets(
     push_sets(alloc, out, values)
 }
 
+/// NAME ID ID, of `controller`.
+fn push_controller(
+    alloc: Global,
+    out: &mut Vec<u8>,
+    name: &Text,
+    dsa: Guid,
+    inv: Guid,
+) -> Result<(), NoMemory>
+    ensures { OnOk result (out.new.items
+        ≡ out.old.items ++ spaced (map token_text (named name.now ∷ identified dsa ∷ identified inv ∷ []))) }
+{
+    push_tokens(
+        alloc,
+        out,
+        &[
+            Token::Name(name),
+            Token::Identifier(dsa),
+            Token::Identifier(inv),
+        ],
+    )
+}
+
+/// NAME ID CLASS ID TEXT SET.., of `add`.
+fn push_added<'a>(
+    alloc: Global,
+    out: &mut Vec<u8>,
+    name: &'a Text,
+    guid: Guid,
+    class: u16,
+    parent: Guid,
+    text: &'a Text,
+    values: &Assignments,
+) -> Result<(), NoMemory>
+    ensures { OnOk result (out.new.items
+        ≡ out.old.items ++ spaced (map token_text (named name.now ∷ identified guid ∷ classed class ∷ identified parent ∷ quoted text.now ∷ sets values.now))) }
+{
+    push_with_sets(
+        alloc,
+        out,
+        &[
+            Token::Name(name),
+            Token::Identifier(guid),
+            Token::Class(class),
+            Token::Identifier(parent),
+            Token::Quoted(text),
+        ],
+        values,
+    )
+}
+
+/// NAME ID SET.., of `modify`.
+fn push_modified(
+    alloc: Global,
+    out: &mut Vec<u8>,
+    name: &Text,
+    guid: Guid,
+    values: &Assignments,
+) -> Result<(), NoMemory>
+    ensures { OnOk result (out.new.items
+        ≡ out.old.items ++ spaced (map token_text (named name.now ∷ identified guid ∷ sets values.now))) }
+{
+    push_with_sets(
+        alloc,
+        out,
+        &[Token::Name(name), Token::Identifier(guid)],
+        values,
+    )
+}
+
+/// NAME ID ID TEXT, of `rename`.
+fn push_renamed<'a>(
+    alloc: Global,
+    out: &mut Vec<u8>,
+    name: &'a Text,
+    guid: Guid,
+    parent: Guid,
+    text: &'a Text,
+) -> Result<(), NoMemory>
+    ensures { OnOk result (out.new.items
+        ≡ out.old.items ++ spaced (map token_text (named name.now ∷ identified guid ∷ identified parent ∷ quoted text.now ∷ []))) }
+{
+    push_tokens(
+        alloc,
+        out,
+        &[
+            Token::Name(name),
+            Token::Identifier(guid),
+            Token::Identifier(parent),
+            Token::Quoted(text),
+        ],
+    )
+}
+
+/// NAME ID, of `delete`.
+fn push_deleted(alloc: Global, out: &mut Vec<u8>, name: &Text, guid: Guid) -> Result<(), NoMemory>
+    ensures { OnOk result (out.new.items
+        ≡ out.old.items ++ spaced (map token_text (named name.now ∷ identified guid ∷ []))) }
+{
+    push_tokens(alloc, out, &[Token::Name(name), Token::Identifier(guid)])
+}
+
+/// NAME ID ATTR ID, of `link` and `unlink`.
+fn push_linked(
+    alloc: Global,
+    out: &mut Vec<u8>,
+    name: &Text,
+    from: Guid,
+    attr: u16,
+    to: Guid,
+) -> Result<(), NoMemory>
+    ensures { OnOk result (out.new.items
+        ≡ out.old.items ++ spaced (map token_text (named name.now ∷ identified from ∷ attributed attr ∷ identified to ∷ []))) }
+{
+    push_tokens(
+        alloc,
+        out,
+        &[
+            Token::Name(name),
+            Token::Identifier(from),
+            Token::Attribute(attr),
+            Token::Identifier(to),
+        ],
+    )
+}
+
+/// NAME NAME MAX as NAME, of `ask`.
+fn push_asked<'a>(
+    alloc: Global,
+    out: &mut Vec<u8>,
+    name: &'a Text,
+    partner: &'a Text,
+    max: u32,
+    bound: &'a Text,
+) -> Result<(), NoMemory>
+    ensures { OnOk result (out.new.items
+        ≡ out.old.items ++ spaced (map token_text (named name.now ∷ named partner.now ∷ numbered max ∷ said (codes "as") ∷ named bound.now ∷ []))) }
+{
+    push_tokens(
+        alloc,
+        out,
+        &[
+            Token::Name(name),
+            Token::Name(partner),
+            Token::Number(u64::from(max)),
+            Token::Word(b"as"),
+            Token::Name(bound),
+        ],
+    )
+}
+
+/// NAME NAME as NAME, of `serve`.
+fn push_served<'a>(
+    alloc: Global,
+    out: &mut Vec<u8>,
+    name: &'a Text,
+    request: &'a Text,
+    bound: &'a Text,
+) -> Result<(), NoMemory>
+    ensures { OnOk result (out.new.items
+        ≡ out.old.items ++ spaced (map token_text (named name.now ∷ named request.now ∷ said (codes "as") ∷ named bound.now ∷ []))) }
+{
+    push_tokens(
+        alloc,
+        out,
+        &[
+            Token::Name(name),
+            Token::Name(request),
+            Token::Word(b"as"),
+            Token::Name(bound),
+        ],
+    )
+}
+
+/// NAME NAME, of `deliver` and `rollback`.
+fn push_used<'a>(
+    alloc: Global,
+    out: &mut Vec<u8>,
+    name: &'a Text,
+    other: &'a Text,
+) -> Result<(), NoMemory>
+    ensures { OnOk result (out.new.items
+        ≡ out.old.items ++ spaced (map token_text (named name.now ∷ named other.now ∷ []))) }
+{
+    push_tokens(alloc, out, &[Token::Name(name), Token::Name(other)])
+}
+
+/// NAME NAME MAX, of `pull` and `cycle`.
+fn push_pulled<'a>(
+    alloc: Global,
+    out: &mut Vec<u8>,
+    name: &'a Text,
+    source: &'a Text,
+    max: u32,
+) -> Result<(), NoMemory>
+    ensures { OnOk result (out.new.items
+        ≡ out.old.items ++ spaced (map token_text (named name.now ∷ named source.now ∷ numbered max ∷ []))) }
+{
+    push_tokens(
+        alloc,
+        out,
+        &[
+            Token::Name(name),
+            Token::Name(source),
+            Token::Number(u64::from(max)),
+        ],
+    )
+}
+
+/// NAME LIFETIME, of `collect`.
+fn push_collected(
+    alloc: Global,
+    out: &mut Vec<u8>,
+    name: &Text,
+    lifetime: u64,
+) -> Result<(), NoMemory>
+    ensures { OnOk result (out.new.items
+        ≡ out.old.items ++ spaced (map token_text (named name.now ∷ numbered lifetime ∷ []))) }
+{
+    push_tokens(alloc, out, &[Token::Name(name), Token::Number(lifetime)])
+}
+
+/// NAME as NAME, of `backup` and `snapshot`.
+fn push_copied<'a>(
+    alloc: Global,
+    out: &mut Vec<u8>,
+    name: &'a Text,
+    bound: &'a Text,
+) -> Result<(), NoMemory>
+    ensures { OnOk result (out.new.items
+        ≡ out.old.items ++ spaced (map token_text (named name.now ∷ said (codes "as") ∷ named bound.now ∷ []))) }
+{
+    push_tokens(
+        alloc,
+        out,
+        &[Token::Name(name), Token::Word(b"as"), Token::Name(bound)],
+    )
+}
+
+/// NAME NAME ID, of `restore`.
+fn push_restored<'a>(
+    alloc: Global,
+    out: &mut Vec<u8>,
+    name: &'a Text,
+    image: &'a Text,
+    inv: Guid,
+) -> Result<(), NoMemory>
+    ensures { OnOk result (out.new.items
+        ≡ out.old.items ++ spaced (map token_text (named name.now ∷ named image.now ∷ identified inv ∷ []))) }
+{
+    push_tokens(
+        alloc,
+        out,
+        &[
+            Token::Name(name),
+            Token::Name(image),
+            Token::Identifier(inv),
+        ],
+    )
+}
+
+/// NAME ID NAME ID, of `install`.
+fn push_installed<'a>(
+    alloc: Global,
+    out: &mut Vec<u8>,
+    name: &'a Text,
+    dsa: Guid,
+    image: &'a Text,
+    inv: Guid,
+) -> Result<(), NoMemory>
+    ensures { OnOk result (out.new.items
+        ≡ out.old.items ++ spaced (map token_text (named name.now ∷ identified dsa ∷ named image.now ∷ identified inv ∷ []))) }
+{
+    push_tokens(
+        alloc,
+        out,
+        &[
+            Token::Name(name),
+            Token::Identifier(dsa),
+            Token::Name(image),
+            Token::Identifier(inv),
+        ],
+    )
+}
+
+/// NAME after CALLS CRASH, of `stop` where a plan is made.
+fn push_planned(
+    alloc: Global,
+    out: &mut Vec<u8>,
+    name: &Text,
+    calls: u32,
+    how: Crash,
+) -> Result<(), NoMemory>
+    ensures { OnOk result (out.new.items
+        ≡ out.old.items ++ spaced (map token_text (named name.now ∷ said (codes "after") ∷ numbered calls ∷ said (crash_word how) ∷ []))) }
+{
+    push_tokens(
+        alloc,
+        out,
+        &[
+            Token::Name(name),
+            Token::Word(b"after"),
+            Token::Number(u64::from(calls)),
+            Token::Word(crash_word(how)),
+        ],
+    )
+}
+
+/// NAME after CALLS, of `fail`.
+fn push_failed(alloc: Global, out: &mut Vec<u8>, name: &Text, calls: u32) -> Result<(), NoMemory>
+    ensures { OnOk result (out.new.items
+        ≡ out.old.items ++ spaced (map token_text (named name.now ∷ said (codes "after") ∷ numbered calls ∷ []))) }
+{
+    push_tokens(
+        alloc,
+        out,
+        &[
+            Token::Name(name),
+            Token::Word(b"after"),
+            Token::Number(u64::from(calls)),
+        ],
+    )
+}
+
 /// Adds what stands behind the verb in the line of an event, by one call for each kind: an arm with
 /// many steps makes a long proof.
 #[tactic(auto, unfolding(adr_schedule::specs::Grammar::tokens_behind))]
@@ -98,15 +422,7 @@ fn push_behind(alloc: Global, out: &mut Vec<u8>, event: &Event) -> Result<(), No
         ≡ out.old.items ++ spaced (map token_text (tokens_behind (given_by event.now) event.now))) }
 {
     match event {
-        Event::Controller { name, dsa, inv } => push_tokens(
-            alloc,
-            out,
-            &[
-                Token::Name(name),
-                Token::Identifier(*dsa),
-                Token::Identifier(*inv),
-            ],
-        ),
+        Event::Controller { name, dsa, inv } => push_controller(alloc, out, name, *dsa, *inv),
         Event::Time { now } => push_tokens(alloc, out, &[Token::Number(*now)]),
         Event::Add {
             name,
@@ -115,195 +431,61 @@ fn push_behind(alloc: Global, out: &mut Vec<u8>, event: &Event) -> Result<(), No
             parent,
             text,
             values,
-        } => push_with_sets(
-            alloc,
-            out,
-            &[
-                Token::Name(name),
-                Token::Identifier(*guid),
-                Token::Class(*class),
-                Token::Identifier(*parent),
-                Token::Quoted(text),
-            ],
-            values,
-        ),
-        Event::Modify { name, guid, values } => push_with_sets(
-            alloc,
-            out,
-            &[Token::Name(name), Token::Identifier(*guid)],
-            values,
-        ),
+        } => push_added(alloc, out, name, *guid, *class, *parent, text, values),
+        Event::Modify { name, guid, values } => push_modified(alloc, out, name, *guid, values),
         Event::Rename {
             name,
             guid,
             parent,
             text,
-        } => push_tokens(
-            alloc,
-            out,
-            &[
-                Token::Name(name),
-                Token::Identifier(*guid),
-                Token::Identifier(*parent),
-                Token::Quoted(text),
-            ],
-        ),
-        Event::Delete { name, guid } => push_tokens(
-            alloc,
-            out,
-            &[Token::Name(name), Token::Identifier(*guid)],
-        ),
+        } => push_renamed(alloc, out, name, *guid, *parent, text),
+        Event::Delete { name, guid } => push_deleted(alloc, out, name, *guid),
         Event::Link {
             name,
             from,
             attr,
             to,
-        } => push_tokens(
-            alloc,
-            out,
-            &[
-                Token::Name(name),
-                Token::Identifier(*from),
-                Token::Attribute(*attr),
-                Token::Identifier(*to),
-            ],
-        ),
-        Event::Unlink {
+        }
+        | Event::Unlink {
             name,
             from,
             attr,
             to,
-        } => push_tokens(
-            alloc,
-            out,
-            &[
-                Token::Name(name),
-                Token::Identifier(*from),
-                Token::Attribute(*attr),
-                Token::Identifier(*to),
-            ],
-        ),
+        } => push_linked(alloc, out, name, *from, *attr, *to),
         Event::Ask {
             name,
             partner,
             max,
             bound,
-        } => push_tokens(
-            alloc,
-            out,
-            &[
-                Token::Name(name),
-                Token::Name(partner),
-                Token::Number(u64::from(*max)),
-                Token::Word(b"as"),
-                Token::Name(bound),
-            ],
-        ),
+        } => push_asked(alloc, out, name, partner, *max, bound),
         Event::Serve {
             name,
             request,
             bound,
-        } => push_tokens(
-            alloc,
-            out,
-            &[
-                Token::Name(name),
-                Token::Name(request),
-                Token::Word(b"as"),
-                Token::Name(bound),
-            ],
-        ),
-        Event::Deliver { name, reply } => push_tokens(
-            alloc,
-            out,
-            &[Token::Name(name), Token::Name(reply)],
-        ),
-        Event::Pull { name, source, max } => push_tokens(
-            alloc,
-            out,
-            &[
-                Token::Name(name),
-                Token::Name(source),
-                Token::Number(u64::from(*max)),
-            ],
-        ),
-        Event::Cycle { name, source, max } => push_tokens(
-            alloc,
-            out,
-            &[
-                Token::Name(name),
-                Token::Name(source),
-                Token::Number(u64::from(*max)),
-            ],
-        ),
-        Event::Collect { name, lifetime } => push_tokens(
-            alloc,
-            out,
-            &[Token::Name(name), Token::Number(*lifetime)],
-        ),
-        Event::Backup { name, bound } => push_tokens(
-            alloc,
-            out,
-            &[Token::Name(name), Token::Word(b"as"), Token::Name(bound)],
-        ),
-        Event::Restore { name, image, inv } => push_tokens(
-            alloc,
-            out,
-            &[
-                Token::Name(name),
-                Token::Name(image),
-                Token::Identifier(*inv),
-            ],
-        ),
+        } => push_served(alloc, out, name, request, bound),
+        Event::Deliver { name, reply } => push_used(alloc, out, name, reply),
+        Event::Pull { name, source, max } | Event::Cycle { name, source, max } => {
+            push_pulled(alloc, out, name, source, *max)
+        }
+        Event::Collect { name, lifetime } => push_collected(alloc, out, name, *lifetime),
+        Event::Backup { name, bound } | Event::Snapshot { name, bound } => {
+            push_copied(alloc, out, name, bound)
+        }
+        Event::Restore { name, image, inv } => push_restored(alloc, out, name, image, *inv),
         Event::Install {
             name,
             dsa,
             image,
             inv,
-        } => push_tokens(
-            alloc,
-            out,
-            &[
-                Token::Name(name),
-                Token::Identifier(*dsa),
-                Token::Name(image),
-                Token::Identifier(*inv),
-            ],
-        ),
-        Event::Snapshot { name, bound } => push_tokens(
-            alloc,
-            out,
-            &[Token::Name(name), Token::Word(b"as"), Token::Name(bound)],
-        ),
-        Event::Rollback { name, snapshot } => push_tokens(
-            alloc,
-            out,
-            &[Token::Name(name), Token::Name(snapshot)],
-        ),
-        Event::StopAfter { name, calls, how } => push_tokens(
-            alloc,
-            out,
-            &[
-                Token::Name(name),
-                Token::Word(b"after"),
-                Token::Number(u64::from(*calls)),
-                Token::Word(crash_word(*how)),
-            ],
-        ),
-        Event::Fail { name, calls } => push_tokens(
-            alloc,
-            out,
-            &[
-                Token::Name(name),
-                Token::Word(b"after"),
-                Token::Number(u64::from(*calls)),
-            ],
-        ),
-        Event::Stop { name } => push_tokens(alloc, out, &[Token::Name(name)]),
-        Event::Start { name } => push_tokens(alloc, out, &[Token::Name(name)]),
-        Event::Show { name } => push_tokens(alloc, out, &[Token::Name(name)]),
-        Event::Vector { name } => push_tokens(alloc, out, &[Token::Name(name)]),
-        Event::Marks { name } => push_tokens(alloc, out, &[Token::Name(name)]),
+        } => push_installed(alloc, out, name, *dsa, image, *inv),
+        Event::Rollback { name, snapshot } => push_used(alloc, out, name, snapshot),
+        Event::StopAfter { name, calls, how } => push_planned(alloc, out, name, *calls, *how),
+        Event::Fail { name, calls } => push_failed(alloc, out, name, *calls),
+        Event::Stop { name }
+        | Event::Start { name }
+        | Event::Show { name }
+        | Event::Vector { name }
+        | Event::Marks { name } => push_tokens(alloc, out, &[Token::Name(name)]),
     }
 }
 
