@@ -1,13 +1,12 @@
 //! Links, read one after the other.
 
 ghost use Rattle.std.specs.Prelude.{◌≡◌, not, true, false};
-ghost use Rattle.adr_stamp.specs.Order.{link_order};
 ghost use Rattle.adr_schema.specs.Table.{has};
 ghost use Rattle.adr_model.specs.Live.{is_among};
 ghost use Rattle.adr_wire.specs.Composites.{oid_at};
 ghost use Rattle.adr_wire.specs.Fields.{u16_at};
 ghost use Rattle.adr_wire.specs.Gathering.{is_refused_at, passing_at};
-ghost use Rattle.adr_wire.specs.Reading.{Names, Tells, is_above, where_at};
+ghost use Rattle.adr_wire.specs.Reading.{Names, Tells, where_at};
 ghost use Rattle.adr_image.specs.Image as form;
 
 use crate::known::{is_dead, is_used};
@@ -32,16 +31,6 @@ pub struct Links {
     pub last: Option<LinkKey>,
     pub used: BTreeSet<u64>,
     pub dead: BTreeSet<Oid>,
-}
-
-/// Whether the key of a link comes behind the last one.
-fn rises(last: &Option<LinkKey>, key: &LinkKey) -> bool
-    ensures { result ≡ is_above link_order last.now key.now }
-{
-    match last {
-        None => true,
-        Some(last) => last.cmp(key).is_lt(),
-    }
 }
 
 /// Whether a link may have this attribute: that of a forward link, or any.
@@ -92,7 +81,7 @@ impl Links {
         let attr = read_attr(reader, schema, any)?;
         let to = reader.read_oid()?;
         let key = LinkKey { from, attr, to };
-        if !rises(&self.last, &key) {
+        if !self.last.cmp(&Some(key)).is_lt() {
             return Err(Failure::Refused(Malformed { place: owner }));
         }
         if is_dead(&self.dead, &key.to) {

@@ -1,9 +1,8 @@
 //! How far each partner was read.
 
 ghost use Rattle.std.specs.Prelude.{◌≡◌, None};
-ghost use Rattle.adr_stamp.specs.Order.{identifier_order};
 ghost use Rattle.adr_wire.specs.Composites.{mark_at};
-ghost use Rattle.adr_wire.specs.Reading.{GivesAs, Tells, is_above, where_at};
+ghost use Rattle.adr_wire.specs.Reading.{GivesAs, Tells, where_at};
 ghost use Rattle.adr_image.specs.Image.{is_ordered, kept_above};
 ghost use Rattle.adr_image.specs.Whole.{marks_at};
 
@@ -13,16 +12,6 @@ use adr_update::MARK_LIMIT;
 use adr_vector::Mark;
 use adr_wire::{Failure, Malformed, Reader, WireRefusal};
 use std::alloc::Global;
-
-/// Whether a partner comes behind the last one.
-fn rises(last: Option<Guid>, partner: Guid) -> bool
-    ensures { result ≡ is_above identifier_order last partner }
-{
-    match last {
-        None => true,
-        Some(last) => last.cmp(&partner).is_lt(),
-    }
-}
 
 /// A mark whose numbers are in order.
 fn read_ordered_mark(reader: &mut Reader<'_>) -> Result<Mark, WireRefusal>
@@ -43,7 +32,7 @@ pub fn read_kept(reader: &mut Reader<'_>, last: Option<Guid>) -> Result<(Guid, K
 {
     let place = reader.place();
     let partner = reader.read_id()?;
-    if !rises(last, partner) {
+    if !last.cmp(&Some(partner)).is_lt() {
         return Err(Failure::Refused(Malformed { place }));
     }
     let inv = reader.read_id()?;

@@ -3,8 +3,7 @@
 ghost use Rattle.std.specs.Prelude.{◌≡◌, ◌≤◌, IfOk};
 ghost use Rattle.std.specs.List.{list_all};
 ghost use Rattle.adr_schema.specs.Table.{must_of};
-ghost use Rattle.adr_stamp.specs.Order.{object_order};
-ghost use Rattle.adr_wire.specs.Reading.{Gives, GivesAs, Tells, is_above};
+ghost use Rattle.adr_wire.specs.Reading.{Gives, GivesAs, Tells};
 ghost use Rattle.adr_model.specs.Write.{usn_limit};
 ghost use Rattle.adr_wire.specs.Gathering.{is_refused_at};
 ghost use Rattle.adr_image.specs.Image as form;
@@ -78,23 +77,13 @@ pub fn is_whole(schema: &Schema, used: &BTreeSet<u64>, rows: &[HeldRow]) -> bool
     !is_used(used, last_of(rows))
 }
 
-/// Whether an object comes behind the last one.
-fn rises(last: Option<Oid>, oid: &Oid) -> bool
-    ensures { result ≡ is_above object_order last oid.now }
-{
-    match last {
-        None => true,
-        Some(last) => last.cmp(oid).is_lt(),
-    }
-}
-
 /// The name of an object behind the last one.
 fn read_next_oid(reader: &mut Reader<'_>, last: Option<Oid>) -> Result<Oid, WireRefusal>
     ensures { Tells result reader.new (form.named_at last reader.old) }
 {
     let place = reader.place();
     let oid = reader.read_oid()?;
-    if !rises(last, &oid) {
+    if !last.as_ref().cmp(&Some(&oid)).is_lt() {
         return Err(Failure::Refused(Malformed { place }));
     }
     Ok(oid)

@@ -1,7 +1,8 @@
 -- Reading from left to right: what stands there and what is left, or the place of the first fault.
-use Rattle.std.specs.Prelude.{◌≡◌, ℕ, zero, suc, ◌+◌, List, [], ◌∷◌, length, take, drop, Bool, true, Option, None, Some, Result, Ok, Err, nat_lt, if◌then◌else◌}
+use Rattle.std.specs.Prelude.{◌≡◌, ℕ, zero, suc, ◌+◌, List, [], ◌∷◌, length, take, drop, Bool, Option, Some, Result, Ok, Err, nat_lt, if◌then◌else◌}
 use Rattle.std.specs.declared.cmp.Ordering.{Ordering}
 use Rattle.std.specs.Ordering.{is_lt}
+use Rattle.std.specs.Option.{option_cmp}
 use Rattle.adr_failure.specs.declared.Failure.{Failure}
 use Rattle.adr_failure.specs.declared.Failure.TheVariants.{Refused, NoMemory}
 use Rattle.adr_wire.specs.declared.refusal.Malformed.{Malformed}
@@ -77,8 +78,7 @@ elements_at key element (suc n) last rest = element last rest >>= λ e. elements
 
 -- whether a key is above the one before it, if there is one
 abbrev pub is_above : {K : Type 0} → (K → K → Ordering) → Option K → K → Bool
-is_above order None key = true
-is_above order (Some last) key = is_lt (order last key)
+is_above order last key = is_lt (option_cmp order last (Some key))
 
 -- an element that begins with its key, above the one before it
 abbrev pub above_at : {K E : Type 0} → (K → K → Ordering) → Reading K → (K → Reading E) → Option K → Reading E

@@ -1,9 +1,6 @@
 //! Lists are read element by element: memory is taken for what has been read, not for what a count promises.
 
-ghost use Rattle.std.specs.Prelude.{◌≡◌};
-ghost use Rattle.std.specs.Ordering.{nat_cmp};
-ghost use Rattle.adr_stamp.specs.Order.{identifier_order};
-ghost use Rattle.adr_wire.specs.Reading.{Gives, GivesAs, Tells, is_above};
+ghost use Rattle.adr_wire.specs.Reading.{Gives, GivesAs, Tells};
 ghost use Rattle.adr_wire.specs.Composites.{values_at, row_above, row_after, rows_at, cursor_above, cursors_at};
 
 use crate::reader::Reader;
@@ -13,26 +10,6 @@ use adr_guid::Guid;
 use adr_schema::{Content, Value, Values};
 use adr_stamp::Stamp;
 use std::alloc::Global;
-
-/// Whether an attribute comes behind the last one.
-fn rises(last: Option<u16>, attr: u16) -> bool
-    ensures { result ≡ is_above nat_cmp last attr }
-{
-    match last {
-        None => true,
-        Some(last) => last.cmp(&attr).is_lt(),
-    }
-}
-
-/// Whether an identifier comes behind the last one.
-fn id_rises(last: Option<Guid>, inv: Guid) -> bool
-    ensures { result ≡ is_above identifier_order last inv }
-{
-    match last {
-        None => true,
-        Some(last) => last.cmp(&inv).is_lt(),
-    }
-}
 
 impl Reader<'_> {
     /// So many values.
@@ -59,7 +36,7 @@ impl Reader<'_> {
         ensures { Gives result self.new (row_after place last self.old) }
     {
         let attr = self.read_u16()?;
-        if !rises(last, attr) {
+        if !last.cmp(&Some(attr)).is_lt() {
             return Err(Failure::Refused(Malformed { place }));
         }
         let stamp = self.read_stamp()?;
@@ -106,7 +83,7 @@ impl Reader<'_> {
     {
         let place = self.place();
         let inv = self.read_id()?;
-        if !id_rises(last, inv) {
+        if !last.cmp(&Some(inv)).is_lt() {
             return Err(Failure::Refused(Malformed { place }));
         }
         let usn = self.read_usn()?;
