@@ -13,7 +13,7 @@ use crate::rows::{Before, read_held_rows, with_held};
 use adr_checks::Schema;
 use adr_schema::Content;
 use adr_stamp::{Oid, Stamp};
-use adr_update::USN_LIMIT;
+use adr_update::{CLASS, DELETED, NAME, USN_LIMIT};
 use adr_wire::{Failure, Malformed, NoMemory, Reader, WireRefusal};
 use std::alloc::{AllocError, Global};
 use std::collections::BTreeSet;
@@ -65,13 +65,13 @@ fn has_all(attrs: &[u16], rows: &[HeldRow]) -> bool
 pub fn is_whole(schema: &Schema, used: &BTreeSet<u64>, rows: &[HeldRow]) -> bool
     ensures { result ≡ form.is_whole schema.now used.now.keys rows.now }
 {
-    if !has_attr(1, rows) {
+    if !has_attr(CLASS, rows) {
         return false;
     }
-    if !has_attr(2, rows) {
+    if !has_attr(NAME, rows) {
         return false;
     }
-    if !has_attr(3, rows) && !has_all(schema.must(told_by(rows).class.unwrap_or(0)), rows) {
+    if !has_attr(DELETED, rows) && !has_all(schema.must(told_by(rows).class.unwrap_or(0)), rows) {
         return false;
     }
     !is_used(used, last_of(rows))

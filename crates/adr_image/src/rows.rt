@@ -6,7 +6,7 @@ ghost use Rattle.adr_wire.specs.Gathering.{gathered_at};
 ghost use Rattle.adr_image.specs.Image as form;
 
 use adr_checks::{Schema, check_name};
-use adr_schema::{Content, Value};
+use adr_schema::Content;
 use adr_stamp::{Oid, Stamp};
 use adr_wire::{Failure, Malformed, Reader, WireRefusal};
 use std::alloc::Global;

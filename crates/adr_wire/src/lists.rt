@@ -7,7 +7,7 @@ use crate::reader::Reader;
 use crate::refusal::{Malformed, WireRefusal};
 use adr_failure::Failure;
 use adr_guid::Guid;
-use adr_schema::{Content, Value, Values};
+use adr_schema::{Content, Values};
 use adr_stamp::Stamp;
 use std::alloc::Global;
 
