@@ -10,7 +10,7 @@ ghost use Rattle.adr_law_journal.specs.Kept.{IsSettled};
 ghost use Rattle.adr_journal.specs.Ran.{Formats};
 ghost use Rattle.adr_journal.specs.Written.{IsNone};
 
-use crate::recording::{CLOSED, OPEN};
+use crate::recording::{CLOSED_GATE, OPEN_GATE};
 use adr_disk::{Disk, write_through};
 use adr_io::Fault;
 
@@ -37,7 +37,7 @@ pub(crate) fn write_log<D: Disk>(disk: &mut D, written: &[u8]) -> Result<(), Fau
         → (D.spare_calls disk.old < 6) ⊎ (D.spare_bytes disk.old < length written.now + 2) }
     ensures gives { Formats D.gives written.now disk.old (ended result) disk.new }
 {
-    write_through(disk, 0, &[CLOSED])?;
+    write_through(disk, 0, &[CLOSED_GATE])?;
     write_through(disk, 1, written)?;
-    write_through(disk, 0, &[OPEN])
+    write_through(disk, 0, &[OPEN_GATE])
 }

@@ -2,15 +2,14 @@
 
 ghost use Rattle.std.specs.Prelude.{◌≡◌, [], false};
 ghost use Rattle.std.specs.Option.{ForSome, option_map};
-ghost use Rattle.adr_disk.specs.Disk.{Among, Only};
+ghost use Rattle.adr_disk.specs.Disk.{Only};
 ghost use Rattle.adr_law_journal.specs.Log.{start_of};
-ghost use Rattle.adr_law_journal.specs.Kept.{Finds};
 
 use crate::form::Form;
 use crate::formatting::write_log;
 use crate::keeper::{Keeper, KeeperRefusal, StartRefusal};
 use crate::reading::read_synced;
-use crate::recording::{begun, has_room, spelled, write_record};
+use crate::recording::{has_room, head_with_gate, record_of, write_record};
 use crate::replaying::replay;
 use adr_disk::Disk;
 use adr_io::Fault;
@@ -54,15 +53,6 @@ impl<D: Disk, F: Form> Journal<D, F> {
             prepared: Vec::new(alloc),
             form: PhantomData,
         }
-    }
-
-    /// Its disk.
-    pub fn into_disk(self) -> D
-        ensures told { option_map (start_of F.head F.following) (D.content result) ≡ ⟦<Journal<D, F> as Keeper>⟧.told self }
-        ensures left { Among (⟦<Journal<D, F> as Keeper>⟧.may_leave self) (Finds F.head F.following (D.may_leave result)) }
-        ensures faults { D.faults result ≡ ⟦<Journal<D, F> as Keeper>⟧.faults self }
-    {
-        self.disk
     }
 }
 
@@ -118,7 +108,7 @@ impl<D: Disk, F: Form> Keeper for Journal<D, F> {
     ghost only_now = { λ j t left. (left.0, D.only_now j.disk left.0 left.1, left.2) };
 
     fn format(&mut self, state: &State) -> Result<(), KeeperRefusal> {
-        let Ok(written) = begun::<F>(self.alloc, state) else {
+        let Ok(written) = head_with_gate::<F>(self.alloc, state) else {
             return Err(KeeperRefusal::NoMemory);
         };
         match self.disk.reserve(6, written.len() as u64 + 2) {
@@ -149,7 +139,7 @@ impl<D: Disk, F: Form> Keeper for Journal<D, F> {
         if !has_room(self.end, change) {
             return Err(KeeperRefusal::Full);
         }
-        let Ok(written) = spelled::<F>(self.alloc, change) else {
+        let Ok(written) = record_of::<F>(self.alloc, change) else {
             return Err(KeeperRefusal::NoMemory);
         };
         match self.disk.reserve(4, written.len() as u64 + 1) {

@@ -21,5 +21,5 @@ pub use form::{FollowRefusal, Form};
 pub use journal::Journal;
 pub use keeper::{Keeper, KeeperRefusal, StartRefusal};
 pub use planned::PlannedKeeper;
-pub use recording::{OPEN, begun, has_room, spelled};
+pub use recording::{OPEN_GATE, has_room, head_with_gate, record_of};
 pub use replaying::replay;

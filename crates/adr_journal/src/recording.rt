@@ -19,9 +19,9 @@ use adr_state::{Change, LOG_LIMIT, State, log_end_after};
 use std::alloc::Global;
 
 /// A gate that is open; every other byte is a closed one.
-pub const OPEN: u8 = 0xC3;
+pub const OPEN_GATE: u8 = 0xC3;
 
-pub(crate) const CLOSED: u8 = 0;
+pub(crate) const CLOSED_GATE: u8 = 0;
 
 /// Whether a log that ends here has room for a change's record.
 pub fn has_room(end: u64, change: &Change) -> bool
@@ -32,18 +32,18 @@ pub fn has_room(end: u64, change: &Change) -> bool
 }
 
 /// What stands behind the first gate of a new log: the head of a state, and a closed gate.
-pub fn begun<F: Form>(alloc: Global, state: &State) -> Result<Vec<u8>, NoMemory>
+pub fn head_with_gate<F: Form>(alloc: Global, state: &State) -> Result<Vec<u8>, NoMemory>
     requires { F.can_begin state.now }
     ensures { IfOk result (λ bytes. bytes.items ≡ F.head_of state.now ++ 0 ∷ []) }
 {
     let mut written = F::write_head(alloc, state)?;
-    written.push(CLOSED)?;
+    written.push(CLOSED_GATE)?;
     Ok(written)
 }
 
 /// A change's body behind its length, and the next gate, which is closed.
 #[tactic(auto, unfolding(adr_wire::specs::Fields::u32))]
-pub fn spelled<F: Form>(alloc: Global, change: &Change) -> Result<Vec<u8>, NoMemory>
+pub fn record_of<F: Form>(alloc: Global, change: &Change) -> Result<Vec<u8>, NoMemory>
     requires follows { (s : Defined) × F.can_follow s change.now }
     requires fits { length (F.body_of change.now) < 2 ^ 32 }
     ensures { IfOk result (λ bytes. bytes.items ≡ record_of (F.body_of change.now)) }
@@ -52,7 +52,7 @@ pub fn spelled<F: Form>(alloc: Global, change: &Change) -> Result<Vec<u8>, NoMem
     let mut written = Vec::new(alloc);
     written.extend_from_slice(&(body.len() as u32).to_be_bytes())?;
     written.extend_from_slice(&body)?;
-    written.push(CLOSED)?;
+    written.push(CLOSED_GATE)?;
     Ok(written)
 }
 
@@ -83,5 +83,5 @@ pub(crate) fn write_record<D: Disk>(disk: &mut D, end: u64, written: &[u8]) -> R
     ensures gives { Commits D.gives end written.now disk.old (ended result) disk.new }
 {
     write_through(disk, end, written)?;
-    write_through(disk, end - 1, &[OPEN])
+    write_through(disk, end - 1, &[OPEN_GATE])
 }

@@ -6,7 +6,7 @@ ghost use Rattle.adr_journal.specs.Ended.{IsDamageOf};
 
 use crate::form::{FollowRefusal, Form};
 use crate::keeper::StartRefusal;
-use crate::recording::OPEN;
+use crate::recording::OPEN_GATE;
 use adr_failure::Failure;
 use adr_state::State;
 use adr_wire::Reader;
@@ -51,7 +51,7 @@ fn read_first<F: Form>(alloc: Global, bytes: &[u8]) -> Result<(State, usize), St
     if bytes.len() < 2 {
         return Err(damaged(0));
     }
-    if bytes[0] != OPEN {
+    if bytes[0] != OPEN_GATE {
         return Err(damaged(0));
     }
     match F::read_head(alloc, bytes) {
@@ -112,7 +112,7 @@ fn take_records<F: Form>(
 {
     let mut gate = first;
     'records: while gate < bytes.len() {
-        if bytes[gate] != OPEN {
+        if bytes[gate] != OPEN_GATE {
             return Ok(gate + 1);
         }
         gate = match take_record::<F>(alloc, state, bytes, gate) {

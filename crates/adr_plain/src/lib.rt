@@ -6,7 +6,8 @@ ghost use Rattle.adr_law_journal.specs.Log.{open_gate};
 
 use adr_failure::NoMemory;
 use adr_journal::{
-    Form, Keeper, KeeperRefusal, OPEN, StartRefusal, begun, has_room, replay, spelled,
+    Form, Keeper, KeeperRefusal, OPEN_GATE, StartRefusal, has_room, head_with_gate, record_of,
+    replay,
 };
 use adr_state::{Change, State};
 use std::alloc::Global;
@@ -43,7 +44,7 @@ fn opened(alloc: Global, written: &[u8]) -> Result<Vec<u8>, NoMemory>
     ensures { IfOk result (λ log. log.items ≡ open_gate ∷ written.now) }
 {
     let mut log = Vec::new(alloc);
-    log.push(OPEN)?;
+    log.push(OPEN_GATE)?;
     log.extend_from_slice(written)?;
     Ok(log)
 }
@@ -56,7 +57,7 @@ fn with_record(alloc: Global, log: &[u8], end: u64, written: &[u8]) -> Result<Ve
 {
     let (front, _) = log.split_at(end as usize - 1);
     let mut next = front.to_vec(alloc)?;
-    next.push(OPEN)?;
+    next.push(OPEN_GATE)?;
     next.extend_from_slice(written)?;
     Ok(next)
 }
@@ -101,7 +102,7 @@ impl<F: Form> Keeper for Plain<F> {
     ghost only_now = { λ p t left. left };
 
     fn format(&mut self, state: &State) -> Result<(), KeeperRefusal> {
-        let Ok(written) = begun::<F>(self.alloc, state) else {
+        let Ok(written) = head_with_gate::<F>(self.alloc, state) else {
             return Err(KeeperRefusal::NoMemory);
         };
         let Ok(log) = opened(self.alloc, &written) else {
@@ -116,7 +117,7 @@ impl<F: Form> Keeper for Plain<F> {
         if !has_room(self.end, change) {
             return Err(KeeperRefusal::Full);
         }
-        let Ok(written) = spelled::<F>(self.alloc, change) else {
+        let Ok(written) = record_of::<F>(self.alloc, change) else {
             return Err(KeeperRefusal::NoMemory);
         };
         let Ok(next) = with_record(self.alloc, &self.log, self.end, &written) else {
