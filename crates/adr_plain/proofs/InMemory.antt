@@ -1,5 +1,5 @@
 -- A log in memory with one more record.
-use Rattle.std.proofs.Common.{◌≡◌, ℕ, ◌-◌, ◌<◌, ◌^◌, List, [], ◌∷◌, ◌++◌, length, take, Some, sym, ◌∙◌, ap, subst, arith, append_assoc, length-append, length-take}
+use Rattle.std.proofs.Common.{◌≡◌, ℕ, ◌+◌, ◌-◌, ◌<◌, ◌≤◌, ◌^◌, List, [], ◌∷◌, ◌++◌, length, take, Some, sym, ◌∙◌, ap, subst, arith, append_assoc, length-append, length-take}
 use Rattle.std.proofs.lemmas.List.{take_at}
 use Rattle.adr_wire.specs.Fields.{u32}
 use Rattle.adr_wire.specs.Reading.{Reading}
@@ -13,6 +13,17 @@ use Rattle.adr_plain.specs.Kept.{IsLog, IsNext}
 use Rattle.adr_journal.proofs.Found.{record_length}
 
 module _ (head : Reading State) (following : Following State) where
+  -- it ends within its bytes, behind a gate
+  pub ends_within : (f : Found State) (end : ℕ) (log : List ℕ) → IsLog head following log end f → (1 ≤ end) × (end ≤ length log)
+  ends_within f end log at =
+      let rests = at.rests in
+      let long : length log ≡ length rests.opened + length (rests.gate ∷ rests.behind) = ap length rests.parts ∙ length-append rests.opened (rests.gate ∷ rests.behind) in
+      (omega (arith, rests.long), omega (arith, rests.long, long))
+
+  -- while its bytes stay, so does what it stands for
+  pub still_at : (f : Found State) (end : ℕ) (log same : List ℕ) → same ≡ log → IsLog head following log end f → IsLog head following same end f
+  still_at f end log same is at = subst (λ (l : List ℕ). IsLog head following l end f) (sym is) at
+
   pub taken : (s t : State) (end : ℕ) (log next body : List ℕ) → IsAtRest head following s end log → next ≡ take (end - 1) log ++ open_gate ∷ record_of body → following s body ≡ Some t → length body < 2 ^ 32
       → IsAtRest head following t (end_behind end body) next
   taken s t end log next body rests is follows fits =
@@ -28,14 +39,15 @@ module _ (head : Reading State) (following : Following State) where
         reaches = reaches_more head following opened body s t rests.reaches follows fits;
       }
 
-  pub taken_in : (f : Found State) (c : Change) (end later : ℕ) (log next body : List ℕ) → IsLog head following log end f → IsNext log end next body → following f.state body ≡ Some (after f.state c) → length body ≡ change_length c
-      → later ≡ length next → IsLog head following next later (found_after f c)
-  taken_in f c end later log next body at is_next follows long is_later =
+  pub taken_in : (f : Found State) (c : Change) (capacity end later : ℕ) (log next added written body : List ℕ) → IsLog head following log end f → IsNext capacity end written body → next ≡ take (end - 1) log ++ open_gate ∷ added → added ≡ written
+      → following f.state body ≡ Some (after f.state c) → length body ≡ change_length c → later ≡ length next → IsLog head following next later (found_after f c)
+  taken_in f c capacity end later log next added written body at is_next put same follows long is_later =
       let rests = at.rests in
+      let is : next ≡ take (end - 1) log ++ open_gate ∷ record_of body = put ∙ ap (λ (l : List ℕ). take (end - 1) log ++ open_gate ∷ l) (same ∙ is_next.is) in
       let size : length next ≡ end_behind end body =
       omega (
         arith,
-        ap length is_next.is,
+        ap length is,
         length-append (take (end - 1) log) (open_gate ∷ record_of body),
         length-take (end - 1) log,
         record_length body,
@@ -45,5 +57,5 @@ module _ (head : Reading State) (following : Following State) where
       ) in
       record {
         ends = omega (arith, long, at.ends, size, is_later);
-        rests = subst (λ (n : ℕ). IsAtRest head following (after f.state c) n next) (sym size ∙ sym is_later) (taken f.state (after f.state c) end log next body rests is_next.is follows is_next.fits);
+        rests = subst (λ (n : ℕ). IsAtRest head following (after f.state c) n next) (sym size ∙ sym is_later) (taken f.state (after f.state c) end log next body rests is follows is_next.fits);
       }

@@ -1,7 +1,7 @@
 //! A keeper in memory alone. It stands on the keepers of `adr_journal`, and on the bytes of logs there.
 #![tactic(auto)]
 
-ghost use Rattle.std.specs.Prelude.{◌≡◌, ◌+◌, ◌-◌, ◌≤◌, ◌<◌, ◌^◌, ◌∷◌, ◌++◌, [], take, length, IfOk};
+ghost use Rattle.std.specs.Prelude.{◌≡◌, ◌+◌, ◌-◌, ◌≤◌, ◌∷◌, ◌++◌, take, length, vec_capacity, IfOk};
 ghost use Rattle.adr_law_journal.specs.Log.{open_gate};
 
 use adr_failure::NoMemory;
@@ -14,13 +14,13 @@ use std::alloc::Global;
 use std::marker::PhantomData;
 
 /// A log in memory, for whom no disk is at hand: nothing of it is lost at a crash, and nothing outlives the program.
-/// `end` is the place behind its closed gate; `next` is the log with the record that is prepared.
+/// `end` is the place behind its closed gate; `prepared` is the record that the next commit puts there.
 #[derive(Drop)]
 pub struct Plain<F> {
     alloc: Global,
     log: Vec<u8>,
     end: u64,
-    next: Vec<u8>,
+    prepared: Vec<u8>,
     form: PhantomData<F>,
 }
 
@@ -33,7 +33,7 @@ impl<F: Form> Plain<F> {
             alloc,
             log: Vec::new(alloc),
             end: 0,
-            next: Vec::new(alloc),
+            prepared: Vec::new(alloc),
             form: PhantomData,
         }
     }
@@ -49,21 +49,22 @@ fn opened(alloc: Global, written: &[u8]) -> Result<Vec<u8>, NoMemory>
     Ok(log)
 }
 
-/// A log with one more record where it ends.
-fn with_record(alloc: Global, log: &[u8], end: u64, written: &[u8]) -> Result<Vec<u8>, NoMemory>
+/// Opens the gate at which a log ends, and puts a record behind it.
+fn add_record(log: &mut Vec<u8>, end: u64, written: &[u8])
     requires some { 1 ≤ end }
-    requires within { end ≤ length log.now }
-    ensures { IfOk result (λ next. next.items ≡ take (end - 1) log.now ++ open_gate ∷ written.now) }
+    requires within { end ≤ length log.old.items }
+    requires room { end + length written.now ≤ vec_capacity log.old }
+    ensures { log.new.items ≡ take (end - 1) log.old.items ++ open_gate ∷ written.now }
 {
-    let (front, _) = log.split_at(end as usize - 1);
-    let mut next = front.to_vec(alloc)?;
-    next.push(OPEN_GATE)?;
-    next.extend_from_slice(written)?;
-    Ok(next)
+    log.truncate(end as usize - 1);
+    log.push_reserved(OPEN_GATE);
+    let Ok(()) = log.extend_from_slice(written) else {
+        unreachable!();
+    };
 }
 
 impl<F: Form> Keeper for Plain<F> {
-    ghost use Rattle.std.specs.Prelude.{◌≡◌, false, Some, []};
+    ghost use Rattle.std.specs.Prelude.{◌≡◌, false, Some, [], vec_capacity};
     ghost use Rattle.std.proofs.Common.{refl};
     ghost use Rattle.adr_law_journal.specs.Log.{start_of};
     ghost use Rattle.adr_plain.specs.Kept.{IsLog, IsNext};
@@ -77,7 +78,7 @@ impl<F: Form> Keeper for Plain<F> {
 
     ghost is_at = { λ p f. IsLog F.head F.following p.log.items p.end f };
 
-    ghost is_prepared = { λ p c. IsNext p.log.items p.end p.next.items (F.body_of c) };
+    ghost is_prepared = { λ p c. IsNext (vec_capacity p.log) p.end p.prepared.items (F.body_of c) };
 
     ghost told = { λ p. Some (start_of F.head F.following p.log.items) };
 
@@ -120,17 +121,16 @@ impl<F: Form> Keeper for Plain<F> {
         let Ok(written) = record_of::<F>(self.alloc, change) else {
             return Err(KeeperRefusal::NoMemory);
         };
-        let Ok(next) = with_record(self.alloc, &self.log, self.end, &written) else {
+        let Ok(()) = self.log.reserve(written.len()) else {
             return Err(KeeperRefusal::NoMemory);
         };
-        self.next = next;
+        self.prepared = written;
         Ok(())
     }
 
     fn commit(&mut self, _change: &Change) -> Result<(), KeeperRefusal> {
-        let next = std::mem::replace(&mut self.next, Vec::new(self.alloc));
-        self.end = next.len() as u64;
-        self.log = next;
+        add_record(&mut self.log, self.end, &self.prepared);
+        self.end = self.log.len() as u64;
         Ok(())
     }
 
