@@ -115,7 +115,7 @@ impl Schema {
     }
 
     /// Whether an object of a class may stand under one of the class `parent`.
-    pub fn superior(&self, class: u16, parent: u16) -> bool
+    pub fn is_superior(&self, class: u16, parent: u16) -> bool
         ensures { result ≡ is_superior self.now class parent }
     {
         self.superiors(class).contains(&parent)

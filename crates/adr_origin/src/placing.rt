@@ -56,7 +56,7 @@ pub fn check_superior(state: &State, class: u16, parent: Guid) -> Result<(), Wri
     ensures other { OnOk result (same_identifier parent lost_and_found ≡ false) }
 {
     let place = class_of_place(state, parent);
-    if state.schema().superior(class, place) {
+    if state.schema().is_superior(class, place) {
         Ok(())
     } else {
         Err(WriteRefusal::BadSuperior)

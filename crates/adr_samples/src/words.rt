@@ -66,7 +66,7 @@ fn has_only(schema: Schema, class: u16, must: &[u16], may: &[u16]) -> bool {
 
 fn stands_only_under(schema: Schema, class: u16, superiors: &[u16]) -> bool {
     for parent in 0..9 {
-        if schema.superior(class, parent) != superiors.contains(&parent) {
+        if schema.is_superior(class, parent) != superiors.contains(&parent) {
             return false;
         }
     }
