@@ -5,7 +5,7 @@ use Rattle.adr_model.specs.Update.{Identifier, Key, RowOf, LinkOf, deleted_attr}
 use Rattle.adr_model.specs.Store.{Held}
 use Rattle.adr_model.specs.Write.{is_of_guid}
 
--- the key is that of a reserved row
+-- the key is that of a row that stays beside a death: attribute 0 to 3, of which 0 stands in no formed store
 abbrev pub is_core : Key → Bool
 is_core (RowOf o attr) = not (nat_lt deleted_attr attr)
 is_core (LinkOf l) = false
