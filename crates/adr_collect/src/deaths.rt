@@ -12,7 +12,7 @@ ghost use Rattle.adr_collect.specs.Covering.{covering_with};
 use crate::NoMemory;
 use adr_event::Failure;
 use adr_guid::Guid;
-use adr_state::{Oid, State, Update, Vector};
+use adr_state::{Oid, State, Update, Vector, covers_birth, covers_update};
 use std::alloc::{AllocError, Global};
 
 /// The objects that go, and the least vector that covers their births and deaths.
@@ -84,19 +84,6 @@ fn collected_by(vector: &Vector, now: u64, lifetime: u64, update: &Update) -> Op
     } else {
         None
     }
-}
-
-fn covers_birth(vector: &Vector, object: &Oid) -> bool
-    ensures { result ≡ covers_birth vector.now object.now }
-{
-    vector.covers(object.birth.inv, object.birth.usn)
-}
-
-fn covers_update(vector: &Vector, update: &Update) -> bool
-    ensures { result ≡ covers_update vector.now update.now }
-{
-    let stamp = update.stamp().stamp;
-    vector.covers(stamp.inv, stamp.usn)
 }
 
 /// Whether a lifetime that began at a time is over.

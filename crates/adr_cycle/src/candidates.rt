@@ -1,7 +1,6 @@
 //! The items that may be sent, one after the other: what the asker may lack, of the units above its mark.
 
 ghost use Rattle.std.specs.Prelude.{◌≡◌, ◌<◌, ◌≤◌, ◌&&◌, IfOk, filter, is_none, nat_lt, not};
-ghost use Rattle.adr_model.specs.Visible.{covers_update};
 ghost use Rattle.adr_model.specs.Serve.{is_unseen};
 ghost use Rattle.adr_update.specs.Referents.{referents};
 ghost use Rattle.adr_cycle.specs.Candidates.{candidate_at, next_candidate, some_item, unseen_of};
@@ -9,7 +8,7 @@ ghost use Rattle.adr_cycle.specs.Candidates.{candidate_at, next_candidate, some_
 use crate::NoMemory;
 use crate::candidate::Candidate;
 use adr_stamp::Unit;
-use adr_state::{Held, Rows, Update};
+use adr_state::{Held, Rows, covers_update};
 use adr_vector::{Mark, Vector};
 use std::alloc::Global;
 
@@ -105,12 +104,5 @@ fn candidate_if_any<'a>(unit: Unit, rows: Vec<&'a Held>) -> Option<Candidate<'a>
 fn is_unseen(from: Mark, asked: &Vector, row: &Held) -> bool
     ensures { result ≡ is_unseen from asked.now row.now }
 {
-    from.prop < row.local() && !is_covered(asked, row.update())
-}
-
-fn is_covered(vector: &Vector, update: &Update) -> bool
-    ensures { result ≡ covers_update vector.now update.now }
-{
-    let stamp = update.stamp().stamp;
-    vector.covers(stamp.inv, stamp.usn)
+    from.prop < row.local() && !covers_update(asked, row.update())
 }

@@ -7,6 +7,7 @@ ghost use Rattle.adr_model.specs.Take.{IsDead, IsGone, IsHeld, IsNew, is_above, 
 ghost use Rattle.adr_told.specs.Presence.{defined};
 
 use crate::told::Told;
+use adr_change::covers_birth;
 use adr_stamp::{LinkKey, Oid};
 use adr_update::Update;
 use adr_vector::Vector;
@@ -41,12 +42,6 @@ pub fn presence_absent(vector: &Vector, object: &Oid) -> Presence
     } else {
         Presence::New
     }
-}
-
-fn covers_birth(vector: &Vector, object: &Oid) -> bool
-    ensures { result ≡ covers_birth vector.now object.now }
-{
-    vector.covers(object.birth.inv, object.birth.usn)
 }
 
 /// Whether an object was held and was collected, or never comes.
