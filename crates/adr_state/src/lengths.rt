@@ -131,7 +131,7 @@ fn values_within(limit: u64, values: &[Value]) -> u64
     sum
 }
 
-/// The length of a value: its tag, the length of text or octets in two bytes, and what it holds.
+/// The length of a value: its kind, the length of text or octets in two bytes, and what it holds.
 fn value_length(value: &Value) -> u64
     ensures { result ≡ value_length value.now }
 {

@@ -17,7 +17,7 @@ pub use adr_schema::Content;
 pub use adr_stamp::{LinkKey, LinkStamp, Oid, Unit};
 pub use adr_update::{
     CLASS, DELETED, Held, Item, Key, LINK_LIMIT, LOG_LIMIT, MARK_LIMIT, NAME, Node, OBJECT_LIMIT,
-    Said, USN_LIMIT, Update, VERSION_LIMIT, Written, copy_updates, is_same, is_same_object,
+    Said, USN_LIMIT, Update, VERSION_LIMIT, Written, is_same, is_same_object,
 };
 pub use adr_vector::{CURSOR_LIMIT, Full, Mark, Vector};
 pub use lengths::{item_length_within, log_end_after};

@@ -8,7 +8,7 @@ ghost use Rattle.adr_model.specs.Formed.{AreRising};
 ghost use Rattle.adr_model.specs.Live.{objects_of};
 ghost use Rattle.adr_model.specs.Place.{is_fixed, node_at, place, upward};
 ghost use Rattle.adr_model.specs.Shown.{name_holder};
-ghost use Rattle.adr_model.specs.Store.{holds_dead, holds_object, is_row_of, row_held, updates_of};
+ghost use Rattle.adr_model.specs.Store.{is_row_of, row_held, updates_of};
 ghost use Rattle.adr_model.specs.Update.{same_identifier};
 ghost use Rattle.adr_model.specs.Write.{holds_guid, is_taken, links_in, nodes_held};
 ghost use Rattle.adr_update.specs.Key.{key_of};
@@ -72,20 +72,6 @@ impl Rows {
         ensures { option_copied result ≡ row_held self.now (key_of key) }
     {
         self.table.row(key)
-    }
-
-    /// Whether the object is held, live or dead.
-    pub fn holds(&self, object: &Oid) -> bool
-        ensures { result ≡ holds_object self.now object.now }
-    {
-        self.table.holds(object)
-    }
-
-    /// Whether the object is held dead.
-    pub fn is_dead(&self, object: &Oid) -> bool
-        ensures { result ≡ holds_dead self.now object.now }
-    {
-        self.table.is_dead(object)
     }
 
     /// Whether an object of a GUID is held, live or dead.

@@ -1,6 +1,6 @@
 //! Rows of one unit.
 
-ghost use Rattle.std.specs.Prelude.{◌≡◌, ◌∷◌, ◌++◌, [], IfOk, OnOk};
+ghost use Rattle.std.specs.Prelude.{◌≡◌, ◌∷◌, ◌++◌, [], OnOk};
 ghost use Rattle.adr_model.specs.Change.{held_of};
 
 use crate::NoMemory;
@@ -51,17 +51,6 @@ impl Item {
     {
         self.rows.as_slice()
     }
-}
-
-/// Equal updates, in their order.
-pub fn copy_updates(alloc: Global, updates: &[Update]) -> Result<Vec<Update>, NoMemory>
-    ensures { IfOk result (λ copy. copy.items ≡ updates.now) }
-{
-    let mut copy = Vec::new(alloc);
-    for update in updates {
-        copy.push(update.copy(alloc)?)?;
-    }
-    Ok(copy)
 }
 
 /// Rows of one unit that are written under one local update sequence number.

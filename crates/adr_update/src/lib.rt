@@ -18,7 +18,7 @@ pub use adr_schema::{Content, Text};
 pub use adr_stamp::{LinkKey, LinkStamp, Oid, Unit};
 pub use fixed::{is_fixed, is_lost_and_found, is_lost_name, is_root, lost_and_found, root};
 pub use held::Held;
-pub use item::{Item, Written, copy_updates};
+pub use item::{Item, Written};
 pub use key::{Key, is_same, is_same_object};
 pub use limits::{
     CLASS, DELETED, LINK_LIMIT, LOG_LIMIT, MARK_LIMIT, NAME, OBJECT_LIMIT, USN_LIMIT, VERSION_LIMIT,
