@@ -4,7 +4,8 @@ use Rattle.adr_schedule.proofs.ScheduleLaws.{text_follows}
 use Rattle.adr_law_headline.specs.Headline.{IsHeadline}
 use Rattle.adr_law_headline.proofs.Claimed.{headline}
 use Rattle.adr_law_headline.proofs.Following.{following_may}
+use Rattle.adr_law_headline.proofs.FormedRuns.{formed_throughout}
 
 -- what is claimed of a run holds of every text
 pub every_text : (text : List ℕ) → IsHeadline text
-every_text text es is = headline es (following_may es (text_follows text es is))
+every_text text es is = let may = following_may es (text_follows text es is) in (headline es may, formed_throughout es may)

@@ -1,7 +1,8 @@
 //! What is claimed of every run of a text, over the definitions alone.
 //!
 //! It stands on the theorem of `adr_law_convergence` and on the definitions of schedules in `adr_schedule`: what the lines
-//! of a text say may happen and is typed, so that the theorem holds of its run. Its functions have no code.
+//! of a text say may happen and is typed, so that the theorem holds of its run. That every state of a run is formed stands
+//! on the laws of `adr_law_formed`, which ask nothing of a sound world. Its functions have no code.
 #![tactic(auto)]
 
 ghost use Rattle.std.specs.Prelude.{ℕ, List};
@@ -10,6 +11,7 @@ ghost use Rattle.adr_model.specs.Convergence.{MayAllHappen};
 ghost use Rattle.adr_model.specs.World.{empty_world};
 ghost use Rattle.adr_schedule.specs.Seen.{IsFollowing, nothing_seen};
 ghost use Rattle.adr_law_recorded.specs.Typed.{AreTyped};
+ghost use Rattle.adr_law_headline.specs.Formed.{RunsAreFormed};
 ghost use Rattle.adr_law_headline.specs.Headline.{Headline, IsHeadline};
 
 /// What lines say, one after the other, may happen.
@@ -31,7 +33,13 @@ pub fn headline_holds()
     ensures { (events : List Event) → MayAllHappen empty_world events → Headline events }
 {}
 
-/// The theorem holds of the run of every text that is a schedule.
+/// Every state of every run is formed: what a crash would leave of a controller, and what a start would find, whatever
+/// was taken, and also behind a `rollback`.
+pub fn states_are_formed()
+    ensures { RunsAreFormed }
+{}
+
+/// The theorem holds of the run of every text that is a schedule, and its states are formed.
 pub fn headline_holds_of_texts()
     ensures { (text : List ℕ) → IsHeadline text }
 {}

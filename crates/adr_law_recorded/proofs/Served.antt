@@ -13,16 +13,17 @@ use Rattle.adr_vector.specs.Vector.{IsVector}
 use Rattle.adr_vector.specs.declared.mark.Mark.{Mark}
 use Rattle.adr_event.specs.declared.refusal.ServeRefusal.TheVariants.{BadMark, RolledBack}
 use Rattle.adr_wire.specs.Ranges.{IsCursor, IsMark}
-use Rattle.adr_model.specs.Member.{Member}
+use Rattle.adr_model.specs.Member.{Member, Each}
 use Rattle.adr_model.specs.Update.{Key, RowOf, LinkOf, Said, Holds, IsPresent, Update, key_order, same_identifier, same_unit, unit_of}
 use Rattle.adr_model.specs.Store.{Held, State, no_mark, updates_of}
 use Rattle.adr_model.specs.Change.{Item}
+use Rattle.adr_model.specs.Formed.{IsFormed}
 use Rattle.adr_model.specs.LocalLog.{IsOrdered}
 use Rattle.adr_model.specs.Serve.{Request, Reply, last_local, is_above_mark, is_unseen, sendable, item_of, item_length, candidates, byte_limit, first_items, reply_of, begins_at, reply_to, shown_by, serve_refusals, serve_refusal, serve}
 use Rattle.adr_model.proofs.Members.{of_filter, member_left, mapped_member}
 use Rattle.adr_law_knowledge.proofs.Counting.{filtered_rise}
 use Rattle.adr_law_knowledge.proofs.Refusing.{none_there, is_so, answered}
-use Rattle.adr_law_steps.proofs.Rows.{held_as}
+use Rattle.adr_law_steps.proofs.Rows.{held_as, updated}
 use Rattle.adr_law_steps.proofs.Locals.{last_within, units_tell}
 use Rattle.adr_law_logs.proofs.Candidates.{entry_of, candidate_from}
 use Rattle.adr_law_logs.proofs.Ground.{first_front, read_to_item}
@@ -67,7 +68,11 @@ few_first most bytes (c ∷ cs) =
 
 -- ---- where a served reply begins
 
-module _ (s : State) (q : Request) (logged : IsLogged s) (ranged : IsRangedRequest q)
+-- rows say what rows of their keys say
+abbrev pub SayOfTheirKeys : List Update → Type 0
+SayOfTheirKeys us = Each (λ u. IsSaidOfKey u.key u.said) us
+
+module _ (s : State) (q : Request) (formed : IsFormed s) (says : SayOfTheirKeys (updates_of s.store.rows))
     (none : serve_refusal s q ≡ None) where
   marked : (nat_le q.mark.prop q.mark.obj && nat_le q.mark.obj q.mark.seen) ≡ true
   marked = is_so (nat_le q.mark.prop q.mark.obj && nat_le q.mark.obj q.mark.seen)
@@ -126,7 +131,7 @@ module _ (s : State) (q : Request) (logged : IsLogged s) (ranged : IsRangedReque
       (and_parts (is_above_mark from rows x) (is_unseen from q.vector x) (of_unseen x m).1).0
 
   within : (x : Held) → last_local rows (unit_of x.update.key) ≤ s.store.usn
-  within x = last_within (unit_of x.update.key) rows s.store.usn (λ y m e. (logged.formed.store.locals y m).1)
+  within x = last_within (unit_of x.update.key) rows s.store.usn (λ y m e. (formed.store.locals y m).1)
 
   -- ---- its mark and its vector
 
@@ -143,20 +148,9 @@ module _ (s : State) (q : Request) (logged : IsLogged s) (ranged : IsRangedReque
   to_ordered true = record { prop = omega arith; obj = omega arith }
   to_ordered false = record { prop = omega (arith, began.prop, read_to.0); obj = read_to.1 }
 
-  to_in_range : (b : Bool) → IsMark (reply b).to
-  to_in_range true = (logged.spelled.usn, (logged.spelled.usn, logged.spelled.usn))
-  to_in_range false = (
-    omega (arith, read_to.1, logged.spelled.usn),
-    (omega (arith, began.prop, began.obj, seen_before, logged.spelled.usn), logged.spelled.usn),
-  )
-
   last_is_vector : (b : Bool) → IsVector (unwrap_or (then_some b s.store.vector) [])
-  last_is_vector true = logged.formed.store.vector
+  last_is_vector true = formed.store.vector
   last_is_vector false = nothing_is_vector
-
-  last_in_range : (b : Bool) → IfSome (then_some b s.store.vector) (AllByRecursion IsCursor)
-  last_in_range true = logged.spelled.vector
-  last_in_range false = tt
 
   -- ---- its items
 
@@ -173,11 +167,6 @@ module _ (s : State) (q : Request) (logged : IsLogged s) (ranged : IsRangedReque
       let k = of_filter (λ (y : Held). same_unit (unit_of y.update.key) unit) unseen h.0 h.1 in
       (h.0, (of_unseen h.0 k.0).0, h.2, units_tell (unit_of h.0.update.key) unit k.1)
 
-  row_spelled : (unit : Named) → IsRangedItem (item_of unseen unit)
-  row_spelled unit u m =
-      let h = row_is unit u m in
-      subst (λ (v : Update). IsSpelledRow v.key v.said v.stamp) (sym h.2) (logged.spelled.rows h.0 h.1)
-
   item_spelled : (unit : Named) → IsSpelledItem (item_of unseen unit)
   item_spelled unit = record {
     of_unit = λ u m. let h = row_is unit u m in ap (λ (v : Update). unit_of v.key) h.2 ∙ h.3;
@@ -185,8 +174,8 @@ module _ (s : State) (q : Request) (logged : IsLogged s) (ranged : IsRangedReque
         (same_keys (filter (λ (h : Held). same_unit (unit_of h.update.key) unit) unseen))
         (filtered_rise key_order (λ (h : Held). h.update.key) (λ (h : Held). same_unit (unit_of h.update.key) unit) unseen
         (filtered_rise key_order (λ (h : Held). h.update.key) (λ (h : Held). is_above_mark from rows h && is_unseen from q.vector h) rows
-        logged.formed.store.rising));
-    says = λ u m. says_of_key u.key u.said u.stamp (row_spelled unit u m);
+        formed.store.rising));
+    says = λ u m. let h = row_is unit u m in subst (λ (v : Update). IsSaidOfKey v.key v.said) (sym h.2) (says h.0.update (updated rows h.0 h.1));
   }
 
   spelled : (b : Bool) → IsSpelledReply (reply b)
@@ -196,29 +185,66 @@ module _ (s : State) (q : Request) (logged : IsLogged s) (ranged : IsRangedReque
     items = λ i m. let x = item_is i m in subst IsSpelledItem (sym x.1) (item_spelled x.0);
   }
 
-  in_range : (b : Bool) → IsRangedReply (reply b)
-  in_range b = record {
-    source = logged.dsa;
-    inv = logged.inv;
-    to = to_in_range b;
-    last = last_in_range b;
-    few = omega (
-      arith,
-      length-map sent (λ (c : ℕ × Item). c.1),
-      few_first q.max byte_limit (candidates rows from q.vector),
-      ranged.max,
-    );
-    items = λ i m. let x = item_is i m in subst IsRangedItem (sym x.1) (row_spelled x.0);
-  }
+  abbrev is_last : Bool
+  is_last = length sent == length (candidates rows from q.vector)
 
-  pub reply_in_range : IsSpelledReply (reply_to s q) × IsRangedReply (reply_to s q)
-  reply_in_range = (
-    spelled (length sent == length (candidates rows from q.vector)),
-    in_range (length sent == length (candidates rows from q.vector)),
-  )
+  pub reply_spelled : IsSpelledReply (reply_to s q)
+  reply_spelled = spelled is_last
+
+  -- ---- its ranges
+
+  module _ (logged : IsLogged s) (ranged : IsRangedRequest q) where
+    to_in_range : (b : Bool) → IsMark (reply b).to
+    to_in_range true = (logged.spelled.usn, (logged.spelled.usn, logged.spelled.usn))
+    to_in_range false = (
+      omega (arith, read_to.1, logged.spelled.usn),
+      (omega (arith, began.prop, began.obj, seen_before, logged.spelled.usn), logged.spelled.usn),
+    )
+
+    last_in_range : (b : Bool) → IfSome (then_some b s.store.vector) (AllByRecursion IsCursor)
+    last_in_range true = logged.spelled.vector
+    last_in_range false = tt
+
+    row_in_range : (unit : Named) → IsRangedItem (item_of unseen unit)
+    row_in_range unit u m =
+        let h = row_is unit u m in
+        subst (λ (v : Update). IsSpelledRow v.key v.said v.stamp) (sym h.2) (logged.spelled.rows h.0 h.1)
+
+    in_range : (b : Bool) → IsRangedReply (reply b)
+    in_range b = record {
+      source = logged.dsa;
+      inv = logged.inv;
+      to = to_in_range b;
+      last = last_in_range b;
+      few = omega (
+        arith,
+        length-map sent (λ (c : ℕ × Item). c.1),
+        few_first q.max byte_limit (candidates rows from q.vector),
+        ranged.max,
+      );
+      items = λ i m. let x = item_is i m in subst IsRangedItem (sym x.1) (row_in_range x.0);
+    }
+
+    pub reply_in_range : IsRangedReply (reply_to s q)
+    reply_in_range = in_range is_last
+
+-- what a formed state answers is of the form of a reply, whatever was asked
+pub served_is_spelled : (s : State) (q : Request) (r : Reply) → IsFormed s → SayOfTheirKeys (updates_of s.store.rows) → serve s q ≡ Ok r
+    → IsSpelledReply r
+served_is_spelled s q r formed says e =
+    let t = answered (serve_refusal s q) (reply_to s q) r e in
+    subst IsSpelledReply t.1 (reply_spelled s q formed says t.0)
+
+-- the rows of a spelled store say so
+logged_says : (s : State) → IsLogged s → SayOfTheirKeys (updates_of s.store.rows)
+logged_says s logged u m =
+    let h = held_as s.store.rows u m in
+    subst (λ (v : Update). IsSaidOfKey v.key v.said) (sym h.2) (says_of_key h.0.update.key h.0.update.said h.0.update.stamp (logged.spelled.rows h.0 h.1))
 
 pub served_in_range : (s : State) (q : Request) (r : Reply) → IsLogged s → IsRangedRequest q → serve s q ≡ Ok r
     → IsSpelledReply r × IsRangedReply r
 served_in_range s q r logged ranged e =
-    let t = answered (serve_refusal s q) (reply_to s q) r e in
-    subst (λ (p : Reply). IsSpelledReply p × IsRangedReply p) t.1 (reply_in_range s q logged ranged t.0)
+    let t = answered (serve_refusal s q) (reply_to s q) r e in (
+      served_is_spelled s q r logged.formed (logged_says s logged) e,
+      subst IsRangedReply t.1 (reply_in_range s q logged.formed (logged_says s logged) t.0 logged ranged),
+    )
