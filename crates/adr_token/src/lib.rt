@@ -15,14 +15,12 @@ mod values;
 mod words;
 mod writing;
 
-pub use identifiers::identifier_of;
 pub use laws::{
     attributes_read_back, classes_read_back, identifiers_read_back, names_read_back,
     numbers_read_back, sets_read_back, texts_read_back,
 };
-pub use numbers::number_of;
 pub use stop::{Bad, Stop};
 pub use texts::utf8;
-pub use values::{push_attribute, push_class, push_set, push_value};
-pub use words::{Line, is_digit, is_letter, without_spaces};
+pub use values::{push_attribute, push_class, push_set};
+pub use words::{Line, without_spaces};
 pub use writing::{push, push_identifier, push_number, push_text};
