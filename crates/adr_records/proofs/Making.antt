@@ -1,14 +1,13 @@
 -- A controller is made of a store.
-use Rattle.std.proofs.Common.{◌≡◌, ℕ, ◌+◌, ◌<◌, ◌≤◌, List, [], ◌∷◌, length, take, get_or, map, max, fold, Some, refl, sym, ap, ◌∙◌, arith}
+use Rattle.std.proofs.Common.{◌≡◌, ℕ, ◌<◌, List, [], length, map, max, fold, Some, sym, ap, ◌∙◌, arith}
 use Rattle.std.proofs.Common.{inl, inr}
 use Rattle.std.specs.List.Sorted.{IsStrictlySortedBy}
 use Rattle.std.proofs.lemmas.Cmp.{nat_list_cmp_total}
-use Rattle.std.proofs.lemmas.List.Sums.{fold_more}
 use Rattle.adr_schema.specs.Numbered.{numbered}
 use Rattle.adr_stamp.specs.Order.{identifier_order}
 use Rattle.adr_vector.specs.Vector.{Cursors, IsVector, at, cursor_limit, joined, raised}
 use Rattle.adr_vector.proofs.Cursors.{nil_rising, same_cursors}
-use Rattle.adr_vector.proofs.Joining.{raised_here, at-joined, from_one-joined, rising-joined}
+use Rattle.adr_vector.proofs.Joining.{at-joined, from_one-joined, rising-joined}
 use Rattle.adr_model.specs.Change.{Change, after, rows_after, with_mark}
 use Rattle.adr_model.specs.Collect.{woken}
 use Rattle.adr_model.specs.Formed.{IsFormedStore}
@@ -16,7 +15,7 @@ use Rattle.adr_model.specs.Store.{Held, Kept, Normal, State, Store}
 use Rattle.adr_model.specs.Update.{Identifier}
 use Rattle.adr_state.specs.Refusal.{IsOverfull}
 use Rattle.adr_image.specs.Anew.{MakesAll}
-use Rattle.adr_records.specs.Woken.{keeping, keeping_all, unmade, with_marks}
+use Rattle.adr_records.specs.Woken.{unmade, with_marks}
 use Rattle.adr_records.proofs.Anew.{entries_anew, rows_anew}
 
 -- ---- the first change
@@ -54,18 +53,7 @@ overfull_is s dsa inv formed (inr many) = let few = formed.purged.few in absurd 
 
 -- ---- marks
 
--- one mark more is kept
-pub kept_more : (marks : List (Identifier × Kept)) (s t u : State) (i : ℕ) (m : Identifier × Kept) → u ≡ keeping m t → t ≡ keeping_all (take i marks) s → m ≡ get_or marks i m → i < length marks → u ≡ keeping_all (take (i + 1) marks) s
-kept_more marks s t u i m is so_far there lt =
-    is ∙ ap (keeping m) so_far ∙ ap (λ (k : Identifier × Kept). keeping k (keeping_all (take i marks) s)) there ∙ sym (fold_more (λ (x : State) (k : Identifier × Kept). keeping k x) s marks i m lt)
-
-kept_all : (marks : List (Identifier × Kept)) (s : State) → keeping_all marks s ≡ with_marks (fold (λ ms (m : Identifier × Kept). with_mark (Some m) ms) s.store.marks marks) s
-kept_all [] s = refl
-kept_all (m ∷ ms) s = kept_all ms (keeping m s)
-
-pub all_kept : (s : State) → IsStrictlySortedBy identifier_order (map (λ (k : Identifier × Kept). k.0) s.store.marks) → keeping_all s.store.marks (with_marks [] s) ≡ s
-all_kept s rise =
-    kept_all s.store.marks (with_marks [] s) ∙ ap (λ (ms : List (Identifier × Kept)). with_marks ms s) (entries_anew identifier_order nat_list_cmp_total s.store.marks rise)
-
-pub own_covered : (v : Cursors) (inv : Identifier) (usn : ℕ) → usn ≤ at (raised v inv usn) inv
-own_covered v inv usn = omega (arith, raised_here v inv usn)
+-- marks that rise are made anew, one after the other
+pub all_kept : (s : State) (marks : List (Identifier × Kept)) → IsStrictlySortedBy identifier_order (map (λ (k : Identifier × Kept). k.0) s.store.marks)
+    → marks ≡ fold (λ ms (m : Identifier × Kept). with_mark (Some m) ms) [] s.store.marks → with_marks marks (with_marks [] s) ≡ s
+all_kept s marks rise made = ap (λ (ms : List (Identifier × Kept)). with_marks ms s) (made ∙ entries_anew identifier_order nat_list_cmp_total s.store.marks rise)

@@ -1,9 +1,10 @@
 //! How far each partner has been read.
 
-ghost use Rattle.std.specs.Prelude.{◌≡◌, [], length, Some, IfOk, IfSome, IfNone, IsSome, OnOk, is_some, unwrap_or};
+ghost use Rattle.std.specs.Prelude.{◌≡◌, [], fold, length, Some, IfOk, IfSome, IfNone, IsSome, OnOk, is_some, unwrap_or};
 ghost use Rattle.std.specs.BTreeMap.{IsOrdered, insert_entry, is_at};
 ghost use Rattle.std.specs.Map.{lookup};
 ghost use Rattle.adr_stamp.specs.Order.{identifier_order};
+ghost use Rattle.adr_model.specs.Update.{Identifier};
 ghost use Rattle.adr_model.specs.Store.{Kept as Defined, kept_of, mark_of};
 ghost use Rattle.adr_model.specs.Change.{with_mark};
 ghost use Rattle.adr_state.specs.Known.{IsOfKnown};
@@ -46,6 +47,18 @@ impl Marks {
         Marks {
             map: BTreeMap::new(alloc),
         }
+    }
+
+    /// What is kept of each partner; a later one takes the place of an earlier one of the same partner.
+    pub fn of(alloc: Global, list: &[(Guid, Kept)]) -> Result<Marks, NoMemory>
+        ensures { IfOk result (λ marks.
+            marks ≡ fold (λ ms (m : Identifier × Defined). with_mark (Some m) ms) [] list.now) }
+    {
+        let mut map = BTreeMap::new(alloc);
+        for (partner, kept) in list {
+            put(&mut map, *partner, *kept)?;
+        }
+        Ok(Marks { map })
     }
 
     /// What is kept of a partner; of one of whom nothing was read, the mark at nothing of no incarnation.

@@ -173,6 +173,13 @@ impl State {
         Ok(())
     }
 
+    /// Puts other marks in the place of those that there are.
+    pub fn set_marks(&mut self, marks: Marks)
+        ensures { self.new ≡ record self.old { store = record (self.old.store) { marks = marks } } }
+    {
+        self.marks = marks;
+    }
+
     /// What will have been seen after a change; nothing where the cursors that are there serve.
     fn vector_after(&self, alloc: Global, change: &Change) -> Result<Option<Vector>, Failure<Full>>
         ensures new { IfOk result (λ vector.
