@@ -17,11 +17,11 @@ use Rattle.adr_model.specs.Store.{Held, updates_of}
 use Rattle.adr_model.specs.Live.{is_among}
 use Rattle.adr_model.specs.Reflects.{IsTombstoned}
 use Rattle.adr_model.specs.Formed.{IsLinkFormed}
-use Rattle.adr_model.specs.Take.{is_birth}
+use Rattle.adr_model.specs.Take.{carries_birth, is_birth}
 use Rattle.adr_model.proofs.Members.{member_of_either, mapped_member, member_mapped, flat_member, in_filter, one_passes}
 use Rattle.adr_image.specs.declared.rows.Before.{Before}
 use Rattle.adr_wire.specs.Gathering.{Along}
-use Rattle.adr_image.specs.Image.{HeldRow, Rows, HeldLink, no_rows, with_held, is_dead, is_allowed, carries_birth, Earlier, no_objects, with_rows, with_link}
+use Rattle.adr_image.specs.Image.{HeldRow, Rows, HeldLink, no_rows, with_held, is_dead, is_allowed, Earlier, no_objects, with_rows, with_link}
 use Rattle.adr_image.specs.Whole.{Parts, dead_of, no_links}
 use Rattle.adr_image.specs.Ranged.{IsHeldRow, IsObjectIn, IsLinkIn, AreParts}
 use Rattle.adr_image.specs.Stored.{held_of, link_of, rows_of_object, rows_of, store_of}

@@ -28,10 +28,11 @@ use Rattle.adr_model.specs.Update.{Key, RowOf, Update, Said, Holds, IsPresent}
 use Rattle.adr_model.specs.Store.{Held, updates_of}
 use Rattle.adr_model.specs.Reflects.{HoldsObject, IsTombstoned}
 use Rattle.adr_model.specs.Formed.{AreRising, AreAlone, AreFormedRows, HasRow, KeepsSchema, IsDeadFormed}
+use Rattle.adr_model.specs.Take.{carries_birth}
 use Rattle.adr_model.proofs.Members.{member_left, member_mapped, member_flat, one_passes, all_pass}
 use Rattle.adr_law_tree.proofs.Rising.{each_below, one_of_each}
 use Rattle.adr_image.specs.declared.rows.Before.{Before}
-use Rattle.adr_image.specs.Image.{HeldRow, Rows, HeldLink, no_rows, with_held, has_attr, told_by, is_allowed, carries_birth}
+use Rattle.adr_image.specs.Image.{HeldRow, Rows, HeldLink, no_rows, with_held, has_attr, told_by, is_allowed}
 use Rattle.adr_image.specs.Ranged.{IsLocal, IsHeldRow, AreHeldRows}
 use Rattle.adr_image.specs.Stored.{AreTidy, held_of, link_of, rows_of_object, rows_of, IsSpelledRow}
 use Rattle.adr_image.proofs.Storing.{chain, attr_told}

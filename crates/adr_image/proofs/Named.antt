@@ -28,10 +28,11 @@ use Rattle.adr_model.specs.Update.{Key, RowOf, Update, Said, Holds, IsPresent, s
 use Rattle.adr_model.specs.Store.{Held, updates_of}
 use Rattle.adr_model.specs.Reflects.{HoldsObject, IsTombstoned}
 use Rattle.adr_model.specs.Formed.{HasRow, IsNamed, IsDeadFormed, KeepsSchema, IsObjectFormed, AreFormedRows}
+use Rattle.adr_model.specs.Take.{carries_birth}
 use Rattle.adr_model.proofs.Members.{member_left, member_mapped, member_flat, one_passes}
 use Rattle.adr_image.specs.declared.rows.Before.{Before}
 use Rattle.adr_wire.specs.Gathering.{Along}
-use Rattle.adr_image.specs.Image.{HeldRow, Rows, no_rows, with_held, has_attr, told_by, is_allowed, carries_birth, no_objects}
+use Rattle.adr_image.specs.Image.{HeldRow, Rows, no_rows, with_held, has_attr, told_by, is_allowed, no_objects}
 use Rattle.adr_image.specs.Whole.{Parts}
 use Rattle.adr_image.specs.Ranged.{IsHeldRow, AreParts}
 use Rattle.adr_image.specs.Stored.{held_of, link_of, rows_of_object, store_of}

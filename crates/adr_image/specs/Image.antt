@@ -2,7 +2,6 @@
 use Rattle.std.specs.Prelude.{if◌then◌else◌, ℕ, List, [], ◌∷◌, ◌++◌, length, Bool, true, false, not, ◌&&◌, ◌||◌, ◌==◌, nat_le, max, fold, Option, None, Some, is_none, is_some, unwrap_or}
 use Rattle.std.specs.List.{flat_map, list_any, list_all}
 use Rattle.adr_stamp.specs.declared.Oid.{Oid}
-use Rattle.adr_stamp.specs.declared.Stamp.{Stamp}
 use Rattle.adr_stamp.specs.declared.LinkKey.{LinkKey}
 use Rattle.adr_stamp.specs.Order.{identifier_order, object_order, link_order}
 use Rattle.adr_schema.specs.declared.content.Content.{Content}
@@ -14,9 +13,10 @@ use Rattle.adr_vector.specs.declared.mark.Mark.{Mark}
 use Rattle.adr_wire.specs.Reading.{Reading, as_at, where_at, then_at, elements_at, is_above, above_at}
 use Rattle.adr_wire.specs.Fields.{u16_at, id_at, usn_at, flag_at, u16, u64, id}
 use Rattle.adr_wire.specs.Composites.{oid_at, oid, Row, row_after, row, link_stamp_at, LinkItem, link, mark_at, mark}
-use Rattle.adr_model.specs.Update.{Identifier, same_identifier}
+use Rattle.adr_model.specs.Update.{Identifier}
 use Rattle.adr_model.specs.Store.{Kept}
 use Rattle.adr_model.specs.Live.{is_among}
+use Rattle.adr_model.specs.Take.{carries_birth}
 use Rattle.adr_model.specs.Write.{usn_limit}
 use Rattle.adr_image.specs.declared.rows.Before.{Before}
 use Rattle.adr_wire.specs.Gathering.{passing_at, gathered_at, sooner}
@@ -51,10 +51,6 @@ with_held b h = by h.1.2
     by (Name text parent) = record { attr = Some h.1.0; class = b.class; dead = b.dead }
     by Dead = record { attr = Some h.1.0; class = b.class; dead = true }
     by (Values vs) = record { attr = Some h.1.0; class = b.class; dead = b.dead }
-
--- whether a stamp is that of the creation of the object
-abbrev pub carries_birth : Oid → Stamp → Bool
-carries_birth o s = (s.version == 1) && same_identifier s.inv o.birth.inv && (s.usn == o.birth.usn)
 
 -- whether a row is one that this object may have: its class row carries its birth, its name is allowed, and a value row is
 -- allowed by the class and isn't one of a dead object

@@ -8,6 +8,7 @@ ghost use Rattle.adr_image.specs.Image as form;
 use adr_checks::{Schema, check_name};
 use adr_schema::Content;
 use adr_stamp::{Oid, Stamp};
+use adr_update::carries_birth;
 use adr_wire::{Failure, Malformed, Reader, WireRefusal};
 use std::alloc::Global;
 
@@ -30,19 +31,6 @@ pub fn read_local(reader: &mut Reader<'_>, usn: u64) -> Result<u64, WireRefusal>
         return Err(Failure::Refused(Malformed { place }));
     }
     Ok(local)
-}
-
-/// Whether the stamp is that of the creation of the object.
-fn carries_birth(oid: &Oid, stamp: &Stamp) -> bool
-    ensures { result ≡ form.carries_birth oid.now stamp.now }
-{
-    if stamp.version != 1 {
-        return false;
-    }
-    if !stamp.inv.cmp(&oid.birth.inv).is_eq() {
-        return false;
-    }
-    stamp.usn == oid.birth.usn
 }
 
 /// Whether the object may have this row behind those before it.

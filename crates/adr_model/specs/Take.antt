@@ -4,6 +4,7 @@ use Rattle.std.specs.List.{list_any, find}
 use Rattle.std.specs.Bool.{then_some}
 use Rattle.std.specs.Option.{option_map, option_map_or, option_and_then, option_or}
 use Rattle.adr_stamp.specs.declared.Oid.{Oid}
+use Rattle.adr_stamp.specs.declared.Stamp.{Stamp}
 use Rattle.adr_stamp.specs.declared.Unit.{Unit as Named}
 use Rattle.adr_stamp.specs.declared.Unit.TheVariants.{Object, Link}
 use Rattle.adr_schema.specs.declared.content.Content.TheVariants.{Class, Name, Dead, Values}
@@ -103,9 +104,13 @@ rows_tested vector rows item = by item.unit
     by (Object o) = object_rows_tested item.rows (presence_of vector rows o)
     by (Link l) = if is_lost_end vector rows l.from || is_lost_end vector rows l.to then [] else item.rows
 
+-- whether a stamp is that of the creation of the object
+abbrev pub carries_birth : Oid → Stamp → Bool
+carries_birth o s = (s.version == 1) && same_identifier s.inv o.birth.inv && (s.usn == o.birth.usn)
+
 -- whether a class row carries the birth of its object
 abbrev pub is_birth : Oid → Update → Bool
-is_birth o u = (u.stamp.stamp.version == 1) && same_identifier u.stamp.stamp.inv o.birth.inv && (u.stamp.stamp.usn == o.birth.usn)
+is_birth o u = carries_birth o u.stamp.stamp
 
 abbrev pub broken : Option SchemaRefusal → Option ItemFault
 broken r = option_map BreaksSchema r

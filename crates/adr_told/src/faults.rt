@@ -12,14 +12,13 @@ use adr_checks::{Schema, check_name};
 use adr_event::ItemFault;
 use adr_schema::{Content, SchemaRefusal};
 use adr_stamp::Oid;
-use adr_update::{CLASS, DELETED, Key, NAME, Said, Update, is_same};
+use adr_update::{CLASS, DELETED, Key, NAME, Said, Update, carries_birth};
 
 /// Whether a class row carries the birth of its object.
 pub fn is_birth(object: &Oid, row: &Update) -> bool
     ensures { result ≡ is_birth object.now row.now }
 {
-    let stamp = row.stamp().stamp;
-    stamp.version == 1 && is_same(stamp.inv, object.birth.inv) && stamp.usn == object.birth.usn
+    carries_birth(object, &row.stamp().stamp)
 }
 
 fn broken(checked: Result<(), SchemaRefusal>) -> Option<ItemFault>

@@ -24,4 +24,4 @@ pub use limits::{
     CLASS, DELETED, LINK_LIMIT, LOG_LIMIT, MARK_LIMIT, NAME, OBJECT_LIMIT, USN_LIMIT, VERSION_LIMIT,
 };
 pub use node::Node;
-pub use update::{Said, Update};
+pub use update::{Said, Update, carries_birth};

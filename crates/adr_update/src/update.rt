@@ -1,14 +1,15 @@
 //! Updates.
 
 ghost use Rattle.std.specs.Prelude.{◌≡◌, IfOk};
+ghost use Rattle.adr_model.specs.Take.{carries_birth};
 ghost use Rattle.adr_model.specs.Update.{is_older};
 ghost use Rattle.adr_update.specs.Key.{key_of};
 ghost use Rattle.adr_update.specs.Said.{said_of};
 
 use crate::NoMemory;
-use crate::key::Key;
+use crate::key::{Key, is_same};
 use adr_schema::Content;
-use adr_stamp::LinkStamp;
+use adr_stamp::{LinkStamp, Oid, Stamp};
 use std::alloc::Global;
 use std::marker::Model;
 
@@ -104,4 +105,11 @@ impl Update {
             said: self.said.copy(alloc)?,
         })
     }
+}
+
+/// Whether a stamp is that of the creation of the object.
+pub fn carries_birth(object: &Oid, stamp: &Stamp) -> bool
+    ensures { result ≡ carries_birth object.now stamp.now }
+{
+    stamp.version == 1 && is_same(stamp.inv, object.birth.inv) && stamp.usn == object.birth.usn
 }
