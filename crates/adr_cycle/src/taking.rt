@@ -152,12 +152,12 @@ impl<'a> Taking<'a> {
     {
         let Taking {
             told: _told,
-            usn: _usn,
+            usn: _,
             writes,
-            refusal: _refusal,
-            place: _place,
-            objects: _objects,
-            links: _links,
+            refusal: _,
+            place: _,
+            objects: _,
+            links: _,
         } = self;
         writes
     }
