@@ -10,9 +10,9 @@ ghost use Rattle.adr_controller.specs.Ended.{call_hindrance};
 ghost use Rattle.adr_controller.specs.Did.{Calls};
 
 use crate::controller::Controller;
-use crate::messages::count;
 use crate::refusal::CallRefusal;
 use adr_collect::collect;
+use adr_cycle::count;
 use adr_event::CollectRefusal;
 use adr_journal::Keeper;
 use std::alloc::Global;

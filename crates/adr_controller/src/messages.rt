@@ -16,13 +16,13 @@ ghost use Rattle.adr_controller.specs.Did.{Calls};
 
 use crate::controller::Controller;
 use crate::refusal::{CallRefusal, Hindrance};
-use adr_cycle::{Reply, Request, ask, serve, take};
+use adr_cycle::{Reply, Request, ask, count, serve, take};
 use adr_event::{Failure, ServeRefusal, TakeRefusal};
 use adr_failure::NoMemory;
 use adr_guid::Guid;
 use adr_journal::Keeper;
 use adr_state::{Change, Mode, State, Vector};
-use std::alloc::{AllocError, Global};
+use std::alloc::Global;
 
 /// What comes of a reply that was taken: how many items it had, how many of them were written, and the USN then.
 #[derive(Clone, Copy)]
@@ -30,16 +30,6 @@ pub struct Taken {
     pub items: u32,
     pub wrote: u32,
     pub usn: u64,
-}
-
-/// A count that needs more than 32 bits counts as want of memory.
-pub(crate) fn count(number: usize) -> Result<u32, NoMemory>
-    ensures { IfOk result (λ count. count ≡ number) }
-{
-    match u32::try_from(number) {
-        Ok(count) => Ok(count),
-        Err(_) => Err(AllocError),
-    }
 }
 
 /// What is told of a reply whose change is this.

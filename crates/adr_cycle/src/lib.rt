@@ -9,6 +9,7 @@
 mod asking;
 mod candidate;
 mod candidates;
+mod counting;
 mod reply;
 mod replying;
 mod request;
@@ -22,6 +23,7 @@ pub use adr_event::{Failure, ServeRefusal, TakeRefusal};
 pub use adr_state::{Change, Item, NoMemory, State};
 pub use adr_vector::{Mark, Vector};
 pub use asking::ask;
+pub use counting::count;
 pub use reply::Reply;
 pub use request::Request;
 pub use serving::serve;

@@ -9,12 +9,12 @@ ghost use Rattle.adr_told.specs.Presence.{defined};
 ghost use Rattle.adr_told.specs.Standing.{IsStanding};
 
 use crate::NoMemory;
+use crate::counting::count;
 use adr_checks::Schema;
 use adr_event::{ItemFault, TakeRefusal};
 use adr_stamp::Unit;
 use adr_state::{DELETED, Item, Update};
 use adr_told::{Presence, Standing, class_among, first_fault, has_row, lacks};
-use std::alloc::AllocError;
 
 /// What is wrong with the first wrong one of the rows of an object's item that are looked at.
 fn object_fault(
@@ -88,10 +88,10 @@ pub fn item_refusal(
         → refusal ≡ item_refusal schema vector rows place item.now) }
 {
     match item_fault(schema, standing, item) {
-        Some(cause) => match u32::try_from(place) {
-            Ok(place) => Ok(Some(TakeRefusal::BadItem { place, cause })),
-            Err(_) => Err(AllocError),
-        },
+        Some(cause) => {
+            let place = count(place)?;
+            Ok(Some(TakeRefusal::BadItem { place, cause }))
+        }
         None => Ok(incomplete(schema, standing, item)),
     }
 }

@@ -4,19 +4,9 @@ ghost use Rattle.std.specs.Prelude.{◌≡◌, Some, is_some, length, IfOk};
 ghost use Rattle.adr_model.specs.World.{rows_in};
 ghost use Rattle.adr_outcome.specs.Unsent.{unsent};
 
-use adr_cycle::Reply;
+use adr_cycle::{Reply, count};
 use adr_event::Outcome;
 use adr_schema::NoMemory;
-use std::alloc::AllocError;
-
-fn count(number: usize) -> Result<u32, NoMemory>
-    ensures { IfOk result (λ count. count ≡ number) }
-{
-    match u32::try_from(number) {
-        Ok(count) => Ok(count),
-        Err(_) => Err(AllocError),
-    }
-}
 
 /// How many rows a reply has.
 fn rows_in(reply: &Reply) -> Result<u32, NoMemory>
