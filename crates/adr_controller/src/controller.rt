@@ -179,7 +179,7 @@ impl<K: Keeper> Controller<K> {
     }
 
     /// Commits a change of the state, to the keeper and in memory.
-    pub fn commit(&mut self, change: &Change) -> Result<(), Hindrance>
+    pub(crate) fn commit(&mut self, change: &Change) -> Result<(), Hindrance>
         requires { ForSome self.old.state (λ s. CanCommit K.Keeper s change.now) }
         ensures down { (hindrance_of result ≡ Some Hindrance.Down) ↔ (self.old.down ≡ true) }
         ensures failed { (hindrance_of result ≡ Some Hindrance.Failed)

@@ -7,7 +7,7 @@ ghost use Rattle.adr_model.specs.Serve.{begins_at, byte_limit, candidates, first
 
 use crate::candidates::{is_none_behind, next_candidate};
 use crate::{NoMemory, Reply, Request};
-use adr_state::{Item, Rows, State, is_same, item_length_within};
+use adr_state::{Item, Kept, Rows, State, item_length_within};
 use adr_vector::{Mark, Vector};
 use std::alloc::Global;
 
@@ -30,11 +30,7 @@ pub fn reply_to(alloc: Global, state: &State, request: &Request) -> Result<Reply
 pub fn begins_at(state: &State, request: &Request) -> Mark
     ensures { result ≡ begins_at state.now request.now }
 {
-    if is_same(request.inv(), state.inv()) {
-        request.mark()
-    } else {
-        Mark::default()
-    }
+    Kept::new(request.inv(), request.mark()).mark_of(state.inv())
 }
 
 /// The first items: until there are so many, or so many bytes or more.
@@ -117,7 +113,7 @@ fn all_read(state: &State) -> Mark
 
 /// The mark at the last item that is sent. Only the last reply moves `prop`: until then rows of units that are still to
 /// be sent are missing.
-pub fn read_to(state: &State, from: Mark, sent: &[(u64, Item)]) -> Mark
+fn read_to(state: &State, from: Mark, sent: &[(u64, Item)]) -> Mark
     ensures { result
         ≡ record { obj = fold (λ n (c : ℕ × Defined). c.0) from.obj sent.now; prop = from.prop; seen = state.now.store.usn } }
 {
