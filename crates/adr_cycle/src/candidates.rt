@@ -1,6 +1,6 @@
 //! The items that may be sent, one after the other: what the asker may lack, of the units above its mark.
 
-ghost use Rattle.std.specs.Prelude.{◌≡◌, ◌<◌, ◌≤◌, ◌&&◌, IfOk, filter, is_none, nat_lt, not};
+ghost use Rattle.std.specs.Prelude.{◌≡◌, ◌<◌, ◌≤◌, ◌&&◌, IfOk, filter, is_none};
 ghost use Rattle.adr_model.specs.Serve.{is_unseen};
 ghost use Rattle.adr_update.specs.Referents.{referents};
 ghost use Rattle.adr_cycle.specs.Candidates.{candidate_at, next_candidate, some_item, unseen_of};

@@ -1,6 +1,6 @@
 //! The items of a reply, one after the other.
 
-ghost use Rattle.std.specs.Prelude.{◌≡◌, ◌+◌, ◌<◌, ◌≤◌, ◌^◌, [], ◌++◌, IfOk, IfSome, OnOk, false, fold, length};
+ghost use Rattle.std.specs.Prelude.{◌≡◌, ◌+◌, ◌<◌, ◌≤◌, ◌^◌, [], ◌++◌, IfOk, IfSome, OnOk, false, length};
 ghost use Rattle.adr_model.specs.Store.{holds_object};
 ghost use Rattle.adr_model.specs.Change.{held_of, rows_after};
 ghost use Rattle.adr_model.specs.Take.{begin, take_item, take_items, writes_of};

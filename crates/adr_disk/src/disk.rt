@@ -1,6 +1,6 @@
 //! What a disk gives, what a crash may leave of it, and what each call changes of both.
 
-ghost use Rattle.std.specs.Prelude.{◌≡◌, ◌⊎◌, ℕ, ◌+◌, ◌-◌, ◌≤◌, ◌<◌, ⊤, List, Option, Some, None, IsSome, ◌↔◌, IfOk, IfSome, OnOk, IsErrOf, length, take, drop, min};
+ghost use Rattle.std.specs.Prelude.{◌≡◌, ◌⊎◌, ℕ, ◌+◌, ◌-◌, ◌≤◌, ◌<◌, ⊤, List, Option, Some, IsSome, ◌↔◌, IfOk, IfSome, OnOk, IsErrOf, length, take, drop, min};
 ghost use Rattle.std.specs.Option.{ForSome};
 ghost use Rattle.adr_io.specs.declared.Fault.{Fault as Cause};
 ghost use Rattle.adr_disk.specs.Disk.{put, Torn, After, Among, Only, Elapses, Counts, Keeps, IsSpare, Call, Writes, Syncs, Looks, ended};

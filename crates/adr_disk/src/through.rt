@@ -1,6 +1,6 @@
 //! A write with the sync behind it.
 
-ghost use Rattle.std.specs.Prelude.{◌≡◌, ◌⊎◌, ℕ, ◌+◌, ◌≤◌, ◌<◌, List, Option, Some, IsSome, ◌↔◌, IfSome, OnOk, IsErrOf, length};
+ghost use Rattle.std.specs.Prelude.{◌≡◌, ◌⊎◌, ◌+◌, ◌≤◌, ◌<◌, Some, IsSome, ◌↔◌, IfSome, OnOk, IsErrOf, length};
 ghost use Rattle.std.specs.Option.{ForSome};
 ghost use Rattle.adr_disk.specs.Disk.{put, Torn, Among, Only, Counts, IsSpare, LeavesOnly, Through, ended};
 

@@ -1,8 +1,7 @@
 //! A disk in memory, for which a crash or a failure can be planned.
 
-ghost use Rattle.std.specs.Prelude.{◌≡◌, ◌⊎◌, ◌↔◌, ℕ, ◌+◌, ◌-◌, ◌≤◌, ◌<◌, ◌^◌, true, false, List, [], Option, Some, None, IsTrue, IfOk, OnOk, OnErr, IsErr, IsErrOf, length, take, drop, min};
-ghost use Rattle.adr_io.specs.declared.Fault.{Fault as Cause};
-ghost use Rattle.adr_disk.specs.Disk.{put, Writes, Syncs, Looks, IsSpare, ended};
+ghost use Rattle.std.specs.Prelude.{◌≡◌, ◌⊎◌, ◌+◌, ◌-◌, ◌≤◌, ◌<◌, ◌^◌, true, false, [], Option, Some, None, IfOk, OnOk, IsErrOf, length, drop};
+ghost use Rattle.adr_disk.specs.Disk.{Writes, Syncs, Looks, IsSpare, ended};
 
 use crate::platter::Platter;
 use adr_disk::{Crash, Disk, Mishap, Plan};
@@ -38,7 +37,7 @@ impl Model for MemDisk {
 }
 
 impl MemDisk {
-    ghost use Rattle.adr_disk.specs.Memory.{Held, DiskState, all_synced, read_of, crashed, SameState, Does, SameBytes, planned, one_less, spare_calls_of};
+    ghost use Rattle.adr_disk.specs.Memory.{DiskState, all_synced, read_of, crashed, SameState, Does, one_less, spare_calls_of};
 
     /// An empty disk.
     pub fn new(alloc: Global) -> MemDisk
@@ -128,7 +127,7 @@ impl MemDisk {
 
 /// The calls, without what a disk in general promises of them.
 impl MemDisk {
-    ghost use Rattle.adr_disk.specs.Memory.{DiskState, read_of, meets, one_less, passed, failed, SameState, Does, SameBytes, spare_calls_of};
+    ghost use Rattle.adr_disk.specs.Memory.{DiskState, read_of, meets, one_less, passed, failed, SameState, Does, spare_calls_of};
 
     /// What becomes of the next write or sync.
     fn mishap(&self) -> Option<Mishap>

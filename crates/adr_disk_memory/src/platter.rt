@@ -1,9 +1,9 @@
 //! The bytes of a disk in memory, those of them that are synced, and all that was ever written, from which each
 //! earlier moment can be told.
 
-ghost use Rattle.std.specs.Prelude.{◌≡◌, ℕ, ◌+◌, ◌-◌, ◌/◌, ◌≤◌, ◌<◌, ◌^◌, ◌⊎◌, List, [], ◌∷◌, ◌++◌, length, take, drop, map, min, All, OnOk, OnErr, IfOk, vec_len, vec_capacity};
+ghost use Rattle.std.specs.Prelude.{◌≡◌, ◌+◌, ◌-◌, ◌/◌, ◌≤◌, ◌<◌, ◌^◌, ◌⊎◌, [], length, map, All, OnOk, OnErr, vec_len, vec_capacity};
 ghost use Rattle.adr_disk.specs.Disk.{put as put_over, IsSpare};
-ghost use Rattle.adr_disk.specs.Memory.{Held, Write, over, read_of, left_by, torn_half, torn_write, all_synced, after_write, after_end, SameBytes};
+ghost use Rattle.adr_disk.specs.Memory.{Held, over, read_of, left_by, torn_half, torn_write, all_synced, after_write, after_end, SameBytes};
 ghost use Rattle.adr_disk_memory.specs.Platter.{IsInRange, EndsLast, write_of};
 
 use adr_disk::Crash;

@@ -2,7 +2,6 @@
 #![tactic(auto)]
 
 ghost use Rattle.std.specs.Prelude.{◌≡◌, ◌-◌, ◌^◌, ◌≤◌, Option, Some, None, ⊤, IfOk, length};
-ghost use Rattle.adr_disk.specs.Disk.{Torn};
 
 use adr_disk::Disk;
 use adr_io::{Failures, Fault};

@@ -1,11 +1,10 @@
 //! Images are written.
 
-ghost use Rattle.std.specs.Prelude.{◌≡◌, ◌≤◌, ◌<◌, ◌^◌, ◌++◌, [], All, OnOk, IfOk, length, take, drop};
+ghost use Rattle.std.specs.Prelude.{◌≡◌, ◌≤◌, ◌<◌, ◌++◌, All, OnOk, IfOk, length, drop};
 ghost use Rattle.std.specs.List.{filter_map, flat_map};
 ghost use Rattle.adr_model.specs.Formed.{IsFormedStore};
 ghost use Rattle.adr_model.specs.Live.{born};
 ghost use Rattle.adr_model.specs.Take.{mark_limit};
-ghost use Rattle.adr_wire.specs.Composites.{oid};
 ghost use Rattle.adr_wire.specs.Fields.{u16};
 ghost use Rattle.adr_update.specs.Key.{key_of};
 ghost use Rattle.adr_update.specs.Said.{said_of};

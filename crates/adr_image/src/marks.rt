@@ -1,6 +1,6 @@
 //! How far each partner was read.
 
-ghost use Rattle.std.specs.Prelude.{◌≡◌, None};
+ghost use Rattle.std.specs.Prelude.{None};
 ghost use Rattle.adr_wire.specs.Composites.{mark_at};
 ghost use Rattle.adr_wire.specs.Reading.{GivesAs, Tells, where_at};
 ghost use Rattle.adr_image.specs.Image.{is_ordered, kept_above};

@@ -2,8 +2,7 @@
 
 ghost use Rattle.std.specs.Prelude.{◌≡◌, ◌≤◌, IfOk};
 ghost use Rattle.std.specs.List.{list_all};
-ghost use Rattle.adr_schema.specs.Table.{must_of};
-ghost use Rattle.adr_wire.specs.Reading.{Gives, GivesAs, Tells};
+ghost use Rattle.adr_wire.specs.Reading.{GivesAs, Tells};
 ghost use Rattle.adr_model.specs.Write.{usn_limit};
 ghost use Rattle.adr_wire.specs.Gathering.{is_refused_at};
 ghost use Rattle.adr_image.specs.Image as form;

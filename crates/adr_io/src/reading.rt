@@ -1,6 +1,6 @@
 //! Reading a source to its end, or to a limit.
 
-ghost use Rattle.std.specs.Prelude.{◌≡◌, ◌<◌, ◌≤◌, ℕ, List, length, take, drop, [], ◌++◌, ◌+◌, Some, Ok, IfOk, IfSome, OnOk, IsErrOf};
+ghost use Rattle.std.specs.Prelude.{◌≡◌, ◌<◌, ◌≤◌, ℕ, length, take, drop, [], ◌++◌, ◌+◌, Some, Ok, IfOk, IfSome, IsErrOf};
 
 use crate::{Fault, Source};
 use std::alloc::Global;

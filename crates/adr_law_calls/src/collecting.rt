@@ -5,7 +5,7 @@ ghost use Rattle.adr_model.specs.Store.{State};
 ghost use Rattle.adr_model.specs.Change.{Change};
 ghost use Rattle.adr_model.specs.LocalLog.{Follows};
 ghost use Rattle.adr_model.specs.Collect.{collect};
-ghost use Rattle.adr_model.specs.Replica.{Book, Pending, ToCollect};
+ghost use Rattle.adr_model.specs.Replica.{Book, ToCollect};
 ghost use Rattle.adr_model.specs.Sound.{last_of, IsSoundBook, IsSoundState};
 ghost use Rattle.adr_law_logs.specs.Settling.{Leaves};
 

@@ -13,7 +13,7 @@ ghost use Rattle.adr_model.specs.Change.{Change, after};
 ghost use Rattle.adr_model.specs.LocalLog.{Follows};
 ghost use Rattle.adr_model.specs.Serve.{Reply};
 ghost use Rattle.adr_model.specs.Take.{take};
-ghost use Rattle.adr_model.specs.Replica.{Book, Pending, ToTake};
+ghost use Rattle.adr_model.specs.Replica.{Book, ToTake};
 ghost use Rattle.adr_model.specs.Sound.{last_of, IsSoundBook, IsSoundState, IsSoundReply, IsSent};
 ghost use Rattle.adr_law_logs.specs.Later.{MayIssue};
 ghost use Rattle.adr_law_logs.specs.Settling.{Leaves};

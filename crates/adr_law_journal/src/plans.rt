@@ -1,7 +1,6 @@
 //! What a planned mishap does to a log on a disk in memory.
 
-ghost use Rattle.std.specs.Prelude.{◌≡◌, ℕ, ◌<◌, ◌^◌, List, length, false, Option, Some, None};
-ghost use Rattle.adr_io.specs.declared.Fault.{Fault as Cause};
+ghost use Rattle.std.specs.Prelude.{◌≡◌, ℕ, ◌<◌, ◌^◌, List, length, false, Some, None};
 ghost use Rattle.adr_io.specs.declared.Fault.TheVariants.{Failed as failed_call};
 ghost use Rattle.adr_wire.specs.Reading.{Reading};
 ghost use Rattle.adr_disk.specs.Disk.{Only, Syncs};

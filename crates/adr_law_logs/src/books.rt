@@ -1,6 +1,6 @@
 //! How books grow, and that what was sound of one stays so.
 
-ghost use Rattle.std.specs.Prelude.{◌≡◌, ◌≢◌, ◌≤◌, ℕ, List, Ok};
+ghost use Rattle.std.specs.Prelude.{◌≡◌, ◌≢◌, ◌≤◌, Ok};
 ghost use Rattle.adr_model.specs.Member.{Member, Each};
 ghost use Rattle.adr_model.specs.Update.{Identifier, Update};
 ghost use Rattle.adr_vector.specs.declared.mark.Mark.{Mark};

@@ -11,7 +11,7 @@ ghost use Rattle.adr_model.specs.Update.{Identifier};
 ghost use Rattle.adr_model.specs.Write.{nodes_held};
 ghost use Rattle.adr_table.specs.Table.{IsKept, rows_in};
 ghost use Rattle.adr_tree.specs.Edits.{AreOwn, edited};
-ghost use Rattle.adr_live.specs.Drafts.{AreDrafts, DoRise, edit_of};
+ghost use Rattle.adr_live.specs.Drafts.{DoRise, edit_of};
 
 use crate::NoMemory;
 use crate::draft::Draft;

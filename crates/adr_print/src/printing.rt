@@ -1,8 +1,7 @@
 //! The text of some events.
 
-ghost use Rattle.std.specs.Prelude.{◌≡◌, ◌++◌, ◌∷◌, [], ℕ, List, IfOk, OnOk, codes, flat_map, map, take};
-ghost use Rattle.std.specs.Fmt.{decimal};
-ghost use Rattle.adr_token.specs.Spelling.{attribute_token, class_token, identifier_token, set_token, text_token};
+ghost use Rattle.std.specs.Prelude.{◌≡◌, ◌++◌, ◌∷◌, [], IfOk, OnOk, codes, map};
+ghost use Rattle.adr_token.specs.Spelling.{set_token};
 ghost use Rattle.adr_schedule.specs.Crashes.{crash_word};
 ghost use Rattle.adr_schedule.specs.Grammar.{Attribute as attributed, Class as classed, Identifier as identified, Name as named, Number as numbered, Quoted as quoted, Word as said, given_by, sets, tokens_behind};
 ghost use Rattle.adr_print.specs.Printed.{line_of, printed, set_tokens, spaced, token_of, token_text};

@@ -1,6 +1,6 @@
 //! The head of a log is written and read.
 
-ghost use Rattle.std.specs.Prelude.{◌≡◌, ◌+◌, ◌≤◌, ◌<◌, ◌^◌, ◌++◌, Ok, IfOk, IfErr, OnOk, length, take, drop};
+ghost use Rattle.std.specs.Prelude.{◌≡◌, ◌+◌, ◌≤◌, ◌<◌, ◌++◌, Ok, IfOk, IfErr, OnOk, length, drop};
 ghost use Rattle.adr_wire.specs.Reading.{Gives, Refuses, Rest, Tells};
 ghost use Rattle.adr_image.specs.Stored.{image_at};
 ghost use Rattle.adr_records.specs.Head as form;

@@ -1,6 +1,6 @@
 //! The lines of entries.
 
-ghost use Rattle.std.specs.Prelude.{◌≡◌, ◌++◌, ◌∷◌, [], ℕ, List, OnOk, flat_map, codes};
+ghost use Rattle.std.specs.Prelude.{◌≡◌, ◌++◌, ℕ, List, OnOk, flat_map, codes};
 ghost use Rattle.adr_token.specs.Spelling.{identifier_token, text_token, class_token, attribute_token};
 ghost use Rattle.adr_report.specs.Line.{listed, values_text, links_text, entry_line};
 

@@ -1,6 +1,6 @@
 //! The lines of what a controller has seen, and of how far it has read its partners.
 
-ghost use Rattle.std.specs.Prelude.{◌≡◌, ◌++◌, ◌∷◌, [], ℕ, List, OnOk, flat_map, codes};
+ghost use Rattle.std.specs.Prelude.{◌≡◌, ◌++◌, OnOk, flat_map, codes};
 ghost use Rattle.std.specs.Fmt.{decimal};
 ghost use Rattle.adr_token.specs.Spelling.{identifier_token};
 ghost use Rattle.adr_report.specs.Line.{mark_text, cursor_line, partner_line};

@@ -1,8 +1,8 @@
 //! The lines of answers.
 
-ghost use Rattle.std.specs.Prelude.{◌≡◌, ◌++◌, ◌∷◌, [], ℕ, List, length, OnOk, IfOk, flat_map, codes};
+ghost use Rattle.std.specs.Prelude.{◌≡◌, ◌++◌, OnOk, IfOk, flat_map, codes};
 ghost use Rattle.std.specs.Fmt.{decimal};
-ghost use Rattle.adr_report.specs.Line.{plain_text, mark_text, from_to, left_text, counts_text, field_text, result_text, report_lines, line};
+ghost use Rattle.adr_report.specs.Line.{plain_text, from_to, left_text, counts_text, field_text, result_text, report_lines, line};
 
 use crate::entries::push_entries;
 use crate::knowledge::{push_cursors, push_mark, push_number_behind, push_partners};

@@ -1,6 +1,6 @@
 //! Answers, written.
 
-ghost use Rattle.std.specs.Prelude.{◌≡◌, ◌<◌, ◌≤◌, OnErr, OnOk, IsErrOf, flat_map};
+ghost use Rattle.std.specs.Prelude.{◌<◌, ◌≤◌, OnErr, OnOk, IsErrOf, flat_map};
 ghost use Rattle.adr_io.specs.Told.{Adds, AddsFront};
 ghost use Rattle.adr_report.specs.Line.{line};
 

@@ -1,8 +1,8 @@
 //! What each line says.
 
-ghost use Rattle.std.specs.Prelude.{◌≡◌, ◌==◌, ◌<◌, ◌≤◌, ℕ, List, length, Some, None};
-ghost use Rattle.adr_token.specs.Gives.{Gives, Answers, bad};
-ghost use Rattle.adr_token.specs.Words.{ended, unspaced};
+ghost use Rattle.std.specs.Prelude.{◌≡◌, ◌==◌, ◌<◌, Some, None};
+ghost use Rattle.adr_token.specs.Gives.{Gives, Answers};
+ghost use Rattle.adr_token.specs.Words.{ended};
 ghost use Rattle.adr_schedule.specs.Commands.{add_line, ask_line, binding_line, bound_at, by_verb, calls_at, collect_line, controller_line, crash_at, delete_line, event_of, fail_line, install_line, is_passed, limit_at, link_line, modify_line, name_line, pull_line, rename_line, restore_line, serve_line, stop_after, stop_line, time_line, use_line};
 ghost use Rattle.adr_schedule.specs.Shared.{copied, linked, named, pulled, used};
 

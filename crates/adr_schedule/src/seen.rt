@@ -1,6 +1,6 @@
 //! What earlier lines bound and gave.
 
-ghost use Rattle.std.specs.Prelude.{◌≡◌, ℕ, List, [], ◌∷◌, ◌++◌, ◌||◌, false, None, OnOk, IfErr};
+ghost use Rattle.std.specs.Prelude.{◌≡◌, [], ◌∷◌, ◌++◌, ◌||◌, false, None, OnOk, IfErr};
 ghost use Rattle.adr_schedule.specs.Faults.{RefusesEvent};
 ghost use Rattle.adr_failure.specs.First.{first_of};
 ghost use Rattle.adr_schedule.specs.Seen.{nothing_seen, is_bound, unless_bound, if_bound, if_inv_given, if_given, if_full, cause_after, with_controller, seen_after};

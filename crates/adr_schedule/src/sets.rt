@@ -1,6 +1,6 @@
 //! The sets of a line.
 
-ghost use Rattle.std.specs.Prelude.{◌≡◌, ◌≤◌, ◌<◌, ℕ, List, length, Some, IfErr, OnOk};
+ghost use Rattle.std.specs.Prelude.{◌≡◌, ◌<◌, Some, IfErr, OnOk};
 ghost use Rattle.adr_token.specs.Gives.{Answers, Stops};
 ghost use Rattle.adr_schedule.specs.Sets.{sets_at, with_set};
 

@@ -1,7 +1,6 @@
 //! The line that tells a fault.
 
-ghost use Rattle.std.specs.Prelude.{◌≡◌, ◌++◌, ℕ, List, codes, IfOk};
-ghost use Rattle.std.specs.Fmt.{decimal};
+ghost use Rattle.std.specs.Prelude.{◌≡◌, IfOk};
 ghost use Rattle.adr_schedule.specs.Telling.{cause_text, fault_line};
 
 use crate::fault::{Cause, ScheduleFault};

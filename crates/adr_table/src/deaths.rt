@@ -1,6 +1,6 @@
 //! Which objects may be held dead.
 
-ghost use Rattle.std.specs.Prelude.{◌≡◌, IfOk, IfSome, OnOk, filter, is_some, true};
+ghost use Rattle.std.specs.Prelude.{◌≡◌, IfOk, OnOk, filter, is_some, true};
 ghost use Rattle.std.specs.BTreeSet.{contains};
 ghost use Rattle.adr_stamp.specs.Order.{object_order};
 ghost use Rattle.adr_stamp.specs.declared.Oid.{Oid as Named};

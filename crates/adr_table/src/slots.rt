@@ -9,7 +9,7 @@ ghost use Rattle.std.specs.declared.ops.Bound.TheVariants.{Included, Unbounded};
 ghost use Rattle.adr_model.specs.Store.{row_held, with_row};
 ghost use Rattle.adr_update.specs.Key.{key_of};
 ghost use Rattle.adr_update.specs.Referents.{referents};
-ghost use Rattle.adr_table.specs.Place.{IsStart, is_in_run, is_of_class, is_of_link, place_of, place_order};
+ghost use Rattle.adr_table.specs.Place.{IsStart, is_in_run, place_of, place_order};
 ghost use Rattle.adr_table.specs.Slots.{HasSlot, IsTidy, and_seen, flat, one_more_if, places, row_at, rows_in_run, rows_seen};
 
 use crate::NoMemory;

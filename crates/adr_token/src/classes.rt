@@ -1,6 +1,6 @@
 //! Readers of classes and attributes.
 
-ghost use Rattle.std.specs.Prelude.{◌≡◌, ℕ, List};
+ghost use Rattle.std.specs.Prelude.{◌≡◌};
 ghost use Rattle.adr_token.specs.Gives.{Gives};
 ghost use Rattle.adr_token.specs.Classes.{attribute_at, attribute_of, class_at, class_of, percent_number};
 

@@ -1,6 +1,6 @@
 //! Identifiers.
 
-ghost use Rattle.std.specs.Prelude.{◌≡◌, ℕ, List};
+ghost use Rattle.std.specs.Prelude.{◌≡◌};
 ghost use Rattle.adr_token.specs.Gives.{Gives};
 ghost use Rattle.adr_token.specs.Identifiers.{spelled_back, full_identifier, short_identifier, identifier_of, identifier_at};
 

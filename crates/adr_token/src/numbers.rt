@@ -1,8 +1,8 @@
 //! Numbers in decimal and hexadecimal figures.
 
-ghost use Rattle.std.specs.Prelude.{◌≡◌, ◌≤◌, ◌<◌, ◌^◌, ℕ, List, length, false, IfSome};
+ghost use Rattle.std.specs.Prelude.{◌≡◌, ◌≤◌, ◌<◌, ◌^◌, false, IfSome};
 ghost use Rattle.adr_token.specs.Gives.{Gives};
-ghost use Rattle.adr_token.specs.Numbers.{base, figure, figures_from, is_short, negated, number_of, number_at, signed_of};
+ghost use Rattle.adr_token.specs.Numbers.{base, figure, is_short, negated, number_of, number_at, signed_of};
 
 use crate::stop::{Bad, Stop};
 use crate::words::{Line, is_digit, strip_byte};

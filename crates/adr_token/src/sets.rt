@@ -1,6 +1,6 @@
 //! Readers of values and of sets.
 
-ghost use Rattle.std.specs.Prelude.{◌≡◌, ◌≤◌, ℕ, List, length, IfOk, IfErr, Some};
+ghost use Rattle.std.specs.Prelude.{◌≡◌, ◌≤◌, length, IfOk, IfErr, Some};
 ghost use Rattle.std.specs.List.{position_or_len};
 ghost use Rattle.adr_token.specs.Gives.{Answers, Gives, Stops};
 ghost use Rattle.adr_token.specs.Values.{assigned_at, ends_value, fixed_value_of, flag_of, octet_of, octets_of, plain_value_at, set_at, some_octets, text_value_at, value_at, value_of, values_at};

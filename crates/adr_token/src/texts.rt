@@ -1,7 +1,7 @@
 //! Texts in quotes.
 
-ghost use Rattle.std.specs.Prelude.{◌≡◌, ◌+◌, ◌*◌, ◌<◌, ℕ, List, IfSome, MatchOption, true, false, IfOk, IfErr, Some, None};
-ghost use Rattle.std.specs.Str.{IsUtf8, is_utf8};
+ghost use Rattle.std.specs.Prelude.{◌≡◌, ◌+◌, ◌*◌, ◌<◌, MatchOption, true, false, IfOk, IfErr, Some, None};
+ghost use Rattle.std.specs.Str.{is_utf8};
 ghost use Rattle.adr_token.specs.Gives.{Gives, Stops};
 ghost use Rattle.adr_token.specs.Numbers.{figure};
 ghost use Rattle.adr_token.specs.Texts.{plain_move, escaped_move, whole_move, is_control, IsHalfSmall, IsMoveSmall, move, quoted, ends_word, is_text, text_at};

@@ -1,6 +1,6 @@
 //! Writers of values, classes and attributes.
 
-ghost use Rattle.std.specs.Prelude.{◌≡◌, ◌++◌, ◌<◌, ℕ, List, OnOk, flat_map, codes};
+ghost use Rattle.std.specs.Prelude.{◌≡◌, ◌++◌, ◌<◌, OnOk, flat_map, codes};
 ghost use Rattle.std.specs.Fmt.{signed_decimal};
 ghost use Rattle.std.specs.Option.{option_copied};
 ghost use Rattle.adr_token.specs.Spelling.{two_figures, flag_text, value_token, name_or_number, class_token, attribute_token, values_token, set_token};

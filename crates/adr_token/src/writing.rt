@@ -1,6 +1,6 @@
 //! Writers of tokens, each to the end of some bytes.
 
-ghost use Rattle.std.specs.Prelude.{◌≡◌, ◌++◌, ◌∷◌, [], ◌<◌, ◌≤◌, ◌^◌, ℕ, List, length, true, OnOk, IfOk, flat_map, codes, false};
+ghost use Rattle.std.specs.Prelude.{◌≡◌, ◌++◌, ◌<◌, OnOk, flat_map, false};
 ghost use Rattle.std.specs.Fmt.{decimal, digits};
 ghost use Rattle.adr_token.specs.Spelling.{escaped, two_figures, text_token, identifier_text, identifier_token};
 ghost use Rattle.uuid.specs.Text.{hex_digit, lower, hyphenated_text};

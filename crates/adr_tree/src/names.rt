@@ -6,7 +6,7 @@ ghost use Rattle.std.specs.Option.{option_copied, option_map};
 ghost use Rattle.std.specs.Str.{bytes_eq};
 ghost use Rattle.adr_schema.specs.Folding.{folded};
 ghost use Rattle.adr_model.specs.Member.{Each, Member};
-ghost use Rattle.adr_model.specs.Place.{Node as Defined, node_at};
+ghost use Rattle.adr_model.specs.Place.{Node as Defined};
 ghost use Rattle.adr_model.specs.Shown.{name_holder};
 ghost use Rattle.adr_model.specs.Update.{same_identifier};
 ghost use Rattle.adr_model.specs.Write.{is_taken};

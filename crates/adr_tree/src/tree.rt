@@ -1,6 +1,6 @@
 //! The tree of live objects: what is looked up in it.
 
-ghost use Rattle.std.specs.Prelude.{◌≡◌, [], true, false, Some, IfSome, IfNone, IfOk, IsSome, length, map};
+ghost use Rattle.std.specs.Prelude.{◌≡◌, [], true, false, Some, IfSome, IfNone, IfOk, IsSome, length};
 ghost use Rattle.std.specs.List.{find, list_any};
 ghost use Rattle.std.specs.Option.{option_copied, option_map};
 ghost use Rattle.adr_model.specs.Place.{Node as Defined, is_fixed, node_at, place, upward};

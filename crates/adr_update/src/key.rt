@@ -1,7 +1,6 @@
 //! Keys of updates, and how they compare.
 
 ghost use Rattle.std.specs.Prelude.{◌≡◌};
-ghost use Rattle.adr_stamp.specs.Order.{object_order};
 ghost use Rattle.adr_model.specs.Update.{RowOf, deleted_attr, key_order, same_identifier, same_key, same_object, unit_of};
 ghost use Rattle.adr_model.specs.Live.{born};
 ghost use Rattle.adr_model.specs.Write.{is_link_row};

@@ -1,6 +1,6 @@
 //! Two rising lists of cursors, read as one.
 
-ghost use Rattle.std.specs.Prelude.{◌≡◌, ◌++◌, option_to_list, length, [], IfNone, List, ℕ, IfOk, ◌+◌, ◌<◌, ◌^◌};
+ghost use Rattle.std.specs.Prelude.{◌≡◌, ◌++◌, option_to_list, length, [], IfNone, IfOk, ◌+◌, ◌<◌, ◌^◌};
 ghost use Rattle.adr_vector.specs.Merging.{merged};
 
 use adr_failure::NoMemory;

@@ -1,6 +1,5 @@
 //! Composites are read field by field.
 
-ghost use Rattle.std.specs.Prelude.{◌≡◌};
 ghost use Rattle.adr_wire.specs.Reading.{Gives, GivesAs, Tells};
 ghost use Rattle.adr_wire.specs.Composites.{mark_at, oid_at, stamp_at, value_at, content_at, object_at, link_key_at, link_stamp_at, link_at, vector_at};
 
