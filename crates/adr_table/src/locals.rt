@@ -1,6 +1,6 @@
 //! Which units may have a row with a local update sequence number.
 
-ghost use Rattle.std.specs.Prelude.{◌≡◌, OnOk, IfOk, IfSome, Some, None, true};
+ghost use Rattle.std.specs.Prelude.{◌≡◌, OnOk, IfOk, IfSome, IsTrue, Some, None, true};
 ghost use Rattle.std.specs.List.{list_any};
 ghost use Rattle.std.specs.BTreeMap.{is_at};
 ghost use Rattle.std.specs.BTreeSet.{contains};
@@ -81,6 +81,13 @@ fn unit_at(place: &Place) -> Option<Unit>
     }))
 }
 
+/// Whether the hint of a row has this number and this unit.
+fn has_hint(row: &Held, usn: u64, unit: &Place) -> bool
+    ensures { IsTrue result → local_of row.now ≡ record { usn = usn; unit = Some unit.now } }
+{
+    row.local() == usn && is_of_unit(unit, &Place::of(&row.key()))
+}
+
 /// Keeps the hint of a row. Rows of a unit under one number stand side by side, so that of the row before is mostly the
 /// same, and is kept already.
 pub(crate) fn remember(
@@ -92,10 +99,11 @@ pub(crate) fn remember(
     ensures more { (h : Row) → IsLocated locals.old h → IsLocated locals.new h }
     ensures ok { OnOk result (IsLocated locals.new row.now) }
 {
-    let hint = Local::of(row);
+    let usn = row.local();
+    let unit = seat_at(&Place::of(&row.key()));
     match before {
-        Some(before) if Local::of(before).cmp(&hint).is_eq() => Ok(()),
-        _ => insert(locals, row.local(), seat_at(&Place::of(&row.key()))),
+        Some(before) if has_hint(before, usn, &unit) => Ok(()),
+        _ => insert(locals, usn, unit),
     }
 }
 
