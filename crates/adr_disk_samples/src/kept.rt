@@ -4,7 +4,6 @@ ghost use Rattle.std.specs.Prelude.{◌≡◌, IfOk, IsSome};
 ghost use Rattle.adr_model.specs.Step.{write_of};
 ghost use Rattle.adr_disk_samples.specs.Takes.{IsWrite, TakesAll, new_state};
 
-use adr_checks::Schema;
 use adr_controller::{Controller, Keeper, PlannedKeeper, StartRefusal, State};
 use adr_disk::Crash;
 use adr_event::Event;
@@ -20,12 +19,7 @@ pub type Mishap = Option<Crash>;
 fn new_state(alloc: Global) -> State
     ensures { result ≡ new_state }
 {
-    let dsa = Guid::from_u128(0xa0);
-    let inv = Guid::from_u128(0xa1);
-    match Schema::new(1) {
-        Some(schema) => State::new(alloc, dsa, inv, schema),
-        None => unreachable!(),
-    }
+    State::first(alloc, Guid::from_u128(0xa0), Guid::from_u128(0xa1))
 }
 
 /// Begins to keep the new controller.

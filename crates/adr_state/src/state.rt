@@ -21,6 +21,9 @@ use adr_vector::{Full, Vector};
 use std::alloc::Global;
 use std::marker::Model;
 
+/// The number of the schema that new controllers have.
+const FIRST_SCHEMA: u32 = 1;
+
 /// A controller: its own identifier, the invocation identifier of its database, its mode, and the database.
 pub struct State {
     alloc: Global,
@@ -83,6 +86,16 @@ impl State {
             vector: Vector::new(alloc),
             purged: Vector::new(alloc),
             marks: Marks::new(alloc),
+        }
+    }
+
+    /// A new, empty controller of the first schema, under its two identifiers.
+    pub fn first(alloc: Global, dsa: Guid, inv: Guid) -> State
+        ensures { result ≡ empty_state dsa inv }
+    {
+        match Schema::new(FIRST_SCHEMA) {
+            Some(schema) => State::new(alloc, dsa, inv, schema),
+            None => unreachable!(),
         }
     }
 
