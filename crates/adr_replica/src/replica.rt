@@ -19,7 +19,6 @@ use crate::hindered::{hindered, hindrance_in, hindrance_of_start, settle};
 use crate::keepers::goes_as_planned;
 use crate::past::{Ahead, Kept, Past};
 use crate::told::Deed;
-use adr_checks::Schema;
 use adr_controller::{CallRefusal, Controller, Keeper, PlannedKeeper, StartRefusal};
 use adr_cycle::{Reply, Request};
 use adr_disk::Crash;
@@ -38,9 +37,6 @@ use adr_schema::{NoMemory, Text};
 use adr_state::State;
 use std::alloc::{AllocError, Global};
 use std::marker::Model;
-
-/// The number of the schema that new controllers have.
-const FIRST_SCHEMA: u32 = 1;
 
 /// A controller under the name that a line gave it, on a journal in memory. What only proofs see of it is the call that
 /// is on its disk and isn't safe.
@@ -76,16 +72,6 @@ impl Model for Replica {
         ⟦<Journal<MemDisk, Records> as PlannedKeeper>⟧.is_down r.name r.dsa r.controller r.kept };
 }
 
-/// A new, empty controller.
-fn new_state(alloc: Global, dsa: Guid, inv: Guid) -> State
-    ensures { result ≡ empty_state dsa inv }
-{
-    match Schema::new(FIRST_SCHEMA) {
-        Some(schema) => State::new(alloc, dsa, inv, schema),
-        None => unreachable!(),
-    }
-}
-
 impl Replica {
     /// A new, empty controller on a new disk.
     pub fn new(alloc: Global, name: Text, dsa: Guid, inv: Guid) -> Result<Replica, NoMemory>
@@ -94,7 +80,7 @@ impl Replica {
         ensures { IfOk result (λ made. made ≡ on_new_disk name (empty_state dsa inv)) }
     {
         new_controllers_may_begin();
-        Replica::on_new_disk(alloc, name, new_state(alloc, dsa, inv))
+        Replica::on_new_disk(alloc, name, State::first(alloc, dsa, inv))
     }
 
     /// A controller on a new disk that begins with a state.

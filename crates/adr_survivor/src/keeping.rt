@@ -6,7 +6,6 @@ ghost use Rattle.adr_model.specs.Store.{empty_state};
 
 use crate::ending::Ending;
 use crate::objects::number_of;
-use adr_checks::Schema;
 use adr_controller::{Controller, Keeper, State};
 use adr_disk::Disk;
 use adr_file::FileDisk;
@@ -31,12 +30,7 @@ pub fn tell(rt: &HostRuntime, line: &str) -> Result<(), Ending> {
 fn new_state(alloc: Global) -> State
     ensures { result ≡ empty_state (identifier 0xa0) (identifier 0xa1) }
 {
-    let dsa = Guid::from_u128(0xa0);
-    let inv = Guid::from_u128(0xa1);
-    match Schema::new(1) {
-        Some(schema) => State::new(alloc, dsa, inv, schema),
-        None => unreachable!(),
-    }
+    State::first(alloc, Guid::from_u128(0xa0), Guid::from_u128(0xa1))
 }
 
 /// A file of the present folder, which is made where it isn't there.
