@@ -6,7 +6,6 @@ ghost use Rattle.adr_vector.specs.Vector.{cursor_limit, raised};
 ghost use Rattle.adr_model.specs.Collect.{woken};
 ghost use Rattle.adr_model.specs.Formed.{IsFormedStore};
 ghost use Rattle.adr_image.specs.Stored.{IsSpelled};
-ghost use Rattle.adr_state.specs.Refusal.{IsOverfull};
 ghost use Rattle.adr_records.specs.Woken.{unmade, with_marks};
 
 use adr_failure::Failure;
@@ -24,7 +23,6 @@ fn fill_without_marks(
     requires formed { IsFormedStore contents.now }
     requires empty { state.old ≡ unmade contents.now.schema state.old.dsa state.old.inv }
     ensures ok { OnOk result (state.new ≡ with_marks [] (woken contents.now state.old.dsa state.old.inv)) }
-    ensures room { OnOk result (¬ IsOverfull (with_marks [] (woken contents.now state.old.dsa state.old.inv))) }
     ensures full { IsErrOf result full
         → cursor_limit < length (raised contents.now.vector state.old.inv contents.now.usn) }
 {

@@ -1,6 +1,5 @@
 //! A controller, and what the tests have it hold.
 
-use adr_checks::Schema;
 use adr_guid::Guid;
 use adr_schema::{Content, Text};
 use adr_stamp::{Birth, LinkStamp, Oid, Stamp, Unit};
@@ -23,7 +22,7 @@ pub fn list<T: Drop, const N: usize>(alloc: Global, items: [T; N]) -> Result<Vec
 
 /// A new controller, whose invocation identifier has this number.
 pub fn controller(alloc: Global, inv: u128) -> State {
-    State::new(alloc, id(3), id(inv), Schema::new(1).unwrap())
+    State::first(alloc, id(3), id(inv))
 }
 
 /// The container that the write of a USN by the controller 4 made: 10 by the first, and so on.

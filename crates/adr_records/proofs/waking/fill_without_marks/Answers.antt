@@ -1,4 +1,4 @@
-use Rattle.std.proofs.Common.{◌≡◌, ◌∙◌, [], subst, sym}
+use Rattle.std.proofs.Common.{◌≡◌, ◌∙◌, [], subst}
 use Rattle.std.proofs.lemmas.Result.{on_ok_weaker}
 use Rattle.adr_model.specs.Change.{after}
 use Rattle.adr_model.specs.Collect.{woken}
@@ -13,9 +13,6 @@ made c = first_state c.args.contents.now c.args.state.now c.in_ok-change.change 
 
 pub returns-clause-ok : goal.returns-clause-ok
 returns-clause-ok c = on_ok_weaker c.apply-applied.result (λ is. is ∙ made c) c.apply-applied.ensures.ok
-
-pub returns-clause-room : goal.returns-clause-room
-returns-clause-room c = on_ok_weaker c.apply-applied.result (λ fits over. fits (subst IsOverfull (sym (made c)) over)) c.apply-applied.ensures.room
 
 pub returns-clause-full : goal.returns-clause-full
 returns-clause-full c = λ f. overfull_is c.args.contents.now c.args.state.now.dsa c.args.state.now.inv c.requires.formed (subst IsOverfull (made c) (c.apply-applied.ensures.full f))
