@@ -10,11 +10,11 @@ use Rattle.adr_event.specs.declared.refusal.TakeRefusal.TheVariants as takes
 use Rattle.adr_event.specs.declared.refusal.CollectRefusal.{CollectRefusal}
 use Rattle.adr_event.specs.declared.refusal.AdoptRefusal.{AdoptRefusal}
 use Rattle.adr_model.specs.Member.{Member, Each}
-use Rattle.adr_model.specs.Update.{Identifier}
+use Rattle.adr_model.specs.Update.{Identifier, Update}
 use Rattle.adr_model.specs.Store.{Store, State, empty_state}
 use Rattle.adr_model.specs.Change.{Change, after}
 use Rattle.adr_model.specs.Serve.{Request, Reply, is_quarantined, serve}
-use Rattle.adr_model.specs.Write.{Write, IsWellGiven, write}
+use Rattle.adr_model.specs.Write.{Write, IsWellGiven, rows_written, write}
 use Rattle.adr_model.specs.Take.{take}
 use Rattle.adr_model.specs.Collect.{collect, backup, adopt, quarantine}
 use Rattle.adr_model.specs.Lengths.{new_log_end, log_end_after}
@@ -22,132 +22,130 @@ use Rattle.adr_model.specs.Refused.{serve_refused, take_refused, quarantined}
 use Rattle.adr_model.specs.Replica.{Pending, ToWrite, ToTake, ToCollect, ToQuarantine, Standing, Up, Down, Failed, Plan, Replica, on_disk, on_new_disk, Book, begun, Settle, moved, went, moves_of_commit, moves_of_start, standing_after, plan_after}
 use Rattle.adr_model.specs.World.{Name, World, Snapshot, Gone, Sent, stays, nothing, bound_at, replica_at, with_replica, of_made, of_controller, committed, commit, quarantines, after_write, writes, after_collect, asks, after_serve, served, serves_request, after_take, delivered, delivers, backed_up, adopts, of_image, put_back, with_plan, stops, starts}
 use Rattle.adr_model.proofs.Members.{member_of_either}
-use Rattle.adr_law_formed.specs.Spelled.{IsSpelledReply}
-use Rattle.adr_law_recorded.proofs.Served.{served_is_spelled}
 use Rattle.adr_law_convergence.proofs.Found.{bound_member, in_place}
 use Rattle.adr_law_convergence.proofs.Binding.{only_made}
 use Rattle.adr_law_convergence.proofs.Reached.{made_case, up_case, reached_case, within_case}
 use Rattle.adr_law_convergence.proofs.Moves.{settling, starting, committing}
-use Rattle.adr_law_headline.proofs.StayingFormed.{IsInForm, IsImageInForm, written_in_form, taken_in_form, collected_in_form, quarantined_in_form, new_in_form, image_in_form, adopted_in_form}
+use Rattle.adr_law_headline.proofs.StayingFormed.{IsInForm, IsImageInForm, IsReplyInForm, written_in_form, taken_in_form, collected_in_form, quarantined_in_form, served_in_form, new_in_form, image_in_form, adopted_in_form}
 
-abbrev pub BothInForm : Replica → Type 0
-BothInForm r = IsInForm r.safe × IsInForm r.read
+abbrev pub BothInForm : (Update → Type 0) → Replica → Type 0
+BothInForm P r = IsInForm P r.safe × IsInForm P r.read
 
--- every state that there is, or that may come back, is in form, and every reply is spelled
-pub record IsWorldInForm (w : World) : Type 0 where
-  pub replicas : Each BothInForm w.replicas
-  pub replies : Each (λ (r : Name × Reply). IsSpelledReply r.1) w.replies
-  pub images : Each (λ (i : Name × Store). IsImageInForm i.1) w.images
-  pub snapshots : Each (λ (s : Name × Snapshot). IsInForm s.1.state) w.snapshots
-
-abbrev InForm : Gone → Type 0
-InForm g = IsWorldInForm g.0
+-- every state that there is, or that may come back, is in form, and every reply is
+pub record IsWorldInForm (P : Update → Type 0) (w : World) : Type 0 where
+  pub replicas : Each (BothInForm P) w.replicas
+  pub replies : Each (λ (r : Name × Reply). IsReplyInForm P r.1) w.replies
+  pub images : Each (λ (i : Name × Store). IsImageInForm P i.1) w.images
+  pub snapshots : Each (λ (s : Name × Snapshot). IsInForm P s.1.state) w.snapshots
 
 -- the world behind a call is in form, and what it makes is so
-abbrev pub MakesInForm : {A : Type 0} → (A → Type 0) → Sent A → Type 0
-MakesInForm P t = IsWorldInForm t.0 × ((x : _) → t.2 ≡ Some x → P x)
+abbrev pub MakesInForm : {A : Type 0} → (Update → Type 0) → (A → Type 0) → Sent A → Type 0
+MakesInForm P Q t = IsWorldInForm P t.0 × ((x : _) → t.2 ≡ Some x → Q x)
 
-module _ (w : World) (is : IsWorldInForm w) where
-  each_placed : (new : Replica) → BothInForm new → Each BothInForm (with_replica w.replicas new)
-  each_placed new both q m = ⊎_elim (λ e. subst BothInForm (sym e) both) (λ t. is.replicas q t.0) (in_place w.replicas new q m)
+module _ (P : Update → Type 0) (w : World) (is : IsWorldInForm P w) where
+  abbrev InForm : Gone → Type 0
+  InForm g = IsWorldInForm P g.0
 
-  each_joined : (new : Replica) → BothInForm new → Each BothInForm (w.replicas ++ new ∷ [])
+  each_placed : (new : Replica) → BothInForm P new → Each (BothInForm P) (with_replica w.replicas new)
+  each_placed new both q m = ⊎_elim (λ e. subst (BothInForm P) (sym e) both) (λ t. is.replicas q t.0) (in_place w.replicas new q m)
+
+  each_joined : (new : Replica) → BothInForm P new → Each (BothInForm P) (w.replicas ++ new ∷ [])
   each_joined new both q m = by (member_of_either w.replicas (new ∷ []) q m)
     where
-      by : Member q w.replicas ⊎ Member q (new ∷ []) → BothInForm q
+      by : Member q w.replicas ⊎ Member q (new ∷ []) → BothInForm P q
       by (inl n) = is.replicas q n
-      by (inr (inl e)) = subst BothInForm (sym e) both
+      by (inr (inl e)) = subst (BothInForm P) (sym e) both
       by (inr (inr n)) = absurd n
 
-  moved_on : (sc : Book) (rs : List Replica) → Each BothInForm rs → IsWorldInForm (record w { book = sc; replicas = rs })
+  moved_on : (sc : Book) (rs : List Replica) → Each (BothInForm P) rs → IsWorldInForm P (record w { book = sc; replicas = rs })
   moved_on sc rs each = record { replicas = each; replies = is.replies; images = is.images; snapshots = is.snapshots }
 
-  nothing_made : {A : Type 0} (P : A → Type 0) (x : Outcome) → MakesInForm P (nothing w x)
-  nothing_made P x = (is, λ y e. absurd (cc))
+  nothing_made : {A : Type 0} (Q : A → Type 0) (x : Outcome) → MakesInForm P Q (nothing w x)
+  nothing_made Q x = (is, λ y e. absurd (cc))
 
   -- ---- calls of a controller that is there
 
   module _ (r : Replica) (there : Member r w.replicas) where
-    moved_world : (m : Book × Replica) (standing : Standing) (plan : Option Plan) → IsInForm m.1.safe × IsInForm m.1.read
-        → IsWorldInForm (record w { book = m.0; replicas = with_replica w.replicas (record m.1 { standing = standing; plan = plan }) })
+    moved_world : (m : Book × Replica) (standing : Standing) (plan : Option Plan) → IsInForm P m.1.safe × IsInForm P m.1.read
+        → IsWorldInForm P (record w { book = m.0; replicas = with_replica w.replicas (record m.1 { standing = standing; plan = plan }) })
     moved_world m standing plan both = moved_on m.0 (with_replica w.replicas (record m.1 { standing = standing; plan = plan })) (each_placed (record m.1 { standing = standing; plan = plan }) both)
 
-    commits : (p : Pending) (outcome : Outcome) → IsInForm (after r.safe p.change) → InForm (commit w r p outcome)
+    commits : (p : Pending) (outcome : Outcome) → IsInForm P (after r.safe p.change) → InForm (commit w r p outcome)
     commits p outcome new = within_case InForm w (log_end_after r.safe_end p.change) (committed w r p outcome) is
         (moved_world (fold moved (w.book, r) (moves_of_commit p (went r.plan 4))) (standing_after Failed (went r.plan 4)) (plan_after (went r.plan 4))
-        (committing IsInForm w.book r (is.replicas r there) p new (went r.plan 4)))
+        (committing (IsInForm P) w.book r (is.replicas r there) p new (went r.plan 4)))
 
     quarantining : (outcome : Outcome) → InForm (quarantines w r outcome)
-    quarantining outcome = commits (record { call = ToQuarantine; change = quarantine r.safe }) outcome (quarantined_in_form r.safe (is.replicas r there).0)
+    quarantining outcome = commits (record { call = ToQuarantine; change = quarantine r.safe }) outcome (quarantined_in_form P r.safe (is.replicas r there).0)
 
-    wrote : (what : Write) → IsWellGiven what → (t : Result Change WriteRefusal) → write r.safe what w.time ≡ t → InForm (after_write w r what t)
-    wrote what given (Err x) e = is
-    wrote what given (Ok c) e = commits (record { call = ToWrite what w.time; change = c }) (outcomes.Usn c.usn) (written_in_form r.safe what w.time c (is.replicas r there).0 given e)
+    wrote : (what : Write) → IsWellGiven what → Each P (rows_written r.safe what w.time).rows → (t : Result Change WriteRefusal) → write r.safe what w.time ≡ t → InForm (after_write w r what t)
+    wrote what given new (Err x) e = is
+    wrote what given new (Ok c) e = commits (record { call = ToWrite what w.time; change = c }) (outcomes.Usn c.usn) (written_in_form P r.safe what w.time c (is.replicas r there).0 given new e)
 
-    took : (reply : Reply) → IsSpelledReply reply → (t : Result Change TakeRefusal) → take r.safe reply ≡ t → InForm (after_take w r reply t)
-    took reply spelled (Ok c) e = commits (record { call = ToTake reply; change = c }) (outcomes.Took (length reply.items) (length c.writes) c.usn) (taken_in_form r.safe reply c (is.replicas r there).0 spelled e)
-    took reply spelled (Err (takes.RolledBack inv mine shown)) e = quarantining (take_refused (takes.RolledBack inv mine shown))
-    took reply spelled (Err _) e = is
+    took : (reply : Reply) → IsReplyInForm P reply → (t : Result Change TakeRefusal) → take r.safe reply ≡ t → InForm (after_take w r reply t)
+    took reply form (Ok c) e = commits (record { call = ToTake reply; change = c }) (outcomes.Took (length reply.items) (length c.writes) c.usn) (taken_in_form P r.safe reply c (is.replicas r there).0 form e)
+    took reply form (Err (takes.RolledBack inv mine shown)) e = quarantining (take_refused (takes.RolledBack inv mine shown))
+    took reply form (Err _) e = is
 
-    took_bound : (o : Option Reply) → ((reply : Reply) → o ≡ Some reply → IsSpelledReply reply) → InForm (delivered w r o)
+    took_bound : (o : Option Reply) → ((reply : Reply) → o ≡ Some reply → IsReplyInForm P reply) → InForm (delivered w r o)
     took_bound None all = is
     took_bound (Some reply) all = took reply (all reply refl) (take r.safe reply) refl
 
-    answered_with : (q : Request) (t : Result Reply ServeRefusal) → serve r.safe q ≡ t → MakesInForm IsSpelledReply (after_serve w r t)
-    answered_with q (Ok reply) e = (is, only_made IsSpelledReply reply (served_is_spelled r.safe q reply (is.replicas r there).0.formed (is.replicas r there).0.says e))
+    answered_with : (q : Request) (t : Result Reply ServeRefusal) → serve r.safe q ≡ t → MakesInForm P (IsReplyInForm P) (after_serve w r t)
+    answered_with q (Ok reply) e = (is, only_made (IsReplyInForm P) reply (served_in_form P r.safe q reply (is.replicas r there).0 e))
     answered_with q (Err (serves.RolledBack inv mine shown)) e = (quarantining (serve_refused (serves.RolledBack inv mine shown)), λ y n. absurd (cc))
     answered_with q (Err _) e = (is, λ y n. absurd (cc))
 
-    served_bound : (o : Option Request) → MakesInForm IsSpelledReply (served w r o)
-    served_bound None = nothing_made IsSpelledReply outcomes.Absent
+    served_bound : (o : Option Request) → MakesInForm P (IsReplyInForm P) (served w r o)
+    served_bound None = nothing_made (IsReplyInForm P) outcomes.Absent
     served_bound (Some q) = answered_with q (serve r.safe q) refl
 
     collected : (lifetime : ℕ) (t : Result Change CollectRefusal) → collect r.safe w.time lifetime ≡ t → InForm (after_collect w r lifetime t)
     collected lifetime (Err x) e = is
-    collected lifetime (Ok c) e = commits (record { call = ToCollect w.time lifetime; change = c }) (outcomes.Removed (length c.removed)) (collected_in_form r.safe w.time lifetime c (is.replicas r there).0 e)
+    collected lifetime (Ok c) e = commits (record { call = ToCollect w.time lifetime; change = c }) (outcomes.Removed (length c.removed)) (collected_in_form P r.safe w.time lifetime c (is.replicas r there).0 e)
 
     started_so : InForm (starts w r Down)
-    started_so = moved_world (fold moved (w.book, r) (moves_of_start (went r.plan 1))) (standing_after r.standing (went r.plan 1)) (plan_after (went r.plan 1)) (starting IsInForm w.book r (is.replicas r there) (went r.plan 1))
+    started_so = moved_world (fold moved (w.book, r) (moves_of_start (went r.plan 1))) (standing_after r.standing (went r.plan 1)) (plan_after (went r.plan 1)) (starting (IsInForm P) w.book r (is.replicas r there) (went r.plan 1))
 
     started_from : (standing : Standing) → InForm (starts w r standing)
     started_from Up = is
     started_from Down = started_so
     started_from Failed = started_so
 
-    imaged_from : (b : Bool) → MakesInForm IsImageInForm (backed_up w (if b then None else Some r.safe.store))
-    imaged_from true = nothing_made IsImageInForm quarantined
-    imaged_from false = (is, only_made IsImageInForm r.safe.store (image_in_form r.safe (is.replicas r there).0))
+    imaged_from : (b : Bool) → MakesInForm P (IsImageInForm P) (backed_up w (if b then None else Some r.safe.store))
+    imaged_from true = nothing_made (IsImageInForm P) quarantined
+    imaged_from false = (is, only_made (IsImageInForm P) r.safe.store (image_in_form P r.safe (is.replicas r there).0))
 
   -- ---- calls by name
 
-  pub writes_in_form : (name : Name) (what : Write) → IsWellGiven what → InForm (writes w name what)
-  writes_in_form name what given = reached_case InForm w name (stays w) (λ x. is) (λ r. after_write w r what (write r.safe what w.time)) (λ r called up. wrote r called.there what given (write r.safe what w.time) refl)
+  pub writes_in_form : (name : Name) (what : Write) → IsWellGiven what → Each (λ r. Each P (rows_written r.safe what w.time).rows) w.replicas → InForm (writes w name what)
+  writes_in_form name what given new = reached_case InForm w name (stays w) (λ x. is) (λ r. after_write w r what (write r.safe what w.time)) (λ r called up. wrote r called.there what given (new r called.there) (write r.safe what w.time) refl)
 
-  pub asks_in_form : (name partner : Name) (max : ℕ) → IsWorldInForm (asks w name partner max).0
+  pub asks_in_form : (name partner : Name) (max : ℕ) → IsWorldInForm P (asks w name partner max).0
   asks_in_form name partner max =
-      made_case (λ (t : Sent Request). IsWorldInForm t.0) w name (nothing w) (λ x. is) _ (λ r called. made_case (λ (t : Sent Request). IsWorldInForm t.0) w partner (nothing w) (λ x. is) _ (λ p at. up_case (λ (t : Sent Request). IsWorldInForm t.0) w name (nothing w) (λ x. is) r.standing _ (λ up. is)))
+      made_case (λ (t : Sent Request). IsWorldInForm P t.0) w name (nothing w) (λ x. is) _ (λ r called. made_case (λ (t : Sent Request). IsWorldInForm P t.0) w partner (nothing w) (λ x. is) _ (λ p at. up_case (λ (t : Sent Request). IsWorldInForm P t.0) w name (nothing w) (λ x. is) r.standing _ (λ up. is)))
 
-  pub serves_in_form : (name : Name) (o : Option Request) → MakesInForm IsSpelledReply (serves_request w name o)
-  serves_in_form name o = reached_case (MakesInForm IsSpelledReply) w name (nothing w) (nothing_made IsSpelledReply) (λ r. served w r o) (λ r called up. served_bound r called.there o)
+  pub serves_in_form : (name : Name) (o : Option Request) → MakesInForm P (IsReplyInForm P) (serves_request w name o)
+  serves_in_form name o = reached_case (MakesInForm P (IsReplyInForm P)) w name (nothing w) (nothing_made (IsReplyInForm P)) (λ r. served w r o) (λ r called up. served_bound r called.there o)
 
-  pub delivers_in_form : (name : Name) (o : Option Reply) → ((reply : Reply) → o ≡ Some reply → IsSpelledReply reply) → InForm (delivers w name o)
+  pub delivers_in_form : (name : Name) (o : Option Reply) → ((reply : Reply) → o ≡ Some reply → IsReplyInForm P reply) → InForm (delivers w name o)
   delivers_in_form name o all = reached_case InForm w name (stays w) (λ x. is) (λ r. delivered w r o) (λ r called up. took_bound r called.there o all)
 
   pub collects_in_form : (name : Name) (lifetime : ℕ) → InForm (of_controller w name (stays w) (λ r. after_collect w r lifetime (collect r.safe w.time lifetime)))
   collects_in_form name lifetime = reached_case InForm w name (stays w) (λ x. is) (λ r. after_collect w r lifetime (collect r.safe w.time lifetime)) (λ r called up. collected r called.there lifetime (collect r.safe w.time lifetime) refl)
 
-  pub backups_in_form : (name : Name) → MakesInForm IsImageInForm (of_controller w name (nothing w) (λ r. backed_up w (backup r.safe)))
-  backups_in_form name = reached_case (MakesInForm IsImageInForm) w name (nothing w) (nothing_made IsImageInForm) (λ r. backed_up w (backup r.safe)) (λ r called up. imaged_from r called.there (is_quarantined r.safe.mode))
+  pub backups_in_form : (name : Name) → MakesInForm P (IsImageInForm P) (of_controller w name (nothing w) (λ r. backed_up w (backup r.safe)))
+  backups_in_form name = reached_case (MakesInForm P (IsImageInForm P)) w name (nothing w) (nothing_made (IsImageInForm P)) (λ r. backed_up w (backup r.safe)) (λ r called up. imaged_from r called.there (is_quarantined r.safe.mode))
 
-  pub copies_in_form : (name : Name) → MakesInForm (λ (s : Snapshot). IsInForm s.state) (of_made (nothing w) (replica_at w name) (λ r. (w, outcomes.Ok, Some (record { state = r.read; log_end = r.read_end }))))
-  copies_in_form name = made_case (MakesInForm (λ (s : Snapshot). IsInForm s.state)) w name (nothing w) (nothing_made (λ (s : Snapshot). IsInForm s.state)) (λ r. (w, outcomes.Ok, Some (record { state = r.read; log_end = r.read_end })))
-      (λ r called. (is, only_made (λ (s : Snapshot). IsInForm s.state) (record { state = r.read; log_end = r.read_end }) (is.replicas r called.there).1))
+  pub copies_in_form : (name : Name) → MakesInForm P (λ (s : Snapshot). IsInForm P s.state) (of_made (nothing w) (replica_at w name) (λ r. (w, outcomes.Ok, Some (record { state = r.read; log_end = r.read_end }))))
+  copies_in_form name = made_case (MakesInForm P (λ (s : Snapshot). IsInForm P s.state)) w name (nothing w) (nothing_made (λ (s : Snapshot). IsInForm P s.state)) (λ r. (w, outcomes.Ok, Some (record { state = r.read; log_end = r.read_end })))
+      (λ r called. (is, only_made (λ (s : Snapshot). IsInForm P s.state) (record { state = r.read; log_end = r.read_end }) (is.replicas r called.there).1))
 
   pub plans_in_form : (name : Name) (plan : Plan) → InForm (of_made (stays w) (replica_at w name) (λ r. with_plan w r plan))
   plans_in_form name plan = made_case InForm w name (stays w) (λ x. is) (λ r. with_plan w r plan) (λ r called. moved_on w.book (with_replica w.replicas (record r { plan = Some plan })) (each_placed (record r { plan = Some plan }) (is.replicas r called.there)))
 
   pub stops_in_form : (name : Name) → InForm (of_made (stays w) (replica_at w name) (λ r. stops w r))
-  stops_in_form name = made_case InForm w name (stays w) (λ x. is) (λ r. stops w r) (λ r called. moved_world r called.there (moved (w.book, r) Settle) Down None (settling IsInForm w.book r (is.replicas r called.there)))
+  stops_in_form name = made_case InForm w name (stays w) (λ x. is) (λ r. stops w r) (λ r called. moved_world r called.there (moved (w.book, r) Settle) Down None (settling (IsInForm P) w.book r (is.replicas r called.there)))
 
   pub starts_in_form : (name : Name) → InForm (of_made (stays w) (replica_at w name) (λ r. starts w r r.standing))
   starts_in_form name = made_case InForm w name (stays w) (λ x. is) (λ r. starts w r r.standing) (λ r called. started_from r called.there r.standing)
@@ -157,21 +155,21 @@ module _ (w : World) (is : IsWorldInForm w) where
 
   -- ---- controllers that begin on a new disk, and disks that are put back
 
-  adopted : (place : Replica → List Replica) (name : Name) (image : Store) (dsa inv : Identifier) → IsImageInForm image
-      → ((s : State) → IsInForm s → Each BothInForm (place (on_new_disk name s))) → InForm (adopts w place name (adopt image dsa inv))
+  adopted : (place : Replica → List Replica) (name : Name) (image : Store) (dsa inv : Identifier) → IsImageInForm P image
+      → ((s : State) → IsInForm P s → Each (BothInForm P) (place (on_new_disk name s))) → InForm (adopts w place name (adopt image dsa inv))
   adopted place name image dsa inv of places = by (adopt image dsa inv) refl
     where
       by : (t : Result State AdoptRefusal) → adopt image dsa inv ≡ t → InForm (adopts w place name t)
       by (Err x) e = is
       by (Ok s) e = within_case InForm w (new_log_end s) (record w { book = begun w.book s; replicas = place (on_new_disk name s) }, outcomes.Ok) is
-          (moved_on (begun w.book s) (place (on_new_disk name s)) (places s (adopted_in_form image dsa inv s of e)))
+          (moved_on (begun w.book s) (place (on_new_disk name s)) (places s (adopted_in_form P image dsa inv s of e)))
 
-  of_bound : (image : Name) (act : Store → Gone) → ((i : Store) → IsImageInForm i → InForm (act i)) → InForm (of_image w (bound_at w.images image) act)
+  of_bound : (image : Name) (act : Store → Gone) → ((i : Store) → IsImageInForm P i → InForm (act i)) → InForm (of_image w (bound_at w.images image) act)
   of_bound image act acts = by (bound_at w.images image) refl
     where
       by : (o : Option Store) → bound_at w.images image ≡ o → InForm (of_image w o act)
       by None e = is
-      by (Some i) e = acts i (bound_member IsImageInForm w.images image i is.images e)
+      by (Some i) e = acts i (bound_member (IsImageInForm P) w.images image i is.images e)
 
   pub restores_in_form : (name image : Name) (inv : Identifier) → InForm (of_made (stays w) (replica_at w name) (λ r. of_image w (bound_at w.images image) (λ i. adopts w (with_replica w.replicas) name (adopt i r.safe.dsa inv))))
   restores_in_form name image inv = made_case InForm w name (stays w) (λ x. is) (λ r. of_image w (bound_at w.images image) (λ i. adopts w (with_replica w.replicas) name (adopt i r.safe.dsa inv)))
@@ -187,10 +185,10 @@ module _ (w : World) (is : IsWorldInForm w) where
       by : (o : Option Snapshot) → bound_at w.snapshots snapshot ≡ o → InForm (put_back w name o)
       by None e = is
       by (Some s) e =
-          let of : IsInForm s.state = bound_member (λ (t : Snapshot). IsInForm t.state) w.snapshots snapshot s is.snapshots e in
+          let of : IsInForm P s.state = bound_member (λ (t : Snapshot). IsInForm P t.state) w.snapshots snapshot s is.snapshots e in
           record { replicas = each_placed (on_disk name s.state s.log_end) (of, of); replies = is.replies; images = is.images; snapshots = is.snapshots }
 
   -- a new, empty controller
-  pub comes_in_form : (name : Name) (dsa inv : Identifier) → IsWorldInForm (record w { book = begun w.book (empty_state dsa inv); replicas = w.replicas ++ on_new_disk name (empty_state dsa inv) ∷ [] })
-  comes_in_form name dsa inv = let new = new_in_form dsa inv in
+  pub comes_in_form : (name : Name) (dsa inv : Identifier) → IsWorldInForm P (record w { book = begun w.book (empty_state dsa inv); replicas = w.replicas ++ on_new_disk name (empty_state dsa inv) ∷ [] })
+  comes_in_form name dsa inv = let new = new_in_form P dsa inv in
       moved_on (begun w.book (empty_state dsa inv)) (w.replicas ++ on_new_disk name (empty_state dsa inv) ∷ []) (each_joined (on_new_disk name (empty_state dsa inv)) (new, new))

@@ -2,7 +2,10 @@ pub mod Naming
 pub mod Following
 pub mod Typing
 pub mod Claimed
+pub mod WholeRows
+pub mod ShownPrintable
 pub mod StayingFormed
 pub mod FormedCalls
 pub mod FormedRuns
+pub mod PrintableRuns
 pub mod Texts

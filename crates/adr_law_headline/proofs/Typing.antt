@@ -1,4 +1,4 @@
--- What lines may say is typed.
+-- What lines may say is typed, and whole.
 use Rattle.std.proofs.Common.{◌≡◌, ℕ, List, [], ◌∷◌, length, inl, inr, sym, subst, true}
 use Rattle.std.specs.Prelude.{nat_le}
 use Rattle.std.specs.Str.{is_utf8}
@@ -14,6 +14,8 @@ use Rattle.adr_schedule.specs.Grammar.{tokens_behind, sets, HaveSpellings, IsAll
 use Rattle.adr_schedule.specs.Seen.{Seen, nothing_seen, seen_after, IsFollowing}
 use Rattle.adr_model.specs.Member.{Each}
 use Rattle.adr_law_recorded.specs.Typed.{IsTypedValue, AreTypedValues, IsTyped, AreTyped}
+use Rattle.adr_report.specs.Laws.{IsWholeReference}
+use Rattle.adr_law_headline.specs.Printable.{AreWholeValues, IsWholeWrite, WritesSo, AreWhole}
 
 -- ---- values
 
@@ -64,3 +66,43 @@ all_typed (x ∷ es) seen follow e (inr m) = all_typed es (seen_after seen x) fo
 -- what may follow from the beginning on is typed
 pub following_typed : (es : List Event) → IsFollowing nothing_seen es → AreTyped es
 following_typed es follow = all_typed es nothing_seen follow
+
+-- ---- identifiers
+
+reference_whole : (v : Item) (bytes : List ℕ) → SpellsValue v bytes → IsWholeReference v
+reference_whole (Text text) bytes q = tt
+reference_whole (Number number) bytes q = tt
+reference_whole (Flag flag) bytes q = tt
+reference_whole (Octets octets) bytes q = tt
+reference_whole (Ref id) bytes q = q.0
+
+references_whole : (vs : List Item) (bytes : List ℕ) → SpellsValues vs bytes → Each IsWholeReference vs
+references_whole [] bytes q v m = absurd m
+references_whole (x ∷ []) bytes q v (inl e) = subst IsWholeReference (sym e) (reference_whole x bytes q)
+references_whole (x ∷ []) bytes q v (inr m) = absurd m
+references_whole (x ∷ y ∷ vs) bytes q v (inl e) = subst IsWholeReference (sym e) (reference_whole x q.0 q.2)
+references_whole (x ∷ y ∷ vs) bytes q v (inr m) = references_whole (y ∷ vs) q.1 q.3 v m
+
+given_whole : (gs : List Given) → HaveSpellings (sets gs) → AreWholeValues gs
+given_whole [] h g m = absurd m
+given_whole (x ∷ gs) h g (inl e) = subst (λ (z : Given). Each IsWholeReference z.1) (sym e) (references_whole x.1 h.0.1.1 h.0.1.3)
+given_whole (x ∷ gs) h g (inr m) = given_whole gs h.1 g m
+
+event_whole : (e : Event) → IsAllowed e → WritesSo IsWholeWrite e
+unfolding tokens_behind
+event_whole (events.Add name guid class parent text values) (line, (verb, (to, (of_guid, (of_class, (of_parent, (of_text, given))))))) = (of_guid.1.0, of_parent.1.0, given_whole values given)
+event_whole (events.Modify name guid values) (line, (verb, (to, (of_guid, given)))) = (of_guid.1.0, given_whole values given)
+event_whole (events.Rename name guid parent text) (line, (verb, (to, (of_guid, (of_parent, more))))) = (of_guid.1.0, of_parent.1.0)
+event_whole (events.Delete name guid) (line, (verb, (to, (of_guid, end)))) = of_guid.1.0
+event_whole (events.Link name from attr to) (line, (verb, (at, (of_from, (of_attr, (of_to, end)))))) = (of_from.1.0, of_to.1.0)
+event_whole (events.Unlink name from attr to) (line, (verb, (at, (of_from, (of_attr, (of_to, end)))))) = (of_from.1.0, of_to.1.0)
+event_whole _ allowed = tt
+
+all_whole : (es : List Event) (seen : Seen) → IsFollowing seen es → AreWhole es
+all_whole [] seen follow e m = absurd m
+all_whole (x ∷ es) seen follow e (inl is) = subst (WritesSo IsWholeWrite) (sym is) (event_whole x follow.1)
+all_whole (x ∷ es) seen follow e (inr m) = all_whole es (seen_after seen x) follow.2 e m
+
+-- what may follow from the beginning on is whole
+pub following_whole : (es : List Event) → IsFollowing nothing_seen es → AreWhole es
+following_whole es follow = all_whole es nothing_seen follow

@@ -11,6 +11,7 @@ use Rattle.adr_model.specs.World.{World, answer}
 use Rattle.adr_model.specs.Step.{step}
 use Rattle.adr_model.specs.Convergence.{PutsNothingBack, in_view, ShowWhatIsVisible, ShowAlike, behind, StaysInView}
 use Rattle.adr_law_headline.specs.Formed.{AreFormedThroughout}
+use Rattle.adr_law_headline.specs.Printable.{ArePrintableThroughout}
 
 -- what holds of the world at every place of a run, as long as no database was put back
 abbrev pub HoldsThroughout : List Event → (World → Type 0) → Type 0
@@ -32,6 +33,6 @@ pub record Headline (es : List Event) : Type 0 where
   pub equal : HoldsThroughout es ShowAlike
   pub acknowledged : (before mid after : List Event) (e : Event) → es ≡ before ++ e ∷ mid ++ after → (behind (before ++ e ∷ mid)).clean ≡ true → StaysInView before e mid
 
--- the run of a text that is a schedule; its states are formed even behind a database that was put back
+-- the run of a text that is a schedule; its states are formed and its directories printable even behind a database that was put back
 abbrev pub IsHeadline : List ℕ → Type 0
-IsHeadline text = (es : List Event) → events_of text ≡ Ok es → Headline es × AreFormedThroughout es
+IsHeadline text = (es : List Event) → events_of text ≡ Ok es → Headline es × AreFormedThroughout es × ArePrintableThroughout es

@@ -2,7 +2,8 @@
 //!
 //! It stands on the theorem of `adr_law_convergence` and on the definitions of schedules in `adr_schedule`: what the lines
 //! of a text say may happen and is typed, so that the theorem holds of its run. That every state of a run is formed stands
-//! on the laws of `adr_law_formed`, which ask nothing of a sound world. Its functions have no code.
+//! on the laws of `adr_law_formed`, which ask nothing of a sound world; that what is held then shows a directory which its
+//! lines tell, on those of `adr_report`. Its functions have no code.
 #![tactic(auto)]
 
 ghost use Rattle.std.specs.Prelude.{ℕ, List};
@@ -12,6 +13,7 @@ ghost use Rattle.adr_model.specs.World.{empty_world};
 ghost use Rattle.adr_schedule.specs.Seen.{IsFollowing, nothing_seen};
 ghost use Rattle.adr_law_recorded.specs.Typed.{AreTyped};
 ghost use Rattle.adr_law_headline.specs.Formed.{RunsAreFormed};
+ghost use Rattle.adr_law_headline.specs.Printable.{AreWhole, RunsArePrintable};
 ghost use Rattle.adr_law_headline.specs.Headline.{Headline, IsHeadline};
 
 /// What lines say, one after the other, may happen.
@@ -27,6 +29,12 @@ pub fn lines_are_typed()
     ensures { (events : List Event) → IsFollowing nothing_seen events → AreTyped events }
 {}
 
+/// What lines say is whole: also the bytes of identifiers are in range.
+#[tactic(auto, using(crate::proofs::Typing::following_whole))]
+pub fn lines_are_whole()
+    ensures { (events : List Event) → IsFollowing nothing_seen events → AreWhole events }
+{}
+
 /// The theorem holds of every run of events that may happen.
 #[tactic(auto, using(crate::proofs::Claimed::headline))]
 pub fn headline_holds()
@@ -39,7 +47,13 @@ pub fn states_are_formed()
     ensures { RunsAreFormed }
 {}
 
-/// The theorem holds of the run of every text that is a schedule, and its states are formed.
+/// Every directory of a run is printable where what lines write is whole: what a controller holds, and what it answers, so
+/// that the lines of a `show` tell it, also behind a `rollback`.
+pub fn directories_are_printable()
+    ensures { RunsArePrintable }
+{}
+
+/// The theorem holds of the run of every text that is a schedule, its states are formed, and its directories are printable.
 pub fn headline_holds_of_texts()
     ensures { (text : List ℕ) → IsHeadline text }
 {}

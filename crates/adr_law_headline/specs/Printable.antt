@@ -1,0 +1,45 @@
+-- Every directory of a run is printable, so that its lines tell it, where the identifiers that are written have sixteen bytes.
+-- That bytes are below 256 is part of it: that an event is typed says only how many there are.
+use Rattle.std.specs.Prelude.{◌≡◌, List, ◌++◌, IfSome}
+use Rattle.adr_schema.specs.Assignments.{Given}
+use Rattle.adr_event.specs.declared.event.Event.{Event}
+use Rattle.adr_token.specs.Laws.{IsIdentifier}
+use Rattle.adr_model.specs.Member.{Each}
+use Rattle.adr_model.specs.Write.{Write, AddObject, Modify, Rename, Delete, AddLink, RemoveLink}
+use Rattle.adr_model.specs.Directory.{directory}
+use Rattle.adr_model.specs.World.{World, empty_world, shown}
+use Rattle.adr_model.specs.Step.{ClientWrite, write_of, after_lines}
+use Rattle.adr_model.specs.Convergence.{MayAllHappen, held_by}
+use Rattle.adr_report.specs.Printable.{IsPrintable}
+use Rattle.adr_report.specs.Laws.{IsWholeReference}
+
+abbrev pub AreWholeValues : List Given → Type 0
+AreWholeValues values = Each (λ (g : Given). Each IsWholeReference g.1) values
+
+-- the identifiers of a write have sixteen bytes
+abbrev pub IsWholeWrite : Write → Type 0
+IsWholeWrite (AddObject guid class parent text values) = IsIdentifier guid × IsIdentifier parent × AreWholeValues values
+IsWholeWrite (Modify guid values) = IsIdentifier guid × AreWholeValues values
+IsWholeWrite (Rename guid parent text) = IsIdentifier guid × IsIdentifier parent
+IsWholeWrite (Delete guid) = IsIdentifier guid
+IsWholeWrite (AddLink from attr to) = IsIdentifier from × IsIdentifier to
+IsWholeWrite (RemoveLink from attr to) = IsIdentifier from × IsIdentifier to
+
+-- if an event is a write, something holds of what is written
+abbrev pub WritesSo : (Write → Type 0) → Event → Type 0
+WritesSo Q e = IfSome (write_of e) (λ (w : ClientWrite). Q w.what)
+
+-- what each of the events writes is whole
+abbrev pub AreWhole : List Event → Type 0
+AreWhole es = Each (WritesSo IsWholeWrite) es
+
+-- the directory of what each controller holds is printable, and so is what it answers where it is asked
+abbrev pub ShowPrintable : World → Type 0
+ShowPrintable w = Each (λ r. IsPrintable (directory (held_by r)) × IsPrintable (shown w r.safe)) w.replicas
+
+abbrev pub RunsArePrintable : Type 0
+RunsArePrintable = (es : List Event) → MayAllHappen empty_world es → AreWhole es → ShowPrintable (after_lines empty_world es)
+
+-- at every place of a run, whether or not a database was put back
+abbrev pub ArePrintableThroughout : List Event → Type 0
+ArePrintableThroughout es = (before after : List Event) → es ≡ before ++ after → ShowPrintable (after_lines empty_world before)
