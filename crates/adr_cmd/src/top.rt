@@ -133,13 +133,13 @@ pub fn run<S: Source, K: Sink>(alloc: Global, words: &[String], source: &mut S, 
     ensures printed { result ≡ 0
         → IfSome (S.left source.old) (λ text. AtEachShow text (Adds (K.written sink.old) (K.written sink.new))) }
 
-    // Equal lines mean equal directories, of entries that are printable.
+    // Equal lines mean equal directories, of entries that are printable, as those of every run are (*headline*).
     ensures directories { EqualLinesMeanEqualDirectories }
 
     // Of every text that is a schedule, wherever its run stands while no database was put back, as none is without a
     // `rollback`: each controller shows the directory of the issued updates that it covers or holds, controllers that cover
     // the same, and hold nothing beyond, show the same, and every write that was acknowledged is in view for whoever has its
-    // identifier.
+    // identifier. And always each state is formed, and each directory printable.
     ensures headline { (text : List ℕ) → IsHeadline text }
 
     // With a fault it is a front of that. Of the source no more is read than a text may have, and one byte.

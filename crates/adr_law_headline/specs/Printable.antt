@@ -8,8 +8,8 @@ use Rattle.adr_model.specs.Member.{Each}
 use Rattle.adr_model.specs.Write.{Write, AddObject, Modify, Rename, Delete, AddLink, RemoveLink}
 use Rattle.adr_model.specs.Directory.{directory}
 use Rattle.adr_model.specs.World.{World, empty_world, shown}
-use Rattle.adr_model.specs.Step.{ClientWrite, write_of, after_lines}
-use Rattle.adr_model.specs.Convergence.{MayAllHappen, held_by}
+use Rattle.adr_model.specs.Step.{ClientWrite, write_of}
+use Rattle.adr_model.specs.Convergence.{MayAllHappen, behind, held_by}
 use Rattle.adr_report.specs.Printable.{IsPrintable}
 use Rattle.adr_report.specs.Laws.{IsWholeReference}
 
@@ -38,8 +38,8 @@ abbrev pub ShowPrintable : World → Type 0
 ShowPrintable w = Each (λ r. IsPrintable (directory (held_by r)) × IsPrintable (shown w r.safe)) w.replicas
 
 abbrev pub RunsArePrintable : Type 0
-RunsArePrintable = (es : List Event) → MayAllHappen empty_world es → AreWhole es → ShowPrintable (after_lines empty_world es)
+RunsArePrintable = (es : List Event) → MayAllHappen empty_world es → AreWhole es → ShowPrintable (behind es)
 
 -- at every place of a run, whether or not a database was put back
 abbrev pub ArePrintableThroughout : List Event → Type 0
-ArePrintableThroughout es = (before after : List Event) → es ≡ before ++ after → ShowPrintable (after_lines empty_world before)
+ArePrintableThroughout es = (before after : List Event) → es ≡ before ++ after → ShowPrintable (behind before)
