@@ -119,6 +119,6 @@ pub record Calls {K : Type 0} (k : Ghosts K) (changes : State → Option Change)
 -- it goes where a commit takes the replica; where none was made it stays as it was
 abbrev pub GoesAs :
     {K : Type 0} → (K → Replica → Type 0) → (K → Bool) → Option Hindrance → Replica → Replica → K → Type 0
-GoesAs has is_down None before after new = CommitsAs has is_down None after new
-GoesAs has is_down (Some DiskFault) before after new = CommitsAs has is_down (Some keeps.DiskFault) after new
-GoesAs has is_down (Some hindrance) before after new = has new before × (is_down new ≡ false)
+GoesAs has has_stopped None before after new = CommitsAs has has_stopped None after new
+GoesAs has has_stopped (Some DiskFault) before after new = CommitsAs has has_stopped (Some keeps.DiskFault) after new
+GoesAs has has_stopped (Some hindrance) before after new = has new before × (has_stopped new ≡ false)

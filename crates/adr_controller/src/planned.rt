@@ -18,7 +18,7 @@ impl<K: PlannedKeeper> Controller<K> {
     pub fn stop_after(&mut self, calls: u32, how: Crash)
         ensures plan { K.plan self.new.keeper ≡ Some (record { calls = calls; fault = Stops how }) }
         ensures same { Same K.read K.safe K.torn K.is_failed self.old.keeper self.new.keeper }
-        ensures running { K.is_down self.new.keeper ≡ K.is_down self.old.keeper }
+        ensures running { K.has_stopped self.new.keeper ≡ K.has_stopped self.old.keeper }
         ensures stays { self.new ≡ record self.old { keeper = self.new.keeper } }
     {
         self.keeper.stop_after(calls, how);
@@ -28,7 +28,7 @@ impl<K: PlannedKeeper> Controller<K> {
     pub fn fail_after(&mut self, calls: u32)
         ensures plan { K.plan self.new.keeper ≡ Some (record { calls = calls; fault = Fails }) }
         ensures same { Same K.read K.safe K.torn K.is_failed self.old.keeper self.new.keeper }
-        ensures running { K.is_down self.new.keeper ≡ K.is_down self.old.keeper }
+        ensures running { K.has_stopped self.new.keeper ≡ K.has_stopped self.old.keeper }
         ensures stays { self.new ≡ record self.old { keeper = self.new.keeper } }
     {
         self.keeper.fail_after(calls);
@@ -42,7 +42,7 @@ impl<K: PlannedKeeper> Controller<K> {
         ensures torn { K.torn self.new.keeper ≡ K.read self.new.keeper }
         ensures plan { K.plan self.new.keeper ≡ None }
         ensures down { self.new ≡ record { keeper = self.new.keeper; state = None; down = true } }
-        ensures stopped { K.is_down self.new.keeper ≡ true }
+        ensures stopped { K.has_stopped self.new.keeper ≡ true }
     {
         forget(&mut self.state);
         self.down = true;
@@ -51,7 +51,7 @@ impl<K: PlannedKeeper> Controller<K> {
 
     /// Whether its disk has crashed and was not revived.
     pub fn is_stopped(&self) -> bool
-        ensures { result ≡ K.is_down self.now.keeper }
+        ensures { result ≡ K.has_stopped self.now.keeper }
     {
         self.keeper.is_stopped()
     }
@@ -61,7 +61,7 @@ impl<K: PlannedKeeper> Controller<K> {
         requires { self.old.state ≡ None }
         ensures plan { K.plan self.new.keeper ≡ K.plan self.old.keeper }
         ensures same { Same K.read K.safe K.torn K.is_failed self.old.keeper self.new.keeper }
-        ensures running { K.is_down self.new.keeper ≡ false }
+        ensures running { K.has_stopped self.new.keeper ≡ false }
         ensures stays { self.new ≡ record self.old { keeper = self.new.keeper } }
     {
         self.keeper.revive();
@@ -81,7 +81,7 @@ impl<K: PlannedKeeper> Controller<K> {
 pub fn commits_go_as_planned<K: PlannedKeeper>()
     ensures { (old new : K) (c : Changes) (how : Option Hindrance) (book : Book) (r : Replica) (p : Pending)
         → K.is_at old (safe_found r) → K.is_failed old ≡ false → K.can_follow r.safe c
-        → K.is_down old ≡ false → read_found r ≡ safe_found r → Has K.read K.safe K.torn K.plan old r
+        → K.has_stopped old ≡ false → read_found r ≡ safe_found r → Has K.read K.safe K.torn K.plan old r
         → p.change ≡ c → Ran ⟦<K as Keeper>⟧ old c how new
-        → GoesAs (Has K.read K.safe K.torn K.plan) K.is_down how r (committed book r p) new }
+        → GoesAs (Has K.read K.safe K.torn K.plan) K.has_stopped how r (committed book r p) new }
 {}

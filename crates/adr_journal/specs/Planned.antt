@@ -31,13 +31,13 @@ cause_of (Some refusal) = Some failed_call
 
 -- a commit that ended so leaves what the replica has, and stands as it does; one that passed leaves a disk that runs
 abbrev pub CommitsAs : {K : Type 0} → (K → Replica → Type 0) → (K → Bool) → Option KeeperRefusal → Replica → K → Type 0
-CommitsAs has is_down e after new =
-    has new after × (standing_of (cause_of e) (is_down new) stands_failed ≡ after.standing) × IsRunning (cause_of e) (is_down new)
+CommitsAs has has_stopped e after new =
+    has new after × (standing_of (cause_of e) (has_stopped new) stands_failed ≡ after.standing) × IsRunning (cause_of e) (has_stopped new)
 
 -- and a start: the sync that it begins with was made, failed, or wanted memory before it did anything
 abbrev pub StartsAs : {K : Type 0} → (K → Replica → Type 0) → (K → Bool) → Option StartRefusal → Replica → Replica → K → Type 0
-StartsAs has is_down None before after new = has new after × (standing_of None (is_down new) before.standing ≡ after.standing) × (is_down new ≡ false)
-StartsAs has is_down (Some DiskFault) before after new = has new after × (standing_of (Some failed_call) (is_down new) before.standing ≡ after.standing)
-StartsAs has is_down (Some (Damaged place)) before after new = has new after
-StartsAs has is_down (Some (NoMemory true)) before after new = has new after
-StartsAs has is_down (Some (NoMemory false)) before after new = has new before
+StartsAs has has_stopped None before after new = has new after × (standing_of None (has_stopped new) before.standing ≡ after.standing) × (has_stopped new ≡ false)
+StartsAs has has_stopped (Some DiskFault) before after new = has new after × (standing_of (Some failed_call) (has_stopped new) before.standing ≡ after.standing)
+StartsAs has has_stopped (Some (Damaged place)) before after new = has new after
+StartsAs has has_stopped (Some (NoMemory true)) before after new = has new after
+StartsAs has has_stopped (Some (NoMemory false)) before after new = has new before

@@ -16,7 +16,7 @@ impl<F: Form> Journal<MemDisk, F> {
     pub fn in_memory(alloc: Global) -> Journal<MemDisk, F>
         ensures empty { ⟦<Journal<MemDisk, F> as Keeper>⟧.is_empty result }
         ensures up { ⟦<Journal<MemDisk, F> as Keeper>⟧.is_failed result ≡ false }
-        ensures running { ⟦<Journal<MemDisk, F> as PlannedKeeper>⟧.is_down result ≡ false }
+        ensures running { ⟦<Journal<MemDisk, F> as PlannedKeeper>⟧.has_stopped result ≡ false }
         ensures plan { ⟦<Journal<MemDisk, F> as PlannedKeeper>⟧.plan result ≡ None }
     {
         Journal::over(alloc, MemDisk::new(alloc))
@@ -31,7 +31,7 @@ impl<F: Form> Journal<MemDisk, F> {
         ensures torn { IfOk result (λ j. ⟦<Journal<MemDisk, F> as PlannedKeeper>⟧.torn j
             ≡ ⟦<Journal<MemDisk, F> as PlannedKeeper>⟧.found_in bytes.items) }
         ensures up { IfOk result (λ j. ⟦<Journal<MemDisk, F> as Keeper>⟧.is_failed j ≡ false) }
-        ensures running { IfOk result (λ j. ⟦<Journal<MemDisk, F> as PlannedKeeper>⟧.is_down j ≡ false) }
+        ensures running { IfOk result (λ j. ⟦<Journal<MemDisk, F> as PlannedKeeper>⟧.has_stopped j ≡ false) }
         ensures plan { IfOk result (λ j. ⟦<Journal<MemDisk, F> as PlannedKeeper>⟧.plan j ≡ None) }
     {
         let disk = MemDisk::of(alloc, bytes)?;
@@ -55,7 +55,7 @@ impl<F: Form> PlannedKeeper for Journal<MemDisk, F> {
 
     ghost plan = { λ j. plan_of j.disk.plan };
 
-    ghost is_down = { λ j. j.disk.stopped };
+    ghost has_stopped = { λ j. j.disk.stopped };
 
     ghost found_in = { start_of F.head F.following };
 

@@ -27,8 +27,8 @@ pub trait PlannedKeeper: Keeper {
     /// What the next writes and syncs meet.
     ghost plan: { Self → Option Plan };
 
-    /// Whether it has crashed and was not revived.
-    ghost is_down: { Self → Bool };
+    /// Whether its disk has crashed and was not revived.
+    ghost has_stopped: { Self → Bool };
 
     /// What a start would find in these bytes.
     ghost found_in: { List ℕ → Started Defined };
@@ -37,14 +37,14 @@ pub trait PlannedKeeper: Keeper {
     fn stop_after(&mut self, calls: u32, how: Crash)
         ensures plan { plan self.new ≡ Some (record { calls = calls; fault = Stops how }) }
         ensures same { Same read safe torn Self.is_failed self.old self.new }
-        ensures running { is_down self.new ≡ is_down self.old }
+        ensures running { has_stopped self.new ≡ has_stopped self.old }
         ensures at { (f : Found Defined) → Self.is_at self.old f → Self.is_at self.new f };
 
     /// Lets so many writes and syncs pass, and fails the next, which changes nothing.
     fn fail_after(&mut self, calls: u32)
         ensures plan { plan self.new ≡ Some (record { calls = calls; fault = Fails }) }
         ensures same { Same read safe torn Self.is_failed self.old self.new }
-        ensures running { is_down self.new ≡ is_down self.old }
+        ensures running { has_stopped self.new ≡ has_stopped self.old }
         ensures at { (f : Found Defined) → Self.is_at self.old f → Self.is_at self.new f };
 
     /// Crashes now, and drops a plan.
@@ -54,17 +54,17 @@ pub trait PlannedKeeper: Keeper {
         ensures torn { torn self.new ≡ read self.new }
         ensures failed { Self.is_failed self.new ≡ Self.is_failed self.old }
         ensures plan { plan self.new ≡ None }
-        ensures down { is_down self.new ≡ true };
+        ensures stopped { has_stopped self.new ≡ true };
 
-    /// Whether it has crashed and was not revived.
+    /// Whether its disk has crashed and was not revived.
     fn is_stopped(&self) -> bool
-        ensures { result ≡ is_down self.now };
+        ensures { result ≡ has_stopped self.now };
 
     /// Ends a crash, and keeps a plan that was set after it.
     fn revive(&mut self)
         ensures plan { plan self.new ≡ plan self.old }
         ensures same { Same read safe torn Self.is_failed self.old self.new }
-        ensures running { is_down self.new ≡ false };
+        ensures running { has_stopped self.new ≡ false };
 
     /// A copy of the bytes on its disk.
     fn bytes(&self) -> Result<Vec<u8>, NoMemory>
@@ -78,22 +78,22 @@ pub trait PlannedKeeper: Keeper {
         → (read k ≡ Ok f) × (safe k ≡ Ok f) × (torn k ≡ Ok f) };
 
     /// Without a plan a format doesn't fail.
-    ghost formats_unplanned: { (k new : Self) (e : Option Refusal) → is_down k ≡ false → plan k ≡ None
-        → Self.formats k e new → (plan new ≡ None) × (is_down new ≡ false) × ((e ≡ None) ⊎ (e ≡ Some Refusal.NoMemory)) };
+    ghost formats_unplanned: { (k new : Self) (e : Option Refusal) → has_stopped k ≡ false → plan k ≡ None
+        → Self.formats k e new → (plan new ≡ None) × (has_stopped new ≡ false) × ((e ≡ None) ⊎ (e ≡ Some Refusal.NoMemory)) };
 
     /// What makes ready for a commit meets no plan.
-    ghost prepares_unmet: { (k new : Self) (e : Option Refusal) (r : Replica) → is_down k ≡ false → Has read safe torn plan k r
+    ghost prepares_unmet: { (k new : Self) (e : Option Refusal) (r : Replica) → has_stopped k ≡ false → Has read safe torn plan k r
         → Self.prepares k e new
-        → Has read safe torn plan new r × (is_down new ≡ false) × (e ≡ Some Refusal.DiskFault → ⊥) };
+        → Has read safe torn plan new r × (has_stopped new ≡ false) × (e ≡ Some Refusal.DiskFault → ⊥) };
 
     /// A commit does to what is read, to what is safe and to the plan what it does to a replica.
     ghost commits_as_planned: { (k new : Self) (c : Changes) (e : Option Refusal) (book : Book) (r : Replica) (p : Pending)
         → Self.is_at k (safe_found r) → Self.is_failed k ≡ false → Self.is_prepared k c → Self.can_follow r.safe c
-        → is_down k ≡ false → read_found r ≡ safe_found r → Has read safe torn plan k r → p.change ≡ c
-        → Self.commits k c e new → CommitsAs (Has read safe torn plan) is_down e (committed book r p) new };
+        → has_stopped k ≡ false → read_found r ≡ safe_found r → Has read safe torn plan k r → p.change ≡ c
+        → Self.commits k c e new → CommitsAs (Has read safe torn plan) has_stopped e (committed book r p) new };
 
     /// And so does a start.
     ghost starts_as_planned: { (k new : Self) (e : Option Refused) (book : Book) (r : Replica)
-        → is_down k ≡ false → Has read safe torn plan k r
-        → Self.starts k e new → StartsAs (Has read safe torn plan) is_down e r (started book r) new };
+        → has_stopped k ≡ false → Has read safe torn plan k r
+        → Self.starts k e new → StartsAs (Has read safe torn plan) has_stopped e r (started book r) new };
 }

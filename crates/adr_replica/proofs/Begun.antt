@@ -59,17 +59,17 @@ faulty_as is_held r q past later made stopped b is said told same says =
     subst (λ s. Leads r past (λ w. starts w r r.standing) q later (of_fault s)) (sym same ∙ says) (b.faulty is)
 
 -- what is up already
-pub up_already : {K : Type 0} (k : Ghosts K) (read safe torn : K → Started State) (plan : K → Option Plan) (is_down : K → Bool) (name : List ℕ) (dsa : Identifier) (old : Running K) (kept : Option Pending)
-    → IsHeld read safe torn plan is_down name dsa old kept → (v : Replica) (past : Past) (s : State)
+pub up_already : {K : Type 0} (k : Ghosts K) (read safe torn : K → Started State) (plan : K → Option Plan) (has_stopped : K → Bool) (name : List ℕ) (dsa : Identifier) (old : Running K) (kept : Option Pending)
+    → IsHeld read safe torn plan has_stopped name dsa old kept → (v : Replica) (past : Past) (s : State)
     → seen read safe plan name old kept ≡ v → old.state ≡ Some s → IsInOrder k old → (w : World) → StandsIn w v past → starts w v v.standing ≡ (world_with w v past, outcomes.Up)
-up_already k read safe torn plan is_down name dsa old kept held v past s is there order w stands =
+up_already k read safe torn plan has_stopped name dsa old kept held v past s is there order w stands =
     let up : v.standing ≡ Up = ap (λ (r : Replica). r.standing) (sym is) ∙ ap (λ b. standing_by b old.state) (order.up s there).1 ∙ ap (λ o. standing_by false o) there in
     ap (λ st. starts w v st) up ∙ ap (λ x. (x, outcomes.Up)) (same_world w v v past past stands refl refl)
 
-module _ {K : Type 0} (k : Ghosts K) (read safe torn : K → Started State) (plan : K → Option Plan) (is_down : K → Bool)
-    (name : List ℕ) (dsa : Identifier) (old : Running K) (kept : Option Pending) (held : IsHeld read safe torn plan is_down name dsa old kept) (order : IsInOrder k old) (past : Past) (none : old.state ≡ None)
-    (law : GoesAsPlanned k read safe torn plan is_down)
-    (revived mid : Running K) (planned : plan revived.keeper ≡ plan old.keeper) (same : Same read safe torn k.is_failed old.keeper revived.keeper) (runs : is_down revived.keeper ≡ false)
+module _ {K : Type 0} (k : Ghosts K) (read safe torn : K → Started State) (plan : K → Option Plan) (has_stopped : K → Bool)
+    (name : List ℕ) (dsa : Identifier) (old : Running K) (kept : Option Pending) (held : IsHeld read safe torn plan has_stopped name dsa old kept) (order : IsInOrder k old) (past : Past) (none : old.state ≡ None)
+    (law : GoesAsPlanned k read safe torn plan has_stopped)
+    (revived mid : Running K) (planned : plan revived.keeper ≡ plan old.keeper) (same : Same read safe torn k.is_failed old.keeper revived.keeper) (runs : has_stopped revived.keeper ≡ false)
     (stays : revived ≡ record old { keeper = revived.keeper }) where
   abbrev r : Replica
   r = seen read safe plan name old kept
@@ -92,36 +92,36 @@ module _ {K : Type 0} (k : Ghosts K) (read safe torn : K → Started State) (pla
 
   module _ {T : Type 0} where
     abbrev Left : Result T StartRefusal → Running K → Option Pending → Past → Type 0
-    Left made n x l = Begins (IsHeld read safe torn plan is_down name dsa n x) r (seen read safe plan name n x) past l made (is_down n.keeper)
+    Left made n x l = Begins (IsHeld read safe torn plan has_stopped name dsa n x) r (seen read safe plan name n x) past l made (has_stopped n.keeper)
 
     abbrev LeftBy : Result T StartRefusal → Type 0
     LeftBy made =
         let how = hindrance_of_start (ended_start made) in
-        Left made (left_by is_down how mid) (come how kept begun.kept) (come how past begun.past)
+        Left made (left_by has_stopped how mid) (come how kept begun.kept) (come how past begun.past)
 
     pub came : (made : Result T StartRefusal) → OnOk made (IsStarted k revived.keeper mid) → OnErr made ((mid.state ≡ None) × (mid.down ≡ revived.down))
         → IfErr made (λ e. IsDamageOf e (k.told revived.keeper)) → k.starts revived.keeper (ended_start made) mid.keeper → LeftBy made
     came (Ok x) ok err damaged ran =
-        let goes : StartsAs (Has read safe torn plan) is_down None r (started past.book r) mid.keeper = law.starts revived.keeper mid.keeper None past.book r runs has ran in
+        let goes : StartsAs (Has read safe torn plan) has_stopped None r (started past.book r) mid.keeper = law.starts revived.keeper mid.keeper None past.book r runs has ran in
         let up : Up ≡ standing_after r.standing (went r.plan 1) = goes.1 in
-        let again = up_again (went r.plan 1) r.standing (restarts.not_up read safe torn plan is_down name dsa old kept held past none) up in
+        let again = up_again (went r.plan 1) r.standing (restarts.not_up read safe torn plan has_stopped name dsa old kept held past none) up in
         record {
-          held = restarts.started_held read safe torn plan is_down name dsa old kept held past none mid ok.state ok.in_memory ok.up goes.0 up again goes.2;
-          passed = λ y is. restarts.started_leads read safe torn plan is_down name dsa old kept held past none mid ok.state ok.in_memory ok.up goes.0 up again goes.2;
+          held = restarts.started_held read safe torn plan has_stopped name dsa old kept held past none mid ok.state ok.in_memory ok.up goes.0 up again goes.2;
+          passed = λ y is. restarts.started_leads read safe torn plan has_stopped name dsa old kept held past none mid ok.state ok.in_memory ok.up goes.0 up again goes.2;
           faulty = λ is. absurd (cc is);
           wanting = λ settled is. absurd (cc is);
         }
     came (Err refusals.DiskFault) ok err damaged ran =
-        let goes : StartsAs (Has read safe torn plan) is_down (Some refusals.DiskFault) r (started past.book r) mid.keeper = law.starts revived.keeper mid.keeper (Some refusals.DiskFault) past.book r runs has ran in
-        let goes_failed : StartsAs (Has read safe torn plan) is_down (Some refusals.DiskFault) failed (started past.book failed) mid.keeper =
+        let goes : StartsAs (Has read safe torn plan) has_stopped (Some refusals.DiskFault) r (started past.book r) mid.keeper = law.starts revived.keeper mid.keeper (Some refusals.DiskFault) past.book r runs has ran in
+        let goes_failed : StartsAs (Has read safe torn plan) has_stopped (Some refusals.DiskFault) failed (started past.book failed) mid.keeper =
         law.starts revived.keeper mid.keeper (Some refusals.DiskFault) past.book failed runs has_failed ran in
         let down = err.1 ∙ was_down in
         record {
-          held = restarts.faulty_held read safe torn plan is_down name dsa old kept held past none mid err.0 down goes.0 goes.1 goes_failed.1;
+          held = restarts.faulty_held read safe torn plan has_stopped name dsa old kept held past none mid err.0 down goes.0 goes.1 goes_failed.1;
           passed = λ y is. absurd (cc is);
           faulty = λ is.
-              subst (λ s. Leads r past (λ w. starts w r r.standing) (seen read safe plan name (left_by is_down (Some hindrances.DiskFault) mid) begun.kept) begun.past (of_fault s))
-              (ap is_down (downed_keeper (is_down mid.keeper) mid)) (restarts.faulty_leads read safe torn plan is_down name dsa old kept held past none mid err.0 down goes.0 goes.1 goes_failed.1);
+              subst (λ s. Leads r past (λ w. starts w r r.standing) (seen read safe plan name (left_by has_stopped (Some hindrances.DiskFault) mid) begun.kept) begun.past (of_fault s))
+              (ap has_stopped (downed_keeper (has_stopped mid.keeper) mid)) (restarts.faulty_leads read safe torn plan has_stopped name dsa old kept held past none mid err.0 down goes.0 goes.1 goes_failed.1);
           wanting = λ settled is. absurd (cc is);
         }
     came (Err (refusals.Damaged place)) ok err damaged ran =
@@ -131,57 +131,57 @@ module _ {K : Type 0} (k : Ghosts K) (read safe torn : K → Started State) (pla
         let goes : Has read safe torn plan mid.keeper (started past.book r) = law.starts revived.keeper mid.keeper (Some (refusals.NoMemory true)) past.book r runs has ran in
         let down = err.1 ∙ was_down in
         record {
-          held = restarts.synced_held read safe torn plan is_down name dsa old kept held past none mid err.0 down goes;
+          held = restarts.synced_held read safe torn plan has_stopped name dsa old kept held past none mid err.0 down goes;
           passed = λ y is. absurd (cc is);
           faulty = λ is. absurd (cc is);
-          wanting = λ settled is. inr (restarts.not_up read safe torn plan is_down name dsa old kept held past none, restarts.synced_done read safe torn plan is_down name dsa old kept held past none mid err.0 down goes);
+          wanting = λ settled is. inr (restarts.not_up read safe torn plan has_stopped name dsa old kept held past none, restarts.synced_done read safe torn plan has_stopped name dsa old kept held past none mid err.0 down goes);
         }
     came (Err (refusals.NoMemory false)) ok err damaged ran =
         let goes : Has read safe torn plan mid.keeper r = law.starts revived.keeper mid.keeper (Some (refusals.NoMemory false)) past.book r runs has ran in
         let down = err.1 ∙ was_down in
         record {
-          held = restarts.short_held read safe torn plan is_down name dsa old kept held past none mid err.0 down goes;
+          held = restarts.short_held read safe torn plan has_stopped name dsa old kept held past none mid err.0 down goes;
           passed = λ y is. absurd (cc is);
           faulty = λ is. absurd (cc is);
-          wanting = λ settled is. inl (restarts.short_seen read safe torn plan is_down name dsa old kept held past none mid err.0 down goes, refl);
+          wanting = λ settled is. inl (restarts.short_seen read safe torn plan has_stopped name dsa old kept held past none mid err.0 down goes, refl);
         }
 
     -- the same, told of what the controller is seen as, and of what the start left
     pub begins_so : (v : Replica) (past_then : Past) (kept_then : Option Pending) (made : Result T StartRefusal) (how : Option Hindrance) (new : Running K) (x : Option Pending) (later : Past) → r ≡ v
         → past_then ≡ (ahead_of past v (moves_of_start (went v.plan 1))).past → kept_then ≡ (ahead_of past v (moves_of_start (went v.plan 1))).kept
-        → how ≡ hindrance_of_start (ended_start made) → new ≡ left_by is_down how mid → x ≡ come how kept kept_then → later ≡ come how past past_then
+        → how ≡ hindrance_of_start (ended_start made) → new ≡ left_by has_stopped how mid → x ≡ come how kept kept_then → later ≡ come how past past_then
         → OnOk made (IsStarted k revived.keeper mid) → OnErr made ((mid.state ≡ None) × (mid.down ≡ revived.down))
         → IfErr made (λ e. IsDamageOf e (k.told revived.keeper)) → k.starts revived.keeper (ended_start made) mid.keeper
-        → Begins (IsHeld read safe torn plan is_down name dsa new x) v (seen read safe plan name new x) past later made (is_down new.keeper)
+        → Begins (IsHeld read safe torn plan has_stopped name dsa new x) v (seen read safe plan name new x) past later made (has_stopped new.keeper)
     begins_so v past_then kept_then made how new x later is aheadp aheadk hinders newly keeps comes ok err damaged ran =
         let said = hindrance_of_start (ended_start made) in
-        let Told : Replica → Running K → Option Pending → Past → Type 0 = λ v n y l. Begins (IsHeld read safe torn plan is_down name dsa n y) v (seen read safe plan name n y) past l made (is_down n.keeper) in
+        let Told : Replica → Running K → Option Pending → Past → Type 0 = λ v n y l. Begins (IsHeld read safe torn plan has_stopped name dsa n y) v (seen read safe plan name n y) past l made (has_stopped n.keeper) in
         let kept_is : x ≡ come said kept begun.kept =
         keeps ∙ ap (λ h. come h kept kept_then) hinders ∙ ap (come said kept) (aheadk ∙ ap (λ (v : Replica). (ahead_of past v (moves_of_start (went v.plan 1))).kept) (sym is)) in
         let past_is : later ≡ come said past begun.past =
         comes ∙ ap (λ h. come h past past_then) hinders ∙ ap (come said past) (aheadp ∙ ap (λ (v : Replica). (ahead_of past v (moves_of_start (went v.plan 1))).past) (sym is)) in
-        let new_is : new ≡ left_by is_down said mid = newly ∙ ap (λ h. left_by is_down h mid) hinders in
+        let new_is : new ≡ left_by has_stopped said mid = newly ∙ ap (λ h. left_by has_stopped h mid) hinders in
         subst (λ v. Told v new x later) is
         (subst (λ n. Told r n x later) (sym new_is)
-        (subst (λ y. Told r (left_by is_down said mid) y later) (sym kept_is)
-        (subst (λ l. Told r (left_by is_down said mid) (come said kept begun.kept) l) (sym past_is) (came made ok err damaged ran))))
+        (subst (λ y. Told r (left_by has_stopped said mid) y later) (sym kept_is)
+        (subst (λ l. Told r (left_by has_stopped said mid) (come said kept begun.kept) l) (sym past_is) (came made ok err damaged ran))))
 
 -- ---- a start, told by what is known of it
 
 -- what a controller that was held began with
-abbrev pub BeginsTo : {K : Type 0} {read safe torn : K → Started State} {plan : K → Option Plan} {is_down : K → Bool} {name : List ℕ} {dsa : Identifier} {old : Running K} {kept : Option Pending} {T : Type 0}
-    → IsHeld read safe torn plan is_down name dsa old kept → Replica → Past → Result T StartRefusal → Running K → Option Pending → Past → Type 0
-BeginsTo {K} {read} {safe} {torn} {plan} {is_down} {name} {dsa} held v past made new x later =
-    Begins (IsHeld read safe torn plan is_down name dsa new x) v (seen read safe plan name new x) past later made (is_down new.keeper)
+abbrev pub BeginsTo : {K : Type 0} {read safe torn : K → Started State} {plan : K → Option Plan} {has_stopped : K → Bool} {name : List ℕ} {dsa : Identifier} {old : Running K} {kept : Option Pending} {T : Type 0}
+    → IsHeld read safe torn plan has_stopped name dsa old kept → Replica → Past → Result T StartRefusal → Running K → Option Pending → Past → Type 0
+BeginsTo {K} {read} {safe} {torn} {plan} {has_stopped} {name} {dsa} held v past made new x later =
+    Begins (IsHeld read safe torn plan has_stopped name dsa new x) v (seen read safe plan name new x) past later made (has_stopped new.keeper)
 
-pub begins_to : {K : Type 0} {k : Ghosts K} {read safe torn : K → Started State} {plan : K → Option Plan} {is_down : K → Bool} {name : List ℕ} {dsa : Identifier} {old revived new : Running K}
+pub begins_to : {K : Type 0} {k : Ghosts K} {read safe torn : K → Started State} {plan : K → Option Plan} {has_stopped : K → Bool} {name : List ℕ} {dsa : Identifier} {old revived new : Running K}
     {kept kept_then x : Option Pending} {v : Replica} {ahead later : Past} {how : Option Hindrance} {T : Type 0}
-    → (held : IsHeld read safe torn plan is_down name dsa old kept) → IsInOrder k old → GoesAsPlanned k read safe torn plan is_down → (past : Past) → old.state ≡ None
-    → plan revived.keeper ≡ plan old.keeper → Same read safe torn k.is_failed old.keeper revived.keeper → is_down revived.keeper ≡ false → revived ≡ record old { keeper = revived.keeper }
+    → (held : IsHeld read safe torn plan has_stopped name dsa old kept) → IsInOrder k old → GoesAsPlanned k read safe torn plan has_stopped → (past : Past) → old.state ≡ None
+    → plan revived.keeper ≡ plan old.keeper → Same read safe torn k.is_failed old.keeper revived.keeper → has_stopped revived.keeper ≡ false → revived ≡ record old { keeper = revived.keeper }
     → seen read safe plan name old kept ≡ v → ahead ≡ (ahead_of past v (moves_of_start (went v.plan 1))).past → kept_then ≡ (ahead_of past v (moves_of_start (went v.plan 1))).kept
-    → (mid : Running K) (made : Result T StartRefusal) → how ≡ hindrance_of_start (ended_start made) → new ≡ left_by is_down how mid → x ≡ come how kept kept_then → later ≡ come how past ahead
+    → (mid : Running K) (made : Result T StartRefusal) → how ≡ hindrance_of_start (ended_start made) → new ≡ left_by has_stopped how mid → x ≡ come how kept kept_then → later ≡ come how past ahead
     → OnOk made (IsStarted k revived.keeper mid) → OnErr made ((mid.state ≡ None) × (mid.down ≡ revived.down))
     → IfErr made (λ e. IsDamageOf e (k.told revived.keeper)) → k.starts revived.keeper (ended_start made) mid.keeper → BeginsTo held v past made new x later
-begins_to {K} {k} {read} {safe} {torn} {plan} {is_down} {name} {dsa} {old} {revived} {new} {kept} {kept_then} {x} {v} {ahead} {later} {how} {T}
+begins_to {K} {k} {read} {safe} {torn} {plan} {has_stopped} {name} {dsa} {old} {revived} {new} {kept} {kept_then} {x} {v} {ahead} {later} {how} {T}
     held order law past none planned same runs stays is aheadp aheadk mid made hinders newly keeps comes ok err damaged ran =
-    begins_so k read safe torn plan is_down name dsa old kept held order past none law revived mid planned same runs stays v ahead kept_then made how new x later is aheadp aheadk hinders newly keeps comes ok err damaged ran
+    begins_so k read safe torn plan has_stopped name dsa old kept held order past none law revived mid planned same runs stays v ahead kept_then made how new x later is aheadp aheadk hinders newly keeps comes ok err damaged ran

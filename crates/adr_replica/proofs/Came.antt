@@ -114,9 +114,9 @@ module _ {K : Type 0} where
 
 -- ---- the call
 
-module _ {K : Type 0} (k : Ghosts K) (read safe torn : K → Started State) (plan : K → Option Plan) (is_down : K → Bool)
-    (name : List ℕ) (dsa : Identifier) (old : Running K) (kept : Option Pending) (held : IsHeld read safe torn plan is_down name dsa old kept) (order : IsInOrder k old)
-    (law : GoesAsPlanned k read safe torn plan is_down) where
+module _ {K : Type 0} (k : Ghosts K) (read safe torn : K → Started State) (plan : K → Option Plan) (has_stopped : K → Bool)
+    (name : List ℕ) (dsa : Identifier) (old : Running K) (kept : Option Pending) (held : IsHeld read safe torn plan has_stopped name dsa old kept) (order : IsInOrder k old)
+    (law : GoesAsPlanned k read safe torn plan has_stopped) where
   abbrev r : Replica
   r = seen read safe plan name old kept
 
@@ -127,7 +127,7 @@ module _ {K : Type 0} (k : Ghosts K) (read safe torn : K → Started State) (pla
     pub running : k.is_failed old.keeper ≡ false
     pub formed : k.is_formed r.safe
     pub one : read_found r ≡ safe_found r
-    pub runs : is_down old.keeper ≡ false
+    pub runs : has_stopped old.keeper ≡ false
     pub none : kept ≡ None
     pub up : r.standing ≡ Up
 
@@ -150,8 +150,8 @@ module _ {K : Type 0} (k : Ghosts K) (read safe torn : K → Started State) (pla
       }
 
   -- one that is as it was
-  still_held : (c : Running K) (x : Option Pending) → c ≡ old → x ≡ kept → IsHeld read safe torn plan is_down name dsa c x
-  still_held c x is same = subst (λ d. IsHeld read safe torn plan is_down name dsa d x) (sym is) (subst (λ y. IsHeld read safe torn plan is_down name dsa old y) (sym same) held)
+  still_held : (c : Running K) (x : Option Pending) → c ≡ old → x ≡ kept → IsHeld read safe torn plan has_stopped name dsa c x
+  still_held c x is same = subst (λ d. IsHeld read safe torn plan has_stopped name dsa d x) (sym is) (subst (λ y. IsHeld read safe torn plan has_stopped name dsa old y) (sym same) held)
 
   still_seen : (c : Running K) (x : Option Pending) → c ≡ old → x ≡ kept → seen read safe plan name c x ≡ r
   still_seen c x is same = ap (λ d. seen read safe plan name d x) is ∙ ap (λ y. seen read safe plan name old y) same
@@ -164,9 +164,9 @@ module _ {K : Type 0} (k : Ghosts K) (read safe torn : K → Started State) (pla
     -- what the call leaves
     abbrev CameBy : Option Hindrance → Type 0
     CameBy how =
-        let new = left_by is_down how mid in
+        let new = left_by has_stopped how mid in
         let x = come how kept ahead.kept in
-        Came (IsHeld read safe torn plan is_down name dsa new x) r (seen read safe plan name new x) past (come how past ahead.past) (po r.safe) old.state (is_down new.keeper) how
+        Came (IsHeld read safe torn plan has_stopped name dsa new x) r (seen read safe plan name new x) past (come how past ahead.past) (po r.safe) old.state (has_stopped new.keeper) how
 
     running : (how : Option Hindrance) → Calls k changes old mid how → (how ≡ Some Down → ⊥) → (how ≡ Some Failed → ⊥) → AtRest
     running how calls up sound =
@@ -184,7 +184,7 @@ module _ {K : Type 0} (k : Ghosts K) (read safe torn : K → Started State) (pla
       ran : (how : Option Hindrance) → Calls k changes old mid how → Commits k r.safe p.change old mid how
       ran how calls = calls.commits r.safe p.change rest.in_memory (sym (makes (Some p) of))
 
-      went_so : (how : Option Hindrance) → Calls k changes old mid how → GoesAs (Has read safe torn plan) is_down how r left mid.keeper
+      went_so : (how : Option Hindrance) → Calls k changes old mid how → GoesAs (Has read safe torn plan) has_stopped how r left mid.keeper
       went_so how calls =
           law.commits old.keeper mid.keeper p.change how past.book r p rest.at rest.running
           (all r.safe p.change rest.formed (sym (makes (Some p) of))).follows rest.runs rest.one held.has refl (ran how calls).ran
@@ -208,7 +208,7 @@ module _ {K : Type 0} (k : Ghosts K) (read safe torn : K → Started State) (pla
           let stands = ap (λ b. standing_by b mid.state) commits.still_up ∙ ap (λ o. standing_by false o) (commits.done refl) ∙ g.1 in
           let is = seen_so read safe torn plan name mid ahead.kept left g.0 named stands kept_ahead in
           record {
-            held = held_so read safe torn plan is_down name dsa mid ahead.kept left is g.0
+            held = held_so read safe torn plan has_stopped name dsa mid ahead.kept left is g.0
                 (λ s there. (g.2, kept_ahead ∙ none_kept (went r.plan 4) past.book r p g.1)) held.is_id dsas.0 dsas.1;
             given = ap (λ (x : Past). x.given) past_ahead;
             was_up = λ _. (rest.up, rest.in_memory);
@@ -223,22 +223,22 @@ module _ {K : Type 0} (k : Ghosts K) (read safe torn : K → Started State) (pla
       fault_so calls =
           let commits = ran (Some DiskFault) calls in
           let g = went_so (Some DiskFault) calls in
-          let stopped = is_down mid.keeper in
+          let stopped = has_stopped mid.keeper in
           let new = downed stopped mid in
           let faulty = (commits.fault refl).0 in
           let has = subst (λ x. Has read safe torn plan x left) (downed_keeper stopped mid) g.0 in
           let is = seen_so read safe torn plan name new ahead.kept left has named (downed_stands stopped mid faulty commits.still_up ∙ g.1) kept_ahead in
           record {
-            held = held_so read safe torn plan is_down name dsa new ahead.kept left is has (λ s there. absurd (cc (there, downed_state stopped mid faulty))) held.is_id dsas.0 dsas.1;
+            held = held_so read safe torn plan has_stopped name dsa new ahead.kept left is has (λ s there. absurd (cc (there, downed_state stopped mid faulty))) held.is_id dsas.0 dsas.1;
             given = ap (λ (x : Past). x.given) past_ahead;
             was_up = λ none. absurd (cc none);
             idle = λ none. absurd (cc none);
             done = λ none. absurd (cc none);
             hinders = λ h ish told tells.
-                let tells_it : hindered_so DiskFault (is_down new.keeper) ≡ Some told = ap (λ x. hindered_so x (is_down new.keeper)) (some_same DiskFault h ish) ∙ tells in
+                let tells_it : hindered_so DiskFault (has_stopped new.keeper) ≡ Some told = ap (λ x. hindered_so x (has_stopped new.keeper)) (some_same DiskFault h ish) ∙ tells in
                 Ended p rest.up of
                 (λ w o stands. commit_made w r (seen read safe plan name new ahead.kept) past ahead.past p o told stands (commits.within (inr refl) r.safe_end rest.at) is past_ahead
-                (fault_answers (went r.plan 4) o stopped g.1 ∙ ap of_fault (ap is_down (downed_keeper stopped mid)) ∙ some_same (of_fault (is_down new.keeper)) told tells_it));
+                (fault_answers (went r.plan 4) o stopped g.1 ∙ ap of_fault (ap has_stopped (downed_keeper stopped mid)) ∙ some_same (of_fault (has_stopped new.keeper)) told tells_it));
             wanted = λ h ish wants. absurd (⊎_elim (λ (f : h ≡ Full). let no : ⊥ = cc (ish, f) in no) (λ (f : h ≡ NoMemory). let no : ⊥ = cc (ish, f) in no) wants);
           }
 
@@ -253,7 +253,7 @@ module _ {K : Type 0} (k : Ghosts K) (read safe torn : K → Started State) (pla
             idle = λ none. absurd (cc none);
             done = λ none. absurd (cc none);
             hinders = λ h ish told tells.
-                let tells_it : hindered_so Full (is_down mid.keeper) ≡ Some told = ap (λ x. hindered_so x (is_down mid.keeper)) (some_same Full h ish) ∙ tells in
+                let tells_it : hindered_so Full (has_stopped mid.keeper) ≡ Some told = ap (λ x. hindered_so x (has_stopped mid.keeper)) (some_same Full h ish) ∙ tells in
                 Ended p rest.up of
                 (λ w o stands. commit_full w r (seen read safe plan name mid kept) past past p o o stands (commits.beyond refl r.safe_end rest.at) (still_seen mid kept is refl) refl
                 ∙ ap (λ t. (world_with w (seen read safe plan name mid kept) past, t)) (some_same (full Log log_limit) told tells_it));
@@ -268,12 +268,12 @@ module _ {K : Type 0} (k : Ghosts K) (read safe torn : K → Started State) (pla
           let stands = ap (λ b. standing_by b mid.state) commits.still_up ∙ ap (λ o. standing_by false o) there ∙ sym rest.up in
           let is = seen_so read safe torn plan name mid kept r g.0 refl stands refl in
           record {
-            held = held_so read safe torn plan is_down name dsa mid kept r is g.0 (λ s _. (g.1, rest.none)) held.is_id held.reads held.keeps;
+            held = held_so read safe torn plan has_stopped name dsa mid kept r is g.0 (λ s _. (g.1, rest.none)) held.is_id held.reads held.keeps;
             given = refl;
             was_up = λ none. absurd (cc none);
             idle = λ none. absurd (cc none);
             done = λ none. absurd (cc none);
-            hinders = λ h ish told tells. absurd (let tells_it : hindered_so NoMemory (is_down mid.keeper) ≡ Some told = ap (λ x. hindered_so x (is_down mid.keeper)) (some_same NoMemory h ish) ∙ tells in cc tells_it);
+            hinders = λ h ish told tells. absurd (let tells_it : hindered_so NoMemory (has_stopped mid.keeper) ≡ Some told = ap (λ x. hindered_so x (has_stopped mid.keeper)) (some_same NoMemory h ish) ∙ tells in cc tells_it);
             wanted = λ h ish wants. (is, refl);
           }
 
@@ -302,7 +302,7 @@ module _ {K : Type 0} (k : Ghosts K) (read safe torn : K → Started State) (pla
           was_up = λ none. absurd (cc none);
           idle = λ none. absurd (cc none);
           done = λ none. absurd (cc none);
-          hinders = λ h ish told tells. absurd (let tells_it : hindered_so NoMemory (is_down mid.keeper) ≡ Some told = ap (λ x. hindered_so x (is_down mid.keeper)) (some_same NoMemory h ish) ∙ tells in cc tells_it);
+          hinders = λ h ish told tells. absurd (let tells_it : hindered_so NoMemory (has_stopped mid.keeper) ≡ Some told = ap (λ x. hindered_so x (has_stopped mid.keeper)) (some_same NoMemory h ish) ∙ tells in cc tells_it);
           wanted = λ h ish wants. (still_seen mid kept is refl, refl);
         }
 
@@ -319,7 +319,7 @@ module _ {K : Type 0} (k : Ghosts K) (read safe torn : K → Started State) (pla
           idle = λ none. absurd (cc none);
           done = λ none. absurd (cc none);
           hinders = λ h ish told tells.
-              let tells_it : hindered_so Down (is_down mid.keeper) ≡ Some told = ap (λ x. hindered_so x (is_down mid.keeper)) (some_same Down h ish) ∙ tells in
+              let tells_it : hindered_so Down (has_stopped mid.keeper) ≡ Some told = ap (λ x. hindered_so x (has_stopped mid.keeper)) (some_same Down h ish) ∙ tells in
               WasDown (ap (λ b. standing_by b old.state) down) (sym (some_same outcomes.Down told tells_it)) (still_seen mid kept is refl) refl;
           wanted = λ h ish wants. (still_seen mid kept is refl, refl);
         }
@@ -335,7 +335,7 @@ module _ {K : Type 0} (k : Ghosts K) (read safe torn : K → Started State) (pla
           idle = λ none. absurd (cc none);
           done = λ none. absurd (cc none);
           hinders = λ h ish told tells.
-              let tells_it : hindered_so Failed (is_down mid.keeper) ≡ Some told = ap (λ x. hindered_so x (is_down mid.keeper)) (some_same Failed h ish) ∙ tells in
+              let tells_it : hindered_so Failed (has_stopped mid.keeper) ≡ Some told = ap (λ x. hindered_so x (has_stopped mid.keeper)) (some_same Failed h ish) ∙ tells in
               WasFailed (ap (λ b. standing_by b old.state) both.0 ∙ ap (λ o. standing_by false o) both.1) (sym (some_same outcomes.Failed told tells_it)) (still_seen mid kept is refl) refl;
           wanted = λ h ish wants. (still_seen mid kept is refl, refl);
         }
@@ -363,35 +363,35 @@ module _ {K : Type 0} (k : Ghosts K) (read safe torn : K → Started State) (pla
     -- the same, told of what the controller is seen as, and of what the call left
     pub came_so : (v : Replica) (past_then : Past) (kept_then : Option Pending) (how said : Option Hindrance) (new : Running K) (x : Option Pending) (later : Past) → r ≡ v
         → past_then ≡ (after_commit past v (po v.safe)).past → kept_then ≡ (after_commit past v (po v.safe)).kept
-        → new ≡ left_by is_down how mid → x ≡ come how kept kept_then → later ≡ come how past past_then
-        → how ≡ said → Calls k changes old mid said → Came (IsHeld read safe torn plan is_down name dsa new x) v (seen read safe plan name new x) past later (po v.safe) old.state (is_down new.keeper) how
+        → new ≡ left_by has_stopped how mid → x ≡ come how kept kept_then → later ≡ come how past past_then
+        → how ≡ said → Calls k changes old mid said → Came (IsHeld read safe torn plan has_stopped name dsa new x) v (seen read safe plan name new x) past later (po v.safe) old.state (has_stopped new.keeper) how
     came_so v past_then kept_then how said new x later is aheadp aheadk newly keeps comes says calls =
-        let Told : Replica → Running K → Option Pending → Past → Type 0 = λ v n y l. Came (IsHeld read safe torn plan is_down name dsa n y) v (seen read safe plan name n y) past l (po v.safe) old.state (is_down n.keeper) how in
+        let Told : Replica → Running K → Option Pending → Past → Type 0 = λ v n y l. Came (IsHeld read safe torn plan has_stopped name dsa n y) v (seen read safe plan name n y) past l (po v.safe) old.state (has_stopped n.keeper) how in
         let kept_is : x ≡ come how kept ahead.kept = keeps ∙ ap (come how kept) (aheadk ∙ ap (λ v. (after_commit past v (po v.safe)).kept) (sym is)) in
         let past_is : later ≡ come how past ahead.past = comes ∙ ap (come how past) (aheadp ∙ ap (λ v. (after_commit past v (po v.safe)).past) (sym is)) in
         subst (λ v. Told v new x later) is
         (subst (λ n. Told r n x later) (sym newly)
-        (subst (λ y. Told r (left_by is_down how mid) y later) (sym kept_is)
-        (subst (λ l. Told r (left_by is_down how mid) (come how kept ahead.kept) l) (sym past_is) (came how (subst (λ h. Calls k changes old mid h) (sym says) calls)))))
+        (subst (λ y. Told r (left_by has_stopped how mid) y later) (sym kept_is)
+        (subst (λ l. Told r (left_by has_stopped how mid) (come how kept ahead.kept) l) (sym past_is) (came how (subst (λ h. Calls k changes old mid h) (sym says) calls)))))
 
 -- ---- a call, told by what is known of it
 
 -- what a controller that was held came to
-abbrev pub CameTo : {K : Type 0} {read safe torn : K → Started State} {plan : K → Option Plan} {is_down : K → Bool} {name : List ℕ} {dsa : Identifier} {old : Running K} {kept : Option Pending}
-    → IsHeld read safe torn plan is_down name dsa old kept → Replica → Past → (State → Option Pending) → Running K → Option Pending → Past → Option Hindrance → Type 0
-CameTo {K} {read} {safe} {torn} {plan} {is_down} {name} {dsa} {old} {kept} held v past po new x later how =
-    Came (IsHeld read safe torn plan is_down name dsa new x) v (seen read safe plan name new x) past later (po v.safe) old.state (is_down new.keeper) how
+abbrev pub CameTo : {K : Type 0} {read safe torn : K → Started State} {plan : K → Option Plan} {has_stopped : K → Bool} {name : List ℕ} {dsa : Identifier} {old : Running K} {kept : Option Pending}
+    → IsHeld read safe torn plan has_stopped name dsa old kept → Replica → Past → (State → Option Pending) → Running K → Option Pending → Past → Option Hindrance → Type 0
+CameTo {K} {read} {safe} {torn} {plan} {has_stopped} {name} {dsa} {old} {kept} held v past po new x later how =
+    Came (IsHeld read safe torn plan has_stopped name dsa new x) v (seen read safe plan name new x) past later (po v.safe) old.state (has_stopped new.keeper) how
 
-pub came_to : {K : Type 0} {k : Ghosts K} {read safe torn : K → Started State} {plan : K → Option Plan} {is_down : K → Bool} {name : List ℕ} {dsa : Identifier} {old mid new : Running K}
+pub came_to : {K : Type 0} {k : Ghosts K} {read safe torn : K → Started State} {plan : K → Option Plan} {has_stopped : K → Bool} {name : List ℕ} {dsa : Identifier} {old mid new : Running K}
     {kept kept_then x : Option Pending} {v : Replica} {ahead later : Past} {how said : Option Hindrance} {changes : State → Option Change}
-    → (held : IsHeld read safe torn plan is_down name dsa old kept) → IsInOrder k old → GoesAsPlanned k read safe torn plan is_down
+    → (held : IsHeld read safe torn plan has_stopped name dsa old kept) → IsInOrder k old → GoesAsPlanned k read safe torn plan has_stopped
     → (past : Past) (po : State → Option Pending) → ((s : State) → option_map (λ (p : Pending). p.change) (po s) ≡ changes s) → AllFollow k changes
     → seen read safe plan name old kept ≡ v → ahead ≡ (after_commit past v (po v.safe)).past → kept_then ≡ (after_commit past v (po v.safe)).kept
-    → new ≡ left_by is_down how mid → x ≡ come how kept kept_then → later ≡ come how past ahead → how ≡ said → Calls k changes old mid said
+    → new ≡ left_by has_stopped how mid → x ≡ come how kept kept_then → later ≡ come how past ahead → how ≡ said → Calls k changes old mid said
     → CameTo held v past po new x later how
-came_to {K} {k} {read} {safe} {torn} {plan} {is_down} {name} {dsa} {old} {mid} {new} {kept} {kept_then} {x} {v} {ahead} {later} {how} {said} {changes}
+came_to {K} {k} {read} {safe} {torn} {plan} {has_stopped} {name} {dsa} {old} {mid} {new} {kept} {kept_then} {x} {v} {ahead} {later} {how} {said} {changes}
     held order law past po same all is aheadp aheadk newly keeps comes says calls =
-    came_so k read safe torn plan is_down name dsa old kept held order law past changes po same all mid v ahead kept_then how said new x later is aheadp aheadk newly keeps comes says calls
+    came_so k read safe torn plan has_stopped name dsa old kept held order law past changes po same all mid v ahead kept_then how said new x later is aheadp aheadk newly keeps comes says calls
 
 -- ---- what is answered
 

@@ -16,8 +16,8 @@ use Rattle.adr_replica.specs.Put.{IsWhole, aside, found_on}
 use Rattle.adr_replica.proofs.Seen.{seen_so, held_so}
 
 -- bytes of which a start finds what is read of a keeper
-module _ {K : Type 0} (read safe torn : K → Started State) (plan : K → Option Plan) (is_down : K → Bool) (name : List ℕ) (dsa : Identifier) (c : Running K) (kept : Option Pending)
-    (held : IsHeld read safe torn plan is_down name dsa c kept) (bytes : List ℕ) (same : found_on bytes ≡ read c.keeper) where
+module _ {K : Type 0} (read safe torn : K → Started State) (plan : K → Option Plan) (has_stopped : K → Bool) (name : List ℕ) (dsa : Identifier) (c : Running K) (kept : Option Pending)
+    (held : IsHeld read safe torn plan has_stopped name dsa c kept) (bytes : List ℕ) (same : found_on bytes ≡ read c.keeper) where
   abbrev r : Replica
   r = seen read safe plan name c kept
 
@@ -39,10 +39,10 @@ module _ {K : Type 0} (read safe torn : K → Started State) (plan : K → Optio
       ∙ ap (λ (r : Replica). let s : Snapshot = record { state = r.read; log_end = r.read_end } in s) is
 
 -- a disk with such bytes, which has started
-module _ {K : Type 0} (k : Ghosts K) (read safe torn : K → Started State) (plan : K → Option Plan) (is_down : K → Bool) (name : List ℕ) (dsa : Identifier) (c : Running K) (kept : Option Pending)
-    (law : GoesAsPlanned k read safe torn plan is_down)
+module _ {K : Type 0} (k : Ghosts K) (read safe torn : K → Started State) (plan : K → Option Plan) (has_stopped : K → Bool) (name : List ℕ) (dsa : Identifier) (c : Running K) (kept : Option Pending)
+    (law : GoesAsPlanned k read safe torn plan has_stopped)
     (bytes : List ℕ) (whole : IsWhole bytes) (old : K) (reads : read old ≡ found_on bytes) (safes : safe old ≡ found_on bytes) (torns : torn old ≡ found_on bytes)
-    (planned : plan old ≡ None) (runs : is_down old ≡ false) (begun : IsStarted k old c) (ran : k.starts old None c.keeper)
+    (planned : plan old ≡ None) (runs : has_stopped old ≡ false) (begun : IsStarted k old c) (ran : k.starts old None c.keeper)
     (given : dsa ≡ (aside bytes).state.dsa) (none : kept ≡ None) where
   abbrev put : Replica
   put = on_disk name (aside bytes).state (aside bytes).log_end
@@ -50,13 +50,13 @@ module _ {K : Type 0} (k : Ghosts K) (read safe torn : K → Started State) (pla
   no_book : Book
   no_book = record { issued = []; logs = [] }
 
-  put_goes : StartsAs (Has read safe torn plan) is_down None put (started no_book put) c.keeper
+  put_goes : StartsAs (Has read safe torn plan) has_stopped None put (started no_book put) c.keeper
   put_goes = law.starts old c.keeper None no_book put runs (record { is_read = reads ∙ whole.finds; is_safe = safes ∙ whole.finds; is_torn = torns ∙ whole.finds; is_plan = planned }) ran
 
   pub put_seen : seen read safe plan name c kept ≡ put
   put_seen =
       seen_so read safe torn plan name c kept put put_goes.0 refl (ap (λ b. standing_by b c.state) begun.up ∙ ap (λ o. standing_by false o) begun.in_memory) none
 
-  pub put_held : IsHeld read safe torn plan is_down name dsa c kept
+  pub put_held : IsHeld read safe torn plan has_stopped name dsa c kept
   put_held =
-      held_so read safe torn plan is_down name dsa c kept put put_seen put_goes.0 (λ s there. (put_goes.2, none)) (subst IsId (sym given) whole.is_id) (sym given) (sym given)
+      held_so read safe torn plan has_stopped name dsa c kept put put_seen put_goes.0 (λ s there. (put_goes.2, none)) (subst IsId (sym given) whole.is_id) (sym given) (sym given)

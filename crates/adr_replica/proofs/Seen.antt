@@ -25,10 +25,10 @@ module _ {K : Type 0} (read safe torn : K → Started State) (plan : K → Optio
       ∙ ap (λ x. made r.name (read_found r) (safe_found r) r.kept r.standing x) h.is_plan
 
   -- where it has what a replica has, and is seen as that, it is held
-  pub held_so : (is_down : K → Bool) (name : List ℕ) (dsa : Identifier) (c : Running K) (kept : Option Pending) (r : Replica) → seen read safe plan name c kept ≡ r
-      → Has read safe torn plan c.keeper r → ((s : State) → c.state ≡ Some s → (is_down c.keeper ≡ false) × (kept ≡ None)) → IsId dsa → r.read.dsa ≡ dsa → r.safe.dsa ≡ dsa
-      → IsHeld read safe torn plan is_down name dsa c kept
-  held_so is_down name dsa c kept r is h up id reads keeps = record {
+  pub held_so : (has_stopped : K → Bool) (name : List ℕ) (dsa : Identifier) (c : Running K) (kept : Option Pending) (r : Replica) → seen read safe plan name c kept ≡ r
+      → Has read safe torn plan c.keeper r → ((s : State) → c.state ≡ Some s → (has_stopped c.keeper ≡ false) × (kept ≡ None)) → IsId dsa → r.read.dsa ≡ dsa → r.safe.dsa ≡ dsa
+      → IsHeld read safe torn plan has_stopped name dsa c kept
+  held_so has_stopped name dsa c kept r is h up id reads keeps = record {
     has = subst (λ x. Has read safe torn plan c.keeper x) (sym is) h;
     runs = λ s there. (up s there).0;
     none_kept = λ s there. (up s there).1;

@@ -36,8 +36,8 @@ pub starts_so : (w : World) (r : Replica) (down : Bool) → r.standing ≡ stand
 starts_so w r true is = ap (λ st. starts w r st) is
 starts_so w r false is = ap (λ st. starts w r st) is
 
-module _ {K : Type 0} (read safe torn : K → Started State) (plan : K → Option Plan) (is_down : K → Bool)
-    (name : List ℕ) (dsa : Identifier) (old : Running K) (kept : Option Pending) (held : IsHeld read safe torn plan is_down name dsa old kept) where
+module _ {K : Type 0} (read safe torn : K → Started State) (plan : K → Option Plan) (has_stopped : K → Bool)
+    (name : List ℕ) (dsa : Identifier) (old : Running K) (kept : Option Pending) (held : IsHeld read safe torn plan has_stopped name dsa old kept) where
   abbrev r : Replica
   r = seen read safe plan name old kept
 
@@ -88,40 +88,40 @@ module _ {K : Type 0} (read safe torn : K → Started State) (plan : K → Optio
 
     -- it passed
     module _ (new : Running K) (s : State) (state : new.state ≡ Some s) (down : new.down ≡ false) (has : Has read safe torn plan new.keeper behind)
-        (stands : Up ≡ standing_after r.standing (went r.plan 1)) (passed : Up ≡ standing_after Failed (went r.plan 1)) (runs : is_down new.keeper ≡ false) where
+        (stands : Up ≡ standing_after r.standing (went r.plan 1)) (passed : Up ≡ standing_after Failed (went r.plan 1)) (runs : has_stopped new.keeper ≡ false) where
       pub started_seen : seen read safe plan name new begun.kept ≡ behind
       started_seen = seen_so read safe torn plan name new begun.kept behind has start_named (ap (λ b. standing_by b new.state) down ∙ ap (λ o. standing_by false o) state ∙ stands) refl
 
-      pub started_held : IsHeld read safe torn plan is_down name dsa new begun.kept
+      pub started_held : IsHeld read safe torn plan has_stopped name dsa new begun.kept
       started_held =
-          held_so read safe torn plan is_down name dsa new begun.kept behind started_seen has (λ s there. (runs, none_kept_started (went r.plan 1) past.book r passed)) held.is_id start_dsas.0 start_dsas.1
+          held_so read safe torn plan has_stopped name dsa new begun.kept behind started_seen has (λ s there. (runs, none_kept_started (went r.plan 1) past.book r passed)) held.is_id start_dsas.0 start_dsas.1
 
       pub started_leads : Leads r past (λ w. starts w r r.standing) (seen read safe plan name new begun.kept) begun.past outcomes.Ok
       started_leads = leads_so (seen read safe plan name new begun.kept) begun.past outcomes.Ok started_seen refl (up_answers (went r.plan 1) outcomes.Ok passed)
 
     -- a call of the disk failed
     module _ (mid : Running K) (state : mid.state ≡ None) (down : mid.down ≡ old.down) (has : Has read safe torn plan mid.keeper behind)
-        (stands : standing_of (Some failed_call) (is_down mid.keeper) r.standing ≡ standing_after r.standing (went r.plan 1))
-        (tells : standing_of (Some failed_call) (is_down mid.keeper) Failed ≡ standing_after Failed (went r.plan 1)) where
+        (stands : standing_of (Some failed_call) (has_stopped mid.keeper) r.standing ≡ standing_after r.standing (went r.plan 1))
+        (tells : standing_of (Some failed_call) (has_stopped mid.keeper) Failed ≡ standing_after Failed (went r.plan 1)) where
       abbrev new : Running K
-      new = downed (is_down mid.keeper) mid
+      new = downed (has_stopped mid.keeper) mid
 
       now_stands : (b : Bool) → standing_by (downed b mid).down (downed b mid).state ≡ standing_of (Some failed_call) b r.standing
       now_stands true = refl
       now_stands false = ap (λ d. standing_by d mid.state) down ∙ ap (λ o. standing_by old.down o) state ∙ sym stood
 
       now_has : Has read safe torn plan new.keeper behind
-      now_has = subst (λ x. Has read safe torn plan x behind) (downed_keeper (is_down mid.keeper) mid) has
+      now_has = subst (λ x. Has read safe torn plan x behind) (downed_keeper (has_stopped mid.keeper) mid) has
 
       pub faulty_seen : seen read safe plan name new begun.kept ≡ behind
-      faulty_seen = seen_so read safe torn plan name new begun.kept behind now_has start_named (now_stands (is_down mid.keeper) ∙ stands) refl
+      faulty_seen = seen_so read safe torn plan name new begun.kept behind now_has start_named (now_stands (has_stopped mid.keeper) ∙ stands) refl
 
-      pub faulty_held : IsHeld read safe torn plan is_down name dsa new begun.kept
+      pub faulty_held : IsHeld read safe torn plan has_stopped name dsa new begun.kept
       faulty_held =
-          held_so read safe torn plan is_down name dsa new begun.kept behind faulty_seen now_has (λ s there. absurd (cc (there, downed_state (is_down mid.keeper) mid state))) held.is_id start_dsas.0 start_dsas.1
+          held_so read safe torn plan has_stopped name dsa new begun.kept behind faulty_seen now_has (λ s there. absurd (cc (there, downed_state (has_stopped mid.keeper) mid state))) held.is_id start_dsas.0 start_dsas.1
 
-      pub faulty_leads : Leads r past (λ w. starts w r r.standing) (seen read safe plan name new begun.kept) begun.past (of_fault (is_down mid.keeper))
-      faulty_leads = leads_so (seen read safe plan name new begun.kept) begun.past (of_fault (is_down mid.keeper)) faulty_seen refl (fault_answers (went r.plan 1) outcomes.Ok (is_down mid.keeper) tells)
+      pub faulty_leads : Leads r past (λ w. starts w r r.standing) (seen read safe plan name new begun.kept) begun.past (of_fault (has_stopped mid.keeper))
+      faulty_leads = leads_so (seen read safe plan name new begun.kept) begun.past (of_fault (has_stopped mid.keeper)) faulty_seen refl (fault_answers (went r.plan 1) outcomes.Ok (has_stopped mid.keeper) tells)
 
     -- memory was wanting, behind the sync or before it
     module _ (new : Running K) (state : new.state ≡ None) (down : new.down ≡ old.down) where
@@ -134,9 +134,9 @@ module _ {K : Type 0} (read safe torn : K → Started State) (plan : K → Optio
             seen_so read safe torn plan name new begun.kept (record behind { standing = r.standing }) (record { is_read = has.is_read; is_safe = has.is_safe; is_torn = has.is_torn; is_plan = has.is_plan })
             start_named as_stood refl
 
-        pub synced_held : IsHeld read safe torn plan is_down name dsa new begun.kept
+        pub synced_held : IsHeld read safe torn plan has_stopped name dsa new begun.kept
         synced_held =
-            held_so read safe torn plan is_down name dsa new begun.kept (record behind { standing = r.standing }) synced_seen
+            held_so read safe torn plan has_stopped name dsa new begun.kept (record behind { standing = r.standing }) synced_seen
             (record { is_read = has.is_read; is_safe = has.is_safe; is_torn = has.is_torn; is_plan = has.is_plan }) (λ s there. absurd (cc (there, state))) held.is_id start_dsas.0 start_dsas.1
 
         pub synced_done : IsDone r past (λ w. synced w r) (seen read safe plan name new begun.kept) begun.past
@@ -148,5 +148,5 @@ module _ {K : Type 0} (read safe torn : K → Started State) (plan : K → Optio
         pub short_seen : seen read safe plan name new kept ≡ r
         short_seen = seen_so read safe torn plan name new kept r has refl as_stood refl
 
-        pub short_held : IsHeld read safe torn plan is_down name dsa new kept
-        short_held = held_so read safe torn plan is_down name dsa new kept r short_seen has (λ s there. absurd (cc (there, state))) held.is_id held.reads held.keeps
+        pub short_held : IsHeld read safe torn plan has_stopped name dsa new kept
+        short_held = held_so read safe torn plan has_stopped name dsa new kept r short_seen has (λ s there. absurd (cc (there, state))) held.is_id held.reads held.keeps

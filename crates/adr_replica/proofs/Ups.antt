@@ -16,11 +16,11 @@ use Rattle.adr_replica.specs.Planned.{GoesAsPlanned}
 use Rattle.adr_replica.specs.Held.{found_or_none, standing_by, seen, IsHeld}
 use Rattle.adr_replica.proofs.Seen.{seen_so, held_so}
 
-module _ {K : Type 0} (k : Ghosts K) (read safe torn : K → Started State) (plan : K → Option Plan) (is_down : K → Bool) (name : List ℕ) (dsa : Identifier) (c : Running K) (kept : Option Pending)
+module _ {K : Type 0} (k : Ghosts K) (read safe torn : K → Started State) (plan : K → Option Plan) (has_stopped : K → Bool) (name : List ℕ) (dsa : Identifier) (c : Running K) (kept : Option Pending)
     (order : IsInOrder k c)
-    (law : GoesAsPlanned k read safe torn plan is_down) where
+    (law : GoesAsPlanned k read safe torn plan has_stopped) where
   -- one that is up has in memory what is safe
-  pub up_so : IsHeld read safe torn plan is_down name dsa c kept → (v : Replica) → seen read safe plan name c kept ≡ v → (s : State) → c.state ≡ Some s → (v.standing ≡ Up) × (s ≡ v.safe) × k.is_formed s
+  pub up_so : IsHeld read safe torn plan has_stopped name dsa c kept → (v : Replica) → seen read safe plan name c kept ≡ v → (s : State) → c.state ≡ Some s → (v.standing ≡ Up) × (s ≡ v.safe) × k.is_formed s
   up_so held v is s there =
       let up = order.up s there in
       let finds = law.keeps c.keeper (found s up.0.log_end) up.0.at up.0.running in (
@@ -31,7 +31,7 @@ module _ {K : Type 0} (k : Ghosts K) (read safe torn : K → Started State) (pla
 
   -- a new one
   module _ (s : State) (id : IsId s.dsa) (given : dsa ≡ s.dsa) (there : c.state ≡ Some s) (down : c.down ≡ false) (at : k.is_at c.keeper (found s (new_log_end s)))
-      (planned : plan c.keeper ≡ None) (runs : is_down c.keeper ≡ false) (none : kept ≡ None) where
+      (planned : plan c.keeper ≡ None) (runs : has_stopped c.keeper ≡ false) (none : kept ≡ None) where
     new_has : Has read safe torn plan c.keeper (on_new_disk name s)
     new_has =
         let finds = law.keeps c.keeper (found s (new_log_end s)) at (order.up s there).0.running in
@@ -40,10 +40,10 @@ module _ {K : Type 0} (k : Ghosts K) (read safe torn : K → Started State) (pla
     new_is : seen read safe plan name c kept ≡ on_new_disk name s
     new_is = seen_so read safe torn plan name c kept (on_new_disk name s) new_has refl (ap (λ b. standing_by b c.state) down ∙ ap (λ o. standing_by false o) there) none
 
-    pub new_held : IsHeld read safe torn plan is_down name dsa c kept
-    new_held = held_so read safe torn plan is_down name dsa c kept (on_new_disk name s) new_is new_has (λ t up. (runs, none)) (subst IsId (sym given) id) (sym given) (sym given)
+    pub new_held : IsHeld read safe torn plan has_stopped name dsa c kept
+    new_held = held_so read safe torn plan has_stopped name dsa c kept (on_new_disk name s) new_is new_has (λ t up. (runs, none)) (subst IsId (sym given) id) (sym given) (sym given)
 
-    pub new_seen : IsHeld read safe torn plan is_down name dsa c kept → seen read safe plan name c kept ≡ on_new_disk name s
+    pub new_seen : IsHeld read safe torn plan has_stopped name dsa c kept → seen read safe plan name c kept ≡ on_new_disk name s
     new_seen held = new_is
 
 -- what one that is up asks

@@ -35,10 +35,10 @@ seen read safe plan name c kept =
 
 -- Its keeper has what the replica has: nothing is damaged, and a crash that tears the unsynced leaves what is read. While
 -- it is up its disk runs and no call is kept. Its identifier stays.
-pub record IsHeld {K : Type 0} (read safe torn : K → Started State) (plan : K → Option Plan) (is_down : K → Bool) (name : List ℕ) (dsa : Identifier)
+pub record IsHeld {K : Type 0} (read safe torn : K → Started State) (plan : K → Option Plan) (has_stopped : K → Bool) (name : List ℕ) (dsa : Identifier)
     (c : Running K) (kept : Option Pending) : Type 0 where
   pub has : Has read safe torn plan c.keeper (seen read safe plan name c kept)
-  pub runs : (s : State) → c.state ≡ Some s → is_down c.keeper ≡ false
+  pub runs : (s : State) → c.state ≡ Some s → has_stopped c.keeper ≡ false
   pub none_kept : (s : State) → c.state ≡ Some s → kept ≡ None
   pub is_id : IsId dsa
   pub reads : (seen read safe plan name c kept).read.dsa ≡ dsa

@@ -15,19 +15,19 @@ use Rattle.adr_controller.specs.declared.refusal.Hindrance.{Hindrance}
 
 -- A keeper that stands for something has it whatever a crash does; a start takes it where it takes a replica, and a
 -- commit where it takes one; a format doesn't fail without a plan; and what it tells is what is read.
-pub record GoesAsPlanned {K : Type 0} (k : Ghosts K) (read safe torn : K → Started State) (plan : K → Option Plan) (is_down : K → Bool)
+pub record GoesAsPlanned {K : Type 0} (k : Ghosts K) (read safe torn : K → Started State) (plan : K → Option Plan) (has_stopped : K → Bool)
     : Type 0 where
   pub keeps :
       (x : K) (f : Found State) → k.is_at x f → k.is_failed x ≡ false → (read x ≡ Ok f) × (safe x ≡ Ok f) × (torn x ≡ Ok f)
   pub starts :
-      (x new : K) (e : Option StartRefusal) (book : Book) (r : Replica) → is_down x ≡ false → Has read safe torn plan x r
-      → k.starts x e new → StartsAs (Has read safe torn plan) is_down e r (started book r) new
+      (x new : K) (e : Option StartRefusal) (book : Book) (r : Replica) → has_stopped x ≡ false → Has read safe torn plan x r
+      → k.starts x e new → StartsAs (Has read safe torn plan) has_stopped e r (started book r) new
   pub commits :
       (old new : K) (c : Change) (how : Option Hindrance) (book : Book) (r : Replica) (p : Pending)
-      → k.is_at old (safe_found r) → k.is_failed old ≡ false → k.can_follow r.safe c → is_down old ≡ false
+      → k.is_at old (safe_found r) → k.is_failed old ≡ false → k.can_follow r.safe c → has_stopped old ≡ false
       → read_found r ≡ safe_found r → Has read safe torn plan old r → p.change ≡ c → Ran k old c how new
-      → GoesAs (Has read safe torn plan) is_down how r (committed book r p) new
+      → GoesAs (Has read safe torn plan) has_stopped how r (committed book r p) new
   pub formats :
-      (x new : K) (e : Option KeeperRefusal) → is_down x ≡ false → plan x ≡ None → k.formats x e new
-      → (plan new ≡ None) × (is_down new ≡ false) × ((e ≡ None) ⊎ (e ≡ Some NoMemory))
+      (x new : K) (e : Option KeeperRefusal) → has_stopped x ≡ false → plan x ≡ None → k.formats x e new
+      → (plan new ≡ None) × (has_stopped new ≡ false) × ((e ≡ None) ⊎ (e ≡ Some NoMemory))
   pub tells : (x : K) → k.told x ≡ Some (read x)

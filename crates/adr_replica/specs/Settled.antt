@@ -23,8 +23,8 @@ downed false c = c
 
 -- a controller whose disk stopped within the call is down
 abbrev pub left_by : {K : Type 0} → (K → Bool) → Option Hindrance → Running K → Running K
-left_by is_down (Some DiskFault) c = downed (is_down c.keeper) c
-left_by is_down _ c = c
+left_by has_stopped (Some DiskFault) c = downed (has_stopped c.keeper) c
+left_by has_stopped _ c = c
 
 -- a start that wanted memory when its sync was made has what is ahead all the same; damage, which never comes, tells nothing
 abbrev pub hindrance_of_start : Option StartRefusal → Option Hindrance

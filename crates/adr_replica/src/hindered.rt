@@ -49,8 +49,8 @@ pub(crate) fn settle(
     ahead: Ahead,
     how: Option<Hindrance>,
 ) -> bool
-    ensures stopped { result ≡ ⟦<Journal<MemDisk, Records> as PlannedKeeper>⟧.is_down controller.new.keeper }
-    ensures controller { controller.new ≡ left_by ⟦<Journal<MemDisk, Records> as PlannedKeeper>⟧.is_down how controller.old }
+    ensures stopped { result ≡ ⟦<Journal<MemDisk, Records> as PlannedKeeper>⟧.has_stopped controller.new.keeper }
+    ensures controller { controller.new ≡ left_by ⟦<Journal<MemDisk, Records> as PlannedKeeper>⟧.has_stopped how controller.old }
     ensures kept { kept.new ≡ come how kept.old ahead.kept }
     ensures past { past.new ≡ come how past.old ahead.past }
 {
@@ -64,8 +64,8 @@ pub(crate) fn settle(
 
 /// A controller whose disk stopped within a call is down. Tells whether its disk is stopped.
 fn leave<K: PlannedKeeper>(controller: &mut Controller<K>, how: Option<Hindrance>) -> bool
-    ensures stopped { result ≡ K.is_down controller.new.keeper }
-    ensures controller { controller.new ≡ left_by K.is_down how controller.old }
+    ensures stopped { result ≡ K.has_stopped controller.new.keeper }
+    ensures controller { controller.new ≡ left_by K.has_stopped how controller.old }
 {
     let stopped = controller.is_stopped();
     if stopped && matches!(how, Some(Hindrance::DiskFault)) {

@@ -12,7 +12,7 @@ use adr_records::Records;
 #[tactic(none)]
 fn keepers_go_as_planned<K: PlannedKeeper>(controller: &Controller<K>)
     ensures in_order { IsInOrder ⟦<K as Keeper>⟧ controller.now }
-    ensures planned { GoesAsPlanned ⟦<K as Keeper>⟧ K.read K.safe K.torn K.plan K.is_down }
+    ensures planned { GoesAsPlanned ⟦<K as Keeper>⟧ K.read K.safe K.torn K.plan K.has_stopped }
 {
     commits_go_as_planned::<K>();
     let _ = controller.state();
@@ -23,7 +23,7 @@ pub(crate) fn goes_as_planned(controller: &Controller<Journal<MemDisk, Records>>
     ensures in_order { IsInOrder ⟦<Journal<MemDisk, Records> as Keeper>⟧ controller.now }
     ensures planned { GoesAsPlanned ⟦<Journal<MemDisk, Records> as Keeper>⟧ ⟦<Journal<MemDisk, Records> as PlannedKeeper>⟧.read
         ⟦<Journal<MemDisk, Records> as PlannedKeeper>⟧.safe ⟦<Journal<MemDisk, Records> as PlannedKeeper>⟧.torn
-        ⟦<Journal<MemDisk, Records> as PlannedKeeper>⟧.plan ⟦<Journal<MemDisk, Records> as PlannedKeeper>⟧.is_down }
+        ⟦<Journal<MemDisk, Records> as PlannedKeeper>⟧.plan ⟦<Journal<MemDisk, Records> as PlannedKeeper>⟧.has_stopped }
 {
     keepers_go_as_planned(controller);
 }

@@ -69,7 +69,7 @@ impl Model for Replica {
 
     ghost invariant = { λ r. IsHeld ⟦<Journal<MemDisk, Records> as PlannedKeeper>⟧.read ⟦<Journal<MemDisk, Records> as PlannedKeeper>⟧.safe
         ⟦<Journal<MemDisk, Records> as PlannedKeeper>⟧.torn ⟦<Journal<MemDisk, Records> as PlannedKeeper>⟧.plan
-        ⟦<Journal<MemDisk, Records> as PlannedKeeper>⟧.is_down r.name r.dsa r.controller r.kept };
+        ⟦<Journal<MemDisk, Records> as PlannedKeeper>⟧.has_stopped r.name r.dsa r.controller r.kept };
 }
 
 impl Replica {

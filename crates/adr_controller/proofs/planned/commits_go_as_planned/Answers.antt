@@ -6,7 +6,7 @@ pub returns : goal.returns
 returns g c = λ old new ch how book r p at running follows up same h of_p ran.
     let k = g.K.PlannedKeeper in
     let law = g.met.K.PlannedKeeper in
-    goes_so g.K.Keeper (λ x s. Has k.read k.safe k.torn k.plan x s) k.is_down
+    goes_so g.K.Keeper (λ x s. Has k.read k.safe k.torn k.plan x s) k.has_stopped
     (λ old new e r up h ran. law.prepares_unmet old new e r up h ran)
     (λ old new c e book r p at running prepared follows up same h of_p ran. law.commits_as_planned old new c e book r p at running prepared follows up same h of_p ran)
     old new ch book r p at follows up same h of_p how ran
