@@ -1,6 +1,6 @@
 //! A controller over a keeper under a plan.
 
-ghost use Rattle.std.specs.Prelude.{◌≡◌, ◌⊎◌, true, false, Option, Some, None, IfOk};
+ghost use Rattle.std.specs.Prelude.{◌≡◌, true, false, Option, Some, None, IfOk};
 ghost use Rattle.adr_model.specs.Change.{Change as Changes};
 ghost use Rattle.adr_model.specs.Replica.{Book, Fails, Pending, Replica, Stops};
 ghost use Rattle.adr_law_journal.specs.Replicas.{Has, committed, read_found, safe_found};

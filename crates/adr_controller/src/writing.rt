@@ -1,11 +1,11 @@
 //! Clients' writes.
 
-ghost use Rattle.std.specs.Prelude.{◌≡◌, ◌≤◌, Ok, Err, IfOk, IfSome, IsErrOf, IsSome};
+ghost use Rattle.std.specs.Prelude.{◌≡◌, Ok, Err, IfOk, IfSome, IsErrOf, IsSome};
 ghost use Rattle.adr_event.specs.declared.refusal.WriteRefusal.{WriteRefusal};
 ghost use Rattle.adr_model.specs.Store.{State as Defined};
 ghost use Rattle.adr_model.specs.Change.{Change as Changes};
 ghost use Rattle.adr_model.specs.Step.{ClientWrite, write_of};
-ghost use Rattle.adr_model.specs.Write.{usn_limit, write};
+ghost use Rattle.adr_model.specs.Write.{write};
 ghost use Rattle.adr_controller.specs.Able.{AllFollow, written_in};
 ghost use Rattle.adr_controller.specs.Ended.{call_hindrance};
 ghost use Rattle.adr_controller.specs.Did.{Calls};

@@ -13,7 +13,7 @@ use std::alloc::{AllocError, AllocFailed};
 pub type NoMemory = AllocError;
 
 /// Why a call gave nothing: it was refused, or memory ran out.
-#[derive(Clone, Copy, Debug, Drop, PartialEq, Eq)]
+#[derive(Debug, Drop, PartialEq, Eq)]
 pub enum Failure<R> {
     Refused(R),
     NoMemory,

@@ -1,6 +1,6 @@
 //! How states and changes are told in the bytes of a log.
 
-ghost use Rattle.std.specs.Prelude.{◌≡◌, ◌≤◌, ◌<◌, ◌+◌, ℕ, List, Option, Some, None, Ok, drop, length, IfOk, IfErr, OnOk, OnErr, IsErrOf};
+ghost use Rattle.std.specs.Prelude.{◌≡◌, ◌<◌, ◌+◌, ℕ, List, Option, Some, None, Ok, drop, length, IfOk, IfErr, OnOk, OnErr, IsErrOf};
 ghost use Rattle.adr_wire.specs.Reading.{Reading, Refuses};
 ghost use Rattle.adr_wire.specs.Spelling.{AreBytes, IsSpelling};
 ghost use Rattle.adr_model.specs.Store.{State as Defined};

@@ -1,6 +1,6 @@
 //! Writes a new log.
 
-ghost use Rattle.std.specs.Prelude.{◌≡◌, ◌⊎◌, ◌↔◌, ℕ, ◌+◌, ◌<◌, ◌^◌, List, [], ◌∷◌, Option, Some, IsSome, IfSome, OnOk, IsErrOf, length};
+ghost use Rattle.std.specs.Prelude.{◌≡◌, ◌⊎◌, ◌↔◌, ℕ, ◌+◌, ◌<◌, ◌^◌, [], ◌∷◌, IsSome, IfSome, OnOk, IsErrOf, length};
 ghost use Rattle.std.specs.Option.{ForSome};
 ghost use Rattle.adr_wire.specs.Reading.{Reading};
 ghost use Rattle.adr_disk.specs.Disk.{Among, Only, LeavesOnly, Counts, ended};

@@ -57,12 +57,11 @@ impl<D: Disk, F: Form> Journal<D, F> {
 }
 
 impl<D: Disk, F: Form> Keeper for Journal<D, F> {
-    ghost use Rattle.std.specs.Prelude.{◌≡◌, ◌≤◌, ◌<◌, ◌+◌, false, [], length};
+    ghost use Rattle.std.specs.Prelude.{◌≡◌, ◌<◌, ◌+◌, false, []};
     ghost use Rattle.std.specs.Option.{option_map, ForSome};
-    ghost use Rattle.adr_disk.specs.Disk.{Only, IsSpare, ended};
-    ghost use Rattle.adr_model.specs.Lengths.{log_limit};
+    ghost use Rattle.adr_disk.specs.Disk.{Only};
     ghost use Rattle.adr_law_journal.specs.Log.{start_of, record_of};
-    ghost use Rattle.adr_law_journal.specs.Kept.{Finds, IsSettled};
+    ghost use Rattle.adr_law_journal.specs.Kept.{Finds};
     ghost use Rattle.adr_journal.specs.Ran.{FormatsDisk, Prepares, Records, Starts};
     ghost use Rattle.adr_journal.specs.Kept.{IsEmpty, IsAt, IsPrepared};
     ghost use Rattle.adr_journal.specs.Laws.{at_tells, at_leaves, is_honest};

@@ -1,9 +1,9 @@
 //! What keeps a state.
 
-ghost use Rattle.std.specs.Prelude.{◌≡◌, ◌⊎◌, ◌↔◌, ℕ, ◌≤◌, ◌<◌, Bool, true, false, Option, Some, IsSome, Ok, IfOk, IfErr, OnOk, OnErr, IsErrOf, IfSome, ⊤};
+ghost use Rattle.std.specs.Prelude.{◌≡◌, ◌⊎◌, ◌↔◌, ℕ, ◌≤◌, ◌<◌, Bool, true, false, Option, IsSome, Ok, IfOk, IfErr, OnOk, OnErr, IsErrOf, IfSome, ⊤};
 ghost use Rattle.adr_disk.specs.Disk.{Among, Keeps, LeavesOnly};
 ghost use Rattle.adr_model.specs.Store.{State as Defined};
-ghost use Rattle.adr_model.specs.Change.{Change as Changes, after};
+ghost use Rattle.adr_model.specs.Change.{Change as Changes};
 ghost use Rattle.adr_model.specs.Lengths.{log_limit, new_log_end, log_end_after};
 ghost use Rattle.adr_law_journal.specs.Log.{Found, found, Started};
 ghost use Rattle.adr_law_journal.specs.Kept.{IsEither};

@@ -1,7 +1,6 @@
 //! A keeper under a plan.
 
 ghost use Rattle.std.specs.Prelude.{◌≡◌, ◌⊎◌, ℕ, List, Bool, true, false, Option, Some, None, Ok, IfOk};
-ghost use Rattle.adr_disk.specs.declared.memory.Crash.{Crash as How};
 ghost use Rattle.adr_model.specs.Store.{State as Defined};
 ghost use Rattle.adr_model.specs.Change.{Change as Changes};
 ghost use Rattle.adr_model.specs.Replica.{Stops, Fails, Plan, Replica, Pending, Book};

@@ -1,6 +1,6 @@
 //! Reads a whole disk.
 
-ghost use Rattle.std.specs.Prelude.{◌≡◌, ◌≤◌, ◌<◌, ◌^◌, ◌↔◌, ℕ, Some, IsSome, IfOk, IfSome, OnOk, IsErrOf, length};
+ghost use Rattle.std.specs.Prelude.{◌≡◌, ◌≤◌, ◌<◌, ◌↔◌, ℕ, IsSome, IfOk, IfSome, OnOk, IsErrOf};
 ghost use Rattle.adr_disk.specs.Disk.{Among, Only, Keeps, LeavesOnly, ended};
 ghost use Rattle.adr_journal.specs.Ended.{ended_start};
 ghost use Rattle.adr_journal.specs.Ran.{Reads, Starts};

@@ -1,6 +1,6 @@
 //! Spells what a log begins with and its records, and writes a record.
 
-ghost use Rattle.std.specs.Prelude.{◌≡◌, ◌⊎◌, ◌↔◌, ℕ, ◌+◌, ◌≤◌, ◌<◌, ◌^◌, List, [], ◌∷◌, ◌++◌, true, false, Option, Some, IsSome, Ok, IfOk, IfSome, OnOk, IsErrOf, length};
+ghost use Rattle.std.specs.Prelude.{◌≡◌, ◌⊎◌, ◌↔◌, ℕ, ◌+◌, ◌≤◌, ◌<◌, ◌^◌, List, [], ◌∷◌, ◌++◌, true, false, IsSome, Ok, IfOk, IfSome, OnOk, IsErrOf, length};
 ghost use Rattle.std.specs.Option.{ForSome};
 ghost use Rattle.adr_wire.specs.Reading.{Reading};
 ghost use Rattle.adr_disk.specs.Disk.{Among, Only, LeavesOnly, Counts, ended};

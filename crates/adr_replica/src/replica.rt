@@ -1,6 +1,6 @@
 //! A controller of a run.
 
-ghost use Rattle.std.specs.Prelude.{◌≡◌, ◌≢◌, ◌⊎◌, ◌<◌, ◌^◌, Some, Ok, Err, true, OnErr, OnOk, IfErr, IfOk, IfSome, IsSomeAnd};
+ghost use Rattle.std.specs.Prelude.{◌≡◌, ◌≢◌, ◌⊎◌, ◌<◌, Some, Ok, Err, OnErr, IfErr, IfOk, IfSome, IsSomeAnd};
 ghost use Rattle.adr_wire.specs.Ranges.{IsId};
 ghost use Rattle.adr_law_formed.specs.Spelled.{IsSpelledReply};
 ghost use Rattle.adr_law_recorded.specs.Typed.{IsTypedWrite};
@@ -10,7 +10,7 @@ ghost use Rattle.adr_model.specs.Serve.{ask, serve};
 ghost use Rattle.adr_model.specs.Step.{ClientWrite, write_of};
 ghost use Rattle.adr_model.specs.Store.{empty_state};
 ghost use Rattle.adr_model.specs.Take.{take};
-ghost use Rattle.adr_model.specs.World.{World as Defined, after_serve, after_take, after_write, not_sent, nothing, starts, stays, stops, where_up, with_plan};
+ghost use Rattle.adr_model.specs.World.{World as Defined, after_serve, after_take, after_write, nothing, starts, stays, stops, where_up};
 ghost use Rattle.adr_model.specs.Write.{IsWellGiven, write};
 ghost use Rattle.adr_records.specs.Logged.{IsLogged, MayBegin};
 ghost use Rattle.adr_replica.specs.Led.{IsDone, IsUndone, Leads, LeadsTo, StandsIn, synced, world_with};

@@ -1,6 +1,6 @@
 //! How long items and changes are as bytes, as far as a limit goes, and where a log ends after a change.
 
-ghost use Rattle.std.specs.Prelude.{◌≡◌, ◌≤◌, ◌+◌, ◌*◌, None, Some, fold, is_some, length, min, nat_lt, if◌then◌else◌};
+ghost use Rattle.std.specs.Prelude.{◌≡◌, ◌≤◌, ◌+◌, ◌*◌, None, Some, fold, min, nat_lt, if◌then◌else◌};
 ghost use Rattle.adr_model.specs.Update.{Update as Row};
 ghost use Rattle.adr_model.specs.Change.{Written as Wrote};
 ghost use Rattle.adr_model.specs.Lengths.{change_length, log_end_after, log_limit};

@@ -1,7 +1,7 @@
 //! Why the program ends before its work is done.
 
 ghost use Rattle.std.specs.Prelude.{◌≡◌, ◌≤◌, ◌<◌};
-ghost use Rattle.adr_survivor.specs.declared.ending.Ending.TheVariants.{DiskFault as disk_fault, NoMemory as no_memory, Output as output};
+ghost use Rattle.adr_survivor.specs.declared.ending.Ending.TheVariants.{NoMemory as no_memory};
 ghost use Rattle.adr_survivor.specs.Ended.{of_call, of_fault, of_keeper, of_start};
 
 use crate::keeping::tell;
