@@ -13,7 +13,7 @@ use Rattle.adr_law_tree.specs.Closing.{closing}
 use Rattle.adr_law_tree.proofs.Fuel.{itself, keeps}
 use Rattle.adr_law_tree.proofs.Unfixed.{found_free}
 use Rattle.adr_tree.specs.declared.tree.Tree.{Tree}
-use Rattle.adr_tree.specs.Children.{IsChildless, closed_by, opened_by}
+use Rattle.adr_tree.specs.Children.{HasNoChild, closed_by, opened_by}
 use Rattle.adr_tree.specs.Slots.{IsTidy, flag_at, flagged, looks, seen, slot_at}
 use Rattle.adr_tree.specs.Tree.{HasRoom, IsTree, nodes_in}
 use Rattle.adr_tree.specs.Hints.{AreHinted, IsHinted}
@@ -96,15 +96,15 @@ module _ (t : Tree) (tree : IsTree t) (x : Node) (room : HasRoom t x) where
     hinted_more : AreHinted (seen slots.entries) t.hints
     hinted_more n here = ⊎_elim (λ is. subst (λ (m : Node). IsHinted t.hints m) (sym is) room.hinted) (λ old. tree.hinted n old) (live_more n here)
 
-    breaker_is : btree_map_len slots ≡ btree_map_len t.slots → (is_parent : Bool) → OnFalse is_parent (IsChildless t.hints x.object.guid) → (b : Option Identifier)
+    breaker_is : btree_map_len slots ≡ btree_map_len t.slots → (is_parent : Bool) → OnFalse is_parent (HasNoChild (nodes_in t) x) → (b : Option Identifier)
         → b ≡ (if is_parent then closed_by t.slots t.flags x else None) → b ≡ option_map (λ (n : Node). n.object.guid) (loop_breaker (seen slots.entries) x)
     breaker_is len true childless b e =
         e ∙ closer_found (nodes_in t) x (seen slots.entries) put_more (looks t.slots) (looks_free t.slots tree.tidy) (flag_at t.flags) (btree_map_len t.slots) tree.exact
         (subst (λ n. length (seen slots.entries) ≤ n) len (length_seen slots.entries))
     breaker_is len false childless b e =
-        e ∙ sym (ap (option_map (λ (n : Node). n.object.guid)) (nobody (seen slots.entries) x (in_no_loop (nodes_in t) x (seen slots.entries) t.hints put_more hinted_more childless)))
+        e ∙ sym (ap (option_map (λ (n : Node). n.object.guid)) (nobody (seen slots.entries) x (in_no_loop (nodes_in t) x (seen slots.entries) put_more childless)))
 
-    pub put_tree : btree_map_len slots ≡ btree_map_len t.slots → (is_parent : Bool) → OnFalse is_parent (IsChildless t.hints x.object.guid) → (b : Option Identifier)
+    pub put_tree : btree_map_len slots ≡ btree_map_len t.slots → (is_parent : Bool) → OnFalse is_parent (HasNoChild (nodes_in t) x) → (b : Option Identifier)
         → b ≡ (if is_parent then closed_by t.slots t.flags x else None) → (flags : BTreeMap Identifier Bool)
         → ((g : Identifier) → flag_at flags g ≡ (option_map_or (λ h. same_identifier h g) b false || flag_at t.flags g))
         → ((g : Identifier) → IsSome (get identifier_order t.flags g) → IsSome (get identifier_order flags g))
@@ -125,7 +125,7 @@ module _ (t : Tree) (tree : IsTree t) (guid : Identifier) (slots : BTreeMap Iden
   pub take_nodes : (g : Identifier) → node_at (seen slots.entries) g ≡ cond (same_identifier guid g) None (node_at (nodes_in t) g)
   take_nodes g = sym (found_in slots tidy g) ∙ emptied g ∙ ap (λ o. cond (same_identifier guid g) None o) (found_in t.slots tree.tidy g)
 
-  live_less : (n : Node) → node_at (seen slots.entries) n.object.guid ≡ Some n → node_at (nodes_in t) n.object.guid ≡ Some n
+  pub live_less : (n : Node) → node_at (seen slots.entries) n.object.guid ≡ Some n → node_at (nodes_in t) n.object.guid ≡ Some n
   live_less n here = by (same_identifier guid n.object.guid) (sym (take_nodes n.object.guid) ∙ here)
     where
       by : (b : Bool) → cond b None (node_at (nodes_in t) n.object.guid) ≡ Some n → node_at (nodes_in t) n.object.guid ≡ Some n
@@ -143,14 +143,14 @@ module _ (t : Tree) (tree : IsTree t) (guid : Identifier) (slots : BTreeMap Iden
       other = λ g e. sym (take_nodes g ∙ ap (λ b. cond b None (node_at (nodes_in t) g)) (flipped guid g ∙ ap (same_identifier g) (sym own) ∙ e));
     }
 
-    breaker_was : (is_parent : Bool) → OnFalse is_parent (IsChildless t.hints guid) → (b : Option Identifier) → b ≡ (if is_parent then opened_by slots t.flags x else None)
+    breaker_was : (is_parent : Bool) → OnFalse is_parent (HasNoChild (seen slots.entries) x) → (b : Option Identifier) → b ≡ (if is_parent then opened_by slots t.flags x else None)
         → b ≡ option_map (λ (n : Node). n.object.guid) (loop_breaker (nodes_in t) x)
     breaker_was true childless b e =
         e ∙ opener_found (seen slots.entries) x (nodes_in t) take_less (looks slots) (looks_free slots tidy) (flag_at t.flags) (btree_map_len slots) tree.exact (length_seen slots.entries)
     breaker_was false childless b e =
-        e ∙ sym (ap (option_map (λ (n : Node). n.object.guid)) (nobody (nodes_in t) x (in_no_loop (seen slots.entries) x (nodes_in t) t.hints take_less tree.hinted (subst (IsChildless t.hints) (sym own) childless))))
+        e ∙ sym (ap (option_map (λ (n : Node). n.object.guid)) (nobody (nodes_in t) x (in_no_loop (seen slots.entries) x (nodes_in t) take_less childless)))
 
-    pub take_tree : (is_parent : Bool) → OnFalse is_parent (IsChildless t.hints guid) → (b : Option Identifier) → b ≡ (if is_parent then opened_by slots t.flags x else None)
+    pub take_tree : (is_parent : Bool) → OnFalse is_parent (HasNoChild (seen slots.entries) x) → (b : Option Identifier) → b ≡ (if is_parent then opened_by slots t.flags x else None)
         → (flags : BTreeMap Identifier Bool) → ((g : Identifier) → flag_at flags g ≡ (flag_at t.flags g && not (option_map_or (λ h. same_identifier h g) b false)))
         → ((g : Identifier) → IsSome (get identifier_order t.flags g) → IsSome (get identifier_order flags g))
         → IsTree (record { slots = slots; flags = flags; hints = t.hints })

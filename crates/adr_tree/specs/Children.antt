@@ -1,20 +1,18 @@
--- Hints that tell that an object is nobody's parent.
-use Rattle.std.specs.Prelude.{◌≡◌, Option, Some, None, false, if◌then◌else◌}
+-- Objects that are nobody's parent, and who breaks a loop where one comes or goes.
+use Rattle.std.specs.Prelude.{◌≡◌, List, Option, Some, None, false, if◌then◌else◌}
 use Rattle.std.specs.Option.{option_map}
 use Rattle.std.specs.BTreeMap.{BTreeMap, btree_map_len}
-use Rattle.std.specs.BTreeSet.{BTreeSet, contains}
 use Rattle.std.specs.Prelude.{Bool}
-use Rattle.adr_model.specs.Update.{Identifier}
-use Rattle.adr_model.specs.Place.{Node, is_fixed}
+use Rattle.adr_model.specs.Update.{Identifier, same_identifier}
+use Rattle.adr_model.specs.Place.{Node, is_fixed, node_at}
 use Rattle.adr_law_tree.specs.Closing.{closing}
 use Rattle.adr_law_tree.specs.Opening.{opening}
-use Rattle.adr_tree.specs.declared.hints.Hint.{Hint}
-use Rattle.adr_tree.specs.Hints.{hint_order}
 use Rattle.adr_tree.specs.Slots.{looks, flagged}
 
--- no hint has the GUID as parent
-abbrev pub IsChildless : BTreeSet Hint → Identifier → Type 0
-IsChildless hints guid = (g : Identifier) → contains hint_order hints (record { parent = guid; name = None; guid = Some g }) ≡ false
+-- neither one of these objects nor the object itself has it as parent
+abbrev pub HasNoChild : List Node → Node → Type 0
+HasNoChild all x =
+    ((m : Node) → node_at all m.object.guid ≡ Some m → same_identifier m.parent x.object.guid ≡ false) × (same_identifier x.parent x.object.guid ≡ false)
 
 -- the GUID of the object that breaks the loop that an object closes, by a walk
 abbrev pub closed_by : BTreeMap Identifier (Option Node) → BTreeMap Identifier Bool → Node → Option Identifier

@@ -1,54 +1,91 @@
 //! Who breaks a loop of parents, where one object comes or goes.
 
-ghost use Rattle.std.specs.Prelude.{◌≡◌, ◌||◌, ◌&&◌, not, None, Some, false, true, IfSome, IfNone, IsSome, if◌then◌else◌};
+ghost use Rattle.std.specs.Prelude.{◌≡◌, ◌||◌, ◌&&◌, not, None, Some, false, true, IfSome, IsSome, if◌then◌else◌};
 ghost use Rattle.std.specs.Bool.{OnFalse};
 ghost use Rattle.std.specs.Option.{option_and_then, option_map_or};
 ghost use Rattle.std.specs.BTreeMap.{get};
-ghost use Rattle.std.specs.BTreeMap.Range.{IsLeBy};
-ghost use Rattle.std.specs.BTreeSet.{contains};
 ghost use Rattle.adr_stamp.specs.Order.{identifier_order};
+ghost use Rattle.adr_model.specs.Place.{Node as Defined, node_at};
 ghost use Rattle.adr_model.specs.Update.{Identifier, same_identifier};
-ghost use Rattle.adr_tree.specs.declared.hints.Hint.{Hint as Defined};
-ghost use Rattle.adr_tree.specs.Children.{IsChildless, closed_by, opened_by};
-ghost use Rattle.adr_tree.specs.Hints.{hint_order};
-ghost use Rattle.adr_tree.specs.Slots.{KeepsPlaces, flag_at};
+ghost use Rattle.adr_tree.specs.Children.{HasNoChild, closed_by, opened_by};
+ghost use Rattle.adr_tree.specs.Hints.{AreHinted};
+ghost use Rattle.adr_tree.specs.Slots.{IsTidy, KeepsPlaces, flag_at, seen, slot_at};
 
 use crate::hints::Hint;
-use crate::slots::{flag, set_flag};
+use crate::slots::{flag, set_flag, slot};
 use crate::walks::{closing, comes_to, first_breaker};
 use adr_guid::Guid;
-use adr_update::{Node, is_fixed};
+use adr_update::{Node, is_fixed, is_same};
 use std::collections::{BTreeMap, BTreeSet};
 use std::ops::Bound;
 
-/// The first hint from another one on.
-fn first_hint(hints: &BTreeSet<Hint>, start: Hint) -> Option<Hint>
-    ensures from { IfSome result (λ h. IsLeBy hint_order start h) }
-    ensures first { IfSome result (λ h. (q : Defined) → IsLeBy hint_order start q
-        → contains hint_order hints.now q ≡ true → IsLeBy hint_order h q) }
-    ensures none { IfNone result ((q : Defined) → IsLeBy hint_order start q
-        → contains hint_order hints.now q ≡ false) }
+/// Whether the object of a hint is there and has the parent.
+fn is_child(slots: &BTreeMap<Guid, Option<Node>>, hint: &Hint, parent: Guid) -> bool
+    ensures { OnFalse result ((m : Defined) → slot_at slots.now m.object.guid ≡ Some m
+        → hint.now.guid ≡ Some m.object.guid → same_identifier m.parent parent ≡ false) }
 {
-    match hints
-        .range((Bound::Included(start), Bound::Unbounded))
-        .next()
-    {
-        Some(hint) => Some(*hint),
-        None => None,
+    let Some(guid) = hint.guid else {
+        return false;
+    };
+    match slot(slots, guid) {
+        Some(node) => is_same(node.parent(), parent),
+        None => false,
     }
 }
 
-/// Whether an object of a GUID may be the parent of another one, or its own, as parents were written.
-pub(crate) fn may_be_parent(hints: &BTreeSet<Hint>, guid: Guid) -> bool
-    ensures { OnFalse result (IsChildless hints.now guid) }
+/// Whether a GUID is the parent of an object that is there, as parents were written. Hints of objects that aren't there yet,
+/// or any more, are passed over.
+fn is_parent(slots: &BTreeMap<Guid, Option<Node>>, hints: &BTreeSet<Hint>, guid: Guid) -> bool
+    requires tidy { IsTidy slots.now }
+    requires hinted { AreHinted (seen slots.now.entries) hints.now }
+    ensures { OnFalse result ((m : Defined) → node_at (seen slots.now.entries) m.object.guid ≡ Some m
+        → same_identifier m.parent guid ≡ false) }
 {
     let start = Hint {
         parent: guid,
         name: None,
         guid: None,
     };
-    match first_hint(hints, start) {
-        Some(hint) => start.begins_run_of(&hint),
+    for hint in hints.range((Bound::Included(start), Bound::Unbounded)) {
+        if !start.begins_run_of(hint) {
+            return false;
+        }
+        if is_child(slots, hint, guid) {
+            return true;
+        }
+    }
+    false
+}
+
+/// Whether an object is the parent of one that is there, or its own.
+pub(crate) fn has_child(
+    slots: &BTreeMap<Guid, Option<Node>>,
+    hints: &BTreeSet<Hint>,
+    node: &Node,
+) -> bool
+    requires tidy { IsTidy slots.now }
+    requires hinted { AreHinted (seen slots.now.entries) hints.now }
+    ensures { OnFalse result (HasNoChild (seen slots.now.entries) node.now) }
+{
+    let guid = node.object().guid;
+    if is_same(node.parent(), guid) {
+        return true;
+    }
+    is_parent(slots, hints, guid)
+}
+
+/// The same of an object, if there is one.
+pub(crate) fn has_child_if(
+    slots: &BTreeMap<Guid, Option<Node>>,
+    hints: &BTreeSet<Hint>,
+    node: &Option<Node>,
+) -> bool
+    requires tidy { IsTidy slots.now }
+    requires hinted { AreHinted (seen slots.now.entries) hints.now }
+    ensures { IfSome node.now (λ x. OnFalse result (HasNoChild (seen slots.now.entries) x)) }
+{
+    match node {
+        Some(node) => has_child(slots, hints, node),
         None => false,
     }
 }

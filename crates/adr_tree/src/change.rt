@@ -9,7 +9,7 @@ ghost use Rattle.adr_tree.specs.Hints.{child_hint, name_hint};
 ghost use Rattle.adr_tree.specs.Tree.{HasRoom, HaveRoom, IsLive, IsTree, KeepsRoom, nodes_in};
 
 use crate::NoMemory;
-use crate::breakers::{clear, closer_if, may_be_parent, opener_if, set};
+use crate::breakers::{clear, closer_if, has_child, has_child_if, opener_if, set};
 use crate::edit::Edit;
 use crate::hints::{Hint, remember};
 use crate::slots::{empty, fill, free, reserve_flag, reserve_slot};
@@ -30,7 +30,7 @@ impl Tree {
         if old.is_none() {
             return old;
         }
-        let is_parent = may_be_parent(&self.hints, guid);
+        let is_parent = has_child_if(&self.slots, &self.hints, &old);
         let breaker = opener_if(&self.slots, &self.flags, is_parent, &old);
         clear(&mut self.flags, breaker);
         old
@@ -46,7 +46,7 @@ impl Tree {
             ≡ cond (same_identifier node.object.guid g) (Some node) (node_at (nodes_in self.old) g) }
         ensures more { KeepsRoom self.old self.new }
     {
-        let is_parent = may_be_parent(&self.hints, node.object().guid);
+        let is_parent = has_child(&self.slots, &self.hints, &node);
         let breaker = closer_if(&self.slots, &self.flags, is_parent, &node);
         set(&mut self.flags, breaker);
         fill(&mut self.slots, node);
