@@ -29,17 +29,29 @@ value_typed (Flag flag) bytes q = tt
 value_typed (Octets octets) bytes q = tt
 value_typed (Ref id) bytes q = q.0.0
 
-values_typed : (vs : List Item) (bytes : List ℕ) → SpellsValues vs bytes → Each IsTypedValue vs
-values_typed [] bytes q v m = absurd m
-values_typed (x ∷ []) bytes q v (inl e) = subst IsTypedValue (sym e) (value_typed x bytes q)
-values_typed (x ∷ []) bytes q v (inr m) = absurd m
-values_typed (x ∷ y ∷ vs) bytes q v (inl e) = subst IsTypedValue (sym e) (value_typed x q.0 q.2)
-values_typed (x ∷ y ∷ vs) bytes q v (inr m) = values_typed (y ∷ vs) q.1 q.3 v m
+-- what each spelled value is, all values given are
+module _ (P : Item → Type 0) (of_value : (v : Item) (bytes : List ℕ) → SpellsValue v bytes → P v) where
+  values_so : (vs : List Item) (bytes : List ℕ) → SpellsValues vs bytes → Each P vs
+  values_so [] bytes q v m = absurd m
+  values_so (x ∷ []) bytes q v (inl e) = subst P (sym e) (of_value x bytes q)
+  values_so (x ∷ []) bytes q v (inr m) = absurd m
+  values_so (x ∷ y ∷ vs) bytes q v (inl e) = subst P (sym e) (of_value x q.0 q.2)
+  values_so (x ∷ y ∷ vs) bytes q v (inr m) = values_so (y ∷ vs) q.1 q.3 v m
+
+  given_so : (gs : List Given) → HaveSpellings (sets gs) → Each (λ (g : Given). Each P g.1) gs
+  given_so [] h g m = absurd m
+  given_so (x ∷ gs) h g (inl e) = subst (λ (z : Given). Each P z.1) (sym e) (values_so x.1 h.0.1.1 h.0.1.3)
+  given_so (x ∷ gs) h g (inr m) = given_so gs h.1 g m
 
 given_typed : (gs : List Given) → HaveSpellings (sets gs) → AreTypedValues gs
-given_typed [] h g m = absurd m
-given_typed (x ∷ gs) h g (inl e) = subst (λ (z : Given). Each IsTypedValue z.1) (sym e) (values_typed x.1 h.0.1.1 h.0.1.3)
-given_typed (x ∷ gs) h g (inr m) = given_typed gs h.1 g m
+given_typed = given_so IsTypedValue value_typed
+
+-- what each allowed event is, all events that may follow are
+module _ (Q : Event → Type 0) (of_event : (e : Event) → IsAllowed e → Q e) where
+  all_so : (es : List Event) (seen : Seen) → IsFollowing seen es → Each Q es
+  all_so [] seen follow e m = absurd m
+  all_so (x ∷ es) seen follow e (inl is) = subst Q (sym is) (of_event x follow.1)
+  all_so (x ∷ es) seen follow e (inr m) = all_so es (seen_after seen x) follow.2 e m
 
 -- ---- events
 
@@ -58,14 +70,9 @@ event_typed (events.Restore name image inv) (line, (verb, (to, (of_image, (of_in
 event_typed (events.Install name dsa image inv) (line, (verb, (to, (of_dsa, (of_image, (of_inv, end)))))) = (of_dsa.1.0.0, of_inv.1.0.0)
 event_typed _ allowed = tt
 
-all_typed : (es : List Event) (seen : Seen) → IsFollowing seen es → AreTyped es
-all_typed [] seen follow e m = absurd m
-all_typed (x ∷ es) seen follow e (inl is) = subst IsTyped (sym is) (event_typed x follow.1)
-all_typed (x ∷ es) seen follow e (inr m) = all_typed es (seen_after seen x) follow.2 e m
-
 -- what may follow from the beginning on is typed
 pub following_typed : (es : List Event) → IsFollowing nothing_seen es → AreTyped es
-following_typed es follow = all_typed es nothing_seen follow
+following_typed es follow = all_so IsTyped event_typed es nothing_seen follow
 
 -- ---- identifiers
 
@@ -76,17 +83,8 @@ reference_whole (Flag flag) bytes q = tt
 reference_whole (Octets octets) bytes q = tt
 reference_whole (Ref id) bytes q = q.0
 
-references_whole : (vs : List Item) (bytes : List ℕ) → SpellsValues vs bytes → Each IsWholeReference vs
-references_whole [] bytes q v m = absurd m
-references_whole (x ∷ []) bytes q v (inl e) = subst IsWholeReference (sym e) (reference_whole x bytes q)
-references_whole (x ∷ []) bytes q v (inr m) = absurd m
-references_whole (x ∷ y ∷ vs) bytes q v (inl e) = subst IsWholeReference (sym e) (reference_whole x q.0 q.2)
-references_whole (x ∷ y ∷ vs) bytes q v (inr m) = references_whole (y ∷ vs) q.1 q.3 v m
-
 given_whole : (gs : List Given) → HaveSpellings (sets gs) → AreWholeValues gs
-given_whole [] h g m = absurd m
-given_whole (x ∷ gs) h g (inl e) = subst (λ (z : Given). Each IsWholeReference z.1) (sym e) (references_whole x.1 h.0.1.1 h.0.1.3)
-given_whole (x ∷ gs) h g (inr m) = given_whole gs h.1 g m
+given_whole = given_so IsWholeReference reference_whole
 
 event_whole : (e : Event) → IsAllowed e → WritesSo IsWholeWrite e
 unfolding tokens_behind
@@ -98,11 +96,6 @@ event_whole (events.Link name from attr to) (line, (verb, (at, (of_from, (of_att
 event_whole (events.Unlink name from attr to) (line, (verb, (at, (of_from, (of_attr, (of_to, end)))))) = (of_from.1.0, of_to.1.0)
 event_whole _ allowed = tt
 
-all_whole : (es : List Event) (seen : Seen) → IsFollowing seen es → AreWhole es
-all_whole [] seen follow e m = absurd m
-all_whole (x ∷ es) seen follow e (inl is) = subst (WritesSo IsWholeWrite) (sym is) (event_whole x follow.1)
-all_whole (x ∷ es) seen follow e (inr m) = all_whole es (seen_after seen x) follow.2 e m
-
 -- what may follow from the beginning on is whole
 pub following_whole : (es : List Event) → IsFollowing nothing_seen es → AreWhole es
-following_whole es follow = all_whole es nothing_seen follow
+following_whole es follow = all_so (WritesSo IsWholeWrite) event_whole es nothing_seen follow
