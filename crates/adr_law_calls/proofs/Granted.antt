@@ -11,6 +11,7 @@ use Rattle.adr_vector.proofs.Cursors.{same_from_test}
 use Rattle.adr_vector.proofs.Comparing.{everywhere_from_at_most}
 use Rattle.adr_event.specs.declared.refusal.TakeRefusal.TheVariants.{Stale, VectorBehind, SchemaMismatch}
 use Rattle.adr_model.specs.Update.{Identifier, same_identifier}
+use Rattle.adr_model.specs.Member.{Each}
 use Rattle.adr_model.specs.Place.{identifier}
 use Rattle.adr_model.specs.Reflects.{knowledge_of, Knowledge}
 use Rattle.adr_model.specs.Store.{Kept, State, no_mark, mark_of}
@@ -22,7 +23,7 @@ use Rattle.adr_law_logs.proofs.Marks.{no_mark_holds}
 use Rattle.adr_law_knowledge.proofs.Refusing.{is_so, no_gap}
 use Rattle.adr_law_logs.proofs.Tables.{each_found}
 use Rattle.adr_law_logs.proofs.Bounds.{nothing_at_0_is_split}
-use Rattle.adr_law_calls.specs.OnTheWay.{IsTakeable}
+use Rattle.adr_law_calls.specs.OnTheWay.{IsSoundBase, IsTakeable}
 
 -- ---- the kept mark
 
@@ -43,13 +44,17 @@ module _ (sc : Book) (k : Knowledge) (book : IsSoundBook sc) where
       by true is = subst (λ i. IsSoundMark sc k i p.mark) (same_from_test p.inv inv is) sound
       by false is = no_mark_is_sound inv
 
-pub kept_is_sound : (sc : Book) (s : State) (r : Reply) → IsSoundBook sc → IsSoundState sc s → IsSoundMark sc (knowledge_of s.store) r.inv (kept_mark s r)
-kept_is_sound sc s r book state = each_found (λ (p : Kept). IsSoundMark sc (knowledge_of s.store) r.inv (mark_of p r.inv)) (is_at (identifier_order r.source)) s.store.marks none
+pub kept_is_true : (sc : Book) (s : State) (r : Reply) → IsSoundBook sc → Each (λ (k : Identifier × Kept). IsSoundMark sc (knowledge_of s.store) k.1.inv k.1.mark) s.store.marks
+    → IsSoundMark sc (knowledge_of s.store) r.inv (kept_mark s r)
+kept_is_true sc s r book marks = each_found (λ (p : Kept). IsSoundMark sc (knowledge_of s.store) r.inv (mark_of p r.inv)) (is_at (identifier_order r.source)) s.store.marks none
     (mark_is_sound sc (knowledge_of s.store) book none (no_mark_is_sound sc (knowledge_of s.store) book (identifier 0)) r.inv)
-    (λ p m. mark_is_sound sc (knowledge_of s.store) book p.1 (state.store.marks p m) r.inv)
+    (λ p m. mark_is_sound sc (knowledge_of s.store) book p.1 (marks p m) r.inv)
   where
     none : Kept
     none = record { inv = identifier 0; mark = no_mark }
+
+pub kept_is_sound : (sc : Book) (s : State) (r : Reply) → IsSoundBook sc → IsSoundState sc s → IsSoundMark sc (knowledge_of s.store) r.inv (kept_mark s r)
+kept_is_sound sc s r book state = kept_is_true sc s r book state.store.marks
 
 -- ---- refusals that are none
 
@@ -62,16 +67,38 @@ same_marks m n h =
     one : m.obj ≡ n.obj → m.prop ≡ n.prop → m.seen ≡ n.seen → m ≡ n
     one p q e = λ i. record { obj = p i; prop = q i; seen = e i }
 
+-- a controller's rows and vectors may take a reply
+pub base_of : (sc : Book) (s : State) → IsSoundState sc s → IsSoundBase sc s.store
+base_of sc s state = record {
+  known = state.store.known;
+  covered = state.store.covered;
+  purged_within = everywhere_from_at_most s.store.purged s.store.vector state.formed.store.purged_within;
+  rising = state.formed.store.rising;
+  locals = state.formed.store.locals;
+  alone = state.formed.store.alone;
+  rows = state.formed.store.rows;
+  closed = state.store.closed;
+  classes = state.store.classes;
+}
+
+pub passing : (sc : Book) (s : State) (r : Reply) → IsSoundBook sc → IsSoundBase sc s.store
+    → Each (λ (k : Identifier × Kept). IsSoundMark sc (knowledge_of s.store) k.1.inv k.1.mark) s.store.marks → IsSoundReply sc r
+    → then_some (not (same_mark r.from (kept_mark s r))) (Stale (kept_mark s r) r.from) ≡ None
+    → option_map (λ (gap : List ℕ × ℕ × ℕ). VectorBehind gap.0 gap.1 gap.2) (first_gap r.asked s.store.vector) ≡ None
+    → then_some (not (r.schema == s.store.schema)) (SchemaMismatch s.store.schema r.schema) ≡ None
+    → IsTakeable sc s r
+passing sc s r book base marks reply stale gap schema = record {
+  book = book;
+  base = base;
+  reply = reply;
+  mark = subst (IsSoundMark sc (knowledge_of s.store) r.inv) (sym (same_marks r.from (kept_mark s r) (is_so (same_mark r.from (kept_mark s r)) (Stale (kept_mark s r) r.from) stale))) (kept_is_true sc s r book marks);
+  asked = everywhere_from_at_most r.asked s.store.vector (no_gap (λ (g : List ℕ × ℕ × ℕ). VectorBehind g.0 g.1 g.2) r.asked s.store.vector gap);
+  schema = eqb-true r.schema s.store.schema (is_so (r.schema == s.store.schema) (SchemaMismatch s.store.schema r.schema) schema);
+}
+
 pub takeable : (sc : Book) (s : State) (r : Reply) → IsSoundBook sc → IsSoundState sc s → IsSoundReply sc r
     → then_some (not (same_mark r.from (kept_mark s r))) (Stale (kept_mark s r) r.from) ≡ None
     → option_map (λ (gap : List ℕ × ℕ × ℕ). VectorBehind gap.0 gap.1 gap.2) (first_gap r.asked s.store.vector) ≡ None
     → then_some (not (r.schema == s.store.schema)) (SchemaMismatch s.store.schema r.schema) ≡ None
     → IsTakeable sc s r
-takeable sc s r book state reply stale gap schema = record {
-  book = book;
-  state = state;
-  reply = reply;
-  mark = subst (IsSoundMark sc (knowledge_of s.store) r.inv) (sym (same_marks r.from (kept_mark s r) (is_so (same_mark r.from (kept_mark s r)) (Stale (kept_mark s r) r.from) stale))) (kept_is_sound sc s r book state);
-  asked = everywhere_from_at_most r.asked s.store.vector (no_gap (λ (g : List ℕ × ℕ × ℕ). VectorBehind g.0 g.1 g.2) r.asked s.store.vector gap);
-  schema = eqb-true r.schema s.store.schema (is_so (r.schema == s.store.schema) (SchemaMismatch s.store.schema r.schema) schema);
-}
+takeable sc s r book state reply = passing sc s r book (base_of sc s state) state.store.marks reply

@@ -39,13 +39,20 @@ module _ (sc : Book) (s : State) (r : Reply) (may : IsTakeable sc s r) where
 
   pub starts : IsTakenSoFar sc s r (begin s)
   starts = record {
-    steady = begins_formed s may.state.formed;
+    steady = record {
+      rising = may.base.rising;
+      formed = may.base.rows;
+      alone = may.base.alone;
+      locals = may.base.locals;
+      made = refl;
+      rises = omega arith;
+    };
     rows = record {
-      rising = may.state.store.formed.rising;
-      known = may.state.store.known;
+      rising = may.base.rising;
+      known = may.base.known;
       grows = grows_self sc.issued (knowledge_of s.store);
-      formed = may.state.store.formed.rows;
-      closed = λ u m l e. may.state.store.closed l u m e;
+      formed = may.base.rows;
+      closed = λ u m l e. may.base.closed l u m e;
     };
     sent = λ h m. absurd m;
     above = λ h m. absurd m;

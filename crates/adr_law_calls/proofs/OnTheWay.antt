@@ -4,7 +4,6 @@ use Rattle.adr_stamp.specs.declared.Oid.{Oid}
 use Rattle.adr_stamp.specs.declared.Unit.TheVariants.{Object}
 use Rattle.adr_schema.specs.Numbered.{numbered}
 use Rattle.adr_vector.specs.Vector.{at}
-use Rattle.adr_vector.proofs.Comparing.{everywhere_from_at_most}
 use Rattle.adr_model.specs.Member.{Member, Each}
 use Rattle.adr_model.specs.Update.{Update, RowOf, unit_of, ends, inv_of, class_attr}
 use Rattle.adr_model.specs.Reflects.{Covers, CoversBirth, AtMost, knowledge_of, HoldsObject, IsPurged, Reflects}
@@ -41,11 +40,11 @@ module _ (sc : Book) (s : State) (r : Reply) (may : IsTakeable sc s r) where
   source_issued u m = let h = held_as (source_rows sc r) u m in subst (λ v. Member v sc.issued) (sym h.2) (may.book.logged r.inv r.to.seen h.0 h.1)
 
   pub purged_within : AtMost (at s.store.purged) (at s.store.vector)
-  purged_within i = everywhere_from_at_most s.store.purged s.store.vector may.state.store.formed.purged_within i
+  purged_within i = may.base.purged_within i
 
   module _ (rows : List Held) (way : AreOnTheWay sc s rows) where
     pub covered : Each (λ u. Covers (at s.store.vector) u → Reflects sc.issued (known_with s rows) u) sc.issued
-    covered u m c = grows_keeps sc.issued (knowledge_of s.store) (known_with s rows) way.grows u (may.state.store.covered u m c)
+    covered u m c = grows_keeps sc.issued (knowledge_of s.store) (known_with s rows) way.grows u (may.base.covered u m c)
 
     -- a row that lies below the beginning of the reply was read
     read_before : (h : Held) → Member h (source_rows sc r) → h.local ≤ r.from.prop → Reflects sc.issued (known_with s rows) h.update

@@ -79,4 +79,4 @@ passed s r c e =
 pub is_taken : (sc : Book) (s : State) (r : Reply) (c : Change) → IsSoundBook sc → IsSoundState sc s → IsSoundReply sc r → take s r ≡ Ok c → IsTaken sc s r c
 is_taken sc s r c book state reply e =
     let p = passed s r c e in
-    record { may = takeable sc s r book state reply p.0.fresh p.0.asked p.0.schema; is = p.1; passes = p.0 }
+    record { may = takeable sc s r book state reply p.0.fresh p.0.asked p.0.schema; state = state; is = p.1; passes = p.0 }

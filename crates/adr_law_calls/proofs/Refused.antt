@@ -147,12 +147,12 @@ pub no_incomplete_item : (sc : Book) (s : State) (r : Reply) (o : Oid) → IsSou
 no_incomplete_item sc s r o book state reply e = true≢false (not_incomplete sc s r book state reply (Incomplete o) e)
 
 -- no item of a reply that may be taken is refused
-pub items_are_whole : (sc : Book) (s : State) (r : Reply) → IsTakeable sc s r → (take_items s r.items).refusal ≡ None
-items_are_whole sc s r may = by (take_items s r.items).refusal refl
+pub items_are_whole : (sc : Book) (s : State) (r : Reply) → IsSoundState sc s → IsTakeable sc s r → (take_items s r.items).refusal ≡ None
+items_are_whole sc s r state may = by (take_items s r.items).refusal refl
   where
     harmless : IsHarmless (λ x. true) (take_items s r.items).refusal
     harmless = all_are_harmless (λ x. true) sc s r may
-        (λ t way i m. none_is (IsCalm (λ x. true)) (item_refusal (numbered s.store.schema) s.store.vector t.rows t.place i) (whole_item sc s r may.book may.state may.reply may t way i m))
+        (λ t way i m. none_is (IsCalm (λ x. true)) (item_refusal (numbered s.store.schema) s.store.vector t.rows t.place i) (whole_item sc s r may.book state may.reply may t way i m))
 
     by : (o : Option TakeRefusal) → (take_items s r.items).refusal ≡ o → o ≡ None
     by None e = refl

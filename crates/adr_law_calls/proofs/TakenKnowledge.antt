@@ -16,7 +16,7 @@ use Rattle.adr_model.specs.Change.{after}
 use Rattle.adr_model.specs.Serve.{Reply}
 use Rattle.adr_model.specs.Take.{Taking, take_items, taken_change}
 use Rattle.adr_model.specs.Replica.{Book, log_of}
-use Rattle.adr_model.specs.Sound.{last_of, IsBounded, IsSoundMark, IsSoundLast, IsSent}
+use Rattle.adr_model.specs.Sound.{last_of, IsBounded, IsSoundMark, IsSoundLast, IsSoundState, IsSent}
 use Rattle.adr_law_knowledge.specs.Grows.{Grows}
 use Rattle.adr_law_knowledge.proofs.Knows.{grows_keeps, grows_trans, more_covered, carry_over}
 use Rattle.adr_law_logs.proofs.Past.{Tells}
@@ -74,7 +74,7 @@ module _ (sc : Book) (s : State) (r : Reply) (may : IsTakeable sc s r) where
 
   pub new_mark : IsSoundMark sc (knowledge_of behind.store) r.inv r.to
   new_mark = mark_taken sc r (knowledge_of s.store) (knowledge_of behind.store) may.book may.reply
-      (record { mark = may.mark; asked = may.asked; covered = may.state.store.covered }) (record { kept = keeps; sent = sent })
+      (record { mark = may.mark; asked = may.asked; covered = may.base.covered }) (record { kept = keeps; sent = sent })
 
   -- the last reply brings what its vector covers
   module _ (w : Cursors) (last : IsSoundLast sc r w) (up : AtMost (at w) (at behind.store.vector)) where
@@ -87,7 +87,7 @@ module _ (sc : Book) (s : State) (r : Reply) (may : IsTakeable sc s r) where
 
     pub last_brings : Each (λ u. Covers (at w) u → Reflects sc.issued (knowledge_of behind.store) u) sc.issued
     last_brings u m c = carry_over sc.issued there (knowledge_of behind.store) up all_read
-        (λ d n covers. keeps d (may.state.store.covered d n (omega (arith, covers, may.asked (inv_of d))))) u c (last.carries u m c)
+        (λ d n covers. keeps d (may.base.covered d n (omega (arith, covers, may.asked (inv_of d))))) u c (last.carries u m c)
 
   carried_by : (last : Option Cursors) → IfSome last (IsSoundLast sc r) → AtMost (at (unwrap_or last [])) (at behind.store.vector) → Each (λ u. Covers (at (unwrap_or last [])) u → Reflects sc.issued (knowledge_of behind.store) u) sc.issued
   carried_by None h up u m c = absurd (omega (arith, (may.book.once u m).0, c))
@@ -97,17 +97,17 @@ module _ (sc : Book) (s : State) (r : Reply) (may : IsTakeable sc s r) where
   carried = carried_by r.last may.reply.last brings
 
   -- all that the vector covers now is reflected
-  pub covered_now : Each (λ u. Covers (at behind.store.vector) u → Reflects sc.issued (knowledge_of behind.store) u) sc.issued
-  covered_now u m c = by (is_eq (identifier_order (inv_of u) s.inv)) refl (leb_tells (usn_of u) (at s.store.vector (inv_of u)))
+  pub covered_now : IsSoundState sc s → Each (λ u. Covers (at behind.store.vector) u → Reflects sc.issued (knowledge_of behind.store) u) sc.issued
+  covered_now state u m c = by (is_eq (identifier_order (inv_of u) s.inv)) refl (leb_tells (usn_of u) (at s.store.vector (inv_of u)))
     where
       old : Covers (at s.store.vector) u → Reflects sc.issued (knowledge_of behind.store) u
-      old covers = keeps u (may.state.store.covered u m covers)
+      old covers = keeps u (may.base.covered u m covers)
 
       by : (b : Bool) → is_eq (identifier_order (inv_of u) s.inv) ≡ b → Tells (usn_of u) (at s.store.vector (inv_of u)) → Reflects sc.issued (knowledge_of behind.store) u
       by b is (inl within) = old within.1
       by true is (inr more) =
           let same : inv_of u ≡ s.inv = same_from_test (inv_of u) s.inv is in
-          old (omega (arith, (may.book.once u m).1, ap (last_of sc) same, ap (at s.store.vector) same, may.state.last, may.state.formed.own))
+          old (omega (arith, (may.book.once u m).1, ap (last_of sc) same, ap (at s.store.vector) same, state.last, state.formed.own))
       by false is (inr more) =
           let other : at behind.store.vector (inv_of u) ≡ max (max (at s.store.vector (inv_of u)) (at brought (inv_of u))) 0 = vector_is (inv_of u) ∙ ap (λ b. max (max (at s.store.vector (inv_of u)) (at brought (inv_of u))) (cond b now.usn 0)) is in
           carried u m (omega (arith, more.1, c, other))

@@ -59,7 +59,7 @@ module _ (sc : Book) (s : State) (r : Reply) (c : Change) (t : IsTaken sc s r c)
 
   -- a class that is said came with the reply or was known
   classes : AreClassesKnown (numbered s.store.schema) (updates_of d.store.rows)
-  classes u m = ⊎_elim (λ old. may.state.store.classes u old) (λ sent. source_classes sc s r may u (in_source sc s r may sent.0 (may.reply.exact sent.0 sent.1) u sent.2)) (from u m)
+  classes u m = ⊎_elim (λ old. t.state.store.classes u old) (λ sent. source_classes sc s r may u (in_source sc s r may sent.0 (may.reply.exact sent.0 sent.1) u sent.2)) (from u m)
 
   closed_before : AreClosed (at s.store.vector) (updates_of d.store.rows)
   closed_before = subst (λ rows. AreClosed (at s.store.vector) (updates_of rows)) (sym way.steady.made) way.rows.closed
@@ -68,7 +68,7 @@ module _ (sc : Book) (s : State) (r : Reply) (c : Change) (t : IsTaken sc s r c)
   covered_before : (o : Oid) (u : Update) → Member u sc.issued → Member o (ends u.key) → (HoldsObject (updates_of d.store.rows) o → ⊥) → CoversBirth (at d.store.vector) o → CoversBirth (at s.store.vector) o
   covered_before o u m e absent covers =
       let b = may.book.born u m o e in
-      let g = covered_absent sc.issued (knowledge_of d.store) b.0 o (covered_now sc s r may) b.1 b.2.0 b.2.1 covers absent in
+      let g = covered_absent sc.issued (knowledge_of d.store) b.0 o (covered_now sc s r may t.state) b.1 b.2.0 b.2.1 covers absent in
       omega (arith, g.birth, purged_within sc s r may o.birth.inv)
 
   closed : IsClosed d.store
@@ -88,7 +88,7 @@ module _ (sc : Book) (s : State) (r : Reply) (c : Change) (t : IsTaken sc s r c)
     joined = joins_vector sc s r may;
     bounded = joins_bounded sc s r may;
     carried = carried sc s r may;
-    formed = (taken_formed s r may.state.formed may.reply.to_ordered (joins_vector sc s r may) way.steady t.passes).store;
+    formed = (taken_formed s r t.state.formed may.reply.to_ordered (joins_vector sc s r may) way.steady t.passes).store;
     closed = closed;
     classes = classes;
     mark = new_mark sc s r may;
@@ -96,10 +96,10 @@ module _ (sc : Book) (s : State) (r : Reply) (c : Change) (t : IsTaken sc s r c)
 
   follows : Follows (last_of sc s.inv) change
   follows = record {
-    rises = omega (arith, way.steady.rises, may.state.last);
-    above = λ h m. omega (arith, way.above h m, may.state.last);
+    rises = omega (arith, way.steady.rises, t.state.last);
+    above = λ h m. omega (arith, way.above h m, t.state.last);
     within = way.within;
-    idle = λ le. (way.idle (omega (arith, le, may.state.last)), refl);
+    idle = λ le. (way.idle (omega (arith, le, t.state.last)), refl);
   }
 
   may_issue : MayIssue sc change []

@@ -7,23 +7,35 @@ use Rattle.adr_vector.specs.Vector.{at, first_gap, cursor_limit}
 use Rattle.adr_event.specs.declared.refusal.TakeRefusal.{TakeRefusal}
 use Rattle.adr_event.specs.declared.refusal.TakeRefusal.TheVariants.{Stale, VectorBehind, SchemaMismatch, RolledBack}
 use Rattle.adr_model.specs.Member.{Member, Each}
-use Rattle.adr_model.specs.Reflects.{AtMost, Knowledge, knowledge_of}
-use Rattle.adr_model.specs.Store.{Held, Normal, State, updates_of}
+use Rattle.adr_model.specs.Reflects.{AtMost, Covers, Knowledge, knowledge_of, Reflects}
+use Rattle.adr_model.specs.Store.{Held, Normal, State, Store, updates_of}
 use Rattle.adr_model.specs.Change.{Change, held_of, rows_after, after}
-use Rattle.adr_model.specs.Formed.{AreRising, AreAlone, AreFormedRows}
+use Rattle.adr_model.specs.Formed.{AreRising, AreAlone, AreFormedRows, IsClosed}
 use Rattle.adr_model.specs.LocalLog.{rows_at}
 use Rattle.adr_model.specs.Replica.{Book, log_of}
 use Rattle.adr_model.specs.Serve.{Reply}
-use Rattle.adr_model.specs.Sound.{IsSoundBook, IsSoundState, IsSoundReply, IsSoundMark, IsSent}
+use Rattle.adr_model.specs.Sound.{AreClassesKnown, IsSoundBook, IsSoundState, IsSoundReply, IsSoundMark, IsSent}
 use Rattle.adr_model.specs.Take.{Taking, take_items, taken_change, same_mark, kept_mark, shown_by_last, mark_limit}
 use Rattle.adr_model.specs.Write.{object_limit, link_limit, usn_limit}
 use Rattle.adr_law_knowledge.specs.Grows.{Grows}
 use Rattle.adr_law_steps.specs.Puts.{AreClosed}
 
+-- what is asked of the rows and vectors that take a reply, be they a controller's or not: no limits, and no log of their own
+pub record IsSoundBase (sc : Book) (s : Store) : Type 0 where
+  pub known : Each (λ u. Member u sc.issued) (updates_of s.rows)
+  pub covered : Each (λ u. Covers (at s.vector) u → Reflects sc.issued (knowledge_of s) u) sc.issued
+  pub purged_within : AtMost (at s.purged) (at s.vector)
+  pub rising : AreRising s.rows
+  pub locals : Each (λ h. (1 ≤ h.local) × (h.local ≤ s.usn)) s.rows
+  pub alone : AreAlone s.rows
+  pub rows : AreFormedRows (numbered s.schema) (updates_of s.rows)
+  pub closed : IsClosed s
+  pub classes : AreClassesKnown (numbered s.schema) (updates_of s.rows)
+
 -- the mark at which the reply begins tells the truth, what it was asked with is covered, and both keep to one schema
 pub record IsTakeable (sc : Book) (s : State) (r : Reply) : Type 0 where
   pub book : IsSoundBook sc
-  pub state : IsSoundState sc s
+  pub base : IsSoundBase sc s.store
   pub reply : IsSoundReply sc r
   pub mark : IsSoundMark sc (knowledge_of s.store) r.inv r.from
   pub asked : AtMost (at r.asked) (at s.store.vector)
@@ -103,5 +115,6 @@ state_behind s r = after s (change_taken s r)
 -- the reply may be taken, its change is the one of its items, and it passes all tests
 pub record IsTaken (sc : Book) (s : State) (r : Reply) (c : Change) : Type 0 where
   pub may : IsTakeable sc s r
+  pub state : IsSoundState sc s
   pub is : change_taken s r ≡ c
   pub passes : Passes s r (taken_items s r) (state_behind s r)

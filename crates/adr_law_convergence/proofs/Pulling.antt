@@ -39,7 +39,7 @@ use Rattle.adr_law_logs.proofs.Asked.{asked_is_sound}
 use Rattle.adr_law_logs.proofs.Granted.{served_is_sound, shown_within}
 use Rattle.adr_law_logs.proofs.Served.{item_is, row_is}
 use Rattle.adr_law_logs.proofs.Tables.{entry_there, entry_itself}
-use Rattle.adr_law_calls.proofs.Granted.{kept_is_sound}
+use Rattle.adr_law_calls.proofs.Granted.{base_of, kept_is_sound}
 use Rattle.adr_law_calls.proofs.Refused.{items_are_whole}
 use Rattle.adr_law_convergence.proofs.Progress.{beyond, progress}
 
@@ -91,7 +91,7 @@ module _ (sc : Book) (d s : State) (most : ℕ) (book : IsSoundBook sc) (dest : 
   c = taken_change r t
 
   whole : t.refusal ≡ None
-  whole = items_are_whole sc d r (record { book = book; state = dest; reply = reply_sound; mark = kept_is_sound sc d r book dest; asked = λ i. omega arith; schema = sym schema })
+  whole = items_are_whole sc d r dest (record { book = book; base = base_of sc d dest; reply = reply_sound; mark = kept_is_sound sc d r book dest; asked = λ i. omega arith; schema = sym schema })
 
   abbrev limits : List (Option TakeRefusal)
   limits =
