@@ -14,3 +14,4 @@ pub use names::{
     attribute_kind, attribute_name, attribute_number, check_name, class_name, class_number,
 };
 pub use schema::{LOST_AND_FOUND_CLASS, ROOT_CLASS, Schema};
+pub use values::is_same_value;

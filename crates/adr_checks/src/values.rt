@@ -31,7 +31,7 @@ fn is_among(values: &[Value], value: &Value) -> bool
     ensures { result ≡ list_any (λ v. same_value v value.now) values.now }
 {
     for other in values {
-        if is_same(other, value) {
+        if is_same_value(other, value) {
             return true;
         }
     }
@@ -39,7 +39,7 @@ fn is_among(values: &[Value], value: &Value) -> bool
 }
 
 /// Whether the two are one value.
-fn is_same(value: &Value, other: &Value) -> bool
+pub fn is_same_value(value: &Value, other: &Value) -> bool
     ensures same { IsTrue result ↔ (value.now ≡ other.now) }
     ensures value { result ≡ same_value value.now other.now }
 {

@@ -16,8 +16,8 @@ use Rattle.adr_report.specs.Line.{line}
 use Rattle.adr_model.specs.Convergence.{behind}
 use Rattle.adr_law_headline.proofs.Claimed.{first_may, show_so}
 use Rattle.adr_law_headline.proofs.Following.{following_may}
-use Rattle.adr_schedule.proofs.ScheduleLaws.{text_follows}
-use Rattle.adr_cmd.specs.Outcome.{outcome, outcome_of}
+use Rattle.adr_schedule.proofs.ScheduleLaws.{schedules_read, text_follows}
+use Rattle.adr_cmd.specs.Walked.{outcome, outcome_of}
 use Rattle.adr_world.specs.Played.{output_from}
 use Rattle.adr_cmd.specs.Shown.{view_line, AtEachShow}
 
@@ -51,7 +51,8 @@ shown_at es before after r is sound m up =
 -- what holds of the whole output holds of it as it is split
 pub at_each_show : (text : List ℕ) (P : List ℕ → Type 0) → P (outcome text).1 → AtEachShow text P
 unfolding outcome
-at_each_show text P p before after r is m up clean =
+at_each_show text P p before after r said m up clean =
+    let is = schedules_read text (before ++ events.Show r.name ∷ after) said in
     let may = following_may (before ++ events.Show r.name ∷ after) (text_follows text (before ++ events.Show r.name ∷ after) is) in
     let sound = (runs_are_sound before (first_may before (events.Show r.name ∷ after) empty_world may)).sound clean in
     subst P (ap (λ t. (outcome_of t).1) is ∙ shown_at (before ++ events.Show r.name ∷ after) before after r refl sound m up) p

@@ -7,12 +7,17 @@ use Rattle.std.proofs.lemmas.List.{length-take, drop_all}
 use Rattle.adr_io.specs.Told.{Adds, AddsFront}
 use Rattle.adr_io.specs.declared.Fault.{Fault}
 use Rattle.adr_io.specs.declared.Fault.TheVariants.{Failed, NoMemory}
+use Rattle.adr_report.proofs.Due.{none_added}
 use Rattle.adr_schedule.specs.declared.fault.Cause.TheVariants.{TooLong}
 use Rattle.adr_schedule.specs.Limits.{text_limit}
 use Rattle.adr_schedule.specs.Lines.{lines_of}
 use Rattle.adr_schedule.specs.Seen.{nothing_seen}
+use Rattle.adr_event.specs.declared.event.Event.{Event}
+use Rattle.adr_schedule.specs.declared.fault.ScheduleFault.{ScheduleFault}
 use Rattle.adr_schedule.specs.Events.{events_of, events_from, bad}
-use Rattle.adr_cmd.specs.Outcome.{outcome, outcome_of, ended}
+use Rattle.adr_schedule.proofs.ScheduleLaws.{read_texts, schedules_read, refused_texts, faults_refused}
+use Rattle.adr_cmd.specs.Outcome.{Gives, TextsGiveOne, ended}
+use Rattle.adr_cmd.specs.Walked.{outcome, outcome_of}
 
 is_lt : (m n : ℕ) → m < n → nat_lt m n ≡ true
 is_lt m n h = grind (arith, nat_tests)
@@ -96,3 +101,41 @@ short_text text zero = not_long (nat_lt text_limit (length text)) text refl zero
 pub told_end : (left after : Option (List ℕ)) (r : ℕ) → IfSome left (λ text. r ≡ (outcome text).0) → IfSome left (λ text. after ≡ Some (drop (text_limit + 1) text)) → r ≡ 0 → IfSome left (λ text. after ≡ Some [])
 told_end None after r status rest zero = tt
 told_end (Some text) after r status rest zero = rest ∙ ap Some (drop_all (text_limit + 1) text (short_text text (sym status ∙ zero)))
+
+-- the walk finds what the grammar says
+pub outcome_given : (text : List ℕ) → Gives text (outcome text).0 (outcome text).1
+unfolding outcome
+outcome_given text = by (events_of text) refl
+  where
+    by : (t : Result (List Event) ScheduleFault) → events_of text ≡ t → Gives text (outcome_of t).0 (outcome_of t).1
+    by (Ok es) is = inl (es, read_texts text es is, refl, refl)
+    by (Err fault) is = inr (fault, refused_texts text fault is, refl, refl)
+
+-- and the grammar says nothing else
+given_is : (text : List ℕ) (status : ℕ) (written : List ℕ) → Gives text status written → (status ≡ (outcome text).0) × (written ≡ (outcome text).1)
+unfolding outcome
+given_is text status written (inl t) =
+    let e = sym (ap outcome_of (schedules_read text t.0 t.1)) in
+    (t.2 ∙ ap (λ (x : ℕ × List ℕ). x.0) e, t.3 ∙ ap (λ (x : ℕ × List ℕ). x.1) e)
+given_is text status written (inr t) =
+    let e = sym (ap outcome_of (faults_refused text t.0 t.1)) in
+    (t.2 ∙ ap (λ (x : ℕ × List ℕ). x.0) e, t.3 ∙ ap (λ (x : ℕ × List ℕ). x.1) e)
+
+pub texts_give_one : TextsGiveOne
+texts_give_one text = ((outcome text).0, (outcome text).1, outcome_given text, given_is text)
+
+pub told_given : (left before after : Option (List ℕ)) (r : ℕ) → IfSome left (λ text. r ≡ (outcome text).0) → IfSome left (λ text. Adds before after (outcome text).1)
+    → IfSome left (λ text. (given : List ℕ) × Gives text r given × Adds before after given)
+told_given None before after r status written = tt
+told_given (Some text) before after r status written =
+    ((outcome text).1, subst (λ (n : ℕ). Gives text n (outcome text).1) (sym status) (outcome_given text), written)
+
+pub told_given_front : (left before after : Option (List ℕ)) → IfSome left (λ text. AddsFront before after (outcome text).1)
+    → IfSome left (λ text. (status : ℕ) × (given : List ℕ) × Gives text status given × AddsFront before after given)
+told_given_front None before after front = tt
+told_given_front (Some text) before after front = ((outcome text).0, (outcome text).1, outcome_given text, front)
+
+-- where nothing was added, that is a front of what the text gives
+pub nothing_told : (left told : Option (List ℕ)) → IfSome left (λ text. (status : ℕ) × (given : List ℕ) × Gives text status given × AddsFront told told given)
+nothing_told None told = tt
+nothing_told (Some text) told = ((outcome text).0, (outcome text).1, outcome_given text, none_added told (outcome text).1)

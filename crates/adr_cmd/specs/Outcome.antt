@@ -1,22 +1,26 @@
--- What the text of a schedule gives: a status, and what is written.
-use Rattle.std.specs.Prelude.{ℕ, List, [], ◌∷◌, Bool, false, Result, Ok, Err, codes}
+-- What a text gives: a status, and what is written.
+use Rattle.std.specs.Prelude.{◌≡◌, ◌⊎◌, ℕ, List, [], ◌∷◌, Bool, false, Result, Ok, Err, codes}
 use Rattle.std.specs.Str.{bytes_eq}
 use Rattle.adr_event.specs.declared.event.Event.{Event}
 use Rattle.adr_io.specs.declared.Fault.{Fault}
 use Rattle.adr_io.specs.declared.Fault.TheVariants.{Failed, NoMemory}
 use Rattle.adr_schedule.specs.declared.fault.ScheduleFault.{ScheduleFault}
-use Rattle.adr_schedule.specs.Events.{events_of}
+use Rattle.adr_schedule.specs.Schedules.{IsSchedule, IsFault}
 use Rattle.adr_schedule.specs.Telling.{fault_line}
 use Rattle.adr_model.specs.World.{empty_world}
 use Rattle.adr_world.specs.Played.{output_from}
 
--- a text's status, and what is written for it: the run of its events, or its first fault
-abbrev pub outcome_of : Result (List Event) ScheduleFault → ℕ × List ℕ
-outcome_of (Ok events) = (0, output_from empty_world events)
-outcome_of (Err fault) = (3, fault_line fault)
+-- a schedule of some events gives 0 and the output of their run; a text with a fault gives 3 and the fault's line
+abbrev pub Gives : List ℕ → ℕ → List ℕ → Type 0
+Gives text status written =
+    ((events : List Event) × IsSchedule text events × (status ≡ 0) × (written ≡ output_from empty_world events))
+    ⊎ ((fault : ScheduleFault) × IsFault text fault × (status ≡ 3) × (written ≡ fault_line fault))
 
-unfoldable pub outcome : List ℕ → ℕ × List ℕ
-outcome text = outcome_of (events_of text)
+-- every text gives one status and one output
+abbrev pub TextsGiveOne : Type 0
+TextsGiveOne =
+    (text : List ℕ) → (status : ℕ) × (written : List ℕ) × Gives text status written
+    × ((s : ℕ) (w : List ℕ) → Gives text s w → (s ≡ status) × (w ≡ written))
 
 -- the words of a command
 abbrev pub is_replay : List (List ℕ) → Bool

@@ -6,8 +6,9 @@ ghost use Rattle.adr_law_headline.specs.Headline.{IsHeadline};
 ghost use Rattle.adr_report.specs.Laws.{EqualLinesMeanEqualDirectories};
 ghost use Rattle.adr_schedule.specs.Limits.{text_limit};
 ghost use Rattle.adr_schedule.specs.Telling.{fault_line};
-ghost use Rattle.adr_cmd.specs.Outcome.{outcome, is_replay, usage_line, ended};
+ghost use Rattle.adr_cmd.specs.Outcome.{Gives, TextsGiveOne, is_replay, usage_line, ended};
 ghost use Rattle.adr_cmd.specs.Shown.{AtEachShow};
+ghost use Rattle.adr_cmd.specs.Walked.{outcome};
 
 use adr_io::{Fault, Sink, Source, read_at_most};
 use adr_schedule::{Failure, ScheduleFault, TEXT_LIMIT, discard, fault_line, parse};
@@ -47,7 +48,7 @@ fn tell_fault<K: Sink>(alloc: Global, fault: ScheduleFault, sink: &mut K) -> Res
 }
 
 /// Runs a text, or tells its fault: the status but for a write that fails, and how the writes went.
-#[tactic(auto, unfolding(crate::specs::Outcome::outcome))]
+#[tactic(auto, unfolding(crate::specs::Walked::outcome))]
 fn perform<K: Sink>(alloc: Global, text: &[u8], sink: &mut K) -> (u8, Result<(), Fault>)
     ensures status { OnOk result.1 (result.0 ≡ (outcome text.now).0) }
     ensures ok { OnOk result.1 (Adds (K.written sink.old) (K.written sink.new) (outcome text.now).1) }
@@ -69,11 +70,12 @@ fn perform<K: Sink>(alloc: Global, text: &[u8], sink: &mut K) -> (u8, Result<(),
 
 /// Reads a text, and writes what it gives.
 fn replay<S: Source, K: Sink>(alloc: Global, source: &mut S, sink: &mut K) -> u8
-    ensures status { (result ≡ 0) ⊎ (result ≡ 3) → IfSome (S.left source.old) (λ text. result ≡ (outcome text).0) }
     ensures written { (result ≡ 0) ⊎ (result ≡ 3)
-        → IfSome (S.left source.old) (λ text. Adds (K.written sink.old) (K.written sink.new) (outcome text).1) }
+        → IfSome (S.left source.old) (λ text. (given : List ℕ) × Gives text result given
+        × Adds (K.written sink.old) (K.written sink.new) given) }
     ensures front { (result ≡ 5) ⊎ (result ≡ 8)
-        → IfSome (S.left source.old) (λ text. AddsFront (K.written sink.old) (K.written sink.new) (outcome text).1) }
+        → IfSome (S.left source.old) (λ text. (status : ℕ) × (given : List ℕ) × Gives text status given
+        × AddsFront (K.written sink.old) (K.written sink.new) given) }
     ensures printed { result ≡ 0
         → IfSome (S.left source.old) (λ text. AtEachShow text (Adds (K.written sink.old) (K.written sink.new))) }
     ensures read { IfSome (S.left source.old) (λ before. (n : ℕ) × (n ≤ text_limit + 1)
@@ -122,13 +124,15 @@ pub fn run<S: Source, K: Sink>(alloc: Global, words: &[String], source: &mut S, 
         → AddsFront (K.written sink.old) (K.written sink.new) usage_line }
     ensures usage_unread { is_replay (map string_bytes words.now) ≡ false → source.new ≡ source.old }
 
-    // With 0 or 3 what was written is what the text gives, and so is the status. With 0 the source is at its end.
-    ensures status { (result ≡ 0) ⊎ (result ≡ 3) → IfSome (S.left source.old) (λ text. result ≡ (outcome text).0) }
+    // Each text is a schedule of some events or has a fault, by the grammar, and so gives one status and one output. With 0
+    // or 3 that is the status and what was written. With 0 the source is at its end.
+    ensures texts { TextsGiveOne }
     ensures written { (result ≡ 0) ⊎ (result ≡ 3)
-        → IfSome (S.left source.old) (λ text. Adds (K.written sink.old) (K.written sink.new) (outcome text).1) }
+        → IfSome (S.left source.old) (λ text. (given : List ℕ) × Gives text result given
+        × Adds (K.written sink.old) (K.written sink.new) given) }
     ensures ended { result ≡ 0 → IfSome (S.left source.old) (λ text. S.left source.new ≡ Some []) }
 
-    // And where a text asks a controller that is up for its directory, what was written is there the directory of the
+    // And where a schedule asks a controller that is up for its directory, what was written is there the directory of the
     // issued updates that the controller covers or holds.
     ensures printed { result ≡ 0
         → IfSome (S.left source.old) (λ text. AtEachShow text (Adds (K.written sink.old) (K.written sink.new))) }
@@ -139,12 +143,15 @@ pub fn run<S: Source, K: Sink>(alloc: Global, words: &[String], source: &mut S, 
     // Of every text that is a schedule, wherever its run stands while no database was put back, as none is without a
     // `rollback`: each controller shows the directory of the issued updates that it covers or holds, controllers that cover
     // the same, and hold nothing beyond, show the same, and every write that was acknowledged is in view for whoever has its
-    // identifier. And always each state is formed, and each directory printable.
+    // identifier. Whole cycles that come in rounds bring together whom they connect, and a `ring` line that is answered ok
+    // tells so. No answer is that a controller was put back, or that an item is broken or incomplete, nor that someone is too
+    // old while everyone covers what was collected. And always each state is formed, and each directory printable.
     ensures headline { (text : List ℕ) → IsHeadline text }
 
     // With a fault it is a front of that. Of the source no more is read than a text may have, and one byte.
     ensures front { is_replay (map string_bytes words.now) ≡ true → (result ≡ 5) ⊎ (result ≡ 8)
-        → IfSome (S.left source.old) (λ text. AddsFront (K.written sink.old) (K.written sink.new) (outcome text).1) }
+        → IfSome (S.left source.old) (λ text. (status : ℕ) × (given : List ℕ) × Gives text status given
+        × AddsFront (K.written sink.old) (K.written sink.new) given) }
     ensures read { IfSome (S.left source.old) (λ before. (n : ℕ) × (n ≤ text_limit + 1)
         × (S.left source.new ≡ Some (drop n before))) }
     ensures read_whole { (result ≡ 0) ⊎ (result ≡ 3)

@@ -3,7 +3,7 @@ use Rattle.std.specs.Prelude.{ℕ, List, [], codes}
 use Rattle.adr_event.specs.declared.event.Event.{Event}
 use Rattle.adr_event.specs.declared.event.Event.TheVariants as events
 use Rattle.adr_event.specs.declared.verb.Verb.{Verb}
-use Rattle.adr_event.specs.declared.verb.Verb.TheVariants.{Controller, Time, Add, Modify, Rename, Delete, Link, Unlink, Ask, Serve, Deliver, Pull, Cycle, Collect, Backup, Restore, Install, Snapshot, Rollback, Stop, Fail, Start, Show, Vector, Marks}
+use Rattle.adr_event.specs.declared.verb.Verb.TheVariants.{Controller, Time, Add, Modify, Rename, Delete, Link, Unlink, Ask, Serve, Deliver, Pull, Cycle, Ring, Collect, Backup, Restore, Install, Snapshot, Rollback, Stop, Fail, Start, Show, Vector, Marks}
 
 abbrev pub word_of : Verb → List ℕ
 word_of Controller = codes "controller"
@@ -19,6 +19,7 @@ word_of Serve = codes "serve"
 word_of Deliver = codes "deliver"
 word_of Pull = codes "pull"
 word_of Cycle = codes "cycle"
+word_of Ring = codes "ring"
 word_of Collect = codes "collect"
 word_of Backup = codes "backup"
 word_of Restore = codes "restore"
@@ -47,6 +48,7 @@ verb_of (events.Serve name request bind) = Serve
 verb_of (events.Deliver name reply) = Deliver
 verb_of (events.Pull name source max) = Pull
 verb_of (events.Cycle name source max) = Cycle
+verb_of (events.Ring name others rounds max) = Ring
 verb_of (events.Collect name lifetime) = Collect
 verb_of (events.Backup name bind) = Backup
 verb_of (events.Restore name image inv) = Restore
@@ -76,6 +78,7 @@ name_of (events.Serve name request bind) = name
 name_of (events.Deliver name reply) = name
 name_of (events.Pull name source max) = name
 name_of (events.Cycle name source max) = name
+name_of (events.Ring name others rounds max) = name
 name_of (events.Collect name lifetime) = name
 name_of (events.Backup name bind) = name
 name_of (events.Restore name image inv) = name

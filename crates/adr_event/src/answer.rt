@@ -95,6 +95,12 @@ pub enum Outcome {
     Vector(Vector),
     /// How far each partner was read.
     Marks(PartnerMarks),
+    /// So many rounds were made, and then the directories, and the vectors, were all equal or not.
+    Compared {
+        rounds: u32,
+        directories: bool,
+        vectors: bool,
+    },
     /// A cycle took its most replies, and none of them was the last.
     More,
     /// The controller that was to be started is up.
@@ -143,6 +149,11 @@ impl Drop for Outcome {
                 usn: _,
             }
             | Outcome::Removed(_)
+            | Outcome::Compared {
+                rounds: _,
+                directories: _,
+                vectors: _,
+            }
             | Outcome::More
             | Outcome::Up
             | Outcome::Down

@@ -1,5 +1,6 @@
 //! The events of a run.
 
+use crate::names::Names;
 use adr_disk::Crash;
 use adr_guid::Guid;
 use adr_schema::{Assignments, Text};
@@ -86,6 +87,13 @@ pub enum Event {
     Cycle {
         name: Text,
         source: Text,
+        max: u32,
+    },
+    /// So often each of some controllers pulls a cycle from the one before it, the first from the last; then they are compared.
+    Ring {
+        name: Text,
+        others: Names,
+        rounds: u32,
         max: u32,
     },
     /// The controller collects its tombstones that are as old as a lifetime, in seconds, or older.

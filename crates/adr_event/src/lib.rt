@@ -7,6 +7,7 @@
 mod answer;
 mod directory;
 mod event;
+mod names;
 mod partners;
 mod refusal;
 mod verb;
@@ -19,6 +20,7 @@ pub use adr_vector::{Mark, Vector};
 pub use answer::{Answer, Field, Fields, Outcome, Plainly};
 pub use directory::{Directory, Entry, EntryLinks, EntryValues, Guids};
 pub use event::Event;
+pub use names::Names;
 pub use partners::PartnerMarks;
 pub use refusal::{
     AdoptRefusal, CollectRefusal, ItemFault, ServeRefusal, Table, TakeRefusal, WriteRefusal,

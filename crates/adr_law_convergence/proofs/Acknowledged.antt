@@ -34,7 +34,7 @@ use Rattle.adr_law_convergence.proofs.Refusals.{is_plain, IsPlain, write_refused
 use Rattle.adr_law_convergence.proofs.RefusalsPlain.{asked, line_case}
 use Rattle.adr_law_convergence.proofs.Reached.{plain_reached, within_case}
 use Rattle.adr_law_convergence.proofs.RefusalsSpared.{serves_so, takes_so}
-use Rattle.adr_law_convergence.proofs.Exchanges.{IsKeptByCalls, pull_so, pulls_so}
+use Rattle.adr_law_convergence.proofs.Exchanges.{IsKeptByCalls, pull_so, pulls_so, ring_so}
 
 abbrev IsTrueOf : World → Event → Gone → Type 0
 IsTrueOf w e g = (usn : ℕ) → g.1 ≡ outcomes.Usn usn → IsAcknowledged w e usn g.0
@@ -160,4 +160,5 @@ acknowledged_is_issued w e sound may usn a m is = line_case (IsTrue w) w (λ f v
     (λ name reply n h. absurd (taken_no_usn w name (bound_at w.replies reply) n h))
     (λ name source max. says_nothing w (events.Pull name source max) (step w (events.Pull name source max)) (pull_so (λ v. Unit {0}) (λ v q. Unit {0}) (λ v r. Unit {0}) IsNoUsn calls_no_usn name source max w tt).1)
     (λ name source max. says_nothing w (events.Cycle name source max) (step w (events.Cycle name source max)) (pulls_so (λ v. Unit {0}) (λ v q. Unit {0}) (λ v r. Unit {0}) IsNoUsn calls_no_usn name source max reply_limit w tt).1)
+    (λ name others rounds max. says_nothing w (events.Ring name others rounds max) (step w (events.Ring name others rounds max)) (ring_so (λ v. Unit {0}) (λ v q. Unit {0}) (λ v r. Unit {0}) IsNoUsn calls_no_usn (λ n d f. plain_is_not (outcomes.Compared n d f) refl) name others rounds max w tt).1)
     e may a m usn is

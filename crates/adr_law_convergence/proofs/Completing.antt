@@ -22,7 +22,7 @@ use Rattle.adr_model.specs.Convergence.{units_beyond, replies_taken, IsRefused, 
 use Rattle.adr_model.proofs.Members.{found, member_right}
 use Rattle.adr_law_steps.proofs.Rows.{held_as}
 use Rattle.adr_law_convergence.proofs.Found.{replica_found, same_name, same_name_tests}
-use Rattle.adr_law_convergence.proofs.Cycling.{Goes, IsLike, reply, change, next, behind, taking, told, Takes, MeetsLimit, took, taken_or_not, next_found, server, server_found, behind_sound, left, idle, gained, server_like, goes_on, keeps, kept, kept_as, nearer_end, ended, one_of}
+use Rattle.adr_law_convergence.proofs.Cycling.{Goes, IsLike, reply, change, next, behind, taking, told, Takes, MeetsLimit, took, taken_or_not, still_unplanned, next_found, server, server_found, behind_sound, left, idle, gained, server_like, goes_on, keeps, kept, kept_as, nearer_end, ended, one_of}
 
 -- the units beyond a mark, by what the source is and has
 abbrev units_of_source : State → Identifier → Identifier → List Held → ℕ
@@ -32,7 +32,7 @@ units_of_source d dsa inv rows = length (filter (λ unit. nat_lt (mark_of (kept_
 abbrev WasRead : State → Identifier → Identifier → ℕ → Type 0
 WasRead after dsa inv usn = kept_of after.store dsa ≡ record { inv = inv; mark = record { obj = usn; prop = usn; seen = usn } }
 
-module _ (w v : World) (dest source : Name) (d s : Replica) (goes : Goes w v dest source d s) (most : ℕ) (le : 1 ≤ most) where
+module _ (w v : World) (dest source : Name) (d s : Replica) (goes : Goes w v dest source d s) (most : ℕ) where
   abbrev r : Reply
   r = reply w v dest source d s goes most
 
@@ -55,7 +55,7 @@ module _ (w v : World) (dest source : Name) (d s : Replica) (goes : Goes w v des
     world : IsSoundWorld u
     world = behind_sound w v dest source d s goes most ok
 
-    there : Member n u.replicas × (n.name ≡ dest)
+    pub there : Member n u.replicas × (n.name ≡ dest)
     there = replica_found u dest n (next_found w v dest source d s goes most)
 
     serves : Member z u.replicas × (z.name ≡ source)
@@ -91,12 +91,12 @@ module _ (w v : World) (dest source : Name) (d s : Replica) (goes : Goes w v des
     nothing_new : Each (λ x. Reflects w.book.issued (knowledge_of d.safe.store) x) (updates_of s.safe.store.rows) → (n.safe.store.usn ≡ d.safe.store.usn) × (n.safe.store.rows ≡ d.safe.store.rows)
     nothing_new all = idle w v dest source d s goes most ok (λ x m. subst (λ is. Reflects is (knowledge_of d.safe.store) x) (sym goes.issued) (all x m))
 
-    joined_is : (i : Identifier) → i ≢ d.safe.inv → at n.safe.store.vector i ≡ max (at d.safe.store.vector i) (at (unwrap_or r.last []) i)
+    pub joined_is : (i : Identifier) → i ≢ d.safe.inv → at n.safe.store.vector i ≡ max (at d.safe.store.vector i) (at (unwrap_or r.last []) i)
     joined_is i other = raised_elsewhere (joined d.safe.store.vector (unwrap_or r.last [])) d.safe.inv (change w v dest source d s goes most).usn i other
         ∙ at-joined (unwrap_or r.last []) d.safe.store.vector i (left w v dest source d s goes most ok).1.joined.rising
 
     -- the last reply
-    done : (W : Cursors) → r.last ≡ Some W → IsCompleted w d.safe s.safe (answers (taking w v dest source d s goes most)) n.safe
+    pub done : (W : Cursors) → r.last ≡ Some W → IsCompleted w d.safe s.safe (answers (taking w v dest source d s goes most)) n.safe
     done W last = record {
       replies = let e : replies_taken (answers (taking w v dest source d s goes most)) ≡ 1 = refl in (omega (arith, e), omega (arith, e));
       mark = kept_as w v dest source d s goes most ∙ ap (λ (m : Mark). let k : Kept = record { inv = s.safe.inv; mark = m } in k) t.0;
@@ -117,7 +117,7 @@ module _ (w v : World) (dest source : Name) (d s : Replica) (goes : Goes w v des
         ∙ (ap (λ x. units_of_source n.safe s.safe.dsa x z.safe.store.rows) like.inv ∙ ap (units_of_source n.safe s.safe.dsa s.safe.inv) like.rows)
 
     -- a reply that isn't the last, and what comes after it
-    module _ (more : r.last ≡ None) (rest : List Answer) (after : State) (same : after.inv ≡ d.safe.inv) (c : IsCompleted w n.safe z.safe rest after) where
+    module _ (le : 1 ≤ most) (more : r.last ≡ None) (rest : List Answer) (after : State) (same : after.inv ≡ d.safe.inv) (c : IsCompleted w n.safe z.safe rest after) where
       of_server : (x : Update) → Member x (updates_of z.safe.store.rows) → Member x (updates_of s.safe.store.rows)
       of_server x m = subst (λ (rs : List Held). Member x (updates_of rs)) like.rows m
 
@@ -172,9 +172,9 @@ Goal n w dest d s t = AreUnlimited t.1 → TookAll n dest d s t.1 ⊎ ((after : 
 unlimited_rest : (first rest : List Answer) → AreUnlimited (first ++ rest) → AreUnlimited rest
 unlimited_rest first rest none = (λ a m. none.0 a (member_right first rest a m), λ a m. none.1 a (member_right first rest a m))
 
-completes : (w : World) (dest source : Name) (most : ℕ) → 1 ≤ most → (fuel : ℕ) (v : World) (d s : Replica) → Goes w v dest source d s → Goal fuel w dest d.safe s.safe (pulls fuel v dest source most)
-completes w dest source most le zero v d s goes = λ none. inl (record { replies = refl; units = λ one. omega (arith, one); more = inl refl })
-completes w dest source most le (suc fuel) v d s goes = by (λ x e f is. completes w dest source most le fuel x e f is) (taken_or_not w v dest source d s goes most)
+completes : (w : World) (dest source : Name) (most : ℕ) → 1 ≤ most → (fuel : ℕ) (v : World) (d s : Replica) → Goes w v dest source d s → d.plan ≡ None → Goal fuel w dest d.safe s.safe (pulls fuel v dest source most)
+completes w dest source most le zero v d s goes unplanned = λ none. inl (record { replies = refl; units = λ one. omega (arith, one); more = inl refl })
+completes w dest source most le (suc fuel) v d s goes unplanned = by (λ x e f is none. completes w dest source most le fuel x e f is none) (taken_or_not w v dest source d s goes most unplanned)
   where
     r : Reply
     r = reply w v dest source d s goes most
@@ -195,19 +195,19 @@ completes w dest source most le (suc fuel) v d s goes = by (λ x e f is. complet
     go x = pulls fuel x dest source most
 
     Rest : Type 0
-    Rest = (x : World) (e f : Replica) → Goes w x dest source e f → Goal fuel w dest e.safe f.safe (pulls fuel x dest source most)
+    Rest = (x : World) (e f : Replica) → Goes w x dest source e f → e.plan ≡ None → Goal fuel w dest e.safe f.safe (pulls fuel x dest source most)
 
     was : Rest → (ok : Takes w v dest source d s goes most) → (o : Option Cursors) → r.last ≡ o → Goal (suc fuel) w dest d.safe s.safe (and_then (u, answers, is_none o) go)
-    was rest ok (Some W) last none = inr (n, (there w v dest source d s goes most le ok).0, (there w v dest source d s goes most le ok).1, refl, done w v dest source d s goes most le ok W last)
+    was rest ok (Some W) last none = inr (n, (there w v dest source d s goes most ok).0, (there w v dest source d s goes most ok).1, refl, done w v dest source d s goes most ok W last)
     was rest ok None more none = ⊎_elim
         (λ all. inl (record {
           replies = let e : replies_taken (answers ++ (go u).1) ≡ suc (replies_taken (go u).1) = refl in e ∙ ap suc all.replies;
           units = λ one. let near = nearer_end w v dest source d s goes most le more in
-              further fuel (units_beyond d.safe s.safe) (units_beyond n.safe s.safe) (units_beyond n.safe z.safe) near.0 near.1 (units_are w v dest source d s goes most le ok) all.units;
+              further fuel (units_beyond d.safe s.safe) (units_beyond n.safe s.safe) (units_beyond n.safe z.safe) near.0 near.1 (units_are w v dest source d s goes most ok) all.units;
           more = member_right answers (go u).1 (answer (codes "cycle") dest outcomes.More) all.more;
         }))
-        (λ t. inr (t.0, t.1, t.2, t.3, onward w v dest source d s goes most le ok more (go u).1 t.0.safe t.3 t.4))
-        (rest u n z (goes_on w v dest source d s goes most ok) (unlimited_rest answers (go u).1 none))
+        (λ t. inr (t.0, t.1, t.2, t.3, onward w v dest source d s goes most ok le more (go u).1 t.0.safe t.3 t.4))
+        (rest u n z (goes_on w v dest source d s goes most ok) (still_unplanned w v dest source d s goes most unplanned) (unlimited_rest answers (go u).1 none))
 
     -- an answer that says that a limit is met
     met : (o : Outcome) → IsRefused 21 o ⊎ IsRefused 22 o → AreUnlimited (told w v dest source d s goes most o) → ⊥
@@ -221,7 +221,7 @@ pub found_by_name : (w : World) (r : Replica) → IsSoundWorld w → Member r w.
 found_by_name w r sound m = found (λ (x : Replica). bytes_eq x.name r.name) w.replicas r m (same_name_tests r.name r.name refl) (λ x n is. sound.identifiers.names x n r m (same_name x.name r.name is))
 
 pub cycle_ends : CycleEnds
-cycle_ends w dest source most sound may le unlimited = ⊎_elim (λ all. inl (record { replies = all.replies; units = all.units (omega arith); more = all.more })) (λ t. inr (t.0, t.1, t.2, t.4)) (completes w dest.name source.name most le reply_limit w dest source goes unlimited)
+cycle_ends w dest source most sound may le unlimited = ⊎_elim (λ all. inl (record { replies = all.replies; units = all.units (omega arith); more = all.more })) (λ t. inr (t.0, t.1, t.2, t.4)) (completes w dest.name source.name most le reply_limit w dest source goes may.dest_unplanned unlimited)
   where
     goes : Goes w w dest.name source.name dest source
     goes = record {
@@ -231,7 +231,6 @@ cycle_ends w dest source most sound may le unlimited = ⊎_elim (λ all. inl (re
       s_found = found_by_name w source sound may.source_there;
       d_up = may.dest_up;
       s_up = may.source_up;
-      plan = may.dest_unplanned;
       schema = may.schema;
       purged = may.purged;
     }

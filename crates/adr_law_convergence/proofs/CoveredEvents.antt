@@ -14,7 +14,7 @@ use Rattle.adr_model.specs.Cycles.{pulls, reply_limit}
 use Rattle.adr_model.specs.Step.{gives, step}
 use Rattle.adr_model.specs.Convergence.{MayHappen, IsStoreOf, IsPurgedCovered, KeepsCovered, StaysCovered}
 use Rattle.adr_law_convergence.proofs.Reached.{made_case}
-use Rattle.adr_law_convergence.proofs.Exchanges.{IsKeptByCalls, pull_so, pulls_so, way_case}
+use Rattle.adr_law_convergence.proofs.Exchanges.{IsKeptByCalls, pull_so, pulls_so, ring_so, way_case}
 use Rattle.adr_law_convergence.proofs.Covered.{grown_covers, purged_covered}
 use Rattle.adr_law_convergence.proofs.CoveredSteps.{asked, put_back_covered, given_more, writes_covered, serves_covered, delivers_covered, collects_covered, plans_covered, stops_covered, starts_covered, restores_covered, installs_covered, reports_covered, comes_covered, binds_request, binds_image}
 
@@ -58,6 +58,7 @@ event_covered w covered (events.Serve name request bind) may keeps clean =
 event_covered w covered (events.Deliver name reply) may keeps clean = delivers_covered w covered name (bound_at w.replies reply)
 event_covered w covered (events.Pull name source max) may keeps clean = (pull_so IsPurgedCovered CoversPurged (λ v r. Unit {0}) (λ o. Unit {0}) only_worlds name source max w covered).0
 event_covered w covered (events.Cycle name source max) may keeps clean = pulls_covered w covered name source max reply_limit
+event_covered w covered (events.Ring name others rounds max) may keeps clean = (ring_so IsPurgedCovered CoversPurged (λ v r. Unit {0}) (λ o. Unit {0}) only_worlds (λ n d e. tt) name others rounds max w covered).0
 event_covered w covered (events.Collect name lifetime) may keeps clean = collects_covered w covered name lifetime keeps
 event_covered w covered (events.Backup name bind) may keeps clean = binds_image w covered name bind
 event_covered w covered (events.Restore name image inv) may keeps clean = restores_covered (gives w [] (inv ∷ [])) (given_more w covered [] (inv ∷ [])) name image inv
@@ -75,4 +76,4 @@ event_covered w covered (events.Marks name) may keeps clean = reports_covered w 
 
 -- what was collected is still covered
 pub stays_covered : StaysCovered
-stays_covered w e sound may covered keeps v way = way_case (λ (x : World). x.clean ≡ true → IsPurgedCovered x) w e (λ name source max n is clean. pulls_covered w covered name source max n) (event_covered w covered e may keeps) v way
+stays_covered w e sound may covered keeps v way = way_case IsPurgedCovered (λ (x : World). x.clean ≡ true → IsPurgedCovered x) w e covered (λ x name source max n is. pulls_covered x is name source max n) (λ x is clean. is) (event_covered w covered e may keeps) v way

@@ -22,7 +22,7 @@ use Rattle.adr_model.specs.Take.{take_items, taken_change, take}
 use Rattle.adr_event.specs.declared.refusal.Table.TheVariants.{Log}
 use Rattle.adr_model.specs.Lengths.{log_limit, log_end_after}
 use Rattle.adr_model.specs.Refused.{usn_limited, full, full_fields}
-use Rattle.adr_model.specs.Replica.{Pending, ToTake, Up, Plan, Replica, recorded, moved, Went, went, moves_of_commit, standing_after, plan_after, outcome_after, Failed}
+use Rattle.adr_model.specs.Replica.{Pending, ToTake, Up, Fault, Stops, Fails, Plan, Replica, recorded, moved, Went, Passed, Met, went, moves_of_commit, standing_after, plan_after, outcome_after, Failed}
 use Rattle.adr_model.specs.World.{Name, World, Gone, answer, replica_at, with_replica, of_made, where_up, nothing, stays, asks, rows_in, after_serve, served, serves_request, committed, commit, after_take, delivered, delivers}
 use Rattle.adr_model.specs.Cycles.{Pulled, first_told, pull_delivered, pull_served, pull_asked, pull}
 use Rattle.adr_model.specs.Sound.{last_of, IsSoundState, IsSoundReply, IsSent, IsSoundWorld}
@@ -67,7 +67,6 @@ pub record Goes (w v : World) (dest source : Name) (d s : Replica) : Type 0 wher
   pub s_found : replica_at v source ≡ Some s
   pub d_up : d.standing ≡ Up
   pub s_up : s.standing ≡ Up
-  pub plan : d.plan ≡ None
   pub schema : d.safe.store.schema ≡ s.safe.store.schema
   pub purged : at_most s.safe.store.purged d.safe.store.vector ≡ true
 
@@ -120,8 +119,18 @@ module _ (w v : World) (dest source : Name) (d s : Replica) (goes : Goes w v des
     safe_end = log_end_after d.safe_end change;
     kept = None;
     standing = Up;
-    plan = None;
+    plan = plan_after (went d.plan 4);
   }
+
+  -- the device calls of the commit go well
+  abbrev pub Passes : Type 0
+  Passes = (left : Option Plan) × (went d.plan 4 ≡ Passed left)
+
+  pub unplanned_passes : d.plan ≡ None → Passes
+  unplanned_passes none = (None, ap (λ (p : Option Plan). went p 4) none)
+
+  pub still_unplanned : d.plan ≡ None → next.plan ≡ None
+  still_unplanned none = ap (λ (p : Option Plan). plan_after (went p 4)) none
 
   abbrev pub behind : World
   behind = record v { book = recorded v.book d.safe.inv pending; replicas = with_replica v.replicas next }
@@ -142,14 +151,19 @@ module _ (w v : World) (dest source : Name) (d s : Replica) (goes : Goes w v des
   abbrev is_full : Bool
   is_full = nat_lt log_limit (log_end_after d.safe_end change)
 
-  committed_is : (o : Outcome) → committed v d pending o ≡ (behind, o)
-  committed_is o = ap (λ (g : Went). let m = fold moved (v.book, d) (moves_of_commit pending g) in (
+  -- what comes of the commit, by how its device calls go
+  abbrev comes : Outcome → Went → Gone
+  comes o g = let m = fold moved (v.book, d) (moves_of_commit pending g) in (
     record v { book = m.0; replicas = with_replica v.replicas (record m.1 { standing = standing_after Failed g; plan = plan_after g }) },
     outcome_after g o,
-  )) (ap (λ (p : Option Plan). went p 4) goes.plan)
+  )
 
-  commit_is : (b : Bool) → is_full ≡ b → (o : Outcome) → commit v d pending o ≡ (if b then (v, full Log log_limit) else (behind, o))
-  commit_is b is o = ap (λ (t : Bool). if t then (v, full Log log_limit) else committed v d pending o) is ∙ ap (λ (g : Gone). if b then (v, full Log log_limit) else g) (committed_is o)
+  committed_is : Passes → (o : Outcome) → committed v d pending o ≡ (behind, o)
+  committed_is passes o = ap (comes o) passes.1 ∙ ap (λ (p : Option Plan). let t : Gone = (record v { book = recorded v.book d.safe.inv pending; replicas = with_replica v.replicas (record next { plan = p }) }, o) in t) (sym (ap plan_after passes.1))
+
+  -- the commit, where it is known whether the log has room for the change
+  commit_by : (b : Bool) → is_full ≡ b → (o : Outcome) → commit v d pending o ≡ (if b then (v, full Log log_limit) else committed v d pending o)
+  commit_by b is o = ap (λ (t : Bool). if t then (v, full Log log_limit) else committed v d pending o) is
 
   reaches : delivers v dest (Some reply) ≡ after_take v d reply (take d.safe reply)
   reaches =
@@ -175,12 +189,12 @@ module _ (w v : World) (dest source : Name) (d s : Replica) (goes : Goes w v des
       ∷ answer (codes "deliver") dest o
       ∷ []
 
-  -- the reply is taken, and the log has room for its change
+  -- the reply is taken, the log has room for its change, and the device calls go well
   abbrev pub Takes : Type 0
-  Takes = (take d.safe reply ≡ Ok change) × (is_full ≡ false)
+  Takes = (take d.safe reply ≡ Ok change) × (is_full ≡ false) × Passes
 
   pub took : Takes → pull v dest source most ≡ (behind, told taking, is_none reply.last)
-  took t = pull_is (behind, taking) (reaches ∙ (ap (after_take v d reply) t.0 ∙ commit_is false t.1 taking))
+  took t = pull_is (behind, taking) (reaches ∙ (ap (after_take v d reply) t.0 ∙ (commit_by false t.1 taking ∙ committed_is t.2 taking)))
 
   -- the pull leaves the world as it was, and says that a limit is met
   abbrev pub MeetsLimit : Type 0
@@ -190,12 +204,35 @@ module _ (w v : World) (dest source : Name) (d s : Replica) (goes : Goes w v des
   refused x e (inl is) = (usn_limited, pull_is (v, usn_limited) (reaches ∙ ap (after_take v d reply) (e ∙ ap Err is)), inl (codes "UsnLimit", [], refl))
   refused x e (inr (table, limit, is)) = (full table limit, pull_is (v, full table limit) (reaches ∙ ap (after_take v d reply) (e ∙ ap Err is)), inr (codes "Full", full_fields table limit, refl))
 
-  pub taken_or_not : Takes ⊎ MeetsLimit
-  taken_or_not = ⊎_elim (λ ok. by is_full refl ok) (λ t. inr (refused t.0 t.1 t.2)) (taken_or_limited v.book d.safe s.safe most goes.sound.book d_safe s_safe d_normal s_normal goes.schema goes.purged)
+  -- a device call of the commit meets a fault, and the pull says so
+  abbrev pub MeetsFault : Type 0
+  MeetsFault = (u : World) × (o : Outcome) × (pull v dest source most ≡ (u, told o, false)) × ((o ≡ outcomes.Stopped) ⊎ (o ≡ outcomes.Disk)) × (Passes → ⊥)
+
+  pub taken_or_met : Takes ⊎ (MeetsLimit ⊎ MeetsFault)
+  taken_or_met = ⊎_elim (λ ok. by is_full refl ok) (λ t. inr (inl (refused t.0 t.1 t.2))) (taken_or_limited v.book d.safe s.safe most goes.sound.book d_safe s_safe d_normal s_normal goes.schema goes.purged)
     where
-      by : (b : Bool) → is_full ≡ b → take d.safe reply ≡ Ok change → Takes ⊎ MeetsLimit
-      by true is ok = inr (full Log log_limit, pull_is (v, full Log log_limit) (reaches ∙ (ap (after_take v d reply) ok ∙ commit_is true is taking)), inr (codes "Full", full_fields Log log_limit, refl))
-      by false is ok = inl (ok, is)
+      meets : {place : ℕ} {fault : Fault} → Passes → went d.plan 4 ≡ Met place fault → ⊥
+      meets p e = let both = sym p.1 ∙ e in absurd (cc)
+
+      on : (g : Went) → went d.plan 4 ≡ g → take d.safe reply ≡ Ok change → is_full ≡ false → Takes ⊎ (MeetsLimit ⊎ MeetsFault)
+      on (Passed left) e ok room = inl (ok, room, (left, e))
+      on (Met place (Stops how)) e ok room = let g = comes taking (Met place (Stops how)) in
+          inr (inr (g.0, outcomes.Stopped, pull_is g (reaches ∙ (ap (after_take v d reply) ok ∙ (commit_by false room taking ∙ ap (comes taking) e))), inl refl, λ p. meets p e))
+      on (Met place Fails) e ok room = let g = comes taking (Met place Fails) in
+          inr (inr (g.0, outcomes.Disk, pull_is g (reaches ∙ (ap (after_take v d reply) ok ∙ (commit_by false room taking ∙ ap (comes taking) e))), inr refl, λ p. meets p e))
+
+      by : (b : Bool) → is_full ≡ b → take d.safe reply ≡ Ok change → Takes ⊎ (MeetsLimit ⊎ MeetsFault)
+      by true is ok = inr (inl (full Log log_limit, pull_is (v, full Log log_limit) (reaches ∙ (ap (after_take v d reply) ok ∙ commit_by true is taking)), inr (codes "Full", full_fields Log log_limit, refl)))
+      by false is ok = on (went d.plan 4) refl ok is
+
+  -- no plan, no fault
+  pub taken_or_not : d.plan ≡ None → Takes ⊎ MeetsLimit
+  taken_or_not none = by taken_or_met
+    where
+      by : Takes ⊎ (MeetsLimit ⊎ MeetsFault) → Takes ⊎ MeetsLimit
+      by (inl ok) = inl ok
+      by (inr (inl limit)) = inr limit
+      by (inr (inr fault)) = absurd (fault.4 (unplanned_passes none))
 
   sound_reply : IsSoundReply v.book reply
   sound_reply = reply_sound v.book d.safe s.safe most goes.sound.book d_safe s_safe d_normal s_normal goes.schema goes.purged
@@ -300,7 +337,6 @@ module _ (w v : World) (dest source : Name) (d s : Replica) (goes : Goes w v des
       s_found = server_found;
       d_up = refl;
       s_up = server_up;
-      plan = refl;
       schema = goes.schema ∙ sym server_like.schema;
       purged = subst (λ p. at_most p next.safe.store.vector ≡ true) (sym server_like.purged)
           (at_most_from_everywhere s.safe.store.purged next.safe.store.vector s_safe.store.formed.purged.rising (λ i. omega (arith, everywhere_from_at_most s.safe.store.purged d.safe.store.vector goes.purged i, further i)));

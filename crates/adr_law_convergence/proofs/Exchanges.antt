@@ -8,10 +8,12 @@ use Rattle.adr_event.specs.declared.event.Event.TheVariants as events
 use Rattle.adr_model.specs.Member.{Each}
 use Rattle.adr_model.specs.Serve.{Request, Reply}
 use Rattle.adr_model.specs.World.{Name, World, Sent, answer, asks, serves_request, delivers}
-use Rattle.adr_model.specs.Cycles.{Pulled, pull_served, pull_asked, pull, and_then, pulls}
+use Rattle.adr_model.specs.Cycles.{Pulled, pull_served, pull_asked, pull, and_then, pulls, reply_limit}
+use Rattle.adr_model.specs.Rings.{ring, times, rings}
 use Rattle.adr_model.specs.Step.{step}
 use Rattle.adr_model.specs.Convergence.{IsOnTheWay}
 use Rattle.adr_model.proofs.Members.{member_of_either}
+use Rattle.adr_model.proofs.Ringing.{rings_so, amid_so}
 
 -- what holds of a call that makes a message: of the world behind it, of its answer, and of the message in that world
 abbrev pub Sends : {A : Type 0} → (World → Type 0) → (World → A → Type 0) → (Outcome → Type 0) → Sent A → Type 0
@@ -73,7 +75,15 @@ worlds_alone I asking serving delivering = record {
   more = tt;
 }
 
--- what holds behind a line, and behind some of the pulls of a cycle, holds of each world on the way
-pub way_case : (P : World → Type 0) (w : World) (e : Event) → ((name source : Name) (max n : ℕ) → e ≡ events.Cycle name source max → P (pulls n w name source max).0) → P (step w e).0 → (v : World) → IsOnTheWay w e v → P v
-way_case P w (events.Cycle name source max) cycles steps v way = subst P (sym way.1) (cycles name source max way.0 refl)
-way_case P w e cycles steps v way = subst P (sym way) steps
+-- of the answers to a ring too
+pub ring_so : (I : World → Type 0) (Q : World → Request → Type 0) (R : World → Reply → Type 0) (P : Outcome → Type 0) → IsKeptByCalls I Q R P → ((rounds : ℕ) (directories vectors : Bool) → P (outcomes.Compared rounds directories vectors))
+    → (name : Name) (others : List Name) (rounds max : ℕ) (w : World) → I w → I (rings w name others rounds max).0 × Each (λ (a : Answer). P a.outcome) (rings w name others rounds max).1
+ring_so I Q R P kept comparing name others rounds max w is =
+    rings_so I (λ (a : Answer). P a.outcome) (λ v dest source most h. pulls_so I Q R P kept dest source most reply_limit v h) name others rounds max (λ v d e. comparing rounds d e) w is
+
+-- what pulls keep, and holds behind a line, holds of each world on the way
+pub way_case : (I P : World → Type 0) (w : World) (e : Event) → I w → ((x : World) (name source : Name) (max n : ℕ) → I x → I (pulls n x name source max).0) → ((x : World) → I x → P x) → P (step w e).0
+    → (v : World) → IsOnTheWay w e v → P v
+way_case I P w (events.Cycle name source max) is keeps weak steps v way = subst P (sym way.1) (weak (pulls way.0 w name source max).0 (keeps w name source max way.0 is))
+way_case I P w (events.Ring name others rounds max) is keeps weak steps v way = weak v (amid_so I keeps (times rounds (ring name others)) max w is v way)
+way_case I P w e is keeps weak steps v way = subst P (sym way) steps

@@ -17,7 +17,7 @@ use Rattle.adr_model.specs.Convergence.{IssuedStays, StaysClean, StaysUnclean, p
 use Rattle.adr_model.proofs.Members.{member_left}
 use Rattle.adr_law_convergence.proofs.Reached.{made_case, within_case}
 use Rattle.adr_law_convergence.proofs.Called.{writes_so, asks_so, serves_so, delivers_so, collects_so, backs_up_so, plans_so, stops_so, starts_so, reports_so}
-use Rattle.adr_law_convergence.proofs.Exchanges.{IsKeptByCalls, worlds_alone, pull_so, pulls_so, way_case}
+use Rattle.adr_law_convergence.proofs.Exchanges.{IsKeptByCalls, worlds_alone, pull_so, pulls_so, ring_so, way_case}
 
 -- all that was issued in the one world is so in the other, and what isn't clean stays so; what is clean too, where no database is put back
 pub record Keeps (put : Bool) (w v : World) : Type 0 where
@@ -79,8 +79,8 @@ module _ (w : World) where
   calls_keep = worlds_alone (Keeps false w) (λ v name partner max kept. asks_so (Keeps false w) v kept (moving false w v kept) name partner max) (λ v name o kept. serves_so (Keeps false w) v kept (moving false w v kept) name o)
       (λ v name o kept. delivers_so (Keeps false w) v kept (moving false w v kept) name o)
 
-  pulls_keep : (name source : Name) (max n : ℕ) → Keeps false w (pulls n w name source max).0
-  pulls_keep name source max n = (pulls_so (Keeps false w) (λ v q. Unit {0}) (λ v r. Unit {0}) (λ o. Unit {0}) calls_keep name source max n w (same false w)).0
+  pulls_keep : (x : World) (name source : Name) (max n : ℕ) → Keeps false w x → Keeps false w (pulls n x name source max).0
+  pulls_keep x name source max n kept = (pulls_so (Keeps false w) (λ v q. Unit {0}) (λ v r. Unit {0}) (λ o. Unit {0}) calls_keep name source max n x kept).0
 
   abbrev Q : World → Type 0
   Q = Keeps false w
@@ -101,7 +101,8 @@ module _ (w : World) where
   step_keeps (events.Serve name request bind) = let k = serves_so Q w (same false w) moves name (bound_at w.requests request) in record { issued = k.issued; unclean = k.unclean; alike = k.alike }
   step_keeps (events.Deliver name reply) = delivers_so Q w (same false w) moves name (bound_at w.replies reply)
   step_keeps (events.Pull name source max) = (pull_so Q (λ v q. Unit {0}) (λ v r. Unit {0}) (λ o. Unit {0}) calls_keep name source max w (same false w)).0
-  step_keeps (events.Cycle name source max) = pulls_keep name source max reply_limit
+  step_keeps (events.Cycle name source max) = pulls_keep w name source max reply_limit (same false w)
+  step_keeps (events.Ring name others rounds max) = (ring_so Q (λ v q. Unit {0}) (λ v r. Unit {0}) (λ o. Unit {0}) calls_keep (λ n d e. tt) name others rounds max w (same false w)).0
   step_keeps (events.Collect name lifetime) = collects_so Q w (same false w) moves name lifetime
   step_keeps (events.Backup name bind) = let k = backs_up_so Q w (same false w) moves name in record { issued = k.issued; unclean = k.unclean; alike = k.alike }
   step_keeps (events.Restore name image inv) =
@@ -131,7 +132,7 @@ pub issued_stays : IssuedStays
 issued_stays w e = (step_keeps w e).issued
 
 pub stays_unclean : StaysUnclean
-stays_unclean w e v way = way_case (λ (x : World). w.clean ≡ false → x.clean ≡ false) w e (λ name source max n is. (pulls_keep w name source max n).unclean) (step_keeps w e).unclean v way
+stays_unclean w e v way = way_case (Keeps false w) (λ (x : World). w.clean ≡ false → x.clean ≡ false) w e (same false w) (λ x name source max n is. pulls_keep w x name source max n is) (λ x k. k.unclean) (step_keeps w e).unclean v way
 
 pub stays_clean : StaysClean
-stays_clean w e v way none = way_case (λ (x : World). x.clean ≡ w.clean) w e (λ name source max n is. (pulls_keep w name source max n).alike refl) ((step_keeps w e).alike none) v way
+stays_clean w e v way none = way_case (Keeps false w) (λ (x : World). x.clean ≡ w.clean) w e (same false w) (λ x name source max n is. pulls_keep w x name source max n is) (λ x k. k.alike refl) ((step_keeps w e).alike none) v way

@@ -7,6 +7,7 @@ use Rattle.adr_model.specs.Cycles.{reply_limit}
 use Rattle.adr_model.specs.Step.{step, after_lines}
 use Rattle.adr_model.specs.Sound.{IsSoundWorld, IsOrderlyWorld, IsWorldOfRun}
 use Rattle.adr_model.specs.Convergence.{MayHappen, IsOnTheWay, StaysSound, MayAllHappen, RunsAreSound}
+use Rattle.adr_model.proofs.Ringing.{behind_is_amid}
 use Rattle.adr_law_convergence.proofs.Empty.{begins_sound}
 use Rattle.adr_law_convergence.proofs.Exchanges.{way_case}
 use Rattle.adr_law_convergence.proofs.Issuing.{stays_unclean}
@@ -22,10 +23,10 @@ was_clean w e v way clean = by w.clean refl
     by false is = let t : v.clean ≡ false = stays_unclean w e v way is in cc
 
 pub way_sound : (w : World) (e : Event) → IsSoundWorld w → MayHappen w e → (v : World) → IsOnTheWay w e v → v.clean ≡ true → IsSoundWorld v
-way_sound w e sound may v way = way_case (λ (x : World). x.clean ≡ true → IsSoundWorld x) w e (λ name source max n is clean. pulls_sound w sound name source max n) (step_sound w sound e may) v way
+way_sound w e sound may v way = way_case IsSoundWorld (λ (x : World). x.clean ≡ true → IsSoundWorld x) w e sound (λ x name source max n is. pulls_sound x is name source max n) (λ x is clean. is) (step_sound w sound e may) v way
 
 pub way_orderly : (w : World) (e : Event) → IsOrderlyWorld w → MayHappen w e → (v : World) → IsOnTheWay w e v → IsOrderlyWorld v
-way_orderly w e orderly may v way = way_case IsOrderlyWorld w e (λ name source max n is. pulls_orderly w orderly name source max n) (step_orderly w orderly e may) v way
+way_orderly w e orderly may v way = way_case IsOrderlyWorld IsOrderlyWorld w e orderly (λ x name source max n is. pulls_orderly x is name source max n) (λ x is. is) (step_orderly w orderly e may) v way
 
 pub stays_sound : StaysSound
 stays_sound w e run may v way = record {
@@ -36,6 +37,7 @@ stays_sound w e run may v way = record {
 -- what is behind a line is on its way
 pub behind_is_on_the_way : (w : World) (e : Event) → IsOnTheWay w e (step w e).0
 behind_is_on_the_way w (events.Cycle name source max) = (reply_limit, refl)
+behind_is_on_the_way w (events.Ring name others rounds max) = behind_is_amid name others rounds max w
 behind_is_on_the_way w e = refl
 
 runs : (es : List Event) (w : World) → IsWorldOfRun w → MayAllHappen w es → IsWorldOfRun (after_lines w es)

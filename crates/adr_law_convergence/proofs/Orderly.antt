@@ -27,7 +27,7 @@ use Rattle.adr_law_convergence.proofs.Found.{bound_member, each_bound, in_place}
 use Rattle.adr_law_convergence.proofs.Reached.{made_case, reached_case, within_case}
 use Rattle.adr_law_convergence.proofs.Moves.{all_moves}
 use Rattle.adr_law_convergence.proofs.Called.{writes_so, asks_so, serves_so, delivers_so, collects_so, plans_so, stops_so, starts_so, reports_so}
-use Rattle.adr_law_convergence.proofs.Exchanges.{IsKeptByCalls, worlds_alone, pull_so, pulls_so}
+use Rattle.adr_law_convergence.proofs.Exchanges.{IsKeptByCalls, worlds_alone, pull_so, pulls_so, ring_so}
 
 -- ---- controllers
 
@@ -282,6 +282,7 @@ module _ (w : World) (is : IsOrderlyWorld w) where
   step_orderly (events.Deliver name reply) may = behind_call w is _ (delivers_orderly w is name (bound_at w.replies reply))
   step_orderly (events.Pull name source max) may = (pull_so IsOrderlyWorld (λ v q. Unit {0}) (λ v r. Unit {0}) (λ o. Unit {0}) calls_orderly name source max w is).0
   step_orderly (events.Cycle name source max) may = pulls_orderly w is name source max reply_limit
+  step_orderly (events.Ring name others rounds max) may = (ring_so IsOrderlyWorld (λ v q. Unit {0}) (λ v r. Unit {0}) (λ o. Unit {0}) calls_orderly (λ n d e. tt) name others rounds max w is).0
   step_orderly (events.Collect name lifetime) may = behind_call w is _ (collects_so (IsBehindCall w) w (unmoved w is) moving name lifetime)
   step_orderly (events.Backup name bind) may =
       subst (λ (v : World). IsOrderlyWorld (record v { images = bound v.images bind (of_controller w name (nothing w) (λ r. backed_up w (backup r.safe))).2 })) (sym (backs_up name).0)

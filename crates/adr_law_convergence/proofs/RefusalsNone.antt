@@ -27,7 +27,7 @@ use Rattle.adr_law_convergence.proofs.RefusalsServed.{is_for_age, not_too_old}
 use Rattle.adr_law_convergence.proofs.RefusalsPlain.{asked}
 use Rattle.adr_law_convergence.proofs.RefusalsSpared.{serves_so, takes_so, spared}
 use Rattle.adr_law_convergence.proofs.Binding.{only_made}
-use Rattle.adr_law_convergence.proofs.Exchanges.{IsKeptByCalls, pull_so, pulls_so}
+use Rattle.adr_law_convergence.proofs.Exchanges.{IsKeptByCalls, pull_so, pulls_so, ring_so}
 use Rattle.adr_law_convergence.proofs.Stepping.{AnyRequest, AnyReply, calls_sound}
 use Rattle.adr_law_convergence.proofs.CoveredEvents.{CoversPurged, calls_covered}
 
@@ -74,7 +74,8 @@ never_too_old w e sound may covered a m = free_is_not is_age 32 a.outcome refl
     (spared (IsFree is_age) age_is_grave w (λ usn. refl) (λ name request. served_young w name (bound_at w.requests request) (λ q is s of. bound_member (λ (p : Request). at_most s.purged p.vector ≡ true) w.requests request q (covered.requests s of) is))
     (λ name reply. taken_young w name (bound_at w.replies reply))
     (λ name source max. (pull_so IsPurgedCovered CoversPurged (λ v r. Unit {0}) (IsFree is_age) young_calls name source max w covered).1)
-    (λ name source max n. (pulls_so IsPurgedCovered CoversPurged (λ v r. Unit {0}) (IsFree is_age) young_calls name source max n w covered).1) e may a m)
+    (λ name source max n. (pulls_so IsPurgedCovered CoversPurged (λ v r. Unit {0}) (IsFree is_age) young_calls name source max n w covered).1)
+    (λ name others rounds max. (ring_so IsPurgedCovered CoversPurged (λ v r. Unit {0}) (IsFree is_age) young_calls (λ n d f. refl) name others rounds max w covered).1) e may a m)
 
 -- ---- damage
 
@@ -121,7 +122,8 @@ unharmed w sound e may = spared (IsFree is_damage) damage_is_grave w (λ usn. re
     (λ name request. served_harmless w sound name (bound_at w.requests request) (λ q is. bound_member (IsSoundRequest w.book) w.requests request q sound.requests is))
     (λ name reply. taken_harmless w sound name (bound_at w.replies reply) (λ p is. bound_member (IsSoundReply w.book) w.replies reply p sound.replies is))
     (λ name source max. (pull_so IsSoundWorld AnyRequest AnyReply (IsFree is_damage) harmless_calls name source max w sound).1)
-    (λ name source max n. (pulls_so IsSoundWorld AnyRequest AnyReply (IsFree is_damage) harmless_calls name source max n w sound).1) e may
+    (λ name source max n. (pulls_so IsSoundWorld AnyRequest AnyReply (IsFree is_damage) harmless_calls name source max n w sound).1)
+    (λ name others rounds max. (ring_so IsSoundWorld AnyRequest AnyReply (IsFree is_damage) harmless_calls (λ n d f. refl) name others rounds max w sound).1) e may
 
 pub no_damage : NoDamage
 no_damage w e sound may = (

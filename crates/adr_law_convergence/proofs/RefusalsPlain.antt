@@ -113,7 +113,8 @@ module _ (Q : Event → World → Answer → Type 0) (w : World) (plain : (e : E
     (served : (name request bind : Name) → Q (events.Serve name request bind) (step w (events.Serve name request bind)).0 (answer (codes "serve") name (serves_request w name (bound_at w.requests request)).1))
     (took : (name reply : Name) → Q (events.Deliver name reply) (step w (events.Deliver name reply)).0 (answer (codes "deliver") name (delivers w name (bound_at w.replies reply)).1))
     (pulled : (name source : Name) (max : ℕ) → OfAnswers (Q (events.Pull name source max)) (step w (events.Pull name source max)))
-    (cycled : (name source : Name) (max : ℕ) → OfAnswers (Q (events.Cycle name source max)) (step w (events.Cycle name source max))) where
+    (cycled : (name source : Name) (max : ℕ) → OfAnswers (Q (events.Cycle name source max)) (step w (events.Cycle name source max)))
+    (ringed : (name : Name) (others : List Name) (rounds max : ℕ) → OfAnswers (Q (events.Ring name others rounds max)) (step w (events.Ring name others rounds max))) where
   -- the one answer of a line is plain
   plainly : (e : Event) (verb : List ℕ) (name : Name) (v : World) (o : Outcome) → IsPlain o → OfAnswers (Q e) (v, answer verb name o ∷ [])
   plainly e verb name v o is = one_answer (Q e) v (answer verb name o) (plain e v (answer verb name o) is)
@@ -135,6 +136,7 @@ module _ (Q : Event → World → Answer → Type 0) (w : World) (plain : (e : E
   line_case (events.Deliver name reply) may = one_answer (Q (events.Deliver name reply)) (step w (events.Deliver name reply)).0 (answer (codes "deliver") name (delivers w name (bound_at w.replies reply)).1) (took name reply)
   line_case (events.Pull name source max) may = pulled name source max
   line_case (events.Cycle name source max) may = cycled name source max
+  line_case (events.Ring name others rounds max) may = ringed name others rounds max
   line_case (events.Collect name lifetime) may = plainly (events.Collect name lifetime) (codes "collect") name (step w (events.Collect name lifetime)).0 (of_controller w name (stays w) (λ r. after_collect w r lifetime (collect r.safe w.time lifetime))).1 (collects w name lifetime)
   line_case (events.Backup name bind) may = plainly (events.Backup name bind) (codes "backup") name (step w (events.Backup name bind)).0 (of_controller w name (nothing w) (λ r. backed_up w (backup r.safe))).1 (backs_up w name)
   line_case (events.Restore name image inv) may = plainly (events.Restore name image inv) (codes "restore") name (step w (events.Restore name image inv)).0 _ (restores (gives w [] (inv ∷ [])) name image inv)

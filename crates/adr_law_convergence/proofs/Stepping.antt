@@ -19,7 +19,7 @@ use Rattle.adr_law_convergence.proofs.Found.{bound_member}
 use Rattle.adr_law_convergence.proofs.Reached.{made_case, reached_case}
 use Rattle.adr_law_convergence.proofs.Acting.{planned, stopped, started_sound, write_sound, collect_sound, take_sound}
 use Rattle.adr_law_convergence.proofs.Binding.{Makes, only_made, IsRequest, IsReply, IsImage, asks_sound, serves_sound, backups_sound, requested, replied, imaged, aside}
-use Rattle.adr_law_convergence.proofs.Exchanges.{Sends, IsKeptByCalls, pull_so, pulls_so}
+use Rattle.adr_law_convergence.proofs.Exchanges.{Sends, IsKeptByCalls, pull_so, pulls_so, ring_so}
 use Rattle.adr_law_convergence.proofs.Coming.{given_sound, new_comes, installed, restored}
 
 -- a message that is made is bound where the world is as it was
@@ -134,6 +134,7 @@ module _ (w : World) (sound : IsSoundWorld w) where
       delivers_sound w sound name (bound_at w.replies reply) (λ r e. (reply_bound w sound reply r e, inl (bound_member (λ p. Member p.inv w.given.invs) w.replies reply r sound.identifiers.replies e)))
   step_sound (events.Pull name source max) may clean = pull_sound w sound name source max
   step_sound (events.Cycle name source max) may clean = pulls_sound w sound name source max reply_limit
+  step_sound (events.Ring name others rounds max) may clean = (ring_so IsSoundWorld AnyRequest AnyReply (λ o. Unit {0}) only_worlds (λ n d e. tt) name others rounds max w sound).0
   step_sound (events.Collect name lifetime) may clean =
       reached_case SoundBehind w name (stays w) (λ x. sound) (λ r. after_collect w r lifetime (collect r.safe w.time lifetime)) (λ r called up. collect_sound w sound r called.there up lifetime)
   step_sound (events.Backup name bind) may clean =

@@ -22,7 +22,7 @@ use Rattle.adr_model.specs.Step.{gives, step}
 use Rattle.adr_model.specs.Convergence.{IsNewName, IsNewDsa, IsNewInv, IsUnbound, MayHappen, MayAllHappen}
 use Rattle.adr_model.proofs.Members.{member_of_either}
 use Rattle.adr_law_convergence.proofs.Found.{same_name_tests}
-use Rattle.adr_law_headline.proofs.Naming.{names_of, Stays, adopted_case, writes_stay, asks_stay, serves_stay, delivers_stay, collects_stay, backups_stay, snapshots_stay, restores_stay, rollbacks_stay, reports_stay, plans_stay, stops_stay, starts_stay, pull_stays, pulls_stay}
+use Rattle.adr_law_headline.proofs.Naming.{names_of, Stays, adopted_case, writes_stay, asks_stay, serves_stay, delivers_stay, collects_stay, backups_stay, snapshots_stay, restores_stay, rollbacks_stay, reports_stay, plans_stay, stops_stay, starts_stay, pull_stays, pulls_stay, rings_stay}
 
 -- what is bound to names is among what lines bound
 abbrev AreAmong : {A : Type 0} → List (Name × A) → List Name → Type 0
@@ -238,6 +238,8 @@ event_may seen w (events.Serve name request bind) agrees cause allowed =
 event_may seen w (events.Deliver name reply) agrees cause allowed = (tt, agrees_on seen w (step w (events.Deliver name reply)).0 agrees (delivers_stay w name (bound_at w.replies reply)))
 event_may seen w (events.Pull name source max) agrees cause allowed = (tt, agrees_on seen w (step w (events.Pull name source max)).0 agrees (pull_stays w name source max))
 event_may seen w (events.Cycle name source max) agrees cause allowed = (tt, agrees_on seen w (step w (events.Cycle name source max)).0 agrees (pulls_stay reply_limit w name source max))
+event_may seen w (events.Ring name others rounds max) agrees cause allowed =
+    (tt, agrees_on seen w (step w (events.Ring name others rounds max)).0 agrees (rings_stay w name others rounds max))
 event_may seen w (events.Collect name lifetime) agrees cause allowed = (tt, agrees_on seen w (step w (events.Collect name lifetime)).0 agrees (collects_stay w name lifetime))
 event_may seen w (events.Backup name bind) agrees cause allowed =
     let t = of_controller w name (nothing w) (λ r. backed_up w (backup r.safe)) in let a = agrees_on seen w t.0 agrees (backups_stay w name) in (

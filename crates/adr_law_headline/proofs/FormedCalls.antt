@@ -9,11 +9,12 @@ use Rattle.adr_event.specs.declared.refusal.TakeRefusal.{TakeRefusal}
 use Rattle.adr_event.specs.declared.refusal.TakeRefusal.TheVariants as takes
 use Rattle.adr_event.specs.declared.refusal.CollectRefusal.{CollectRefusal}
 use Rattle.adr_event.specs.declared.refusal.AdoptRefusal.{AdoptRefusal}
+use Rattle.adr_wire.specs.Ranges.{IsId, IsU32, IsU64}
 use Rattle.adr_model.specs.Member.{Member, Each}
 use Rattle.adr_model.specs.Update.{Identifier, Update}
 use Rattle.adr_model.specs.Store.{Store, State, empty_state}
 use Rattle.adr_model.specs.Change.{Change, after}
-use Rattle.adr_model.specs.Serve.{Request, Reply, is_quarantined, serve}
+use Rattle.adr_model.specs.Serve.{Request, Reply, is_quarantined, ask, serve}
 use Rattle.adr_model.specs.Write.{Write, IsWellGiven, rows_written, write}
 use Rattle.adr_model.specs.Take.{take}
 use Rattle.adr_model.specs.Collect.{collect, backup, adopt, quarantine}
@@ -26,14 +27,19 @@ use Rattle.adr_law_convergence.proofs.Found.{bound_member, in_place}
 use Rattle.adr_law_convergence.proofs.Binding.{only_made}
 use Rattle.adr_law_convergence.proofs.Reached.{made_case, up_case, reached_case, within_case}
 use Rattle.adr_law_convergence.proofs.Moves.{settling, starting, committing}
+use Rattle.adr_law_recorded.specs.Typed.{IsTypedWrite}
+use Rattle.adr_law_recorded.specs.Ranged.{IsRangedRequest}
+use Rattle.adr_law_recorded.proofs.Asked.{asked_in_range}
 use Rattle.adr_law_headline.proofs.StayingFormed.{IsInForm, IsImageInForm, IsReplyInForm, written_in_form, taken_in_form, collected_in_form, quarantined_in_form, served_in_form, new_in_form, image_in_form, adopted_in_form}
 
 abbrev pub BothInForm : (Update → Type 0) → Replica → Type 0
 BothInForm P r = IsInForm P r.safe × IsInForm P r.read
 
--- every state that there is, or that may come back, is in form, and every reply is
+-- every state that there is, or that may come back, is in form, and every message is
 pub record IsWorldInForm (P : Update → Type 0) (w : World) : Type 0 where
+  pub time : IsU64 w.time
   pub replicas : Each (BothInForm P) w.replicas
+  pub requests : Each (λ (q : Name × Request). IsRangedRequest q.1) w.requests
   pub replies : Each (λ (r : Name × Reply). IsReplyInForm P r.1) w.replies
   pub images : Each (λ (i : Name × Store). IsImageInForm P i.1) w.images
   pub snapshots : Each (λ (s : Name × Snapshot). IsInForm P s.1.state) w.snapshots
@@ -58,7 +64,7 @@ module _ (P : Update → Type 0) (w : World) (is : IsWorldInForm P w) where
       by (inr (inr n)) = absurd n
 
   moved_on : (sc : Book) (rs : List Replica) → Each (BothInForm P) rs → IsWorldInForm P (record w { book = sc; replicas = rs })
-  moved_on sc rs each = record { replicas = each; replies = is.replies; images = is.images; snapshots = is.snapshots }
+  moved_on sc rs each = record { time = is.time; replicas = each; requests = is.requests; replies = is.replies; images = is.images; snapshots = is.snapshots }
 
   nothing_made : {A : Type 0} (Q : A → Type 0) (x : Outcome) → MakesInForm P Q (nothing w x)
   nothing_made Q x = (is, λ y e. absurd (cc))
@@ -78,9 +84,9 @@ module _ (P : Update → Type 0) (w : World) (is : IsWorldInForm P w) where
     quarantining : (outcome : Outcome) → InForm (quarantines w r outcome)
     quarantining outcome = commits (record { call = ToQuarantine; change = quarantine r.safe }) outcome (quarantined_in_form P r.safe (is.replicas r there).0)
 
-    wrote : (what : Write) → IsWellGiven what → Each P (rows_written r.safe what w.time).rows → (t : Result Change WriteRefusal) → write r.safe what w.time ≡ t → InForm (after_write w r what t)
-    wrote what given new (Err x) e = is
-    wrote what given new (Ok c) e = commits (record { call = ToWrite what w.time; change = c }) (outcomes.Usn c.usn) (written_in_form P r.safe what w.time c (is.replicas r there).0 given new e)
+    wrote : (what : Write) → IsWellGiven what → IsTypedWrite what → Each P (rows_written r.safe what w.time).rows → (t : Result Change WriteRefusal) → write r.safe what w.time ≡ t → InForm (after_write w r what t)
+    wrote what given typed new (Err x) e = is
+    wrote what given typed new (Ok c) e = commits (record { call = ToWrite what w.time; change = c }) (outcomes.Usn c.usn) (written_in_form P r.safe what w.time c (is.replicas r there).0 given typed is.time new e)
 
     took : (reply : Reply) → IsReplyInForm P reply → (t : Result Change TakeRefusal) → take r.safe reply ≡ t → InForm (after_take w r reply t)
     took reply form (Ok c) e = commits (record { call = ToTake reply; change = c }) (outcomes.Took (length reply.items) (length c.writes) c.usn) (taken_in_form P r.safe reply c (is.replicas r there).0 form e)
@@ -91,14 +97,14 @@ module _ (P : Update → Type 0) (w : World) (is : IsWorldInForm P w) where
     took_bound None all = is
     took_bound (Some reply) all = took reply (all reply refl) (take r.safe reply) refl
 
-    answered_with : (q : Request) (t : Result Reply ServeRefusal) → serve r.safe q ≡ t → MakesInForm P (IsReplyInForm P) (after_serve w r t)
-    answered_with q (Ok reply) e = (is, only_made (IsReplyInForm P) reply (served_in_form P r.safe q reply (is.replicas r there).0 e))
-    answered_with q (Err (serves.RolledBack inv mine shown)) e = (quarantining (serve_refused (serves.RolledBack inv mine shown)), λ y n. absurd (cc))
-    answered_with q (Err _) e = (is, λ y n. absurd (cc))
+    answered_with : (q : Request) → IsRangedRequest q → (t : Result Reply ServeRefusal) → serve r.safe q ≡ t → MakesInForm P (IsReplyInForm P) (after_serve w r t)
+    answered_with q ranged (Ok reply) e = (is, only_made (IsReplyInForm P) reply (served_in_form P r.safe q reply (is.replicas r there).0 ranged e))
+    answered_with q ranged (Err (serves.RolledBack inv mine shown)) e = (quarantining (serve_refused (serves.RolledBack inv mine shown)), λ y n. absurd (cc))
+    answered_with q ranged (Err _) e = (is, λ y n. absurd (cc))
 
-    served_bound : (o : Option Request) → MakesInForm P (IsReplyInForm P) (served w r o)
-    served_bound None = nothing_made (IsReplyInForm P) outcomes.Absent
-    served_bound (Some q) = answered_with q (serve r.safe q) refl
+    served_bound : (o : Option Request) → ((q : Request) → o ≡ Some q → IsRangedRequest q) → MakesInForm P (IsReplyInForm P) (served w r o)
+    served_bound None all = nothing_made (IsReplyInForm P) outcomes.Absent
+    served_bound (Some q) all = answered_with q (all q refl) (serve r.safe q) refl
 
     collected : (lifetime : ℕ) (t : Result Change CollectRefusal) → collect r.safe w.time lifetime ≡ t → InForm (after_collect w r lifetime t)
     collected lifetime (Err x) e = is
@@ -118,15 +124,19 @@ module _ (P : Update → Type 0) (w : World) (is : IsWorldInForm P w) where
 
   -- ---- calls by name
 
-  pub writes_in_form : (name : Name) (what : Write) → IsWellGiven what → Each (λ r. Each P (rows_written r.safe what w.time).rows) w.replicas → InForm (writes w name what)
-  writes_in_form name what given new = reached_case InForm w name (stays w) (λ x. is) (λ r. after_write w r what (write r.safe what w.time)) (λ r called up. wrote r called.there what given (new r called.there) (write r.safe what w.time) refl)
+  pub writes_in_form : (name : Name) (what : Write) → IsWellGiven what → IsTypedWrite what → Each (λ r. Each P (rows_written r.safe what w.time).rows) w.replicas → InForm (writes w name what)
+  writes_in_form name what given typed new = reached_case InForm w name (stays w) (λ x. is) (λ r. after_write w r what (write r.safe what w.time)) (λ r called up. wrote r called.there what given typed (new r called.there) (write r.safe what w.time) refl)
 
-  pub asks_in_form : (name partner : Name) (max : ℕ) → IsWorldInForm P (asks w name partner max).0
-  asks_in_form name partner max =
-      made_case (λ (t : Sent Request). IsWorldInForm P t.0) w name (nothing w) (λ x. is) _ (λ r called. made_case (λ (t : Sent Request). IsWorldInForm P t.0) w partner (nothing w) (λ x. is) _ (λ p at. up_case (λ (t : Sent Request). IsWorldInForm P t.0) w name (nothing w) (λ x. is) r.standing _ (λ up. is)))
+  pub asks_in_form : (name partner : Name) (max : ℕ) → IsU32 max → MakesInForm P IsRangedRequest (asks w name partner max)
+  asks_in_form name partner max few =
+      made_case (MakesInForm P IsRangedRequest) w name (nothing w) none _ (λ r called. made_case (MakesInForm P IsRangedRequest) w partner (nothing w) none _ (λ p at. up_case (MakesInForm P IsRangedRequest) w name (nothing w) none r.standing _ (λ up.
+      (is, only_made IsRangedRequest (ask r.safe p.safe.dsa max) (asked_in_range r.safe p.safe.dsa max (is.replicas r called.there).0.logged few)))))
+    where
+      none : (x : Outcome) → MakesInForm P IsRangedRequest (nothing w x)
+      none x = nothing_made IsRangedRequest x
 
-  pub serves_in_form : (name : Name) (o : Option Request) → MakesInForm P (IsReplyInForm P) (serves_request w name o)
-  serves_in_form name o = reached_case (MakesInForm P (IsReplyInForm P)) w name (nothing w) (nothing_made (IsReplyInForm P)) (λ r. served w r o) (λ r called up. served_bound r called.there o)
+  pub serves_in_form : (name : Name) (o : Option Request) → ((q : Request) → o ≡ Some q → IsRangedRequest q) → MakesInForm P (IsReplyInForm P) (serves_request w name o)
+  serves_in_form name o all = reached_case (MakesInForm P (IsReplyInForm P)) w name (nothing w) (nothing_made (IsReplyInForm P)) (λ r. served w r o) (λ r called up. served_bound r called.there o all)
 
   pub delivers_in_form : (name : Name) (o : Option Reply) → ((reply : Reply) → o ≡ Some reply → IsReplyInForm P reply) → InForm (delivers w name o)
   delivers_in_form name o all = reached_case InForm w name (stays w) (λ x. is) (λ r. delivered w r o) (λ r called up. took_bound r called.there o all)
@@ -155,14 +165,14 @@ module _ (P : Update → Type 0) (w : World) (is : IsWorldInForm P w) where
 
   -- ---- controllers that begin on a new disk, and disks that are put back
 
-  adopted : (place : Replica → List Replica) (name : Name) (image : Store) (dsa inv : Identifier) → IsImageInForm P image
+  adopted : (place : Replica → List Replica) (name : Name) (image : Store) (dsa inv : Identifier) → IsImageInForm P image → IsId dsa → IsId inv
       → ((s : State) → IsInForm P s → Each (BothInForm P) (place (on_new_disk name s))) → InForm (adopts w place name (adopt image dsa inv))
-  adopted place name image dsa inv of places = by (adopt image dsa inv) refl
+  adopted place name image dsa inv of right_dsa right_inv places = by (adopt image dsa inv) refl
     where
       by : (t : Result State AdoptRefusal) → adopt image dsa inv ≡ t → InForm (adopts w place name t)
       by (Err x) e = is
       by (Ok s) e = within_case InForm w (new_log_end s) (record w { book = begun w.book s; replicas = place (on_new_disk name s) }, outcomes.Ok) is
-          (moved_on (begun w.book s) (place (on_new_disk name s)) (places s (adopted_in_form P image dsa inv s of e)))
+          (moved_on (begun w.book s) (place (on_new_disk name s)) (places s (adopted_in_form P image dsa inv s of right_dsa right_inv e)))
 
   of_bound : (image : Name) (act : Store → Gone) → ((i : Store) → IsImageInForm P i → InForm (act i)) → InForm (of_image w (bound_at w.images image) act)
   of_bound image act acts = by (bound_at w.images image) refl
@@ -171,12 +181,12 @@ module _ (P : Update → Type 0) (w : World) (is : IsWorldInForm P w) where
       by None e = is
       by (Some i) e = acts i (bound_member (IsImageInForm P) w.images image i is.images e)
 
-  pub restores_in_form : (name image : Name) (inv : Identifier) → InForm (of_made (stays w) (replica_at w name) (λ r. of_image w (bound_at w.images image) (λ i. adopts w (with_replica w.replicas) name (adopt i r.safe.dsa inv))))
-  restores_in_form name image inv = made_case InForm w name (stays w) (λ x. is) (λ r. of_image w (bound_at w.images image) (λ i. adopts w (with_replica w.replicas) name (adopt i r.safe.dsa inv)))
-      (λ r called. of_bound image (λ i. adopts w (with_replica w.replicas) name (adopt i r.safe.dsa inv)) (λ i of. adopted (with_replica w.replicas) name i r.safe.dsa inv of (λ s new. each_placed (on_new_disk name s) (new, new))))
+  pub restores_in_form : (name image : Name) (inv : Identifier) → IsId inv → InForm (of_made (stays w) (replica_at w name) (λ r. of_image w (bound_at w.images image) (λ i. adopts w (with_replica w.replicas) name (adopt i r.safe.dsa inv))))
+  restores_in_form name image inv right = made_case InForm w name (stays w) (λ x. is) (λ r. of_image w (bound_at w.images image) (λ i. adopts w (with_replica w.replicas) name (adopt i r.safe.dsa inv)))
+      (λ r called. of_bound image (λ i. adopts w (with_replica w.replicas) name (adopt i r.safe.dsa inv)) (λ i of. adopted (with_replica w.replicas) name i r.safe.dsa inv of (is.replicas r called.there).0.logged.dsa right (λ s new. each_placed (on_new_disk name s) (new, new))))
 
-  pub installs_in_form : (name image : Name) (dsa inv : Identifier) → InForm (of_image w (bound_at w.images image) (λ i. adopts w (λ r. w.replicas ++ r ∷ []) name (adopt i dsa inv)))
-  installs_in_form name image dsa inv = of_bound image (λ i. adopts w (λ r. w.replicas ++ r ∷ []) name (adopt i dsa inv)) (λ i of. adopted (λ r. w.replicas ++ r ∷ []) name i dsa inv of (λ s new. each_joined (on_new_disk name s) (new, new)))
+  pub installs_in_form : (name image : Name) (dsa inv : Identifier) → IsId dsa → IsId inv → InForm (of_image w (bound_at w.images image) (λ i. adopts w (λ r. w.replicas ++ r ∷ []) name (adopt i dsa inv)))
+  installs_in_form name image dsa inv right_dsa right_inv = of_bound image (λ i. adopts w (λ r. w.replicas ++ r ∷ []) name (adopt i dsa inv)) (λ i of. adopted (λ r. w.replicas ++ r ∷ []) name i dsa inv of right_dsa right_inv (λ s new. each_joined (on_new_disk name s) (new, new)))
 
   -- a snapshot that is put back
   pub puts_back_in_form : (name snapshot : Name) → InForm (of_made (stays w) (replica_at w name) (λ r. put_back w name (bound_at w.snapshots snapshot)))
@@ -186,9 +196,9 @@ module _ (P : Update → Type 0) (w : World) (is : IsWorldInForm P w) where
       by None e = is
       by (Some s) e =
           let of : IsInForm P s.state = bound_member (λ (t : Snapshot). IsInForm P t.state) w.snapshots snapshot s is.snapshots e in
-          record { replicas = each_placed (on_disk name s.state s.log_end) (of, of); replies = is.replies; images = is.images; snapshots = is.snapshots }
+          record { time = is.time; replicas = each_placed (on_disk name s.state s.log_end) (of, of); requests = is.requests; replies = is.replies; images = is.images; snapshots = is.snapshots }
 
   -- a new, empty controller
-  pub comes_in_form : (name : Name) (dsa inv : Identifier) → IsWorldInForm P (record w { book = begun w.book (empty_state dsa inv); replicas = w.replicas ++ on_new_disk name (empty_state dsa inv) ∷ [] })
-  comes_in_form name dsa inv = let new = new_in_form P dsa inv in
+  pub comes_in_form : (name : Name) (dsa inv : Identifier) → IsId dsa → IsId inv → IsWorldInForm P (record w { book = begun w.book (empty_state dsa inv); replicas = w.replicas ++ on_new_disk name (empty_state dsa inv) ∷ [] })
+  comes_in_form name dsa inv right_dsa right_inv = let new = new_in_form P dsa inv right_dsa right_inv in
       moved_on (begun w.book (empty_state dsa inv)) (w.replicas ++ on_new_disk name (empty_state dsa inv) ∷ []) (each_joined (on_new_disk name (empty_state dsa inv)) (new, new))

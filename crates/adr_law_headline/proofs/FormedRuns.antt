@@ -1,25 +1,31 @@
--- Every line that may happen leaves every state in form, with whatever writes keep of rows, and so every state of every run is formed.
-use Rattle.std.proofs.Common.{◌≡◌, inl, inr, ℕ, List, [], ◌∷◌, Option, Some, None, refl, subst}
+-- Every line that may happen leaves every state in form, with whatever writes keep of rows, and so does all that stands on its way.
+use Rattle.std.proofs.Common.{◌≡◌, inl, inr, ℕ, zero, suc, List, [], ◌∷◌, Bool, true, false, Option, Some, None, refl, sym, subst, arith}
 use Rattle.std.specs.Prelude.{IfSome}
+use Rattle.adr_event.specs.declared.answer.Answer.{Answer}
 use Rattle.adr_event.specs.declared.answer.Outcome.TheVariants as outcomes
 use Rattle.adr_event.specs.declared.event.Event.{Event}
 use Rattle.adr_event.specs.declared.event.Event.TheVariants as events
+use Rattle.adr_wire.specs.Ranges.{IsU32}
 use Rattle.adr_model.specs.Member.{Each}
 use Rattle.adr_model.specs.Update.{Update}
 use Rattle.adr_model.specs.Store.{Store, State, updates_of}
-use Rattle.adr_model.specs.Serve.{Reply}
+use Rattle.adr_model.specs.Serve.{Request, Reply}
 use Rattle.adr_model.specs.Write.{Write, IsWellGiven, AddObject, Modify, Rename, Delete, AddLink, RemoveLink, rows_written}
 use Rattle.adr_model.specs.Collect.{backup}
 use Rattle.adr_model.specs.Replica.{Stops, Fails}
-use Rattle.adr_model.specs.World.{World, Name, Snapshot, Sent, empty_world, nothing, bound, bound_at, replica_at, of_made, of_controller, writes, serves_request, backed_up, shown, marks_shown}
-use Rattle.adr_model.specs.Cycles.{reply_limit}
+use Rattle.adr_model.specs.World.{World, Name, Snapshot, Sent, empty_world, nothing, bound, bound_at, replica_at, of_made, of_controller, writes, asks, serves_request, backed_up, shown, marks_shown}
+use Rattle.adr_model.specs.Cycles.{Pulled, pull_served, pull_asked, pull, and_then, pulls, cycle, reply_limit}
+use Rattle.adr_model.specs.Rings.{Connection, ring, times, rings}
 use Rattle.adr_model.specs.Step.{ClientWrite, write_of, gives, step, after_lines}
-use Rattle.adr_model.specs.Convergence.{MayHappen, MayAllHappen}
+use Rattle.adr_model.specs.Convergence.{MayHappen, MayAllHappen, IsAmidCycles, IsOnTheWay}
+use Rattle.adr_model.proofs.Ringing.{behind_is_amid}
 use Rattle.adr_law_convergence.proofs.Found.{bound_member, each_bound}
-use Rattle.adr_law_convergence.proofs.Exchanges.{IsKeptByCalls, pull_so, pulls_so}
-use Rattle.adr_law_headline.specs.Formed.{RunsAreFormed, AreFormedThroughout}
+use Rattle.adr_law_recorded.specs.Typed.{IsTypedWrite, IsTyped}
+use Rattle.adr_law_recorded.specs.Ranged.{IsRangedRequest}
+use Rattle.adr_law_headline.specs.Throughout.{HoldsAlways}
+use Rattle.adr_law_headline.specs.Formed.{HasTypedNumbers, AreAllTyped, RunsAreFormed}
 use Rattle.adr_law_headline.specs.Printable.{WritesSo}
-use Rattle.adr_law_headline.proofs.Claimed.{first_may}
+use Rattle.adr_law_headline.proofs.Throughout.{follows_always, always_so}
 use Rattle.adr_law_headline.proofs.StayingFormed.{IsInForm, IsImageInForm, IsReplyInForm}
 use Rattle.adr_law_headline.proofs.FormedCalls.{IsWorldInForm, MakesInForm, writes_in_form, asks_in_form, serves_in_form, delivers_in_form, collects_in_form, backups_in_form, copies_in_form, plans_in_form, stops_in_form, starts_in_form, reports_in_form, restores_in_form, installs_in_form, puts_back_in_form, comes_in_form}
 
@@ -28,21 +34,54 @@ abbrev pub AreKeptByWrites : (Update → Type 0) → (Write → Type 0) → Type
 AreKeptByWrites P Q = (s : State) (what : Write) (now : ℕ) → Each P (updates_of s.store.rows) → Q what → Each P (rows_written s what now).rows
 
 module _ (P : Update → Type 0) where
-  -- ---- pulls
+  -- ---- pulls, of a number of items in range
 
-  calls_in_form : IsKeptByCalls (IsWorldInForm P) (λ w q. Unit {0}) (λ w r. IsReplyInForm P r) (λ o. Unit {0})
-  calls_in_form = record {
-    asks = λ w name partner max is. (asks_in_form P w is name partner max, (tt, λ q e. tt));
-    serves = λ w name q is m. let t = serves_in_form P w is name (Some q) in (t.0, (tt, t.1));
-    delivers = λ w name r is form. (delivers_in_form P w is name (Some r) (λ reply e. let same : r ≡ reply = cc in subst (IsReplyInForm P) same form), tt);
-    more = tt;
-  }
+  module _ (dest source : Name) (max : ℕ) (few : IsU32 max) where
+    served : (w : World) (o : Option Reply) → IsWorldInForm P w → ((r : Reply) → o ≡ Some r → IsReplyInForm P r) → IsWorldInForm P (pull_served dest w o).0
+    served w None is all = is
+    served w (Some r) is all = delivers_in_form P w is dest (Some r) all
+
+    asked : (w : World) (o : Option Request) → IsWorldInForm P w → ((q : Request) → o ≡ Some q → IsRangedRequest q) → IsWorldInForm P (pull_asked dest source w o).0
+    asked w None is all = is
+    asked w (Some q) is all =
+        let t = serves_in_form P w is source (Some q) all in served (serves_request w source (Some q)).0 (serves_request w source (Some q)).2 t.0 t.1
+
+    pull_in_form : (w : World) → IsWorldInForm P w → IsWorldInForm P (pull w dest source max).0
+    pull_in_form w is = let t = asks_in_form P w is dest source max few in asked (asks w dest source max).0 (asks w dest source max).2 t.0 t.1
+
+    then_in_form : (p : Pulled) (go : World → World × List Answer) → IsWorldInForm P p.0 → ((v : World) → IsWorldInForm P v → IsWorldInForm P (go v).0) → IsWorldInForm P (and_then p go).0
+    then_in_form p go is goes = by p.2
+      where
+        by : (b : Bool) → IsWorldInForm P (and_then (p.0, p.1, b) go).0
+        by true = goes p.0 is
+        by false = is
+
+    pulls_in_form : (n : ℕ) (w : World) → IsWorldInForm P w → IsWorldInForm P (pulls n w dest source max).0
+    pulls_in_form zero w is = is
+    pulls_in_form (suc n) w is = then_in_form (pull w dest source max) (λ v. pulls n v dest source max) (pull_in_form w is) (λ v h. pulls_in_form n v h)
+
+  amid_in_form : (cs : List Connection) (max : ℕ) → IsU32 max → (w : World) → IsWorldInForm P w → (v : World) → IsAmidCycles cs max w v → IsWorldInForm P v
+  amid_in_form [] max few w is v way = subst (IsWorldInForm P) (sym way) is
+  amid_in_form (c ∷ cs) max few w is v (inl (n, e)) = subst (IsWorldInForm P) (sym e) (pulls_in_form c.0 c.1 max few n w is)
+  amid_in_form (c ∷ cs) max few w is v (inr way) = amid_in_form cs max few (cycle w c.0 c.1 max).0 (pulls_in_form c.0 c.1 max few reply_limit w is) v way
 
   -- ---- what is bound
 
+  bound_request : (t : Sent Request) (bind : Name) → MakesInForm P IsRangedRequest t → IsWorldInForm P (record t.0 { requests = bound t.0.requests bind t.2 })
+  bound_request t bind makes = record {
+    time = makes.0.time;
+    replicas = makes.0.replicas;
+    requests = each_bound IsRangedRequest t.0.requests bind t.2 makes.0.requests makes.1;
+    replies = makes.0.replies;
+    images = makes.0.images;
+    snapshots = makes.0.snapshots;
+  }
+
   bound_reply : (t : Sent Reply) (bind : Name) → MakesInForm P (IsReplyInForm P) t → IsWorldInForm P (record t.0 { replies = bound t.0.replies bind t.2 })
   bound_reply t bind makes = record {
+    time = makes.0.time;
     replicas = makes.0.replicas;
+    requests = makes.0.requests;
     replies = each_bound (IsReplyInForm P) t.0.replies bind t.2 makes.0.replies makes.1;
     images = makes.0.images;
     snapshots = makes.0.snapshots;
@@ -50,7 +89,9 @@ module _ (P : Update → Type 0) where
 
   bound_image : (t : Sent Store) (bind : Name) → MakesInForm P (IsImageInForm P) t → IsWorldInForm P (record t.0 { images = bound t.0.images bind t.2 })
   bound_image t bind makes = record {
+    time = makes.0.time;
     replicas = makes.0.replicas;
+    requests = makes.0.requests;
     replies = makes.0.replies;
     images = each_bound (IsImageInForm P) t.0.images bind t.2 makes.0.images makes.1;
     snapshots = makes.0.snapshots;
@@ -58,7 +99,9 @@ module _ (P : Update → Type 0) where
 
   bound_snapshot : (t : Sent Snapshot) (bind : Name) → MakesInForm P (λ (s : Snapshot). IsInForm P s.state) t → IsWorldInForm P (record t.0 { snapshots = bound t.0.snapshots bind t.2 })
   bound_snapshot t bind makes = record {
+    time = makes.0.time;
     replicas = makes.0.replicas;
+    requests = makes.0.requests;
     replies = makes.0.replies;
     images = makes.0.images;
     snapshots = each_bound (λ (s : Snapshot). IsInForm P s.state) t.0.snapshots bind t.2 makes.0.snapshots makes.1;
@@ -68,53 +111,61 @@ module _ (P : Update → Type 0) where
 
   -- a world of the same controllers, replies, images and snapshots
   given_more : (w : World) (dsas invs : List Name) → IsWorldInForm P w → IsWorldInForm P (gives w dsas invs)
-  given_more w dsas invs is = record { replicas = is.replicas; replies = is.replies; images = is.images; snapshots = is.snapshots }
+  given_more w dsas invs is = record { time = is.time; replicas = is.replicas; requests = is.requests; replies = is.replies; images = is.images; snapshots = is.snapshots }
 
   module _ (Q : Write → Type 0) (keeps : AreKeptByWrites P Q) where
-    written : (w : World) → IsWorldInForm P w → (name : Name) (what : Write) → IsWellGiven what → Q what → IsWorldInForm P (writes w name what).0
-    written w is name what given so = writes_in_form P w is name what given (λ r m. keeps r.safe what w.time (is.replicas r m).0.rows so)
+    written : (w : World) → IsWorldInForm P w → (name : Name) (what : Write) → IsWellGiven what → IsTypedWrite what → Q what → IsWorldInForm P (writes w name what).0
+    written w is name what given typed so = writes_in_form P w is name what given typed (λ r m. keeps r.safe what w.time (is.replicas r m).0.rows so)
 
-    event_in_form : (w : World) (is : IsWorldInForm P w) (e : Event) → MayHappen w e → WritesSo Q e → IsWorldInForm P (step w e).0
-    event_in_form w is (events.Controller name dsa inv) may so = comes_in_form P (gives w (dsa ∷ []) (inv ∷ [])) (given_more w (dsa ∷ []) (inv ∷ []) is) name dsa inv
-    event_in_form w is (events.Time now) may so = record { replicas = is.replicas; replies = is.replies; images = is.images; snapshots = is.snapshots }
-    event_in_form w is (events.Add name guid class parent text values) may so = written w is name (AddObject guid class parent text values) may so
-    event_in_form w is (events.Modify name guid values) may so = written w is name (Modify guid values) may so
-    event_in_form w is (events.Rename name guid parent text) may so = written w is name (Rename guid parent text) tt so
-    event_in_form w is (events.Delete name guid) may so = written w is name (Delete guid) tt so
-    event_in_form w is (events.Link name from attr to) may so = written w is name (AddLink from attr to) tt so
-    event_in_form w is (events.Unlink name from attr to) may so = written w is name (RemoveLink from attr to) tt so
-    event_in_form w is (events.Ask name partner max bind) may so =
-        let t = asks_in_form P w is name partner max in record { replicas = t.replicas; replies = t.replies; images = t.images; snapshots = t.snapshots }
-    event_in_form w is (events.Serve name request bind) may so = bound_reply (serves_request w name (bound_at w.requests request)) bind (serves_in_form P w is name (bound_at w.requests request))
-    event_in_form w is (events.Deliver name reply) may so = delivers_in_form P w is name (bound_at w.replies reply) (λ r e. bound_member (IsReplyInForm P) w.replies reply r is.replies e)
-    event_in_form w is (events.Pull name source max) may so = (pull_so (IsWorldInForm P) (λ v q. Unit {0}) (λ v r. IsReplyInForm P r) (λ o. Unit {0}) calls_in_form name source max w is).0
-    event_in_form w is (events.Cycle name source max) may so = (pulls_so (IsWorldInForm P) (λ v q. Unit {0}) (λ v r. IsReplyInForm P r) (λ o. Unit {0}) calls_in_form name source max reply_limit w is).0
-    event_in_form w is (events.Collect name lifetime) may so = collects_in_form P w is name lifetime
-    event_in_form w is (events.Backup name bind) may so = bound_image (of_controller w name (nothing w) (λ r. backed_up w (backup r.safe))) bind (backups_in_form P w is name)
-    event_in_form w is (events.Restore name image inv) may so = restores_in_form P (gives w [] (inv ∷ [])) (given_more w [] (inv ∷ []) is) name image inv
-    event_in_form w is (events.Install name dsa image inv) may so = installs_in_form P (gives w (dsa ∷ []) (inv ∷ [])) (given_more w (dsa ∷ []) (inv ∷ []) is) name image dsa inv
-    event_in_form w is (events.Snapshot name bind) may so =
+    event_in_form : (w : World) (is : IsWorldInForm P w) (e : Event) → MayHappen w e → IsTyped e × HasTypedNumbers e → WritesSo Q e → IsWorldInForm P (step w e).0
+    event_in_form w is (events.Controller name dsa inv) may typed so = comes_in_form P (gives w (dsa ∷ []) (inv ∷ [])) (given_more w (dsa ∷ []) (inv ∷ []) is) name dsa inv typed.0.0 typed.0.1
+    event_in_form w is (events.Time now) may typed so = record { time = typed.1; replicas = is.replicas; requests = is.requests; replies = is.replies; images = is.images; snapshots = is.snapshots }
+    event_in_form w is (events.Add name guid class parent text values) may typed so = written w is name (AddObject guid class parent text values) may typed.0 so
+    event_in_form w is (events.Modify name guid values) may typed so = written w is name (Modify guid values) may typed.0 so
+    event_in_form w is (events.Rename name guid parent text) may typed so = written w is name (Rename guid parent text) tt typed.0 so
+    event_in_form w is (events.Delete name guid) may typed so = written w is name (Delete guid) tt typed.0 so
+    event_in_form w is (events.Link name from attr to) may typed so = written w is name (AddLink from attr to) tt typed.0 so
+    event_in_form w is (events.Unlink name from attr to) may typed so = written w is name (RemoveLink from attr to) tt typed.0 so
+    event_in_form w is (events.Ask name partner max bind) may typed so = bound_request (asks w name partner max) bind (asks_in_form P w is name partner max typed.1)
+    event_in_form w is (events.Serve name request bind) may typed so =
+        bound_reply (serves_request w name (bound_at w.requests request)) bind (serves_in_form P w is name (bound_at w.requests request) (λ q e. bound_member IsRangedRequest w.requests request q is.requests e))
+    event_in_form w is (events.Deliver name reply) may typed so = delivers_in_form P w is name (bound_at w.replies reply) (λ r e. bound_member (IsReplyInForm P) w.replies reply r is.replies e)
+    event_in_form w is (events.Pull name source max) may typed so = pull_in_form name source max typed.1 w is
+    event_in_form w is (events.Cycle name source max) may typed so = pulls_in_form name source max typed.1 reply_limit w is
+    event_in_form w is (events.Ring name others rounds max) may typed so =
+        amid_in_form (times rounds (ring name others)) max typed.1 w is (rings w name others rounds max).0 (behind_is_amid name others rounds max w)
+    event_in_form w is (events.Collect name lifetime) may typed so = collects_in_form P w is name lifetime
+    event_in_form w is (events.Backup name bind) may typed so = bound_image (of_controller w name (nothing w) (λ r. backed_up w (backup r.safe))) bind (backups_in_form P w is name)
+    event_in_form w is (events.Restore name image inv) may typed so = restores_in_form P (gives w [] (inv ∷ [])) (given_more w [] (inv ∷ []) is) name image inv typed.0
+    event_in_form w is (events.Install name dsa image inv) may typed so = installs_in_form P (gives w (dsa ∷ []) (inv ∷ [])) (given_more w (dsa ∷ []) (inv ∷ []) is) name image dsa inv typed.0.0 typed.0.1
+    event_in_form w is (events.Snapshot name bind) may typed so =
         bound_snapshot (of_made (nothing w) (replica_at w name) (λ r. (w, outcomes.Ok, Some (record { state = r.read; log_end = r.read_end })))) bind (copies_in_form P w is name)
-    event_in_form w is (events.Rollback name snapshot) may so = puts_back_in_form P w is name snapshot
-    event_in_form w is (events.StopAfter name calls how) may so = plans_in_form P w is name (record { calls = calls; fault = Stops how })
-    event_in_form w is (events.Fail name calls) may so = plans_in_form P w is name (record { calls = calls; fault = Fails })
-    event_in_form w is (events.Stop name) may so = stops_in_form P w is name
-    event_in_form w is (events.Start name) may so = starts_in_form P w is name
-    event_in_form w is (events.Show name) may so = reports_in_form P w is name (λ r. outcomes.Show (shown w r.safe))
-    event_in_form w is (events.Vector name) may so = reports_in_form P w is name (λ r. outcomes.Vector r.safe.store.vector)
-    event_in_form w is (events.Marks name) may so = reports_in_form P w is name (λ r. outcomes.Marks (marks_shown r.safe.store))
+    event_in_form w is (events.Rollback name snapshot) may typed so = puts_back_in_form P w is name snapshot
+    event_in_form w is (events.StopAfter name calls how) may typed so = plans_in_form P w is name (record { calls = calls; fault = Stops how })
+    event_in_form w is (events.Fail name calls) may typed so = plans_in_form P w is name (record { calls = calls; fault = Fails })
+    event_in_form w is (events.Stop name) may typed so = stops_in_form P w is name
+    event_in_form w is (events.Start name) may typed so = starts_in_form P w is name
+    event_in_form w is (events.Show name) may typed so = reports_in_form P w is name (λ r. outcomes.Show (shown w r.safe))
+    event_in_form w is (events.Vector name) may typed so = reports_in_form P w is name (λ r. outcomes.Vector r.safe.store.vector)
+    event_in_form w is (events.Marks name) may typed so = reports_in_form P w is name (λ r. outcomes.Marks (marks_shown r.safe.store))
 
     -- ---- runs
 
-    lines_in_form : (es : List Event) (w : World) → IsWorldInForm P w → MayAllHappen w es → Each (WritesSo Q) es → IsWorldInForm P (after_lines w es)
-    lines_in_form [] w is may so = is
-    lines_in_form (e ∷ es) w is may so = lines_in_form es (step w e).0 (event_in_form w is e may.0 (so e (inl refl))) may.1 (λ x m. so x (inr m))
+    way_in_form : (w : World) (e : Event) → IsWorldInForm P w → MayHappen w e → (IsTyped e × HasTypedNumbers e) × WritesSo Q e → (v : World) → IsOnTheWay w e v → IsWorldInForm P v
+    way_in_form w (events.Cycle name source max) is may so v way = subst (IsWorldInForm P) (sym way.1) (pulls_in_form name source max so.0.1 way.0 w is)
+    way_in_form w (events.Ring name others rounds max) is may so v way = amid_in_form (times rounds (ring name others)) max so.0.1 w is v way
+    way_in_form w e is may so v way = subst (IsWorldInForm P) (sym way) (event_in_form w is e may so.0 so.1)
 
-    pub runs_in_form : (es : List Event) → MayAllHappen empty_world es → Each (WritesSo Q) es → IsWorldInForm P (after_lines empty_world es)
-    runs_in_form es may so = lines_in_form es empty_world empty may so
+    lines_in_form : (es : List Event) (w : World) → IsWorldInForm P w → MayAllHappen w es → Each (λ e. (IsTyped e × HasTypedNumbers e) × WritesSo Q e) es → IsWorldInForm P (after_lines w es)
+    lines_in_form [] w is may so = is
+    lines_in_form (e ∷ es) w is may so = let t = so e (inl refl) in lines_in_form es (step w e).0 (event_in_form w is e may.0 t.0 t.1) may.1 (λ x m. so x (inr m))
+
+    pub runs_in_form : (es : List Event) → MayAllHappen empty_world es → AreAllTyped es → Each (WritesSo Q) es → HoldsAlways es (IsWorldInForm P)
+    runs_in_form es may typed so =
+        always_so es may (IsWorldInForm P) (λ e. (IsTyped e × HasTypedNumbers e) × WritesSo Q e) (λ e m. (typed e m, so e m)) (λ fs all each. lines_in_form fs empty_world empty all each) way_in_form
       where
         empty : IsWorldInForm P empty_world
-        empty = record { replicas = λ r m. absurd m; replies = λ r m. absurd m; images = λ i m. absurd m; snapshots = λ s m. absurd m }
+        empty = record { time = omega arith; replicas = λ r m. absurd m; requests = λ q m. absurd m; replies = λ r m. absurd m; images = λ i m. absurd m; snapshots = λ s m. absurd m }
 
 -- nothing is asked of writes
 any_write : (o : Option ClientWrite) → IfSome o (λ (x : ClientWrite). Unit {0})
@@ -122,9 +173,7 @@ any_write None = tt
 any_write (Some x) = tt
 
 pub runs_are_formed : RunsAreFormed
-runs_are_formed es may r m =
-    let both = (runs_in_form (λ u. Unit {0}) (λ what. Unit {0}) (λ s what now each so u n. tt) es may (λ e n. any_write (write_of e))).replicas r m in (both.0.formed, both.1.formed)
-
--- so it is behind any of the lines
-pub formed_throughout : (es : List Event) → MayAllHappen empty_world es → AreFormedThroughout es
-formed_throughout es may before after is = runs_are_formed before (first_may before after empty_world (subst (MayAllHappen empty_world) is may))
+runs_are_formed es may typed = follows_always es form (λ w is r m. let both = is.replicas r m in (both.0.logged, both.1.logged))
+  where
+    form : HoldsAlways es (IsWorldInForm (λ u. Unit {0}))
+    form = runs_in_form (λ u. Unit {0}) (λ what. Unit {0}) (λ s what now each so u n. tt) es may typed (λ e n. any_write (write_of e))

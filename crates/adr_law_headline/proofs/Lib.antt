@@ -2,6 +2,7 @@ pub mod Naming
 pub mod Following
 pub mod Typing
 pub mod Claimed
+pub mod Throughout
 pub mod WholeRows
 pub mod ShownPrintable
 pub mod StayingFormed

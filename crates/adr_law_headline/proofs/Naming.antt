@@ -22,7 +22,9 @@ use Rattle.adr_model.specs.Collect.{quarantine, collect, backup}
 use Rattle.adr_model.specs.Refused.{adopt_refused, full}
 use Rattle.adr_model.specs.Replica.{Pending, ToWrite, ToTake, ToCollect, ToQuarantine, Settle, Move, Standing, Up, Down, Failed, Plan, Replica, on_new_disk, begun, went, moves_of_start, standing_after, plan_after, outcome_after}
 use Rattle.adr_model.specs.World.{Name, Snapshot, World, Gone, Sent, stays, nothing, with_replica, committed, commit, writes, after_write, after_collect, asks, after_serve, served, serves_request, after_take, delivered, delivers, backed_up, adopts, of_image, put_back, of_made, of_controller, replica_at, with_plan, after_moves, stops, starts}
-use Rattle.adr_model.specs.Cycles.{Pulled, pull_served, pull_asked, pull, and_then, pulls}
+use Rattle.adr_model.specs.Cycles.{Pulled, pull_served, pull_asked, pull, and_then, pulls, cycle, reply_limit}
+use Rattle.adr_model.specs.Rings.{rings}
+use Rattle.adr_model.proofs.Ringing.{rings_so}
 use Rattle.adr_law_convergence.proofs.Found.{same_name}
 use Rattle.adr_law_convergence.proofs.Reached.{made_case, up_case, reached_case, within_case}
 
@@ -203,3 +205,7 @@ then_stays w p go kept goes = by p.2
 pub pulls_stay : (n : ℕ) (w : World) (dest source : Name) (max : ℕ) → Stays w (pulls n w dest source max).0
 pulls_stay zero w dest source max = same w
 pulls_stay (suc n) w dest source max = then_stays w (pull w dest source max) (λ v. pulls n v dest source max) (pull_stays w dest source max) (λ v. pulls_stay n v dest source max)
+
+pub rings_stay : (w : World) (first : Name) (others : List Name) (rounds max : ℕ) → Stays w (rings w first others rounds max).0
+rings_stay w first others rounds max =
+    (rings_so (Stays w) (λ (a : Answer). Unit {0}) (λ v dest source most kept. (onward w v (cycle v dest source most).0 kept (pulls_stay reply_limit v dest source most), λ a m. tt)) first others rounds max (λ v d e. tt) w (same w)).0

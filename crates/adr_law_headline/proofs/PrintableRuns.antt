@@ -1,20 +1,18 @@
 -- Every directory of a run is printable, where what is written is whole.
-use Rattle.std.proofs.Common.{◌≡◌, List, Bool, true, false, refl, sym, subst, if◌then◌else◌}
-use Rattle.adr_event.specs.declared.event.Event.{Event}
-use Rattle.adr_model.specs.Member.{Member}
+use Rattle.std.proofs.Common.{◌≡◌, Bool, true, false, refl, subst, if◌then◌else◌}
 use Rattle.adr_model.specs.Directory.{directory}
 use Rattle.adr_model.specs.Replica.{Replica}
-use Rattle.adr_model.specs.World.{World, empty_world, shown}
-use Rattle.adr_model.specs.Step.{after_lines}
-use Rattle.adr_model.specs.Convergence.{MayAllHappen, held_by, in_view}
-use Rattle.adr_model.proofs.Members.{member_left}
-use Rattle.adr_law_convergence.proofs.Converging.{runs_converge}
+use Rattle.adr_model.specs.World.{World, shown}
+use Rattle.adr_model.specs.Sound.{IsWorldOfRun}
+use Rattle.adr_model.specs.Convergence.{held_by, in_view}
+use Rattle.adr_law_convergence.proofs.Controllers.{shows_what_is_visible}
 use Rattle.adr_report.specs.Printable.{IsPrintable}
-use Rattle.adr_law_headline.specs.Printable.{IsWholeWrite, AreWhole, RunsArePrintable, ArePrintableThroughout}
-use Rattle.adr_law_headline.proofs.Claimed.{first_may}
+use Rattle.adr_law_headline.specs.Printable.{IsWholeWrite, ShowPrintable, RunsArePrintable}
+use Rattle.adr_law_headline.proofs.Throughout.{both_always, runs_always_sound}
 use Rattle.adr_law_headline.proofs.WholeRows.{IsWholeRow, written_whole}
 use Rattle.adr_law_headline.proofs.ShownPrintable.{shows_printable}
-use Rattle.adr_law_headline.proofs.StayingFormed.{IsInForm}
+use Rattle.adr_law_headline.proofs.StayingFormed.{IsInForm, logged_say}
+use Rattle.adr_law_headline.proofs.FormedCalls.{IsWorldInForm}
 use Rattle.adr_law_headline.proofs.FormedRuns.{runs_in_form}
 
 -- what a controller answers is what it holds shows
@@ -25,16 +23,15 @@ answered_printable w r same held = by w.clean refl
     by true clean = subst IsPrintable (same clean) held
     by false clean = held
 
-pub runs_are_printable : RunsArePrintable
-runs_are_printable es may so r m = (held, answered_printable (after_lines empty_world es) r (λ clean. (runs_converge es may clean).0 r m) held)
+-- a world of a run whose states are in form and whose rows are whole
+world_printable : (w : World) → IsWorldOfRun w → IsWorldInForm IsWholeRow w → ShowPrintable w
+world_printable w run form r m = (held, answered_printable w r (λ clean. shows_what_is_visible w (run.sound clean) r m) held)
   where
     is : IsInForm IsWholeRow r.safe
-    is = ((runs_in_form IsWholeRow IsWholeWrite written_whole es may so).replicas r m).0
+    is = (form.replicas r m).0
 
     held : IsPrintable (directory (held_by r))
-    held = shows_printable r.safe.store.schema (held_by r) is.formed.store.rows is.classes is.says is.rows
+    held = shows_printable r.safe.store.schema (held_by r) is.logged.formed.store.rows is.logged.classes (logged_say r.safe is.logged) is.rows
 
--- so it is behind any of the lines
-pub printable_throughout : (es : List Event) → MayAllHappen empty_world es → AreWhole es → ArePrintableThroughout es
-printable_throughout es may so before after is =
-    runs_are_printable before (first_may before after empty_world (subst (MayAllHappen empty_world) is may)) (λ e m. so e (subst (λ (all : List Event). Member e all) (sym is) (member_left before after e m)))
+pub runs_are_printable : RunsArePrintable
+runs_are_printable es may typed so = both_always es (runs_always_sound es may) (runs_in_form IsWholeRow IsWholeWrite written_whole es may typed so) world_printable

@@ -1,84 +1,89 @@
--- What calls leave of a state that is formed, whose classes are known, and whose rows say what their keys say and what else holds of all
--- that is written. Nothing is asked of what was taken but the form of a reply and this of its rows, and such a state answers so.
-use Rattle.std.proofs.Common.{◌≡◌, inl, inr, ⊎_elim, ℕ, List, [], ◌∷◌, Ok, refl, sym, ap, ◌∙◌, subst, map, filter}
+-- What calls leave of a state of a log of whose rows something holds. Nothing is asked of what was taken but that it is a reply in range
+-- and this of its rows, and such a state answers so.
+use Rattle.std.proofs.Common.{◌≡◌, ⊎_elim, ℕ, List, [], Ok, refl, sym, ap, ◌∙◌, subst, map, filter}
 use Rattle.std.specs.Prelude.{◌&&◌}
-use Rattle.adr_schema.specs.Numbered.{numbered}
+use Rattle.adr_stamp.specs.declared.LinkStamp.{LinkStamp}
 use Rattle.adr_vector.specs.declared.mark.Mark.{Mark}
+use Rattle.adr_wire.specs.Ranges.{IsId, IsU64}
+use Rattle.adr_image.specs.Stored.{IsSpelledRow, IsSpelled}
+use Rattle.adr_records.specs.Logged.{IsLogged, MayBeRecorded}
+use Rattle.adr_records.specs.BodyLaws.{content_of_attr, logged_after}
 use Rattle.adr_model.specs.Member.{Member, Each}
-use Rattle.adr_model.specs.Update.{Identifier, Update, same_unit, unit_of}
+use Rattle.adr_model.specs.Update.{Identifier, Key, RowOf, LinkOf, Said, Holds, IsPresent, Update, same_unit, unit_of}
 use Rattle.adr_model.specs.Store.{Held, Normal, Store, State, updates_of, empty_state}
-use Rattle.adr_model.specs.Change.{Item, Written, Change, updates_written, after}
+use Rattle.adr_model.specs.Change.{Item, Change, updates_written, after}
 use Rattle.adr_model.specs.Formed.{IsFormedStore, IsFormed}
 use Rattle.adr_model.specs.Serve.{Request, Reply, is_above_mark, is_unseen, sendable, item_of, candidates, byte_limit, first_items, begins_at, reply_to, serve_refusal, serve}
-use Rattle.adr_model.specs.Sound.{AreClassesKnown}
 use Rattle.adr_model.specs.Write.{Write, IsWellGiven, write_refusal, rows_written, items_written, own_change, write}
 use Rattle.adr_model.specs.Take.{take}
 use Rattle.adr_model.specs.Collect.{deaths_to_collect, collection, collect_refusal, collect, adopt, quarantine}
-use Rattle.adr_model.proofs.Members.{of_filter, member_left, member_of_either, mapped_member, flat_member}
+use Rattle.adr_model.proofs.Members.{of_filter, member_left, member_of_either, mapped_member}
 use Rattle.adr_law_knowledge.proofs.Refusing.{answered}
 use Rattle.adr_law_steps.proofs.Rows.{held_as, updated}
 use Rattle.adr_law_logs.proofs.Woken.{adopted_is_woken}
 use Rattle.adr_law_logs.proofs.Candidates.{candidate_from}
 use Rattle.adr_law_logs.proofs.Ground.{first_front}
 use Rattle.adr_law_formed.specs.Spelled.{IsSaidOfKey, IsSpelledReply}
-use Rattle.adr_law_formed.specs.Follow.{after_write, MayFollowInTurn, HasKnownClasses, CanFollow}
 use Rattle.adr_law_formed.proofs.Whence.{rows_from}
-use Rattle.adr_law_formed.proofs.TakenFollow.{taken_follows, taken_brings}
-use Rattle.adr_law_formed.proofs.Collected.{collected_follows}
-use Rattle.adr_law_formed.proofs.EachWrite.{write_follows}
-use Rattle.adr_law_formed.proofs.Still.{quarantine_follows, adopted_is_formed, adopted_has_known_classes, new_is_formed}
-use Rattle.adr_law_recorded.proofs.Served.{SayOfTheirKeys, served_is_spelled}
+use Rattle.adr_law_formed.proofs.TakenFollow.{taken_brings}
+use Rattle.adr_law_recorded.specs.Typed.{IsTypedWrite}
+use Rattle.adr_law_recorded.specs.Ranged.{IsRangedRequest, IsRangedReply}
+use Rattle.adr_law_recorded.proofs.Beginning.{new_may_begin, adopted_is_logged}
+use Rattle.adr_law_recorded.proofs.Served.{SayOfTheirKeys, served_in_range}
+use Rattle.adr_law_recorded.proofs.Written.{write_is_recorded}
+use Rattle.adr_law_recorded.proofs.Taken.{taken_recorded}
+use Rattle.adr_law_recorded.proofs.Collected.{quarantine_is_recorded, collection_is_recorded}
 
 -- what is kept of each state, where something holds of all rows
 pub record IsInForm (P : Update → Type 0) (s : State) : Type 0 where
-  pub formed : IsFormed s
-  pub classes : HasKnownClasses s
-  pub says : SayOfTheirKeys (updates_of s.store.rows)
+  pub logged : IsLogged s
   pub rows : Each P (updates_of s.store.rows)
 
 -- of the store of an image
 pub record IsImageInForm (P : Update → Type 0) (s : Store) : Type 0 where
   pub formed : IsFormedStore s
-  pub classes : AreClassesKnown (numbered s.schema) (updates_of s.rows)
-  pub says : SayOfTheirKeys (updates_of s.rows)
+  pub spelled : IsSpelled s
   pub rows : Each P (updates_of s.rows)
 
 -- and of a reply
 pub record IsReplyInForm (P : Update → Type 0) (r : Reply) : Type 0 where
   pub spelled : IsSpelledReply r
+  pub ranged : IsRangedReply r
   pub rows : Each (λ (i : Item). Each P i.rows) r.items
+
+-- ---- rows
+
+says_of_key : (key : Key) (said : Said) (stamp : LinkStamp) → IsSpelledRow key said stamp → IsSaidOfKey key said
+says_of_key (RowOf o attr) (Holds content) stamp spelled = content_of_attr o attr content spelled.2
+says_of_key (RowOf o attr) (IsPresent b) stamp spelled = spelled
+says_of_key (LinkOf l) (Holds content) stamp spelled = spelled
+says_of_key (LinkOf l) (IsPresent b) stamp spelled = tt
+
+-- rows of a state of a log say what their keys say
+pub logged_say : (s : State) → IsLogged s → SayOfTheirKeys (updates_of s.store.rows)
+logged_say s logged u m =
+    let h = held_as s.store.rows u m in
+    subst (λ (v : Update). IsSaidOfKey v.key v.said) (sym h.2) (says_of_key h.0.update.key h.0.update.said h.0.update.stamp (logged.spelled.rows h.0 h.1))
 
 -- ---- changes
 
--- what may be written says what its keys say
-written_say : (s : State) (rows : List Held) (ws : List Written) → MayFollowInTurn (numbered s.store.schema) s.store.vector rows ws → Each (λ (w : Written). SayOfTheirKeys w.item.rows) ws
-written_say s rows [] may w m = absurd m
-written_say s rows (x ∷ ws) may w (inl e) = subst (λ (y : Written). SayOfTheirKeys y.item.rows) (sym e) may.0.form.says
-written_say s rows (x ∷ ws) may w (inr m) = written_say s (after_write rows x) ws may.2 w m
-
 module _ (P : Update → Type 0) where
-  changed_in_form : (s : State) (c : Change) → IsInForm P s → CanFollow s c → Each P (updates_written c) → IsInForm P (after s c)
-  changed_in_form s c is follows new = record {
-    formed = follows.formed;
-    classes = follows.classes;
-    says = rows_from (λ u. IsSaidOfKey u.key u.said) s c is.says (λ u m. let w = flat_member (λ (v : Written). v.item.rows) c.writes u m in
-        written_say s s.store.rows c.writes follows.goes_on.writes w.0 w.1 u w.2);
-    rows = rows_from P s c is.rows new;
-  }
+  changed_in_form : (s : State) (c : Change) → IsInForm P s → MayBeRecorded s c → Each P (updates_written c) → IsInForm P (after s c)
+  changed_in_form s c is may new = record { logged = logged_after s c may; rows = rows_from P s c is.rows new }
 
-  pub written_in_form : (s : State) (w : Write) (now : ℕ) (c : Change) → IsInForm P s → IsWellGiven w → Each P (rows_written s w now).rows → write s w now ≡ Ok c → IsInForm P (after s c)
-  written_in_form s w now c is given new e = changed_in_form s c is (write_follows s w now c is.formed is.classes given e)
+  pub written_in_form : (s : State) (w : Write) (now : ℕ) (c : Change) → IsInForm P s → IsWellGiven w → IsTypedWrite w → IsU64 now → Each P (rows_written s w now).rows → write s w now ≡ Ok c → IsInForm P (after s c)
+  written_in_form s w now c is given typed small new e = changed_in_form s c is (write_is_recorded s w now c is.logged given typed small e)
       (subst (λ (x : Change). Each P (updates_written x)) (answered (write_refusal s w) (own_change s (items_written s w now)) c e).1 alone)
     where
       alone : Each P (updates_written (own_change s (items_written s w now)))
       alone u m = ⊎_elim (λ n. new u n) (λ none. absurd none) (member_of_either (rows_written s w now).rows [] u m)
 
   pub taken_in_form : (s : State) (r : Reply) (c : Change) → IsInForm P s → IsReplyInForm P r → take s r ≡ Ok c → IsInForm P (after s c)
-  taken_in_form s r c is reply e = changed_in_form s c is (taken_follows s r c is.formed is.classes reply.spelled e)
+  taken_in_form s r c is reply e = changed_in_form s c is (taken_recorded s r c is.logged reply.spelled reply.ranged e)
       (λ u m. let t = (taken_brings s r c e).0 u m in reply.rows t.0 t.1 u t.2)
 
   pub collected_in_form : (s : State) (now lifetime : ℕ) (c : Change) → IsInForm P s → collect s now lifetime ≡ Ok c → IsInForm P (after s c)
-  collected_in_form s now lifetime c is e = changed_in_form s c is (collected_follows s now lifetime c is.formed is.classes e)
+  collected_in_form s now lifetime c is e = changed_in_form s c is (collection_is_recorded s now lifetime c is.logged e)
       (subst (λ (x : Change). Each P (updates_written x)) (answered (collect_refusal s made) made c e).1 (λ u m. absurd m))
     where
       made : Change
@@ -86,13 +91,16 @@ module _ (P : Update → Type 0) where
 
   -- a quarantine leaves the store of a state as it would that of one that is up
   pub quarantined_in_form : (s : State) → IsInForm P s → IsInForm P (after s (quarantine s))
-  quarantined_in_form s is = changed_in_form up (quarantine up) (record { formed = formed; classes = is.classes; says = is.says; rows = is.rows }) (quarantine_follows up formed is.classes refl) (λ u m. absurd m)
+  quarantined_in_form s is = changed_in_form up (quarantine up) (record { logged = logged; rows = is.rows }) (quarantine_is_recorded up logged refl) (λ u m. absurd m)
     where
       up : State
       up = record s { mode = Normal }
 
       formed : IsFormed up
-      formed = record { store = is.formed.store; own = is.formed.own }
+      formed = record { store = is.logged.formed.store; own = is.logged.formed.own }
+
+      logged : IsLogged up
+      logged = record { dsa = is.logged.dsa; inv = is.logged.inv; formed = formed; spelled = is.logged.spelled; classes = is.logged.classes }
 
   -- ---- replies
 
@@ -118,24 +126,23 @@ module _ (P : Update → Type 0) where
         let a = of_filter (λ (y : Held). is_above_mark from s.store.rows y && is_unseen from q.vector y) s.store.rows h.0 k.0 in
         subst P (sym h.2) (each h.0.update (updated s.store.rows h.0 a.0))
 
-  pub served_in_form : (s : State) (q : Request) (r : Reply) → IsInForm P s → serve s q ≡ Ok r → IsReplyInForm P r
-  served_in_form s q r is e = record {
-    spelled = served_is_spelled s q r is.formed is.says e;
+  pub served_in_form : (s : State) (q : Request) (r : Reply) → IsInForm P s → IsRangedRequest q → serve s q ≡ Ok r → IsReplyInForm P r
+  served_in_form s q r is ranged e = let t = served_in_range s q r is.logged ranged e in record {
+    spelled = t.0;
+    ranged = t.1;
     rows = subst (λ (x : Reply). Each (λ (i : Item). Each P i.rows) x.items) (answered (serve_refusal s q) (reply_to s q) r e).1 (sent_rows s q is.rows);
   }
 
   -- ---- where states begin
 
-  pub new_in_form : (dsa inv : Identifier) → IsInForm P (empty_state dsa inv)
-  new_in_form dsa inv = record { formed = (new_is_formed dsa inv).0; classes = (new_is_formed dsa inv).1; says = λ u m. absurd m; rows = λ u m. absurd m }
+  pub new_in_form : (dsa inv : Identifier) → IsId dsa → IsId inv → IsInForm P (empty_state dsa inv)
+  new_in_form dsa inv right_dsa right_inv = record { logged = (new_may_begin dsa inv right_dsa right_inv).logged; rows = λ u m. absurd m }
 
   pub image_in_form : (s : State) → IsInForm P s → IsImageInForm P s.store
-  image_in_form s is = record { formed = is.formed.store; classes = is.classes; says = is.says; rows = is.rows }
+  image_in_form s is = record { formed = is.logged.formed.store; spelled = is.logged.spelled; rows = is.rows }
 
-  pub adopted_in_form : (image : Store) (dsa inv : Identifier) (s : State) → IsImageInForm P image → adopt image dsa inv ≡ Ok s → IsInForm P s
-  adopted_in_form image dsa inv s is e = record {
-    formed = adopted_is_formed image dsa inv s is.formed e;
-    classes = adopted_has_known_classes image dsa inv s is.classes e;
-    says = subst (λ (t : State). SayOfTheirKeys (updates_of t.store.rows)) (adopted_is_woken image dsa inv s e) is.says;
+  pub adopted_in_form : (image : Store) (dsa inv : Identifier) (s : State) → IsImageInForm P image → IsId dsa → IsId inv → adopt image dsa inv ≡ Ok s → IsInForm P s
+  adopted_in_form image dsa inv s is right_dsa right_inv e = record {
+    logged = (adopted_is_logged image dsa inv s is.formed is.spelled right_dsa right_inv e).0;
     rows = subst (λ (t : State). Each P (updates_of t.store.rows)) (adopted_is_woken image dsa inv s e) is.rows;
   }

@@ -1,5 +1,5 @@
 -- What lines may say is typed, and whole.
-use Rattle.std.proofs.Common.{◌≡◌, ℕ, List, [], ◌∷◌, length, inl, inr, sym, subst, true}
+use Rattle.std.proofs.Common.{◌≡◌, ℕ, List, [], ◌∷◌, length, inl, inr, sym, subst, true, arith}
 use Rattle.std.specs.Prelude.{nat_le}
 use Rattle.std.specs.Str.{is_utf8}
 use Rattle.std.proofs.lemmas.Bool.{and_parts}
@@ -10,11 +10,13 @@ use Rattle.adr_schema.specs.declared.content.Value.{Value as Item}
 use Rattle.adr_schema.specs.declared.content.Value.TheVariants.{Text, Number, Flag, Octets, Ref}
 use Rattle.adr_token.specs.Texts.{is_text}
 use Rattle.adr_token.specs.Spelled.{SpellsValue, SpellsValues}
-use Rattle.adr_schedule.specs.Grammar.{tokens_behind, sets, HaveSpellings, IsAllowed}
+use Rattle.adr_schedule.specs.Grammar.{tokens_behind, sets, HaveSpellings, IsLimit, IsAllowed}
 use Rattle.adr_schedule.specs.Seen.{Seen, nothing_seen, seen_after, IsFollowing}
+use Rattle.adr_wire.specs.Ranges.{IsU32}
 use Rattle.adr_model.specs.Member.{Each}
 use Rattle.adr_law_recorded.specs.Typed.{IsTypedValue, AreTypedValues, IsTyped, AreTyped}
 use Rattle.adr_report.specs.Laws.{IsWholeReference}
+use Rattle.adr_law_headline.specs.Formed.{HasTypedNumbers, AreAllTyped}
 use Rattle.adr_law_headline.specs.Printable.{AreWholeValues, IsWholeWrite, WritesSo, AreWhole}
 
 -- ---- values
@@ -73,6 +75,24 @@ event_typed _ allowed = tt
 -- what may follow from the beginning on is typed
 pub following_typed : (es : List Event) → IsFollowing nothing_seen es → AreTyped es
 following_typed es follow = all_so IsTyped event_typed es nothing_seen follow
+
+-- ---- numbers
+
+number_small : (n : ℕ) → IsLimit n → IsU32 n
+number_small n limit = let few = limit.1 in omega (arith, few)
+
+event_numbers : (e : Event) → IsAllowed e → HasTypedNumbers e
+unfolding tokens_behind
+event_numbers (events.Time now) (line, (verb, (of_now, end))) = of_now.1.0
+event_numbers (events.Ask name partner max bind) allowed = number_small max allowed.0
+event_numbers (events.Pull name source max) allowed = number_small max allowed.0
+event_numbers (events.Cycle name source max) allowed = number_small max allowed.0
+event_numbers (events.Ring name others rounds max) allowed = number_small max allowed.0.1
+event_numbers _ allowed = tt
+
+-- what may follow from the beginning on is so, as the types of events say
+pub following_all_typed : (es : List Event) → IsFollowing nothing_seen es → AreAllTyped es
+following_all_typed es follow = all_so (λ e. IsTyped e × HasTypedNumbers e) (λ e allowed. (event_typed e allowed, event_numbers e allowed)) es nothing_seen follow
 
 -- ---- identifiers
 

@@ -1,18 +1,36 @@
--- Every state of every run is formed, whatever was taken, and also behind a rollback.
-use Rattle.std.specs.Prelude.{◌≡◌, List, ◌++◌}
+-- Every state of every run is what a log may lead to, whatever was taken, and also behind a rollback.
+use Rattle.std.specs.Prelude.{List}
 use Rattle.adr_event.specs.declared.event.Event.{Event}
+use Rattle.adr_event.specs.declared.event.Event.TheVariants as events
+use Rattle.adr_wire.specs.Ranges.{IsU32, IsU64}
+use Rattle.adr_records.specs.Logged.{IsLogged}
 use Rattle.adr_model.specs.Member.{Each}
-use Rattle.adr_model.specs.Formed.{IsFormed}
 use Rattle.adr_model.specs.World.{World, empty_world}
-use Rattle.adr_model.specs.Convergence.{MayAllHappen, behind}
+use Rattle.adr_model.specs.Convergence.{MayAllHappen}
+use Rattle.adr_law_recorded.specs.Typed.{IsTyped}
+use Rattle.adr_law_headline.specs.Throughout.{HoldsAlways}
 
--- both states of each controller are formed: what a start would find, and what a crash would leave
+-- the numbers of an event that come into states and messages are those of its types
+abbrev pub HasTypedNumbers : Event → Type 0
+HasTypedNumbers (events.Time now) = IsU64 now
+HasTypedNumbers (events.Ask name partner max bind) = IsU32 max
+HasTypedNumbers (events.Pull name source max) = IsU32 max
+HasTypedNumbers (events.Cycle name source max) = IsU32 max
+HasTypedNumbers (events.Ring name others rounds max) = IsU32 max
+HasTypedNumbers e = Unit {0}
+
+-- what the types of each of the events say
+abbrev pub AreAllTyped : List Event → Type 0
+AreAllTyped es = Each (λ e. IsTyped e × HasTypedNumbers e) es
+
+-- both states of each controller are those of a log: what a start would find, and what a crash would leave. Each is formed, its
+-- identifiers have sixteen bytes, every field is in the range of an image's, and the classes of its objects are known
 abbrev pub AreFormed : World → Type 0
-AreFormed w = Each (λ r. IsFormed r.safe × IsFormed r.read) w.replicas
+AreFormed w = Each (λ r. IsLogged r.safe × IsLogged r.read) w.replicas
+
+-- at every place of a run and on the way of each line, whether or not a database was put back
+abbrev pub AreFormedThroughout : List Event → Type 0
+AreFormedThroughout es = HoldsAlways es AreFormed
 
 abbrev pub RunsAreFormed : Type 0
-RunsAreFormed = (es : List Event) → MayAllHappen empty_world es → AreFormed (behind es)
-
--- at every place of a run, whether or not a database was put back
-abbrev pub AreFormedThroughout : List Event → Type 0
-AreFormedThroughout es = (before after : List Event) → es ≡ before ++ after → AreFormed (behind before)
+RunsAreFormed = (es : List Event) → MayAllHappen empty_world es → AreAllTyped es → AreFormedThroughout es

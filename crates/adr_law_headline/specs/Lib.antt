@@ -1,3 +1,5 @@
+pub mod Throughout
 pub mod Formed
 pub mod Printable
+pub mod Refused
 pub mod Headline

@@ -1,6 +1,6 @@
 -- Every directory of a run is printable, so that its lines tell it, where the identifiers that are written have sixteen bytes.
 -- That bytes are below 256 is part of it: that an event is typed says only how many there are.
-use Rattle.std.specs.Prelude.{◌≡◌, List, ◌++◌, IfSome}
+use Rattle.std.specs.Prelude.{List, IfSome}
 use Rattle.adr_schema.specs.Assignments.{Given}
 use Rattle.adr_event.specs.declared.event.Event.{Event}
 use Rattle.adr_token.specs.Laws.{IsIdentifier}
@@ -9,9 +9,11 @@ use Rattle.adr_model.specs.Write.{Write, AddObject, Modify, Rename, Delete, AddL
 use Rattle.adr_model.specs.Directory.{directory}
 use Rattle.adr_model.specs.World.{World, empty_world, shown}
 use Rattle.adr_model.specs.Step.{ClientWrite, write_of}
-use Rattle.adr_model.specs.Convergence.{MayAllHappen, behind, held_by}
+use Rattle.adr_model.specs.Convergence.{MayAllHappen, held_by}
 use Rattle.adr_report.specs.Printable.{IsPrintable}
 use Rattle.adr_report.specs.Laws.{IsWholeReference}
+use Rattle.adr_law_headline.specs.Throughout.{HoldsAlways}
+use Rattle.adr_law_headline.specs.Formed.{AreAllTyped}
 
 abbrev pub AreWholeValues : List Given → Type 0
 AreWholeValues values = Each (λ (g : Given). Each IsWholeReference g.1) values
@@ -37,9 +39,9 @@ AreWhole es = Each (WritesSo IsWholeWrite) es
 abbrev pub ShowPrintable : World → Type 0
 ShowPrintable w = Each (λ r. IsPrintable (directory (held_by r)) × IsPrintable (shown w r.safe)) w.replicas
 
-abbrev pub RunsArePrintable : Type 0
-RunsArePrintable = (es : List Event) → MayAllHappen empty_world es → AreWhole es → ShowPrintable (behind es)
-
--- at every place of a run, whether or not a database was put back
+-- at every place of a run and on the way of each line, whether or not a database was put back
 abbrev pub ArePrintableThroughout : List Event → Type 0
-ArePrintableThroughout es = (before after : List Event) → es ≡ before ++ after → ShowPrintable (behind before)
+ArePrintableThroughout es = HoldsAlways es ShowPrintable
+
+abbrev pub RunsArePrintable : Type 0
+RunsArePrintable = (es : List Event) → MayAllHappen empty_world es → AreAllTyped es → AreWhole es → ArePrintableThroughout es

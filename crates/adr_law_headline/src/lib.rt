@@ -1,9 +1,9 @@
 //! What is claimed of every run of a text, over the definitions alone.
 //!
 //! It stands on the theorem of `adr_law_convergence` and on the definitions of schedules in `adr_schedule`: what the lines
-//! of a text say may happen and is typed, so that the theorem holds of its run. That every state of a run is formed stands
-//! on the laws of `adr_law_formed`, which ask nothing of a sound world; that what is held then shows a directory which its
-//! lines tell, on those of `adr_report`. Its functions have no code.
+//! of a text say may happen and is typed, so that the theorem holds of its run. That every state of a run is one that
+//! a log may lead to stands on the laws of `adr_law_recorded`, which ask nothing of a sound world; that what is held then
+//! shows a directory which its lines tell, on those of `adr_report`. Its functions have no code.
 #![tactic(auto)]
 
 ghost use Rattle.std.specs.Prelude.{ℕ, List};
@@ -11,8 +11,7 @@ ghost use Rattle.adr_event.specs.declared.event.Event.{Event};
 ghost use Rattle.adr_model.specs.Convergence.{MayAllHappen};
 ghost use Rattle.adr_model.specs.World.{empty_world};
 ghost use Rattle.adr_schedule.specs.Seen.{IsFollowing, nothing_seen};
-ghost use Rattle.adr_law_recorded.specs.Typed.{AreTyped};
-ghost use Rattle.adr_law_headline.specs.Formed.{RunsAreFormed};
+ghost use Rattle.adr_law_headline.specs.Formed.{AreAllTyped, RunsAreFormed};
 ghost use Rattle.adr_law_headline.specs.Printable.{AreWhole, RunsArePrintable};
 ghost use Rattle.adr_law_headline.specs.Headline.{Headline, IsHeadline};
 
@@ -22,11 +21,11 @@ pub fn lines_may_happen()
     ensures { (events : List Event) → IsFollowing nothing_seen events → MayAllHappen empty_world events }
 {}
 
-/// What lines say is typed: the identifiers that they give and write have sixteen bytes, written texts are UTF-8 and
-/// number values have 64 bits.
-#[tactic(auto, using(crate::proofs::Typing::following_typed))]
+/// What lines say is typed: the identifiers that they give and write have sixteen bytes, written texts are UTF-8, number
+/// values and times have 64 bits, and how many items are asked for has 32.
+#[tactic(auto, using(crate::proofs::Typing::following_all_typed))]
 pub fn lines_are_typed()
-    ensures { (events : List Event) → IsFollowing nothing_seen events → AreTyped events }
+    ensures { (events : List Event) → IsFollowing nothing_seen events → AreAllTyped events }
 {}
 
 /// What lines say is whole: also the bytes of identifiers are in range.
@@ -41,14 +40,17 @@ pub fn headline_holds()
     ensures { (events : List Event) → MayAllHappen empty_world events → Headline events }
 {}
 
-/// Every state of every run is formed: what a crash would leave of a controller, and what a start would find, whatever
-/// was taken, and also behind a `rollback`.
+/// Every state of every run whose lines are typed is one that a log may lead to, with all that is kept of it: formed, in
+/// the ranges of an image, its identifiers of sixteen bytes and its classes known. So is what a crash would leave of a
+/// controller, and what a start would find, whatever was taken, at every place and on the way of every line, and also
+/// behind a `rollback`.
 pub fn states_are_formed()
     ensures { RunsAreFormed }
 {}
 
-/// Every directory of a run is printable where what lines write is whole: what a controller holds, and what it answers, so
-/// that the lines of a `show` tell it, also behind a `rollback`.
+/// Every directory of a run is printable where its lines are typed and what they write is whole: what a controller holds,
+/// and what it answers, so that the lines of a `show` tell it, at every place and on the way of every line, and also
+/// behind a `rollback`.
 pub fn directories_are_printable()
     ensures { RunsArePrintable }
 {}

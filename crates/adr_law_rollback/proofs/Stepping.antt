@@ -13,6 +13,7 @@ use Rattle.adr_model.specs.Replica.{Stops, Fails, on_new_disk}
 use Rattle.adr_model.specs.World.{Name, World, Sent, answer, nothing, bound, bound_at, asks, serves_request, of_controller, backed_up, shown, marks_shown}
 use Rattle.adr_model.specs.Cycles.{reply_limit}
 use Rattle.adr_model.specs.Step.{gives, told_bound, step, after_lines, answers}
+use Rattle.adr_model.proofs.Ringing.{rings_so}
 use Rattle.adr_law_rollback.specs.ShutOff.{RestsIn, is_done, DoesNothing, Spares, QuarantineHolds, QuarantineHoldsThroughout}
 use Rattle.adr_law_rollback.proofs.Placing.{first_stays}
 use Rattle.adr_law_rollback.proofs.Calls.{HoldsSent, writes_hold, collects_hold, delivers_hold, serves_hold, asks_hold, backs_up_hold, copied, copies_hold, plans_hold, stops_hold, starts_hold, reports_hold, installs_hold, restores_hold, rollbacks_hold}
@@ -47,6 +48,9 @@ module _ (name : Name) (s : State) (end : ℕ) (closed : s.mode ≡ Quarantined)
     step_still (events.Deliver n reply) spares = let t = delivers_hold name s end closed w i n (bound_at w.replies reply) in (t.0, one _ n _ t.1)
     step_still (events.Pull n source max) spares = pull_still name s end closed n source max w i
     step_still (events.Cycle n source max) spares = pulls_still name s end closed n source max reply_limit w i
+    step_still (events.Ring n others rounds max) spares =
+        rings_so (λ v. RestsIn s end v name) (λ (a : Answer). a.name ≡ name → is_done a.outcome ≡ false) (λ v dest source most j. pulls_still name s end closed dest source most reply_limit v j)
+        n others rounds max (λ v d e own. refl) w i
     step_still (events.Collect n lifetime) spares = let t = collects_hold name s end closed w i n lifetime in (t.0, one _ n _ t.1)
     step_still (events.Backup n bind) spares =
         one_bound _ n (of_controller w n (nothing w) (λ r. backed_up w (backup r.safe))) (λ v image. record v { images = bound v.images bind image }) (λ v image j. j)

@@ -274,6 +274,43 @@ fn stops_and_faults_outside_the_grammar(rt: HostRuntime) -> Result<(), Fail> {
     all_are_answered(&rt, rt.alloc(), BAD_STOPS, b"line 2: no command\n")
 }
 
+/// Rings outside the grammar.
+const BAD_RINGS: &[&[u8]] = &[
+    // a token is missing or of a wrong kind
+    b"ring",
+    b"ring 2",
+    b"ring 2 5",
+    b"ring A B",
+    b"ring 2 A B",
+    b"ring A B 2 5",
+    b"ring 2 5 A #b0",
+    b"ring 2 5 A B 7",
+    b"ring 2 5 A \"B\"",
+    b"ring 2 5 A, B",
+    b"Ring 2 5 A B",
+    // one name alone, and one that comes twice
+    b"ring 2 5 A",
+    b"ring 2 5 A A",
+    b"ring 2 5 A B A",
+    b"ring 2 5 A B B",
+    b"ring 2 5 A B C D B",
+    // numbers
+    b"ring 0 5 A B",
+    b"ring 127 5 A B",
+    b"ring 02 5 A B",
+    b"ring -2 5 A B",
+    b"ring 4294967298 5 A B",
+    b"ring 2 0 A B",
+    b"ring 2 10001 A B",
+    b"ring 2 05 A B",
+    b"ring 2 4294967301 A B",
+];
+
+#[test]
+fn rings_outside_the_grammar(rt: HostRuntime) -> Result<(), Fail> {
+    all_are_answered(&rt, rt.alloc(), BAD_RINGS, b"line 2: no command\n")
+}
+
 /// Images and snapshots outside the grammar.
 const BAD_COPIES: &[&[u8]] = &[
     // a token is missing, doubled or of a wrong kind
@@ -372,6 +409,8 @@ fn lines_that_may_follow_are_read_and_printed(rt: HostRuntime) -> Result<(), Fai
     let lines = b"deliver A r
 pull A B 10000
 cycle B A 1
+ring 1 1 A B
+ring 126 10000 B A
 vector A
 marks B
 show B
@@ -402,6 +441,10 @@ const MISPLACED: &[(&[u8], &[u8])] = &[
     (b"serve B q as r", b"line 5: name used\n"),
     (b"deliver A q", b"line 5: unknown name\n"),
     (b"cycle A q 5", b"line 5: unknown name\n"),
+    (b"ring 2 5 A B C", b"line 5: unknown name\n"),
+    (b"ring 2 5 C B A", b"line 5: unknown name\n"),
+    (b"ring 2 5 A q", b"line 5: unknown name\n"),
+    (b"ring 2 5 A C A", b"line 5: no command\n"),
     (b"stop A after 1001 kept", b"line 5: no command\n"),
     (b"fail A after 1001", b"line 5: no command\n"),
     (b"stop C after 1001 kept", b"line 5: no command\n"),
@@ -529,6 +572,30 @@ fn the_65th_controller_is_one_too_many(rt: HostRuntime) -> Result<(), Fail> {
     let made = controllers(rt.alloc(), 65)?;
     let told = shown(rt.alloc(), made.as_bytes())?;
     assert_eq!(rt; told.as_slice(), b"line 65: too many\n".as_slice());
+    Ok(())
+}
+
+/// The line of a ring of so many.
+fn ring_of(alloc: Global, count: u32) -> Result<String, Fail> {
+    let mut text = String::new(alloc);
+    text.push_str("ring 2 5")?;
+    for number in 0..count {
+        let name = format!(in alloc; " C{number}")?;
+        text.push_str(name.as_str())?;
+    }
+    text.push_str("\n")?;
+    Ok(text)
+}
+
+#[test]
+fn a_ring_of_65_is_outside_the_grammar(rt: HostRuntime) -> Result<(), Fail> {
+    let alloc = rt.alloc();
+    let made = controllers(alloc, 64)?;
+    let whole = ring_of(alloc, 64)?;
+    is_printed(&rt, alloc, made.as_bytes(), whole.as_bytes())?;
+    let longer = ring_of(alloc, 65)?;
+    let told = shown_behind(alloc, made.as_bytes(), longer.as_bytes())?;
+    assert_eq!(rt; told.as_slice(), b"line 65: no command\n".as_slice());
     Ok(())
 }
 

@@ -22,6 +22,7 @@ use Rattle.adr_model.specs.Collect.{deaths_to_collect, collect}
 use Rattle.adr_model.specs.Replica.{Replica, Up}
 use Rattle.adr_model.specs.World.{World, Name, answer, empty_world}
 use Rattle.adr_model.specs.Cycles.{was_taken, pulls, cycle, reply_limit}
+use Rattle.adr_model.specs.Rings.{Connection, ring, times}
 use Rattle.adr_model.specs.Step.{ClientWrite, write_of, step, after_lines}
 use Rattle.adr_model.specs.Sound.{IsSoundWorld, IsWorldOfRun}
 
@@ -53,9 +54,15 @@ MayHappen w (events.Backup name bind) = IsUnbound w.images bind
 MayHappen w (events.Snapshot name bind) = IsUnbound w.snapshots bind
 MayHappen w e = Unit {0}
 
--- a world on the way of a line: the one behind it, or behind some of the pulls of a cycle
+-- a world behind some of the pulls of cycles that come one after the other
+abbrev pub IsAmidCycles : List Connection → ℕ → World → World → Type 0
+IsAmidCycles [] max w v = v ≡ w
+IsAmidCycles (c ∷ cs) max w v = ((n : ℕ) × (v ≡ (pulls n w c.0 c.1 max).0)) ⊎ IsAmidCycles cs max (cycle w c.0 c.1 max).0 v
+
+-- a world on the way of a line: the one behind it, or behind some of the pulls of a cycle, or of a ring
 abbrev pub IsOnTheWay : World → Event → World → Type 0
 IsOnTheWay w (events.Cycle name source max) v = (n : ℕ) × (v ≡ (pulls n w name source max).0)
+IsOnTheWay w (events.Ring name others rounds max) v = IsAmidCycles (times rounds (ring name others)) max w v
 IsOnTheWay w e v = v ≡ (step w e).0
 
 abbrev pub BeginsSound : Type 0

@@ -11,6 +11,7 @@ use Rattle.adr_model.specs.Collect.{collect, backup, adopt}
 use Rattle.adr_model.specs.Replica.{Stops, Fails, on_new_disk, begun}
 use Rattle.adr_model.specs.World.{World, Name, Gone, Sent, answer, stays, nothing, bound, bound_at, replica_at, with_replica, shown, marks_shown, of_made, of_controller, of_image, writes, after_collect, asks, serves_request, delivers, backed_up, adopts, put_back, with_plan, stops, starts}
 use Rattle.adr_model.specs.Cycles.{pull, cycle}
+use Rattle.adr_model.specs.Rings.{rings}
 
 -- a client's write: the word of its line, the controller that it goes to, and what is written
 pub record ClientWrite : Type 0 where
@@ -56,6 +57,7 @@ step_of_other w (events.Serve name request bind) =
 step_of_other w (events.Deliver name reply) = told (codes "deliver") name (delivers w name (bound_at w.replies reply))
 step_of_other w (events.Pull name source max) = let p = pull w name source max in (p.0, p.1)
 step_of_other w (events.Cycle name source max) = cycle w name source max
+step_of_other w (events.Ring name others rounds max) = rings w name others rounds max
 step_of_other w (events.Collect name lifetime) =
     told (codes "collect") name (of_controller w name (stays w) (λ r. after_collect w r lifetime (collect r.safe w.time lifetime)))
 step_of_other w (events.Backup name bind) =

@@ -10,7 +10,7 @@ use Rattle.adr_disk.specs.declared.memory.Crash.TheVariants.{Kept, Lost, Torn}
 use Rattle.adr_schema.specs.Assignments.{Given}
 use Rattle.adr_schema.specs.declared.content.Value.{Value as Item}
 use Rattle.adr_event.specs.declared.event.Event.{Event}
-use Rattle.adr_event.specs.declared.event.Event.TheVariants.{Controller, Time, Add, Modify, Rename, Delete, Link, Unlink, Ask, Serve, Deliver, Pull, Cycle, Collect, Backup, Restore, Install, Snapshot, Rollback, StopAfter, Fail, Stop, Start, Show, Vector, Marks}
+use Rattle.adr_event.specs.declared.event.Event.TheVariants.{Controller, Time, Add, Modify, Rename, Delete, Link, Unlink, Ask, Serve, Deliver, Pull, Cycle, Ring, Collect, Backup, Restore, Install, Snapshot, Rollback, StopAfter, Fail, Stop, Start, Show, Vector, Marks}
 use Rattle.adr_event.specs.Verbs.{verb_of, word_of}
 use Rattle.adr_event.specs.declared.verb.Verb.{Verb}
 use Rattle.adr_token.specs.Words.{unspaced}
@@ -27,7 +27,7 @@ use Rattle.adr_token.proofs.SetBytes.{set_holds, set_starts}
 use Rattle.adr_schedule.specs.Limits.{text_limit}
 use Rattle.adr_schedule.specs.Lines.{is_line_feed, lines_of}
 use Rattle.adr_schedule.specs.Commands.{event_of, is_passed}
-use Rattle.adr_schedule.specs.Grammar.{Token, Word, Name, Number, Identifier, Class, Attribute, Quoted, Set, sets, given_by, tokens_behind, tokens_in, tokens_of, AreRising, AreSpelled, HasLine, HaveSpellings, IsAllowed, IsSpelled, Spells}
+use Rattle.adr_schedule.specs.Grammar.{Token, Word, Name, Number, Identifier, Class, Attribute, Quoted, Set, sets, named, given_by, tokens_behind, tokens_in, tokens_of, AreRising, AreSpelled, HasLine, HaveSpellings, IsAllowed, IsSpelled, Spells}
 use Rattle.adr_schedule.specs.Seen.{Seen, nothing_seen, cause_after, seen_after, IsFollowing}
 use Rattle.adr_schedule.specs.Events.{events_from, events_of, line_after}
 use Rattle.adr_print.specs.Printed.{AllowedEventsHaveLines, EventsAreReadAgain, PrintedEventsAreRead, joined, line_of, printed, spaced, token_text}
@@ -91,6 +91,15 @@ sets_seen : (values : List Given) → list_all is_seen (sets values) ≡ true
 sets_seen [] = refl
 sets_seen (set ∷ values) = sets_seen values
 
+names_seen : (names : List (List ℕ)) → list_all is_seen (named names) ≡ true
+names_seen [] = refl
+names_seen (name ∷ names) = names_seen names
+
+-- names are written as they are
+pub names_text : (names : List (List ℕ)) → map token_text (named names) ≡ names
+names_text [] = refl
+names_text (name ∷ names) = ap (λ (rest : List (List ℕ)). name ∷ rest) (names_text names)
+
 -- so are the words of an event
 behind_seen : (order : List Given) (e : Event) → list_all is_seen (tokens_behind order e) ≡ true
 unfolding tokens_behind
@@ -107,6 +116,7 @@ behind_seen order (Serve name request bound) = refl
 behind_seen order (Deliver name reply) = refl
 behind_seen order (Pull name source max) = refl
 behind_seen order (Cycle name source max) = refl
+behind_seen order (Ring name others rounds max) = names_seen others
 behind_seen order (Collect name lifetime) = refl
 behind_seen order (Backup name bound) = refl
 behind_seen order (Restore name image inv) = refl

@@ -3,7 +3,7 @@
 ghost use Rattle.std.specs.Prelude.{◌≡◌, ◌++◌, ◌∷◌, [], IfOk, OnOk, codes, map};
 ghost use Rattle.adr_token.specs.Spelling.{set_token};
 ghost use Rattle.adr_schedule.specs.Crashes.{crash_word};
-ghost use Rattle.adr_schedule.specs.Grammar.{Attribute as attributed, Class as classed, Identifier as identified, Name as named, Number as numbered, Quoted as quoted, Word as said, given_by, sets, tokens_behind};
+ghost use Rattle.adr_schedule.specs.Grammar.{Attribute as attributed, Class as classed, Identifier as identified, Name as named, Number as numbered, Quoted as quoted, Word as said, given_by, named as names_of, sets, tokens_behind};
 ghost use Rattle.adr_print.specs.Printed.{line_of, printed, set_tokens, spaced, token_of, token_text};
 
 use adr_disk::Crash;
@@ -73,6 +73,62 @@ fn push_sets(alloc: Global, out: &mut Vec<u8>, values: &Assignments) -> Result<(
         push_spaced_set(alloc, out, *attr, list.items())?;
     }
     Ok(())
+}
+
+fn push_spaced_name(out: &mut Vec<u8>, name: &Text) -> Result<(), NoMemory>
+    ensures { OnOk result (out.new.items ≡ out.old.items ++ (codes " " ++ name.now)) }
+{
+    push(out, b" ")?;
+    push(out, name.items())
+}
+
+/// Adds names, each behind a space.
+fn push_names(out: &mut Vec<u8>, names: &[Text]) -> Result<(), NoMemory>
+    ensures { OnOk result (out.new.items ≡ out.old.items ++ spaced (map token_text (names_of names.now))) }
+{
+    for name in names {
+        push_spaced_name(out, name)?;
+    }
+    Ok(())
+}
+
+/// Adds tokens and names, each behind a space.
+fn push_with_names(
+    alloc: Global,
+    out: &mut Vec<u8>,
+    tokens: &[Token<'_>],
+    names: &[Text],
+) -> Result<(), NoMemory>
+    ensures { OnOk result (out.new.items
+        ≡ out.old.items
+        ++ (spaced (map (λ token. token_text (token_of token)) tokens.now) ++ spaced (map token_text (names_of names.now)))) }
+{
+    push_tokens(alloc, out, tokens)?;
+    push_names(out, names)
+}
+
+/// NUM MAX NAME NAME.., of `ring`.
+fn push_ring(
+    alloc: Global,
+    out: &mut Vec<u8>,
+    name: &Text,
+    others: &[Text],
+    rounds: u32,
+    max: u32,
+) -> Result<(), NoMemory>
+    ensures { OnOk result (out.new.items
+        ≡ out.old.items ++ spaced (map token_text (numbered rounds ∷ numbered max ∷ named name.now ∷ names_of others.now))) }
+{
+    push_with_names(
+        alloc,
+        out,
+        &[
+            Token::Number(u64::from(rounds)),
+            Token::Number(u64::from(max)),
+            Token::Name(name),
+        ],
+        others,
+    )
 }
 
 /// Adds tokens and sets, each behind a space.
@@ -466,6 +522,12 @@ fn push_behind(alloc: Global, out: &mut Vec<u8>, event: &Event) -> Result<(), No
         Event::Pull { name, source, max } | Event::Cycle { name, source, max } => {
             push_pulled(alloc, out, name, source, *max)
         }
+        Event::Ring {
+            name,
+            others,
+            rounds,
+            max,
+        } => push_ring(alloc, out, name, others.items(), *rounds, *max),
         Event::Collect { name, lifetime } => push_collected(alloc, out, name, *lifetime),
         Event::Backup { name, bound } | Event::Snapshot { name, bound } => {
             push_copied(alloc, out, name, bound)

@@ -8,7 +8,7 @@ use Rattle.adr_event.specs.declared.answer.Field.{Field}
 use Rattle.adr_event.specs.declared.answer.Plainly.{Plainly}
 use Rattle.adr_event.specs.declared.answer.Plainly.TheVariants.{Id, Number, Mark as OneMark, Attr, Word}
 use Rattle.adr_event.specs.declared.answer.Outcome.{Outcome}
-use Rattle.adr_event.specs.declared.answer.Outcome.TheVariants.{Ok, Usn, Served, Took, Removed, Show, Vector, Marks, More, Up, Down, Failed, Disk, Stopped, Absent, Refused}
+use Rattle.adr_event.specs.declared.answer.Outcome.TheVariants.{Ok, Usn, Served, Took, Removed, Compared, Show, Vector, Marks, More, Up, Down, Failed, Disk, Stopped, Absent, Refused}
 use Rattle.adr_event.specs.declared.directory.Entry.{Entry}
 use Rattle.adr_token.specs.Spelling.{identifier_token, text_token, class_token, attribute_token, set_token}
 
@@ -67,6 +67,11 @@ left_text false = codes " more"
 abbrev pub counts_text : ℕ → ℕ → Bool → List ℕ
 counts_text items rows last = codes " items=" ++ decimal items ++ codes " rows=" ++ decimal rows ++ left_text last
 
+-- whether something is so
+abbrev pub truth_text : Bool → List ℕ
+truth_text true = codes "true"
+truth_text false = codes "false"
+
 -- what stands behind the colon of an answer's line
 unfoldable pub result_text : Outcome → List ℕ
 result_text Ok = codes "ok"
@@ -74,6 +79,7 @@ result_text (Usn usn) = codes "ok usn=" ++ decimal usn
 result_text (Served from to items rows last) = from_to from to ++ counts_text items rows last
 result_text (Took items wrote usn) = codes "ok items=" ++ decimal items ++ codes " wrote=" ++ decimal wrote ++ codes " usn=" ++ decimal usn
 result_text (Removed removed) = codes "ok removed=" ++ decimal removed
+result_text (Compared rounds directories vectors) = codes "ok rounds=" ++ decimal rounds ++ codes " directories=" ++ truth_text directories ++ codes " vectors=" ++ truth_text vectors
 result_text (Show entries) = decimal (length entries)
 result_text (Vector vector) = decimal (length vector)
 result_text (Marks marks) = decimal (length marks)

@@ -67,6 +67,8 @@ pub fn name_of(event: &Event) -> &Text
         Event::Show { name, .. } => name,
         Event::Vector { name, .. } => name,
         Event::Marks { name, .. } => name,
-        Event::Time { .. } | Event::Pull { .. } | Event::Cycle { .. } => unreachable!(),
+        Event::Time { .. } | Event::Pull { .. } | Event::Cycle { .. } | Event::Ring { .. } => {
+            unreachable!()
+        }
     }
 }

@@ -2,7 +2,7 @@
 
 ghost use Rattle.std.specs.Prelude.{◌≡◌, ◌++◌, OnOk, IfOk, flat_map, codes};
 ghost use Rattle.std.specs.Fmt.{decimal};
-ghost use Rattle.adr_report.specs.Line.{plain_text, from_to, left_text, counts_text, field_text, result_text, report_lines, line};
+ghost use Rattle.adr_report.specs.Line.{plain_text, from_to, left_text, counts_text, truth_text, field_text, result_text, report_lines, line};
 
 use crate::entries::push_entries;
 use crate::knowledge::{push_cursors, push_mark, push_number_behind, push_partners};
@@ -94,6 +94,35 @@ fn push_took(
     push_number_behind(alloc, out, b" usn=", usn)
 }
 
+fn truth_text(is: bool) -> &'static [u8]
+    ensures { result.now ≡ truth_text is }
+{
+    if is {
+        b"true".as_slice()
+    } else {
+        b"false".as_slice()
+    }
+}
+
+fn push_compared(
+    alloc: Global,
+    out: &mut Vec<u8>,
+    rounds: u32,
+    directories: bool,
+    vectors: bool,
+) -> Result<(), NoMemory>
+    ensures { OnOk result (out.new.items
+        ≡ out.old.items
+        ++ (codes "ok rounds=" ++ decimal rounds ++ codes " directories=" ++ truth_text directories ++ codes " vectors="
+        ++ truth_text vectors)) }
+{
+    push_number_behind(alloc, out, b"ok rounds=", u64::from(rounds))?;
+    push(out, b" directories=")?;
+    push(out, truth_text(directories))?;
+    push(out, b" vectors=")?;
+    push(out, truth_text(vectors))
+}
+
 fn push_served(
     alloc: Global,
     out: &mut Vec<u8>,
@@ -148,6 +177,11 @@ fn push_result(alloc: Global, out: &mut Vec<u8>, outcome: &Outcome) -> Result<()
             b"ok removed=",
             u64::from(*removed),
         ),
+        Outcome::Compared {
+            rounds,
+            directories,
+            vectors,
+        } => push_compared(alloc, out, *rounds, *directories, *vectors),
         Outcome::Show(directory) => push_number(alloc, out, directory.entries().len() as u64),
         Outcome::Vector(vector) => push_number(alloc, out, vector.len() as u64),
         Outcome::Marks(marks) => push_number(alloc, out, marks.items().len() as u64),

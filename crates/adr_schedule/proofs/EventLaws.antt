@@ -7,7 +7,7 @@ use Rattle.std.proofs.lemmas.Bool.{eqb-false, ne_eqb}
 use Rattle.adr_disk.specs.declared.memory.Crash.{Crash}
 use Rattle.adr_schema.specs.Assignments.{Given}
 use Rattle.adr_event.specs.declared.event.Event.{Event}
-use Rattle.adr_event.specs.declared.event.Event.TheVariants.{Controller, Time, Add, Modify, Rename, Delete, Link, Unlink, Ask, Serve, Deliver, Pull, Cycle, Collect, Backup, Restore, Install, Snapshot, Rollback, StopAfter, Fail, Stop, Start, Show, Vector, Marks}
+use Rattle.adr_event.specs.declared.event.Event.TheVariants.{Controller, Time, Add, Modify, Rename, Delete, Link, Unlink, Ask, Serve, Deliver, Pull, Cycle, Ring, Collect, Backup, Restore, Install, Snapshot, Rollback, StopAfter, Fail, Stop, Start, Show, Vector, Marks}
 use Rattle.adr_event.specs.Verbs.{verb_of, word_of}
 use Rattle.adr_token.specs.Gives.{◌>>=◌}
 use Rattle.adr_token.specs.Words.{unspaced, ended, word_at, name_at}
@@ -22,13 +22,15 @@ use Rattle.adr_event.specs.declared.verb.Verb.TheVariants as verbs
 use Rattle.adr_schedule.specs.Limits.{plan_limit}
 use Rattle.adr_schedule.specs.Crashes.{crash_word}
 use Rattle.adr_schedule.specs.Sets.{rising, sets_at}
+use Rattle.adr_schedule.specs.Members.{names_at}
+use Rattle.adr_schedule.proofs.LineNames.{names_were, names_read}
 use Rattle.adr_schedule.specs.Verbs.{verb_said, verbs as all_verbs}
-use Rattle.adr_schedule.specs.Commands.{add_line, ask_line, binding_line, bound_at, by_verb, calls_at, collect_line, controller_line, crash_at, delete_line, event_of, fail_line, install_line, limit_at, link_line, modify_line, name_line, pull_line, rename_line, restore_line, serve_line, stop_after, stop_line, time_line, use_line}
-use Rattle.adr_schedule.specs.Grammar.{Word, Name, Number, Identifier, Class, Attribute, Quoted, sets, tokens_behind, IsNext, AreSpelled, IsLimit, Spells, SpelledLinesAreRead, LinesSpellOneEvent, LinesWereSpelled}
+use Rattle.adr_schedule.specs.Commands.{add_line, ask_line, binding_line, bound_at, by_verb, calls_at, collect_line, controller_line, crash_at, delete_line, event_of, fail_line, install_line, limit_at, link_line, modify_line, name_line, pull_line, rename_line, restore_line, ring_line, rounds_at, serve_line, stop_after, stop_line, time_line, use_line}
+use Rattle.adr_schedule.specs.Grammar.{Word, Name, Number, Identifier, Class, Attribute, Quoted, sets, named, tokens_behind, IsNext, AreSpelled, IsLimit, AreRounds, AreMembers, Spells, SpelledLinesAreRead, LinesSpellOneEvent, LinesWereSpelled}
 use Rattle.adr_schedule.proofs.LineSets.{none_left, sets_read, sets_were}
 use Rattle.adr_schedule.proofs.VerbLaws.{verb_read}
 use Rattle.adr_schedule.proofs.RisingLemmas.{rising_from, unless_some}
-use Rattle.adr_schedule.proofs.TokenLaws.{attribute_next, attribute_read, bound_next, bound_read, calls_next, calls_read, class_next, class_read, crash_next, crash_read, identifier_next, identifier_read, limit_next, limit_read, name_next, name_read, number_next, number_read, text_next, text_read, word_left, word_next}
+use Rattle.adr_schedule.proofs.TokenLaws.{attribute_next, attribute_read, bound_next, bound_read, calls_next, calls_read, class_next, class_read, crash_next, crash_read, identifier_next, identifier_read, limit_next, limit_read, name_next, name_read, rounds_next, rounds_read, number_next, number_read, text_next, text_read, word_left, word_next}
 
 -- ---- what was read is spelled
 
@@ -162,6 +164,26 @@ modify_was line rest verb e h =
       (s.order, s.give, (rest, verb, (name.1, name_next rest name n, (guid.1, identifier_next name.1 guid g, s.spelled)))),
     )))) e h
 
+ringed : (name : List ℕ) (others : List (List ℕ)) (rounds max : ℕ) (e : Event) → (if length others == 0 then None else Some (Ring name others rounds max)) ≡ Some e → (0 < length others) × (Ring name others rounds max ≡ e)
+ringed name others rounds max e h =
+    let s = unless_some (length others == 0) (Ring name others rounds max) e h in
+    let some = eqb-false (length others) 0 s.0 in
+    (omega (arith, some), s.1)
+
+ring_was : Follows verbs.Ring
+unfolding ring_line tokens_behind
+ring_was line rest verb e h =
+    let P = Spells line in
+    each_step P (rounds_at rest) _ (λ rounds r. each_step P (limit_at rounds.1) _ (λ limit l. each_step P (name_at limit.1) _ (λ name n. each_step P (names_at name.0 name.1) _ (λ others o event k.
+    let many = rounds_next rest rounds r in
+    let most = limit_next rounds.1 limit l in
+    let s = names_were name.0 name.1 others o in
+    let m = ringed name.0 others rounds.0 limit.0 event k in
+    subst P m.1 (
+      (many.0, most.0, (m.0, s.0)),
+      ([], refl, (rest, verb, (rounds.1, many.1, (limit.1, most.1, (name.1, name_next limit.1 name n, s.1))))),
+    ))))) e h
+
 rename_was : Follows verbs.Rename
 unfolding rename_line tokens_behind
 rename_was line rest verb e h =
@@ -261,6 +283,7 @@ verb_was verbs.Serve line rest verb e h = serve_was line rest verb e h
 verb_was verbs.Deliver line rest verb e h = use_was (Spells line) Deliver rest (λ name other u. (tt, ([], refl, (rest, verb, u)))) e h
 verb_was verbs.Pull line rest verb e h = pull_was (Spells line) Pull rest (λ name source max most p. (most, ([], refl, (rest, verb, p)))) e h
 verb_was verbs.Cycle line rest verb e h = pull_was (Spells line) Cycle rest (λ name source max most p. (most, ([], refl, (rest, verb, p)))) e h
+verb_was verbs.Ring line rest verb e h = ring_was line rest verb e h
 verb_was verbs.Collect line rest verb e h = collect_was line rest verb e h
 verb_was verbs.Backup line rest verb e h = binding_was (Spells line) Backup rest (λ name bound b. (tt, ([], refl, (rest, verb, b)))) e h
 verb_was verbs.Restore line rest verb e h = restore_was line rest verb e h
@@ -335,6 +358,15 @@ unfolding modify_line
 modify_again bytes name guid values order some r h =
     let more : (length values == 0) ≡ false = ne_eqb (length values) 0 (λ none. omega arith) in
     rw (name_read name bytes h.0 h.1, identifier_read guid h.0 h.2.0 h.2.1, sets_read values order h.2.0 r h.2.2, more) refl
+
+ring_again : (bytes name : List ℕ) (others : List (List ℕ)) (rounds max : ℕ) → AreRounds rounds × IsLimit max × AreMembers name others → AreSpelled (Number rounds ∷ Number max ∷ Name name ∷ named others) bytes
+    → ring_line bytes ≡ Some (Ring name others rounds max)
+unfolding ring_line
+ring_again bytes name others rounds max is h =
+    let more : (length others == 0) ≡ false = ne_eqb (length others) 0 (λ none. omega (arith, is.2.0)) in
+    let l = h.2 in
+    let n = l.2 in
+    rw (rounds_read rounds bytes h.0 is.0 h.1, limit_read max h.0 l.0 is.1 l.1, name_read name l.0 n.0 n.1, names_read name n.0 others is.2.1 n.2, more) refl
 
 rename_again : (bytes name guid parent text : List ℕ) → AreSpelled (Name name ∷ Identifier guid ∷ Identifier parent ∷ Quoted text ∷ []) bytes
     → rename_line bytes ≡ Some (Rename name guid parent text)
@@ -426,6 +458,7 @@ behind_read line (Serve name request bound) h = serve_again h.1.2.0 name request
 behind_read line (Deliver name reply) h = use_again Deliver h.1.2.0 name reply h.1.2.2
 behind_read line (Pull name source max) h = pull_again Pull h.1.2.0 name source max h.0 h.1.2.2
 behind_read line (Cycle name source max) h = pull_again Cycle h.1.2.0 name source max h.0 h.1.2.2
+behind_read line (Ring name others rounds max) h = ring_again h.1.2.0 name others rounds max h.0 h.1.2.2
 behind_read line (Collect name lifetime) h = collect_again h.1.2.0 name lifetime h.1.2.2
 behind_read line (Backup name bound) h = binding_again Backup h.1.2.0 name bound h.1.2.2
 behind_read line (Restore name image inv) h = restore_again h.1.2.0 name image inv h.1.2.2

@@ -5,6 +5,7 @@ pub mod TokenLaws
 pub mod VerbLaws
 pub mod RisingLemmas
 pub mod LineSets
+pub mod LineNames
 pub mod EventLaws
 pub mod AllowedLaws
 pub mod ScheduleLaws

@@ -5,7 +5,7 @@ use Rattle.std.specs.Bool.{then_some}
 use Rattle.std.specs.Str.{is_utf8}
 use Rattle.std.proofs.lemmas.Bool.{le-ltb, lt-ltb, ltb-false, ltb-true}
 use Rattle.adr_event.specs.declared.event.Event.{Event}
-use Rattle.adr_event.specs.declared.event.Event.TheVariants.{Controller, Time, Add, Modify, Rename, Delete, Link, Unlink, Ask, Serve, Deliver, Pull, Cycle, Collect, Backup, Restore, Install, Snapshot, Rollback, StopAfter, Fail, Stop, Start, Show, Vector, Marks}
+use Rattle.adr_event.specs.declared.event.Event.TheVariants.{Controller, Time, Add, Modify, Rename, Delete, Link, Unlink, Ask, Serve, Deliver, Pull, Cycle, Ring, Collect, Backup, Restore, Install, Snapshot, Rollback, StopAfter, Fail, Stop, Start, Show, Vector, Marks}
 use Rattle.adr_schedule.specs.declared.fault.Cause.{Cause}
 use Rattle.adr_schedule.specs.declared.fault.Cause.TheVariants.{NotUtf8, NoCommand, UnknownName, NameUsed, IdentifierUsed, TooMany, TooLong}
 use Rattle.adr_schedule.specs.declared.fault.ScheduleFault.{ScheduleFault}
@@ -14,7 +14,7 @@ use Rattle.adr_schedule.specs.Lines.{lines_of}
 use Rattle.adr_schedule.specs.Commands.{event_of, is_passed}
 use Rattle.adr_schedule.specs.Grammar.{Spells}
 use Rattle.adr_failure.specs.First.{first_of}
-use Rattle.adr_schedule.specs.Seen.{Seen, nothing_seen, cause_after, if_bound, if_full, if_given, if_inv_given, is_bound, seen_after, unless_bound, IsFollowing}
+use Rattle.adr_schedule.specs.Seen.{Seen, nothing_seen, cause_after, if_bound, if_full, if_given, if_inv_given, is_any_unbound, is_bound, seen_after, unless_all_bound, unless_bound, IsFollowing}
 use Rattle.adr_schedule.specs.Events.{bad, before, events_from, events_of, followed, line_after, on_line, unless}
 use Rattle.adr_schedule.specs.Schedules.{FaultyTextsAreRefused, IsCause, IsFault, IsFirstFault, LinesSay, ReadTextsAreSchedules, RefusedTextsHaveTheFault, Says, SchedulesAreRead}
 use Rattle.adr_schedule.proofs.AllowedLaws.{spelled_allowed}
@@ -138,6 +138,9 @@ then_late false cause h x e = absurd (cc)
 unless_late : (names : List (List ℕ)) (name : List ℕ) (x : Cause) → unless_bound names name ≡ Some x → is_late x ≡ true
 unless_late names name x e = then_late (not (is_bound names name)) UnknownName refl x e
 
+all_late : (names used : List (List ℕ)) (x : Cause) → unless_all_bound names used ≡ Some x → is_late x ≡ true
+all_late names used x e = then_late (is_any_unbound names used) UnknownName refl x e
+
 bound_late : (names : List (List ℕ)) (name : List ℕ) (x : Cause) → if_bound names name ≡ Some x → is_late x ≡ true
 bound_late names name x e = then_late (is_bound names name) NameUsed refl x e
 
@@ -172,6 +175,7 @@ cause_late seen (Pull name source max) x c =
     first_late (unless_bound seen.controllers name ∷ unless_bound seen.controllers source ∷ []) (unless_late seen.controllers name, (unless_late seen.controllers source, tt)) x c
 cause_late seen (Cycle name source max) x c =
     first_late (unless_bound seen.controllers name ∷ unless_bound seen.controllers source ∷ []) (unless_late seen.controllers name, (unless_late seen.controllers source, tt)) x c
+cause_late seen (Ring name others rounds max) x c = all_late seen.controllers (name ∷ others) x c
 cause_late seen (Collect name lifetime) x c = unless_late seen.controllers name x c
 cause_late seen (Backup name bound) x c =
     first_late (unless_bound seen.controllers name ∷ if_bound seen.images bound ∷ []) (unless_late seen.controllers name, (bound_late seen.images bound, tt)) x c

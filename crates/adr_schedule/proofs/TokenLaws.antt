@@ -27,10 +27,10 @@ use Rattle.adr_token.proofs.IdentifierLaws.{identifiers_again, identifiers_spell
 use Rattle.adr_token.proofs.TextLaws.{texts_again, texts_spelled}
 use Rattle.adr_token.proofs.ClassLaws.{classes_again, classes_spelled, attributes_again, attributes_spelled}
 use Rattle.adr_token.proofs.SetLaws.{sets_again, sets_spelled}
-use Rattle.adr_schedule.specs.Limits.{ask_limit, plan_limit}
+use Rattle.adr_schedule.specs.Limits.{ask_limit, plan_limit, rounds_limit}
 use Rattle.adr_schedule.specs.Crashes.{crash_of, crash_word, crashes}
-use Rattle.adr_schedule.specs.Commands.{bound_at, calls_at, crash_at, is_limit, limit_at}
-use Rattle.adr_schedule.specs.Grammar.{Word, Name, Number, Identifier, Class, Attribute, Quoted, Set, IsLimit, IsNext}
+use Rattle.adr_schedule.specs.Commands.{are_rounds, bound_at, calls_at, crash_at, is_limit, limit_at, rounds_at}
+use Rattle.adr_schedule.specs.Grammar.{Word, Name, Number, Identifier, Class, Attribute, Quoted, Set, AreRounds, IsLimit, IsNext}
 
 -- spaces in front say nothing
 space_skips : (b : ℕ) (bs : List ℕ) → is_space b ≡ true → unspaced (b ∷ bs) ≡ unspaced bs
@@ -233,3 +233,17 @@ attribute_next bytes t h = attributes_spelled bytes t.0 t.1 h
 
 pub set_next : (bytes : List ℕ) (t : Given × List ℕ) → set_at bytes ≡ Some t → IsNext (Set t.0.0 t.0.1) bytes t.1
 set_next bytes t h = sets_spelled bytes t.0.0 t.0.1 t.1 h
+
+-- ---- how many rounds
+
+pub rounds_read : (n : ℕ) (bytes rest : List ℕ) → AreRounds n → IsNext (Number n) bytes rest → rounds_at bytes ≡ Some (n, rest)
+unfolding rounds_at
+rounds_read n bytes rest h w = let t : are_rounds n ≡ true = grind (arith, nat_tests) in rw (number_read n bytes rest w, t) refl
+
+pub rounds_next : (bytes : List ℕ) (t : ℕ × List ℕ) → rounds_at bytes ≡ Some t → AreRounds t.0 × IsNext (Number t.0) bytes t.1
+unfolding rounds_at
+rounds_next bytes t h =
+    let s = bind_some (number_at bytes) (λ rounds. cond (are_rounds rounds.0) (Some rounds) None) t h in
+    let w = if_some (are_rounds s.0.0) s.0 t s.2 in
+    let p = and_parts (nat_le 1 s.0.0) (nat_le s.0.0 rounds_limit) w.0 in
+    subst (λ (x : ℕ × List ℕ). AreRounds x.0 × IsNext (Number x.0) bytes x.1) w.1 ((leb-true 1 s.0.0 p.0, leb-true s.0.0 rounds_limit p.1), number_next bytes s.0 s.1)

@@ -4,7 +4,7 @@ use Rattle.std.specs.Prelude.{◌==◌}
 use Rattle.std.proofs.lemmas.Bool.{and_parts, ne_eqb, not-true}
 use Rattle.adr_event.specs.Verbs.{word_of}
 use Rattle.adr_event.specs.declared.verb.Verb.{Verb}
-use Rattle.adr_event.specs.declared.verb.Verb.TheVariants.{Controller, Time, Add, Modify, Rename, Delete, Link, Unlink, Ask, Serve, Deliver, Pull, Cycle, Collect, Backup, Restore, Install, Snapshot, Rollback, Stop, Fail, Start, Show, Vector, Marks}
+use Rattle.adr_event.specs.declared.verb.Verb.TheVariants.{Controller, Time, Add, Modify, Rename, Delete, Link, Unlink, Ask, Serve, Deliver, Pull, Cycle, Ring, Collect, Backup, Restore, Install, Snapshot, Rollback, Stop, Fail, Start, Show, Vector, Marks}
 use Rattle.adr_token.proofs.WordLaws.{are_graphic, graphic_word}
 use Rattle.adr_schedule.specs.Verbs.{verb_said}
 use Rattle.adr_schedule.specs.Commands.{by_verb, event_of, is_passed}
@@ -33,6 +33,7 @@ its_word Serve = (refl, refl)
 its_word Deliver = (refl, refl)
 its_word Pull = (refl, refl)
 its_word Cycle = (refl, refl)
+its_word Ring = (refl, refl)
 its_word Collect = (refl, refl)
 its_word Backup = (refl, refl)
 its_word Restore = (refl, refl)

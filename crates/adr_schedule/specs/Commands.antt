@@ -4,8 +4,9 @@ use Rattle.std.specs.Option.{option_map}
 use Rattle.std.specs.Str.{bytes_eq}
 use Rattle.adr_disk.specs.declared.memory.Crash.{Crash}
 use Rattle.adr_event.specs.declared.event.Event.{Event}
-use Rattle.adr_event.specs.declared.event.Event.TheVariants.{Controller, Time, Add, Modify, Rename, Delete, Link, Unlink, Ask, Serve, Deliver, Pull, Cycle, Collect, Backup, Restore, Install, Snapshot, Rollback, StopAfter, Fail, Stop, Start, Show, Vector, Marks}
-use Rattle.adr_schedule.specs.Limits.{ask_limit, plan_limit}
+use Rattle.adr_event.specs.declared.event.Event.TheVariants.{Controller, Time, Add, Modify, Rename, Delete, Link, Unlink, Ask, Serve, Deliver, Pull, Cycle, Ring, Collect, Backup, Restore, Install, Snapshot, Rollback, StopAfter, Fail, Stop, Start, Show, Vector, Marks}
+use Rattle.adr_schedule.specs.Limits.{ask_limit, plan_limit, rounds_limit}
+use Rattle.adr_schedule.specs.Members.{names_at}
 use Rattle.adr_token.specs.Gives.{Reading, ◌>>=◌}
 use Rattle.adr_token.specs.Words.{unspaced, ended, said, word_at, name_at}
 use Rattle.adr_token.specs.Numbers.{number_at}
@@ -118,6 +119,24 @@ modify_line bytes = do
   values ← sets_at guid.1
   if length values == 0 then None else Some (Modify name.0 guid.0 values)
 
+-- how many rounds
+abbrev pub are_rounds : ℕ → Bool
+are_rounds rounds = nat_le 1 rounds && nat_le rounds rounds_limit
+
+unfoldable pub rounds_at : List ℕ → Reading ℕ
+rounds_at bytes = do
+  rounds ← number_at bytes
+  if are_rounds rounds.0 then Some rounds else None
+
+-- ROUNDS MAX NAME NAME.., each name once
+unfoldable pub ring_line : List ℕ → Option Event
+ring_line bytes = do
+  rounds ← rounds_at bytes
+  limit ← limit_at rounds.1
+  name ← name_at limit.1
+  others ← names_at name.0 name.1
+  if length others == 0 then None else Some (Ring name.0 others rounds.0 limit.0)
+
 unfoldable pub rename_line : List ℕ → Option Event
 rename_line bytes = do
   name ← name_at bytes
@@ -202,6 +221,7 @@ by_verb verbs.Serve rest = serve_line rest
 by_verb verbs.Deliver rest = use_line Deliver rest
 by_verb verbs.Pull rest = pull_line Pull rest
 by_verb verbs.Cycle rest = pull_line Cycle rest
+by_verb verbs.Ring rest = ring_line rest
 by_verb verbs.Collect rest = collect_line rest
 by_verb verbs.Backup rest = binding_line Backup rest
 by_verb verbs.Restore rest = restore_line rest

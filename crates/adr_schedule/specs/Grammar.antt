@@ -6,12 +6,13 @@ use Rattle.std.specs.Ordering.{nat_cmp}
 use Rattle.adr_schema.specs.Assignments.{Given, attributes}
 use Rattle.adr_schema.specs.declared.content.Value.{Value as Item}
 use Rattle.adr_event.specs.declared.event.Event.{Event}
-use Rattle.adr_event.specs.declared.event.Event.TheVariants.{Controller, Time, Add, Modify, Rename, Delete, Link, Unlink, Ask, Serve, Deliver, Pull, Cycle, Collect, Backup, Restore, Install, Snapshot, Rollback, StopAfter, Fail, Stop, Start, Show, Vector, Marks}
+use Rattle.adr_event.specs.declared.event.Event.TheVariants.{Controller, Time, Add, Modify, Rename, Delete, Link, Unlink, Ask, Serve, Deliver, Pull, Cycle, Ring, Collect, Backup, Restore, Install, Snapshot, Rollback, StopAfter, Fail, Stop, Start, Show, Vector, Marks}
 use Rattle.adr_event.specs.Verbs.{verb_of, word_of}
 use Rattle.adr_token.specs.Words.{unspaced, is_name}
 use Rattle.adr_token.specs.Laws.{Stands}
 use Rattle.adr_token.specs.Spelled.{SpellsAttribute, SpellsClass, SpellsIdentifier, SpellsSet, SpellsText}
-use Rattle.adr_schedule.specs.Limits.{ask_limit, plan_limit}
+use Rattle.adr_schedule.specs.Limits.{ask_limit, plan_limit, rounds_limit}
+use Rattle.adr_schedule.specs.Members.{with_names}
 use Rattle.adr_schedule.specs.Crashes.{crash_word}
 use Rattle.adr_schedule.specs.Sets.{rising}
 use Rattle.adr_schedule.specs.Commands.{event_of}
@@ -30,6 +31,10 @@ pub data Token : Type 0 where
 -- each attribute with its values
 abbrev pub sets : List Given → List Token
 sets values = map (λ given. Set given.0 given.1) values
+
+-- each name
+abbrev pub named : List (List ℕ) → List Token
+named names = map (λ name. Name name) names
 
 -- what the sets of an event's line give
 abbrev pub given_by : Event → List Given
@@ -52,6 +57,7 @@ tokens_behind order (Serve name request bound) = Name name ∷ Name request ∷ 
 tokens_behind order (Deliver name reply) = Name name ∷ Name reply ∷ []
 tokens_behind order (Pull name source max) = Name name ∷ Name source ∷ Number max ∷ []
 tokens_behind order (Cycle name source max) = Name name ∷ Name source ∷ Number max ∷ []
+tokens_behind order (Ring name others rounds max) = Number rounds ∷ Number max ∷ Name name ∷ named others
 tokens_behind order (Collect name lifetime) = Name name ∷ Number lifetime ∷ []
 tokens_behind order (Backup name bound) = Name name ∷ Word (codes "as") ∷ Name bound ∷ []
 tokens_behind order (Restore name image inv) = Name name ∷ Name image ∷ Identifier inv ∷ []
@@ -98,6 +104,13 @@ AreSpelled (token ∷ tokens) bytes = (rest : List ℕ) × IsNext token bytes re
 abbrev pub IsLimit : ℕ → Type 0
 IsLimit limit = (1 ≤ limit) × (limit ≤ ask_limit)
 
+-- how many rounds a ring has, and its names: two or more, at most as many as there may be controllers, none twice
+abbrev pub AreRounds : ℕ → Type 0
+AreRounds rounds = (1 ≤ rounds) × (rounds ≤ rounds_limit)
+
+abbrev pub AreMembers : List ℕ → List (List ℕ) → Type 0
+AreMembers name others = (0 < length others) × (with_names name [] others ≡ Some others)
+
 -- each attribute is given once, in rising order
 abbrev pub AreRising : List Given → Type 0
 AreRising values = IsStrictlySortedBy nat_cmp (attributes values)
@@ -117,6 +130,7 @@ HasLine (Serve name request bound) = Unit {0}
 HasLine (Deliver name reply) = Unit {0}
 HasLine (Pull name source max) = IsLimit max
 HasLine (Cycle name source max) = IsLimit max
+HasLine (Ring name others rounds max) = AreRounds rounds × IsLimit max × AreMembers name others
 HasLine (Collect name lifetime) = Unit {0}
 HasLine (Backup name bound) = Unit {0}
 HasLine (Restore name image inv) = Unit {0}

@@ -5,6 +5,7 @@ pub mod Lines
 pub mod Verbs
 pub mod Crashes
 pub mod Sets
+pub mod Members
 pub mod Commands
 pub mod Shared
 pub mod Grammar

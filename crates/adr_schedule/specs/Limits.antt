@@ -16,3 +16,7 @@ ask_limit = 10000
 -- the device calls that a plan lets pass
 abbrev pub plan_limit : ℕ
 plan_limit = 1000
+
+-- the rounds of a ring
+abbrev pub rounds_limit : ℕ
+rounds_limit = 126

@@ -5,7 +5,7 @@ use Rattle.std.specs.List.{list_any}
 use Rattle.std.specs.Str.{bytes_eq}
 use Rattle.adr_failure.specs.First.{first_of}
 use Rattle.adr_event.specs.declared.event.Event.{Event}
-use Rattle.adr_event.specs.declared.event.Event.TheVariants.{Controller, Time, Add, Modify, Rename, Delete, Link, Unlink, Ask, Serve, Deliver, Pull, Cycle, Collect, Backup, Restore, Install, Snapshot, Rollback, StopAfter, Fail, Stop, Start, Show, Vector, Marks}
+use Rattle.adr_event.specs.declared.event.Event.TheVariants.{Controller, Time, Add, Modify, Rename, Delete, Link, Unlink, Ask, Serve, Deliver, Pull, Cycle, Ring, Collect, Backup, Restore, Install, Snapshot, Rollback, StopAfter, Fail, Stop, Start, Show, Vector, Marks}
 use Rattle.adr_schedule.specs.declared.fault.Cause.{Cause}
 use Rattle.adr_schedule.specs.declared.fault.Cause.TheVariants.{UnknownName, NameUsed, IdentifierUsed, TooMany}
 use Rattle.adr_schedule.specs.Limits.{controller_limit}
@@ -47,6 +47,13 @@ if_given seen dsa inv = then_some (is_bound seen.dsas dsa || is_bound seen.invs 
 abbrev pub if_full : Seen → Option Cause
 if_full seen = then_some (nat_le controller_limit (length seen.controllers)) TooMany
 
+abbrev pub is_any_unbound : List (List ℕ) → List (List ℕ) → Bool
+is_any_unbound names used = list_any (λ (name : List ℕ). not (is_bound names name)) used
+
+-- why names that a line uses are not all bound
+abbrev pub unless_all_bound : List (List ℕ) → List (List ℕ) → Option Cause
+unless_all_bound names used = then_some (is_any_unbound names used) UnknownName
+
 -- why an event may not follow, if it may not
 abbrev pub cause_after : Seen → Event → Option Cause
 cause_after seen (Controller name dsa inv) = first_of (if_bound seen.controllers name ∷ if_given seen dsa inv ∷ if_full seen ∷ [])
@@ -64,6 +71,7 @@ cause_after seen (Serve name request bound) =
 cause_after seen (Deliver name reply) = first_of (unless_bound seen.controllers name ∷ unless_bound seen.replies reply ∷ [])
 cause_after seen (Pull name source max) = first_of (unless_bound seen.controllers name ∷ unless_bound seen.controllers source ∷ [])
 cause_after seen (Cycle name source max) = first_of (unless_bound seen.controllers name ∷ unless_bound seen.controllers source ∷ [])
+cause_after seen (Ring name others rounds max) = unless_all_bound seen.controllers (name ∷ others)
 cause_after seen (Collect name lifetime) = unless_bound seen.controllers name
 cause_after seen (Backup name bound) = first_of (unless_bound seen.controllers name ∷ if_bound seen.images bound ∷ [])
 cause_after seen (Restore name image inv) =

@@ -3,11 +3,12 @@
 ghost use Rattle.std.specs.Prelude.{◌≡◌, ◌==◌, ◌<◌, Some, None};
 ghost use Rattle.adr_token.specs.Gives.{Gives, Answers};
 ghost use Rattle.adr_token.specs.Words.{ended};
-ghost use Rattle.adr_schedule.specs.Commands.{add_line, ask_line, binding_line, bound_at, by_verb, calls_at, collect_line, controller_line, crash_at, delete_line, event_of, fail_line, install_line, is_passed, limit_at, link_line, modify_line, name_line, pull_line, rename_line, restore_line, serve_line, stop_after, stop_line, time_line, use_line};
+ghost use Rattle.adr_schedule.specs.Commands.{add_line, ask_line, binding_line, bound_at, by_verb, calls_at, collect_line, controller_line, crash_at, delete_line, event_of, fail_line, install_line, is_passed, limit_at, link_line, modify_line, name_line, pull_line, rename_line, restore_line, ring_line, rounds_at, serve_line, stop_after, stop_line, time_line, use_line};
 ghost use Rattle.adr_schedule.specs.Shared.{copied, linked, named, pulled, used};
 
 use crate::crashes::crash_of;
-use crate::limits::{ASK_LIMIT, PLAN_LIMIT};
+use crate::limits::{ASK_LIMIT, PLAN_LIMIT, ROUNDS_LIMIT};
+use crate::members::members;
 use crate::sets::sets;
 use crate::verb::{CopyVerb, LinkVerb, NameVerb, PullVerb, UseVerb, verb_said};
 use adr_disk::Crash;
@@ -174,6 +175,39 @@ fn add(alloc: Global, line: &mut Line<'_>) -> Result<Event, Stop>
         parent,
         text,
         values,
+    })
+}
+
+/// How many rounds.
+#[tactic(auto, unfolding(crate::specs::Commands::rounds_at))]
+fn rounds(line: &mut Line<'_>) -> Result<u32, Stop>
+    ensures { Gives result line.new (rounds_at line.old) }
+{
+    let number = line.number()?;
+    if 1 <= number && number <= ROUNDS_LIMIT {
+        Ok(number as u32)
+    } else {
+        Err(Failure::Refused(Bad))
+    }
+}
+
+/// ROUNDS MAX NAME NAME.., each name once.
+#[tactic(auto, unfolding(crate::specs::Commands::ring_line))]
+fn ring(alloc: Global, line: &mut Line<'_>) -> Result<Event, Stop>
+    ensures { Answers result (ring_line line.old) }
+{
+    let rounds = rounds(line)?;
+    let max = limit(line)?;
+    let name = line.name(alloc)?;
+    let others = members(alloc, &name, line)?;
+    if others.items().is_empty() {
+        return Err(Failure::Refused(Bad));
+    }
+    Ok(Event::Ring {
+        name,
+        others,
+        rounds,
+        max,
     })
 }
 
@@ -368,6 +402,7 @@ fn by_verb(alloc: Global, verb: Verb, line: &mut Line<'_>) -> Result<Event, Stop
         Verb::Deliver => used(alloc, UseVerb::Deliver, line),
         Verb::Pull => pulled(alloc, PullVerb::Pull, line),
         Verb::Cycle => pulled(alloc, PullVerb::Cycle, line),
+        Verb::Ring => ring(alloc, line),
         Verb::Collect => collect(alloc, line),
         Verb::Backup => copied(alloc, CopyVerb::Backup, line),
         Verb::Restore => restore(alloc, line),

@@ -8,6 +8,7 @@ mod fault;
 mod laws;
 mod limits;
 mod lines;
+mod members;
 mod names;
 mod parsing;
 mod seen;

@@ -11,3 +11,6 @@ pub const ASK_LIMIT: u64 = 10_000;
 
 /// The device calls that a plan lets pass.
 pub const PLAN_LIMIT: u64 = 1_000;
+
+/// The rounds of a ring.
+pub const ROUNDS_LIMIT: u64 = 126;

@@ -3,7 +3,7 @@
 ghost use Rattle.std.specs.Prelude.{◌≡◌, [], ◌∷◌, ◌++◌, ◌||◌, false, None, OnOk, IfErr};
 ghost use Rattle.adr_schedule.specs.Faults.{RefusesEvent};
 ghost use Rattle.adr_failure.specs.First.{first_of};
-ghost use Rattle.adr_schedule.specs.Seen.{nothing_seen, is_bound, unless_bound, if_bound, if_inv_given, if_given, if_full, cause_after, with_controller, seen_after};
+ghost use Rattle.adr_schedule.specs.Seen.{nothing_seen, is_bound, is_any_unbound, unless_all_bound, unless_bound, if_bound, if_inv_given, if_given, if_full, cause_after, with_controller, seen_after};
 
 use crate::fault::Cause;
 use crate::limits::CONTROLLER_LIMIT;
@@ -102,6 +102,33 @@ impl Seen {
         } else {
             Some(Cause::UnknownName)
         }
+    }
+
+    /// Whether one of these is no controller.
+    fn lacks_any(&self, names: &[Text]) -> bool
+        ensures { result ≡ is_any_unbound self.now.controllers names.now }
+    {
+        names.iter().any(|name| !self.controllers.contains(name))
+    }
+
+    /// A line uses controllers.
+    fn unless_controllers(&self, names: &[Text]) -> Option<Cause>
+        ensures { result ≡ unless_all_bound self.now.controllers names.now }
+    {
+        if self.lacks_any(names) {
+            Some(Cause::UnknownName)
+        } else {
+            None
+        }
+    }
+
+    fn cause_of_ring(&self, name: &Text, others: &[Text]) -> Option<Cause>
+        ensures { result ≡ unless_all_bound self.now.controllers (name.now ∷ others.now) }
+    {
+        if !self.controllers.contains(name) {
+            return Some(Cause::UnknownName);
+        }
+        self.unless_controllers(others)
     }
 
     /// A line uses a controller, and binds a name of another kind.
@@ -210,6 +237,7 @@ impl Seen {
             Event::Pull { name, source, .. } | Event::Cycle { name, source, .. } => {
                 self.cause_of_use(name, &self.controllers, source)
             }
+            Event::Ring { name, others, .. } => self.cause_of_ring(name, others.items()),
             Event::Backup { name, bound } => self.cause_of_copy(name, &self.images, bound),
             Event::Restore { name, image, inv } => self.cause_of_restore(name, image, inv),
             Event::Install {

@@ -43,7 +43,7 @@ pub enum CopyVerb {
 }
 
 /// All verbs.
-const VERBS: [Verb; 25] = [
+const VERBS: [Verb; 26] = [
     Verb::Controller,
     Verb::Time,
     Verb::Add,
@@ -57,6 +57,7 @@ const VERBS: [Verb; 25] = [
     Verb::Deliver,
     Verb::Pull,
     Verb::Cycle,
+    Verb::Ring,
     Verb::Collect,
     Verb::Backup,
     Verb::Restore,

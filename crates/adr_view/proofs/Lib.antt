@@ -4,3 +4,4 @@ mod LiveObjects
 mod LiveParts
 mod YoungestNames
 mod NextRow
+mod PairByPair

@@ -6,6 +6,7 @@
 //! in `adr_model`. It knows nothing of how rows come to be, of other controllers, or of lines.
 #![tactic(auto)]
 
+mod comparing;
 mod entries;
 mod laws;
 mod links;
@@ -18,6 +19,7 @@ mod values;
 pub use adr_event::Directory;
 pub use adr_state::Rows;
 pub use adr_vector::NoMemory;
+pub use comparing::{same_directory, same_vector};
 pub use entries::directory;
 pub use laws::formed_rows_have_back_links;
 pub use reports::Report;

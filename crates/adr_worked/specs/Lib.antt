@@ -10,3 +10,4 @@ pub mod Stops
 pub mod Exchanges
 pub mod Logs
 pub mod Forged
+pub mod Rings

@@ -6,6 +6,8 @@
 
 ghost use Rattle.std.specs.Prelude.{◌≡◌, [], ◌∷◌, true, false, Some, None, codes};
 ghost use Rattle.adr_model.specs.Directory.{directory};
+ghost use Rattle.adr_worked.specs.Exchanges.{a, b};
+ghost use Rattle.adr_worked.specs.Rings.{after_rounds, ring_of, stopped, stopped_told, three, three_told};
 ghost use Rattle.adr_worked.specs.Runs.{one_user, one_user_shown, name_twice, name_twice_shown, lost_name, lost_name_shown, loop_of_two, loop_of_two_shown, lost_parent, lost_parent_shown, guid_twice, guid_twice_shown, a_group, a_group_shown};
 ghost use Rattle.adr_worked.specs.Pulls.{equal_stamps, equal_stamps_told, cut, cut_told, repeated, repeated_told, reordered, reordered_told, older_than_restore, older_than_restore_told, compared_by_seen, compared_by_seen_told};
 ghost use Rattle.adr_worked.specs.Conflicts.{one_name_twice, one_name_twice_shown, lost_parent as parent_lost, lost_parent_told, moved_in_a_loop, moved_in_a_loop_shown, two_members, two_members_told, stripped_by_death, stripped_by_death_told, born_twice, born_twice_told};
@@ -168,4 +170,14 @@ pub fn what_lines_leave()
         → ⊥ }
     ensures two_changes { IsOfOneChange one_usn_twice (birth_at_1 16) (birth_at_1 17) → ⊥ }
     ensures unbound { MayHappen (after_lines empty_world asked_once) (Ask (codes "B") (codes "A") 10 (codes "p")) }
+{}
+
+/// Rings of three: one round is not enough where the word has to go round, two are; vectors want twice as many.
+#[tactic(none)]
+pub fn small_rings()
+    ensures far { answers empty_world (three b (ring_of 1 ∷ ring_of 1 ∷ []))
+        ≡ three_told b (after_rounds 1 false false ∷ after_rounds 1 true true ∷ []) }
+    ensures near { answers empty_world (three a (ring_of 1 ∷ [])) ≡ three_told a (after_rounds 1 true false ∷ []) }
+    ensures two { answers empty_world (three a (ring_of 2 ∷ [])) ≡ three_told a (after_rounds 2 true true ∷ []) }
+    ensures stopped { answers empty_world stopped ≡ stopped_told }
 {}

@@ -12,10 +12,13 @@ use Rattle.adr_law_convergence.proofs.Acknowledged.{acknowledged_is_issued}
 use Rattle.adr_law_convergence.proofs.CutShort.{cut_short_sound}
 use Rattle.adr_law_convergence.proofs.Completing.{cycle_ends}
 use Rattle.adr_law_convergence.proofs.Found.{replica_found}
+use Rattle.adr_law_rounds.specs.Rounds.{RingsTell}
+use Rattle.adr_law_rounds.proofs.Telling.{rings_tell_true}
 use Rattle.adr_report.specs.Alone.{IsAtOnce}
 use Rattle.adr_world.specs.Door.{IsCompletedBy}
+use Rattle.adr_world.specs.Rung.{IsRungBy}
 use Rattle.adr_world.specs.Pulls.{IsCycleTurn, IsTurn}
-use Rattle.adr_world.specs.Short.{IsAllOrNone, IsSyncedBy, IsCutShort, IsTurnCutShort}
+use Rattle.adr_world.specs.Short.{IsAllOrNone, IsMidway, IsCutShort, IsTurnCutShort}
 
 cycle_completed : (w : World) (name source : Name) (max : ℕ) → IsSoundWorld w → IsCompletedBy w (events.Cycle name source max) (cycle w name source max).1 (cycle w name source max).0
 cycle_completed w name source max sound d s may d_is s_is most unlimited =
@@ -27,6 +30,11 @@ cycle_completed w name source max sound d s may d_is s_is most unlimited =
 completes : (w : World) (e : Event) → IsSoundWorld w → IsCompletedBy w e (step w e).1 (step w e).0
 completes w (events.Cycle name source max) sound = cycle_completed w name source max sound
 completes w e sound = tt
+
+-- the answer of a ring tells true
+rung_so : (w : World) (e : Event) → RingsTell w → IsRungBy w e (step w e).1
+rung_so w (events.Ring first others rounds max) tell = λ directories vectors is. tell first others rounds max directories vectors is
+rung_so w e tell = tt
 
 module _ (w : World) (e : Event) (run : IsWorldOfRun w) (may : MayHappen w e) where
   -- the world behind a line
@@ -42,6 +50,9 @@ module _ (w : World) (e : Event) (run : IsWorldOfRun w) (may : MayHappen w e) wh
 
   pub completed_by : (v : World) → v ≡ (step w e).0 → v.clean ≡ true → IsCompletedBy w e (step w e).1 v
   completed_by v is clean = subst (λ (x : World). IsCompletedBy w e (step w e).1 x) (sym is) (completes w e (sound_before v is clean))
+
+  pub rung_by : w.clean ≡ true → IsRungBy w e (step w e).1
+  rung_by clean = rung_so w e (rings_tell_true w (run.sound clean))
 
 -- the world behind a pull
 pulled_of_run : (w v : World) (dest source : Name) (max : ℕ) → IsWorldOfRun w → v ≡ (pull w dest source max).0 → IsWorldOfRun v
@@ -59,16 +70,17 @@ pub turned_of_run : (w : World) (e : Event) (turn : ℕ) (p : Pulled) → IsWorl
 turned_of_run w (events.Cycle dest source max) turn p run may is = cycle_turned_of_run w dest source max turn p run is
 turned_of_run w e turn p run may is = whole_of_run w e p run may is
 
--- the world behind a start that was cut short
-synced_of_run : (w : World) (e : Event) (v : World) → IsWorldOfRun w → IsSyncedBy w e v → IsWorldOfRun v
-synced_of_run w (events.Start name) v run (r, at, not_up, is) = subst IsWorldOfRun (sym is) (cut_short_sound w r run (replica_found w name r at).0 not_up)
-synced_of_run w e v run synced = absurd synced
+-- the world behind a start, or a ring, that was cut short
+midway_of_run : (w : World) (e : Event) (v : World) → IsWorldOfRun w → MayHappen w e → IsMidway w e v → IsWorldOfRun v
+midway_of_run w (events.Start name) v run may (r, at, not_up, is) = subst IsWorldOfRun (sym is) (cut_short_sound w r run (replica_found w name r at).0 not_up)
+midway_of_run w (events.Ring name others rounds max) v run may way = stays_sound w (events.Ring name others rounds max) run may v way
+midway_of_run w e v run may midway = absurd midway
 
 -- and behind a turn that was
 pub short_of_run : (w : World) (e : Event) (turn : ℕ) (v : World) → IsWorldOfRun w → MayHappen w e → IsTurnCutShort turn w e v → IsWorldOfRun v
 short_of_run w e turn v run may (inl same) = subst IsWorldOfRun (sym same) run
 short_of_run w e turn v run may (inr (inl (p, is, at))) = subst IsWorldOfRun (sym at) (turned_of_run w e turn p run may is)
-short_of_run w e turn v run may (inr (inr synced)) = synced_of_run w e v run synced
+short_of_run w e turn v run may (inr (inr midway)) = midway_of_run w e v run may midway
 
 -- of a line that has no middle nothing is done, or all
 pub line_short : (w : World) (e : Event) (v : World) → IsAllOrNone w (step w e).0 v → IsCutShort w e v
@@ -85,4 +97,4 @@ pub turn_short : (turn : ℕ) (w : World) (e : Event) (v : World) → IsAtOnce e
 turn_short turn w (events.Cycle dest source max) v once short = absurd once
 turn_short turn w e v once (inl same) = inl same
 turn_short turn w e v once (inr (inl all)) = inr (inl (((step w e).0, (step w e).1, false), refl, all))
-turn_short turn w e v once (inr (inr synced)) = inr (inr synced)
+turn_short turn w e v once (inr (inr midway)) = inr (inr midway)

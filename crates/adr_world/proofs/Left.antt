@@ -9,7 +9,7 @@ use Rattle.adr_model.specs.World.{World}
 use Rattle.adr_model.specs.Step.{step}
 use Rattle.adr_report.specs.Line.{line}
 use Rattle.adr_world.specs.Door.{IsDone, IsLeftBy}
-use Rattle.adr_world.specs.Short.{IsSyncedBy, IsTurnCutShort}
+use Rattle.adr_world.specs.Short.{IsMidway, IsTurnCutShort}
 use Rattle.adr_world.proofs.Turns.{IsFirst, IsSoFar, IsBehind, told_first, turns_so_far, behind}
 use Rattle.adr_report.proofs.ToldLines.{lines_begin}
 
@@ -34,10 +34,11 @@ module _ (w : World) (e : Event) (turn : ℕ) (v : World) (all : List Answer) (f
   front_behind true so = front_so_far w e (turn + 1) v all first now front so
   front_behind false is = subst (λ (t : World × List Answer). AddsFront first now (flat_map line t.1)) (sym is) front
 
--- a start has one turn
-synced_first : (w : World) (e : Event) (v u : World) (told : List Answer) → IsFirst w e v told → IsSyncedBy v e u → IsSyncedBy w e u × (told ≡ [])
-synced_first w (events.Start name) v u told first synced = (subst (λ (x : World). IsSyncedBy x (events.Start name) u) first.0 synced, first.1)
-synced_first w e v u told first synced = absurd synced
+-- a start has one turn, and so has a ring
+midway_first : (w : World) (e : Event) (v u : World) (told : List Answer) → IsFirst w e v told → IsMidway v e u → IsMidway w e u × (told ≡ [])
+midway_first w (events.Start name) v u told first midway = (subst (λ (x : World). IsMidway x (events.Start name) u) first.0 midway, first.1)
+midway_first w (events.Ring name others rounds max) v u told first midway = (subst (λ (x : World). IsMidway x (events.Ring name others rounds max) u) first.0 midway, first.1)
+midway_first w e v u told first midway = absurd midway
 
 -- whole turns were done, and one more wanted memory
 module _ (w : World) (e : Event) (turn : ℕ) (v : World) (told : List Answer) (first now : Option (List ℕ)) (so : IsSoFar w e turn v told) (u : World) where
@@ -46,6 +47,6 @@ module _ (w : World) (e : Event) (turn : ℕ) (v : World) (told : List Answer) (
   left_short front (inr (inl (p, is, at))) =
       subst (λ (x : World). IsLeftBy w e x first now) (sym at)
       (left_behind w e turn p.0 (told ++ p.1) first now (lines_begin first now (told ++ p.1) told p.1 refl front) p.2 (behind w e turn v told p so is))
-  left_short front (inr (inr synced)) =
-      let t = synced_first w e v u told so.first synced in
+  left_short front (inr (inr midway)) =
+      let t = midway_first w e v u told so.first midway in
       inr (inr (t.0, subst (λ (list : List Answer). AddsFront first now (flat_map line list)) t.1 front))

@@ -13,3 +13,5 @@ pub mod Adoptions
 pub mod Answered
 pub mod Shows
 pub mod PlayLemmas
+pub mod Tells
+pub mod RingLemmas

@@ -34,7 +34,7 @@ reported_so w name Vector o is = ap (told (codes "vector") name) is
 reported_so w name Marks o is = ap (told (codes "marks") name) is
 
 -- its rows show what it has in view while the world is clean, and else it shows just them
-rows_shown : (w : World) → IsWorldOfRun w → (name : Name) (r : Replica) → replica_at w name ≡ Some r → (b : Bool) → w.clean ≡ b → shown w r.safe ≡ directory (updates_of r.safe.store.rows)
+pub rows_shown : (w : World) → IsWorldOfRun w → (name : Name) (r : Replica) → replica_at w name ≡ Some r → (b : Bool) → w.clean ≡ b → shown w r.safe ≡ directory (updates_of r.safe.store.rows)
 rows_shown w run name r is true clean =
     ap (λ b. directory (if b then visible w.book.issued r.safe.store.vector (updates_of r.safe.store.rows) else updates_of r.safe.store.rows)) clean
     ∙ sym (shows_what_is_visible w (run.sound clean) r (replica_found w name r is).0)

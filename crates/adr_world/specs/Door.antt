@@ -10,7 +10,7 @@ use Rattle.adr_model.specs.Cycles.{and_then, pull, reply_limit}
 use Rattle.adr_model.specs.Step.{step}
 use Rattle.adr_model.specs.Convergence.{MayCycle, AreUnlimited, EndsOrSaysMore}
 use Rattle.adr_report.specs.Line.{line}
-use Rattle.adr_world.specs.Short.{IsSyncedBy}
+use Rattle.adr_world.specs.Short.{IsMidway}
 
 -- what so many turns of a line come to: of a cycle so many pulls, and any other line is one turn
 abbrev pub turns : ℕ → World → Event → World × List Answer
@@ -23,11 +23,11 @@ abbrev pub IsDone : World × List Answer → World → Option (List ℕ) → Opt
 IsDone t v before after = (v ≡ t.0) × AddsFront before after (flat_map line t.1)
 
 -- what a fault leaves of a line, by what was written before it and after: some of its turns are done, or all of it; or of a start
--- that wanted memory its sync stands, and nothing is written
+-- that wanted memory its sync stands, or of such a ring some of its pulls are done, and nothing is written
 abbrev pub IsLeftBy : World → Event → World → Option (List ℕ) → Option (List ℕ) → Type 0
 IsLeftBy w e v before after =
     ((n : ℕ) × (n ≤ reply_limit) × IsDone (turns n w e) v before after)
-    ⊎ (IsDone (step w e) v before after ⊎ (IsSyncedBy w e v × AddsFront before after []))
+    ⊎ (IsDone (step w e) v before after ⊎ (IsMidway w e v × AddsFront before after []))
 
 -- a cycle between two controllers with nothing in the way, which met no limit, says that there is more, or it ended with the last
 -- reply, and the destination has everything

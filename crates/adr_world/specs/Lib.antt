@@ -5,3 +5,4 @@ pub mod Short
 pub mod Asking
 pub mod Door
 pub mod Played
+pub mod Rung

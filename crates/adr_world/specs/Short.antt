@@ -6,6 +6,7 @@ use Rattle.adr_model.specs.Replica.{Replica, Up}
 use Rattle.adr_model.specs.World.{World, Sent, replica_at}
 use Rattle.adr_model.specs.Cycles.{Pulled}
 use Rattle.adr_model.specs.Step.{step}
+use Rattle.adr_model.specs.Convergence.{IsOnTheWay}
 use Rattle.adr_replica.specs.Led.{synced}
 use Rattle.adr_world.specs.Pulls.{IsTurn}
 
@@ -17,15 +18,16 @@ IsAllOrNone before behind v = (v ≡ before) ⊎ (v ≡ behind)
 abbrev pub IsUnsent : {A : Type 0} → World → Sent A → World → Type 0
 IsUnsent before t v = (v ≡ before) ⊎ (t ≡ (v, t.1, None))
 
--- of a start the sync stands that it begins with
-abbrev pub IsSyncedBy : World → Event → World → Type 0
-IsSyncedBy w (events.Start name) v = (r : Replica) × (replica_at w name ≡ Some r) × (r.standing ≢ Up) × (v ≡ synced w r)
-IsSyncedBy w e v = ⊥
+-- of a start the sync stands that it begins with, and of a ring some of its pulls are done
+abbrev pub IsMidway : World → Event → World → Type 0
+IsMidway w (events.Start name) v = (r : Replica) × (replica_at w name ≡ Some r) × (r.standing ≢ Up) × (v ≡ synced w r)
+IsMidway w (events.Ring first others rounds max) v = IsOnTheWay w (events.Ring first others rounds max) v
+IsMidway w e v = ⊥
 
 -- a line
 abbrev pub IsCutShort : World → Event → World → Type 0
-IsCutShort w e v = (v ≡ w) ⊎ ((v ≡ (step w e).0) ⊎ IsSyncedBy w e v)
+IsCutShort w e v = (v ≡ w) ⊎ ((v ≡ (step w e).0) ⊎ IsMidway w e v)
 
 -- a turn of a line
 abbrev pub IsTurnCutShort : ℕ → World → Event → World → Type 0
-IsTurnCutShort turn w e v = (v ≡ w) ⊎ (((p : Pulled) × IsTurn turn w e p × (v ≡ p.0)) ⊎ IsSyncedBy w e v)
+IsTurnCutShort turn w e v = (v ≡ w) ⊎ (((p : Pulled) × IsTurn turn w e p × (v ≡ p.0)) ⊎ IsMidway w e v)

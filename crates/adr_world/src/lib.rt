@@ -3,13 +3,15 @@
 //!
 //! `play` runs a list of events. It stands on the definitions of a run in `adr_model` and meets them: its world is seen as
 //! the definitions' world, whose one call does a line as they do, and while no database was put back as it was the world
-//! is sound, by the theorem of `adr_law_convergence`. What a single controller does is of `adr_replica`, what it shows of
-//! `adr_view`, and the bytes of an answer are of `adr_report`. It knows nothing of the texts that lines are read from.
+//! is sound, by the theorem of `adr_law_convergence`, and what a ring tells is true, by that of `adr_law_rounds`. What a
+//! single controller does is of `adr_replica`, what it shows of `adr_view`, and the bytes of an answer are of `adr_report`.
+//! It knows nothing of the texts that lines are read from.
 #![tactic(auto)]
 
 mod bound;
 mod collecting;
 mod coming;
+mod comparing;
 mod controller;
 mod lists;
 mod messages;
@@ -18,6 +20,7 @@ mod pulling;
 mod putting_back;
 mod reports;
 mod restoring;
+mod ringing;
 mod run;
 mod stepping;
 mod stopping;

@@ -70,6 +70,12 @@ impl Run {
                 let (answers, _) = self.pull(alloc, name, source, *max)?;
                 Ok((answers, false))
             }
+            Event::Ring {
+                name,
+                others,
+                rounds,
+                max,
+            } => Ok((self.ring(alloc, name, others, *rounds, *max)?, false)),
             Event::Time { now } => {
                 self.time = *now;
                 Ok((Vec::new(alloc), false))
@@ -147,7 +153,8 @@ impl Run {
             Event::Show { name } => self.reported(alloc, name, Report::Directory),
             Event::Vector { name } => self.reported(alloc, name, Report::Vector),
             Event::Marks { name } => self.reported(alloc, name, Report::Marks),
-            Event::Time { .. } | Event::Pull { .. } | Event::Cycle { .. } => unreachable!(),
+            Event::Time { .. } | Event::Pull { .. } | Event::Cycle { .. } | Event::Ring { .. } =>
+                unreachable!(),
         }
     }
 }

@@ -9,6 +9,7 @@ ghost use Rattle.adr_model.specs.Step.{step};
 ghost use Rattle.adr_model.specs.World.{empty_world};
 ghost use Rattle.adr_report.specs.Line.{line};
 ghost use Rattle.adr_world.specs.Door.{IsCompletedBy, IsLeftBy};
+ghost use Rattle.adr_world.specs.Rung.{IsRungBy};
 
 use crate::run::Run;
 use adr_event::Event;
@@ -55,7 +56,8 @@ impl World {
 
         // With a fault a front of that is written, and what is written was done: so many turns of the line are done, and a
         // front of their lines is written. A pull is a turn of a cycle, and any other line is one turn. Of a start that wanted
-        // memory its sync may stand, with nothing written. A write that failed was counted.
+        // memory its sync may stand, and of such a ring some of its pulls may be done, with nothing written. A write that
+        // failed was counted.
         ensures front { OnErr result (AddsFront (K.written sink.old) (K.written sink.new) (flat_map line (step self.old event.now).1)) }
         ensures err { OnErr result (IsLeftBy self.old event.now self.new (K.written sink.old) (K.written sink.new)) }
         ensures never_falls { K.faults sink.old ≤ K.faults sink.new }
@@ -72,6 +74,9 @@ impl World {
 
         // And a cycle with nothing in the way ends with everything, or says that there is more.
         ensures completed { OnOk result (self.new.clean ≡ true → IsCompletedBy self.old event.now (step self.old event.now).1 self.new) }
+
+        // And a ring that is answered ok says that all show the same, and have one vector, where there were rounds enough.
+        ensures rung { OnOk result (self.old.clean ≡ true → IsRungBy self.old event.now (step self.old event.now).1) }
     {
         self.run.step(alloc, event, sink)?;
         Ok(())

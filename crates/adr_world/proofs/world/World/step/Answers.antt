@@ -1,11 +1,12 @@
 -- What is claimed of a line follows of what it does.
-use Rattle.std.proofs.Common.{sym, subst}
+use Rattle.std.proofs.Common.{◌≡◌, true, sym, subst}
 use Rattle.adr_model.specs.Convergence.{AreAcknowledged, MayHappen}
 use Rattle.adr_model.specs.Step.{step}
 use Rattle.adr_law_convergence.proofs.Controllers.{shows_what_is_visible, equal_coverage_shows, own_is_visible}
 use Rattle.adr_world.specs.Door.{IsCompletedBy}
+use Rattle.adr_world.specs.Rung.{IsRungBy}
 use Rattle.adr_world.specs.Run.{world_of}
-use Rattle.adr_world.proofs.Doors.{acknowledged_by, completed_by}
+use Rattle.adr_world.proofs.Doors.{acknowledged_by, completed_by, rung_by}
 use Rattle.adr_world.proofs.world.World.step.Goals as goal
 
 pub returns-in_err-step-clause-sound : goal.returns-in_err-step-clause-sound
@@ -43,3 +44,8 @@ returns-clause-completed g c clean =
     subst (λ w. IsCompletedBy w c.args.event.now (step w c.args.event.now).1 (world_of c.step.new.self)) c.self.view_is
     (completed_by (world_of c.self.inside.run) c.args.event.now c.self.invariant.of_run (subst (λ w. MayHappen w c.args.event.now) (sym c.self.view_is) c.requires.may) (world_of c.step.new.self)
     c.in_ok-step.ensures.stepped clean)
+
+pub returns-clause-rung : goal.returns-clause-rung
+returns-clause-rung g c =
+    subst (λ w. w.clean ≡ true → IsRungBy w c.args.event.now (step w c.args.event.now).1) c.self.view_is
+    (rung_by (world_of c.self.inside.run) c.args.event.now c.self.invariant.of_run (subst (λ w. MayHappen w c.args.event.now) (sym c.self.view_is) c.requires.may))

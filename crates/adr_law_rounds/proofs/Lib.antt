@@ -1,0 +1,13 @@
+pub mod Names
+pub mod Spreading
+pub mod Hearing
+pub mod Knowing
+pub mod Fine
+pub mod Wholes
+pub mod Runs
+pub mod Vectors
+pub mod Directories
+pub mod Rounds
+pub mod Alike
+pub mod Telling
+pub mod Together
