@@ -23,13 +23,18 @@ PROFILES = {
     'rollback': {'snapshot': 4, 'rollback': 3, 'restore': 1, 'backup': 2},
     'all': dict(FAULTS, collect=4, delete=7, backup=3, restore=2, install=1, snapshot=3, rollback=2, controller=1, time=7),
     'faults': dict(FAULTS, collect=3, delete=5, backup=2, restore=1, install=1, snapshot=2, rollback=1),
+    'rings': {'ring': 12},
 }
+# what stands in the way of the rings of a schedule: nothing, down controllers and faults, late ones, disks put back, or all of it
+IN_THE_WAY = ['plain', 'stops', 'collect', 'both', 'rollback', 'all']
 
 
 class Maker:
     def __init__(self, seed, profile):
         self.r = random.Random('%s %s' % (seed, profile))
         self.weights = dict(BASE, **PROFILES[profile])
+        if profile == 'rings':
+            self.weights.update(PROFILES[self.r.choice(IN_THE_WAY)])
         if self.r.random() < 0.5:        # a schedule has its own likings
             for verb in self.weights:
                 self.weights[verb] *= self.r.choice((0.3, 1, 1, 2))
@@ -197,6 +202,8 @@ class Maker:
             return 'deliver %s %s' % (a, reply)
         if verb in ('pull', 'cycle'):
             return '%s %s %s %d' % (verb, a, b, r.choice(self.most))
+        if verb == 'ring':
+            return self.ring(self.names)
         if verb in ('show', 'vector', 'marks', 'start', 'stop'):
             if verb in ('start',) and r.random() < 0.8:
                 down = [n for n in self.names if n in self.world.controllers and self.world.controllers[n].standing != 'up']
@@ -234,6 +241,19 @@ class Maker:
             return snapshot and 'rollback %s %s' % (a, snapshot)
         raise ValueError(verb)
 
+    def ring(self, names):
+        """A ring of some of these, most often of those that are up."""
+        r = self.r
+        up = [n for n in names if n in self.world.controllers and self.world.controllers[n].standing == 'up']
+        chosen = up if len(up) > 1 and r.random() < 0.8 else list(names)
+        if len(chosen) < 2:
+            return None
+        chosen = r.sample(chosen, len(chosen) if r.random() < 0.6 else r.randint(2, len(chosen)))
+        rounds = r.choice((1, 1, 1, 2, 2, 3, len(chosen) - 1, len(chosen) - 1, 2 * len(chosen) - 2, 2 * len(chosen) - 2, 20))
+        if r.random() < 0.01:
+            rounds = 126
+        return 'ring %d %d %s' % (rounds, r.choice(self.most), ' '.join(chosen))
+
     def some(self, verb=None):
         line = self.line(verb)
         if line:
@@ -243,9 +263,19 @@ class Maker:
         """A few lines that belong together, where the profile has the verbs."""
         r, has = self.r, {verb for verb, weight in self.weights.items() if weight > 0}
         a, b = self.two()
-        kinds = ['fork'] * 2 * ('rollback' in has) + ['late'] * ('restore' in has) + ['dead'] * 2 * ('collect' in has) + ['spread']
+        kinds = ['ring'] * 3 * ('ring' in has) + ['fork'] * 2 * ('rollback' in has) + ['late'] * ('restore' in has) + ['dead'] * 2 * ('collect' in has) + ['spread']
         kind = r.choice(kinds)
-        if kind == 'spread':
+        if kind == 'ring':
+            for name in self.names:
+                if self.r.random() < 0.9:
+                    self.emit('start ' + name)
+            for _ in range(r.randint(0, 2)):
+                self.some(r.choice(('add', 'modify', 'delete', 'link', 'rename')))
+            if 'fail after' in has and r.random() < 0.5:
+                self.some(r.choice(('stop after', 'fail after')))
+            for _ in range(r.randint(1, 2)):
+                self.emit(self.ring(self.names))
+        elif kind == 'spread':
             for name in self.names:
                 if name != a:
                     self.emit('cycle %s %s 10' % (name, a))
@@ -312,7 +342,9 @@ class Maker:
             for name in self.names:
                 self.emit('stop ' + name)
                 self.emit('start ' + name)
-        if self.r.random() < 0.6:
+        if self.weights.get('ring') and self.r.random() < 0.8:
+            self.emit('ring %d %d %s' % (2 * len(self.names) - 2, self.r.choice(self.most), ' '.join(self.names)))
+        elif self.r.random() < 0.6:
             for _ in range(2):
                 for k, name in enumerate(self.names):
                     self.emit('cycle %s %s %d' % (name, self.names[k - 1], self.r.choice(self.most)))
@@ -322,8 +354,34 @@ class Maker:
         return ''.join(line + '\n' for line in self.lines)
 
 
+def spoil_ring(r, lines):
+    """One ring of the lines becomes another, most often one outside the grammar."""
+    at = r.choice([k for k, line in enumerate(lines) if line.startswith('ring ')])
+    tokens = lines[at].split(' ')
+    how = r.randrange(8)
+    if how == 0:
+        tokens[1] = r.choice(('0', '126', '127', '01', 'x', '-1', '18446744073709551616'))
+    elif how == 1:
+        tokens[2] = r.choice(('0', '10000', '10001', '010', '4294967297'))
+    elif how == 2:
+        tokens = tokens[:4]
+    elif how == 3:
+        tokens.insert(r.randint(3, len(tokens)), r.choice(tokens[3:]))
+    elif how == 4:
+        tokens.insert(r.randint(3, len(tokens)), r.choice(('Z', 'a', '9', 'N' * 33, '_')))
+    elif how == 5:
+        tokens += ['Z%d' % k for k in range(64 - len(tokens[3:]) + r.randint(0, 1))]
+    elif how == 6:
+        tokens = tokens[:r.randint(1, 3)]
+    else:
+        tokens[r.randint(1, len(tokens) - 1)] += r.choice((' ', '   '))
+    return lines[:at] + [' '.join(tokens)] + lines[at + 1:]
+
+
 def spoil(r, text):
     """A text with one fault, or none by luck."""
+    if '\nring ' in text and r.random() < 0.6:
+        return '\n'.join(spoil_ring(r, text.split('\n'))).encode()
     raw = text.encode()
     for _ in range(r.randint(1, 2)):
         at = r.randrange(len(raw))

@@ -103,6 +103,12 @@ def ring(size):
     return controllers(names), lines
 
 
+def ring_line(size):
+    """The same by one `ring` line, which then compares all directories and vectors."""
+    names = [f"C{at}" for at in range(64)]
+    return controllers(names), [user(names[number % 64], number) for number in range(size)] + [f"ring 1 1000 {' '.join(names)}"]
+
+
 def shows(size):
     before = controllers(["A"]) + users("A", range(size))
     return before, ["show A"] * 5
@@ -127,6 +133,7 @@ WORKS = [
     ("deep chain, moves at its foot", deep_chain, 20000),
     ("fifty units, half moved", units_moved, 20000),
     ("ring of 64 controllers", ring, 2000),
+    ("ring of 64 controllers, by one line", ring_line, 2000),
     ("five shows", shows, 10000),
     ("start behind as many adds", start, 20000),
 ]
@@ -192,7 +199,7 @@ def count_all(words):
 
 def main():
     words = [word for word in sys.argv[1:] if word != "--count"]
-    subprocess.run([f"{TOP}/adrep", "replay"], input=b"", check=True)  # builds the program
+    subprocess.run([f"{TOP}/adrep", "build"], check=True)
     if "--count" in sys.argv[1:]:
         count_all(words)
         return

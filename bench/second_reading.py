@@ -819,6 +819,32 @@ class World:
         lines.append('deliver %s: %s' % (dest, result))
         return lines, result.startswith('ok'), reply.last is not None
 
+    def cycle(self, dest, source, most):
+        """Lines, and the one of them that isn't ok, if there is one."""
+        lines = []
+        for _ in range(1000000):
+            more, well, last = self.pull(dest, source, most)
+            lines += more
+            if not well:
+                return lines, lines[-1]
+            if last:
+                return lines, None
+        lines.append('cycle %s: more' % dest)
+        return lines, lines[-1]
+
+    def ring(self, rounds, most, names):
+        """The one line of a ring: what ended it, or what the controllers are like behind it."""
+        for _ in range(rounds):
+            for place, name in enumerate(names):
+                bad = self.cycle(name, names[place - 1], most)[1]
+                if bad is not None:
+                    return bad
+        held = [self.up(name).read for name in names]
+        first, others = held[0], held[1:]
+        directories = all(View(state).directory() == View(first).directory() for state in others)
+        vectors = all(state.vector() == first.vector() for state in others)
+        return 'ring %s: ok rounds=%d directories=%s vectors=%s' % (names[0], rounds, str(directories).lower(), str(vectors).lower())
+
     def report(self, name, work):
         def whole():
             lines = work(self.up(name).read)
@@ -831,17 +857,13 @@ class World:
         if verb == 'time':
             self.now = rest[0]
             return []
-        name = rest[0]
         if verb == 'pull':
             return self.pull(*rest)[0]
         if verb == 'cycle':
-            lines = []
-            for _ in range(1000000):
-                more, well, last = self.pull(*rest)
-                lines += more
-                if not well or last:
-                    return lines
-            return lines + ['cycle %s: more' % name]
+            return self.cycle(*rest)[0]
+        if verb == 'ring':
+            return [self.ring(*rest)]
+        name = rest[0]
         result = getattr(self, 'line_' + verb.replace(' ', '_'))(*rest)
         return ('%s %s: %s' % (verb.split()[0], name, result)).split('\n')
 
@@ -970,7 +992,7 @@ TEXT = r'"(?:[^"\\\x00-\x1f\x7f]|\\"|\\\\|\\(?:[01][0-9a-f]|7f))*"'
 PLAIN = r'(?:%' + NUM + r'|[A-Za-z]+)'
 VALUE = r'(?:' + TEXT + '|-?' + NUM + '|true|false|x(?:[0-9a-f]{2})+|' + ID + ')'
 SET = PLAIN + r'=(?:' + VALUE + '(?:,' + VALUE + ')*)?'
-FORMS = {'NAME': NAME, 'ID': ID, 'NUM': NUM, 'MAX': NUM, 'CALLS': NUM, 'TEXT': TEXT, 'CLASS': PLAIN, 'ATTR': PLAIN, 'SET': SET,
+FORMS = {'NAME': NAME, 'ID': ID, 'NUM': NUM, 'MAX': NUM, 'ROUNDS': NUM, 'CALLS': NUM, 'TEXT': TEXT, 'CLASS': PLAIN, 'ATTR': PLAIN, 'SET': SET,
          'HOW': 'kept|lost|torn'}
 FORMS = {word: re.compile('(?:' + form + ')(?= |$)') for word, form in FORMS.items()}
 GRAMMAR = {
@@ -980,7 +1002,7 @@ GRAMMAR = {
     'cycle': ['NAME NAME MAX'], 'collect': ['NAME NUM'], 'backup': ['NAME as NAME'], 'restore': ['NAME NAME ID'],
     'install': ['NAME ID NAME ID'], 'snapshot': ['NAME as NAME'], 'rollback': ['NAME NAME'],
     'stop': ['NAME', 'NAME after CALLS HOW'], 'fail': ['NAME after CALLS'], 'start': ['NAME'], 'show': ['NAME'],
-    'vector': ['NAME'], 'marks': ['NAME'],
+    'vector': ['NAME'], 'marks': ['NAME'], 'ring': ['ROUNDS MAX NAMES'],
 }
 
 
@@ -1032,6 +1054,10 @@ def read_token(word, token):
         if int(token) < 1:
             raise Outside
         return read_number(token, 10000)
+    if word == 'ROUNDS':
+        if int(token) < 1:
+            raise Outside
+        return read_number(token, 126)
     if word == 'CALLS':
         return read_number(token, 1000)
     if word == 'TEXT':
@@ -1049,9 +1075,7 @@ def read_token(word, token):
 def read_form(line, at, form):
     """The values of the tokens of one form, from the place `at`."""
     out, words = [], form.split()
-    sets = None
-    if words[-1] in ('SETS', 'SETS1'):
-        sets = words.pop()
+    rest = words.pop() if words[-1] in ('SETS', 'SETS1', 'NAMES') else None
 
     def next_token(word):
         nonlocal at
@@ -1068,14 +1092,21 @@ def read_form(line, at, form):
             out.append(read_token(word, token))
         elif token != word:
             raise Outside
-    if sets:
+    if rest == 'NAMES':
+        names = []
+        while line[at:].strip(' '):
+            names.append(next_token('NAME'))
+        if not 2 <= len(names) <= 64 or len(set(names)) < len(names):
+            raise Outside
+        out.append(names)
+    elif rest:
         given = {}
         while line[at:].strip(' '):
             attr, values = read_token('SET', next_token('SET'))
             if attr in given:
                 raise Outside
             given[attr] = values
-        if sets == 'SETS1' and not given:
+        if rest == 'SETS1' and not given:
             raise Outside
         out.append(given)
     elif line[at:].strip(' '):
@@ -1099,7 +1130,7 @@ def read_line(line):
 
 
 USES = {'controller': '', 'install': '..i', 'restore': 'ci', 'ask': 'cc', 'serve': 'cq', 'deliver': 'cr', 'pull': 'cc', 'cycle': 'cc',
-        'rollback': 'cs', 'time': ''}
+        'rollback': 'cs', 'time': '', 'ring': ''}
 BINDS = {'controller': ('c', 1), 'install': ('c', 1), 'ask': ('q', 4), 'serve': ('r', 3), 'backup': ('i', 2), 'snapshot': ('s', 2)}
 DSA = {'controller': 2, 'install': 2}
 INV = {'controller': 3, 'restore': 3, 'install': 4}
@@ -1115,6 +1146,8 @@ class Book:
         for place, kind in enumerate(USES.get(verb, 'c'), 1):
             if kind != '.' and event[place] not in self.kinds[kind]:
                 return 'unknown name'
+        if verb == 'ring' and any(name not in self.kinds['c'] for name in event[3]):
+            return 'unknown name'
         if verb in BINDS:
             kind, place = BINDS[verb]
             if event[place] in self.kinds[kind]:

@@ -1,7 +1,7 @@
 #!/usr/bin/env python3
 """Builds the program: proves its crates side by side, the ones that most others wait for first, and links them.
 
-Usage: build/program.py        (called by ./adrep on first use and after a change of its sources)
+Usage: build/program.py        (called by ./adrep build)
 
 Each crate is one call of the toolchain's compiler, over the statements of the libraries below it, as `rt ci` has it. What is built of a
 library stands until a file of it, or of a crate below, changes; the program itself is proved and linked at each call. Standard error tells how far it is.
