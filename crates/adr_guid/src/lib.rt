@@ -5,15 +5,22 @@
 //! another library carries all that the library states.
 #![tactic(auto)]
 
-ghost use Rattle.std.specs.Prelude.{◌≡◌};
+ghost use Rattle.std.specs.Prelude.{◌≡◌, ◌<◌, ℕ, get_or, length, refl};
+ghost use Rattle.std.proofs.Common.{sym};
+ghost use Rattle.std.specs.Cmp.Lexicographic.{slice_cmp};
+ghost use Rattle.std.specs.Ordering.{nat_cmp};
+ghost use Rattle.std.specs.Cmp.{partial_order_from_agreeing_total};
+ghost use Rattle.std.proofs.lemmas.Cmp.{nat_list_cmp_total};
+ghost use Rattle.std.proofs.lemmas.Map.Text.{is_eq-slice_cmp};
 ghost use Rattle.std.specs.Int.{from_be_bytes, to_be_bytes, w128};
 ghost use Rattle.uuid.specs.Text.{hyphenated_text, lower, parsed};
 
+use std::cmp::Ordering;
 use std::marker::Model;
 use uuid::Uuid;
 
 /// A GUID.
-#[derive(Clone, Copy, PartialEq, Eq, PartialOrd, Ord)]
+#[derive(Clone, Copy, PartialEq, Eq)]
 pub struct Guid([u8; 16]);
 
 impl Model for Guid {
@@ -70,5 +77,56 @@ impl Guid {
         ensures { result.now ≡ hyphenated_text lower self.now }
     {
         Uuid::from_bytes(self.0).hyphenated().encode_lower(buffer)
+    }
+}
+
+// By the bytes, the first one first.
+impl Ord for Guid {
+    ghost use Rattle.std.specs.Cmp.Lexicographic.{slice_cmp};
+    ghost use Rattle.std.specs.Ordering.{nat_cmp};
+
+    ghost cmp = { slice_cmp nat_cmp };
+
+    ghost total = { nat_list_cmp_total };
+
+    ghost matches_partial_cmp = { λ x y. refl };
+
+    ghost matches_eq = { λ x y. sym (is_eq-slice_cmp x y) };
+
+    fn cmp(&self, other: &Guid) -> Ordering {
+        compared(&self.0, &other.0)
+    }
+}
+
+impl PartialOrd for Guid {
+    ghost use Rattle.std.specs.Cmp.Lexicographic.{slice_cmp};
+    ghost use Rattle.std.specs.Ordering.{as_partial_cmp, nat_cmp};
+
+    ghost partial_cmp = { as_partial_cmp (slice_cmp nat_cmp) };
+
+    ghost laws = { partial_order_from_agreeing_total (slice_cmp nat_cmp) nat_list_cmp_total (λ x y. refl) (λ x y. sym (is_eq-slice_cmp x y)) };
+
+    fn partial_cmp(&self, other: &Guid) -> Option<Ordering> {
+        Some(self.cmp(other))
+    }
+}
+
+/// The order of bytes, the first one first, is that of the numbers that they spell.
+fn compared(mine: &[u8; 16], theirs: &[u8; 16]) -> Ordering
+    ensures { result ≡ slice_cmp nat_cmp mine.now theirs.now }
+{
+    bytes_fit(mine);
+    bytes_fit(theirs);
+    u128::from_be_bytes(*mine).cmp(&u128::from_be_bytes(*theirs))
+}
+
+// Each byte fits, which a clause can't say of an array: this walk reads them, and is compiled away.
+#[inline]
+fn bytes_fit(bytes: &[u8; 16])
+    ensures length { length bytes.now ≡ 16 }
+    ensures fit { (k : ℕ) → k < 16 → get_or bytes.now k 0 < 256 }
+{
+    'bytes: for i in 0..16 {
+        let _ = bytes[i];
     }
 }
