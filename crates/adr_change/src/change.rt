@@ -1,12 +1,14 @@
 //! What one commit changes.
 
-ghost use Rattle.std.specs.Prelude.{◌≡◌, IfOk};
+ghost use Rattle.std.specs.Prelude.{◌≡◌, [], IfOk};
+ghost use Rattle.adr_schema.specs.Numbered.{numbered};
 ghost use Rattle.adr_model.specs.Change.{held_of};
 ghost use Rattle.adr_model.specs.Serve.{is_quarantined};
 ghost use Rattle.adr_change.specs.Mode.{mode_of};
 
 use crate::NoMemory;
 use crate::kept::Kept;
+use adr_checks::Schema;
 use adr_guid::Guid;
 use adr_stamp::Oid;
 use adr_update::{Held, Written};
@@ -33,12 +35,13 @@ impl Mode {
     }
 }
 
-/// What one commit changes: the update sequence number and the mode after it, the mark of a partner, what is joined
+/// What one commit changes: the update sequence number and the mode and the schema after it, the mark of a partner, what is joined
 /// into the vectors of what was seen and of what was collected, the objects that are removed, and the rows that are
 /// written.
 pub struct Change {
     usn: u64,
     mode: Mode,
+    schema: Schema,
     mark: Option<(Guid, Kept)>,
     joined: Vector,
     purged: Vector,
@@ -51,6 +54,7 @@ impl Drop for Change {
         let Change {
             usn: _,
             mode: _,
+            schema: _,
             mark: _,
             joined: _joined,
             purged: _purged,
@@ -65,15 +69,20 @@ impl Model for Change {
 
     ghost Value = { Defined };
 
+    ghost use Rattle.std.specs.Prelude.{◌≡◌, []};
+    ghost use Rattle.adr_schema.specs.Numbered.{numbered};
     ghost use Rattle.adr_change.specs.Mode.{mode_of};
 
-    ghost view = { λ c. record { usn = c.usn; mode = mode_of c.mode; mark = c.mark; joined = c.joined; purged = c.purged; removed = c.removed.items; writes = c.writes.items } };
+    ghost view = { λ c. record { usn = c.usn; mode = mode_of c.mode; schema = c.schema.number; mark = c.mark; joined = c.joined; times = []; purged = c.purged; removed = c.removed.items; writes = c.writes.items } };
+
+    ghost invariant = { λ c. c.schema ≡ numbered c.schema.number };
 }
 
 impl Change {
     pub fn new(
         usn: u64,
         mode: Mode,
+        schema: Schema,
         mark: Option<(Guid, Kept)>,
         joined: Vector,
         purged: Vector,
@@ -81,11 +90,12 @@ impl Change {
         writes: Vec<Written>,
     ) -> Change
         ensures { result
-            ≡ record { usn = usn; mode = mode_of mode; mark = mark; joined = joined; purged = purged; removed = removed.items; writes = writes.items } }
+            ≡ record { usn = usn; mode = mode_of mode; schema = schema.number; mark = mark; joined = joined; times = []; purged = purged; removed = removed.items; writes = writes.items } }
     {
         Change {
             usn,
             mode,
+            schema,
             mark,
             joined,
             purged,
@@ -108,6 +118,14 @@ impl Change {
         self.mode
     }
 
+    /// The schema after the change.
+    pub fn schema(&self) -> Schema
+        ensures number { result.number ≡ self.now.schema }
+        ensures numbered { result ≡ numbered self.now.schema }
+    {
+        self.schema
+    }
+
     /// A partner, and what is kept of it from now on.
     pub fn mark(&self) -> Option<(Guid, Kept)>
         ensures { result ≡ self.now.mark }
@@ -120,6 +138,13 @@ impl Change {
         ensures { result.now ≡ self.now.joined }
     {
         &self.joined
+    }
+
+    /// A change joins no times.
+    pub fn joins_no_times(&self)
+        ensures { self.now.times ≡ [] }
+    {
+        let _ = &self.usn;
     }
 
     /// What is joined into the vector of what was collected.

@@ -6,17 +6,17 @@ ghost use Rattle.std.specs.Result.{result_err};
 ghost use Rattle.adr_schema.specs.Names.{attribute_name, attribute_number, class_name, class_number, is_wrong_byte, name_fault};
 ghost use Rattle.adr_schema.specs.Places.{first_place};
 ghost use Rattle.adr_schema.specs.Rules.{name_refusal};
-ghost use Rattle.adr_schema.specs.Schemas.{newest};
+ghost use Rattle.adr_schema.specs.Schemas.{spoken};
 ghost use Rattle.adr_schema.specs.Table.{kind_at};
 
-use crate::table::newest_table;
+use crate::table::spoken_table;
 use adr_schema::{Kind, SchemaRefusal};
 
-/// The name of a class, in any of the schemas.
+/// The name of a class, in the schema that texts know.
 pub fn class_name(number: u16) -> Option<&'static str>
     ensures { option_copied result ≡ class_name number }
 {
-    let class = newest_table().class(number)?;
+    let class = spoken_table().class(number)?;
     Some(class.name)
 }
 
@@ -24,15 +24,15 @@ pub fn class_name(number: u16) -> Option<&'static str>
 pub fn class_number(name: &[u8]) -> Option<u16>
     ensures { result ≡ class_number name.now }
 {
-    let class = newest_table().class_named(name)?;
+    let class = spoken_table().class_named(name)?;
     Some(class.number)
 }
 
-/// The name of an attribute, in any of the schemas.
+/// The name of an attribute, in the schema that texts know.
 pub fn attribute_name(number: u16) -> Option<&'static str>
     ensures { option_copied result ≡ attribute_name number }
 {
-    let attribute = newest_table().attribute(number)?;
+    let attribute = spoken_table().attribute(number)?;
     Some(attribute.name)
 }
 
@@ -40,15 +40,15 @@ pub fn attribute_name(number: u16) -> Option<&'static str>
 pub fn attribute_number(name: &[u8]) -> Option<u16>
     ensures { result ≡ attribute_number name.now }
 {
-    let attribute = newest_table().attribute_named(name)?;
+    let attribute = spoken_table().attribute_named(name)?;
     Some(attribute.number)
 }
 
-/// What an attribute holds, in any of the schemas.
+/// What an attribute holds, in the schema that texts know.
 pub fn attribute_kind(number: u16) -> Option<Kind>
-    ensures { result ≡ kind_at newest number }
+    ensures { result ≡ kind_at spoken number }
 {
-    newest_table().kind(number)
+    spoken_table().kind(number)
 }
 
 /// Tests that an object may have a name. The rule is this project's own.

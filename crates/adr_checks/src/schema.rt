@@ -42,7 +42,8 @@ pub struct Schema {
 impl Model for Schema {
     ghost use Rattle.std.specs.Prelude.{IsSome};
     ghost use Rattle.adr_schema.specs.Table.{Table};
-    ghost use Rattle.adr_schema.specs.Numbered.{number-numbered, numbered};
+    ghost use Rattle.adr_schema.specs.Numbered.{numbered};
+    ghost use Rattle.adr_schema.proofs.Numbers.{number-numbered};
     ghost use Rattle.adr_schema.specs.Schemas.{schema_table};
 
     ghost Value = { Table };

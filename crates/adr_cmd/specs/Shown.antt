@@ -6,15 +6,15 @@ use Rattle.adr_event.specs.declared.event.Event.TheVariants as events
 use Rattle.adr_model.specs.Member.{Member}
 use Rattle.adr_model.specs.Directory.{directory}
 use Rattle.adr_model.specs.Replica.{Replica, Up}
-use Rattle.adr_model.specs.World.{World, answer, empty_world}
-use Rattle.adr_model.specs.Convergence.{behind, in_view}
+use Rattle.adr_model.specs.World.{in_view, World, answer, empty_world}
+use Rattle.adr_model.specs.Convergence.{behind}
 use Rattle.adr_report.specs.Line.{line}
 use Rattle.adr_schedule.specs.Schedules.{IsSchedule}
 use Rattle.adr_world.specs.Played.{output_from}
 
 -- the lines of the directory of the issued updates that a controller covers or holds
 abbrev pub view_line : World → Replica → List ℕ
-view_line w r = line (answer (codes "show") r.name (outcomes.Show (directory (in_view w r))))
+view_line w r = line (answer (codes "show") r.name (outcomes.Show (directory (in_view w r.safe))))
 
 -- wherever a schedule asks a controller that is up for its directory, while no database was put back, this holds of the whole output:
 -- what the lines before give, the directory of the issued updates that the controller covers or holds, and what the others give

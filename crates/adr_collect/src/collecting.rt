@@ -32,6 +32,7 @@ pub fn collect(
     Ok(Change::new(
         usn,
         Mode::Normal,
+        state.schema(),
         None,
         Vector::new(alloc),
         dead.covering,

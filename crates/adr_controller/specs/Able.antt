@@ -14,6 +14,7 @@ use Rattle.adr_model.specs.Write.{write}
 use Rattle.adr_model.specs.Collect.{collect, quarantine}
 use Rattle.adr_model.specs.Replica.{change_in}
 use Rattle.adr_model.specs.Step.{ClientWrite, write_of}
+use Rattle.adr_model.specs.World.{empty_world}
 use Rattle.adr_state.specs.Refusal.{IsOverfull}
 use Rattle.adr_journal.specs.declared.keeper.Keeper.{Ghosts}
 
@@ -34,8 +35,12 @@ abbrev pub change_of_write : ℕ → State → Option ClientWrite → Option Cha
 change_of_write now s None = None
 change_of_write now s (Some w) = change_in (write s w.what now)
 
+-- the write of an event, where that asks for no image
+abbrev pub plain_write : Event → Option ClientWrite
+plain_write event = write_of empty_world event
+
 abbrev pub written_in : Event → ℕ → State → Option Change
-written_in event now s = change_of_write now s (write_of event)
+written_in event now s = change_of_write now s (plain_write event)
 
 -- a refused request, and a refused reply, that shows a controller that it was put back
 abbrev pub request_shows : ServeRefusal → Bool
@@ -54,8 +59,8 @@ abbrev pub change_of_served : State → Result Reply ServeRefusal → Option Cha
 change_of_served s (Ok reply) = None
 change_of_served s (Err refusal) = quarantine_in (request_shows refusal) s
 
-abbrev pub served_in : Request → State → Option Change
-served_in request s = change_of_served s (serve s request)
+abbrev pub served_in : Request → ℕ → State → Option Change
+served_in request now s = change_of_served s (serve s request now)
 
 abbrev pub change_of_taken : State → Result Change TakeRefusal → Option Change
 change_of_taken s (Ok c) = Some c

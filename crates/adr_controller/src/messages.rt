@@ -1,6 +1,6 @@
 //! Messages between controllers.
 
-ghost use Rattle.std.specs.Prelude.{◌≡◌, ◌↔◌, ◌≤◌, true, false, Some, None, Ok, Err, IfOk, IfErr, IsErrOf, IsSome, length};
+ghost use Rattle.std.specs.Prelude.{◌≡◌, ◌↔◌, ◌≤◌, ℕ, true, false, Some, None, Ok, Err, IfOk, IfErr, IsErrOf, IsSome, length};
 ghost use Rattle.std.specs.Option.{ForSome};
 ghost use Rattle.adr_event.specs.declared.refusal.ServeRefusal.{ServeRefusal};
 ghost use Rattle.adr_event.specs.declared.refusal.TakeRefusal.{TakeRefusal};
@@ -69,6 +69,7 @@ fn quarantine(alloc: Global, state: &State) -> Change
     Change::new(
         state.usn(),
         Mode::Quarantined,
+        state.schema(),
         None,
         Vector::new(alloc),
         Vector::new(alloc),
@@ -126,7 +127,7 @@ impl<K: Keeper> Controller<K> {
     /// What it asks a partner: the changes behind the mark that it has of the partner, at most `max` items in one reply.
     pub fn ask(&self, alloc: Global, partner: Guid, max: u32) -> Result<Request, Hindrance>
         ensures ok { IfOk result (λ request.
-            (s : Defined) × (self.now.state ≡ Some s) × (request ≡ ask s partner max)) }
+            (s : Defined) × (self.now.state ≡ Some s) × (request ≡ ask s partner max 1)) }
         ensures down { (hindrance_of result ≡ Some Hindrance.Down) ↔ (self.now.down ≡ true) }
         ensures failed { (hindrance_of result ≡ Some Hindrance.Failed)
             ↔ ((self.now.down ≡ false) × (self.now.state ≡ None)) }
@@ -140,18 +141,18 @@ impl<K: Keeper> Controller<K> {
         }
     }
 
-    /// What a request is answered. A controller that shows that it was put back is quarantined before it refuses.
+    /// What a request is answered, at whatever time. A controller that shows that it was put back is quarantined before it refuses.
     pub fn serve(
         &mut self,
         alloc: Global,
         request: &Request,
     ) -> Result<Reply, CallRefusal<ServeRefusal>>
-        requires follows { AllFollow K.Keeper (served_in request.now) }
+        requires follows { (now : ℕ) → AllFollow K.Keeper (served_in request.now now) }
         ensures served { IfOk result (λ reply.
-            (s : Defined) → self.old.state ≡ Some s → serve s request.now ≡ Ok reply) }
-        ensures refused { (s : Defined) (refusal : ServeRefusal) → self.old.state ≡ Some s
-            → IsErrOf result (CallRefusal.Refused refusal) → serve s request.now ≡ Err refusal }
-        ensures calls { Calls K.Keeper (served_in request.now) self.old self.new (call_hindrance result) }
+            (s : Defined) (now : ℕ) → self.old.state ≡ Some s → serve s request.now now ≡ Ok reply) }
+        ensures refused { (s : Defined) (refusal : ServeRefusal) (now : ℕ) → self.old.state ≡ Some s
+            → IsErrOf result (CallRefusal.Refused refusal) → serve s request.now now ≡ Err refusal }
+        ensures calls { (now : ℕ) → Calls K.Keeper (served_in request.now now) self.old self.new (call_hindrance result) }
     {
         let state = self.running()?;
         match serve(alloc, state, request) {

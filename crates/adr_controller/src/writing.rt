@@ -4,9 +4,9 @@ ghost use Rattle.std.specs.Prelude.{◌≡◌, Ok, Err, IfOk, IfSome, IsErrOf, I
 ghost use Rattle.adr_event.specs.declared.refusal.WriteRefusal.{WriteRefusal};
 ghost use Rattle.adr_model.specs.Store.{State as Defined};
 ghost use Rattle.adr_model.specs.Change.{Change as Changes};
-ghost use Rattle.adr_model.specs.Step.{ClientWrite, write_of};
+ghost use Rattle.adr_model.specs.Step.{ClientWrite};
 ghost use Rattle.adr_model.specs.Write.{write};
-ghost use Rattle.adr_controller.specs.Able.{AllFollow, written_in};
+ghost use Rattle.adr_controller.specs.Able.{AllFollow, plain_write, written_in};
 ghost use Rattle.adr_controller.specs.Ended.{call_hindrance};
 ghost use Rattle.adr_controller.specs.Did.{Calls};
 
@@ -25,9 +25,9 @@ fn change_of(
     event: &Event,
     now: u64,
 ) -> Result<Change, Failure<WriteRefusal>>
-    requires { IsSome (write_of event.now) }
-    ensures ok { IfSome (write_of event.now) (λ w. IfOk result (λ change. write state.now w.what now ≡ Ok change)) }
-    ensures refused { IfSome (write_of event.now) (λ w. (refusal : WriteRefusal)
+    requires { IsSome (plain_write event.now) }
+    ensures ok { IfSome (plain_write event.now) (λ w. IfOk result (λ change. write state.now w.what now ≡ Ok change)) }
+    ensures refused { IfSome (plain_write event.now) (λ w. (refusal : WriteRefusal)
         → IsErrOf result (Failure.Refused refusal) → write state.now w.what now ≡ Err refusal) }
 {
     match event {
@@ -77,20 +77,20 @@ fn change_of(
 }
 
 impl<K: Keeper> Controller<K> {
-    /// A client's write, as an event has it, at a time in seconds; it answers the USN of what was written.
+    /// A client's write, as an event without an image has it, at a time in seconds; it answers the USN of what was written.
     pub fn write(
         &mut self,
         alloc: Global,
         event: &Event,
         now: u64,
     ) -> Result<u64, CallRefusal<WriteRefusal>>
-        requires write { IsSome (write_of event.now) }
+        requires write { IsSome (plain_write event.now) }
         requires follows { AllFollow K.Keeper (written_in event.now now) }
         ensures written { IfOk result (λ usn.
-            (s : Defined) (w : ClientWrite) → self.old.state ≡ Some s → write_of event.now ≡ Some w
+            (s : Defined) (w : ClientWrite) → self.old.state ≡ Some s → plain_write event.now ≡ Some w
             → (c : Changes) × (write s w.what now ≡ Ok c) × (usn ≡ c.usn)) }
         ensures refused { (s : Defined) (w : ClientWrite) (refusal : WriteRefusal)
-            → self.old.state ≡ Some s → write_of event.now ≡ Some w
+            → self.old.state ≡ Some s → plain_write event.now ≡ Some w
             → IsErrOf result (CallRefusal.Refused refusal) → write s w.what now ≡ Err refusal }
         ensures calls { Calls K.Keeper (written_in event.now now) self.old self.new (call_hindrance result) }
     {

@@ -40,24 +40,24 @@ refused_before s r t taken x is = search one_of_six
 
 -- a refusal before the items is that of the whole
 pub early : (s : State) (r : Reply) (x : TakeRefusal) → refusal_before s r ≡ Some x → Err x ≡ take s r
-early s r x is = rw (refused_before s r (take_items s r.items) (after s (taken_change r (take_items s r.items))) x is) refl
+early s r x is = rw (refused_before s r (take_items s r.items) (after s (taken_change s r (take_items s r.items))) x is) refl
 
 -- after the items the refusal, or that there is none, decides
-late : (s : State) (r : Reply) (t : Taking) → t ≡ take_items s r.items → (o : Option TakeRefusal) → o ≡ take_refusal s r t (after s (taken_change r t))
-    → unless o (taken_change r t) ≡ take s r
+late : (s : State) (r : Reply) (t : Taking) → t ≡ take_items s r.items → (o : Option TakeRefusal) → o ≡ take_refusal s r t (after s (taken_change s r t))
+    → unless o (taken_change s r t) ≡ take s r
 late s r t is o e =
-    ap (λ p. unless p (taken_change r t)) e
-    ∙ ap (λ (u : Taking). unless (take_refusal s r u (after s (taken_change r u))) (taken_change r u)) is
+    ap (λ p. unless p (taken_change s r t)) e
+    ∙ ap (λ (u : Taking). unless (take_refusal s r u (after s (taken_change s r u))) (taken_change s r u)) is
 
 -- what the items came to is refused, or makes the change
-module _ (s : State) (r : Reply) (items : List Item) (t : Taking) (o : Option TakeRefusal) (taking : t ≡ take_items s items) (same : items ≡ r.items) (found : o ≡ take_refusal s r t (after s (taken_change r t))) where
-  decided : (p : Option TakeRefusal) → o ≡ p → unless p (taken_change r t) ≡ take s r
+module _ (s : State) (r : Reply) (items : List Item) (t : Taking) (o : Option TakeRefusal) (taking : t ≡ take_items s items) (same : items ≡ r.items) (found : o ≡ take_refusal s r t (after s (taken_change s r t))) where
+  decided : (p : Option TakeRefusal) → o ≡ p → unless p (taken_change s r t) ≡ take s r
   decided p is = late s r t (taking ∙ ap (take_items s) same) p (sym is ∙ found)
 
   pub refuses : (x y : TakeRefusal) → o ≡ Some x → x ≡ y → take s r ≡ Err y
   refuses x y is equal = sym (decided (Some x) is) ∙ ap (λ z. let e : Result Change TakeRefusal = Err z in e) equal
 
-  pub makes : (c : Change) → o ≡ None → c ≡ taken_change r t → take s r ≡ Ok c
+  pub makes : (c : Change) → o ≡ None → c ≡ taken_change s r t → take s r ≡ Ok c
   makes c none is = sym (decided None none) ∙ ap (λ d. let e : Result Change TakeRefusal = Ok d in e) (sym is)
 
 six_none : (a b c d e f : Option TakeRefusal) (other rest : List (Option TakeRefusal)) → first_of (a ∷ b ∷ c ∷ d ∷ e ∷ f ∷ other) ≡ None
@@ -130,11 +130,11 @@ at_most n passes = by (nat_lt usn_limit n) refl passes
 
 -- a change that is made keeps the USN within its limit
 pub within : (s : State) (r : Reply) (change : Change) → take s r ≡ Ok change → change.usn ≤ usn_limit
-within s r change is = by (take_refusal s r (take_items s r.items) (after s (taken_change r (take_items s r.items)))) refl is
+within s r change is = by (take_refusal s r (take_items s r.items) (after s (taken_change s r (take_items s r.items)))) refl is
   where
-    by : (o : Option TakeRefusal) → take_refusal s r (take_items s r.items) (after s (taken_change r (take_items s r.items))) ≡ o
-        → unless o (taken_change r (take_items s r.items)) ≡ Ok change → change.usn ≤ usn_limit
+    by : (o : Option TakeRefusal) → take_refusal s r (take_items s r.items) (after s (taken_change s r (take_items s r.items))) ≡ o
+        → unless o (taken_change s r (take_items s r.items)) ≡ Ok change → change.usn ≤ usn_limit
     by (Some x) found made = absurd (cc)
     by None found made =
-        let made_of : taken_change r (take_items s r.items) ≡ change = cc in
-        subst (λ (k : Change). k.usn ≤ usn_limit) made_of (at_most (take_items s r.items).usn (usn_passes s r (take_items s r.items) (after s (taken_change r (take_items s r.items))) found))
+        let made_of : taken_change s r (take_items s r.items) ≡ change = cc in
+        subst (λ (k : Change). k.usn ≤ usn_limit) made_of (at_most (take_items s r.items).usn (usn_passes s r (take_items s r.items) (after s (taken_change s r (take_items s r.items))) found))

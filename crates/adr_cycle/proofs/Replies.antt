@@ -1,12 +1,13 @@
 -- A reply from what its parts are read from.
-use Rattle.std.proofs.Common.{◌≡◌, ◌∙◌, ℕ, ◌≤◌, List, Bool, ◌==◌, Option, is_none, map, sym, ap, subst, length}
+use Rattle.std.proofs.Common.{◌≡◌, ◌∙◌, ℕ, ◌≤◌, List, [], Bool, true, false, cond, ◌&&◌, ◌==◌, Option, is_none, is_some, map, refl, sym, ap, subst, length}
 use Rattle.std.specs.Bool.{then_some}
 use Rattle.adr_vector.specs.Vector.{Cursors}
 use Rattle.adr_vector.specs.declared.mark.Mark.{Mark}
 use Rattle.adr_model.specs.Change.{Item}
 use Rattle.adr_model.specs.Update.{Identifier}
 use Rattle.adr_model.specs.Store.{Held, State}
-use Rattle.adr_model.specs.Serve.{Request, Reply, begins_at, byte_limit, candidates, first_items, reply_of, reply_to}
+use Rattle.adr_model.specs.Serve.{Request, Reply, begins_at, byte_limit, candidates, first_items, reply_of, reply_to, times_told}
+use Rattle.adr_model.specs.Take.{times_brought}
 use Rattle.adr_cycle.proofs.Choosing.{candidates_rise}
 use Rattle.adr_cycle.proofs.Cutting.{cut, last_number}
 use Rattle.adr_cycle.proofs.Numbered.{next}
@@ -26,31 +27,47 @@ module _ (rows : List Held) (from : Mark) (asked : Cursors) (most last : ℕ) (s
       ∙ (cut most byte_limit from.obj (candidates rows from asked) (candidates_rise rows from asked)).1
       ∙ ap (λ (xs : List (ℕ × Item)). length xs == length (candidates rows from asked)) (sym first)
 
-  pub reply_is : (s : State) (q : Request) (none : Bool) → none ≡ is_none (next last (candidates rows from asked)) → from ≡ begins_at s q → rows ≡ s.store.rows → asked ≡ q.vector → most ≡ q.max
-      → reply_of s q from sent none ≡ reply_to s q
-  reply_is s q none is begins held vector limit =
-      ap (λ b. reply_of s q from sent b) (all_sent none is)
-      ∙ ap (λ (xs : List (ℕ × Item)). reply_of s q from xs (length xs == length (candidates rows from asked))) first
+  pub reply_is : (s : State) (q : Request) (now : ℕ) (none : Bool) → none ≡ is_none (next last (candidates rows from asked)) → from ≡ begins_at s q → rows ≡ s.store.rows → asked ≡ q.vector → most ≡ q.max
+      → reply_of s q now from sent none ≡ reply_to s q now
+  reply_is s q now none is begins held vector limit =
+      ap (λ b. reply_of s q now from sent b) (all_sent none is)
+      ∙ ap (λ (xs : List (ℕ × Item)). reply_of s q now from xs (length xs == length (candidates rows from asked))) first
       ∙ ap (λ m. by rows from asked m) limit ∙ ap (λ v. by rows from v q.max) vector ∙ ap (λ r. by r from q.vector q.max) held ∙ ap (λ f. by s.store.rows f q.vector q.max) begins
     where
       by : List Held → Mark → Cursors → ℕ → Reply
-      by r f v m = reply_of s q f (first_items m byte_limit (candidates r f v)) (length (first_items m byte_limit (candidates r f v)) == length (candidates r f v))
+      by r f v m = reply_of s q now f (first_items m byte_limit (candidates r f v)) (length (first_items m byte_limit (candidates r f v)) == length (candidates r f v))
+
+-- one of the first version tells no times
+none_told : (last : Bool) (version : ℕ) (times : Cursors) → version ≡ 1 → cond (last && (version == 2)) times [] ≡ []
+none_told false version times is = refl
+none_told true version times is = ap (λ v. cond (v == 2) times []) is
+
+-- where it tells none, none are brought
+pub none_brought : (r : Reply) → r.times ≡ [] → times_brought r ≡ []
+none_brought r none = by (is_some r.last)
+  where
+    by : (b : Bool) → cond b r.times [] ≡ []
+    by true = none
+    by false = refl
 
 -- a reply is made of its parts
-pub made_of : (s : State) (q : Request) (from : Mark) (sent : List (ℕ × Item)) (last : Bool) (x : Reply) (dest source inv : Identifier) (to : Mark) (schema : ℕ) (asked : Cursors) (vector : Option Cursors) (items : List Item)
-    → x ≡ record { dest = dest; source = source; inv = inv; from = from; to = to; schema = schema; asked = asked; last = vector; items = items }
-    → dest ≡ q.dest → source ≡ s.dsa → inv ≡ s.inv → to ≡ (reply_of s q from sent last).to → schema ≡ s.store.schema → asked ≡ q.vector → vector ≡ then_some last s.store.vector → items ≡ map (λ (c : ℕ × Item). c.1) sent
-    → x ≡ reply_of s q from sent last
-made_of s q from sent last x dest source inv to schema asked vector items is its_dest its_source its_inv its_to its_schema its_asked its_vector its_items =
+pub made_of : (s : State) (q : Request) (now : ℕ) (from : Mark) (sent : List (ℕ × Item)) (last : Bool) (x : Reply) (dest source inv : Identifier) (to : Mark) (schema : ℕ) (asked : Cursors) (vector : Option Cursors) (items : List Item)
+    → x ≡ record { version = 1; dest = dest; source = source; inv = inv; from = from; to = to; schema = schema; asked = asked; last = vector; times = []; items = items }
+    → q.version ≡ 1 → dest ≡ q.dest → source ≡ s.dsa → inv ≡ s.inv → to ≡ (reply_of s q now from sent last).to → schema ≡ s.store.schema → asked ≡ q.vector → vector ≡ then_some last s.store.vector → items ≡ map (λ (c : ℕ × Item). c.1) sent
+    → x ≡ reply_of s q now from sent last
+made_of s q now from sent last x dest source inv to schema asked vector items is its_version its_dest its_source its_inv its_to its_schema its_asked its_vector its_items =
+    let none : cond (last && (q.version == 2)) (times_told s now) [] ≡ [] = none_told last q.version (times_told s now) its_version in
     let made : x ≡ record {
+      version = q.version;
       dest = q.dest;
       source = s.dsa;
       inv = s.inv;
       from = from;
-      to = (reply_of s q from sent last).to;
+      to = (reply_of s q now from sent last).to;
       schema = s.store.schema;
       asked = q.vector;
       last = then_some last s.store.vector;
+      times = cond (last && (q.version == 2)) (times_told s now) [];
       items = map (λ (c : ℕ × Item). c.1) sent;
     } = cc in
     made

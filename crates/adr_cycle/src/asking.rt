@@ -11,7 +11,7 @@ use std::alloc::Global;
 /// What the controller asks a partner: the changes behind the mark that it has of the partner, at most `max` items in
 /// one reply (MS-DRSR, DRS_MSG_GETCHGREQ).
 pub fn ask(alloc: Global, state: &State, partner: Guid, max: u32) -> Result<Request, NoMemory>
-    ensures { IfOk result (λ request. request ≡ ask state.now partner max) }
+    ensures { IfOk result (λ request. request ≡ ask state.now partner max 1) }
 {
     let kept = state.marks().kept(partner);
     Ok(Request::new(

@@ -1,6 +1,6 @@
 //! A reply: what a partner answers to a request.
 
-ghost use Rattle.std.specs.Prelude.{◌≡◌};
+ghost use Rattle.std.specs.Prelude.{◌≡◌, []};
 ghost use Rattle.std.specs.Option.{option_copied};
 
 use adr_guid::Guid;
@@ -44,7 +44,9 @@ impl Model for Reply {
 
     ghost Value = { Defined };
 
-    ghost view = { λ r. record { dest = r.dest; source = r.source; inv = r.inv; from = r.from; to = r.to; schema = r.schema; asked = r.asked; last = r.last; items = r.items.items } };
+    ghost use Rattle.std.specs.Prelude.{[]};
+
+    ghost view = { λ r. record { version = 1; dest = r.dest; source = r.source; inv = r.inv; from = r.from; to = r.to; schema = r.schema; asked = r.asked; last = r.last; times = []; items = r.items.items } };
 }
 
 impl Reply {
@@ -60,7 +62,7 @@ impl Reply {
         items: Vec<Item>,
     ) -> Reply
         ensures { result
-            ≡ record { dest = dest; source = source; inv = inv; from = from; to = to; schema = schema; asked = asked; last = last; items = items.items } }
+            ≡ record { version = 1; dest = dest; source = source; inv = inv; from = from; to = to; schema = schema; asked = asked; last = last; times = []; items = items.items } }
     {
         Reply {
             dest,
@@ -73,6 +75,14 @@ impl Reply {
             last,
             items,
         }
+    }
+
+    /// A reply is of the first version, which tells no times.
+    pub fn tells_no_times(&self)
+        ensures version { self.now.version ≡ 1 }
+        ensures times { self.now.times ≡ [] }
+    {
+        let _ = &self.schema;
     }
 
     /// The controller that asked.

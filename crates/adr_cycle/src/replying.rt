@@ -14,9 +14,9 @@ use std::alloc::Global;
 /// The bytes of items at which a reply is cut: 4 MiB.
 const BYTE_LIMIT: u64 = 4_194_304;
 
-/// The reply to a request.
+/// The reply to a request, at any moment.
 pub fn reply_to(alloc: Global, state: &State, request: &Request) -> Result<Reply, NoMemory>
-    ensures { IfOk result (λ reply. reply ≡ reply_to state.now request.now) }
+    ensures { IfOk result (λ reply. (now : ℕ) → reply ≡ reply_to state.now request.now now) }
 {
     let from = begins_at(state, request);
     let asked = request.vector();
@@ -59,7 +59,7 @@ fn first_items(
     Ok(sent)
 }
 
-/// A reply that sends these of the candidates.
+/// A reply that sends these of the candidates, at any moment: it tells no times.
 fn reply_of(
     alloc: Global,
     state: &State,
@@ -68,8 +68,9 @@ fn reply_of(
     sent: Vec<(u64, Item)>,
     is_last: bool,
 ) -> Result<Reply, NoMemory>
-    ensures { IfOk result (λ reply. reply ≡ reply_of state.now request.now from sent.items is_last) }
+    ensures { IfOk result (λ reply. (now : ℕ) → reply ≡ reply_of state.now request.now now from sent.items is_last) }
 {
+    request.is_of_version_1();
     let to = mark_after(state, from, sent.as_slice(), is_last);
     Ok(Reply::new(
         request.dest(),

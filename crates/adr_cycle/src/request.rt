@@ -25,7 +25,7 @@ impl Model for Request {
 
     ghost Value = { Defined };
 
-    ghost view = { λ q. record { dest = q.dest; source = q.source; inv = q.inv; mark = q.mark; schema = q.schema; max = q.max; vector = q.vector } };
+    ghost view = { λ q. record { version = 1; dest = q.dest; source = q.source; inv = q.inv; mark = q.mark; schema = q.schema; max = q.max; vector = q.vector } };
 }
 
 impl Request {
@@ -39,7 +39,7 @@ impl Request {
         vector: Vector,
     ) -> Request
         ensures { result
-            ≡ record { dest = dest; source = source; inv = inv; mark = mark; schema = schema; max = max; vector = vector } }
+            ≡ record { version = 1; dest = dest; source = source; inv = inv; mark = mark; schema = schema; max = max; vector = vector } }
     {
         Request {
             dest,
@@ -50,6 +50,13 @@ impl Request {
             max,
             vector,
         }
+    }
+
+    /// A request is of the first version.
+    pub fn is_of_version_1(&self)
+        ensures { self.now.version ≡ 1 }
+    {
+        let _ = &self.max;
     }
 
     /// The controller that asks, and to which the reply goes.

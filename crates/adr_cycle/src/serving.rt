@@ -1,6 +1,6 @@
 //! What a controller answers to a request.
 
-ghost use Rattle.std.specs.Prelude.{◌≡◌, ◌↔◌, ◌&&◌, ◌==◌, Ok, Err, IfOk, IsErrOf, nat_le, nat_lt, not};
+ghost use Rattle.std.specs.Prelude.{◌≡◌, ◌↔◌, ℕ, ◌&&◌, ◌==◌, Ok, Err, IfOk, IsErrOf, nat_le, nat_lt, not};
 ghost use Rattle.std.specs.Bool.{then_some};
 ghost use Rattle.std.specs.Option.{option_map};
 ghost use Rattle.adr_vector.specs.Vector.{first_gap};
@@ -15,16 +15,16 @@ use adr_state::{State, is_same};
 use adr_vector::Mark;
 use std::alloc::Global;
 
-/// What a request is answered: the reply, or the first refusal in order (MS-DRSR, GetNCChanges; the refusals, and how
+/// What a request is answered, at any moment: the reply, or the first refusal in order (MS-DRSR, GetNCChanges; the refusals, and how
 /// marks move, are this project's own profile).
 pub fn serve(
     alloc: Global,
     state: &State,
     request: &Request,
 ) -> Result<Reply, Failure<ServeRefusal>>
-    ensures ok { IfOk result (λ reply. serve state.now request.now ≡ Ok reply) }
-    ensures refused { (refusal : ServeRefusal)
-        → IsErrOf result (Failure.Refused refusal) ↔ (serve state.now request.now ≡ Err refusal) }
+    ensures ok { IfOk result (λ reply. (now : ℕ) → serve state.now request.now now ≡ Ok reply) }
+    ensures refused { (refusal : ServeRefusal) (now : ℕ)
+        → IsErrOf result (Failure.Refused refusal) ↔ (serve state.now request.now now ≡ Err refusal) }
 {
     match serve_refusal(state, request) {
         Some(refusal) => Err(Failure::Refused(refusal)),

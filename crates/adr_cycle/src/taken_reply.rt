@@ -49,7 +49,7 @@ fn outcome(alloc: Global, state: &State, reply: &Reply) -> Result<Change, Failur
     let taking = take_items(alloc, state, reply.items())?;
     match refusal_after(state, reply, &taking) {
         Some(refusal) => Err(Failure::Refused(refusal)),
-        None => Ok(taken_change(alloc, reply, taking)?),
+        None => Ok(taken_change(alloc, state, reply, taking)?),
     }
 }
 
@@ -110,7 +110,7 @@ fn shown_by_last(state: &State, reply: &Reply) -> u64
 /// Why a reply whose items were taken is refused, first in order.
 fn refusal_after(state: &State, reply: &Reply, taking: &Taking) -> Option<TakeRefusal>
     requires { refusal_before state.now reply.now ≡ None }
-    ensures { let taken = after state.now (taken_change reply.now taking.now) in
+    ensures { let taken = after state.now (taken_change state.now reply.now taking.now) in
         result ≡ take_refusal state.now reply.now taking.now taken }
 {
     if let Some(refusal) = taking.refusal() {
@@ -142,14 +142,22 @@ fn over_limit(table: Table, limit: u64, count: usize) -> Option<TakeRefusal>
 }
 
 /// The change of a taken reply; the last one brings the source's vector.
-fn taken_change(alloc: Global, reply: &Reply, taking: Taking) -> Result<Change, NoMemory>
-    ensures { IfOk result (λ change. change ≡ taken_change reply.now taking.entry) }
+#[tactic(auto, using(crate::proofs::Replies::none_brought))]
+fn taken_change(
+    alloc: Global,
+    state: &State,
+    reply: &Reply,
+    taking: Taking,
+) -> Result<Change, NoMemory>
+    ensures { IfOk result (λ change. change ≡ taken_change state.now reply.now taking.entry) }
 {
+    reply.tells_no_times();
     let joined = joined_by(alloc, reply)?;
     let mark = Kept::new(reply.inv(), reply.to());
     Ok(Change::new(
         taking.usn(),
         Mode::Normal,
+        state.schema(),
         Some((reply.source(), mark)),
         joined,
         Vector::new(alloc),

@@ -2,3 +2,5 @@ pub mod Moments
 pub mod Writes
 pub mod Steps
 pub mod Outcomes
+pub mod Bytes
+pub mod Honest

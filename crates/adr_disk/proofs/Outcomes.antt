@@ -11,8 +11,8 @@ use Rattle.adr_disk.specs.declared.memory.Crash.{Crash as HowToCrash}
 use Rattle.adr_disk.specs.declared.memory.Crash.TheVariants.{Kept, Lost, Torn}
 use Rattle.adr_disk.specs.declared.memory.Mishap.{Mishap}
 use Rattle.adr_disk.specs.declared.memory.Mishap.TheVariants.{Failure, Crash}
-use Rattle.adr_disk.specs.Bytes.{Torn-same, Torn-put}
-use Rattle.adr_disk.specs.Laws.{MayLeave-over}
+use Rattle.adr_disk.proofs.Bytes.{Torn-same, Torn-put}
+use Rattle.adr_disk.proofs.Honest.{MayLeave-over}
 use Rattle.adr_disk.proofs.Writes.{length-torn_half, over-append}
 use Rattle.adr_disk.proofs.Steps.{after_end_none, after_end_some}
 

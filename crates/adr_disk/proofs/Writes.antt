@@ -2,7 +2,7 @@
 use Rattle.std.proofs.Common.{◌≡◌, ℕ, ◌≤◌, List, [], ◌∷◌, ◌++◌, length, map, refl, arith, length-append, length-take}
 use Rattle.std.proofs.lemmas.List.{length-replicate}
 use Rattle.adr_disk.specs.Disk.{put}
-use Rattle.adr_disk.specs.Bytes.{length-put}
+use Rattle.adr_disk.proofs.Bytes.{length-put}
 use Rattle.adr_disk.specs.Memory.{Write, over, torn_half, torn_write}
 
 pub over-append : (ws us : List Write) (s : List ℕ) → over s (ws ++ us) ≡ over (over s ws) us

@@ -1,4 +1,2 @@
 pub mod Disk
 pub mod Memory
-pub mod Bytes
-pub mod Laws

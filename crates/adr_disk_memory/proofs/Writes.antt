@@ -2,7 +2,7 @@
 use Rattle.std.proofs.Common.{◌≡◌, ℕ, ◌+◌, ◌-◌, ◌≤◌, ◌<◌, List, [], ◌∷◌, ◌++◌, length, take, drop, map, get_or, replicate, refl, sym, ◌∙◌, ap, subst, arith, append_assoc, length-append, length-take, take-append-drop}
 use Rattle.std.proofs.lemmas.List.{append-nil, replicate_more, map_more, map_push, length-replicate, map-append}
 use Rattle.adr_disk.specs.Disk.{put}
-use Rattle.adr_disk.specs.Bytes.{length-put, put-put}
+use Rattle.adr_disk.proofs.Bytes.{length-put, put-put}
 use Rattle.adr_disk.specs.Memory.{Write, over, torn_half, torn_write}
 use Rattle.adr_disk_memory.specs.Platter.{write_of}
 use Rattle.adr_disk_memory.specs.declared.platter.Entry.{Entry}

@@ -277,7 +277,7 @@ impl Disk for MemDisk {
     ghost use Rattle.std.specs.Prelude.{◌⊎◌, Some, drop, length};
     ghost use Rattle.std.proofs.Common.{inl};
     ghost use Rattle.adr_disk.specs.Memory.{read_of, IsImage, IsImageOfOne, spare_calls_of, Does};
-    ghost use Rattle.adr_disk.specs.Laws.{MayLeave-over, only_present};
+    ghost use Rattle.adr_disk.proofs.Honest.{MayLeave-over, only_present};
 
     ghost faults = { λ d. d.faults };
 

@@ -10,12 +10,13 @@ use Rattle.adr_event.specs.declared.event.Event.TheVariants.{Add}
 use Rattle.adr_model.specs.Change.{Change, after}
 use Rattle.adr_model.specs.Replica.{change_in}
 use Rattle.adr_model.specs.Place.{identifier, root}
-use Rattle.adr_model.specs.Step.{ClientWrite, write_of}
+use Rattle.adr_model.specs.Step.{ClientWrite}
 use Rattle.adr_model.specs.Store.{State}
-use Rattle.adr_model.specs.Write.{AddObject, IsWellGiven, write}
+use Rattle.adr_model.specs.Write.{AddObject, write}
+use Rattle.adr_model.specs.Given.{IsWellGiven}
 use Rattle.adr_journal.specs.declared.keeper.Keeper.{Ghosts}
 use Rattle.adr_records.specs.Logged.{IsLogged, MayBegin, MayBeRecorded}
-use Rattle.adr_controller.specs.Able.{written_in, change_of_write}
+use Rattle.adr_controller.specs.Able.{plain_write, written_in, change_of_write}
 use Rattle.adr_law_recorded.specs.Laws.{LoggedFits, NewMayBegin, RecordedIsLogged, WrittenIsRecorded}
 use Rattle.adr_law_recorded.specs.Typed.{IsTypedWrite}
 use Rattle.adr_disk_samples.specs.Takes.{IsWrite, TakesAll, new_state}
@@ -25,7 +26,7 @@ change_ok (Ok x) c is = cc is
 change_ok (Err e) c is = absurd (cc is)
 
 pub recorded : WrittenIsRecorded → (e : Event) → IsWrite e → (s : State) (c : Change) → IsLogged s → written_in e 0 s ≡ Some c → MayBeRecorded s c
-recorded law e typed s c is makes = by (write_of e) typed makes
+recorded law e typed s c is makes = by (plain_write e) typed makes
   where
     by : (o : Option ClientWrite) → IsSomeAnd o (λ (w : ClientWrite). IsWellGiven w.what × IsTypedWrite w.what) → change_of_write 0 s o ≡ Some c → MayBeRecorded s c
     by None typed makes = absurd typed

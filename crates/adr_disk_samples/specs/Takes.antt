@@ -2,11 +2,11 @@
 use Rattle.std.specs.Prelude.{IsSomeAnd}
 use Rattle.adr_event.specs.declared.event.Event.{Event}
 use Rattle.adr_model.specs.Place.{identifier}
-use Rattle.adr_model.specs.Step.{ClientWrite, write_of}
+use Rattle.adr_model.specs.Step.{ClientWrite}
 use Rattle.adr_model.specs.Store.{State, empty_state}
-use Rattle.adr_model.specs.Write.{IsWellGiven}
+use Rattle.adr_model.specs.Given.{IsWellGiven}
 use Rattle.adr_journal.specs.declared.keeper.Keeper.{Ghosts}
-use Rattle.adr_controller.specs.Able.{AllFollow, written_in}
+use Rattle.adr_controller.specs.Able.{AllFollow, plain_write, written_in}
 use Rattle.adr_law_recorded.specs.Typed.{IsTypedWrite}
 
 -- a new, empty controller
@@ -15,7 +15,7 @@ new_state = empty_state (identifier 0xa0) (identifier 0xa1)
 
 -- an event that is a client's write, of values in order and in their types
 abbrev pub IsWrite : Event → Type 0
-IsWrite e = IsSomeAnd (write_of e) (λ (w : ClientWrite). IsWellGiven w.what × IsTypedWrite w.what)
+IsWrite e = IsSomeAnd (plain_write e) (λ (w : ClientWrite). IsWellGiven w.what × IsTypedWrite w.what)
 
 -- it takes the new controller, and each of those writes at the time 0
 pub record TakesAll {K : Type 0} (k : Ghosts K) : Type 0 where

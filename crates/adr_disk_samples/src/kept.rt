@@ -1,7 +1,7 @@
 //! What is done with a keeper, whichever it is.
 
 ghost use Rattle.std.specs.Prelude.{◌≡◌, IfOk, IsSome};
-ghost use Rattle.adr_model.specs.Step.{write_of};
+ghost use Rattle.adr_controller.specs.Able.{plain_write};
 ghost use Rattle.adr_disk_samples.specs.Takes.{IsWrite, TakesAll, new_state};
 
 use adr_controller::{Controller, Keeper, PlannedKeeper, StartRefusal, State};
@@ -36,7 +36,7 @@ fn begin<K: Keeper + Drop>(alloc: Global, keeper: K) -> Result<Controller<K>, K>
 /// What adds a container #10 named "x" under the root.
 fn addition(alloc: Global) -> Result<Event, NoMemory>
     ensures typed { IfOk result IsWrite }
-    ensures write { IfOk result (λ e. IsSome (write_of e)) }
+    ensures write { IfOk result (λ e. IsSome (plain_write e)) }
 {
     let text = Text::from_string(String::from_str(alloc, "x")?);
     let _ = text.items();

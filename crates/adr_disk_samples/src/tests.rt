@@ -5,6 +5,7 @@ ghost use Rattle.adr_model.specs.Lengths.{log_limit};
 
 use crate::kept::{Finding, Mishap};
 use crate::logs::{commit_log, format_log, log_bytes, run_plain, start_log, start_of};
+use adr_checks::Schema;
 use adr_disk::Crash;
 use adr_state::{Change, LOG_LIMIT, Mode, Vector, log_end_after};
 use std::alloc::Global;
@@ -179,18 +180,20 @@ fn a_log_in_memory_alone_is_started_again(rt: HostRuntime) -> Result<(), Fail> {
     Ok(())
 }
 
-/// A quarantine. Its record is a length, a body of 26 bytes and a gate.
-fn quarantine(alloc: Global) -> Change {
+/// A quarantine under schema 1. Its record is a length, a body of 26 bytes and a gate.
+fn quarantine(alloc: Global) -> Option<Change> {
+    let schema = Schema::new(1)?;
     let (joined, purged) = (Vector::new(alloc), Vector::new(alloc));
     let (removed, writes) = (Vec::new(alloc), Vec::new(alloc));
-    Change::new(5, Mode::Quarantined, None, joined, purged, removed, writes)
+    let mode = Mode::Quarantined;
+    Some(Change::new(5, mode, schema, None, joined, purged, removed, writes))
 }
 
 /// Where a log ends behind that record which ended here.
 fn end_after(alloc: Global, end: u64) -> Option<u64>
     requires { end ≤ log_limit }
 {
-    log_end_after(end, &quarantine(alloc))
+    log_end_after(end, &quarantine(alloc)?)
 }
 
 #[test]

@@ -3,7 +3,7 @@ use Rattle.std.specs.Prelude.{ℕ, List, [], codes}
 use Rattle.adr_event.specs.declared.event.Event.{Event}
 use Rattle.adr_event.specs.declared.event.Event.TheVariants as events
 use Rattle.adr_event.specs.declared.verb.Verb.{Verb}
-use Rattle.adr_event.specs.declared.verb.Verb.TheVariants.{Controller, Time, Add, Modify, Rename, Delete, Link, Unlink, Ask, Serve, Deliver, Pull, Cycle, Ring, Collect, Backup, Restore, Install, Snapshot, Rollback, Stop, Fail, Start, Show, Vector, Marks}
+use Rattle.adr_event.specs.declared.verb.Verb.TheVariants.{Controller, Time, Add, Modify, Rename, Delete, Link, Unlink, Ask, Serve, Deliver, Pull, Cycle, Ring, Collect, Upgrade, Revive, Backup, Restore, Install, Snapshot, Rollback, Stop, Fail, Start, Show, Vector, Marks}
 
 abbrev pub word_of : Verb → List ℕ
 word_of Controller = codes "controller"
@@ -21,6 +21,8 @@ word_of Pull = codes "pull"
 word_of Cycle = codes "cycle"
 word_of Ring = codes "ring"
 word_of Collect = codes "collect"
+word_of Upgrade = codes "upgrade"
+word_of Revive = codes "revive"
 word_of Backup = codes "backup"
 word_of Restore = codes "restore"
 word_of Install = codes "install"
@@ -43,13 +45,15 @@ verb_of (events.Rename name guid parent text) = Rename
 verb_of (events.Delete name guid) = Delete
 verb_of (events.Link name from attr to) = Link
 verb_of (events.Unlink name from attr to) = Unlink
-verb_of (events.Ask name partner max bind) = Ask
+verb_of (events.Ask name partner max version bind) = Ask
 verb_of (events.Serve name request bind) = Serve
 verb_of (events.Deliver name reply) = Deliver
 verb_of (events.Pull name source max) = Pull
 verb_of (events.Cycle name source max) = Cycle
 verb_of (events.Ring name others rounds max) = Ring
 verb_of (events.Collect name lifetime) = Collect
+verb_of (events.Upgrade name) = Upgrade
+verb_of (events.Revive name guid image parent text) = Revive
 verb_of (events.Backup name bind) = Backup
 verb_of (events.Restore name image inv) = Restore
 verb_of (events.Install name dsa image inv) = Install
@@ -73,13 +77,15 @@ name_of (events.Rename name guid parent text) = name
 name_of (events.Delete name guid) = name
 name_of (events.Link name from attr to) = name
 name_of (events.Unlink name from attr to) = name
-name_of (events.Ask name partner max bind) = name
+name_of (events.Ask name partner max version bind) = name
 name_of (events.Serve name request bind) = name
 name_of (events.Deliver name reply) = name
 name_of (events.Pull name source max) = name
 name_of (events.Cycle name source max) = name
 name_of (events.Ring name others rounds max) = name
 name_of (events.Collect name lifetime) = name
+name_of (events.Upgrade name) = name
+name_of (events.Revive name guid image parent text) = name
 name_of (events.Backup name bind) = name
 name_of (events.Restore name image inv) = name
 name_of (events.Install name dsa image inv) = name

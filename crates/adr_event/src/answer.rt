@@ -6,7 +6,7 @@ use crate::directory::Directory;
 use crate::partners::PartnerMarks;
 use adr_guid::Guid;
 use adr_schema::Text;
-use adr_vector::{Mark, Vector};
+use adr_vector::{Mark, Times, Vector};
 use std::marker::Model;
 
 /// A value in a refusal.
@@ -91,8 +91,11 @@ pub enum Outcome {
     Removed(u32),
     /// The directory that was asked for.
     Show(Directory),
-    /// What was seen of each incarnation.
-    Vector(Vector),
+    /// What was seen of each incarnation, and when.
+    Vector {
+        vector: Vector,
+        times: Times,
+    },
     /// How far each partner was read.
     Marks(PartnerMarks),
     /// So many rounds were made, and then the directories, and the vectors, were all equal or not.
@@ -127,7 +130,10 @@ impl Drop for Outcome {
     fn drop(self) {
         match self {
             Outcome::Show(_directory) => {}
-            Outcome::Vector(_vector) => {}
+            Outcome::Vector {
+                vector: _vector,
+                times: _times,
+            } => {}
             Outcome::Marks(_marks) => {}
             Outcome::Refused {
                 number: _,

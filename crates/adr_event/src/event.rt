@@ -59,11 +59,12 @@ pub enum Event {
         attr: u16,
         to: Guid,
     },
-    /// The controller asks a partner for at most `max` items; the request is bound to a name.
+    /// The controller asks a partner for at most `max` items, in version 1 or 2; the request is bound to a name.
     Ask {
         name: Text,
         partner: Text,
         max: u32,
+        version: u16,
         bound: Text,
     },
     /// The controller answers a request; the reply is bound to a name.
@@ -100,6 +101,18 @@ pub enum Event {
     Collect {
         name: Text,
         lifetime: u64,
+    },
+    /// The controller changes over to schema 2.
+    Upgrade {
+        name: Text,
+    },
+    /// A client has an object of an image come again, under a new birth.
+    Revive {
+        name: Text,
+        guid: Guid,
+        image: Text,
+        parent: Guid,
+        text: Text,
     },
     /// The image of the controller is bound to a name.
     Backup {

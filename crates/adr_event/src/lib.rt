@@ -16,13 +16,14 @@ pub use adr_disk::Crash;
 pub use adr_failure::Failure;
 pub use adr_schema::{Assignments, SchemaRefusal, Text, Values};
 pub use adr_stamp::Oid;
-pub use adr_vector::{Mark, Vector};
+pub use adr_vector::{Mark, Times, Vector};
 pub use answer::{Answer, Field, Fields, Outcome, Plainly};
 pub use directory::{Directory, Entry, EntryLinks, EntryValues, Guids};
 pub use event::Event;
 pub use names::Names;
 pub use partners::PartnerMarks;
 pub use refusal::{
-    AdoptRefusal, CollectRefusal, ItemFault, ServeRefusal, Table, TakeRefusal, WriteRefusal,
+    AdoptRefusal, CollectRefusal, ItemFault, ServeRefusal, Table, TakeRefusal, UpgradeRefusal,
+    WriteRefusal,
 };
 pub use verb::Verb;

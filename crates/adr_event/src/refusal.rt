@@ -73,6 +73,14 @@ pub enum WriteRefusal {
     Full { table: Table, limit: u64 },
     /// The controller showed a partner that its database was put back without a fresh identifier.
     Quarantined,
+    /// The image is of a later schema.
+    SchemaMismatch { mine: u32, theirs: u32 },
+    /// The image shows no object of the GUID.
+    NotInImage { guid: Guid },
+    /// A live object of the GUID is held.
+    StillLive { guid: Guid },
+    /// What the object would be named by is named already.
+    BirthThere { guid: Guid },
 }
 
 impl From<WriteRefusal> for Failure<WriteRefusal> {
@@ -141,6 +149,15 @@ pub enum CollectRefusal {
     Quarantined,
     /// The USN can't rise.
     UsnLimit,
+}
+
+/// Why a controller did not change over to schema 2.
+#[derive(Clone, Copy)]
+pub enum UpgradeRefusal {
+    /// The controller is quarantined.
+    Quarantined,
+    /// It has that schema.
+    SchemaThere { number: u32 },
 }
 
 /// Why an image was not adopted.

@@ -3,10 +3,11 @@
 ghost use Rattle.std.specs.Prelude.{◌≡◌, ◌↔◌, IfOk, IsTrue};
 ghost use Rattle.adr_model.specs.Formed.{IsFormed};
 ghost use Rattle.adr_law_formed.specs.Follow.{CanFollow, HasKnownClasses};
-ghost use Rattle.adr_law_formed.specs.Spelled.{IsSpelledChange};
+ghost use Rattle.adr_model.specs.Spelled.{IsSpelledChange};
 ghost use Rattle.adr_law_formed.specs.Tested.{can_follow, writes_pass};
 
 use crate::NoMemory;
+use crate::numbers::keeps_schema;
 use crate::removed::are_removable;
 use crate::touched::are_touched_formed;
 use crate::vectors::{are_in_order, comes_after};
@@ -36,6 +37,9 @@ fn passes(alloc: Global, state: &State, change: &Change) -> Result<bool, NoMemor
     if !comes_after(state, change) {
         return Ok(false);
     }
+    if !keeps_schema(state, change) {
+        return Ok(false);
+    }
     if !are_in_order(state, change) {
         return Ok(false);
     }
@@ -60,5 +64,5 @@ fn writes_pass(
     if !are_removable(told, state.purged(), change) {
         return Ok(false);
     }
-    are_touched_formed(alloc, schema, told, change)
+    are_touched_formed(alloc, change.schema(), told, change)
 }

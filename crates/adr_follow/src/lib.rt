@@ -7,6 +7,7 @@
 
 mod follow;
 mod forms;
+mod numbers;
 mod removed;
 mod touched;
 mod vectors;

@@ -17,7 +17,7 @@ use Rattle.adr_stamp.specs.contracts.OidOrd.TheImpl.Laws.{total-law as objects_t
 use Rattle.adr_stamp.specs.contracts.LinkKeyOrd.TheImpl.Laws.{total-law as links_total}
 use Rattle.adr_stamp.proofs.Exact.{exact_objects}
 use Rattle.adr_schema.specs.Table.{Table, has, must_of}
-use Rattle.adr_schema.specs.Schemas.{schema_table, schema_1}
+use Rattle.adr_schema.specs.Schemas.{schema_table, schema_1, schema_2}
 use Rattle.adr_schema.specs.Numbered.{numbered}
 use Rattle.adr_wire.specs.Reading.{is_above}
 use Rattle.adr_wire.specs.Ranges.{IsU32, IsId, IsMark, InTurn}
@@ -241,12 +241,15 @@ marked last (k ∷ ks) turn spelled ordered =
     )
 
 number_of_schema : (n : ℕ) → is_some (schema_table n) ≡ true → IsU32 n
-unfolding schema_1
 number_of_schema n there = by (eqb n 1) refl there
   where
-    by : (b : Bool) → eqb n 1 ≡ b → is_some (cond b (Some schema_1) None) ≡ true → IsU32 n
+    other : (b : Bool) → eqb n 2 ≡ b → is_some (cond b (Some schema_2) None) ≡ true → IsU32 n
+    other true e h = let two = eqb-true n 2 e in omega (arith, two)
+    other false e h = absurd (cc)
+
+    by : (b : Bool) → eqb n 1 ≡ b → is_some (cond b (Some schema_1) (cond (eqb n 2) (Some schema_2) None)) ≡ true → IsU32 n
     by true e h = let one = eqb-true n 1 e in omega (arith, one)
-    by false e h = absurd (cc)
+    by false e h = other (eqb n 2) refl h
 
 module _ (s : Store) (f : IsFormedStore s) (q : IsSpelled s) where
   abbrev pub os : List Rows

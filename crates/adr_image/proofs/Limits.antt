@@ -11,6 +11,7 @@ use Rattle.std.proofs.lemmas.Bool.{leb-true, eqb-true}
 use Rattle.std.proofs.lemmas.Cmp.{nat_cmp_total, tied_itself}
 use Rattle.adr_stamp.specs.declared.Oid.{Oid}
 use Rattle.adr_stamp.specs.Order.{object_order}
+use Rattle.adr_vector.proofs.Moments.{no_times}
 use Rattle.adr_wire.specs.Ranges.{InTurn}
 use Rattle.adr_model.specs.Member.{Each}
 use Rattle.adr_model.specs.Update.{Update}
@@ -111,6 +112,7 @@ pub formed : (p : Parts) → AreParts p → IsFormedStore (store_of p)
 formed p q =
     record {
       vector = q.vector.0;
+      times = no_times p.vector;
       purged = q.purged.0.0;
       purged_within = q.purged.1;
       marks = ordered None p.marks q.marks.1;

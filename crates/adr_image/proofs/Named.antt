@@ -14,7 +14,7 @@ use Rattle.adr_stamp.specs.contracts.OidOrd.TheImpl.Laws.{total-law as objects_t
 use Rattle.adr_schema.specs.declared.content.Content.{Content}
 use Rattle.adr_schema.specs.declared.content.Content.TheVariants.{Class, Name, Dead, Values}
 use Rattle.adr_schema.specs.Table.{Table, Class as SchemaClass, has, must_of, class_at}
-use Rattle.adr_schema.specs.Schemas.{schema_1}
+use Rattle.adr_schema.specs.Schemas.{schema_1, schema_2}
 use Rattle.std.specs.Option.{option_map_or}
 use Rattle.adr_schema.specs.declared.content.Value.{Value as Datum}
 use Rattle.adr_schema.specs.Allowed.{IsAllowed, MayBeHeld}
@@ -178,12 +178,12 @@ one_found (c ∷ cs) class attr all h = by (eqb c.number class) h (λ g. one_fou
     by false g later = later g
 
 plain_musts : (number class attr : ℕ) → has (must_of (numbered number) class) attr ≡ true → 3 < attr
-unfolding schema_1
-plain_musts number class attr h = by (eqb number 1) h
+unfolding schema_1 schema_2
+plain_musts number class attr h = by (leb number 1) h
   where
-    by : (b : Bool) → has (must_of (unwrap_or (cond b (Some schema_1) None) schema_1) class) attr ≡ true → 3 < attr
+    by : (b : Bool) → has (must_of (cond b schema_1 schema_2) class) attr ≡ true → 3 < attr
     by true g = one_found schema_1.classes class attr refl g
-    by false g = one_found schema_1.classes class attr refl g
+    by false g = one_found schema_2.classes class attr refl g
 
 -- ---- behind a class row the class is known
 

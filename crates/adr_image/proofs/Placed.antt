@@ -1,5 +1,6 @@
 -- An image that stands in other bytes is spelled in one way.
-use Rattle.std.proofs.Common.{◌≡◌, ℕ, List, ◌++◌, Ok, refl, sym, ap, ◌∙◌, arith}
+use Rattle.std.proofs.Common.{◌≡◌, ℕ, List, [], ◌++◌, Ok, refl, sym, ap, ◌∙◌, arith}
+use Rattle.adr_vector.specs.Vector.{Cursors}
 use Rattle.adr_wire.specs.Fields.{format_version_at, magic_at, u16}
 use Rattle.adr_wire.specs.Reading.{Rest, Read, Reading, ◌>>=◌, then_at}
 use Rattle.adr_wire.specs.Spelling.{IsSpelling}
@@ -38,7 +39,9 @@ abbrev IsRight : Store → Type 0
 IsRight s = IsFormedStore s × IsSpelled s
 
 stored_again : (s : Store) → IsFormedStore s → IsSpelled s → store_of (parts_in s) ≡ s
-stored_again s f q = ap (λ (rows : List Held). let x : Store = record { schema = s.schema; usn = s.usn; rows = rows; vector = s.vector; purged = s.purged; marks = s.marks } in x) (same_rows s f q)
+stored_again s f q =
+    ap (λ (rows : List Held). let x : Store = record { schema = s.schema; usn = s.usn; rows = rows; vector = s.vector; times = []; purged = s.purged; marks = s.marks } in x) (same_rows s f q)
+    ∙ ap (λ (times : Cursors). let x : Store = record s { times = times } in x) (sym q.times)
 
 pub image_spelled : IsSpelling IsRight image image_at
 unfolding image_at

@@ -47,8 +47,8 @@ flag_told : (b : Bool) → is_quarantined (mode_of_flag b) ≡ b
 flag_told true = refl
 flag_told false = refl
 
-pub bytes_are : (b : Body) → change_bytes (change_of b) ≡ body b
-bytes_are b =
+pub bytes_are : (schema : ℕ) (b : Body) → change_bytes (change_of schema b) ≡ body b
+bytes_are schema b =
     ap (λ (f : Bool). u64 b.0 ++ (flag f ++ (mark_if b.1.1.0 ++ (vector b.1.1.1.0 ++ (vector b.1.1.1.1.0
     ++ ((u32 (length b.1.1.1.1.1.0) ++ flat_map oid b.1.1.1.1.1.0) ++ (u32 (length (map written_of b.1.1.1.1.1.1)) ++ flat_map written_bytes (map written_of b.1.1.1.1.1.1)))))))) (flag_told b.1.0)
     ∙ ap (λ (n : ℕ). u64 b.0 ++ (flag b.1.0 ++ (mark_if b.1.1.0 ++ (vector b.1.1.1.0 ++ (vector b.1.1.1.1.0
@@ -58,27 +58,27 @@ bytes_are b =
 
 -- ---- what is written is read again, and what is read was written so
 
-body_again : (before : ℕ) (b : Body) → IsBody before b → decoded_change before (change_bytes (change_of b)) ≡ Some (change_of b)
-body_again before b q =
-    ap whole_change (ap (λ (bytes : List ℕ). body_at before (from 0 bytes)) (bytes_are b ∙ sym (append-nil (body b))) ∙ (body_spelled before).again 0 b [] q)
+body_again : (before schema : ℕ) (b : Body) → IsBody before b → decoded_change before schema (change_bytes (change_of schema b)) ≡ Some (change_of schema b)
+body_again before schema b q =
+    ap (whole_change schema) (ap (λ (bytes : List ℕ). body_at before (from 0 bytes)) (bytes_are schema b ∙ sym (append-nil (body b))) ∙ (body_spelled before).again 0 b [] q)
 
-pub change_again : (before : ℕ) (c : Change) → HasBody before c → decoded_change before (change_bytes c) ≡ Some c
-change_again before c q = subst (λ (d : Change). decoded_change before (change_bytes d) ≡ Some d) (sym q.says) (body_again before q.body q.in_range)
+pub change_again : (before schema : ℕ) (c : Change) → HasBody before schema c → decoded_change before schema (change_bytes c) ≡ Some c
+change_again before schema c q = subst (λ (d : Change). decoded_change before schema (change_bytes d) ≡ Some d) (sym q.says) (body_again before schema q.body q.in_range)
 
-pub change_only : (before : ℕ) (bytes : List ℕ) (c : Change) → AreBytes bytes → decoded_change before bytes ≡ Some c → HasBody before c × (bytes ≡ change_bytes c)
-change_only before bytes c fits e = by (body_at before (from 0 bytes)) refl e
+pub change_only : (before schema : ℕ) (bytes : List ℕ) (c : Change) → AreBytes bytes → decoded_change before schema bytes ≡ Some c → HasBody before schema c × (bytes ≡ change_bytes c)
+change_only before schema bytes c fits e = by (body_at before (from 0 bytes)) refl e
   where
-    whole : (b : Body) (rest : Rest) (t : Bool) → eqb (length rest.bytes) 0 ≡ t → body_at before (from 0 bytes) ≡ Ok (b, rest) → cond t (Some (change_of b)) None ≡ Some c → HasBody before c × (bytes ≡ change_bytes c)
+    whole : (b : Body) (rest : Rest) (t : Bool) → eqb (length rest.bytes) 0 ≡ t → body_at before (from 0 bytes) ≡ Ok (b, rest) → cond t (Some (change_of schema b)) None ≡ Some c → HasBody before schema c × (bytes ≡ change_bytes c)
     whole b rest true end r h =
         let was : Was (IsBody before) body 0 bytes b rest = (body_spelled before).only 0 bytes b rest fits r in
         let none = nil_from_length rest.bytes (eqb-true (length rest.bytes) 0 end) in
-        let says : change_of b ≡ c = cc in (
+        let says : change_of schema b ≡ c = cc in (
           record { body = b; in_range = was.in_range; says = sym says },
-          was.spelled_so ∙ ap (λ (w : List ℕ). body b ++ w) none ∙ append-nil (body b) ∙ sym (bytes_are b) ∙ ap change_bytes says,
+          was.spelled_so ∙ ap (λ (w : List ℕ). body b ++ w) none ∙ append-nil (body b) ∙ sym (bytes_are schema b) ∙ ap change_bytes says,
         )
     whole b rest false end r h = absurd (cc)
 
-    by : (r : Read Body) → body_at before (from 0 bytes) ≡ r → whole_change r ≡ Some c → HasBody before c × (bytes ≡ change_bytes c)
+    by : (r : Read Body) → body_at before (from 0 bytes) ≡ r → whole_change schema r ≡ Some c → HasBody before schema c × (bytes ≡ change_bytes c)
     by (Ok x) r h = whole x.0 x.1 (eqb (length x.1.bytes) 0) refl r h
     by (Err place) r h = absurd (cc)
 
@@ -105,8 +105,8 @@ writes_short last [] turn k d lt = absurd (omega arith)
 writes_short last (w ∷ ws) turn zero d lt = piece_short w.1 turn.0.1
 writes_short last (w ∷ ws) turn (suc k) d lt = writes_short (Some w.0) ws turn.1 k d (omega arith)
 
-body_short : (before : ℕ) (b : Body) → IsBody before b → IsShortChange (change_of b)
-body_short before b q =
+body_short : (before schema : ℕ) (b : Body) → IsBody before b → IsShortChange (change_of schema b)
+body_short before schema b q =
     let long = mapped_long written_of b.1.1.1.1.1.1 in
     let few = q.1.1.1.1.1.1.0 in
     record { removed = q.1.1.1.1.1.0.0; few = omega (arith, long, few); short = writes_short (Some before) b.1.1.1.1.1.1 q.1.1.1.1.1.1.1 }
@@ -136,9 +136,9 @@ mark_long : (m : Option Marked) → IsMarkIf m → length (mark_if m) ≡ 1 + co
 mark_long None q = refl
 mark_long (Some k) q = let long = kept_long None k q in omega (arith, long)
 
-body_long : (before : ℕ) (b : Body) → IsBody before b → length (body b) ≡ change_length (change_of b)
+body_long : (before schema : ℕ) (b : Body) → IsBody before b → length (body b) ≡ change_length (change_of schema b)
 unfolding u32 u64
-body_long before b q =
+body_long before schema b q =
     let mark = mark_long b.1.1.0 q.1.1.0 in
     let joined = vector_long b.1.1.1.0 q.1.1.1.0 in
     let purged = vector_long b.1.1.1.1.0 q.1.1.1.1.0 in
@@ -146,9 +146,9 @@ body_long before b q =
     let writes = writes_long 0 (Some before) b.1.1.1.1.1.1 q.1.1.1.1.1.1.1 in
     simp length-append (omega (arith, mark, joined, purged, removed, writes))
 
-pub change_short : (before : ℕ) (c : Change) → HasBody before c → IsShortChange c
-change_short before c q = subst IsShortChange (sym q.says) (body_short before q.body q.in_range)
+pub change_short : (before schema : ℕ) (c : Change) → HasBody before schema c → IsShortChange c
+change_short before schema c q = subst IsShortChange (sym q.says) (body_short before schema q.body q.in_range)
 
-pub change_long : (before : ℕ) (c : Change) → HasBody before c → length (change_bytes c) ≡ change_length c
-change_long before c q =
-    subst (λ (d : Change). length (change_bytes d) ≡ change_length d) (sym q.says) (ap (λ (bytes : List ℕ). length bytes) (bytes_are q.body) ∙ body_long before q.body q.in_range)
+pub change_long : (before schema : ℕ) (c : Change) → HasBody before schema c → length (change_bytes c) ≡ change_length c
+change_long before schema c q =
+    subst (λ (d : Change). length (change_bytes d) ≡ change_length d) (sym q.says) (ap (λ (bytes : List ℕ). length bytes) (bytes_are schema q.body) ∙ body_long before schema q.body q.in_range)

@@ -66,6 +66,7 @@ module _ (p : Parts) (q : AreParts p) where
         schema = q.schema.1;
         usn = q.usn;
         vector = q.vector.1;
+        times = refl;
         purged = q.purged.0.1;
         marks = marks_in_range None p.marks q.marks.1;
         partners = (chain identifier_order nat_list_cmp_total (λ (k : Marked). k.0) None p.marks (marks_in_turn None p.marks q.marks.1)).0;

@@ -1,6 +1,6 @@
 -- A spelled store stays spelled by what a body in range says.
 use Rattle.std.proofs.Common.{◌≡◌, ℕ, ◌<◌, ◌^◌, Bool, true, false, cond, List, [], ◌∷◌, map, fold, Option, Some, None, refl, sym, ap, subst, ◌∙◌, inl, inr, ⊎_elim, arith}
-use Rattle.std.specs.Prelude.{◌⊎◌}
+use Rattle.std.specs.Prelude.{◌⊎◌, is_some}
 use Rattle.std.specs.BTreeMap.{insert_entry}
 use Rattle.std.specs.List.{AllByRecursion}
 use Rattle.std.specs.List.Sorted.{IsStrictlySortedBy}
@@ -13,6 +13,7 @@ use Rattle.std.proofs.lemmas.Cmp.{nat_list_cmp_total}
 use Rattle.adr_stamp.specs.declared.Oid.{Oid}
 use Rattle.adr_stamp.specs.Order.{identifier_order}
 use Rattle.adr_schema.specs.Numbered.{numbered}
+use Rattle.adr_schema.specs.Schemas.{schema_table}
 use Rattle.adr_vector.specs.Vector.{Cursors, at, covers, raised, joined}
 use Rattle.adr_wire.specs.Composites.{Row}
 use Rattle.adr_wire.specs.Pieces.{Piece, OfRows, OfLink, IsPiece}
@@ -138,17 +139,18 @@ held_right ws each h m =
 
 -- ---- the whole
 
-pub stays_spelled : (s : State) (c : Change) → IsId s.inv → IsSpelled s.store → HasBody s.store.usn c → AreClassesKnown (numbered s.store.schema) (updates_of (after s c).store.rows) → IsSpelled (after s c).store
-stays_spelled s c id q has known = subst (λ (d : Change). IsSpelled (after s d).store) (sym has.says) (let b = has.in_range in record {
-  schema = q.schema;
+pub stays_spelled : (s : State) (c : Change) → IsId s.inv → IsSpelled s.store → is_some (schema_table c.schema) ≡ true → HasBody s.store.usn c.schema c → AreClassesKnown (numbered c.schema) (updates_of (after s c).store.rows) → IsSpelled (after s c).store
+stays_spelled s c id q there has known = subst (λ (d : Change). IsSpelled (after s d).store) (sym has.says) (let b = has.in_range in record {
+  schema = there;
   usn = b.0;
   vector = raised_spelled (joined s.store.vector has.body.1.1.1.0) s.inv has.body.0 (joined_spelled s.store.vector has.body.1.1.1.0 q.vector b.1.1.1.0.1) id b.0;
+  times = q.times;
   purged = joined_spelled s.store.purged has.body.1.1.1.1.0 q.purged b.1.1.1.1.0.1;
   marks = mark_spelled has.body.1.1.0 s.store.marks b.1.1.0 q.marks;
   partners = partners_rise has.body.1.1.0 s.store.marks q.partners;
   rows = λ h m. ⊎_elim (λ w. held_right _ (writes_right (Some s.store.usn) has.body.1.1.1.1.1.1 b.1.1.1.1.1.1.1) h w) (λ r. q.rows h r)
       (from_writes (held_of (map written_of has.body.1.1.1.1.1.1)) s.store.rows h (from_removals has.body.1.1.1.1.1.0 (fold put s.store.rows (held_of (map written_of has.body.1.1.1.1.1.1))) h m));
-  classes = λ h m. subst (λ (d : Change). AreClassesKnown (numbered s.store.schema) (updates_of (after s d).store.rows)) has.says known h.update
+  classes = λ h m. subst (λ (d : Change). AreClassesKnown (numbered c.schema) (updates_of (after s d).store.rows)) has.says known h.update
       (member_mapped (λ (x : Held). x.update) (rows_after has.body.1.1.1.1.1.0 (held_of (map written_of has.body.1.1.1.1.1.1)) s.store.rows) h m);
 })
 
@@ -158,6 +160,7 @@ begins_spelled = record {
   schema = refl;
   usn = omega arith;
   vector = tt;
+  times = refl;
   purged = tt;
   marks = λ k m. absurd m;
   partners = tt;

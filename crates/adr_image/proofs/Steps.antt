@@ -1,9 +1,10 @@
 -- What stands behind the version is read part by part.
-use Rattle.std.proofs.Common.{◌≡◌, ℕ, ◌-◌, ◌≤◌, ◌^◌, Bool, cond, List, [], None, Ok, Err, refl, sym, ap, ◌∙◌, arith}
-use Rattle.std.specs.Prelude.{nat_le}
-use Rattle.std.proofs.lemmas.Bool.{le-leb, ltb-true}
+use Rattle.std.proofs.Common.{◌≡◌, ℕ, ◌-◌, ◌≤◌, ◌^◌, Bool, true, false, cond, eqb, List, [], Option, Some, None, Ok, Err, refl, sym, ap, subst, ◌∙◌, arith}
+use Rattle.std.specs.Prelude.{is_some, nat_le}
+use Rattle.std.proofs.lemmas.Bool.{eqb-true, le-leb, ltb-true}
 use Rattle.adr_failure.specs.declared.Failure.{Failure}
 use Rattle.adr_schema.specs.Numbered.{numbered}
+use Rattle.adr_schema.specs.Schemas.{schema_1, schema_2, schema_table}
 use Rattle.adr_schema.specs.Table.{Table}
 use Rattle.adr_vector.specs.Vector.{Cursors, at_most}
 use Rattle.adr_wire.specs.declared.refusal.Malformed.{Malformed}
@@ -30,6 +31,25 @@ then_second {A} {B} e a b rest mid x p h =
 
 pub then_first : {A B : Type 0} (e : Failure Malformed) (a : Reading A) (b : A → Reading B) (rest : Rest) → Refuses e (a rest) → Refuses e (then_at a b rest)
 then_first e a b rest h = refuses_then e (a rest) (λ z. b z.0 z.1 >>= λ w. Ok ((z.0, w.0), w.1)) h
+
+-- a number that a schema has is that of the schema
+schema_read : (number : ℕ) (t : Table) → schema_table number ≡ Some t → t.number ≡ number
+unfolding schema_1 schema_2
+schema_read number t is = one (eqb number 1) refl is
+  where
+    two : (b : Bool) → eqb number 2 ≡ b → cond b (Some schema_2) None ≡ Some t → t.number ≡ number
+    two true same e = subst (λ (x : Table). x.number ≡ number) (let is_it : schema_2 ≡ t = cc in is_it) (sym (eqb-true number 2 same))
+    two false same e = absurd (cc)
+
+    one : (b : Bool) → eqb number 1 ≡ b → cond b (Some schema_1) (cond (eqb number 2) (Some schema_2) None) ≡ Some t → t.number ≡ number
+    one true same e = subst (λ (x : Table). x.number ≡ number) (let is_it : schema_1 ≡ t = cc in is_it) (sym (eqb-true number 1 same))
+    one false same e = two (eqb number 2) refl e
+
+pub number_read : (number : ℕ) (t : Table) (rest mid : Rest) → u32_at rest ≡ Ok (number, mid) → schema_table number ≡ Some t → where_at is_known u32_at rest ≡ Ok (t.number, mid)
+number_read number t rest mid p is =
+    ap (λ (r : Read ℕ). r >>= λ x. cond (is_known x.0) (Ok x) (Err rest.place)) p
+    ∙ ap (λ (o : Option Table). let r : Read ℕ = cond (is_some o) (Ok (number, mid)) (Err rest.place) in r) is
+    ∙ ap (λ (n : ℕ). let r : Read ℕ = Ok (n, mid) in r) (sym (schema_read number t is))
 
 -- what stands behind a count is read by it
 module _ {B : Type 0} (b : ℕ → Reading B) where

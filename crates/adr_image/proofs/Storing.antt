@@ -13,6 +13,7 @@ use Rattle.adr_schema.specs.declared.content.Content.{Content}
 use Rattle.adr_schema.specs.declared.content.Content.TheVariants.{Class, Name, Dead, Values}
 use Rattle.adr_schema.specs.Table.{Table}
 use Rattle.adr_schema.specs.Numbered.{numbered}
+use Rattle.adr_vector.specs.Vector.{Cursors}
 use Rattle.adr_wire.specs.Reading.{is_above}
 use Rattle.adr_wire.specs.Ranges.{InTurn}
 use Rattle.adr_wire.specs.declared.refusal.DecodeRefusal.{DecodeRefusal}
@@ -133,4 +134,5 @@ image_only bytes s fits e =
 pub image_again : (s : Store) → AreRising s.rows → IsSpelled s → AreParts (parts_in s) → decoded (image s) ≡ Ok s
 image_again s rising spelled q =
     ap stored (parts_again (parts_in s) q)
-    ∙ ap (λ (rows : List Held). let r : Result Store DecodeRefusal = Ok (record { schema = s.schema; usn = s.usn; rows = rows; vector = s.vector; purged = s.purged; marks = s.marks }) in r) (joined_again s.rows rising spelled.rows)
+    ∙ ap (λ (rows : List Held). let r : Result Store DecodeRefusal = Ok (record { schema = s.schema; usn = s.usn; rows = rows; vector = s.vector; times = []; purged = s.purged; marks = s.marks }) in r) (joined_again s.rows rising spelled.rows)
+    ∙ ap (λ (times : Cursors). let r : Result Store DecodeRefusal = Ok (record s { times = times }) in r) (sym spelled.times)

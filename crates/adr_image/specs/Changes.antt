@@ -1,5 +1,5 @@
 -- A change as the body of a journal's record, and back.
-use Rattle.std.specs.Prelude.{if◌then◌else◌, ◌≡◌, ◌<◌, ◌^◌, ℕ, List, ◌++◌, All, Bool, true, false, ◌==◌, length, map, Option, Some, None, Ok, Err}
+use Rattle.std.specs.Prelude.{if◌then◌else◌, ◌≡◌, ◌<◌, ◌^◌, ℕ, List, [], ◌++◌, All, Bool, true, false, ◌==◌, length, map, Option, Some, None, Ok, Err}
 use Rattle.std.specs.List.{flat_map}
 use Rattle.adr_stamp.specs.declared.Unit.{Unit as Named}
 use Rattle.adr_stamp.specs.declared.Unit.TheVariants.{Object, Link}
@@ -15,7 +15,7 @@ use Rattle.adr_law_lengths.specs.Written.{link_item, object_item}
 use Rattle.adr_image.specs.Body.{Body, Write, body_at, mark_if, IsBody}
 use Rattle.adr_image.specs.Written.{IsShortSaid, told}
 
--- ---- from a body to a change
+-- ---- from a body to a change. A body tells no number of a schema: whose it is comes with it
 
 abbrev pub item_of : Piece → Item
 item_of (OfRows x) = object_item x
@@ -28,26 +28,28 @@ abbrev pub mode_of_flag : Bool → Mode
 mode_of_flag true = Quarantined
 mode_of_flag false = Normal
 
-abbrev pub change_of : Body → Change
-change_of b =
+abbrev pub change_of : ℕ → Body → Change
+change_of schema b =
     record {
       usn = b.0;
       mode = mode_of_flag b.1.0;
+      schema = schema;
       mark = b.1.1.0;
       joined = b.1.1.1.0;
+      times = [];
       purged = b.1.1.1.1.0;
       removed = b.1.1.1.1.1.0;
       writes = map written_of b.1.1.1.1.1.1;
     }
 
 -- the change of a body behind which nothing is left
-abbrev pub whole_change : Read Body → Option Change
-whole_change (Ok x) = if length x.1.bytes == 0 then Some (change_of x.0) else None
-whole_change (Err place) = None
+abbrev pub whole_change : ℕ → Read Body → Option Change
+whole_change schema (Ok x) = if length x.1.bytes == 0 then Some (change_of schema x.0) else None
+whole_change schema (Err place) = None
 
--- what bytes say to a controller of this USN, if they are the body of a record
-abbrev pub decoded_change : ℕ → List ℕ → Option Change
-decoded_change before bytes = whole_change (body_at before (record { place = 0; bytes = bytes }))
+-- what bytes say to a controller of this USN and this schema, if they are the body of a record
+abbrev pub decoded_change : (before schema : ℕ) → List ℕ → Option Change
+decoded_change before schema bytes = whole_change schema (body_at before (record { place = 0; bytes = bytes }))
 
 -- ---- from a change to a body
 
@@ -78,8 +80,8 @@ pub record IsShortChange (c : Change) : Type 0 where
   pub few : length c.writes < 2 ^ 32
   pub short : All (λ (w : Written). AreShort w.item.rows) c.writes
 
--- a change that a body in range says, behind this USN
-pub record HasBody (before : ℕ) (c : Change) : Type 0 where
+-- a change that a body in range says, behind this USN and under this schema
+pub record HasBody (before schema : ℕ) (c : Change) : Type 0 where
   pub body : Body
   pub in_range : IsBody before body
-  pub says : c ≡ change_of body
+  pub says : c ≡ change_of schema body

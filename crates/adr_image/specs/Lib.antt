@@ -8,5 +8,4 @@ pub mod Lengths
 pub mod Seen
 pub mod Written
 pub mod Changes
-pub mod Naming
 pub mod Anew

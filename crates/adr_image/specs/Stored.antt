@@ -19,7 +19,7 @@ use Rattle.adr_model.specs.Store.{Held, Store}
 use Rattle.adr_image.specs.Image.{HeldRow, Rows, HeldLink, Marked}
 use Rattle.adr_image.specs.Whole.{Parts, magic, parts_at, image_of, read_parts}
 
--- ---- from parts to a store
+-- ---- from parts to a store, which has no times
 
 abbrev pub held_of : Oid → HeldRow → Held
 held_of o h = record { update = record { key = RowOf o h.1.0; stamp = record { created = 0; stamp = h.1.1 }; said = Holds h.1.2 }; local = h.0 }
@@ -34,7 +34,7 @@ abbrev pub rows_of : List Rows × List HeldLink → List Held
 rows_of p = flat_map rows_of_object p.0 ++ map link_of p.1
 
 abbrev pub store_of : Parts → Store
-store_of p = record { schema = p.schema; usn = p.usn; rows = rows_of (p.objects, p.links); vector = p.vector; purged = p.purged; marks = p.marks }
+store_of p = record { schema = p.schema; usn = p.usn; rows = rows_of (p.objects, p.links); vector = p.vector; times = []; purged = p.purged; marks = p.marks }
 
 -- ---- from a store to parts
 
@@ -97,6 +97,8 @@ pub record IsSpelled (s : Store) : Type 0 where
   pub schema : is_some (schema_table s.schema) ≡ true
   pub usn : IsUsn0 s.usn
   pub vector : AllByRecursion IsCursor s.vector
+  -- images tell no times
+  pub times : s.times ≡ []
   pub purged : AllByRecursion IsCursor s.purged
   pub marks : Each (λ (k : Marked). IsId k.0 × (IsId k.1.inv × IsMark k.1.mark)) s.marks
   pub partners : IsStrictlySortedBy identifier_order (map (λ (k : Marked). k.0) s.marks)

@@ -41,6 +41,7 @@ impl Contents {
         Ok(Change::new(
             self.usn,
             Mode::Normal,
+            self.schema,
             None,
             joined,
             purged,

@@ -16,6 +16,7 @@ ghost use Rattle.adr_image.specs.Seen.{GivesSeen};
 use crate::links::LinkItem;
 use crate::marks::read_kept;
 use adr_change::{Change, Kept, Mode};
+use adr_checks::Schema;
 use adr_guid::Guid;
 use adr_schema::Content;
 use adr_stamp::{LinkStamp, Oid, Stamp, Unit};
@@ -163,10 +164,15 @@ fn mode_of_flag(quarantined: bool) -> Mode
     }
 }
 
-/// The body of a record behind a controller's USN.
+/// The body of a record behind a controller's USN, as a change under a schema.
 #[tactic(auto, unfolding(crate::specs::Body::body_at))]
-fn read_body(reader: &mut Reader<'_>, alloc: Global, before: u64) -> Result<Change, WireRefusal>
-    ensures { GivesSeen (λ change b. change ≡ change_of b) result reader.new (form.body_at before reader.old) }
+fn read_body(
+    reader: &mut Reader<'_>,
+    alloc: Global,
+    before: u64,
+    schema: Schema,
+) -> Result<Change, WireRefusal>
+    ensures { GivesSeen (λ change b. change ≡ change_of schema.number b) result reader.new (form.body_at before reader.old) }
 {
     let usn = reader.read_usn0()?;
     let quarantined = reader.read_flag()?;
@@ -176,15 +182,20 @@ fn read_body(reader: &mut Reader<'_>, alloc: Global, before: u64) -> Result<Chan
     let removed = read_removed(reader, alloc)?;
     let writes = read_writes(reader, alloc, before)?;
     let mode = mode_of_flag(quarantined);
-    Ok(Change::new(usn, mode, mark, joined, purged, removed, writes))
+    Ok(Change::new(usn, mode, schema, mark, joined, purged, removed, writes))
 }
 
-/// The change that bytes say to a controller of this USN, if they are the body of a record.
-pub fn decode_change(alloc: Global, before: u64, bytes: &[u8]) -> Result<Option<Change>, NoMemory>
-    ensures { IfOk result (λ change. change ≡ decoded_change before bytes.now) }
+/// The change that bytes say to a controller of this USN and this schema, if they are the body of a record.
+pub fn decode_change(
+    alloc: Global,
+    before: u64,
+    schema: Schema,
+    bytes: &[u8],
+) -> Result<Option<Change>, NoMemory>
+    ensures { IfOk result (λ change. change ≡ decoded_change before schema.number bytes.now) }
 {
     let mut reader = Reader::new(bytes);
-    let change = match read_body(&mut reader, alloc, before) {
+    let change = match read_body(&mut reader, alloc, before, schema) {
         Ok(change) => change,
         Err(Failure::Refused(_)) => return Ok(None),
         Err(Failure::NoMemory) => return Err(AllocError),

@@ -52,13 +52,13 @@ impl Drop for Contents {
 }
 
 impl Model for Contents {
-    ghost use Rattle.std.specs.Prelude.{◌≡◌};
+    ghost use Rattle.std.specs.Prelude.{◌≡◌, []};
     ghost use Rattle.adr_schema.specs.Numbered.{numbered};
     ghost use Rattle.adr_model.specs.Store.{Store};
 
     ghost Value = { Store };
 
-    ghost view = { λ c. record { schema = c.schema.number; usn = c.usn; rows = c.rows.items; vector = c.vector; purged = c.purged; marks = c.marks.items } };
+    ghost view = { λ c. record { schema = c.schema.number; usn = c.usn; rows = c.rows.items; vector = c.vector; times = []; purged = c.purged; marks = c.marks.items } };
 
     ghost invariant = { λ c. c.schema ≡ numbered c.schema.number };
 }

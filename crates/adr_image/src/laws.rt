@@ -1,8 +1,9 @@
 //! What is written is read again, and what is read was written so.
 
-ghost use Rattle.std.specs.Prelude.{◌≡◌, ℕ, List, Ok, Err, Some, length, take};
+ghost use Rattle.std.specs.Prelude.{◌≡◌, ℕ, List, Ok, Err, Some, length, take, is_some, true};
 ghost use Rattle.adr_wire.specs.declared.refusal.DecodeRefusal.TheVariants.{Malformed};
 ghost use Rattle.adr_schema.specs.Numbered.{numbered};
+ghost use Rattle.adr_schema.specs.Schemas.{schema_table};
 ghost use Rattle.adr_wire.specs.Ranges.{IsId};
 ghost use Rattle.adr_wire.specs.Spelling.{AreBytes, IsSpelling};
 ghost use Rattle.adr_model.specs.Formed.{IsFormedStore};
@@ -48,20 +49,22 @@ pub fn bodies_have_one_spelling()
 /// A change that is that of a body in range is read again from its bytes, and what is read as a change was written so. Its
 /// bytes can be written, and are as many as is counted.
 pub fn changes_have_one_spelling()
-    ensures again { (before : ℕ) (c : Change) → HasBody before c
-        → decoded_change before (change_bytes c) ≡ Some c }
-    ensures only { (before : ℕ) (bytes : List ℕ) (c : Change) → AreBytes bytes → decoded_change before bytes ≡ Some c
-        → HasBody before c × (bytes ≡ change_bytes c) }
-    ensures short { (before : ℕ) (c : Change) → HasBody before c → IsShortChange c }
-    ensures long { (before : ℕ) (c : Change) → HasBody before c → length (change_bytes c) ≡ change_length c }
+    ensures again { (before schema : ℕ) (c : Change) → HasBody before schema c
+        → decoded_change before schema (change_bytes c) ≡ Some c }
+    ensures only { (before schema : ℕ) (bytes : List ℕ) (c : Change) → AreBytes bytes
+        → decoded_change before schema bytes ≡ Some c → HasBody before schema c × (bytes ≡ change_bytes c) }
+    ensures short { (before schema : ℕ) (c : Change) → HasBody before schema c → IsShortChange c }
+    ensures long { (before schema : ℕ) (c : Change) → HasBody before schema c
+        → length (change_bytes c) ≡ change_length c }
 {}
 
 /// The store of a new controller is spelled, and a spelled store stays so by a change that a body in range says and that
-/// leaves known classes.
+/// leaves known classes of a known schema.
 pub fn stores_stay_spelled()
     ensures begin { IsSpelled (empty_store 1) }
-    ensures stay { (s : State) (c : Change) → IsId s.inv → IsSpelled s.store → HasBody s.store.usn c
-        → AreClassesKnown (numbered s.store.schema) (updates_of (after s c).store.rows) → IsSpelled (after s c).store }
+    ensures stay { (s : State) (c : Change) → IsId s.inv → IsSpelled s.store
+        → is_some (schema_table c.schema) ≡ true → HasBody s.store.usn c.schema c
+        → AreClassesKnown (numbered c.schema) (updates_of (after s c).store.rows) → IsSpelled (after s c).store }
 {}
 
 /// The image of an empty controller has 38 bytes, and without the last one it is refused at the field that is cut.

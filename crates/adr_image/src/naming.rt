@@ -4,7 +4,7 @@ ghost use Rattle.std.specs.Prelude.{◌≡◌, ◌||◌};
 ghost use Rattle.adr_model.specs.Collect.{names_inv};
 ghost use Rattle.adr_model.specs.Update.{inv_of, same_identifier};
 ghost use Rattle.adr_update.specs.Key.{key_of};
-ghost use Rattle.adr_image.specs.Naming.{cursors_name, key_names, marks_name, rows_name};
+ghost use Rattle.adr_model.specs.Naming.{cursors_name, key_names, marks_name, rows_name};
 
 use crate::contents::Contents;
 use adr_change::Kept;

@@ -17,7 +17,8 @@ use Rattle.adr_model.specs.Update.{Identifier, RowOf, Holds, Update, unit_of, na
 use Rattle.adr_model.specs.Reflects.{HoldsObject, Supersedes, IsDeath}
 use Rattle.adr_model.specs.Store.{State, updates_of}
 use Rattle.adr_model.specs.Formed.{IsFormed}
-use Rattle.adr_model.specs.Write.{Modify, Rename, Delete, AreInOrder, of_schema, object_refusal, nodes_held, class_of, object_of, next_row, modify_refusals, modify_refusal, rename_refusals, rename_refusal, delete_refusals, delete_refusal, rows_written}
+use Rattle.adr_model.specs.Write.{Modify, Rename, Delete, of_schema, object_refusal, nodes_held, class_of, object_of, next_row, modify_refusals, modify_refusal, rename_refusals, rename_refusal, delete_refusals, delete_refusal, rows_written}
+use Rattle.adr_model.specs.Given.{AreInOrder}
 use Rattle.adr_model.proofs.Members.{mapped_member}
 use Rattle.adr_law_steps.specs.Puts.{MayPut}
 use Rattle.adr_law_steps.specs.Forms.{IsWellSaid}

@@ -21,6 +21,7 @@ use Rattle.adr_law_calls.proofs.Removing.{stood_before, stay_alone}
 use Rattle.adr_law_calls.proofs.RemovingForms.{stay_formed}
 use Rattle.adr_law_calls.proofs.RemovingSizes.{objects_fewer, links_fewer}
 use Rattle.adr_law_calls.proofs.CollectionFollows.{usn_of_collection}
+use Rattle.adr_vector.proofs.Moments.{times_stay}
 
 module _ (s : State) (now lifetime : ℕ) (is : IsFormed s) where
   abbrev dead : List (Oid × Update)
@@ -69,6 +70,7 @@ module _ (s : State) (now lifetime : ℕ) (is : IsFormed s) where
   store : IsFormedStore d.store
   store = record {
     vector = raised_is_vector s.store.vector s.inv c.usn is.store.vector (omega (arith, raised_replaces s.store.vector s.inv c.usn own_is_there is.store.vector, is.store.vector.few));
+    times = times_stay s.store.vector d.store.vector s.store.times higher is.store.times;
     purged = is_purged;
     purged_within = at_most_from_everywhere d.store.purged d.store.vector is_purged.rising (λ i. omega (arith, within i, higher i));
     marks = is.store.marks;

@@ -4,7 +4,7 @@ use Rattle.std.proofs.lemmas.Bool.{and_from, or_parts}
 use Rattle.adr_stamp.specs.declared.Oid.{Oid}
 use Rattle.adr_stamp.specs.declared.Unit.TheVariants.{Object}
 use Rattle.adr_schema.specs.Assignments.{Given, given}
-use Rattle.adr_schema.specs.Allowed.{MayBeHeld, MayBeAdded}
+use Rattle.adr_schema.specs.Allowed.{MayBeAdded}
 use Rattle.adr_schema.specs.Numbered.{numbered}
 use Rattle.adr_schema.specs.Names.{name_fault}
 use Rattle.adr_schema.specs.declared.content.Value.{Value as Datum}
@@ -26,62 +26,35 @@ use Rattle.adr_model.specs.Reflects.{CoversBirth, HoldsObject, IsDeath}
 use Rattle.adr_model.specs.Store.{State, updates_of}
 use Rattle.adr_model.specs.Take.{is_birth}
 use Rattle.adr_model.specs.Formed.{IsFormed}
-use Rattle.adr_model.specs.Write.{AddObject, AreInOrder, object_limit, of_schema, is_of_guid, holds_guid, first_stamp, new_object, new_rows, row, add_refusals, add_refusal, rows_written}
+use Rattle.adr_model.specs.Write.{AddObject, object_limit, of_schema, is_of_guid, holds_guid, first_stamp, new_object, new_rows, row, add_refusals, add_refusal, rows_written}
+use Rattle.adr_model.specs.Given.{AreInOrder}
 use Rattle.adr_model.proofs.Members.{each_fails, mapped_member, member_mapped}
 use Rattle.adr_law_steps.specs.Puts.{MayPut}
-use Rattle.adr_law_steps.specs.Forms.{IsWellSaid, HasKey, MayCome}
+use Rattle.adr_law_steps.specs.Forms.{IsWellSaid, MayCome}
 use Rattle.adr_law_calls.specs.MayWrites.{HasRoom, MayWrite}
 use Rattle.adr_law_knowledge.proofs.Refusing.{none_there, not_mapped}
 use Rattle.adr_law_calls.proofs.Refusals.{not_so, not_full}
 use Rattle.adr_law_calls.proofs.Values.{place_of, one_given, given_member, plain_is_above}
+use Rattle.adr_law_calls.proofs.Shown.{MayComeWith}
 use Rattle.adr_law_calls.proofs.Saids.{class_well_said, name_well_said, values_well_said}
 
+-- an object that comes, with all that the schema wants of it
 module _ (s : State) (formed : IsFormed s) (guid : Identifier) (class : ℕ) (parent : Identifier) (text : List ℕ) (values : List Given)
-    (order : AreInOrder values) (none : add_refusal s guid class parent text values ≡ None) where
+    (may : MayComeWith (numbered s.store.schema) class values) (well_named : name_fault text ≡ None)
+    (absent : HoldsObject (updates_of s.store.rows) (new_object s guid) → ⊥) (room : HasRoom s) where
   abbrev rows : List Update
   rows = updates_of s.store.rows
 
-  abbrev refusals : List (Option WriteRefusal)
-  refusals = add_refusals s guid class parent text values
-
-  not_there : holds_guid rows guid ≡ false
-  not_there = (or_parts (is_fixed guid) (holds_guid rows guid) (not_so (is_fixed guid || holds_guid rows guid) (GuidThere guid) (none_there refusals none _ (inr (inl refl))))).1
-
-  allowed : schema_add_refusal (numbered s.store.schema) class values ≡ None
-  allowed = not_mapped of_schema _ (none_there refusals none _ (inr (inr (inl refl))))
-
-  well_named : name_fault text ≡ None
-  well_named = not_mapped BadName _ (not_mapped of_schema _ (none_there refusals none _ (inr (inr (inr (inl refl))))))
-
-  room : HasRoom s
-  room = record {
-    objects = not_full Objects object_limit (length (objects_of rows) + 1) (none_there refusals none _ (inr (inr (inr (inr (inr (inr (inr (inr (inl refl))))))))));
-    cursors = not_full Cursors cursor_limit (length (raised s.store.vector s.inv (s.store.usn + 1))) (none_there refusals none _ (inr (inr (inr (inr (inr (inr (inr (inr (inr (inl refl)))))))))));
-  }
-
   abbrev o : Oid
   o = new_object s guid
-
-  absent : HoldsObject rows o → ⊥
-  absent (r, attr, m, is) =
-      let fails : is_of_guid guid r.key ≡ false = each_fails (λ (u : Update). is_of_guid guid u.key) rows not_there r m in
-      let passes : is_of_guid guid r.key ≡ true = ap (is_of_guid guid) is ∙ test_itself guid in
-      cc
 
   unseen : (p : Oid) → Object o ≡ Object p → CoversBirth (at s.store.vector) p → ⊥
   unseen p e covered = let same : p ≡ o = cc in
       let here : s.store.usn + 1 ≤ at s.store.vector s.inv = subst (CoversBirth (at s.store.vector)) same covered in
       omega (arith, here, formed.own)
 
-  may_add : MayBeAdded (numbered s.store.schema) class values
-  may_add = may_be_added (numbered s.store.schema) class values allowed
-
-  held_values : (g : Given) → Member g values → MayBeHeld (numbered s.store.schema) class g.0 g.1
-  held_values g m = let p = place_of values g m in
-      may_be_held (numbered s.store.schema) class g.0 g.1 (added_may_be_held (numbered s.store.schema) class values allowed p.0 g p.1)
-
   plain : (g : Given) → Member g values → deleted_attr < g.0
-  plain g m = let may = (held_values g m).allowed in plain_is_above s.store.schema g.0 may.syntax may.most may.plain
+  plain g m = let held = (may.held g m).allowed in plain_is_above s.store.schema g.0 held.syntax held.most held.plain
 
   module _ (now : ℕ) where
     abbrev class_row : Update
@@ -93,19 +66,19 @@ module _ (s : State) (formed : IsFormed s) (guid : Identifier) (class : ℕ) (pa
     abbrev value_row : Given → Update
     value_row g = row o (first_stamp s now) g.0 (Values g.1)
 
-    abbrev us : List Update
+    abbrev pub us : List Update
     us = new_rows o (first_stamp s now) class parent text values
 
     -- a class row, a name row or a row of values
-    abbrev Which : Update → Type 0
+    abbrev pub Which : Update → Type 0
     Which u = (u ≡ class_row) ⊎ ((u ≡ name_row) ⊎ ((g : Given) × Member g values × (u ≡ value_row g)))
 
-    which : (u : Update) → Member u us → Which u
+    pub which : (u : Update) → Member u us → Which u
     which u (inl e) = inl e
     which u (inr (inl e)) = inr (inl e)
     which u (inr (inr m)) = inr (inr (mapped_member value_row values u m))
 
-    of_object : (u : Update) → Which u → (attr : ℕ) × (u.key ≡ RowOf o attr)
+    pub of_object : (u : Update) → Which u → (attr : ℕ) × (u.key ≡ RowOf o attr)
     of_object u (inl e) = (class_attr, ap (λ (w : Update). w.key) e)
     of_object u (inr (inl e)) = (name_attr, ap (λ (w : Update). w.key) e)
     of_object u (inr (inr (g, m, e))) = (g.0, ap (λ (w : Update). w.key) e)
@@ -123,9 +96,9 @@ module _ (s : State) (formed : IsFormed s) (guid : Identifier) (class : ℕ) (pa
     alone u v (inr (inl p)) (inr (inr (h, n, q))) e = absurd (omega (arith, plain h n, same_attr u v name_attr h.0 e (ap (λ (w : Update). w.key) p) (ap (λ (w : Update). w.key) q)))
     alone u v (inr (inr (g, m, p))) (inl q) e = absurd (omega (arith, plain g m, same_attr u v g.0 class_attr e (ap (λ (w : Update). w.key) p) (ap (λ (w : Update). w.key) q)))
     alone u v (inr (inr (g, m, p))) (inr (inl q)) e = absurd (omega (arith, plain g m, same_attr u v g.0 name_attr e (ap (λ (w : Update). w.key) p) (ap (λ (w : Update). w.key) q)))
-    alone u v (inr (inr (g, m, p))) (inr (inr (h, n, q))) e = p ∙ ap value_row (one_given values order g m h n (same_attr u v g.0 h.0 e (ap (λ (w : Update). w.key) p) (ap (λ (w : Update). w.key) q))) ∙ sym q
+    alone u v (inr (inr (g, m, p))) (inr (inr (h, n, q))) e = p ∙ ap value_row (may.one g m h n (same_attr u v g.0 h.0 e (ap (λ (w : Update). w.key) p) (ap (λ (w : Update). w.key) q))) ∙ sym q
 
-    no_death : (d : Update) → Which d → IsDeath d → ⊥
+    pub no_death : (d : Update) → Which d → IsDeath d → ⊥
     no_death d (inl e) (p, is) = let key : RowOf o class_attr ≡ RowOf p deleted_attr = sym (ap (λ (w : Update). w.key) e) ∙ is in let attr : class_attr ≡ deleted_attr = cc in omega (arith, attr)
     no_death d (inr (inl e)) (p, is) = let key : RowOf o name_attr ≡ RowOf p deleted_attr = sym (ap (λ (w : Update). w.key) e) ∙ is in let attr : name_attr ≡ deleted_attr = cc in omega (arith, attr)
     no_death d (inr (inr (g, m, e))) (p, is) = let key : RowOf o g.0 ≡ RowOf p deleted_attr = sym (ap (λ (w : Update). w.key) e) ∙ is in let attr : g.0 ≡ deleted_attr = cc in omega (arith, plain g m, attr)
@@ -145,24 +118,68 @@ module _ (s : State) (formed : IsFormed s) (guid : Identifier) (class : ℕ) (pa
     said : (u : Update) → Which u → IsWellSaid (numbered s.store.schema) class o u
     said u (inl e) = subst (IsWellSaid (numbered s.store.schema) class o) (sym e) (class_well_said (numbered s.store.schema) class o class_row refl refl birth)
     said u (inr (inl e)) = subst (IsWellSaid (numbered s.store.schema) class o) (sym e) (name_well_said (numbered s.store.schema) class o name_row text parent refl refl well_named)
-    said u (inr (inr (g, m, e))) = subst (IsWellSaid (numbered s.store.schema) class o) (sym e) (values_well_said (numbered s.store.schema) class o (value_row g) g.0 g.1 (plain g m) refl refl (held_values g m))
-
-    has_key : (attr : ℕ) (given_it : Option (List Datum)) → given attr values ≡ given_it → is_some given_it ≡ true → HasKey us o attr
-    has_key attr None e there = absurd (cc)
-    has_key attr (Some vs) e there = (value_row (attr, vs), inr (inr (member_mapped value_row values (attr, vs) (given_member attr values vs e))), refl)
+    said u (inr (inr (g, m, e))) = subst (IsWellSaid (numbered s.store.schema) class o) (sym e) (values_well_said (numbered s.store.schema) class o (value_row g) g.0 g.1 (plain g m) refl refl (may.held g m))
 
     comes : MayCome (numbered s.store.schema) rows o class us
     comes = record {
       absent = absent;
-      known = may_add.known;
+      known = may.known;
       said = λ u m. said u (which u m);
       of_class = (class_row, inl refl, refl);
       of_name = (name_row, inr (inl refl), refl);
-      whole = inr (λ attr must. has_key attr (given attr values) refl (may_add.whole attr must));
+      whole = inr (λ attr must. let g = may.whole attr must in (value_row g.0, inr (inr (member_mapped value_row values g.0 g.1)), ap (RowOf o) g.2));
     }
 
-    pub may_come : MayWrite s (rows_written s (AddObject guid class parent text values) now).unit (rows_written s (AddObject guid class parent text values) now).rows
-    may_come = record {
+    pub object_may_come : MayWrite s (Object o) us
+    object_may_come = record {
       put = added_put;
       fits = (class, inr (comes, room));
     }
+
+-- an object that is added
+module _ (s : State) (formed : IsFormed s) (guid : Identifier) (class : ℕ) (parent : Identifier) (text : List ℕ) (values : List Given)
+    (order : AreInOrder values) (none : add_refusal s guid class parent text values ≡ None) where
+  abbrev refusals : List (Option WriteRefusal)
+  refusals = add_refusals s guid class parent text values
+
+  abbrev held : List Update
+  held = updates_of s.store.rows
+
+  not_there : holds_guid held guid ≡ false
+  not_there = (or_parts (is_fixed guid) (holds_guid held guid) (not_so (is_fixed guid || holds_guid held guid) (GuidThere guid) (none_there refusals none _ (inr (inl refl))))).1
+
+  allowed : schema_add_refusal (numbered s.store.schema) class values ≡ None
+  allowed = not_mapped of_schema _ (none_there refusals none _ (inr (inr (inl refl))))
+
+  added_name : name_fault text ≡ None
+  added_name = not_mapped BadName _ (not_mapped of_schema _ (none_there refusals none _ (inr (inr (inr (inl refl))))))
+
+  added_room : HasRoom s
+  added_room = record {
+    objects = not_full Objects object_limit (length (objects_of held) + 1) (none_there refusals none _ (inr (inr (inr (inr (inr (inr (inr (inr (inl refl))))))))));
+    cursors = not_full Cursors cursor_limit (length (raised s.store.vector s.inv (s.store.usn + 1))) (none_there refusals none _ (inr (inr (inr (inr (inr (inr (inr (inr (inr (inl refl)))))))))));
+  }
+
+  not_held : HoldsObject held (new_object s guid) → ⊥
+  not_held (r, attr, m, is) =
+      let fails : is_of_guid guid r.key ≡ false = each_fails (λ (u : Update). is_of_guid guid u.key) held not_there r m in
+      let passes : is_of_guid guid r.key ≡ true = ap (is_of_guid guid) is ∙ test_itself guid in
+      cc
+
+  may_add : MayBeAdded (numbered s.store.schema) class values
+  may_add = may_be_added (numbered s.store.schema) class values allowed
+
+  given_there : (attr : ℕ) (given_it : Option (List Datum)) → given attr values ≡ given_it → is_some given_it ≡ true → (g : Given) × Member g values × (g.0 ≡ attr)
+  given_there attr None e there = absurd (cc)
+  given_there attr (Some vs) e there = ((attr, vs), given_member attr values vs e, refl)
+
+  comes_with : MayComeWith (numbered s.store.schema) class values
+  comes_with = record {
+    known = may_add.known;
+    held = λ g m. let p = place_of values g m in may_be_held (numbered s.store.schema) class g.0 g.1 (added_may_be_held (numbered s.store.schema) class values allowed p.0 g p.1);
+    one = one_given values order;
+    whole = λ attr must. given_there attr (given attr values) refl (may_add.whole attr must);
+  }
+
+  pub may_come : (now : ℕ) → MayWrite s (rows_written s (AddObject guid class parent text values) now).unit (rows_written s (AddObject guid class parent text values) now).rows
+  may_come now = object_may_come s formed guid class parent text values comes_with added_name not_held added_room now

@@ -24,6 +24,8 @@ pub mod Rooms
 pub mod WriteForms
 pub mod WriteFormed
 pub mod WriteLeaves
+pub mod InTurn
+pub mod InTurnSound
 pub mod Refusals
 pub mod Nodes
 pub mod Stamps
@@ -31,7 +33,9 @@ pub mod Values
 pub mod Saids
 pub mod Linked
 pub mod Changed
+pub mod Shown
 pub mod Coming
+pub mod Reviving
 pub mod WriteSound
 pub mod Deaths
 pub mod Covering
@@ -43,3 +47,4 @@ pub mod CollectionFollows
 pub mod PurgedVector
 pub mod CollectionFormed
 pub mod CollectionLeaves
+pub mod Upgraded

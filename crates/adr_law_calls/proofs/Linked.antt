@@ -31,7 +31,7 @@ use Rattle.adr_law_calls.proofs.Stamps.{written, one_may_be_put}
 use Rattle.adr_law_calls.proofs.Saids.{live_is_held}
 
 -- a link that the schema doesn't refuse is a forward one
-is_forward_link : (t : Table) (class attr : ℕ) → schema_link_refusal t class attr ≡ None → is_forward (kind_at t attr) ≡ true
+pub is_forward_link : (t : Table) (class attr : ℕ) → schema_link_refusal t class attr ≡ None → is_forward (kind_at t attr) ≡ true
 unfolding schema_link_refusal
 is_forward_link t class attr none = not-false (is_forward (kind_at t attr)) (not_then _ _ (neither (not_link_refusal t attr) _ (neither _ _ none).1).0)
 

@@ -27,7 +27,7 @@ use Rattle.adr_law_calls.proofs.Refusals.{not_so}
 
 -- ---- live rows
 
-of_live_rows : (rows : List Update) (u : Update) → Member u (live_rows rows) → Member u rows × Each (λ o. IsTombstoned rows o → ⊥) (ends u.key)
+pub of_live_rows : (rows : List Update) (u : Update) → Member u (live_rows rows) → Member u rows × Each (λ o. IsTombstoned rows o → ⊥) (ends u.key)
 of_live_rows rows u m = ((is_won rows u.key (Some u) (of_winners rows u t.0)).0, alive)
   where
     t : Member u (winners rows) × (list_all (is_among (live rows)) (ends u.key) ≡ true)
@@ -68,10 +68,10 @@ module _ (table : Table) (rows : List Update) (formed : AreFormedRows table rows
           let says : Holds (Class class) ≡ Holds (Values values.0) = sym said ∙ values.1 in
           cc
 
-  live_node : (guid : Identifier) (n : Node) → node_at (nodes_held rows) guid ≡ Some n → IsLive rows n.object n.class
-  live_node guid n e =
-      let m = found_member (λ (p : Node). same_identifier p.object.guid guid) (nodes_held rows) n e in
-      let u = of_filter_map (λ (v : Update). node_of (live_rows rows) v.key v.said) (live_rows rows) n m.0 in
+  -- a live object, with its class, and that it is one of those that are live
+  pub node_is_live : (n : Node) → Member n (nodes_held rows) → IsLive rows n.object n.class
+  node_is_live n m =
+      let u = of_filter_map (λ (v : Update). node_of (live_rows rows) v.key v.said) (live_rows rows) n m in
       by u.0 (of_live_rows rows u.0 u.1) (is_node_of (live_rows rows) u.0.key u.0.said n u.2)
     where
       by : (u : Update) → Member u rows × Each (λ o. IsTombstoned rows o → ⊥) (ends u.key) → IsNodeOf u.key u.said n → IsLive rows n.object n.class
@@ -80,6 +80,9 @@ module _ (table : Table) (rows : List Update) (formed : AreFormedRows table rows
         where
           not_dead : IsTombstoned rows n.object → ⊥
           not_dead = alive n.object (subst (λ k. Member n.object (ends k)) (sym is) (inl refl))
+
+  pub live_node : (guid : Identifier) (n : Node) → node_at (nodes_held rows) guid ≡ Some n → IsLive rows n.object n.class
+  live_node guid n e = node_is_live n (found_member (λ (p : Node). same_identifier p.object.guid guid) (nodes_held rows) n e).0
 
   -- an object that isn't refused is live, and of its class
   pub object_is_live : (guid : Identifier) → object_refusal rows (nodes_held rows) guid ≡ None → IsLive rows (object_of (nodes_held rows) guid) (class_of (nodes_held rows) guid)

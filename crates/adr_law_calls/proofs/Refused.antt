@@ -77,7 +77,7 @@ module _ (harm : TakeRefusal → Bool) (of_items : IsOfItems harm) (sc : Book) (
   full_is_harmless table limit count = tested_is (IsCalm harm) (nat_lt limit count) (Full table limit) (of_items.full table limit)
 
   pub not_refused : (x : TakeRefusal) → take s r ≡ Err x → harm x ≡ false
-  not_refused x e = where_it_is (IsCalm harm) (take_refusal s r (take_items s r.items) (after s (taken_change r (take_items s r.items)))) x (judged (take_items s r.items) (after s (taken_change r (take_items s r.items))) items) (refused_by (take_refusal s r (take_items s r.items) (after s (taken_change r (take_items s r.items)))) (taken_change r (take_items s r.items)) x e)
+  not_refused x e = where_it_is (IsCalm harm) (take_refusal s r (take_items s r.items) (after s (taken_change s r (take_items s r.items)))) x (judged (take_items s r.items) (after s (taken_change s r (take_items s r.items))) items) (refused_by (take_refusal s r (take_items s r.items) (after s (taken_change s r (take_items s r.items)))) (taken_change s r (take_items s r.items)) x e)
     where
       judged : (t : Taking) (d : State) → (IsTakeable sc s r → IsHarmless harm t.refusal) → IsHarmless harm (take_refusal s r t d)
       judged t d found = twelve_are_harmless harm

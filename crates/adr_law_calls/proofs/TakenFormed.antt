@@ -3,6 +3,8 @@ use Rattle.std.proofs.Common.{◌≡◌, ◌≤◌, [], Option, Some, None, unwr
 use Rattle.std.specs.Option.{option_map_or}
 use Rattle.adr_schema.specs.Numbered.{numbered}
 use Rattle.adr_vector.specs.Vector.{Cursors, IsVector, at, joined}
+use Rattle.adr_vector.specs.Times.{AreTimesOf}
+use Rattle.adr_vector.proofs.Moments.{times_join}
 use Rattle.adr_vector.proofs.Comparing.{everywhere_from_at_most, at_most_from_everywhere}
 use Rattle.adr_vector.proofs.Joining.{at-joined, raised_here, rising-raised, from_one-raised, rising-joined, from_one-joined}
 use Rattle.adr_model.specs.Member.{Each}
@@ -12,7 +14,7 @@ use Rattle.adr_model.specs.Store.{Held, Kept, State, updates_of}
 use Rattle.adr_model.specs.Formed.{AreRising, AreAlone, AreFormedRows, IsFormedStore, IsFormed}
 use Rattle.adr_model.specs.LocalLog.{IsOrdered}
 use Rattle.adr_model.specs.Serve.{Reply}
-use Rattle.adr_model.specs.Take.{Taking}
+use Rattle.adr_model.specs.Take.{Taking, times_brought}
 use Rattle.adr_model.specs.Write.{object_limit, link_limit, links_in}
 use Rattle.adr_law_knowledge.proofs.Raised.{raised_up}
 use Rattle.adr_law_logs.proofs.Leaving.{each_mark}
@@ -20,7 +22,7 @@ use Rattle.adr_law_calls.specs.OnTheWay.{StaysFormed, Passes, taken_items, state
 use Rattle.adr_law_calls.proofs.Items.{objects_within, links_within}
 
 module _ (s : State) (r : Reply) (formed : IsFormed s) (to : IsOrdered r.to) (last : IsVector (unwrap_or r.last []))
-    (way : StaysFormed s (taken_items s r)) (passes : Passes s r (taken_items s r) (state_behind s r)) where
+    (times : AreTimesOf (unwrap_or r.last []) (times_brought r)) (way : StaysFormed s (taken_items s r)) (passes : Passes s r (taken_items s r) (state_behind s r)) where
   abbrev now : Taking
   now = taken_items s r
 
@@ -44,9 +46,13 @@ module _ (s : State) (r : Reply) (formed : IsFormed s) (to : IsOrdered r.to) (la
   higher : AtMost (at s.store.vector) (at d.store.vector)
   higher i = omega (arith, at-joined brought s.store.vector i last.rising, raised_up (joined s.store.vector brought) s.inv now.usn i)
 
+  carried_up : AtMost (at brought) (at d.store.vector)
+  carried_up i = omega (arith, at-joined brought s.store.vector i last.rising, raised_up (joined s.store.vector brought) s.inv now.usn i)
+
   store : IsFormedStore d.store
   store = record {
     vector = vector;
+    times = times_join s.store.vector brought d.store.vector s.store.times (times_brought r) higher carried_up formed.store.times times;
     purged = formed.store.purged;
     purged_within = at_most_from_everywhere s.store.purged d.store.vector formed.store.purged.rising
         (λ i. omega (arith, everywhere_from_at_most s.store.purged s.store.vector formed.store.purged_within i, higher i));

@@ -1,12 +1,14 @@
 -- What is known behind a reply that is taken: nothing is lost, what was sent and what its vector brings is reflected, and its mark tells the truth.
-use Rattle.std.proofs.Common.{◌≡◌, inl, inr, [], Bool, true, false, cond, Option, Some, None, unwrap_or, refl, sym, ap, ◌∙◌, subst, arith, max}
+use Rattle.std.proofs.Common.{◌≡◌, inl, inr, [], Bool, true, false, cond, Option, Some, None, is_some, if◌then◌else◌, unwrap_or, refl, sym, ap, ◌∙◌, subst, arith, max}
 use Rattle.std.specs.Option.{IfSome}
 use Rattle.std.specs.Ordering.{is_eq}
 use Rattle.std.specs.List.Sorted.{IsStrictlySortedBy}
 use Rattle.std.proofs.lemmas.Bool.Decides.{leb_tells}
 use Rattle.adr_stamp.specs.Order.{identifier_order}
 use Rattle.adr_vector.specs.Vector.{Cursors, IsVector, at, joined}
+use Rattle.adr_vector.specs.Times.{AreTimesOf}
 use Rattle.adr_vector.proofs.Joining.{at-raised, at-joined}
+use Rattle.adr_vector.proofs.Moments.{no_times}
 use Rattle.adr_vector.proofs.Cursors.{same_from_test}
 use Rattle.adr_model.specs.Member.{Each}
 use Rattle.adr_model.specs.Update.{Identifier, Update, inv_of, usn_of}
@@ -14,7 +16,7 @@ use Rattle.adr_model.specs.Reflects.{Covers, AtMost, Knowledge, knowledge_of, Re
 use Rattle.adr_model.specs.Store.{State, updates_of}
 use Rattle.adr_model.specs.Change.{after}
 use Rattle.adr_model.specs.Serve.{Reply}
-use Rattle.adr_model.specs.Take.{Taking, take_items, taken_change}
+use Rattle.adr_model.specs.Take.{Taking, take_items, times_brought, taken_change}
 use Rattle.adr_model.specs.Replica.{Book, log_of}
 use Rattle.adr_model.specs.Sound.{last_of, IsBounded, IsSoundMark, IsSoundLast, IsSoundState, IsSent}
 use Rattle.adr_law_knowledge.specs.Grows.{Grows}
@@ -32,18 +34,26 @@ unfolding IsStrictlySortedBy
 carried_is sc r None h = (record { rising = tt; from_one = tt; few = omega arith }, λ i. omega arith)
 carried_is sc r (Some w) h = (h.vector, h.bounded)
 
+-- and its times are of that vector
+carried_times : (sc : Book) (r : Reply) (last : Option Cursors) → IfSome last (IsSoundLast sc r) → AreTimesOf (unwrap_or last []) (if is_some last then r.times else [])
+carried_times sc r None h = no_times []
+carried_times sc r (Some w) h = h.times
+
 module _ (sc : Book) (s : State) (r : Reply) (may : IsTakeable sc s r) where
   abbrev now : Taking
   now = take_items s r.items
 
   abbrev pub behind : State
-  behind = after s (taken_change r now)
+  behind = after s (taken_change s r now)
 
   abbrev pub brought : Cursors
   brought = unwrap_or r.last []
 
   pub joins_vector : IsVector brought
   joins_vector = (carried_is sc r r.last may.reply.last).0
+
+  pub joins_times : AreTimesOf brought (times_brought r)
+  joins_times = carried_times sc r r.last may.reply.last
 
   pub joins_bounded : IsBounded sc (at brought)
   joins_bounded = (carried_is sc r r.last may.reply.last).1

@@ -78,8 +78,8 @@ taken_lacked sc s r c book state reply e missed = subst (λ (x : Change). Each (
     t : IsTaken sc s r c
     t = is_taken sc s r c book state reply e
 
-    from : Each (λ u. Member u (updates_of s.store.rows) ⊎ (IsSent r u × (Reflects sc.issued (knowledge_of s.store) u → ⊥))) (updates_of (after s (taken_change r (take_items s r.items))).store.rows)
-    from u m = let h = held_as (after s (taken_change r (take_items s r.items))).store.rows u m in by h.0 h.2 (change_from [] (held_of (take_items s r.items).writes) s.store.rows h.0 h.1)
+    from : Each (λ u. Member u (updates_of s.store.rows) ⊎ (IsSent r u × (Reflects sc.issued (knowledge_of s.store) u → ⊥))) (updates_of (after s (taken_change s r (take_items s r.items))).store.rows)
+    from u m = let h = held_as (after s (taken_change s r (take_items s r.items))).store.rows u m in by h.0 h.2 (change_from [] (held_of (take_items s r.items).writes) s.store.rows h.0 h.1)
       where
         by : (h : Held) → u ≡ h.update → Member h (held_of (take_items s r.items).writes) ⊎ Member h s.store.rows → Member u (updates_of s.store.rows) ⊎ (IsSent r u × (Reflects sc.issued (knowledge_of s.store) u → ⊥))
         by h is (inl new) = inr (subst (λ v. IsSent r v × (Reflects sc.issued (knowledge_of s.store) v → ⊥)) (sym is)

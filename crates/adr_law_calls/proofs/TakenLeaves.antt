@@ -28,7 +28,7 @@ use Rattle.adr_law_calls.proofs.ItemRows.{in_source}
 use Rattle.adr_law_calls.proofs.Items.{ends as way_ends}
 use Rattle.adr_law_calls.proofs.TakenFormed.{taken_formed}
 use Rattle.adr_law_calls.proofs.Passed.{is_taken}
-use Rattle.adr_law_calls.proofs.TakenKnowledge.{behind, joins_vector, joins_bounded, keeps, new_mark, carried, covered_now}
+use Rattle.adr_law_calls.proofs.TakenKnowledge.{behind, joins_vector, joins_times, joins_bounded, keeps, new_mark, carried, covered_now}
 
 module _ (sc : Book) (s : State) (r : Reply) (c : Change) (t : IsTaken sc s r c) where
   abbrev may : IsTakeable sc s r
@@ -38,7 +38,7 @@ module _ (sc : Book) (s : State) (r : Reply) (c : Change) (t : IsTaken sc s r c)
   now = take_items s r.items
 
   abbrev change : Change
-  change = taken_change r now
+  change = taken_change s r now
 
   abbrev d : State
   d = behind sc s r may
@@ -88,7 +88,7 @@ module _ (sc : Book) (s : State) (r : Reply) (c : Change) (t : IsTaken sc s r c)
     joined = joins_vector sc s r may;
     bounded = joins_bounded sc s r may;
     carried = carried sc s r may;
-    formed = (taken_formed s r t.state.formed may.reply.to_ordered (joins_vector sc s r may) way.steady t.passes).store;
+    formed = (taken_formed s r t.state.formed may.reply.to_ordered (joins_vector sc s r may) (joins_times sc s r may) way.steady t.passes).store;
     closed = closed;
     classes = classes;
     mark = new_mark sc s r may;

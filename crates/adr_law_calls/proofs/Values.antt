@@ -1,5 +1,5 @@
 -- Values that are given: of each attribute one, and under attributes that aren't reserved.
-use Rattle.std.proofs.Common.{◌≡◌, inl, inr, ℕ, zero, suc, ◌<◌, List, [], ◌∷◌, Bool, true, false, Some, None, refl, sym, ap, subst, unwrap_or, ◌==◌, if◌then◌else◌, arith}
+use Rattle.std.proofs.Common.{◌≡◌, inl, inr, ℕ, zero, suc, ◌<◌, List, [], ◌∷◌, Bool, true, false, Some, refl, sym, ap, nat_le, if◌then◌else◌, arith}
 use Rattle.std.specs.List.{slice_get}
 use Rattle.std.specs.Ordering.{nat_cmp, is_eq}
 use Rattle.std.proofs.lemmas.Cmp.{nat_cmp_total}
@@ -8,12 +8,12 @@ use Rattle.adr_schema.specs.declared.content.Value.{Value as Datum}
 use Rattle.adr_schema.specs.declared.table.Syntax.{Syntax}
 use Rattle.adr_schema.specs.declared.table.Kind.TheVariants.{Plain}
 use Rattle.adr_schema.specs.Assignments.{Given, attributes, given}
-use Rattle.adr_schema.specs.Table.{Table, kind_at}
-use Rattle.adr_schema.specs.Schemas.{schema_1}
+use Rattle.adr_schema.specs.Table.{kind_at}
+use Rattle.adr_schema.specs.Schemas.{schema_1, schema_2}
 use Rattle.adr_schema.specs.Numbered.{numbered}
 use Rattle.adr_model.specs.Member.{Member, Each}
 use Rattle.adr_model.specs.Update.{deleted_attr}
-use Rattle.adr_model.specs.Write.{AreInOrder}
+use Rattle.adr_model.specs.Given.{AreInOrder}
 use Rattle.adr_model.proofs.Keys.{equal_order}
 use Rattle.adr_law_knowledge.proofs.Counting.{rises_from, one_of_each}
 
@@ -35,21 +35,26 @@ given_member attr (g ∷ gs) vs e = by (is_eq (nat_cmp attr g.0)) refl e (given_
     by true is h rest = let n : attr ≡ g.0 = exact_unsigned attr g.0 (equal_order (nat_cmp attr g.0) is) in let same : vs ≡ g.1 = cc in inl (λ i. (n i, same i))
     by false is h rest = inr (rest h)
 
--- there is one schema
-one_schema : (number : ℕ) → numbered number ≡ schema_1
-one_schema number = by (number == 1)
-  where
-    by : (b : Bool) → unwrap_or (if b then Some schema_1 else None) schema_1 ≡ schema_1
-    by true = refl
-    by false = refl
+-- the schemas allow no less the greater their numbers are, so a plain attribute is one of schema 2
+newest_above : (attr : ℕ) (syntax : Syntax) (most : ℕ) → kind_at schema_2 attr ≡ Some (Plain syntax most) → deleted_attr < attr
+unfolding schema_2
+newest_above zero syntax most e = absurd (cc)
+newest_above (suc zero) syntax most e = absurd (cc)
+newest_above (suc (suc zero)) syntax most e = absurd (cc)
+newest_above (suc (suc (suc zero))) syntax most e = absurd (cc)
+newest_above (suc (suc (suc (suc n)))) syntax most e = omega arith
 
-above_reserved : (attr : ℕ) (syntax : Syntax) (most : ℕ) → kind_at schema_1 attr ≡ Some (Plain syntax most) → deleted_attr < attr
+first_above : (attr : ℕ) (syntax : Syntax) (most : ℕ) → kind_at schema_1 attr ≡ Some (Plain syntax most) → deleted_attr < attr
 unfolding schema_1
-above_reserved zero syntax most e = absurd (cc)
-above_reserved (suc zero) syntax most e = absurd (cc)
-above_reserved (suc (suc zero)) syntax most e = absurd (cc)
-above_reserved (suc (suc (suc zero))) syntax most e = absurd (cc)
-above_reserved (suc (suc (suc (suc n)))) syntax most e = omega arith
+first_above zero syntax most e = absurd (cc)
+first_above (suc zero) syntax most e = absurd (cc)
+first_above (suc (suc zero)) syntax most e = absurd (cc)
+first_above (suc (suc (suc zero))) syntax most e = absurd (cc)
+first_above (suc (suc (suc (suc n)))) syntax most e = omega arith
 
 pub plain_is_above : (schema attr : ℕ) (syntax : Syntax) (most : ℕ) → kind_at (numbered schema) attr ≡ Some (Plain syntax most) → deleted_attr < attr
-plain_is_above schema attr syntax most e = above_reserved attr syntax most (subst (λ (t : Table). kind_at t attr ≡ Some (Plain syntax most)) (one_schema schema) e)
+plain_is_above schema attr syntax most = by (nat_le schema 1)
+  where
+    by : (b : Bool) → kind_at (if b then schema_1 else schema_2) attr ≡ Some (Plain syntax most) → deleted_attr < attr
+    by true = first_above attr syntax most
+    by false = newest_above attr syntax most

@@ -3,6 +3,7 @@ use Rattle.std.proofs.Common.{◌≡◌, ◌+◌, List, [], sym, ap, subst, fold
 use Rattle.adr_vector.specs.Vector.{at}
 use Rattle.adr_vector.proofs.Comparing.{everywhere_from_at_most, at_most_from_everywhere}
 use Rattle.adr_vector.proofs.Joining.{raised_here}
+use Rattle.adr_vector.proofs.Moments.{times_stay}
 use Rattle.adr_model.specs.Store.{Held, State}
 use Rattle.adr_model.specs.Change.{Item, put, held_of, rows_after, after}
 use Rattle.adr_model.specs.Formed.{AreRising, IsFormedStore, IsFormed}
@@ -36,6 +37,7 @@ module _ (s : State) (item : Item) (formed : IsFormed s) (may : MayWrite s item.
   store : IsFormedStore d.store
   store = record {
     vector = raised_is_vector s.store.vector s.inv (s.store.usn + 1) formed.store.vector (cursors_within s item.unit item.rows formed may);
+    times = times_stay s.store.vector d.store.vector s.store.times (raised_up s.store.vector s.inv (s.store.usn + 1)) formed.store.times;
     purged = formed.store.purged;
     purged_within = at_most_from_everywhere s.store.purged d.store.vector formed.store.purged.rising
         (λ i. omega (arith, everywhere_from_at_most s.store.purged s.store.vector formed.store.purged_within i, raised_up s.store.vector s.inv (s.store.usn + 1) i));

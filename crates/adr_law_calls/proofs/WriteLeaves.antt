@@ -15,6 +15,7 @@ use Rattle.adr_model.specs.Replica.{Book, ToWrite}
 use Rattle.adr_model.specs.Sound.{AreClassesKnown, IsSoundBook, IsSoundState}
 use Rattle.adr_model.proofs.Members.{member_left, member_right}
 use Rattle.adr_law_knowledge.proofs.Comparing.{supersedes_self}
+use Rattle.adr_law_knowledge.specs.Grows.{Grows}
 use Rattle.adr_law_knowledge.proofs.Knows.{grows_keeps, grows_trans, more_covered}
 use Rattle.adr_law_logs.proofs.Empty.{empty_is_formed}
 use Rattle.adr_law_logs.specs.Settling.{Leaves}
@@ -45,6 +46,7 @@ module _ (sc : Book) (s : State) (unit : Named) (us : List Update) (rows : List 
     usn = s.store.usn + 1;
     rows = rows;
     vector = raised s.store.vector s.inv (s.store.usn + 1);
+    times = s.store.times;
     purged = s.store.purged;
     marks = s.store.marks;
   }
@@ -52,19 +54,22 @@ module _ (sc : Book) (s : State) (unit : Named) (us : List Update) (rows : List 
   purged_within : AtMost P V
   purged_within i = everywhere_from_at_most s.store.purged s.store.vector state.store.formed.purged_within i
 
-  keeps : (u : Update) → Reflects sc.issued (knowledge_of s.store) u → Reflects sc.issued (knowledge_of left) u
-  keeps = grows_keeps sc.issued (knowledge_of s.store) (knowledge_of left) (grows_trans sc.issued (knowledge_of s.store) put_alone (knowledge_of left)
-      (puts_grow sc.issued (s.store.usn + 1) s.store.rows rows V P unit us may.put are purged_within)
-      (more_covered sc.issued (updates_of rows) V (at left.vector) P P (raised_up s.store.vector s.inv (s.store.usn + 1)) (λ i. omega arith)))
+  pub grows : (issued : List Update) → Grows issued (knowledge_of s.store) (knowledge_of left)
+  grows issued = grows_trans issued (knowledge_of s.store) put_alone (knowledge_of left)
+      (puts_grow issued (s.store.usn + 1) s.store.rows rows V P unit us may.put are purged_within)
+      (more_covered issued (updates_of rows) V (at left.vector) P P (raised_up s.store.vector s.inv (s.store.usn + 1)) (λ i. omega arith))
     where
       put_alone : Knowledge
       put_alone = record { rows = updates_of rows; vector = V; purged = P }
 
+  keeps : (u : Update) → Reflects sc.issued (knowledge_of s.store) u → Reflects sc.issued (knowledge_of left) u
+  keeps = grows_keeps sc.issued (knowledge_of s.store) (knowledge_of left) (grows sc.issued)
+
   known : Each (λ u. Member u (sc.issued ++ (us ++ []))) (updates_of rows)
   known u m = ⊎_elim (λ n. member_right sc.issued (us ++ []) u (member_left us [] u n)) (λ n. member_left sc.issued (us ++ []) u (state.store.known u n)) (whence_update (s.store.usn + 1) us s.store.rows rows are u m)
 
-  written : Each (λ u. Reflects sc.issued (knowledge_of left) u) (us ++ [])
-  written u m = inl (u, updated rows (held_at (s.store.usn + 1) u) (are.written u (alone_from us u m)), supersedes_self u)
+  pub written : (issued : List Update) → Each (λ u. Reflects issued (knowledge_of left) u) (us ++ [])
+  written issued u m = inl (u, updated rows (held_at (s.store.usn + 1) u) (are.written u (alone_from us u m)), supersedes_self u)
 
   closed : IsClosed left
   closed l r m is o n = stays_closed s us rows are sc book state unit may r m l is o n
@@ -83,7 +88,7 @@ module _ (sc : Book) (s : State) (item : Item) (book : IsSoundBook sc) (state : 
   write_leaves w now = record {
     keeps = keeps sc s item.unit item.rows (stands s item) book state may (are_written s item state.formed may);
     known = known sc s item.unit item.rows (stands s item) book state may (are_written s item state.formed may);
-    issued = written sc s item.unit item.rows (stands s item) book state may (are_written s item state.formed may);
+    issued = written sc s item.unit item.rows (stands s item) book state may (are_written s item state.formed may) sc.issued;
     joined = nothing_joined sc s item.unit item.rows (stands s item) book state may (are_written s item state.formed may);
     bounded = λ i. omega arith;
     carried = nothing_carried sc s item.unit item.rows (stands s item) book state may (are_written s item state.formed may);

@@ -1,20 +1,22 @@
 -- A sound state that writes may issue what it writes, and leaves what a sound state needs.
-use Rattle.std.proofs.Common.{◌≡◌, ℕ, None, Ok, subst}
+use Rattle.std.proofs.Common.{◌≡◌, ℕ, ◌+◌, None, Ok, refl, subst}
 use Rattle.adr_model.specs.Store.{State}
-use Rattle.adr_model.specs.Change.{Change}
-use Rattle.adr_model.specs.Write.{Write, AddObject, Modify, Rename, Delete, AddLink, RemoveLink, IsWellGiven, write_refusal, rows_written, items_written, own_change, write}
+use Rattle.adr_model.specs.Change.{Written, Change}
+use Rattle.adr_model.specs.Write.{Write, AddObject, Modify, Rename, Delete, AddLink, RemoveLink, Revive, write_refusal, rows_written, more_written, items_written, own_change, write}
+use Rattle.adr_model.specs.Given.{IsWellGiven}
 use Rattle.adr_model.specs.Formed.{IsFormed}
 use Rattle.adr_model.specs.Replica.{Book, ToWrite, issued_by}
 use Rattle.adr_model.specs.Sound.{IsSoundBook, IsSoundState}
 use Rattle.adr_law_logs.specs.Later.{MayIssue}
 use Rattle.adr_law_logs.specs.Settling.{Leaves}
-use Rattle.adr_law_calls.specs.MayWrites.{MayWrite}
+use Rattle.adr_law_calls.specs.MayWrites.{MayWrite, MayWriteInTurn}
 use Rattle.adr_law_knowledge.proofs.Refusing.{answered}
-use Rattle.adr_law_calls.proofs.Issues.{write_may_issue}
-use Rattle.adr_law_calls.proofs.WriteLeaves.{write_leaves}
+use Rattle.adr_law_logs.proofs.Written.{items_are_own}
+use Rattle.adr_law_calls.proofs.InTurnSound.{in_turn_issue, in_turn_leave}
 use Rattle.adr_law_calls.proofs.Linked.{may_add_link, may_remove_link}
 use Rattle.adr_law_calls.proofs.Changed.{may_rename, may_delete, may_modify}
 use Rattle.adr_law_calls.proofs.Coming.{may_come}
+use Rattle.adr_law_calls.proofs.Reviving.{may_revive, may_relink}
 
 pub may_write : (s : State) (w : Write) (now : ℕ) → IsFormed s → IsWellGiven w → write_refusal s w ≡ None → MayWrite s (rows_written s w now).unit (rows_written s w now).rows
 may_write s (AddObject guid class parent text values) now formed given none = may_come s formed guid class parent text values given none now
@@ -23,11 +25,25 @@ may_write s (Rename guid parent text) now formed given none = may_rename s forme
 may_write s (Delete guid) now formed given none = may_delete s formed guid none now
 may_write s (AddLink from attr to) now formed given none = may_add_link s formed from attr to now none
 may_write s (RemoveLink from attr to) now formed given none = may_remove_link s formed from attr to now none
+may_write s (Revive image guid parent text) now formed given none = may_revive s formed image guid parent text given none now
+
+-- all that a write writes may be written, one item after the other
+pub may_write_in_turn : (s : State) (w : Write) (now : ℕ) → IsFormed s → IsWellGiven w → write_refusal s w ≡ None → MayWriteInTurn s (items_written s w now)
+may_write_in_turn s (AddObject guid class parent text values) now formed given none = (refl, may_write s (AddObject guid class parent text values) now formed given none, tt)
+may_write_in_turn s (Modify guid values) now formed given none = (refl, may_write s (Modify guid values) now formed given none, tt)
+may_write_in_turn s (Rename guid parent text) now formed given none = (refl, may_write s (Rename guid parent text) now formed given none, tt)
+may_write_in_turn s (Delete guid) now formed given none = (refl, may_write s (Delete guid) now formed given none, tt)
+may_write_in_turn s (AddLink from attr to) now formed given none = (refl, may_write s (AddLink from attr to) now formed given none, tt)
+may_write_in_turn s (RemoveLink from attr to) now formed given none = (refl, may_write s (RemoveLink from attr to) now formed given none, tt)
+may_write_in_turn s (Revive image guid parent text) now formed given none = (refl, may_revive s formed image guid parent text given none now, may_relink s formed image guid parent text given none now)
 
 pub write_leaves_sound : (sc : Book) (s : State) (w : Write) (now : ℕ) (c : Change) → IsSoundBook sc → IsSoundState sc s → IsWellGiven w → write s w now ≡ Ok c
     → MayIssue sc c (issued_by (ToWrite w now) c) × Leaves sc s (record { call = ToWrite w now; change = c })
 write_leaves_sound sc s w now c book state given made =
     let t = answered (write_refusal s w) (own_change s (items_written s w now)) c made in
-    let may = may_write s w now state.formed given t.0 in
-    subst (λ (d : Change). MayIssue sc d (issued_by (ToWrite w now) d) × Leaves sc s (record { call = ToWrite w now; change = d })) t.1
-    (write_may_issue sc s (rows_written s w now) book state may, write_leaves sc s (rows_written s w now) book state may w now)
+    let may = may_write_in_turn s w now state.formed given t.0 in
+    let first : Written = record { local = s.store.usn + 1; item = rows_written s w now } in
+    subst (λ (d : Change). MayIssue sc d (issued_by (ToWrite w now) d) × Leaves sc s (record { call = ToWrite w now; change = d })) t.1 (
+      in_turn_issue w now sc s first (more_written s w now) book state may (items_are_own s w now),
+      in_turn_leave w now sc s first (more_written s w now) book state may (items_are_own s w now),
+    )

@@ -1,5 +1,5 @@
 -- What the rows that a write writes have to be in a sound state.
-use Rattle.std.specs.Prelude.{◌≡◌, ◌⊎◌, ◌≤◌, ℕ, ◌+◌, List, length, Bool, true}
+use Rattle.std.specs.Prelude.{◌≡◌, ◌⊎◌, ◌≤◌, ℕ, ◌+◌, List, [], ◌∷◌, length, Bool, true}
 use Rattle.adr_stamp.specs.declared.Oid.{Oid}
 use Rattle.adr_stamp.specs.declared.LinkKey.{LinkKey}
 use Rattle.adr_stamp.specs.declared.Unit.{Unit as Named}
@@ -13,8 +13,9 @@ use Rattle.adr_model.specs.Update.{Update, LinkOf, Holds, IsPresent, ends, class
 use Rattle.adr_model.specs.Live.{objects_of}
 use Rattle.adr_model.specs.Reflects.{HoldsObject, IsTombstoned}
 use Rattle.adr_model.specs.Store.{State, updates_of}
+use Rattle.adr_model.specs.Change.{Item, Written, after}
 use Rattle.adr_model.specs.Formed.{HasRow}
-use Rattle.adr_model.specs.Write.{object_limit, link_limit, links_in}
+use Rattle.adr_model.specs.Write.{object_limit, link_limit, links_in, own_change}
 use Rattle.adr_law_steps.specs.Puts.{MayPut}
 use Rattle.adr_law_steps.specs.Forms.{MayChange, MayCome}
 
@@ -57,3 +58,13 @@ Fits s (Link l) us = MayLink s l us
 pub record MayWrite (s : State) (unit : Named) (us : List Update) : Type 0 where
   pub put : MayPut (updates_of s.store.rows) (at s.store.vector) unit us
   pub fits : Fits s unit us
+
+-- the state behind one item that is written under the next USN
+abbrev pub after_item : State → Item → State
+after_item s item = after s (own_change s (record { local = s.store.usn + 1; item = item } ∷ []))
+
+-- items that are written one after the other, each under the next USN, and each of which may be written where those before it
+-- were
+abbrev pub MayWriteInTurn : State → List Written → Type 0
+MayWriteInTurn s [] = Unit {0}
+MayWriteInTurn s (w ∷ ws) = (w.local ≡ s.store.usn + 1) × MayWrite s w.item.unit w.item.rows × MayWriteInTurn (after_item s w.item) ws

@@ -107,7 +107,7 @@ abbrev pub taken_items : State → Reply → Taking
 taken_items s r = take_items s r.items
 
 abbrev pub change_taken : State → Reply → Change
-change_taken s r = taken_change r (taken_items s r)
+change_taken s r = taken_change s r (taken_items s r)
 
 abbrev pub state_behind : State → Reply → State
 state_behind s r = after s (change_taken s r)

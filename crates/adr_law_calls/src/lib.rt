@@ -10,10 +10,12 @@
 
 mod collecting;
 mod taking;
+mod upgrading;
 mod writing;
 
 pub use collecting::collections_leave_sound_states;
 pub use taking::{
     replies_bring_what_was_lacking, sound_replies_are_whole, taken_replies_leave_sound_states,
 };
+pub use upgrading::upgrades_leave_sound_states;
 pub use writing::writes_leave_sound_states;

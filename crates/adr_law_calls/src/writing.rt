@@ -3,7 +3,8 @@
 ghost use Rattle.std.specs.Prelude.{◌≡◌, ℕ, Ok};
 ghost use Rattle.adr_model.specs.Store.{State};
 ghost use Rattle.adr_model.specs.Change.{Change};
-ghost use Rattle.adr_model.specs.Write.{Write, IsWellGiven, write};
+ghost use Rattle.adr_model.specs.Write.{Write, write};
+ghost use Rattle.adr_model.specs.Given.{IsWellGiven};
 ghost use Rattle.adr_model.specs.Replica.{Book, ToWrite, issued_by};
 ghost use Rattle.adr_model.specs.Sound.{IsSoundBook, IsSoundState};
 ghost use Rattle.adr_law_logs.specs.Later.{MayIssue};

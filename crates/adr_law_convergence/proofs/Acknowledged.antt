@@ -19,11 +19,12 @@ use Rattle.adr_model.specs.Change.{Written, Change, updates_written}
 use Rattle.adr_event.specs.declared.refusal.Table.TheVariants.{Log}
 use Rattle.adr_model.specs.Lengths.{log_limit, log_end_after}
 use Rattle.adr_model.specs.Serve.{Request, Reply}
-use Rattle.adr_model.specs.Write.{Write, AddObject, Modify, Rename, Delete, AddLink, RemoveLink, IsWellGiven, next_row, object_of, nodes_held, rows_written, items_written, own_change, write_refusal, write}
+use Rattle.adr_model.specs.Write.{Write, AddObject, Modify, Rename, Delete, AddLink, RemoveLink, next_row, object_of, nodes_held, rows_written, items_written, own_change, write_refusal, write, Revive}
+use Rattle.adr_model.specs.Given.{IsWellGiven}
 use Rattle.adr_model.specs.Refused.{write_refused, serve_refused, take_refused, full}
 use Rattle.adr_model.specs.Replica.{Pending, ToWrite, Up, Failed, Stops, Fails, Replica, moved, Went, Passed, Met, went, moves_of_commit, standing_after, plan_after, outcome_after}
 use Rattle.adr_model.specs.World.{Name, World, Gone, stays, bound_at, with_replica, committed, commit, after_write, writes, asks, serves_request, delivers}
-use Rattle.adr_model.specs.Cycles.{reply_limit}
+use Rattle.adr_model.specs.Cycles.{reply_limit, pull_version}
 use Rattle.adr_model.specs.Step.{ClientWrite, client_write, write_of, step}
 use Rattle.adr_model.specs.Convergence.{IsIssuedItem, IsAcknowledged, AcknowledgedIsIssued}
 use Rattle.adr_model.proofs.Members.{member_right, member_flat}
@@ -54,13 +55,14 @@ a_row s (Rename guid parent text) now is = (_, inl refl)
 a_row s (Delete guid) now is = (_, inl refl)
 a_row s (AddLink from attr to) now is = (_, inl refl)
 a_row s (RemoveLink from attr to) now is = (_, inl refl)
+a_row s (Revive image guid parent text) now is = (_, inl refl)
 
 module _ (w : World) (e : Event) (r : Replica) (there : Member r w.replicas) where
   -- what a controller is in whose place comes one of its name
   in_its_place : (new : Replica) → new.name ≡ r.name → Member new (with_replica w.replicas new)
   in_its_place new same = subst (λ (b : Bool). Member (cond b new r) (with_replica w.replicas new)) (same_name_tests r.name new.name (sym same)) (still_there w.replicas new r there)
 
-  module _ (write_it : ClientWrite) (is : IsWellGiven write_it.what) (writes : write_of e ≡ Some write_it) (name : r.name ≡ write_it.name) where
+  module _ (write_it : ClientWrite) (is : IsWellGiven write_it.what) (writes : write_of w e ≡ Some write_it) (name : r.name ≡ write_it.name) where
     abbrev what : Write
     what = write_it.what
 
@@ -125,7 +127,7 @@ taken_otherwise : (x : TakeRefusal) (usn : ℕ) → take_refused x ≢ outcomes.
 taken_otherwise takes.Quarantined usn e = absurd (cc)
 taken_otherwise _ usn e = absurd (cc)
 
-wrote_by_name : (w : World) (e : Event) (verb : List ℕ) (name : Name) (what : Write) → IsWellGiven what → write_of e ≡ client_write verb name what → IsTrueOf w e (writes w name what)
+wrote_by_name : (w : World) (e : Event) (verb : List ℕ) (name : Name) (what : Write) → IsWellGiven what → write_of w e ≡ client_write verb name what → IsTrueOf w e (writes w name what)
 wrote_by_name w e verb name what is wrote_it = plain_reached (IsTrueOf w e) w name (stays w) (λ o plain usn same. absurd (plain_is_not o plain usn same)) (λ r. after_write w r what (write r.safe what w.time)) (λ r called up.
     wrote w e r called.there (record { verb = verb; name = name; what = what }) is wrote_it called.name (write r.safe what w.time) refl)
 
@@ -141,7 +143,7 @@ taken_no_usn w name o = takes_so IsNoUsn plain_is_not w name o (λ r there p is 
 
 calls_no_usn : IsKeptByCalls (λ v. Unit {0}) (λ v q. Unit {0}) (λ v r. Unit {0}) IsNoUsn
 calls_no_usn = record {
-  asks = λ w name partner max is. (tt, (plain_is_not (asks w name partner max).1 (asked w name partner max), λ q e. tt));
+  asks = λ w name partner max is. (tt, (plain_is_not (asks w name partner max pull_version).1 (asked w name partner max pull_version), λ q e. tt));
   serves = λ w name q is m. (tt, (served_no_usn w name (Some q), λ r e. tt));
   delivers = λ w name r is m. (tt, taken_no_usn w name (Some r));
   more = plain_is_not outcomes.More refl;
@@ -161,4 +163,4 @@ acknowledged_is_issued w e sound may usn a m is = line_case (IsTrue w) w (λ f v
     (λ name source max. says_nothing w (events.Pull name source max) (step w (events.Pull name source max)) (pull_so (λ v. Unit {0}) (λ v q. Unit {0}) (λ v r. Unit {0}) IsNoUsn calls_no_usn name source max w tt).1)
     (λ name source max. says_nothing w (events.Cycle name source max) (step w (events.Cycle name source max)) (pulls_so (λ v. Unit {0}) (λ v q. Unit {0}) (λ v r. Unit {0}) IsNoUsn calls_no_usn name source max reply_limit w tt).1)
     (λ name others rounds max. says_nothing w (events.Ring name others rounds max) (step w (events.Ring name others rounds max)) (ring_so (λ v. Unit {0}) (λ v q. Unit {0}) (λ v r. Unit {0}) IsNoUsn calls_no_usn (λ n d f. plain_is_not (outcomes.Compared n d f) refl) name others rounds max w tt).1)
-    e may a m usn is
+    (λ i n. (sound.images i n).formed) e may a m usn is

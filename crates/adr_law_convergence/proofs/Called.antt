@@ -1,5 +1,5 @@
--- Behind a call of a controller the world is as it was, or moves of that controller left it: what holds of both holds behind every call.
-use Rattle.std.proofs.Common.{ℕ, List, [], ◌∷◌, Option, Some, None, Result, Ok, Err, length}
+-- Behind a call of a controller the world is as it was, or a change that the call makes is committed: what holds of both holds behind every call.
+use Rattle.std.proofs.Common.{◌≡◌, ◌≢◌, ◌≤◌, ℕ, List, [], ◌∷◌, Option, Some, None, Result, Ok, Err, refl, ap, length}
 use Rattle.adr_event.specs.declared.answer.Outcome.{Outcome}
 use Rattle.adr_event.specs.declared.answer.Outcome.TheVariants as outcomes
 use Rattle.adr_event.specs.declared.refusal.WriteRefusal.{WriteRefusal}
@@ -11,18 +11,45 @@ use Rattle.adr_event.specs.declared.refusal.CollectRefusal.{CollectRefusal}
 use Rattle.adr_model.specs.Member.{Member}
 use Rattle.adr_model.specs.Store.{Store}
 use Rattle.adr_model.specs.Change.{Change}
-use Rattle.adr_model.specs.Lengths.{log_end_after}
+use Rattle.adr_model.specs.Lengths.{log_limit, log_end_after}
 use Rattle.adr_model.specs.Serve.{Request, Reply, serve}
 use Rattle.adr_model.specs.Write.{Write, write}
 use Rattle.adr_model.specs.Take.{take}
 use Rattle.adr_model.specs.Collect.{collect, backup, quarantine}
+use Rattle.adr_event.specs.declared.refusal.UpgradeRefusal.{UpgradeRefusal}
+use Rattle.adr_model.specs.Upgrade.{upgrade}
 use Rattle.adr_model.specs.Refused.{serve_refused, take_refused}
-use Rattle.adr_model.specs.Replica.{Pending, ToWrite, ToTake, ToCollect, ToQuarantine, Standing, Up, Down, Failed, Plan, Replica, Move, Settle, went, moves_of_commit, moves_of_start, standing_after, plan_after}
-use Rattle.adr_model.specs.World.{Name, World, Gone, Sent, stays, nothing, replica_at, of_made, of_controller, committed, commit, writes, after_write, after_collect, asks, after_serve, served, serves_request, after_take, delivered, delivers, backed_up, with_plan, after_moves, stops, starts}
-use Rattle.adr_law_convergence.proofs.Reached.{made_case, up_case, reached_case, within_case}
+use Rattle.adr_model.specs.Replica.{Call, Pending, change_in, change_of, ToWrite, ToTake, ToCollect, ToUpgrade, ToQuarantine, Standing, Up, Down, Failed, Plan, Replica, Move, Settle, went, moves_of_commit, moves_of_start, standing_after, plan_after}
+use Rattle.adr_model.specs.World.{Name, World, Gone, Sent, stays, nothing, replica_at, of_made, of_controller, committed, commit, quarantines, writes, after_write, after_collect, after_upgrade, noted, asks, after_serve, served, serves_request, after_take, delivered, delivers, backed_up, with_plan, after_moves, stops, starts}
+use Rattle.adr_law_convergence.proofs.Reached.{made_case, up_case, reached_case, fits_case}
 
-module _ (Q : World → Type 0) (w : World) (same : Q w)
-    (moves : (r : Replica) → Member r w.replicas → (ms : List Move) (standing : Standing) (plan : Option Plan) → Q (after_moves w r ms standing plan outcomes.Ok).0) where
+-- what calls of controllers keep of a world: such a call that isn't refused is committed where the log has room for its change
+pub record IsKeptBehind (Q : World → Type 0) (May : Call → Type 0) (w : World) : Type 0 where
+  pub same : Q w
+  pub notes : (reply : Reply) → Q (noted w reply)
+  pub commits :
+      (r : Replica) → Member r w.replicas → r.standing ≡ Up → (p : Pending) → May p.call → change_of r.safe p.call ≡ Some p.change → log_end_after r.safe_end p.change ≤ log_limit
+      → Q (after_moves w r (moves_of_commit p (went r.plan 4)) (standing_after Failed (went r.plan 4)) (plan_after (went r.plan 4)) outcomes.Ok).0
+  pub starts : (r : Replica) → Member r w.replicas → r.standing ≢ Up → Q (after_moves w r (moves_of_start (went r.plan 1)) (standing_after r.standing (went r.plan 1)) (plan_after (went r.plan 1)) outcomes.Ok).0
+  pub stops : (r : Replica) → Member r w.replicas → Q (after_moves w r (Settle ∷ []) Down None outcomes.Ok).0
+  pub plans : (r : Replica) → Member r w.replicas → (plan : Plan) → Q (after_moves w r [] r.standing (Some plan) outcomes.Ok).0
+
+abbrev pub AnyCall : Call → Type 0
+AnyCall call = Unit {0}
+
+-- where whatever moves keep it
+pub by_moves : (Q : World → Type 0) (w : World) → Q w → ((reply : Reply) → Q (noted w reply)) → ((r : Replica) → Member r w.replicas → (ms : List Move) (standing : Standing) (plan : Option Plan) → Q (after_moves w r ms standing plan outcomes.Ok).0)
+    → IsKeptBehind Q AnyCall w
+by_moves Q w same notes moves = record {
+  same = same;
+  notes = notes;
+  commits = λ r there up p may made fits. moves r there (moves_of_commit p (went r.plan 4)) (standing_after Failed (went r.plan 4)) (plan_after (went r.plan 4));
+  starts = λ r there not_up. moves r there (moves_of_start (went r.plan 1)) (standing_after r.standing (went r.plan 1)) (plan_after (went r.plan 1));
+  stops = λ r there. moves r there (Settle ∷ []) Down None;
+  plans = λ r there plan. moves r there [] r.standing (Some plan);
+}
+
+module _ (Q : World → Type 0) (May : Call → Type 0) (w : World) (keeps : IsKeptBehind Q May w) where
   abbrev Behind : Gone → Type 0
   Behind g = Q g.0
 
@@ -30,75 +57,82 @@ module _ (Q : World → Type 0) (w : World) (same : Q w)
   Sent_so t = Q t.0
 
   module _ (r : Replica) (there : Member r w.replicas) where
-    commits : (p : Pending) (outcome : Outcome) → Behind (commit w r p outcome)
-    commits p outcome = within_case Behind w (log_end_after r.safe_end p.change) (committed w r p outcome) same
-        (moves r there (moves_of_commit p (went r.plan 4)) (standing_after Failed (went r.plan 4)) (plan_after (went r.plan 4)))
+    started : (standing : Standing) → r.standing ≡ standing → Behind (starts w r standing)
+    started Up is = keeps.same
+    started Down is = keeps.starts r there (λ up. absurd (cc))
+    started Failed is = keeps.starts r there (λ up. absurd (cc))
 
-    abbrev put_back_by : Pending
-    put_back_by = record { call = ToQuarantine; change = quarantine r.safe }
+    module _ (up : r.standing ≡ Up) where
+      commits : (p : Pending) (outcome : Outcome) → May p.call → change_of r.safe p.call ≡ Some p.change → Behind (commit w r p outcome)
+      commits p outcome may made = fits_case Behind w (log_end_after r.safe_end p.change) (committed w r p outcome) keeps.same (λ fits. keeps.commits r there up p may made fits)
 
-    wrote : (what : Write) (t : Result Change WriteRefusal) → Behind (after_write w r what t)
-    wrote what (Err x) = same
-    wrote what (Ok c) = commits (record { call = ToWrite what w.time; change = c }) (outcomes.Usn c.usn)
+      quarantining : May ToQuarantine → (outcome : Outcome) → Behind (quarantines w r outcome)
+      quarantining may outcome = commits (record { call = ToQuarantine; change = quarantine r.safe }) outcome may refl
 
-    collected : (lifetime : ℕ) (t : Result Change CollectRefusal) → Behind (after_collect w r lifetime t)
-    collected lifetime (Err x) = same
-    collected lifetime (Ok c) = commits (record { call = ToCollect w.time lifetime; change = c }) (outcomes.Removed (length c.removed))
+      wrote : (what : Write) → May (ToWrite what w.time) → (t : Result Change WriteRefusal) → write r.safe what w.time ≡ t → Behind (after_write w r what t)
+      wrote what may (Err x) e = keeps.same
+      wrote what may (Ok c) e = commits (record { call = ToWrite what w.time; change = c }) (outcomes.Usn c.usn) may (ap change_in e)
 
-    taken : (reply : Reply) (t : Result Change TakeRefusal) → Behind (after_take w r reply t)
-    taken reply (Ok c) = commits (record { call = ToTake reply; change = c }) (outcomes.Took (length reply.items) (length c.writes) c.usn)
-    taken reply (Err (takes.RolledBack inv mine shown)) = commits put_back_by (take_refused (takes.RolledBack inv mine shown))
-    taken reply (Err x) = same
+      collected : (lifetime : ℕ) → May (ToCollect w.time lifetime) → (t : Result Change CollectRefusal) → collect r.safe w.time lifetime ≡ t → Behind (after_collect w r lifetime t)
+      collected lifetime may (Err x) e = keeps.same
+      collected lifetime may (Ok c) e = commits (record { call = ToCollect w.time lifetime; change = c }) (outcomes.Removed (length c.removed)) may (ap change_in e)
 
-    answered : (t : Result Reply ServeRefusal) → Sent_so (after_serve w r t)
-    answered (Ok reply) = same
-    answered (Err (serves.RolledBack inv mine shown)) = commits put_back_by (serve_refused (serves.RolledBack inv mine shown))
-    answered (Err x) = same
+      changed_over : May ToUpgrade → (t : Result Change UpgradeRefusal) → upgrade r.safe ≡ t → Behind (after_upgrade w r t)
+      changed_over may (Err x) e = keeps.same
+      changed_over may (Ok c) e = commits (record { call = ToUpgrade; change = c }) outcomes.Ok may (ap change_in e)
 
-    served_one : (q : Option Request) → Sent_so (served w r q)
-    served_one None = same
-    served_one (Some q) = answered (serve r.safe q)
+      taken : May ToQuarantine → (reply : Reply) → May (ToTake reply) → (t : Result Change TakeRefusal) → take r.safe reply ≡ t → Behind (after_take w r reply t)
+      taken shut reply may (Ok c) e = commits (record { call = ToTake reply; change = c }) (outcomes.Took (length reply.items) (length c.writes) c.usn) may (ap change_in e)
+      taken shut reply may (Err (takes.RolledBack inv mine shown)) e = quarantining shut (take_refused (takes.RolledBack inv mine shown))
+      taken shut reply may (Err x) e = keeps.same
 
-    delivered_one : (p : Option Reply) → Behind (delivered w r p)
-    delivered_one None = same
-    delivered_one (Some p) = taken p (take r.safe p)
+      answered : May ToQuarantine → (t : Result Reply ServeRefusal) → Sent_so (after_serve w r t)
+      answered shut (Ok reply) = keeps.notes reply
+      answered shut (Err (serves.RolledBack inv mine shown)) = quarantining shut (serve_refused (serves.RolledBack inv mine shown))
+      answered shut (Err x) = keeps.same
 
-    started : (standing : Standing) → Behind (starts w r standing)
-    started Up = same
-    started Down = moves r there (moves_of_start (went r.plan 1)) (standing_after r.standing (went r.plan 1)) (plan_after (went r.plan 1))
-    started Failed = moves r there (moves_of_start (went r.plan 1)) (standing_after r.standing (went r.plan 1)) (plan_after (went r.plan 1))
+      served_one : May ToQuarantine → (q : Option Request) → Sent_so (served w r q)
+      served_one shut None = keeps.same
+      served_one shut (Some q) = answered shut (serve r.safe q w.time)
 
-  pub writes_so : (name : Name) (what : Write) → Behind (writes w name what)
-  writes_so name what = reached_case Behind w name (stays w) (λ x. same) (λ r. after_write w r what (write r.safe what w.time)) (λ r called up. wrote r called.there what (write r.safe what w.time))
+      delivered_one : May ToQuarantine → (o : Option Reply) → ((p : Reply) → o ≡ Some p → May (ToTake p)) → Behind (delivered w r o)
+      delivered_one shut None may = keeps.same
+      delivered_one shut (Some p) may = taken shut p (may p refl) (take r.safe p) refl
 
-  pub asks_so : (name partner : Name) (max : ℕ) → Sent_so (asks w name partner max)
-  asks_so name partner max =
-      made_case Sent_so w name (nothing w) (λ x. same) _ (λ r is. made_case Sent_so w partner (nothing w) (λ x. same) _ (λ p at. up_case Sent_so w name (nothing w) (λ x. same) r.standing _ (λ up. same)))
+  pub writes_so : (name : Name) (what : Write) → May (ToWrite what w.time) → Behind (writes w name what)
+  writes_so name what may = reached_case Behind w name (stays w) (λ x. keeps.same) (λ r. after_write w r what (write r.safe what w.time)) (λ r called up. wrote r called.there up what may (write r.safe what w.time) refl)
 
-  pub serves_so : (name : Name) (q : Option Request) → Sent_so (serves_request w name q)
-  serves_so name q = reached_case Sent_so w name (nothing w) (λ x. same) (λ r. served w r q) (λ r called up. served_one r called.there q)
+  pub asks_so : (name partner : Name) (max version : ℕ) → Sent_so (asks w name partner max version)
+  asks_so name partner max version =
+      made_case Sent_so w name (nothing w) (λ x. keeps.same) _ (λ r is. made_case Sent_so w partner (nothing w) (λ x. keeps.same) _ (λ p at. up_case Sent_so w name (nothing w) (λ x. keeps.same) r.standing _ (λ up. keeps.same)))
 
-  pub delivers_so : (name : Name) (p : Option Reply) → Behind (delivers w name p)
-  delivers_so name p = reached_case Behind w name (stays w) (λ x. same) (λ r. delivered w r p) (λ r called up. delivered_one r called.there p)
+  pub serves_so : (name : Name) (q : Option Request) → May ToQuarantine → Sent_so (serves_request w name q)
+  serves_so name q shut = reached_case Sent_so w name (nothing w) (λ x. keeps.same) (λ r. served w r q) (λ r called up. served_one r called.there up shut q)
 
-  pub collects_so : (name : Name) (lifetime : ℕ) → Behind (of_controller w name (stays w) (λ r. after_collect w r lifetime (collect r.safe w.time lifetime)))
-  collects_so name lifetime = reached_case Behind w name (stays w) (λ x. same) (λ r. after_collect w r lifetime (collect r.safe w.time lifetime)) (λ r called up. collected r called.there lifetime (collect r.safe w.time lifetime))
+  pub delivers_so : (name : Name) (o : Option Reply) → May ToQuarantine → ((p : Reply) → o ≡ Some p → May (ToTake p)) → Behind (delivers w name o)
+  delivers_so name o shut may = reached_case Behind w name (stays w) (λ x. keeps.same) (λ r. delivered w r o) (λ r called up. delivered_one r called.there up shut o may)
+
+  pub collects_so : (name : Name) (lifetime : ℕ) → May (ToCollect w.time lifetime) → Behind (of_controller w name (stays w) (λ r. after_collect w r lifetime (collect r.safe w.time lifetime)))
+  collects_so name lifetime may = reached_case Behind w name (stays w) (λ x. keeps.same) (λ r. after_collect w r lifetime (collect r.safe w.time lifetime)) (λ r called up. collected r called.there up lifetime may (collect r.safe w.time lifetime) refl)
+
+  pub upgrades_so : (name : Name) → May ToUpgrade → Behind (of_controller w name (stays w) (λ r. after_upgrade w r (upgrade r.safe)))
+  upgrades_so name may = reached_case Behind w name (stays w) (λ x. keeps.same) (λ r. after_upgrade w r (upgrade r.safe)) (λ r called up. changed_over r called.there up may (upgrade r.safe) refl)
 
   pub backs_up_so : (name : Name) → Sent_so (of_controller w name (nothing w) (λ r. backed_up w (backup r.safe)))
-  backs_up_so name = reached_case Sent_so w name (nothing w) (λ x. same) (λ r. backed_up w (backup r.safe)) (λ r called up. by (backup r.safe))
+  backs_up_so name = reached_case Sent_so w name (nothing w) (λ x. keeps.same) (λ r. backed_up w (backup r.safe)) (λ r called up. by (backup r.safe))
     where
       by : (o : Option Store) → Sent_so (backed_up w o)
-      by None = same
-      by (Some image) = same
+      by None = keeps.same
+      by (Some image) = keeps.same
 
   pub plans_so : (name : Name) (plan : Plan) → Behind (of_made (stays w) (replica_at w name) (λ r. with_plan w r plan))
-  plans_so name plan = made_case Behind w name (stays w) (λ x. same) (λ r. with_plan w r plan) (λ r called. moves r called.there [] r.standing (Some plan))
+  plans_so name plan = made_case Behind w name (stays w) (λ x. keeps.same) (λ r. with_plan w r plan) (λ r called. keeps.plans r called.there plan)
 
   pub stops_so : (name : Name) → Behind (of_made (stays w) (replica_at w name) (λ r. stops w r))
-  stops_so name = made_case Behind w name (stays w) (λ x. same) (λ r. stops w r) (λ r called. moves r called.there (Settle ∷ []) Down None)
+  stops_so name = made_case Behind w name (stays w) (λ x. keeps.same) (λ r. stops w r) (λ r called. keeps.stops r called.there)
 
   pub starts_so : (name : Name) → Behind (of_made (stays w) (replica_at w name) (λ r. starts w r r.standing))
-  starts_so name = made_case Behind w name (stays w) (λ x. same) (λ r. starts w r r.standing) (λ r called. started r called.there r.standing)
+  starts_so name = made_case Behind w name (stays w) (λ x. keeps.same) (λ r. starts w r r.standing) (λ r called. started r called.there r.standing refl)
 
   pub reports_so : (name : Name) (what : Replica → Outcome) → Behind (of_controller w name (stays w) (λ r. (w, what r)))
-  reports_so name what = reached_case Behind w name (stays w) (λ x. same) (λ r. (w, what r)) (λ r called up. same)
+  reports_so name what = reached_case Behind w name (stays w) (λ x. keeps.same) (λ r. (w, what r)) (λ r called up. keeps.same)

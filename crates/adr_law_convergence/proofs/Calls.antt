@@ -7,7 +7,7 @@ use Rattle.adr_model.specs.LocalLog.{Follows}
 use Rattle.adr_model.specs.Take.{take_items, taken_change, take_refusal, take}
 use Rattle.adr_model.specs.Write.{items_written, own_change, write_refusal, write}
 use Rattle.adr_model.specs.Collect.{deaths_to_collect, collection, collect_refusal, collect}
-use Rattle.adr_model.specs.Replica.{Call, ToWrite, ToTake, ToCollect, ToQuarantine, change_in, change_of, Pending, issued_by, Replica, Book}
+use Rattle.adr_model.specs.Replica.{Call, ToWrite, ToTake, ToCollect, ToUpgrade, ToQuarantine, change_in, change_of, Pending, issued_by, Replica, Book}
 use Rattle.adr_model.specs.Sound.{last_of, IsSoundBook, IsSoundState, IsSoundCall}
 use Rattle.adr_law_knowledge.proofs.Refusing.{answered}
 use Rattle.adr_law_logs.specs.Later.{AreIssuedBy, MayIssue}
@@ -16,6 +16,8 @@ use Rattle.adr_law_logs.proofs.Leaving.{sound_state_is_left}
 use Rattle.adr_law_logs.proofs.Written.{write_may_follow}
 use Rattle.adr_law_calls.proofs.CollectionLeaves.{collection_leaves}
 use Rattle.adr_law_calls.proofs.WriteSound.{write_leaves_sound}
+use Rattle.adr_model.specs.Upgrade.{upgraded, upgrade_refusal, upgrade}
+use Rattle.adr_law_calls.proofs.Upgraded.{upgrade_leaves}
 use Rattle.adr_law_calls.proofs.TakenLeaves.{taken_leaves}
 
 -- what is asked of a call before it settles
@@ -56,8 +58,8 @@ module _ (sc : Book) (s : State) (book : IsSoundBook sc) (state : IsSoundState s
       ok : take s r ≡ Ok c
       ok = in_change (take s r) c made
 
-      change : taken_change r (take_items s r.items) ≡ c
-      change = (answered (take_refusal s r (take_items s r.items) (after s (taken_change r (take_items s r.items)))) (taken_change r (take_items s r.items)) c ok).1
+      change : taken_change s r (take_items s r.items) ≡ c
+      change = (answered (take_refusal s r (take_items s r.items) (after s (taken_change s r (take_items s r.items)))) (taken_change s r (take_items s r.items)) c ok).1
 
       left : Follows (last_of sc s.inv) c × (MayIssue sc c [] × Leaves sc s (record { call = ToTake r; change = c }))
       left = taken_leaves sc s r c book state is ok
@@ -71,6 +73,16 @@ module _ (sc : Book) (s : State) (book : IsSoundBook sc) (state : IsSoundState s
 
       left : Follows (last_of sc s.inv) c × Leaves sc s (record { call = ToCollect now lifetime; change = c })
       left = collection_leaves sc s now lifetime c book state ok
+  settles ToUpgrade c is made = record { follows = left.0; issued = λ u m. absurd m; content = issues_nothing sc c (subst (λ (d : Change). d.writes ≡ []) change refl); leaves = left.1; normal = subst (λ (d : Change). d.mode ≡ Normal) change refl }
+    where
+      ok : upgrade s ≡ Ok c
+      ok = in_change (upgrade s) c made
+
+      change : upgraded s ≡ c
+      change = (answered (upgrade_refusal s) (upgraded s) c ok).1
+
+      left : Follows (last_of sc s.inv) c × Leaves sc s (record { call = ToUpgrade; change = c })
+      left = upgrade_leaves sc s c book state ok
   settles ToQuarantine c is made = absurd is
 
   pub call_settles : (p : Pending) → IsSoundCall sc p.call → change_of s p.call ≡ Some p.change → Settles sc s p

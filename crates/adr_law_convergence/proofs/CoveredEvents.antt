@@ -1,5 +1,5 @@
 -- What was collected stays covered by every line that may happen and keeps it so.
-use Rattle.std.proofs.Common.{◌≡◌, ℕ, [], ◌∷◌, true, Some, sym, subst}
+use Rattle.std.proofs.Common.{◌≡◌, ℕ, [], ◌∷◌, true, Some, sym, subst, List, Option, None}
 use Rattle.adr_vector.specs.Vector.{at_most}
 use Rattle.adr_event.specs.declared.answer.Outcome.{Outcome}
 use Rattle.adr_event.specs.declared.answer.Outcome.TheVariants as outcomes
@@ -7,16 +7,17 @@ use Rattle.adr_event.specs.declared.event.Event.{Event}
 use Rattle.adr_event.specs.declared.event.Event.TheVariants as events
 use Rattle.adr_model.specs.Store.{Store}
 use Rattle.adr_model.specs.Serve.{Request, Reply}
-use Rattle.adr_model.specs.Write.{AddObject, Modify, Rename, Delete, AddLink, RemoveLink}
+use Rattle.adr_model.specs.Write.{AddObject, Modify, Rename, Delete, AddLink, RemoveLink, Revive}
 use Rattle.adr_model.specs.Replica.{Stops, Fails}
 use Rattle.adr_model.specs.World.{Name, World, Snapshot, Sent, nothing, bound_at, asks, serves_request, delivers, shown, marks_shown}
-use Rattle.adr_model.specs.Cycles.{pulls, reply_limit}
-use Rattle.adr_model.specs.Step.{gives, step}
+use Rattle.adr_model.specs.Cycles.{pulls, reply_limit, pull_version}
+use Rattle.adr_model.specs.Step.{gives, step, revival, stepped}
 use Rattle.adr_model.specs.Convergence.{MayHappen, IsStoreOf, IsPurgedCovered, KeepsCovered, StaysCovered}
 use Rattle.adr_law_convergence.proofs.Reached.{made_case}
 use Rattle.adr_law_convergence.proofs.Exchanges.{IsKeptByCalls, pull_so, pulls_so, ring_so, way_case}
 use Rattle.adr_law_convergence.proofs.Covered.{grown_covers, purged_covered}
-use Rattle.adr_law_convergence.proofs.CoveredSteps.{asked, put_back_covered, given_more, writes_covered, serves_covered, delivers_covered, collects_covered, plans_covered, stops_covered, starts_covered, restores_covered, installs_covered, reports_covered, comes_covered, binds_request, binds_image}
+use Rattle.adr_law_convergence.proofs.CoveredSteps.{asked, put_back_covered, given_more, writes_covered, serves_covered, delivers_covered, collects_covered, plans_covered, stops_covered, starts_covered, restores_covered, installs_covered, reports_covered, comes_covered, binds_request, binds_image, upgrades_covered}
+use Rattle.adr_model.specs.Update.{Identifier}
 
 -- ---- pulls
 
@@ -25,10 +26,10 @@ abbrev pub CoversPurged : World → Request → Type 0
 CoversPurged w q = (s : Store) → IsStoreOf w s → at_most s.purged q.vector ≡ true
 
 -- the calls of a pull keep it so, by what holds of their answers
-pub calls_covered : (P : Outcome → Type 0) → ((w : World) (name partner : Name) (max : ℕ) → P (asks w name partner max).1) → ((w : World) (name : Name) (q : Request) → CoversPurged w q → P (serves_request w name (Some q)).1)
+pub calls_covered : (P : Outcome → Type 0) → ((w : World) (name partner : Name) (max : ℕ) → P (asks w name partner max pull_version).1) → ((w : World) (name : Name) (q : Request) → CoversPurged w q → P (serves_request w name (Some q)).1)
     → ((w : World) (name : Name) (r : Reply) → P (delivers w name (Some r)).1) → P outcomes.More → IsKeptByCalls IsPurgedCovered CoversPurged (λ w r. Unit {0}) P
 calls_covered P asking serving delivering more = record {
-  asks = λ w name partner max covered. let makes = asked w covered name partner max in
+  asks = λ w name partner max covered. let makes = asked w covered name partner max pull_version in
       (subst IsPurgedCovered (sym makes.0) covered, (asking w name partner max, λ q e. subst (λ (v : World). CoversPurged v q) (sym makes.0) (λ s m. grown_covers w s.purged q.vector (purged_covered w covered s m) (makes.1 q e))));
   serves = λ w name q covered is. (serves_covered w covered name (Some q), (serving w name q is, λ r e. tt));
   delivers = λ w name r covered is. (delivers_covered w covered name (Some r), delivering w name r);
@@ -43,6 +44,14 @@ pulls_covered w covered dest source max n = (pulls_so IsPurgedCovered CoversPurg
 
 -- ---- lines
 
+-- a revival, whether or not its image was made
+revived_covered : (w : World) → IsPurgedCovered w → (name : Name) (guid : Identifier) (image : Name) (parent : Identifier) (text : List ℕ) → IsPurgedCovered (step w (events.Revive name guid image parent text)).0
+revived_covered w covered name guid image parent text = by (bound_at w.images image)
+  where
+    by : (o : Option Store) → IsPurgedCovered (stepped w (events.Revive name guid image parent text) (revival name guid parent text o)).0
+    by None = covered
+    by (Some i) = writes_covered w covered name (Revive i guid parent text)
+
 event_covered : (w : World) (covered : IsPurgedCovered w) (e : Event) → MayHappen w e → KeepsCovered w e → (step w e).0.clean ≡ true → IsPurgedCovered (step w e).0
 event_covered w covered (events.Controller name dsa inv) may keeps clean = comes_covered w covered name dsa inv keeps
 event_covered w covered (events.Time now) may keeps clean = record { stores = covered.stores; requests = covered.requests }
@@ -52,7 +61,7 @@ event_covered w covered (events.Rename name guid parent text) may keeps clean = 
 event_covered w covered (events.Delete name guid) may keeps clean = writes_covered w covered name (Delete guid)
 event_covered w covered (events.Link name from attr to) may keeps clean = writes_covered w covered name (AddLink from attr to)
 event_covered w covered (events.Unlink name from attr to) may keeps clean = writes_covered w covered name (RemoveLink from attr to)
-event_covered w covered (events.Ask name partner max bind) may keeps clean = binds_request w covered name partner bind max
+event_covered w covered (events.Ask name partner max version bind) may keeps clean = binds_request w covered name partner bind max version
 event_covered w covered (events.Serve name request bind) may keeps clean =
     let c = serves_covered w covered name (bound_at w.requests request) in record { stores = c.stores; requests = c.requests }
 event_covered w covered (events.Deliver name reply) may keeps clean = delivers_covered w covered name (bound_at w.replies reply)
@@ -60,6 +69,8 @@ event_covered w covered (events.Pull name source max) may keeps clean = (pull_so
 event_covered w covered (events.Cycle name source max) may keeps clean = pulls_covered w covered name source max reply_limit
 event_covered w covered (events.Ring name others rounds max) may keeps clean = (ring_so IsPurgedCovered CoversPurged (λ v r. Unit {0}) (λ o. Unit {0}) only_worlds (λ n d e. tt) name others rounds max w covered).0
 event_covered w covered (events.Collect name lifetime) may keeps clean = collects_covered w covered name lifetime keeps
+event_covered w covered (events.Upgrade name) may keeps clean = upgrades_covered w covered name
+event_covered w covered (events.Revive name guid image parent text) may keeps clean = revived_covered w covered name guid image parent text
 event_covered w covered (events.Backup name bind) may keeps clean = binds_image w covered name bind
 event_covered w covered (events.Restore name image inv) may keeps clean = restores_covered (gives w [] (inv ∷ [])) (given_more w covered [] (inv ∷ [])) name image inv
 event_covered w covered (events.Install name dsa image inv) may keeps clean = installs_covered (gives w (dsa ∷ []) (inv ∷ [])) (given_more w covered (dsa ∷ []) (inv ∷ [])) name image dsa inv
@@ -71,7 +82,7 @@ event_covered w covered (events.Fail name calls) may keeps clean = plans_covered
 event_covered w covered (events.Stop name) may keeps clean = stops_covered w covered name
 event_covered w covered (events.Start name) may keeps clean = starts_covered w covered name
 event_covered w covered (events.Show name) may keeps clean = reports_covered w covered name (λ r. outcomes.Show (shown w r.safe))
-event_covered w covered (events.Vector name) may keeps clean = reports_covered w covered name (λ r. outcomes.Vector r.safe.store.vector)
+event_covered w covered (events.Vector name) may keeps clean = reports_covered w covered name (λ r. outcomes.Vector r.safe.store.vector r.safe.store.times)
 event_covered w covered (events.Marks name) may keeps clean = reports_covered w covered name (λ r. outcomes.Marks (marks_shown r.safe.store))
 
 -- what was collected is still covered

@@ -20,8 +20,8 @@ use Rattle.adr_model.specs.Take.{take_items, taken_change, take_refusal, take}
 use Rattle.adr_model.specs.Collect.{collection, deaths_to_collect, collect_refusal, collect, backup, adopt, quarantine}
 use Rattle.adr_model.specs.Lengths.{new_log_end, log_end_after}
 use Rattle.adr_model.specs.Refused.{serve_refused, take_refused, quarantined}
-use Rattle.adr_model.specs.Replica.{Pending, ToWrite, ToTake, ToCollect, ToQuarantine, Standing, Up, Down, Failed, Plan, Replica, on_new_disk, Book, begun, Settle, moved, went, moves_of_commit, moves_of_start, standing_after, plan_after}
-use Rattle.adr_model.specs.World.{Name, World, Snapshot, Gone, Sent, stays, nothing, bound, bound_at, replica_at, with_replica, of_made, of_controller, committed, commit, quarantines, after_write, writes, after_collect, asks, after_serve, served, serves_request, after_take, delivered, delivers, backed_up, adopts, of_image, put_back, with_plan, stops, starts, shown}
+use Rattle.adr_model.specs.Replica.{Pending, ToWrite, ToTake, ToCollect, ToUpgrade, ToQuarantine, Standing, Up, Down, Failed, Plan, Replica, on_new_disk, Book, begun, Settle, moved, went, moves_of_commit, moves_of_start, standing_after, plan_after}
+use Rattle.adr_model.specs.World.{Name, World, Snapshot, Gone, Sent, stays, nothing, bound, bound_at, replica_at, with_replica, of_made, of_controller, committed, commit, quarantines, after_write, writes, after_collect, asks, after_serve, served, serves_request, after_take, delivered, delivers, backed_up, adopts, of_image, put_back, with_plan, stops, starts, shown, after_upgrade}
 use Rattle.adr_model.specs.Step.{gives, step}
 use Rattle.adr_model.specs.Convergence.{IsStoreOf, IsPurgedCovered, KeepsCovered}
 use Rattle.adr_model.proofs.Members.{member_of_either}
@@ -29,9 +29,11 @@ use Rattle.adr_law_knowledge.proofs.Refusing.{answered}
 use Rattle.adr_law_logs.proofs.Woken.{adopted_is_woken}
 use Rattle.adr_law_convergence.proofs.Found.{bound_member}
 use Rattle.adr_law_convergence.proofs.Reached.{made_case, up_case, reached_case, within_case}
-use Rattle.adr_law_convergence.proofs.Binding.{Makes, made_nothing, only_made}
+use Rattle.adr_law_convergence.proofs.Binding.{MakesHere, made_none, only_made}
 use Rattle.adr_law_convergence.proofs.Covered.{IsGrown, IsCovered, MayCome, nothing_collected, nothing_covered, deaths_covered, raised_grows, as_it_was, purged_covered, comes_itself, changed_comes, both_come, placed, joining, requested, imaged}
 use Rattle.adr_law_convergence.proofs.Moves.{settling, starting, committing}
+use Rattle.adr_event.specs.declared.refusal.UpgradeRefusal.{UpgradeRefusal}
+use Rattle.adr_model.specs.Upgrade.{upgraded, upgrade_refusal, upgrade}
 
 -- ---- calls
 
@@ -61,7 +63,7 @@ module _ (w : World) (covered : IsPurgedCovered w) where
 
     took : (reply : Reply) (t : Result Change TakeRefusal) → take r.safe reply ≡ t → IsPurgedCovered (after_take w r reply t).0
     took reply (Ok c) e = commits (record { call = ToTake reply; change = c }) (outcomes.Took (length reply.items) (length c.writes) c.usn)
-        (unpurged (taken_change reply (take_items r.safe reply.items)) c (answered (take_refusal r.safe reply (take_items r.safe reply.items) (after r.safe (taken_change reply (take_items r.safe reply.items)))) (taken_change reply (take_items r.safe reply.items)) c e).1 refl)
+        (unpurged (taken_change r.safe reply (take_items r.safe reply.items)) c (answered (take_refusal r.safe reply (take_items r.safe reply.items) (after r.safe (taken_change r.safe reply (take_items r.safe reply.items)))) (taken_change r.safe reply (take_items r.safe reply.items)) c e).1 refl)
     took reply (Err (takes.RolledBack inv mine shown)) e = quarantining (take_refused (takes.RolledBack inv mine shown))
     took reply (Err _) e = covered
 
@@ -70,13 +72,13 @@ module _ (w : World) (covered : IsPurgedCovered w) where
     took_bound (Some reply) = took reply (take r.safe reply) refl
 
     answered_with : (t : Result Reply ServeRefusal) → IsPurgedCovered (after_serve w r t).0
-    answered_with (Ok reply) = covered
+    answered_with (Ok reply) = record { stores = covered.stores; requests = covered.requests }
     answered_with (Err (serves.RolledBack inv mine shown)) = quarantining (serve_refused (serves.RolledBack inv mine shown))
     answered_with (Err _) = covered
 
     served_bound : (o : Option Request) → IsPurgedCovered (served w r o).0
     served_bound None = covered
-    served_bound (Some q) = answered_with (serve r.safe q)
+    served_bound (Some q) = answered_with (serve r.safe q w.time)
 
     collected : (lifetime : ℕ) → ((c : Change) → collect r.safe w.time lifetime ≡ Ok c → IsCovered w (collection r.safe (deaths_to_collect r.safe w.time lifetime)).purged) → (t : Result Change CollectRefusal) → collect r.safe w.time lifetime ≡ t
         → IsPurgedCovered (after_collect w r lifetime t).0
@@ -85,13 +87,18 @@ module _ (w : World) (covered : IsPurgedCovered w) where
         (subst (λ (d : Change). IsCovered w d.purged)
         (answered (collect_refusal r.safe (collection r.safe (deaths_to_collect r.safe w.time lifetime))) (collection r.safe (deaths_to_collect r.safe w.time lifetime)) c e).1 (purged c e))
 
+    upgraded_from : (t : Result Change UpgradeRefusal) → upgrade r.safe ≡ t → IsPurgedCovered (after_upgrade w r t).0
+    upgraded_from (Err x) e = covered
+    upgraded_from (Ok c) e = commits (record { call = ToUpgrade; change = c }) outcomes.Ok
+        (unpurged (upgraded r.safe) c (answered (upgrade_refusal r.safe) (upgraded r.safe) c e).1 refl)
+
     started_from : (standing : Standing) → IsPurgedCovered (starts w r standing).0
     started_from Up = covered
     started_from Down = moved_world (fold moved (w.book, r) (moves_of_start (went r.plan 1))) (standing_after r.standing (went r.plan 1)) (plan_after (went r.plan 1)) (starting (λ (s : State). MayCome w s.store) w.book r (both_come w covered r there) (went r.plan 1))
     started_from Failed = moved_world (fold moved (w.book, r) (moves_of_start (went r.plan 1))) (standing_after r.standing (went r.plan 1)) (plan_after (went r.plan 1)) (starting (λ (s : State). MayCome w s.store) w.book r (both_come w covered r there) (went r.plan 1))
 
-    imaged_from : (b : Bool) → Makes w (MayCome w) (backed_up w (if b then None else Some r.safe.store))
-    imaged_from true = made_nothing w (MayCome w) quarantined
+    imaged_from : (b : Bool) → MakesHere w (MayCome w) (backed_up w (if b then None else Some r.safe.store))
+    imaged_from true = made_none w (MayCome w) quarantined
     imaged_from false = (refl, only_made (MayCome w) r.safe.store (comes_itself w covered r.safe.store (inl (r, there, inl refl))))
 
   -- a state that is made of an image
@@ -117,13 +124,13 @@ module _ (w : World) (covered : IsPurgedCovered w) where
       by None is = covered
       by (Some i) is = acts i (bound_member (IsStoreOf w) w.images image i (λ x m. inr (x, m, refl)) is)
 
-  pub asked : (name partner : Name) (max : ℕ) → Makes w (λ (q : Request). IsGrown w q.vector) (asks w name partner max)
-  asked name partner max =
-      made_case (Makes w (λ (q : Request). IsGrown w q.vector)) w name (nothing w) none _ (λ r is. made_case (Makes w (λ (q : Request). IsGrown w q.vector)) w partner (nothing w) none _ (λ p at. up_case (Makes w (λ (q : Request). IsGrown w q.vector)) w name (nothing w) none r.standing _ (λ up.
-      (refl, only_made (λ (q : Request). IsGrown w q.vector) (ask r.safe p.safe.dsa max) (as_it_was w r.safe.store (inl (r, is.there, inl refl)))))))
+  pub asked : (name partner : Name) (max version : ℕ) → MakesHere w (λ (q : Request). IsGrown w q.vector) (asks w name partner max version)
+  asked name partner max version =
+      made_case (MakesHere w (λ (q : Request). IsGrown w q.vector)) w name (nothing w) none _ (λ r is. made_case (MakesHere w (λ (q : Request). IsGrown w q.vector)) w partner (nothing w) none _ (λ p at. up_case (MakesHere w (λ (q : Request). IsGrown w q.vector)) w name (nothing w) none r.standing _ (λ up.
+      (refl, only_made (λ (q : Request). IsGrown w q.vector) (ask r.safe p.safe.dsa max version) (as_it_was w r.safe.store (inl (r, is.there, inl refl)))))))
     where
-      none : (x : Outcome) → Makes w (λ (q : Request). IsGrown w q.vector) (nothing w x)
-      none x = made_nothing w (λ (q : Request). IsGrown w q.vector) x
+      none : (x : Outcome) → MakesHere w (λ (q : Request). IsGrown w q.vector) (nothing w x)
+      none x = made_none w (λ (q : Request). IsGrown w q.vector) x
 
   pub given_more : (dsas invs : List Identifier) → IsPurgedCovered (gives w dsas invs)
   given_more dsas invs = record { stores = covered.stores; requests = covered.requests }
@@ -143,8 +150,11 @@ module _ (w : World) (covered : IsPurgedCovered w) where
   collects_covered name lifetime keeps = reached_case OfWorld w name (stays w) (λ x. covered) (λ r. after_collect w r lifetime (collect r.safe w.time lifetime)) (λ r is up.
       collected r is.there lifetime (λ c e. let deaths = keeps r is.there is.name up c e in deaths_covered w (deaths_to_collect r.safe w.time lifetime) deaths.stores deaths.requests) (collect r.safe w.time lifetime) refl)
 
-  backups_covered : (name : Name) → Makes w (MayCome w) (of_controller w name (nothing w) (λ r. backed_up w (backup r.safe)))
-  backups_covered name = reached_case (Makes w (MayCome w)) w name (nothing w) (made_nothing w (MayCome w)) (λ r. backed_up w (backup r.safe)) (λ r is up. imaged_from r is.there (is_quarantined r.safe.mode))
+  pub upgrades_covered : (name : Name) → IsPurgedCovered (of_controller w name (stays w) (λ r. after_upgrade w r (upgrade r.safe))).0
+  upgrades_covered name = reached_case OfWorld w name (stays w) (λ x. covered) (λ r. after_upgrade w r (upgrade r.safe)) (λ r is up. upgraded_from r is.there (upgrade r.safe) refl)
+
+  backups_covered : (name : Name) → MakesHere w (MayCome w) (of_controller w name (nothing w) (λ r. backed_up w (backup r.safe)))
+  backups_covered name = reached_case (MakesHere w (MayCome w)) w name (nothing w) (made_none w (MayCome w)) (λ r. backed_up w (backup r.safe)) (λ r is up. imaged_from r is.there (is_quarantined r.safe.mode))
 
   pub plans_covered : (name : Name) (plan : Plan) → IsPurgedCovered (of_made (stays w) (replica_at w name) (λ r. with_plan w r plan)).0
   plans_covered name plan = made_case OfWorld w name (stays w) (λ x. covered) (λ r. with_plan w r plan) (λ r is. placed w covered w.book (record r { plan = Some plan }) (both_come w covered r is.there))
@@ -183,9 +193,9 @@ module _ (w : World) (covered : IsPurgedCovered w) where
       each s (inr (i, m, e)) = none s (inr (i, m, e))
 
   -- with what is bound
-  pub binds_request : (name partner bind : Name) (max : ℕ) → IsPurgedCovered (step w (events.Ask name partner max bind)).0
-  binds_request name partner bind max = subst (λ (v : World). IsPurgedCovered (record v { requests = bound v.requests bind (asks w name partner max).2 })) (sym (asked name partner max).0)
-      (requested w covered bind (asks w name partner max).2 (asked name partner max).1)
+  pub binds_request : (name partner bind : Name) (max version : ℕ) → IsPurgedCovered (step w (events.Ask name partner max version bind)).0
+  binds_request name partner bind max version = subst (λ (v : World). IsPurgedCovered (record v { requests = bound v.requests bind (asks w name partner max version).2 })) (sym (asked name partner max version).0)
+      (requested w covered bind (asks w name partner max version).2 (asked name partner max version).1)
 
   pub binds_image : (name bind : Name) → IsPurgedCovered (step w (events.Backup name bind)).0
   binds_image name bind = subst (λ (v : World). IsPurgedCovered (record v { images = bound v.images bind (of_controller w name (nothing w) (λ r. backed_up w (backup r.safe))).2 })) (sym (backups_covered name).0)

@@ -23,8 +23,8 @@ use Rattle.adr_event.specs.declared.refusal.Table.TheVariants.{Log}
 use Rattle.adr_model.specs.Lengths.{log_limit, log_end_after}
 use Rattle.adr_model.specs.Refused.{usn_limited, full, full_fields}
 use Rattle.adr_model.specs.Replica.{Pending, ToTake, Up, Fault, Stops, Fails, Plan, Replica, recorded, moved, Went, Passed, Met, went, moves_of_commit, standing_after, plan_after, outcome_after, Failed}
-use Rattle.adr_model.specs.World.{Name, World, Gone, answer, replica_at, with_replica, of_made, where_up, nothing, stays, asks, rows_in, after_serve, served, serves_request, committed, commit, after_take, delivered, delivers}
-use Rattle.adr_model.specs.Cycles.{Pulled, first_told, pull_delivered, pull_served, pull_asked, pull}
+use Rattle.adr_model.specs.World.{Name, World, Gone, answer, replica_at, with_replica, of_made, where_up, nothing, stays, asks, rows_in, after_serve, served, serves_request, committed, commit, after_take, delivered, delivers, noted}
+use Rattle.adr_model.specs.Cycles.{Pulled, first_told, pull_delivered, pull_served, pull_asked, pull, pull_version}
 use Rattle.adr_model.specs.Sound.{last_of, IsSoundState, IsSoundReply, IsSent, IsSoundWorld}
 use Rattle.adr_model.specs.Convergence.{units_beyond, IsRefused}
 use Rattle.adr_law_logs.specs.Settling.{Leaves}
@@ -99,13 +99,17 @@ module _ (w v : World) (dest source : Name) (d s : Replica) (goes : Goes w v des
   s_normal = goes.sound.normal s s_there.0
 
   abbrev pub request : Request
-  request = ask d.safe s.safe.dsa most
+  request = ask d.safe s.safe.dsa most pull_version
 
   abbrev pub reply : Reply
-  reply = reply_to s.safe request
+  reply = reply_to s.safe request v.time
 
   abbrev pub change : Change
-  change = taken_change reply (take_items d.safe reply.items)
+  change = taken_change d.safe reply (take_items d.safe reply.items)
+
+  -- the world in which the reply was made
+  abbrev pub serving : World
+  serving = noted v reply
 
   abbrev pending : Pending
   pending = record { call = ToTake reply; change = change }
@@ -133,19 +137,19 @@ module _ (w v : World) (dest source : Name) (d s : Replica) (goes : Goes w v des
   still_unplanned none = ap (λ (p : Option Plan). plan_after (went p 4)) none
 
   abbrev pub behind : World
-  behind = record v { book = recorded v.book d.safe.inv pending; replicas = with_replica v.replicas next }
+  behind = record serving { book = recorded v.book d.safe.inv pending; replicas = with_replica v.replicas next }
 
-  asks_is : asks v dest source most ≡ (v, outcomes.Ok, Some request)
+  asks_is : asks v dest source most pull_version ≡ (v, outcomes.Ok, Some request)
   asks_is =
-      ap (λ o. of_made (nothing v) o (λ x. of_made (nothing v) (replica_at v source) (λ p. where_up (nothing v) x.standing (v, outcomes.Ok, Some (ask x.safe p.safe.dsa most))))) goes.d_found
-      ∙ (ap (λ o. of_made (nothing v) o (λ p. where_up (nothing v) d.standing (v, outcomes.Ok, Some (ask d.safe p.safe.dsa most)))) goes.s_found
-      ∙ ap (λ st. where_up (nothing v) st (v, outcomes.Ok, Some (ask d.safe s.safe.dsa most))) goes.d_up)
+      ap (λ o. of_made (nothing v) o (λ x. of_made (nothing v) (replica_at v source) (λ p. where_up (nothing v) x.standing (v, outcomes.Ok, Some (ask x.safe p.safe.dsa most pull_version))))) goes.d_found
+      ∙ (ap (λ o. of_made (nothing v) o (λ p. where_up (nothing v) d.standing (v, outcomes.Ok, Some (ask d.safe p.safe.dsa most pull_version)))) goes.s_found
+      ∙ ap (λ st. where_up (nothing v) st (v, outcomes.Ok, Some (ask d.safe s.safe.dsa most pull_version))) goes.d_up)
 
-  serves_is : serves_request v source (Some request) ≡ (v, outcomes.Served reply.from reply.to (length reply.items) (rows_in reply) (is_some reply.last), Some reply)
+  serves_is : serves_request v source (Some request) ≡ (serving, outcomes.Served reply.from reply.to (length reply.items) (rows_in reply) (is_some reply.last), Some reply)
   serves_is =
       ap (λ o. of_made (nothing v) o (λ x. where_up (nothing v) x.standing (served v x (Some request)))) goes.s_found
       ∙ (ap (λ st. where_up (nothing v) st (served v s (Some request))) goes.s_up
-      ∙ ap (after_serve v s) (serves_it v.book d.safe s.safe most goes.sound.book d_safe s_safe d_normal s_normal goes.schema goes.purged))
+      ∙ ap (after_serve v s) (serves_it v.book d.safe s.safe most v.time goes.sound.book d_safe s_safe d_normal s_normal goes.schema goes.purged))
 
   -- whether the log has no room for the change
   abbrev is_full : Bool
@@ -153,25 +157,25 @@ module _ (w v : World) (dest source : Name) (d s : Replica) (goes : Goes w v des
 
   -- what comes of the commit, by how its device calls go
   abbrev comes : Outcome → Went → Gone
-  comes o g = let m = fold moved (v.book, d) (moves_of_commit pending g) in (
-    record v { book = m.0; replicas = with_replica v.replicas (record m.1 { standing = standing_after Failed g; plan = plan_after g }) },
+  comes o g = let m = fold moved (serving.book, d) (moves_of_commit pending g) in (
+    record serving { book = m.0; replicas = with_replica serving.replicas (record m.1 { standing = standing_after Failed g; plan = plan_after g }) },
     outcome_after g o,
   )
 
-  committed_is : Passes → (o : Outcome) → committed v d pending o ≡ (behind, o)
-  committed_is passes o = ap (comes o) passes.1 ∙ ap (λ (p : Option Plan). let t : Gone = (record v { book = recorded v.book d.safe.inv pending; replicas = with_replica v.replicas (record next { plan = p }) }, o) in t) (sym (ap plan_after passes.1))
+  committed_is : Passes → (o : Outcome) → committed serving d pending o ≡ (behind, o)
+  committed_is passes o = ap (comes o) passes.1 ∙ ap (λ (p : Option Plan). let t : Gone = (record serving { book = recorded v.book d.safe.inv pending; replicas = with_replica v.replicas (record next { plan = p }) }, o) in t) (sym (ap plan_after passes.1))
 
   -- the commit, where it is known whether the log has room for the change
-  commit_by : (b : Bool) → is_full ≡ b → (o : Outcome) → commit v d pending o ≡ (if b then (v, full Log log_limit) else committed v d pending o)
-  commit_by b is o = ap (λ (t : Bool). if t then (v, full Log log_limit) else committed v d pending o) is
+  commit_by : (b : Bool) → is_full ≡ b → (o : Outcome) → commit serving d pending o ≡ (if b then (serving, full Log log_limit) else committed serving d pending o)
+  commit_by b is o = ap (λ (t : Bool). if t then (serving, full Log log_limit) else committed serving d pending o) is
 
-  reaches : delivers v dest (Some reply) ≡ after_take v d reply (take d.safe reply)
+  reaches : delivers serving dest (Some reply) ≡ after_take serving d reply (take d.safe reply)
   reaches =
-      ap (λ o. of_made (stays v) o (λ x. where_up (stays v) x.standing (delivered v x (Some reply)))) goes.d_found
-      ∙ ap (λ st. where_up (stays v) st (delivered v d (Some reply))) goes.d_up
+      ap (λ o. of_made (stays serving) o (λ x. where_up (stays serving) x.standing (delivered serving x (Some reply)))) goes.d_found
+      ∙ ap (λ st. where_up (stays serving) st (delivered serving d (Some reply))) goes.d_up
 
   -- what a pull comes to, by its delivery
-  pull_is : (g : Gone) → delivers v dest (Some reply) ≡ g
+  pull_is : (g : Gone) → delivers serving dest (Some reply) ≡ g
       → pull v dest source most ≡ first_told (answer (codes "ask") dest outcomes.Ok) (first_told (answer (codes "serve") source (outcomes.Served reply.from reply.to (length reply.items) (rows_in reply) (is_some reply.last))) (pull_delivered dest reply g))
   pull_is g e =
       ap (λ t. first_told (answer (codes "ask") dest t.1) (pull_asked dest source t.0 t.2)) asks_is
@@ -194,22 +198,22 @@ module _ (w v : World) (dest source : Name) (d s : Replica) (goes : Goes w v des
   Takes = (take d.safe reply ≡ Ok change) × (is_full ≡ false) × Passes
 
   pub took : Takes → pull v dest source most ≡ (behind, told taking, is_none reply.last)
-  took t = pull_is (behind, taking) (reaches ∙ (ap (after_take v d reply) t.0 ∙ (commit_by false t.1 taking ∙ committed_is t.2 taking)))
+  took t = pull_is (behind, taking) (reaches ∙ (ap (after_take serving d reply) t.0 ∙ (commit_by false t.1 taking ∙ committed_is t.2 taking)))
 
-  -- the pull leaves the world as it was, and says that a limit is met
+  -- the pull changes no controller, and says that a limit is met
   abbrev pub MeetsLimit : Type 0
-  MeetsLimit = (o : Outcome) × (pull v dest source most ≡ (v, told o, false)) × (IsRefused 21 o ⊎ IsRefused 22 o)
+  MeetsLimit = (o : Outcome) × (pull v dest source most ≡ (serving, told o, false)) × (IsRefused 21 o ⊎ IsRefused 22 o)
 
   refused : (x : TakeRefusal) → take d.safe reply ≡ Err x → IsLimit x → MeetsLimit
-  refused x e (inl is) = (usn_limited, pull_is (v, usn_limited) (reaches ∙ ap (after_take v d reply) (e ∙ ap Err is)), inl (codes "UsnLimit", [], refl))
-  refused x e (inr (table, limit, is)) = (full table limit, pull_is (v, full table limit) (reaches ∙ ap (after_take v d reply) (e ∙ ap Err is)), inr (codes "Full", full_fields table limit, refl))
+  refused x e (inl is) = (usn_limited, pull_is (serving, usn_limited) (reaches ∙ ap (after_take serving d reply) (e ∙ ap Err is)), inl (codes "UsnLimit", [], refl))
+  refused x e (inr (table, limit, is)) = (full table limit, pull_is (serving, full table limit) (reaches ∙ ap (after_take serving d reply) (e ∙ ap Err is)), inr (codes "Full", full_fields table limit, refl))
 
   -- a device call of the commit meets a fault, and the pull says so
   abbrev pub MeetsFault : Type 0
   MeetsFault = (u : World) × (o : Outcome) × (pull v dest source most ≡ (u, told o, false)) × ((o ≡ outcomes.Stopped) ⊎ (o ≡ outcomes.Disk)) × (Passes → ⊥)
 
   pub taken_or_met : Takes ⊎ (MeetsLimit ⊎ MeetsFault)
-  taken_or_met = ⊎_elim (λ ok. by is_full refl ok) (λ t. inr (inl (refused t.0 t.1 t.2))) (taken_or_limited v.book d.safe s.safe most goes.sound.book d_safe s_safe d_normal s_normal goes.schema goes.purged)
+  taken_or_met = ⊎_elim (λ ok. by is_full refl ok) (λ t. inr (inl (refused t.0 t.1 t.2))) (taken_or_limited v.book d.safe s.safe most v.time goes.sound.book d_safe s_safe d_normal s_normal goes.schema goes.purged)
     where
       meets : {place : ℕ} {fault : Fault} → Passes → went d.plan 4 ≡ Met place fault → ⊥
       meets p e = let both = sym p.1 ∙ e in absurd (cc)
@@ -217,12 +221,12 @@ module _ (w v : World) (dest source : Name) (d s : Replica) (goes : Goes w v des
       on : (g : Went) → went d.plan 4 ≡ g → take d.safe reply ≡ Ok change → is_full ≡ false → Takes ⊎ (MeetsLimit ⊎ MeetsFault)
       on (Passed left) e ok room = inl (ok, room, (left, e))
       on (Met place (Stops how)) e ok room = let g = comes taking (Met place (Stops how)) in
-          inr (inr (g.0, outcomes.Stopped, pull_is g (reaches ∙ (ap (after_take v d reply) ok ∙ (commit_by false room taking ∙ ap (comes taking) e))), inl refl, λ p. meets p e))
+          inr (inr (g.0, outcomes.Stopped, pull_is g (reaches ∙ (ap (after_take serving d reply) ok ∙ (commit_by false room taking ∙ ap (comes taking) e))), inl refl, λ p. meets p e))
       on (Met place Fails) e ok room = let g = comes taking (Met place Fails) in
-          inr (inr (g.0, outcomes.Disk, pull_is g (reaches ∙ (ap (after_take v d reply) ok ∙ (commit_by false room taking ∙ ap (comes taking) e))), inr refl, λ p. meets p e))
+          inr (inr (g.0, outcomes.Disk, pull_is g (reaches ∙ (ap (after_take serving d reply) ok ∙ (commit_by false room taking ∙ ap (comes taking) e))), inr refl, λ p. meets p e))
 
       by : (b : Bool) → is_full ≡ b → take d.safe reply ≡ Ok change → Takes ⊎ (MeetsLimit ⊎ MeetsFault)
-      by true is ok = inr (inl (full Log log_limit, pull_is (v, full Log log_limit) (reaches ∙ (ap (after_take v d reply) ok ∙ commit_by true is taking)), inr (codes "Full", full_fields Log log_limit, refl)))
+      by true is ok = inr (inl (full Log log_limit, pull_is (serving, full Log log_limit) (reaches ∙ (ap (after_take serving d reply) ok ∙ commit_by true is taking)), inr (codes "Full", full_fields Log log_limit, refl)))
       by false is ok = on (went d.plan 4) refl ok is
 
   -- no plan, no fault
@@ -235,10 +239,10 @@ module _ (w v : World) (dest source : Name) (d s : Replica) (goes : Goes w v des
       by (inr (inr fault)) = absurd (fault.4 (unplanned_passes none))
 
   sound_reply : IsSoundReply v.book reply
-  sound_reply = reply_sound v.book d.safe s.safe most goes.sound.book d_safe s_safe d_normal s_normal goes.schema goes.purged
+  sound_reply = reply_sound v.book d.safe s.safe most v.time goes.sound.book d_safe s_safe d_normal s_normal goes.schema goes.purged
 
   sent_held : (u : Update) → IsSent reply u → Member u (updates_of s.safe.store.rows)
-  sent_held = sent_is_held v.book d.safe s.safe most goes.sound.book d_safe s_safe d_normal s_normal goes.schema goes.purged
+  sent_held = sent_is_held v.book d.safe s.safe most v.time goes.sound.book d_safe s_safe d_normal s_normal goes.schema goes.purged
 
   -- who asks and who serves behind the pull
   pub next_found : replica_at behind dest ≡ Some next
@@ -262,11 +266,11 @@ module _ (w v : World) (dest source : Name) (d s : Replica) (goes : Goes w v des
       by false = goes.s_up
 
   pub kept : Member (s.safe.dsa, record { inv = s.safe.inv; mark = reply.to }) next.safe.store.marks
-  kept = kept_there v.book d.safe s.safe most goes.sound.book d_safe s_safe d_normal s_normal goes.schema goes.purged
+  kept = kept_there v.book d.safe s.safe most v.time goes.sound.book d_safe s_safe d_normal s_normal goes.schema goes.purged
 
   -- a reply that isn't the last brings nearer to the end
   pub nearer_end : 1 ≤ most → reply.last ≡ None → (units_beyond next.safe s.safe + 1 ≤ units_beyond d.safe s.safe) × (1 ≤ units_beyond next.safe s.safe)
-  nearer_end = nearer v.book d.safe s.safe most goes.sound.book d_safe s_safe d_normal s_normal goes.schema goes.purged
+  nearer_end = nearer v.book d.safe s.safe most v.time goes.sound.book d_safe s_safe d_normal s_normal goes.schema goes.purged
 
   -- the last reply ends behind all that the source has, and carries its vector
   pub ended : (W : Cursors) → reply.last ≡ Some W → (reply.to ≡ record { obj = s.safe.store.usn; prop = s.safe.store.usn; seen = s.safe.store.usn }) × (W ≡ s.safe.store.vector)
@@ -278,14 +282,14 @@ module _ (w v : World) (dest source : Name) (d s : Replica) (goes : Goes w v des
       sent : List (ℕ × Item)
       sent = first_items request.max byte_limit all
 
-      by : (b : Bool) → (reply_of s.safe request (begins_at s.safe request) sent b).last ≡ Some W
-          → ((reply_of s.safe request (begins_at s.safe request) sent b).to ≡ record { obj = s.safe.store.usn; prop = s.safe.store.usn; seen = s.safe.store.usn }) × (W ≡ s.safe.store.vector)
+      by : (b : Bool) → (reply_of s.safe request v.time (begins_at s.safe request) sent b).last ≡ Some W
+          → ((reply_of s.safe request v.time (begins_at s.safe request) sent b).to ≡ record { obj = s.safe.store.usn; prop = s.safe.store.usn; seen = s.safe.store.usn }) × (W ≡ s.safe.store.vector)
       by true e = (refl, cc)
       by false e = absurd (cc)
 
   -- what is kept of the source then
   pub kept_as : kept_of next.safe.store s.safe.dsa ≡ record { inv = s.safe.inv; mark = reply.to }
-  kept_as = kept_so v.book d.safe s.safe most goes.sound.book d_safe s_safe d_normal s_normal goes.schema goes.purged
+  kept_as = kept_so v.book d.safe s.safe most v.time goes.sound.book d_safe s_safe d_normal s_normal goes.schema goes.purged
 
   module _ (takes : Takes) where
     ok : take d.safe reply ≡ Ok change
@@ -298,7 +302,7 @@ module _ (w v : World) (dest source : Name) (d s : Replica) (goes : Goes w v des
     left = let t = taken_leaves v.book d.safe reply change goes.sound.book d_safe sound_reply ok in (t.0, t.1.1)
 
     new_to_it : (u : Update) → IsSent reply u → Covers (at d.safe.store.vector) u → ⊥
-    new_to_it = sent_is_new v.book d.safe s.safe most goes.sound.book d_safe s_safe d_normal s_normal goes.schema goes.purged
+    new_to_it = sent_is_new v.book d.safe s.safe most v.time goes.sound.book d_safe s_safe d_normal s_normal goes.schema goes.purged
 
     -- where all that the source holds was taken, nothing is written
     pub idle : Each (λ u. Reflects v.book.issued (knowledge_of d.safe.store) u) (updates_of s.safe.store.rows) → (next.safe.store.usn ≡ d.safe.store.usn) × (next.safe.store.rows ≡ d.safe.store.rows)

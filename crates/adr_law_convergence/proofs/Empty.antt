@@ -25,8 +25,8 @@ identifiers_are_sound = record {
   dsas_given = λ r m. absurd m;
   invs_given = λ r m. absurd m;
   unused = λ i n. refl;
-  marks = λ r m. absurd m;
-  image_marks = λ i m. absurd m;
+  stores = λ r m. absurd m;
+  images = λ i m. absurd m;
   requests = λ q m. absurd m;
   replies = λ r m. absurd m;
 }
@@ -47,6 +47,7 @@ world_is_orderly : IsOrderlyWorld empty_world
 world_is_orderly = record {
   names = λ r m. absurd m;
   replicas = λ r m. absurd m;
+  replies = λ r m. absurd m;
   images = λ i m. absurd m;
   snapshots = λ s m. absurd m;
   bound_requests = λ x m. absurd m;

@@ -8,7 +8,7 @@ use Rattle.adr_event.specs.declared.event.Event.TheVariants as events
 use Rattle.adr_model.specs.Member.{Each}
 use Rattle.adr_model.specs.Serve.{Request, Reply}
 use Rattle.adr_model.specs.World.{Name, World, Sent, answer, asks, serves_request, delivers}
-use Rattle.adr_model.specs.Cycles.{Pulled, pull_served, pull_asked, pull, and_then, pulls, reply_limit}
+use Rattle.adr_model.specs.Cycles.{Pulled, pull_served, pull_asked, pull, and_then, pulls, reply_limit, pull_version}
 use Rattle.adr_model.specs.Rings.{ring, times, rings}
 use Rattle.adr_model.specs.Step.{step}
 use Rattle.adr_model.specs.Convergence.{IsOnTheWay}
@@ -21,7 +21,7 @@ Sends I M P t = I t.0 × (P t.1 × ((x : _) → t.2 ≡ Some x → M t.0 x))
 
 -- what the calls of a pull keep of worlds, by what holds of the requests and replies in them, and what holds of each answer
 pub record IsKeptByCalls (I : World → Type 0) (Q : World → Request → Type 0) (R : World → Reply → Type 0) (P : Outcome → Type 0) : Type 0 where
-  pub asks : (w : World) (name partner : Name) (max : ℕ) → I w → Sends I Q P (asks w name partner max)
+  pub asks : (w : World) (name partner : Name) (max : ℕ) → I w → Sends I Q P (asks w name partner max pull_version)
   pub serves : (w : World) (name : Name) (q : Request) → I w → Q w q → Sends I R P (serves_request w name (Some q))
   pub delivers : (w : World) (name : Name) (r : Reply) → I w → R w r → I (delivers w name (Some r)).0 × P (delivers w name (Some r)).1
   pub more : P outcomes.More
@@ -51,8 +51,8 @@ module _ (I : World → Type 0) (Q : World → Request → Type 0) (R : World �
   pub pull_so : (w : World) → I w → I (pull w dest source max).0 × All (pull w dest source max).1
   pull_so w is =
       let t = kept.asks w dest source max is in
-      let s = asked (asks w dest source max).0 (asks w dest source max).2 t.0 t.1.1 in
-      (s.0, one_more (codes "ask") dest (asks w dest source max).1 (pull_asked dest source (asks w dest source max).0 (asks w dest source max).2).1 t.1.0 s.1)
+      let s = asked (asks w dest source max pull_version).0 (asks w dest source max pull_version).2 t.0 t.1.1 in
+      (s.0, one_more (codes "ask") dest (asks w dest source max pull_version).1 (pull_asked dest source (asks w dest source max pull_version).0 (asks w dest source max pull_version).2).1 t.1.0 s.1)
 
   then_so : (p : Pulled) (go : World → World × List Answer) → I p.0 × All p.1 → ((v : World) → I v → I (go v).0 × All (go v).1) → I (and_then p go).0 × All (and_then p go).1
   then_so p go is goes = by p.2
@@ -66,7 +66,7 @@ module _ (I : World → Type 0) (Q : World → Request → Type 0) (R : World �
   pulls_so (suc n) w is = then_so (pull w dest source max) (λ v. pulls n v dest source max) (pull_so w is) (λ v h. pulls_so n v h)
 
 -- of worlds alone
-pub worlds_alone : (I : World → Type 0) → ((w : World) (name partner : Name) (max : ℕ) → I w → I (asks w name partner max).0) → ((w : World) (name : Name) (o : Option Request) → I w → I (serves_request w name o).0)
+pub worlds_alone : (I : World → Type 0) → ((w : World) (name partner : Name) (max : ℕ) → I w → I (asks w name partner max pull_version).0) → ((w : World) (name : Name) (o : Option Request) → I w → I (serves_request w name o).0)
     → ((w : World) (name : Name) (o : Option Reply) → I w → I (delivers w name o).0) → IsKeptByCalls I (λ w q. Unit {0}) (λ w r. Unit {0}) (λ o. Unit {0})
 worlds_alone I asking serving delivering = record {
   asks = λ w name partner max is. (asking w name partner max is, (tt, λ x e. tt));

@@ -11,13 +11,17 @@ use Rattle.adr_model.specs.Write.{AddObject, Modify, Rename, Delete, AddLink, Re
 use Rattle.adr_model.specs.Collect.{adopt}
 use Rattle.adr_model.specs.Replica.{Pending, issued_by, Standing, Stops, Fails, Plan, Replica, on_new_disk, Book, begun, Move, Begin, Settle, Forget, moved}
 use Rattle.adr_model.specs.World.{Name, World, Snapshot, Gone, Sent, stays, nothing, bound_at, with_replica, begins, adopts, of_image, put_back, after_moves, shown, marks_shown}
-use Rattle.adr_model.specs.Cycles.{pulls, reply_limit}
+use Rattle.adr_model.specs.Cycles.{pulls, reply_limit, pull_version}
 use Rattle.adr_model.specs.Step.{gives, step}
 use Rattle.adr_model.specs.Convergence.{IssuedStays, StaysClean, StaysUnclean, puts_back}
 use Rattle.adr_model.proofs.Members.{member_left}
 use Rattle.adr_law_convergence.proofs.Reached.{made_case, within_case}
-use Rattle.adr_law_convergence.proofs.Called.{writes_so, asks_so, serves_so, delivers_so, collects_so, backs_up_so, plans_so, stops_so, starts_so, reports_so}
+use Rattle.adr_model.specs.Step.{stepped, revival}
+use Rattle.adr_model.specs.Write.{Revive}
+use Rattle.adr_model.specs.World.{noted}
+use Rattle.adr_law_convergence.proofs.Called.{IsKeptBehind, AnyCall, by_moves, upgrades_so, writes_so, asks_so, serves_so, delivers_so, collects_so, backs_up_so, plans_so, stops_so, starts_so, reports_so}
 use Rattle.adr_law_convergence.proofs.Exchanges.{IsKeptByCalls, worlds_alone, pull_so, pulls_so, ring_so, way_case}
+use Rattle.adr_model.specs.Serve.{Reply}
 
 -- all that was issued in the one world is so in the other, and what isn't clean stays so; what is clean too, where no database is put back
 pub record Keeps (put : Bool) (w v : World) : Type 0 where
@@ -59,6 +63,12 @@ module _ (put : Bool) (w : World) where
   moving : (v : World) → Keeps put w v → (r : Replica) → Member r v.replicas → (ms : List Move) (standing : Standing) (plan : Option Plan) → Keeps put w (after_moves v r ms standing plan outcomes.Ok).0
   moving v kept r there ms standing plan = onward put w v (after_moves v r ms standing plan outcomes.Ok).0 kept (record { issued = moves_keep ms (v.book, r); unclean = λ e. e; alike = λ e. refl })
 
+  notes_kept : (v : World) → Keeps put w v → (reply : Reply) → Keeps put w (noted v reply)
+  notes_kept v kept reply = record { issued = kept.issued; unclean = kept.unclean; alike = kept.alike }
+
+  keeping : (v : World) → Keeps put w v → IsKeptBehind (Keeps put w) AnyCall v
+  keeping v kept = by_moves (Keeps put w) v kept (notes_kept v kept) (moving v kept)
+
   begins_keep : (placed : Replica → List Replica) (name : Name) (s : State) → Kept (begins w placed name s)
   begins_keep placed name s = within_case Kept w (new_log_end s) (record w { book = begun w.book s; replicas = placed (on_new_disk name s) }, outcomes.Ok) (same put w) (record { issued = λ u m. m; unclean = λ e. e; alike = λ e. refl })
 
@@ -76,8 +86,8 @@ put_back_keeps w name (Some s) = record { issued = λ u m. m; unclean = λ e. re
 
 module _ (w : World) where
   pub calls_keep : IsKeptByCalls (Keeps false w) (λ v q. Unit {0}) (λ v r. Unit {0}) (λ o. Unit {0})
-  calls_keep = worlds_alone (Keeps false w) (λ v name partner max kept. asks_so (Keeps false w) v kept (moving false w v kept) name partner max) (λ v name o kept. serves_so (Keeps false w) v kept (moving false w v kept) name o)
-      (λ v name o kept. delivers_so (Keeps false w) v kept (moving false w v kept) name o)
+  calls_keep = worlds_alone (Keeps false w) (λ v name partner max kept. asks_so (Keeps false w) AnyCall v (keeping false w v kept) name partner max pull_version) (λ v name o kept. serves_so (Keeps false w) AnyCall v (keeping false w v kept) name o tt)
+      (λ v name o kept. delivers_so (Keeps false w) AnyCall v (keeping false w v kept) name o tt (λ p e. tt))
 
   pulls_keep : (x : World) (name source : Name) (max n : ℕ) → Keeps false w x → Keeps false w (pulls n x name source max).0
   pulls_keep x name source max n kept = (pulls_so (Keeps false w) (λ v q. Unit {0}) (λ v r. Unit {0}) (λ o. Unit {0}) calls_keep name source max n x kept).0
@@ -85,26 +95,32 @@ module _ (w : World) where
   abbrev Q : World → Type 0
   Q = Keeps false w
 
-  abbrev moves : (r : Replica) → Member r w.replicas → (ms : List Move) (standing : Standing) (plan : Option Plan) → Keeps false w (after_moves w r ms standing plan outcomes.Ok).0
-  moves = moving false w w (same false w)
+  here : IsKeptBehind (Keeps false w) AnyCall w
+  here = keeping false w w (same false w)
 
   pub step_keeps : (e : Event) → Keeps (puts_back e) w (step w e).0
   step_keeps (events.Controller name dsa inv) = record { issued = λ u m. m; unclean = λ e. e; alike = λ e. refl }
   step_keeps (events.Time now) = record { issued = λ u m. m; unclean = λ e. e; alike = λ e. refl }
-  step_keeps (events.Add name guid class parent text values) = writes_so Q w (same false w) moves name (AddObject guid class parent text values)
-  step_keeps (events.Modify name guid values) = writes_so Q w (same false w) moves name (Modify guid values)
-  step_keeps (events.Rename name guid parent text) = writes_so Q w (same false w) moves name (Rename guid parent text)
-  step_keeps (events.Delete name guid) = writes_so Q w (same false w) moves name (Delete guid)
-  step_keeps (events.Link name from attr to) = writes_so Q w (same false w) moves name (AddLink from attr to)
-  step_keeps (events.Unlink name from attr to) = writes_so Q w (same false w) moves name (RemoveLink from attr to)
-  step_keeps (events.Ask name partner max bind) = let k = asks_so Q w (same false w) moves name partner max in record { issued = k.issued; unclean = k.unclean; alike = k.alike }
-  step_keeps (events.Serve name request bind) = let k = serves_so Q w (same false w) moves name (bound_at w.requests request) in record { issued = k.issued; unclean = k.unclean; alike = k.alike }
-  step_keeps (events.Deliver name reply) = delivers_so Q w (same false w) moves name (bound_at w.replies reply)
+  step_keeps (events.Add name guid class parent text values) = writes_so Q AnyCall w here name (AddObject guid class parent text values) tt
+  step_keeps (events.Modify name guid values) = writes_so Q AnyCall w here name (Modify guid values) tt
+  step_keeps (events.Rename name guid parent text) = writes_so Q AnyCall w here name (Rename guid parent text) tt
+  step_keeps (events.Delete name guid) = writes_so Q AnyCall w here name (Delete guid) tt
+  step_keeps (events.Link name from attr to) = writes_so Q AnyCall w here name (AddLink from attr to) tt
+  step_keeps (events.Unlink name from attr to) = writes_so Q AnyCall w here name (RemoveLink from attr to) tt
+  step_keeps (events.Ask name partner max version bind) = let k = asks_so Q AnyCall w here name partner max version in record { issued = k.issued; unclean = k.unclean; alike = k.alike }
+  step_keeps (events.Serve name request bind) = let k = serves_so Q AnyCall w here name (bound_at w.requests request) tt in record { issued = k.issued; unclean = k.unclean; alike = k.alike }
+  step_keeps (events.Deliver name reply) = delivers_so Q AnyCall w here name (bound_at w.replies reply) tt (λ p e. tt)
   step_keeps (events.Pull name source max) = (pull_so Q (λ v q. Unit {0}) (λ v r. Unit {0}) (λ o. Unit {0}) calls_keep name source max w (same false w)).0
   step_keeps (events.Cycle name source max) = pulls_keep w name source max reply_limit (same false w)
   step_keeps (events.Ring name others rounds max) = (ring_so Q (λ v q. Unit {0}) (λ v r. Unit {0}) (λ o. Unit {0}) calls_keep (λ n d e. tt) name others rounds max w (same false w)).0
-  step_keeps (events.Collect name lifetime) = collects_so Q w (same false w) moves name lifetime
-  step_keeps (events.Backup name bind) = let k = backs_up_so Q w (same false w) moves name in record { issued = k.issued; unclean = k.unclean; alike = k.alike }
+  step_keeps (events.Collect name lifetime) = collects_so Q AnyCall w here name lifetime tt
+  step_keeps (events.Upgrade name) = upgrades_so Q AnyCall w here name tt
+  step_keeps (events.Revive name guid image parent text) = by (bound_at w.images image)
+    where
+      by : (o : Option Store) → Keeps false w (stepped w (events.Revive name guid image parent text) (revival name guid parent text o)).0
+      by None = same false w
+      by (Some i) = writes_so Q AnyCall w here name (Revive i guid parent text) tt
+  step_keeps (events.Backup name bind) = let k = backs_up_so Q AnyCall w here name in record { issued = k.issued; unclean = k.unclean; alike = k.alike }
   step_keeps (events.Restore name image inv) =
       made_case (Kept false w) (gives w [] (inv ∷ [])) name (stays (gives w [] (inv ∷ []))) (λ o. given) (λ r. of_image (gives w [] (inv ∷ [])) (bound_at w.images image) (λ i. adopts (gives w [] (inv ∷ [])) (with_replica w.replicas) name (adopt i r.safe.dsa inv)))
       (λ r called. from_given (of_image_keeps false (gives w [] (inv ∷ [])) (bound_at w.images image) (λ i. adopts (gives w [] (inv ∷ [])) (with_replica w.replicas) name (adopt i r.safe.dsa inv)) (λ i. adopts_keep false (gives w [] (inv ∷ [])) (with_replica w.replicas) name (adopt i r.safe.dsa inv))))
@@ -120,13 +136,13 @@ module _ (w : World) where
   step_keeps (events.Snapshot name bind) =
       let k = made_case (KeptBy false w) w name (nothing w) (λ o. same false w) (λ r. (w, outcomes.Ok, Some (record { state = r.read; log_end = r.read_end }))) (λ r called. same false w) in record { issued = k.issued; unclean = k.unclean; alike = k.alike }
   step_keeps (events.Rollback name snapshot) = made_case (Kept true w) w name (stays w) (λ o. same true w) (λ r. put_back w name (bound_at w.snapshots snapshot)) (λ r called. put_back_keeps w name (bound_at w.snapshots snapshot))
-  step_keeps (events.StopAfter name calls how) = plans_so Q w (same false w) moves name (record { calls = calls; fault = Stops how })
-  step_keeps (events.Fail name calls) = plans_so Q w (same false w) moves name (record { calls = calls; fault = Fails })
-  step_keeps (events.Stop name) = stops_so Q w (same false w) moves name
-  step_keeps (events.Start name) = starts_so Q w (same false w) moves name
-  step_keeps (events.Show name) = reports_so Q w (same false w) moves name (λ r. outcomes.Show (shown w r.safe))
-  step_keeps (events.Vector name) = reports_so Q w (same false w) moves name (λ r. outcomes.Vector r.safe.store.vector)
-  step_keeps (events.Marks name) = reports_so Q w (same false w) moves name (λ r. outcomes.Marks (marks_shown r.safe.store))
+  step_keeps (events.StopAfter name calls how) = plans_so Q AnyCall w here name (record { calls = calls; fault = Stops how })
+  step_keeps (events.Fail name calls) = plans_so Q AnyCall w here name (record { calls = calls; fault = Fails })
+  step_keeps (events.Stop name) = stops_so Q AnyCall w here name
+  step_keeps (events.Start name) = starts_so Q AnyCall w here name
+  step_keeps (events.Show name) = reports_so Q AnyCall w here name (λ r. outcomes.Show (shown w r.safe))
+  step_keeps (events.Vector name) = reports_so Q AnyCall w here name (λ r. outcomes.Vector r.safe.store.vector r.safe.store.times)
+  step_keeps (events.Marks name) = reports_so Q AnyCall w here name (λ r. outcomes.Marks (marks_shown r.safe.store))
 
 pub issued_stays : IssuedStays
 issued_stays w e = (step_keeps w e).issued

@@ -9,9 +9,11 @@ pub mod Moves
 pub mod Called
 pub mod Exchanges
 pub mod Issuing
+pub mod OrderlyReplicas
 pub mod Orderly
 pub mod Acting
 pub mod CutShort
+pub mod Traced
 pub mod Beside
 pub mod Binding
 pub mod Coming

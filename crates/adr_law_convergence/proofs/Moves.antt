@@ -2,20 +2,13 @@
 use Rattle.std.proofs.Common.{Bool, true, false, [], ◌∷◌, List, fold, nat_le, ◌==◌, if◌then◌else◌}
 use Rattle.adr_disk.specs.declared.memory.Crash.TheVariants.{Kept as KeptAll, Lost, Torn}
 use Rattle.adr_model.specs.Store.{State}
-use Rattle.adr_model.specs.Change.{Change, after}
+use Rattle.adr_model.specs.Change.{after}
 use Rattle.adr_model.specs.Replica.{Pending, Stops, Fails, Replica, Book, Move, Begin, Settle, Forget, moved, Went, Passed, Met, moves_of_commit, moves_of_start}
 
 module _ (P : State → Type 0) where
   -- what holds of both states of a controller that was moved
   abbrev pub OfBoth : Book × Replica → Type 0
   OfBoth m = P m.1.safe × P m.1.read
-
-  -- what changes keep, all moves keep
-  pub all_moves : ((s : State) (c : Change) → P s → P (after s c)) → (ms : List Move) (t : Book × Replica) → OfBoth t → OfBoth (fold moved t ms)
-  all_moves kept [] t is = is
-  all_moves kept (Begin p ∷ ms) t is = all_moves kept ms (moved t (Begin p)) (is.0, kept t.1.safe p.change is.0)
-  all_moves kept (Settle ∷ ms) t is = all_moves kept ms (moved t Settle) (is.1, is.1)
-  all_moves kept (Forget ∷ ms) t is = all_moves kept ms (moved t Forget) (is.0, is.0)
 
   module _ (sc : Book) (r : Replica) (old : P r.safe × P r.read) where
     pub settling : OfBoth (moved (sc, r) Settle)

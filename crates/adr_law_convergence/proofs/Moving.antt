@@ -1,10 +1,7 @@
 -- What the moves of a commit, a start and a stop leave of a sound controller.
 use Rattle.std.proofs.Common.{◌≡◌, ◌≢◌, ◌⊎◌, inl, inr, ⊎_elim, ℕ, List, [], ◌∷◌, Bool, true, false, Option, Some, None, refl, sym, ap, ◌∙◌, subst, fold, nat_le, ◌==◌, if◌then◌else◌}
-use Rattle.std.specs.Option.{IfSome}
 use Rattle.adr_disk.specs.declared.memory.Crash.TheVariants.{Kept as KeptAll, Lost, Torn}
-use Rattle.adr_model.specs.Member.{Each}
-use Rattle.adr_model.specs.Update.{Identifier}
-use Rattle.adr_model.specs.Store.{Kept, Normal, Store, State}
+use Rattle.adr_model.specs.Store.{Normal, Store, State}
 use Rattle.adr_model.specs.Change.{after}
 use Rattle.adr_model.specs.Lengths.{log_end_after}
 use Rattle.adr_model.specs.LocalLog.{no_log}
@@ -12,18 +9,13 @@ use Rattle.adr_model.specs.Replica.{Pending, Stops, Fails, change_of, Standing, 
 use Rattle.adr_model.specs.Sound.{IsSoundBook, IsSoundState, IsSoundCall, IsPending, IsSettled, IsSoundReplica}
 use Rattle.adr_law_logs.specs.Later.{IsLater}
 use Rattle.adr_law_logs.proofs.Frames.{later_itself}
-use Rattle.adr_law_logs.proofs.Leaving.{each_mark}
 use Rattle.adr_law_logs.proofs.Recorded.{recorded_later, recorded_sound}
 use Rattle.adr_law_logs.proofs.Tables.{entry_other}
 use Rattle.adr_law_convergence.proofs.Replacing.{OnlyLog}
 use Rattle.adr_law_convergence.proofs.Calls.{Settles, call_settles, may_settle}
 
--- each mark of a store is of an incarnation that lines gave
-abbrev AreOf : (Identifier → Type 0) → Store → Type 0
-AreOf P s = Each (λ (k : Identifier × Kept). P k.1.inv) s.marks
-
--- what moves leave of a controller that then stands so
-pub record HasMoved (P : Identifier → Type 0) (sc : Book) (r : Replica) (m : Book × Replica) (standing : Standing) : Type 0 where
+-- what moves leave of a controller that then stands so; something more is so of its stores
+pub record HasMoved (P : Store → Type 0) (sc : Book) (r : Replica) (m : Book × Replica) (standing : Standing) : Type 0 where
   pub later : IsLater sc m.0
   pub book : IsSoundBook m.0
   pub only : OnlyLog sc m.0 r.safe.inv
@@ -31,10 +23,10 @@ pub record HasMoved (P : Identifier → Type 0) (sc : Book) (r : Replica) (m : B
   pub name : m.1.name ≡ r.name
   pub dsa : m.1.safe.dsa ≡ r.safe.dsa
   pub inv : m.1.safe.inv ≡ r.safe.inv
-  pub marks : AreOf P m.1.safe.store × AreOf P m.1.read.store
+  pub stores : P m.1.safe.store × P m.1.read.store
   pub normal : m.1.safe.mode ≡ Normal
 
-module _ (P : Identifier → Type 0) (sc : Book) (r : Replica) (book : IsSoundBook sc) (sound : IsSoundReplica sc r) (marks : AreOf P r.safe.store × AreOf P r.read.store) (normal : r.safe.mode ≡ Normal) where
+module _ (P : Store → Type 0) (sc : Book) (r : Replica) (book : IsSoundBook sc) (sound : IsSoundReplica sc r) (stores : P r.safe.store × P r.read.store) (normal : r.safe.mode ≡ Normal) where
   -- no move
   pub stays_so : (standing : Standing) → IsSettled r ⊎ (standing ≢ Up) → HasMoved P sc r (sc, r) standing
   stays_so standing may = record {
@@ -45,7 +37,7 @@ module _ (P : Identifier → Type 0) (sc : Book) (r : Replica) (book : IsSoundBo
     name = refl;
     dsa = refl;
     inv = refl;
-    marks = marks;
+    stores = stores;
     normal = normal;
   }
 
@@ -59,13 +51,13 @@ module _ (P : Identifier → Type 0) (sc : Book) (r : Replica) (book : IsSoundBo
     name = refl;
     dsa = refl;
     inv = refl;
-    marks = (marks.0, marks.0);
+    stores = (stores.0, stores.0);
     normal = normal;
   }
 
   module _ (p : Pending) (is : Settles sc r.safe p) where
     -- the kept call settles, wherever the log ends then
-    settled_so : (end : ℕ) (standing : Standing) → AreOf P (after r.safe p.change).store
+    settled_so : (end : ℕ) (standing : Standing) → P (after r.safe p.change).store
         → HasMoved P sc r (recorded sc r.safe.inv p, record r { safe = after r.safe p.change; safe_end = end; read = after r.safe p.change; read_end = end; kept = None }) standing
     settled_so end standing of = record {
       later = recorded_later sc r.safe.inv p is.follows is.issued;
@@ -75,7 +67,7 @@ module _ (P : Identifier → Type 0) (sc : Book) (r : Replica) (book : IsSoundBo
       name = refl;
       dsa = refl;
       inv = refl;
-      marks = (of, of);
+      stores = (of, of);
       normal = is.normal;
     }
 
@@ -92,14 +84,14 @@ module _ (P : Identifier → Type 0) (sc : Book) (r : Replica) (book : IsSoundBo
         name = refl;
         dsa = ap (λ (d : State). d.dsa) s.1;
         inv = ap (λ (d : State). d.inv) s.1;
-        marks = (marks.1, marks.1);
+        stores = (stores.1, stores.1);
         normal = ap (λ (d : State). d.mode) s.1 ∙ normal;
       })
 
       on : (p : Pending) → IsPending sc r p → HasMoved P sc r (moved (sc, r) Settle) standing
       on p k = subst (λ (o : Option Pending). HasMoved P sc r (moved (sc, record r { kept = o }) Settle) standing) (sym k.kept)
           (subst (λ (d : State). HasMoved P sc r (recorded sc r.safe.inv p, record r { safe = d; safe_end = r.read_end; read = d; kept = None }) standing) (sym k.read)
-          (settled_so p (call_settles sc r.safe book sound.safe p k.call k.made) r.read_end standing (subst (λ (d : State). AreOf P d.store) k.read marks.1)))
+          (settled_so p (call_settles sc r.safe book sound.safe p k.call k.made) r.read_end standing (subst (λ (d : State). P d.store) k.read stores.1)))
 
       by : IsSettled r ⊎ ((p : Pending) × IsPending sc r p) → HasMoved P sc r (moved (sc, r) Settle) standing
       by (inl s) = idle s
@@ -116,12 +108,9 @@ module _ (P : Identifier → Type 0) (sc : Book) (r : Replica) (book : IsSoundBo
 
   -- ---- a commit
 
-  module _ (settled : IsSettled r) (p : Pending) (call : IsSoundCall sc p.call) (made : change_of r.safe p.call ≡ Some p.change) (new : IfSome p.change.mark (λ m. P m.1.inv)) where
+  module _ (settled : IsSettled r) (p : Pending) (call : IsSoundCall sc p.call) (made : change_of r.safe p.call ≡ Some p.change) (given : P (after r.safe p.change).store) where
     is : Settles sc r.safe p
     is = call_settles sc r.safe book sound.safe p call made
-
-    given : AreOf P (after r.safe p.change).store
-    given = each_mark (λ k. P k.inv) p.change.mark r.safe.store.marks new marks.0
 
     failed_is_not_up : Failed ≢ Up
     failed_is_not_up e = absurd (cc)
@@ -136,7 +125,7 @@ module _ (P : Identifier → Type 0) (sc : Book) (r : Replica) (book : IsSoundBo
       name = refl;
       dsa = refl;
       inv = refl;
-      marks = (marks.0, given);
+      stores = (stores.0, given);
       normal = normal;
     }
 

@@ -75,7 +75,7 @@ ends_at n c (d ∷ ds) = let t = ends_at c.0 d ds in (t.0, inr t.1, t.2)
 abbrev pub beyond : List Held → ℕ → ℕ
 beyond rows obj = length (filter (λ unit. nat_lt obj (last_local rows unit)) (units_of rows))
 
-module _ (s : State) (q : Request) (most : 1 ≤ q.max) where
+module _ (s : State) (q : Request) (now : ℕ) (most : 1 ≤ q.max) where
   abbrev rows : List Held
   rows = s.store.rows
 
@@ -98,9 +98,9 @@ module _ (s : State) (q : Request) (most : 1 ≤ q.max) where
 
   -- what stands of a cut reply
   record Progress : Type 0 where
-    forward : from.obj < (reply_of s q from sent false).to.obj
-    fewer : beyond rows (reply_of s q from sent false).to.obj + 1 ≤ beyond rows from.obj
-    left : 1 ≤ beyond rows (reply_of s q from sent false).to.obj
+    forward : from.obj < (reply_of s q now from sent false).to.obj
+    fewer : beyond rows (reply_of s q now from sent false).to.obj + 1 ≤ beyond rows from.obj
+    left : 1 ≤ beyond rows (reply_of s q now from sent false).to.obj
 
   cut : (rest : List (ℕ × Item)) → sent ++ rest ≡ all → (length sent == length all) ≡ false → Progress
   cut [] front short = absurd (not_short (omega (arith, length-append sent [], ap length front)))
@@ -157,10 +157,10 @@ module _ (s : State) (q : Request) (most : 1 ≤ q.max) where
       still = lt-ltb to (last_local rows (unit_of y.0.update.key)) (omega (arith, z.2, y.2, front_below sent (d ∷ ds) z.0 d up z.1 (inl refl)))
 
   -- a reply that isn't the last
-  pub progress : (reply_to s q).last ≡ None → (from.obj < (reply_to s q).to.obj) × (beyond rows (reply_to s q).to.obj + 1 ≤ beyond rows from.obj) × (1 ≤ beyond rows (reply_to s q).to.obj)
+  pub progress : (reply_to s q now).last ≡ None → (from.obj < (reply_to s q now).to.obj) × (beyond rows (reply_to s q now).to.obj + 1 ≤ beyond rows from.obj) × (1 ≤ beyond rows (reply_to s q now).to.obj)
   progress none = by (length sent == length all) refl none
     where
-      by : (b : Bool) → (length sent == length all) ≡ b → (reply_of s q from sent b).last ≡ None
-          → (from.obj < (reply_of s q from sent b).to.obj) × (beyond rows (reply_of s q from sent b).to.obj + 1 ≤ beyond rows from.obj) × (1 ≤ beyond rows (reply_of s q from sent b).to.obj)
+      by : (b : Bool) → (length sent == length all) ≡ b → (reply_of s q now from sent b).last ≡ None
+          → (from.obj < (reply_of s q now from sent b).to.obj) × (beyond rows (reply_of s q now from sent b).to.obj + 1 ≤ beyond rows from.obj) × (1 ≤ beyond rows (reply_of s q now from sent b).to.obj)
       by true is e = absurd (cc)
       by false is e = let f = first_front q.max byte_limit all in let p = cut f.0 f.1 is in (p.forward, p.fewer, p.left)

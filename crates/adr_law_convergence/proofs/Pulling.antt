@@ -16,6 +16,7 @@ use Rattle.adr_event.specs.declared.refusal.Table.{Table}
 use Rattle.adr_event.specs.declared.refusal.Table.TheVariants.{Objects, Links, Marks, Cursors as CursorTable}
 use Rattle.adr_event.specs.declared.refusal.TakeRefusal.{TakeRefusal}
 use Rattle.adr_event.specs.declared.refusal.TakeRefusal.TheVariants as takes
+use Rattle.adr_model.specs.Cycles.{pull_version}
 use Rattle.adr_model.specs.Member.{Member}
 use Rattle.adr_failure.specs.First.{first_of}
 use Rattle.adr_model.specs.Refusing.{unless}
@@ -56,18 +57,18 @@ same_mark_itself m = grind (arith, nat_tests)
 abbrev pub IsLimit : TakeRefusal → Type 0
 IsLimit x = (x ≡ takes.UsnLimit) ⊎ ((table : Table) × (limit : ℕ) × (x ≡ takes.Full table limit))
 
-module _ (sc : Book) (d s : State) (most : ℕ) (book : IsSoundBook sc) (dest : IsSoundState sc d) (source : IsSoundState sc s) (d_normal : d.mode ≡ Normal) (s_normal : s.mode ≡ Normal)
+module _ (sc : Book) (d s : State) (most now : ℕ) (book : IsSoundBook sc) (dest : IsSoundState sc d) (source : IsSoundState sc s) (d_normal : d.mode ≡ Normal) (s_normal : s.mode ≡ Normal)
     (schema : d.store.schema ≡ s.store.schema) (purged : at_most s.store.purged d.store.vector ≡ true) where
   abbrev pub q : Request
-  q = ask d s.dsa most
+  q = ask d s.dsa most pull_version
 
   abbrev pub r : Reply
-  r = reply_to s q
+  r = reply_to s q now
 
   pub request_sound : IsSoundRequest sc q
-  request_sound = asked_is_sound sc d s.dsa most dest.store
+  request_sound = asked_is_sound sc d s.dsa most pull_version dest.store
 
-  pub serves_it : serve s q ≡ Ok r
+  pub serves_it : serve s q now ≡ Ok r
   serves_it = ap (λ o. unless o r) none
     where
       none : serve_refusal s q ≡ None
@@ -80,7 +81,7 @@ module _ (sc : Book) (d s : State) (most : ℕ) (book : IsSoundBook sc) (dest : 
           ∙ none_comes (option_map (λ gap. serves.TooOld gap.0 gap.2 gap.1) (first_gap s.store.purged q.vector)) [] (all_covered (λ gap. serves.TooOld gap.0 gap.2 gap.1) s.store.purged q.vector purged)))))
 
   pub reply_sound : IsSoundReply sc r
-  reply_sound = served_is_sound sc s q r book source request_sound serves_it
+  reply_sound = served_is_sound sc s q now r book source request_sound serves_it
 
   -- ---- taking it
 
@@ -88,7 +89,7 @@ module _ (sc : Book) (d s : State) (most : ℕ) (book : IsSoundBook sc) (dest : 
   t = take_items d r.items
 
   abbrev pub c : Change
-  c = taken_change r t
+  c = taken_change d r t
 
   whole : t.refusal ≡ None
   whole = items_are_whole sc d r dest (record { book = book; base = base_of sc d dest; reply = reply_sound; mark = kept_is_sound sc d r book dest; asked = λ i. omega arith; schema = sym schema })
@@ -148,7 +149,7 @@ module _ (sc : Book) (d s : State) (most : ℕ) (book : IsSoundBook sc) (dest : 
   -- ---- what was sent
 
   sent_row : (u : Update) → IsSent r u → (h : Held) × Member h s.store.rows × (h.update ≡ u) × (covers_update d.store.vector h.update ≡ false)
-  sent_row u (i, m, n) = let x = item_is sc s q book source request_sound purged i m in let h = row_is sc s q book source request_sound purged i.unit u (subst (λ (j : Item). Member u j.rows) (is x.0 x.2) n) in
+  sent_row u (i, m, n) = let x = item_is sc s q now book source request_sound purged i m in let h = row_is sc s q now book source request_sound purged i.unit u (subst (λ (j : Item). Member u j.rows) (is x.0 x.2) n) in
       let k = of_filter (λ (y : Held). is_above_mark (begins_at s q) s.store.rows y && is_unseen (begins_at s q) q.vector y) s.store.rows h.0 h.1 in (h.0, k.0, h.2, uncovered h.0 k.1)
     where
       is : (x : Held) → i ≡ item_of (sendable s.store.rows (begins_at s q) q.vector) (unit_of x.update.key) → i ≡ item_of (sendable s.store.rows (begins_at s q) q.vector) i.unit
@@ -176,4 +177,4 @@ module _ (sc : Book) (d s : State) (most : ℕ) (book : IsSoundBook sc) (dest : 
 
   -- a reply that isn't the last brings nearer to the end
   pub nearer : 1 ≤ most → r.last ≡ None → (units_beyond (after d c) s + 1 ≤ units_beyond d s) × (1 ≤ units_beyond (after d c) s)
-  nearer le none = let p = progress s q le none in let same : units_beyond (after d c) s ≡ beyond s.store.rows r.to.obj = ap (λ (m : Mark). beyond s.store.rows m.obj) kept_is in (omega (arith, p.1, same), omega (arith, p.2, same))
+  nearer le none = let p = progress s q now le none in let same : units_beyond (after d c) s ≡ beyond s.store.rows r.to.obj = ap (λ (m : Mark). beyond s.store.rows m.obj) kept_is in (omega (arith, p.1, same), omega (arith, p.2, same))

@@ -6,9 +6,11 @@ use Rattle.adr_event.specs.declared.refusal.WriteRefusal.{WriteRefusal}
 use Rattle.adr_event.specs.declared.refusal.WriteRefusal.TheVariants as writes
 use Rattle.adr_event.specs.declared.refusal.CollectRefusal.{CollectRefusal}
 use Rattle.adr_event.specs.declared.refusal.CollectRefusal.TheVariants as collects
+use Rattle.adr_event.specs.declared.refusal.UpgradeRefusal.{UpgradeRefusal}
+use Rattle.adr_event.specs.declared.refusal.UpgradeRefusal.TheVariants as upgrades
 use Rattle.adr_event.specs.declared.refusal.AdoptRefusal.{AdoptRefusal}
 use Rattle.adr_event.specs.declared.refusal.AdoptRefusal.TheVariants as adopts
-use Rattle.adr_model.specs.Refused.{write_refused, collect_refused, adopt_refused}
+use Rattle.adr_model.specs.Refused.{write_refused, collect_refused, adopt_refused, upgrade_refused}
 use Rattle.adr_model.specs.Replica.{Stops, Fails, Went, Passed, Met, outcome_after}
 use Rattle.adr_model.specs.Convergence.{IsRefused}
 
@@ -39,6 +41,10 @@ write_refused_plainly _ = refl
 pub collect_refused_plainly : (x : CollectRefusal) → IsPlain (collect_refused x)
 collect_refused_plainly collects.Quarantined = refl
 collect_refused_plainly _ = refl
+
+pub upgrade_refused_plainly : (x : UpgradeRefusal) → IsPlain (upgrade_refused x)
+upgrade_refused_plainly upgrades.Quarantined = refl
+upgrade_refused_plainly _ = refl
 
 pub adopt_refused_plainly : (x : AdoptRefusal) → IsPlain (adopt_refused x)
 adopt_refused_plainly adopts.IdentifierUsed = refl

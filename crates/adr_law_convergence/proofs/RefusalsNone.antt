@@ -12,6 +12,7 @@ use Rattle.adr_event.specs.declared.refusal.ServeRefusal.{ServeRefusal}
 use Rattle.adr_event.specs.declared.refusal.ServeRefusal.TheVariants as serves
 use Rattle.adr_event.specs.declared.refusal.TakeRefusal.{TakeRefusal}
 use Rattle.adr_event.specs.declared.refusal.TakeRefusal.TheVariants as takes
+use Rattle.adr_model.specs.Cycles.{pull_version}
 use Rattle.adr_model.specs.Member.{Each}
 use Rattle.adr_model.specs.Serve.{Request, Reply}
 use Rattle.adr_model.specs.Refused.{serve_refused, take_refused}
@@ -26,9 +27,9 @@ use Rattle.adr_law_convergence.proofs.Refusals.{number, refused_by_number, is_gr
 use Rattle.adr_law_convergence.proofs.RefusalsServed.{is_for_age, not_too_old}
 use Rattle.adr_law_convergence.proofs.RefusalsPlain.{asked}
 use Rattle.adr_law_convergence.proofs.RefusalsSpared.{serves_so, takes_so, spared}
-use Rattle.adr_law_convergence.proofs.Binding.{only_made}
+use Rattle.adr_law_convergence.proofs.Binding.{IsRequest, IsReply, only_made}
 use Rattle.adr_law_convergence.proofs.Exchanges.{IsKeptByCalls, pull_so, pulls_so, ring_so}
-use Rattle.adr_law_convergence.proofs.Stepping.{AnyRequest, AnyReply, calls_sound}
+use Rattle.adr_law_convergence.proofs.Stepping.{calls_sound}
 use Rattle.adr_law_convergence.proofs.CoveredEvents.{CoversPurged, calls_covered}
 
 -- ---- numbers that no plain outcome has
@@ -61,13 +62,13 @@ age_is_grave = plain_is_free is_age refl (λ n plain. (or_parts (n == 32) ((n ==
 
 served_young : (w : World) (name : Name) (o : Option Request) → ((q : Request) → o ≡ Some q → CoversPurged w q) → IsFree is_age (serves_request w name o).1
 served_young w name o covers = serves_so (IsFree is_age) age_is_grave w name o
-    (λ r there q is x refused. request_not_for_age x (not_too_old r.safe q x (covers q is r.safe.store (inl (r, there, inl refl))) refused))
+    (λ r there q is x refused. request_not_for_age x (not_too_old r.safe q w.time x (covers q is r.safe.store (inl (r, there, inl refl))) refused))
 
 taken_young : (w : World) (name : Name) (o : Option Reply) → IsFree is_age (delivers w name o).1
 taken_young w name o = takes_so (IsFree is_age) age_is_grave w name o (λ r there p is x refused. reply_not_for_age x)
 
 young_calls : IsKeptByCalls IsPurgedCovered CoversPurged (λ w r. Unit {0}) (IsFree is_age)
-young_calls = calls_covered (IsFree is_age) (λ w name partner max. age_is_grave (asks w name partner max).1 (asked w name partner max)) (λ w name q covers. served_young w name (Some q) (only_made (CoversPurged w) q covers)) (λ w name r. taken_young w name (Some r)) refl
+young_calls = calls_covered (IsFree is_age) (λ w name partner max. age_is_grave (asks w name partner max pull_version).1 (asked w name partner max pull_version)) (λ w name q covers. served_young w name (Some q) (only_made (CoversPurged w) q covers)) (λ w name r. taken_young w name (Some r)) refl
 
 pub never_too_old : NeverTooOld
 never_too_old w e sound may covered a m = free_is_not is_age 32 a.outcome refl
@@ -75,7 +76,7 @@ never_too_old w e sound may covered a m = free_is_not is_age 32 a.outcome refl
     (λ name reply. taken_young w name (bound_at w.replies reply))
     (λ name source max. (pull_so IsPurgedCovered CoversPurged (λ v r. Unit {0}) (IsFree is_age) young_calls name source max w covered).1)
     (λ name source max n. (pulls_so IsPurgedCovered CoversPurged (λ v r. Unit {0}) (IsFree is_age) young_calls name source max n w covered).1)
-    (λ name others rounds max. (ring_so IsPurgedCovered CoversPurged (λ v r. Unit {0}) (IsFree is_age) young_calls (λ n d f. refl) name others rounds max w covered).1) e may a m)
+    (λ name others rounds max. (ring_so IsPurgedCovered CoversPurged (λ v r. Unit {0}) (IsFree is_age) young_calls (λ n d f. refl) name others rounds max w covered).1) (λ i n. (sound.images i n).formed) e may a m)
 
 -- ---- damage
 
@@ -104,7 +105,7 @@ damage_is_grave = plain_is_free is_damage refl (λ n plain. (or_parts (n == 32) 
 module _ (w : World) (sound : IsSoundWorld w) where
   served_harmless : (name : Name) (o : Option Request) → ((q : Request) → o ≡ Some q → IsSoundRequest w.book q) → IsFree is_damage (serves_request w name o).1
   served_harmless name o all = serves_so (IsFree is_damage) damage_is_grave w name o
-      (λ r there q is x refused. request_finds_none x (λ inv mine shown same. no_rollback w.book r.safe q inv mine shown (sound.replicas r there).safe (all q is) (refused ∙ ap Err same)))
+      (λ r there q is x refused. request_finds_none x (λ inv mine shown same. no_rollback w.book r.safe q w.time inv mine shown (sound.replicas r there).safe (all q is) (refused ∙ ap Err same)))
 
   taken_harmless : (name : Name) (o : Option Reply) → ((p : Reply) → o ≡ Some p → IsSoundReply w.book p) → IsFree is_damage (delivers w name o).1
   taken_harmless name o all = takes_so (IsFree is_damage) damage_is_grave w name o (λ r there p is x refused. reply_finds_none x (record {
@@ -113,17 +114,17 @@ module _ (w : World) (sound : IsSoundWorld w) where
     incomplete = λ o same. no_incomplete_item w.book r.safe p o sound.book (sound.replicas r there).safe (all p is) (refused ∙ ap Err same);
   }))
 
-harmless_calls : IsKeptByCalls IsSoundWorld AnyRequest AnyReply (IsFree is_damage)
-harmless_calls = calls_sound (IsFree is_damage) (λ w name partner max sound. damage_is_grave (asks w name partner max).1 (asked w name partner max))
+harmless_calls : IsKeptByCalls IsSoundWorld IsRequest IsReply (IsFree is_damage)
+harmless_calls = calls_sound (IsFree is_damage) (λ w name partner max sound. damage_is_grave (asks w name partner max pull_version).1 (asked w name partner max pull_version))
     (λ w name q sound is. served_harmless w sound name (Some q) (only_made (IsSoundRequest w.book) q is)) (λ w name r sound is. taken_harmless w sound name (Some r) (only_made (IsSoundReply w.book) r is)) refl
 
 unharmed : (w : World) → IsSoundWorld w → (e : Event) → MayHappen w e → Each (λ (a : Answer). IsFree is_damage a.outcome) (step w e).1
 unharmed w sound e may = spared (IsFree is_damage) damage_is_grave w (λ usn. refl)
     (λ name request. served_harmless w sound name (bound_at w.requests request) (λ q is. bound_member (IsSoundRequest w.book) w.requests request q sound.requests is))
     (λ name reply. taken_harmless w sound name (bound_at w.replies reply) (λ p is. bound_member (IsSoundReply w.book) w.replies reply p sound.replies is))
-    (λ name source max. (pull_so IsSoundWorld AnyRequest AnyReply (IsFree is_damage) harmless_calls name source max w sound).1)
-    (λ name source max n. (pulls_so IsSoundWorld AnyRequest AnyReply (IsFree is_damage) harmless_calls name source max n w sound).1)
-    (λ name others rounds max. (ring_so IsSoundWorld AnyRequest AnyReply (IsFree is_damage) harmless_calls (λ n d f. refl) name others rounds max w sound).1) e may
+    (λ name source max. (pull_so IsSoundWorld IsRequest IsReply (IsFree is_damage) harmless_calls name source max w sound).1)
+    (λ name source max n. (pulls_so IsSoundWorld IsRequest IsReply (IsFree is_damage) harmless_calls name source max n w sound).1)
+    (λ name others rounds max. (ring_so IsSoundWorld IsRequest IsReply (IsFree is_damage) harmless_calls (λ n d f. refl) name others rounds max w sound).1) (λ i m. (sound.images i m).formed) e may
 
 pub no_damage : NoDamage
 no_damage w e sound may = (

@@ -1,5 +1,5 @@
 -- All lines but writes, messages that come and pulls answer plainly.
-use Rattle.std.proofs.Common.{◌≡◌, inl, inr, sym, subst, ℕ, List, [], ◌∷◌, ◌++◌, Bool, true, false, Option, Some, None, Result, Ok, Err, refl, length, if◌then◌else◌, codes}
+use Rattle.std.proofs.Common.{◌≡◌, inl, inr, sym, subst, ℕ, List, [], ◌∷◌, ◌++◌, Bool, true, false, Option, Some, None, Result, Ok, Err, refl, length, if◌then◌else◌, codes, ap}
 use Rattle.adr_event.specs.declared.answer.Answer.{Answer}
 use Rattle.adr_event.specs.declared.answer.Outcome.{Outcome}
 use Rattle.adr_event.specs.declared.answer.Outcome.TheVariants as outcomes
@@ -13,14 +13,19 @@ use Rattle.adr_model.specs.Change.{Change}
 use Rattle.adr_model.specs.Lengths.{new_log_end, log_end_after}
 use Rattle.adr_model.specs.Member.{Each}
 use Rattle.adr_model.specs.Serve.{is_quarantined}
-use Rattle.adr_model.specs.Write.{Write, IsWellGiven, AddObject, Modify, Rename, Delete, AddLink, RemoveLink}
+use Rattle.adr_model.specs.Write.{Write, AddObject, Modify, Rename, Delete, AddLink, RemoveLink, Revive}
+use Rattle.adr_model.specs.Given.{IsWellGiven}
 use Rattle.adr_model.specs.Collect.{collect, backup, adopt}
-use Rattle.adr_model.specs.Replica.{ToCollect, Standing, Up, Down, Failed, Plan, Stops, Fails, Replica, on_new_disk, begun, went}
-use Rattle.adr_model.specs.World.{Name, World, Snapshot, Gone, Sent, answer, stays, nothing, bound_at, replica_at, with_replica, of_made, of_controller, committed, writes, after_collect, asks, serves_request, delivers, backed_up, adopts, of_image, put_back, with_plan, stops, starts, shown, marks_shown}
-use Rattle.adr_model.specs.Step.{client_write, write_of, gives, step}
+use Rattle.adr_model.specs.Replica.{ToCollect, Standing, Up, Down, Failed, Plan, Stops, Fails, Replica, on_new_disk, begun, went, ToUpgrade}
+use Rattle.adr_model.specs.World.{Name, World, Snapshot, Gone, Sent, answer, stays, nothing, bound_at, replica_at, with_replica, of_made, of_controller, committed, writes, after_collect, asks, serves_request, delivers, backed_up, adopts, of_image, put_back, with_plan, stops, starts, shown, marks_shown, after_upgrade}
+use Rattle.adr_model.specs.Step.{client_write, write_of, gives, step, revival, stepped}
 use Rattle.adr_model.specs.Convergence.{MayHappen}
 use Rattle.adr_law_convergence.proofs.Reached.{plain_made, plain_up, plain_reached, within_case}
-use Rattle.adr_law_convergence.proofs.Refusals.{IsPlain, collect_refused_plainly, adopt_refused_plainly, after_calls}
+use Rattle.adr_law_convergence.proofs.Refusals.{IsPlain, collect_refused_plainly, adopt_refused_plainly, after_calls, upgrade_refused_plainly}
+use Rattle.adr_event.specs.declared.refusal.UpgradeRefusal.{UpgradeRefusal}
+use Rattle.adr_model.specs.Upgrade.{upgrade}
+use Rattle.adr_model.specs.Formed.{IsFormedStore}
+use Rattle.adr_law_convergence.proofs.Found.{bound_member}
 
 abbrev AnswersPlainly : Gone → Type 0
 AnswersPlainly g = IsPlain g.1
@@ -29,8 +34,8 @@ abbrev SendsPlainly : {A : Type 0} → Sent A → Type 0
 SendsPlainly t = IsPlain t.1
 
 module _ (w : World) where
-  pub asked : (name partner : Name) (max : ℕ) → SendsPlainly (asks w name partner max)
-  asked name partner max =
+  pub asked : (name partner : Name) (max version : ℕ) → SendsPlainly (asks w name partner max version)
+  asked name partner max version =
       plain_made SendsPlainly w name (nothing w) (λ o plain. plain) _ (λ r is. plain_made SendsPlainly w partner (nothing w) (λ o plain. plain) _ (λ p at. plain_up SendsPlainly w name (nothing w) (λ o plain. plain) r.standing _ (λ up. refl)))
 
   collected : (r : Replica) (lifetime : ℕ) (t : Result Change CollectRefusal) → AnswersPlainly (after_collect w r lifetime t)
@@ -40,6 +45,14 @@ module _ (w : World) where
 
   collects : (name : Name) (lifetime : ℕ) → AnswersPlainly (of_controller w name (stays w) (λ r. after_collect w r lifetime (collect r.safe w.time lifetime)))
   collects name lifetime = plain_reached AnswersPlainly w name (stays w) (λ o plain. plain) (λ r. after_collect w r lifetime (collect r.safe w.time lifetime)) (λ r is up. collected r lifetime (collect r.safe w.time lifetime))
+
+  upgrades_from : (r : Replica) (t : Result Change UpgradeRefusal) → AnswersPlainly (after_upgrade w r t)
+  upgrades_from r (Err x) = upgrade_refused_plainly x
+  upgrades_from r (Ok c) = within_case AnswersPlainly w (log_end_after r.safe_end c) (committed w r (record { call = ToUpgrade; change = c }) outcomes.Ok) refl
+      (after_calls IsPlain (λ o is. is) outcomes.Ok refl (went r.plan 4))
+
+  upgrades : (name : Name) → AnswersPlainly (of_controller w name (stays w) (λ r. after_upgrade w r (upgrade r.safe)))
+  upgrades name = plain_reached AnswersPlainly w name (stays w) (λ o plain. plain) (λ r. after_upgrade w r (upgrade r.safe)) (λ r is up. upgrades_from r (upgrade r.safe))
 
   backs_up : (name : Name) → SendsPlainly (of_controller w name (nothing w) (λ r. backed_up w (backup r.safe)))
   backs_up name = plain_reached SendsPlainly w name (nothing w) (λ o plain. plain) (λ r. backed_up w (backup r.safe)) (λ r is up. by (is_quarantined r.safe.mode) r.safe.store)
@@ -83,8 +96,8 @@ module _ (w : World) where
   shows : (name : Name) → AnswersPlainly (of_controller w name (stays w) (λ r. (w, outcomes.Show (shown w r.safe))))
   shows name = plain_reached AnswersPlainly w name (stays w) (λ o plain. plain) (λ r. (w, outcomes.Show (shown w r.safe))) (λ r is up. refl)
 
-  tells_vector : (name : Name) → AnswersPlainly (of_controller w name (stays w) (λ r. (w, outcomes.Vector r.safe.store.vector)))
-  tells_vector name = plain_reached AnswersPlainly w name (stays w) (λ o plain. plain) (λ r. (w, outcomes.Vector r.safe.store.vector)) (λ r is up. refl)
+  tells_vector : (name : Name) → AnswersPlainly (of_controller w name (stays w) (λ r. (w, outcomes.Vector r.safe.store.vector r.safe.store.times)))
+  tells_vector name = plain_reached AnswersPlainly w name (stays w) (λ o plain. plain) (λ r. (w, outcomes.Vector r.safe.store.vector r.safe.store.times)) (λ r is up. refl)
 
   tells_marks : (name : Name) → AnswersPlainly (of_controller w name (stays w) (λ r. (w, outcomes.Marks (marks_shown r.safe.store))))
   tells_marks name = plain_reached AnswersPlainly w name (stays w) (λ o plain. plain) (λ r. (w, outcomes.Marks (marks_shown r.safe.store))) (λ r is up. refl)
@@ -109,18 +122,27 @@ one_answer Q v a is b (inr m) = absurd m
 
 -- what holds of plain answers, of those to writes, to messages that come and to pulls holds of those to every line that may happen
 module _ (Q : Event → World → Answer → Type 0) (w : World) (plain : (e : Event) (v : World) (a : Answer) → IsPlain a.outcome → Q e v a)
-    (wrote : (e : Event) (verb : List ℕ) (name : Name) (what : Write) → IsWellGiven what → write_of e ≡ client_write verb name what → Q e (writes w name what).0 (answer verb name (writes w name what).1))
+    (wrote : (e : Event) (verb : List ℕ) (name : Name) (what : Write) → IsWellGiven what → write_of w e ≡ client_write verb name what → Q e (writes w name what).0 (answer verb name (writes w name what).1))
     (served : (name request bind : Name) → Q (events.Serve name request bind) (step w (events.Serve name request bind)).0 (answer (codes "serve") name (serves_request w name (bound_at w.requests request)).1))
     (took : (name reply : Name) → Q (events.Deliver name reply) (step w (events.Deliver name reply)).0 (answer (codes "deliver") name (delivers w name (bound_at w.replies reply)).1))
     (pulled : (name source : Name) (max : ℕ) → OfAnswers (Q (events.Pull name source max)) (step w (events.Pull name source max)))
     (cycled : (name source : Name) (max : ℕ) → OfAnswers (Q (events.Cycle name source max)) (step w (events.Cycle name source max)))
-    (ringed : (name : Name) (others : List Name) (rounds max : ℕ) → OfAnswers (Q (events.Ring name others rounds max)) (step w (events.Ring name others rounds max))) where
+    (ringed : (name : Name) (others : List Name) (rounds max : ℕ) → OfAnswers (Q (events.Ring name others rounds max)) (step w (events.Ring name others rounds max)))
+    (images : Each (λ (i : Name × Store). IsFormedStore i.1) w.images) where
   -- the one answer of a line is plain
   plainly : (e : Event) (verb : List ℕ) (name : Name) (v : World) (o : Outcome) → IsPlain o → OfAnswers (Q e) (v, answer verb name o ∷ [])
   plainly e verb name v o is = one_answer (Q e) v (answer verb name o) (plain e v (answer verb name o) is)
 
-  written : (e : Event) (verb : List ℕ) (name : Name) (what : Write) → IsWellGiven what → write_of e ≡ client_write verb name what → OfAnswers (Q e) ((writes w name what).0, answer verb name (writes w name what).1 ∷ [])
+  written : (e : Event) (verb : List ℕ) (name : Name) (what : Write) → IsWellGiven what → write_of w e ≡ client_write verb name what → OfAnswers (Q e) ((writes w name what).0, answer verb name (writes w name what).1 ∷ [])
   written e verb name what is wrote_it = one_answer (Q e) (writes w name what).0 (answer verb name (writes w name what).1) (wrote e verb name what is wrote_it)
+
+  -- a revival, whether or not its image was made
+  revived : (name : Name) (guid : Identifier) (image : Name) (parent : Identifier) (text : List ℕ) → OfAnswers (Q (events.Revive name guid image parent text)) (step w (events.Revive name guid image parent text))
+  revived name guid image parent text = by (bound_at w.images image) refl
+    where
+      by : (o : Option Store) → bound_at w.images image ≡ o → OfAnswers (Q (events.Revive name guid image parent text)) (stepped w (events.Revive name guid image parent text) (revival name guid parent text o))
+      by None is = plainly (events.Revive name guid image parent text) (codes "revive") name w outcomes.Absent refl
+      by (Some i) is = written (events.Revive name guid image parent text) (codes "revive") name (Revive i guid parent text) (bound_member IsFormedStore w.images image i images is) (ap (revival name guid parent text) is)
 
   pub line_case : (e : Event) → MayHappen w e → OfAnswers (Q e) (step w e)
   line_case (events.Controller name dsa inv) may = plainly (events.Controller name dsa inv) (codes "controller") name (step w (events.Controller name dsa inv)).0 outcomes.Ok refl
@@ -131,13 +153,15 @@ module _ (Q : Event → World → Answer → Type 0) (w : World) (plain : (e : E
   line_case (events.Delete name guid) may = written (events.Delete name guid) (codes "delete") name (Delete guid) tt refl
   line_case (events.Link name from attr to) may = written (events.Link name from attr to) (codes "link") name (AddLink from attr to) tt refl
   line_case (events.Unlink name from attr to) may = written (events.Unlink name from attr to) (codes "unlink") name (RemoveLink from attr to) tt refl
-  line_case (events.Ask name partner max bind) may = plainly (events.Ask name partner max bind) (codes "ask") name (step w (events.Ask name partner max bind)).0 (asks w name partner max).1 (asked w name partner max)
+  line_case (events.Ask name partner max version bind) may = plainly (events.Ask name partner max version bind) (codes "ask") name (step w (events.Ask name partner max version bind)).0 (asks w name partner max version).1 (asked w name partner max version)
   line_case (events.Serve name request bind) may = one_answer (Q (events.Serve name request bind)) (step w (events.Serve name request bind)).0 (answer (codes "serve") name (serves_request w name (bound_at w.requests request)).1) (served name request bind)
   line_case (events.Deliver name reply) may = one_answer (Q (events.Deliver name reply)) (step w (events.Deliver name reply)).0 (answer (codes "deliver") name (delivers w name (bound_at w.replies reply)).1) (took name reply)
   line_case (events.Pull name source max) may = pulled name source max
   line_case (events.Cycle name source max) may = cycled name source max
   line_case (events.Ring name others rounds max) may = ringed name others rounds max
   line_case (events.Collect name lifetime) may = plainly (events.Collect name lifetime) (codes "collect") name (step w (events.Collect name lifetime)).0 (of_controller w name (stays w) (λ r. after_collect w r lifetime (collect r.safe w.time lifetime))).1 (collects w name lifetime)
+  line_case (events.Upgrade name) may = plainly (events.Upgrade name) (codes "upgrade") name (step w (events.Upgrade name)).0 (of_controller w name (stays w) (λ r. after_upgrade w r (upgrade r.safe))).1 (upgrades w name)
+  line_case (events.Revive name guid image parent text) may = revived name guid image parent text
   line_case (events.Backup name bind) may = plainly (events.Backup name bind) (codes "backup") name (step w (events.Backup name bind)).0 (of_controller w name (nothing w) (λ r. backed_up w (backup r.safe))).1 (backs_up w name)
   line_case (events.Restore name image inv) may = plainly (events.Restore name image inv) (codes "restore") name (step w (events.Restore name image inv)).0 _ (restores (gives w [] (inv ∷ [])) name image inv)
   line_case (events.Install name dsa image inv) may = plainly (events.Install name dsa image inv) (codes "install") name (step w (events.Install name dsa image inv)).0 _ (installs (gives w (dsa ∷ []) (inv ∷ [])) name image dsa inv)

@@ -1,5 +1,5 @@
 -- A request that covers what was collected isn't refused for its age.
-use Rattle.std.proofs.Common.{◌≡◌, Bool, true, false, Err, refl}
+use Rattle.std.proofs.Common.{◌≡◌, Bool, true, false, Err, refl, ℕ}
 use Rattle.adr_vector.specs.Vector.{at_most}
 use Rattle.adr_event.specs.declared.refusal.ServeRefusal.{ServeRefusal}
 use Rattle.adr_event.specs.declared.refusal.ServeRefusal.TheVariants.{RolledBack, TooOld}
@@ -12,8 +12,8 @@ abbrev pub is_for_age : ServeRefusal → Bool
 is_for_age (TooOld inv purged has) = true
 is_for_age _ = false
 
-pub not_too_old : (s : State) (q : Request) (x : ServeRefusal) → at_most s.store.purged q.vector ≡ true → serve s q ≡ Err x → is_for_age x ≡ false
-not_too_old s q x covers e = serve_refusal_is other s q refl refl refl (tested_is other _ (RolledBack s.inv s.store.usn (shown_by s q)) refl) refl
+pub not_too_old : (s : State) (q : Request) (now : ℕ) (x : ServeRefusal) → at_most s.store.purged q.vector ≡ true → serve s q now ≡ Err x → is_for_age x ≡ false
+not_too_old s q now x covers e = serve_refusal_is other s q now refl refl refl (tested_is other _ (RolledBack s.inv s.store.usn (shown_by s q)) refl) refl
     (none_is other _ (all_covered (λ gap. TooOld gap.0 gap.2 gap.1) s.store.purged q.vector covers)) x e
   where
     other : ServeRefusal → Type 0

@@ -27,6 +27,8 @@ use Rattle.adr_model.specs.Convergence.{MayHappen}
 use Rattle.adr_law_convergence.proofs.Refusals.{IsPlain, write_refused_plainly, after_calls}
 use Rattle.adr_law_convergence.proofs.RefusalsPlain.{line_case}
 use Rattle.adr_law_convergence.proofs.Reached.{plain_reached, within_case}
+use Rattle.adr_model.specs.Store.{Store}
+use Rattle.adr_model.specs.Formed.{IsFormedStore}
 
 module _ (P : Outcome → Type 0) (plain : (o : Outcome) → IsPlain o → P o) (w : World) where
   -- an answer behind a commit
@@ -37,14 +39,14 @@ module _ (P : Outcome → Type 0) (plain : (o : Outcome) → IsPlain o → P o) 
   refused_request r (serves.RolledBack inv mine shown) is = after_all r (record { call = ToQuarantine; change = quarantine r.safe }) (serve_refused (serves.RolledBack inv mine shown)) is
   refused_request r _ is = is
 
-  pub serves_so : (name : Name) (o : Option Request) → ((r : Replica) → Member r w.replicas → (q : Request) → o ≡ Some q → (x : ServeRefusal) → serve r.safe q ≡ Err x → P (serve_refused x)) → P (serves_request w name o).1
+  pub serves_so : (name : Name) (o : Option Request) → ((r : Replica) → Member r w.replicas → (q : Request) → o ≡ Some q → (x : ServeRefusal) → serve r.safe q w.time ≡ Err x → P (serve_refused x)) → P (serves_request w name o).1
   serves_so name o serving = plain_reached (λ (t : Sent Reply). P t.1) w name (nothing w) plain (λ r. served w r o) (λ r is up. of r is.there o refl)
     where
       of : (r : Replica) → Member r w.replicas → (p : Option Request) → o ≡ p → P (served w r p).1
       of r there None is = plain outcomes.Absent refl
-      of r there (Some q) is = by (serve r.safe q) refl
+      of r there (Some q) is = by (serve r.safe q w.time) refl
         where
-          by : (t : Result Reply ServeRefusal) → serve r.safe q ≡ t → P (after_serve w r t).1
+          by : (t : Result Reply ServeRefusal) → serve r.safe q w.time ≡ t → P (after_serve w r t).1
           by (Ok reply) e = plain (after_serve w r (Ok reply)).1 refl
           by (Err x) e = refused_request r x (serving r there q is x e)
 
@@ -73,6 +75,6 @@ module _ (P : Outcome → Type 0) (plain : (o : Outcome) → IsPlain o → P o) 
   pub spared : ((usn : ℕ) → P (outcomes.Usn usn)) → ((name request : Name) → P (serves_request w name (bound_at w.requests request)).1) → ((name reply : Name) → P (delivers w name (bound_at w.replies reply)).1)
       → ((name source : Name) (max : ℕ) → Each (λ (a : Answer). P a.outcome) (pull w name source max).1) → ((name source : Name) (max n : ℕ) → Each (λ (a : Answer). P a.outcome) (pulls n w name source max).1)
       → ((name : Name) (others : List Name) (rounds max : ℕ) → Each (λ (a : Answer). P a.outcome) (rings w name others rounds max).1)
-      → (e : Event) → MayHappen w e → Each (λ (a : Answer). P a.outcome) (step w e).1
-  spared made serving taking pulling cycling ringing e may = line_case (λ f v a. P a.outcome) w (λ f v a is. plain a.outcome is) (λ f verb name what is wrote_it. writes_so made name what) (λ name request bind. serving name request) taking pulling
-      (λ name source max. cycling name source max reply_limit) ringing e may
+      → Each (λ (i : Name × Store). IsFormedStore i.1) w.images → (e : Event) → MayHappen w e → Each (λ (a : Answer). P a.outcome) (step w e).1
+  spared made serving taking pulling cycling ringing images e may = line_case (λ f v a. P a.outcome) w (λ f v a is. plain a.outcome is) (λ f verb name what is wrote_it. writes_so made name what) (λ name request bind. serving name request) taking pulling
+      (λ name source max. cycling name source max reply_limit) ringing images e may

@@ -6,7 +6,7 @@ use Rattle.adr_model.specs.Store.{Normal}
 use Rattle.adr_model.specs.LocalLog.{no_log}
 use Rattle.adr_model.specs.Replica.{Replica, Book, log_of}
 use Rattle.adr_model.specs.World.{World, with_replica}
-use Rattle.adr_model.specs.Sound.{IsSoundBook, IsSoundReplica, AreMarksGiven, AreIdentifiersSound, IsSoundWorld}
+use Rattle.adr_model.specs.Sound.{IsSoundBook, IsSoundReplica, IsTraced, AreIdentifiersSound, IsSoundWorld}
 use Rattle.adr_model.proofs.Members.{member_of_either}
 use Rattle.adr_law_logs.specs.Later.{IsLater}
 use Rattle.adr_law_logs.proofs.Frames.{store_later, request_later}
@@ -21,7 +21,7 @@ pub record MayStand (w : World) (sc : Book) (r : Replica) : Type 0 where
   pub given : Member r.safe.inv w.given.invs
   pub dsa_given : Member r.safe.dsa w.given.dsas
   pub sound : IsSoundReplica sc r
-  pub marks : AreMarksGiven w r.safe.store × AreMarksGiven w r.read.store
+  pub stores : IsTraced w r.safe.store × IsTraced w r.read.store
   pub normal : r.safe.mode ≡ Normal
 
 -- the new controller is no one else's
@@ -59,8 +59,8 @@ module _ (w : World) (sc : Book) (r : Replica) (rs : List Replica) (sound : IsSo
     dsas_given = each (λ q. Member q.safe.dsa w.given.dsas) may.dsa_given (λ q m a. sound.identifiers.dsas_given q m);
     invs_given = each (λ q. Member q.safe.inv w.given.invs) may.given (λ q m a. sound.identifiers.invs_given q m);
     unused = unused;
-    marks = each (λ q. AreMarksGiven w q.safe.store × AreMarksGiven w q.read.store) may.marks (λ q m a. sound.identifiers.marks q m);
-    image_marks = sound.identifiers.image_marks;
+    stores = each (λ q. IsTraced w q.safe.store × IsTraced w q.read.store) may.stores (λ q m a. sound.identifiers.stores q m);
+    images = sound.identifiers.images;
     requests = sound.identifiers.requests;
     replies = sound.identifiers.replies;
   }

@@ -1,5 +1,5 @@
 -- Every line that may happen keeps a world sound, as long as it stays clean.
-use Rattle.std.proofs.Common.{◌≡◌, ℕ, true, inl, [], ◌∷◌, ◌++◌, Option, Some, None, refl, sym, subst}
+use Rattle.std.proofs.Common.{◌≡◌, ℕ, true, [], ◌∷◌, ◌++◌, Option, Some, None, refl, sym, subst}
 use Rattle.adr_event.specs.declared.answer.Outcome.{Outcome}
 use Rattle.adr_event.specs.declared.answer.Outcome.TheVariants as outcomes
 use Rattle.adr_event.specs.declared.event.Event.{Event}
@@ -7,24 +7,26 @@ use Rattle.adr_event.specs.declared.event.Event.TheVariants as events
 use Rattle.adr_model.specs.Member.{Member}
 use Rattle.adr_model.specs.Store.{Store}
 use Rattle.adr_model.specs.Serve.{Request, Reply}
-use Rattle.adr_model.specs.Write.{Write, IsWellGiven, AddObject, Modify, Rename, Delete, AddLink, RemoveLink, write}
+use Rattle.adr_model.specs.Write.{Write, AddObject, Modify, Rename, Delete, AddLink, RemoveLink, write, Revive}
+use Rattle.adr_model.specs.Given.{IsWellGiven}
 use Rattle.adr_model.specs.Collect.{collect, adopt, backup}
 use Rattle.adr_model.specs.Replica.{Standing, Up, Down, Failed, Stops, Fails, Plan, Replica}
-use Rattle.adr_model.specs.World.{Name, World, Snapshot, Gone, Sent, stays, nothing, bound, bound_at, writes, asks, serves_request, delivered, delivers, after_write, after_collect, backed_up, adopts, of_made, of_image, put_back, of_controller, with_plan, stops, starts, with_replica, replica_at, shown, marks_shown}
-use Rattle.adr_model.specs.Cycles.{pull, pulls, reply_limit}
-use Rattle.adr_model.specs.Step.{gives, step}
-use Rattle.adr_model.specs.Sound.{IsSoundRequest, IsSoundReply, IsSoundStore, IsGiven, AreMarksGiven, IsSoundWorld}
+use Rattle.adr_model.specs.World.{Name, World, Snapshot, Gone, Sent, stays, nothing, bound, bound_at, writes, asks, serves_request, delivered, delivers, after_write, after_collect, backed_up, adopts, of_made, of_image, put_back, of_controller, with_plan, stops, starts, with_replica, replica_at, shown, marks_shown, after_upgrade}
+use Rattle.adr_model.specs.Cycles.{pull, pulls, reply_limit, pull_version}
+use Rattle.adr_model.specs.Step.{gives, step, revival, stepped}
+use Rattle.adr_model.specs.Sound.{IsSoundRequest, IsSoundReply, IsSoundStore, IsSoundWorld, IsTraced}
 use Rattle.adr_model.specs.Convergence.{MayHappen}
 use Rattle.adr_law_convergence.proofs.Found.{bound_member}
 use Rattle.adr_law_convergence.proofs.Reached.{made_case, reached_case}
-use Rattle.adr_law_convergence.proofs.Acting.{planned, stopped, started_sound, write_sound, collect_sound, take_sound}
-use Rattle.adr_law_convergence.proofs.Binding.{Makes, only_made, IsRequest, IsReply, IsImage, asks_sound, serves_sound, backups_sound, requested, replied, imaged, aside}
+use Rattle.adr_law_convergence.proofs.Acting.{planned, stopped, started_sound, write_sound, collect_sound, take_sound, upgrade_sound}
+use Rattle.adr_law_convergence.proofs.Binding.{Makes, only_made, IsRequest, IsReply, IsImage, asks_sound, serves_sound, backups_sound, requested, replied, imaged, aside, telling, telling_sound, replies_are_sound}
 use Rattle.adr_law_convergence.proofs.Exchanges.{Sends, IsKeptByCalls, pull_so, pulls_so, ring_so}
 use Rattle.adr_law_convergence.proofs.Coming.{given_sound, new_comes, installed, restored}
+use Rattle.adr_model.specs.Upgrade.{upgrade}
 
--- a message that is made is bound where the world is as it was
-made_bound : {A : Type 0} (w : World) (P : A → Type 0) (t : Sent A) (with_it : World → World) → Makes w P t → IsSoundWorld (with_it w) → IsSoundWorld (with_it t.0)
-made_bound w P t with_it makes sound = subst (λ (v : World). IsSoundWorld (with_it v)) (sym makes.0) sound
+-- a message that is made is bound in the world in which it was
+made_bound : {A : Type 0} (w : World) (P : World → A → Type 0) (t : Sent A) (with_it : World → World) (makes : Makes w P t) → IsSoundWorld (with_it (telling w makes.0)) → IsSoundWorld (with_it t.0)
+made_bound w P t with_it makes sound = subst (λ (v : World). IsSoundWorld (with_it v)) (sym makes.2) sound
 
 module _ (w : World) (sound : IsSoundWorld w) where
   abbrev Sound : Gone → Type 0
@@ -43,47 +45,38 @@ module _ (w : World) (sound : IsSoundWorld w) where
   reply_bound : (name : Name) (r : Reply) → bound_at w.replies name ≡ Some r → IsSoundReply w.book r
   reply_bound name r e = bound_member (IsSoundReply w.book) w.replies name r sound.replies e
 
-  pub delivers_sound : (name : Name) (o : Option Reply) → ((r : Reply) → o ≡ Some r → IsSoundReply w.book r × IsGiven w r.inv) → Sound (delivers w name o)
+  pub delivers_sound : (name : Name) (o : Option Reply) → ((r : Reply) → o ≡ Some r → IsReply w r) → Sound (delivers w name o)
   delivers_sound name o all = reached_case Sound w name (stays w) same (λ r. delivered w r o) (λ r called up. by r called.there up o all)
     where
-      by : (r : Replica) → Member r w.replicas → r.standing ≡ Up → (p : Option Reply) → ((q : Reply) → p ≡ Some q → IsSoundReply w.book q × IsGiven w q.inv) → Sound (delivered w r p)
+      by : (r : Replica) → Member r w.replicas → r.standing ≡ Up → (p : Option Reply) → ((q : Reply) → p ≡ Some q → IsReply w q) → Sound (delivered w r p)
       by r there up None given = sound
       by r there up (Some q) given = take_sound w sound r there up q (given q refl).0 (given q refl).1
 
 -- ---- pulls
 
-abbrev pub AnyRequest : World → Request → Type 0
-AnyRequest w q = IsSoundRequest w.book q × IsGiven w q.inv
-
-abbrev pub AnyReply : World → Reply → Type 0
-AnyReply w r = IsSoundReply w.book r × IsGiven w r.inv
-
 -- the calls of a pull keep worlds sound, by what holds of their answers
-pub calls_sound : (P : Outcome → Type 0) → ((w : World) (name partner : Name) (max : ℕ) → IsSoundWorld w → P (asks w name partner max).1)
+pub calls_sound : (P : Outcome → Type 0) → ((w : World) (name partner : Name) (max : ℕ) → IsSoundWorld w → P (asks w name partner max pull_version).1)
     → ((w : World) (name : Name) (q : Request) → IsSoundWorld w → IsSoundRequest w.book q → P (serves_request w name (Some q)).1)
     → ((w : World) (name : Name) (r : Reply) → IsSoundWorld w → IsSoundReply w.book r → P (delivers w name (Some r)).1)
-    → P outcomes.More → IsKeptByCalls IsSoundWorld AnyRequest AnyReply P
+    → P outcomes.More → IsKeptByCalls IsSoundWorld IsRequest IsReply P
 calls_sound P asking serving delivering more = record {
-  asks = λ w name partner max sound. made AnyRequest w (asks w name partner max) (asks_sound w sound name partner max) sound (asking w name partner max sound);
-  serves = λ w name q sound is. made AnyReply w (serves_request w name (Some q)) (as_given w (serves_request w name (Some q)) (serves_sound w sound name (Some q) (only_made (IsSoundRequest w.book) q is.0))) sound (serving w name q sound is.0);
-  delivers = λ w name r sound is. (delivers_sound w sound name (Some r) (only_made (AnyReply w) r is), delivering w name r sound is.0);
+  asks = λ w name partner max sound. made w IsRequest (asks w name partner max pull_version) (asks_sound w sound name partner max pull_version) sound (asking w name partner max sound);
+  serves = λ w name q sound is. made w IsReply (serves_request w name (Some q)) (serves_sound w sound name (Some q) (only_made (IsSoundRequest w.book) q is.0)) sound (serving w name q sound is.0);
+  delivers = λ w name r sound is. (delivers_sound w sound name (Some r) (only_made (IsReply w) r is), delivering w name r sound is.0);
   more = more;
 }
   where
-    made : {A : Type 0} (M : World → A → Type 0) (w : World) (t : Sent A) → Makes w (M w) t → IsSoundWorld w → P t.1 → Sends IsSoundWorld M P t
-    made M w t makes sound is = (subst IsSoundWorld (sym makes.0) sound, (is, λ x e. subst (λ (v : World). M v x) (sym makes.0) (makes.1 x e)))
+    made : {A : Type 0} (w : World) (M : World → A → Type 0) (t : Sent A) → Makes w M t → IsSoundWorld w → P t.1 → Sends IsSoundWorld M P t
+    made w M t makes sound is = (subst IsSoundWorld (sym makes.2) (telling_sound w sound makes.0 makes.1), (is, λ x e. subst (λ (v : World). M v x) (sym makes.2) (makes.3 x e)))
 
-    as_given : (w : World) (t : Sent Reply) → Makes w (λ (r : Reply). IsSoundReply w.book r × Member r.inv w.given.invs) t → Makes w (AnyReply w) t
-    as_given w t makes = (makes.0, λ r e. ((makes.1 r e).0, inl (makes.1 r e).1))
-
-only_worlds : IsKeptByCalls IsSoundWorld AnyRequest AnyReply (λ o. Unit {0})
+only_worlds : IsKeptByCalls IsSoundWorld IsRequest IsReply (λ o. Unit {0})
 only_worlds = calls_sound (λ o. Unit {0}) (λ w name partner max sound. tt) (λ w name q sound is. tt) (λ w name r sound is. tt) tt
 
 pub pull_sound : (w : World) → IsSoundWorld w → (dest source : Name) (max : ℕ) → IsSoundWorld (pull w dest source max).0
-pull_sound w sound dest source max = (pull_so IsSoundWorld AnyRequest AnyReply (λ o. Unit {0}) only_worlds dest source max w sound).0
+pull_sound w sound dest source max = (pull_so IsSoundWorld IsRequest IsReply (λ o. Unit {0}) only_worlds dest source max w sound).0
 
 pub pulls_sound : (w : World) → IsSoundWorld w → (dest source : Name) (max n : ℕ) → IsSoundWorld (pulls n w dest source max).0
-pulls_sound w sound dest source max n = (pulls_so IsSoundWorld AnyRequest AnyReply (λ o. Unit {0}) only_worlds dest source max n w sound).0
+pulls_sound w sound dest source max n = (pulls_so IsSoundWorld IsRequest IsReply (λ o. Unit {0}) only_worlds dest source max n w sound).0
 
 -- ---- lines
 
@@ -106,8 +99,8 @@ module _ (w : World) (sound : IsSoundWorld w) where
   abbrev copied : (name : Name) → Sent Snapshot
   copied name = of_made (nothing w) (replica_at w name) (λ r. (w, outcomes.Ok, Some (record { state = r.read; log_end = r.read_end })))
 
-  snapshot_makes : (name : Name) → Makes w (λ (s : Snapshot). Unit {0}) (copied name)
-  snapshot_makes name = made_case (Makes w (λ (s : Snapshot). Unit {0})) w name (nothing w) (λ x. (refl, λ y e. tt)) (λ r. (w, outcomes.Ok, Some (record { state = r.read; log_end = r.read_end }))) (λ r called. (refl, λ y e. tt))
+  snapshot_makes : (name : Name) → (copied name).0 ≡ w
+  snapshot_makes name = made_case (λ (t : Sent Snapshot). t.0 ≡ w) w name (nothing w) (λ x. refl) (λ r. (w, outcomes.Ok, Some (record { state = r.read; log_end = r.read_end }))) (λ r called. refl)
 
   -- a world into which a snapshot was put back isn't clean
   put_back_so : (name : Name) (o : Option Snapshot) → (put_back w name o).0.clean ≡ true → SoundBehind (put_back w name o)
@@ -123,33 +116,41 @@ module _ (w : World) (sound : IsSoundWorld w) where
   step_sound (events.Delete name guid) may clean = writes_sound w sound name (Delete guid) tt
   step_sound (events.Link name from attr to) may clean = writes_sound w sound name (AddLink from attr to) tt
   step_sound (events.Unlink name from attr to) may clean = writes_sound w sound name (RemoveLink from attr to) tt
-  step_sound (events.Ask name partner max bind) may clean =
-      made_bound w (IsRequest w sound) (asks w name partner max) (λ v. record v { requests = bound v.requests bind (asks w name partner max).2 })
-      (asks_sound w sound name partner max) (requested w sound bind (asks w name partner max).2 (asks_sound w sound name partner max).1)
+  step_sound (events.Ask name partner max version bind) may clean =
+      let makes = asks_sound w sound name partner max version in
+      made_bound w IsRequest (asks w name partner max version) (λ v. record v { requests = bound v.requests bind (asks w name partner max version).2 }) makes
+      (requested (telling w makes.0) (telling_sound w sound makes.0 makes.1) bind (asks w name partner max version).2 makes.3)
   step_sound (events.Serve name request bind) may clean =
-      made_bound w (IsReply w sound) (serves_request w name (bound_at w.requests request)) (λ v. record v { replies = bound v.replies bind (serves_request w name (bound_at w.requests request)).2 })
-      (serves_sound w sound name (bound_at w.requests request) (request_bound w sound request))
-      (replied w sound bind (serves_request w name (bound_at w.requests request)).2 (serves_sound w sound name (bound_at w.requests request) (request_bound w sound request)).1)
+      let makes = serves_sound w sound name (bound_at w.requests request) (request_bound w sound request) in
+      made_bound w IsReply (serves_request w name (bound_at w.requests request)) (λ v. record v { replies = bound v.replies bind (serves_request w name (bound_at w.requests request)).2 }) makes
+      (replied (telling w makes.0) (telling_sound w sound makes.0 makes.1) bind (serves_request w name (bound_at w.requests request)).2 makes.3)
   step_sound (events.Deliver name reply) may clean =
-      delivers_sound w sound name (bound_at w.replies reply) (λ r e. (reply_bound w sound reply r e, inl (bound_member (λ p. Member p.inv w.given.invs) w.replies reply r sound.identifiers.replies e)))
+      delivers_sound w sound name (bound_at w.replies reply) (λ r e. bound_member (IsReply w) w.replies reply r (replies_are_sound w sound) e)
   step_sound (events.Pull name source max) may clean = pull_sound w sound name source max
   step_sound (events.Cycle name source max) may clean = pulls_sound w sound name source max reply_limit
-  step_sound (events.Ring name others rounds max) may clean = (ring_so IsSoundWorld AnyRequest AnyReply (λ o. Unit {0}) only_worlds (λ n d e. tt) name others rounds max w sound).0
+  step_sound (events.Ring name others rounds max) may clean = (ring_so IsSoundWorld IsRequest IsReply (λ o. Unit {0}) only_worlds (λ n d e. tt) name others rounds max w sound).0
   step_sound (events.Collect name lifetime) may clean =
       reached_case SoundBehind w name (stays w) (λ x. sound) (λ r. after_collect w r lifetime (collect r.safe w.time lifetime)) (λ r called up. collect_sound w sound r called.there up lifetime)
+  step_sound (events.Upgrade name) may clean = reached_case SoundBehind w name (stays w) (λ x. sound) (λ r. after_upgrade w r (upgrade r.safe)) (λ r called up. upgrade_sound w sound r called.there up)
+  step_sound (events.Revive name guid image parent text) may clean = revived (bound_at w.images image) refl
+    where
+      revived : (o : Option Store) → bound_at w.images image ≡ o → IsSoundWorld (stepped w (events.Revive name guid image parent text) (revival name guid parent text o)).0
+      revived None e = sound
+      revived (Some i) e = writes_sound w sound name (Revive i guid parent text) (bound_member (IsSoundStore w.book) w.images image i sound.images e).formed
   step_sound (events.Backup name bind) may clean =
-      made_bound w (IsImage w sound) (of_controller w name (nothing w) (λ r. backed_up w (backup r.safe))) (λ v. record v { images = bound v.images bind (of_controller w name (nothing w) (λ r. backed_up w (backup r.safe))).2 })
-      (backups_sound w sound name) (imaged w sound bind (of_controller w name (nothing w) (λ r. backed_up w (backup r.safe))).2 (backups_sound w sound name).1)
+      let makes = backups_sound w sound name in
+      made_bound w IsImage (of_controller w name (nothing w) (λ r. backed_up w (backup r.safe))) (λ v. record v { images = bound v.images bind (of_controller w name (nothing w) (λ r. backed_up w (backup r.safe))).2 }) makes
+      (imaged (telling w makes.0) (telling_sound w sound makes.0 makes.1) bind (of_controller w name (nothing w) (λ r. backed_up w (backup r.safe))).2 makes.3)
   step_sound (events.Restore name image inv) may clean =
       made_case SoundBehind (gives w [] (inv ∷ [])) name (stays (gives w [] (inv ∷ []))) (λ x. given_sound w [] (inv ∷ []) sound)
       (λ r. of_image (gives w [] (inv ∷ [])) (bound_at w.images image) (λ i. adopts (gives w [] (inv ∷ [])) (with_replica w.replicas) name (adopt i r.safe.dsa inv)))
       (λ r called. image_case (gives w [] (inv ∷ [])) SoundBehind (bound_at w.images image) (λ i. adopts (gives w [] (inv ∷ [])) (with_replica w.replicas) name (adopt i r.safe.dsa inv)) (given_sound w [] (inv ∷ []) sound)
-      (λ i e. restored w sound inv may name i (bound_member (IsSoundStore w.book) w.images image i sound.images e) (bound_member (AreMarksGiven w) w.images image i sound.identifiers.image_marks e) r called.there called.name))
+      (λ i e. restored w sound inv may name i (bound_member (IsSoundStore w.book) w.images image i sound.images e) (bound_member (IsTraced w) w.images image i sound.identifiers.images e) r called.there called.name))
   step_sound (events.Install name dsa image inv) may clean =
       image_case (gives w (dsa ∷ []) (inv ∷ [])) SoundBehind (bound_at w.images image) (λ i. adopts (gives w (dsa ∷ []) (inv ∷ [])) (λ r. w.replicas ++ r ∷ []) name (adopt i dsa inv)) (given_sound w (dsa ∷ []) (inv ∷ []) sound)
-      (λ i e. installed w sound inv may.1.1 name i (bound_member (IsSoundStore w.book) w.images image i sound.images e) (bound_member (AreMarksGiven w) w.images image i sound.identifiers.image_marks e) dsa may.0 may.1.0)
+      (λ i e. installed w sound inv may.1.1 name i (bound_member (IsSoundStore w.book) w.images image i sound.images e) (bound_member (IsTraced w) w.images image i sound.identifiers.images e) dsa may.0 may.1.0)
   step_sound (events.Snapshot name bind) may clean =
-      made_bound w (λ (s : Snapshot). Unit {0}) (copied name) (λ v. record v { snapshots = bound v.snapshots bind (copied name).2 }) (snapshot_makes name) (aside w sound w.time (bound w.snapshots bind (copied name).2))
+      subst (λ (v : World). IsSoundWorld (record v { snapshots = bound v.snapshots bind (copied name).2 })) (sym (snapshot_makes name)) (aside w sound w.time (bound w.snapshots bind (copied name).2))
   step_sound (events.Rollback name snapshot) may clean =
       made_case (λ (g : Gone). g.0.clean ≡ true → SoundBehind g) w name (stays w) (λ x is. sound) (λ r. put_back w name (bound_at w.snapshots snapshot)) (λ r called is. put_back_so name (bound_at w.snapshots snapshot) is) clean
   step_sound (events.StopAfter name calls how) may clean = with_plan_so name (record { calls = calls; fault = Stops how })
@@ -157,5 +158,5 @@ module _ (w : World) (sound : IsSoundWorld w) where
   step_sound (events.Stop name) may clean = made_case SoundBehind w name (stays w) (λ x. sound) (λ r. stops w r) (λ r called. stopped w sound r called.there Down None)
   step_sound (events.Start name) may clean = made_case SoundBehind w name (stays w) (λ x. sound) (λ r. starts w r r.standing) (λ r called. started_so r called.there r.standing refl)
   step_sound (events.Show name) may clean = reached_case SoundBehind w name (stays w) (λ x. sound) (λ r. (w, outcomes.Show (shown w r.safe))) (λ r called up. sound)
-  step_sound (events.Vector name) may clean = reached_case SoundBehind w name (stays w) (λ x. sound) (λ r. (w, outcomes.Vector r.safe.store.vector)) (λ r called up. sound)
+  step_sound (events.Vector name) may clean = reached_case SoundBehind w name (stays w) (λ x. sound) (λ r. (w, outcomes.Vector r.safe.store.vector r.safe.store.times)) (λ r called up. sound)
   step_sound (events.Marks name) may clean = reached_case SoundBehind w name (stays w) (λ x. sound) (λ r. (w, outcomes.Marks (marks_shown r.safe.store))) (λ r called up. sound)

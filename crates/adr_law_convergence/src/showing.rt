@@ -1,6 +1,6 @@
 //! What controllers of a sound world show, and what of it is their own.
 
-ghost use Rattle.adr_model.specs.Convergence.{AcknowledgedIsIssued, AcknowledgedStaysInView, EqualCoverageShowsEqual, IssuedStays, OwnIsVisible, RunsConverge, ShowsWhatIsVisible};
+ghost use Rattle.adr_model.specs.Convergence.{AcknowledgedIsIssued, AcknowledgedStaysInView, EqualCoverageShowsEqual, IssuedStays, OwnIsVisible, RunsConverge, ShowsWhatIsVisible, TimesAreTrue};
 
 /// In a sound world, what a controller holds shows what is visible to it: the directory of its rows is
 /// that of the issued updates that it covers or holds. All that was issued under its present
@@ -33,4 +33,10 @@ pub fn equal_coverage_shows_equal()
 pub fn every_run_converges()
     ensures shown { RunsConverge }
     ensures acknowledged { AcknowledgedStaysInView }
+{}
+
+/// In a sound world a controller that has a time of an incarnation has it of a last reply: one was made by
+/// that incarnation then, and the controller covers all that the incarnation had.
+pub fn times_were_told()
+    ensures { TimesAreTrue }
 {}

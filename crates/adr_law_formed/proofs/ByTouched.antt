@@ -29,9 +29,12 @@ use Rattle.adr_law_steps.proofs.FormedSame.{named_same, object_same}
 use Rattle.adr_law_knowledge.proofs.RisingHeld.{removals_rise}
 use Rattle.adr_law_calls.proofs.Removing.{stood_before, update_stood, update_stands, removed_is_absent, row_of_tells, stay_alone}
 use Rattle.adr_law_calls.proofs.RemovingSizes.{objects_fewer, links_fewer}
-use Rattle.adr_law_formed.specs.Spelled.{IsSaidOfKey}
+use Rattle.adr_model.specs.Spelled.{IsSaidOfKey}
 use Rattle.adr_law_formed.specs.Follow.{AreWithinLimits, HasKnownClasses, CanFollow}
-use Rattle.adr_law_formed.specs.Touched.{IsInForm, CanFollowByTouched}
+use Rattle.adr_model.specs.Sound.{AreClassesKnown}
+use Rattle.adr_vector.proofs.Moments.{times_join}
+use Rattle.adr_law_formed.proofs.Still.{upgraded_follows}
+use Rattle.adr_law_formed.specs.Touched.{AreTouchedInForm, IsInForm, CanFollowByTouched}
 use Rattle.adr_law_formed.proofs.Passing.{IsUntouched, IsInOrder, ArePassed, all_pass}
 
 -- an object is written to, or isn't
@@ -49,9 +52,12 @@ touched_or_not (w ∷ ws) q = by (unit_or_not w.item.unit (Object q)) (touched_o
         (λ v m e. ⊎_elim (λ is. other (ap (λ (z : Written). z.item.unit) (sym is) ∙ e)) (λ n. none v n e) m)
 
 module _ (s : State) (c : Change) (formed : IsFormed s) (known : HasKnownClasses s)
-    (f : CanFollowByTouched s c) where
+    (f : CanFollowByTouched s c) (same : c.schema ≡ s.store.schema) where
   abbrev table : Table
   table = numbered s.store.schema
+
+  touched : AreTouchedInForm table (updates_of (after s c).store.rows) c
+  touched = subst (λ n. AreTouchedInForm (numbered n) (updates_of (after s c).store.rows) c) same f.touched
 
   abbrev d : State
   d = after s c
@@ -106,7 +112,7 @@ module _ (s : State) (c : Change) (formed : IsFormed s) (known : HasKnownClasses
     }
 
   unit_formed : (q : Oid) → IsInForm table (updates_of now) q
-  unit_formed q = ⊎_elim (λ t. f.touched.objects t.0 t.1 q t.2) (λ none. untouched_formed q none)
+  unit_formed q = ⊎_elim (λ t. touched.objects t.0 t.1 q t.2) (λ none. untouched_formed q none)
       (touched_or_not c.writes q)
 
   -- ---- links
@@ -128,7 +134,7 @@ module _ (s : State) (c : Change) (formed : IsFormed s) (known : HasKnownClasses
       by h (inl new) =
           let w = of_write h.0 new in
           let unit : w.0.item.unit ≡ Link l = sym w.2 ∙ ap (λ (u : Update). unit_of u.key) (sym h.2) ∙ ap unit_of is in
-          f.touched.links w.0 w.1 l unit r m is
+          touched.links w.0 w.1 l unit r m is
       by h (inr old) = (formed.store.rows.links l r (subst (λ u. Member u (updates_of before)) (sym h.2) (updated before h.0 old)) is).forward
 
   links : (l : LinkKey)
@@ -140,13 +146,13 @@ module _ (s : State) (c : Change) (formed : IsFormed s) (known : HasKnownClasses
   -- ---- classes
 
   -- a row that says a class stood before, or was written and is the class row of its object
-  classes : HasKnownClasses d
+  classes : AreClassesKnown table (updates_of now)
   classes r m class says = let h = held_as now r m in by h
       (change_from c.removed (held_of c.writes) before h.0 h.1)
     where
       of_key : (w : Written) → Member w c.writes → unit_of r.key ≡ w.item.unit → (k : Key) → r.key ≡ k
           → IsSaidOfKey k (Holds (Class class)) → IsSome (class_at table class)
-      of_key w n unit (RowOf o attr) is of = (f.touched.objects w n o (sym unit ∙ ap unit_of is)).classes r m
+      of_key w n unit (RowOf o attr) is of = (touched.objects w n o (sym unit ∙ ap unit_of is)).classes r m
           (is ∙ ap (λ a. RowOf o a) of) class says
       of_key w n unit (LinkOf l) is of = absurd of
 
@@ -189,6 +195,10 @@ module _ (s : State) (c : Change) (formed : IsFormed s) (known : HasKnownClasses
   higher i = omega
       (arith, at-joined c.joined s.store.vector i f.goes_on.joined.rising, raised_up (joined s.store.vector c.joined) s.inv c.usn i)
 
+  carried : AtMost (at c.joined) (at d.store.vector)
+  carried i = omega
+      (arith, at-joined c.joined s.store.vector i f.goes_on.joined.rising, raised_up (joined s.store.vector c.joined) s.inv c.usn i)
+
   purged_within : AtMost (at d.store.purged) (at d.store.vector)
   purged_within i = omega
       (arith, at-joined c.purged s.store.purged i f.goes_on.purged.rising, everywhere_from_at_most s.store.purged s.store.vector formed.store.purged_within i, higher i, f.within i)
@@ -213,13 +223,14 @@ module _ (s : State) (c : Change) (formed : IsFormed s) (known : HasKnownClasses
   store : IsFormedStore d.store
   store = record {
     vector = vector;
+    times = times_join s.store.vector c.joined d.store.vector s.store.times c.times higher carried formed.store.times f.goes_on.times;
     purged = purged;
     purged_within = at_most_from_everywhere d.store.purged d.store.vector purged.rising purged_within;
     marks = each_mark (λ (k : Kept). IsOrdered k.mark) c.mark s.store.marks f.goes_on.mark formed.store.marks;
     rising = removals_rise c.removed written passed.order.rising;
     locals = λ h m. passed.order.locals h (stood_before c.removed written h m);
     alone = stay_alone c.removed written passed.order.alone;
-    rows = rows;
+    rows = subst (λ n. AreFormedRows (numbered n) (updates_of now)) (sym same) rows;
     limits = record {
       objects = omega (arith, objects_fewer c.removed written, few.0);
       links = omega (arith, links_fewer c.removed written passed.order.rising, few.1);
@@ -237,12 +248,13 @@ module _ (s : State) (c : Change) (formed : IsFormed s) (known : HasKnownClasses
   follows = record {
     goes_on = f.goes_on;
     formed = record { store = store; own = own };
-    classes = classes;
+    classes = subst (λ n. AreClassesKnown (numbered n) (updates_of now)) (sym same) classes;
   }
 
 pub touched_is_enough : (s : State) (c : Change) → IsFormed s → HasKnownClasses s → CanFollowByTouched s c
     → CanFollow s c
-touched_is_enough s c formed known f = follows s c formed known f
+touched_is_enough s c formed known f = ⊎_elim (λ same. follows s c formed known f same)
+    (λ is. subst (CanFollow s) (sym is) (upgraded_follows s formed known f.goes_on.normal)) f.goes_on.schema
 
 pub touched_is_asked : (s : State) (c : Change) → IsFormed s → CanFollow s c → CanFollowByTouched s c
 touched_is_asked s c formed f = record {

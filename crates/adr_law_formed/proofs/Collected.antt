@@ -1,5 +1,6 @@
 -- A collection of a formed state: the change can follow it, and leaves a formed one.
-use Rattle.std.proofs.Common.{◌≡◌, ℕ, List, [], ◌∷◌, false, Option, Some, None, refl, sym, ap, ◌∙◌, subst, arith, map, fold, filter_map, Ok}
+use Rattle.adr_vector.proofs.Moments.{no_times}
+use Rattle.std.proofs.Common.{◌≡◌, ℕ, List, [], ◌∷◌, false, Option, Some, None, refl, sym, ap, ◌∙◌, subst, arith, map, fold, filter_map, Ok, inl}
 use Rattle.std.specs.Prelude.{nat_lt}
 use Rattle.std.specs.Bool.{then_some}
 use Rattle.std.specs.List.{AllByRecursion, cons_option}
@@ -155,7 +156,9 @@ module _ (s : State) (now lifetime : ℕ) (is : IsFormed s) (classes : HasKnownC
       rises = usn_rises s now lifetime is;
       locals = tt;
       mark = tt;
+      schema = inl refl;
       joined = nothing_is_vector;
+      times = no_times [];
       purged = covers;
       writes = tt;
       removed = removable;

@@ -1,4 +1,4 @@
--- Each of the six writes of a formed state follows it.
+-- Each of the seven writes of a formed state follows it.
 use Rattle.std.proofs.Common.{◌≡◌, ◌⊎◌, inl, inr, ⊎_elim, ℕ, zero, suc, ◌+◌, ◌<◌, List, [], ◌∷◌, Bool, true, false, Option, None, refl, sym, ap, ◌∙◌, subst, map, arith, not, ◌||◌, length, Ok}
 use Rattle.std.specs.Option.{option_map, option_map_or}
 use Rattle.std.specs.List.{AllByRecursion}
@@ -29,12 +29,13 @@ use Rattle.adr_model.specs.Member.{Member, Each}
 use Rattle.adr_failure.specs.First.{first_of}
 use Rattle.adr_model.specs.Update.{Identifier, Key, RowOf, LinkOf, Said, Holds, IsPresent, Update, key_order, is_older, class_attr, name_attr, deleted_attr}
 use Rattle.adr_model.specs.Reflects.{HoldsObject}
-use Rattle.adr_model.specs.Store.{Held, Normal, State, updates_of, row_held}
+use Rattle.adr_model.specs.Store.{Held, Normal, State, updates_of, row_held, Store}
 use Rattle.adr_model.specs.Change.{Written, Change}
 use Rattle.adr_model.specs.Serve.{is_quarantined}
-use Rattle.adr_model.specs.Formed.{IsFormed}
+use Rattle.adr_model.specs.Formed.{IsFormed, IsFormedStore}
 use Rattle.adr_model.specs.Take.{is_above}
-use Rattle.adr_model.specs.Write.{Write, AddObject, Modify, Rename, Delete, AddLink, RemoveLink, IsWellGiven, AreInOrder, object_limit, link_limit, of_schema, fixed_refusal, object_refusal, parent_refusal, loop_refusal, superior_refusal, name_refusal, child_refusal, version_refusal, usn_refusal, full_refusal, cursor_refusal, any_link_refusal, is_of_guid, holds_guid, link_of, is_linked, links_in, more_links, nodes_held, class_of, object_of, version_of, first_created, next_row, first_stamp, new_object, new_rows, row, write_refusal, items_written, own_change, write}
+use Rattle.adr_model.specs.Write.{Write, AddObject, Modify, Rename, Delete, AddLink, RemoveLink, object_limit, link_limit, of_schema, fixed_refusal, object_refusal, parent_refusal, loop_refusal, superior_refusal, name_refusal, child_refusal, version_refusal, usn_refusal, full_refusal, cursor_refusal, any_link_refusal, is_of_guid, holds_guid, link_of, is_linked, links_in, more_links, nodes_held, class_of, object_of, version_of, first_created, next_row, first_stamp, new_object, new_rows, row, write_refusal, items_written, own_change, write, Revive, entry_in, rows_written, more_written, links_revived, new_links, link_row, revive_refusals, revive_refusal}
+use Rattle.adr_model.specs.Given.{IsWellGiven, AreInOrder}
 use Rattle.std.specs.Bool.{then_some}
 use Rattle.adr_model.proofs.Members.{mapped_member, member_mapped, each_fails}
 use Rattle.adr_model.proofs.Keys.{equal_order}
@@ -44,7 +45,7 @@ use Rattle.adr_law_steps.specs.Forms.{IsWellSaid, MayCome}
 use Rattle.adr_law_steps.proofs.Rows.{updated, row_of_unit}
 use Rattle.adr_law_steps.proofs.Rising.{one_update}
 use Rattle.adr_law_calls.proofs.Tests.{IsFound, row_found}
-use Rattle.adr_law_calls.specs.MayWrites.{MayWrite, Changes, Comes, IsHeldAlive}
+use Rattle.adr_law_calls.specs.MayWrites.{MayWrite, Changes, Comes, IsHeldAlive, MayWriteInTurn, after_item}
 use Rattle.adr_law_calls.proofs.Stamps.{written}
 use Rattle.adr_law_calls.proofs.Issues.{change_of}
 use Rattle.adr_law_calls.proofs.Nodes.{object_is_live}
@@ -52,12 +53,18 @@ use Rattle.adr_law_calls.proofs.Saids.{live_is_held}
 use Rattle.adr_law_calls.proofs.Refusals.{not_so}
 use Rattle.adr_law_calls.proofs.WriteSound.{may_write}
 use Rattle.adr_law_formed.specs.Taken.{AreBare}
-use Rattle.adr_law_formed.specs.Follow.{HasKnownClasses, CanFollow}
+use Rattle.adr_law_formed.specs.Follow.{HasKnownClasses, CanFollow, MayFollow, MayFollowInTurn, AreWithinLimits}
 use Rattle.adr_law_formed.proofs.Sorted.{keys}
 use Rattle.adr_law_formed.proofs.ItemMay.{new_is_above}
 use Rattle.adr_law_calls.proofs.ItemPut.{some_or_none}
 use Rattle.adr_law_calls.proofs.Passed.{normal_where_not_quarantined}
-use Rattle.adr_law_formed.proofs.OwnWrite.{new_placed, live_placed, link_placed, written_follows}
+use Rattle.adr_law_formed.proofs.OwnWrite.{new_placed, live_placed, link_placed, written_follows, says_of_written}
+use Rattle.adr_event.specs.declared.directory.Entry.{Entry}
+use Rattle.adr_law_calls.proofs.Reviving.{absent, apart, may_revive, may_relink, may_relink_all}
+use Rattle.adr_law_calls.proofs.InTurn.{in_turn_formed}
+use Rattle.adr_law_formed.proofs.TakenFollow.{nothing_is_vector}
+use Rattle.adr_vector.proofs.Moments.{no_times}
+use Rattle.adr_law_formed.proofs.Relinked.{shown_in_order, behind_one, within_limits, one_rises, links_follow, links_local, in_turn_known}
 
 -- ---- a row that is written next is greater than the held one
 
@@ -76,10 +83,6 @@ next_is_greater s now key said = by (row_found s.store.rows key)
         (omega (arith, ap version_of f))
 
 -- ---- rows that rise
-
-one_rises : (k : Key) → IsStrictlySortedBy key_order (k ∷ [])
-unfolding IsStrictlySortedBy
-one_rises k = (tt, tt)
 
 module _ (o : Oid) where
   by_attr : (a b : ℕ) → nat_cmp a b ≡ Less → key_order (RowOf o a) (RowOf o b) ≡ Less
@@ -186,6 +189,12 @@ module _ (s : State) (formed : IsFormed s) (known : HasKnownClasses s) where
       above u m = let g = mapped_member made values u m in subst (λ v. is_above s.store.rows v ≡ true)
           (sym g.2) (next_is_greater s now (RowOf o g.0.0) (Holds (Values g.0.1)))
 
+  not_held : (guid : Identifier) → holds_guid rows guid ≡ false → HoldsObject rows (new_object s guid) → ⊥
+  not_held guid not_there (r, attr, m, is) =
+      let fails : is_of_guid guid r.key ≡ false = each_fails (λ (u : Update). is_of_guid guid u.key) rows not_there r m in
+      let passes : is_of_guid guid r.key ≡ true = ap (is_of_guid guid) is ∙ test_itself guid in
+      cc
+
   -- a new object
   module _ (now : ℕ) (guid : Identifier) (class : ℕ) (parent : Identifier) (text : List ℕ)
       (values : List Given) where
@@ -201,13 +210,7 @@ module _ (s : State) (formed : IsFormed s) (known : HasKnownClasses s) where
     abbrev value_row : Given → Update
     value_row g = row o stamp g.0 (Values g.1)
 
-    module _ (may : MayWrite s (Object o) us) (not_there : holds_guid rows guid ≡ false) where
-      absent : HoldsObject rows o → ⊥
-      absent (r, attr, m, is) =
-          let fails : is_of_guid guid r.key ≡ false = each_fails (λ (u : Update). is_of_guid guid u.key) rows not_there r m in
-          let passes : is_of_guid guid r.key ≡ true = ap (is_of_guid guid) is ∙ test_itself guid in
-          cc
-
+    module _ (may : MayWrite s (Object o) us) (absent : HoldsObject rows o → ⊥) where
       abbrev Come : Type 0
       Come = (c : ℕ) × MayCome (numbered s.store.schema) rows o c us
 
@@ -234,12 +237,63 @@ module _ (s : State) (formed : IsFormed s) (known : HasKnownClasses s) where
       above u m = let k = row_of_unit u.key o (may.put.of_unit u m) in new_is_above s.store.rows u
           (λ h n e. absent (h.update, k.0, updated s.store.rows h n, e ∙ k.1))
 
+      new_may_follow : AreInOrder values → MayFollow (numbered s.store.schema) s.store.vector s.store.rows (record { unit = Object o; rows = us })
+      new_may_follow order = record {
+        some = (row o stamp class_attr (Class class), inl refl);
+        form = record { of_unit = may.put.of_unit; rising = rise order; says = says_of_written s (Object o) us may };
+        greater = above;
+        unit = new_placed s o comes.0 us (may.put.place o refl) comes.1;
+      }
+
       new_follows : s.mode ≡ Normal → AreInOrder values
           → CanFollow s (change_of s (record { unit = Object o; rows = us }))
       new_follows is_normal order = written_follows s
           (record { unit = Object o; rows = us }) formed known may is_normal
           (row o stamp class_attr (Class class), inl refl) (rise order) above
           (new_placed s o comes.0 us (may.put.place o refl) comes.1)
+
+  -- ---- an object that is revived, and its links
+
+  module _ (now : ℕ) (image : Store) (guid parent : Identifier) (text : List ℕ) (given : IsFormedStore image)
+      (none : revive_refusal s image guid parent text ≡ None) where
+    abbrev what : Write
+    what = Revive image guid parent text
+
+    abbrev entry : Entry
+    entry = entry_in image guid
+
+    abbrev first : Written
+    first = record { local = s.store.usn + 1; item = rows_written s what now }
+
+    revived_in_turn : MayWriteInTurn s (items_written s what now)
+    revived_in_turn = (refl, may_revive s formed image guid parent text given none now, may_relink s formed image guid parent text given none now)
+
+    revived_may_follow : MayFollowInTurn (numbered s.store.schema) s.store.vector s.store.rows (items_written s what now)
+    revived_may_follow = (
+      new_may_follow now guid entry.class parent text entry.values (may_revive s formed image guid parent text given none now) (absent s formed image guid parent text given none) (shown_in_order image guid),
+      subst AreWithinLimits (sym (behind_one s first refl)) (within_limits (after_item s first.item) (may_relink_all s formed image guid parent text given none now).formed),
+      subst (λ (held : List Held). MayFollowInTurn (numbered s.store.schema) s.store.vector held (more_written s what now)) (sym (behind_one s first refl))
+          (links_follow s now (numbered s.store.schema) s.store.vector (after_item s first.item) (links_revived s image guid) (s.store.usn + 2) (omega arith)
+          (apart s formed image guid parent text given none) (may_relink_all s formed image guid parent text given none now)),
+    )
+
+    revived_follows : CanFollow s (own_change s (items_written s what now))
+    revived_follows = record {
+      goes_on = record {
+        normal = normal (none_there (revive_refusals s image guid parent text) none _ (inl refl));
+        rises = omega arith;
+        locals = (omega arith, omega arith, links_local s now (numbered s.store.schema) s.store.vector (s.store.usn + 2) (s.store.usn + 1) (s.store.usn + length (items_written s what now)) (links_revived s image guid) (omega arith) (omega arith));
+        mark = tt;
+        schema = inl refl;
+        joined = nothing_is_vector;
+        times = no_times [];
+        purged = nothing_is_vector;
+        writes = revived_may_follow;
+        removed = λ o m. absurd m;
+      };
+      formed = in_turn_formed s first (more_written s what now) formed revived_in_turn;
+      classes = in_turn_known s first (more_written s what now) formed revived_in_turn known;
+    }
 
   -- ---- the refusals, call by call
 
@@ -311,7 +365,7 @@ module _ (s : State) (formed : IsFormed s) (known : HasKnownClasses s) where
       → CanFollow s (own_change s (items_written s w now))
   each_write (AddObject guid class parent text values) now given none = new_follows now guid class parent text values
       (may_write s (AddObject guid class parent text values) now formed given none)
-      (or_parts (is_fixed guid) (holds_guid rows guid) (not_so (is_fixed guid || holds_guid rows guid) (GuidThere guid) (none_there (of_add guid class parent text values) none _ (inr (inl refl))))).1
+      (not_held guid (or_parts (is_fixed guid) (holds_guid rows guid) (not_so (is_fixed guid || holds_guid rows guid) (GuidThere guid) (none_there (of_add guid class parent text values) none _ (inr (inl refl))))).1)
       (normal (none_there (of_add guid class parent text values) none _ (inl refl))) given
   each_write (Modify guid values) now given none = some_values now (object_of (nodes_held rows) guid) values
       (may_write s (Modify guid values) now formed given none)
@@ -334,12 +388,32 @@ module _ (s : State) (formed : IsFormed s) (known : HasKnownClasses s) where
       (link_of (nodes_held rows) from attr to) false
       (may_write s (RemoveLink from attr to) now formed given none)
       (normal_link from attr to (λ linked. then_some (not linked) LinkNotThere) none)
+  each_write (Revive image guid parent text) now given none = revived_follows now image guid parent text given none
 
 pub write_follows : (s : State) (w : Write) (now : ℕ) (c : Change) → IsFormed s → HasKnownClasses s
     → IsWellGiven w → write s w now ≡ Ok c → CanFollow s c
 write_follows s w now c formed known given e =
     let t = answered (write_refusal s w) (own_change s (items_written s w now)) c e in
     subst (CanFollow s) t.1 (each_write s formed known w now given t.0)
+
+-- a link is no death
+links_bare : (s : State) (now usn : ℕ) (ls : List LinkKey) → Each (λ (v : Written). AreBare v.item.rows) (new_links s now usn ls)
+links_bare s now usn [] v m = absurd m
+links_bare s now usn (l ∷ ls) v (inl is) = subst (λ (z : Written). AreBare z.item.rows) (sym is) bare
+  where
+    bare : AreBare (link_row s now usn l).item.rows
+    bare d (inl e) dies = absurd (let same : LinkOf l ≡ RowOf dies.0 deleted_attr = sym (ap (λ (v : Update). v.key) e) ∙ dies.1 in cc)
+    bare d (inr none) dies = absurd none
+links_bare s now usn (l ∷ ls) v (inr m) = links_bare s now (usn + 1) ls v m
+
+more_bare : (s : State) (now : ℕ) (w : Write) → Each (λ (v : Written). AreBare v.item.rows) (more_written s w now)
+more_bare s now (AddObject guid class parent text values) v m = absurd m
+more_bare s now (Modify guid values) v m = absurd m
+more_bare s now (Rename guid parent text) v m = absurd m
+more_bare s now (Delete guid) v m = absurd m
+more_bare s now (AddLink from attr to) v m = absurd m
+more_bare s now (RemoveLink from attr to) v m = absurd m
+more_bare s now (Revive image guid parent text) v m = links_bare s now (s.store.usn + 2) (links_revived s image guid) v m
 
 pub write_is_bare : (s : State) (w : Write) (now : ℕ) (c : Change) → IsFormed s → IsWellGiven w
     → write s w now ≡ Ok c → Each (λ w. AreBare w.item.rows) c.writes
@@ -350,4 +424,4 @@ write_is_bare s w now c formed given e =
     alone : write_refusal s w ≡ None → Each (λ (v : Written). AreBare v.item.rows) (items_written s w now)
     alone none v (inl is) = subst (λ (z : Written). AreBare z.item.rows) (sym is)
         (may_write s w now formed given none).put.bare
-    alone none v (inr m) = absurd m
+    alone none v (inr m) = more_bare s now w v m

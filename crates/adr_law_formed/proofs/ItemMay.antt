@@ -37,7 +37,7 @@ use Rattle.adr_law_calls.proofs.Tests.{IsFound, row_found, above_supersedes}
 use Rattle.adr_law_calls.proofs.Standings.{each_presence, IsThere, there_where_untested, attr_itself, left_from, reserved_is_left, bare_beside_death}
 use Rattle.adr_law_calls.proofs.ItemPut.{above_of_held, some_or_none}
 use Rattle.adr_law_calls.proofs.Saids.{death_well_said}
-use Rattle.adr_law_formed.specs.Spelled.{IsContentOfAttr, IsSpelledItem}
+use Rattle.adr_model.specs.Spelled.{IsContentOfAttr, IsSpelledItem}
 use Rattle.adr_law_formed.specs.Follow.{IsWhole, MayWriteUnit, MayFollow}
 use Rattle.adr_law_formed.specs.Taken.{MayBeTaken}
 use Rattle.adr_law_formed.proofs.Sorted.{keys, filtered_rise, left_rise, one_of_key}

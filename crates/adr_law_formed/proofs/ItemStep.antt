@@ -25,7 +25,7 @@ use Rattle.adr_law_steps.proofs.Rows.{link_of_unit}
 use Rattle.adr_law_calls.specs.KeepForms.{KeepForms}
 use Rattle.adr_law_calls.proofs.ItemStep.{put_of_item, goes_on, steady_step}
 use Rattle.adr_law_calls.proofs.Items.{begins_formed}
-use Rattle.adr_law_formed.specs.Spelled.{IsSaidOfKey, IsSpelledItem, AreLocalsRising}
+use Rattle.adr_model.specs.Spelled.{IsSaidOfKey, IsSpelledItem, AreLocalsRising}
 use Rattle.adr_law_formed.specs.Taken.{AreBare, MayBeTaken}
 use Rattle.adr_law_formed.specs.Follow.{MayFollow, AreWithinLimits, MayFollowInTurn, after_write, HasKnownClasses}
 use Rattle.adr_law_formed.specs.SoFar.{FollowsSoFar}

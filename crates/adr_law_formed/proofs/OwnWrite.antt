@@ -1,5 +1,6 @@
 -- Rows that a formed state may write: the change can follow it, and leaves a formed one.
-use Rattle.std.proofs.Common.{◌≡◌, ◌⊎◌, inl, inr, ⊎_elim, ℕ, zero, suc, ◌+◌, List, true, refl, sym, subst, arith, map}
+use Rattle.adr_vector.proofs.Moments.{no_times}
+use Rattle.std.proofs.Common.{◌≡◌, ◌⊎◌, inl, inr, ⊎_elim, ℕ, zero, suc, ◌+◌, List, true, refl, sym, subst, arith, map, []}
 use Rattle.std.specs.List.Sorted.{IsStrictlySortedBy}
 use Rattle.adr_stamp.specs.declared.Oid.{Oid}
 use Rattle.adr_stamp.specs.declared.LinkKey.{LinkKey}
@@ -22,7 +23,7 @@ use Rattle.adr_law_calls.proofs.Rooms.{objects_within_limit, links_within_limit}
 use Rattle.adr_law_calls.proofs.WriteFormed.{stands, are_written, written_rise, write_formed}
 use Rattle.adr_law_calls.proofs.Issues.{change_of}
 use Rattle.adr_law_calls.proofs.WriteForms.{classes_stay}
-use Rattle.adr_law_formed.specs.Spelled.{IsSaidOfKey}
+use Rattle.adr_model.specs.Spelled.{IsSaidOfKey}
 use Rattle.adr_law_formed.specs.Follow.{MayWriteUnit, HasKnownClasses, CanFollow}
 use Rattle.adr_law_formed.proofs.TakenFollow.{nothing_is_vector}
 
@@ -98,7 +99,9 @@ module _ (s : State) where
         rises = omega arith;
         locals = (omega arith, omega arith, tt);
         mark = tt;
+        schema = inl refl;
         joined = nothing_is_vector;
+        times = no_times [];
         purged = nothing_is_vector;
         writes = (
           record { some = some; form = record { of_unit = may.put.of_unit; rising = rise; says = says_of_written item.unit item.rows may }; greater = above; unit = placed },

@@ -19,7 +19,7 @@ use Rattle.adr_law_steps.proofs.Putting.{rising_are_put}
 use Rattle.adr_law_steps.proofs.Order.{puts_rise, stay_alone, puts_stay_within}
 use Rattle.adr_law_steps.proofs.FormedRows.{stood, link_goes_from, link_goes_to}
 use Rattle.adr_law_steps.proofs.FormedOther.{other_back, other_to, end_lives}
-use Rattle.adr_law_formed.specs.Spelled.{IsSpelledItem, AreLocalsRising}
+use Rattle.adr_model.specs.Spelled.{IsSpelledItem, AreLocalsRising}
 use Rattle.adr_law_formed.specs.Follow.{MayWriteUnit, MayFollow, AreWithinLimits, MayFollowInTurn, after_write}
 use Rattle.adr_law_formed.proofs.Writes.{in_turn}
 

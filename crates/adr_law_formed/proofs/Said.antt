@@ -20,7 +20,7 @@ use Rattle.adr_law_steps.specs.Forms.{IsWellSaid}
 use Rattle.adr_law_knowledge.proofs.Refusing.{is_so, none_there, not_mapped}
 use Rattle.adr_law_calls.proofs.Saids.{class_well_said, name_well_said, death_well_said, values_well_said}
 use Rattle.adr_law_calls.proofs.Values.{plain_is_above}
-use Rattle.adr_law_formed.specs.Spelled.{IsContentOfAttr, IsSaidOfKey}
+use Rattle.adr_model.specs.Spelled.{IsContentOfAttr, IsSaidOfKey}
 
 -- neither of two comes where none comes first
 pub neither : {A : Type 0} → (a b : Option A) → first_of (a ∷ b ∷ []) ≡ None → (a ≡ None) × (b ≡ None)

@@ -1,11 +1,10 @@
 -- A quarantine can follow a formed state, and a controller that is made of a formed image is formed.
-use Rattle.std.proofs.Common.{◌≡◌, ℕ, ◌≤◌, [], ◌∷◌, Bool, true, false, cond, ◌||◌, refl, sym, ap, subst, arith, length, Ok}
+use Rattle.std.proofs.Common.{◌≡◌, inl, inr, cond, ◌==◌, ℕ, ◌≤◌, [], ◌∷◌, Bool, true, false, ◌||◌, refl, sym, subst, arith, length, Ok}
 use Rattle.std.specs.Prelude.{nat_lt}
 use Rattle.std.specs.List.{list_any}
 use Rattle.std.specs.Bool.{then_some}
 use Rattle.std.specs.Ordering.{is_eq}
-use Rattle.std.specs.BTreeMap.{insert_entry}
-use Rattle.std.proofs.lemmas.Bool.{le-leb, or_parts, both_ways, ltb-false}
+use Rattle.std.proofs.lemmas.Bool.{or_parts, both_ways, ltb-false}
 use Rattle.adr_stamp.specs.Order.{identifier_order}
 use Rattle.adr_stamp.specs.declared.Oid.{Oid}
 use Rattle.adr_schema.proofs.ExactCalls.{not_then}
@@ -14,6 +13,7 @@ use Rattle.adr_vector.specs.Vector.{Cursors, IsVector, at, raised, cursor_limit}
 use Rattle.adr_vector.proofs.Cursors.{same_from_test, test_itself}
 use Rattle.adr_vector.proofs.Comparing.{everywhere_from_at_most, at_most_from_everywhere}
 use Rattle.adr_vector.proofs.Joining.{raised_here, rising-raised, from_one-raised}
+use Rattle.adr_vector.proofs.Moments.{no_times, times_stay}
 use Rattle.adr_event.specs.declared.refusal.Table.TheVariants.{Cursors as CursorTable}
 use Rattle.adr_event.specs.declared.refusal.AdoptRefusal.TheVariants.{IdentifierUsed, Full}
 use Rattle.adr_model.specs.Update.{Identifier, inv_of, same_identifier, ends}
@@ -21,24 +21,28 @@ use Rattle.adr_model.specs.Store.{Held, Kept, Normal, Store, State, updates_of, 
 use Rattle.adr_model.specs.Formed.{IsFormedStore, IsFormed}
 use Rattle.adr_model.specs.Sound.{AreClassesKnown}
 use Rattle.adr_model.specs.Collect.{names_inv, woken, adopt_refusal, adopt, quarantine}
+use Rattle.adr_schema.proofs.Extending.{second_is_last}
+use Rattle.adr_event.specs.declared.refusal.UpgradeRefusal.TheVariants.{Quarantined, SchemaThere}
+use Rattle.adr_model.specs.Change.{Change}
+use Rattle.adr_model.specs.Serve.{is_quarantined}
+use Rattle.adr_model.specs.Upgrade.{upgraded, upgrade_refusal, upgrade}
+use Rattle.adr_law_steps.proofs.More.{classes_known_more}
+use Rattle.adr_law_calls.proofs.Passed.{normal_where_not_quarantined}
+use Rattle.adr_law_calls.proofs.Upgraded.{upgraded_formed}
 use Rattle.adr_law_knowledge.proofs.Refusing.{answered}
-use Rattle.adr_law_knowledge.proofs.Raised.{raised_up}
+use Rattle.adr_law_knowledge.proofs.Raised.{raised_up, not_raised}
 use Rattle.adr_law_logs.proofs.Empty.{empty_is_formed}
 use Rattle.adr_law_formed.specs.Follow.{HasKnownClasses, CanFollow}
 use Rattle.adr_law_formed.proofs.Said.{neither}
 use Rattle.adr_law_formed.proofs.TakenFollow.{nothing_is_vector}
 
--- a vector that has seen it already isn't raised
-not_raised : (v : Cursors) (inv : Identifier) (usn : ℕ) → usn ≤ at v inv → raised v inv usn ≡ v
-not_raised v inv usn le = ap (λ b. cond b v (insert_entry identifier_order v inv usn))
-    (le-leb usn (at v inv) le)
-
 -- a formed store keeps its forms under another vector that has seen as much
 with_vector : (s : Store) (v : Cursors) → IsFormedStore s → IsVector v
     → ((i : Identifier) → at s.vector i ≤ at v i)
-    → IsFormedStore (record { schema = s.schema; usn = s.usn; rows = s.rows; vector = v; purged = s.purged; marks = s.marks })
+    → IsFormedStore (record s { vector = v })
 with_vector s v formed vector up = record {
   vector = vector;
+  times = times_stay s.vector v s.times up formed.times;
   purged = formed.purged;
   purged_within = at_most_from_everywhere s.purged v formed.purged.rising
       (λ i. omega (arith, everywhere_from_at_most s.purged s.vector formed.purged_within i, up i));
@@ -58,7 +62,9 @@ quarantine_follows s formed classes normal = record {
     rises = omega arith;
     locals = tt;
     mark = tt;
+    schema = inl refl;
     joined = nothing_is_vector;
+    times = no_times [];
     purged = nothing_is_vector;
     writes = tt;
     removed = λ o m. absurd m;
@@ -73,6 +79,30 @@ quarantine_follows s formed classes normal = record {
   where
     same : raised s.store.vector s.inv s.store.usn ≡ s.store.vector
     same = not_raised s.store.vector s.inv s.store.usn (omega (arith, formed.own))
+
+pub upgraded_follows : (s : State) → IsFormed s → HasKnownClasses s → s.mode ≡ Normal → CanFollow s (upgraded s)
+upgraded_follows s formed classes normal = record {
+  goes_on = record {
+    normal = normal;
+    rises = omega arith;
+    locals = tt;
+    mark = tt;
+    schema = inr refl;
+    joined = nothing_is_vector;
+    times = no_times [];
+    purged = nothing_is_vector;
+    writes = tt;
+    removed = λ o m. absurd m;
+  };
+  formed = upgraded_formed s formed;
+  classes = classes_known_more (numbered s.store.schema) (numbered 2) (second_is_last s.store.schema) (updates_of s.store.rows) classes;
+}
+
+pub upgrade_follows : (s : State) (c : Change) → IsFormed s → HasKnownClasses s → upgrade s ≡ Ok c → CanFollow s c
+upgrade_follows s c formed classes e =
+    let g = answered (upgrade_refusal s) (upgraded s) c e in
+    let n = neither (then_some (is_quarantined s.mode) Quarantined) (then_some (s.store.schema == 2) (SchemaThere s.store.schema)) g.0 in
+    subst (CanFollow s) g.1 (upgraded_follows s formed classes (normal_where_not_quarantined s.mode (not_then (is_quarantined s.mode) Quarantined n.0)))
 
 -- an identifier that no cursor names has none
 unnamed : (v : Cursors) (inv : Identifier)

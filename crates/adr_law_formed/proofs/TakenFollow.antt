@@ -1,5 +1,5 @@
 -- A reply that is spelled and is taken by a formed state: the change can follow it, and leaves a formed one.
-use Rattle.std.proofs.Common.{◌≡◌, ◌≤◌, [], Some, unwrap_or, refl, sym, subst, Ok}
+use Rattle.std.proofs.Common.{◌≡◌, ◌≤◌, [], Some, unwrap_or, refl, sym, subst, Ok, inl}
 use Rattle.adr_schema.specs.Numbered.{numbered}
 use Rattle.adr_vector.specs.Vector.{IsVector}
 use Rattle.adr_model.specs.Member.{Member, Each}
@@ -9,12 +9,12 @@ use Rattle.adr_model.specs.Formed.{IsFormed}
 use Rattle.adr_model.specs.Sound.{AreClassesKnown}
 use Rattle.adr_model.specs.Serve.{Reply}
 use Rattle.adr_model.specs.Write.{usn_limit}
-use Rattle.adr_model.specs.Take.{take}
+use Rattle.adr_model.specs.Take.{take, times_brought}
 use Rattle.adr_law_logs.proofs.Empty.{empty_is_formed}
 use Rattle.adr_law_calls.specs.OnTheWay.{Passes, taken_items, change_taken, state_behind}
 use Rattle.adr_law_calls.proofs.Passed.{passed}
 use Rattle.adr_law_calls.proofs.TakenFormed.{taken_formed}
-use Rattle.adr_law_formed.specs.Spelled.{IsSpelledReply}
+use Rattle.adr_model.specs.Spelled.{IsSpelledReply}
 use Rattle.adr_law_formed.specs.Taken.{AreBare}
 use Rattle.adr_law_formed.specs.Follow.{HasKnownClasses, CanFollow}
 use Rattle.adr_law_formed.specs.SoFar.{FollowsSoFar}
@@ -42,12 +42,14 @@ module _ (s : State) (r : Reply) (c : Change) (formed : IsFormed s) (classes : H
       rises = way.steady.rises;
       locals = way.spaced;
       mark = spelled.to;
+      schema = inl refl;
       joined = spelled.last;
+      times = spelled.times;
       purged = nothing_is_vector;
       writes = way.follow passes.objects passes.links;
       removed = λ o m. absurd m;
     };
-    formed = taken_formed s r formed spelled.to spelled.last way.steady passes;
+    formed = taken_formed s r formed spelled.to spelled.last spelled.times way.steady passes;
     classes = subst (λ rows. AreClassesKnown (numbered s.store.schema) (updates_of rows))
         (sym way.steady.made) way.classes;
   }
@@ -60,9 +62,9 @@ module _ (s : State) (r : Reply) (c : Change) (formed : IsFormed s) (classes : H
 
 -- what of a reply the change brings: its rows, its vector and its mark, under a USN within the limit
 pub taken_brings : (s : State) (r : Reply) (c : Change) → take s r ≡ Ok c
-    → Each (λ u. (i : Item) × Member i r.items × Member u i.rows) (updates_written c) × (c.usn ≤ usn_limit) × (c.joined ≡ unwrap_or r.last []) × (c.mark ≡ Some (r.source, record { inv = r.inv; mark = r.to })) ×
+    → Each (λ u. (i : Item) × Member i r.items × Member u i.rows) (updates_written c) × (c.usn ≤ usn_limit) × (c.joined ≡ unwrap_or r.last []) × (c.times ≡ times_brought r) × (c.mark ≡ Some (r.source, record { inv = r.inv; mark = r.to })) ×
     (c.purged ≡ [])
 taken_brings s r c e =
     let p = passed s r c e in
-    subst (λ (x : Change). Each (λ u. (i : Item) × Member i r.items × Member u i.rows) (updates_written x) × (x.usn ≤ usn_limit) × (x.joined ≡ unwrap_or r.last []) × (x.mark ≡ Some (r.source, record { inv = r.inv; mark = r.to })) × (x.purged ≡ [])) p.1
-    (taken_rows_from s (λ u. (i : Item) × Member i r.items × Member u i.rows) r.items (λ i m u n. (i, m, n)), p.0.usn, refl, refl, refl)
+    subst (λ (x : Change). Each (λ u. (i : Item) × Member i r.items × Member u i.rows) (updates_written x) × (x.usn ≤ usn_limit) × (x.joined ≡ unwrap_or r.last []) × (x.times ≡ times_brought r) × (x.mark ≡ Some (r.source, record { inv = r.inv; mark = r.to })) × (x.purged ≡ [])) p.1
+    (taken_rows_from s (λ u. (i : Item) × Member i r.items × Member u i.rows) r.items (λ i m u n. (i, m, n)), p.0.usn, refl, refl, refl, refl)

@@ -1,6 +1,6 @@
 -- Whence the rows, cursors and marks after a change are: what holds of each before and of each that the
 -- change brings holds of each after.
-use Rattle.std.proofs.Common.{◌≡◌, ◌⊎◌, inl, inr, ⊎_elim, ℕ, ◌≤◌, List, [], ◌∷◌, ◌++◌, Bool, true, false, cond, Option, Some, None, refl, sym, ap, ◌∙◌, subst, fold, map, flat_map, arith}
+use Rattle.std.proofs.Common.{◌≡◌, ◌⊎◌, inl, inr, ⊎_elim, ℕ, ◌≤◌, List, [], ◌∷◌, ◌++◌, Option, Some, None, refl, sym, ap, ◌∙◌, subst, fold, map, flat_map}
 use Rattle.std.specs.List.{AllByRecursion}
 use Rattle.std.specs.List.Sorted.{IsStrictlySortedBy}
 use Rattle.std.specs.BTreeMap.{insert_entry}
@@ -8,12 +8,11 @@ use Rattle.std.specs.Ordering.{match_ordering}
 use Rattle.std.specs.declared.cmp.Ordering.{Ordering}
 use Rattle.std.specs.declared.cmp.Ordering.TheVariants.{Less, Equal, Greater}
 use Rattle.std.specs.Option.{IfSome}
-use Rattle.std.proofs.lemmas.Bool.{leb-false}
 use Rattle.std.proofs.lemmas.Cmp.{nat_list_cmp_total}
 use Rattle.std.proofs.lemmas.Map.Lookups.{exact_bytes}
 use Rattle.adr_stamp.specs.Order.{identifier_order}
 use Rattle.adr_schema.specs.Numbered.{numbered}
-use Rattle.adr_vector.specs.Vector.{Cursors, at, covers, raised, joined}
+use Rattle.adr_vector.specs.Vector.{joined}
 use Rattle.adr_vector.proofs.Cursors.{turned}
 use Rattle.adr_model.specs.Member.{Member, Each}
 use Rattle.adr_model.specs.Update.{Identifier, Update}
@@ -23,6 +22,7 @@ use Rattle.adr_model.specs.Take.{Taking, begin, rows_taken, writes_of, take_item
 use Rattle.adr_model.proofs.Members.{flat_member, member_flat, mapped_member, member_of_either}
 use Rattle.adr_law_logs.proofs.Units.{change_from}
 use Rattle.adr_law_logs.proofs.Tables.{entry_from}
+use Rattle.adr_law_logs.proofs.Joined.{raised_from, joined_from}
 use Rattle.adr_law_steps.specs.Puts.{held_at}
 use Rattle.adr_law_steps.proofs.Rows.{updated, held_as}
 use Rattle.adr_law_calls.proofs.ItemPut.{taken_from}
@@ -44,22 +44,6 @@ rows_from P s c old new u m = let h = held_as (after s c).store.rows u m in by h
     by h (inr n) = subst P (sym h.2) (old h.0.update (updated s.store.rows h.0 n))
 
 -- ---- cursors
-
-raised_from : (v : Cursors) (inv : Identifier) (usn : ℕ) (e : Identifier × ℕ) → Member e (raised v inv usn)
-    → ((e ≡ (inv, usn)) × (1 ≤ usn)) ⊎ Member e v
-raised_from v inv usn e m = by (covers v inv usn) refl m
-  where
-    by : (b : Bool) → covers v inv usn ≡ b → Member e (cond b v (insert_entry identifier_order v inv usn))
-        → ((e ≡ (inv, usn)) × (1 ≤ usn)) ⊎ Member e v
-    by true is n = inr n
-    by false is n = let less = leb-false usn (at v inv) is in ⊎_elim (λ same. inl (same, omega (arith, less)))
-        (λ old. inr old) (entry_from identifier_order exact_bytes v inv usn e n)
-
-joined_from : (w v : Cursors) (e : Identifier × ℕ) → Member e (joined v w) → Member e w ⊎ Member e v
-joined_from [] v e m = inr m
-joined_from (c ∷ w) v e m = ⊎_elim (λ n. inl (inr n))
-    (λ n. ⊎_elim (λ t. inl (inl t.0)) (λ o. inr o) (raised_from v c.0 c.1 e n))
-    (joined_from w (raised v c.0 c.1) e m)
 
 pub cursors_from : (P : Identifier × ℕ → Type 0) (s : State) (c : Change) → Each P s.store.vector
     → Each P c.joined → (1 ≤ c.usn → P (s.inv, c.usn)) → Each P (after s c).store.vector
@@ -189,3 +173,6 @@ whence_marks s c = marks_from (λ k. Member k s.store.marks ⊎ (c.mark ≡ Some
         → IfSome o (λ k. Member k s.store.marks ⊎ (c.mark ≡ Some k))
     brought None e = tt
     brought (Some k) e = inr e
+
+pub whence_times : (s : State) (c : Change) → Each (λ t. Member t s.store.times ⊎ Member t c.times) (after s c).store.times
+whence_times s c t m = ⊎_elim (λ n. inr n) (λ o. inl o) (joined_from c.times s.store.times t m)

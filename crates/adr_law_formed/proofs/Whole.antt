@@ -17,7 +17,7 @@ use Rattle.adr_model.proofs.Members.{some_passes}
 use Rattle.adr_law_steps.specs.Forms.{HasKey}
 use Rattle.adr_law_steps.proofs.Rows.{row_of_unit}
 use Rattle.adr_law_calls.proofs.Standings.{of_attr, attr_itself, has_where_tested, tested_where_has}
-use Rattle.adr_law_formed.specs.Spelled.{IsContentOfAttr, IsSpelledItem}
+use Rattle.adr_model.specs.Spelled.{IsContentOfAttr, IsSpelledItem}
 use Rattle.adr_law_formed.specs.Follow.{IsWhole}
 use Rattle.adr_law_formed.proofs.Sorted.{one_of_key}
 use Rattle.adr_law_formed.proofs.Said.{says_content}

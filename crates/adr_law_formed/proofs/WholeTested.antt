@@ -1,8 +1,8 @@
 -- The whole test tells what can follow.
-use Rattle.std.proofs.Common.{◌≡◌, inl, inr, ℕ, List, [], Bool, true, false, Option, Some, None, refl, sym, ap, ◌∙◌, subst, not, ◌&&◌, ◌||◌, length}
+use Rattle.std.proofs.Common.{◌≡◌, ◌⊎◌, ◌==◌, eq-eqb, inl, inr, ℕ, List, [], ◌∷◌, Bool, true, false, Option, Some, None, refl, sym, ap, ◌∙◌, subst, not, ◌&&◌, ◌||◌, length}
 use Rattle.std.specs.Prelude.{nat_le, is_none}
 use Rattle.std.specs.Option.{option_map_or}
-use Rattle.std.proofs.lemmas.Bool.{and_parts, and_from, both_ways, not-true, leb-true, le-leb}
+use Rattle.std.proofs.lemmas.Bool.{and_parts, and_from, both_ways, not-true, leb-true, le-leb, eqb-true, or_left, or_right}
 use Rattle.adr_stamp.specs.declared.Oid.{Oid}
 use Rattle.adr_stamp.specs.declared.LinkKey.{LinkKey}
 use Rattle.adr_stamp.specs.declared.Unit.{Unit as Named}
@@ -27,8 +27,9 @@ use Rattle.adr_law_knowledge.proofs.RisingHeld.{removals_rise}
 use Rattle.adr_law_calls.proofs.Stamps.{row_held_is}
 use Rattle.adr_law_formed.specs.Follow.{IsRemovable, HasKnownClasses, CanFollow}
 use Rattle.adr_law_formed.specs.Touched.{IsInForm, AreTouchedInForm, CanFollowByTouched}
-use Rattle.adr_law_formed.specs.Spelled.{IsSpelledChange}
-use Rattle.adr_law_formed.specs.Tested.{may_follow_in_turn, is_removable, are_removable, is_object_formed, is_touched_formed, are_touched_formed, comes_after, are_in_order, writes_pass, can_follow}
+use Rattle.adr_model.specs.Spelled.{IsSpelledChange}
+use Rattle.adr_model.specs.Upgrade.{upgraded}
+use Rattle.adr_law_formed.specs.Tested.{is_empty, is_upgraded, may_follow_in_turn, is_removable, are_removable, is_object_formed, is_touched_formed, are_touched_formed, comes_after, are_in_order, writes_pass, can_follow}
 use Rattle.adr_law_calls.proofs.Passed.{normal_where_not_quarantined}
 use Rattle.adr_law_formed.proofs.WritesTested.{all_pass, passes_all, following_where_tested, tested_where_following}
 use Rattle.adr_law_formed.proofs.UnitTested.{unit_where_tested, tested_where_unit}
@@ -147,19 +148,62 @@ module _ (s : State) (c : Change) (formed : IsFormed s) where
   rows_rise : AreRising (after s c).store.rows
   rows_rise = removals_rise c.removed (rows_after [] (held_of c.writes) s.store.rows) written_rise
 
+-- whether only an upgrade changes the schema
+empty_where_tested : {A : Type 0} (xs : List A) → is_empty xs ≡ true → xs ≡ []
+empty_where_tested [] h = refl
+empty_where_tested (x ∷ xs) h = cc
+
+none_where_tested : {A : Type 0} (o : Option A) → is_none o ≡ true → o ≡ None
+none_where_tested None h = refl
+none_where_tested (Some x) h = cc
+
+is_change : (s : State) (c : Change) → is_upgraded s c ≡ true → c ≡ upgraded s
+is_change s c h =
+    let a = and_parts _ _ h in
+    let b = and_parts _ _ a.0 in
+    let d = and_parts _ _ b.0 in
+    let e = and_parts (c.usn == s.store.usn) _ d.0 in
+    let l = and_parts _ _ a.1 in
+    let m = and_parts _ _ l.0 in
+    let n = and_parts _ _ m.0 in
+    let o = and_parts _ _ n.0 in
+    let usn = eqb-true c.usn s.store.usn e.0 in
+    let mode = normal_where_not_quarantined c.mode (not-true (is_quarantined c.mode) e.1) in
+    let schema = eqb-true c.schema 2 d.1 in
+    let mark = none_where_tested c.mark b.1 in
+    let joined = empty_where_tested c.joined o.0 in
+    let times = empty_where_tested c.times o.1 in
+    let purged = empty_where_tested c.purged n.1 in
+    let removed = empty_where_tested c.removed m.1 in
+    let writes = empty_where_tested c.writes l.1 in
+    λ i. record { usn = usn i; mode = mode i; schema = schema i; mark = mark i; joined = joined i; times = times i; purged = purged i; removed = removed i; writes = writes i }
+
+schema_where_tested : (s : State) (c : Change) → ((c.schema == s.store.schema) || is_upgraded s c) ≡ true → (c.schema ≡ s.store.schema) ⊎ (c ≡ upgraded s)
+schema_where_tested s c h = by (c.schema == s.store.schema) refl h
+  where
+    by : (b : Bool) → (c.schema == s.store.schema) ≡ b → (b || is_upgraded s c) ≡ true → (c.schema ≡ s.store.schema) ⊎ (c ≡ upgraded s)
+    by true e g = inl (eqb-true c.schema s.store.schema e)
+    by false e g = inr (is_change s c g)
+
+tested_where_schema : (s : State) (c : Change) → (c.schema ≡ s.store.schema) ⊎ (c ≡ upgraded s) → ((c.schema == s.store.schema) || is_upgraded s c) ≡ true
+tested_where_schema s c (inl e) = or_left _ _ (eq-eqb c.schema s.store.schema e)
+tested_where_schema s c (inr e) = subst (λ (d : Change). ((d.schema == s.store.schema) || is_upgraded s d) ≡ true) (sym e) (or_right _ _ (ap (λ b. b && true && true && true && true) (eq-eqb s.store.usn s.store.usn refl)))
+
 pub follows_where_tested : (s : State) (c : Change) → IsFormed s → HasKnownClasses s
     → IsSpelledChange s.store.usn c → can_follow s c ≡ true → CanFollow s c
 follows_where_tested s c formed known spelled h =
     let table = numbered s.store.schema in
     let written = rows_after [] (held_of c.writes) s.store.rows in
     let left = (after s c).store in
-    let whole = and_parts (comes_after s c && are_in_order s c) (writes_pass s c) h in
-    let numbers = and_parts (comes_after s c) (are_in_order s c) whole.0 in
-    let on = and_parts (not (is_quarantined s.mode)) (nat_le s.store.usn c.usn) numbers.0 in
+    let schema = (c.schema == s.store.schema) || is_upgraded s c in
+    let whole = and_parts (comes_after s c && schema && are_in_order s c) (writes_pass s c) h in
+    let numbers = and_parts (comes_after s c && schema) (are_in_order s c) whole.0 in
+    let first = and_parts (comes_after s c) schema numbers.0 in
+    let on = and_parts (not (is_quarantined s.mode)) (nat_le s.store.usn c.usn) first.0 in
     let marks = and_parts _ (nat_le (length left.marks) mark_limit) numbers.1 in
     let cursors = and_parts _ (nat_le (length left.vector) cursor_limit) marks.0 in
     let vectors = and_parts (nat_le (at c.joined s.inv) c.usn) (at_most c.purged left.vector) cursors.0 in
-    let touched = and_parts _ (are_touched_formed table left.rows c.writes) whole.1 in
+    let touched = and_parts _ (are_touched_formed (numbered c.schema) left.rows c.writes) whole.1 in
     let writes = and_parts (may_follow_in_turn table s.store.vector s.store.rows c.writes) (are_removable written left.purged c.removed) touched.0 in
     touched_is_enough s c formed known (record {
       goes_on = record {
@@ -167,13 +211,15 @@ follows_where_tested s c formed known spelled h =
         rises = leb-true s.store.usn c.usn on.1;
         locals = spelled.locals;
         mark = spelled.mark;
+        schema = schema_where_tested s c first.1;
         joined = spelled.joined;
+        times = spelled.times;
         purged = spelled.purged;
         writes = following_where_tested table s.store.vector s.store.rows c.writes spelled.items writes.0;
         removed = λ o m. removable_where_tested written left.purged o
             (all_pass (is_removable written left.purged) c.removed writes.1 o m);
       };
-      touched = touched_tells s.store.schema left.rows (rows_rise s c formed) c touched.1;
+      touched = touched_tells c.schema left.rows (rows_rise s c formed) c touched.1;
       own = leb-true (at c.joined s.inv) c.usn vectors.0;
       within = everywhere_from_at_most c.purged left.vector vectors.1;
       cursors = leb-true (length left.vector) cursor_limit cursors.1;
@@ -199,5 +245,5 @@ tested_where_follows s c formed can =
     let writes : writes_pass s c ≡ true = and_from _ _ (and_from _ _
     (tested_where_following table s.store.vector s.store.rows c.writes f.goes_on.writes)
     removed)
-    (touched_passes s.store.schema left.rows (rows_rise s c formed) c f.touched) in
-    and_from _ _ (and_from _ _ on ordered) writes
+    (touched_passes c.schema left.rows (rows_rise s c formed) c f.touched) in
+    and_from _ _ (and_from _ _ (and_from _ _ on (tested_where_schema s c f.goes_on.schema)) ordered) writes

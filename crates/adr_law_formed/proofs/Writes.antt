@@ -6,7 +6,7 @@ use Rattle.adr_vector.specs.Vector.{Cursors}
 use Rattle.adr_model.specs.Store.{Held}
 use Rattle.adr_model.specs.Change.{Written, held_of, put, rows_after}
 use Rattle.adr_law_calls.proofs.ItemStep.{held_of_both}
-use Rattle.adr_law_formed.specs.Spelled.{AreLocalsRising}
+use Rattle.adr_model.specs.Spelled.{AreLocalsRising}
 use Rattle.adr_law_formed.specs.Follow.{MayFollow, AreWithinLimits, MayFollowInTurn, after_write}
 
 -- the rows behind a write and the others are those of the others behind it

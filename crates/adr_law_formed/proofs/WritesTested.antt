@@ -14,7 +14,7 @@ use Rattle.adr_model.specs.Store.{Held, updates_of}
 use Rattle.adr_model.specs.Change.{Item, Written}
 use Rattle.adr_model.specs.Take.{is_above, is_of_attr, lacks, is_lost_end, Presence}
 use Rattle.adr_law_calls.proofs.Standings.{each_presence, IsThere, there_where_untested, lost_where_tested, attr_itself}
-use Rattle.adr_law_formed.specs.Spelled.{IsSpelledItem}
+use Rattle.adr_model.specs.Spelled.{IsSpelledItem}
 use Rattle.adr_law_formed.specs.Follow.{MayWriteUnit, MayFollow, AreWithinLimits, MayFollowInTurn, after_write}
 use Rattle.adr_law_formed.specs.Tested.{may_write_object, may_write_unit, may_follow, are_within_limits, may_follow_in_turn}
 use Rattle.adr_law_formed.proofs.Whole.{row_of_attr, whole_where_tested, tested_where_whole}

@@ -8,6 +8,7 @@ use Rattle.adr_schema.specs.declared.content.Content.TheVariants.{Class}
 use Rattle.adr_schema.specs.Table.{Table, has, must_of}
 use Rattle.adr_schema.specs.Numbered.{numbered}
 use Rattle.adr_vector.specs.Vector.{Cursors, IsVector, at}
+use Rattle.adr_vector.specs.Times.{AreTimesOf}
 use Rattle.adr_model.specs.Member.{Member, Each}
 use Rattle.adr_model.specs.Update.{Update, LinkOf, Holds, ends, class_attr, name_attr}
 use Rattle.adr_model.specs.Live.{objects_of}
@@ -19,8 +20,9 @@ use Rattle.adr_model.specs.LocalLog.{IsOrdered}
 use Rattle.adr_model.specs.Sound.{AreClassesKnown}
 use Rattle.adr_model.specs.Write.{object_limit, link_limit, links_in}
 use Rattle.adr_model.specs.Take.{is_above}
+use Rattle.adr_model.specs.Upgrade.{upgraded}
 use Rattle.adr_law_steps.specs.Forms.{HasKey}
-use Rattle.adr_law_formed.specs.Spelled.{AreLocalsRising, IsSpelledItem}
+use Rattle.adr_model.specs.Spelled.{AreLocalsRising, IsSpelledItem}
 
 -- ---- one write
 
@@ -85,14 +87,16 @@ pub record IsRemovable (rows : List Held) (purged : Cursors) (o : Oid) : Type 0 
   pub birth_purged : CoversBirth (at purged) o
   pub death_purged : Covers (at purged) death
 
--- a change goes on from a state that is up: USNs rise, marks and vectors are in order, each write may follow, and each
--- removed object is dead behind the writes
+-- a change goes on from a state that is up: USNs rise, marks, vectors and times are in order, each write may follow, and each
+-- removed object is dead behind the writes. Only an upgrade changes the schema's number, and changes nothing else
 pub record GoesOn (s : State) (c : Change) : Type 0 where
   pub normal : s.mode ≡ Normal
   pub rises : s.store.usn ≤ c.usn
   pub locals : AreLocalsRising s.store.usn c.usn c.writes
   pub mark : IfSome c.mark (λ m. IsOrdered m.1.mark)
+  pub schema : (c.schema ≡ s.store.schema) ⊎ (c ≡ upgraded s)
   pub joined : IsVector c.joined
+  pub times : AreTimesOf c.joined c.times
   pub purged : IsVector c.purged
   pub writes : MayFollowInTurn (numbered s.store.schema) s.store.vector s.store.rows c.writes
   pub removed :

@@ -11,11 +11,13 @@ use Rattle.adr_model.specs.Store.{Held, Kept, Normal, Store, State, updates_of, 
 use Rattle.adr_model.specs.Change.{Item, Written, Change, updates_written, after}
 use Rattle.adr_model.specs.Formed.{AreRising, AreFormedRows, IsFormedStore, IsFormed}
 use Rattle.adr_model.specs.Sound.{AreClassesKnown}
-use Rattle.adr_model.specs.Serve.{Reply}
-use Rattle.adr_model.specs.Write.{Write, IsWellGiven, write, usn_limit}
-use Rattle.adr_model.specs.Take.{rows_taken, item_refusal, take}
+use Rattle.adr_model.specs.Serve.{Request, Reply, serve}
+use Rattle.adr_model.specs.Write.{Write, write, usn_limit}
+use Rattle.adr_model.specs.Given.{IsWellGiven}
+use Rattle.adr_model.specs.Take.{rows_taken, item_refusal, times_brought, take}
+use Rattle.adr_model.specs.Upgrade.{upgrade}
 use Rattle.adr_model.specs.Collect.{collect, adopt, quarantine}
-use Rattle.adr_law_formed.specs.Spelled.{IsSpelledItem, IsSpelledReply, IsSpelledWrite, IsSpelledChange}
+use Rattle.adr_model.specs.Spelled.{SayOfTheirKeys, IsSpelledItem, IsSpelledReply, IsSpelledWrite, IsSpelledChange}
 use Rattle.adr_law_formed.specs.Follow.{MayFollowInTurn, HasKnownClasses, CanFollow}
 use Rattle.adr_law_formed.specs.Touched.{CanFollowByTouched}
 use Rattle.adr_law_formed.specs.Tested.{may_follow_in_turn, can_follow}
@@ -56,9 +58,24 @@ CollectedFollows =
     (s : State) (now lifetime : ℕ) (c : Change) → IsFormed s → HasKnownClasses s → collect s now lifetime ≡ Ok c
     → CanFollow s c
 
+abbrev pub UpgradeFollows : Type 0
+UpgradeFollows = (s : State) (c : Change) → IsFormed s → HasKnownClasses s → upgrade s ≡ Ok c → CanFollow s c
+
 abbrev pub QuarantineFollows : Type 0
 QuarantineFollows =
     (s : State) → IsFormed s → HasKnownClasses s → s.mode ≡ Normal → CanFollow s (quarantine s)
+
+-- what rows say they say behind each change that can follow
+abbrev pub SaidsStay : Type 0
+SaidsStay =
+    (s : State) (c : Change) → SayOfTheirKeys (updates_of s.store.rows) → CanFollow s c
+    → SayOfTheirKeys (updates_of (after s c).store.rows)
+
+-- what a formed state whose rows say so answers is spelled, whatever was asked
+abbrev pub ServedIsSpelled : Type 0
+ServedIsSpelled =
+    (s : State) (q : Request) (r : Reply) (now : ℕ) → IsFormed s → SayOfTheirKeys (updates_of s.store.rows)
+    → serve s q now ≡ Ok r → IsSpelledReply r
 
 -- of a spelled item that isn't refused nothing is taken, or rows that may be
 abbrev pub ItemsMayBeTaken : Type 0
@@ -140,6 +157,9 @@ MarksStoodOrCame =
     (s : State) (c : Change)
     → Each (λ k. Member k s.store.marks ⊎ (c.mark ≡ Some k)) (after s c).store.marks
 
+abbrev pub TimesStoodOrCame : Type 0
+TimesStoodOrCame = (s : State) (c : Change) → Each (λ t. Member t s.store.times ⊎ Member t c.times) (after s c).store.times
+
 -- partners of marks rise
 abbrev pub ArePartnersRising : List (Identifier × Kept) → Type 0
 ArePartnersRising marks = IsStrictlySortedBy identifier_order (map (λ (k : Identifier × Kept). k.0) marks)
@@ -153,5 +173,5 @@ abbrev pub TakenIsOfReply : Type 0
 TakenIsOfReply =
     (s : State) (r : Reply) (c : Change) → take s r ≡ Ok c
     → Each (λ u. (i : Item) × Member i r.items × Member u i.rows) (updates_written c)
-    × (c.usn ≤ usn_limit) × (c.joined ≡ unwrap_or r.last [])
+    × (c.usn ≤ usn_limit) × (c.joined ≡ unwrap_or r.last []) × (c.times ≡ times_brought r)
     × (c.mark ≡ Some (r.source, record { inv = r.inv; mark = r.to })) × (c.purged ≡ [])

@@ -7,7 +7,7 @@ use Rattle.adr_model.specs.Sound.{AreClassesKnown}
 use Rattle.adr_model.specs.Take.{Taking}
 use Rattle.adr_model.specs.Write.{object_limit, link_limit}
 use Rattle.adr_law_calls.specs.OnTheWay.{StaysFormed}
-use Rattle.adr_law_formed.specs.Spelled.{AreLocalsRising}
+use Rattle.adr_model.specs.Spelled.{AreLocalsRising}
 use Rattle.adr_law_formed.specs.Follow.{MayFollowInTurn}
 use Rattle.adr_law_formed.specs.Taken.{AreBare}
 

@@ -156,8 +156,18 @@ writes_pass s c =
     let left = (after s c).store in
     may_follow_in_turn table s.store.vector s.store.rows c.writes
     && are_removable written left.purged c.removed
-    && are_touched_formed table left.rows c.writes
+    && are_touched_formed (numbered c.schema) left.rows c.writes
+
+abbrev pub is_empty : {A : Type 0} → List A → Bool
+is_empty [] = true
+is_empty (x ∷ xs) = false
+
+-- whether a change is that of an upgrade
+abbrev pub is_upgraded : State → Change → Bool
+is_upgraded s c =
+    (c.usn == s.store.usn) && not (is_quarantined c.mode) && (c.schema == 2) && is_none c.mark
+    && (is_empty c.joined && is_empty c.times && is_empty c.purged && is_empty c.removed && is_empty c.writes)
 
 -- whether a change can follow a state
 abbrev pub can_follow : State → Change → Bool
-can_follow s c = comes_after s c && are_in_order s c && writes_pass s c
+can_follow s c = comes_after s c && ((c.schema == s.store.schema) || is_upgraded s c) && are_in_order s c && writes_pass s c

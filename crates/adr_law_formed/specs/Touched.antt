@@ -39,7 +39,7 @@ pub record AreTouchedInForm (table : Table) (rows : List Update) (c : Change) : 
 -- what `CanFollow` asks, told by what the change touches
 pub record CanFollowByTouched (s : State) (c : Change) : Type 0 where
   pub goes_on : GoesOn s c
-  pub touched : AreTouchedInForm (numbered s.store.schema) (updates_of (after s c).store.rows) c
+  pub touched : AreTouchedInForm (numbered c.schema) (updates_of (after s c).store.rows) c
   pub own : at c.joined s.inv ≤ c.usn
   pub within : AtMost (at c.purged) (at (after s c).store.vector)
   pub cursors : length (after s c).store.vector ≤ cursor_limit

@@ -1,6 +1,6 @@
-//! What calls change.
+//! What calls change, and what a call answers.
 
-ghost use Rattle.adr_law_formed.specs.Laws.{TakenFollows, WrittenFollows, CollectedFollows, QuarantineFollows, ItemsMayBeTaken, TakenIsBare, WrittenIsBare, CollectedRises};
+ghost use Rattle.adr_law_formed.specs.Laws.{TakenFollows, WrittenFollows, CollectedFollows, QuarantineFollows, UpgradeFollows, SaidsStay, ServedIsSpelled, ItemsMayBeTaken, TakenIsBare, WrittenIsBare, CollectedRises};
 
 /// Of an item that isn't refused nothing is taken, or rows that may be put among formed rows, keep them
 /// formed, and may follow.
@@ -38,4 +38,18 @@ pub fn collections_follow()
 #[tactic(none)]
 pub fn quarantines_follow()
     ensures { QuarantineFollows }
+{}
+
+/// A change-over to schema 2 can follow a state that is up, and leaves a formed one.
+#[tactic(none)]
+pub fn upgrades_follow()
+    ensures { UpgradeFollows }
+{}
+
+/// Rows that say what rows of their keys say do so behind each change that can follow (*stay*), and a formed
+/// state of such rows answers with a reply that is of the form of one (*spelled*).
+#[tactic(none)]
+pub fn served_replies_are_spelled()
+    ensures stay { SaidsStay }
+    ensures spelled { ServedIsSpelled }
 {}

@@ -8,10 +8,10 @@ use Rattle.adr_model.specs.Directory.{directory}
 use Rattle.adr_model.specs.Store.{Store, updates_of}
 use Rattle.adr_model.specs.Visible.{visible}
 use Rattle.adr_model.specs.Replica.{Up, Replica}
-use Rattle.adr_model.specs.World.{World, empty_world, answer, stays, where_up, of_made, shown}
+use Rattle.adr_model.specs.World.{in_view, World, empty_world, answer, stays, where_up, of_made, shown}
 use Rattle.adr_model.specs.Step.{step, told, after_lines}
 use Rattle.adr_model.specs.Sound.{IsSoundWorld}
-use Rattle.adr_model.specs.Convergence.{MayHappen, MayAllHappen, in_view, behind, IsStoreOf, IsPurgedCovered}
+use Rattle.adr_model.specs.Convergence.{MayHappen, MayAllHappen, behind, IsStoreOf, IsPurgedCovered}
 use Rattle.adr_law_convergence.proofs.Completing.{found_by_name}
 use Rattle.adr_law_convergence.proofs.Lines.{runs_are_sound}
 use Rattle.adr_law_convergence.proofs.Converging.{runs_converge, runs_stay_clean, acknowledged_stays_in_view}
@@ -32,7 +32,7 @@ next_may (x ∷ before) after e w may = next_may before after e (step w x).0 may
 
 -- a controller that is up answers with what it has in view, and nothing changes
 pub show_so : (w : World) (r : Replica) → IsSoundWorld w → Member r w.replicas → r.standing ≡ Up
-    → step w (events.Show r.name) ≡ (w, answer (codes "show") r.name (outcomes.Show (directory (in_view w r))) ∷ [])
+    → step w (events.Show r.name) ≡ (w, answer (codes "show") r.name (outcomes.Show (directory (in_view w r.safe))) ∷ [])
 show_so w r sound m up =
     ap (λ o. told (codes "show") r.name (of_made (stays w) o (λ q. where_up (stays w) q.standing (w, outcomes.Show (shown w q.safe))))) (found_by_name w r sound m)
     ∙ ap (λ st. told (codes "show") r.name (where_up (stays w) st (w, outcomes.Show (shown w r.safe)))) up

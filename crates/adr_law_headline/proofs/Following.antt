@@ -22,7 +22,7 @@ use Rattle.adr_model.specs.Step.{gives, step}
 use Rattle.adr_model.specs.Convergence.{IsNewName, IsNewDsa, IsNewInv, IsUnbound, MayHappen, MayAllHappen}
 use Rattle.adr_model.proofs.Members.{member_of_either}
 use Rattle.adr_law_convergence.proofs.Found.{same_name_tests}
-use Rattle.adr_law_headline.proofs.Naming.{names_of, Stays, adopted_case, writes_stay, asks_stay, serves_stay, delivers_stay, collects_stay, backups_stay, snapshots_stay, restores_stay, rollbacks_stay, reports_stay, plans_stay, stops_stay, starts_stay, pull_stays, pulls_stay, rings_stay}
+use Rattle.adr_law_headline.proofs.Naming.{names_of, Stays, adopted_case, writes_stay, asks_stay, serves_stay, delivers_stay, collects_stay, upgrades_stay, backups_stay, snapshots_stay, restores_stay, rollbacks_stay, reports_stay, plans_stay, stops_stay, starts_stay, pull_stays, pulls_stay, rings_stay}
 
 -- what is bound to names is among what lines bound
 abbrev AreAmong : {A : Type 0} → List (Name × A) → List Name → Type 0
@@ -118,8 +118,8 @@ new_controller seen name dsa inv h =
 unbound : {A : Type 0} (xs : List (Name × A)) (names : List Name) (name : Name) → AreAmong xs names → is_bound names name ≡ false → IsUnbound xs name
 unbound xs names name among none x m e = no_member names name none (subst (λ n. Member n names) e (among x m))
 
-new_request : (seen : Seen) (name partner bind : Name) (max : ℕ) → cause_after seen (events.Ask name partner max bind) ≡ None → is_bound seen.requests bind ≡ false
-new_request seen name partner bind max h =
+new_request : (seen : Seen) (name partner bind : Name) (max version : ℕ) → cause_after seen (events.Ask name partner max version bind) ≡ None → is_bound seen.requests bind ≡ false
+new_request seen name partner bind max version h =
     let first = none_of (unless_bound seen.controllers name) (unless_bound seen.controllers partner ∷ if_bound seen.requests bind ∷ []) h in
     let second = none_of (unless_bound seen.controllers partner) (if_bound seen.requests bind ∷ []) first.1 in
     not_then (is_bound seen.requests bind) _ (none_of (if_bound seen.requests bind) [] second.1).0
@@ -225,9 +225,9 @@ event_may seen w (events.Link name from attr to) agrees cause allowed =
     (tt, agrees_on seen w (step w (events.Link name from attr to)).0 agrees (writes_stay w name (AddLink from attr to)))
 event_may seen w (events.Unlink name from attr to) agrees cause allowed =
     (tt, agrees_on seen w (step w (events.Unlink name from attr to)).0 agrees (writes_stay w name (RemoveLink from attr to)))
-event_may seen w (events.Ask name partner max bind) agrees cause allowed =
-    let t = asks w name partner max in let a = agrees_on seen w t.0 agrees (asks_stay w name partner max) in (
-      unbound w.requests seen.requests bind agrees.requests (new_request seen name partner bind max cause),
+event_may seen w (events.Ask name partner max version bind) agrees cause allowed =
+    let t = asks w name partner max version in let a = agrees_on seen w t.0 agrees (asks_stay w name partner max version) in (
+      unbound w.requests seen.requests bind agrees.requests (new_request seen name partner bind max version cause),
       record { controllers = a.controllers; dsas = a.dsas; invs = a.invs; requests = one_more t.0.requests seen.requests bind t.2 a.requests; replies = a.replies; images = a.images; snapshots = a.snapshots },
     )
 event_may seen w (events.Serve name request bind) agrees cause allowed =
@@ -241,6 +241,8 @@ event_may seen w (events.Cycle name source max) agrees cause allowed = (tt, agre
 event_may seen w (events.Ring name others rounds max) agrees cause allowed =
     (tt, agrees_on seen w (step w (events.Ring name others rounds max)).0 agrees (rings_stay w name others rounds max))
 event_may seen w (events.Collect name lifetime) agrees cause allowed = (tt, agrees_on seen w (step w (events.Collect name lifetime)).0 agrees (collects_stay w name lifetime))
+event_may seen w (events.Upgrade name) agrees cause allowed = (tt, agrees_on seen w (step w (events.Upgrade name)).0 agrees (upgrades_stay w name))
+event_may seen w (events.Revive name guid image parent text) agrees cause allowed = absurd allowed.0
 event_may seen w (events.Backup name bind) agrees cause allowed =
     let t = of_controller w name (nothing w) (λ r. backed_up w (backup r.safe)) in let a = agrees_on seen w t.0 agrees (backups_stay w name) in (
       unbound w.images seen.images bind agrees.images (new_image seen name bind cause),
@@ -273,7 +275,7 @@ event_may seen w (events.Fail name calls) agrees cause allowed =
 event_may seen w (events.Stop name) agrees cause allowed = (tt, agrees_on seen w (step w (events.Stop name)).0 agrees (stops_stay w name))
 event_may seen w (events.Start name) agrees cause allowed = (tt, agrees_on seen w (step w (events.Start name)).0 agrees (starts_stay w name))
 event_may seen w (events.Show name) agrees cause allowed = (tt, agrees_on seen w (step w (events.Show name)).0 agrees (reports_stay w name (λ r. outcomes.Show (shown w r.safe))))
-event_may seen w (events.Vector name) agrees cause allowed = (tt, agrees_on seen w (step w (events.Vector name)).0 agrees (reports_stay w name (λ r. outcomes.Vector r.safe.store.vector)))
+event_may seen w (events.Vector name) agrees cause allowed = (tt, agrees_on seen w (step w (events.Vector name)).0 agrees (reports_stay w name (λ r. outcomes.Vector r.safe.store.vector r.safe.store.times)))
 event_may seen w (events.Marks name) agrees cause allowed = (tt, agrees_on seen w (step w (events.Marks name)).0 agrees (reports_stay w name (λ r. outcomes.Marks (marks_shown r.safe.store))))
 
 all_may : (es : List Event) (seen : Seen) (w : World) → Agrees seen w → IsFollowing seen es → MayAllHappen w es

@@ -15,13 +15,14 @@ use Rattle.adr_model.specs.Update.{Identifier, Update}
 use Rattle.adr_model.specs.Store.{Store, State, empty_state}
 use Rattle.adr_model.specs.Change.{Change, after}
 use Rattle.adr_model.specs.Serve.{Request, Reply, is_quarantined, ask, serve}
-use Rattle.adr_model.specs.Write.{Write, IsWellGiven, rows_written, write}
+use Rattle.adr_model.specs.Write.{Write, write}
+use Rattle.adr_model.specs.Given.{IsWellGiven}
 use Rattle.adr_model.specs.Take.{take}
 use Rattle.adr_model.specs.Collect.{collect, backup, adopt, quarantine}
 use Rattle.adr_model.specs.Lengths.{new_log_end, log_end_after}
 use Rattle.adr_model.specs.Refused.{serve_refused, take_refused, quarantined}
 use Rattle.adr_model.specs.Replica.{Pending, ToWrite, ToTake, ToCollect, ToQuarantine, Standing, Up, Down, Failed, Plan, Replica, on_disk, on_new_disk, Book, begun, Settle, moved, went, moves_of_commit, moves_of_start, standing_after, plan_after}
-use Rattle.adr_model.specs.World.{Name, World, Snapshot, Gone, Sent, stays, nothing, bound_at, replica_at, with_replica, of_made, of_controller, committed, commit, quarantines, after_write, writes, after_collect, asks, after_serve, served, serves_request, after_take, delivered, delivers, backed_up, adopts, of_image, put_back, with_plan, stops, starts}
+use Rattle.adr_model.specs.World.{Name, World, Snapshot, Gone, Sent, stays, nothing, bound_at, replica_at, with_replica, of_made, of_controller, committed, commit, quarantines, after_write, writes, after_collect, noted, asks, after_serve, served, serves_request, after_take, delivered, delivers, backed_up, adopts, of_image, put_back, with_plan, stops, starts}
 use Rattle.adr_model.proofs.Members.{member_of_either}
 use Rattle.adr_law_convergence.proofs.Found.{bound_member, in_place}
 use Rattle.adr_law_convergence.proofs.Binding.{only_made}
@@ -30,7 +31,7 @@ use Rattle.adr_law_convergence.proofs.Moves.{settling, starting, committing}
 use Rattle.adr_law_recorded.specs.Typed.{IsTypedWrite}
 use Rattle.adr_law_recorded.specs.Ranged.{IsRangedRequest}
 use Rattle.adr_law_recorded.proofs.Asked.{asked_in_range}
-use Rattle.adr_law_headline.proofs.StayingFormed.{IsInForm, IsImageInForm, IsReplyInForm, written_in_form, taken_in_form, collected_in_form, quarantined_in_form, served_in_form, new_in_form, image_in_form, adopted_in_form}
+use Rattle.adr_law_headline.proofs.StayingFormed.{IsInForm, IsImageInForm, IsReplyInForm, written_by, written_in_form, taken_in_form, collected_in_form, quarantined_in_form, served_in_form, new_in_form, image_in_form, adopted_in_form}
 
 abbrev pub BothInForm : (Update → Type 0) → Replica → Type 0
 BothInForm P r = IsInForm P r.safe × IsInForm P r.read
@@ -84,7 +85,7 @@ module _ (P : Update → Type 0) (w : World) (is : IsWorldInForm P w) where
     quarantining : (outcome : Outcome) → InForm (quarantines w r outcome)
     quarantining outcome = commits (record { call = ToQuarantine; change = quarantine r.safe }) outcome (quarantined_in_form P r.safe (is.replicas r there).0)
 
-    wrote : (what : Write) → IsWellGiven what → IsTypedWrite what → Each P (rows_written r.safe what w.time).rows → (t : Result Change WriteRefusal) → write r.safe what w.time ≡ t → InForm (after_write w r what t)
+    wrote : (what : Write) → IsWellGiven what → IsTypedWrite what → Each P (written_by r.safe what w.time) → (t : Result Change WriteRefusal) → write r.safe what w.time ≡ t → InForm (after_write w r what t)
     wrote what given typed new (Err x) e = is
     wrote what given typed new (Ok c) e = commits (record { call = ToWrite what w.time; change = c }) (outcomes.Usn c.usn) (written_in_form P r.safe what w.time c (is.replicas r there).0 given typed is.time new e)
 
@@ -97,14 +98,18 @@ module _ (P : Update → Type 0) (w : World) (is : IsWorldInForm P w) where
     took_bound None all = is
     took_bound (Some reply) all = took reply (all reply refl) (take r.safe reply) refl
 
-    answered_with : (q : Request) → IsRangedRequest q → (t : Result Reply ServeRefusal) → serve r.safe q ≡ t → MakesInForm P (IsReplyInForm P) (after_serve w r t)
-    answered_with q ranged (Ok reply) e = (is, only_made (IsReplyInForm P) reply (served_in_form P r.safe q reply (is.replicas r there).0 ranged e))
+    -- the last reply that is noted is none of what is kept here
+    noting : (reply : Reply) → IsWorldInForm P (noted w reply)
+    noting reply = record { time = is.time; replicas = is.replicas; requests = is.requests; replies = is.replies; images = is.images; snapshots = is.snapshots }
+
+    answered_with : (q : Request) → IsRangedRequest q → (t : Result Reply ServeRefusal) → serve r.safe q w.time ≡ t → MakesInForm P (IsReplyInForm P) (after_serve w r t)
+    answered_with q ranged (Ok reply) e = (noting reply, only_made (IsReplyInForm P) reply (served_in_form P r.safe q w.time reply (is.replicas r there).0 ranged e))
     answered_with q ranged (Err (serves.RolledBack inv mine shown)) e = (quarantining (serve_refused (serves.RolledBack inv mine shown)), λ y n. absurd (cc))
     answered_with q ranged (Err _) e = (is, λ y n. absurd (cc))
 
     served_bound : (o : Option Request) → ((q : Request) → o ≡ Some q → IsRangedRequest q) → MakesInForm P (IsReplyInForm P) (served w r o)
     served_bound None all = nothing_made (IsReplyInForm P) outcomes.Absent
-    served_bound (Some q) all = answered_with q (all q refl) (serve r.safe q) refl
+    served_bound (Some q) all = answered_with q (all q refl) (serve r.safe q w.time) refl
 
     collected : (lifetime : ℕ) (t : Result Change CollectRefusal) → collect r.safe w.time lifetime ≡ t → InForm (after_collect w r lifetime t)
     collected lifetime (Err x) e = is
@@ -124,13 +129,13 @@ module _ (P : Update → Type 0) (w : World) (is : IsWorldInForm P w) where
 
   -- ---- calls by name
 
-  pub writes_in_form : (name : Name) (what : Write) → IsWellGiven what → IsTypedWrite what → Each (λ r. Each P (rows_written r.safe what w.time).rows) w.replicas → InForm (writes w name what)
+  pub writes_in_form : (name : Name) (what : Write) → IsWellGiven what → IsTypedWrite what → Each (λ r. Each P (written_by r.safe what w.time)) w.replicas → InForm (writes w name what)
   writes_in_form name what given typed new = reached_case InForm w name (stays w) (λ x. is) (λ r. after_write w r what (write r.safe what w.time)) (λ r called up. wrote r called.there what given typed (new r called.there) (write r.safe what w.time) refl)
 
-  pub asks_in_form : (name partner : Name) (max : ℕ) → IsU32 max → MakesInForm P IsRangedRequest (asks w name partner max)
+  pub asks_in_form : (name partner : Name) (max : ℕ) → IsU32 max → MakesInForm P IsRangedRequest (asks w name partner max 1)
   asks_in_form name partner max few =
       made_case (MakesInForm P IsRangedRequest) w name (nothing w) none _ (λ r called. made_case (MakesInForm P IsRangedRequest) w partner (nothing w) none _ (λ p at. up_case (MakesInForm P IsRangedRequest) w name (nothing w) none r.standing _ (λ up.
-      (is, only_made IsRangedRequest (ask r.safe p.safe.dsa max) (asked_in_range r.safe p.safe.dsa max (is.replicas r called.there).0.logged few)))))
+      (is, only_made IsRangedRequest (ask r.safe p.safe.dsa max 1) (asked_in_range r.safe p.safe.dsa max (is.replicas r called.there).0.logged few)))))
     where
       none : (x : Outcome) → MakesInForm P IsRangedRequest (nothing w x)
       none x = nothing_made IsRangedRequest x

@@ -1,6 +1,7 @@
 -- Every line that may happen leaves every state in form, with whatever writes keep of rows, and so does all that stands on its way.
 use Rattle.std.proofs.Common.{◌≡◌, inl, inr, ℕ, zero, suc, List, [], ◌∷◌, Bool, true, false, Option, Some, None, refl, sym, subst, arith}
 use Rattle.std.specs.Prelude.{IfSome}
+use Rattle.adr_event.specs.Supported.{IsSupported}
 use Rattle.adr_event.specs.declared.answer.Answer.{Answer}
 use Rattle.adr_event.specs.declared.answer.Outcome.TheVariants as outcomes
 use Rattle.adr_event.specs.declared.event.Event.{Event}
@@ -10,11 +11,12 @@ use Rattle.adr_model.specs.Member.{Each}
 use Rattle.adr_model.specs.Update.{Update}
 use Rattle.adr_model.specs.Store.{Store, State, updates_of}
 use Rattle.adr_model.specs.Serve.{Request, Reply}
-use Rattle.adr_model.specs.Write.{Write, IsWellGiven, AddObject, Modify, Rename, Delete, AddLink, RemoveLink, rows_written}
+use Rattle.adr_model.specs.Write.{Write, AddObject, Modify, Rename, Delete, AddLink, RemoveLink}
+use Rattle.adr_model.specs.Given.{IsWellGiven}
 use Rattle.adr_model.specs.Collect.{backup}
 use Rattle.adr_model.specs.Replica.{Stops, Fails}
 use Rattle.adr_model.specs.World.{World, Name, Snapshot, Sent, empty_world, nothing, bound, bound_at, replica_at, of_made, of_controller, writes, asks, serves_request, backed_up, shown, marks_shown}
-use Rattle.adr_model.specs.Cycles.{Pulled, pull_served, pull_asked, pull, and_then, pulls, cycle, reply_limit}
+use Rattle.adr_model.specs.Cycles.{Pulled, pull_served, pull_asked, pull, and_then, pulls, cycle, reply_limit, pull_version}
 use Rattle.adr_model.specs.Rings.{Connection, ring, times, rings}
 use Rattle.adr_model.specs.Step.{ClientWrite, write_of, gives, step, after_lines}
 use Rattle.adr_model.specs.Convergence.{MayHappen, MayAllHappen, IsAmidCycles, IsOnTheWay}
@@ -23,15 +25,21 @@ use Rattle.adr_law_convergence.proofs.Found.{bound_member, each_bound}
 use Rattle.adr_law_recorded.specs.Typed.{IsTypedWrite, IsTyped}
 use Rattle.adr_law_recorded.specs.Ranged.{IsRangedRequest}
 use Rattle.adr_law_headline.specs.Throughout.{HoldsAlways}
-use Rattle.adr_law_headline.specs.Formed.{HasTypedNumbers, AreAllTyped, RunsAreFormed}
+use Rattle.adr_law_headline.specs.Formed.{HasTypedNumbers, AreAllTyped, AreSupported, RunsAreFormed}
 use Rattle.adr_law_headline.specs.Printable.{WritesSo}
 use Rattle.adr_law_headline.proofs.Throughout.{follows_always, always_so}
-use Rattle.adr_law_headline.proofs.StayingFormed.{IsInForm, IsImageInForm, IsReplyInForm}
+use Rattle.adr_law_headline.proofs.StayingFormed.{IsInForm, IsImageInForm, IsReplyInForm, written_by}
 use Rattle.adr_law_headline.proofs.FormedCalls.{IsWorldInForm, MakesInForm, writes_in_form, asks_in_form, serves_in_form, delivers_in_form, collects_in_form, backups_in_form, copies_in_form, plans_in_form, stops_in_form, starts_in_form, reports_in_form, restores_in_form, installs_in_form, puts_back_in_form, comes_in_form}
 
 -- what is so written keeps what holds of all rows
 abbrev pub AreKeptByWrites : (Update → Type 0) → (Write → Type 0) → Type 0
-AreKeptByWrites P Q = (s : State) (what : Write) (now : ℕ) → Each P (updates_of s.store.rows) → Q what → Each P (rows_written s what now).rows
+AreKeptByWrites P Q = (s : State) (what : Write) (now : ℕ) → Each P (updates_of s.store.rows) → Q what → Each P (written_by s what now)
+
+-- what is asked of a line
+record IsLine (Q : Write → Type 0) (e : Event) : Type 0 where
+  does : IsSupported e
+  typed : IsTyped e × HasTypedNumbers e
+  writes : WritesSo Q e
 
 module _ (P : Update → Type 0) where
   -- ---- pulls, of a number of items in range
@@ -47,7 +55,7 @@ module _ (P : Update → Type 0) where
         let t = serves_in_form P w is source (Some q) all in served (serves_request w source (Some q)).0 (serves_request w source (Some q)).2 t.0 t.1
 
     pull_in_form : (w : World) → IsWorldInForm P w → IsWorldInForm P (pull w dest source max).0
-    pull_in_form w is = let t = asks_in_form P w is dest source max few in asked (asks w dest source max).0 (asks w dest source max).2 t.0 t.1
+    pull_in_form w is = let t = asks_in_form P w is dest source max few in asked (asks w dest source max pull_version).0 (asks w dest source max pull_version).2 t.0 t.1
 
     then_in_form : (p : Pulled) (go : World → World × List Answer) → IsWorldInForm P p.0 → ((v : World) → IsWorldInForm P v → IsWorldInForm P (go v).0) → IsWorldInForm P (and_then p go).0
     then_in_form p go is goes = by p.2
@@ -117,52 +125,55 @@ module _ (P : Update → Type 0) where
     written : (w : World) → IsWorldInForm P w → (name : Name) (what : Write) → IsWellGiven what → IsTypedWrite what → Q what → IsWorldInForm P (writes w name what).0
     written w is name what given typed so = writes_in_form P w is name what given typed (λ r m. keeps r.safe what w.time (is.replicas r m).0.rows so)
 
-    event_in_form : (w : World) (is : IsWorldInForm P w) (e : Event) → MayHappen w e → IsTyped e × HasTypedNumbers e → WritesSo Q e → IsWorldInForm P (step w e).0
-    event_in_form w is (events.Controller name dsa inv) may typed so = comes_in_form P (gives w (dsa ∷ []) (inv ∷ [])) (given_more w (dsa ∷ []) (inv ∷ []) is) name dsa inv typed.0.0 typed.0.1
-    event_in_form w is (events.Time now) may typed so = record { time = typed.1; replicas = is.replicas; requests = is.requests; replies = is.replies; images = is.images; snapshots = is.snapshots }
-    event_in_form w is (events.Add name guid class parent text values) may typed so = written w is name (AddObject guid class parent text values) may typed.0 so
-    event_in_form w is (events.Modify name guid values) may typed so = written w is name (Modify guid values) may typed.0 so
-    event_in_form w is (events.Rename name guid parent text) may typed so = written w is name (Rename guid parent text) tt typed.0 so
-    event_in_form w is (events.Delete name guid) may typed so = written w is name (Delete guid) tt typed.0 so
-    event_in_form w is (events.Link name from attr to) may typed so = written w is name (AddLink from attr to) tt typed.0 so
-    event_in_form w is (events.Unlink name from attr to) may typed so = written w is name (RemoveLink from attr to) tt typed.0 so
-    event_in_form w is (events.Ask name partner max bind) may typed so = bound_request (asks w name partner max) bind (asks_in_form P w is name partner max typed.1)
-    event_in_form w is (events.Serve name request bind) may typed so =
+    event_in_form : (w : World) (is : IsWorldInForm P w) (e : Event) → MayHappen w e → IsSupported e → IsTyped e × HasTypedNumbers e → WritesSo Q e → IsWorldInForm P (step w e).0
+    event_in_form w is (events.Controller name dsa inv) may does typed so = comes_in_form P (gives w (dsa ∷ []) (inv ∷ [])) (given_more w (dsa ∷ []) (inv ∷ []) is) name dsa inv typed.0.0 typed.0.1
+    event_in_form w is (events.Time now) may does typed so = record { time = typed.1; replicas = is.replicas; requests = is.requests; replies = is.replies; images = is.images; snapshots = is.snapshots }
+    event_in_form w is (events.Add name guid class parent text values) may does typed so = written w is name (AddObject guid class parent text values) may typed.0 so
+    event_in_form w is (events.Modify name guid values) may does typed so = written w is name (Modify guid values) may typed.0 so
+    event_in_form w is (events.Rename name guid parent text) may does typed so = written w is name (Rename guid parent text) tt typed.0 so
+    event_in_form w is (events.Delete name guid) may does typed so = written w is name (Delete guid) tt typed.0 so
+    event_in_form w is (events.Link name from attr to) may does typed so = written w is name (AddLink from attr to) tt typed.0 so
+    event_in_form w is (events.Unlink name from attr to) may does typed so = written w is name (RemoveLink from attr to) tt typed.0 so
+    event_in_form w is (events.Ask name partner max version bind) may does typed so =
+        subst (λ (v : ℕ). IsWorldInForm P (step w (events.Ask name partner max v bind)).0) (sym does) (bound_request (asks w name partner max 1) bind (asks_in_form P w is name partner max typed.1))
+    event_in_form w is (events.Serve name request bind) may does typed so =
         bound_reply (serves_request w name (bound_at w.requests request)) bind (serves_in_form P w is name (bound_at w.requests request) (λ q e. bound_member IsRangedRequest w.requests request q is.requests e))
-    event_in_form w is (events.Deliver name reply) may typed so = delivers_in_form P w is name (bound_at w.replies reply) (λ r e. bound_member (IsReplyInForm P) w.replies reply r is.replies e)
-    event_in_form w is (events.Pull name source max) may typed so = pull_in_form name source max typed.1 w is
-    event_in_form w is (events.Cycle name source max) may typed so = pulls_in_form name source max typed.1 reply_limit w is
-    event_in_form w is (events.Ring name others rounds max) may typed so =
+    event_in_form w is (events.Deliver name reply) may does typed so = delivers_in_form P w is name (bound_at w.replies reply) (λ r e. bound_member (IsReplyInForm P) w.replies reply r is.replies e)
+    event_in_form w is (events.Pull name source max) may does typed so = pull_in_form name source max typed.1 w is
+    event_in_form w is (events.Cycle name source max) may does typed so = pulls_in_form name source max typed.1 reply_limit w is
+    event_in_form w is (events.Ring name others rounds max) may does typed so =
         amid_in_form (times rounds (ring name others)) max typed.1 w is (rings w name others rounds max).0 (behind_is_amid name others rounds max w)
-    event_in_form w is (events.Collect name lifetime) may typed so = collects_in_form P w is name lifetime
-    event_in_form w is (events.Backup name bind) may typed so = bound_image (of_controller w name (nothing w) (λ r. backed_up w (backup r.safe))) bind (backups_in_form P w is name)
-    event_in_form w is (events.Restore name image inv) may typed so = restores_in_form P (gives w [] (inv ∷ [])) (given_more w [] (inv ∷ []) is) name image inv typed.0
-    event_in_form w is (events.Install name dsa image inv) may typed so = installs_in_form P (gives w (dsa ∷ []) (inv ∷ [])) (given_more w (dsa ∷ []) (inv ∷ []) is) name image dsa inv typed.0.0 typed.0.1
-    event_in_form w is (events.Snapshot name bind) may typed so =
+    event_in_form w is (events.Collect name lifetime) may does typed so = collects_in_form P w is name lifetime
+    event_in_form w is (events.Upgrade name) may does typed so = absurd does
+    event_in_form w is (events.Revive name guid image parent text) may does typed so = absurd does
+    event_in_form w is (events.Backup name bind) may does typed so = bound_image (of_controller w name (nothing w) (λ r. backed_up w (backup r.safe))) bind (backups_in_form P w is name)
+    event_in_form w is (events.Restore name image inv) may does typed so = restores_in_form P (gives w [] (inv ∷ [])) (given_more w [] (inv ∷ []) is) name image inv typed.0
+    event_in_form w is (events.Install name dsa image inv) may does typed so = installs_in_form P (gives w (dsa ∷ []) (inv ∷ [])) (given_more w (dsa ∷ []) (inv ∷ []) is) name image dsa inv typed.0.0 typed.0.1
+    event_in_form w is (events.Snapshot name bind) may does typed so =
         bound_snapshot (of_made (nothing w) (replica_at w name) (λ r. (w, outcomes.Ok, Some (record { state = r.read; log_end = r.read_end })))) bind (copies_in_form P w is name)
-    event_in_form w is (events.Rollback name snapshot) may typed so = puts_back_in_form P w is name snapshot
-    event_in_form w is (events.StopAfter name calls how) may typed so = plans_in_form P w is name (record { calls = calls; fault = Stops how })
-    event_in_form w is (events.Fail name calls) may typed so = plans_in_form P w is name (record { calls = calls; fault = Fails })
-    event_in_form w is (events.Stop name) may typed so = stops_in_form P w is name
-    event_in_form w is (events.Start name) may typed so = starts_in_form P w is name
-    event_in_form w is (events.Show name) may typed so = reports_in_form P w is name (λ r. outcomes.Show (shown w r.safe))
-    event_in_form w is (events.Vector name) may typed so = reports_in_form P w is name (λ r. outcomes.Vector r.safe.store.vector)
-    event_in_form w is (events.Marks name) may typed so = reports_in_form P w is name (λ r. outcomes.Marks (marks_shown r.safe.store))
+    event_in_form w is (events.Rollback name snapshot) may does typed so = puts_back_in_form P w is name snapshot
+    event_in_form w is (events.StopAfter name calls how) may does typed so = plans_in_form P w is name (record { calls = calls; fault = Stops how })
+    event_in_form w is (events.Fail name calls) may does typed so = plans_in_form P w is name (record { calls = calls; fault = Fails })
+    event_in_form w is (events.Stop name) may does typed so = stops_in_form P w is name
+    event_in_form w is (events.Start name) may does typed so = starts_in_form P w is name
+    event_in_form w is (events.Show name) may does typed so = reports_in_form P w is name (λ r. outcomes.Show (shown w r.safe))
+    event_in_form w is (events.Vector name) may does typed so = reports_in_form P w is name (λ r. outcomes.Vector r.safe.store.vector r.safe.store.times)
+    event_in_form w is (events.Marks name) may does typed so = reports_in_form P w is name (λ r. outcomes.Marks (marks_shown r.safe.store))
 
     -- ---- runs
 
-    way_in_form : (w : World) (e : Event) → IsWorldInForm P w → MayHappen w e → (IsTyped e × HasTypedNumbers e) × WritesSo Q e → (v : World) → IsOnTheWay w e v → IsWorldInForm P v
-    way_in_form w (events.Cycle name source max) is may so v way = subst (IsWorldInForm P) (sym way.1) (pulls_in_form name source max so.0.1 way.0 w is)
-    way_in_form w (events.Ring name others rounds max) is may so v way = amid_in_form (times rounds (ring name others)) max so.0.1 w is v way
-    way_in_form w e is may so v way = subst (IsWorldInForm P) (sym way) (event_in_form w is e may so.0 so.1)
+    way_in_form : (w : World) (e : Event) → IsWorldInForm P w → MayHappen w e → IsLine Q e → (v : World) → IsOnTheWay w e v → IsWorldInForm P v
+    way_in_form w (events.Cycle name source max) is may so v way = subst (IsWorldInForm P) (sym way.1) (pulls_in_form name source max so.typed.1 way.0 w is)
+    way_in_form w (events.Ring name others rounds max) is may so v way = amid_in_form (times rounds (ring name others)) max so.typed.1 w is v way
+    way_in_form w e is may so v way = subst (IsWorldInForm P) (sym way) (event_in_form w is e may so.does so.typed so.writes)
 
-    lines_in_form : (es : List Event) (w : World) → IsWorldInForm P w → MayAllHappen w es → Each (λ e. (IsTyped e × HasTypedNumbers e) × WritesSo Q e) es → IsWorldInForm P (after_lines w es)
+    lines_in_form : (es : List Event) (w : World) → IsWorldInForm P w → MayAllHappen w es → Each (IsLine Q) es → IsWorldInForm P (after_lines w es)
     lines_in_form [] w is may so = is
-    lines_in_form (e ∷ es) w is may so = let t = so e (inl refl) in lines_in_form es (step w e).0 (event_in_form w is e may.0 t.0 t.1) may.1 (λ x m. so x (inr m))
+    lines_in_form (e ∷ es) w is may so = let t = so e (inl refl) in lines_in_form es (step w e).0 (event_in_form w is e may.0 t.does t.typed t.writes) may.1 (λ x m. so x (inr m))
 
-    pub runs_in_form : (es : List Event) → MayAllHappen empty_world es → AreAllTyped es → Each (WritesSo Q) es → HoldsAlways es (IsWorldInForm P)
-    runs_in_form es may typed so =
-        always_so es may (IsWorldInForm P) (λ e. (IsTyped e × HasTypedNumbers e) × WritesSo Q e) (λ e m. (typed e m, so e m)) (λ fs all each. lines_in_form fs empty_world empty all each) way_in_form
+    pub runs_in_form : (es : List Event) → MayAllHappen empty_world es → AreSupported es → AreAllTyped es → Each (WritesSo Q) es → HoldsAlways es (IsWorldInForm P)
+    runs_in_form es may does typed so =
+        always_so es may (IsWorldInForm P) (IsLine Q) (λ e m. record { does = does e m; typed = typed e m; writes = so e m }) (λ fs all each. lines_in_form fs empty_world empty all each) way_in_form
       where
         empty : IsWorldInForm P empty_world
         empty = record { time = omega arith; replicas = λ r m. absurd m; requests = λ q m. absurd m; replies = λ r m. absurd m; images = λ i m. absurd m; snapshots = λ s m. absurd m }
@@ -173,7 +184,7 @@ any_write None = tt
 any_write (Some x) = tt
 
 pub runs_are_formed : RunsAreFormed
-runs_are_formed es may typed = follows_always es form (λ w is r m. let both = is.replicas r m in (both.0.logged, both.1.logged))
+runs_are_formed es may does typed = follows_always es form (λ w is r m. let both = is.replicas r m in (both.0.logged, both.1.logged))
   where
     form : HoldsAlways es (IsWorldInForm (λ u. Unit {0}))
-    form = runs_in_form (λ u. Unit {0}) (λ what. Unit {0}) (λ s what now each so u n. tt) es may typed (λ e n. any_write (write_of e))
+    form = runs_in_form (λ u. Unit {0}) (λ what. Unit {0}) (λ s what now each so u n. tt) es may does typed (λ e n. any_write (write_of empty_world e))

@@ -11,6 +11,7 @@ use Rattle.adr_event.specs.declared.refusal.ServeRefusal.TheVariants as serves
 use Rattle.adr_event.specs.declared.refusal.TakeRefusal.{TakeRefusal}
 use Rattle.adr_event.specs.declared.refusal.TakeRefusal.TheVariants as takes
 use Rattle.adr_event.specs.declared.refusal.CollectRefusal.{CollectRefusal}
+use Rattle.adr_event.specs.declared.refusal.UpgradeRefusal.{UpgradeRefusal}
 use Rattle.adr_event.specs.declared.refusal.AdoptRefusal.{AdoptRefusal}
 use Rattle.adr_model.specs.Store.{State, Store}
 use Rattle.adr_model.specs.Change.{Change}
@@ -19,10 +20,11 @@ use Rattle.adr_model.specs.Serve.{Request, Reply, serve}
 use Rattle.adr_model.specs.Write.{Write, write}
 use Rattle.adr_model.specs.Take.{take}
 use Rattle.adr_model.specs.Collect.{quarantine, collect, backup}
+use Rattle.adr_model.specs.Upgrade.{upgrade}
 use Rattle.adr_model.specs.Refused.{adopt_refused, full}
-use Rattle.adr_model.specs.Replica.{Pending, ToWrite, ToTake, ToCollect, ToQuarantine, Settle, Move, Standing, Up, Down, Failed, Plan, Replica, on_new_disk, begun, went, moves_of_start, standing_after, plan_after, outcome_after}
-use Rattle.adr_model.specs.World.{Name, Snapshot, World, Gone, Sent, stays, nothing, with_replica, committed, commit, writes, after_write, after_collect, asks, after_serve, served, serves_request, after_take, delivered, delivers, backed_up, adopts, of_image, put_back, of_made, of_controller, replica_at, with_plan, after_moves, stops, starts}
-use Rattle.adr_model.specs.Cycles.{Pulled, pull_served, pull_asked, pull, and_then, pulls, cycle, reply_limit}
+use Rattle.adr_model.specs.Replica.{Pending, ToWrite, ToTake, ToCollect, ToUpgrade, ToQuarantine, Settle, Move, Standing, Up, Down, Failed, Plan, Replica, on_new_disk, begun, went, moves_of_start, standing_after, plan_after, outcome_after}
+use Rattle.adr_model.specs.World.{Name, Snapshot, World, Gone, Sent, stays, nothing, with_replica, committed, commit, writes, after_write, after_collect, after_upgrade, asks, after_serve, served, serves_request, after_take, delivered, delivers, backed_up, adopts, of_image, put_back, of_made, of_controller, replica_at, with_plan, after_moves, stops, starts}
+use Rattle.adr_model.specs.Cycles.{Pulled, pull_served, pull_asked, pull, and_then, pulls, cycle, reply_limit, pull_version}
 use Rattle.adr_model.specs.Rings.{rings}
 use Rattle.adr_model.proofs.Ringing.{rings_so}
 use Rattle.adr_law_convergence.proofs.Found.{same_name}
@@ -100,20 +102,20 @@ module _ (w : World) where
   taken r reply (Err x) = same w
 
   answered : (r : Replica) (t : Result Reply ServeRefusal) → KeptBy (after_serve w r t)
-  answered r (Ok reply) = same w
+  answered r (Ok reply) = record { names = refl; given = refl; requests = refl; replies = refl; images = refl; snapshots = refl }
   answered r (Err (serves.RolledBack inv mine shown)) = commits r (record { call = ToQuarantine; change = quarantine r.safe }) _
   answered r (Err x) = same w
 
   pub writes_stay : (name : Name) (what : Write) → Kept (writes w name what)
   writes_stay name what = reached_case Kept w name (stays w) (λ o. same w) (λ r. after_write w r what (write r.safe what w.time)) (λ r called up. wrote r what (write r.safe what w.time))
 
-  pub asks_stay : (name partner : Name) (max : ℕ) → KeptBy (asks w name partner max)
-  asks_stay name partner max =
+  pub asks_stay : (name partner : Name) (max version : ℕ) → KeptBy (asks w name partner max version)
+  asks_stay name partner max version =
       made_case KeptBy w name (nothing w) (λ o. same w) _ (λ r is. made_case KeptBy w partner (nothing w) (λ o. same w) _ (λ p at. up_case KeptBy w name (nothing w) (λ o. same w) r.standing _ (λ up. same w)))
 
   served_stays : (r : Replica) (q : Option Request) → KeptBy (served w r q)
   served_stays r None = same w
-  served_stays r (Some q) = answered r (serve r.safe q)
+  served_stays r (Some q) = answered r (serve r.safe q w.time)
 
   pub serves_stay : (name : Name) (q : Option Request) → KeptBy (serves_request w name q)
   serves_stay name q = reached_case KeptBy w name (nothing w) (λ o. same w) (λ r. served w r q) (λ r called up. served_stays r q)
@@ -132,6 +134,13 @@ module _ (w : World) where
       by : (r : Replica) (t : Result Change CollectRefusal) → Kept (after_collect w r lifetime t)
       by r (Err x) = same w
       by r (Ok c) = commits r (record { call = ToCollect w.time lifetime; change = c }) (outcomes.Removed (length c.removed))
+
+  pub upgrades_stay : (name : Name) → Kept (of_controller w name (stays w) (λ r. after_upgrade w r (upgrade r.safe)))
+  upgrades_stay name = reached_case Kept w name (stays w) (λ o. same w) (λ r. after_upgrade w r (upgrade r.safe)) (λ r called up. by r (upgrade r.safe))
+    where
+      by : (r : Replica) (t : Result Change UpgradeRefusal) → Kept (after_upgrade w r t)
+      by r (Err x) = same w
+      by r (Ok c) = commits r (record { call = ToUpgrade; change = c }) outcomes.Ok
 
   pub backups_stay : (name : Name) → KeptBy (of_controller w name (nothing w) (λ r. backed_up w (backup r.safe)))
   backups_stay name = reached_case KeptBy w name (nothing w) (λ o. same w) (λ r. backed_up w (backup r.safe)) (λ r called up. by (backup r.safe))
@@ -193,7 +202,7 @@ asked_by w v dest source (Some q) kept =
     let t = serves_request v source (Some q) in served_by w t.0 dest t.2 (onward w v t.0 kept (serves_stay v source (Some q)))
 
 pub pull_stays : (w : World) (dest source : Name) (max : ℕ) → Stays w (pull w dest source max).0
-pull_stays w dest source max = let t = asks w dest source max in asked_by w t.0 dest source t.2 (asks_stay w dest source max)
+pull_stays w dest source max = let t = asks w dest source max pull_version in asked_by w t.0 dest source t.2 (asks_stay w dest source max pull_version)
 
 then_stays : (w : World) (p : Pulled) (go : World → World × List Answer) → Stays w p.0 → ((v : World) → Stays v (go v).0) → Stays w (and_then p go).0
 then_stays w p go kept goes = by p.2

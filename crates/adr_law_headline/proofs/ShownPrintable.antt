@@ -27,8 +27,7 @@ use Rattle.adr_model.specs.Sound.{AreClassesKnown}
 use Rattle.adr_model.specs.Write.{nodes_held}
 use Rattle.adr_model.proofs.Members.{mapped_member, flat_member, of_filter_map}
 use Rattle.adr_law_knowledge.proofs.Lists.{of_sorted}
-use Rattle.adr_law_formed.specs.Spelled.{IsContentOfAttr, IsSaidOfKey}
-use Rattle.adr_law_recorded.proofs.Served.{SayOfTheirKeys}
+use Rattle.adr_model.specs.Spelled.{IsContentOfAttr, IsSaidOfKey, SayOfTheirKeys}
 use Rattle.adr_law_recorded.proofs.Values.{all_in}
 use Rattle.adr_report.specs.Laws.{IsWholeReference}
 use Rattle.adr_report.specs.Printable.{ArePrintableValues, ArePrintableLinks, IsPrintableEntry, IsPrintable}

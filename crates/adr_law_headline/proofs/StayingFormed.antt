@@ -1,6 +1,6 @@
 -- What calls leave of a state of a log of whose rows something holds. Nothing is asked of what was taken but that it is a reply in range
 -- and this of its rows, and such a state answers so.
-use Rattle.std.proofs.Common.{◌≡◌, ⊎_elim, ℕ, List, [], Ok, refl, sym, ap, ◌∙◌, subst, map, filter}
+use Rattle.std.proofs.Common.{◌≡◌, ℕ, List, Ok, refl, sym, ap, ◌∙◌, subst, map, filter}
 use Rattle.std.specs.Prelude.{◌&&◌}
 use Rattle.adr_stamp.specs.declared.LinkStamp.{LinkStamp}
 use Rattle.adr_vector.specs.declared.mark.Mark.{Mark}
@@ -14,22 +14,23 @@ use Rattle.adr_model.specs.Store.{Held, Normal, Store, State, updates_of, empty_
 use Rattle.adr_model.specs.Change.{Item, Change, updates_written, after}
 use Rattle.adr_model.specs.Formed.{IsFormedStore, IsFormed}
 use Rattle.adr_model.specs.Serve.{Request, Reply, is_above_mark, is_unseen, sendable, item_of, candidates, byte_limit, first_items, begins_at, reply_to, serve_refusal, serve}
-use Rattle.adr_model.specs.Write.{Write, IsWellGiven, write_refusal, rows_written, items_written, own_change, write}
+use Rattle.adr_model.specs.Write.{Write, write_refusal, items_written, own_change, write}
+use Rattle.adr_model.specs.Given.{IsWellGiven}
 use Rattle.adr_model.specs.Take.{take}
 use Rattle.adr_model.specs.Collect.{deaths_to_collect, collection, collect_refusal, collect, adopt, quarantine}
-use Rattle.adr_model.proofs.Members.{of_filter, member_left, member_of_either, mapped_member}
+use Rattle.adr_model.proofs.Members.{of_filter, member_left, mapped_member}
 use Rattle.adr_law_knowledge.proofs.Refusing.{answered}
 use Rattle.adr_law_steps.proofs.Rows.{held_as, updated}
 use Rattle.adr_law_logs.proofs.Woken.{adopted_is_woken}
 use Rattle.adr_law_logs.proofs.Candidates.{candidate_from}
 use Rattle.adr_law_logs.proofs.Ground.{first_front}
-use Rattle.adr_law_formed.specs.Spelled.{IsSaidOfKey, IsSpelledReply}
+use Rattle.adr_model.specs.Spelled.{IsSaidOfKey, IsSpelledReply, SayOfTheirKeys}
 use Rattle.adr_law_formed.proofs.Whence.{rows_from}
 use Rattle.adr_law_formed.proofs.TakenFollow.{taken_brings}
 use Rattle.adr_law_recorded.specs.Typed.{IsTypedWrite}
 use Rattle.adr_law_recorded.specs.Ranged.{IsRangedRequest, IsRangedReply}
 use Rattle.adr_law_recorded.proofs.Beginning.{new_may_begin, adopted_is_logged}
-use Rattle.adr_law_recorded.proofs.Served.{SayOfTheirKeys, served_in_range}
+use Rattle.adr_law_recorded.proofs.Served.{logged_says, served_in_range}
 use Rattle.adr_law_recorded.proofs.Written.{write_is_recorded}
 use Rattle.adr_law_recorded.proofs.Taken.{taken_recorded}
 use Rattle.adr_law_recorded.proofs.Collected.{quarantine_is_recorded, collection_is_recorded}
@@ -53,30 +54,19 @@ pub record IsReplyInForm (P : Update → Type 0) (r : Reply) : Type 0 where
 
 -- ---- rows
 
-says_of_key : (key : Key) (said : Said) (stamp : LinkStamp) → IsSpelledRow key said stamp → IsSaidOfKey key said
-says_of_key (RowOf o attr) (Holds content) stamp spelled = content_of_attr o attr content spelled.2
-says_of_key (RowOf o attr) (IsPresent b) stamp spelled = spelled
-says_of_key (LinkOf l) (Holds content) stamp spelled = spelled
-says_of_key (LinkOf l) (IsPresent b) stamp spelled = tt
-
--- rows of a state of a log say what their keys say
-pub logged_say : (s : State) → IsLogged s → SayOfTheirKeys (updates_of s.store.rows)
-logged_say s logged u m =
-    let h = held_as s.store.rows u m in
-    subst (λ (v : Update). IsSaidOfKey v.key v.said) (sym h.2) (says_of_key h.0.update.key h.0.update.said h.0.update.stamp (logged.spelled.rows h.0 h.1))
-
 -- ---- changes
+
+-- the rows that a write writes
+abbrev pub written_by : State → Write → ℕ → List Update
+written_by s w now = updates_written (own_change s (items_written s w now))
 
 module _ (P : Update → Type 0) where
   changed_in_form : (s : State) (c : Change) → IsInForm P s → MayBeRecorded s c → Each P (updates_written c) → IsInForm P (after s c)
   changed_in_form s c is may new = record { logged = logged_after s c may; rows = rows_from P s c is.rows new }
 
-  pub written_in_form : (s : State) (w : Write) (now : ℕ) (c : Change) → IsInForm P s → IsWellGiven w → IsTypedWrite w → IsU64 now → Each P (rows_written s w now).rows → write s w now ≡ Ok c → IsInForm P (after s c)
+  pub written_in_form : (s : State) (w : Write) (now : ℕ) (c : Change) → IsInForm P s → IsWellGiven w → IsTypedWrite w → IsU64 now → Each P (written_by s w now) → write s w now ≡ Ok c → IsInForm P (after s c)
   written_in_form s w now c is given typed small new e = changed_in_form s c is (write_is_recorded s w now c is.logged given typed small e)
-      (subst (λ (x : Change). Each P (updates_written x)) (answered (write_refusal s w) (own_change s (items_written s w now)) c e).1 alone)
-    where
-      alone : Each P (updates_written (own_change s (items_written s w now)))
-      alone u m = ⊎_elim (λ n. new u n) (λ none. absurd none) (member_of_either (rows_written s w now).rows [] u m)
+      (subst (λ (x : Change). Each P (updates_written x)) (answered (write_refusal s w) (own_change s (items_written s w now)) c e).1 new)
 
   pub taken_in_form : (s : State) (r : Reply) (c : Change) → IsInForm P s → IsReplyInForm P r → take s r ≡ Ok c → IsInForm P (after s c)
   taken_in_form s r c is reply e = changed_in_form s c is (taken_recorded s r c is.logged reply.spelled reply.ranged e)
@@ -126,11 +116,11 @@ module _ (P : Update → Type 0) where
         let a = of_filter (λ (y : Held). is_above_mark from s.store.rows y && is_unseen from q.vector y) s.store.rows h.0 k.0 in
         subst P (sym h.2) (each h.0.update (updated s.store.rows h.0 a.0))
 
-  pub served_in_form : (s : State) (q : Request) (r : Reply) → IsInForm P s → IsRangedRequest q → serve s q ≡ Ok r → IsReplyInForm P r
-  served_in_form s q r is ranged e = let t = served_in_range s q r is.logged ranged e in record {
+  pub served_in_form : (s : State) (q : Request) (now : ℕ) (r : Reply) → IsInForm P s → IsRangedRequest q → serve s q now ≡ Ok r → IsReplyInForm P r
+  served_in_form s q now r is ranged e = let t = served_in_range s q r now is.logged ranged e in record {
     spelled = t.0;
     ranged = t.1;
-    rows = subst (λ (x : Reply). Each (λ (i : Item). Each P i.rows) x.items) (answered (serve_refusal s q) (reply_to s q) r e).1 (sent_rows s q is.rows);
+    rows = subst (λ (x : Reply). Each (λ (i : Item). Each P i.rows) x.items) (answered (serve_refusal s q) (reply_to s q now) r e).1 (sent_rows s q is.rows);
   }
 
   -- ---- where states begin

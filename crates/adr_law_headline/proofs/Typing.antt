@@ -1,8 +1,9 @@
--- What lines may say is typed, and whole.
+-- What lines may say is typed, and whole, and the program does it.
 use Rattle.std.proofs.Common.{◌≡◌, ℕ, List, [], ◌∷◌, length, inl, inr, sym, subst, true, arith}
 use Rattle.std.specs.Prelude.{nat_le}
 use Rattle.std.specs.Str.{is_utf8}
 use Rattle.std.proofs.lemmas.Bool.{and_parts}
+use Rattle.adr_event.specs.Supported.{IsSupported}
 use Rattle.adr_event.specs.declared.event.Event.{Event}
 use Rattle.adr_event.specs.declared.event.Event.TheVariants as events
 use Rattle.adr_schema.specs.Assignments.{Given}
@@ -12,11 +13,12 @@ use Rattle.adr_token.specs.Texts.{is_text}
 use Rattle.adr_token.specs.Spelled.{SpellsValue, SpellsValues}
 use Rattle.adr_schedule.specs.Grammar.{tokens_behind, sets, HaveSpellings, IsLimit, IsAllowed}
 use Rattle.adr_schedule.specs.Seen.{Seen, nothing_seen, seen_after, IsFollowing}
+use Rattle.adr_schedule.proofs.AllowedLaws.{lined_supported}
 use Rattle.adr_wire.specs.Ranges.{IsU32}
 use Rattle.adr_model.specs.Member.{Each}
 use Rattle.adr_law_recorded.specs.Typed.{IsTypedValue, AreTypedValues, IsTyped, AreTyped}
 use Rattle.adr_report.specs.Laws.{IsWholeReference}
-use Rattle.adr_law_headline.specs.Formed.{HasTypedNumbers, AreAllTyped}
+use Rattle.adr_law_headline.specs.Formed.{HasTypedNumbers, AreAllTyped, AreSupported}
 use Rattle.adr_law_headline.specs.Printable.{AreWholeValues, IsWholeWrite, WritesSo, AreWhole}
 
 -- ---- values
@@ -70,6 +72,7 @@ event_typed (events.Link name from attr to) (line, (verb, (at, (of_from, (of_att
 event_typed (events.Unlink name from attr to) (line, (verb, (at, (of_from, (of_attr, (of_to, end)))))) = (of_from.1.0.0, of_to.1.0.0)
 event_typed (events.Restore name image inv) (line, (verb, (to, (of_image, (of_inv, end))))) = of_inv.1.0.0
 event_typed (events.Install name dsa image inv) (line, (verb, (to, (of_dsa, (of_image, (of_inv, end)))))) = (of_dsa.1.0.0, of_inv.1.0.0)
+event_typed (events.Revive name guid image parent text) allowed = absurd allowed.0
 event_typed _ allowed = tt
 
 -- what may follow from the beginning on is typed
@@ -84,7 +87,7 @@ number_small n limit = let few = limit.1 in omega (arith, few)
 event_numbers : (e : Event) → IsAllowed e → HasTypedNumbers e
 unfolding tokens_behind
 event_numbers (events.Time now) (line, (verb, (of_now, end))) = of_now.1.0
-event_numbers (events.Ask name partner max bind) allowed = number_small max allowed.0
+event_numbers (events.Ask name partner max version bind) allowed = number_small max allowed.0.0
 event_numbers (events.Pull name source max) allowed = number_small max allowed.0
 event_numbers (events.Cycle name source max) allowed = number_small max allowed.0
 event_numbers (events.Ring name others rounds max) allowed = number_small max allowed.0.1
@@ -119,3 +122,8 @@ event_whole _ allowed = tt
 -- what may follow from the beginning on is whole
 pub following_whole : (es : List Event) → IsFollowing nothing_seen es → AreWhole es
 following_whole es follow = all_so (WritesSo IsWholeWrite) event_whole es nothing_seen follow
+
+-- ---- what the program does
+
+pub following_supported : (es : List Event) → IsFollowing nothing_seen es → AreSupported es
+following_supported es follow = all_so IsSupported (λ e allowed. lined_supported e allowed.0) es nothing_seen follow

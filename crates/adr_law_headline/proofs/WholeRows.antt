@@ -15,7 +15,7 @@ use Rattle.adr_model.specs.Store.{State, updates_of}
 use Rattle.adr_model.specs.Winner.{winners}
 use Rattle.adr_model.specs.Live.{live, is_among, live_rows}
 use Rattle.adr_model.specs.Place.{Node, root, row_at, with_name, node_of, node_at}
-use Rattle.adr_model.specs.Write.{Write, AddObject, Modify, Rename, Delete, AddLink, RemoveLink, nodes_held, object_of, link_of, row, new_object, first_stamp, next_stamp, next_row, rows_written}
+use Rattle.adr_model.specs.Write.{Write, AddObject, Modify, Rename, Delete, AddLink, RemoveLink, Revive, nodes_held, object_of, link_of, row, new_object, first_stamp, next_stamp, next_row, rows_written}
 use Rattle.adr_model.proofs.Members.{of_filter, found_member, of_filter_map, mapped_member}
 use Rattle.adr_model.proofs.Nodes.{IsNodeOf, is_node_of}
 use Rattle.adr_law_knowledge.proofs.Winners.{is_won, of_winners}
@@ -153,3 +153,4 @@ written_whole s (RemoveLink from attr to) now whole given =
     let l = link_of (nodes_held (updates_of s.store.rows)) from attr to in
     only (record { key = LinkOf l; stamp = next_stamp s (LinkOf l) now; said = IsPresent false })
     (link_whole l (next_stamp s (LinkOf l) now) false (object_whole (updates_of s.store.rows) whole from given.0) (object_whole (updates_of s.store.rows) whole to given.1))
+written_whole s (Revive image guid parent text) now whole given = absurd given

@@ -1,5 +1,6 @@
--- Every state of every run is what a log may lead to, whatever was taken, and also behind a rollback.
+-- Every state of every run of events that the program does is what a log may lead to, whatever was taken, and also behind a rollback.
 use Rattle.std.specs.Prelude.{List}
+use Rattle.adr_event.specs.Supported.{IsSupported}
 use Rattle.adr_event.specs.declared.event.Event.{Event}
 use Rattle.adr_event.specs.declared.event.Event.TheVariants as events
 use Rattle.adr_wire.specs.Ranges.{IsU32, IsU64}
@@ -13,7 +14,7 @@ use Rattle.adr_law_headline.specs.Throughout.{HoldsAlways}
 -- the numbers of an event that come into states and messages are those of its types
 abbrev pub HasTypedNumbers : Event → Type 0
 HasTypedNumbers (events.Time now) = IsU64 now
-HasTypedNumbers (events.Ask name partner max bind) = IsU32 max
+HasTypedNumbers (events.Ask name partner max version bind) = IsU32 max
 HasTypedNumbers (events.Pull name source max) = IsU32 max
 HasTypedNumbers (events.Cycle name source max) = IsU32 max
 HasTypedNumbers (events.Ring name others rounds max) = IsU32 max
@@ -22,6 +23,11 @@ HasTypedNumbers e = Unit {0}
 -- what the types of each of the events say
 abbrev pub AreAllTyped : List Event → Type 0
 AreAllTyped es = Each (λ e. IsTyped e × HasTypedNumbers e) es
+
+-- the program does each of the events. Of others states would have what records don't tell: times, another schema, an object that
+-- came again
+abbrev pub AreSupported : List Event → Type 0
+AreSupported es = Each IsSupported es
 
 -- both states of each controller are those of a log: what a start would find, and what a crash would leave. Each is formed, its
 -- identifiers have sixteen bytes, every field is in the range of an image's, and the classes of its objects are known
@@ -33,4 +39,4 @@ abbrev pub AreFormedThroughout : List Event → Type 0
 AreFormedThroughout es = HoldsAlways es AreFormed
 
 abbrev pub RunsAreFormed : Type 0
-RunsAreFormed = (es : List Event) → MayAllHappen empty_world es → AreAllTyped es → AreFormedThroughout es
+RunsAreFormed = (es : List Event) → MayAllHappen empty_world es → AreSupported es → AreAllTyped es → AreFormedThroughout es

@@ -7,9 +7,9 @@ use Rattle.adr_schedule.specs.Schedules.{IsSchedule}
 use Rattle.adr_model.specs.Member.{Each}
 use Rattle.adr_model.specs.Directory.{directory}
 use Rattle.adr_model.specs.Replica.{Up}
-use Rattle.adr_model.specs.World.{World, empty_world, answer}
+use Rattle.adr_model.specs.World.{in_view, World, empty_world, answer}
 use Rattle.adr_model.specs.Step.{step}
-use Rattle.adr_model.specs.Convergence.{PutsNothingBack, in_view, ShowWhatIsVisible, ShowAlike, behind, StaysInView, IsPurgedCovered}
+use Rattle.adr_model.specs.Convergence.{PutsNothingBack, ShowWhatIsVisible, ShowAlike, behind, StaysInView, IsPurgedCovered}
 use Rattle.adr_law_rounds.specs.Rounds.{ComeTogether, RingsTell}
 use Rattle.adr_law_headline.specs.Throughout.{HoldsBehind, HoldsThroughout, HoldsOfEachLine}
 use Rattle.adr_law_headline.specs.Formed.{AreFormedThroughout}
@@ -19,7 +19,7 @@ use Rattle.adr_law_headline.specs.Refused.{FindsNoDamage, FindsNobodyTooOld, Lea
 -- a controller that is up answers a `show` by the directory of what it has in view, and nothing changes
 abbrev pub AnswerByTheirView : World → Type 0
 AnswerByTheirView w =
-    Each (λ r. r.standing ≡ Up → step w (events.Show r.name) ≡ (w, answer (codes "show") r.name (outcomes.Show (directory (in_view w r))) ∷ [])) w.replicas
+    Each (λ r. r.standing ≡ Up → step w (events.Show r.name) ≡ (w, answer (codes "show") r.name (outcomes.Show (directory (in_view w r.safe))) ∷ [])) w.replicas
 
 -- No database was put back where no line so far puts one back. Wherever a run stands, as long as none was: each controller that
 -- is up answers by the directory of the issued updates that it covers or holds, and that of the rows which it holds is the same;

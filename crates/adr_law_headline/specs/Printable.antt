@@ -1,11 +1,12 @@
--- Every directory of a run is printable, so that its lines tell it, where the identifiers that are written have sixteen bytes.
+-- Every directory of a run of events that the program does is printable, so that its lines tell it, where the identifiers that are
+-- written have sixteen bytes.
 -- That bytes are below 256 is part of it: that an event is typed says only how many there are.
 use Rattle.std.specs.Prelude.{List, IfSome}
 use Rattle.adr_schema.specs.Assignments.{Given}
 use Rattle.adr_event.specs.declared.event.Event.{Event}
 use Rattle.adr_token.specs.Laws.{IsIdentifier}
 use Rattle.adr_model.specs.Member.{Each}
-use Rattle.adr_model.specs.Write.{Write, AddObject, Modify, Rename, Delete, AddLink, RemoveLink}
+use Rattle.adr_model.specs.Write.{Write, AddObject, Modify, Rename, Delete, AddLink, RemoveLink, Revive}
 use Rattle.adr_model.specs.Directory.{directory}
 use Rattle.adr_model.specs.World.{World, empty_world, shown}
 use Rattle.adr_model.specs.Step.{ClientWrite, write_of}
@@ -13,7 +14,7 @@ use Rattle.adr_model.specs.Convergence.{MayAllHappen, held_by}
 use Rattle.adr_report.specs.Printable.{IsPrintable}
 use Rattle.adr_report.specs.Laws.{IsWholeReference}
 use Rattle.adr_law_headline.specs.Throughout.{HoldsAlways}
-use Rattle.adr_law_headline.specs.Formed.{AreAllTyped}
+use Rattle.adr_law_headline.specs.Formed.{AreSupported, AreAllTyped}
 
 abbrev pub AreWholeValues : List Given → Type 0
 AreWholeValues values = Each (λ (g : Given). Each IsWholeReference g.1) values
@@ -26,10 +27,11 @@ IsWholeWrite (Rename guid parent text) = IsIdentifier guid × IsIdentifier paren
 IsWholeWrite (Delete guid) = IsIdentifier guid
 IsWholeWrite (AddLink from attr to) = IsIdentifier from × IsIdentifier to
 IsWholeWrite (RemoveLink from attr to) = IsIdentifier from × IsIdentifier to
+IsWholeWrite (Revive image guid parent text) = ⊥  -- its image is none of the event's
 
--- if an event is a write, something holds of what is written
+-- if an event alone says a write, something holds of what is written
 abbrev pub WritesSo : (Write → Type 0) → Event → Type 0
-WritesSo Q e = IfSome (write_of e) (λ (w : ClientWrite). Q w.what)
+WritesSo Q e = IfSome (write_of empty_world e) (λ (w : ClientWrite). Q w.what)
 
 -- what each of the events writes is whole
 abbrev pub AreWhole : List Event → Type 0
@@ -44,4 +46,4 @@ abbrev pub ArePrintableThroughout : List Event → Type 0
 ArePrintableThroughout es = HoldsAlways es ShowPrintable
 
 abbrev pub RunsArePrintable : Type 0
-RunsArePrintable = (es : List Event) → MayAllHappen empty_world es → AreAllTyped es → AreWhole es → ArePrintableThroughout es
+RunsArePrintable = (es : List Event) → MayAllHappen empty_world es → AreSupported es → AreAllTyped es → AreWhole es → ArePrintableThroughout es

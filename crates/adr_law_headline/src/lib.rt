@@ -1,9 +1,10 @@
 //! What is claimed of every run of a text, over the definitions alone.
 //!
 //! It stands on the theorem of `adr_law_convergence` and on the definitions of schedules in `adr_schedule`: what the lines
-//! of a text say may happen and is typed, so that the theorem holds of its run. That every state of a run is one that
-//! a log may lead to stands on the laws of `adr_law_recorded`, which ask nothing of a sound world; that what is held then
-//! shows a directory which its lines tell, on those of `adr_report`. Its functions have no code.
+//! of a text say may happen, is typed, and is done by the program, so that the theorem holds of its run. That every state
+//! of a run of such events is one that a log may lead to stands on the laws of `adr_law_recorded`, which ask nothing of a
+//! sound world; that what is held then shows a directory which its lines tell, on those of `adr_report`. Its functions
+//! have no code.
 #![tactic(auto)]
 
 ghost use Rattle.std.specs.Prelude.{ℕ, List};
@@ -11,7 +12,7 @@ ghost use Rattle.adr_event.specs.declared.event.Event.{Event};
 ghost use Rattle.adr_model.specs.Convergence.{MayAllHappen};
 ghost use Rattle.adr_model.specs.World.{empty_world};
 ghost use Rattle.adr_schedule.specs.Seen.{IsFollowing, nothing_seen};
-ghost use Rattle.adr_law_headline.specs.Formed.{AreAllTyped, RunsAreFormed};
+ghost use Rattle.adr_law_headline.specs.Formed.{AreAllTyped, AreSupported, RunsAreFormed};
 ghost use Rattle.adr_law_headline.specs.Printable.{AreWhole, RunsArePrintable};
 ghost use Rattle.adr_law_headline.specs.Headline.{Headline, IsHeadline};
 
@@ -28,29 +29,36 @@ pub fn lines_are_typed()
     ensures { (events : List Event) → IsFollowing nothing_seen events → AreAllTyped events }
 {}
 
+/// What lines say, the program does: none changes a controller over to another schema or has an object come again, and
+/// what is asked is asked in version 1.
+#[tactic(auto, using(crate::proofs::Typing::following_supported))]
+pub fn lines_are_supported()
+    ensures { (events : List Event) → IsFollowing nothing_seen events → AreSupported events }
+{}
+
 /// What lines say is whole: also the bytes of identifiers are in range.
 #[tactic(auto, using(crate::proofs::Typing::following_whole))]
 pub fn lines_are_whole()
     ensures { (events : List Event) → IsFollowing nothing_seen events → AreWhole events }
 {}
 
-/// The theorem holds of every run of events that may happen.
+/// The theorem holds of every run of events that may happen, upgrades and revivals among them.
 #[tactic(auto, using(crate::proofs::Claimed::headline))]
 pub fn headline_holds()
     ensures { (events : List Event) → MayAllHappen empty_world events → Headline events }
 {}
 
-/// Every state of every run whose lines are typed is one that a log may lead to, with all that is kept of it: formed, in
-/// the ranges of an image, its identifiers of sixteen bytes and its classes known. So is what a crash would leave of a
-/// controller, and what a start would find, whatever was taken, at every place and on the way of every line, and also
-/// behind a `rollback`.
+/// Every state of every run whose lines are typed and say what the program does is one that a log may lead to, with all
+/// that is kept of it: formed, in the ranges of an image, its identifiers of sixteen bytes and its classes known. So is
+/// what a crash would leave of a controller, and what a start would find, whatever was taken, at every place and on the
+/// way of every line, and also behind a `rollback`.
 pub fn states_are_formed()
     ensures { RunsAreFormed }
 {}
 
-/// Every directory of a run is printable where its lines are typed and what they write is whole: what a controller holds,
-/// and what it answers, so that the lines of a `show` tell it, at every place and on the way of every line, and also
-/// behind a `rollback`.
+/// Every directory of a run is printable where its lines are typed, say what the program does, and write what is whole:
+/// what a controller holds, and what it answers, so that the lines of a `show` tell it, at every place and on the way of
+/// every line, and also behind a `rollback`.
 pub fn directories_are_printable()
     ensures { RunsArePrintable }
 {}

@@ -6,7 +6,7 @@ use Rattle.adr_disk.specs.declared.memory.Crash.TheVariants.{Kept, Lost, Torn}
 use Rattle.adr_disk.specs.declared.memory.Mishap.{Mishap}
 use Rattle.adr_disk.specs.declared.memory.Mishap.TheVariants.{Failure, Crash}
 use Rattle.adr_disk.specs.Disk.{put, Only, Writes, Syncs}
-use Rattle.adr_disk.specs.Bytes.{Torn-put}
+use Rattle.adr_disk.proofs.Bytes.{Torn-put}
 use Rattle.adr_disk.specs.Memory.{DiskState, read_of, IsImage, torn_half, left_by, Does}
 use Rattle.adr_disk.proofs.Writes.{length-torn_half}
 use Rattle.adr_disk.proofs.Outcomes.{IsImage-left_by}

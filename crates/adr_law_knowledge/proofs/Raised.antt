@@ -1,6 +1,8 @@
 -- A vector that is raised at an identifier.
 use Rattle.std.proofs.Common.{◌≡◌, ℕ, ◌≤◌, Bool, true, false, cond, max, refl, ap, length, arith}
+use Rattle.std.specs.BTreeMap.{insert_entry}
 use Rattle.std.specs.Ordering.{is_eq}
+use Rattle.std.proofs.lemmas.Bool.{le-leb}
 use Rattle.adr_stamp.specs.Order.{identifier_order}
 use Rattle.adr_vector.specs.Vector.{Cursors, IsVector, at, raised, cursor_limit}
 use Rattle.adr_vector.proofs.Cursors.{same_from_test}
@@ -8,6 +10,10 @@ use Rattle.adr_vector.proofs.Joining.{at-raised, rising-raised, from_one-raised}
 use Rattle.adr_model.specs.Update.{Identifier}
 use Rattle.adr_model.specs.Reflects.{AtMost}
 use Rattle.adr_law_knowledge.proofs.Fewer.{IsWithin, no_more_cursors}
+
+-- a vector that has seen it already isn't raised
+pub not_raised : (v : Cursors) (inv : Identifier) (usn : ℕ) → usn ≤ at v inv → raised v inv usn ≡ v
+not_raised v inv usn le = ap (λ b. cond b v (insert_entry identifier_order v inv usn)) (le-leb usn (at v inv) le)
 
 module _ (v : Cursors) (inv : Identifier) (usn : ℕ) where
   pub raised_up : AtMost (at v) (at (raised v inv usn))

@@ -1,5 +1,5 @@
 -- What holds of a store that took its updates by replication, and the updates that it can be compared with.
-use Rattle.std.specs.Prelude.{◌≡◌, ◌↔◌, List}
+use Rattle.std.specs.Prelude.{◌↔◌, List}
 use Rattle.adr_model.specs.Member.{Member, Each}
 use Rattle.adr_model.specs.Update.{Update}
 use Rattle.adr_model.specs.Reflects.{Numbers, Covers, AtMost, Knowledge, Reflects}

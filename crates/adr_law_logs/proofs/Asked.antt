@@ -11,8 +11,8 @@ use Rattle.adr_model.specs.Replica.{Book}
 use Rattle.adr_model.specs.Sound.{last_of, IsSoundStore, IsSoundRequest}
 use Rattle.adr_law_logs.proofs.Tables.{each_found}
 
-pub asked_is_sound : (sc : Book) (s : State) (partner : Identifier) (max : ℕ) → IsSoundStore sc s.store → IsSoundRequest sc (ask s partner max)
-asked_is_sound sc s partner max sound = record { bounded = sound.bounded; ordered = is.0; seen = is.1 }
+pub asked_is_sound : (sc : Book) (s : State) (partner : Identifier) (max version : ℕ) → IsSoundStore sc s.store → IsSoundRequest sc (ask s partner max version)
+asked_is_sound sc s partner max version sound = record { bounded = sound.bounded; ordered = is.0; seen = is.1 }
   where
     is : IsOrdered (kept_of s.store partner).mark × ((kept_of s.store partner).mark.seen ≤ last_of sc (kept_of s.store partner).inv)
     is = each_found (λ (k : Kept). IsOrdered k.mark × (k.mark.seen ≤ last_of sc k.inv)) (is_at (identifier_order partner)) s.store.marks (record { inv = identifier 0; mark = no_mark })

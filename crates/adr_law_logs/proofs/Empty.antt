@@ -1,6 +1,7 @@
 -- A new controller.
-use Rattle.std.proofs.Common.{◌≡◌, refl, arith}
+use Rattle.std.proofs.Common.{◌≡◌, [], refl, arith}
 use Rattle.std.specs.List.Sorted.{IsStrictlySortedBy}
+use Rattle.adr_vector.proofs.Moments.{no_times}
 use Rattle.adr_model.specs.Update.{Identifier}
 use Rattle.adr_model.specs.Store.{empty_store, empty_state}
 use Rattle.adr_model.specs.Formed.{IsFormedStore}
@@ -15,6 +16,7 @@ pub empty_is_formed : IsFormedStore (empty_store 1)
 unfolding IsStrictlySortedBy
 empty_is_formed = record {
   vector = record { rising = tt; from_one = tt; few = omega arith };
+  times = no_times [];
   purged = record { rising = tt; from_one = tt; few = omega arith };
   purged_within = refl;
   marks = λ k m. absurd m;

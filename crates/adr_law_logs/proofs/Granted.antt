@@ -18,11 +18,11 @@ use Rattle.adr_law_logs.proofs.Served.{begins, reply_is_sound}
 nothing_lacks : (s : State) (q : Request) → serve_refusal s q ≡ None → at_most s.store.purged q.vector ≡ true
 nothing_lacks s q h = no_gap (λ gap. TooOld gap.0 gap.2 gap.1) s.store.purged q.vector (none_there (serve_refusals s q) h _ (inr (inr (inr (inr (inr (inl refl)))))))
 
-pub served_is_sound : (sc : Book) (s : State) (q : Request) (r : Reply) → IsSoundBook sc → IsSoundState sc s → IsSoundRequest sc q → serve s q ≡ Ok r → IsSoundReply sc r
-served_is_sound sc s q r book state request e = subst (IsSoundReply sc) t.1 (reply_is_sound sc s q book state request (nothing_lacks s q t.0))
+pub served_is_sound : (sc : Book) (s : State) (q : Request) (now : ℕ) (r : Reply) → IsSoundBook sc → IsSoundState sc s → IsSoundRequest sc q → serve s q now ≡ Ok r → IsSoundReply sc r
+served_is_sound sc s q now r book state request e = subst (IsSoundReply sc) t.1 (reply_is_sound sc s q now book state request (nothing_lacks s q t.0))
   where
-    t : (serve_refusal s q ≡ None) × (reply_to s q ≡ r)
-    t = answered (serve_refusal s q) (reply_to s q) r e
+    t : (serve_refusal s q ≡ None) × (reply_to s q now ≡ r)
+    t = answered (serve_refusal s q) (reply_to s q now) r e
 
 -- no more is shown of this incarnation than it has done
 pub shown_within : (sc : Book) (s : State) (q : Request) → IsSoundState sc s → IsSoundRequest sc q → shown_by s q ≤ s.store.usn
@@ -31,13 +31,13 @@ shown_within sc s q state request = let b = (begins sc s q state request).1 in o
 -- ---- what a refusal is
 
 -- a fact of each refusal that there may be is one of the one that is given
-module _ (P : ServeRefusal → Type 0) (s : State) (q : Request) where
+module _ (P : ServeRefusal → Type 0) (s : State) (q : Request) (now : ℕ) where
   pub serve_refusal_is : P IsQuarantined → P (WrongController s.dsa q.source) → P (BadMark q.mark.prop q.mark.obj q.mark.seen)
       → IfSome (then_some (nat_lt s.store.usn (shown_by s q)) (RolledBack s.inv s.store.usn (shown_by s q))) P
       → P (SchemaMismatch s.store.schema q.schema)
       → IfSome (option_map (λ gap. TooOld gap.0 gap.2 gap.1) (first_gap s.store.purged q.vector)) P
-      → (x : ServeRefusal) → serve s q ≡ Err x → P x
-  serve_refusal_is quarantined wrong mark rolled_back schema old x e = where_it_is P (serve_refusal s q) x (all_is P (serve_refusals s q) each) (refused_by (serve_refusal s q) (reply_to s q) x e)
+      → (x : ServeRefusal) → serve s q now ≡ Err x → P x
+  serve_refusal_is quarantined wrong mark rolled_back schema old x e = where_it_is P (serve_refusal s q) x (all_is P (serve_refusals s q) each) (refused_by (serve_refusal s q) (reply_to s q now) x e)
     where
       each : AllByRecursion (λ o. IfSome o P) (serve_refusals s q)
       each = (
@@ -61,8 +61,8 @@ abbrev is_rollback : ServeRefusal → Bool
 is_rollback (RolledBack inv mine shown) = true
 is_rollback _ = false
 
-pub no_rollback : (sc : Book) (s : State) (q : Request) (inv : List ℕ) (mine shown : ℕ) → IsSoundState sc s → IsSoundRequest sc q → serve s q ≢ Err (RolledBack inv mine shown)
-no_rollback sc s q inv mine shown state request e = true≢false (serve_refusal_is harmless s q refl refl refl within refl (mapped_is _ harmless (λ gap. refl) (first_gap s.store.purged q.vector)) (RolledBack inv mine shown) e)
+pub no_rollback : (sc : Book) (s : State) (q : Request) (now : ℕ) (inv : List ℕ) (mine shown : ℕ) → IsSoundState sc s → IsSoundRequest sc q → serve s q now ≢ Err (RolledBack inv mine shown)
+no_rollback sc s q now inv mine shown state request e = true≢false (serve_refusal_is harmless s q now refl refl refl within refl (mapped_is _ harmless (λ gap. refl) (first_gap s.store.purged q.vector)) (RolledBack inv mine shown) e)
   where
     harmless : ServeRefusal → Type 0
     harmless x = is_rollback x ≡ false

@@ -79,7 +79,7 @@ read_to_item n (c ∷ cs) = ⊎_elim (λ e. inr (c, inl refl, e)) (λ t. inr (t.
 
 -- ---- the ground
 
-module _ (s : State) (q : Request) (alone : AreAlone s.store.rows) where
+module _ (s : State) (q : Request) (now : ℕ) (alone : AreAlone s.store.rows) where
   abbrev rows : List Held
   rows = s.store.rows
 
@@ -99,7 +99,7 @@ module _ (s : State) (q : Request) (alone : AreAlone s.store.rows) where
   alone_among x y m n e = alone x (of_filter _ rows x m).0 y (of_filter _ rows y n).0 e
 
   -- a row whose candidate is one of all the candidates
-  of_candidate : (x : Held) → Member x (sendable rows from q.vector) → (last : Bool) → (length sent == length all) ≡ last → IsBelow rows (reply_of s q from sent last).to x → Answered x (reply_of s q from sent last)
+  of_candidate : (x : Held) → Member x (sendable rows from q.vector) → (last : Bool) → (length sent == length all) ≡ last → IsBelow rows (reply_of s q now from sent last).to x → Answered x (reply_of s q now from sent last)
   of_candidate x m last is below = by last is below
     where
       c : ℕ × Item
@@ -114,10 +114,10 @@ module _ (s : State) (q : Request) (alone : AreAlone s.store.rows) where
       up : Rises (sent ++ front.0)
       up = subst Rises (sym front.1) (candidates_rise rows (sendable rows from q.vector))
 
-      has_sent : (b : Bool) → Member c sent → Answered x (reply_of s q from sent b)
+      has_sent : (b : Bool) → Member c sent → Answered x (reply_of s q now from sent b)
       has_sent b i = inr (inl (c.1, member_mapped (λ (d : ℕ × Item). d.1) sent c i, row_in_item rows (sendable rows from q.vector) x m))
 
-      by : (b : Bool) → (length sent == length all) ≡ b → IsBelow rows (reply_of s q from sent b).to x → Answered x (reply_of s q from sent b)
+      by : (b : Bool) → (length sent == length all) ≡ b → IsBelow rows (reply_of s q now from sent b).to x → Answered x (reply_of s q now from sent b)
       by true e below = has_sent true (⊎_elim (λ i. i) (λ i. absurd (subst (λ (cs : List (ℕ × Item)). Member c cs) (nothing_left sent front.0 all front.1 e) i)) (member_of_either sent front.0 c there))
       by false e (inl p) = inr (inr (inl p))
       by false e (inr unit) = ⊎_elim
@@ -125,17 +125,17 @@ module _ (s : State) (q : Request) (alone : AreAlone s.store.rows) where
           (λ z. has_sent false (in_front sent front.0 z.0 up z.1 c there (omega (arith, last_within (unit_of x.update.key) rows _ unit, z.2))))
           (read_to_item from.obj sent)
 
-  pub ground : (x : Held) → Member x rows → IsBelow rows (reply_to s q).to x → Answered x (reply_to s q)
+  pub ground : (x : Held) → Member x rows → IsBelow rows (reply_to s q now).to x → Answered x (reply_to s q now)
   ground x m below = ⊎_elim (λ c. inl c) (λ y. ⊎_elim (λ b. inr (inr b)) (λ i. of_candidate x i (length sent == length all) refl below) y) (unseen_or_not rows from q.vector x m)
 
 -- the same, of the log whose rows the state has
-pub ground_of_log : (sc : Book) (s : State) (q : Request) → s.store.rows ≡ rows_at (log_of sc s.inv) s.store.usn → AreAlone s.store.rows → CoversItsGround (reply_to s q) (log_of sc s.inv)
-ground_of_log sc s q same alone = subst (λ (rs : List Held). Each (λ x. IsBelow rs r.to x → Covers (at r.asked) x.update ⊎ (IsSent r x.update ⊎ IsBelow rs r.from x)) rs) logged (ground s q alone)
+pub ground_of_log : (sc : Book) (s : State) (q : Request) (now : ℕ) → s.store.rows ≡ rows_at (log_of sc s.inv) s.store.usn → AreAlone s.store.rows → CoversItsGround (reply_to s q now) (log_of sc s.inv)
+ground_of_log sc s q now same alone = subst (λ (rs : List Held). Each (λ x. IsBelow rs r.to x → Covers (at r.asked) x.update ⊎ (IsSent r x.update ⊎ IsBelow rs r.from x)) rs) logged (ground s q now alone)
   where
     r : Reply
-    r = reply_to s q
+    r = reply_to s q now
 
-    moment : (b : Bool) → (reply_of s q (begins_at s q) (first_items q.max byte_limit (candidates s.store.rows (begins_at s q) q.vector)) b).to.seen ≡ s.store.usn
+    moment : (b : Bool) → (reply_of s q now (begins_at s q) (first_items q.max byte_limit (candidates s.store.rows (begins_at s q) q.vector)) b).to.seen ≡ s.store.usn
     moment true = refl
     moment false = refl
 

@@ -7,6 +7,7 @@ pub mod Extended
 pub mod Frames
 pub mod Replies
 pub mod Tables
+pub mod Joined
 pub mod Begun
 pub mod Recorded
 pub mod Leaving

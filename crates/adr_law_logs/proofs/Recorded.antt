@@ -7,7 +7,7 @@ use Rattle.adr_model.specs.Update.{Identifier, Update, ends, inv_of, usn_of}
 use Rattle.adr_model.specs.Store.{Held}
 use Rattle.adr_model.specs.Change.{Change, updates_written, held_of}
 use Rattle.adr_model.specs.LocalLog.{LocalLog, no_log, last_usn, where_made, rows_at, IsCut, IsKept, Follows}
-use Rattle.adr_model.specs.Replica.{Call, ToWrite, ToTake, ToCollect, ToQuarantine, Pending, issued_by, Book, log_of, with_change, recorded}
+use Rattle.adr_model.specs.Replica.{Call, ToWrite, ToTake, ToCollect, ToUpgrade, ToQuarantine, Pending, issued_by, Book, log_of, with_change, recorded}
 use Rattle.adr_model.specs.Sound.{last_of, IsBirthOf, IsOfOneChange, IsSoundBook}
 use Rattle.adr_model.proofs.Members.{member_left, member_of_either}
 use Rattle.adr_law_logs.specs.Later.{IsLater, AreIssuedBy, MayIssue}
@@ -20,6 +20,7 @@ issues_are_written : (call : Call) (c : Change) → Each (λ u. Member u (update
 issues_are_written (ToWrite w now) c u m = m
 issues_are_written (ToTake reply) c u m = absurd m
 issues_are_written (ToCollect now lifetime) c u m = absurd m
+issues_are_written ToUpgrade c u m = absurd m
 issues_are_written ToQuarantine c u m = absurd m
 
 module _ (s : Book) (inv : Identifier) (p : Pending) (next : Follows (last_of s inv) p.change) (own : AreIssuedBy s inv p.change (issued_by p.call p.change)) where

@@ -9,7 +9,7 @@ use Rattle.adr_model.specs.Store.{Held, updates_of}
 use Rattle.adr_model.specs.Formed.{AreRising, AreFormedRows}
 use Rattle.adr_model.specs.LocalLog.{rows_at, IsBelow}
 use Rattle.adr_model.specs.Serve.{Reply}
-use Rattle.adr_model.specs.Replica.{Call, ToWrite, ToTake, ToCollect, ToQuarantine, Pending, Replica, Book, log_of}
+use Rattle.adr_model.specs.Replica.{Call, ToWrite, ToTake, ToCollect, ToUpgrade, ToQuarantine, Pending, Replica, Book, log_of}
 use Rattle.adr_model.specs.Sound.{last_of, CoversItsGround, IsSoundLast, IsExact, IsSoundReply, AreClassesKnown, IsSoundCall, IsPending, IsSoundReplica}
 use Rattle.adr_law_logs.specs.Later.{IsLater}
 use Rattle.adr_law_logs.proofs.Frames.{more_issued, covered_before, bounded_later, state_later}
@@ -27,6 +27,7 @@ last_later s t l r seen carried is = record {
   obj = is.obj;
   prop = is.prop;
   vector = is.vector;
+  times = is.times;
   bounded = bounded_later s t l (at carried) is.bounded;
   carries = λ u m c. subst (λ (rows : List Held). Reflects t.issued (source rows) u) (sym (l.stable r.inv r.to.seen seen))
       (more_issued s t l (source (rows_at (log_of s r.inv) r.to.seen)) u (is.carries u (covered_before s t l (at carried) is.bounded u m c) c));
@@ -60,6 +61,7 @@ call_later : (s t : Book) → IsLater s t → (c : Call) → IsSoundCall s c →
 call_later s t l (ToWrite w now) is = is
 call_later s t l (ToTake r) is = reply_later s t l r is
 call_later s t l (ToCollect now lifetime) is = tt
+call_later s t l ToUpgrade is = tt
 call_later s t l ToQuarantine is = is
 
 -- a controller whose own log is the same

@@ -1,24 +1,26 @@
 -- A reply that a sound state gives to a sound request is sound.
-use Rattle.std.proofs.Common.{◌≡◌, ◌⊎◌, inl, inr, ⊎_elim, ℕ, ◌≤◌, ◌<◌, List, Bool, true, false, refl, sym, ◌∙◌, subst, ap, arith, map, filter, length, ◌==◌, ◌&&◌, not, if◌then◌else◌}
+use Rattle.std.proofs.Common.{[], ◌≡◌, ◌⊎◌, inl, inr, ⊎_elim, ℕ, zero, suc, ◌≤◌, ◌<◌, List, Bool, true, false, refl, sym, ◌∙◌, subst, ap, arith, map, filter, length, ◌==◌, ◌&&◌, not, if◌then◌else◌}
 use Rattle.std.specs.Bool.{then_some}
 use Rattle.std.specs.Cmp.Derive.{both_true}
-use Rattle.std.proofs.lemmas.Bool.{and_parts, ltb-true}
+use Rattle.std.proofs.lemmas.Bool.{and_parts, ltb-true, eqb-false}
 use Rattle.std.proofs.lemmas.Bool.Decides.{leb_tells}
 use Rattle.std.specs.Prelude.{nat_lt, IfSome}
 use Rattle.adr_stamp.specs.declared.Unit.{Unit as Named}
 use Rattle.adr_schema.specs.Numbered.{numbered}
-use Rattle.adr_vector.specs.Vector.{at, at_most}
+use Rattle.adr_vector.specs.Vector.{Cursors, at, at_most}
+use Rattle.adr_vector.specs.Times.{AreTimesOf}
+use Rattle.adr_vector.proofs.Moments.{no_times, times_raise, times_filter}
 use Rattle.adr_vector.specs.declared.mark.Mark.{Mark}
 use Rattle.adr_vector.proofs.Cursors.{same_from_test}
 use Rattle.adr_vector.proofs.Comparing.{everywhere_from_at_most}
 use Rattle.adr_model.specs.Member.{Member}
-use Rattle.adr_model.specs.Update.{Update, inv_of, usn_of, unit_of, same_unit, same_identifier}
+use Rattle.adr_model.specs.Update.{Identifier, Update, inv_of, usn_of, unit_of, same_unit, same_identifier}
 use Rattle.adr_model.specs.Reflects.{Covers, Knowledge, knowledge_of, Reflects}
 use Rattle.adr_model.specs.Store.{Held, State, updates_of, no_mark}
 use Rattle.adr_model.specs.Change.{Item}
 use Rattle.adr_model.specs.Formed.{AreRising, AreFormedRows}
 use Rattle.adr_model.specs.LocalLog.{IsOrdered, rows_at}
-use Rattle.adr_model.specs.Serve.{Request, Reply, last_local, is_above_mark, is_unseen, sendable, item_of, candidates, byte_limit, first_items, reply_of, begins_at, reply_to}
+use Rattle.adr_model.specs.Serve.{Request, Reply, last_local, is_above_mark, is_unseen, sendable, item_of, candidates, byte_limit, first_items, reply_of, begins_at, times_told, reply_to}
 use Rattle.adr_model.specs.Replica.{Book, log_of}
 use Rattle.adr_model.specs.Sound.{last_of, IsSoundBook, IsSoundState, IsSoundRequest, IsExact, IsSoundLast, IsSoundReply, CoversItsGround, AreClassesKnown}
 use Rattle.adr_law_knowledge.specs.Grows.{Grows}
@@ -39,7 +41,11 @@ begins sc s q state request = by (same_identifier q.inv s.inv) refl
     by true is = (request.ordered, omega (arith, subst (λ i. q.mark.seen ≤ last_of sc i) (same_from_test q.inv s.inv is) request.seen, state.last))
     by false is = (record { prop = omega arith; obj = omega arith }, omega arith)
 
-module _ (sc : Book) (s : State) (q : Request) (book : IsSoundBook sc) (state : IsSoundState sc s) (request : IsSoundRequest sc q) (purged : at_most s.store.purged q.vector ≡ true) where
+positive : (n : ℕ) → (n ≡ 0 → ⊥) → 1 ≤ n
+positive zero none = absurd (none refl)
+positive (suc n) none = omega arith
+
+module _ (sc : Book) (s : State) (q : Request) (now : ℕ) (book : IsSoundBook sc) (state : IsSoundState sc s) (request : IsSoundRequest sc q) (purged : at_most s.store.purged q.vector ≡ true) where
   abbrev rows : List Held
   rows = s.store.rows
 
@@ -53,7 +59,7 @@ module _ (sc : Book) (s : State) (q : Request) (book : IsSoundBook sc) (state : 
   sent = first_items q.max byte_limit (candidates rows from q.vector)
 
   abbrev reply : Bool → Reply
-  reply last = reply_of s q from sent last
+  reply last = reply_of s q now from sent last
 
   began : IsOrdered from × (from.seen ≤ s.store.usn)
   began = begins sc s q state request
@@ -145,12 +151,34 @@ module _ (sc : Book) (s : State) (q : Request) (book : IsSoundBook sc) (state : 
   further : Grows sc.issued (knowledge_of s.store) asked_for
   further = more_covered sc.issued (updates_of rows) (at s.store.vector) (at s.store.vector) (at s.store.purged) (at q.vector) (λ i. omega arith) (everywhere_from_at_most s.store.purged q.vector purged)
 
+  -- the times that are told are of cursors of the own vector
+  told_times : AreTimesOf s.store.vector (times_told s now)
+  told_times = times_raise s.store.vector others s.inv (if s.store.usn == 0 then 0 else now) there (times_filter is_other s.store.vector s.store.times state.store.formed.times)
+    where
+      is_other : Identifier × ℕ → Bool
+      is_other t = not (same_identifier t.0 s.inv)
+
+      others : Cursors
+      others = filter is_other s.store.times
+
+      by : (b : Bool) → (s.store.usn == 0) ≡ b → 1 ≤ (if b then 0 else now) → 1 ≤ at s.store.vector s.inv
+      by true e one = absurd (omega (arith, one))
+      by false e one = omega (arith, positive s.store.usn (eqb-false s.store.usn 0 e), state.formed.own)
+
+      there : 1 ≤ (if s.store.usn == 0 then 0 else now) → 1 ≤ at s.store.vector s.inv
+      there = by (s.store.usn == 0) refl
+
+  times : (b : Bool) → AreTimesOf s.store.vector (if b then times_told s now else [])
+  times true = told_times
+  times false = no_times s.store.vector
+
   last : (b : Bool) → IfSome (then_some b s.store.vector) (IsSoundLast sc (reply b))
   last false = tt
   last true = record {
     obj = refl;
     prop = refl;
     vector = state.store.formed.vector;
+    times = times (q.version == 2);
     bounded = state.store.bounded;
     carries = λ u m c. subst (λ (rs : List Held). Reflects sc.issued (record { rows = updates_of rs; vector = at s.store.vector; purged = at q.vector }) u) state.rows
         (grows_keeps sc.issued (knowledge_of s.store) asked_for further u (state.store.covered u m c));
@@ -174,5 +202,5 @@ module _ (sc : Book) (s : State) (q : Request) (book : IsSoundBook sc) (state : 
     classes = subst (λ (rs : List Held). AreClassesKnown (numbered s.store.schema) (updates_of rs)) (moment b) state.store.classes;
   }
 
-  pub reply_is_sound : IsSoundReply sc (reply_to s q)
-  reply_is_sound = sound (length sent == length (candidates rows from q.vector)) (ground_of_log sc s q state.rows state.store.formed.alone)
+  pub reply_is_sound : IsSoundReply sc (reply_to s q now)
+  reply_is_sound = sound (length sent == length (candidates rows from q.vector)) (ground_of_log sc s q now state.rows state.store.formed.alone)

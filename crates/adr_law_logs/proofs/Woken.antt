@@ -10,6 +10,7 @@ use Rattle.adr_stamp.specs.declared.Oid.{Oid}
 use Rattle.adr_schema.proofs.ExactCalls.{not_then}
 use Rattle.adr_vector.specs.Vector.{at, raised, cursor_limit}
 use Rattle.adr_vector.proofs.Cursors.{same_from_test}
+use Rattle.adr_vector.proofs.Moments.{times_stay}
 use Rattle.adr_vector.proofs.Comparing.{everywhere_from_at_most, at_most_from_everywhere}
 use Rattle.adr_vector.proofs.Joining.{at-raised, raised_here}
 use Rattle.adr_event.specs.declared.refusal.AdoptRefusal.{AdoptRefusal}
@@ -123,6 +124,7 @@ module _ (sc : Book) (image : Store) (dsa inv : Identifier) (book : IsSoundBook 
   formed : IsFormedStore d.store
   formed = record {
     vector = raised_is_vector image.vector inv image.usn sound.formed.vector few;
+    times = times_stay image.vector d.store.vector image.times up sound.formed.times;
     purged = sound.formed.purged;
     purged_within = at_most_from_everywhere image.purged d.store.vector sound.formed.purged.rising (λ i. omega (arith, everywhere_from_at_most image.purged image.vector sound.formed.purged_within i, up i));
     marks = sound.formed.marks;

@@ -1,18 +1,18 @@
 -- What a client's write issues.
-use Rattle.std.proofs.Common.{◌≡◌, true, false, inl, inr, ℕ, ◌+◌, ◌<◌, ◌≤◌, length, List, [], ◌∷◌, Ok, refl, sym, subst, arith, map}
+use Rattle.std.proofs.Common.{◌≡◌, true, false, inl, inr, ℕ, ◌+◌, ◌<◌, ◌≤◌, length, List, [], ◌∷◌, Ok, refl, sym, ap, subst, arith, map}
 use Rattle.adr_schema.specs.Assignments.{Given}
 use Rattle.adr_schema.specs.declared.content.Content.TheVariants.{Values, Name, Dead}
 use Rattle.adr_stamp.specs.declared.Oid.{Oid}
-use Rattle.adr_model.specs.Member.{Each}
+use Rattle.adr_stamp.specs.declared.LinkKey.{LinkKey}
+use Rattle.adr_model.specs.Member.{Member, Each}
 use Rattle.adr_model.specs.Update.{Identifier, Key, RowOf, LinkOf, Said, Holds, IsPresent, Update, inv_of, usn_of, name_attr, deleted_attr}
 use Rattle.adr_model.specs.Store.{Held, State, updates_of}
-use Rattle.adr_model.specs.Change.{Item, Written, Change, held_of, updates_written}
+use Rattle.adr_model.specs.Change.{Written, Change, held_of, updates_written}
 use Rattle.adr_model.specs.LocalLog.{Follows}
-use Rattle.adr_model.specs.Write.{Write, AddObject, Modify, Rename, Delete, AddLink, RemoveLink, row, next_row, next_stamp, first_stamp, new_rows, new_object, object_of, link_of, nodes_held, rows_written, items_written, own_change, write_refusal, write}
+use Rattle.adr_model.specs.Write.{Write, AddObject, Modify, Rename, Delete, AddLink, RemoveLink, Revive, row, next_row, next_stamp, first_stamp, new_rows, new_object, object_of, link_of, nodes_held, entry_in, links_revived, new_links, link_row, more_written, rows_written, items_written, own_change, write_refusal, write}
 use Rattle.adr_model.specs.Replica.{Book, ToWrite, issued_by}
 use Rattle.adr_model.specs.Sound.{last_of}
-use Rattle.adr_model.proofs.Members.{mapped_member}
-use Rattle.adr_law_knowledge.proofs.Lists.{alone_from}
+use Rattle.adr_model.proofs.Members.{mapped_member, flat_member}
 use Rattle.adr_law_knowledge.proofs.Refusing.{answered}
 use Rattle.adr_law_steps.specs.Puts.{held_at}
 use Rattle.adr_law_logs.specs.Later.{AreIssuedBy}
@@ -42,18 +42,59 @@ written_is_own s (Rename guid parent text) now = one_is_own s now (RowOf (object
 written_is_own s (Delete guid) now = one_is_own s now (RowOf (object_of (nodes_held (updates_of s.store.rows)) guid) deleted_attr) (Holds Dead)
 written_is_own s (AddLink from attr to) now = one_is_own s now (LinkOf (link_of (nodes_held (updates_of s.store.rows)) from attr to)) (IsPresent true)
 written_is_own s (RemoveLink from attr to) now = one_is_own s now (LinkOf (link_of (nodes_held (updates_of s.store.rows)) from attr to)) (IsPresent false)
+written_is_own s (Revive image guid parent text) now = new_are_own s now (new_object s guid) (entry_in image guid).class parent text (entry_in image guid).values
 
 -- each item has the controller's identifier and its own USN, one of those that the write takes
+
+abbrev AreOwn : State → Written → Type 0
+AreOwn s x = Each (λ u. (inv_of u ≡ s.inv) × (usn_of u ≡ x.local)) x.item.rows
+
+links_are_own : (s : State) (now usn : ℕ) (ls : List LinkKey) → Each (AreOwn s) (new_links s now usn ls)
+links_are_own s now usn [] x m = absurd m
+links_are_own s now usn (l ∷ ls) x (inl e) = subst (AreOwn s) (sym e) own
+  where
+    own : AreOwn s (link_row s now usn l)
+    own u (inl is) = subst (λ (v : Update). (inv_of v ≡ s.inv) × (usn_of v ≡ usn)) (sym is) (refl, refl)
+    own u (inr none) = absurd none
+links_are_own s now usn (l ∷ ls) x (inr m) = links_are_own s now (usn + 1) ls x m
+
+links_take_usns : (s : State) (now usn : ℕ) (ls : List LinkKey) → Each (λ (x : Written). (usn ≤ x.local) × (x.local + 1 ≤ usn + length (new_links s now usn ls))) (new_links s now usn ls)
+links_take_usns s now usn [] x m = absurd m
+links_take_usns s now usn (l ∷ ls) x (inl e) = let local : x.local ≡ usn = ap (λ (y : Written). y.local) e in (omega (arith, local), omega (arith, local))
+links_take_usns s now usn (l ∷ ls) x (inr m) = let t = links_take_usns s now (usn + 1) ls x m in (omega (arith, t.0), omega (arith, t.1))
+
+more_are_own : (s : State) (w : Write) (now : ℕ) → Each (AreOwn s) (more_written s w now)
+more_are_own s (AddObject guid class parent text values) now x m = absurd m
+more_are_own s (Modify guid values) now x m = absurd m
+more_are_own s (Rename guid parent text) now x m = absurd m
+more_are_own s (Delete guid) now x m = absurd m
+more_are_own s (AddLink from attr to) now x m = absurd m
+more_are_own s (RemoveLink from attr to) now x m = absurd m
+more_are_own s (Revive image guid parent text) now x m = links_are_own s now (s.store.usn + 2) (links_revived s image guid) x m
+
+more_take_usns : (s : State) (w : Write) (now : ℕ) → Each (λ (x : Written). (s.store.usn + 2 ≤ x.local) × (x.local + 1 ≤ s.store.usn + 2 + length (more_written s w now))) (more_written s w now)
+more_take_usns s (AddObject guid class parent text values) now x m = absurd m
+more_take_usns s (Modify guid values) now x m = absurd m
+more_take_usns s (Rename guid parent text) now x m = absurd m
+more_take_usns s (Delete guid) now x m = absurd m
+more_take_usns s (AddLink from attr to) now x m = absurd m
+more_take_usns s (RemoveLink from attr to) now x m = absurd m
+more_take_usns s (Revive image guid parent text) now x m = links_take_usns s now (s.store.usn + 2) (links_revived s image guid) x m
+
 pub items_are_own : (s : State) (w : Write) (now : ℕ) → Each (λ (x : Written). Each (λ u. (inv_of u ≡ s.inv) × (usn_of u ≡ x.local)) x.item.rows) (items_written s w now)
-items_are_own s w now x (inl e) = subst (λ (y : Written). Each (λ u. (inv_of u ≡ s.inv) × (usn_of u ≡ y.local)) y.item.rows) (sym e) (written_is_own s w now)
-items_are_own s w now x (inr m) = absurd m
+items_are_own s w now x (inl e) = subst (AreOwn s) (sym e) (written_is_own s w now)
+items_are_own s w now x (inr m) = more_are_own s w now x m
 
 pub items_take_usns : (s : State) (w : Write) (now : ℕ) → Each (λ (x : Written). (s.store.usn < x.local) × (x.local ≤ s.store.usn + length (items_written s w now))) (items_written s w now)
-items_take_usns s w now x (inl e) = subst (λ (y : Written). (s.store.usn < y.local) × (y.local ≤ s.store.usn + 1)) (sym e) (omega arith, omega arith)
-items_take_usns s w now x (inr m) = absurd m
+items_take_usns s w now x (inl e) = let local : x.local ≡ s.store.usn + 1 = ap (λ (y : Written). y.local) e in (omega (arith, local), omega (arith, local))
+items_take_usns s w now x (inr m) = let t = more_take_usns s w now x m in (omega (arith, t.0), omega (arith, t.1))
 
-own_locals : (usn : ℕ) (item : Item) → Each (λ (x : Held). x.local ≡ usn) (held_of (record { local = usn; item = item } ∷ []))
-own_locals usn item x m = each_made (λ (y : Held). y.local ≡ usn) (held_at usn) item.rows (λ u. refl) x (alone_from (map (held_at usn) item.rows) x m)
+-- a row that is written is of one of the writes
+pub held_from : (ws : List Written) (x : Held) → Member x (held_of ws) → (w : Written) × Member w ws × Member x.update w.item.rows × (x.local ≡ w.local)
+held_from ws x m =
+    let w = flat_member (λ (w : Written). map (held_at w.local) w.item.rows) ws x m in
+    let u = mapped_member (held_at w.0.local) w.0.item.rows x w.2 in
+    (w.0, w.1, subst (λ (v : Update). Member v w.0.item.rows) (sym (ap (λ (y : Held). y.update) u.2)) u.1, ap (λ (y : Held). y.local) u.2)
 
 module _ (sc : Book) (s : State) (w : Write) (now : ℕ) (last : s.store.usn ≡ last_of sc s.inv) where
   abbrev change : Change
@@ -62,13 +103,17 @@ module _ (sc : Book) (s : State) (w : Write) (now : ℕ) (last : s.store.usn ≡
   follows : Follows (last_of sc s.inv) change
   follows = record {
     rises = omega (arith, last);
-    above = λ x m. omega (arith, own_locals (s.store.usn + 1) (rows_written s w now) x m, last);
-    within = λ x m. omega (arith, own_locals (s.store.usn + 1) (rows_written s w now) x m);
+    above = λ x m. let h = held_from (items_written s w now) x m in omega (arith, (items_take_usns s w now h.0 h.1).0, h.3, last);
+    within = λ x m. let h = held_from (items_written s w now) x m in omega (arith, (items_take_usns s w now h.0 h.1).1, h.3);
     idle = λ le. absurd (omega (arith, last, le));
   }
 
   own : AreIssuedBy sc s.inv change (updates_written change)
-  own u m = let p = written_is_own s w now u (alone_from (rows_written s w now).rows u m) in (p.0, omega (arith, p.1, last), omega (arith, p.1))
+  own u m =
+      let x = flat_member (λ (w : Written). w.item.rows) (items_written s w now) u m in
+      let p = items_are_own s w now x.0 x.1 u x.2 in
+      let n = items_take_usns s w now x.0 x.1 in
+      (p.0, omega (arith, p.1, n.0, last), omega (arith, p.1, n.1))
 
   pub write_may_follow : (c : Change) → write s w now ≡ Ok c → Follows (last_of sc s.inv) c × AreIssuedBy sc s.inv c (issued_by (ToWrite w now) c)
   write_may_follow c e = subst (λ (z : Change). Follows (last_of sc s.inv) z × AreIssuedBy sc s.inv z (issued_by (ToWrite w now) z)) (answered (write_refusal s w) change c e).1 (follows, own)

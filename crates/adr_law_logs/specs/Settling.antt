@@ -24,7 +24,7 @@ pub record Leaves (sc : Book) (s : State) (p : Pending) : Type 0 where
   pub carried : Each (λ u. Covers (at p.change.joined) u → Reflects sc.issued (knowledge_of (after s p.change).store) u) sc.issued
   pub formed : IsFormedStore (after s p.change).store
   pub closed : IsClosed (after s p.change).store
-  pub classes : AreClassesKnown (numbered s.store.schema) (updates_of (after s p.change).store.rows)
+  pub classes : AreClassesKnown (numbered p.change.schema) (updates_of (after s p.change).store.rows)
   pub mark : IfSome p.change.mark (λ (m : Identifier × Kept). IsSoundMark sc (knowledge_of (after s p.change).store) m.1.inv m.1.mark)
 
 -- the change follows in its log, issues what it may, and leaves a sound state

@@ -16,24 +16,24 @@ ghost use Rattle.adr_model.specs.Sound.{IsSoundBook, IsSoundStore, IsSoundState,
 /// no two units share their last local USN.
 #[tactic(none)]
 pub fn replies_cover_their_ground()
-    ensures { (sc : Book) (s : State) (q : Request) → s.store.rows ≡ rows_at (log_of sc s.inv) s.store.usn
-        → AreAlone s.store.rows → CoversItsGround (reply_to s q) (log_of sc s.inv) }
+    ensures { (sc : Book) (s : State) (q : Request) (now : ℕ) → s.store.rows ≡ rows_at (log_of sc s.inv) s.store.usn
+        → AreAlone s.store.rows → CoversItsGround (reply_to s q now) (log_of sc s.inv) }
 {}
 
 /// What a sound store asks is a sound request, whoever the partner is.
 #[tactic(none)]
 pub fn asked_requests_are_sound()
-    ensures { (sc : Book) (s : State) (partner : Identifier) (max : ℕ) → IsSoundStore sc s.store
-        → IsSoundRequest sc (ask s partner max) }
+    ensures { (sc : Book) (s : State) (partner : Identifier) (max version : ℕ) → IsSoundStore sc s.store
+        → IsSoundRequest sc (ask s partner max version) }
 {}
 
 /// What a sound state answers to a sound request is a sound reply.
 #[tactic(none)]
 pub fn served_replies_are_sound()
-    ensures served { (sc : Book) (s : State) (q : Request) (r : Reply) → IsSoundBook sc → IsSoundState sc s
-        → IsSoundRequest sc q → serve s q ≡ Ok r → IsSoundReply sc r }
-    ensures covered { (sc : Book) (s : State) (q : Request) → IsSoundBook sc → IsSoundState sc s
-        → IsSoundRequest sc q → at_most s.store.purged q.vector ≡ true → IsSoundReply sc (reply_to s q) }
+    ensures served { (sc : Book) (s : State) (q : Request) (now : ℕ) (r : Reply) → IsSoundBook sc → IsSoundState sc s
+        → IsSoundRequest sc q → serve s q now ≡ Ok r → IsSoundReply sc r }
+    ensures covered { (sc : Book) (s : State) (q : Request) (now : ℕ) → IsSoundBook sc → IsSoundState sc s
+        → IsSoundRequest sc q → at_most s.store.purged q.vector ≡ true → IsSoundReply sc (reply_to s q now) }
 {}
 
 /// A sound request shows no more of an incarnation than its controller has done, and so none is
@@ -42,6 +42,6 @@ pub fn served_replies_are_sound()
 pub fn sound_requests_show_no_rollback()
     ensures shown { (sc : Book) (s : State) (q : Request) → IsSoundState sc s → IsSoundRequest sc q
         → shown_by s q ≤ s.store.usn }
-    ensures refused { (sc : Book) (s : State) (q : Request) (inv : Identifier) (mine shown : ℕ)
-        → IsSoundState sc s → IsSoundRequest sc q → serve s q ≢ Err (RolledBack inv mine shown) }
+    ensures refused { (sc : Book) (s : State) (q : Request) (now : ℕ) (inv : Identifier) (mine shown : ℕ)
+        → IsSoundState sc s → IsSoundRequest sc q → serve s q now ≢ Err (RolledBack inv mine shown) }
 {}

@@ -1,5 +1,5 @@
 -- What a state of a log asks a partner is in range.
-use Rattle.std.proofs.Common.{ℕ, arith}
+use Rattle.std.proofs.Common.{ℕ, refl, arith}
 use Rattle.std.specs.BTreeMap.{is_at}
 use Rattle.adr_stamp.specs.Order.{identifier_order}
 use Rattle.adr_wire.specs.Ranges.{IsU32, IsMark}
@@ -14,8 +14,9 @@ use Rattle.adr_law_recorded.specs.Ranged.{IsRangedRequest}
 pub no_mark_in_range : IsMark no_mark
 no_mark_in_range = (omega arith, (omega arith, omega arith))
 
-pub asked_in_range : (s : State) (partner : Identifier) (max : ℕ) → IsLogged s → IsU32 max → IsRangedRequest (ask s partner max)
+pub asked_in_range : (s : State) (partner : Identifier) (max : ℕ) → IsLogged s → IsU32 max → IsRangedRequest (ask s partner max 1)
 asked_in_range s partner max logged few = record {
+  version = refl;
   mark = each_found (λ (k : Kept). IsMark k.mark) (is_at (identifier_order partner)) s.store.marks
       (record { inv = identifier 0; mark = no_mark }) no_mark_in_range (λ k m. (logged.spelled.marks k m).1.1);
   max = few;

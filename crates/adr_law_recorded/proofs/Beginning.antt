@@ -32,6 +32,7 @@ woken_is_spelled image dsa inv q id = record {
   schema = q.schema;
   usn = q.usn;
   vector = raised_spelled image.vector inv image.usn q.vector id q.usn;
+  times = q.times;
   purged = q.purged;
   marks = q.marks;
   partners = q.partners;

@@ -26,7 +26,7 @@ use Rattle.adr_wire.specs.Pieces.{Piece, OfRows, OfLink, IsPiece}
 use Rattle.adr_wire.specs.Ranges.{InTurn, IsId, IsMark, IsOid, IsRow, IsRowAbove, IsUsn0}
 use Rattle.adr_wire.specs.Reading.{is_above}
 use Rattle.adr_law_lengths.specs.Written.{update_of}
-use Rattle.adr_model.specs.Change.{Change, Item, Written, only_writes, updates_written}
+use Rattle.adr_model.specs.Change.{Change, Item, Written, unchanged, updates_written}
 use Rattle.adr_model.specs.LocalLog.{IsOrdered}
 use Rattle.adr_model.specs.Member.{Each, Member}
 use Rattle.adr_model.specs.Serve.{is_quarantined}
@@ -35,7 +35,7 @@ use Rattle.adr_model.specs.Take.{is_reserved_row}
 use Rattle.adr_model.specs.Update.{Key, RowOf, LinkOf, Said, Holds, IsPresent, Update, key_order, unit_of, deleted_attr}
 use Rattle.adr_model.proofs.Members.{member_flat}
 use Rattle.adr_law_formed.specs.Follow.{CanFollow, MayFollowInTurn, after_write}
-use Rattle.adr_law_formed.specs.Spelled.{AreLocalsRising, IsSpelledItem, IsSpelledWrite}
+use Rattle.adr_model.specs.Spelled.{AreLocalsRising, IsSpelledItem, IsSpelledWrite}
 use Rattle.adr_law_formed.specs.Taken.{AreBare}
 use Rattle.adr_image.specs.Body.{IsMarkIf, IsWrite, Write, one_name}
 use Rattle.adr_image.specs.Changes.{HasBody, item_of, mode_of_flag, written_of}
@@ -329,13 +329,15 @@ has_writes last usn (w ∷ ws) fits rise right =
 
 -- ---- a change that only writes
 
-pub writes_in_range : (usn : ℕ) (mode : Mode) (writes : List Written) → IsUsn0 usn → length writes < 2 ^ 32
-    → Each (λ (u : Update). IsSpelledRow u.key u.said u.stamp) (updates_written (only_writes usn writes))
-    → IsInRange (record (only_writes usn writes) { mode = mode })
-writes_in_range usn mode writes most few rows = record {
+pub writes_in_range : (s : State) (usn : ℕ) (mode : Mode) (writes : List Written) → IsUsn0 usn → length writes < 2 ^ 32
+    → Each (λ (u : Update). IsSpelledRow u.key u.said u.stamp) (updates_written (record (unchanged s) { writes = writes }))
+    → IsInRange s.store.schema (record (unchanged s) { usn = usn; mode = mode; writes = writes })
+writes_in_range s usn mode writes most few rows = record {
   usn = most;
+  schema = refl;
   mark = tt;
   joined = tt;
+  times = refl;
   purged = tt;
   removed = λ o m. absurd m;
   few_removed = omega arith;
@@ -361,8 +363,8 @@ mode_told : (m : Mode) → m ≡ mode_of_flag (is_quarantined m)
 mode_told Normal = refl
 mode_told Quarantined = refl
 
-pub has_body : (s : State) (c : Change) → CanFollow s c → Each (λ w. AreBare w.item.rows) c.writes → IsInRange c
-    → HasBody s.store.usn c
+pub has_body : (s : State) (c : Change) → CanFollow s c → Each (λ w. AreBare w.item.rows) c.writes → IsInRange s.store.schema c
+    → HasBody s.store.usn s.store.schema c
 has_body s c follows bare q =
     let form = in_turn_spelled _ s.store.vector s.store.rows c.writes follows.goes_on.writes in
     let w = has_writes s.store.usn c.usn c.writes q.usn follows.goes_on.locals
@@ -376,10 +378,12 @@ has_body s c follows bare q =
         (tt, (mark_right c.mark follows.goes_on.mark q.mark, ((follows.goes_on.joined, q.joined), ((follows.goes_on.purged, q.purged), ((q.few_removed, removed_right None c.removed q.removed), (omega (arith, long, fits), w.in_range)))))),
       );
       says =
-          ap (λ mode. let d : Change = record { usn = c.usn; mode = mode; mark = c.mark; joined = c.joined; purged = c.purged; removed = c.removed; writes = c.writes } in d) (mode_told c.mode)
-          ∙ ap (λ writes. let d : Change = record { usn = c.usn; mode = mode_of_flag (is_quarantined c.mode); mark = c.mark; joined = c.joined; purged = c.purged; removed = c.removed; writes = writes } in d) (sym w.says);
+          ap (λ mode. let d : Change = record c { mode = mode } in d) (mode_told c.mode)
+          ∙ ap (λ schema. let d : Change = record c { mode = mode_of_flag (is_quarantined c.mode); schema = schema } in d) q.schema
+          ∙ ap (λ times. let d : Change = record c { mode = mode_of_flag (is_quarantined c.mode); schema = s.store.schema; times = times } in d) q.times
+          ∙ ap (λ writes. let d : Change = record c { mode = mode_of_flag (is_quarantined c.mode); schema = s.store.schema; times = []; writes = writes } in d) (sym w.says);
     }
 
 pub recorded : (s : State) (c : Change) → IsLogged s → CanFollow s c → Each (λ w. AreBare w.item.rows) c.writes
-    → IsInRange c → MayBeRecorded s c
+    → IsInRange s.store.schema c → MayBeRecorded s c
 recorded s c logged follows bare q = record { logged = logged; follows = follows; body = has_body s c follows bare q }

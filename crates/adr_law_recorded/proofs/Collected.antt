@@ -44,7 +44,7 @@ use Rattle.adr_law_recorded.proofs.Bodied.{recorded, writes_in_range}
 
 pub quarantine_is_recorded : (s : State) → IsLogged s → s.mode ≡ Normal → MayBeRecorded s (quarantine s)
 quarantine_is_recorded s logged normal = recorded s (quarantine s) logged (quarantine_follows s logged.formed logged.classes normal) (λ w m. absurd m)
-    (writes_in_range s.store.usn Quarantined [] logged.spelled.usn (omega arith) (λ u m. absurd m))
+    (writes_in_range s s.store.usn Quarantined [] logged.spelled.usn (omega arith) (λ u m. absurd m))
 
 -- ---- what covers births and deaths in range is in range
 
@@ -111,14 +111,16 @@ module _ (s : State) (now lifetime : ℕ) (logged : IsLogged s) where
           let named : IsNamed (updates_of s.store.rows) d.0 = logged.formed.store.rows.named d.0 (d.1, deleted_attr, stands, g.dies) in
           among_objects (updates_of s.store.rows) named.of_class.0 d.0 named.of_class.1 named.of_class.2
 
-  in_range : (collection s dead).usn ≤ usn_limit → IsStrictlySortedBy object_order names → IsInRange (collection s dead)
+  in_range : (collection s dead).usn ≤ usn_limit → IsStrictlySortedBy object_order names → IsInRange s.store.schema (collection s dead)
   in_range most rise =
       let long = no_longer object_order objects_total exact_objects names (objects_of (updates_of s.store.rows)) (rises_from object_order names rise) name_born in
       let few = logged.formed.store.limits.objects in
       record {
         usn = omega (arith, most);
+        schema = refl;
         mark = tt;
         joined = tt;
+        times = refl;
         purged = all_in_range (covering dead) (covering_in_range dead death_right);
         removed = name_right;
         few_removed = omega (arith, long, few);
@@ -136,4 +138,4 @@ collection_is_recorded s now lifetime c logged e =
     let rise = subst (λ (x : Change). IsStrictlySortedBy object_order x.removed) (sym g.1) (collected_rise s now lifetime c logged.formed.store.rising e) in
     recorded s c logged (collected_follows s now lifetime c logged.formed logged.classes e)
     (subst (λ (x : Change). Each (λ w. AreBare w.item.rows) x.writes) g.1 (λ w m. absurd m))
-    (subst IsInRange g.1 (in_range s now lifetime logged most rise))
+    (subst (IsInRange s.store.schema) g.1 (in_range s now lifetime logged most rise))

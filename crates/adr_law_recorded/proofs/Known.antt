@@ -26,7 +26,7 @@ use Rattle.adr_records.specs.Logged.{IsLogged}
 
 -- ---- the parts of a row in range
 
-row_parts : (o : Oid) (attr : ℕ) (said : Said) (stamp : LinkStamp) → IsSpelledRow (RowOf o attr) said stamp
+pub row_parts : (o : Oid) (attr : ℕ) (said : Said) (stamp : LinkStamp) → IsSpelledRow (RowOf o attr) said stamp
     → IsOid o × (stamp.created ≡ 0)
 row_parts o attr (Holds content) stamp q = (q.0, q.4)
 row_parts o attr (IsPresent b) stamp q = absurd q
@@ -50,7 +50,7 @@ module _ (s : State) (logged : IsLogged s) where
 
   -- ---- objects
 
-  spelled : Each (λ (u : Update). IsSpelledRow u.key u.said u.stamp) rows
+  pub spelled : Each (λ (u : Update). IsSpelledRow u.key u.said u.stamp) rows
   spelled u m = let h = held_as s.store.rows u m in
       subst (λ (v : Update). IsSpelledRow v.key v.said v.stamp) (sym h.2) (logged.spelled.rows h.0 h.1)
 

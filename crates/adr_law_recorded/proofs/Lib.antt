@@ -5,5 +5,6 @@ pub mod Taken
 pub mod Asked
 pub mod Served
 pub mod Values
+pub mod Typed
 pub mod Known
 pub mod Written

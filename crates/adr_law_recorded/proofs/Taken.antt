@@ -1,5 +1,6 @@
 -- What a taken reply brings is in the ranges of a record, and so its change can be recorded.
-use Rattle.std.proofs.Common.{◌≡◌, ℕ, ◌+◌, ◌<◌, ◌≤◌, ◌^◌, List, [], ◌∷◌, Option, Some, None, unwrap_or, sym, subst, fold, length, length-append, arith, Ok}
+use Rattle.std.proofs.Common.{◌≡◌, ℕ, ◌+◌, ◌<◌, ◌≤◌, ◌^◌, Bool, true, false, cond, List, [], ◌∷◌, Option, Some, None, unwrap_or, refl, sym, subst, ◌∙◌, fold, length, length-append, arith, Ok}
+use Rattle.std.specs.Prelude.{is_some}
 use Rattle.std.specs.List.{AllByRecursion}
 use Rattle.std.specs.Option.{IfSome}
 use Rattle.adr_schema.specs.Table.{Table}
@@ -11,7 +12,7 @@ use Rattle.adr_model.specs.Update.{Identifier, Update}
 use Rattle.adr_model.specs.Store.{Kept, State}
 use Rattle.adr_model.specs.Change.{Item, Change}
 use Rattle.adr_model.specs.Serve.{Reply}
-use Rattle.adr_model.specs.Take.{Taking, begin, rows_taken, writes_of, take_item, take}
+use Rattle.adr_model.specs.Take.{Taking, begin, rows_taken, times_brought, writes_of, take_item, take}
 use Rattle.adr_law_calls.proofs.Passed.{passed}
 use Rattle.adr_law_formed.proofs.TakenFollow.{taken_bare, taken_brings, taken_follows}
 use Rattle.adr_law_recorded.specs.Ranged.{IsRangedReply}
@@ -43,16 +44,25 @@ last_in_range : (o : Option Cursors) → IfSome o (AllByRecursion IsCursor)
 last_in_range None all = tt
 last_in_range (Some v) all = all
 
-pub taken_in_range : (s : State) (r : Reply) (c : Change) → IsRangedReply r → take s r ≡ Ok c → IsInRange c
+no_times_brought : (r : Reply) → r.times ≡ [] → times_brought r ≡ []
+no_times_brought r none = by (is_some r.last)
+  where
+    by : (b : Bool) → cond b r.times [] ≡ []
+    by true = none
+    by false = refl
+
+pub taken_in_range : (s : State) (r : Reply) (c : Change) → IsRangedReply r → take s r ≡ Ok c → IsInRange s.store.schema c
 taken_in_range s r c ranged e =
     let p = passed s r c e in
     let brings = taken_brings s r c e in
     record {
       usn = omega (arith, brings.1);
-      mark = subst (λ m. IfSome m (λ (k : Identifier × Kept). IsId k.0 × IsId k.1.inv × IsMark k.1.mark)) (sym brings.3)
+      schema = subst (λ (x : Change). x.schema ≡ s.store.schema) p.1 refl;
+      mark = subst (λ m. IfSome m (λ (k : Identifier × Kept). IsId k.0 × IsId k.1.inv × IsMark k.1.mark)) (sym brings.4)
           (ranged.source, ranged.inv, ranged.to);
       joined = subst (AllByRecursion IsCursor) (sym brings.2) (last_in_range r.last ranged.last);
-      purged = subst (AllByRecursion IsCursor) (sym brings.4) tt;
+      times = brings.3 ∙ no_times_brought r ranged.times;
+      purged = subst (AllByRecursion IsCursor) (sym brings.5) tt;
       removed = subst (λ (x : Change). Each IsOid x.removed) p.1 (λ o m. absurd m);
       few_removed = subst (λ (x : Change). length x.removed < 2 ^ 32) p.1 (omega arith);
       few = subst (λ (x : Change). length x.writes < 2 ^ 32) p.1

@@ -1,5 +1,5 @@
 -- What a schema accepts is in the ranges of a record, whichever schema it is.
-use Rattle.std.proofs.Common.{◌≡◌, ℕ, ◌<◌, ◌≤◌, List, [], ◌∷◌, Bool, true, false, ◌&&◌, Option, Some, None, inl, inr, refl, sym, ap, length, arith, ◌∙◌, ◌==◌, if◌then◌else◌, unwrap_or}
+use Rattle.std.proofs.Common.{◌≡◌, ℕ, ◌<◌, ◌≤◌, List, [], ◌∷◌, Bool, true, false, ◌&&◌, Option, Some, None, inl, inr, refl, sym, ap, length, arith, ◌∙◌, ◌==◌, if◌then◌else◌}
 use Rattle.std.specs.Prelude.{is_some, nat_lt, nat_le}
 use Rattle.std.specs.List.{list_all, AllByRecursion}
 use Rattle.std.specs.Option.{option_map}
@@ -12,7 +12,7 @@ use Rattle.adr_schema.specs.declared.table.Syntax.TheVariants.{Text as OfText, N
 use Rattle.adr_schema.specs.declared.table.Kind.{Kind}
 use Rattle.adr_schema.specs.declared.table.Kind.TheVariants.{Reserved, Plain, Forward, Back}
 use Rattle.adr_schema.specs.Table.{Table, Attribute, Class as ClassOf, class_at, attribute_at, kind_at, is_forward}
-use Rattle.adr_schema.specs.Schemas.{schema_1}
+use Rattle.adr_schema.specs.Schemas.{schema_1, schema_2}
 use Rattle.adr_schema.specs.Numbered.{numbered}
 use Rattle.adr_schema.specs.Names.{name_fault, is_wrong_byte}
 use Rattle.adr_schema.specs.Places.{first_place}
@@ -53,12 +53,16 @@ one_is_small : is_table_small schema_1 ≡ true
 unfolding schema_1
 one_is_small = refl
 
+two_is_small : is_table_small schema_2 ≡ true
+unfolding schema_2
+two_is_small = refl
+
 each_is_small : (number : ℕ) → is_table_small (numbered number) ≡ true
-each_is_small number = by (number == 1)
+each_is_small number = by (nat_le number 1)
   where
-    by : (b : Bool) → is_table_small (unwrap_or (if b then Some schema_1 else None) schema_1) ≡ true
+    by : (b : Bool) → is_table_small (if b then schema_1 else schema_2) ≡ true
     by true = one_is_small
-    by false = one_is_small
+    by false = two_is_small
 
 -- ---- numbers
 

@@ -1,5 +1,5 @@
 -- The change of a client's write is in the ranges of a record.
-use Rattle.std.proofs.Common.{◌≡◌, ℕ, zero, suc, ◌+◌, ◌<◌, ◌^◌, List, [], ◌∷◌, Bool, true, false, not, Option, None, inl, inr, refl, sym, subst, map, arith}
+use Rattle.std.proofs.Common.{◌≡◌, ℕ, zero, suc, ◌+◌, ◌<◌, ◌≤◌, ◌^◌, List, [], ◌∷◌, Bool, true, false, not, Option, None, inl, inr, refl, sym, ap, subst, map, length, arith}
 use Rattle.std.specs.Prelude.{IsSome}
 use Rattle.std.specs.Str.{is_utf8}
 use Rattle.adr_failure.specs.First.{first_of}
@@ -14,30 +14,37 @@ use Rattle.adr_schema.specs.declared.content.Content.TheVariants.{Class, Name, D
 use Rattle.adr_event.specs.declared.refusal.WriteRefusal.{WriteRefusal}
 use Rattle.adr_event.specs.declared.refusal.WriteRefusal.TheVariants.{LinkThere, LinkNotThere}
 use Rattle.adr_event.specs.declared.refusal.Table.TheVariants.{Links}
-use Rattle.adr_wire.specs.Ranges.{IsId, IsU16, IsOid, IsStamp, IsContent}
+use Rattle.adr_event.specs.declared.directory.Entry.{Entry}
+use Rattle.adr_wire.specs.Ranges.{IsId, IsU16, IsUsn, IsOid, IsStamp, IsContent}
 use Rattle.adr_model.specs.Member.{Member, Each}
 use Rattle.adr_model.specs.Update.{Identifier, RowOf, LinkOf, Said, Holds, IsPresent, Update, name_attr, deleted_attr}
-use Rattle.adr_model.specs.Store.{Normal, State, updates_of}
-use Rattle.adr_model.specs.Change.{Written, updates_written}
-use Rattle.adr_model.specs.Write.{Write, AddObject, Modify, Rename, Delete, AddLink, RemoveLink, IsWellGiven, full_refusal, link_limit, links_in, more_links, version_refusal, add_refusals, modify_refusals, rename_refusals, delete_refusals, any_link_refusals, any_link_refusal, nodes_held, object_of, link_of, next_row, first_stamp, new_object, new_rows, row, write_refusal, rows_written, items_written, own_change}
+use Rattle.adr_model.specs.Formed.{IsFormedStore}
+use Rattle.adr_model.specs.Reflects.{HoldsObject}
+use Rattle.adr_model.specs.Store.{Normal, State, Store, updates_of}
+use Rattle.adr_model.specs.Change.{Item, Written, updates_written}
+use Rattle.adr_model.specs.Write.{Write, AddObject, Modify, Rename, Delete, AddLink, RemoveLink, Revive, full_refusal, link_limit, links_in, more_links, version_refusal, add_refusals, modify_refusals, rename_refusals, delete_refusals, any_link_refusals, any_link_refusal, nodes_held, object_of, link_of, next_row, first_stamp, new_object, new_rows, row, write_refusal, revive_refusals, revive_refusal, entry_in, links_revived, new_links, link_row as new_link, rows_written, more_written, items_written, own_change}
+use Rattle.adr_model.specs.Given.{IsWellGiven}
 use Rattle.std.specs.Bool.{then_some}
 use Rattle.adr_model.proofs.Members.{mapped_member, member_mapped, flat_member}
 use Rattle.adr_image.specs.Stored.{IsSpelledRow}
 use Rattle.adr_law_knowledge.proofs.Refusing.{none_there, answered}
 use Rattle.adr_law_steps.specs.Forms.{IsWellSaid}
 use Rattle.adr_law_steps.proofs.Rows.{row_of_unit}
-use Rattle.adr_law_calls.specs.MayWrites.{Fits, MayWrite, IsHeldAlive}
+use Rattle.adr_law_calls.specs.MayWrites.{Fits, MayWrite, IsHeldAlive, after_item}
+use Rattle.adr_law_calls.proofs.Reviving.{MayRelink, may_relink_all}
 use Rattle.adr_law_calls.proofs.WriteSound.{may_write}
 use Rattle.adr_law_calls.proofs.Stamps.{written}
 use Rattle.adr_law_calls.proofs.Writes.{well_said}
 use Rattle.adr_law_formed.proofs.EachWrite.{write_follows, write_is_bare}
+use Rattle.adr_law_formed.proofs.Whence.{rows_from}
 use Rattle.adr_records.specs.Logged.{IsLogged}
 use Rattle.adr_law_recorded.specs.Typed.{IsTypedValue, IsTypedWrite}
 use Rattle.adr_law_recorded.specs.InRange.{IsInRange}
 use Rattle.adr_law_recorded.specs.Laws.{WrittenIsRecorded}
 use Rattle.adr_law_recorded.proofs.Bodied.{recorded, writes_in_range}
+use Rattle.adr_law_recorded.proofs.Typed.{shown_typed}
 use Rattle.adr_law_recorded.proofs.Values.{class_in_range, forward_in_range, name_is_short, values_in_range}
-use Rattle.adr_law_recorded.proofs.Known.{object_in_range, live, version_at, usn_in_range, version_free, death_free, own_usn, first_in_range, next_in_range, row_created, link_created_in_range}
+use Rattle.adr_law_recorded.proofs.Known.{row_parts, spelled, object_in_range, live, version_at, usn_in_range, version_free, death_free, own_usn, first_in_range, next_in_range, row_created, link_created_in_range}
 
 -- ---- rows of objects
 
@@ -208,6 +215,80 @@ module _ (s : State) where
           usn = usn_in_range (s.store.usn + 1)
               (none_there refusals none _ (inr (inr (inr (inr (inr (inr (inr (inr (inl refl))))))))))
 
+      -- an object that is revived, and its links
+      module _ (image : Store) (guid parent : Identifier) (text : List ℕ) (given : IsFormedStore image)
+          (typed : IsTypedWrite (Revive image guid parent text)) (none : revive_refusal s image guid parent text ≡ None) where
+        abbrev entry : Entry
+        entry = entry_in image guid
+
+        abbrev links : List LinkKey
+        links = links_revived s image guid
+
+        abbrev first : Item
+        first = rows_written s (Revive image guid parent text) now
+
+        abbrev one : State
+        one = after_item s first
+
+        far : s.store.usn + 1 + length links < 2 ^ 63
+        far = usn_in_range (s.store.usn + 1 + length links)
+            (none_there (revive_refusals s image guid parent text) none _ (inr (inr (inr (inr (inr (inr (inr (inr (inr (inr (inr (inl refl)))))))))))))
+
+        near : s.store.usn + 1 < 2 ^ 63
+        near = omega (arith, far)
+
+        object_in : AreInRange first.rows
+        object_in = new_in_range near guid entry.class parent text entry.values
+            (may_write s (Revive image guid parent text) now logged.formed given none)
+            (typed.1, typed.2, typed.3, shown_typed image guid given typed.0)
+
+        may : MayRelink one links
+        may = may_relink_all s logged.formed image guid parent text given none now
+
+        end_in : (o : Oid) → HoldsObject (updates_of one.store.rows) o → IsOid o
+        end_in o (r, attr, m, is) =
+            let q = rows_from (λ (u : Update). IsSpelledRow u.key u.said u.stamp) s (own_change s (record { local = s.store.usn + 1; item = first } ∷ []))
+            (spelled s logged) written_right r m in
+            (row_parts o attr r.said r.stamp (subst (λ k. IsSpelledRow k r.said r.stamp) is q)).0
+          where
+            written_right : AreInRange (updates_written (own_change s (record { local = s.store.usn + 1; item = first } ∷ [])))
+            written_right u m = let t = flat_member (λ (v : Written). v.item.rows) (record { local = s.store.usn + 1; item = first } ∷ []) u m in of_write t.0 t.1 t.2
+              where
+                of_write : (v : Written) → Member v (record { local = s.store.usn + 1; item = first } ∷ []) → Member u v.item.rows → IsSpelledRow u.key u.said u.stamp
+                of_write v (inl e) n = object_in u (subst (λ (x : Written). Member u x.item.rows) e n)
+                of_write v (inr n) k = absurd n
+
+        link_in : (l : LinkKey) → Member l links → (usn : ℕ) → IsUsn usn → AreInRange (new_link s now usn l).item.rows
+        link_in l m usn right u (inl e) = subst (λ (v : Update). IsSpelledRow v.key v.said v.stamp) (sym e) (
+          end_in l.from (may.alive l m l.from (inl refl)).0,
+          forward_in_range s.store.schema l.attr (may.forward l m),
+          end_in l.to (may.alive l m l.to (inr (inl refl))).0,
+          time,
+          ((omega arith, omega arith), (time, (logged.inv, right))),
+        )
+        link_in l m usn right u (inr n) = absurd n
+
+        each_link_in : (ls : List LinkKey) → ((l : LinkKey) → Member l ls → Member l links) → (usn : ℕ) → s.store.usn + 2 ≤ usn
+            → usn + length ls ≤ s.store.usn + 2 + length links → Each (λ (v : Written). AreInRange v.item.rows) (new_links s now usn ls)
+        each_link_in [] of_it usn above most v m = absurd m
+        each_link_in (l ∷ ls) of_it usn above most v (inl e) = subst (λ (w : Written). AreInRange w.item.rows) (sym e)
+            (link_in l (of_it l (inl refl)) usn (omega (arith, above), omega (arith, most, far)))
+        each_link_in (l ∷ ls) of_it usn above most v (inr m) =
+            each_link_in ls (λ k n. of_it k (inr n)) (usn + 1) (omega (arith, above)) (omega (arith, most)) v m
+
+        long : (usn : ℕ) (ls : List LinkKey) → length (new_links s now usn ls) ≡ length ls
+        long usn [] = refl
+        long usn (l ∷ ls) = ap suc (long (usn + 1) ls)
+
+        links_in_range : (s.store.usn + 1 + length (new_links s now (s.store.usn + 2) links) < 2 ^ 63) × (1 + length (new_links s now (s.store.usn + 2) links) < 2 ^ 32)
+            × Each (λ (v : Written). AreInRange v.item.rows) (new_links s now (s.store.usn + 2) links)
+        links_in_range =
+            let same = long (s.store.usn + 2) links in (
+              omega (arith, same, far),
+              omega (arith, same, may.room),
+              each_link_in links (λ l m. m) (s.store.usn + 2) (omega arith) (omega arith),
+            )
+
       rows_in_range : (w : Write) → IsWellGiven w → IsTypedWrite w → write_refusal s w ≡ None → IsWritten w
       rows_in_range (AddObject guid class parent text values) given typed none =
           let usn = usn_in_range (s.store.usn + 1)
@@ -271,21 +352,46 @@ module _ (s : State) where
           (may_write s (AddLink from attr to) now logged.formed given none)
       rows_in_range (RemoveLink from attr to) given typed none = link_written from attr to false (λ linked. then_some (not linked) LinkNotThere) none
           (may_write s (RemoveLink from attr to) now logged.formed given none)
+      rows_in_range (Revive image guid parent text) given typed none =
+          (near image guid parent text given typed none, object_in image guid parent text given typed none)
+
+      -- ---- beside the first item
+
+      abbrev IsMoreWritten : Write → Type 0
+      IsMoreWritten w =
+          (s.store.usn + 1 + length (more_written s w now) < 2 ^ 63) × (1 + length (more_written s w now) < 2 ^ 32)
+          × Each (λ (v : Written). AreInRange v.item.rows) (more_written s w now)
+
+      alone : s.store.usn + 1 < 2 ^ 63
+          → (s.store.usn + 1 + 0 < 2 ^ 63) × (1 + 0 < 2 ^ 32) × Each (λ (v : Written). AreInRange v.item.rows) []
+      alone usn = (omega (arith, usn), omega arith, λ v m. absurd m)
+
+      more_in_range : (w : Write) → IsWellGiven w → IsTypedWrite w → write_refusal s w ≡ None → IsMoreWritten w
+      more_in_range (AddObject guid class parent text values) given typed none = alone (rows_in_range (AddObject guid class parent text values) given typed none).0
+      more_in_range (Modify guid values) given typed none = alone (rows_in_range (Modify guid values) given typed none).0
+      more_in_range (Rename guid parent text) given typed none = alone (rows_in_range (Rename guid parent text) given typed none).0
+      more_in_range (Delete guid) given typed none = alone (rows_in_range (Delete guid) given typed none).0
+      more_in_range (AddLink from attr to) given typed none = alone (rows_in_range (AddLink from attr to) given typed none).0
+      more_in_range (RemoveLink from attr to) given typed none = alone (rows_in_range (RemoveLink from attr to) given typed none).0
+      more_in_range (Revive image guid parent text) given typed none = links_in_range image guid parent text given typed none
 
       change_in_range : (w : Write) → IsWellGiven w → IsTypedWrite w → write_refusal s w ≡ None
-          → IsInRange (own_change s (items_written s w now))
+          → IsInRange s.store.schema (own_change s (items_written s w now))
       change_in_range w given typed none =
-          writes_in_range (s.store.usn + 1) Normal (items_written s w now) range.0 (omega arith) rows
+          writes_in_range s (s.store.usn + length (items_written s w now)) Normal (items_written s w now) (omega (arith, more.0)) (omega (arith, more.1)) rows
         where
-          range : IsWritten w
-          range = rows_in_range w given typed none
+          ahead : IsWritten w
+          ahead = rows_in_range w given typed none
+
+          more : IsMoreWritten w
+          more = more_in_range w given typed none
 
           rows : AreInRange (updates_written (own_change s (items_written s w now)))
           rows u m = let t = flat_member (λ (v : Written). v.item.rows) (items_written s w now) u m in of_write t.0 t.1 t.2
             where
               of_write : (v : Written) → Member v (items_written s w now) → Member u v.item.rows → IsSpelledRow u.key u.said u.stamp
-              of_write v (inl e) n = range.1 u (subst (λ (x : Written). Member u x.item.rows) e n)
-              of_write v (inr n) k = absurd n
+              of_write v (inl e) n = ahead.1 u (subst (λ (x : Written). Member u x.item.rows) e n)
+              of_write v (inr n) k = more.2 v n u k
 
 -- ---- the law
 
@@ -294,4 +400,4 @@ write_is_recorded s w now c logged given typed time made =
     let t = answered (write_refusal s w) (own_change s (items_written s w now)) c made in
     recorded s c logged (write_follows s w now c logged.formed logged.classes given made)
     (write_is_bare s w now c logged.formed given made)
-    (subst IsInRange t.1 (change_in_range s logged now time w given typed t.0))
+    (subst (IsInRange s.store.schema) t.1 (change_in_range s logged now time w given typed t.0))

@@ -1,5 +1,5 @@
 -- Changes whose fields are in the ranges of a record.
-use Rattle.std.specs.Prelude.{◌<◌, ◌^◌, length, IfSome}
+use Rattle.std.specs.Prelude.{◌≡◌, ℕ, [], ◌<◌, ◌^◌, length, IfSome}
 use Rattle.std.specs.List.{AllByRecursion}
 use Rattle.adr_wire.specs.Ranges.{IsId, IsUsn0, IsMark, IsOid, IsCursor}
 use Rattle.adr_model.specs.Member.{Each}
@@ -8,11 +8,13 @@ use Rattle.adr_model.specs.Store.{Kept}
 use Rattle.adr_model.specs.Change.{Change, updates_written}
 use Rattle.adr_image.specs.Stored.{IsSpelledRow}
 
--- what a change brings is in the ranges of a record
-pub record IsInRange (c : Change) : Type 0 where
+-- what a change brings is in the ranges of a record behind a state with this number of a schema: a record tells no schema and no times
+pub record IsInRange (number : ℕ) (c : Change) : Type 0 where
   pub usn : IsUsn0 c.usn
+  pub schema : c.schema ≡ number
   pub mark : IfSome c.mark (λ (k : Identifier × Kept). IsId k.0 × IsId k.1.inv × IsMark k.1.mark)
   pub joined : AllByRecursion IsCursor c.joined
+  pub times : c.times ≡ []
   pub purged : AllByRecursion IsCursor c.purged
   pub removed : Each IsOid c.removed
   pub few_removed : length c.removed < 2 ^ 32

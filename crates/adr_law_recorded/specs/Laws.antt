@@ -8,10 +8,11 @@ use Rattle.adr_model.specs.Store.{Normal, State, Store, empty_state}
 use Rattle.adr_model.specs.Change.{Change, after}
 use Rattle.adr_model.specs.Serve.{Request, Reply, ask, serve}
 use Rattle.adr_model.specs.Take.{take}
-use Rattle.adr_model.specs.Write.{Write, IsWellGiven, write}
+use Rattle.adr_model.specs.Write.{Write, write}
+use Rattle.adr_model.specs.Given.{IsWellGiven}
 use Rattle.adr_model.specs.Collect.{adopt, collect, quarantine}
 use Rattle.adr_state.specs.Refusal.{IsOverfull}
-use Rattle.adr_law_formed.specs.Spelled.{IsSpelledReply}
+use Rattle.adr_model.specs.Spelled.{IsSpelledReply}
 use Rattle.adr_image.specs.Stored.{IsSpelled}
 use Rattle.adr_records.specs.Logged.{IsLogged, MayBegin, MayBeRecorded}
 use Rattle.adr_law_recorded.specs.Typed.{IsTypedWrite}
@@ -39,7 +40,7 @@ RecordedIsLogged = (s : State) (c : Change) → MayBeRecorded s c → IsLogged (
 abbrev pub LoggedFits : Type 0
 LoggedFits = (s : State) → IsLogged s → IsOverfull s → ⊥
 
--- ---- what calls change
+-- ---- what calls change: all but an upgrade, which no record tells
 
 abbrev pub WrittenIsRecorded : Type 0
 WrittenIsRecorded =
@@ -60,8 +61,8 @@ QuarantineIsRecorded = (s : State) → IsLogged s → s.mode ≡ Normal → MayB
 -- ---- messages
 
 abbrev pub AskedIsRanged : Type 0
-AskedIsRanged = (s : State) (partner : Identifier) (max : ℕ) → IsLogged s → IsU32 max → IsRangedRequest (ask s partner max)
+AskedIsRanged = (s : State) (partner : Identifier) (max : ℕ) → IsLogged s → IsU32 max → IsRangedRequest (ask s partner max 1)
 
 abbrev pub ServedIsRanged : Type 0
 ServedIsRanged =
-    (s : State) (q : Request) (r : Reply) → IsLogged s → IsRangedRequest q → serve s q ≡ Ok r → IsSpelledReply r × IsRangedReply r
+    (s : State) (q : Request) (r : Reply) (now : ℕ) → IsLogged s → IsRangedRequest q → serve s q now ≡ Ok r → IsSpelledReply r × IsRangedReply r

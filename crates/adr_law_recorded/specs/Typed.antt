@@ -9,8 +9,10 @@ use Rattle.adr_event.specs.declared.event.Event.{Event}
 use Rattle.adr_event.specs.declared.event.Event.TheVariants as events
 use Rattle.adr_wire.specs.Ranges.{IsId}
 use Rattle.adr_model.specs.Member.{Each}
-use Rattle.adr_model.specs.Write.{Write, AddObject, Modify, Rename, Delete, AddLink, RemoveLink}
+use Rattle.adr_model.specs.Write.{Write, AddObject, Modify, Rename, Delete, AddLink, RemoveLink, Revive}
+use Rattle.adr_image.specs.Stored.{IsSpelled}
 use Rattle.adr_model.specs.Step.{ClientWrite, write_of}
+use Rattle.adr_model.specs.World.{empty_world}
 
 abbrev pub IsTypedValue : Item → Type 0
 IsTypedValue (Text bytes) = is_utf8 bytes ≡ true
@@ -29,13 +31,15 @@ IsTypedWrite (Rename guid parent text) = IsId guid × IsId parent × (is_utf8 te
 IsTypedWrite (Delete guid) = IsId guid
 IsTypedWrite (AddLink from attr to) = IsId from × IsId to
 IsTypedWrite (RemoveLink from attr to) = IsId from × IsId to
+IsTypedWrite (Revive image guid parent text) = IsSpelled image × IsId guid × IsId parent × (is_utf8 text ≡ true)
 
--- an event whose write is so, and which gives identifiers that are
+-- an event whose write is so, and which gives identifiers that are; the image of a revival isn't the event's
 abbrev pub IsTyped : Event → Type 0
 IsTyped (events.Controller name dsa inv) = IsId dsa × IsId inv
 IsTyped (events.Restore name image inv) = IsId inv
 IsTyped (events.Install name dsa image inv) = IsId dsa × IsId inv
-IsTyped e = IfSome (write_of e) (λ (w : ClientWrite). IsTypedWrite w.what)
+IsTyped (events.Revive name guid image parent text) = IsId guid × IsId parent × (is_utf8 text ≡ true)
+IsTyped e = IfSome (write_of empty_world e) (λ (w : ClientWrite). IsTypedWrite w.what)
 
 abbrev pub AreTyped : List Event → Type 0
 AreTyped events = Each IsTyped events

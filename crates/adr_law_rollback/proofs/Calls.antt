@@ -11,6 +11,7 @@ use Rattle.adr_event.specs.declared.refusal.ServeRefusal.TheVariants as serves
 use Rattle.adr_event.specs.declared.refusal.TakeRefusal.{TakeRefusal}
 use Rattle.adr_event.specs.declared.refusal.TakeRefusal.TheVariants as takes
 use Rattle.adr_event.specs.declared.refusal.CollectRefusal.{CollectRefusal}
+use Rattle.adr_event.specs.declared.refusal.UpgradeRefusal.{UpgradeRefusal}
 use Rattle.adr_event.specs.declared.refusal.AdoptRefusal.{AdoptRefusal}
 use Rattle.adr_event.specs.declared.refusal.AdoptRefusal.TheVariants as adoptions
 use Rattle.adr_model.specs.Update.{Identifier}
@@ -20,10 +21,11 @@ use Rattle.adr_model.specs.Serve.{Request, Reply, ask, serve}
 use Rattle.adr_model.specs.Write.{Write, write}
 use Rattle.adr_model.specs.Take.{take}
 use Rattle.adr_model.specs.Collect.{collect, backup, adopt, quarantine}
+use Rattle.adr_model.specs.Upgrade.{upgrade}
 use Rattle.adr_model.specs.Lengths.{log_limit, new_log_end, log_end_after}
 use Rattle.adr_model.specs.Refused.{serve_refused, take_refused, adopt_refused, full}
-use Rattle.adr_model.specs.Replica.{Pending, ToWrite, ToTake, ToCollect, ToQuarantine, Standing, Up, Down, Failed, Stops, Fails, Plan, Replica, on_disk, on_new_disk, Book, begun, Move, Begin, Settle, Forget, moved, Went, Passed, Met, went, moves_of_commit, moves_of_start, standing_after, plan_after, outcome_after}
-use Rattle.adr_model.specs.World.{Name, World, Snapshot, Gone, Sent, stays, nothing, replica_at, with_replica, of_made, where_up, of_controller, within_log, committed, commit, writes, after_write, after_collect, asks, after_serve, served, serves_request, after_take, delivered, delivers, backed_up, begins, adopts, of_image, put_back, with_plan, stops, started, starts}
+use Rattle.adr_model.specs.Replica.{Pending, ToWrite, ToTake, ToCollect, ToUpgrade, ToQuarantine, Standing, Up, Down, Failed, Stops, Fails, Plan, Replica, on_disk, on_new_disk, Book, begun, Move, Begin, Settle, Forget, moved, Went, Passed, Met, went, moves_of_commit, moves_of_start, standing_after, plan_after, outcome_after}
+use Rattle.adr_model.specs.World.{Name, World, Snapshot, Gone, Sent, stays, nothing, replica_at, with_replica, of_made, where_up, of_controller, within_log, committed, commit, writes, after_write, after_collect, after_upgrade, asks, after_serve, served, serves_request, after_take, delivered, delivers, backed_up, begins, adopts, of_image, put_back, with_plan, stops, started, starts}
 use Rattle.adr_law_rollback.specs.ShutOff.{RefusesAll, RestsAs, RestsIn, is_done}
 use Rattle.adr_law_rollback.proofs.Placing.{name_case, FoundAmong, found_named, replaced, spared, first_stays, rests_too}
 use Rattle.adr_law_rollback.proofs.Refusing.{refuses_all}
@@ -147,6 +149,10 @@ module _ (name : Name) (s : State) (end : ℕ) (closed : s.mode ≡ Quarantined)
         other_collected lifetime (Err x) = i
         other_collected lifetime (Ok c) = commits (record { call = ToCollect w.time lifetime; change = c }) (outcomes.Removed (length c.removed))
 
+        other_upgraded : (t : Result Change UpgradeRefusal) → RestsIn s end (after_upgrade w r t).0 name
+        other_upgraded (Err x) = i
+        other_upgraded (Ok c) = commits (record { call = ToUpgrade; change = c }) outcomes.Ok
+
         other_took : (reply : Reply) (t : Result Change TakeRefusal) → RestsIn s end (after_take w r reply t).0 name
         other_took reply (Ok c) = commits (record { call = ToTake reply; change = c }) (outcomes.Took (length reply.items) (length c.writes) c.usn)
         other_took reply (Err (takes.RolledBack inv mine shown)) = commits put_back_by (take_refused (takes.RolledBack inv mine shown))
@@ -168,15 +174,20 @@ module _ (name : Name) (s : State) (end : ℕ) (closed : s.mode ≡ Quarantined)
           (λ e. subst (λ t. Holds n (after_collect w r lifetime t)) (sym ((refuses e).no_collection w.time lifetime)) (i, λ f. refl))
           (λ differ. (other_collected differ lifetime (collect r.safe w.time lifetime), λ e. absurd (differ e)))
 
+      upgrades : Holds n (after_upgrade w r (upgrade r.safe))
+      upgrades = name_case (Holds n (after_upgrade w r (upgrade r.safe))) n name
+          (λ e. subst (λ t. Holds n (after_upgrade w r t)) (sym (refuses e).no_upgrade) (i, λ f. refl))
+          (λ differ. (other_upgraded differ (upgrade r.safe), λ e. absurd (differ e)))
+
       took : (reply : Reply) → Holds n (after_take w r reply (take r.safe reply))
       took reply = name_case (Holds n (after_take w r reply (take r.safe reply))) n name
           (λ e. subst (λ t. Holds n (after_take w r reply t)) (sym ((refuses e).no_take reply)) (i, λ f. refl))
           (λ differ. (other_took differ reply (take r.safe reply), λ e. absurd (differ e)))
 
-      sent : (q : Request) → HoldsSent n (after_serve w r (serve r.safe q))
-      sent q = name_case (HoldsSent n (after_serve w r (serve r.safe q))) n name
-          (λ e. subst (λ t. HoldsSent n (after_serve w r t)) (sym ((refuses e).no_serve q)) (i, λ f. refl))
-          (λ differ. (other_served differ (serve r.safe q), λ e. absurd (differ e)))
+      sent : (q : Request) → HoldsSent n (after_serve w r (serve r.safe q w.time))
+      sent q = name_case (HoldsSent n (after_serve w r (serve r.safe q w.time))) n name
+          (λ e. subst (λ t. HoldsSent n (after_serve w r t)) (sym ((refuses e).no_serve q w.time)) (i, λ f. refl))
+          (λ differ. (other_served differ (serve r.safe q w.time), λ e. absurd (differ e)))
 
       took_one : (o : Option Reply) → Holds n (delivered w r o)
       took_one None = (i, λ e. refl)
@@ -221,15 +232,18 @@ module _ (name : Name) (s : State) (end : ℕ) (closed : s.mode ≡ Quarantined)
       pub collects_hold : (lifetime : ℕ) → Holds n (of_controller w n (stays w) (λ r. after_collect w r lifetime (collect r.safe w.time lifetime)))
       collects_hold lifetime = plain (Holds n) (stays w) stay (λ r. after_collect w r lifetime (collect r.safe w.time lifetime)) (λ r found. collected n r found lifetime)
 
+      pub upgrades_hold : Holds n (of_controller w n (stays w) (λ r. after_upgrade w r (upgrade r.safe)))
+      upgrades_hold = plain (Holds n) (stays w) stay (λ r. after_upgrade w r (upgrade r.safe)) (λ r found. upgrades n r found)
+
       pub delivers_hold : (o : Option Reply) → Holds n (delivers w n o)
       delivers_hold o = plain (Holds n) (stays w) stay (λ r. delivered w r o) (λ r found. took_one n r found o)
 
       pub serves_hold : (o : Option Request) → HoldsSent n (serves_request w n o)
       serves_hold o = plain (HoldsSent n) (nothing w) (none_sent Reply) (λ r. served w r o) (λ r found. sent_one n r found o)
 
-      pub asks_hold : (partner : Name) (max : ℕ) → HoldsSent n (asks w n partner max)
-      asks_hold partner max = made (HoldsSent n) w n (nothing w) (i, λ e. refl) _ (λ r found. made (HoldsSent n) w partner (nothing w) (i, λ e. refl) _
-          (λ p at. up_or_not (HoldsSent n) w n (nothing w) (i, λ e. refl) (i, λ e. refl) (i, λ e. refl) r.standing (w, outcomes.Ok, Some (ask r.safe p.safe.dsa max)) (i, λ e. refl)))
+      pub asks_hold : (partner : Name) (max version : ℕ) → HoldsSent n (asks w n partner max version)
+      asks_hold partner max version = made (HoldsSent n) w n (nothing w) (i, λ e. refl) _ (λ r found. made (HoldsSent n) w partner (nothing w) (i, λ e. refl) _
+          (λ p at. up_or_not (HoldsSent n) w n (nothing w) (i, λ e. refl) (i, λ e. refl) (i, λ e. refl) r.standing (w, outcomes.Ok, Some (ask r.safe p.safe.dsa max version)) (i, λ e. refl)))
 
       pub backs_up_hold : HoldsSent n (of_controller w n (nothing w) (λ r. backed_up w (backup r.safe)))
       backs_up_hold = plain (HoldsSent n) (nothing w) (none_sent Store) (λ r. backed_up w (backup r.safe)) (λ r found. by (backup r.safe))

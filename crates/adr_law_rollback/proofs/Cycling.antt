@@ -6,7 +6,7 @@ use Rattle.adr_event.specs.declared.answer.Outcome.TheVariants as outcomes
 use Rattle.adr_model.specs.Store.{Quarantined, State}
 use Rattle.adr_model.specs.Serve.{Request, Reply}
 use Rattle.adr_model.specs.World.{Name, World, answer, asks, serves_request, delivers}
-use Rattle.adr_model.specs.Cycles.{Pulled, pull_served, pull_asked, pull, and_then, pulls}
+use Rattle.adr_model.specs.Cycles.{Pulled, pull_served, pull_asked, pull, and_then, pulls, pull_version}
 use Rattle.adr_model.proofs.Members.{member_of_either}
 use Rattle.adr_law_rollback.specs.ShutOff.{RestsIn, is_done, DoesNothing}
 use Rattle.adr_law_rollback.proofs.Calls.{asks_hold, serves_hold, delivers_hold}
@@ -45,9 +45,9 @@ module _ (name : Name) (s : State) (end : ℕ) (closed : s.mode ≡ Quarantined)
 
     pub pull_still : (w : World) → RestsIn s end w name → Still (pull w dest source max).0 (pull w dest source max).1
     pull_still w i =
-        let t = asks_hold name s end closed w i dest source max in
-        let v = served (asks w dest source max).0 t.0 (asks w dest source max).2 in
-        (v.0, one_more name (codes "ask") dest (asks w dest source max).1 (pull_asked dest source (asks w dest source max).0 (asks w dest source max).2).1 t.1 v.1)
+        let t = asks_hold name s end closed w i dest source max pull_version in
+        let v = served (asks w dest source max pull_version).0 t.0 (asks w dest source max pull_version).2 in
+        (v.0, one_more name (codes "ask") dest (asks w dest source max pull_version).1 (pull_asked dest source (asks w dest source max pull_version).0 (asks w dest source max pull_version).2).1 t.1 v.1)
 
     then_still : (p : Pulled) (go : World → World × List Answer) → Still p.0 p.1 → ((v : World) → RestsIn s end v name → Still (go v).0 (go v).1)
         → Still (and_then p go).0 (and_then p go).1

@@ -41,7 +41,7 @@ at_least a b = (omega arith, omega arith)
 -- ---- serving
 
 pub found_by_serving : FoundByServing
-found_by_serving s q is more = ap (λ o. unless o (reply_to s q)) some
+found_by_serving s q is more now = ap (λ o. unless o (reply_to s q now)) some
   where
     some : serve_refusal s q ≡ Some (serves.RolledBack s.inv s.store.usn (shown_by s q))
     some =
@@ -65,9 +65,9 @@ kept_ordered partner (k ∷ ks) all = by (is_at (identifier_order partner) k.0) 
     by true rest = all k (inl refl)
     by false rest = rest
 
-module _ (s t : State) (most : ℕ) (normal : s.mode ≡ Normal) (formed : IsFormed t) where
+module _ (s t : State) (most version : ℕ) (normal : s.mode ≡ Normal) (formed : IsFormed t) where
   abbrev q : Request
-  q = ask t s.dsa most
+  q = ask t s.dsa most version
 
   well_asked : IsWellAsked s q
   well_asked = record { normal = normal; source = refl; ordered = kept_ordered s.dsa t.store.marks formed.store.marks }
@@ -76,12 +76,12 @@ module _ (s t : State) (most : ℕ) (normal : s.mode ≡ Normal) (formed : IsFor
   shows_more n shown more = found_by_serving s q well_asked (omega (arith, shown, more))
 
 pub found_by_who_covers_more : FoundByWhoCoversMore
-found_by_who_covers_more s t most normal formed more =
-    shows_more s t most normal formed (at t.store.vector s.inv) (at_least (at t.store.vector s.inv) (begins_at s (ask t s.dsa most)).seen).0 more
+found_by_who_covers_more s t most version normal formed more =
+    shows_more s t most version normal formed (at t.store.vector s.inv) (at_least (at t.store.vector s.inv) (begins_at s (ask t s.dsa most version)).seen).0 more
 
 pub found_by_who_read_more : FoundByWhoReadMore
-found_by_who_read_more s t most normal formed more =
-    shows_more s t most normal formed (begins_at s (ask t s.dsa most)).seen (at_least (at t.store.vector s.inv) (begins_at s (ask t s.dsa most)).seen).1 more
+found_by_who_read_more s t most version normal formed more =
+    shows_more s t most version normal formed (begins_at s (ask t s.dsa most version)).seen (at_least (at t.store.vector s.inv) (begins_at s (ask t s.dsa most version)).seen).1 more
 
 -- ---- taking
 
@@ -89,7 +89,7 @@ pub found_by_taking : FoundByTaking
 found_by_taking s r theirs is more = ap (λ o. unless o change) some ∙ ap (λ n. Err (takes.RolledBack s.inv s.store.usn n)) shown
   where
     change : Change
-    change = taken_change r (take_items s r.items)
+    change = taken_change s r (take_items s r.items)
 
     shown : shown_by_last s r ≡ at theirs s.inv
     shown = ap (λ o. option_map_or (λ v. at v s.inv) o 0) is.last

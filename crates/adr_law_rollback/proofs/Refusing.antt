@@ -7,12 +7,14 @@ use Rattle.adr_event.specs.declared.refusal.WriteRefusal.TheVariants as writes
 use Rattle.adr_event.specs.declared.refusal.ServeRefusal.TheVariants as serves
 use Rattle.adr_event.specs.declared.refusal.TakeRefusal.TheVariants as takes
 use Rattle.adr_event.specs.declared.refusal.CollectRefusal.TheVariants as collects
+use Rattle.adr_event.specs.declared.refusal.UpgradeRefusal.TheVariants as upgrades
 use Rattle.adr_model.specs.Refusing.{unless}
 use Rattle.adr_model.specs.Store.{Quarantined, State}
 use Rattle.adr_model.specs.Serve.{is_quarantined, reply_to}
-use Rattle.adr_model.specs.Write.{Write, AddObject, Modify, Rename, Delete, AddLink, RemoveLink, any_link_refusal, items_written, own_change, write_refusal}
+use Rattle.adr_model.specs.Write.{Write, AddObject, Modify, Rename, Delete, AddLink, RemoveLink, Revive, any_link_refusal, items_written, own_change, write_refusal}
 use Rattle.adr_model.specs.Take.{take_items, taken_change}
 use Rattle.adr_model.specs.Collect.{deaths_to_collect, collection}
+use Rattle.adr_model.specs.Upgrade.{upgraded}
 use Rattle.adr_law_rollback.specs.ShutOff.{RefusesAll, QuarantinedRefusesAll}
 
 -- what is tested and met comes first
@@ -36,14 +38,16 @@ module _ (s : State) (closed : s.mode ≡ Quarantined) where
   no_write (Delete guid) = first _
   no_write (AddLink from attr to) = met_before (any_link_refusal s from attr to (λ linked. then_some linked writes.LinkThere)) writes.Quarantined _ (first _)
   no_write (RemoveLink from attr to) = first _
+  no_write (Revive image guid parent text) = first _
 
   pub refuses_all : RefusesAll s
   refuses_all = record {
     no_write = λ what now. ap (λ o. unless o (own_change s (items_written s what now))) (no_write what);
-    no_serve = λ q. ap (λ o. unless o (reply_to s q)) (first_met (is_quarantined s.mode) serves.Quarantined _ is_closed);
-    no_take = λ r. ap (λ o. unless o (taken_change r (take_items s r.items))) (first_met (is_quarantined s.mode) takes.Quarantined _ is_closed);
+    no_serve = λ q now. ap (λ o. unless o (reply_to s q now)) (first_met (is_quarantined s.mode) serves.Quarantined _ is_closed);
+    no_take = λ r. ap (λ o. unless o (taken_change s r (take_items s r.items))) (first_met (is_quarantined s.mode) takes.Quarantined _ is_closed);
     no_collection = λ now lifetime.
         ap (λ o. unless o (collection s (deaths_to_collect s now lifetime))) (first_met (is_quarantined s.mode) collects.Quarantined _ is_closed);
+    no_upgrade = ap (λ o. unless o (upgraded s)) (first_met (is_quarantined s.mode) upgrades.Quarantined _ is_closed);
     no_image = ap (λ b. if b then None else Some s.store) is_closed;
   }
 

@@ -55,7 +55,7 @@ serving_shuts_off w name r q ready is more =
     all =
         ap (λ p. of_made (nothing w) p (λ x. where_up (nothing w) x.standing (served w x (Some q)))) ready.found
         ∙ (ap (λ st. where_up (nothing w) st (served w r (Some q))) ready.up
-        ∙ (ap (after_serve w r) (found_by_serving r.safe q is more)
+        ∙ (ap (after_serve w r) (found_by_serving r.safe q is more w.time)
         ∙ ap not_sent (quarantines_it w name r ready (serve_refused (serves.RolledBack r.safe.inv r.safe.store.usn (shown_by r.safe q))))))
 
 pub taking_shuts_off : TakingShutsOff

@@ -1,22 +1,22 @@
 -- Behind every line that puts nothing back on its disk a controller that is shut off is so still, and has done nothing.
-use Rattle.std.proofs.Common.{◌≡◌, inl, inr, ℕ, List, [], ◌∷◌, false, Option, refl}
+use Rattle.std.proofs.Common.{◌≡◌, inl, inr, ℕ, List, [], ◌∷◌, false, Option, Some, None, refl}
 use Rattle.adr_event.specs.declared.answer.Answer.{Answer}
 use Rattle.adr_event.specs.declared.answer.Outcome.{Outcome}
 use Rattle.adr_event.specs.declared.answer.Outcome.TheVariants as outcomes
 use Rattle.adr_event.specs.declared.event.Event.{Event}
 use Rattle.adr_event.specs.declared.event.Event.TheVariants as events
 use Rattle.adr_model.specs.Member.{Each}
-use Rattle.adr_model.specs.Store.{Quarantined, State, empty_state}
-use Rattle.adr_model.specs.Write.{AddObject, Modify, Rename, Delete, AddLink, RemoveLink}
+use Rattle.adr_model.specs.Store.{Quarantined, Store, State, empty_state}
+use Rattle.adr_model.specs.Write.{AddObject, Modify, Rename, Delete, AddLink, RemoveLink, Revive}
 use Rattle.adr_model.specs.Collect.{backup}
 use Rattle.adr_model.specs.Replica.{Stops, Fails, on_new_disk}
 use Rattle.adr_model.specs.World.{Name, World, Sent, answer, nothing, bound, bound_at, asks, serves_request, of_controller, backed_up, shown, marks_shown}
 use Rattle.adr_model.specs.Cycles.{reply_limit}
-use Rattle.adr_model.specs.Step.{gives, told_bound, step, after_lines, answers}
+use Rattle.adr_model.specs.Step.{gives, told_bound, revival, stepped, step, after_lines, answers}
 use Rattle.adr_model.proofs.Ringing.{rings_so}
 use Rattle.adr_law_rollback.specs.ShutOff.{RestsIn, is_done, DoesNothing, Spares, QuarantineHolds, QuarantineHoldsThroughout}
 use Rattle.adr_law_rollback.proofs.Placing.{first_stays}
-use Rattle.adr_law_rollback.proofs.Calls.{HoldsSent, writes_hold, collects_hold, delivers_hold, serves_hold, asks_hold, backs_up_hold, copied, copies_hold, plans_hold, stops_hold, starts_hold, reports_hold, installs_hold, restores_hold, rollbacks_hold}
+use Rattle.adr_law_rollback.proofs.Calls.{HoldsSent, writes_hold, collects_hold, upgrades_hold, delivers_hold, serves_hold, asks_hold, backs_up_hold, copied, copies_hold, plans_hold, stops_hold, starts_hold, reports_hold, installs_hold, restores_hold, rollbacks_hold}
 use Rattle.adr_law_rollback.proofs.Cycling.{silent, one_more, both_silent, Still, pull_still, pulls_still}
 
 module _ (name : Name) (s : State) (end : ℕ) (closed : s.mode ≡ Quarantined) where
@@ -40,8 +40,8 @@ module _ (name : Name) (s : State) (end : ℕ) (closed : s.mode ≡ Quarantined)
     step_still (events.Delete n guid) spares = let t = writes_hold name s end closed w i n (Delete guid) in (t.0, one _ n _ t.1)
     step_still (events.Link n from attr to) spares = let t = writes_hold name s end closed w i n (AddLink from attr to) in (t.0, one _ n _ t.1)
     step_still (events.Unlink n from attr to) spares = let t = writes_hold name s end closed w i n (RemoveLink from attr to) in (t.0, one _ n _ t.1)
-    step_still (events.Ask n partner max bind) spares =
-        one_bound _ n (asks w n partner max) (λ v q. record v { requests = bound v.requests bind q }) (λ v q j. j) (asks_hold name s end closed w i n partner max)
+    step_still (events.Ask n partner max version bind) spares =
+        one_bound _ n (asks w n partner max version) (λ v q. record v { requests = bound v.requests bind q }) (λ v q j. j) (asks_hold name s end closed w i n partner max version)
     step_still (events.Serve n request bind) spares =
         one_bound _ n (serves_request w n (bound_at w.requests request)) (λ v r. record v { replies = bound v.replies bind r }) (λ v r j. j)
         (serves_hold name s end closed w i n (bound_at w.requests request))
@@ -52,6 +52,12 @@ module _ (name : Name) (s : State) (end : ℕ) (closed : s.mode ≡ Quarantined)
         rings_so (λ v. RestsIn s end v name) (λ (a : Answer). a.name ≡ name → is_done a.outcome ≡ false) (λ v dest source most j. pulls_still name s end closed dest source most reply_limit v j)
         n others rounds max (λ v d e own. refl) w i
     step_still (events.Collect n lifetime) spares = let t = collects_hold name s end closed w i n lifetime in (t.0, one _ n _ t.1)
+    step_still (events.Upgrade n) spares = let t = upgrades_hold name s end closed w i n in (t.0, one _ n _ t.1)
+    step_still (events.Revive n guid image parent text) spares = by (bound_at w.images image)
+      where
+        by : (o : Option Store) → Behind (stepped w (events.Revive n guid image parent text) (revival n guid parent text o))
+        by None = (i, one _ n outcomes.Absent (λ e. refl))
+        by (Some image) = let t = writes_hold name s end closed w i n (Revive image guid parent text) in (t.0, one _ n _ t.1)
     step_still (events.Backup n bind) spares =
         one_bound _ n (of_controller w n (nothing w) (λ r. backed_up w (backup r.safe))) (λ v image. record v { images = bound v.images bind image }) (λ v image j. j)
         (backs_up_hold name s end closed w i n)
@@ -67,7 +73,7 @@ module _ (name : Name) (s : State) (end : ℕ) (closed : s.mode ≡ Quarantined)
     step_still (events.Stop n) spares = let t = stops_hold name s end closed w i n in (t.0, one _ n _ t.1)
     step_still (events.Start n) spares = let t = starts_hold name s end closed w i n in (t.0, one _ n _ t.1)
     step_still (events.Show n) spares = let t = reports_hold name s end closed w i n (λ r. outcomes.Show (shown w r.safe)) (λ r. refl) in (t.0, one _ n _ t.1)
-    step_still (events.Vector n) spares = let t = reports_hold name s end closed w i n (λ r. outcomes.Vector r.safe.store.vector) (λ r. refl) in (t.0, one _ n _ t.1)
+    step_still (events.Vector n) spares = let t = reports_hold name s end closed w i n (λ r. outcomes.Vector r.safe.store.vector r.safe.store.times) (λ r. refl) in (t.0, one _ n _ t.1)
     step_still (events.Marks n) spares = let t = reports_hold name s end closed w i n (λ r. outcomes.Marks (marks_shown r.safe.store)) (λ r. refl) in (t.0, one _ n _ t.1)
 
   lines_still : (es : List Event) (w : World) → RestsIn s end w name → Each (Spares name) es → Still name s end closed (after_lines w es) (answers w es)

@@ -26,9 +26,9 @@ pub record IsWellAsked (s : State) (q : Request) : Type 0 where
 abbrev pub ShowsMore : State → Request → Type 0
 ShowsMore s q = s.store.usn < shown_by s q
 
--- it is refused by this
+-- it is refused by this, whenever it comes
 abbrev pub IsFoundByServing : State → Request → Type 0
-IsFoundByServing s q = serve s q ≡ Err (serves.RolledBack s.inv s.store.usn (shown_by s q))
+IsFoundByServing s q = (now : ℕ) → serve s q now ≡ Err (serves.RolledBack s.inv s.store.usn (shown_by s q))
 
 abbrev pub FoundByServing : Type 0
 FoundByServing = (s : State) (q : Request) → IsWellAsked s q → ShowsMore s q → IsFoundByServing s q
@@ -36,13 +36,13 @@ FoundByServing = (s : State) (q : Request) → IsWellAsked s q → ShowsMore s q
 -- so is a formed controller's own request, where its vector covers more of this incarnation than there is
 abbrev pub FoundByWhoCoversMore : Type 0
 FoundByWhoCoversMore =
-    (s t : State) (max : ℕ) → s.mode ≡ Normal → IsFormed t → s.store.usn < at t.store.vector s.inv → IsFoundByServing s (ask t s.dsa max)
+    (s t : State) (max version : ℕ) → s.mode ≡ Normal → IsFormed t → s.store.usn < at t.store.vector s.inv → IsFoundByServing s (ask t s.dsa max version)
 
 -- or where the mark that it keeps of this incarnation was made when there was more
 abbrev pub FoundByWhoReadMore : Type 0
 FoundByWhoReadMore =
-    (s t : State) (max : ℕ) → s.mode ≡ Normal → IsFormed t → s.store.usn < (mark_of (kept_of t.store s.dsa) s.inv).seen
-    → IsFoundByServing s (ask t s.dsa max)
+    (s t : State) (max version : ℕ) → s.mode ≡ Normal → IsFormed t → s.store.usn < (mark_of (kept_of t.store s.dsa) s.inv).seen
+    → IsFoundByServing s (ask t s.dsa max version)
 
 -- a last reply that passes what a controller in use tests of it before
 pub record IsWellSent (s : State) (r : Reply) (theirs : Cursors) : Type 0 where

@@ -9,22 +9,25 @@ use Rattle.adr_event.specs.declared.refusal.WriteRefusal.TheVariants as writes
 use Rattle.adr_event.specs.declared.refusal.ServeRefusal.TheVariants as serves
 use Rattle.adr_event.specs.declared.refusal.TakeRefusal.TheVariants as takes
 use Rattle.adr_event.specs.declared.refusal.CollectRefusal.TheVariants as collects
+use Rattle.adr_event.specs.declared.refusal.UpgradeRefusal.TheVariants as upgrades
 use Rattle.adr_model.specs.Member.{Each}
 use Rattle.adr_model.specs.Store.{Quarantined, State}
 use Rattle.adr_model.specs.Serve.{Request, Reply, serve}
 use Rattle.adr_model.specs.Write.{Write, write}
 use Rattle.adr_model.specs.Take.{take}
 use Rattle.adr_model.specs.Collect.{collect, backup}
+use Rattle.adr_model.specs.Upgrade.{upgrade}
 use Rattle.adr_model.specs.Replica.{Replica}
 use Rattle.adr_model.specs.World.{Name, World, replica_at}
 use Rattle.adr_model.specs.Step.{step, after_lines, answers}
 
--- it writes nothing, serves nothing, takes nothing, collects nothing, and gives no image
+-- it writes nothing, serves nothing, takes nothing, collects nothing, keeps its schema, and gives no image
 pub record RefusesAll (s : State) : Type 0 where
   pub no_write : (what : Write) (now : ℕ) → write s what now ≡ Err writes.Quarantined
-  pub no_serve : (q : Request) → serve s q ≡ Err serves.Quarantined
+  pub no_serve : (q : Request) (now : ℕ) → serve s q now ≡ Err serves.Quarantined
   pub no_take : (r : Reply) → take s r ≡ Err takes.Quarantined
   pub no_collection : (now lifetime : ℕ) → collect s now lifetime ≡ Err collects.Quarantined
+  pub no_upgrade : upgrade s ≡ Err upgrades.Quarantined
   pub no_image : backup s ≡ None
 
 abbrev pub QuarantinedRefusesAll : Type 0

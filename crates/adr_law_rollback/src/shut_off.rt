@@ -2,7 +2,7 @@
 
 ghost use Rattle.adr_law_rollback.specs.ShutOff.{QuarantineHolds, QuarantineHoldsThroughout, QuarantinedRefusesAll};
 
-/// A quarantined controller refuses every write, request, reply and collection, and gives no image.
+/// A quarantined controller refuses every write, request, reply, collection and change of schema, and gives no image.
 pub fn quarantined_controllers_are_shut_off()
     ensures { QuarantinedRefusesAll }
 {}

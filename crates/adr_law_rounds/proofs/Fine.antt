@@ -14,7 +14,7 @@ use Rattle.adr_model.specs.Refused.{serve_refused}
 use Rattle.adr_model.specs.Collect.{quarantine}
 use Rattle.adr_model.specs.Replica.{ToQuarantine, Standing, Up, Down, Failed, Stops, Fails, Went, Passed, Met, went, Pending, Replica, outcome_after}
 use Rattle.adr_model.specs.World.{Name, World, Gone, Sent, answer, replica_at, of_made, where_up, nothing, asks, after_serve, served, serves_request, committed, commit, quarantines}
-use Rattle.adr_model.specs.Cycles.{Pulled, first_told, pull_asked, pull, and_then}
+use Rattle.adr_model.specs.Cycles.{Pulled, first_told, pull_asked, pull, and_then, pull_version}
 use Rattle.adr_model.specs.Sound.{IsSoundWorld}
 use Rattle.adr_model.proofs.Members.{member_left}
 use Rattle.adr_law_knowledge.proofs.Refusing.{none_there, is_so, answered, no_gap}
@@ -59,7 +59,7 @@ is_up w Failed t fine = absurd (cc)
 module _ (w : World) (sound : IsSoundWorld w) (dest source : Name) (most : ℕ) where
   -- what is asked, by who is found
   abbrev asked : Option Replica → Option Replica → Sent Request
-  asked o p = of_made (nothing w) o (λ d. of_made (nothing w) p (λ s. where_up (nothing w) d.standing (w, outcomes.Ok, Some (ask d.safe s.safe.dsa most))))
+  asked o p = of_made (nothing w) o (λ d. of_made (nothing w) p (λ s. where_up (nothing w) d.standing (w, outcomes.Ok, Some (ask d.safe s.safe.dsa most pull_version))))
 
   record Asks : Type 0 where
     d : Replica
@@ -71,13 +71,13 @@ module _ (w : World) (sound : IsSoundWorld w) (dest source : Name) (most : ℕ) 
   who_asks : (o p : Option Replica) → replica_at w dest ≡ o → replica_at w source ≡ p → IsFine (asked o p).1 → Asks
   who_asks None p e f fine = absurd (cc)
   who_asks (Some d) None e f fine = absurd (cc)
-  who_asks (Some d) (Some s) e f fine = record { d = d; s = s; d_found = e; s_found = f; d_up = (is_up w d.standing (w, outcomes.Ok, Some (ask d.safe s.safe.dsa most)) fine).0 }
+  who_asks (Some d) (Some s) e f fine = record { d = d; s = s; d_found = e; s_found = f; d_up = (is_up w d.standing (w, outcomes.Ok, Some (ask d.safe s.safe.dsa most pull_version)) fine).0 }
 
   module _ (a : Asks) where
     abbrev q : Request
-    q = ask a.d.safe a.s.safe.dsa most
+    q = ask a.d.safe a.s.safe.dsa most pull_version
 
-    asks_are : asks w dest source most ≡ (w, outcomes.Ok, Some q)
+    asks_are : asks w dest source most pull_version ≡ (w, outcomes.Ok, Some q)
     asks_are =
         ap (λ o. asked o (replica_at w source)) a.d_found
         ∙ (ap (λ p. asked (Some a.d) p) a.s_found
@@ -86,7 +86,7 @@ module _ (w : World) (sound : IsSoundWorld w) (dest source : Name) (most : ℕ) 
     pull_is : pull w dest source most ≡ first_told (answer (codes "ask") dest outcomes.Ok) (pull_asked dest source w (Some q))
     pull_is = ap (λ (t : Sent Request). first_told (answer (codes "ask") dest t.1) (pull_asked dest source t.0 t.2)) asks_are
 
-    serve_is : serves_request w source (Some q) ≡ where_up (nothing w) a.s.standing (after_serve w a.s (serve a.s.safe q))
+    serve_is : serves_request w source (Some q) ≡ where_up (nothing w) a.s.standing (after_serve w a.s (serve a.s.safe q w.time))
     serve_is = ap (λ o. of_made (nothing w) o (λ r. where_up (nothing w) r.standing (served w r (Some q)))) a.s_found
 
     goes : IsWhole (pull w dest source most).1 → (d : Replica) × (s : Replica) × Goes w w dest source d s
@@ -109,17 +109,17 @@ module _ (w : World) (sound : IsSoundWorld w) (dest source : Name) (most : ℕ) 
         second : IsFine (serves_request w source (Some q)).1
         second = subst (λ (p : Pulled). IsWhole p.1) pull_is fine (answer (codes "serve") source (serves_request w source (Some q)).1) (inr (inl refl))
 
-        up : (a.s.standing ≡ Up) × IsFine (after_serve w a.s (serve a.s.safe q)).1
-        up = is_up w a.s.standing (after_serve w a.s (serve a.s.safe q)) (subst (λ (t : Sent Reply). IsFine t.1) serve_is second)
+        up : (a.s.standing ≡ Up) × IsFine (after_serve w a.s (serve a.s.safe q w.time)).1
+        up = is_up w a.s.standing (after_serve w a.s (serve a.s.safe q w.time)) (subst (λ (t : Sent Reply). IsFine t.1) serve_is second)
 
         none : serve_refusal a.s.safe q ≡ None
-        none = let r = was_served w a.s (serve a.s.safe q) up.1 in (answered (serve_refusal a.s.safe q) (reply_to a.s.safe q) r.0 r.1).0
+        none = let r = was_served w a.s (serve a.s.safe q w.time) up.1 in (answered (serve_refusal a.s.safe q) (reply_to a.s.safe q w.time) r.0 r.1).0
 
         all : {o : Option ServeRefusal} → Member o (serve_refusals a.s.safe q) → o ≡ None
         all {o} m = none_there (serve_refusals a.s.safe q) none o m
 
   pub goes_where_fine : IsWhole (pull w dest source most).1 → (d : Replica) × (s : Replica) × Goes w w dest source d s
-  goes_where_fine fine = goes (who_asks (replica_at w dest) (replica_at w source) refl refl (fine (answer (codes "ask") dest (asks w dest source most).1) (inl refl))) fine
+  goes_where_fine fine = goes (who_asks (replica_at w dest) (replica_at w source) refl refl (fine (answer (codes "ask") dest (asks w dest source most pull_version).1) (inl refl))) fine
 
 -- the first pull of what went well went well
 pub first_is_fine : (p : Pulled) (go : World → World × List Answer) → IsWhole (and_then p go).1 → IsWhole p.1

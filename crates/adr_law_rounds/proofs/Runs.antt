@@ -54,11 +54,11 @@ module _ (w v : World) (sound : IsSoundWorld w) (dest source : Name) (c : IsCycl
         where
           by : (b : Bool) → bytes_eq r.name dest ≡ b → Takes u v x
           by true is = let same = is_dest r m (same_name r.name dest is) in
-              (c.n, c.beside.there, c.beside.name ∙ (sym (same_name r.name dest is) ∙ e), moved c.n (c.carried.keeps u (subst (λ (q : Replica). Reflects w.book.issued (knowledge_of q.safe.store) u) same h)))
+              (c.n, c.beside.there, c.beside.name ∙ (sym (same_name r.name dest is) ∙ e), moved c.n (c.carried.all.keeps u (subst (λ (q : Replica). Reflects w.book.issued (knowledge_of q.safe.store) u) same h)))
           by false is = (r, c.beside.others r m (λ f. let t : bytes_eq r.name dest ≡ true = same_name_tests r.name dest f in absurd (cc)), e, moved r h)
 
       took : Holds u w source → Takes u v dest
-      took (r, m, e, h) = (c.n, c.beside.there, c.beside.name, moved c.n (c.carried.took u (subst (λ (q : Replica). Member u (held_by q)) (is_source r m e) h)))
+      took (r, m, e, h) = (c.n, c.beside.there, c.beside.name, moved c.n (c.carried.all.took u (subst (λ (q : Replica). Member u (held_by q)) (is_source r m e) h)))
 
       gained : (x : Name) → Holds u v x → Holds u w x ⊎ ((x ≡ dest) × Holds u w source × (Takes u w dest → ⊥))
       gained x (r, m, e, h) = by (stands r m)
@@ -66,7 +66,7 @@ module _ (w v : World) (sound : IsSoundWorld w) (dest source : Name) (c : IsCycl
           new : (r ≡ c.n) × (r.name ≡ dest) → Holds u w x ⊎ ((x ≡ dest) × Holds u w source × (Takes u w dest → ⊥))
           new (same, f) = ⊎_elim (λ old. inl (c.d, c.d_there.0, c.d_there.1 ∙ (sym f ∙ e), old))
               (λ came. inr (sym e ∙ f, (c.s, c.s_there.0, c.s_there.1, came.0), λ t. came.1 (subst (λ (q : Replica). Reflects w.book.issued (knowledge_of q.safe.store) u) (is_dest t.0 t.1 t.2) t.3)))
-              (c.carried.gained u (subst (λ (q : Replica). Member u (held_by q)) same h))
+              (c.carried.all.gained u (subst (λ (q : Replica). Member u (held_by q)) same h))
 
           by : ((r ≡ c.n) × (r.name ≡ dest)) ⊎ ((r.name ≡ dest → ⊥) × Member r w.replicas) → Holds u w x ⊎ ((x ≡ dest) × Holds u w source × (Takes u w dest → ⊥))
           by (inl t) = new t
@@ -108,7 +108,7 @@ Rests w v = Each (λ r. Each (λ q. q.name ≡ r.name → (q.safe.store.rows ≡
 module _ (over : List Connection) where
   module _ (w v : World) (sound : IsSoundWorld w) (dest source : Name) (c : IsCycled w v dest source) (there : Member (dest, source) over) (settled : AreSettled over w) where
     still : (c.n.safe.store.usn ≡ c.d.safe.store.usn) × (c.n.safe.store.rows ≡ c.d.safe.store.rows)
-    still = c.carried.idle taken
+    still = c.carried.all.idle taken
       where
         taken : Each (λ u. Reflects w.book.issued (knowledge_of c.d.safe.store) u) (updates_of c.s.safe.store.rows)
         taken u m = let t = settled u (dest, source) there (c.s, c.s_there.0, c.s_there.1, m) in

@@ -4,11 +4,9 @@ use Rattle.std.specs.List.{find}
 use Rattle.std.specs.Option.{option_and_then}
 use Rattle.std.specs.Cmp.Lexicographic.{pointwise, pointwise_decides}
 use Rattle.std.proofs.lemmas.Bool.{not-false}
-use Rattle.adr_vector.specs.Vector.{Cursors}
 use Rattle.adr_event.specs.declared.answer.Answer.{Answer}
 use Rattle.adr_event.specs.declared.answer.Outcome.{Outcome}
 use Rattle.adr_event.specs.declared.answer.Outcome.TheVariants as outcomes
-use Rattle.adr_event.specs.declared.directory.Entry.{Entry}
 use Rattle.adr_event.specs.declared.event.Event.TheVariants as events
 use Rattle.adr_model.specs.Member.{Member, Each}
 use Rattle.adr_model.specs.Directory.{directory}
@@ -19,7 +17,7 @@ use Rattle.adr_model.specs.Replica.{Up, Replica}
 use Rattle.std.specs.Str.{bytes_eq}
 use Rattle.adr_law_convergence.proofs.Found.{same_name, same_name_tests}
 use Rattle.adr_model.specs.World.{Name, World, answer, replica_at, shown, asks, serves_request, delivers}
-use Rattle.adr_model.specs.Cycles.{Pulled, pull_served, pull_asked, pull, and_then, pulls, cycle, reply_limit}
+use Rattle.adr_model.specs.Cycles.{Pulled, pull_served, pull_asked, pull, and_then, pulls, cycle, reply_limit, pull_version}
 use Rattle.adr_model.specs.Rings.{is_fine, unfinished, or_else, Connection, cycles, last_of, in_line, ring, times, same_entry, same_cursor, show_alike, vectors_alike, compared, where_standing, told_of}
 use Rattle.adr_model.specs.Step.{step}
 use Rattle.adr_model.specs.Sound.{IsSoundWorld}
@@ -187,7 +185,7 @@ asked_others dest source w (Some q) = let t = serves_request w source (Some q) i
     one_other (codes "serve") source t.1 (pull_served dest t.0 t.2).1 (λ e. absurd (cc)) (served_others dest t.0 t.2)
 
 pull_others : (w : World) (dest source : Name) (max : ℕ) → Each IsOther (pull w dest source max).1
-pull_others w dest source max = let t = asks w dest source max in
+pull_others w dest source max = let t = asks w dest source max pull_version in
     one_other (codes "ask") dest t.1 (pull_asked dest source t.0 t.2).1 (λ e. absurd (cc)) (asked_others dest source t.0 t.2)
 
 then_others : (p : Pulled) (go : World → World × List Answer) → Each IsOther p.1 → ((v : World) → Each IsOther (go v).1) → Each IsOther (and_then p go).1

@@ -1,5 +1,5 @@
 -- Rounds in a run.
-use Rattle.std.proofs.Common.{◌≡◌, List, [], ◌∷◌, ◌++◌, true, refl, sym, subst, map, length, ◌≤◌, ◌+◌, ◌*◌}
+use Rattle.std.proofs.Common.{◌≡◌, List, [], ◌∷◌, ◌++◌, refl, sym, subst, map, length, ◌≤◌, ◌+◌, ◌*◌}
 use Rattle.adr_event.specs.declared.event.Event.{Event}
 use Rattle.adr_model.specs.World.{World, empty_world}
 use Rattle.adr_model.specs.Step.{step, after_lines}

@@ -38,7 +38,7 @@ module _ (w v : World) (sound : IsSoundWorld w) (dest source : Name) (c : IsCycl
   seen_of_own i is x safe = omega (
     arith,
     ap (at c.n.safe.store.vector) is,
-    c.carried.own,
+    c.carried.all.own,
     c.carried.rises,
     d_safe.last,
     ap (last_of w.book) (is ∙ c.carried.inv),
@@ -47,10 +47,10 @@ module _ (w v : World) (sound : IsSoundWorld w) (dest source : Name) (c : IsCycl
 
   -- the vector never falls, and is at least the source's
   own_kept : AtMost (at c.d.safe.store.vector) (at c.n.safe.store.vector)
-  own_kept i = ⊎_elim (λ is. seen_of_own i is c.d.safe d_safe) (λ other. omega (arith, c.carried.vector i other)) (own_or_other c.n.safe i)
+  own_kept i = ⊎_elim (λ is. seen_of_own i is c.d.safe d_safe) (λ other. omega (arith, c.carried.all.vector i other)) (own_or_other c.n.safe i)
 
   source_joined : AtMost (at c.s.safe.store.vector) (at c.n.safe.store.vector)
-  source_joined i = ⊎_elim (λ is. seen_of_own i is c.s.safe s_safe) (λ other. omega (arith, c.carried.vector i other)) (own_or_other c.n.safe i)
+  source_joined i = ⊎_elim (λ is. seen_of_own i is c.s.safe s_safe) (λ other. omega (arith, c.carried.all.vector i other)) (own_or_other c.n.safe i)
 
   -- who has it has at least these numbers
   abbrev pub AtLeast : Numbers → World → (Name → Bool) → Type 0
@@ -103,7 +103,7 @@ module _ (names : List Name) (over : List Connection) (among : Each (λ c. Membe
       d_own = (sound.replicas c.d c.d_there.0).safe.formed.own
 
       joined : (i : Identifier) → at c.n.safe.store.vector i ≤ max (at c.d.safe.store.vector i) (at c.s.safe.store.vector i)
-      joined i = ⊎_elim (λ is. omega (arith, ap (at c.n.safe.store.vector) is, c.carried.own, idle, d_own, ap (at c.d.safe.store.vector) (is ∙ c.carried.inv))) (λ other. omega (arith, c.carried.vector i other)) (own_or_other c.n.safe i)
+      joined i = ⊎_elim (λ is. omega (arith, ap (at c.n.safe.store.vector) is, c.carried.all.own, idle, d_own, ap (at c.d.safe.store.vector) (is ∙ c.carried.inv))) (λ other. omega (arith, c.carried.all.vector i other)) (own_or_other c.n.safe i)
 
       of_n : IsBelow names w0 c.n
       of_n i = ⊎_elim (λ le. let q = of_s i in (q.0, q.1, q.2, omega (arith, joined i, le, q.3))) (λ le. let q = of_d i in (q.0, q.1, q.2, omega (arith, joined i, le, q.3))) (either (at c.d.safe.store.vector i) (at c.s.safe.store.vector i))

@@ -1,26 +1,23 @@
 -- What a whole cycle leaves.
-use Rattle.std.proofs.Common.{◌≡◌, ◌≢◌, ◌⊎◌, inl, inr, ⊎_elim, ℕ, zero, suc, ◌≤◌, List, [], Bool, true, false, cond, Option, Some, None, is_none, unwrap_or, refl, sym, ap, ◌∙◌, subst, arith, max}
+use Rattle.std.proofs.Common.{◌≡◌, ◌⊎◌, inl, inr, ⊎_elim, ℕ, zero, suc, ◌≤◌, List, true, false, Option, Some, None, is_none, refl, sym, ap, subst, arith}
 use Rattle.std.specs.Prelude.{codes}
-use Rattle.std.specs.Str.{bytes_eq}
-use Rattle.adr_vector.specs.Vector.{Cursors, at, at_most}
+use Rattle.adr_vector.specs.Vector.{Cursors, at_most}
 use Rattle.adr_event.specs.declared.answer.Answer.{Answer}
 use Rattle.adr_event.specs.declared.answer.Outcome.{Outcome}
 use Rattle.adr_event.specs.declared.answer.Outcome.TheVariants as outcomes
-use Rattle.adr_model.specs.Member.{Member, Each}
-use Rattle.adr_model.specs.Update.{Identifier, Update}
-use Rattle.adr_model.specs.Reflects.{knowledge_of, Reflects}
-use Rattle.adr_model.specs.Store.{Held, State, updates_of}
-use Rattle.adr_model.specs.Serve.{Reply}
+use Rattle.adr_model.specs.Member.{Member}
+use Rattle.adr_model.specs.Update.{Update}
+use Rattle.adr_model.specs.Store.{State}
 use Rattle.adr_model.specs.Replica.{Up, Replica}
 use Rattle.adr_model.specs.World.{Name, World, answer}
 use Rattle.adr_model.specs.Cycles.{Pulled, and_then, pull, pulls, reply_limit}
 use Rattle.adr_model.specs.Step.{step}
-use Rattle.adr_model.specs.Sound.{IsSoundState, IsSoundWorld}
-use Rattle.adr_model.specs.Convergence.{IsRefused}
+use Rattle.adr_model.specs.Sound.{IsSoundWorld}
+use Rattle.adr_model.specs.Convergence.{IsRefused, HasTakenAll}
 use Rattle.adr_model.proofs.Members.{member_right}
-use Rattle.adr_law_convergence.proofs.Found.{replica_found, in_place, still_there, same_name}
-use Rattle.adr_law_convergence.proofs.Cycling.{Goes, IsLike, reply, next, behind, taking, told, Takes, MeetsLimit, MeetsFault, took, taken_or_met, server, behind_sound, left, idle, gained, server_like, goes_on, keeps, one_of}
-use Rattle.adr_law_convergence.proofs.Completing.{there, joined_is, done}
+use Rattle.adr_law_convergence.proofs.Found.{replica_found}
+use Rattle.adr_law_convergence.proofs.Cycling.{Goes, reply, next, behind, taking, told, Takes, MeetsLimit, MeetsFault, took, taken_or_met, server, behind_sound, left, goes_on}
+use Rattle.adr_law_convergence.proofs.Completing.{IsBeside, beside_on, beside, done, onward}
 use Rattle.adr_model.specs.Rings.{is_fine}
 use Rattle.adr_law_rounds.specs.Rounds.{Exchange, line_of, IsWhole}
 use Rattle.adr_law_rounds.proofs.Fine.{goes_where_fine, first_is_fine}
@@ -28,116 +25,14 @@ use Rattle.adr_law_rounds.proofs.Fine.{goes_where_fine, first_is_fine}
 -- what a cycle leaves of the state that pulled
 pub record Carried (issued : List Update) (d s n : State) : Type 0 where
   pub inv : n.inv ≡ d.inv
-  pub purged : n.store.purged ≡ d.store.purged
   pub covered : at_most s.store.purged d.store.vector ≡ true
-  pub took : Each (λ u. Reflects issued (knowledge_of n.store) u) (updates_of s.store.rows)
-  pub keeps : (u : Update) → Reflects issued (knowledge_of d.store) u → Reflects issued (knowledge_of n.store) u
-  pub gained : Each (λ u. Member u (updates_of d.store.rows) ⊎ (Member u (updates_of s.store.rows) × (Reflects issued (knowledge_of d.store) u → ⊥))) (updates_of n.store.rows)
-  pub vector : (i : Identifier) → i ≢ n.inv → at n.store.vector i ≡ max (at d.store.vector i) (at s.store.vector i)
-  pub own : at n.store.vector n.inv ≡ n.store.usn
   pub rises : d.store.usn ≤ n.store.usn
-  pub idle : Each (λ u. Reflects issued (knowledge_of d.store) u) (updates_of s.store.rows) → (n.store.usn ≡ d.store.usn) × (n.store.rows ≡ d.store.rows)
+  pub all : HasTakenAll issued d s n
 
--- a controller in place of the one of its name, and all others as they were
-pub record IsBeside (w v : World) (dest : Name) (n : Replica) : Type 0 where
-  pub name : n.name ≡ dest
-  pub there : Member n v.replicas
-  pub others : Each (λ r. (r.name ≡ dest → ⊥) → Member r v.replicas) w.replicas
-  pub only : Each (λ r. (r ≡ n) ⊎ ((r.name ≡ dest → ⊥) × Member r w.replicas)) v.replicas
-
-beside_on : (w u v : World) (dest : Name) (n m : Replica) → IsBeside w u dest n → IsBeside u v dest m → IsBeside w v dest m
-beside_on w u v dest n m a b = record { name = b.name; there = b.there; others = λ r k other. b.others r (a.others r k other) other; only = only }
-  where
-    only : Each (λ r. (r ≡ m) ⊎ ((r.name ≡ dest → ⊥) × Member r w.replicas)) v.replicas
-    only r k = by (b.only r k)
-      where
-        by : (r ≡ m) ⊎ ((r.name ≡ dest → ⊥) × Member r u.replicas) → (r ≡ m) ⊎ ((r.name ≡ dest → ⊥) × Member r w.replicas)
-        by (inl e) = inl e
-        by (inr (other, i)) = ⊎_elim (λ e. absurd (other (ap (λ (q : Replica). q.name) e ∙ a.name))) (λ t. inr t) (a.only r i)
-
--- ---- one pull
-
-module _ (w v : World) (dest source : Name) (d s : Replica) (goes : Goes w v dest source d s) (most : ℕ) where
-  abbrev r : Reply
-  r = reply w v dest source d s goes most
-
-  abbrev n : Replica
-  n = next w v dest source d s goes most
-
-  abbrev z : Replica
-  z = server w v dest source d s goes most
-
-  abbrev u : World
-  u = behind w v dest source d s goes most
-
-  module _ (ok : Takes w v dest source d s goes most) where
-    d_safe : IsSoundState v.book d.safe
-    d_safe = (goes.sound.replicas d (replica_found v dest d goes.d_found).0).safe
-
-    beside : IsBeside v u dest n
-    beside = record { name = found.1; there = found.0; others = others; only = only }
-      where
-        found : Member n u.replicas × (n.name ≡ dest)
-        found = there w v dest source d s goes most ok
-
-        others : Each (λ x. (x.name ≡ dest → ⊥) → Member x u.replicas) v.replicas
-        others x m other = by (bytes_eq x.name n.name) refl (still_there v.replicas n x m)
-          where
-            by : (b : Bool) → bytes_eq x.name n.name ≡ b → Member (cond b n x) u.replicas → Member x u.replicas
-            by true is k = absurd (other (same_name x.name n.name is ∙ found.1))
-            by false is k = k
-
-        only : Each (λ x. (x ≡ n) ⊎ ((x.name ≡ dest → ⊥) × Member x v.replicas)) u.replicas
-        only x m = ⊎_elim (λ e. inl e) (λ t. inr (λ e. t.1 (e ∙ sym found.1), t.0)) (in_place v.replicas n x m)
-
-    rises : d.safe.store.usn ≤ n.safe.store.usn
-    rises = omega (arith, (left w v dest source d s goes most ok).0.rises, d_safe.last)
-
-    nothing_new : Each (λ x. Reflects w.book.issued (knowledge_of d.safe.store) x) (updates_of s.safe.store.rows) → (n.safe.store.usn ≡ d.safe.store.usn) × (n.safe.store.rows ≡ d.safe.store.rows)
-    nothing_new all = idle w v dest source d s goes most ok (λ x m. subst (λ is. Reflects is (knowledge_of d.safe.store) x) (sym goes.issued) (all x m))
-
-    -- the last reply
-    last_one : (W : Cursors) → r.last ≡ Some W → Carried w.book.issued d.safe s.safe n.safe
-    last_one W last = let c = done w v dest source d s goes most ok W last in
-        record { inv = refl; purged = refl; covered = goes.purged; took = c.took; keeps = c.keeps; gained = c.gained; vector = c.vector; own = c.own; rises = rises; idle = c.idle }
-
-    -- one that isn't the last, and what comes after it
-    module _ (more : r.last ≡ None) (after : State) (c : Carried w.book.issued n.safe z.safe after) where
-      like : IsLike s.safe z.safe
-      like = server_like w v dest source d s goes most ok
-
-      of_server : (x : Update) → Member x (updates_of z.safe.store.rows) → Member x (updates_of s.safe.store.rows)
-      of_server x m = subst (λ (rs : List Held). Member x (updates_of rs)) like.rows m
-
-      to_server : (x : Update) → Member x (updates_of s.safe.store.rows) → Member x (updates_of z.safe.store.rows)
-      to_server x m = subst (λ (rs : List Held). Member x (updates_of rs)) (sym like.rows) m
-
-      unchanged : (i : Identifier) → i ≢ d.safe.inv → at n.safe.store.vector i ≡ at d.safe.store.vector i
-      unchanged i other = joined_is w v dest source d s goes most ok i other ∙ ap (λ (o : Option Cursors). max (at d.safe.store.vector i) (at (unwrap_or o []) i)) more ∙ omega arith
-
-      served_vector : (i : Identifier) → i ≢ d.safe.inv → max (at n.safe.store.vector i) (at z.safe.store.vector i) ≡ max (at d.safe.store.vector i) (at s.safe.store.vector i)
-      served_vector i other = by (bytes_eq s.name d.name) refl
-        where
-          by : (b : Bool) → bytes_eq s.name d.name ≡ b → max (at n.safe.store.vector i) (at (cond b n s).safe.store.vector i) ≡ max (at d.safe.store.vector i) (at s.safe.store.vector i)
-          by true is = ap (λ k. max k k) (unchanged i other) ∙ ap (λ (x : Replica). max (at d.safe.store.vector i) (at x.safe.store.vector i)) (sym (one_of w v dest source d s goes most is))
-          by false is = ap (λ k. max k (at s.safe.store.vector i)) (unchanged i other)
-
-      gains : Each (λ x. Member x (updates_of d.safe.store.rows) ⊎ (Member x (updates_of s.safe.store.rows) × (Reflects w.book.issued (knowledge_of d.safe.store) x → ⊥))) (updates_of after.store.rows)
-      gains x m = ⊎_elim (λ old. gained w v dest source d s goes most ok x old) (λ new. inr (of_server x new.0, λ h. new.1 (keeps w v dest source d s goes most ok x h))) (c.gained x m)
-
-      onward : Carried w.book.issued d.safe s.safe after
-      onward = record {
-        inv = c.inv;
-        purged = c.purged;
-        covered = goes.purged;
-        took = λ x m. c.took x (to_server x m);
-        keeps = λ x h. c.keeps x (keeps w v dest source d s goes most ok x h);
-        gained = gains;
-        vector = λ i other. c.vector i other ∙ served_vector i (λ e. other (e ∙ sym c.inv));
-        own = c.own;
-        rises = omega (arith, rises, c.rises);
-        idle = λ all. let t = c.idle (λ x m. keeps w v dest source d s goes most ok x (all x (of_server x m))) in let u = nothing_new all in (t.0 ∙ u.0, t.1 ∙ u.1);
-      }
+-- behind one pull the USN is no less
+module _ (w v : World) (dest source : Name) (d s : Replica) (goes : Goes w v dest source d s) (most : ℕ) (ok : Takes w v dest source d s goes most) where
+  rises : d.safe.store.usn ≤ (next w v dest source d s goes most).safe.store.usn
+  rises = omega (arith, (left w v dest source d s goes most ok).0.rises, (goes.sound.replicas d (replica_found v dest d goes.d_found).0).safe.last)
 
 -- ---- the whole cycle
 
@@ -189,7 +84,7 @@ whole_pulls w dest source most (suc fuel) v d s goes = by (λ x e f is. whole_pu
       n = n;
       up = refl;
       beside = beside w v dest source d s goes most ok;
-      carried = last_one w v dest source d s goes most ok W last;
+      carried = record { inv = refl; covered = goes.purged; rises = rises w v dest source d s goes most ok; all = done w v dest source d s goes most ok W last };
     }
     was rest ok None more fine = record {
       sound = t.sound;
@@ -197,7 +92,12 @@ whole_pulls w dest source most (suc fuel) v d s goes = by (λ x e f is. whole_pu
       n = t.n;
       up = t.up;
       beside = beside_on v u (go u).0 dest n t.n (beside w v dest source d s goes most ok) t.beside;
-      carried = onward w v dest source d s goes most ok more t.n.safe t.carried;
+      carried = record {
+        inv = t.carried.inv;
+        covered = goes.purged;
+        rises = omega (arith, rises w v dest source d s goes most ok, t.carried.rises);
+        all = onward w v dest source d s goes most ok more t.n.safe t.carried.inv t.carried.all;
+      };
     }
       where
         t : Left w u (go u).0 dest n z

@@ -1,10 +1,10 @@
 -- What a class must have is no reserved attribute.
-use Rattle.std.proofs.Common.{◌≡◌, ℕ, ◌<◌, List, [], ◌∷◌, Bool, true, false, refl, ◌==◌, ◌||◌, if◌then◌else◌, Some, None, unwrap_or, cond, find, arith}
+use Rattle.std.proofs.Common.{◌≡◌, ℕ, ◌<◌, List, [], ◌∷◌, Bool, true, false, refl, ◌==◌, nat_le, ◌||◌, if◌then◌else◌, Some, cond, find, arith}
 use Rattle.std.specs.Option.{option_map_or}
 use Rattle.std.proofs.lemmas.Bool.{eqb-true}
 use Rattle.adr_schema.specs.Table.{Class, has, must_of}
 use Rattle.adr_schema.specs.Numbered.{numbered}
-use Rattle.adr_schema.specs.Schemas.{schema_1}
+use Rattle.adr_schema.specs.Schemas.{schema_1, schema_2}
 use Rattle.adr_model.specs.Update.{deleted_attr}
 
 abbrev AreAbove : List ℕ → Type 0
@@ -36,12 +36,16 @@ first_above : HaveAbove schema_1.classes
 unfolding schema_1
 first_above = (none_above, (none_above, (one_above 10 (omega arith), (one_above 19 (omega arith), (one_above 10 (omega arith), tt)))))
 
+newest_above : HaveAbove schema_2.classes
+unfolding schema_2
+newest_above = (none_above, (none_above, (one_above 10 (omega arith), (one_above 19 (omega arith), (one_above 10 (omega arith), (none_above, tt))))))
+
 numbered_above : (schema : ℕ) → HaveAbove (numbered schema).classes
-numbered_above schema = by (schema == 1)
+numbered_above schema = by (nat_le schema 1)
   where
-    by : (b : Bool) → HaveAbove (unwrap_or (if b then Some schema_1 else None) schema_1).classes
+    by : (b : Bool) → HaveAbove (if b then schema_1 else schema_2).classes
     by true = first_above
-    by false = first_above
+    by false = newest_above
 
 pub must_above : (schema class attr : ℕ) → has (must_of (numbered schema) class) attr ≡ true → deleted_attr < attr
 must_above schema class attr h = found_above (numbered schema).classes (λ (c : Class). c.number == class) (numbered_above schema) attr h

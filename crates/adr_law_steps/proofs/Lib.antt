@@ -11,3 +11,4 @@ pub mod FormedOther
 pub mod Formed
 pub mod Links
 pub mod Counts
+pub mod More

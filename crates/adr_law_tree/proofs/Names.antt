@@ -112,7 +112,7 @@ least_law (y ∷ ys) s test x there passes least = by (test y) refl (member_at (
 alike_to : (s t : List ℕ) → alike s t ≡ true → folded s ≡ folded t
 alike_to s t e = (bytes_decides (folded s) (folded t)).0 e
 
-alike_from : (s t : List ℕ) → folded s ≡ folded t → alike s t ≡ true
+pub alike_from : (s t : List ℕ) → folded s ≡ folded t → alike s t ≡ true
 alike_from s t e = (bytes_decides (folded s) (folded t)).1 e
 
 -- who is named in the place and by the name of one that is named is named, too

@@ -1,11 +1,11 @@
 -- A list of nodes that is kept is that of the definitions.
-use Rattle.std.proofs.Common.{◌≡◌, ℕ, Bool, true, false, cond, not, ◌==◌, List, [], ◌∷◌, Some, None, refl, find}
-use Rattle.std.specs.Prelude.{if◌then◌else◌, unwrap_or}
+use Rattle.std.proofs.Common.{◌≡◌, ℕ, Bool, true, false, cond, not, ◌==◌, List, [], ◌∷◌, Some, refl, find}
+use Rattle.std.specs.Prelude.{if◌then◌else◌, nat_le}
 use Rattle.std.specs.List.{list_all}
 use Rattle.std.specs.Option.{option_map_or}
 use Rattle.std.proofs.lemmas.Bool.{and_parts, not-true}
 use Rattle.adr_schema.specs.Table.{Class, has, is_superior}
-use Rattle.adr_schema.specs.Schemas.{schema_1}
+use Rattle.adr_schema.specs.Schemas.{schema_1, schema_2}
 use Rattle.adr_model.specs.Store.{updates_of}
 use Rattle.adr_law_tree.specs.Kept.{TreeLaw, LostSuperiorLaw}
 use Rattle.adr_law_tree.specs.Edits.{tree_of}
@@ -27,9 +27,13 @@ in_schema_1 : (class : ℕ) → is_superior schema_1 class 2 ≡ false
 unfolding schema_1
 in_schema_1 class = none_has (λ c. c.number == class) schema_1.classes refl
 
+in_schema_2 : (class : ℕ) → is_superior schema_2 class 2 ≡ false
+unfolding schema_2
+in_schema_2 class = none_has (λ c. c.number == class) schema_2.classes refl
+
 pub lost_superior_law : LostSuperiorLaw
-lost_superior_law schema class = by (schema == 1)
+lost_superior_law schema class = by (nat_le schema 1)
   where
-    by : (b : Bool) → is_superior (unwrap_or (if b then Some schema_1 else None) schema_1) class 2 ≡ false
+    by : (b : Bool) → is_superior (if b then schema_1 else schema_2) class 2 ≡ false
     by true = in_schema_1 class
-    by false = in_schema_1 class
+    by false = in_schema_2 class

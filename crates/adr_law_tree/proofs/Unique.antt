@@ -46,10 +46,10 @@ wins (v ∷ us) key u (inr m) same = by (same_key v.key key) (wins us key u m sa
     by true rest = some_younger v (winner us key)
 
 -- objects by the stamp of their birth, and at equal stamps by their birth
-abbrev elder : LinkStamp × Oid → LinkStamp × Oid → Ordering
+abbrev pub elder : LinkStamp × Oid → LinkStamp × Oid → Ordering
 elder a b = ordering_then (link_stamp_order a.0 b.0) (birth_order a.1.birth b.1.birth)
 
-elders_total : IsTotalOrder elder
+pub elders_total : IsTotalOrder elder
 elders_total = then_total (on_total (λ (a : LinkStamp × Oid). a.0) link_stamps_total) (on_total (λ (a : LinkStamp × Oid). a.1.birth) births_total)
 
 neither : (r s : Ordering) → is_lt (ordering_then r s) ≡ false → is_lt (ordering_reverse (ordering_then r s)) ≡ false → s ≡ Equal
@@ -60,7 +60,7 @@ neither Equal Greater e f = cc
 neither Greater s e f = cc
 
 module _ (us : List Update) where
-  has_winner : (o : Oid) → Member o (standing us) → (w : Update) × (winner us (RowOf o class_attr) ≡ Some w)
+  pub has_winner : (o : Oid) → Member o (standing us) → (w : Update) × (winner us (RowOf o class_attr) ≡ Some w)
   has_winner o m =
       let in_objects = (of_filter (λ o. not (list_any (is_death_of o) us)) (objects_of us) o m).0 in
       let any : list_any (λ (p : Oid). same_object p o) (objects_of us) ≡ true = one_passes (λ (p : Oid). same_object p o) (objects_of us) o in_objects (object_itself o) in

@@ -1,17 +1,15 @@
 -- A cycle pull by pull, and cycles one after the other, as loops go through them.
-use Rattle.std.proofs.Common.{◌≡◌, inl, inr, ℕ, zero, suc, List, [], ◌∷◌, ◌++◌, Bool, true, false, not, Option, Some, None, is_none, refl, sym, ap, ◌∙◌, subst, codes, if◌then◌else◌}
-use Rattle.std.specs.List.{find}
-use Rattle.std.specs.Prelude.{Result, Ok, Err, nat_lt}
+use Rattle.std.proofs.Common.{◌≡◌, ℕ, suc, List, [], ◌∷◌, ◌++◌, Bool, true, false, not, Option, Some, None, refl, ap, ◌∙◌, codes, if◌then◌else◌}
+use Rattle.std.specs.Prelude.{Result, Ok, Err}
 use Rattle.adr_event.specs.declared.answer.Answer.{Answer}
 use Rattle.adr_event.specs.declared.answer.Outcome.{Outcome}
 use Rattle.adr_event.specs.declared.answer.Outcome.TheVariants as outcomes
 use Rattle.adr_event.specs.declared.refusal.ServeRefusal.{ServeRefusal}
 use Rattle.adr_event.specs.declared.refusal.ServeRefusal.TheVariants as serves
-use Rattle.adr_model.specs.Member.{Member, Each}
 use Rattle.adr_model.specs.Serve.{Request, Reply, ask, serve}
 use Rattle.adr_model.specs.Replica.{Standing, Up, Down, Failed, Replica}
 use Rattle.adr_model.specs.World.{World, Name, Sent, Gone, answer, replica_at, of_made, where_up, nothing, asks, after_serve, served, serves_request, delivers}
-use Rattle.adr_model.specs.Cycles.{Pulled, was_taken, first_told, pull_delivered, pull_served, pull_asked, pull, and_then, pulls, cycle}
+use Rattle.adr_model.specs.Cycles.{Pulled, was_taken, pull_delivered, pull_served, pull_asked, pull_version, pull, and_then, pulls, cycle}
 use Rattle.adr_model.specs.Rings.{is_fine, unfinished, or_else, Connection, cycles}
 
 -- ---- what went on went well
@@ -29,8 +27,8 @@ made_fine : {A : Type 0} (w : World) (o : Option Replica) (act : Replica → Sen
 made_fine w None act acts x e = absurd (cc)
 made_fine w (Some r) act acts x e = acts r x e
 
-asks_fine : (w : World) (name partner : Name) (max : ℕ) → IsMadeFine (asks w name partner max)
-asks_fine w name partner max = made_fine w (replica_at w name) _ (λ r. made_fine w (replica_at w partner) _ (λ p. up_fine w r.standing (w, outcomes.Ok, Some (ask r.safe p.safe.dsa max)) (λ x e. refl)))
+asks_fine : (w : World) (name partner : Name) (max version : ℕ) → IsMadeFine (asks w name partner max version)
+asks_fine w name partner max version = made_fine w (replica_at w name) _ (λ r. made_fine w (replica_at w partner) _ (λ p. up_fine w r.standing (w, outcomes.Ok, Some (ask r.safe p.safe.dsa max version)) (λ x e. refl)))
 
 after_fine : (w : World) (r : Replica) (t : Result Reply ServeRefusal) → IsMadeFine (after_serve w r t)
 after_fine w r (Ok reply) x e = refl
@@ -42,7 +40,7 @@ after_fine w r (Err (serves.SchemaMismatch mine theirs)) x e = absurd (cc)
 after_fine w r (Err (serves.TooOld inv purged has)) x e = absurd (cc)
 
 serves_fine : (w : World) (name : Name) (q : Request) → IsMadeFine (serves_request w name (Some q))
-serves_fine w name q = made_fine w (replica_at w name) _ (λ r. up_fine w r.standing (served w r (Some q)) (after_fine w r (serve r.safe q)))
+serves_fine w name q = made_fine w (replica_at w name) _ (λ r. up_fine w r.standing (served w r (Some q)) (after_fine w r (serve r.safe q w.time)))
 
 taken_fine : (o : Outcome) → was_taken o ≡ true → is_fine o ≡ true
 taken_fine (outcomes.Took items wrote usn) e = refl
@@ -79,11 +77,11 @@ pub pull_on : (w : World) (dest source : Name) (max : ℕ) → (pull w dest sour
 pull_on w dest source max on = by t.2 refl
   where
     t : Sent Request
-    t = asks w dest source max
+    t = asks w dest source max pull_version
 
     by : (o : Option Request) → t.2 ≡ o → unfinished (pull w dest source max).1 ≡ None
     by None e = let none : (pull_asked dest source t.0 t.2).2 ≡ false = ap (λ q. (pull_asked dest source t.0 q).2) e in absurd (cc)
-    by (Some q) e = fine_first (answer (codes "ask") dest t.1) (pull_asked dest source t.0 t.2).1 (asks_fine w dest source max q e) (asked_on dest source t.0 t.2 on)
+    by (Some q) e = fine_first (answer (codes "ask") dest t.1) (pull_asked dest source t.0 t.2).1 (asks_fine w dest source max pull_version q e) (asked_on dest source t.0 t.2 on)
 
 -- ---- a cycle, pull by pull
 

@@ -7,7 +7,7 @@ use Rattle.adr_stamp.specs.declared.Oid.{Oid}
 use Rattle.adr_stamp.specs.declared.Unit.{Unit as Named}
 use Rattle.adr_vector.specs.Vector.{Cursors, joined, raised}
 use Rattle.adr_model.specs.Update.{Identifier, Key, RowOf, LinkOf, Update, same_object, deleted_attr}
-use Rattle.adr_model.specs.Store.{Held, Kept, Mode, Normal, State, with_row, is_row_of}
+use Rattle.adr_model.specs.Store.{Held, Kept, Mode, Normal, Store, State, with_row, is_row_of}
 
 -- rows of one object, or a link row
 pub record Item : Type 0 where
@@ -19,13 +19,15 @@ pub record Written : Type 0 where
   pub local : ℕ
   pub item : Item
 
--- what one commit changes: the USN after, the mode, the mark of a partner, what is joined into the two vectors, which
--- objects are removed and which rows are written
+-- what one commit changes: the USN after, the mode, the number of the schema, the mark of a partner, what is joined into the
+-- two vectors and the times, which objects are removed and which rows are written
 pub record Change : Type 0 where
   pub usn : ℕ
   pub mode : Mode
+  pub schema : ℕ
   pub mark : Option (Identifier × Kept)
   pub joined : Cursors
+  pub times : Cursors
   pub purged : Cursors
   pub removed : List Oid
   pub writes : List Written
@@ -68,23 +70,26 @@ abbrev pub with_mark : Option (Identifier × Kept) → List (Identifier × Kept)
 with_mark None marks = marks
 with_mark (Some m) marks = insert_entry identifier_order marks m.0 m.1
 
+-- a store after a change, but for its USN and its own cursor
+abbrev pub merged : Store → Change → Store
+merged s c =
+    record {
+      schema = c.schema;
+      usn = s.usn;
+      rows = rows_after c.removed (held_of c.writes) s.rows;
+      vector = joined s.vector c.joined;
+      times = joined s.times c.times;
+      purged = joined s.purged c.purged;
+      marks = with_mark c.mark s.marks;
+    }
+
 -- a controller after a change; its own cursor is its USN
 abbrev pub after : State → Change → State
 after s c =
-    record {
-      dsa = s.dsa;
-      inv = s.inv;
-      mode = c.mode;
-      store = record {
-        schema = s.store.schema;
-        usn = c.usn;
-        rows = rows_after c.removed (held_of c.writes) s.store.rows;
-        vector = raised (joined s.store.vector c.joined) s.inv c.usn;
-        purged = joined s.store.purged c.purged;
-        marks = with_mark c.mark s.store.marks;
-      };
-    }
+    let m = merged s.store c in
+    record { dsa = s.dsa; inv = s.inv; mode = c.mode; store = record m { usn = c.usn; vector = raised m.vector s.inv c.usn } }
 
--- a change of these writes alone
-abbrev pub only_writes : ℕ → List Written → Change
-only_writes usn writes = record { usn = usn; mode = Normal; mark = None; joined = []; purged = []; removed = []; writes = writes }
+-- a change that leaves a controller as it is
+abbrev pub unchanged : State → Change
+unchanged s =
+    record { usn = s.store.usn; mode = Normal; schema = s.store.schema; mark = None; joined = []; times = []; purged = []; removed = []; writes = [] }

@@ -1,6 +1,6 @@
 -- Collecting tombstones, images and how a controller is made of one, and quarantine.
 use Rattle.std.specs.Prelude.{ℕ, ◌+◌, List, [], ◌∷◌, Bool, ◌&&◌, ◌||◌, nat_le, nat_lt, length, map, fold, Option, Some, None, Result, if◌then◌else◌}
-use Rattle.std.specs.List.{list_any, filter_map}
+use Rattle.std.specs.List.{filter_map}
 use Rattle.std.specs.Bool.{then_some}
 use Rattle.adr_stamp.specs.declared.Oid.{Oid}
 use Rattle.adr_vector.specs.Vector.{Cursors, raised, cursor_limit}
@@ -11,10 +11,11 @@ use Rattle.adr_event.specs.declared.refusal.AdoptRefusal.{AdoptRefusal}
 use Rattle.adr_event.specs.declared.refusal.AdoptRefusal.TheVariants.{IdentifierUsed, Full}
 use Rattle.adr_failure.specs.First.{first_of}
 use Rattle.adr_model.specs.Refusing.{unless}
-use Rattle.adr_model.specs.Update.{Identifier, Update, inv_of, usn_of, same_identifier, ends}
+use Rattle.adr_model.specs.Update.{Identifier, Update, inv_of, usn_of}
+use Rattle.adr_model.specs.Naming.{cursors_name, rows_name, marks_name}
 use Rattle.adr_model.specs.Visible.{covers_update, covers_birth}
-use Rattle.adr_model.specs.Store.{Held, Kept, Normal, Quarantined, Store, State}
-use Rattle.adr_model.specs.Change.{Change, killed_by}
+use Rattle.adr_model.specs.Store.{Held, Normal, Quarantined, Store, State}
+use Rattle.adr_model.specs.Change.{Change, killed_by, unchanged}
 use Rattle.adr_model.specs.Serve.{is_quarantined}
 use Rattle.adr_model.specs.Write.{usn_limit}
 
@@ -41,14 +42,10 @@ covering deaths = fold (λ v (d : Oid × Update). raised (raised v d.0.birth.inv
 -- it takes a USN where it removes anything
 abbrev pub collection : State → List (Oid × Update) → Change
 collection s deaths =
-    record {
+    record (unchanged s) {
       usn = s.store.usn + (if nat_lt 0 (length deaths) then 1 else 0);
-      mode = Normal;
-      mark = None;
-      joined = [];
       purged = covering deaths;
       removed = map (λ (d : Oid × Update). d.0) deaths;
-      writes = [];
     }
 
 -- why a collection is refused, first in order
@@ -65,20 +62,16 @@ backup s = if is_quarantined s.mode then None else Some s.store
 
 -- whether a store names an identifier: in a cursor, a birth, a stamp or a mark
 abbrev pub names_inv : Store → Identifier → Bool
-names_inv s inv =
-    list_any (λ (c : Identifier × ℕ). same_identifier c.0 inv) s.vector
-    || list_any (λ (c : Identifier × ℕ). same_identifier c.0 inv) s.purged
-    || list_any (λ (h : Held). same_identifier (inv_of h.update) inv || list_any (λ (o : Oid). same_identifier o.birth.inv inv) (ends h.update.key)) s.rows
-    || list_any (λ (k : Identifier × Kept). same_identifier k.1.inv inv) s.marks
+names_inv s inv = cursors_name s.vector inv || cursors_name s.purged inv || rows_name s.rows inv || marks_name s.marks inv
 
--- a controller of a store: its own cursor is the store's USN
+-- a controller of a store: its own cursor is the store's USN, and the rest stays
 abbrev pub woken : Store → Identifier → Identifier → State
 woken s dsa inv =
     record {
       dsa = dsa;
       inv = inv;
       mode = Normal;
-      store = record { schema = s.schema; usn = s.usn; rows = s.rows; vector = raised s.vector inv s.usn; purged = s.purged; marks = s.marks };
+      store = record s { vector = raised s.vector inv s.usn };
     }
 
 -- why an image can't be adopted, first in order
@@ -90,6 +83,7 @@ adopt_refusal image inv s =
 abbrev pub adopt : Store → Identifier → Identifier → Result State AdoptRefusal
 adopt image dsa inv = let s = woken image dsa inv in unless (adopt_refusal image inv s) s
 
--- a controller that showed that it was put back is quarantined: it refuses all calls but to ask, until it is restored, or put back again
+-- a controller that showed that it was put back is quarantined: it writes, serves, takes, collects and backs up no more, until it is
+-- restored, or put back again
 abbrev pub quarantine : State → Change
-quarantine s = record { usn = s.store.usn; mode = Quarantined; mark = None; joined = []; purged = []; removed = []; writes = [] }
+quarantine s = record (unchanged s) { mode = Quarantined }

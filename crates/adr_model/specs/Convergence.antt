@@ -11,20 +11,21 @@ use Rattle.adr_event.specs.declared.answer.Outcome.{Outcome}
 use Rattle.adr_event.specs.declared.answer.Outcome.TheVariants as outcomes
 use Rattle.adr_model.specs.Member.{Member, Each}
 use Rattle.adr_model.specs.Update.{Identifier, Update, inv_of, usn_of}
-use Rattle.adr_model.specs.Visible.{covers_update, covers_birth, visible}
+use Rattle.adr_model.specs.Visible.{covers_update, covers_birth}
 use Rattle.adr_model.specs.Directory.{directory}
 use Rattle.adr_model.specs.Store.{State, Store, updates_of, kept_of, mark_of}
 use Rattle.adr_model.specs.Serve.{Request, last_local, units_of}
 use Rattle.adr_model.specs.Change.{Written, Change}
-use Rattle.adr_model.specs.Write.{AddObject, Modify, IsWellGiven, items_written}
+use Rattle.adr_model.specs.Write.{AddObject, Modify, items_written}
+use Rattle.adr_model.specs.Given.{IsWellGiven}
 use Rattle.adr_model.specs.Reflects.{knowledge_of, Reflects}
 use Rattle.adr_model.specs.Collect.{deaths_to_collect, collect}
 use Rattle.adr_model.specs.Replica.{Replica, Up}
-use Rattle.adr_model.specs.World.{World, Name, answer, empty_world}
+use Rattle.adr_model.specs.World.{World, Name, answer, in_view, empty_world}
 use Rattle.adr_model.specs.Cycles.{was_taken, pulls, cycle, reply_limit}
 use Rattle.adr_model.specs.Rings.{Connection, ring, times}
 use Rattle.adr_model.specs.Step.{ClientWrite, write_of, step, after_lines}
-use Rattle.adr_model.specs.Sound.{IsSoundWorld, IsWorldOfRun}
+use Rattle.adr_model.specs.Sound.{WereTold, IsSoundWorld, IsWorldOfRun}
 
 -- ---- soundness is kept
 
@@ -48,7 +49,7 @@ MayHappen w (events.Install name dsa image inv) = IsNewName w name × (IsNewDsa 
 MayHappen w (events.Restore name image inv) = IsNewInv w inv
 MayHappen w (events.Add name guid class parent text values) = IsWellGiven (AddObject guid class parent text values)
 MayHappen w (events.Modify name guid values) = IsWellGiven (Modify guid values)
-MayHappen w (events.Ask name partner max bind) = IsUnbound w.requests bind
+MayHappen w (events.Ask name partner max version bind) = IsUnbound w.requests bind
 MayHappen w (events.Serve name request bind) = IsUnbound w.replies bind
 MayHappen w (events.Backup name bind) = IsUnbound w.images bind
 MayHappen w (events.Snapshot name bind) = IsUnbound w.snapshots bind
@@ -105,13 +106,9 @@ RunsStayClean = (es : List Event) → PutsNothingBack es → (after_lines empty_
 abbrev pub held_by : Replica → List Update
 held_by r = updates_of r.safe.store.rows
 
--- the issued updates that a controller covers or holds
-abbrev pub in_view : World → Replica → List Update
-in_view w r = visible w.book.issued r.safe.store.vector (held_by r)
-
 -- what each controller holds shows what it has in view
 abbrev pub ShowWhatIsVisible : World → Type 0
-ShowWhatIsVisible w = Each (λ r. directory (held_by r) ≡ directory (in_view w r)) w.replicas
+ShowWhatIsVisible w = Each (λ r. directory (held_by r) ≡ directory (in_view w r.safe)) w.replicas
 
 abbrev pub HoldsNothingBeyond : Replica → Type 0
 HoldsNothingBeyond r = Each (λ u. covers_update r.safe.store.vector u ≡ true) (held_by r)
@@ -143,7 +140,7 @@ pub record IsIssuedItem (issued : List Update) (s : State) (usn : ℕ) (x : Writ
 -- has its identifier
 pub record IsAcknowledged (w : World) (e : Event) (usn : ℕ) (behind : World) : Type 0 where
   pub write : ClientWrite
-  pub is_write : write_of e ≡ Some write
+  pub is_write : write_of w e ≡ Some write
   pub writer : Replica
   pub there : Member writer w.replicas
   pub name : writer.name ≡ write.name
@@ -169,7 +166,7 @@ IssuedStays = (w : World) (e : Event) → Each (λ u. Member u (step w e).0.book
 
 -- all that was issued under its present identifier is in a controller's view
 abbrev pub OwnIsInView : World → Type 0
-OwnIsInView w = Each (λ r. Each (λ u. inv_of u ≡ r.safe.inv → Member u (in_view w r)) w.book.issued) w.replicas
+OwnIsInView w = Each (λ r. Each (λ u. inv_of u ≡ r.safe.inv → Member u (in_view w r.safe)) w.book.issued) w.replicas
 
 abbrev pub OwnIsVisible : Type 0
 OwnIsVisible = (w : World) → IsSoundWorld w → OwnIsInView w
@@ -183,7 +180,7 @@ RunsConverge =
 
 -- the updates are in the view of whoever has the identifier
 abbrev pub AreInView : World → Identifier → List Update → Type 0
-AreInView w inv us = Each (λ r. r.safe.inv ≡ inv → Each (λ u. Member u (in_view w r)) us) w.replicas
+AreInView w inv us = Each (λ r. r.safe.inv ≡ inv → Each (λ u. Member u (in_view w r.safe)) us) w.replicas
 
 -- the world behind the first lines of a run
 abbrev pub behind : List Event → World
@@ -202,6 +199,12 @@ abbrev pub AcknowledgedStaysInView : Type 0
 AcknowledgedStaysInView =
     (before after : List Event) (e : Event) → MayAllHappen empty_world (before ++ e ∷ after)
     → (behind (before ++ e ∷ after)).clean ≡ true → StaysInView before e after
+
+-- ---- times
+
+-- where a controller has a time of an incarnation, a last reply of it was made then, and the controller covers what that one had
+abbrev pub TimesAreTrue : Type 0
+TimesAreTrue = (w : World) → IsSoundWorld w → Each (λ r. WereTold w r.safe.store.vector r.safe.store.times) w.replicas
 
 -- ---- refusals that don't come
 
@@ -275,24 +278,34 @@ units_beyond dest source =
 abbrev pub replies_taken : List Answer → ℕ
 replies_taken answers = length (filter (λ a. was_taken a.outcome) answers)
 
-abbrev pub ReflectsMore : World → State → State → Type 0
-ReflectsMore w before after = (u : Update) → Reflects w.book.issued (knowledge_of before.store) u → Reflects w.book.issued (knowledge_of after.store) u
+abbrev pub ReflectsMore : List Update → State → State → Type 0
+ReflectsMore issued before after = (u : Update) → Reflects issued (knowledge_of before.store) u → Reflects issued (knowledge_of after.store) u
 
 -- all of the source was read, up to its USN
 abbrev pub IsReadWhole : State → State → Type 0
 IsReadWhole source after =
     kept_of after.store source.dsa ≡ record { inv = source.inv; mark = record { obj = source.store.usn; prop = source.store.usn; seen = source.store.usn } }
 
--- what the destination has after its last reply
-pub record IsCompleted (w : World) (dest source : State) (answers : List Answer) (after : State) : Type 0 where
-  pub replies : (1 ≤ replies_taken answers) × (replies_taken answers ≤ max 1 (units_beyond dest source))
+-- what the destination has after its last reply: all that the source held is taken, nothing is lost and nothing else gained, both
+-- vectors are joined, what was collected is as it was, and nothing is written where nothing was lacking
+pub record HasTakenAll (issued : List Update) (dest source after : State) : Type 0 where
   pub mark : IsReadWhole source after
-  pub took : Each (λ u. Reflects w.book.issued (knowledge_of after.store) u) (updates_of source.store.rows)
-  pub keeps : ReflectsMore w dest after
-  pub gained : Each (λ u. Member u (updates_of dest.store.rows) ⊎ (Member u (updates_of source.store.rows) × (Reflects w.book.issued (knowledge_of dest.store) u → ⊥))) (updates_of after.store.rows)
+  pub took : Each (λ u. Reflects issued (knowledge_of after.store) u) (updates_of source.store.rows)
+  pub keeps : ReflectsMore issued dest after
+  pub gained : Each (λ u. Member u (updates_of dest.store.rows) ⊎ (Member u (updates_of source.store.rows) × (Reflects issued (knowledge_of dest.store) u → ⊥))) (updates_of after.store.rows)
   pub vector : (i : Identifier) → i ≢ after.inv → at after.store.vector i ≡ max (at dest.store.vector i) (at source.store.vector i)
   pub own : at after.store.vector after.inv ≡ after.store.usn
-  pub idle : Each (λ u. Reflects w.book.issued (knowledge_of dest.store) u) (updates_of source.store.rows) → (after.store.usn ≡ dest.store.usn) × (after.store.rows ≡ dest.store.rows)
+  pub purged : after.store.purged ≡ dest.store.purged
+  pub idle : Each (λ u. Reflects issued (knowledge_of dest.store) u) (updates_of source.store.rows) → (after.store.usn ≡ dest.store.usn) × (after.store.rows ≡ dest.store.rows)
+
+-- the cycle ended with its last reply: the destination is there with all of it, nothing more is issued, and all others are as they were
+pub record IsCompleted (w left : World) (dest source after : Replica) (answers : List Answer) : Type 0 where
+  pub replies : (1 ≤ replies_taken answers) × (replies_taken answers ≤ max 1 (units_beyond dest.safe source.safe))
+  pub all : HasTakenAll w.book.issued dest.safe source.safe after.safe
+  pub there : Member after left.replicas
+  pub name : after.name ≡ dest.name
+  pub issued : left.book.issued ≡ w.book.issued
+  pub others : Each (λ r. r.name ≢ dest.name → Member r left.replicas) w.replicas
 
 -- the cycle took as many replies as one may, and says that there are more: the source had more units beyond the mark than that
 pub record SaysMore (name : Name) (dest source : State) (answers : List Answer) : Type 0 where
@@ -304,11 +317,11 @@ pub record SaysMore (name : Name) (dest source : State) (answers : List Answer) 
 abbrev pub AreUnlimited : List Answer → Type 0
 AreUnlimited answers = NoneRefused 21 answers × NoneRefused 22 answers
 
--- the answers say that there is more, or the last reply was taken, and the destination has everything in the world behind them
+-- the answers say that there is more, or the cycle is completed in the world behind them
 abbrev pub EndsOrSaysMore : World → Replica → Replica → List Answer → World → Type 0
 EndsOrSaysMore w dest source answers left =
     SaysMore dest.name dest.safe source.safe answers
-    ⊎ ((after : Replica) × Member after left.replicas × (after.name ≡ dest.name) × IsCompleted w dest.safe source.safe answers after.safe)
+    ⊎ ((after : Replica) × IsCompleted w left dest source after answers)
 
 -- a cycle with nothing in the way says that there is more, or ends with the last reply, and the destination has everything
 abbrev pub CycleEnds : Type 0

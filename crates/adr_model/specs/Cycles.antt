@@ -33,9 +33,13 @@ pull_asked dest source w None = (w, [], false)
 pull_asked dest source w (Some q) =
     let t = serves_request w source (Some q) in first_told (answer (codes "serve") source t.1) (pull_served dest t.0 t.2)
 
+-- the version of the protocol in which controllers pull
+abbrev pub pull_version : ℕ
+pull_version = 1
+
 -- one controller asks another, which serves, and it takes the reply; an answer other than ok ends it
 abbrev pub pull : World → Name → Name → ℕ → Pulled
-pull w dest source max = let t = asks w dest source max in first_told (answer (codes "ask") dest t.1) (pull_asked dest source t.0 t.2)
+pull w dest source max = let t = asks w dest source max pull_version in first_told (answer (codes "ask") dest t.1) (pull_asked dest source t.0 t.2)
 
 abbrev pub and_then : Pulled → (World → World × List Answer) → World × List Answer
 and_then p go = by p.2

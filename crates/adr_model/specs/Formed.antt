@@ -10,6 +10,7 @@ use Rattle.adr_schema.specs.Allowed.{IsAllowed}
 use Rattle.adr_schema.specs.Names.{name_fault}
 use Rattle.adr_schema.specs.Numbered.{numbered}
 use Rattle.adr_vector.specs.Vector.{IsVector, at, at_most}
+use Rattle.adr_vector.specs.Times.{AreTimesOf}
 use Rattle.adr_model.specs.Member.{Member, Each}
 use Rattle.adr_model.specs.Update.{Identifier, Update, RowOf, LinkOf, Said, Holds, key_order, unit_of, ends, class_attr, name_attr, deleted_attr}
 use Rattle.adr_model.specs.Live.{objects_of}
@@ -78,6 +79,7 @@ AreAlone rows =
 
 pub record IsFormedStore (s : Store) : Type 0 where
   pub vector : IsVector s.vector
+  pub times : AreTimesOf s.vector s.times
   pub purged : IsVector s.purged
   pub purged_within : at_most s.purged s.vector ≡ true
   pub marks : Each (λ (k : Identifier × Kept). IsOrdered k.1.mark) s.marks

@@ -19,6 +19,8 @@ use Rattle.adr_event.specs.declared.refusal.TakeRefusal.{TakeRefusal}
 use Rattle.adr_event.specs.declared.refusal.TakeRefusal.TheVariants as takes
 use Rattle.adr_event.specs.declared.refusal.CollectRefusal.{CollectRefusal}
 use Rattle.adr_event.specs.declared.refusal.CollectRefusal.TheVariants as collects
+use Rattle.adr_event.specs.declared.refusal.UpgradeRefusal.{UpgradeRefusal}
+use Rattle.adr_event.specs.declared.refusal.UpgradeRefusal.TheVariants as upgrades
 use Rattle.adr_event.specs.declared.refusal.AdoptRefusal.{AdoptRefusal}
 use Rattle.adr_event.specs.declared.refusal.AdoptRefusal.TheVariants as adopts
 
@@ -86,6 +88,10 @@ write_refused (writes.VersionLimit attr) = outcomes.Refused 20 (codes "VersionLi
 write_refused writes.UsnLimit = usn_limited
 write_refused (writes.Full table limit) = full table limit
 write_refused writes.Quarantined = quarantined
+write_refused (writes.SchemaMismatch mine theirs) = schemas_differ mine theirs
+write_refused (writes.NotInImage guid) = outcomes.Refused 60 (codes "NotInImage") (field (codes "guid") (Id guid) ∷ [])
+write_refused (writes.StillLive guid) = outcomes.Refused 61 (codes "StillLive") (field (codes "guid") (Id guid) ∷ [])
+write_refused (writes.BirthThere guid) = outcomes.Refused 62 (codes "BirthThere") (field (codes "guid") (Id guid) ∷ [])
 
 -- a refused request
 abbrev pub serve_refused : ServeRefusal → Outcome
@@ -128,6 +134,11 @@ take_refused (takes.Full table limit) = full table limit
 abbrev pub collect_refused : CollectRefusal → Outcome
 collect_refused collects.Quarantined = quarantined
 collect_refused collects.UsnLimit = usn_limited
+
+-- a refused upgrade
+abbrev pub upgrade_refused : UpgradeRefusal → Outcome
+upgrade_refused upgrades.Quarantined = quarantined
+upgrade_refused (upgrades.SchemaThere number) = outcomes.Refused 52 (codes "SchemaThere") (number_field (codes "number") number ∷ [])
 
 -- a refused image
 abbrev pub adopt_refused : AdoptRefusal → Outcome

@@ -16,12 +16,14 @@ use Rattle.adr_model.specs.Serve.{Reply}
 use Rattle.adr_model.specs.Write.{Write, write}
 use Rattle.adr_model.specs.Take.{take}
 use Rattle.adr_model.specs.Collect.{collect, quarantine}
+use Rattle.adr_model.specs.Upgrade.{upgrade}
 
 -- a call that changes a controller, with its arguments
 pub data Call : Type 0 where
   ToWrite : (what : Write) (now : ℕ) → Call
   ToTake : (reply : Reply) → Call
   ToCollect : (now lifetime : ℕ) → Call
+  ToUpgrade : Call
   ToQuarantine : Call
 
 abbrev pub change_in : {E : Type 0} → Result Change E → Option Change
@@ -33,6 +35,7 @@ abbrev pub change_of : State → Call → Option Change
 change_of s (ToWrite w now) = change_in (write s w now)
 change_of s (ToTake reply) = change_in (take s reply)
 change_of s (ToCollect now lifetime) = change_in (collect s now lifetime)
+change_of s ToUpgrade = change_in (upgrade s)
 change_of s ToQuarantine = Some (quarantine s)
 
 -- what a change issues: the updates of a client's write
@@ -40,6 +43,7 @@ abbrev pub issued_by : Call → Change → List Update
 issued_by (ToWrite w now) c = updates_written c
 issued_by (ToTake reply) c = []
 issued_by (ToCollect now lifetime) c = []
+issued_by ToUpgrade c = []
 issued_by ToQuarantine c = []
 
 -- a call with its change, which is on the disk and isn't synced

@@ -11,7 +11,7 @@ use Rattle.adr_stamp.specs.declared.Unit.TheVariants.{Object, Link}
 use Rattle.adr_schema.specs.declared.content.Value.{Value as Datum}
 use Rattle.adr_schema.specs.declared.content.Value.TheVariants.{Text, Number, Flag, Octets, Ref}
 use Rattle.adr_schema.specs.declared.content.Content.TheVariants.{Class, Name, Dead, Values}
-use Rattle.adr_vector.specs.Vector.{Cursors, at, first_gap}
+use Rattle.adr_vector.specs.Vector.{Cursors, at, first_gap, raised}
 use Rattle.adr_vector.specs.declared.mark.Mark.{Mark}
 use Rattle.adr_event.specs.declared.refusal.ServeRefusal.{ServeRefusal}
 use Rattle.adr_event.specs.declared.refusal.ServeRefusal.TheVariants.{Quarantined as IsQuarantined, WrongController, BadMark, RolledBack, SchemaMismatch, TooOld}
@@ -23,6 +23,7 @@ use Rattle.adr_model.specs.Store.{Held, Mode, Normal, Quarantined, State, update
 use Rattle.adr_model.specs.Change.{Item}
 
 pub record Request : Type 0 where
+  pub version : ℕ
   pub dest : Identifier
   pub source : Identifier
   pub inv : Identifier
@@ -32,6 +33,7 @@ pub record Request : Type 0 where
   pub vector : Cursors
 
 pub record Reply : Type 0 where
+  pub version : ℕ
   pub dest : Identifier
   pub source : Identifier
   pub inv : Identifier
@@ -40,12 +42,14 @@ pub record Reply : Type 0 where
   pub schema : ℕ
   pub asked : Cursors
   pub last : Option Cursors  -- the own vector, in the last reply
+  pub times : Cursors  -- and with it the times, in one of version 2
   pub items : List Item
 
--- what a controller asks a partner
-abbrev pub ask : State → Identifier → ℕ → Request
-ask s partner max =
+-- what a controller asks a partner, in a version of the protocol
+abbrev pub ask : State → Identifier → ℕ → ℕ → Request
+ask s partner max version =
     record {
+      version = version;
       dest = s.dsa;
       source = partner;
       inv = (kept_of s.store partner).inv;
@@ -124,10 +128,16 @@ abbrev pub first_items : ℕ → ℕ → List (ℕ × Item) → List (ℕ × Ite
 first_items most bytes [] = []
 first_items most bytes (c ∷ cs) = if (most == 0) || (bytes == 0) then [] else c ∷ first_items (most - 1) (bytes - item_length c.1) cs
 
+-- the times that a whole reply tells: the own ones, and this moment as that of the own cursor, where there are such
+abbrev pub times_told : State → ℕ → Cursors
+times_told s now =
+    raised (filter (λ (t : Identifier × ℕ). not (same_identifier t.0 s.inv)) s.store.times) s.inv (if s.store.usn == 0 then 0 else now)
+
 -- a reply that sends these of the candidates
-abbrev pub reply_of : State → Request → Mark → List (ℕ × Item) → Bool → Reply
-reply_of s q from sent last =
+abbrev pub reply_of : State → Request → ℕ → Mark → List (ℕ × Item) → Bool → Reply
+reply_of s q now from sent last =
     record {
+      version = q.version;
       dest = q.dest;
       source = s.dsa;
       inv = s.inv;
@@ -136,6 +146,7 @@ reply_of s q from sent last =
       schema = s.store.schema;
       asked = q.vector;
       last = then_some last s.store.vector;
+      times = if last && (q.version == 2) then times_told s now else [];
       items = map (λ (c : ℕ × Item). c.1) sent;
     }
   where
@@ -149,12 +160,12 @@ reply_of s q from sent last =
 abbrev pub begins_at : State → Request → Mark
 begins_at s q = if same_identifier q.inv s.inv then q.mark else no_mark
 
-abbrev pub reply_to : State → Request → Reply
-reply_to s q =
+abbrev pub reply_to : State → Request → ℕ → Reply
+reply_to s q now =
     let from = begins_at s q in
     let all = candidates s.store.rows from q.vector in
     let sent = first_items q.max byte_limit all in
-    reply_of s q from sent (length sent == length all)
+    reply_of s q now from sent (length sent == length all)
 
 abbrev pub is_quarantined : Mode → Bool
 is_quarantined Normal = false
@@ -179,5 +190,5 @@ abbrev pub serve_refusal : State → Request → Option ServeRefusal
 serve_refusal s q = first_of (serve_refusals s q)
 
 -- what a request is answered: the first refusal, or the reply
-abbrev pub serve : State → Request → Result Reply ServeRefusal
-serve s q = unless (serve_refusal s q) (reply_to s q)
+abbrev pub serve : State → Request → ℕ → Result Reply ServeRefusal
+serve s q now = unless (serve_refusal s q) (reply_to s q now)

@@ -5,6 +5,7 @@ use Rattle.adr_schema.specs.Numbered.{numbered}
 use Rattle.adr_schema.specs.declared.content.Content.TheVariants.{Class}
 use Rattle.adr_stamp.specs.declared.Oid.{Oid}
 use Rattle.adr_vector.specs.Vector.{Cursors, IsVector, at}
+use Rattle.adr_vector.specs.Times.{AreTimesOf}
 use Rattle.adr_vector.specs.declared.mark.Mark.{Mark}
 use Rattle.adr_model.specs.Member.{Member, Each}
 use Rattle.adr_model.specs.Update.{Identifier, Update, RowOf, Holds, ends, inv_of, usn_of, unit_of, class_attr}
@@ -14,11 +15,13 @@ use Rattle.adr_model.specs.Store.{Held, Kept, Normal, Store, State, updates_of}
 use Rattle.adr_model.specs.Change.{Item, Change, updates_written, after}
 use Rattle.adr_model.specs.LocalLog.{LocalLog, no_log, last_usn, rows_at, IsCut, IsKept, IsOrdered, IsBelow, WatermarkHolds}
 use Rattle.adr_model.specs.Serve.{Request, Reply}
-use Rattle.adr_model.specs.Write.{IsWellGiven}
+use Rattle.adr_model.specs.Given.{IsWellGiven}
+use Rattle.adr_model.specs.Lengths.{log_limit, log_end_after}
+use Rattle.adr_model.specs.Spelled.{SayOfTheirKeys, IsSpelledReply}
 use Rattle.adr_model.specs.Take.{is_birth}
 use Rattle.adr_model.specs.Formed.{AreRising, AreFormedRows, IsFormedStore, IsFormed, IsClosed}
-use Rattle.adr_model.specs.Replica.{Call, ToWrite, ToTake, ToCollect, ToQuarantine, change_of, Pending, Up, Replica, Book, log_of}
-use Rattle.adr_model.specs.World.{World, Name, Snapshot}
+use Rattle.adr_model.specs.Replica.{Call, ToWrite, ToTake, ToCollect, ToUpgrade, ToQuarantine, change_of, Pending, Up, Replica, Book, log_of}
+use Rattle.adr_model.specs.World.{LastReply, World, Name, Snapshot}
 
 -- the last USN of an incarnation, 0 for an identifier that wasn't used
 abbrev pub last_of : Book → Identifier → ℕ
@@ -98,6 +101,7 @@ pub record IsSoundLast (sc : Book) (r : Reply) (carried : Cursors) : Type 0 wher
   pub obj : r.to.obj ≡ r.to.seen
   pub prop : r.to.prop ≡ r.to.seen
   pub vector : IsVector carried
+  pub times : AreTimesOf carried r.times
   pub bounded : IsBounded sc (at carried)
   pub carries : CarriesAll sc.issued r (log_of sc r.inv) carried
 
@@ -123,12 +127,13 @@ pub record IsSoundReply (sc : Book) (r : Reply) : Type 0 where
   pub formed : AreFormedRows (numbered r.schema) (updates_of (rows_at (log_of sc r.inv) r.to.seen))
   pub classes : AreClassesKnown (numbered r.schema) (updates_of (rows_at (log_of sc r.inv) r.to.seen))
 
--- a call that may be kept: a write as clients give it, a sound reply, or a collection. No controller shows that it was put back,
--- so none is quarantined
+-- a call that may be kept: a write as clients give it, a sound reply, a collection or an upgrade. No controller shows that it was
+-- put back, so none is quarantined
 abbrev pub IsSoundCall : Book → Call → Type 0
 IsSoundCall sc (ToWrite w now) = IsWellGiven w
 IsSoundCall sc (ToTake reply) = IsSoundReply sc reply
 IsSoundCall sc (ToCollect now lifetime) = Unit {0}
+IsSoundCall sc ToUpgrade = Unit {0}
 IsSoundCall sc ToQuarantine = ⊥
 
 -- a change that isn't safe is that of the kept call, and the controller isn't up
@@ -153,7 +158,27 @@ IsGiven w inv = Member inv w.given.invs ⊎ (inv ≡ identifier 0)
 abbrev pub AreMarksGiven : World → Store → Type 0
 AreMarksGiven w s = Each (λ (k : Identifier × Kept). IsGiven w k.1.inv) s.marks
 
--- names and identifiers are no one else's, and were given by lines
+-- at this moment a last reply of the incarnation was made, at a USN that the vector covers
+pub record WasTold (told : List LastReply) (vector : Cursors) (t : Identifier × ℕ) : Type 0 where
+  pub reply : LastReply
+  pub made : Member reply told
+  pub inv : reply.inv ≡ t.0
+  pub time : reply.time ≡ t.1
+  pub covered : reply.usn ≤ at vector t.0
+
+-- each time beside a vector was told so
+abbrev pub WereTold : World → Cursors → Cursors → Type 0
+WereTold w vector times = Each (WasTold w.last_replies vector) times
+
+-- marks are of identifiers that lines gave, and times were told
+abbrev pub IsTraced : World → Store → Type 0
+IsTraced w s = AreMarksGiven w s × WereTold w s.vector s.times
+
+-- a reply is of an identifier that a line gave, and tells times that were told
+abbrev pub IsTracedReply : World → Reply → Type 0
+IsTracedReply w r = Member r.inv w.given.invs × IfSome r.last (λ carried. WereTold w carried r.times)
+
+-- names and identifiers are no one else's, and were given by lines; times were told by last replies
 pub record AreIdentifiersSound (w : World) : Type 0 where
   pub names : Each (λ r. Each (λ q. r.name ≡ q.name → r ≡ q) w.replicas) w.replicas
   pub dsas : Each (λ r. Each (λ q. r.safe.dsa ≡ q.safe.dsa → r ≡ q) w.replicas) w.replicas
@@ -161,10 +186,10 @@ pub record AreIdentifiersSound (w : World) : Type 0 where
   pub dsas_given : Each (λ r. Member r.safe.dsa w.given.dsas) w.replicas
   pub invs_given : Each (λ r. Member r.safe.inv w.given.invs) w.replicas
   pub unused : (i : Identifier) → (Member i w.given.invs → ⊥) → log_of w.book i ≡ no_log
-  pub marks : Each (λ r. AreMarksGiven w r.safe.store × AreMarksGiven w r.read.store) w.replicas
-  pub image_marks : Each (λ (i : Name × Store). AreMarksGiven w i.1) w.images
+  pub stores : Each (λ r. IsTraced w r.safe.store × IsTraced w r.read.store) w.replicas
+  pub images : Each (λ (i : Name × Store). IsTraced w i.1) w.images
   pub requests : Each (λ (q : Name × Request). IsGiven w q.1.inv) w.requests
-  pub replies : Each (λ (r : Name × Reply). Member r.1.inv w.given.invs) w.replies
+  pub replies : Each (λ (r : Name × Reply). IsTracedReply w r.1) w.replies
 
 -- a world while no database was put back. Nothing is asked of a snapshot: only a rollback looks at one, and the world isn't clean
 -- after it
@@ -180,22 +205,50 @@ pub record IsSoundWorld (w : World) : Type 0 where
 
 -- ---- what holds always
 
--- a state whose identifiers lines gave, and whose rows are in order
+-- a store that is formed, whose classes its schema has, and whose rows say what rows of their keys say
+pub record IsOrderlyStore (s : Store) : Type 0 where
+  pub formed : IsFormedStore s
+  pub classes : AreClassesKnown (numbered s.schema) (updates_of s.rows)
+  pub says : SayOfTheirKeys (updates_of s.rows)
+
+-- a formed state of such a store, whose identifiers lines gave
 pub record IsOrderlyState (w : World) (s : State) : Type 0 where
   pub dsa : Member s.dsa w.given.dsas
   pub inv : Member s.inv w.given.invs
-  pub rising : AreRising s.store.rows
+  pub formed : IsFormed s
+  pub store : IsOrderlyStore s.store
+
+-- what a start would find is what the kept change leaves, and the log ends behind that
+pub record IsUnsettled (r : Replica) (p : Pending) : Type 0 where
+  pub kept : r.kept ≡ Some p
+  pub read : r.read ≡ after r.safe p.change
+  pub read_end : r.read_end ≡ log_end_after r.safe_end p.change
+
+-- both states are orderly, and no log is over its limit. A controller that is up is settled, and any other is, or keeps a change
+pub record IsOrderlyReplica (w : World) (r : Replica) : Type 0 where
+  pub safe : IsOrderlyState w r.safe
+  pub read : IsOrderlyState w r.read
+  pub safe_end : r.safe_end ≤ log_limit
+  pub read_end : r.read_end ≤ log_limit
+  pub up : r.standing ≡ Up → IsSettled r
+  pub settled : IsSettled r ⊎ ((p : Pending) × IsUnsettled r p)
+
+pub record IsOrderlySnapshot (w : World) (s : Snapshot) : Type 0 where
+  pub state : IsOrderlyState w s.state
+  pub log_end : s.log_end ≤ log_limit
 
 -- nothing is bound to a name twice
 abbrev pub AreBoundOnce : {A : Type 0} → List (Name × A) → Type 0
 AreBoundOnce {A} xs = Each (λ (x : Name × A). Each (λ (y : Name × A). x.0 ≡ y.0 → x ≡ y) xs) xs
 
--- names are no one else's, identifiers are those of lines, and rows are in order: also after a database was put back
+-- names are no one else's, identifiers are those of lines, what is held is formed and replies are spelled, whether they are true or
+-- not: also after a database was put back
 pub record IsOrderlyWorld (w : World) : Type 0 where
   pub names : Each (λ r. Each (λ q. r.name ≡ q.name → r ≡ q) w.replicas) w.replicas
-  pub replicas : Each (λ r. IsOrderlyState w r.safe × IsOrderlyState w r.read) w.replicas
-  pub images : Each (λ (i : Name × Store). AreRising i.1.rows) w.images
-  pub snapshots : Each (λ (s : Name × Snapshot). IsOrderlyState w s.1.state) w.snapshots
+  pub replicas : Each (IsOrderlyReplica w) w.replicas
+  pub replies : Each (λ (r : Name × Reply). IsSpelledReply r.1) w.replies
+  pub images : Each (λ (i : Name × Store). IsOrderlyStore i.1) w.images
+  pub snapshots : Each (λ (s : Name × Snapshot). IsOrderlySnapshot w s.1) w.snapshots
   pub bound_requests : AreBoundOnce w.requests
   pub bound_replies : AreBoundOnce w.replies
   pub bound_images : AreBoundOnce w.images

@@ -5,11 +5,12 @@ use Rattle.adr_event.specs.declared.event.Event.TheVariants as events
 use Rattle.adr_event.specs.declared.answer.Answer.{Answer}
 use Rattle.adr_event.specs.declared.answer.Outcome.TheVariants as outcomes
 use Rattle.adr_model.specs.Update.{Identifier}
-use Rattle.adr_model.specs.Store.{empty_state}
-use Rattle.adr_model.specs.Write.{Write, AddObject, Modify, Rename, Delete, AddLink, RemoveLink}
+use Rattle.adr_model.specs.Store.{Store, empty_state}
+use Rattle.adr_model.specs.Write.{Write, AddObject, Modify, Rename, Delete, AddLink, RemoveLink, Revive}
 use Rattle.adr_model.specs.Collect.{collect, backup, adopt}
+use Rattle.adr_model.specs.Upgrade.{upgrade}
 use Rattle.adr_model.specs.Replica.{Stops, Fails, on_new_disk, begun}
-use Rattle.adr_model.specs.World.{World, Name, Gone, Sent, answer, stays, nothing, bound, bound_at, replica_at, with_replica, shown, marks_shown, of_made, of_controller, of_image, writes, after_collect, asks, serves_request, delivers, backed_up, adopts, put_back, with_plan, stops, starts}
+use Rattle.adr_model.specs.World.{World, Name, Gone, Sent, answer, stays, nothing, bound, bound_at, replica_at, with_replica, shown, marks_shown, of_made, of_controller, of_image, writes, after_collect, after_upgrade, asks, serves_request, delivers, backed_up, adopts, put_back, with_plan, stops, starts}
 use Rattle.adr_model.specs.Cycles.{pull, cycle}
 use Rattle.adr_model.specs.Rings.{rings}
 
@@ -22,14 +23,20 @@ pub record ClientWrite : Type 0 where
 abbrev pub client_write : List ℕ → Name → Write → Option ClientWrite
 client_write verb name what = Some (record { verb = verb; name = name; what = what })
 
-abbrev pub write_of : Event → Option ClientWrite
-write_of (events.Add name guid class parent text values) = client_write (codes "add") name (AddObject guid class parent text values)
-write_of (events.Modify name guid values) = client_write (codes "modify") name (Modify guid values)
-write_of (events.Rename name guid parent text) = client_write (codes "rename") name (Rename guid parent text)
-write_of (events.Delete name guid) = client_write (codes "delete") name (Delete guid)
-write_of (events.Link name from attr to) = client_write (codes "link") name (AddLink from attr to)
-write_of (events.Unlink name from attr to) = client_write (codes "unlink") name (RemoveLink from attr to)
-write_of _ = None
+-- a revival, where its image was made
+abbrev pub revival : Name → Identifier → Identifier → List ℕ → Option Store → Option ClientWrite
+revival name guid parent text None = None
+revival name guid parent text (Some image) = client_write (codes "revive") name (Revive image guid parent text)
+
+abbrev pub write_of : World → Event → Option ClientWrite
+write_of w (events.Add name guid class parent text values) = client_write (codes "add") name (AddObject guid class parent text values)
+write_of w (events.Modify name guid values) = client_write (codes "modify") name (Modify guid values)
+write_of w (events.Rename name guid parent text) = client_write (codes "rename") name (Rename guid parent text)
+write_of w (events.Delete name guid) = client_write (codes "delete") name (Delete guid)
+write_of w (events.Link name from attr to) = client_write (codes "link") name (AddLink from attr to)
+write_of w (events.Unlink name from attr to) = client_write (codes "unlink") name (RemoveLink from attr to)
+write_of w (events.Revive name guid image parent text) = revival name guid parent text (bound_at w.images image)
+write_of w _ = None
 
 -- a line with one answer
 abbrev pub told : List ℕ → Name → Gone → World × List Answer
@@ -50,8 +57,8 @@ step_of_other w (events.Controller name dsa inv) =
     told (codes "controller") name
     (record v { book = begun v.book (empty_state dsa inv); replicas = v.replicas ++ on_new_disk name (empty_state dsa inv) ∷ [] }, outcomes.Ok)
 step_of_other w (events.Time now) = (record w { time = now }, [])
-step_of_other w (events.Ask name partner max bind) =
-    told_bound (codes "ask") name (asks w name partner max) (λ v q. record v { requests = bound v.requests bind q })
+step_of_other w (events.Ask name partner max version bind) =
+    told_bound (codes "ask") name (asks w name partner max version) (λ v q. record v { requests = bound v.requests bind q })
 step_of_other w (events.Serve name request bind) =
     told_bound (codes "serve") name (serves_request w name (bound_at w.requests request)) (λ v r. record v { replies = bound v.replies bind r })
 step_of_other w (events.Deliver name reply) = told (codes "deliver") name (delivers w name (bound_at w.replies reply))
@@ -60,6 +67,9 @@ step_of_other w (events.Cycle name source max) = cycle w name source max
 step_of_other w (events.Ring name others rounds max) = rings w name others rounds max
 step_of_other w (events.Collect name lifetime) =
     told (codes "collect") name (of_controller w name (stays w) (λ r. after_collect w r lifetime (collect r.safe w.time lifetime)))
+step_of_other w (events.Upgrade name) =
+    told (codes "upgrade") name (of_controller w name (stays w) (λ r. after_upgrade w r (upgrade r.safe)))
+step_of_other w (events.Revive name guid image parent text) = told (codes "revive") name (w, outcomes.Absent)  -- its image was never made
 step_of_other w (events.Backup name bind) =
     told_bound (codes "backup") name (of_controller w name (nothing w) (λ r. backed_up w (backup r.safe))) (λ v i. record v { images = bound v.images bind i })
 step_of_other w (events.Restore name image inv) =
@@ -82,17 +92,17 @@ step_of_other w (events.Fail name calls) =
 step_of_other w (events.Stop name) = told (codes "stop") name (of_made (stays w) (replica_at w name) (λ r. stops w r))
 step_of_other w (events.Start name) = told (codes "start") name (of_made (stays w) (replica_at w name) (λ r. starts w r r.standing))
 step_of_other w (events.Show name) = told (codes "show") name (of_controller w name (stays w) (λ r. (w, outcomes.Show (shown w r.safe))))
-step_of_other w (events.Vector name) = told (codes "vector") name (of_controller w name (stays w) (λ r. (w, outcomes.Vector r.safe.store.vector)))
+step_of_other w (events.Vector name) = told (codes "vector") name (of_controller w name (stays w) (λ r. (w, outcomes.Vector r.safe.store.vector r.safe.store.times)))
 step_of_other w (events.Marks name) = told (codes "marks") name (of_controller w name (stays w) (λ r. (w, outcomes.Marks (marks_shown r.safe.store))))
 step_of_other w _ = (w, [])  -- none is left: a client's write is no such line
 
+abbrev pub stepped : World → Event → Option ClientWrite → World × List Answer
+stepped w e (Some write) = told write.verb write.name (writes w write.name write.what)
+stepped w e None = step_of_other w e
+
 -- what a line does, and its answers: none to a `time`, those of each call to a pull or a cycle, and else one
 abbrev pub step : World → Event → World × List Answer
-step w e = by (write_of e)
-  where
-    by : Option ClientWrite → World × List Answer
-    by (Some write) = told write.verb write.name (writes w write.name write.what)
-    by None = step_of_other w e
+step w e = stepped w e (write_of w e)
 
 -- the world behind lines, and their answers
 

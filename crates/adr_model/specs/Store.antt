@@ -52,6 +52,7 @@ pub record Store : Type 0 where
   pub usn : ℕ
   pub rows : List Held  -- in order of their keys
   pub vector : Cursors
+  pub times : Cursors  -- when each incarnation was last read whole, where that is known
   pub purged : Cursors  -- covers the births and deaths of what was collected
   pub marks : List (Identifier × Kept)  -- by partner, rising
 
@@ -67,7 +68,7 @@ pub record State : Type 0 where
   pub store : Store
 
 abbrev pub empty_store : ℕ → Store
-empty_store schema = record { schema = schema; usn = 0; rows = []; vector = []; purged = []; marks = [] }
+empty_store schema = record { schema = schema; usn = 0; rows = []; vector = []; times = []; purged = []; marks = [] }
 
 -- a new, empty controller
 abbrev pub empty_state : Identifier → Identifier → State

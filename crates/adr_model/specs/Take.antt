@@ -1,5 +1,5 @@
 -- Taking a reply: the first refusal, or the change that it makes.
-use Rattle.std.specs.Prelude.{ℕ, ◌+◌, List, [], ◌∷◌, ◌++◌, Bool, true, false, not, ◌&&◌, ◌||◌, ◌==◌, nat_le, nat_lt, max, length, map, filter, fold, Option, Some, None, unwrap_or, Result, if◌then◌else◌}
+use Rattle.std.specs.Prelude.{ℕ, ◌+◌, List, [], ◌∷◌, ◌++◌, Bool, true, false, not, ◌&&◌, ◌||◌, ◌==◌, nat_le, nat_lt, max, length, map, filter, fold, Option, Some, None, unwrap_or, is_some, Result, if◌then◌else◌}
 use Rattle.std.specs.List.{list_any, find}
 use Rattle.std.specs.Bool.{then_some}
 use Rattle.std.specs.Option.{option_map, option_map_or, option_and_then, option_or}
@@ -25,8 +25,8 @@ use Rattle.adr_model.specs.Refusing.{unless}
 use Rattle.adr_model.specs.Update.{Key, RowOf, LinkOf, Said, Holds, IsPresent, Update, same_identifier, is_older, class_attr, name_attr, deleted_attr}
 use Rattle.adr_model.specs.Live.{objects_of}
 use Rattle.adr_model.specs.Visible.{covers_birth}
-use Rattle.adr_model.specs.Store.{Held, Normal, State, updates_of, row_held, holds_object, holds_dead, kept_of, mark_of}
-use Rattle.adr_model.specs.Change.{Item, Written, Change, held_of, rows_after, after}
+use Rattle.adr_model.specs.Store.{Held, State, updates_of, row_held, holds_object, holds_dead, kept_of, mark_of}
+use Rattle.adr_model.specs.Change.{Item, Written, Change, held_of, rows_after, after, unchanged}
 use Rattle.adr_model.specs.Serve.{Reply, is_quarantined}
 use Rattle.adr_model.specs.Write.{object_limit, link_limit, usn_limit, links_in}
 
@@ -210,16 +210,18 @@ take_items s items = fold (take_item (numbered s.store.schema) s.store.vector) (
 
 -- ---- the whole
 
--- the change of a taken reply; the last one brings the source's vector
-abbrev pub taken_change : Reply → Taking → Change
-taken_change r t =
-    record {
+-- the times that a reply brings: the last one does
+abbrev pub times_brought : Reply → Cursors
+times_brought r = if is_some r.last then r.times else []
+
+-- the change of a taken reply; the last one brings the source's vector and times
+abbrev pub taken_change : State → Reply → Taking → Change
+taken_change s r t =
+    record (unchanged s) {
       usn = t.usn;
-      mode = Normal;
       mark = Some (r.source, record { inv = r.inv; mark = r.to });
       joined = unwrap_or r.last [];
-      purged = [];
-      removed = [];
+      times = times_brought r;
       writes = t.writes;
     }
 
@@ -264,5 +266,5 @@ take_refusal s r t taken =
 abbrev pub take : State → Reply → Result Change TakeRefusal
 take s r =
     let t = take_items s r.items in
-    let change = taken_change r t in
+    let change = taken_change s r t in
     unless (take_refusal s r t (after s change)) change

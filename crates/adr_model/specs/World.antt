@@ -1,5 +1,5 @@
 -- Where a run stands: the time, the book, the controllers and what is bound to names; and what each call of a controller does.
-use Rattle.std.specs.Prelude.{ℕ, List, [], ◌∷◌, ◌++◌, Bool, true, false, Option, Some, None, is_some, Result, Ok, Err, map, fold, length, nat_lt, if◌then◌else◌}
+use Rattle.std.specs.Prelude.{ℕ, List, [], ◌∷◌, ◌++◌, ◌&&◌, ◌==◌, Bool, true, false, Option, Some, None, is_some, Result, Ok, Err, map, fold, length, nat_lt, if◌then◌else◌}
 use Rattle.std.specs.List.{find, flat_map}
 use Rattle.std.specs.Option.{option_map}
 use Rattle.std.specs.Str.{bytes_eq}
@@ -14,8 +14,9 @@ use Rattle.adr_event.specs.declared.refusal.ServeRefusal.TheVariants as serves
 use Rattle.adr_event.specs.declared.refusal.TakeRefusal.{TakeRefusal}
 use Rattle.adr_event.specs.declared.refusal.TakeRefusal.TheVariants as takes
 use Rattle.adr_event.specs.declared.refusal.CollectRefusal.{CollectRefusal}
+use Rattle.adr_event.specs.declared.refusal.UpgradeRefusal.{UpgradeRefusal}
 use Rattle.adr_event.specs.declared.refusal.AdoptRefusal.{AdoptRefusal}
-use Rattle.adr_model.specs.Update.{Identifier}
+use Rattle.adr_model.specs.Update.{Identifier, Update}
 use Rattle.adr_model.specs.Visible.{visible}
 use Rattle.adr_model.specs.Directory.{directory}
 use Rattle.adr_vector.specs.declared.mark.Mark.{Mark}
@@ -25,9 +26,9 @@ use Rattle.adr_model.specs.Serve.{Request, Reply, ask, serve}
 use Rattle.adr_model.specs.Write.{Write, write}
 use Rattle.adr_model.specs.Take.{take}
 use Rattle.adr_model.specs.Collect.{quarantine}
-use Rattle.adr_model.specs.Refused.{write_refused, serve_refused, take_refused, collect_refused, adopt_refused, quarantined, full}
+use Rattle.adr_model.specs.Refused.{write_refused, serve_refused, take_refused, collect_refused, upgrade_refused, adopt_refused, quarantined, full}
 use Rattle.adr_model.specs.Lengths.{log_limit, new_log_end, log_end_after}
-use Rattle.adr_model.specs.Replica.{ToWrite, ToTake, ToCollect, ToQuarantine, Pending, Standing, Up, Down, Failed, Plan, Replica, on_disk, on_new_disk, Book, begun, Move, Settle, moved, went, moves_of_commit, moves_of_start, standing_after, plan_after, outcome_after}
+use Rattle.adr_model.specs.Replica.{ToWrite, ToTake, ToCollect, ToUpgrade, ToQuarantine, Pending, Standing, Up, Down, Failed, Plan, Replica, on_disk, on_new_disk, Book, begun, Move, Settle, moved, went, moves_of_commit, moves_of_start, standing_after, plan_after, outcome_after}
 
 abbrev pub Name : Type 0
 Name = List ℕ
@@ -42,11 +43,18 @@ pub record Snapshot : Type 0 where
   pub state : State
   pub log_end : ℕ
 
+-- a last reply of version 2 that was made: by which incarnation, when, and at which USN
+pub record LastReply : Type 0 where
+  pub inv : Identifier
+  pub time : ℕ
+  pub usn : ℕ
+
 -- where a run stands
 pub record World : Type 0 where
   pub time : ℕ
   pub clean : Bool  -- no database was put back without a fresh identifier
   pub book : Book
+  pub last_replies : List LastReply  -- with a name or without
   pub replicas : List Replica
   pub requests : List (Name × Request)
   pub replies : List (Name × Reply)
@@ -60,6 +68,7 @@ empty_world =
       time = 0;
       clean = true;
       book = record { issued = []; logs = [] };
+      last_replies = [];
       replicas = [];
       requests = [];
       replies = [];
@@ -83,10 +92,13 @@ replica_at w name = find (λ r. bytes_eq r.name name) w.replicas
 abbrev pub with_replica : List Replica → Replica → List Replica
 with_replica rs r = map (λ q. if bytes_eq q.name r.name then r else q) rs
 
--- what a controller shows: the directory of the issued updates that its vector covers or that it holds; after a database
--- was put back, of those that it holds
+-- the issued updates that a controller covers or holds
+abbrev pub in_view : World → State → List Update
+in_view w s = visible w.book.issued s.store.vector (updates_of s.store.rows)
+
+-- what a controller shows: the directory of what it has in view; after a database was put back, of what it holds
 abbrev pub shown : World → State → List Entry
-shown w s = directory (if w.clean then visible w.book.issued s.store.vector (updates_of s.store.rows) else updates_of s.store.rows)
+shown w s = directory (if w.clean then in_view w s else updates_of s.store.rows)
 
 -- how far each partner was read: its identifier, the incarnation that was read, and the mark
 abbrev pub marks_shown : Store → List (Identifier × Identifier × Mark)
@@ -127,14 +139,16 @@ unless_refused w refused act (Ok a) = act a
 abbrev pub within_log : World → ℕ → Gone → Gone
 within_log w end gone = if nat_lt log_limit end then (w, full Log log_limit) else gone
 
+-- what moves leave of a controller
+abbrev pub after_moves : World → Replica → List Move → Standing → Option Plan → Outcome → Gone
+after_moves w r moves standing plan outcome =
+    let m = fold moved (w.book, r) moves in
+    (record w { book = m.0; replicas = with_replica w.replicas (record m.1 { standing = standing; plan = plan }) }, outcome)
+
 -- a change is committed by four device calls
 abbrev pub committed : World → Replica → Pending → Outcome → Gone
 committed w r p outcome =
-    let g = went r.plan 4 in
-    let m = fold moved (w.book, r) (moves_of_commit p g) in (
-      record w { book = m.0; replicas = with_replica w.replicas (record m.1 { standing = standing_after Failed g; plan = plan_after g }) },
-      outcome_after g outcome,
-    )
+    let g = went r.plan 4 in after_moves w r (moves_of_commit p g) (standing_after Failed g) (plan_after g) (outcome_after g outcome)
 
 -- a change that the log has room for is committed
 abbrev pub commit : World → Replica → Pending → Outcome → Gone
@@ -155,6 +169,9 @@ abbrev pub after_collect : World → Replica → ℕ → Result Change CollectRe
 after_collect w r lifetime t =
     unless_refused w collect_refused (λ (change : Change). commit w r (record { call = ToCollect w.time lifetime; change = change }) (outcomes.Removed (length change.removed))) t
 
+abbrev pub after_upgrade : World → Replica → Result Change UpgradeRefusal → Gone
+after_upgrade w r t = unless_refused w upgrade_refused (λ (change : Change). commit w r (record { call = ToUpgrade; change = change }) outcomes.Ok) t
+
 -- ---- messages
 
 -- what comes of a call that makes a message
@@ -168,22 +185,30 @@ abbrev pub nothing : {A : Type 0} → World → Outcome → Sent A
 nothing w outcome = (w, outcome, None)
 
 -- a controller asks another one; both have to be made
-abbrev pub asks : World → Name → Name → ℕ → Sent Request
-asks w name partner max =
+abbrev pub asks : World → Name → Name → ℕ → ℕ → Sent Request
+asks w name partner max version =
     of_made (nothing w) (replica_at w name) (λ r. of_made (nothing w) (replica_at w partner) (λ p.
-    where_up (nothing w) r.standing (w, outcomes.Ok, Some (ask r.safe p.safe.dsa max))))
+    where_up (nothing w) r.standing (w, outcomes.Ok, Some (ask r.safe p.safe.dsa max version))))
 
 abbrev pub rows_in : Reply → ℕ
 rows_in r = length (flat_map (λ (i : Item). i.rows) r.items)
 
+-- a last reply of version 2 is noted
+abbrev pub noted : World → Reply → World
+noted w reply =
+    record w {
+      last_replies =
+          if is_some reply.last && (reply.version == 2) then w.last_replies ++ record { inv = reply.inv; time = w.time; usn = reply.to.seen } ∷ [] else w.last_replies;
+    }
+
 abbrev pub after_serve : World → Replica → Result Reply ServeRefusal → Sent Reply
-after_serve w r (Ok reply) = (w, outcomes.Served reply.from reply.to (length reply.items) (rows_in reply) (is_some reply.last), Some reply)
+after_serve w r (Ok reply) = (noted w reply, outcomes.Served reply.from reply.to (length reply.items) (rows_in reply) (is_some reply.last), Some reply)
 after_serve w r (Err (serves.RolledBack inv mine shown)) = not_sent (quarantines w r (serve_refused (serves.RolledBack inv mine shown)))
 after_serve w r (Err refusal) = nothing w (serve_refused refusal)
 
 abbrev pub served : World → Replica → Option Request → Sent Reply
 served w r None = nothing w outcomes.Absent
-served w r (Some q) = after_serve w r (serve r.safe q)
+served w r (Some q) = after_serve w r (serve r.safe q w.time)
 
 -- a controller answers a request
 abbrev pub serves_request : World → Name → Option Request → Sent Reply
@@ -228,12 +253,6 @@ put_back w name (Some s) = (record w { clean = false; replicas = with_replica w.
 
 abbrev pub with_plan : World → Replica → Plan → Gone
 with_plan w r plan = (record w { replicas = with_replica w.replicas (record r { plan = Some plan }) }, outcomes.Ok)
-
--- what moves leave of a controller
-abbrev pub after_moves : World → Replica → List Move → Standing → Option Plan → Outcome → Gone
-after_moves w r moves standing plan outcome =
-    let m = fold moved (w.book, r) moves in
-    (record w { book = m.0; replicas = with_replica w.replicas (record m.1 { standing = standing; plan = plan }) }, outcome)
 
 abbrev pub stops : World → Replica → Gone
 stops w r = after_moves w r (Settle ∷ []) Down None outcomes.Ok

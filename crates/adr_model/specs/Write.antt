@@ -1,10 +1,10 @@
 -- Originating writes: the first refusal, or the rows that a client's write makes.
-use Rattle.std.specs.Prelude.{◌≢◌, ℕ, ◌+◌, List, [], ◌∷◌, ◌++◌, Bool, true, false, not, ◌&&◌, ◌||◌, ◌==◌, Option, Some, None, is_none, is_some, Result, map, filter, length, nat_lt, if◌then◌else◌}
+use Rattle.std.specs.Prelude.{ℕ, ◌+◌, List, [], ◌∷◌, ◌++◌, Bool, true, false, not, ◌&&◌, ◌||◌, ◌==◌, Option, Some, None, is_none, is_some, unwrap_or, Result, map, filter, fold, length, nat_lt, if◌then◌else◌}
 use Rattle.std.specs.Bool.{then_some}
-use Rattle.std.specs.List.{list_any, find}
-use Rattle.std.specs.List.Sorted.{IsStrictlySortedBy}
-use Rattle.std.specs.Option.{option_map, option_map_or}
-use Rattle.std.specs.Ordering.{nat_cmp}
+use Rattle.std.specs.List.{list_any, find, filter_map, flat_map}
+use Rattle.std.specs.Option.{option_map, option_map_or, option_and_then}
+use Rattle.std.specs.BTreeSet.{insert_key}
+use Rattle.adr_stamp.specs.Order.{link_order}
 use Rattle.adr_stamp.specs.declared.Oid.{Oid}
 use Rattle.adr_stamp.specs.declared.LinkStamp.{LinkStamp}
 use Rattle.adr_stamp.specs.declared.LinkKey.{LinkKey}
@@ -13,24 +13,29 @@ use Rattle.adr_schema.specs.declared.content.Content.{Content}
 use Rattle.adr_schema.specs.declared.content.Content.TheVariants.{Class, Name, Dead, Values}
 use Rattle.adr_schema.specs.declared.refusal.SchemaRefusal.{SchemaRefusal}
 use Rattle.adr_schema.specs.declared.refusal.SchemaRefusal.TheVariants as schema
-use Rattle.adr_schema.specs.Assignments.{Given, attributes}
-use Rattle.adr_schema.specs.Table.{Table as Schema, is_superior}
+use Rattle.adr_schema.specs.declared.table.Kind.{Kind}
+use Rattle.adr_schema.specs.declared.table.Kind.TheVariants.{Forward, Back}
+use Rattle.adr_schema.specs.Assignments.{Given}
+use Rattle.adr_schema.specs.Table.{Table as Schema, is_superior, kind_at}
+use Rattle.adr_schema.specs.Schemas.{newest}
 use Rattle.adr_schema.specs.Numbered.{numbered}
 use Rattle.adr_schema.specs.Rules.{add_refusal as schema_add_refusal, modify_refusal as schema_modify_refusal, link_refusal as schema_link_refusal, name_refusal as schema_name_refusal}
 use Rattle.adr_vector.specs.Vector.{raised, cursor_limit}
+use Rattle.adr_event.specs.declared.directory.Entry.{Entry}
 use Rattle.adr_event.specs.declared.refusal.Table.{Table}
 use Rattle.adr_event.specs.declared.refusal.Table.TheVariants.{Objects, Links, Cursors}
 use Rattle.adr_event.specs.declared.refusal.WriteRefusal.{WriteRefusal}
 use Rattle.adr_event.specs.declared.refusal.WriteRefusal.TheVariants as refusal
-use Rattle.adr_event.specs.declared.refusal.WriteRefusal.TheVariants.{Quarantined, Fixed, NoObject, Deleted, GuidThere, NoParent, BadSuperior, NameTaken, WouldLoop, HasChildren, LinkThere, LinkNotThere, VersionLimit, UsnLimit, Full}
+use Rattle.adr_event.specs.declared.refusal.WriteRefusal.TheVariants.{Quarantined, Fixed, NoObject, Deleted, GuidThere, NoParent, BadSuperior, NameTaken, WouldLoop, HasChildren, LinkThere, LinkNotThere, VersionLimit, UsnLimit, Full, SchemaMismatch, NotInImage, StillLive, BirthThere}
 use Rattle.adr_failure.specs.First.{first_of}
 use Rattle.adr_model.specs.Refusing.{unless}
-use Rattle.adr_model.specs.Update.{Identifier, Key, RowOf, LinkOf, Said, Holds, IsPresent, Update, same_identifier, class_attr, name_attr, deleted_attr}
+use Rattle.adr_model.specs.Update.{Identifier, Key, RowOf, LinkOf, Said, Holds, IsPresent, Update, same_identifier, same_object, ends, class_attr, name_attr, deleted_attr}
 use Rattle.adr_model.specs.Live.{objects_of, live_rows}
 use Rattle.adr_model.specs.Place.{Node, root, lost_and_found, is_fixed, nodes_of, node_at, upward, place}
 use Rattle.adr_model.specs.Shown.{is_lost_name, is_named, name_holder}
-use Rattle.adr_model.specs.Store.{Held, State, updates_of, row_held}
-use Rattle.adr_model.specs.Change.{Item, Written, Change, only_writes}
+use Rattle.adr_model.specs.Directory.{directory}
+use Rattle.adr_model.specs.Store.{Held, Store, State, updates_of, row_held}
+use Rattle.adr_model.specs.Change.{Item, Written, Change, unchanged}
 use Rattle.adr_model.specs.Serve.{is_quarantined}
 
 -- how many objects and link rows a controller holds at most, and the greatest USN and version
@@ -54,19 +59,7 @@ pub data Write : Type 0 where
   Delete : (guid : Identifier) → Write
   AddLink : (from : Identifier) (attr : ℕ) (to : Identifier) → Write
   RemoveLink : (from : Identifier) (attr : ℕ) (to : Identifier) → Write
-
--- values by attribute, rising
-abbrev pub AreInOrder : List Given → Type 0
-AreInOrder values = IsStrictlySortedBy nat_cmp (attributes values)
-
--- a write that a client can send: each attribute is given once, and a modification gives some
-abbrev pub IsWellGiven : Write → Type 0
-IsWellGiven (AddObject guid class parent text values) = AreInOrder values
-IsWellGiven (Modify guid values) = AreInOrder values × (values ≢ [])
-IsWellGiven (Rename guid parent text) = Unit {0}
-IsWellGiven (Delete guid) = Unit {0}
-IsWellGiven (AddLink from attr to) = Unit {0}
-IsWellGiven (RemoveLink from attr to) = Unit {0}
+  Revive : (image : Store) (guid parent : Identifier) (text : List ℕ) → Write
 
 -- ---- refusals
 
@@ -276,6 +269,78 @@ link_refusal s from attr to =
 abbrev pub unlink_refusal : State → Identifier → ℕ → Identifier → Option WriteRefusal
 unlink_refusal s from attr to = any_link_refusal s from attr to (λ linked. then_some (not linked) LinkNotThere)
 
+-- ---- a revival: an object of an image comes again, under a new birth
+
+-- a new object of a controller
+abbrev pub new_object : State → Identifier → Oid
+new_object s guid = record { guid = guid; birth = record { inv = s.inv; usn = s.store.usn + 1 } }
+
+-- what an image shows of a GUID
+abbrev pub shown_in : Store → Identifier → Option Entry
+shown_in image guid = find (λ (e : Entry). same_identifier e.guid guid) (directory (updates_of image.rows))
+
+abbrev pub no_entry : Identifier → Entry
+no_entry guid = record { guid = guid; class = 0; parent = root; name = []; values = []; links = [] }
+
+-- the entry that is revived; a GUID that has none is refused
+abbrev pub entry_in : Store → Identifier → Entry
+entry_in image guid = unwrap_or (shown_in image guid) (no_entry guid)
+
+-- the object that a link of the entry is to have at its other end: the new one itself, or the live one of the GUID
+abbrev pub other_end : List Node → Oid → Identifier → Option Oid
+other_end nodes o guid = if same_identifier guid o.guid then Some o else option_map (λ n. n.object) (node_at nodes guid)
+
+-- a forward link begins at the object, a back link ends there
+abbrev pub link_at : Option Kind → ℕ → Oid → Oid → Option LinkKey
+link_at (Some (Forward back)) attr o p = Some (record { from = o; attr = attr; to = p })
+link_at (Some (Back forward)) attr o p = Some (record { from = p; attr = forward; to = o })
+link_at _ attr o p = None
+
+-- whether the class of the link's first end has its attribute
+abbrev pub is_link_of : State → Oid → ℕ → LinkKey → Bool
+is_link_of s o class l =
+    is_none (schema_link_refusal (numbered s.store.schema) (if same_object l.from o then class else class_of (nodes_held (updates_of s.store.rows)) l.from.guid) l.attr)
+
+abbrev pub link_revived : State → Oid → ℕ → ℕ → Identifier → Option LinkKey
+link_revived s o class attr guid =
+    option_and_then (λ l. then_some (is_link_of s o class l) l)
+    (option_and_then (link_at (kind_at newest attr) attr o) (other_end (nodes_held (updates_of s.store.rows)) o guid))
+
+-- the links of the entry that come with the object, in order of their keys, each once
+abbrev pub links_revived : State → Store → Identifier → List LinkKey
+links_revived s image guid =
+    let e = entry_in image guid in
+    fold (insert_key link_order) [] (flat_map (λ (a : ℕ × List Identifier). filter_map (link_revived s (new_object s guid) e.class a.0) a.1) e.links)
+
+-- whether a row is about an object
+abbrev pub names_object : List Held → Oid → Bool
+names_object rows o = list_any (λ h. list_any (same_object o) (ends h.update.key)) rows
+
+abbrev pub revive_refusals : State → Store → Identifier → Identifier → List ℕ → List (Option WriteRefusal)
+revive_refusals s image guid parent text =
+    let held = updates_of s.store.rows in
+    let nodes = nodes_held held in
+    let count = length (links_revived s image guid) in
+    then_some (is_quarantined s.mode) Quarantined
+    ∷ fixed_refusal guid
+    ∷ then_some (nat_lt s.store.schema image.schema) (SchemaMismatch s.store.schema image.schema)
+    ∷ then_some (is_none (shown_in image guid)) (NotInImage guid)
+    ∷ then_some (is_some (node_at nodes guid)) (StillLive guid)
+    ∷ then_some (names_object s.store.rows (new_object s guid)) (BirthThere guid)
+    ∷ option_map of_schema (schema_name_refusal text)
+    ∷ parent_refusal nodes parent
+    ∷ then_some (list_any (λ n. same_identifier n.parent guid) (upward nodes (length nodes) parent)) WouldLoop
+    ∷ superior_refusal (numbered s.store.schema) nodes (entry_in image guid).class parent
+    ∷ option_map NameTaken (name_holder nodes parent text)
+    ∷ usn_refusal (s.store.usn + 1 + count)
+    ∷ full_refusal Objects object_limit (length (objects_of held) + 1)
+    ∷ full_refusal Links link_limit (links_in s.store.rows + count)
+    ∷ cursor_refusal s
+    ∷ []
+
+abbrev pub revive_refusal : State → Store → Identifier → Identifier → List ℕ → Option WriteRefusal
+revive_refusal s image guid parent text = first_of (revive_refusals s image guid parent text)
+
 -- why a write is refused, first in order
 abbrev pub write_refusal : State → Write → Option WriteRefusal
 write_refusal s (AddObject guid class parent text values) = add_refusal s guid class parent text values
@@ -284,6 +349,7 @@ write_refusal s (Rename guid parent text) = rename_refusal s guid parent text
 write_refusal s (Delete guid) = delete_refusal s guid
 write_refusal s (AddLink from attr to) = link_refusal s from attr to
 write_refusal s (RemoveLink from attr to) = unlink_refusal s from attr to
+write_refusal s (Revive image guid parent text) = revive_refusal s image guid parent text
 
 -- ---- rows
 
@@ -304,10 +370,6 @@ next_stamp s key now =
       created = option_map_or (λ h. h.update.stamp.created) held (first_created key now);
       stamp = record { version = version_of held + 1; time = now; inv = s.inv; usn = s.store.usn + 1 };
     }
-
--- a new object of a controller
-abbrev pub new_object : State → Identifier → Oid
-new_object s guid = record { guid = guid; birth = record { inv = s.inv; usn = s.store.usn + 1 } }
 
 abbrev pub row : Oid → LinkStamp → ℕ → Content → Update
 row o stamp attr content = record { key = RowOf o attr; stamp = stamp; said = Holds content }
@@ -331,6 +393,22 @@ abbrev pub of_link : State → ℕ → LinkKey → Bool → Item
 of_link s now link present =
     record { unit = OneLink link; rows = record { key = LinkOf link; stamp = next_stamp s (LinkOf link) now; said = IsPresent present } ∷ [] }
 
+-- a link row that is written for the first time, under a USN of its own
+abbrev pub link_row : State → ℕ → ℕ → LinkKey → Written
+link_row s now usn l =
+    record {
+      local = usn;
+      item = record {
+        unit = OneLink l;
+        rows = record { key = LinkOf l; stamp = record { created = now; stamp = record { version = 1; time = now; inv = s.inv; usn = usn } }; said = IsPresent true } ∷ [];
+      };
+    }
+
+-- links that come with an object, one after the other
+abbrev pub new_links : State → ℕ → ℕ → List LinkKey → List Written
+new_links s now usn [] = []
+new_links s now usn (l ∷ ls) = link_row s now usn l ∷ new_links s now (usn + 1) ls
+
 -- the rows that a write writes under the next USN
 abbrev pub rows_written : State → Write → ℕ → Item
 rows_written s (AddObject guid class parent text values) now =
@@ -343,14 +421,22 @@ rows_written s (Delete guid) now =
     let o = object_of (nodes_held (updates_of s.store.rows)) guid in of_object o (next_row s now o deleted_attr Dead ∷ [])
 rows_written s (AddLink from attr to) now = of_link s now (link_of (nodes_held (updates_of s.store.rows)) from attr to) true
 rows_written s (RemoveLink from attr to) now = of_link s now (link_of (nodes_held (updates_of s.store.rows)) from attr to) false
+rows_written s (Revive image guid parent text) now =
+    let e = entry_in image guid in
+    of_object (new_object s guid) (new_rows (new_object s guid) (first_stamp s now) e.class parent text e.values)
 
--- what a write issues: items, each under a USN of its own, from the next one on. The six writes issue one
+-- what a write writes beside that: a revival the links of its object
+abbrev pub more_written : State → Write → ℕ → List Written
+more_written s (Revive image guid parent text) now = new_links s now (s.store.usn + 2) (links_revived s image guid)
+more_written s _ now = []
+
+-- what a write issues: items, each under a USN of its own, from the next one on. All but a revival issue one
 abbrev pub items_written : State → Write → ℕ → List Written
-items_written s w now = record { local = s.store.usn + 1; item = rows_written s w now } ∷ []
+items_written s w now = record { local = s.store.usn + 1; item = rows_written s w now } ∷ more_written s w now
 
 -- the change of a write: it ends at the last of its USNs
 abbrev pub own_change : State → List Written → Change
-own_change s items = only_writes (s.store.usn + length items) items
+own_change s items = record (unchanged s) { usn = s.store.usn + length items; writes = items }
 
 -- a client writes: the first refusal, or the change
 abbrev pub write : State → Write → ℕ → Result Change WriteRefusal

@@ -4,7 +4,7 @@ ghost use Rattle.std.specs.Prelude.{◌≡◌, ◌<◌, ◌≤◌, ◌∷◌, []
 ghost use Rattle.std.specs.Result.{result_err};
 ghost use Rattle.adr_event.specs.declared.refusal.WriteRefusal.{WriteRefusal};
 ghost use Rattle.adr_schema.specs.Numbered.{numbered};
-ghost use Rattle.adr_model.specs.Change.{only_writes};
+ghost use Rattle.adr_model.specs.Change.{unchanged};
 ghost use Rattle.adr_model.specs.Store.{updates_of};
 ghost use Rattle.adr_model.specs.Write.{AddObject, add_refusal, nodes_held, rows_written, usn_limit, write};
 ghost use Rattle.adr_origin.specs.Parts.{object_refusal, place_refusal, room_refusal};
@@ -41,7 +41,7 @@ pub fn add(
     check_add(alloc, state, object)?;
     let usn = state.usn() + 1;
     let item = new_item(alloc, state, object, now)?;
-    Ok(own_change(alloc, usn, item)?)
+    Ok(own_change(alloc, state, usn, item)?)
 }
 
 /// Tests that an object may be added.
@@ -122,14 +122,16 @@ fn new_item(
 }
 
 /// The change of a write: one item under its update sequence number.
-pub fn own_change(alloc: Global, usn: u64, item: Item) -> Result<Change, NoMemory>
-    ensures { IfOk result (λ change. change ≡ only_writes usn (record { local = usn; item = item } ∷ [])) }
+pub fn own_change(alloc: Global, state: &State, usn: u64, item: Item) -> Result<Change, NoMemory>
+    ensures { IfOk result (λ change. change
+        ≡ record (unchanged state.now) { usn = usn; writes = record { local = usn; item = item } ∷ [] }) }
 {
     let mut writes = Vec::new(alloc);
     writes.push(Written::new(usn, item))?;
     Ok(Change::new(
         usn,
         Mode::Normal,
+        state.schema(),
         None,
         Vector::new(alloc),
         Vector::new(alloc),

@@ -35,7 +35,7 @@ pub fn delete(
     check_delete(state, guid)?;
     let usn = state.usn() + 1;
     let item = dead_item(alloc, state, guid, now)?;
-    Ok(own_change(alloc, usn, item)?)
+    Ok(own_change(alloc, state, usn, item)?)
 }
 
 /// Tests that an object may be deleted.

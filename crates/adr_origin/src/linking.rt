@@ -48,7 +48,7 @@ pub fn link(
 {
     let link = check_link(state, ends)?;
     let item = link_item(alloc, state, &link, now, true)?;
-    Ok(own_change(alloc, state.usn() + 1, item)?)
+    Ok(own_change(alloc, state, state.usn() + 1, item)?)
 }
 
 /// What a client's removing a link under an attribute makes of a controller at a time in seconds: the change, or why it
@@ -68,7 +68,7 @@ pub fn unlink(
 {
     let link = check_any_link(state, ends, false)?;
     let item = link_item(alloc, state, &link, now, false)?;
-    Ok(own_change(alloc, state.usn() + 1, item)?)
+    Ok(own_change(alloc, state, state.usn() + 1, item)?)
 }
 
 /// Tests that a link may be made, and names it.

@@ -38,7 +38,7 @@ pub fn modify(
     let usn = state.usn() + 1;
     let object = object_of(state, guid);
     let item = modified_item(alloc, state, &object, values, now)?;
-    Ok(own_change(alloc, usn, item)?)
+    Ok(own_change(alloc, state, usn, item)?)
 }
 
 /// Tests that an object may be given values.

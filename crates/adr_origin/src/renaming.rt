@@ -44,7 +44,7 @@ pub fn rename(
     let name = name_content(alloc, text, parent)?;
     let object = object_of(state, guid);
     let item = next_item(alloc, state, &object, NAME, name, now)?;
-    Ok(own_change(alloc, usn, item)?)
+    Ok(own_change(alloc, state, usn, item)?)
 }
 
 /// Tests that an object may be given a name and a parent.

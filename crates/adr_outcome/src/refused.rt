@@ -180,6 +180,10 @@ pub fn write_refused(alloc: Global, refusal: WriteRefusal) -> Result<Outcome, No
         WriteRefusal::UsnLimit => plain(alloc, 21, "UsnLimit"),
         WriteRefusal::Full { table, limit } => full(alloc, table, limit),
         WriteRefusal::Quarantined => plain(alloc, 23, "Quarantined"),
+        WriteRefusal::SchemaMismatch { mine, theirs } => schemas_differ(alloc, mine, theirs),
+        WriteRefusal::NotInImage { guid } => of_id(alloc, 60, "NotInImage", "guid", guid),
+        WriteRefusal::StillLive { guid } => of_id(alloc, 61, "StillLive", "guid", guid),
+        WriteRefusal::BirthThere { guid } => of_id(alloc, 62, "BirthThere", "guid", guid),
     }
 }
 

@@ -10,7 +10,7 @@ use Rattle.adr_disk.specs.declared.memory.Crash.TheVariants.{Kept, Lost, Torn}
 use Rattle.adr_schema.specs.Assignments.{Given}
 use Rattle.adr_schema.specs.declared.content.Value.{Value as Item}
 use Rattle.adr_event.specs.declared.event.Event.{Event}
-use Rattle.adr_event.specs.declared.event.Event.TheVariants.{Controller, Time, Add, Modify, Rename, Delete, Link, Unlink, Ask, Serve, Deliver, Pull, Cycle, Ring, Collect, Backup, Restore, Install, Snapshot, Rollback, StopAfter, Fail, Stop, Start, Show, Vector, Marks}
+use Rattle.adr_event.specs.declared.event.Event.TheVariants.{Controller, Time, Add, Modify, Rename, Delete, Link, Unlink, Ask, Serve, Deliver, Pull, Cycle, Ring, Collect, Upgrade, Revive, Backup, Restore, Install, Snapshot, Rollback, StopAfter, Fail, Stop, Start, Show, Vector, Marks}
 use Rattle.adr_event.specs.Verbs.{verb_of, word_of}
 use Rattle.adr_event.specs.declared.verb.Verb.{Verb}
 use Rattle.adr_token.specs.Words.{unspaced}
@@ -111,13 +111,15 @@ behind_seen order (Rename name guid parent text) = refl
 behind_seen order (Delete name guid) = refl
 behind_seen order (Link name from attr to) = refl
 behind_seen order (Unlink name from attr to) = refl
-behind_seen order (Ask name partner max bound) = refl
+behind_seen order (Ask name partner max version bound) = refl
 behind_seen order (Serve name request bound) = refl
 behind_seen order (Deliver name reply) = refl
 behind_seen order (Pull name source max) = refl
 behind_seen order (Cycle name source max) = refl
 behind_seen order (Ring name others rounds max) = names_seen others
 behind_seen order (Collect name lifetime) = refl
+behind_seen order (Upgrade name) = refl
+behind_seen order (Revive name guid image parent text) = refl
 behind_seen order (Backup name bound) = refl
 behind_seen order (Restore name image inv) = refl
 behind_seen order (Install name dsa image inv) = refl

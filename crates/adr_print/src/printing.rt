@@ -512,6 +512,7 @@ fn push_behind(alloc: Global, out: &mut Vec<u8>, event: &Event) -> Result<(), No
             partner,
             max,
             bound,
+            ..
         } => push_asked(alloc, out, name, partner, *max, bound),
         Event::Serve {
             name,
@@ -529,6 +530,7 @@ fn push_behind(alloc: Global, out: &mut Vec<u8>, event: &Event) -> Result<(), No
             max,
         } => push_ring(alloc, out, name, others.items(), *rounds, *max),
         Event::Collect { name, lifetime } => push_collected(alloc, out, name, *lifetime),
+        Event::Upgrade { .. } | Event::Revive { .. } => Ok(()),
         Event::Backup { name, bound } | Event::Snapshot { name, bound } => {
             push_copied(alloc, out, name, bound)
         }
@@ -558,7 +560,7 @@ fn push_line(alloc: Global, out: &mut Vec<u8>, event: &Event) -> Result<(), NoMe
     push_behind(alloc, out, event)
 }
 
-/// The text of some events, a line each.
+/// The text of some events, a line each. An event that the language has no line for is its verb alone.
 pub fn print(alloc: Global, events: &[Event]) -> Result<Vec<u8>, NoMemory>
     ensures { IfOk result (λ text. text.items ≡ printed events.now) }
 {

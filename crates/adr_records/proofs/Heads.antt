@@ -81,7 +81,7 @@ own_raised o s own =
 
 pub own_woken : (o : Owner) (s : Store) → IsOwn o s → woken s o.dsa o.inv ≡ state_of o s
 own_woken o s own =
-    ap (λ (v : Cursors). let t : State = record { dsa = o.dsa; inv = o.inv; mode = Normal; store = record { schema = s.schema; usn = s.usn; rows = s.rows; vector = v; purged = s.purged; marks = s.marks } } in t)
+    ap (λ (v : Cursors). let t : State = record { dsa = o.dsa; inv = o.inv; mode = Normal; store = record { schema = s.schema; usn = s.usn; rows = s.rows; vector = v; times = s.times; purged = s.purged; marks = s.marks } } in t)
     (own_raised o s own)
 
 pub own_fits : (o : Owner) (s : Store) → IsOwn o s → cursor_limit < length (raised s.vector o.inv s.usn) → ⊥

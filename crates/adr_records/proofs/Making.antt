@@ -5,8 +5,8 @@ use Rattle.std.specs.List.Sorted.{IsStrictlySortedBy}
 use Rattle.std.proofs.lemmas.Cmp.{nat_list_cmp_total}
 use Rattle.adr_schema.specs.Numbered.{numbered}
 use Rattle.adr_stamp.specs.Order.{identifier_order}
-use Rattle.adr_vector.specs.Vector.{Cursors, IsVector, at, cursor_limit, joined, raised}
-use Rattle.adr_vector.proofs.Cursors.{nil_rising, same_cursors}
+use Rattle.adr_vector.specs.Vector.{Cursors, at, cursor_limit, joined, raised}
+use Rattle.adr_vector.proofs.Cursors.{FromOne, IsRising, nil_rising, same_cursors}
 use Rattle.adr_vector.proofs.Joining.{at-joined, from_one-joined, rising-joined}
 use Rattle.adr_model.specs.Change.{Change, after, rows_after, with_mark}
 use Rattle.adr_model.specs.Collect.{woken}
@@ -20,22 +20,23 @@ use Rattle.adr_records.proofs.Anew.{entries_anew, rows_anew}
 
 -- ---- the first change
 
-joined_anew : (v : Cursors) → IsVector v → joined [] v ≡ v
-joined_anew v q =
-    same_cursors (joined [] v) v (rising-joined v [] nil_rising) q.rising (from_one-joined v [] tt) q.from_one
-    (λ inv. at-joined v [] inv q.rising ∙ (let none : max 0 (at v inv) ≡ at v inv = omega arith in none))
+joined_anew : (v : Cursors) → IsRising v → FromOne v → joined [] v ≡ v
+joined_anew v rising from_one =
+    same_cursors (joined [] v) v (rising-joined v [] nil_rising) rising (from_one-joined v [] tt) from_one
+    (λ inv. at-joined v [] inv rising ∙ (let none : max 0 (at v inv) ≡ at v inv = omega arith in none))
 
 made_of_all : (s : Store) (dsa inv : Identifier) (c : Change) → IsFormedStore s → MakesAll s c → after (unmade s.schema dsa inv) c ≡ with_marks [] (woken s dsa inv)
 made_of_all s dsa inv c formed makes =
     ap (after (unmade s.schema dsa inv)) makes.is
-    ∙ ap (λ (hs : List Held). made (rows_after [] hs []) (joined [] s.vector) (joined [] s.purged)) makes.writes
-    ∙ ap (λ (hs : List Held). made hs (joined [] s.vector) (joined [] s.purged)) (rows_anew (numbered s.schema) s.rows formed.rows formed.rising)
-    ∙ ap (λ (v : Cursors). made s.rows v (joined [] s.purged)) (joined_anew s.vector formed.vector)
-    ∙ ap (λ (v : Cursors). made s.rows s.vector v) (joined_anew s.purged formed.purged)
+    ∙ ap (λ (hs : List Held). made (rows_after [] hs []) (joined [] s.vector) (joined [] s.times) (joined [] s.purged)) makes.writes
+    ∙ ap (λ (hs : List Held). made hs (joined [] s.vector) (joined [] s.times) (joined [] s.purged)) (rows_anew (numbered s.schema) s.rows formed.rows formed.rising)
+    ∙ ap (λ (v : Cursors). made s.rows v (joined [] s.times) (joined [] s.purged)) (joined_anew s.vector formed.vector.rising formed.vector.from_one)
+    ∙ ap (λ (v : Cursors). made s.rows s.vector v (joined [] s.purged)) (joined_anew s.times formed.times.moments.rising formed.times.moments.from_one)
+    ∙ ap (λ (v : Cursors). made s.rows s.vector s.times v) (joined_anew s.purged formed.purged.rising formed.purged.from_one)
   where
-    made : List Held → Cursors → Cursors → State
-    made rows vector purged =
-        record { dsa = dsa; inv = inv; mode = Normal; store = record { schema = s.schema; usn = s.usn; rows = rows; vector = raised vector inv s.usn; purged = purged; marks = [] } }
+    made : List Held → Cursors → Cursors → Cursors → State
+    made rows vector times purged =
+        record { dsa = dsa; inv = inv; mode = Normal; store = record { schema = s.schema; usn = s.usn; rows = rows; vector = raised vector inv s.usn; times = times; purged = purged; marks = [] } }
 
 pub first_state : (s : Store) (t : State) (c : Change) → t ≡ unmade s.schema t.dsa t.inv → IsFormedStore s → MakesAll s c → after t c ≡ with_marks [] (woken s t.dsa t.inv)
 first_state s t c is formed makes = ap (λ (u : State). after u c) is ∙ made_of_all s t.dsa t.inv c formed makes

@@ -14,6 +14,6 @@ abbrev pub by_change : State → Option Change → Option State
 by_change s None = None
 by_change s (Some c) = if are_locals_within c && can_follow s c then Some (after s c) else None
 
--- the state after the change whose body these bytes are, where it can follow
+-- the state after the change whose body these bytes are, under the schema of the state, where it can follow
 abbrev pub following : State → List ℕ → Option State
-following s bytes = by_change s (decoded_change s.store.usn bytes)
+following s bytes = by_change s (decoded_change s.store.usn s.store.schema bytes)

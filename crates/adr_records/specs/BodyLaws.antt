@@ -1,5 +1,6 @@
 -- A change that may be recorded is read from its body and follows, and what follows leads to a state of a log.
 use Rattle.std.proofs.Common.{◌≡◌, ℕ, ◌≤◌, Bool, true, false, cond, eqb, leb, List, [], ◌∷◌, ◌&&◌, length, map, Option, Some, None, refl, sym, ap, subst, ◌∙◌, arith, inl, inr}
+use Rattle.std.specs.Prelude.{is_some}
 use Rattle.std.specs.List.{AllByRecursion, list_all}
 use Rattle.std.specs.List.Sorted.{IsStrictlySortedBy}
 use Rattle.std.specs.Option.{IfSome}
@@ -13,6 +14,8 @@ use Rattle.adr_stamp.specs.declared.Unit.TheVariants.{Object}
 use Rattle.adr_stamp.specs.contracts.OidOrd.TheImpl.Laws.{total-law as objects_total}
 use Rattle.adr_schema.specs.declared.content.Content.{Content}
 use Rattle.adr_schema.specs.declared.content.Content.TheVariants.{Class, Name, Dead, Values}
+use Rattle.adr_schema.specs.Schemas.{schema_table}
+use Rattle.adr_vector.proofs.Moments.{no_times}
 use Rattle.adr_wire.specs.Composites.{Row}
 use Rattle.adr_wire.specs.Pieces.{Piece, OfRows, OfLink, IsPiece}
 use Rattle.adr_wire.specs.Ranges.{InTurn, IsContent, IsRowAbove}
@@ -25,7 +28,7 @@ use Rattle.adr_model.specs.LocalLog.{IsOrdered}
 use Rattle.adr_model.specs.Member.{Each, Member}
 use Rattle.adr_model.specs.Store.{State}
 use Rattle.adr_model.specs.Update.{Key, RowOf, LinkOf, IsPresent, Update, key_order, unit_of}
-use Rattle.adr_law_formed.specs.Spelled.{AreLocalsRising, IsContentOfAttr, IsSaidOfKey, IsSpelledChange, IsSpelledItem, IsSpelledWrite}
+use Rattle.adr_model.specs.Spelled.{AreLocalsRising, IsContentOfAttr, IsSaidOfKey, IsSpelledChange, IsSpelledItem, IsSpelledWrite}
 use Rattle.adr_law_formed.specs.Tested.{can_follow}
 use Rattle.adr_law_formed.proofs.WholeTested.{follows_where_tested, tested_where_follows}
 use Rattle.adr_image.specs.Body.{IsMarkIf, IsWrite, Write}
@@ -120,14 +123,15 @@ writes_spelled last [] turn w m = absurd m
 writes_spelled last (x ∷ xs) turn w (inl e) = subst IsSpelledWrite (sym e) (piece_spelled x.1 turn.0.1)
 writes_spelled last (x ∷ xs) turn w (inr m) = writes_spelled (Some x.0) xs turn.1 w m
 
-pub change_spelled : (before : ℕ) (c : Change) → HasBody before c → are_locals_within c ≡ true → IsSpelledChange before c
-change_spelled before c has within =
+pub change_spelled : (before schema : ℕ) (c : Change) → HasBody before schema c → are_locals_within c ≡ true → IsSpelledChange before c
+change_spelled before schema c has within =
     let b = has.body in
     let q = has.in_range in
     subst (IsSpelledChange before) (sym has.says) (record {
       locals = locals_rise before b.0 b.1.1.1.1.1.1 q.1.1.1.1.1.1.1 (subst (λ (d : Change). are_locals_within d ≡ true) has.says within);
       mark = mark_in_order b.1.1.0 q.1.1.0;
       joined = q.1.1.1.0.0;
+      times = no_times b.1.1.1.0;
       purged = q.1.1.1.1.0.0;
       items = writes_spelled (Some before) b.1.1.1.1.1.1 q.1.1.1.1.1.1.1;
     })
@@ -140,42 +144,44 @@ locals_within above usn (w ∷ ws) rise = and_from (leb w.local usn) (list_all (
 
 pub body_follows : (s : State) (c : Change) → MayBeRecorded s c → following s (change_bytes c) ≡ Some (after s c)
 body_follows s c may =
-    ap (by_change s) (change_again s.store.usn c may.body)
+    ap (by_change s) (change_again s.store.usn s.store.schema c may.body)
     ∙ ap (λ (b : Bool). cond b (Some (after s c)) None)
     (and_from (are_locals_within c) (can_follow s c) (locals_within s.store.usn c.usn c.writes may.follows.goes_on.locals) (tested_where_follows s c may.logged.formed may.follows))
 
 pub body_long : (s : State) (c : Change) → MayBeRecorded s c → length (change_bytes c) ≡ change_length c
-body_long s c may = change_long s.store.usn c may.body
+body_long s c may = change_long s.store.usn s.store.schema c may.body
 
 -- ---- what follows is recorded
 
 -- a change that has a body and can follow
-pub change_follows : (s : State) (c : Change) → IsLogged s → HasBody s.store.usn c → are_locals_within c ≡ true → can_follow s c ≡ true → MayBeRecorded s c
+pub change_follows : (s : State) (c : Change) → IsLogged s → HasBody s.store.usn s.store.schema c → are_locals_within c ≡ true → can_follow s c ≡ true → MayBeRecorded s c
 change_follows s c logged has within follows = record {
   logged = logged;
-  follows = follows_where_tested s c logged.formed logged.classes (change_spelled s.store.usn c has within) follows;
+  follows = follows_where_tested s c logged.formed logged.classes (change_spelled s.store.usn s.store.schema c has within) follows;
   body = has;
 }
 
 pub logged_after : (s : State) (c : Change) → MayBeRecorded s c → IsLogged (after s c)
-logged_after s c may = record {
+logged_after s c may = let same : c.schema ≡ s.store.schema = ap (λ (d : Change). d.schema) may.body.says in record {
   dsa = may.logged.dsa;
   inv = may.logged.inv;
   formed = may.follows.formed;
-  spelled = stays_spelled s c may.logged.inv may.logged.spelled may.body may.follows.classes;
+  spelled =
+      stays_spelled s c may.logged.inv may.logged.spelled (subst (λ (n : ℕ). is_some (schema_table n) ≡ true) (sym same) may.logged.spelled.schema)
+      (subst (λ (n : ℕ). HasBody s.store.usn n c) (sym same) may.body) may.follows.classes;
   classes = may.follows.classes;
 }
 
 pub stays_logged : (s t : State) (body : List ℕ) → AreBytes body → IsLogged s → following s body ≡ Some t → IsLogged t
-stays_logged s t body are logged follows = by (decoded_change s.store.usn body) refl follows
+stays_logged s t body are logged follows = by (decoded_change s.store.usn s.store.schema body) refl follows
   where
-    on : (c : Change) (b : Bool) → decoded_change s.store.usn body ≡ Some c → (are_locals_within c && can_follow s c) ≡ b → cond b (Some (after s c)) None ≡ Some t → IsLogged t
+    on : (c : Change) (b : Bool) → decoded_change s.store.usn s.store.schema body ≡ Some c → (are_locals_within c && can_follow s c) ≡ b → cond b (Some (after s c)) None ≡ Some t → IsLogged t
     on c true says passes h =
         let a = and_parts (are_locals_within c) (can_follow s c) passes in
         let is : after s c ≡ t = cc in
-        subst IsLogged is (logged_after s c (change_follows s c logged (change_only s.store.usn body c are says).0 a.0 a.1))
+        subst IsLogged is (logged_after s c (change_follows s c logged (change_only s.store.usn s.store.schema body c are says).0 a.0 a.1))
     on c false says passes h = absurd (cc)
 
-    by : (r : Option Change) → decoded_change s.store.usn body ≡ r → by_change s r ≡ Some t → IsLogged t
+    by : (r : Option Change) → decoded_change s.store.usn s.store.schema body ≡ r → by_change s r ≡ Some t → IsLogged t
     by (Some c) says h = on c (are_locals_within c && can_follow s c) says refl h
     by None says h = absurd (cc)

@@ -27,4 +27,4 @@ pub record MayBegin (s : State) : Type 0 where
 pub record MayBeRecorded (s : State) (c : Change) : Type 0 where
   pub logged : IsLogged s
   pub follows : CanFollow s c
-  pub body : HasBody s.store.usn c
+  pub body : HasBody s.store.usn s.store.schema c

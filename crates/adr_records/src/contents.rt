@@ -38,6 +38,7 @@ fn contents_of(alloc: Global, state: &State) -> Result<Contents, NoMemory>
     let vector = state.vector().copy(alloc)?;
     let purged = state.purged().copy(alloc)?;
     let rows = rows_of(alloc, state)?;
+    state.knows_no_times();
     Ok(Contents {
         schema: state.schema(),
         usn: state.usn(),

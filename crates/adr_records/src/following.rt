@@ -23,7 +23,7 @@ fn are_locals_within(change: &Change) -> bool
 /// Applies a change that was read, if it can follow the state.
 fn apply_read(alloc: Global, state: &mut State, change: &Change) -> Result<(), FollowRefusal>
     requires logged { IsLogged state.old }
-    requires body { HasBody state.old.store.usn change.now }
+    requires body { HasBody state.old.store.usn state.old.store.schema change.now }
     ensures ok { OnOk result (by_change state.old (Some change.now) ≡ Some state.new) }
     ensures refused { IsErrOf result FollowRefusal.CannotFollow → by_change state.old (Some change.now) ≡ None }
     ensures err { OnErr result (state.new ≡ state.old) }
@@ -50,7 +50,7 @@ pub(crate) fn follow(alloc: Global, state: &mut State, body: &[u8]) -> Result<()
     ensures refused { IsErrOf result FollowRefusal.CannotFollow → following state.old body.now ≡ None }
     ensures err { OnErr result (state.new ≡ state.old) }
 {
-    match decode_change(alloc, state.usn(), body) {
+    match decode_change(alloc, state.usn(), state.schema(), body) {
         Ok(Some(change)) => {
             let applied = apply_read(alloc, state, &change);
             drop(change);

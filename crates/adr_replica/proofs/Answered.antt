@@ -16,11 +16,11 @@ use Rattle.adr_model.specs.Collect.{collect}
 use Rattle.adr_model.specs.Refused.{write_refused, serve_refused, take_refused, collect_refused}
 use Rattle.adr_model.specs.Replica.{Replica, Pending, Call, ToCollect, ToWrite, change_in}
 use Rattle.adr_model.specs.Serve.{Request, Reply, serve}
-use Rattle.adr_model.specs.Step.{ClientWrite, write_of}
+use Rattle.adr_model.specs.Step.{ClientWrite}
 use Rattle.adr_model.specs.Take.{take}
-use Rattle.adr_model.specs.World.{World, Gone, Sent, after_write, after_serve, after_take, after_collect, commit, stays, nothing, not_sent, rows_in, where_up}
+use Rattle.adr_model.specs.World.{World, Gone, Sent, after_write, after_serve, after_take, after_collect, commit, stays, nothing, not_sent, rows_in, noted, where_up}
 use Rattle.adr_model.specs.Write.{Write, write}
-use Rattle.adr_controller.specs.Able.{written_in, served_in, taken_in, collected_in, change_of_write, change_of_served, change_of_taken}
+use Rattle.adr_controller.specs.Able.{plain_write, written_in, served_in, taken_in, collected_in, change_of_write, change_of_served, change_of_taken}
 use Rattle.adr_controller.specs.declared.refusal.Hindrance.{Hindrance}
 use Rattle.adr_replica.specs.Past.{Past}
 use Rattle.adr_replica.specs.Pending.{with_call, written_by, writing, served_by, serving, taken_by, taking, collecting}
@@ -34,14 +34,14 @@ with_change call None = refl
 with_change call (Some c) = refl
 
 pub same_written : (event : Event) (now : ℕ) (s : State) → option_map (λ (p : Pending). p.change) (writing event now s) ≡ written_in event now s
-same_written event now s = by (write_of event)
+same_written event now s = by (plain_write event)
   where
     by : (o : Option ClientWrite) → option_map (λ (p : Pending). p.change) (written_by now s o) ≡ change_of_write now s o
     by None = refl
     by (Some w) = with_change (ToWrite w.what now) (change_in (write s w.what now))
 
-pub same_served : (request : Request) (s : State) → option_map (λ (p : Pending). p.change) (serving request s) ≡ served_in request s
-same_served request s = by (serve s request)
+pub same_served : (request : Request) (s : State) → option_map (λ (p : Pending). p.change) (serving request s) ≡ served_in request 0 s
+same_served request s = by (serve s request 0)
   where
     by : (t : Result Reply ServeRefusal) → option_map (λ (p : Pending). p.change) (served_by s t) ≡ change_of_served s t
     by (Ok reply) = refl
@@ -97,12 +97,14 @@ abbrev pub serve_sent : Result Reply ServeRefusal → Option Reply
 serve_sent (Ok reply) = Some reply
 serve_sent (Err refusal) = None
 
-pub serve_makes : (w : World) (r : Replica) (t : Result Reply ServeRefusal) → (served_by r.safe t ≡ None → after_serve w r t ≡ (w, serve_told t, serve_sent t))
+-- a reply that isn't noted leaves the world as it was
+pub serve_makes : (w : World) (r : Replica) (t : Result Reply ServeRefusal) → ((reply : Reply) → t ≡ Ok reply → noted w reply ≡ w)
+    → (served_by r.safe t ≡ None → after_serve w r t ≡ (w, serve_told t, serve_sent t))
     × ((p : Pending) → served_by r.safe t ≡ Some p → (after_serve w r t ≡ not_sent (commit w r p (serve_told t))) × (serve_sent t ≡ None))
-serve_makes w r (Ok reply) = (λ none. refl, λ p of. absurd (cc of))
-serve_makes w r (Err (serves.RolledBack inv mine shown)) =
+serve_makes w r (Ok reply) keeps = (λ none. ap (λ x. let sent : Sent Reply = (x, serve_told (Ok reply), Some reply) in sent) (keeps reply refl), λ p of. absurd (cc of))
+serve_makes w r (Err (serves.RolledBack inv mine shown)) keeps =
     (λ none. absurd (cc none), λ p of. (ap (λ x. let sent : Sent Reply = not_sent (commit w r x (serve_refused (serves.RolledBack inv mine shown))) in sent) (some_same _ p of), refl))
-serve_makes w r (Err _) = (λ none. refl, λ p of. absurd (cc of))
+serve_makes w r (Err _) keeps = (λ none. refl, λ p of. absurd (cc of))
 
 -- ---- a call that was made
 
@@ -114,9 +116,10 @@ module _ (is_held : Type 0) (r q : Replica) (past later : Past) (po : Option Pen
       (λ idle. makes.0 idle ∙ ap (λ x. (x, told)) (same_world w r q past later stands (came.idle none idle).0 (came.idle none idle).1))
       (λ p of. makes.1 p of ∙ came.done none p of w told stands)
 
-  pub sent_made : (w : World) (t : Result Reply ServeRefusal) → StandsIn w r past → po ≡ served_by r.safe t → where_up (nothing w) r.standing (after_serve w r t) ≡ (world_with w q later, serve_told t, serve_sent t)
-  sent_made w t stands is =
-      let makes = serve_makes w r t in
+  pub sent_made : (w : World) (t : Result Reply ServeRefusal) → ((reply : Reply) → t ≡ Ok reply → noted w reply ≡ w) → StandsIn w r past → po ≡ served_by r.safe t
+      → where_up (nothing w) r.standing (after_serve w r t) ≡ (world_with w q later, serve_told t, serve_sent t)
+  sent_made w t keeps stands is =
+      let makes = serve_makes w r t keeps in
       ap (λ st. where_up (nothing w) st (after_serve w r t)) (came.was_up none).0
       ∙ by_option po (after_serve w r t ≡ (world_with w q later, serve_told t, serve_sent t))
       (λ idle. makes.0 (sym is ∙ idle) ∙ ap (λ x. (x, serve_told t, serve_sent t)) (same_world w r q past later stands (came.idle none idle).0 (came.idle none idle).1))

@@ -14,18 +14,20 @@ use Rattle.adr_model.specs.Collect.{collect}
 use Rattle.adr_model.specs.Refused.{write_refused, serve_refused, take_refused, collect_refused}
 use Rattle.adr_model.specs.Replica.{Replica, ToCollect, ToWrite, change_in}
 use Rattle.adr_model.specs.Serve.{Request, Reply, serve}
-use Rattle.adr_model.specs.Step.{ClientWrite, write_of}
+use Rattle.adr_model.specs.Step.{ClientWrite}
 use Rattle.adr_model.specs.Take.{take}
-use Rattle.adr_model.specs.World.{World, Gone, Sent, after_write, after_serve, after_take, after_collect, stays, nothing, rows_in, where_up}
+use Rattle.adr_model.specs.World.{World, Gone, Sent, after_write, after_serve, after_take, after_collect, stays, nothing, rows_in, noted, where_up}
 use Rattle.adr_model.specs.Write.{write}
+use Rattle.adr_controller.specs.Able.{plain_write}
 use Rattle.adr_controller.specs.declared.messages.Taken.{Taken}
 use Rattle.adr_controller.specs.declared.refusal.Hindrance.{Hindrance}
 use Rattle.adr_replica.specs.Past.{Past}
-use Rattle.adr_replica.specs.Pending.{with_call, written_by, writing, serving, taking, collecting}
+use Rattle.adr_replica.specs.Pending.{with_call, written_by, writing, served_by, serving, taking, collecting}
 use Rattle.adr_outcome.specs.Unsent.{unsent}
 use Rattle.adr_replica.specs.Settled.{hindered_so}
 use Rattle.adr_replica.specs.Led.{StandsIn, world_with, IsDone, IsUndone, Leads, LeadsTo}
 use Rattle.adr_replica.proofs.Came.{Came, by_option, gone_so, sent_so}
+use Rattle.adr_replica.proofs.Noted.{answer_unnoted, served_at}
 use Rattle.adr_replica.proofs.Results.{if_ok_at, if_ok_as}
 use Rattle.adr_replica.proofs.Answered.{Makes, write_told, write_makes, take_told, take_makes, collect_told, collect_makes, serve_told, serve_sent, serve_makes, gone_made, sent_made}
 
@@ -35,10 +37,10 @@ module _ (is_held : Type 0) (v q : Replica) (past later : Past) (state : Option 
   module _ (event : Event) (now : ℕ) (came : Came is_held v q past later (writing event now v.safe) state stopped how) where
     abbrev WrittenAs : Outcome → Type 0
     WrittenAs told =
-        (c : ClientWrite) → write_of event ≡ Some c → (w : World) → w.time ≡ now → StandsIn w v past
+        (c : ClientWrite) → plain_write event ≡ Some c → (w : World) → w.time ≡ now → StandsIn w v past
         → where_up (stays w) v.standing (after_write w v c.what (write v.safe c.what now)) ≡ (world_with w q later, told)
 
-    makes : (c : ClientWrite) → write_of event ≡ Some c → (w : World) → w.time ≡ now
+    makes : (c : ClientWrite) → plain_write event ≡ Some c → (w : World) → w.time ≡ now
         → Makes w v (writing event now v.safe) (after_write w v c.what (write v.safe c.what now)) (write_told (write v.safe c.what now))
     makes c of w time =
         let t = write v.safe c.what now in
@@ -46,23 +48,23 @@ module _ (is_held : Type 0) (v q : Replica) (past later : Past) (state : Option 
         ap (λ n. with_call (ToWrite c.what n) (change_in t)) time ∙ sym (ap (written_by now v.safe) of) in
         subst (λ po. Makes w v po (after_write w v c.what t) (write_told t)) is (write_makes w v c.what t)
 
-    made_as : how ≡ None → (told : Outcome) → ((c : ClientWrite) → write_of event ≡ Some c → write_told (write v.safe c.what now) ≡ told) → WrittenAs told
+    made_as : how ≡ None → (told : Outcome) → ((c : ClientWrite) → plain_write event ≡ Some c → write_told (write v.safe c.what now) ≡ told) → WrittenAs told
     made_as none told tells c of w time stands =
         gone_made is_held v q past later (writing event now v.safe) state stopped how came none w (after_write w v c.what (write v.safe c.what now)) (write_told (write v.safe c.what now)) stands
         (makes c of w time) ∙ ap (λ t. (world_with w q later, t)) (tells c of)
 
-    pub written_so : how ≡ None → (usn : ℕ) → ((s : State) (c : ClientWrite) → state ≡ Some s → write_of event ≡ Some c → (x : Change) × (write s c.what now ≡ Ok x) × (usn ≡ x.usn))
+    pub written_so : how ≡ None → (usn : ℕ) → ((s : State) (c : ClientWrite) → state ≡ Some s → plain_write event ≡ Some c → (x : Change) × (write s c.what now ≡ Ok x) × (usn ≡ x.usn))
         → WrittenAs (outcomes.Usn usn)
     written_so none usn writes =
         made_as none (outcomes.Usn usn) (λ c of. let x = writes v.safe c (came.was_up none).1 of in ap write_told x.1 ∙ ap (λ n. outcomes.Usn n) (sym x.2))
 
-    pub refused_so : how ≡ None → (refusal : WriteRefusal) → ((s : State) (c : ClientWrite) → state ≡ Some s → write_of event ≡ Some c → write s c.what now ≡ Err refusal)
+    pub refused_so : how ≡ None → (refusal : WriteRefusal) → ((s : State) (c : ClientWrite) → state ≡ Some s → plain_write event ≡ Some c → write s c.what now ≡ Err refusal)
         → (told : Outcome) → told ≡ write_refused refusal → WrittenAs told
     refused_so none refusal refuses told tells = made_as none told (λ c of. ap write_told (refuses v.safe c (came.was_up none).1 of) ∙ sym tells)
 
-    pub refused_undone : how ≡ None → (refusal : WriteRefusal) → ((s : State) (c : ClientWrite) → state ≡ Some s → write_of event ≡ Some c → write s c.what now ≡ Err refusal)
+    pub refused_undone : how ≡ None → (refusal : WriteRefusal) → ((s : State) (c : ClientWrite) → state ≡ Some s → plain_write event ≡ Some c → write s c.what now ≡ Err refusal)
         → IsUndone v past q later
-    refused_undone none refusal refuses = came.idle none (by (write_of event) (λ c of. refuses v.safe c (came.was_up none).1 of))
+    refused_undone none refusal refuses = came.idle none (by (plain_write event) (λ c of. refuses v.safe c (came.was_up none).1 of))
       where
         by : (o : Option ClientWrite) → ((c : ClientWrite) → o ≡ Some c → write v.safe c.what now ≡ Err refusal) → written_by now v.safe o ≡ None
         by None refused = refl
@@ -76,10 +78,10 @@ module _ (is_held : Type 0) (v q : Replica) (past later : Past) (state : Option 
     -- the same, of what is returned
     module _ {E : Type 0} (r : Result Outcome E) where
       pub ok_written : how ≡ None → (usn : ℕ) → r ≡ Ok (outcomes.Usn usn)
-          → ((s : State) (c : ClientWrite) → state ≡ Some s → write_of event ≡ Some c → (x : Change) × (write s c.what now ≡ Ok x) × (usn ≡ x.usn)) → IfOk r WrittenAs
+          → ((s : State) (c : ClientWrite) → state ≡ Some s → plain_write event ≡ Some c → (x : Change) × (write s c.what now ≡ Ok x) × (usn ≡ x.usn)) → IfOk r WrittenAs
       ok_written none usn is writes = if_ok_at WrittenAs r (outcomes.Usn usn) is (written_so none usn writes)
 
-      pub ok_refused : how ≡ None → (refusal : WriteRefusal) → ((s : State) (c : ClientWrite) → state ≡ Some s → write_of event ≡ Some c → write s c.what now ≡ Err refusal)
+      pub ok_refused : how ≡ None → (refusal : WriteRefusal) → ((s : State) (c : ClientWrite) → state ≡ Some s → plain_write event ≡ Some c → write s c.what now ≡ Err refusal)
           → (t : Result Outcome E) → r ≡ t → IfOk t (λ told. told ≡ write_refused refusal) → IfOk r WrittenAs
       ok_refused none refusal refuses t is tells = if_ok_as (λ told. told ≡ write_refused refusal) WrittenAs r t is tells (λ told. refused_so none refusal refuses told)
 
@@ -179,39 +181,49 @@ module _ (is_held : Type 0) (v q : Replica) (past later : Past) (state : Option 
 
   -- ---- a request
 
-  module _ (request : Request) (came : Came is_held v q past later (serving request v.safe) state stopped how) where
+  module _ (request : Request) (first : request.version ≡ 1) (came : Came is_held v q past later (serving request v.safe) state stopped how) where
     abbrev ServedAs : Outcome → Option Reply → Type 0
-    ServedAs told sent = LeadsTo v past (λ w. where_up (nothing w) v.standing (after_serve w v (serve v.safe request))) q later told sent
+    ServedAs told sent = LeadsTo v past (λ w. where_up (nothing w) v.standing (after_serve w v (serve v.safe request w.time))) q later told sent
 
-    made_sent : how ≡ None → ServedAs (serve_told (serve v.safe request)) (serve_sent (serve v.safe request))
-    made_sent none w stands = sent_made is_held v q past later (serving request v.safe) state stopped how came none w (serve v.safe request) stands refl
+    keeps : (w : World) (reply : Reply) → serve v.safe request w.time ≡ Ok reply → noted w reply ≡ w
+    keeps w reply = answer_unnoted v.safe request first w reply
 
-    pub served_so : how ≡ None → (reply : Reply) → ((s : State) → state ≡ Some s → serve s request ≡ Ok reply)
+    serving_then : (w : World) → serving request v.safe ≡ served_by v.safe (serve v.safe request w.time)
+    serving_then w = served_at v.safe request 0 w.time
+
+    made_sent : how ≡ None → (w : World) → StandsIn w v past → (t : Result Reply ServeRefusal) → serve v.safe request w.time ≡ t
+        → where_up (nothing w) v.standing (after_serve w v (serve v.safe request w.time)) ≡ (world_with w q later, serve_told t, serve_sent t)
+    made_sent none w stands t is =
+        sent_made is_held v q past later (serving request v.safe) state stopped how came none w (serve v.safe request w.time) (keeps w) stands (serving_then w)
+        ∙ ap (λ t. (world_with w q later, serve_told t, serve_sent t)) is
+
+    pub served_so : how ≡ None → (reply : Reply) → ((s : State) (now : ℕ) → state ≡ Some s → serve s request now ≡ Ok reply)
         → (told : Outcome) (sent : Option Reply) → sent ≡ Some reply → told ≡ outcomes.Served reply.from reply.to (length reply.items) (rows_in reply) (is_some reply.last)
         → ServedAs told sent
     served_so none reply serves told sent sends tells w stands =
-        made_sent none w stands ∙ ap (λ t. (world_with w q later, serve_told t, serve_sent t)) (serves v.safe (came.was_up none).1)
+        made_sent none w stands (Ok reply) (serves v.safe w.time (came.was_up none).1)
         ∙ ap (λ o. let made : Sent Reply = (world_with w q later, o, Some reply) in made) (sym tells) ∙ ap (λ m. let made : Sent Reply = (world_with w q later, told, m) in made) (sym sends)
 
-    pub unserved_so : how ≡ None → (refusal : ServeRefusal) → ((s : State) → state ≡ Some s → serve s request ≡ Err refusal)
+    pub unserved_so : how ≡ None → (refusal : ServeRefusal) → ((s : State) (now : ℕ) → state ≡ Some s → serve s request now ≡ Err refusal)
         → (told : Outcome) → told ≡ serve_refused refusal → ServedAs told None
     unserved_so none refusal refuses told tells w stands =
-        made_sent none w stands ∙ ap (λ t. (world_with w q later, serve_told t, serve_sent t)) (refuses v.safe (came.was_up none).1)
+        made_sent none w stands (Err refusal) (refuses v.safe w.time (came.was_up none).1)
         ∙ ap (λ o. let sent : Sent Reply = nothing (world_with w q later) o in sent) (sym tells)
 
-    pub unserved_left : how ≡ None → IsUndone v past q later ⊎ IsDone v past (λ w. (where_up (nothing w) v.standing (after_serve w v (serve v.safe request))).0) q later
-    unserved_left none = inr (λ w stands. ap (λ (s : Sent Reply). s.0) (made_sent none w stands))
+    pub unserved_left : how ≡ None → IsUndone v past q later ⊎ IsDone v past (λ w. (where_up (nothing w) v.standing (after_serve w v (serve v.safe request w.time))).0) q later
+    unserved_left none = inr (λ w stands. ap (λ (s : Sent Reply). s.0) (made_sent none w stands (serve v.safe request w.time) refl))
 
     pub hindered_serve : (h : Hindrance) → how ≡ Some h → (d : Bool) → d ≡ stopped → (told : Outcome) → hindered_so h d ≡ Some told → ServedAs told None
     hindered_serve h is d same told tells w stands =
-        sent_so w v q past later (serving request v.safe) told (after_serve w v (serve v.safe request)) (came.hinders h is told (ap (hindered_so h) (sym same) ∙ tells)) stands
-        (λ p up ofp. (serve_told (serve v.safe request), ((serve_makes w v (serve v.safe request)).1 p ofp).0))
+        let t = serve v.safe request w.time in
+        sent_so w v q past later (serving request v.safe) told (after_serve w v t) (came.hinders h is told (ap (hindered_so h) (sym same) ∙ tells)) stands
+        (λ p up ofp. (serve_told t, ((serve_makes w v t (keeps w)).1 p (sym (serving_then w) ∙ ofp)).0))
 
     abbrev ServedBy : Outcome × Option Reply → Type 0
     ServedBy sent = ServedAs sent.0 sent.1
 
     module _ {E : Type 0} (r : Result (Outcome × Option Reply) E) where
-      pub ok_served : how ≡ None → (reply : Reply) → ((s : State) → state ≡ Some s → serve s request ≡ Ok reply) → (t : Result (Outcome × Option Reply) E) → r ≡ t
+      pub ok_served : how ≡ None → (reply : Reply) → ((s : State) (now : ℕ) → state ≡ Some s → serve s request now ≡ Ok reply) → (t : Result (Outcome × Option Reply) E) → r ≡ t
           → IfOk t (λ sent. (sent.1 ≡ Some reply) × (sent.0 ≡ outcomes.Served reply.from reply.to (length reply.items) (rows_in reply) (is_some reply.last))) → IfOk r ServedBy
       ok_served none reply serves t is tells =
           if_ok_as (λ sent. (sent.1 ≡ Some reply) × (sent.0 ≡ outcomes.Served reply.from reply.to (length reply.items) (rows_in reply) (is_some reply.last))) ServedBy r t is tells
@@ -225,7 +237,7 @@ module _ (is_held : Type 0) (v q : Replica) (past later : Past) (state : Option 
           by (Ok told) p = so told p
           by (Err e) p = tt
 
-      pub ok_unserved : how ≡ None → (refusal : ServeRefusal) → ((s : State) → state ≡ Some s → serve s request ≡ Err refusal)
+      pub ok_unserved : how ≡ None → (refusal : ServeRefusal) → ((s : State) (now : ℕ) → state ≡ Some s → serve s request now ≡ Err refusal)
           → (o : Result Outcome E) → r ≡ unsent o → IfOk o (λ told. told ≡ serve_refused refusal) → IfOk r ServedBy
       ok_unserved none refusal refuses o is tells = if_unsent (λ told. told ≡ serve_refused refusal) o is tells (λ told. unserved_so none refusal refuses told)
 

@@ -14,13 +14,14 @@ use Rattle.adr_model.specs.Change.{Change, after}
 use Rattle.adr_model.specs.Collect.{collect, quarantine}
 use Rattle.adr_model.specs.Replica.{change_in}
 use Rattle.adr_model.specs.Serve.{Request, Reply, serve, is_quarantined}
-use Rattle.adr_model.specs.Step.{ClientWrite, write_of}
+use Rattle.adr_model.specs.Step.{ClientWrite}
 use Rattle.adr_model.specs.Take.{take}
-use Rattle.adr_model.specs.Write.{IsWellGiven, write, usn_limit}
+use Rattle.adr_model.specs.Write.{write, usn_limit}
+use Rattle.adr_model.specs.Given.{IsWellGiven}
 use Rattle.adr_state.specs.Refusal.{IsOverfull}
-use Rattle.adr_law_formed.specs.Spelled.{IsSpelledReply}
+use Rattle.adr_model.specs.Spelled.{IsSpelledReply}
 use Rattle.adr_records.specs.Logged.{IsLogged, MayBeRecorded}
-use Rattle.adr_controller.specs.Able.{written_in, served_in, taken_in, collected_in, change_of_write, change_of_served, change_of_taken, request_shows, reply_shows}
+use Rattle.adr_controller.specs.Able.{plain_write, written_in, served_in, taken_in, collected_in, change_of_write, change_of_served, change_of_taken, request_shows, reply_shows}
 use Rattle.adr_law_recorded.specs.Typed.{IsTypedWrite}
 use Rattle.adr_law_recorded.specs.Ranged.{IsRangedReply}
 use Rattle.adr_law_recorded.specs.Laws.{CollectedIsRecorded, LoggedFits, QuarantineIsRecorded, RecordedIsLogged, TakenIsRecorded, WrittenIsRecorded}
@@ -55,9 +56,9 @@ module _ (logged : RecordedIsLogged) (fits : LoggedFits) where
   recorded_so : (s : State) (c : Change) → MayBeRecorded s c → Recorded s c
   recorded_so s c may = let formed = logged s c may in record { follows = may; fits = λ over. fits (after s c) formed over; formed = formed }
 
-  pub written_follows : WrittenIsRecorded → (event : Event) (now : ℕ) → IsSomeAnd (write_of event) (λ (c : ClientWrite). IsWellGiven c.what × IsTypedWrite c.what) → now < 2 ^ 64
+  pub written_follows : WrittenIsRecorded → (event : Event) (now : ℕ) → IsSomeAnd (plain_write event) (λ (c : ClientWrite). IsWellGiven c.what × IsTypedWrite c.what) → now < 2 ^ 64
       → (s : State) (c : Change) → IsLogged s → written_in event now s ≡ Some c → Recorded s c
-  written_follows law event now typed before s c is makes = by (write_of event) typed makes
+  written_follows law event now typed before s c is makes = by (plain_write event) typed makes
     where
       by : (o : Option ClientWrite) → IsSomeAnd o (λ (c : ClientWrite). IsWellGiven c.what × IsTypedWrite c.what) → change_of_write now s o ≡ Some c → Recorded s c
       by None typed makes = absurd typed
@@ -79,10 +80,10 @@ module _ (logged : RecordedIsLogged) (fits : LoggedFits) where
           let shown = shown_true (reply_shows refusal) (quarantine s) c makes in
           quarantine_follows still s c is (is_normal s.mode (reply_normal (is_quarantined s.mode) _ _ refusal took shown.0)) shown.1
 
-  pub served_follows : QuarantineIsRecorded → (request : Request) (s : State) (c : Change) → IsLogged s → served_in request s ≡ Some c → Recorded s c
-  served_follows still request s c is makes = by (serve s request) refl makes
+  pub served_follows : QuarantineIsRecorded → (request : Request) (now : ℕ) (s : State) (c : Change) → IsLogged s → served_in request now s ≡ Some c → Recorded s c
+  served_follows still request now s c is makes = by (serve s request now) refl makes
     where
-      by : (t : Result Reply ServeRefusal) → serve s request ≡ t → change_of_served s t ≡ Some c → Recorded s c
+      by : (t : Result Reply ServeRefusal) → serve s request now ≡ t → change_of_served s t ≡ Some c → Recorded s c
       by (Ok x) answered makes = absurd (cc makes)
       by (Err refusal) answered makes =
           let shown = shown_true (request_shows refusal) (quarantine s) c makes in

@@ -1,6 +1,7 @@
 mod Walks
 mod Seen
 mod Went
+pub mod Noted
 mod Came
 mod Calls
 mod Results

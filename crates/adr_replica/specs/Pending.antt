@@ -12,8 +12,8 @@ use Rattle.adr_model.specs.Take.{take}
 use Rattle.adr_model.specs.Write.{write}
 use Rattle.adr_model.specs.Collect.{collect, quarantine}
 use Rattle.adr_model.specs.Replica.{Call, ToCollect, ToWrite, ToTake, ToQuarantine, Pending, change_in}
-use Rattle.adr_model.specs.Step.{ClientWrite, write_of}
-use Rattle.adr_controller.specs.Able.{request_shows, reply_shows}
+use Rattle.adr_model.specs.Step.{ClientWrite}
+use Rattle.adr_controller.specs.Able.{plain_write, request_shows, reply_shows}
 
 abbrev pub with_call : Call → Option Change → Option Pending
 with_call call change = option_map (λ c. record { call = call; change = c }) change
@@ -26,17 +26,17 @@ abbrev pub written_by : ℕ → State → Option ClientWrite → Option Pending
 written_by now s None = None
 written_by now s (Some w) = with_call (ToWrite w.what now) (change_in (write s w.what now))
 
--- a client's write at a time
+-- a client's write without an image, at a time
 abbrev pub writing : Event → ℕ → State → Option Pending
-writing event now s = written_by now s (write_of event)
+writing event now s = written_by now s (plain_write event)
 
 abbrev pub served_by : State → Result Reply ServeRefusal → Option Pending
 served_by s (Ok reply) = None
 served_by s (Err refusal) = quarantining (request_shows refusal) s
 
--- a request
+-- a request, which commits the same at every time
 abbrev pub serving : Request → State → Option Pending
-serving request s = served_by s (serve s request)
+serving request s = served_by s (serve s request 0)
 
 abbrev pub taken_by : Reply → State → Result Change TakeRefusal → Option Pending
 taken_by reply s (Ok c) = with_call (ToTake reply) (Some c)

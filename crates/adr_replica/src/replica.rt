@@ -2,17 +2,19 @@
 
 ghost use Rattle.std.specs.Prelude.{◌≡◌, ◌≢◌, ◌⊎◌, ◌<◌, Some, Ok, Err, OnErr, IfErr, IfOk, IfSome, IsSomeAnd};
 ghost use Rattle.adr_wire.specs.Ranges.{IsId};
-ghost use Rattle.adr_law_formed.specs.Spelled.{IsSpelledReply};
+ghost use Rattle.adr_model.specs.Spelled.{IsSpelledReply};
 ghost use Rattle.adr_law_recorded.specs.Typed.{IsTypedWrite};
 ghost use Rattle.adr_law_recorded.specs.Ranged.{IsRangedReply, IsRangedRequest};
 ghost use Rattle.adr_model.specs.Replica.{Down as stands_down, Failed as stands_failed, Fails, Stops, Up as stands_up, on_new_disk};
 ghost use Rattle.adr_model.specs.Serve.{ask, serve};
-ghost use Rattle.adr_model.specs.Step.{ClientWrite, write_of};
+ghost use Rattle.adr_model.specs.Step.{ClientWrite};
 ghost use Rattle.adr_model.specs.Store.{empty_state};
 ghost use Rattle.adr_model.specs.Take.{take};
 ghost use Rattle.adr_model.specs.World.{World as Defined, after_serve, after_take, after_write, nothing, starts, stays, stops, where_up};
-ghost use Rattle.adr_model.specs.Write.{IsWellGiven, write};
+ghost use Rattle.adr_model.specs.Write.{write};
+ghost use Rattle.adr_model.specs.Given.{IsWellGiven};
 ghost use Rattle.adr_records.specs.Logged.{IsLogged, MayBegin};
+ghost use Rattle.adr_controller.specs.Able.{plain_write};
 ghost use Rattle.adr_replica.specs.Led.{IsDone, IsUndone, Leads, LeadsTo, StandsIn, synced, world_with};
 
 use crate::hindered::{hindered, hindrance_in, hindrance_of_start, settle};
@@ -138,7 +140,7 @@ impl Replica {
         }
     }
 
-    /// A client's write, as an event has it, at a time in seconds.
+    /// A client's write, as an event without an image has it, at a time in seconds.
     pub fn write(
         &mut self,
         alloc: Global,
@@ -146,8 +148,8 @@ impl Replica {
         event: &Event,
         now: u64,
     ) -> Result<Outcome, NoMemory>
-        requires { IsSomeAnd (write_of event.now) (λ c. IsWellGiven c.what × IsTypedWrite c.what) }
-        ensures written { IfOk result (λ outcome. (c : ClientWrite) → write_of event.now ≡ Some c → (w : Defined) → w.time ≡ now
+        requires { IsSomeAnd (plain_write event.now) (λ c. IsWellGiven c.what × IsTypedWrite c.what) }
+        ensures written { IfOk result (λ outcome. (c : ClientWrite) → plain_write event.now ≡ Some c → (w : Defined) → w.time ≡ now
             → StandsIn w self.old past.old
             → where_up (stays w) self.old.standing (after_write w self.old c.what (write self.old.safe c.what now)) ≡ (world_with w self.new past.new, outcome)) }
         ensures err { OnErr result (IsUndone self.old past.old self.new past.new) }
@@ -176,14 +178,14 @@ impl Replica {
         }
     }
 
-    /// What it asks a partner of this identifier, at most `max` items in one reply.
+    /// What it asks a partner of this identifier in version 1, at most `max` items in one reply.
     pub fn ask(
         &self,
         alloc: Global,
         partner: Guid,
         max: u32,
     ) -> Result<(Outcome, Option<Request>), NoMemory>
-        ensures asked { IfOk result (λ sent. (w : Defined) → where_up (nothing w) self.now.standing (w, Outcome.Ok, Some (ask self.now.safe partner max)) ≡ (w, sent.0, sent.1)) }
+        ensures asked { IfOk result (λ sent. (w : Defined) → where_up (nothing w) self.now.standing (w, Outcome.Ok, Some (ask self.now.safe partner max 1)) ≡ (w, sent.0, sent.1)) }
         ensures ranged { IfOk result (λ sent. IfSome sent.1 IsRangedRequest) }
     {
         goes_as_planned(&self.controller);
@@ -203,10 +205,10 @@ impl Replica {
         request: &Request,
     ) -> Result<(Outcome, Option<Reply>), NoMemory>
         requires { IsRangedRequest request.now }
-        ensures served { IfOk result (λ sent. LeadsTo self.old past.old (λ w. where_up (nothing w) self.old.standing (after_serve w self.old (serve self.old.safe request.now))) self.new past.new sent.0 sent.1) }
+        ensures served { IfOk result (λ sent. LeadsTo self.old past.old (λ w. where_up (nothing w) self.old.standing (after_serve w self.old (serve self.old.safe request.now w.time))) self.new past.new sent.0 sent.1) }
         ensures spelled { IfOk result (λ sent. IfSome sent.1 (λ reply. IsSpelledReply reply × IsRangedReply reply)) }
         ensures err { OnErr result (IsUndone self.old past.old self.new past.new
-            ⊎ IsDone self.old past.old (λ w. (where_up (nothing w) self.old.standing (after_serve w self.old (serve self.old.safe request.now))).0) self.new past.new) }
+            ⊎ IsDone self.old past.old (λ w. (where_up (nothing w) self.old.standing (after_serve w self.old (serve self.old.safe request.now w.time))).0) self.new past.new) }
         ensures name { self.new.name ≡ self.old.name }
         ensures given { past.new.given ≡ past.old.given }
     {

@@ -8,7 +8,7 @@ use Rattle.std.proofs.lemmas.Bool.{and_parts, eqb-true, ltb-true}
 use Rattle.std.proofs.lemmas.Bool.Decides.{nat_tests}
 use Rattle.std.proofs.lemmas.Fmt.{decimal_injective}
 use Rattle.adr_schema.specs.Names.{class_name, class_number, attribute_name, attribute_number}
-use Rattle.adr_schema.specs.Schemas.{newest, schema_1}
+use Rattle.adr_schema.specs.Schemas.{newest, schema_1, schema_2, spoken}
 use Rattle.adr_schema.specs.Table.{Class, Attribute, attribute_at, class_at, is_link, kind_at}
 use Rattle.adr_token.specs.Spelling.{name_or_number, class_token, attribute_token}
 use Rattle.adr_token.proofs.ClassLaws.{class_named, class_told, attribute_named, attribute_told}
@@ -66,21 +66,21 @@ module _ (name : ℕ → Option (List ℕ)) (number : List ℕ → Option ℕ)
       let d = words_divide is_word (name_or_number (name m) m) (name_or_number (name n) n) r s (words m (name m) refl) (words n (name n) refl) er es e in
       (same m n (name m) (name n) refl refl hm hn d.0, d.1)
 
-classes_plain : list_all (λ (c : Class). is_plain c.name) newest.classes ≡ true
+classes_plain : list_all (λ (c : Class). is_plain c.name) spoken.classes ≡ true
 unfolding schema_1
 classes_plain = refl
 
-attributes_plain : list_all (λ (a : Attribute). is_plain a.name) newest.attributes ≡ true
+attributes_plain : list_all (λ (a : Attribute). is_plain a.name) spoken.attributes ≡ true
 unfolding schema_1
 attributes_plain = refl
 
 pub classes_divide : (m n : ℕ) (r s : List ℕ) → m < 2 ^ 64 → n < 2 ^ 64 → ends is_word r ≡ true → ends is_word s ≡ true → class_token m ++ r ≡ class_token n ++ s → (m ≡ n) × (r ≡ s)
 unfolding class_token
-classes_divide = names_divide class_name class_number class_told (λ n text e. found_plain class_named (λ c. c.number == n) newest.classes text classes_plain e)
+classes_divide = names_divide class_name class_number class_told (λ n text e. found_plain class_named (λ c. c.number == n) spoken.classes text classes_plain e)
 
 pub attributes_divide : (m n : ℕ) (r s : List ℕ) → m < 2 ^ 64 → n < 2 ^ 64 → ends is_word r ≡ true → ends is_word s ≡ true → attribute_token m ++ r ≡ attribute_token n ++ s → (m ≡ n) × (r ≡ s)
 unfolding attribute_token
-attributes_divide = names_divide attribute_name attribute_number attribute_told (λ n text e. found_plain attribute_named (λ a. a.number == n) newest.attributes text attributes_plain e)
+attributes_divide = names_divide attribute_name attribute_number attribute_told (λ n text e. found_plain attribute_named (λ a. a.number == n) spoken.attributes text attributes_plain e)
 
 -- the numbers of a schema are small
 is_small : ℕ → Bool
@@ -94,11 +94,11 @@ small n m h e =
     omega arith
 
 attributes_small : list_all (λ (a : Attribute). is_small a.number) newest.attributes ≡ true
-unfolding is_small schema_1
+unfolding is_small schema_2
 attributes_small = refl
 
 classes_small : list_all (λ (c : Class). is_small c.number) newest.classes ≡ true
-unfolding is_small schema_1
+unfolding is_small schema_2
 classes_small = refl
 
 pub attribute_small : (n : ℕ) (a : Attribute) → attribute_at newest n ≡ Some a → n < 2 ^ 64

@@ -66,7 +66,7 @@ unfolding line result_text report_lines front
 shown_is name d r = flat (codes "show") ((codes " " ++ name)) (codes ": ") (decimal (length d)) (codes "\n") (flat_map entry_line d) r
 
 vector_is : (name : List ℕ) (v : List (List ℕ × ℕ)) (r : List ℕ)
-    → report (codes "vector") name (Vector v) ++ r ≡ front (codes "vector") name (decimal (length v) ++ (10 ∷ (flat_map cursor_line v ++ r)))
+    → report (codes "vector") name (Vector v []) ++ r ≡ front (codes "vector") name (decimal (length v) ++ (10 ∷ (flat_map cursor_line v ++ r)))
 unfolding line result_text report_lines front
 vector_is name v r = flat (codes "vector") ((codes " " ++ name)) (codes ": ") (decimal (length v)) (codes "\n") (flat_map cursor_line v) r
 
@@ -86,7 +86,8 @@ pub directories_divide : LinesAreToldFromWhatFollows
 directories_divide = reports_divide (codes "show") Show entry_line IsPrintableEntry shown_is entry_divide entry_some
 
 pub vectors_same : EqualLinesMeanEqualVectors
-vectors_same = reports_same (codes "vector") Vector cursor_line IsPrintableCursor vector_is cursor_divide cursor_some
+unfolding line result_text report_lines
+vectors_same name v w t u = reports_same (codes "vector") (λ (x : List (List ℕ × ℕ)). Vector x []) cursor_line IsPrintableCursor vector_is cursor_divide cursor_some name v w
 
 pub marks_same : EqualLinesMeanEqualMarks
 marks_same = reports_same (codes "marks") Marks partner_line IsPrintablePartner marks_are partner_divide partner_some

@@ -33,9 +33,10 @@ abbrev pub LinesAreToldFromWhatFollows : Type 0
 LinesAreToldFromWhatFollows = (name : List ℕ) (d e : List Entry) (rest more : List ℕ) → IsPrintable d → IsPrintable e → length d < 2 ^ 64 → length e < 2 ^ 64
     → shown name d ++ rest ≡ shown name e ++ more → (d ≡ e) × (rest ≡ more)
 
+-- the times beside the vectors aren't told
 abbrev pub EqualLinesMeanEqualVectors : Type 0
-EqualLinesMeanEqualVectors = (name : List ℕ) (v w : List (List ℕ × ℕ)) → All IsPrintableCursor v → All IsPrintableCursor w
-    → report (codes "vector") name (Vector v) ≡ report (codes "vector") name (Vector w) → v ≡ w
+EqualLinesMeanEqualVectors = (name : List ℕ) (v w t u : List (List ℕ × ℕ)) → All IsPrintableCursor v → All IsPrintableCursor w
+    → report (codes "vector") name (Vector v t) ≡ report (codes "vector") name (Vector w u) → v ≡ w
 
 abbrev pub EqualLinesMeanEqualMarks : Type 0
 EqualLinesMeanEqualMarks = (name : List ℕ) (m n : List (List ℕ × List ℕ × Mark)) → All IsPrintablePartner m → All IsPrintablePartner n

@@ -81,7 +81,7 @@ result_text (Took items wrote usn) = codes "ok items=" ++ decimal items ++ codes
 result_text (Removed removed) = codes "ok removed=" ++ decimal removed
 result_text (Compared rounds directories vectors) = codes "ok rounds=" ++ decimal rounds ++ codes " directories=" ++ truth_text directories ++ codes " vectors=" ++ truth_text vectors
 result_text (Show entries) = decimal (length entries)
-result_text (Vector vector) = decimal (length vector)
+result_text (Vector vector times) = decimal (length vector)
 result_text (Marks marks) = decimal (length marks)
 result_text More = codes "more"
 result_text Up = codes "up"
@@ -92,10 +92,10 @@ result_text Stopped = codes "stopped"
 result_text Absent = codes "absent"
 result_text (Refused number label fields) = codes "refused " ++ decimal number ++ codes " " ++ label ++ flat_map field_text fields
 
--- the lines behind an answer's line
+-- the lines behind an answer's line; of a vector its times aren't written yet
 unfoldable pub report_lines : Outcome → List ℕ
 report_lines (Show entries) = flat_map entry_line entries
-report_lines (Vector vector) = flat_map cursor_line vector
+report_lines (Vector vector times) = flat_map cursor_line vector
 report_lines (Marks marks) = flat_map partner_line marks
 report_lines _ = []
 

@@ -27,7 +27,7 @@ pub record ArePrintableValues (v : ℕ × List Item) : Type 0 where
   -- each value is told by its token
   pub values : All IsPrintableValue v.1
 
--- a link attribute with the other ends; such an attribute has a name
+-- a link attribute with the other ends; such an attribute is one of a schema, so its number is small
 pub record ArePrintableLinks (l : ℕ × List (List ℕ)) : Type 0 where
   -- the other ends of a link are written as references under an attribute are
   pub link : is_link (kind_at newest l.0) ≡ true

@@ -55,6 +55,8 @@ pub fn name_of(event: &Event) -> &Text
         Event::Serve { name, .. } => name,
         Event::Deliver { name, .. } => name,
         Event::Collect { name, .. } => name,
+        Event::Upgrade { name, .. } => name,
+        Event::Revive { name, .. } => name,
         Event::Backup { name, .. } => name,
         Event::Restore { name, .. } => name,
         Event::Install { name, .. } => name,

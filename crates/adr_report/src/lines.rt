@@ -183,7 +183,7 @@ fn push_result(alloc: Global, out: &mut Vec<u8>, outcome: &Outcome) -> Result<()
             vectors,
         } => push_compared(alloc, out, *rounds, *directories, *vectors),
         Outcome::Show(directory) => push_number(alloc, out, directory.entries().len() as u64),
-        Outcome::Vector(vector) => push_number(alloc, out, vector.len() as u64),
+        Outcome::Vector { vector, .. } => push_number(alloc, out, vector.len() as u64),
         Outcome::Marks(marks) => push_number(alloc, out, marks.items().len() as u64),
         Outcome::More => push(out, b"more"),
         Outcome::Up => push(out, b"up"),
@@ -200,14 +200,14 @@ fn push_result(alloc: Global, out: &mut Vec<u8>, outcome: &Outcome) -> Result<()
     }
 }
 
-/// Adds the lines behind an answer's line.
+/// Adds the lines behind an answer's line; of a vector its times aren't written yet.
 #[tactic(auto, unfolding(crate::specs::Line::report_lines))]
 fn push_report(alloc: Global, out: &mut Vec<u8>, outcome: &Outcome) -> Result<(), NoMemory>
     ensures { OnOk result (out.new.items ≡ out.old.items ++ report_lines outcome.now) }
 {
     match outcome {
         Outcome::Show(directory) => push_entries(alloc, out, directory.entries()),
-        Outcome::Vector(vector) => push_cursors(alloc, out, vector.cursors()),
+        Outcome::Vector { vector, .. } => push_cursors(alloc, out, vector.cursors()),
         Outcome::Marks(marks) => push_partners(alloc, out, marks.items()),
         _ => Ok(()),
     }

@@ -19,7 +19,14 @@ fn see(
             .ok()
             .expect(rt, "a cursor");
     }
-    let change = change(alloc, 1, Mode::Normal, seen, Vec::new(alloc));
+    let change = change(
+        alloc,
+        1,
+        Mode::Normal,
+        state.schema(),
+        seen,
+        Vec::new(alloc),
+    );
     state.apply(&change)
 }
 

@@ -1,5 +1,6 @@
 //! A controller, and what the tests have it hold.
 
+use adr_checks::Schema;
 use adr_guid::Guid;
 use adr_schema::{Content, Text};
 use adr_stamp::{Birth, LinkStamp, Oid, Stamp, Unit};
@@ -63,11 +64,19 @@ pub fn east(
     Ok(Written::new(usn, Item::new(Unit::Object(container(usn)), rows)))
 }
 
-/// A change to a USN and a mode, by which others are seen and rows are written.
-pub fn change(alloc: Global, usn: u64, mode: Mode, seen: Vector, writes: Vec<Written>) -> Change {
+/// A change to a USN and a mode of a controller of a schema, by which others are seen and rows are written.
+pub fn change(
+    alloc: Global,
+    usn: u64,
+    mode: Mode,
+    schema: Schema,
+    seen: Vector,
+    writes: Vec<Written>,
+) -> Change {
     Change::new(
         usn,
         mode,
+        schema,
         None,
         seen,
         Vector::new(alloc),
@@ -84,8 +93,8 @@ pub fn holding(
     mode: Mode,
     writes: Vec<Written>,
 ) -> State {
-    let change = change(alloc, usn, mode, Vector::new(alloc), writes);
     let mut state = controller(alloc, 4);
+    let change = change(alloc, usn, mode, state.schema(), Vector::new(alloc), writes);
     state
         .apply(&change)
         .ok()

@@ -1,6 +1,7 @@
 //! An image of two objects and a link, byte for byte, and changes of one byte of it.
 
 use adr_change::{Change, Mode};
+use adr_checks::Schema;
 use adr_image::{DecodeRefusal, Failure, decode, decode_change, encode, encode_change};
 use adr_vector::Vector;
 use std::alloc::Global;
@@ -84,7 +85,7 @@ fn an_image_is_read_and_written_again(rt: HostRuntime) -> Result<(), Fail> {
 /// A byte that is put at a place, and where the image is refused then.
 #[rattlefmt::skip]
 const REFUSED: &[(usize, u8, u64)] = &[
-    (0, 0x42, 0), (9, 2, 6), (10, 0x80, 10), (18, 1, 18), (45, 0, 38),
+    (0, 0x42, 0), (9, 3, 6), (10, 0x80, 10), (18, 1, 18), (45, 0, 38),
     (93, 6, 86), (101, 4, 86), (111, 5, 110), (153, 0, 146),
     // rows: a local USN above the USN, an attribute out of order, a version of 0
     (163, 6, 156), (213, 1, 204), (169, 0, 166),
@@ -132,9 +133,10 @@ const BODY: [&[u8]; 14] = [
 /// The rest of it.
 const TAIL: [&[u8]; 7] = [LONG_2, LONG_0, ONE, LONG_0, A, LONG_3, &[1]];
 
-/// The USN and the number of writes of the change that bytes say to a controller of this USN.
+/// The USN and the number of writes of the change that bytes say to a controller of this USN, under the first schema.
 fn change_read(alloc: Global, before: u64, bytes: &[u8]) -> Result<Option<(u64, usize)>, Fail> {
-    match decode_change(alloc, before, bytes)? {
+    let schema = Schema::new(1).ok_or("schema 1")?;
+    match decode_change(alloc, before, schema, bytes)? {
         Some(change) => Ok(Some((change.usn(), change.writes().len()))),
         None => Ok(None),
     }
@@ -159,7 +161,9 @@ const QUARANTINE: [&[u8]; 6] = [LONG_5, &[1, 0], NONE, NONE, NONE, NONE];
 fn quarantine(alloc: Global) -> Result<Vec<u8>, Fail> {
     let (joined, purged) = (Vector::new(alloc), Vector::new(alloc));
     let (removed, writes) = (Vec::new(alloc), Vec::new(alloc));
-    let change = Change::new(5, Mode::Quarantined, None, joined, purged, removed, writes);
+    let schema = Schema::new(1).ok_or("schema 1")?;
+    let mode = Mode::Quarantined;
+    let change = Change::new(5, mode, schema, None, joined, purged, removed, writes);
     Ok(encode_change(alloc, &change)?)
 }
 

@@ -1,10 +1,11 @@
--- An event that a line spells is allowed.
+-- An event that a line spells is allowed, and the program does it.
 use Rattle.std.proofs.Common.{◌≡◌, ℕ, List, [], ◌∷◌, Some}
 use Rattle.adr_schema.specs.Assignments.{Given}
 use Rattle.adr_event.specs.declared.event.Event.{Event}
-use Rattle.adr_event.specs.declared.event.Event.TheVariants.{Add, Modify}
+use Rattle.adr_event.specs.declared.event.Event.TheVariants.{Add, Modify, Ask, Upgrade, Revive}
+use Rattle.adr_event.specs.Supported.{IsSupported}
 use Rattle.adr_schedule.specs.Sets.{rising}
-use Rattle.adr_schedule.specs.Grammar.{Token, given_by, tokens_behind, tokens_in, AreSpelled, HaveSpellings, SpelledEventsAreAllowed}
+use Rattle.adr_schedule.specs.Grammar.{Token, given_by, tokens_behind, tokens_in, AreSpelled, HasLine, HaveSpellings, SpelledEventsAreAllowed}
 use Rattle.adr_schedule.proofs.RisingLemmas.{spelled_rising}
 
 have_spellings : (tokens : List Token) (bytes : List ℕ) → AreSpelled tokens bytes → HaveSpellings tokens
@@ -21,3 +22,10 @@ in_rising_order order e r h = h
 
 pub spelled_allowed : SpelledEventsAreAllowed
 spelled_allowed line e s = (s.0, in_rising_order s.1.0 e s.1.1 (have_spellings (tokens_in s.1.0 e) line s.1.2))
+
+-- an event that has a line is one that the program does
+pub lined_supported : (e : Event) → HasLine e → IsSupported e
+lined_supported (Ask name partner max version bound) h = h.1
+lined_supported (Upgrade name) h = h
+lined_supported (Revive name guid image parent text) h = h
+lined_supported e h = tt

@@ -7,7 +7,7 @@ use Rattle.std.proofs.lemmas.Bool.{eqb-false, ne_eqb}
 use Rattle.adr_disk.specs.declared.memory.Crash.{Crash}
 use Rattle.adr_schema.specs.Assignments.{Given}
 use Rattle.adr_event.specs.declared.event.Event.{Event}
-use Rattle.adr_event.specs.declared.event.Event.TheVariants.{Controller, Time, Add, Modify, Rename, Delete, Link, Unlink, Ask, Serve, Deliver, Pull, Cycle, Ring, Collect, Backup, Restore, Install, Snapshot, Rollback, StopAfter, Fail, Stop, Start, Show, Vector, Marks}
+use Rattle.adr_event.specs.declared.event.Event.TheVariants.{Controller, Time, Add, Modify, Rename, Delete, Link, Unlink, Ask, Serve, Deliver, Pull, Cycle, Ring, Collect, Upgrade, Revive, Backup, Restore, Install, Snapshot, Rollback, StopAfter, Fail, Stop, Start, Show, Vector, Marks}
 use Rattle.adr_event.specs.Verbs.{verb_of, word_of}
 use Rattle.adr_token.specs.Gives.{◌>>=◌}
 use Rattle.adr_token.specs.Words.{unspaced, ended, word_at, name_at}
@@ -204,10 +204,10 @@ unfolding ask_line tokens_behind
 ask_was line rest verb e h =
     let P = Spells line in
     each_step P (name_at rest) _ (λ name n. each_step P (name_at name.1) _ (λ partner p. each_step P (limit_at partner.1) _ (λ limit l. each_step P (bound_at limit.1) _ (λ bound b.
-    at_end P bound.1 (Ask name.0 partner.0 limit.0 bound.0) (λ last.
+    at_end P bound.1 (Ask name.0 partner.0 limit.0 1 bound.0) (λ last.
     let most = limit_next partner.1 limit l in
     let binds = bound_next limit.1 bound b in
-    (most.0, ([], refl, (rest, verb, (name.1, name_next rest name n, (partner.1, name_next name.1 partner p, (limit.1, most.1, (binds.0, binds.1, (bound.1, binds.2, last))))))))))))) e h
+    ((most.0, refl), ([], refl, (rest, verb, (name.1, name_next rest name n, (partner.1, name_next name.1 partner p, (limit.1, most.1, (binds.0, binds.1, (bound.1, binds.2, last))))))))))))) e h
 
 serve_was : Follows verbs.Serve
 unfolding serve_line tokens_behind
@@ -285,6 +285,8 @@ verb_was verbs.Pull line rest verb e h = pull_was (Spells line) Pull rest (λ na
 verb_was verbs.Cycle line rest verb e h = pull_was (Spells line) Cycle rest (λ name source max most p. (most, ([], refl, (rest, verb, p)))) e h
 verb_was verbs.Ring line rest verb e h = ring_was line rest verb e h
 verb_was verbs.Collect line rest verb e h = collect_was line rest verb e h
+verb_was verbs.Upgrade line rest verb e h = absurd (cc)
+verb_was verbs.Revive line rest verb e h = absurd (cc)
 verb_was verbs.Backup line rest verb e h = binding_was (Spells line) Backup rest (λ name bound b. (tt, ([], refl, (rest, verb, b)))) e h
 verb_was verbs.Restore line rest verb e h = restore_was line rest verb e h
 verb_was verbs.Install line rest verb e h = install_was line rest verb e h
@@ -379,15 +381,16 @@ delete_again : (bytes name guid : List ℕ) → AreSpelled (Name name ∷ Identi
 unfolding delete_line
 delete_again bytes name guid h = rw (name_read name bytes h.0 h.1, identifier_read guid h.0 h.2.0 h.2.1, h.2.2) refl
 
-ask_again : (bytes name partner bound : List ℕ) (max : ℕ) → IsLimit max → AreSpelled (Name name ∷ Name partner ∷ Number max ∷ Word (codes "as") ∷ Name bound ∷ []) bytes
-    → ask_line bytes ≡ Some (Ask name partner max bound)
+ask_again : (bytes name partner bound : List ℕ) (max version : ℕ) → IsLimit max × (version ≡ 1) → AreSpelled (Name name ∷ Name partner ∷ Number max ∷ Word (codes "as") ∷ Name bound ∷ []) bytes
+    → ask_line bytes ≡ Some (Ask name partner max version bound)
 unfolding ask_line
-ask_again bytes name partner bound max l h =
+ask_again bytes name partner bound max version l h =
     let m = h.2.2 in
     rw (
       name_read name bytes h.0 h.1,
       name_read partner h.0 h.2.0 h.2.1,
-      limit_read max h.2.0 m.0 l m.1,
+      limit_read max h.2.0 m.0 l.0 m.1,
+      l.1,
       bound_read bound m.0 m.2.0 m.2.2.0 m.2.1 m.2.2.1,
       m.2.2.2,
     ) refl
@@ -453,13 +456,15 @@ behind_read line (Rename name guid parent text) h = rename_again h.1.2.0 name gu
 behind_read line (Delete name guid) h = delete_again h.1.2.0 name guid h.1.2.2
 behind_read line (Link name from attr to) h = link_again Link h.1.2.0 name from attr to h.1.2.2
 behind_read line (Unlink name from attr to) h = link_again Unlink h.1.2.0 name from attr to h.1.2.2
-behind_read line (Ask name partner max bound) h = ask_again h.1.2.0 name partner bound max h.0 h.1.2.2
+behind_read line (Ask name partner max version bound) h = ask_again h.1.2.0 name partner bound max version h.0 h.1.2.2
 behind_read line (Serve name request bound) h = serve_again h.1.2.0 name request bound h.1.2.2
 behind_read line (Deliver name reply) h = use_again Deliver h.1.2.0 name reply h.1.2.2
 behind_read line (Pull name source max) h = pull_again Pull h.1.2.0 name source max h.0 h.1.2.2
 behind_read line (Cycle name source max) h = pull_again Cycle h.1.2.0 name source max h.0 h.1.2.2
 behind_read line (Ring name others rounds max) h = ring_again h.1.2.0 name others rounds max h.0 h.1.2.2
 behind_read line (Collect name lifetime) h = collect_again h.1.2.0 name lifetime h.1.2.2
+behind_read line (Upgrade name) h = absurd h.0
+behind_read line (Revive name guid image parent text) h = absurd h.0
 behind_read line (Backup name bound) h = binding_again Backup h.1.2.0 name bound h.1.2.2
 behind_read line (Restore name image inv) h = restore_again h.1.2.0 name image inv h.1.2.2
 behind_read line (Install name dsa image inv) h = install_again h.1.2.0 name dsa image inv h.1.2.2

@@ -1,6 +1,6 @@
 -- The names of a line are read as they stand, and what was read is spelled there.
 use Rattle.std.proofs.Common.{◌≡◌, ℕ, zero, suc, ◌+◌, ◌<◌, ◌≤◌, Bool, true, false, cond, List, [], ◌∷◌, ◌++◌, length, Option, Some, refl, ap, ◌∙◌, sym, subst, length-append, length-drop, append-nil, arith}
-use Rattle.std.specs.Prelude.{◌==◌, nat_le, ◌||◌, if◌then◌else◌}
+use Rattle.std.specs.Prelude.{◌==◌, nat_le, ◌||◌}
 use Rattle.std.specs.Str.{bytes_eq}
 use Rattle.std.proofs.lemmas.Bool.{ne_eqb}
 use Rattle.adr_token.specs.Gives.{◌>>=◌}

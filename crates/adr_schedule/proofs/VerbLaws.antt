@@ -1,10 +1,11 @@
--- The words of the verbs: a line may begin with each, and each stands for its verb.
-use Rattle.std.proofs.Common.{◌≡◌, ℕ, ◌<◌, Bool, true, false, not, ◌&&◌, List, [], ◌∷◌, ◌++◌, length, Some, refl, arith}
+-- The words of the verbs: a line may begin with each, and each that a text knows stands for its verb.
+use Rattle.std.proofs.Common.{◌≡◌, ℕ, ◌<◌, Bool, true, false, not, ◌&&◌, List, [], ◌∷◌, ◌++◌, length, refl, arith}
 use Rattle.std.specs.Prelude.{◌==◌}
 use Rattle.std.proofs.lemmas.Bool.{and_parts, ne_eqb, not-true}
 use Rattle.adr_event.specs.Verbs.{word_of}
 use Rattle.adr_event.specs.declared.verb.Verb.{Verb}
-use Rattle.adr_event.specs.declared.verb.Verb.TheVariants.{Controller, Time, Add, Modify, Rename, Delete, Link, Unlink, Ask, Serve, Deliver, Pull, Cycle, Ring, Collect, Backup, Restore, Install, Snapshot, Rollback, Stop, Fail, Start, Show, Vector, Marks}
+use Rattle.adr_event.specs.declared.verb.Verb.TheVariants.{Controller, Time, Add, Modify, Rename, Delete, Link, Unlink, Ask, Serve, Deliver, Pull, Cycle, Ring, Collect, Upgrade, Revive, Backup, Restore, Install, Snapshot, Rollback, Stop, Fail, Start, Show, Vector, Marks}
+use Rattle.adr_token.specs.Gives.{◌>>=◌}
 use Rattle.adr_token.proofs.WordLaws.{are_graphic, graphic_word}
 use Rattle.adr_schedule.specs.Verbs.{verb_said}
 use Rattle.adr_schedule.specs.Commands.{by_verb, event_of, is_passed}
@@ -17,35 +18,37 @@ is_command [] = false
 is_command (b ∷ bs) = are_graphic (b ∷ bs) && (not (b == 59) && not (b == 32))
 
 abbrev IsItsWord : Verb → Type 0
-IsItsWord verb = (is_command (word_of verb) ≡ true) × (verb_said (word_of verb) ≡ Some verb)
+IsItsWord verb = (is_command (word_of verb) ≡ true) × ((rest : List ℕ) → (verb_said (word_of verb) >>= λ said. by_verb said rest) ≡ by_verb verb rest)
 
 its_word : (verb : Verb) → IsItsWord verb
-its_word Controller = (refl, refl)
-its_word Time = (refl, refl)
-its_word Add = (refl, refl)
-its_word Modify = (refl, refl)
-its_word Rename = (refl, refl)
-its_word Delete = (refl, refl)
-its_word Link = (refl, refl)
-its_word Unlink = (refl, refl)
-its_word Ask = (refl, refl)
-its_word Serve = (refl, refl)
-its_word Deliver = (refl, refl)
-its_word Pull = (refl, refl)
-its_word Cycle = (refl, refl)
-its_word Ring = (refl, refl)
-its_word Collect = (refl, refl)
-its_word Backup = (refl, refl)
-its_word Restore = (refl, refl)
-its_word Install = (refl, refl)
-its_word Snapshot = (refl, refl)
-its_word Rollback = (refl, refl)
-its_word Stop = (refl, refl)
-its_word Fail = (refl, refl)
-its_word Start = (refl, refl)
-its_word Show = (refl, refl)
-its_word Vector = (refl, refl)
-its_word Marks = (refl, refl)
+its_word Controller = (refl, λ rest. refl)
+its_word Time = (refl, λ rest. refl)
+its_word Add = (refl, λ rest. refl)
+its_word Modify = (refl, λ rest. refl)
+its_word Rename = (refl, λ rest. refl)
+its_word Delete = (refl, λ rest. refl)
+its_word Link = (refl, λ rest. refl)
+its_word Unlink = (refl, λ rest. refl)
+its_word Ask = (refl, λ rest. refl)
+its_word Serve = (refl, λ rest. refl)
+its_word Deliver = (refl, λ rest. refl)
+its_word Pull = (refl, λ rest. refl)
+its_word Cycle = (refl, λ rest. refl)
+its_word Ring = (refl, λ rest. refl)
+its_word Collect = (refl, λ rest. refl)
+its_word Upgrade = (refl, λ rest. refl)
+its_word Revive = (refl, λ rest. refl)
+its_word Backup = (refl, λ rest. refl)
+its_word Restore = (refl, λ rest. refl)
+its_word Install = (refl, λ rest. refl)
+its_word Snapshot = (refl, λ rest. refl)
+its_word Rollback = (refl, λ rest. refl)
+its_word Stop = (refl, λ rest. refl)
+its_word Fail = (refl, λ rest. refl)
+its_word Start = (refl, λ rest. refl)
+its_word Show = (refl, λ rest. refl)
+its_word Vector = (refl, λ rest. refl)
+its_word Marks = (refl, λ rest. refl)
 
 command_seen : (word : List ℕ) → is_command word ≡ true → (are_graphic word ≡ true) × (0 < length word)
 command_seen [] h = absurd (cc)
@@ -59,7 +62,7 @@ pub verb_read : (verb : Verb) (line rest : List ℕ) → IsNext (Word (word_of v
 unfolding event_of
 verb_read verb line rest next =
     let seen = verb_seen verb in
-    rw (word_read (word_of verb) line rest (graphic_word (word_of verb) seen.0) seen.1 next, (its_word verb).1) refl
+    rw (word_read (word_of verb) line rest (graphic_word (word_of verb) seen.0) seen.1 next) ((its_word verb).1 rest)
 
 -- such a line isn't passed over
 letter_first : (b : ℕ) (bs : List ℕ) → (b == 59) ≡ false → (b == 32) ≡ false → is_passed (b ∷ bs) ≡ false

@@ -151,13 +151,14 @@ delete_line bytes = do
   guid ← identifier_at name.1
   ended guid.1 (Delete name.0 guid.0)
 
+-- the request is of version 1
 unfoldable pub ask_line : List ℕ → Option Event
 ask_line bytes = do
   name ← name_at bytes
   partner ← name_at name.1
   limit ← limit_at partner.1
   bound ← bound_at limit.1
-  ended bound.1 (Ask name.0 partner.0 limit.0 bound.0)
+  ended bound.1 (Ask name.0 partner.0 limit.0 1 bound.0)
 
 unfoldable pub serve_line : List ℕ → Option Event
 serve_line bytes = do
@@ -206,7 +207,7 @@ fail_line bytes = do
   calls ← calls_at name.1
   ended calls.1 (Fail name.0 calls.0)
 
--- what a line says behind its verb
+-- what a line says behind its verb; no line says that a controller changes over, or that an object comes again
 abbrev pub by_verb : Verb → List ℕ → Option Event
 by_verb verbs.Controller rest = controller_line rest
 by_verb verbs.Time rest = time_line rest
@@ -223,6 +224,8 @@ by_verb verbs.Pull rest = pull_line Pull rest
 by_verb verbs.Cycle rest = pull_line Cycle rest
 by_verb verbs.Ring rest = ring_line rest
 by_verb verbs.Collect rest = collect_line rest
+by_verb verbs.Upgrade rest = None
+by_verb verbs.Revive rest = None
 by_verb verbs.Backup rest = binding_line Backup rest
 by_verb verbs.Restore rest = restore_line rest
 by_verb verbs.Install rest = install_line rest

@@ -6,7 +6,7 @@ use Rattle.std.specs.Ordering.{nat_cmp}
 use Rattle.adr_schema.specs.Assignments.{Given, attributes}
 use Rattle.adr_schema.specs.declared.content.Value.{Value as Item}
 use Rattle.adr_event.specs.declared.event.Event.{Event}
-use Rattle.adr_event.specs.declared.event.Event.TheVariants.{Controller, Time, Add, Modify, Rename, Delete, Link, Unlink, Ask, Serve, Deliver, Pull, Cycle, Ring, Collect, Backup, Restore, Install, Snapshot, Rollback, StopAfter, Fail, Stop, Start, Show, Vector, Marks}
+use Rattle.adr_event.specs.declared.event.Event.TheVariants.{Controller, Time, Add, Modify, Rename, Delete, Link, Unlink, Ask, Serve, Deliver, Pull, Cycle, Ring, Collect, Upgrade, Revive, Backup, Restore, Install, Snapshot, Rollback, StopAfter, Fail, Stop, Start, Show, Vector, Marks}
 use Rattle.adr_event.specs.Verbs.{verb_of, word_of}
 use Rattle.adr_token.specs.Words.{unspaced, is_name}
 use Rattle.adr_token.specs.Laws.{Stands}
@@ -42,7 +42,7 @@ given_by (Add name guid class parent text values) = values
 given_by (Modify name guid values) = values
 given_by _ = []
 
--- what stands behind the verb in the line of an event, its sets in this order
+-- what stands behind the verb in the line of an event, its sets in this order; nothing where it has no line
 unfoldable pub tokens_behind : List Given → Event → List Token
 tokens_behind order (Controller name dsa inv) = Name name ∷ Identifier dsa ∷ Identifier inv ∷ []
 tokens_behind order (Time now) = Number now ∷ []
@@ -52,7 +52,7 @@ tokens_behind order (Rename name guid parent text) = Name name ∷ Identifier gu
 tokens_behind order (Delete name guid) = Name name ∷ Identifier guid ∷ []
 tokens_behind order (Link name from attr to) = Name name ∷ Identifier from ∷ Attribute attr ∷ Identifier to ∷ []
 tokens_behind order (Unlink name from attr to) = Name name ∷ Identifier from ∷ Attribute attr ∷ Identifier to ∷ []
-tokens_behind order (Ask name partner max bound) = Name name ∷ Name partner ∷ Number max ∷ Word (codes "as") ∷ Name bound ∷ []
+tokens_behind order (Ask name partner max version bound) = Name name ∷ Name partner ∷ Number max ∷ Word (codes "as") ∷ Name bound ∷ []
 tokens_behind order (Serve name request bound) = Name name ∷ Name request ∷ Word (codes "as") ∷ Name bound ∷ []
 tokens_behind order (Deliver name reply) = Name name ∷ Name reply ∷ []
 tokens_behind order (Pull name source max) = Name name ∷ Name source ∷ Number max ∷ []
@@ -71,6 +71,7 @@ tokens_behind order (Start name) = Name name ∷ []
 tokens_behind order (Show name) = Name name ∷ []
 tokens_behind order (Vector name) = Name name ∷ []
 tokens_behind order (Marks name) = Name name ∷ []
+tokens_behind order event = []
 
 -- the tokens of the line of an event, its sets in this order
 abbrev pub tokens_in : List Given → Event → List Token
@@ -115,7 +116,8 @@ AreMembers name others = (0 < length others) × (with_names name [] others ≡ S
 abbrev pub AreRising : List Given → Type 0
 AreRising values = IsStrictlySortedBy nat_cmp (attributes values)
 
--- what the tokens of an event don't say: how many items are asked for, how many calls a plan lets pass, and how values are given
+-- what the tokens of an event don't say: how many items are asked for and that the request is of version 1, how many calls a plan lets pass, and how
+-- values are given; some events have no line
 abbrev pub HasLine : Event → Type 0
 HasLine (Controller name dsa inv) = Unit {0}
 HasLine (Time now) = Unit {0}
@@ -125,13 +127,15 @@ HasLine (Rename name guid parent text) = Unit {0}
 HasLine (Delete name guid) = Unit {0}
 HasLine (Link name from attr to) = Unit {0}
 HasLine (Unlink name from attr to) = Unit {0}
-HasLine (Ask name partner max bound) = IsLimit max
+HasLine (Ask name partner max version bound) = IsLimit max × (version ≡ 1)
 HasLine (Serve name request bound) = Unit {0}
 HasLine (Deliver name reply) = Unit {0}
 HasLine (Pull name source max) = IsLimit max
 HasLine (Cycle name source max) = IsLimit max
 HasLine (Ring name others rounds max) = AreRounds rounds × IsLimit max × AreMembers name others
 HasLine (Collect name lifetime) = Unit {0}
+HasLine (Upgrade name) = ⊥
+HasLine (Revive name guid image parent text) = ⊥
 HasLine (Backup name bound) = Unit {0}
 HasLine (Restore name image inv) = Unit {0}
 HasLine (Install name dsa image inv) = Unit {0}

@@ -5,7 +5,7 @@ use Rattle.std.specs.List.{list_any}
 use Rattle.std.specs.Str.{bytes_eq}
 use Rattle.adr_failure.specs.First.{first_of}
 use Rattle.adr_event.specs.declared.event.Event.{Event}
-use Rattle.adr_event.specs.declared.event.Event.TheVariants.{Controller, Time, Add, Modify, Rename, Delete, Link, Unlink, Ask, Serve, Deliver, Pull, Cycle, Ring, Collect, Backup, Restore, Install, Snapshot, Rollback, StopAfter, Fail, Stop, Start, Show, Vector, Marks}
+use Rattle.adr_event.specs.declared.event.Event.TheVariants.{Controller, Time, Add, Modify, Rename, Delete, Link, Unlink, Ask, Serve, Deliver, Pull, Cycle, Ring, Collect, Upgrade, Revive, Backup, Restore, Install, Snapshot, Rollback, StopAfter, Fail, Stop, Start, Show, Vector, Marks}
 use Rattle.adr_schedule.specs.declared.fault.Cause.{Cause}
 use Rattle.adr_schedule.specs.declared.fault.Cause.TheVariants.{UnknownName, NameUsed, IdentifierUsed, TooMany}
 use Rattle.adr_schedule.specs.Limits.{controller_limit}
@@ -64,7 +64,7 @@ cause_after seen (Rename name guid parent text) = unless_bound seen.controllers 
 cause_after seen (Delete name guid) = unless_bound seen.controllers name
 cause_after seen (Link name from attr to) = unless_bound seen.controllers name
 cause_after seen (Unlink name from attr to) = unless_bound seen.controllers name
-cause_after seen (Ask name partner max bound) =
+cause_after seen (Ask name partner max version bound) =
     first_of (unless_bound seen.controllers name ∷ unless_bound seen.controllers partner ∷ if_bound seen.requests bound ∷ [])
 cause_after seen (Serve name request bound) =
     first_of (unless_bound seen.controllers name ∷ unless_bound seen.requests request ∷ if_bound seen.replies bound ∷ [])
@@ -73,6 +73,8 @@ cause_after seen (Pull name source max) = first_of (unless_bound seen.controller
 cause_after seen (Cycle name source max) = first_of (unless_bound seen.controllers name ∷ unless_bound seen.controllers source ∷ [])
 cause_after seen (Ring name others rounds max) = unless_all_bound seen.controllers (name ∷ others)
 cause_after seen (Collect name lifetime) = unless_bound seen.controllers name
+cause_after seen (Upgrade name) = unless_bound seen.controllers name
+cause_after seen (Revive name guid image parent text) = first_of (unless_bound seen.controllers name ∷ unless_bound seen.images image ∷ [])
 cause_after seen (Backup name bound) = first_of (unless_bound seen.controllers name ∷ if_bound seen.images bound ∷ [])
 cause_after seen (Restore name image inv) =
     first_of (unless_bound seen.controllers name ∷ unless_bound seen.images image ∷ if_inv_given seen inv ∷ [])
@@ -95,7 +97,7 @@ with_controller seen name dsa inv =
 
 abbrev pub seen_after : Seen → Event → Seen
 seen_after seen (Controller name dsa inv) = with_controller seen name dsa inv
-seen_after seen (Ask name partner max bound) = record seen { requests = seen.requests ++ bound ∷ [] }
+seen_after seen (Ask name partner max version bound) = record seen { requests = seen.requests ++ bound ∷ [] }
 seen_after seen (Serve name request bound) = record seen { replies = seen.replies ++ bound ∷ [] }
 seen_after seen (Backup name bound) = record seen { images = seen.images ++ bound ∷ [] }
 seen_after seen (Restore name image inv) = record seen { invs = seen.invs ++ inv ∷ [] }

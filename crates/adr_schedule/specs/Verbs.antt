@@ -6,6 +6,7 @@ use Rattle.adr_event.specs.declared.verb.Verb.{Verb}
 use Rattle.adr_event.specs.Verbs.{word_of}
 use Rattle.adr_event.specs.declared.verb.Verb.TheVariants.{Controller, Time, Add, Modify, Rename, Delete, Link, Unlink, Ask, Serve, Deliver, Pull, Cycle, Ring, Collect, Backup, Restore, Install, Snapshot, Rollback, Stop, Fail, Start, Show, Vector, Marks}
 
+-- the verbs that a text knows: those of the events that have a line
 abbrev pub verbs : List Verb
 verbs =
     Controller ∷ Time ∷ Add ∷ Modify ∷ Rename ∷ Delete ∷ Link ∷ Unlink ∷ Ask ∷ Serve ∷ Deliver ∷ Pull ∷ Cycle ∷ Ring ∷ Collect ∷ Backup ∷ Restore ∷ Install ∷ Snapshot ∷ Rollback ∷ Stop ∷ Fail ∷ Start ∷ Show ∷ Vector ∷ Marks ∷ []

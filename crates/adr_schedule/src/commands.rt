@@ -267,6 +267,7 @@ fn ask(alloc: Global, line: &mut Line<'_>) -> Result<Event, Stop>
             name,
             partner,
             max,
+            version: 1,
             bound,
         },
     )
@@ -404,6 +405,7 @@ fn by_verb(alloc: Global, verb: Verb, line: &mut Line<'_>) -> Result<Event, Stop
         Verb::Cycle => pulled(alloc, PullVerb::Cycle, line),
         Verb::Ring => ring(alloc, line),
         Verb::Collect => collect(alloc, line),
+        Verb::Upgrade | Verb::Revive => Err(Failure::Refused(Bad)),
         Verb::Backup => copied(alloc, CopyVerb::Backup, line),
         Verb::Restore => restore(alloc, line),
         Verb::Install => install(alloc, line),

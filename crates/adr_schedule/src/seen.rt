@@ -252,6 +252,7 @@ impl Seen {
                 &self.snapshots,
                 snapshot,
             ),
+            Event::Revive { name, image, .. } => self.cause_of_use(name, &self.images, image),
             Event::Add { name, .. }
             | Event::Modify { name, .. }
             | Event::Rename { name, .. }
@@ -259,6 +260,7 @@ impl Seen {
             | Event::Link { name, .. }
             | Event::Unlink { name, .. }
             | Event::Collect { name, .. }
+            | Event::Upgrade { name }
             | Event::StopAfter { name, .. }
             | Event::Fail { name, .. }
             | Event::Stop { name }

@@ -42,7 +42,7 @@ pub enum CopyVerb {
     Snapshot,
 }
 
-/// All verbs.
+/// The verbs that a text knows: those of the events that have a line.
 const VERBS: [Verb; 26] = [
     Verb::Controller,
     Verb::Time,

@@ -1,5 +1,5 @@
 -- A table is orderly where its entries pass tests.
-use Rattle.std.proofs.Common.{◌≡◌, ℕ, zero, suc, List, [], ◌∷◌, map, Bool, true, false, cond, ◌&&◌, not, nat_lt, ◌==◌, Option, None, Some, refl, ap, eqb-true}
+use Rattle.std.proofs.Common.{◌≡◌, ℕ, zero, suc, ◌+◌, List, [], ◌∷◌, map, Bool, true, false, cond, ◌&&◌, not, nat_lt, ◌==◌, Option, None, Some, refl, ap, eqb-true}
 use Rattle.std.specs.Option.{option_map, option_map_or}
 use Rattle.std.specs.List.{find, list_all, slice_get, AllByRecursion}
 use Rattle.std.specs.List.Sorted.{IsStrictlySortedBy}
@@ -71,13 +71,22 @@ is_paired t number (Back forward) = is_forward_of number (kind_at t forward)
 abbrev pub all_paired : Table → Bool
 all_paired t = list_all (λ a. is_paired t a.number a.kind) t.attributes
 
-paired : (t : Table) → all_paired t ≡ true → (attr : ℕ) (kind : Kind) → kind_at t attr ≡ Some kind → is_paired t attr kind ≡ true
-paired t all attr kind at = step (attribute_at t attr) refl at
+-- whether the back link of a link is the next attribute
+abbrev is_next : ℕ → Kind → Bool
+is_next number (Forward back) = back == number + 1
+is_next number _ = true
+
+abbrev pub all_next : Table → Bool
+all_next t = list_all (λ a. is_next a.number a.kind) t.attributes
+
+-- what all attributes pass, the one of a number does
+of_kind : (t : Table) (q : ℕ → Kind → Bool) → list_all (λ (a : Attribute). q a.number a.kind) t.attributes ≡ true → (attr : ℕ) (kind : Kind) → kind_at t attr ≡ Some kind → q attr kind ≡ true
+of_kind t q all attr kind at = step (attribute_at t attr) refl at
   where
-    step : (o : Option Attribute) → attribute_at t attr ≡ o → option_map (λ a. a.kind) o ≡ Some kind → is_paired t attr kind ≡ true
+    step : (o : Option Attribute) → attribute_at t attr ≡ o → option_map (λ a. a.kind) o ≡ Some kind → q attr kind ≡ true
     step None e h = cc
     step (Some a) e h =
-        let here = found_passes (λ (b : Attribute). is_paired t b.number b.kind) (λ b. b.number == attr) t.attributes all a e in
+        let here = found_passes (λ (b : Attribute). q b.number b.kind) (λ b. b.number == attr) t.attributes all a e in
         let same : a.kind ≡ kind = cc in
         rw (← same, ← (eqb-true a.number attr here.0)) here.1
 
@@ -96,14 +105,15 @@ not_under_lost t all class = step (class_at t class) refl
     step (Some c) e = false_from_not (has c.superiors 2) (found_passes (λ (d : Class). not (has d.superiors 2)) (λ d. d.number == class) t.classes all c e).1
 
 pub orderly : (t : Table) → rises (map (λ c. c.number) t.classes) ≡ true → rises (map (λ a. a.number) t.attributes) ≡ true
-    → list_all (λ (c : Class). rises c.must) t.classes ≡ true → all_paired t ≡ true → none_under_lost t ≡ true → IsOrderly t
-orderly t classes attributes musts links lost = record {
+    → list_all (λ (c : Class). rises c.must) t.classes ≡ true → all_paired t ≡ true → all_next t ≡ true → none_under_lost t ≡ true → IsOrderly t
+orderly t classes attributes musts links next lost = record {
   classes = sorted_from_rises (map (λ c. c.number) t.classes) classes;
   attributes = sorted_from_rises (map (λ a. a.number) t.attributes) attributes;
   musts = λ place c at. sorted_from_rises c.must (passes_at (λ (d : Class). rises d.must) t.classes musts place c at);
   links = λ forward back. (
-    (λ at. is_back forward (kind_at t back) (paired t links forward (Forward back) at)),
-    (λ at. is_forward back (kind_at t forward) (paired t links back (Back forward) at)),
+    (λ at. is_back forward (kind_at t back) (of_kind t (is_paired t) links forward (Forward back) at)),
+    (λ at. is_forward back (kind_at t forward) (of_kind t (is_paired t) links back (Back forward) at)),
   );
+  next = λ forward back at. eqb-true back (forward + 1) (of_kind t is_next next forward (Forward back) at);
   lost_and_found = not_under_lost t lost;
 }

@@ -3,19 +3,19 @@ use Rattle.std.specs.Prelude.{ℕ, ◌+◌, List, length, slice_index, Bool, ◌
 use Rattle.std.specs.Option.{option_map}
 use Rattle.adr_schema.specs.Places.{first_place}
 use Rattle.adr_schema.specs.Table.{class_at, class_named, attribute_at, attribute_named}
-use Rattle.adr_schema.specs.Schemas.{newest}
+use Rattle.adr_schema.specs.Schemas.{spoken}
 
 abbrev pub class_name : ℕ → Option (List ℕ)
-class_name number = option_map (λ c. c.name) (class_at newest number)
+class_name number = option_map (λ c. c.name) (class_at spoken number)
 
 abbrev pub class_number : List ℕ → Option ℕ
-class_number name = option_map (λ c. c.number) (class_named newest name)
+class_number name = option_map (λ c. c.number) (class_named spoken name)
 
 abbrev pub attribute_name : ℕ → Option (List ℕ)
-attribute_name number = option_map (λ a. a.name) (attribute_at newest number)
+attribute_name number = option_map (λ a. a.name) (attribute_at spoken number)
 
 abbrev pub attribute_number : List ℕ → Option ℕ
-attribute_number name = option_map (λ a. a.number) (attribute_named newest name)
+attribute_number name = option_map (λ a. a.number) (attribute_named spoken name)
 
 -- a space at the front or the end
 abbrev pub is_outer_space : List ℕ → ℕ → Bool

@@ -9,6 +9,7 @@ ghost use Rattle.adr_schema.specs.declared.table.Syntax.{Syntax};
 ghost use Rattle.adr_schema.specs.Allowed.{AreAllowed, MayBeAdded, MayBeHeld, MayBeModified};
 ghost use Rattle.adr_schema.specs.Assignments.{Given, attributes};
 ghost use Rattle.adr_schema.specs.Names.{attribute_name, attribute_number, class_name, class_number};
+ghost use Rattle.adr_schema.specs.Extends.{SchemasGrow};
 ghost use Rattle.adr_schema.specs.Orderly.{IsOrderly};
 ghost use Rattle.adr_schema.specs.Rules.{add_refusal, modify_refusal, row_refusal};
 ghost use Rattle.adr_schema.specs.Schemas.{schema_table};
@@ -45,6 +46,12 @@ pub fn written_values_may_be_held()
     ensures modified { (t : Table) (class : ℕ) (gs : List Given) → IsStrictlySortedBy nat_cmp (attributes gs)
         → modify_refusal t class gs ≡ None
         → (place : ℕ) (g : Given) → slice_get gs place ≡ Some g → row_refusal t (Some class) g.0 g.1 ≡ None }
+{}
+
+/// What a schema allows, each of a greater number allows.
+#[tactic(none)]
+pub fn schemas_grow()
+    ensures { SchemasGrow }
 {}
 
 /// Each schema's table is in order, and its links are paired.

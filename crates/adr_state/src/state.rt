@@ -1,6 +1,6 @@
 //! A controller's state.
 
-ghost use Rattle.std.specs.Prelude.{◌≡◌, ◌<◌, ◌≤◌, length, true, IfOk, IfSome, IfNone, OnOk, OnErr, IsErrOf, unwrap_or};
+ghost use Rattle.std.specs.Prelude.{◌≡◌, ◌<◌, ◌≤◌, [], length, true, IfOk, IfSome, IfNone, OnOk, OnErr, IsErrOf, unwrap_or};
 ghost use Rattle.adr_schema.specs.Numbered.{numbered};
 ghost use Rattle.adr_vector.specs.Refusal.{full};
 ghost use Rattle.adr_vector.specs.Vector.{joined, raised, cursor_limit};
@@ -60,11 +60,11 @@ impl Model for State {
 
     ghost Value = { Defined };
 
-    ghost use Rattle.std.specs.Prelude.{◌≡◌};
+    ghost use Rattle.std.specs.Prelude.{◌≡◌, []};
     ghost use Rattle.adr_schema.specs.Numbered.{numbered};
     ghost use Rattle.adr_change.specs.Mode.{mode_of};
 
-    ghost view = { λ s. record { dsa = s.dsa; inv = s.inv; mode = mode_of s.mode; store = record { schema = s.schema.number; usn = s.usn; rows = s.rows; vector = s.vector; purged = s.purged; marks = s.marks } } };
+    ghost view = { λ s. record { dsa = s.dsa; inv = s.inv; mode = mode_of s.mode; store = record { schema = s.schema.number; usn = s.usn; rows = s.rows; vector = s.vector; times = []; purged = s.purged; marks = s.marks } } };
 
     ghost invariant = { λ s. s.schema ≡ numbered s.schema.number };
 }
@@ -146,6 +146,13 @@ impl State {
         &self.vector
     }
 
+    /// Of no incarnation is it known when it was last read whole.
+    pub fn knows_no_times(&self)
+        ensures { self.now.store.times ≡ [] }
+    {
+        let _ = &self.usn;
+    }
+
     /// What covers the births and deaths of the objects that were collected.
     pub fn purged(&self) -> &Vector
         ensures { result.now ≡ self.now.store.purged }
@@ -179,10 +186,12 @@ impl State {
         self.rows.write(alloc, rows, change.removed())?;
         self.usn = change.usn();
         self.mode = change.mode();
+        self.schema = change.schema();
         renew_seen(&mut self.vector, vector, self.inv, change);
         renew(&mut self.purged, purged);
         self.marks.renew(marks, change.mark());
         are_few(&self.vector);
+        change.joins_no_times();
         Ok(())
     }
 

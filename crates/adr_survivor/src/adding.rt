@@ -3,10 +3,10 @@
 ghost use Rattle.std.specs.Prelude.{◌≡◌, None, Some, Ok, IfOk};
 ghost use Rattle.adr_event.specs.declared.event.Event.{Event as Written};
 ghost use Rattle.adr_model.specs.Change.{Change as Changes};
-ghost use Rattle.adr_model.specs.Step.{ClientWrite, write_of};
+ghost use Rattle.adr_model.specs.Step.{ClientWrite};
 ghost use Rattle.adr_model.specs.Store.{State as Defined};
 ghost use Rattle.adr_model.specs.Write.{write};
-ghost use Rattle.adr_controller.specs.Able.{written_in};
+ghost use Rattle.adr_controller.specs.Able.{plain_write, written_in};
 ghost use Rattle.adr_controller.specs.Did.{Calls};
 ghost use Rattle.adr_survivor.specs.Objects.{AdditionsFollow, IsAddition};
 
@@ -38,7 +38,7 @@ fn add<K: Keeper>(alloc: Global, controller: &mut Controller<K>, number: u64) ->
     ensures acknowledged { IfOk result (λ _. (e : Written) × IsAddition number e
         × Calls K.Keeper (written_in e 0) controller.old controller.new None) }
     ensures usn { IfOk result (λ usn. (e : Written) × IsAddition number e
-        × ((s : Defined) (w : ClientWrite) → controller.old.state ≡ Some s → write_of e ≡ Some w
+        × ((s : Defined) (w : ClientWrite) → controller.old.state ≡ Some s → plain_write e ≡ Some w
         → (c : Changes) × (write s w.what 0 ≡ Ok c) × (usn ≡ c.usn))) }
 {
     let event = addition(alloc, number)?;

@@ -9,7 +9,7 @@ use Rattle.std.proofs.lemmas.Bool.{and_parts}
 use Rattle.std.proofs.lemmas.Bool.Decides.{nat_tests, Decides-eqb}
 use Rattle.std.proofs.lemmas.Slice.Eq.{bytes_eq-Decides}
 use Rattle.adr_schema.specs.Names.{class_name, class_number, attribute_name, attribute_number}
-use Rattle.adr_schema.specs.Schemas.{newest, schema_1}
+use Rattle.adr_schema.specs.Schemas.{spoken, schema_1}
 use Rattle.adr_schema.specs.Table.{Class, Attribute}
 use Rattle.adr_schema.proofs.Apart.{found_by_other}
 use Rattle.adr_token.specs.Gives.{◌>>=◌}
@@ -100,11 +100,11 @@ attribute_named a = a.name
 
 pub class_told : (n : ℕ) (text : List ℕ) → class_name n ≡ Some text → class_number text ≡ Some n
 unfolding schema_1
-class_told n text = found_by_other class_numbered class_named nat_eq bytes_eq Decides-eqb bytes_eq-Decides newest.classes refl n text
+class_told n text = found_by_other class_numbered class_named nat_eq bytes_eq Decides-eqb bytes_eq-Decides spoken.classes refl n text
 
 class_untold : (n : ℕ) (text : List ℕ) → class_number text ≡ Some n → class_name n ≡ Some text
 unfolding schema_1
-class_untold n text = found_by_other class_named class_numbered bytes_eq nat_eq bytes_eq-Decides Decides-eqb newest.classes refl text n
+class_untold n text = found_by_other class_named class_numbered bytes_eq nat_eq bytes_eq-Decides Decides-eqb spoken.classes refl text n
 
 class_unnamed : (figures : List ℕ) → class_number (37 ∷ figures) ≡ None
 unfolding schema_1
@@ -112,11 +112,11 @@ class_unnamed figures = refl
 
 pub attribute_told : (n : ℕ) (text : List ℕ) → attribute_name n ≡ Some text → attribute_number text ≡ Some n
 unfolding schema_1
-attribute_told n text = found_by_other attribute_numbered attribute_named nat_eq bytes_eq Decides-eqb bytes_eq-Decides newest.attributes refl n text
+attribute_told n text = found_by_other attribute_numbered attribute_named nat_eq bytes_eq Decides-eqb bytes_eq-Decides spoken.attributes refl n text
 
 attribute_untold : (n : ℕ) (text : List ℕ) → attribute_number text ≡ Some n → attribute_name n ≡ Some text
 unfolding schema_1
-attribute_untold n text = found_by_other attribute_named attribute_numbered bytes_eq nat_eq bytes_eq-Decides Decides-eqb newest.attributes refl text n
+attribute_untold n text = found_by_other attribute_named attribute_numbered bytes_eq nat_eq bytes_eq-Decides Decides-eqb spoken.attributes refl text n
 
 attribute_unnamed : (figures : List ℕ) → attribute_number (37 ∷ figures) ≡ None
 unfolding schema_1
@@ -129,19 +129,19 @@ name_seen name test xs text h e =
     let there = mapped name (find test xs) text e in
     subst (λ (y : List ℕ). is_seen_name y ≡ true) there.2 (found test (λ x. is_seen_name (name x)) xs there.0 h there.1).1
 
-classes_seen : list_all (λ (c : Class). is_seen_name c.name) newest.classes ≡ true
+classes_seen : list_all (λ (c : Class). is_seen_name c.name) spoken.classes ≡ true
 unfolding schema_1
 classes_seen = refl
 
-attributes_seen : list_all (λ (a : Attribute). is_seen_name a.name) newest.attributes ≡ true
+attributes_seen : list_all (λ (a : Attribute). is_seen_name a.name) spoken.attributes ≡ true
 unfolding schema_1
 attributes_seen = refl
 
 class_seen : (n : ℕ) (text : List ℕ) → class_name n ≡ Some text → is_seen_name text ≡ true
-class_seen n text e = name_seen class_named (λ c. c.number == n) newest.classes text classes_seen e
+class_seen n text e = name_seen class_named (λ c. c.number == n) spoken.classes text classes_seen e
 
 attribute_seen : (n : ℕ) (text : List ℕ) → attribute_name n ≡ Some text → is_seen_name text ≡ true
-attribute_seen n text e = name_seen attribute_named (λ a. a.number == n) newest.attributes text attributes_seen e
+attribute_seen n text e = name_seen attribute_named (λ a. a.number == n) spoken.attributes text attributes_seen e
 
 class_naming : IsNaming class_name class_number
 class_naming = record { named = class_told; numbered = class_untold; unnamed = class_unnamed; seen = class_seen }

@@ -5,3 +5,4 @@ pub mod Comparing
 pub mod Refusals
 pub mod Growing
 pub mod Known
+pub mod Moments

@@ -1,4 +1,5 @@
 pub mod Vector
+pub mod Times
 pub mod Place
 pub mod Merging
 pub mod Refusal

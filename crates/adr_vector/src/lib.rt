@@ -7,8 +7,10 @@
 
 mod mark;
 mod merging;
+mod times;
 mod vector;
 
 pub use adr_failure::{Failure, NoMemory};
 pub use mark::Mark;
+pub use times::Times;
 pub use vector::{CURSOR_LIMIT, Full, Vector, seen_by_both, vectors_are_their_numbers};

@@ -1,11 +1,11 @@
 -- Rows that keep to a schema have links only under attributes whose back links have numbers.
-use Rattle.std.proofs.Common.{◌≡◌, ℕ, Bool, true, false, List, [], ◌∷◌, Some, None, refl, subst, inl, inr, ◌==◌, cond, eqb-true}
-use Rattle.std.specs.Prelude.{nat_lt, unwrap_or, if◌then◌else◌}
+use Rattle.std.proofs.Common.{◌≡◌, ℕ, Bool, true, false, List, [], ◌∷◌, Some, refl, subst, inl, inr, ◌==◌, cond, eqb-true}
+use Rattle.std.specs.Prelude.{nat_le, nat_lt, if◌then◌else◌}
 use Rattle.std.specs.List.{list_all, find}
 use Rattle.std.specs.Option.{option_map}
 use Rattle.std.proofs.lemmas.Bool.{false≢true, and_parts, and_from}
-use Rattle.adr_schema.specs.Table.{Attribute, Table, kind_at, is_forward}
-use Rattle.adr_schema.specs.Schemas.{schema_1}
+use Rattle.adr_schema.specs.Table.{Attribute, kind_at, is_forward}
+use Rattle.adr_schema.specs.Schemas.{schema_1, schema_2}
 use Rattle.adr_schema.specs.Numbered.{numbered}
 use Rattle.adr_model.specs.Member.{Member}
 use Rattle.adr_model.specs.Update.{Key, RowOf, LinkOf, Update}
@@ -30,22 +30,21 @@ forward_below (a ∷ table) bound attr all there =
         subst (λ n. nat_lt n bound ≡ true) (eqb-true a.number attr same) (and_parts (nat_lt a.number bound) (list_all (λ (b : Attribute). nat_lt b.number bound) table) all).0
     by false same below h = below h
 
--- the numbers of schema 1 are small
-small : list_all (λ (a : Attribute). nat_lt a.number 65535) schema_1.attributes ≡ true
+-- the numbers of the schemas are small
+first_small : list_all (λ (a : Attribute). nat_lt a.number 65535) schema_1.attributes ≡ true
 unfolding schema_1
-small = refl
+first_small = refl
 
--- there is one schema
-only : (number : ℕ) → numbered number ≡ schema_1
-only number = by (number == 1)
-  where
-    by : (b : Bool) → unwrap_or (if b then Some schema_1 else None) schema_1 ≡ schema_1
-    by true = refl
-    by false = refl
+second_small : list_all (λ (a : Attribute). nat_lt a.number 65535) schema_2.attributes ≡ true
+unfolding schema_2
+second_small = refl
 
 linked_below : (number attr : ℕ) → is_forward (kind_at (numbered number) attr) ≡ true → nat_lt attr 65535 ≡ true
-linked_below number attr forward =
-    forward_below schema_1.attributes 65535 attr small (subst (λ (t : Table). is_forward (kind_at t attr) ≡ true) (only number) forward)
+linked_below number attr forward = by (nat_le number 1) forward
+  where
+    by : (b : Bool) → is_forward (kind_at (if b then schema_1 else schema_2) attr) ≡ true → nat_lt attr 65535 ≡ true
+    by true = forward_below schema_1.attributes 65535 attr first_small
+    by false = forward_below schema_2.attributes 65535 attr second_small
 
 pub formed_have : (schema : ℕ) (us : List Update) → AreFormedRows (numbered schema) us → have_back_links us ≡ true
 formed_have schema us formed = all_from_each (λ (u : Update). has_back_link u.key) us (λ u m. by u m u.key refl)

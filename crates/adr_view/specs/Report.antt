@@ -7,8 +7,8 @@ use Rattle.adr_model.specs.World.{marks_shown}
 use Rattle.adr_view.specs.declared.reports.Report.{Report}
 use Rattle.adr_view.specs.declared.reports.Report.TheVariants.{Directory, Vector, Marks}
 
--- the directory of its rows, what it has seen, or how far it has read its partners
+-- the directory of its rows, what it has seen and when, or how far it has read its partners
 abbrev pub report_of : Report → Store → Outcome
 report_of Directory s = outcomes.Show (directory (updates_of s.rows))
-report_of Vector s = outcomes.Vector s.vector
+report_of Vector s = outcomes.Vector s.vector s.times
 report_of Marks s = outcomes.Marks (marks_shown s)

@@ -9,7 +9,7 @@ ghost use Rattle.adr_view.specs.Report.{report_of};
 
 use crate::NoMemory;
 use crate::entries::directory;
-use adr_event::{Outcome, PartnerMarks};
+use adr_event::{Outcome, PartnerMarks, Times};
 use adr_state::{Marks, State};
 use std::alloc::Global;
 
@@ -29,7 +29,7 @@ fn partner_marks(alloc: Global, marks: &Marks) -> Result<PartnerMarks, NoMemory>
 pub enum Report {
     /// The directory of live objects.
     Directory,
-    /// What the controller has seen of each incarnation.
+    /// What the controller has seen of each incarnation, and when.
     Vector,
     /// How far it has read its partners.
     Marks,
@@ -44,7 +44,13 @@ impl Report {
     {
         match self {
             Report::Directory => Ok(Outcome::Show(directory(alloc, state.rows())?)),
-            Report::Vector => Ok(Outcome::Vector(state.vector().copy(alloc)?)),
+            Report::Vector => {
+                state.knows_no_times();
+                Ok(Outcome::Vector {
+                    vector: state.vector().copy(alloc)?,
+                    times: Times::new(alloc),
+                })
+            }
             Report::Marks => Ok(Outcome::Marks(partner_marks(alloc, state.marks())?)),
         }
     }

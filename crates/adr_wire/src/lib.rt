@@ -1,7 +1,7 @@
 //! Fields and composites as bytes.
 //!
-//! This crate decides how numbers, identifiers, texts, values, rows, links, marks and vectors are spelled in images,
-//! packets and journal records, and with what such a format begins: each in one way. Whatever is read is the value whose
+//! This crate decides how numbers, identifiers, texts, values, rows, links, marks and vectors are spelled in images and
+//! journal records, and with what such a format begins: each in one way. Whatever is read is the value whose
 //! spelling stands there, and all else is refused at the first place that is wrong. It stands on `adr_stamp`,
 //! `adr_schema` and `adr_vector` for the values, and knows nothing of messages, images or journals, nor of what a schema
 //! allows.

@@ -69,7 +69,7 @@ delivers d r next = let t = take d r in next (got t) (made d t)
 -- one controller asks another, which serves, and takes the reply
 abbrev pub pulls : {A : Type 0} → State → State → ℕ → (Pulled → State → A) → A
 pulls d s max next =
-    replies (serve s (ask d s.dsa max)) (next None d) (λ (r : Reply). delivers d r (λ (g : Got) (e : State). next (Some (told r, g)) e))
+    replies (serve s (ask d s.dsa max 2) 0) (next None d) (λ (r : Reply). delivers d r (λ (g : Got) (e : State). next (Some (told r, g)) e))
 
 abbrev pub shows : State → List Entry
 shows s = directory (updates_of s.store.rows)

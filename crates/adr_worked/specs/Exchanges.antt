@@ -68,7 +68,7 @@ delivered_twice =
     new_a
     ∷ new_b
     ∷ add_container a 16 (codes "x")
-    ∷ events.Ask b a 10 (codes "q")
+    ∷ events.Ask b a 10 2 (codes "q")
     ∷ events.Serve a (codes "q") (codes "r")
     ∷ events.Deliver b (codes "r")
     ∷ events.Deliver b (codes "r")
@@ -126,7 +126,7 @@ rollback =
     ∷ add_container a 16 (codes "x")
     ∷ events.Cycle b a 10
     ∷ events.Rollback a (codes "s")
-    ∷ events.Ask b a 10 (codes "q")
+    ∷ events.Ask b a 10 2 (codes "q")
     ∷ events.Serve a (codes "q") (codes "r")
     ∷ add_container a 17 (codes "y")
     ∷ events.Backup a (codes "i")
@@ -157,7 +157,7 @@ collection =
     ∷ events.Delete a (identifier 16)
     ∷ events.Time 100
     ∷ events.Collect a 50
-    ∷ events.Ask b a 10 (codes "q")
+    ∷ events.Ask b a 10 2 (codes "q")
     ∷ events.Serve a (codes "q") (codes "r")
     ∷ events.Backup a (codes "i")
     ∷ events.Install (codes "C") (identifier 192) (codes "i") (identifier 193)
@@ -182,4 +182,4 @@ collection_told =
 
 -- a request that is bound to a name
 abbrev pub asked_once : List Event
-asked_once = new_a ∷ new_b ∷ events.Ask b a 10 (codes "q") ∷ []
+asked_once = new_a ∷ new_b ∷ events.Ask b a 10 2 (codes "q") ∷ []

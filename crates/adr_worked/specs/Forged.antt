@@ -7,7 +7,7 @@ use Rattle.adr_event.specs.declared.refusal.TakeRefusal.{TakeRefusal}
 use Rattle.adr_model.specs.Update.{Update, Key}
 use Rattle.adr_model.specs.Place.{identifier, root, lost_and_found}
 use Rattle.adr_model.specs.Store.{State}
-use Rattle.adr_model.specs.Change.{Item, Change, only_writes}
+use Rattle.adr_model.specs.Change.{Item, Change}
 use Rattle.adr_model.specs.LocalLog.{LocalLog}
 use Rattle.adr_model.specs.Write.{row, of_object, own_change}
 use Rattle.adr_model.specs.Take.{rows_taken, item_refusal}
@@ -62,7 +62,7 @@ abbrev pub birth_at_1 : ℕ → Update
 birth_at_1 guid = row (object guid 161 1) (stamped 0 1 10 161 1) 1 (Class 4)
 
 abbrev pub change_at_1 : ℕ → Change
-change_at_1 guid = only_writes 1 (record { local = 1; item = of_object (object guid 161 1) (birth_at_1 guid ∷ []) } ∷ [])
+change_at_1 guid = own_change first (record { local = 1; item = of_object (object guid 161 1) (birth_at_1 guid ∷ []) } ∷ [])
 
 abbrev pub one_usn_twice : LocalLog
 one_usn_twice = record { start_usn = 0; start_rows = []; changes = change_at_1 17 ∷ change_at_1 16 ∷ [] }

@@ -10,4 +10,5 @@ pub mod Stops
 pub mod Exchanges
 pub mod Logs
 pub mod Forged
+pub mod Versions
 pub mod Rings

@@ -42,7 +42,7 @@ abbrev pub put_back : Option ServeRefusal × Option WriteRefusal × Option Store
 put_back =
     adds first 0 16 (codes "x") (λ a. pulls second a 10 (λ p b.
     let q = after first (quarantine first) in
-    (refusal_in (serve first (ask b first.dsa 10)), refusal_in (write q (AddObject (identifier 17) 4 root (codes "y") []) 0), backup q)))
+    (refusal_in (serve first (ask b first.dsa 10 2) 0), refusal_in (write q (AddObject (identifier 17) 4 root (codes "y") []) 0), backup q)))
 
 abbrev pub put_back_told : Option ServeRefusal × Option WriteRefusal × Option Store
 put_back_told = (Some (RolledBack (identifier 161) 0 1), Some Quarantined, None)
@@ -57,7 +57,7 @@ collected_once =
     adds first 10 16 (codes "x") (λ a. pulls second a 10 (λ p b. writes a 10 (Delete (identifier 16)) (λ a.
     let c = collect a 100 50 in
     let d = made a c in
-    pulls (from_image d third.dsa third.inv) d 10 (λ q e. (removed_by c, refusal_in (serve d (ask b d.dsa 10)), q)))))
+    pulls (from_image d third.dsa third.inv) d 10 (λ q e. (removed_by c, refusal_in (serve d (ask b d.dsa 10 2) 0), q)))))
 
 abbrev pub collected_once_told : Option ℕ × Option ServeRefusal × Pulled
 collected_once_told = (Some 1, Some (TooOld (identifier 161) 2 1), Some ((mark 0 0 0, mark 3 3 3, 0, 0, true), Ok (0, 3)))

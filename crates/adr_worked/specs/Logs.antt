@@ -57,7 +57,7 @@ put_back =
 -- a controller that was put back is asked by one who has seen more, and has no room to note that it is shut off: 31 bytes
 abbrev pub asked_for_more : ℕ → List Answer
 asked_for_more end =
-    answers (record (with_log end) { requests = (codes "q", record { dest = identifier 176; source = identifier 160; inv = identifier 161; mark = record { obj = 1; prop = 1; seen = 1 }; schema = 1; max = 10; vector = [] }) ∷ [] })
+    answers (record (with_log end) { requests = (codes "q", record { version = 2; dest = identifier 176; source = identifier 160; inv = identifier 161; mark = record { obj = 1; prop = 1; seen = 1 }; schema = 1; max = 10; vector = [] }) ∷ [] })
     (Serve (codes "A") (codes "q") (codes "r") ∷ [])
 
 abbrev pub shut_off : List Answer

@@ -51,7 +51,7 @@ cut_told =
 abbrev pub repeated : List Got
 repeated =
     adds first 0 16 (codes "x") (λ a.
-    replies (serve a (ask second a.dsa 10)) [] (λ (r : Reply). delivers second r (λ g b. delivers b r (λ h b. g ∷ h ∷ []))))
+    replies (serve a (ask second a.dsa 10 2) 0) [] (λ (r : Reply). delivers second r (λ g b. delivers b r (λ h b. g ∷ h ∷ []))))
 
 abbrev pub repeated_told : List Got
 repeated_told = Ok (1, 1) ∷ Err (Stale (mark 1 1 1) (mark 0 0 0)) ∷ []
@@ -60,8 +60,8 @@ repeated_told = Ok (1, 1) ∷ Err (Stale (mark 1 1 1) (mark 0 0 0)) ∷ []
 abbrev pub reordered : List Got
 reordered =
     adds first 0 16 (codes "x") (λ a. adds a 0 17 (codes "y") (λ a.
-    replies (serve a (ask second a.dsa 1)) [] (λ (one : Reply).
-    replies (serve a (ask second a.dsa 10)) [] (λ (all : Reply). delivers second all (λ g b. delivers b one (λ h b. g ∷ h ∷ []))))))
+    replies (serve a (ask second a.dsa 1 2) 0) [] (λ (one : Reply).
+    replies (serve a (ask second a.dsa 10 2) 0) [] (λ (all : Reply). delivers second all (λ g b. delivers b one (λ h b. g ∷ h ∷ []))))))
 
 abbrev pub reordered_told : List Got
 reordered_told = Ok (2, 2) ∷ Err (Stale (mark 2 2 2) (mark 0 0 0)) ∷ []
@@ -70,7 +70,7 @@ reordered_told = Ok (2, 2) ∷ Err (Stale (mark 2 2 2) (mark 0 0 0)) ∷ []
 abbrev pub older_than_restore : List Got
 older_than_restore =
     adds first 0 16 (codes "x") (λ a. adds second 0 17 (codes "y") (λ b.
-    replies (serve a (ask b a.dsa 10)) [] (λ (r : Reply). delivers (from_image second second.dsa (identifier 178)) r (λ g b. g ∷ []))))
+    replies (serve a (ask b a.dsa 10 2) 0) [] (λ (r : Reply). delivers (from_image second second.dsa (identifier 178)) r (λ g b. g ∷ []))))
 
 abbrev pub older_than_restore_told : List Got
 older_than_restore_told = Err (VectorBehind (identifier 177) 0 1) ∷ []
@@ -80,9 +80,9 @@ abbrev pub compared_by_seen : List Got
 compared_by_seen =
     adds first 0 16 (codes "x") (λ a. adds a 0 17 (codes "y") (λ a.
     pulls third a 10 (λ p c. pulls second c 1 (λ q b.
-    replies (serve a (ask b a.dsa 1)) [] (λ (r1 : Reply). adds a 0 18 (codes "z") (λ a2.
-    replies (serve a2 (ask b a.dsa 1)) [] (λ (r2 : Reply). delivers b r1 (λ g after1.
-    replies (serve a2 (ask after1 a.dsa 1)) [] (λ (r3 : Reply).
+    replies (serve a (ask b a.dsa 1 2) 0) [] (λ (r1 : Reply). adds a 0 18 (codes "z") (λ a2.
+    replies (serve a2 (ask b a.dsa 1 2) 0) [] (λ (r2 : Reply). delivers b r1 (λ g after1.
+    replies (serve a2 (ask after1 a.dsa 1 2) 0) [] (λ (r3 : Reply).
     delivers (from_image b b.dsa (identifier 178)) r2 (λ h again. delivers again r3 (λ k last. g ∷ h ∷ k ∷ [])))))))))))
 
 abbrev pub compared_by_seen_told : List Got

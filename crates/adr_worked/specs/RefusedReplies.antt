@@ -24,11 +24,11 @@ use Rattle.adr_worked.specs.Runs.{object, stamped}
 -- requests that are altered
 abbrev pub refused_requests : List (Option ServeRefusal)
 refused_requests =
-    let q = ask second first.dsa 10 in
-    refusal_in (serve second q)
-    ∷ refusal_in (serve first (record q { schema = 2 }))
-    ∷ refusal_in (serve first (record q { mark = mark 1 2 3 }))
-    ∷ refusal_in (serve first q)
+    let q = ask second first.dsa 10 2 in
+    refusal_in (serve second q 0)
+    ∷ refusal_in (serve first (record q { schema = 2 }) 0)
+    ∷ refusal_in (serve first (record q { mark = mark 1 2 3 }) 0)
+    ∷ refusal_in (serve first q 0)
     ∷ []
 
 abbrev pub refused_requests_told : List (Option ServeRefusal)
@@ -54,7 +54,7 @@ each_item r change = record r { items = map change r.items }
 abbrev pub refused_replies : List (Option TakeRefusal)
 refused_replies =
     writes first 0 (AddObject (identifier 16) 5 root (codes "Ann") ((10, Text (codes "ann") ∷ []) ∷ [])) (λ a.
-    replies (serve a (ask second a.dsa 10)) [] (λ (r : Reply).
+    replies (serve a (ask second a.dsa 10 2) 0) [] (λ (r : Reply).
     refusal_in (take second (record r { dest = identifier 192 }))
     ∷ refusal_in (take second (record r { schema = 2 }))
     ∷ refusal_in (take second (each_item r with_a_number))

@@ -34,6 +34,7 @@ ghost use Rattle.adr_worked.specs.Stops.{new_a, add_container};
 ghost use Rattle.adr_worked.specs.Logs.{with_log, full_log, last_room, last_room_told, no_room_told, log_ends, put_back as log_put_back, asked_for_more, shut_off};
 ghost use Rattle.adr_worked.specs.Forged.{on_a_fixed_guid, on_a_fixed_guid_shown, two_classes, dead_with_row_0, keys_taken, refused_with_row_0, two_items, birth_at_1, one_usn_twice};
 ghost use Rattle.adr_worked.specs.Exchanges.{asked_once};
+ghost use Rattle.adr_worked.specs.Versions.{in_version, one_time_told, no_time_told, other_schema, other_schema_told, revived, revived_told};
 
 /// Small sets of updates, and the directories that they define.
 #[tactic(none)]
@@ -166,10 +167,19 @@ pub fn what_lines_leave()
     ensures unclean { (after_lines empty_world log_put_back).clean ≡ false }
     ensures clean { (after_lines empty_world (new_a ∷ Rollback (codes "A") (codes "s") ∷ [])).clean ≡ true }
     ensures two { (two_items first).usn ≡ 2 }
-    ensures bound { MayHappen (after_lines empty_world asked_once) (Ask (codes "B") (codes "A") 10 (codes "q"))
+    ensures bound { MayHappen (after_lines empty_world asked_once) (Ask (codes "B") (codes "A") 10 2 (codes "q"))
         → ⊥ }
     ensures two_changes { IsOfOneChange one_usn_twice (birth_at_1 16) (birth_at_1 17) → ⊥ }
-    ensures unbound { MayHappen (after_lines empty_world asked_once) (Ask (codes "B") (codes "A") 10 (codes "p")) }
+    ensures unbound { MayHappen (after_lines empty_world asked_once) (Ask (codes "B") (codes "A") 10 2 (codes "p")) }
+{}
+
+/// Times, two schemas, and an object of an image that comes again.
+#[tactic(none)]
+pub fn small_versions()
+    ensures one_time { answers empty_world (in_version 2) ≡ one_time_told }
+    ensures no_time { answers empty_world (in_version 1) ≡ no_time_told }
+    ensures other_schema { answers empty_world other_schema ≡ other_schema_told }
+    ensures revived { answers empty_world revived ≡ revived_told }
 {}
 
 /// Rings of three: one round is not enough where the word has to go round, two are; vectors want twice as many.

@@ -6,7 +6,8 @@ use Rattle.adr_event.specs.Verbs.{name_of, verb_of, word_of}
 use Rattle.adr_event.specs.declared.answer.Outcome.{Outcome}
 use Rattle.adr_event.specs.declared.event.Event.{Event}
 use Rattle.adr_model.specs.World.{Gone, Name, World, writes}
-use Rattle.adr_model.specs.Step.{step, told, write_of}
+use Rattle.adr_model.specs.Step.{step, told}
+use Rattle.adr_controller.specs.Able.{plain_write}
 use Rattle.adr_world.proofs.Writings.{IsWriteTo, write_line}
 
 -- the line comes to this outcome
@@ -24,5 +25,5 @@ line_so w v e d r is all = IfOk-weaker r _ _ (λ o one. one_so w v e d o is one)
 pub call_so : {X : Type 0} (verb : List ℕ) (name : Name) (g : Gone) (v : World) (r : Result Outcome X) → IfOk r (λ o. g ≡ (v, o)) → IfOk r (λ o. told verb name g ≡ told verb name (v, o))
 call_so verb name g v r all = IfOk-weaker r _ _ (λ o gone. ap (told verb name) gone) all
 
-pub written_so : {X : Type 0} (w v : World) (name : Name) (e : Event) (r : Result Outcome X) → IsWriteTo name e → IfOk r (λ o. IfSome (write_of e) (λ x. writes w name x.what ≡ (v, o))) → IfOk r (ComesTo w e v)
+pub written_so : {X : Type 0} (w v : World) (name : Name) (e : Event) (r : Result Outcome X) → IsWriteTo name e → IfOk r (λ o. IfSome (plain_write e) (λ x. writes w name x.what ≡ (v, o))) → IfOk r (ComesTo w e v)
 written_so w v name e r to all = IfOk-weaker r _ _ (λ o is. write_line w v name o e to is) all

@@ -76,9 +76,9 @@ module _ (r : Run) (name : Name) (i : ℕ) (d : Replica) (lt : i < length r.cont
         all_or_none act call same (inr all) = inr (done (call (world_of r)) (all (world_of r) stands) ∙ same ∙ sym (ap (λ (g : Gone). g.0) (reaches (world_of r) name (stays (world_of r)) act d found_there)))
 
         -- and nothing is sent
-        pub unsent : (q : Request) (call : World → World) → call (world_of r) ≡ (where_up (nothing (world_of r)) d.standing (after_serve (world_of r) d (serve d.safe q))).0
+        pub unsent : (q : Request) → q.version ≡ 1 → (call : World → World) → call (world_of r) ≡ (where_up (nothing (world_of r)) d.standing (after_serve (world_of r) d (serve d.safe q r.time))).0
             → IsUndone d r.past new later ⊎ IsDone d r.past call new later → IsUnsent (world_of r) (serves_request (world_of r) name (Some q)) (run_with r i new later)
-        unsent q call same (inl none) = inl (undone new later none)
-        unsent q call same (inr all) =
+        unsent q first call same (inl none) = inl (undone new later none)
+        unsent q first call same (inr all) =
             subst (λ (t : Sent Reply). IsUnsent (world_of r) t (run_with r i new later)) (sym (reaches (world_of r) name (nothing (world_of r)) (λ x. served (world_of r) x (Some q)) d found_there))
-            (up_unsent (world_of r) d d.standing (serve d.safe q) (run_with r i new later) (done (call (world_of r)) (all (world_of r) stands) ∙ same))
+            (up_unsent (world_of r) d q first d.standing (run_with r i new later) (done (call (world_of r)) (all (world_of r) stands) ∙ same))

@@ -4,7 +4,7 @@ use Rattle.std.specs.Prelude.{IfSome}
 use Rattle.adr_event.specs.declared.answer.Answer.{Answer}
 use Rattle.adr_event.specs.declared.answer.Outcome.{Outcome}
 use Rattle.adr_event.specs.declared.event.Event.TheVariants.{Serve}
-use Rattle.adr_law_formed.specs.Spelled.{IsSpelledReply}
+use Rattle.adr_model.specs.Spelled.{IsSpelledReply}
 use Rattle.adr_law_recorded.specs.Ranged.{IsRangedRequest, IsRangedReply}
 use Rattle.adr_model.specs.Member.{Member, Each}
 use Rattle.adr_model.specs.Serve.{Request, Reply}

@@ -9,6 +9,7 @@ use Rattle.adr_model.specs.Update.{Identifier}
 use Rattle.adr_model.specs.Serve.{Request, Reply, ask, serve}
 use Rattle.adr_model.specs.Replica.{Standing, Up, Down, Failed, Replica}
 use Rattle.adr_model.specs.World.{World, Name, Sent, replica_at, of_made, of_controller, where_up, nothing, not_sent, stays, asks, serves_request, after_serve, served, delivers, delivered, shown}
+use Rattle.adr_replica.proofs.Noted.{answer_unnoted}
 use Rattle.adr_world.specs.Short.{IsUnsent}
 
 module _ {A : Type 0} (w : World) (name : Name) (other : Outcome → A) (act : Replica → A) where
@@ -22,22 +23,22 @@ module _ {A : Type 0} (w : World) (name : Name) (other : Outcome → A) (act : R
 
 module _ (w : World) (name partner : Name) (max : ℕ) where
   pub asked_so : (a b : Replica) (dsa : Identifier) (o : Outcome) (q : Option Request) → replica_at w name ≡ Some a → replica_at w partner ≡ Some b → dsa ≡ b.safe.dsa
-      → where_up (nothing w) a.standing (w, outcomes.Ok, Some (ask a.safe dsa max)) ≡ (w, o, q) → asks w name partner max ≡ (w, o, q)
+      → where_up (nothing w) a.standing (w, outcomes.Ok, Some (ask a.safe dsa max 1)) ≡ (w, o, q) → asks w name partner max 1 ≡ (w, o, q)
   asked_so a b dsa o q first second whom made =
-      ap (λ x. of_made (nothing w) x (λ r. of_made (nothing w) (replica_at w partner) (λ p. where_up (nothing w) r.standing (w, outcomes.Ok, Some (ask r.safe p.safe.dsa max))))) first
-      ∙ ap (λ x. of_made (nothing w) x (λ p. where_up (nothing w) a.standing (w, outcomes.Ok, Some (ask a.safe p.safe.dsa max)))) second
-      ∙ ap (λ d. where_up (nothing w) a.standing (w, outcomes.Ok, Some (ask a.safe d max))) (sym whom)
+      ap (λ x. of_made (nothing w) x (λ r. of_made (nothing w) (replica_at w partner) (λ p. where_up (nothing w) r.standing (w, outcomes.Ok, Some (ask r.safe p.safe.dsa max 1))))) first
+      ∙ ap (λ x. of_made (nothing w) x (λ p. where_up (nothing w) a.standing (w, outcomes.Ok, Some (ask a.safe p.safe.dsa max 1)))) second
+      ∙ ap (λ d. where_up (nothing w) a.standing (w, outcomes.Ok, Some (ask a.safe d max 1))) (sym whom)
       ∙ made
 
-  pub no_asker_so : replica_at w name ≡ None → asks w name partner max ≡ (w, outcomes.Absent, None)
-  no_asker_so none = ap (λ x. of_made (nothing w) x (λ r. of_made (nothing w) (replica_at w partner) (λ p. where_up (nothing w) r.standing (w, outcomes.Ok, Some (ask r.safe p.safe.dsa max))))) none
+  pub no_asker_so : replica_at w name ≡ None → asks w name partner max 1 ≡ (w, outcomes.Absent, None)
+  no_asker_so none = ap (λ x. of_made (nothing w) x (λ r. of_made (nothing w) (replica_at w partner) (λ p. where_up (nothing w) r.standing (w, outcomes.Ok, Some (ask r.safe p.safe.dsa max 1))))) none
 
-  pub no_partner_so : replica_at w partner ≡ None → asks w name partner max ≡ (w, outcomes.Absent, None)
+  pub no_partner_so : replica_at w partner ≡ None → asks w name partner max 1 ≡ (w, outcomes.Absent, None)
   no_partner_so none = by (replica_at w name)
     where
-      by : (o : Option Replica) → of_made (nothing w) o (λ r. of_made (nothing w) (replica_at w partner) (λ p. where_up (nothing w) r.standing (w, outcomes.Ok, Some (ask r.safe p.safe.dsa max)))) ≡ (w, outcomes.Absent, None)
+      by : (o : Option Replica) → of_made (nothing w) o (λ r. of_made (nothing w) (replica_at w partner) (λ p. where_up (nothing w) r.standing (w, outcomes.Ok, Some (ask r.safe p.safe.dsa max 1)))) ≡ (w, outcomes.Absent, None)
       by None = refl
-      by (Some r) = ap (λ x. of_made (nothing w) x (λ p. where_up (nothing w) r.standing (w, outcomes.Ok, Some (ask r.safe p.safe.dsa max)))) none
+      by (Some r) = ap (λ x. of_made (nothing w) x (λ p. where_up (nothing w) r.standing (w, outcomes.Ok, Some (ask r.safe p.safe.dsa max 1)))) none
 
 -- a message that isn't there is answered so also where messages are sent
 pub nothing_sent : {A : Type 0} (w : World) (s : Standing) (o : Outcome) → where_up (stays w) s (w, outcomes.Absent) ≡ (w, o) → where_up (nothing {A = A} w) s (w, outcomes.Absent, None) ≡ (w, o, None)
@@ -52,49 +53,43 @@ module _ (w : World) (name : Name) (r : Replica) (is : replica_at w name ≡ Som
   pub no_reply_so : (p : Option Reply) → None ≡ p → delivers w name p ≡ (w, o)
   no_reply_so p none = ap (delivers w name) (sym none) ∙ reaches w name (stays w) (λ x. delivered w x None) r is ∙ said
 
--- ---- a reply changes nothing, and a refusal sends nothing
+-- ---- a reply of version 1 changes nothing, and a refusal sends nothing
 
-module _ (w : World) (r : Replica) where
-  after_kept : (t : Result Reply ServeRefusal) (v : World) (o : Outcome) (reply : Reply) → after_serve w r t ≡ (v, o, Some reply) → v ≡ w
-  after_kept (Ok x) v o reply e = sym (ap (λ (t : Sent Reply). t.0) e)
-  after_kept (Err (serves.RolledBack inv mine shown)) v o reply e = let none : None ≡ Some reply = ap (λ (t : Sent Reply). t.2) e in absurd (cc)
-  after_kept (Err x) v o reply e = let none : None ≡ Some reply = ap (λ (t : Sent Reply). t.2) e in absurd (cc)
+module _ (w : World) (r : Replica) (q : Request) (first : q.version ≡ 1) where
+  abbrev served_now : Result Reply ServeRefusal
+  served_now = serve r.safe q w.time
 
-  up_kept : (s : Standing) (t : Result Reply ServeRefusal) (v : World) (o : Outcome) (reply : Reply) → where_up (nothing w) s (after_serve w r t) ≡ (v, o, Some reply) → v ≡ w
-  up_kept Up t v o reply e = after_kept t v o reply e
-  up_kept Down t v o reply e = let none : None ≡ Some reply = ap (λ (t : Sent Reply). t.2) e in absurd (cc)
-  up_kept Failed t v o reply e = let none : None ≡ Some reply = ap (λ (t : Sent Reply). t.2) e in absurd (cc)
+  after_kept : (t : Result Reply ServeRefusal) → served_now ≡ t → (v : World) (o : Outcome) (reply : Reply) → after_serve w r t ≡ (v, o, Some reply) → v ≡ w
+  after_kept (Ok x) is v o reply e = sym (ap (λ (t : Sent Reply). t.0) e) ∙ answer_unnoted r.safe q first w x is
+  after_kept (Err (serves.RolledBack inv mine shown)) is v o reply e = let none : None ≡ Some reply = ap (λ (t : Sent Reply). t.2) e in absurd (cc)
+  after_kept (Err x) is v o reply e = let none : None ≡ Some reply = ap (λ (t : Sent Reply). t.2) e in absurd (cc)
 
-  after_unsent : (t : Result Reply ServeRefusal) (v : World) → v ≡ (after_serve w r t).0 → IsUnsent w (after_serve w r t) v
-  after_unsent (Ok x) v e = inl e
-  after_unsent (Err (serves.RolledBack inv mine shown)) v e =
+  pub up_kept : (s : Standing) (v : World) (o : Outcome) (reply : Reply) → where_up (nothing w) s (after_serve w r served_now) ≡ (v, o, Some reply) → v ≡ w
+  up_kept Up v o reply e = after_kept served_now refl v o reply e
+  up_kept Down v o reply e = let none : None ≡ Some reply = ap (λ (t : Sent Reply). t.2) e in absurd (cc)
+  up_kept Failed v o reply e = let none : None ≡ Some reply = ap (λ (t : Sent Reply). t.2) e in absurd (cc)
+
+  after_unsent : (t : Result Reply ServeRefusal) → served_now ≡ t → (v : World) → v ≡ (after_serve w r t).0 → IsUnsent w (after_serve w r t) v
+  after_unsent (Ok x) is v e = inl (e ∙ answer_unnoted r.safe q first w x is)
+  after_unsent (Err (serves.RolledBack inv mine shown)) is v e =
       inr (ap (λ x. (x, (after_serve w r (Err (serves.RolledBack inv mine shown))).1, None)) (sym e))
-  after_unsent (Err x) v e = inl e
+  after_unsent (Err x) is v e = inl e
 
-  pub up_unsent : (s : Standing) (t : Result Reply ServeRefusal) (v : World) → v ≡ (where_up (nothing w) s (after_serve w r t)).0 → IsUnsent w (where_up (nothing w) s (after_serve w r t)) v
-  up_unsent Up t v e = after_unsent t v e
-  up_unsent Down t v e = inl e
-  up_unsent Failed t v e = inl e
+  pub up_unsent : (s : Standing) (v : World) → v ≡ (where_up (nothing w) s (after_serve w r served_now)).0 → IsUnsent w (where_up (nothing w) s (after_serve w r served_now)) v
+  up_unsent Up v e = after_unsent served_now refl v e
+  up_unsent Down v e = inl e
+  up_unsent Failed v e = inl e
 
-module _ (w : World) (name : Name) (q : Option Request) where
+module _ (w : World) (name : Name) (q : Request) (first : q.version ≡ 1) where
   -- where a reply was made, the world is as before
-  pub reply_keeps : (v : World) (o : Outcome) (reply : Reply) → serves_request w name q ≡ (v, o, Some reply) → v ≡ w
+  pub reply_keeps : (v : World) (o : Outcome) (reply : Reply) → serves_request w name (Some q) ≡ (v, o, Some reply) → v ≡ w
   reply_keeps v o reply e = by (replica_at w name) refl
     where
-      up : (r : Replica) (q : Option Request) → where_up (nothing w) r.standing (served w r q) ≡ (v, o, Some reply) → v ≡ w
-      up r (Some x) is = up_kept w r r.standing (serve r.safe x) v o reply is
-      up r None is = none r.standing is
-        where
-          none : (s : Standing) → where_up (nothing w) s (nothing w outcomes.Absent) ≡ (v, o, Some reply) → v ≡ w
-          none Up is = let none : None ≡ Some reply = ap (λ (t : Sent Reply). t.2) is in absurd (cc)
-          none Down is = let none : None ≡ Some reply = ap (λ (t : Sent Reply). t.2) is in absurd (cc)
-          none Failed is = let none : None ≡ Some reply = ap (λ (t : Sent Reply). t.2) is in absurd (cc)
-
       by : (x : Option Replica) → replica_at w name ≡ x → v ≡ w
-      by None is = let none : None ≡ Some reply = ap (λ (t : Sent Reply). t.2) (sym (reaches_none w name (nothing w) (λ r. served w r q) is) ∙ e) in absurd (cc)
-      by (Some r) is = up r q (sym (reaches w name (nothing w) (λ x. served w x q) r is) ∙ e)
+      by None is = let none : None ≡ Some reply = ap (λ (t : Sent Reply). t.2) (sym (reaches_none w name (nothing w) (λ r. served w r (Some q)) is) ∙ e) in absurd (cc)
+      by (Some r) is = up_kept w r q first r.standing v o reply (sym (reaches w name (nothing w) (λ x. served w x (Some q)) r is) ∙ e)
 
--- and so where something was sent
-pub sent_keeps : (w : World) (name : Name) (q : Option Request) (v : World) (o : Outcome) (sent : Option Reply) → IsSome sent → serves_request w name q ≡ (v, o, sent) → v ≡ w
-sent_keeps w name q v o None some e = absurd (cc)
-sent_keeps w name q v o (Some reply) some e = reply_keeps w name q v o reply e
+  -- and so where something was sent
+  pub sent_keeps : (v : World) (o : Outcome) (sent : Option Reply) → IsSome sent → serves_request w name (Some q) ≡ (v, o, sent) → v ≡ w
+  sent_keeps v o None some e = absurd (cc)
+  sent_keeps v o (Some reply) some e = reply_keeps v o reply e

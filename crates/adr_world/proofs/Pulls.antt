@@ -18,10 +18,10 @@ behind_first before a p = ap (λ (xs : List Answer). (p.0, xs, p.2)) (sym (appen
 
 module _ (w : World) (dest source : Name) (before now : List Answer) (p : Pulled) where
   -- a pull, by what comes of its request
-  pub pulled_on : (max : ℕ) (o : Option Request) → asks w dest source max ≡ (w, (asks w dest source max).1, o) → now ≡ before ++ answer (codes "ask") dest (asks w dest source max).1 ∷ []
+  pub pulled_on : (max : ℕ) (o : Option Request) → asks w dest source max 1 ≡ (w, (asks w dest source max 1).1, o) → now ≡ before ++ answer (codes "ask") dest (asks w dest source max 1).1 ∷ []
       → behind now (pull_asked dest source w o) ≡ p → behind before (pull w dest source max) ≡ p
   pulled_on max o sent told rest =
-      let t = asks w dest source max in
+      let t = asks w dest source max 1 in
       behind_first before (answer (codes "ask") dest t.1) (pull_asked dest source t.0 t.2)
       ∙ ap (λ (xs : List Answer). behind xs (pull_asked dest source t.0 t.2)) (sym told)
       ∙ ap (λ (s : Sent Request). behind now (pull_asked dest source s.0 s.2)) sent ∙ rest
@@ -37,13 +37,13 @@ module _ (w : World) (dest source : Name) (before now : List Answer) (p : Pulled
 
 -- a pull that wanted memory left the world before it, or that behind it
 module _ (w : World) (dest source : Name) (v : World) where
-  pub asked_short : (max : ℕ) (o : Outcome) (q : Request) → asks w dest source max ≡ (w, o, Some q) → IsAllOrNone w (pull_asked dest source w (Some q)).0 v → IsAllOrNone w (pull w dest source max).0 v
+  pub asked_short : (max : ℕ) (o : Outcome) (q : Request) → asks w dest source max 1 ≡ (w, o, Some q) → IsAllOrNone w (pull_asked dest source w (Some q)).0 v → IsAllOrNone w (pull w dest source max).0 v
   asked_short max o q sent short = subst (λ (t : Sent Request). IsAllOrNone w (pull_asked dest source t.0 t.2).0 v) (sym sent) short
 
   pub unsent_short : (q : Request) → IsUnsent w (serves_request w source (Some q)) v → IsAllOrNone w (pull_asked dest source w (Some q)).0 v
   unsent_short q (inl same) = inl same
   unsent_short q (inr sent) = inr (sym (ap (λ (t : Sent Reply). (pull_served dest t.0 t.2).0) sent))
 
-  pub served_short : (q : Request) (u : World) (o : Outcome) (r : Reply) → serves_request w source (Some q) ≡ (u, o, Some r) → IsAllOrNone u (pull_served dest u (Some r)).0 v → IsAllOrNone w (pull_asked dest source w (Some q)).0 v
-  served_short q u o r sent (inl same) = inl (same ∙ reply_keeps w source (Some q) u o r sent)
-  served_short q u o r sent (inr all) = inr (all ∙ sym (ap (λ (t : Sent Reply). (pull_served dest t.0 t.2).0) sent))
+  pub served_short : (q : Request) → q.version ≡ 1 → (u : World) (o : Outcome) (r : Reply) → serves_request w source (Some q) ≡ (u, o, Some r) → IsAllOrNone u (pull_served dest u (Some r)).0 v → IsAllOrNone w (pull_asked dest source w (Some q)).0 v
+  served_short q first u o r sent (inl same) = inl (same ∙ reply_keeps w source q first u o r sent)
+  served_short q first u o r sent (inr all) = inr (all ∙ sym (ap (λ (t : Sent Reply). (pull_served dest t.0 t.2).0) sent))

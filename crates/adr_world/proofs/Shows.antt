@@ -6,9 +6,8 @@ use Rattle.adr_event.specs.declared.answer.Outcome.TheVariants as outcomes
 use Rattle.adr_model.specs.Directory.{directory}
 use Rattle.adr_model.specs.Store.{updates_of}
 use Rattle.adr_model.specs.Step.{step, told}
-use Rattle.adr_model.specs.Visible.{visible}
 use Rattle.adr_model.specs.Replica.{Up, Down, Failed, Replica}
-use Rattle.adr_model.specs.World.{World, Name, replica_at, of_controller, where_up, stays, shown, marks_shown}
+use Rattle.adr_model.specs.World.{World, Name, replica_at, of_controller, where_up, stays, in_view, shown, marks_shown}
 use Rattle.adr_model.specs.Sound.{IsWorldOfRun}
 use Rattle.adr_law_convergence.proofs.Controllers.{shows_what_is_visible}
 use Rattle.adr_law_convergence.proofs.Found.{replica_found}
@@ -21,7 +20,7 @@ use Rattle.adr_world.proofs.Calls.{reaches, reaches_none}
 -- what a controller that is up is answered
 abbrev shows : World → Report → Replica → Outcome
 shows w Directory r = outcomes.Show (shown w r.safe)
-shows w Vector r = outcomes.Vector r.safe.store.vector
+shows w Vector r = outcomes.Vector r.safe.store.vector r.safe.store.times
 shows w Marks r = outcomes.Marks (marks_shown r.safe.store)
 
 -- the line that asks for it comes to this outcome
@@ -36,9 +35,9 @@ reported_so w name Marks o is = ap (told (codes "marks") name) is
 -- its rows show what it has in view while the world is clean, and else it shows just them
 pub rows_shown : (w : World) → IsWorldOfRun w → (name : Name) (r : Replica) → replica_at w name ≡ Some r → (b : Bool) → w.clean ≡ b → shown w r.safe ≡ directory (updates_of r.safe.store.rows)
 rows_shown w run name r is true clean =
-    ap (λ b. directory (if b then visible w.book.issued r.safe.store.vector (updates_of r.safe.store.rows) else updates_of r.safe.store.rows)) clean
+    ap (λ b. directory (if b then in_view w r.safe else updates_of r.safe.store.rows)) clean
     ∙ sym (shows_what_is_visible w (run.sound clean) r (replica_found w name r is).0)
-rows_shown w run name r is false unclean = ap (λ b. directory (if b then visible w.book.issued r.safe.store.vector (updates_of r.safe.store.rows) else updates_of r.safe.store.rows)) unclean
+rows_shown w run name r is false unclean = ap (λ b. directory (if b then in_view w r.safe else updates_of r.safe.store.rows)) unclean
 
 shows_its_store : (w : World) → IsWorldOfRun w → (name : Name) (r : Replica) → replica_at w name ≡ Some r → (report : Report) → shows w report r ≡ report_of report r.safe.store
 shows_its_store w run name r is Directory = ap outcomes.Show (rows_shown w run name r is w.clean refl)

@@ -1,6 +1,6 @@
 -- What the code's run stands for.
 use Rattle.std.specs.Prelude.{◌≢◌, List, [], ◌∷◌}
-use Rattle.adr_law_formed.specs.Spelled.{IsSpelledReply}
+use Rattle.adr_model.specs.Spelled.{IsSpelledReply}
 use Rattle.adr_law_recorded.specs.Ranged.{IsRangedRequest, IsRangedReply}
 use Rattle.adr_model.specs.Member.{Each}
 use Rattle.adr_model.specs.Replica.{Replica}
@@ -15,6 +15,7 @@ world_of r =
       time = r.time;
       clean = r.clean;
       book = r.past.book;
+      last_replies = [];  -- all replies are of version 1
       replicas = r.controllers.items;
       requests = r.requests;
       replies = r.replies;

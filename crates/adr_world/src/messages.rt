@@ -2,7 +2,7 @@
 
 ghost use Rattle.std.specs.Prelude.{◌≡◌, Some, codes, IfOk, IfSome, OnErr};
 ghost use Rattle.adr_event.specs.declared.event.Event.TheVariants.{Ask, Serve};
-ghost use Rattle.adr_law_formed.specs.Spelled.{IsSpelledReply};
+ghost use Rattle.adr_model.specs.Spelled.{IsSpelledReply};
 ghost use Rattle.adr_law_recorded.specs.Ranged.{IsRangedReply, IsRangedRequest};
 ghost use Rattle.adr_model.specs.Convergence.{IsUnbound};
 ghost use Rattle.adr_model.specs.Step.{step, told};
@@ -18,7 +18,7 @@ use adr_schema::{NoMemory, Text};
 use std::alloc::Global;
 
 impl Run {
-    /// What a controller is answered that asks a partner; the request is bound to a name.
+    /// What a controller is answered that asks a partner in version 1; the request is bound to a name.
     pub fn ask(
         &mut self,
         alloc: Global,
@@ -30,7 +30,7 @@ impl Run {
         requires tidy { IsTidy self.old }
         requires unbound { IsUnbound (world_of self.old).requests bound.now }
         ensures stepped { IfOk result (λ outcome.
-            step (world_of self.old) (Ask name.now partner.now max bound.now) ≡ told (codes "ask") name.now (world_of self.new, outcome)) }
+            step (world_of self.old) (Ask name.now partner.now max 1 bound.now) ≡ told (codes "ask") name.now (world_of self.new, outcome)) }
         ensures err { OnErr result (world_of self.new ≡ world_of self.old) }
         ensures tidy { IsTidy self.new }
     {
@@ -38,7 +38,7 @@ impl Run {
         self.requests.bind(alloc, bound, sent)
     }
 
-    /// What a controller that asks a partner is answered, and the request if there is one.
+    /// What a controller that asks a partner in version 1 is answered, and the request if there is one.
     pub fn request(
         &self,
         alloc: Global,
@@ -47,7 +47,7 @@ impl Run {
         max: u32,
     ) -> Result<(Outcome, Option<Request>), NoMemory>
         ensures asked { IfOk result (λ sent.
-            asks (world_of self.now) name.now partner.now max ≡ (world_of self.now, sent.0, sent.1)) }
+            asks (world_of self.now) name.now partner.now max 1 ≡ (world_of self.now, sent.0, sent.1)) }
         ensures ranged { IfOk result (λ sent. IfSome sent.1 IsRangedRequest) }
     {
         let Some(asker) = self.place_of(name) else {

@@ -3,7 +3,7 @@
 ghost use Rattle.std.specs.Prelude.{◌≡◌, ◌++◌, ◌+◌, ◌∷◌, ◌≤◌, [], Some, codes, vec_len, IfOk, IfSome, OnErr, OnOk};
 ghost use Rattle.std.specs.Vec.{vec_capacity};
 ghost use Rattle.adr_event.specs.declared.event.Event.TheVariants.{Cycle};
-ghost use Rattle.adr_law_formed.specs.Spelled.{IsSpelledReply};
+ghost use Rattle.adr_model.specs.Spelled.{IsSpelledReply};
 ghost use Rattle.adr_law_recorded.specs.Ranged.{IsRangedReply, IsRangedRequest};
 ghost use Rattle.adr_model.specs.Cycles.{pull, pull_asked, pull_served, was_taken};
 ghost use Rattle.adr_model.specs.World.{answer, asks, serves_request};
@@ -39,11 +39,11 @@ impl Run {
         answers: &mut Vec<Answer>,
     ) -> Result<Option<Request>, NoMemory>
         requires { vec_len answers.old + 1 ≤ vec_capacity answers.old }
-        ensures sent { IfOk result (λ request. let t = asks (world_of self.now) dest.now source.now max in
+        ensures sent { IfOk result (λ request. let t = asks (world_of self.now) dest.now source.now max 1 in
             t ≡ (world_of self.now, t.1, request)) }
         ensures ranged { IfOk result (λ request. IfSome request IsRangedRequest) }
         ensures told { OnOk result (answers.new.items
-            ≡ answers.old.items ++ answer (codes "ask") dest.now (asks (world_of self.now) dest.now source.now max).1 ∷ []) }
+            ≡ answers.old.items ++ answer (codes "ask") dest.now (asks (world_of self.now) dest.now source.now max 1).1 ∷ []) }
         ensures len { OnOk result (vec_len answers.new ≡ vec_len answers.old + 1) }
         ensures capacity { vec_capacity answers.old ≤ vec_capacity answers.new }
     {

@@ -1,6 +1,7 @@
 //! What each line does, by its kind.
 
 ghost use Rattle.std.specs.Prelude.{◌≡◌, ◌<◌, ◌≤◌, IfOk, OnErr, OnOk, IsErrOf, flat_map};
+ghost use Rattle.adr_event.specs.Supported.{IsSupported};
 ghost use Rattle.adr_event.specs.Verbs.{name_of, verb_of, word_of};
 ghost use Rattle.adr_io.specs.Told.{Adds, AddsFront};
 ghost use Rattle.adr_law_recorded.specs.Typed.{IsTyped};
@@ -29,6 +30,7 @@ impl Run {
         requires sound { IsSoundRun self.old }
         requires may { MayHappen (world_of self.old) event.now }
         requires typed { IsTyped event.now }
+        requires supported { IsSupported event.now }
         ensures stepped { OnOk result (world_of self.new ≡ (step (world_of self.old) event.now).0) }
         ensures told { OnOk result (Adds (K.written sink.old) (K.written sink.new) (flat_map line (step (world_of self.old) event.now).1)) }
         ensures front { OnErr result (AddsFront (K.written sink.old) (K.written sink.new) (flat_map line (step (world_of self.old) event.now).1)) }
@@ -57,6 +59,7 @@ impl Run {
         requires sound { IsSoundRun self.old }
         requires may { MayHappen (world_of self.old) event.now }
         requires typed { IsTyped event.now }
+        requires supported { IsSupported event.now }
         ensures turned { IfOk result (λ told.
             IsTurn turn (world_of self.old) event.now (world_of self.new, told.0.items, told.1)) }
         ensures err { OnErr result (IsTurnCutShort turn (world_of self.old) event.now (world_of self.new)) }
@@ -91,6 +94,7 @@ impl Run {
         requires alone { HasOneAnswer event.now }
         requires may { MayHappen (world_of self.old) event.now }
         requires typed { IsTyped event.now }
+        requires supported { IsSupported event.now }
         ensures stepped { IfOk result (λ answers.
             step (world_of self.old) event.now ≡ (world_of self.new, answers.items)) }
         ensures err { OnErr result (IsCutShort (world_of self.old) event.now (world_of self.new)) }
@@ -110,6 +114,7 @@ impl Run {
         requires alone { HasOneAnswer event.now }
         requires may { MayHappen (world_of self.old) event.now }
         requires typed { IsTyped event.now }
+        requires supported { IsSupported event.now }
         ensures stepped { IfOk result (λ outcome.
             step (world_of self.old) event.now ≡ told (word_of (verb_of event.now)) (name_of event.now) (world_of self.new, outcome)) }
         ensures err { OnErr result (IsCutShort (world_of self.old) event.now (world_of self.new)) }
@@ -127,6 +132,7 @@ impl Run {
                 name,
                 partner,
                 max,
+                version: _,
                 bound,
             } => self.ask(alloc, name, partner, *max, bound),
             Event::Serve {
@@ -153,8 +159,12 @@ impl Run {
             Event::Show { name } => self.reported(alloc, name, Report::Directory),
             Event::Vector { name } => self.reported(alloc, name, Report::Vector),
             Event::Marks { name } => self.reported(alloc, name, Report::Marks),
-            Event::Time { .. } | Event::Pull { .. } | Event::Cycle { .. } | Event::Ring { .. } =>
-                unreachable!(),
+            Event::Time { .. }
+            | Event::Pull { .. }
+            | Event::Cycle { .. }
+            | Event::Ring { .. }
+            | Event::Upgrade { .. }
+            | Event::Revive { .. } => unreachable!(),
         }
     }
 }

@@ -1,6 +1,7 @@
 //! The world of a run.
 
 ghost use Rattle.std.specs.Prelude.{◌≡◌, ◌<◌, ◌≤◌, true, OnErr, OnOk, IsErrOf, flat_map};
+ghost use Rattle.adr_event.specs.Supported.{IsSupported};
 ghost use Rattle.adr_io.specs.Told.{Adds, AddsFront};
 ghost use Rattle.adr_law_recorded.specs.Typed.{IsTyped};
 ghost use Rattle.adr_model.specs.Convergence.{AreAcknowledged, MayHappen, OwnIsInView, ShowAlike, ShowWhatIsVisible};
@@ -46,11 +47,12 @@ impl World {
         }
     }
 
-    /// Does what a line says, whatever its kind, and writes its answers as they come: none to a `time`, those of each call
-    /// to a pull or a cycle, and else one.
+    /// Does what a line says, whatever its kind of those that the program does as yet, and writes its answers as they come:
+    /// none to a `time`, those of each call to a pull or a cycle, and else one.
     pub fn step<K: Sink>(&mut self, alloc: Global, event: &Event, sink: &mut K) -> Result<(), Fault>
         requires may { MayHappen self.old event.now }
         requires typed { IsTyped event.now }
+        requires supported { IsSupported event.now }
         ensures stepped { OnOk result (self.new ≡ (step self.old event.now).0) }
         ensures told { OnOk result (Adds (K.written sink.old) (K.written sink.new) (flat_map line (step self.old event.now).1)) }
 

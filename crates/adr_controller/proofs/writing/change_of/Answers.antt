@@ -6,16 +6,16 @@ use Rattle.adr_event.specs.declared.event.Event.{Event}
 use Rattle.adr_event.specs.declared.refusal.WriteRefusal.{WriteRefusal}
 use Rattle.adr_model.specs.Store.{State}
 use Rattle.adr_model.specs.Change.{Change}
-use Rattle.adr_model.specs.Step.{write_of}
 use Rattle.adr_model.specs.Write.{write}
+use Rattle.adr_controller.specs.Able.{plain_write}
 use Rattle.adr_controller.proofs.writing.change_of.Goals as goal
 
 -- the two clauses, by the event
 abbrev Makes : State → ℕ → Result Change (Failure WriteRefusal) → Event → Type 0
-Makes s now result event = IfSome (write_of event) (λ w. IfOk result (λ change. write s w.what now ≡ Ok change))
+Makes s now result event = IfSome (plain_write event) (λ w. IfOk result (λ change. write s w.what now ≡ Ok change))
 
 abbrev Refuses : State → ℕ → Result Change (Failure WriteRefusal) → Event → Type 0
-Refuses s now result event = IfSome (write_of event) (λ w. (refusal : WriteRefusal) → IsErrOf result (failures.Refused refusal) → write s w.what now ≡ Err refusal)
+Refuses s now result event = IfSome (plain_write event) (λ w. (refusal : WriteRefusal) → IsErrOf result (failures.Refused refusal) → write s w.what now ≡ Err refusal)
 
 pub returns-in-Add-clause-ok : goal.returns-in-Add-clause-ok
 returns-in-Add-clause-ok c = subst (Makes c.args.state.now c.args.now c.add.result) (sym c.in-Add.is) c.add.ensures.ok

@@ -13,7 +13,7 @@ use Rattle.adr_cycle.proofs.taken_reply.refusal_after.Goals as goal
 pub returns-in-Some : goal.returns-in-Some
 returns-in-Some c =
     let t = c.args.taking.now in
-    let taken = after c.args.state.now (taken_change c.args.reply.now t) in
+    let taken = after c.args.state.now (taken_change c.args.state.now c.args.reply.now t) in
     ap (λ (o : Option TakeRefusal). first_of (o ∷ later t taken)) (sym c.in-Some.is ∙ c.refusal.ensures)
     ∙ behind c.args.state.now c.args.reply.now t taken c.requires
 
@@ -22,7 +22,7 @@ returns-then-usn-gt-USN_LIMIT c =
     let s = c.args.state.now in
     let r = c.args.reply.now in
     let t = c.args.taking.now in
-    let change = taken_change r t in
+    let change = taken_change s r t in
     let taken = after s change in
     let more : usn_limit < t.usn = subst (λ usn. usn_limit < usn) c.usn.ensures c.if-usn-gt-USN_LIMIT.true in
     ap (λ (o : Option TakeRefusal). first_of (o ∷ tables t taken)) (beyond t.usn more)
@@ -34,7 +34,7 @@ returns c =
     let s = c.args.state.now in
     let r = c.args.reply.now in
     let t = c.args.taking.now in
-    let change = taken_change r t in
+    let change = taken_change s r t in
     let taken = after s change in
     let cursors =
     c.len_after-cursors.ensures

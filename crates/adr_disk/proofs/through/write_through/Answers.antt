@@ -1,6 +1,6 @@
 use Rattle.std.proofs.Common.{◌≡◌, Option, Some, None, IfSome, ℕ, List, length, refl, sym, subst}
 use Rattle.adr_disk.specs.Disk.{Torn, After, Among, Only}
-use Rattle.adr_disk.specs.Bytes.{Torn-same}
+use Rattle.adr_disk.proofs.Bytes.{Torn-same}
 use Rattle.adr_disk.proofs.Moments.{started, goes_on}
 use Rattle.adr_disk.proofs.through.write_through.Goals as goal
 

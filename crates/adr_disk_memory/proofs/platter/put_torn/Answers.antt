@@ -1,6 +1,6 @@
 use Rattle.std.proofs.Common.{◌+◌, ◌/◌, List, ℕ, [], ◌∷◌, length, take, sym, ap, ◌∙◌, arith, length-take}
 use Rattle.adr_disk.specs.Disk.{put}
-use Rattle.adr_disk.specs.Bytes.{length-put}
+use Rattle.adr_disk.proofs.Bytes.{length-put}
 use Rattle.adr_disk_memory.proofs.Writes.{filled_start, fits_filled, put-filled}
 use Rattle.adr_disk_memory.proofs.platter.put_torn.Goals as goal
 

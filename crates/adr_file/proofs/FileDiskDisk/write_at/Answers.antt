@@ -1,5 +1,5 @@
 use Rattle.std.proofs.Common.{length}
-use Rattle.adr_disk.specs.Bytes.{Torn-same}
+use Rattle.adr_disk.proofs.Bytes.{Torn-same}
 use Rattle.adr_file.proofs.FileDiskDisk.write_at.Goals as goal
 
 -- each list of bytes is one that a write has left as it was

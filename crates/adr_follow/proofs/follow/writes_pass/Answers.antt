@@ -30,6 +30,6 @@ returns c =
     IfOk-weaker c.are_touched_formed.result _ _
     (λ formed e.
     e
-    ∙ ap₂ (λ (table : Table) (hs : List Held). are_touched_formed table (fold without_object hs d.removed) d.writes) c.schema-schema.ensures.table put
-    ∙ ap₂ (λ (follow : Bool) (go : Bool). follow && go && are_touched_formed (numbered s.store.schema) left.rows d.writes) may removed)
+    ∙ ap₂ (λ (table : Table) (hs : List Held). are_touched_formed table (fold without_object hs d.removed) d.writes) c.schema.ensures.numbered put
+    ∙ ap₂ (λ (follow : Bool) (go : Bool). follow && go && are_touched_formed (numbered d.schema) left.rows d.writes) may removed)
     c.are_touched_formed.ensures

@@ -1,4 +1,4 @@
-use Rattle.std.proofs.Common.{List, ap, ◌∙◌}
+use Rattle.std.proofs.Common.{List, [], ap, ◌∙◌}
 use Rattle.std.proofs.lemmas.Result.{err_from_is_err_and}
 use Rattle.adr_wire.specs.Fields.{usn0_at, flag_at}
 use Rattle.adr_wire.proofs.Loops.{names_refuses}
@@ -52,6 +52,6 @@ returns c =
           c.in_ok-usn.usn c.in_ok-quarantined.quarantined c.in_ok-mark.mark c.in_ok-joined.joined c.in_ok-purged.purged c.in_ok-removed.removed.items w.0
           c.in_ok-usn.ensures c.in_ok-quarantined.ensures c.in_ok-mark.ensures c.in_ok-joined.ensures c.in_ok-purged.ensures c.in_ok-removed.ensures w.1,
       c.new.ensures
-          ∙ ap (λ (mode : Mode). let change : Change = record { usn = c.in_ok-usn.usn; mode = mode; mark = c.in_ok-mark.mark; joined = c.in_ok-joined.joined; purged = c.in_ok-purged.purged; removed = c.in_ok-removed.removed.items; writes = c.in_ok-writes.writes.items } in change) c.mode_of_flag-mode.ensures
-          ∙ ap (λ (writes : List Written). let change : Change = record { usn = c.in_ok-usn.usn; mode = mode_of_flag c.in_ok-quarantined.quarantined; mark = c.in_ok-mark.mark; joined = c.in_ok-joined.joined; purged = c.in_ok-purged.purged; removed = c.in_ok-removed.removed.items; writes = writes } in change) w.2,
+          ∙ ap (λ (mode : Mode). let change : Change = record { usn = c.in_ok-usn.usn; mode = mode; schema = c.args.schema.number; mark = c.in_ok-mark.mark; joined = c.in_ok-joined.joined; times = []; purged = c.in_ok-purged.purged; removed = c.in_ok-removed.removed.items; writes = c.in_ok-writes.writes.items } in change) c.mode_of_flag-mode.ensures
+          ∙ ap (λ (writes : List Written). let change : Change = record { usn = c.in_ok-usn.usn; mode = mode_of_flag c.in_ok-quarantined.quarantined; schema = c.args.schema.number; mark = c.in_ok-mark.mark; joined = c.in_ok-joined.joined; times = []; purged = c.in_ok-purged.purged; removed = c.in_ok-removed.removed.items; writes = writes } in change) w.2,
     )

@@ -1,4 +1,4 @@
-use Rattle.std.proofs.Common.{List, sym, ap, subst, ◌∙◌}
+use Rattle.std.proofs.Common.{List, [], sym, ap, subst, ◌∙◌}
 use Rattle.std.proofs.lemmas.Result.{err_from_is_err_and}
 use Rattle.adr_schema.specs.Table.{Table}
 use Rattle.adr_wire.specs.Fields.{u32_at, usn0_at}
@@ -51,5 +51,5 @@ returns c =
       all_read c.args.reader.now c.read_schema.new.reader c.read_usn0.new.self c.read_vector.new.self c.read_purged.new.reader c.read_marks.new.reader c.read_rows.new.reader
           c.in_ok-schema.schema.number c.in_ok-usn.usn c.in_ok-vector.vector c.in_ok-purged.purged c.in_ok-marks.marks.items w.0
           c.in_ok-schema.ensures.number c.in_ok-usn.ensures c.in_ok-vector.ensures c.in_ok-purged.ensures c.in_ok-marks.ensures tail,
-      ap (λ (rows : List Held). let s : Store = record { schema = c.in_ok-schema.schema.number; usn = c.in_ok-usn.usn; rows = rows; vector = c.in_ok-vector.vector; purged = c.in_ok-purged.purged; marks = c.in_ok-marks.marks.items } in s) w.2,
+      ap (λ (rows : List Held). let s : Store = record { schema = c.in_ok-schema.schema.number; usn = c.in_ok-usn.usn; rows = rows; vector = c.in_ok-vector.vector; times = []; purged = c.in_ok-purged.purged; marks = c.in_ok-marks.marks.items } in s) w.2,
     )

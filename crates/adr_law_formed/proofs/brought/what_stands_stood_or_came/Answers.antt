@@ -1,4 +1,4 @@
-use Rattle.adr_law_formed.proofs.Whence.{whence_rows, whence_cursors, whence_purged, whence_marks, partners_rise}
+use Rattle.adr_law_formed.proofs.Whence.{whence_rows, whence_cursors, whence_purged, whence_times, whence_marks, partners_rise}
 use Rattle.adr_law_formed.proofs.brought.what_stands_stood_or_came.Goals as goal
 
 pub returns-clause-rows : goal.returns-clause-rows
@@ -15,3 +15,6 @@ returns-clause-marks c = whence_marks
 
 pub returns-clause-partners : goal.returns-clause-partners
 returns-clause-partners c = partners_rise
+
+pub returns-clause-times : goal.returns-clause-times
+returns-clause-times c = whence_times

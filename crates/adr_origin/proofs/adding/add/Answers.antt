@@ -1,4 +1,4 @@
-use Rattle.std.proofs.Common.{◌+◌, Err, ap, subst}
+use Rattle.std.proofs.Common.{◌+◌, Err, refl, ap, subst}
 use Rattle.adr_failure.specs.declared.Failure.{Failure}
 use Rattle.adr_failure.specs.declared.Failure.TheVariants.{Refused}
 use Rattle.adr_event.specs.declared.refusal.WriteRefusal.{WriteRefusal}
@@ -11,7 +11,7 @@ pub returns-clause-ok : goal.returns-clause-ok
 returns-clause-ok c =
     let o = c.args.object.now in
     let added = AddObject o.guid o.class o.parent o.text.now o.values.now in
-    passed c.args.state.now added c.args.now _ _ _ c.in_ok-check_add.ensures.told (ap (λ n. n + 1) c.usn-usn.ensures) c.in_ok-item.ensures c.in_ok-own_change.ensures
+    passed c.args.state.now added c.args.now _ _ _ refl c.in_ok-check_add.ensures.told (ap (λ n. n + 1) c.usn-usn.ensures) c.in_ok-item.ensures c.in_ok-own_change.ensures
 
 pub returns-in_err-check_add-clause-refused : goal.returns-in_err-check_add-clause-refused
 returns-in_err-check_add-clause-refused c refusal is =

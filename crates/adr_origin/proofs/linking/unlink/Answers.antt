@@ -1,4 +1,4 @@
-use Rattle.std.proofs.Common.{◌+◌, false, sym, ap, ◌∙◌}
+use Rattle.std.proofs.Common.{◌+◌, false, refl, sym, ap, ◌∙◌}
 use Rattle.std.proofs.lemmas.Result.{err_from_is_err_and}
 use Rattle.adr_stamp.specs.declared.LinkKey.{LinkKey}
 use Rattle.adr_model.specs.Write.{RemoveLink, of_link}
@@ -9,7 +9,7 @@ pub returns-clause-ok : goal.returns-clause-ok
 returns-clause-ok c =
     let s = c.args.state.now in
     let ends = c.args.ends.now in
-    passed s (RemoveLink ends.from ends.attr ends.to) c.args.now _ _ _ (sym c.in_ok-link.ensures.told) (ap (λ n. n + 1) c.usn.ensures)
+    passed s (RemoveLink ends.from ends.attr ends.to) c.args.now _ _ _ refl (sym c.in_ok-link.ensures.told) (ap (λ n. n + 1) c.usn.ensures)
     (c.in_ok-item.ensures ∙ ap (λ (l : LinkKey). of_link s c.args.now l false) c.in_ok-link.ensures.named)
     c.in_ok-own_change.ensures
 

@@ -1,4 +1,4 @@
-use Rattle.std.proofs.Common.{◌+◌, sym, ap, ◌∙◌}
+use Rattle.std.proofs.Common.{◌+◌, refl, sym, ap, ◌∙◌}
 use Rattle.std.proofs.lemmas.Result.{err_from_is_err_and}
 use Rattle.adr_stamp.specs.declared.Oid.{Oid}
 use Rattle.adr_model.specs.Write.{Modify, of_object}
@@ -10,7 +10,7 @@ pub returns-clause-ok : goal.returns-clause-ok
 returns-clause-ok c =
     let s = c.args.state.now in
     let values = c.args.values.now in
-    passed s (Modify c.args.guid values) c.args.now _ _ _ (sym c.in_ok-check_modify.ensures.told) (ap (λ n. n + 1) c.usn-usn.ensures)
+    passed s (Modify c.args.guid values) c.args.now _ _ _ refl (sym c.in_ok-check_modify.ensures.told) (ap (λ n. n + 1) c.usn-usn.ensures)
     (c.in_ok-item.ensures ∙ ap (λ (o : Oid). of_object o (next_rows s c.args.now o values)) c.object_of-object.ensures)
     c.in_ok-own_change.ensures
 

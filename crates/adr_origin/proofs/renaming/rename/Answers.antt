@@ -1,4 +1,4 @@
-use Rattle.std.proofs.Common.{◌+◌, [], ◌∷◌, Err, ap, subst, ◌∙◌}
+use Rattle.std.proofs.Common.{◌+◌, [], ◌∷◌, Err, refl, ap, subst, ◌∙◌}
 use Rattle.adr_stamp.specs.declared.Oid.{Oid}
 use Rattle.adr_failure.specs.declared.Failure.{Failure}
 use Rattle.adr_failure.specs.declared.Failure.TheVariants.{Refused}
@@ -16,7 +16,7 @@ returns-clause-ok c =
     let s = c.args.state.now in
     let text = c.args.text.now in
     let object = c.object_of-object.result in
-    passed s (Rename c.args.guid c.args.parent text) c.args.now _ _ _ c.in_ok-check_rename.ensures.told (ap (λ n. n + 1) c.usn-usn.ensures)
+    passed s (Rename c.args.guid c.args.parent text) c.args.now _ _ _ refl c.in_ok-check_rename.ensures.told (ap (λ n. n + 1) c.usn-usn.ensures)
     (c.in_ok-item.ensures
     ∙ (ap (λ (name : Content). of_object object (next_row s c.args.now object name_attr name ∷ [])) c.in_ok-name.ensures
     ∙ ap (λ (o : Oid). of_object o (next_row s c.args.now o name_attr (Name text c.args.parent) ∷ [])) c.object_of-object.ensures))

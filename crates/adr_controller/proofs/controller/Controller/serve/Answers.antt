@@ -11,44 +11,44 @@ use Rattle.adr_controller.proofs.Calling.{as_made, hindered_so, not_running, unm
 use Rattle.adr_controller.proofs.controller.Controller.serve.Goals as goal
 
 pub returns-in_err-state-clause-calls : goal.returns-in_err-state-clause-calls
-returns-in_err-state-clause-calls g c =
+returns-in_err-state-clause-calls g c = λ now.
     let h = c.in_err-state.field-0.0 in
     let p = err_from_is_err_and c.from_residual.result c.from_residual.ensures.1 in
-    not_running g.K.Keeper (served_in c.args.request.now) c.args.self.now h c.in_err-state.ensures.err _ (hindered_so h c.from_residual.result p.0 p.1 p.2)
+    not_running g.K.Keeper (served_in c.args.request.now now) c.args.self.now h c.in_err-state.ensures.err _ (hindered_so h c.from_residual.result p.0 p.1 p.2)
 
 pub refuse_request-requires-clause-follows : goal.refuse_request-requires-clause-follows
 refuse_request-requires-clause-follows g c = λ x is shows.
     let was = c.in_ok-state.ensures.ok in
     let s = c.in_ok-state.state.now in
-    let refused : serve s c.args.request.now ≡ Err c.in-Err-Refused.refusal = (c.serve.ensures.refused c.in-Err-Refused.refusal).0 (c.in-Err-Refused.is ∙ ap Err c.in-Err-Refused.field-0-is) in
+    let refused : serve s c.args.request.now 0 ≡ Err c.in-Err-Refused.refusal = (c.serve.ensures.refused c.in-Err-Refused.refusal 0).0 (c.in-Err-Refused.is ∙ ap Err c.in-Err-Refused.field-0-is) in
     subst (λ y. CanCommit g.K.Keeper y (quarantine y)) (some_is s x (sym was.0 ∙ is))
-    (c.requires.follows s (quarantine s) was.2 (ap (change_of_served s) refused ∙ ap (λ asked. then_some asked (quarantine s)) shows))
+    (c.requires.follows 0 s (quarantine s) was.2 (ap (change_of_served s) refused ∙ ap (λ asked. then_some asked (quarantine s)) shows))
 
 pub returns-in-Ok-clause-calls : goal.returns-in-Ok-clause-calls
-returns-in-Ok-clause-calls g c =
+returns-in-Ok-clause-calls g c = λ now.
     let law = g.met.K.Keeper in
     let s = c.in_ok-state.state.now in
-    unmade g.K.Keeper law.leaves law.only_now c.args.self.now c.running.ensures.in_order (served_in c.args.request.now) s c.in_ok-state.ensures.ok.0 None (inr (refl, ap (change_of_served s) c.in-Ok.ensures.ok))
+    unmade g.K.Keeper law.leaves law.only_now c.args.self.now c.running.ensures.in_order (served_in c.args.request.now now) s c.in_ok-state.ensures.ok.0 None (inr (refl, ap (change_of_served s) (c.in-Ok.ensures.ok now)))
 
 pub returns-in-Err-NoMemory-clause-calls : goal.returns-in-Err-NoMemory-clause-calls
-returns-in-Err-NoMemory-clause-calls g c =
+returns-in-Err-NoMemory-clause-calls g c = λ now.
     let law = g.met.K.Keeper in
-    unmade g.K.Keeper law.leaves law.only_now c.args.self.now c.running.ensures.in_order (served_in c.args.request.now) c.in_ok-state.state.now c.in_ok-state.ensures.ok.0 (Some NoMemory) (inl refl)
+    unmade g.K.Keeper law.leaves law.only_now c.args.self.now c.running.ensures.in_order (served_in c.args.request.now now) c.in_ok-state.state.now c.in_ok-state.ensures.ok.0 (Some NoMemory) (inl refl)
 
 pub returns-in-Err-Refused-clause-refused : goal.returns-in-Err-Refused-clause-refused
-returns-in-Err-Refused-clause-refused g c = λ x refusal is e.
+returns-in-Err-Refused-clause-refused g c = λ x refusal now is e.
     let was = c.in_ok-state.ensures.ok in
     let s = c.in_ok-state.state.now in
-    let refused : serve s c.args.request.now ≡ Err c.in-Err-Refused.refusal = (c.serve.ensures.refused c.in-Err-Refused.refusal).0 (c.in-Err-Refused.is ∙ ap Err c.in-Err-Refused.field-0-is) in
-    subst (λ y. serve y c.args.request.now ≡ Err refusal) (some_is s x (sym was.0 ∙ is))
+    let refused : serve s c.args.request.now now ≡ Err c.in-Err-Refused.refusal = (c.serve.ensures.refused c.in-Err-Refused.refusal now).0 (c.in-Err-Refused.is ∙ ap Err c.in-Err-Refused.field-0-is) in
+    subst (λ y. serve y c.args.request.now now ≡ Err refusal) (some_is s x (sym was.0 ∙ is))
     (refused ∙ ap Err (sym (c.refuse_request.ensures.refused refusal (err_same c.refuse_request.result _ _ refl e))))
 
 pub returns-in-Err-Refused-clause-calls : goal.returns-in-Err-Refused-clause-calls
-returns-in-Err-Refused-clause-calls g c =
+returns-in-Err-Refused-clause-calls g c = λ now.
     let was = c.in_ok-state.ensures.ok in
     let s = c.in_ok-state.state.now in
     let r = c.in-Err-Refused.refusal in
-    let refused : serve s c.args.request.now ≡ Err r = (c.serve.ensures.refused c.in-Err-Refused.refusal).0 (c.in-Err-Refused.is ∙ ap Err c.in-Err-Refused.field-0-is) in
-    as_made g.K.Keeper (λ y. then_some (request_shows r) (quarantine y)) (served_in c.args.request.now) c.args.self.now c.refuse_request.new.self _
-    (λ x is. subst (λ y. then_some (request_shows r) (quarantine y) ≡ served_in c.args.request.now y) (some_is s x (sym was.0 ∙ is)) (sym (ap (change_of_served s) refused)))
+    let refused : serve s c.args.request.now now ≡ Err r = (c.serve.ensures.refused c.in-Err-Refused.refusal now).0 (c.in-Err-Refused.is ∙ ap Err c.in-Err-Refused.field-0-is) in
+    as_made g.K.Keeper (λ y. then_some (request_shows r) (quarantine y)) (served_in c.args.request.now now) c.args.self.now c.refuse_request.new.self _
+    (λ x is. subst (λ y. then_some (request_shows r) (quarantine y) ≡ served_in c.args.request.now now y) (some_is s x (sym was.0 ∙ is)) (sym (ap (change_of_served s) refused)))
     c.refuse_request.ensures.calls

@@ -5,9 +5,8 @@ use Rattle.adr_failure.specs.declared.Failure.{Failure}
 use Rattle.adr_failure.specs.declared.Failure.TheVariants as failures
 use Rattle.adr_event.specs.declared.refusal.WriteRefusal.{WriteRefusal}
 use Rattle.adr_model.specs.Change.{Change}
-use Rattle.adr_model.specs.Step.{write_of}
 use Rattle.adr_model.specs.Write.{write}
-use Rattle.adr_controller.specs.Able.{CanCommit, written_in}
+use Rattle.adr_controller.specs.Able.{CanCommit, plain_write, written_in}
 use Rattle.adr_law_journal.proofs.Told.{at_told, some_is}
 use Rattle.adr_controller.proofs.Calling.{failed_so, hindered_so, not_refused_by, not_running, refused_by, unmade, write_makes, write_refuses}
 use Rattle.adr_controller.proofs.controller.Controller.write.Goals as goal
@@ -25,7 +24,7 @@ returns-in_err-change-clause-calls g c =
     let e = c.in_err-change.field-0.0 in
     let p = err_from_is_err_and c.from_residual-in_err-change.result c.from_residual-in_err-change.ensures.1 in
     unmade g.K.Keeper law.leaves law.only_now c.args.self.now c.running.ensures.in_order (written_in c.args.event.now c.args.now) s c.in_ok-state.ensures.ok.0 _
-    (failed_so e (written_in c.args.event.now c.args.now s) c.from_residual-in_err-change.result p.0 p.1 p.2 (λ r is. write_refuses c.args.now s (write_of c.args.event.now) r e is c.requires.write c.in_err-change.ensures.refused))
+    (failed_so e (written_in c.args.event.now c.args.now s) c.from_residual-in_err-change.result p.0 p.1 p.2 (λ r is. write_refuses c.args.now s (plain_write c.args.event.now) r e is c.requires.write c.in_err-change.ensures.refused))
 
 pub returns-in_err-state-clause-refused : goal.returns-in_err-state-clause-refused
 returns-in_err-state-clause-refused g c = λ x w refusal is of_event refused.
@@ -38,7 +37,7 @@ returns-in_err-change-clause-refused g c = λ x w refusal is of_event refused.
     let e : Failure WriteRefusal = c.in_err-change.field-0.0 in
     let p = err_from_is_err_and c.from_residual-in_err-change.result c.from_residual-in_err-change.ensures.1 in
     subst (λ y. write y w.what c.args.now ≡ Err refusal) (some_is s x (sym c.in_ok-state.ensures.ok.0 ∙ is))
-    (at_told (write_of c.args.event.now) (λ v. (r : WriteRefusal) → IsErrOf {T = Change} (Err e) (failures.Refused r) → write s v.what c.args.now ≡ Err r) w of_event c.in_err-change.ensures.refused refusal
+    (at_told (plain_write c.args.event.now) (λ v. (r : WriteRefusal) → IsErrOf {T = Change} (Err e) (failures.Refused r) → write s v.what c.args.now ≡ Err r) w of_event c.in_err-change.ensures.refused refusal
     (ap (λ e. let x : Result Change (Failure WriteRefusal) = Err e in x) (refused_by e c.from_residual-in_err-change.result p.0 refusal p.1 p.2 refused)))
 
 pub conclude-concluded-requires : goal.conclude-concluded-requires
@@ -46,7 +45,7 @@ conclude-concluded-requires g c = λ x is.
     let was = c.in_ok-state.ensures.ok in
     let same : c.in_ok-state.state.now ≡ x = some_is c.in_ok-state.state.now x (sym was.0 ∙ is) in
     subst (λ s. CanCommit g.K.Keeper s c.in_ok-change.change) same
-    (c.requires.follows c.in_ok-state.state.now c.in_ok-change.change was.2 (sym (write_makes c.args.now c.in_ok-state.state.now (write_of c.args.event.now) c.in_ok-change.change c.requires.write c.in_ok-change.ensures.ok)))
+    (c.requires.follows c.in_ok-state.state.now c.in_ok-change.change was.2 (sym (write_makes c.args.now c.in_ok-state.state.now (plain_write c.args.event.now) c.in_ok-change.change c.requires.write c.in_ok-change.ensures.ok)))
 
 pub returns-clause-written : goal.returns-clause-written
 returns-clause-written g c =
@@ -55,7 +54,7 @@ returns-clause-written g c =
     IfOk-weaker c.conclude-concluded.result _ _
     (λ usn told x w is of_event. (
       change,
-      subst (λ y. write y w.what c.args.now ≡ Ok change) (some_is s x (sym c.in_ok-state.ensures.ok.0 ∙ is)) (at_told (write_of c.args.event.now) (λ v. write s v.what c.args.now ≡ Ok change) w of_event c.in_ok-change.ensures.ok),
+      subst (λ y. write y w.what c.args.now ≡ Ok change) (some_is s x (sym c.in_ok-state.ensures.ok.0 ∙ is)) (at_told (plain_write c.args.event.now) (λ v. write s v.what c.args.now ≡ Ok change) w of_event c.in_ok-change.ensures.ok),
       IfOk-at_ok (λ usn. usn ≡ change.usn) told c.usn.ensures,
     ))
     c.conclude-concluded.ensures.told
@@ -70,6 +69,6 @@ returns-clause-calls g c =
     (record {
       state = s;
       in_memory = c.in_ok-state.ensures.ok.0;
-      makes = sym (write_makes c.args.now s (write_of c.args.event.now) c.in_ok-change.change c.requires.write c.in_ok-change.ensures.ok);
+      makes = sym (write_makes c.args.now s (plain_write c.args.event.now) c.in_ok-change.change c.requires.write c.in_ok-change.ensures.ok);
       in_order = c.running.ensures.in_order;
     })

@@ -2,7 +2,7 @@ use Rattle.std.proofs.Common.{◌++◌, ◌∷◌, [], List, ℕ, length, sym, �
 use Rattle.adr_disk.specs.Disk.{put}
 use Rattle.adr_disk.specs.Memory.{Write, Held, all_synced, with_write, over, read_of}
 use Rattle.adr_disk_memory.specs.Platter.{surface_of}
-use Rattle.adr_disk.specs.Bytes.{length-put}
+use Rattle.adr_disk.proofs.Bytes.{length-put}
 use Rattle.adr_disk.proofs.Writes.{over-append}
 use Rattle.adr_disk_memory.proofs.Steps.{written-added, final-added, passed_by-added, in_range-added}
 use Rattle.adr_disk_memory.proofs.platter.Platter.write.Goals as goal

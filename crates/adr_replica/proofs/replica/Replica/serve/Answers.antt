@@ -11,8 +11,8 @@ use Rattle.adr_replica.proofs.replica.Replica.serve.Goals as goal
 
 pub serve-made-requires : goal.serve-made-requires
 serve-made-requires c = record {
-  follows = λ s ch formed makes.
-      let f = served_follows c.recorded_changes_leave_logged_states.ensures c.logged_states_fit.ensures c.quarantines_are_recorded.ensures c.args.request.now s ch formed makes in
+  follows = λ now s ch formed makes.
+      let f = served_follows c.recorded_changes_leave_logged_states.ensures c.logged_states_fit.ensures c.quarantines_are_recorded.ensures c.args.request.now now s ch formed makes in
       record { follows = f.follows; fits = f.fits; formed = f.formed };
 }
 
@@ -21,9 +21,9 @@ came : (c : goal.Joined-made) → CameTo c.self.invariant c.args.self.now c.args
 came c =
     came_to c.self.invariant c.goes_as_planned.ensures.in_order c.goes_as_planned.ensures.planned c.args.past.now (serving c.args.request.now) (same_served c.args.request.now)
     (λ s ch formed makes.
-    let f = served_follows c.recorded_changes_leave_logged_states.ensures c.logged_states_fit.ensures c.quarantines_are_recorded.ensures c.args.request.now s ch formed makes in
+    let f = served_follows c.recorded_changes_leave_logged_states.ensures c.logged_states_fit.ensures c.quarantines_are_recorded.ensures c.args.request.now 0 s ch formed makes in
     record { follows = f.follows; fits = f.fits; formed = f.formed })
-    c.self.view_is c.of-ahead.ensures.past c.of-ahead.ensures.kept c.settle-stopped.ensures.controller c.settle-stopped.ensures.kept c.settle-stopped.ensures.past c.hindrance_in-how.ensures c.serve-made.ensures.calls
+    c.self.view_is c.of-ahead.ensures.past c.of-ahead.ensures.kept c.settle-stopped.ensures.controller c.settle-stopped.ensures.kept c.settle-stopped.ensures.past c.hindrance_in-how.ensures (c.serve-made.ensures.calls 0)
 
 pub invariant_of-self : goal.invariant_of-self
 invariant_of-self c =
@@ -35,15 +35,15 @@ returns-clause-served c =
     let how = c.hindrance_in-how.ensures in
     elim c.match-made.branch [
       | in-Ok w ↦
-          ok_served _ _ _ _ _ _ _ _ c.args.request.now m c.match-made.result (how ∙ ap call_hindrance w.in-Ok.is) w.in-Ok.reply (λ s there. if_ok_is _ _ _ w.in-Ok.is c.serve-made.ensures.served s there)
+          ok_served _ _ _ _ _ _ _ _ c.args.request.now c.requires.version m c.match-made.result (how ∙ ap call_hindrance w.in-Ok.is) w.in-Ok.reply (λ s now there. if_ok_is _ _ _ w.in-Ok.is c.serve-made.ensures.served s now there)
           w.sent.result w.result-is w.sent.ensures
       | in-Err-Refused w ↦
           let is = w.in-Err-Refused.is ∙ ap Err w.in-Err-Refused.field-0-is in
-          ok_unserved _ _ _ _ _ _ _ _ c.args.request.now m c.match-made.result (how ∙ ap call_hindrance is) w.in-Err-Refused.refusal (λ s there. c.serve-made.ensures.refused s w.in-Err-Refused.refusal there is)
+          ok_unserved _ _ _ _ _ _ _ _ c.args.request.now c.requires.version m c.match-made.result (how ∙ ap call_hindrance is) w.in-Err-Refused.refusal (λ s now there. c.serve-made.ensures.refused s w.in-Err-Refused.refusal now there is)
           w.serve_refused.result (w.result-is ∙ w.unsent.ensures) w.serve_refused.ensures
       | in-Err-Hindered w ↦
           let is = w.in-Err-Hindered.is ∙ ap Err w.in-Err-Hindered.field-0-is in
-          ok_hindered_serve _ _ _ _ _ _ _ _ c.args.request.now m c.match-made.result w.in-Err-Hindered.hindrance (how ∙ ap call_hindrance is) c.settle-stopped.result c.settle-stopped.ensures.stopped
+          ok_hindered_serve _ _ _ _ _ _ _ _ c.args.request.now c.requires.version m c.match-made.result w.in-Err-Hindered.hindrance (how ∙ ap call_hindrance is) c.settle-stopped.result c.settle-stopped.ensures.stopped
           w.hindered.result (w.result-is ∙ w.unsent-in-Err-Hindered.ensures) w.hindered.ensures.ok
     ]
 
@@ -56,7 +56,7 @@ returns-clause-spelled c =
           let there = (m.was_up (how ∙ ap call_hindrance w.in-Ok.is)).1 in
           let s = c.args.self.now.safe in
           one_sent _ _ c.match-made.result w.sent.result w.in-Ok.reply w.result-is w.sent.ensures
-          (c.replies_are_in_range.ensures s c.args.request.now w.in-Ok.reply (c.goes_as_planned.ensures.in_order.up s there).0.formed c.requires (if_ok_is _ _ _ w.in-Ok.is c.serve-made.ensures.served s there))
+          (c.replies_are_in_range.ensures s c.args.request.now w.in-Ok.reply 0 (c.goes_as_planned.ensures.in_order.up s there).0.formed c.requires (if_ok_is _ _ _ w.in-Ok.is c.serve-made.ensures.served s 0 there))
       | in-Err-Refused w ↦ none_sent _ c.match-made.result w.serve_refused.result (w.result-is ∙ w.unsent.ensures)
       | in-Err-Hindered w ↦ none_sent _ c.match-made.result w.hindered.result (w.result-is ∙ w.unsent-in-Err-Hindered.ensures)
     ]
@@ -66,10 +66,10 @@ returns-clause-err c =
     let m = came c in
     let how = c.hindrance_in-how.ensures in
     elim c.match-made.branch [
-      | in-Ok w ↦ on_err _ c.match-made.result (unserved_left _ _ _ _ _ _ _ _ c.args.request.now m (how ∙ ap call_hindrance w.in-Ok.is))
+      | in-Ok w ↦ on_err _ c.match-made.result (unserved_left _ _ _ _ _ _ _ _ c.args.request.now c.requires.version m (how ∙ ap call_hindrance w.in-Ok.is))
       | in-Err-Refused w ↦
           let is = w.in-Err-Refused.is ∙ ap Err w.in-Err-Refused.field-0-is in
-          on_err _ c.match-made.result (unserved_left _ _ _ _ _ _ _ _ c.args.request.now m (how ∙ ap call_hindrance is))
+          on_err _ c.match-made.result (unserved_left _ _ _ _ _ _ _ _ c.args.request.now c.requires.version m (how ∙ ap call_hindrance is))
       | in-Err-Hindered w ↦
           let is = w.in-Err-Hindered.is ∙ ap Err w.in-Err-Hindered.field-0-is in
           on_err_unsent _ _ c.match-made.result w.hindered.result (w.result-is ∙ w.unsent-in-Err-Hindered.ensures) w.hindered.ensures.err (λ short. inl (m.wanted w.in-Err-Hindered.hindrance (how ∙ ap call_hindrance is) short))

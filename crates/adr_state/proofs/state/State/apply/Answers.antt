@@ -1,4 +1,4 @@
-use Rattle.std.proofs.Common.{◌≡◌, ◌∙◌, ◌<◌, ◌≤◌, ◌⊎◌, inl, inr, ℕ, List, length, Option, Some, None, refl, sym, ap, subst, arith}
+use Rattle.std.proofs.Common.{◌≡◌, ◌∙◌, ◌<◌, ◌≤◌, ◌⊎◌, inl, inr, ℕ, List, [], length, Option, Some, None, refl, sym, ap, subst, arith}
 use Rattle.std.specs.Prelude.{IfSome, unwrap_or}
 use Rattle.adr_vector.specs.Vector.{Cursors, cursor_limit, joined, raised}
 use Rattle.adr_model.specs.Update.{Identifier}
@@ -12,10 +12,10 @@ either : {X : Type 0} (o : Option X) (x : X) → IfSome o (λ v. v ≡ x) → un
 either None x is = refl
 either (Some v) x is = is
 
-state_is : (s : State) (change : Change) (mode : Mode) (usn : ℕ) (rows : List Held) (vector purged : Cursors) (marks : List (Identifier × Kept)) → mode ≡ change.mode → usn ≡ change.usn
-    → rows ≡ (after s change).store.rows → vector ≡ (after s change).store.vector → purged ≡ (after s change).store.purged → marks ≡ (after s change).store.marks
-    → record { dsa = s.dsa; inv = s.inv; mode = mode; store = record { schema = s.store.schema; usn = usn; rows = rows; vector = vector; purged = purged; marks = marks } } ≡ after s change
-state_is s change mode usn rows vector purged marks m u r v p k = rw m (rw u (rw r (rw v (rw p (rw k refl)))))
+state_is : (s : State) (change : Change) (mode : Mode) (schema usn : ℕ) (rows : List Held) (vector times purged : Cursors) (marks : List (Identifier × Kept)) → mode ≡ change.mode → schema ≡ change.schema → usn ≡ change.usn
+    → rows ≡ (after s change).store.rows → vector ≡ (after s change).store.vector → times ≡ (after s change).store.times → purged ≡ (after s change).store.purged → marks ≡ (after s change).store.marks
+    → record { dsa = s.dsa; inv = s.inv; mode = mode; store = record { schema = schema; usn = usn; rows = rows; vector = vector; times = times; purged = purged; marks = marks } } ≡ after s change
+state_is s change mode schema usn rows vector times purged marks m n u r v t p k = rw m (rw n (rw u (rw r (rw v (rw t (rw p (rw k refl)))))))
 
 few : (vector purged : Cursors) → length vector ≤ cursor_limit → length purged ≤ cursor_limit → (cursor_limit < length vector) ⊎ (cursor_limit < length purged) → ⊥
 few vector purged v p (inl over) = omega (arith, over, v)
@@ -44,4 +44,4 @@ returns-clause-ok c =
     ∙ either c.in_ok-marks.marks _ (subst (λ m. IfSome c.in_ok-marks.marks (λ w. w ≡ with_mark m old.marks)) c.mark.ensures c.in_ok-marks.ensures.new) in
     let rows : c.write.new.self ≡ rows_after change.removed (held_of change.writes) old.rows =
     c.in_ok-write.ensures.ok ∙ ap (λ os. rows_after os c.in_ok-rows.rows.items old.rows) c.removed.ensures ∙ ap (λ hs. rows_after change.removed hs old.rows) c.in_ok-rows.ensures in
-    rw (← c.self.view_is) (state_is (the_view old) change _ _ _ _ _ _ c.mode-self-inside.ensures c.usn-self-inside.ensures rows vector purged marks)
+    rw (← c.self.view_is) (state_is (the_view old) change _ _ _ _ _ _ _ _ c.mode-self-inside.ensures c.schema-self-inside.ensures.number c.usn-self-inside.ensures rows vector (sym (ap (joined []) c.joins_no_times.ensures)) purged marks)

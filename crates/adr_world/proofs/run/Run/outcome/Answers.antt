@@ -1,6 +1,7 @@
-use Rattle.std.proofs.Common.{◌≡◌, inl, inr, refl, sym, ap, subst, codes}
+use Rattle.std.proofs.Common.{◌≡◌, ◌∙◌, inl, inr, refl, sym, ap, subst, codes}
 use Rattle.adr_event.specs.declared.event.Event.{Event}
-use Rattle.adr_event.specs.declared.event.Event.TheVariants.{Serve, Deliver}
+use Rattle.adr_event.specs.declared.event.Event.TheVariants.{Ask, Serve, Deliver}
+use Rattle.adr_event.specs.Supported.{IsSupported}
 use Rattle.adr_model.specs.Collect.{collect}
 use Rattle.adr_model.specs.Convergence.{MayHappen}
 use Rattle.adr_model.specs.Step.{told}
@@ -47,7 +48,10 @@ returns-in-Add-clause-stepped c =
     c.written.ensures.written
 
 pub returns-in-Ask-clause-stepped : goal.returns-in-Ask-clause-stepped
-returns-in-Ask-clause-stepped c = line_so (world_of c.args.self.now) (world_of c.ask.new.self) c.args.event.now _ c.ask.result c.in-Ask.is c.ask.ensures.stepped
+returns-in-Ask-clause-stepped c =
+    let first : c.in-Ask.version ≡ 1 = subst IsSupported c.in-Ask.is c.requires.supported in
+    line_so (world_of c.args.self.now) (world_of c.ask.new.self) c.args.event.now _ c.ask.result
+    (c.in-Ask.is ∙ ap (λ v. Ask c.in-Ask.name c.in-Ask.partner c.in-Ask.max v c.in-Ask.bound) first) c.ask.ensures.stepped
 
 pub returns-in-Serve-clause-stepped : goal.returns-in-Serve-clause-stepped
 returns-in-Serve-clause-stepped c = line_so (world_of c.args.self.now) (world_of c.serve.new.self) c.args.event.now _ c.serve.result c.in-Serve.is c.serve.ensures.stepped

@@ -38,5 +38,5 @@ returns-in-Some-clause-err c =
     let v = world_of c.served.new.self in
     let put : Option Reply → Sent Reply = λ o. (v, (serves_request w c.args.source.now (Some c.args.request.now)).1, o) in
     on_err_so c.pull_served.result c.pull_served.ensures.err
-    (served_short w c.args.dest.now c.args.source.now (world_of c.pull_served.new.self) c.args.request.now v (serves_request w c.args.source.now (Some c.args.request.now)).1 c.in-Some.reply
+    (served_short w c.args.dest.now c.args.source.now (world_of c.pull_served.new.self) c.args.request.now c.requires.ranged.version v (serves_request w c.args.source.now (Some c.args.request.now)).1 c.in-Some.reply
     (c.in_ok-served.ensures.sent ∙ ap put c.in-Some.is))

@@ -26,7 +26,7 @@ pub returns-clause-err : goal.returns-clause-err
 returns-clause-err c =
     on_err_so c.serve.result c.serve.ensures.err
     (unsent c.args.self.now c.args.name.now c.in-Some.place c.index_mut.result.now c.in-Some.ensures.place c.index_mut.ensures.value c.in-Some.ensures.found c.requires.tidy c.serve.new.self c.serve.ensures.name c.serve.new.past c.serve.ensures.given
-    c.args.request.now _ refl)
+    c.args.request.now c.requires.ranged.version _ refl)
 
 pub returns-clause-tidy : goal.returns-clause-tidy
 returns-clause-tidy c = record {

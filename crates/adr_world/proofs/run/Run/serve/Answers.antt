@@ -2,7 +2,7 @@ use Rattle.std.proofs.Common.{◌≡◌, ◌∙◌, Some, None, sym, ap, subst, 
 use Rattle.adr_event.specs.declared.answer.Outcome.{Outcome}
 use Rattle.adr_event.specs.declared.answer.Outcome.TheVariants as outcomes
 use Rattle.adr_event.specs.declared.event.Event.TheVariants.{Serve}
-use Rattle.adr_law_formed.specs.Spelled.{IsSpelledReply}
+use Rattle.adr_model.specs.Spelled.{IsSpelledReply}
 use Rattle.adr_law_recorded.specs.Ranged.{IsRangedReply}
 use Rattle.adr_model.specs.Serve.{Reply}
 use Rattle.adr_model.specs.Step.{step, told}
@@ -39,7 +39,7 @@ returns-in_err-sent-clause-err c =
     (serve_short w c.args.name.now c.args.request.now c.args.bound.now v
     (subst (λ q. IsUnsent w (serves_request w c.args.name.now q) v) c.in-Some-get.ensures
     (unsent c.args.self.now c.args.name.now c.in-Some.place c.index_mut.result.now c.in-Some.ensures.place c.index_mut.ensures.value c.in-Some.ensures.found c.requires.tidy c.serve.new.self c.serve.ensures.name c.serve.new.past c.serve.ensures.given
-    c.in-Some-get.request.now _ refl c.in_err-sent.ensures.err)))
+    c.in-Some-get.request.now (request_ranged c.args.self.now.requests c.args.request.now c.in-Some-get.request.now c.requires.tidy.requests c.in-Some-get.ensures).version _ refl c.in_err-sent.ensures.err)))
 
 pub returns-in_err-sent-clause-tidy : goal.returns-in_err-sent-clause-tidy
 returns-in_err-sent-clause-tidy c = record {
@@ -55,9 +55,8 @@ returns-clause-err c =
     let sent = c.in_ok-sent.sent in
     on_err_both c.bind.result c.bind.ensures.err c.bind.ensures.some
     (λ same some. inl (ap (λ rs. record v { replies = rs }) same
-    ∙ sent_keeps w c.args.name.now (bound_at w.requests c.args.request.now) v sent.0 sent.1 some
-    (ap (serves_request w c.args.name.now) (sym c.in-Some-get.ensures)
-    ∙ led_to c.args.self.now c.args.name.now c.in-Some.place c.index_mut.result.now c.in-Some.ensures.place c.index_mut.ensures.value c.in-Some.ensures.found c.requires.tidy c.serve.new.self c.serve.ensures.name c.serve.new.past c.serve.ensures.given
+    ∙ sent_keeps w c.args.name.now c.in-Some-get.request.now (request_ranged c.args.self.now.requests c.args.request.now c.in-Some-get.request.now c.requires.tidy.requests c.in-Some-get.ensures).version v sent.0 sent.1 some
+    (led_to c.args.self.now c.args.name.now c.in-Some.place c.index_mut.result.now c.in-Some.ensures.place c.index_mut.ensures.value c.in-Some.ensures.found c.requires.tidy c.serve.new.self c.serve.ensures.name c.serve.new.past c.serve.ensures.given
     (λ r. served w r (Some c.in-Some-get.request.now)) sent.0 sent.1
     (c.in_ok-sent.ensures.served w (stands c.args.self.now c.args.name.now c.in-Some.place c.index_mut.result.now c.in-Some.ensures.place c.index_mut.ensures.value c.in-Some.ensures.found c.requires.tidy)))))
 

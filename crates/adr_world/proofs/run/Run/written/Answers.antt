@@ -1,7 +1,7 @@
 use Rattle.std.proofs.Common.{◌≡◌, refl}
 use Rattle.std.proofs.lemmas.Result.{IfOk-weaker}
 use Rattle.adr_event.specs.declared.answer.Outcome.TheVariants as outcomes
-use Rattle.adr_model.specs.Step.{write_of}
+use Rattle.adr_controller.specs.Able.{plain_write}
 use Rattle.adr_model.specs.Write.{write}
 use Rattle.adr_model.specs.World.{after_write, stays, writes}
 use Rattle.adr_world.specs.Run.{world_of}
@@ -14,7 +14,7 @@ use Rattle.adr_world.proofs.run.Run.written.Goals as goal
 pub returns-in_default-clause-written : goal.returns-in_default-clause-written
 returns-in_default-clause-written c =
     let w = world_of c.args.self.now in
-    each_some (write_of c.args.event.now) (λ x. writes w c.args.name.now x.what ≡ (w, outcomes.Absent))
+    each_some (plain_write c.args.event.now) (λ x. writes w c.args.name.now x.what ≡ (w, outcomes.Absent))
     (λ x is. reaches_none w c.args.name.now (stays w) (λ r. after_write w r x.what (write r.safe x.what w.time)) c.in_default.ensures.none)
 
 pub returns-clause-written : goal.returns-clause-written
@@ -22,7 +22,7 @@ returns-clause-written c =
     let w = world_of c.args.self.now in
     let d = c.index_mut.result.now in
     IfOk-weaker c.write.result _ _
-    (λ told is. each_some (write_of c.args.event.now) (λ x. writes w c.args.name.now x.what ≡ (run_with c.args.self.now c.in-Some.place c.write.new.self c.write.new.past, told)) (λ x so.
+    (λ told is. each_some (plain_write c.args.event.now) (λ x. writes w c.args.name.now x.what ≡ (run_with c.args.self.now c.in-Some.place c.write.new.self c.write.new.past, told)) (λ x so.
     led c.args.self.now c.args.name.now c.in-Some.place d c.in-Some.ensures.place c.index_mut.ensures.value c.in-Some.ensures.found c.requires.tidy c.write.new.self c.write.ensures.name c.write.new.past c.write.ensures.given
     (λ r. after_write w r x.what (write r.safe x.what w.time)) told
     (is x so w refl (stands c.args.self.now c.args.name.now c.in-Some.place d c.in-Some.ensures.place c.index_mut.ensures.value c.in-Some.ensures.found c.requires.tidy))))

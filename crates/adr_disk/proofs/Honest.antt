@@ -3,7 +3,7 @@ use Rattle.std.specs.Prelude.{ℕ, ◌⊎◌, List, [], ◌∷◌, length, drop,
 use Rattle.std.proofs.Common.{inl, inr}
 use Rattle.adr_disk.specs.Memory.{Write, Surface, over, MayLeave, IsImage, IsImageOfOne}
 use Rattle.adr_disk.specs.Disk.{put}
-use Rattle.adr_disk.specs.Bytes.{Torn-put}
+use Rattle.adr_disk.proofs.Bytes.{Torn-put}
 
 pub MayLeave-over : (ws : List Write) (bytes : List ℕ) → MayLeave bytes ws (over bytes ws)
 MayLeave-over [] bytes = refl

@@ -1,0 +1,11 @@
+pub mod Living
+pub mod Revived
+pub mod Behind
+pub mod Newly
+pub mod Loopless
+pub mod Placed
+pub mod Valued
+pub mod Gathered
+pub mod Ends
+pub mod Linked
+pub mod Whole
