@@ -1,6 +1,6 @@
 -- What is found, by other words.
 use Rattle.std.proofs.Common.{◌≡◌, inl, inr, ⊎_elim, ℕ, ◌+◌, ◌≤◌, List, [], ◌∷◌, length, Option, Some, None, Ok, IfSome, refl, sym, ◌∙◌, ap, subst, arith, length-append}
-use Rattle.std.specs.Prelude.{◌↔◌, IsSome}
+use Rattle.std.specs.Prelude.{◌↔◌, IsSome, true, false}
 use Rattle.std.specs.Option.{ForSome, option_map}
 use Rattle.std.proofs.lemmas.Option.{IfSome_then}
 use Rattle.adr_disk.specs.Disk.{Among, Elapses, Keeps, LeavesOnly}
@@ -12,12 +12,14 @@ use Rattle.adr_model.specs.Change.{Change, after}
 use Rattle.adr_model.specs.Lengths.{change_length, log_limit, log_end_after}
 use Rattle.adr_law_journal.specs.Log.{Found, found, Started, Following, start_of, with_length, record_of, end_behind}
 use Rattle.adr_law_journal.specs.Kept.{Finds, IsEither, IsSettled}
-use Rattle.adr_law_journal.proofs.Lifts.{after_kept, finds_each, kept_leaves, lifted, settled_kept}
+use Rattle.adr_law_journal.proofs.Lifts.{after_kept, finds_each, kept_leaves, kept_same, lifted, settled_kept}
 use Rattle.adr_law_journal.proofs.Logs.{length_u32}
 use Rattle.adr_law_journal.proofs.Told.{at_told, if_mapped, same_keeps}
-use Rattle.adr_journal.specs.Ended.{IsNewOrNone, found_after}
+use Rattle.adr_journal.specs.Ended.{IsNewOrNone, ReadsOnly, StillReads, found_after}
 use Rattle.adr_journal.specs.Kept.{IsAt, IsEmpty}
 use Rattle.adr_journal.specs.Written.{Takes}
+use Rattle.adr_journal.specs.declared.keeper.StartRefusal.{StartRefusal}
+use Rattle.adr_journal.specs.declared.keeper.StartRefusal.TheVariants.{DiskFault, Damaged, NoMemory}
 
 pub record_length : (body : List ℕ) → length (record_of body) ≡ 5 + length body
 record_length body = omega (arith, length-append (with_length body) (0 ∷ []), length-append (u32 (length body)) body, length_u32 (length body))
@@ -92,6 +94,45 @@ left_before head following disk may_leave moment left_since old new h = record {
   each = λ f left. (left.0, h.each left.0 left.1, left.2);
   before = λ t f le left. ⊎_elim (λ was. inl (left.0, was, left.2)) (λ is. inr (left.0, is, left.2)) (h.before t left.0 le left.1);
 }
+
+-- a disk that is empty and stays as it is
+pub still_empty : {D : Type 0} (content : D → Option (List ℕ)) (may_leave : D → List ℕ → Type 0) (moment : D → ℕ) (left_since : D → ℕ → List ℕ → Type 0) (old new : D) (end : ℕ)
+    → Keeps content may_leave moment left_since old new → IsEmpty content may_leave old end → IsEmpty content may_leave new end
+still_empty content may_leave moment left_since old new end keeps is = record {
+  no_log = is.no_log;
+  empty = λ there told. is.empty there (sym keeps.content_stays ∙ told);
+  synced = λ there told bytes left. is.synced there (sym keeps.content_stays ∙ told) bytes (keeps.no_more bytes left);
+}
+
+-- a start that was refused without a fault, behind its sync
+pub read_still : {D O : Type 0} (content : D → Option O) (may_leave : D → O → Type 0) (moment : D → ℕ) (left_since : D → ℕ → O → Type 0) (old new : D) (e : StartRefusal) → (e ≡ NoMemory false → ⊥)
+    → ReadsOnly content may_leave old new → StillReads content may_leave moment left_since e old new
+read_still content may_leave moment left_since old new DiskFault settled h = tt
+read_still content may_leave moment left_since old new (Damaged place) settled h = h
+read_still content may_leave moment left_since old new (NoMemory true) settled h = h
+read_still content may_leave moment left_since old new (NoMemory false) settled h = absurd (settled refl)
+
+-- from a disk's bytes to what a start finds
+module _ {K D : Type 0} (head : Reading State) (following : Following State) (disk : K → D) (content : D → Option (List ℕ)) (may_leave : D → List ℕ → Type 0) (moment : D → ℕ) (left_since : D → ℕ → List ℕ → Type 0) (old new : K) where
+  abbrev told_of : K → Option (Started State)
+  told_of k = option_map (start_of head following) (content (disk k))
+
+  abbrev left_of : K → Started State → Type 0
+  left_of k = Finds head following (may_leave (disk k))
+
+  only_found : ReadsOnly content may_leave (disk old) (disk new) → ReadsOnly told_of left_of old new
+  only_found h = (
+    ap (option_map (start_of head following)) h.0,
+    if_mapped (start_of head following) (content (disk old)) (λ t. Among (λ left. left ≡ t) (left_of new)) (λ there told t left.
+        sym left.2 ∙ ap (start_of head following) (at_told (content (disk old)) (λ there. Among (λ left. left ≡ there) (may_leave (disk new))) there told h.1 left.0 left.1)),
+  )
+
+  pub still_found : (e : StartRefusal) → StillReads content may_leave moment left_since e (disk old) (disk new)
+      → StillReads told_of left_of (λ k. moment (disk k)) (λ k t. Finds head following (left_since (disk k) t)) e old new
+  still_found DiskFault h = tt
+  still_found (Damaged place) h = only_found h
+  still_found (NoMemory true) h = only_found h
+  still_found (NoMemory false) h = kept_same head following disk content may_leave moment left_since old new h
 
 -- a call behind one that changed nothing, from what it leaves of bytes to what a start finds there
 module _ {K D : Type 0} (head : Reading State) (following : Following State) (disk : K → D) (content : D → Option (List ℕ)) (may_leave : D → List ℕ → Type 0) (moment : D → ℕ) (left_since : D → ℕ → List ℕ → Type 0) (old new : K) (mid : D)

@@ -7,7 +7,7 @@ ghost use Rattle.adr_model.specs.Change.{Change as Changes};
 ghost use Rattle.adr_model.specs.Lengths.{log_limit, new_log_end, log_end_after};
 ghost use Rattle.adr_law_journal.specs.Log.{Found, found, Started};
 ghost use Rattle.adr_law_journal.specs.Kept.{IsEither};
-ghost use Rattle.adr_journal.specs.Ended.{ended, ended_start, found_after, IsNewOrNone, IsDamageOf};
+ghost use Rattle.adr_journal.specs.Ended.{ended, ended_start, found_after, IsNewOrNone, IsDamageOf, StillReads};
 ghost use Rattle.adr_journal.specs.declared.keeper.KeeperRefusal.{KeeperRefusal as Refusal};
 ghost use Rattle.adr_journal.specs.declared.keeper.StartRefusal.{StartRefusal as Refused};
 
@@ -94,6 +94,8 @@ pub trait Keeper {
             → (faults self.old < faults self.new) × (is_failed self.new ≡ true) }
         ensures no_memory { IsErrOf result KeeperRefusal.NoMemory
             → Keeps told may_leave moment left_since self.old self.new }
+        ensures again { IsErrOf result KeeperRefusal.NoMemory → is_empty self.new }
+        ensures later { faults self.old ≤ faults self.new }
         ensures told { IsSome (told self.new) ↔ IsSome (told self.old) }
 
         // Whatever it answers, what a start finds after a crash at any moment of the call, and after one from then on.
@@ -132,6 +134,7 @@ pub trait Keeper {
         ensures err { OnErr result ((f : Found Defined) → is_at self.old f → is_at self.new f) }
         ensures fault { OnErr result (IsErrOf result KeeperRefusal.DiskFault
             × (faults self.old < faults self.new) × (is_failed self.new ≡ true)) }
+        ensures later { faults self.old ≤ faults self.new }
         ensures told { IsSome (told self.new) ↔ IsSome (told self.old) }
 
         // Whatever it answers, what a start finds after a crash at any moment of the call, and after one from then on.
@@ -150,6 +153,8 @@ pub trait Keeper {
         ensures fault { IsErrOf result StartRefusal.DiskFault
             → (faults self.old < faults self.new) × (is_failed self.new ≡ true) }
         ensures stays { OnErr result (IsErrOf result StartRefusal.DiskFault ⊎ (is_failed self.new ≡ is_failed self.old)) }
+        ensures still { IfErr result (λ e. StillReads told may_leave moment left_since e self.old self.new) }
+        ensures later { faults self.old ≤ faults self.new }
         ensures told { IsSome (told self.new) ↔ IsSome (told self.old) }
 
         // After a crash at any moment of the call, a start finds what one might have found before it.

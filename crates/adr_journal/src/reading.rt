@@ -1,8 +1,8 @@
 //! Reads a whole disk.
 
-ghost use Rattle.std.specs.Prelude.{◌≡◌, ◌≤◌, ◌<◌, ◌↔◌, ℕ, IsSome, IfOk, IfSome, OnOk, IsErrOf};
+ghost use Rattle.std.specs.Prelude.{◌≡◌, ◌≤◌, ◌<◌, ◌↔◌, ℕ, IsSome, IfOk, IfErr, IfSome, OnOk, IsErrOf};
 ghost use Rattle.adr_disk.specs.Disk.{Among, Only, Keeps, LeavesOnly, ended};
-ghost use Rattle.adr_journal.specs.Ended.{ended_start};
+ghost use Rattle.adr_journal.specs.Ended.{ended_start, StillReads};
 ghost use Rattle.adr_journal.specs.Ran.{Reads, Starts};
 
 use crate::keeper::StartRefusal;
@@ -33,6 +33,8 @@ pub(crate) fn read_synced<D: Disk>(alloc: Global, disk: &mut D) -> Result<Vec<u8
     ensures told { IsSome (D.content disk.new) ↔ IsSome (D.content disk.old) }
     ensures same { OnOk result (D.content disk.new ≡ D.content disk.old) }
     ensures synced { OnOk result (IfSome (D.content disk.old) (λ there. Only there (D.may_leave disk.new))) }
+    ensures still { IfErr result (λ e. StillReads D.content D.may_leave D.moment D.left_since e disk.old disk.new) }
+    ensures later { D.faults disk.old ≤ D.faults disk.new }
 
     // Whatever it answers, a crash leaves what one might have left before.
     ensures left { Among (D.may_leave disk.old) (D.may_leave disk.new) }

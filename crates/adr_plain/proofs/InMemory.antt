@@ -1,16 +1,18 @@
 -- A log in memory with one more record.
-use Rattle.std.proofs.Common.{◌≡◌, ℕ, ◌+◌, ◌-◌, ◌<◌, ◌≤◌, ◌^◌, List, [], ◌∷◌, ◌++◌, length, take, Some, sym, ◌∙◌, ap, subst, arith, append_assoc, length-append, length-take}
+use Rattle.std.proofs.Common.{◌≡◌, ℕ, ◌+◌, ◌-◌, ◌<◌, ◌≤◌, ◌^◌, List, [], ◌∷◌, ◌++◌, length, take, false, Option, Some, refl, sym, ◌∙◌, ap, subst, arith, append_assoc, length-append, length-take}
 use Rattle.std.proofs.lemmas.List.{take_at}
 use Rattle.adr_wire.specs.Fields.{u32}
 use Rattle.adr_wire.specs.Reading.{Reading}
 use Rattle.adr_model.specs.Store.{State}
 use Rattle.adr_model.specs.Change.{Change, after}
 use Rattle.adr_model.specs.Lengths.{change_length}
-use Rattle.adr_law_journal.specs.Log.{Found, Following, open_gate, with_length, record_of, end_behind, IsAtRest}
+use Rattle.adr_law_journal.specs.Log.{Found, Following, Started, open_gate, start_of, with_length, record_of, end_behind, IsAtRest}
 use Rattle.adr_law_journal.proofs.Logs.{length_u32, reaches_more}
-use Rattle.adr_journal.specs.Ended.{found_after}
+use Rattle.adr_journal.specs.Ended.{StillReads, found_after}
+use Rattle.adr_journal.specs.declared.keeper.StartRefusal.{StartRefusal}
+use Rattle.adr_journal.specs.declared.keeper.StartRefusal.TheVariants.{NoMemory}
 use Rattle.adr_plain.specs.Kept.{IsLog, IsNext}
-use Rattle.adr_journal.proofs.Found.{record_length}
+use Rattle.adr_journal.proofs.Found.{read_still, record_length}
 
 module _ (head : Reading State) (following : Following State) where
   -- it ends within its bytes, behind a gate
@@ -23,6 +25,13 @@ module _ (head : Reading State) (following : Following State) where
   -- while its bytes stay, so does what it stands for
   pub still_at : (f : Found State) (end : ℕ) (log same : List ℕ) → same ≡ log → IsLog head following log end f → IsLog head following same end f
   still_at f end log same is at = subst (λ (l : List ℕ). IsLog head following l end f) (sym is) at
+
+  -- a start that is refused leaves the log as it was
+  pub still_in : {K : Type 0} (log : K → List ℕ) (k : K) (e : StartRefusal) → (e ≡ NoMemory false → ⊥)
+      → StillReads (λ k. let x : Option (Started State) = Some (start_of head following (log k)) in x) (λ k t. t ≡ start_of head following (log k)) (λ k. 0) (λ k n t. t ≡ start_of head following (log k)) e k k
+  still_in log k e settled =
+      read_still (λ k. let x : Option (Started State) = Some (start_of head following (log k)) in x) (λ k t. t ≡ start_of head following (log k)) (λ k. 0) (λ k n t. t ≡ start_of head following (log k)) k k e settled
+      (refl, λ t left. left)
 
   pub taken : (s t : State) (end : ℕ) (log next body : List ℕ) → IsAtRest head following s end log → next ≡ take (end - 1) log ++ open_gate ∷ record_of body → following s body ≡ Some t → length body < 2 ^ 32
       → IsAtRest head following t (end_behind end body) next

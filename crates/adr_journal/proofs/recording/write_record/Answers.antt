@@ -1,6 +1,6 @@
 use Rattle.std.proofs.Common.{◌≡◌, inl, subst, sym, ◌∙◌, ℕ, ◌+◌, ◌-◌, List, length, Some, arith, ap}
 use Rattle.adr_disk.specs.Disk.{put, Torn, Among, Only}
-use Rattle.adr_disk.specs.Bytes.{length-put}
+use Rattle.adr_disk.proofs.Bytes.{length-put}
 use Rattle.adr_disk.proofs.Moments.{joined, weakened}
 use Rattle.adr_wire.specs.Reading.{Reading}
 use Rattle.adr_model.specs.Store.{State}

@@ -5,7 +5,7 @@ use Rattle.adr_law_journal.proofs.Lifts.{kept_same}
 use Rattle.adr_law_journal.proofs.Told.{same_keeps}
 use Rattle.adr_journal.specs.Ended.{IsNewOrNone}
 use Rattle.adr_journal.specs.Ran.{Formats}
-use Rattle.adr_journal.proofs.Found.{left_behind, moments_behind, none_left, none_moments}
+use Rattle.adr_journal.proofs.Found.{left_behind, moments_behind, none_left, none_moments, still_empty}
 use Rattle.adr_journal.proofs.Heads.{begun_rests, begun_long, no_memory_left}
 use Rattle.adr_journal.proofs.journal.JournalKeeper.format.Goals as goal
 
@@ -127,3 +127,8 @@ returns-in-Err-NoMemory-clause-no_memory g c = λ refused.
     let d = g.D.Disk in
     kept_same g.F.Form.head g.F.Form.following (λ j. j.disk) d.content d.may_leave d.moment d.left_since c.args.self.now _
     c.reserve.ensures.keeps
+
+pub returns-in-Err-NoMemory-clause-again : goal.returns-in-Err-NoMemory-clause-again
+returns-in-Err-NoMemory-clause-again g c = λ refused.
+    let d = g.D.Disk in
+    still_empty d.content d.may_leave d.moment d.left_since c.args.self.now.disk c.reserve.new.self c.args.self.now.end c.reserve.ensures.keeps c.requires.empty

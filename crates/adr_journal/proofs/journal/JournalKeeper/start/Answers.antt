@@ -1,8 +1,10 @@
-use Rattle.std.proofs.Common.{◌≡◌, ℕ, List, Some, Ok, refl, sym, ◌∙◌, subst, arith}
+use Rattle.std.proofs.Common.{◌≡◌, ℕ, List, Some, Ok, Err, refl, sym, ◌∙◌, ap, subst, arith}
 use Rattle.adr_law_journal.specs.Log.{found, start_of, IsAtRest}
 use Rattle.adr_law_journal.proofs.Logs.{at_rest_stands}
 use Rattle.adr_law_journal.proofs.Told.{at_told, if_mapped}
-use Rattle.adr_journal.proofs.Found.{for_some, left_before}
+use Rattle.adr_journal.specs.Ended.{StillReads}
+use Rattle.adr_journal.specs.declared.keeper.StartRefusal.TheVariants.{NoMemory}
+use Rattle.adr_journal.proofs.Found.{for_some, left_before, read_still, still_found}
 use Rattle.adr_journal.proofs.journal.JournalKeeper.start.Goals as goal
 
 pub returns-in-Ok-replay-clause-ok : goal.returns-in-Ok-replay-clause-ok
@@ -61,3 +63,19 @@ returns-clause-any_moment g c =
 
 pub returns-clause-left : goal.returns-clause-left
 returns-clause-left g c = λ t left. (left.0, c.read_synced.ensures.left left.0 left.1, left.2)
+
+pub returns-in-Err-NoMemory-clause-still : goal.returns-in-Err-NoMemory-clause-still
+returns-in-Err-NoMemory-clause-still g c =
+    let d = g.D.Disk in
+    let old = c.args.self.now in
+    let new = c.read_synced.new.disk in
+    still_found g.F.Form.head g.F.Form.following (λ j. j.disk) d.content d.may_leave d.moment d.left_since old (record old { disk = new }) (NoMemory c.in-Err-NoMemory.settled)
+    (subst (λ e. StillReads d.content d.may_leave d.moment d.left_since e old.disk new) c.in-Err-NoMemory.field-0-is c.in-Err-NoMemory.ensures.still)
+
+pub returns-clause-still : goal.returns-clause-still
+returns-clause-still g c =
+    let d = g.D.Disk in
+    let old = c.args.self.now in
+    let new = c.read_synced.new.disk in
+    still_found g.F.Form.head g.F.Form.following (λ j. j.disk) d.content d.may_leave d.moment d.left_since old (record old { disk = new }) c.in-Err.refusal
+    (read_still d.content d.may_leave d.moment d.left_since old.disk new c.in-Err.refusal (λ is. c.in-Err.ensures.settled (ap Err is)) (c.in-Ok.ensures.same, c.in-Ok.ensures.synced))
