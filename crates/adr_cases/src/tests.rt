@@ -126,3 +126,35 @@ fn a_write_that_fails_at_each_turn(rt: HostRuntime) -> Result<(), Fail> {
     assert_eq!(rt; written.as_slice(), due.as_slice());
     Ok(())
 }
+
+/// So many lines that change one object, each acknowledged: records of some 400 KiB, which is several times what an area
+/// takes before the log is written anew.
+const CHANGES: u64 = 3000;
+
+/// One object whose description is changed again and again, and the start of its controller behind all of it.
+fn changed_again_and_again(alloc: Global) -> Result<String, Fail> {
+    let mut text = String::from_str(
+        alloc,
+        "controller A #a0 #a1\nadd A #10 container #1 \"x\"\n",
+    )?;
+    for count in 1..CHANGES + 1 {
+        text.push_str(format!(in alloc; "modify A #10 description=\"{count}\"\n")?.as_str())?;
+    }
+    text.push_str("stop A\nstart A\nshow A\n")?;
+    Ok(text)
+}
+
+#[test]
+fn a_log_that_was_written_anew(rt: HostRuntime) -> Result<(), Fail> {
+    let text = changed_again_and_again(rt.alloc())?;
+    let (status, written) = outcome(rt.alloc(), &["replay"], text.as_bytes(), 65_536, NEVER)?;
+    assert_eq!(rt; status, 0);
+    let due =
+        "modify A: ok usn=3001\nstop A: ok\nstart A: ok\nshow A: 1\n  #10 container parent=#1 name=\"x\" description=\"3000\"\n";
+    assert!(rt; written.as_slice().ends_with(due.as_bytes()));
+    assert_eq!(rt;
+        written.as_slice().split(|byte| *byte == b'\n').count(),
+        3007
+    );
+    Ok(())
+}

@@ -13,7 +13,8 @@ use Rattle.adr_model.specs.Collect.{quarantine}
 use Rattle.adr_model.specs.Replica.{change_in}
 use Rattle.adr_model.specs.Step.{ClientWrite}
 use Rattle.adr_model.specs.Write.{write}
-use Rattle.adr_law_journal.specs.Log.{Found, found, Started}
+use Rattle.adr_law_journal.specs.Areas.{Found, found, Started}
+use Rattle.adr_law_journal.specs.Kept.{FindsEither}
 use Rattle.adr_journal.specs.declared.keeper.Keeper.{Ghosts}
 use Rattle.adr_controller.specs.declared.refusal.Hindrance.{Hindrance}
 use Rattle.adr_controller.specs.declared.refusal.Hindrance.TheVariants.{Down, Failed, DiskFault, NoMemory}
@@ -22,7 +23,8 @@ use Rattle.adr_controller.specs.declared.refusal.CallRefusal.TheVariants.{Refuse
 use Rattle.adr_controller.specs.Running.{Running, IsInOrder}
 use Rattle.adr_controller.specs.Able.{change_of_write}
 use Rattle.adr_controller.specs.Ended.{call_hindrance, of_failure}
-use Rattle.adr_controller.specs.Did.{FindsEither, Ran, Commits, Calls, IsMade}
+use Rattle.adr_controller.specs.Did.{Ran, Commits, Calls, IsMade}
+use Rattle.adr_controller.proofs.Bounding.{grown}
 use Rattle.adr_law_journal.proofs.Told.{if_told, is_some_of, same_keeps, some_is}
 
 module _ {K : Type 0} (k : Ghosts K) where
@@ -78,23 +80,24 @@ module _ {K : Type 0} (k : Ghosts K) where
       (only_now : (keeper : K) (t : Started State) → k.left_since keeper (k.moment keeper) t → k.may_leave keeper t)
       (old : Running K) (order : IsInOrder k old) where
     finds : (s t : State) → old.state ≡ Some s → (x : Started State) → IsSome (k.told old.keeper) → k.may_leave old.keeper x → FindsEither s t x
-    finds s t is x told left = let up = (order.up s is).0 in inl (up.log_end, leaves old.keeper (found s up.log_end) x up.at up.running told left)
+    finds s t is x told left = let up = (order.up s is).0 in inl (up.log, leaves old.keeper (found s up.log) x up.at up.running told left)
 
     wanted_memory : (s : State) (c : Change) → old.state ≡ Some s → (how : Option Hindrance) → how ≡ Some NoMemory → Commits k s c old old how
     wanted_memory s c is how wants = record {
       done = λ h. absurd (cc (wants, h));
-      stands = λ h end at. absurd (cc (wants, h));
+      stands = λ h log at. absurd (cc (wants, h));
       full = λ h. refl;
       no_memory = λ h. (refl, same_keeps k.told k.may_leave k.moment k.left_since old.keeper);
       fault = λ h. absurd (cc (wants, h));
       still_up = (order.up s is).1;
-      within = λ h end at. absurd (⊎_elim (λ (n : how ≡ None). let no : ⊥ = cc (wants, n) in no) (λ (f : how ≡ Some DiskFault). let no : ⊥ = cc (wants, f) in no) h);
+      within = λ h log at. absurd (⊎_elim (λ (n : how ≡ None). let no : ⊥ = cc (wants, n) in no) (λ (f : how ≡ Some DiskFault). let no : ⊥ = cc (wants, f) in no) h);
       beyond = λ h. absurd (cc (wants, h));
       any_moment = if_told (k.told old.keeper) (λ _. LeavesOnly k.moment k.left_since old.keeper old.keeper (FindsEither s (after s c))) (λ t tells.
           started k.moment k.left_since old.keeper (FindsEither s (after s c)) (λ x left. finds s (after s c) is x (is_some_of (k.told old.keeper) t tells) (only_now old.keeper x left)));
       left = if_told (k.told old.keeper) _ (λ t tells x left. finds s (after s c) is x (is_some_of (k.told old.keeper) t tells) left);
       acknowledged = λ h. absurd (cc (wants, h));
-      ran = subst (λ h. Ran k old.keeper c h old.keeper) (sym wants) (inl refl);
+      bounded = λ log file image longest at b. grown k old.keeper file image longest _ _ b;
+      ran = subst (λ h. Ran k old.keeper s c h old.keeper) (sym wants) (inl refl);
     }
 
     pub unmade : (changes : State → Option Change) (s : State) → old.state ≡ Some s → (how : Option Hindrance) → (how ≡ Some NoMemory) ⊎ ((how ≡ None) × (changes s ≡ None)) → Calls k changes old old how

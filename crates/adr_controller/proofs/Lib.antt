@@ -1,4 +1,5 @@
 mod Results
+mod Bounding
 mod Orders
 mod Calling
 mod Planning

@@ -1,7 +1,7 @@
 -- What holds of a controller in order.
 use Rattle.std.proofs.Common.{◌≡◌, ◌∙◌, true, None}
 use Rattle.adr_model.specs.Store.{State}
-use Rattle.adr_law_journal.specs.Log.{Found, found}
+use Rattle.adr_law_journal.specs.Areas.{Found, found}
 use Rattle.adr_journal.specs.declared.keeper.Keeper.{Ghosts}
 use Rattle.adr_controller.specs.Running.{Running, IsUp, IsInOrder}
 use Rattle.adr_controller.proofs.Results.{none_of}
@@ -13,7 +13,7 @@ module _ {K : Type 0} (k : Ghosts K) where
   -- a keeper that stands for what it stood for, and has failed if it had
   module _ (old new : K) (at : (f : Found State) → k.is_at old f → k.is_at new f) (failed : k.is_failed new ≡ k.is_failed old) where
     still_up : (s : State) → IsUp k old s → IsUp k new s
-    still_up s up = record { log_end = up.log_end; at = at (found s up.log_end) up.at; running = failed ∙ up.running; formed = up.formed }
+    still_up s up = record { log = up.log; at = at (found s up.log) up.at; running = failed ∙ up.running; formed = up.formed }
 
     pub still_in_order : (c : Running K) → c.keeper ≡ old → IsInOrder k (record c { keeper = old }) → IsInOrder k (record c { keeper = new })
     still_in_order c same order = record {

@@ -1,7 +1,8 @@
 -- Where a controller stands: its keeper, and the state in memory.
-use Rattle.std.specs.Prelude.{◌≡◌, ℕ, Bool, true, false, Option, Some, None, Ok, IfSome}
+use Rattle.std.specs.Prelude.{◌≡◌, Bool, true, false, Option, Some, None, Ok, IfSome}
 use Rattle.adr_model.specs.Store.{State}
-use Rattle.adr_law_journal.specs.Log.{found}
+use Rattle.adr_model.specs.Lengths.{Log}
+use Rattle.adr_law_journal.specs.Areas.{found}
 use Rattle.adr_journal.specs.declared.keeper.Keeper.{Ghosts}
 
 -- a keeper; where the controller is up, its state in memory; and whether it was stopped
@@ -12,8 +13,8 @@ pub record Running (K : Type 0) : Type 0 where
 
 -- a keeper that hasn't failed stands for a state, which is as all that are kept
 pub record IsUp {K : Type 0} (k : Ghosts K) (keeper : K) (s : State) : Type 0 where
-  pub log_end : ℕ
-  pub at : k.is_at keeper (found s log_end)
+  pub log : Log
+  pub at : k.is_at keeper (found s log)
   pub running : k.is_failed keeper ≡ false
   pub formed : k.is_formed s
 
@@ -25,8 +26,8 @@ pub record IsInOrder {K : Type 0} (k : Ghosts K) (c : Running K) : Type 0 where
 -- it was started: it has the state that its keeper stands for, which a start would have found
 pub record IsStarted {K : Type 0} (k : Ghosts K) (old : K) (c : Running K) : Type 0 where
   pub state : State
-  pub log_end : ℕ
+  pub log : Log
   pub in_memory : c.state ≡ Some state
   pub up : c.down ≡ false
-  pub at : k.is_at c.keeper (found state log_end)
-  pub told : IfSome (k.told old) (λ t. t ≡ Ok (found state log_end))
+  pub at : k.is_at c.keeper (found state log)
+  pub told : IfSome (k.told old) (λ t. t ≡ Ok (found state log))

@@ -1,12 +1,12 @@
 //! A controller over its keeper.
 
-ghost use Rattle.std.specs.Prelude.{◌≡◌, ◌⊎◌, ◌↔◌, ◌<◌, true, false, Option, Some, None, Ok, IfOk, IfErr, IfSome, IsErrOf, OnErr, OnOk, MatchOption};
+ghost use Rattle.std.specs.Prelude.{◌≡◌, ◌⊎◌, ◌↔◌, ◌<◌, ℕ, true, false, Option, Some, None, Ok, IfOk, IfErr, IfSome, IsErrOf, OnErr, OnOk, MatchOption};
 ghost use Rattle.std.specs.Option.{ForSome};
 ghost use Rattle.adr_disk.specs.Disk.{Among, LeavesOnly};
 ghost use Rattle.adr_model.specs.Store.{State as Defined};
 ghost use Rattle.adr_model.specs.Change.{Change as Changes};
-ghost use Rattle.adr_model.specs.Lengths.{new_log_end};
-ghost use Rattle.adr_law_journal.specs.Log.{found};
+ghost use Rattle.adr_model.specs.Lengths.{image_length, new_log};
+ghost use Rattle.adr_law_journal.specs.Areas.{found};
 ghost use Rattle.adr_journal.specs.Ended.{ended_start, IsNewOrNone, IsDamageOf};
 ghost use Rattle.adr_controller.specs.Running.{IsInOrder, IsStarted};
 ghost use Rattle.adr_controller.specs.Able.{CanCommit};
@@ -52,7 +52,7 @@ impl<K: Keeper> Controller<K> {
         requires begins { K.can_begin state }
         requires formed { K.is_formed state }
         ensures ok { IfOk result (λ c. (c.state ≡ Some state) × (c.down ≡ false)
-            × K.is_at c.keeper (found state (new_log_end state))) }
+            × K.is_at c.keeper (found state (new_log state))) }
         ensures refused { IfErr result (λ e.
             (e.0 ≡ KeeperRefusal.DiskFault) ⊎ (e.0 ≡ KeeperRefusal.NoMemory)) }
         ensures fault { IfErr result (λ e. e.0 ≡ KeeperRefusal.DiskFault
@@ -65,6 +65,7 @@ impl<K: Keeper> Controller<K> {
             LeavesOnly K.moment K.left_since keeper (keeper_of result) (IsNewOrNone state)) }
         ensures left { IfSome (K.told keeper) (λ _.
             Among (IsNewOrNone state) (K.may_leave (keeper_of result))) }
+        ensures within { IfOk result (λ c. K.is_within c.keeper 0 (image_length state.store) 0) }
         ensures formats { K.formats keeper (handed_back result) (keeper_of result) }
     {
         match keeper.format(&state) {
@@ -91,6 +92,8 @@ impl<K: Keeper> Controller<K> {
         ensures any_moment { let kept = keeper_of result in
             LeavesOnly K.moment K.left_since keeper kept (K.may_leave keeper) }
         ensures left { Among (K.may_leave keeper) (K.may_leave (keeper_of result)) }
+        ensures within { (file image longest : ℕ) → K.is_within keeper file image longest
+            → K.is_within (keeper_of result) file image longest }
         ensures starts { K.starts keeper (handed_back result) (keeper_of result) }
     {
         match keeper.start() {
@@ -116,6 +119,8 @@ impl<K: Keeper> Controller<K> {
         ensures any_moment { let before = K.may_leave self.old.keeper in
             LeavesOnly K.moment K.left_since self.old.keeper self.new.keeper before }
         ensures left { Among (K.may_leave self.old.keeper) (K.may_leave self.new.keeper) }
+        ensures within { (file image longest : ℕ) → K.is_within self.old.keeper file image longest
+            → K.is_within self.new.keeper file image longest }
         ensures starts { K.starts self.old.keeper (ended_start result) self.new.keeper }
     {
         match self.keeper.start() {

@@ -39,7 +39,7 @@ pub(crate) fn keep<K: Keeper>(
     ensures { let how = hindrance_of result in
         Kept K.Keeper state.old change.now (up_behind None keeper.old state.old) (up_behind how keeper.new state.new) how }
 {
-    keeper.prepare(change)?;
+    keeper.prepare(state, change)?;
     apply(state, change)?;
     Ok(keeper.commit(change)?)
 }

@@ -82,6 +82,6 @@ pub fn commits_go_as_planned<K: PlannedKeeper>()
     ensures { (old new : K) (c : Changes) (how : Option Hindrance) (book : Book) (r : Replica) (p : Pending)
         → K.is_at old (safe_found r) → K.is_failed old ≡ false → K.can_follow r.safe c
         → K.has_stopped old ≡ false → read_found r ≡ safe_found r → Has K.read K.safe K.torn K.plan old r
-        → p.change ≡ c → Ran ⟦<K as Keeper>⟧ old c how new
+        → p.change ≡ c → Ran ⟦<K as Keeper>⟧ old r.safe c how new
         → GoesAs (Has K.read K.safe K.torn K.plan) K.has_stopped how r (committed book r p) new }
 {}

@@ -4,3 +4,5 @@ pub mod Steps
 pub mod Outcomes
 pub mod Bytes
 pub mod Honest
+pub mod Told
+pub mod Torn

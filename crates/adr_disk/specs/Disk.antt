@@ -59,6 +59,19 @@ Through {D} gives at bytes old None new = (mid : D) × gives old (Writes at byte
 Through {D} gives at bytes old (Some fault) new =
     gives old (Writes at bytes) (Some fault) new ⊎ ((mid : D) × gives old (Writes at bytes) None mid × gives mid Syncs (Some fault) new)
 
+-- what a crash may leave of two writes
+abbrev pub TornTwice : ℕ → ℕ → ℕ → ℕ → List ℕ → List ℕ → Type 0
+TornTwice at n later m old new = (mid : List ℕ) × Torn at n old mid × Torn later m mid new
+
+-- what two writes and the sync behind both did: all passed, or one of them ended so
+abbrev pub Twice : {D : Type 0} → (D → Call → Option Fault → D → Type 0) → ℕ → List ℕ → ℕ → List ℕ → D → Option Fault → D → Type 0
+Twice {D} gives at bytes later more old None new =
+    (a : D) × (b : D) × gives old (Writes at bytes) None a × gives a (Writes later more) None b × gives b Syncs None new
+Twice {D} gives at bytes later more old (Some fault) new =
+    gives old (Writes at bytes) (Some fault) new
+    ⊎ ((a : D) × gives old (Writes at bytes) None a
+    × (gives a (Writes later more) (Some fault) new ⊎ ((b : D) × gives a (Writes later more) None b × gives b Syncs (Some fault) new)))
+
 -- memory is sure to suffice for so many calls and bytes
 abbrev pub IsSpare : ℕ → ℕ → ℕ → ℕ → Type 0
 IsSpare calls bytes spare_calls spare_bytes = (calls ≤ spare_calls) × (bytes ≤ spare_bytes)

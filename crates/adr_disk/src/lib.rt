@@ -8,4 +8,4 @@ mod through;
 
 pub use disk::Disk;
 pub use memory::{Crash, Mishap, Plan};
-pub use through::write_through;
+pub use through::{write_through, write_twice_through};

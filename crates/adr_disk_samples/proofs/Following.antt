@@ -1,18 +1,13 @@
 -- A new controller and a client's write can be committed by a keeper that takes what may be recorded.
-use Rattle.std.proofs.Common.{◌≡◌, ℕ, List, [], true, Option, Some, None, Result, Ok, Err, refl, sym, subst, lit<}
-use Rattle.std.specs.List.Sorted.{IsStrictlySortedBy}
-use Rattle.std.specs.Ordering.{nat_cmp}
-use Rattle.std.specs.Str.{is_utf8}
-use Rattle.adr_schema.specs.Assignments.{Given}
+use Rattle.std.proofs.Common.{◌≡◌, Option, Some, None, Result, Ok, Err, refl, lit<}
 use Rattle.std.specs.Prelude.{IsSomeAnd}
 use Rattle.adr_event.specs.declared.event.Event.{Event}
-use Rattle.adr_event.specs.declared.event.Event.TheVariants.{Add}
 use Rattle.adr_model.specs.Change.{Change, after}
 use Rattle.adr_model.specs.Replica.{change_in}
-use Rattle.adr_model.specs.Place.{identifier, root}
+use Rattle.adr_model.specs.Place.{identifier}
 use Rattle.adr_model.specs.Step.{ClientWrite}
 use Rattle.adr_model.specs.Store.{State}
-use Rattle.adr_model.specs.Write.{AddObject, write}
+use Rattle.adr_model.specs.Write.{write}
 use Rattle.adr_model.specs.Given.{IsWellGiven}
 use Rattle.adr_journal.specs.declared.keeper.Keeper.{Ghosts}
 use Rattle.adr_records.specs.Logged.{IsLogged, MayBegin, MayBeRecorded}
@@ -46,21 +41,3 @@ takes_all k new written stays fits begins formed logged follows =
           let left = stays s c may in
           record { follows = follows s c may; fits = fits (after s c) left; formed = formed (after s c) left };
     }
-
-none_rises : IsStrictlySortedBy nat_cmp []
-unfolding IsStrictlySortedBy
-none_rises = tt
-
-module _ (name guid parent text : List ℕ) (values : List Given) where
-  given : values ≡ [] → IsWellGiven (AddObject guid 4 parent text values)
-  given none = subst (λ (v : List Given). IsWellGiven (AddObject guid 4 parent text v)) (sym none) none_rises
-
-  typed : guid ≡ identifier 0x10 → parent ≡ root → is_utf8 text ≡ true → values ≡ [] → IsTypedWrite (AddObject guid 4 parent text values)
-  typed of under utf8 none =
-      let first : IsTypedWrite (AddObject (identifier 0x10) 4 root text []) = (refl, refl, utf8, λ g m. absurd m) in
-      let second = subst (λ (p : List ℕ). IsTypedWrite (AddObject (identifier 0x10) 4 p text [])) (sym under) first in
-      let third = subst (λ (g : List ℕ). IsTypedWrite (AddObject g 4 parent text [])) (sym of) second in
-      subst (λ (v : List Given). IsTypedWrite (AddObject guid 4 parent text v)) (sym none) third
-
-  pub is_write : guid ≡ identifier 0x10 → parent ≡ root → is_utf8 text ≡ true → values ≡ [] → IsWrite (Add name guid 4 parent text values)
-  is_write of under utf8 none = (given none, typed of under utf8 none)

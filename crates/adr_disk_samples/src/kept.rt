@@ -1,19 +1,24 @@
 //! What is done with a keeper, whichever it is.
 
-ghost use Rattle.std.specs.Prelude.{◌≡◌, IfOk, IsSome};
-ghost use Rattle.adr_controller.specs.Able.{plain_write};
-ghost use Rattle.adr_disk_samples.specs.Takes.{IsWrite, TakesAll, new_state};
+ghost use Rattle.std.specs.Prelude.{◌≡◌};
+ghost use Rattle.adr_disk_samples.specs.Takes.{TakesAll, new_state};
 
+use crate::written::{Deed, event_of};
 use adr_controller::{Controller, Keeper, PlannedKeeper, StartRefusal, State};
 use adr_disk::Crash;
-use adr_event::Event;
 use adr_guid::Guid;
-use adr_schema::{Assignments, NoMemory, Text};
-use adr_update::root;
+use adr_schema::NoMemory;
 use std::alloc::Global;
 
 /// What meets a call of a disk: a crash within it, or else a failure.
 pub type Mishap = Option<Crash>;
+
+/// So many calls of a disk pass, and the next meets this.
+#[derive(Clone, Copy)]
+pub struct Met {
+    pub calls: u32,
+    pub mishap: Mishap,
+}
 
 /// A new, empty controller `#a0`, `#a1`.
 fn new_state(alloc: Global) -> State
@@ -33,31 +38,71 @@ fn begin<K: Keeper + Drop>(alloc: Global, keeper: K) -> Result<Controller<K>, K>
     }
 }
 
-/// What adds a container #10 named "x" under the root.
-fn addition(alloc: Global) -> Result<Event, NoMemory>
-    ensures typed { IfOk result IsWrite }
-    ensures write { IfOk result (λ e. IsSome (plain_write e)) }
-{
-    let text = Text::from_string(String::from_str(alloc, "x")?);
-    let _ = text.items();
-    Ok(Event::Add {
-        name: Text::empty(alloc),
-        guid: Guid::from_u128(0x10),
-        class: 4,
-        parent: root(),
-        text,
-        values: Assignments::new(alloc),
-    })
-}
-
-/// Adds the container at the time 0, and tells whether it is acknowledged.
-fn add<K: Keeper>(alloc: Global, controller: &mut Controller<K>) -> Result<bool, NoMemory>
+/// Does it at the time 0, and tells whether it is acknowledged.
+fn write<K: Keeper>(
+    alloc: Global,
+    controller: &mut Controller<K>,
+    deed: Deed,
+) -> Result<bool, NoMemory>
     requires { TakesAll K.Keeper }
 {
-    let event = addition(alloc)?;
+    let event = event_of(alloc, deed)?;
     let acknowledged = controller.write(alloc, &event, 0).is_ok();
     drop(event);
     Ok(acknowledged)
+}
+
+/// Adds the container, and describes it so many times; it tells whether all is acknowledged.
+fn describe<K: Keeper>(
+    alloc: Global,
+    controller: &mut Controller<K>,
+    times: u64,
+) -> Result<bool, NoMemory>
+    requires { TakesAll K.Keeper }
+{
+    let mut all = write(alloc, controller, Deed::Adds)?;
+    for _ in 0..times {
+        all = write(alloc, controller, Deed::Describes)? && all;
+    }
+    Ok(all)
+}
+
+/// Adds so many described containers, of the numbers from 100 on; it tells whether all is acknowledged.
+fn add_described<K: Keeper>(
+    alloc: Global,
+    controller: &mut Controller<K>,
+    count: u64,
+) -> Result<bool, NoMemory>
+    requires { TakesAll K.Keeper }
+{
+    let mut all = true;
+    for number in 100..count.saturating_add(100) {
+        all = write(alloc, controller, Deed::AddsDescribed(number))? && all;
+    }
+    Ok(all)
+}
+
+/// What a disk is filled with.
+#[derive(Clone, Copy)]
+pub enum Filling {
+    /// The container, and so many descriptions of it, each in place of the one before.
+    Descriptions(u64),
+    /// So many described containers.
+    Containers(u64),
+}
+
+/// Fills a disk, and tells whether all is acknowledged.
+fn fill<K: Keeper>(
+    alloc: Global,
+    controller: &mut Controller<K>,
+    filling: Filling,
+) -> Result<bool, NoMemory>
+    requires { TakesAll K.Keeper }
+{
+    match filling {
+        Filling::Descriptions(times) => describe(alloc, controller, times),
+        Filling::Containers(count) => add_described(alloc, controller, count),
+    }
 }
 
 /// The USN of a controller that answers.
@@ -100,10 +145,10 @@ fn start_behind<K: PlannedKeeper + Drop>(mut keeper: K, how: Crash) -> Finding {
 }
 
 /// Lets so many calls of its disk pass, and the next meets a mishap.
-fn plan<K: PlannedKeeper>(controller: &mut Controller<K>, calls: u32, mishap: Mishap) {
-    match mishap {
-        Some(how) => controller.stop_after(calls, how),
-        None => controller.fail_after(calls),
+fn plan<K: PlannedKeeper>(controller: &mut Controller<K>, met: Met) {
+    match met.mishap {
+        Some(how) => controller.stop_after(met.calls, how),
+        None => controller.fail_after(met.calls),
     }
 }
 
@@ -123,8 +168,7 @@ pub fn format<K: PlannedKeeper + Drop>(alloc: Global, keeper: K, how: Crash) -> 
 pub fn commit<K: PlannedKeeper + Drop>(
     alloc: Global,
     keeper: K,
-    calls: u32,
-    mishap: Mishap,
+    met: Met,
     how: Crash,
 ) -> Result<Option<(bool, Finding)>, NoMemory>
     requires takes { TakesAll K.Keeper }
@@ -132,8 +176,8 @@ pub fn commit<K: PlannedKeeper + Drop>(
 {
     match begin(alloc, keeper) {
         Ok(mut controller) => {
-            plan(&mut controller, calls, mishap);
-            let done = add(alloc, &mut controller);
+            plan(&mut controller, met);
+            let done = write(alloc, &mut controller, Deed::Adds);
             let found = start_behind(controller.into_keeper(), how);
             Ok(Some((done?, found)))
         }
@@ -141,17 +185,12 @@ pub fn commit<K: PlannedKeeper + Drop>(
     }
 }
 
-/// Starts where a call meets a mishap, and tells whether it could; then what a start finds behind a crash.
-fn start_again<K: PlannedKeeper + Drop>(
-    mut controller: Controller<K>,
-    calls: u32,
-    mishap: Mishap,
-    how: Crash,
-) -> (bool, Finding) {
-    plan(&mut controller, calls, mishap);
+/// Starts where a call meets a mishap, and tells whether it could.
+fn start_again<K: PlannedKeeper>(mut controller: Controller<K>, met: Met) -> (bool, K) {
+    plan(&mut controller, met);
     match Controller::resume(controller.into_keeper()) {
-        Ok(controller) => (true, start_behind(controller.into_keeper(), how)),
-        Err((_, keeper)) => (false, start_behind(keeper, how)),
+        Ok(controller) => (true, controller.into_keeper()),
+        Err((_, keeper)) => (false, keeper),
     }
 }
 
@@ -160,8 +199,7 @@ fn start_again<K: PlannedKeeper + Drop>(
 pub fn add_and_start<K: PlannedKeeper + Drop>(
     alloc: Global,
     keeper: K,
-    calls: u32,
-    mishap: Mishap,
+    met: Met,
     how: Crash,
 ) -> Result<Option<(bool, Finding)>, NoMemory>
     requires takes { TakesAll K.Keeper }
@@ -169,60 +207,105 @@ pub fn add_and_start<K: PlannedKeeper + Drop>(
 {
     match begin(alloc, keeper) {
         Ok(mut controller) => {
-            let added = add(alloc, &mut controller);
-            let ended = start_again(controller, calls, mishap, how);
+            let added = write(alloc, &mut controller, Deed::Adds);
+            let (done, keeper) = start_again(controller, met);
+            let ended = (done, start_behind(keeper, how));
             Ok(if added? { Some(ended) } else { None })
         }
         Err(_) => Ok(None),
     }
 }
 
-/// Begins, adds the container, and finds what a start does.
-pub fn run<K: Keeper + Drop>(alloc: Global, keeper: K) -> Result<Finding, NoMemory>
+/// Begins, fills the disk, and finds what a start does.
+pub fn run<K: Keeper + Drop>(
+    alloc: Global,
+    keeper: K,
+    filling: Filling,
+) -> Result<Finding, NoMemory>
     requires takes { TakesAll K.Keeper }
     requires empty { K.is_empty keeper }
 {
     match begin(alloc, keeper) {
         Ok(mut controller) => {
-            let added = add(alloc, &mut controller);
+            let filled = fill(alloc, &mut controller, filling);
             let found = start(controller.into_keeper());
-            added?;
+            filled?;
             Ok(found)
         }
         Err(_) => Ok(Finding::Nothing),
     }
 }
 
-/// The bytes on a disk, and those behind the addition of the container; none where that isn't acknowledged.
-fn bytes_added<K: PlannedKeeper>(
-    alloc: Global,
-    controller: &mut Controller<K>,
-) -> Result<Option<(Vec<u8>, Vec<u8>)>, NoMemory>
-    requires { TakesAll K.Keeper }
-{
-    let before = controller.bytes()?;
-    if !add(alloc, controller)? {
-        return Ok(None);
-    }
-    let after = controller.bytes()?;
-    Ok(Some((before, after)))
-}
-
-/// The bytes on the disk of a new controller, and those behind the addition of the container; none where it can't begin,
-/// or that isn't acknowledged.
+/// The bytes on the disk of a new controller that is filled; none where it can't begin, or not all is acknowledged.
 pub fn bytes_of<K: PlannedKeeper + Drop>(
     alloc: Global,
     keeper: K,
-) -> Result<Option<(Vec<u8>, Vec<u8>)>, NoMemory>
+    filling: Filling,
+) -> Result<Option<Vec<u8>>, NoMemory>
     requires takes { TakesAll K.Keeper }
     requires empty { K.is_empty keeper }
 {
     match begin(alloc, keeper) {
         Ok(mut controller) => {
-            let bytes = bytes_added(alloc, &mut controller);
+            let filled = fill(alloc, &mut controller, filling);
+            let bytes = controller.bytes();
             drop(controller.into_keeper());
-            bytes
+            Ok(if filled? { Some(bytes?) } else { None })
         }
         Err(_) => Ok(None),
     }
+}
+
+/// What is left of a commit.
+#[derive(Drop)]
+pub struct Left {
+    /// Whether it was acknowledged.
+    pub done: bool,
+    /// What is on the disk behind a crash, and what a start finds there.
+    pub bytes: Vec<u8>,
+    pub found: Finding,
+}
+
+/// Starts a keeper, and describes the container where a call meets a mishap; then starts it again, if that is asked for,
+/// where another does, and lets it crash. None where it doesn't start.
+pub fn describe_again<K: PlannedKeeper + Drop>(
+    alloc: Global,
+    keeper: K,
+    met: Met,
+    start_met: Option<Met>,
+    how: Crash,
+) -> Result<Option<Left>, NoMemory>
+    requires { TakesAll K.Keeper }
+{
+    match Controller::resume(keeper) {
+        Ok(mut controller) => {
+            plan(&mut controller, met);
+            let done = write(alloc, &mut controller, Deed::Describes);
+            let left = left_behind(restarted(controller, start_met), how);
+            let (bytes, found) = left?;
+            let done = done?;
+            Ok(Some(Left { done, bytes, found }))
+        }
+        Err(_) => Ok(None),
+    }
+}
+
+/// The keeper behind a start, if that is asked for.
+fn restarted<K: PlannedKeeper>(controller: Controller<K>, met: Option<Met>) -> K {
+    match met {
+        Some(met) => start_again(controller, met).1,
+        None => controller.into_keeper(),
+    }
+}
+
+/// What is on the disk behind a crash, and what a start finds there.
+fn left_behind<K: PlannedKeeper + Drop>(
+    mut keeper: K,
+    how: Crash,
+) -> Result<(Vec<u8>, Finding), NoMemory> {
+    keeper.crash(how);
+    keeper.revive();
+    let bytes = keeper.bytes();
+    let found = start(keeper);
+    Ok((bytes?, found))
 }

@@ -3,7 +3,10 @@
 ghost use Rattle.std.specs.Prelude.{◌≡◌};
 ghost use Rattle.adr_disk_samples.specs.Takes.{TakesAll};
 
-use crate::kept::{Finding, Mishap, add_and_start, bytes_of, commit, format, run, start};
+use crate::kept::{
+    Filling, Finding, Left, Met, add_and_start, bytes_of, commit, describe_again, format, run,
+    start,
+};
 use adr_controller::Keeper;
 use adr_disk::Crash;
 use adr_disk_memory::MemDisk;
@@ -41,58 +44,52 @@ pub fn plain_logs_take_all()
 }
 
 /// Lets so many calls of a disk pass, and the next meets a mishap.
-fn plan(disk: &mut MemDisk, calls: u32, mishap: Mishap)
+fn plan(disk: &mut MemDisk, met: Met)
     ensures { disk.new.held ≡ disk.old.held }
 {
-    match mishap {
-        Some(how) => disk.stop_after(calls, how),
-        None => disk.fail_after(calls),
+    match met.mishap {
+        Some(how) => disk.stop_after(met.calls, how),
+        None => disk.fail_after(met.calls),
     }
 }
 
 /// The log of an empty disk, under a plan.
-fn planned(alloc: Global, calls: u32, mishap: Mishap) -> Log
+fn planned(alloc: Global, met: Met) -> Log
     ensures { ⟦<Log as Keeper>⟧.is_empty result }
 {
     let mut disk = MemDisk::new(alloc);
-    plan(&mut disk, calls, mishap);
+    plan(&mut disk, met);
     Journal::new(alloc, disk)
 }
 
 /// Formats a disk where a call meets a mishap, and tells whether it could; then what a start finds behind a crash.
-pub fn format_log(alloc: Global, calls: u32, mishap: Mishap, how: Crash) -> (bool, Finding) {
+pub fn format_log(alloc: Global, met: Met, how: Crash) -> (bool, Finding) {
     logs_take_all();
-    format(alloc, planned(alloc, calls, mishap), how)
+    format(alloc, planned(alloc, met), how)
 }
 
 /// Begins on a disk in memory and adds the container where a call meets a mishap: whether that is acknowledged, and what a
 /// start finds behind a crash.
 pub fn commit_log(
     alloc: Global,
-    calls: u32,
-    mishap: Mishap,
+    met: Met,
     how: Crash,
 ) -> Result<Option<(bool, Finding)>, NoMemory> {
     logs_take_all();
-    commit(alloc, Log::in_memory(alloc), calls, mishap, how)
+    commit(alloc, Log::in_memory(alloc), met, how)
 }
 
 /// Begins on a disk in memory, adds the container, and starts where a call meets a mishap: whether it could, and what a
 /// start finds behind a crash.
-pub fn start_log(
-    alloc: Global,
-    calls: u32,
-    mishap: Mishap,
-    how: Crash,
-) -> Result<Option<(bool, Finding)>, NoMemory> {
+pub fn start_log(alloc: Global, met: Met, how: Crash) -> Result<Option<(bool, Finding)>, NoMemory> {
     logs_take_all();
-    add_and_start(alloc, Log::in_memory(alloc), calls, mishap, how)
+    add_and_start(alloc, Log::in_memory(alloc), met, how)
 }
 
-/// The bytes of a new log in memory, and those behind the addition of the container.
-pub fn log_bytes(alloc: Global) -> Result<Option<(Vec<u8>, Vec<u8>)>, NoMemory> {
+/// The bytes of a log in memory that is filled.
+pub fn log_bytes(alloc: Global, filling: Filling) -> Result<Option<Vec<u8>>, NoMemory> {
     logs_take_all();
-    bytes_of(alloc, Log::in_memory(alloc))
+    bytes_of(alloc, Log::in_memory(alloc), filling)
 }
 
 /// Starts a log of these bytes.
@@ -101,8 +98,21 @@ pub fn start_of(alloc: Global, bytes: Vec<u8>) -> Result<Finding, NoMemory> {
     Ok(start(log))
 }
 
-/// Adds the container to a new controller in memory alone, and starts it.
-pub fn run_plain(alloc: Global) -> Result<Finding, NoMemory> {
+/// What is left of a log of these bytes where the container is described, and then the log started if that is asked for.
+pub fn describe_log(
+    alloc: Global,
+    bytes: Vec<u8>,
+    met: Met,
+    start_met: Option<Met>,
+    how: Crash,
+) -> Result<Option<Left>, NoMemory> {
+    logs_take_all();
+    let log: Log = Journal::with_bytes(alloc, bytes)?;
+    describe_again(alloc, log, met, start_met, how)
+}
+
+/// Fills a new controller in memory alone, and starts it.
+pub fn run_plain(alloc: Global, filling: Filling) -> Result<Finding, NoMemory> {
     plain_logs_take_all();
-    run(alloc, Plain::<Records>::new(alloc))
+    run(alloc, Plain::<Records>::new(alloc), filling)
 }

@@ -1,5 +1,5 @@
 -- What a store's rows are as objects and links is what an image has of them.
-use Rattle.std.proofs.Common.{◌≡◌, ℕ, zero, suc, ◌+◌, ◌<◌, ◌≤◌, ◌^◌, Bool, true, false, cond, List, [], ◌∷◌, ◌++◌, length, map, take, drop, Some, None, refl, sym, ap, subst, ◌∙◌, inl, inr, append_assoc, append-nil, arith}
+use Rattle.std.proofs.Common.{◌≡◌, ℕ, zero, suc, ◌+◌, ◌-◌, ◌<◌, ◌≤◌, ◌^◌, Bool, true, false, cond, List, [], ◌∷◌, ◌++◌, length, map, take, drop, Some, None, refl, sym, ap, subst, ◌∙◌, inl, inr, append_assoc, append-nil, arith, Bor}
 use Rattle.std.specs.Prelude.{All}
 use Rattle.std.specs.List.{flat_map, filter_map, cons_option, AllByRecursion}
 use Rattle.std.specs.List.Sorted.{IsStrictlySortedBy}
@@ -7,7 +7,7 @@ use Rattle.std.specs.Ordering.{is_eq, nat_cmp, ordering_reverse, ordering_then}
 use Rattle.std.specs.declared.cmp.Ordering.{Ordering}
 use Rattle.std.specs.declared.cmp.Ordering.TheVariants.{Less, Equal, Greater}
 use Rattle.std.proofs.lemmas.Cmp.{tied_itself}
-use Rattle.std.proofs.lemmas.List.{length-drop}
+use Rattle.std.proofs.lemmas.List.{length-drop, take_all}
 use Rattle.std.proofs.Math.Seq.{take-append_seam, drop-append_seam}
 use Rattle.adr_stamp.specs.declared.Oid.{Oid}
 use Rattle.adr_stamp.specs.declared.LinkStamp.{LinkStamp}
@@ -29,6 +29,7 @@ use Rattle.adr_model.specs.Formed.{IsFormedStore}
 use Rattle.adr_model.specs.Live.{born}
 use Rattle.adr_model.proofs.Keys.{objects_tell}
 use Rattle.adr_model.proofs.Members.{member_mapped}
+use Rattle.adr_update.specs.Referents.{referents}
 use Rattle.adr_image.specs.Body.{mark_if}
 use Rattle.adr_image.specs.Changes.{change_bytes, written_bytes}
 use Rattle.adr_image.specs.Image.{HeldRow, Rows, HeldLink, held_row, object, held_link}
@@ -275,10 +276,30 @@ drop_drop k (suc n) (x ∷ xs) =
 pub few_behind : (n : ℕ) (hs : List Held) → HaveFewRows hs → HaveFewRows (drop n hs)
 few_behind n hs few o k = subst (λ (gs : List Held). own_rows o gs < 2 ^ 16) (sym (drop_drop k n hs)) (few o (n + k))
 
-pub links_short : (ls : List HeldLink) → All (λ (h : Held). IsShortSaid h.update.said) (map link_of ls)
-links_short [] k d lt = absurd (omega arith)
-links_short (l ∷ ls) zero d lt = tt
-links_short (l ∷ ls) (suc k) d lt = links_short ls k d (omega arith)
+-- ---- rows by reference
+
+module _ {A : Type 0} where
+  pub referents_drop : (n : ℕ) (xs : List (Bor A)) → referents (drop n xs) ≡ drop n (referents xs)
+  referents_drop zero xs = refl
+  referents_drop (suc n) [] = refl
+  referents_drop (suc n) (x ∷ xs) = referents_drop n xs
+
+  pub referents_take : (n : ℕ) (xs : List (Bor A)) → referents (take n xs) ≡ take n (referents xs)
+  referents_take zero xs = refl
+  referents_take (suc n) [] = refl
+  referents_take (suc n) (x ∷ xs) = ap (λ (ys : List A). x.now ∷ ys) (referents_take n xs)
+
+pub births_referents : (xs : List (Bor Held)) → filter_map (λ (x : Bor Held). born x.now.update.key) xs ≡ filter_map (λ (h : Held). born h.update.key) (referents xs)
+births_referents [] = refl
+births_referents (x ∷ xs) = ap (cons_option (born x.now.update.key)) (births_referents xs)
+
+pub rest_is : {A : Type 0} (n : ℕ) (xs : List A) → take (length xs - n) (drop n xs) ≡ drop n xs
+rest_is n xs = take_all (length xs - n) (drop n xs) (omega (arith, length-drop n xs))
+
+pub all_referents : (xs : List (Bor Held)) → All (λ (h : Held). IsShortSaid h.update.said) (referents xs) → All (λ (h : Bor Held). IsShortSaid h.now.update.said) xs
+all_referents [] all k d lt = absurd (omega arith)
+all_referents (x ∷ xs) all zero d lt = all zero x.now (omega arith)
+all_referents (x ∷ xs) all (suc k) d lt = all_referents xs (λ j e less. all (suc j) e (omega arith)) k d (omega arith)
 
 pub rows_written : (w0 w1 w2 w3 w4 : List ℕ) (os : List Rows) (ls : List HeldLink) (n : ℕ) (hs : List Held) → w1 ≡ w0 ++ u32 n → n ≡ length os → w2 ≡ w1 ++ flat_map object os → hs ≡ map link_of ls → w3 ≡ w2 ++ u32 (length hs)
     → w4 ≡ w3 ++ flat_map held hs → w4 ≡ w0 ++ (objects os ++ links ls)
@@ -294,6 +315,12 @@ rows_written w0 w1 w2 w3 w4 os ls n hs a b c d e f =
 
 then_written : (start mid end a b : List ℕ) → mid ≡ start ++ a → end ≡ mid ++ b → end ≡ start ++ (a ++ b)
 then_written start mid end a b first second = second ∙ ap (λ (bytes : List ℕ). bytes ++ b) first ∙ append_assoc start a b
+
+pub next_written : (w0 w1 w2 w3 : List ℕ) (o : Oid) (n : ℕ) (xs : List (Bor Held)) → n ≡ own_rows o (referents xs) → w1 ≡ w0 ++ oid o → w2 ≡ w1 ++ u16 n → w3 ≡ w2 ++ flat_map held (referents (take n xs)) → w3 ≡ w0 ++ next_object o (referents xs)
+next_written w0 w1 w2 w3 o n xs own a b c =
+    let rows = flat_map held (take n (referents xs)) in
+    then_written w0 w1 w3 (oid o) (u16 n ++ rows) a (then_written w1 w2 w3 (u16 n) rows b (c ∙ ap (λ (hs : List Held). w2 ++ flat_map held hs) (referents_take n xs)))
+    ∙ ap (λ (m : ℕ). w0 ++ (oid o ++ (u16 m ++ flat_map held (take m (referents xs))))) own
 
 pub image_written : (s : Store) (w0 w1 w2 w3 w4 w5 w6 w7 w8 : List ℕ) → w1 ≡ w0 ++ magic → w2 ≡ w1 ++ u16 1 → w3 ≡ w2 ++ u32 s.schema → w4 ≡ w3 ++ u64 s.usn → w5 ≡ w4 ++ vector s.vector → w6 ≡ w5 ++ vector s.purged
     → w7 ≡ w6 ++ marks s.marks → w8 ≡ w7 ++ (objects (apart s.rows).0 ++ links (apart s.rows).1) → w8 ≡ w0 ++ image s

@@ -63,6 +63,35 @@ impl Model for Contents {
     ghost invariant = { λ c. c.schema ≡ numbered c.schema.number };
 }
 
+/// A database by reference, of which an image is written; none of its rows is copied.
+#[derive(Drop)]
+pub struct ContentsRef<'a> {
+    pub schema: Schema,
+    /// The last update sequence number that was used.
+    pub usn: u64,
+    /// The rows, in order of their keys.
+    pub rows: &'a [&'a Held],
+    /// Up to where the writes of each incarnation have been seen.
+    pub vector: &'a Vector,
+    /// What covers the births and deaths of the objects that were collected.
+    pub purged: &'a Vector,
+    /// How far each partner was read, by its controller's identifier, rising.
+    pub marks: &'a [(Guid, Kept)],
+}
+
+impl<'a> Model for ContentsRef<'a> {
+    ghost use Rattle.std.specs.Prelude.{◌≡◌, []};
+    ghost use Rattle.adr_schema.specs.Numbered.{numbered};
+    ghost use Rattle.adr_model.specs.Store.{Store};
+    ghost use Rattle.adr_update.specs.Referents.{referents};
+
+    ghost Value = { Store };
+
+    ghost view = { λ c. record { schema = c.schema.number; usn = c.usn; rows = referents c.rows.now; vector = c.vector.now; times = []; purged = c.purged.now; marks = c.marks.now } };
+
+    ghost invariant = { λ c. c.schema ≡ numbered c.schema.number };
+}
+
 /// A schema by its number.
 fn read_schema(reader: &mut Reader<'_>) -> Result<Schema, WireRefusal>
     ensures number { TellsAs (λ schema. schema.number) result reader.new

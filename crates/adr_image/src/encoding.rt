@@ -7,13 +7,14 @@ ghost use Rattle.adr_model.specs.Live.{born};
 ghost use Rattle.adr_model.specs.Take.{mark_limit};
 ghost use Rattle.adr_wire.specs.Fields.{u16};
 ghost use Rattle.adr_update.specs.Key.{key_of};
+ghost use Rattle.adr_update.specs.Referents.{referents};
 ghost use Rattle.adr_update.specs.Said.{said_of};
 ghost use Rattle.adr_image.specs.Image as form;
 ghost use Rattle.adr_image.specs.Stored.{IsSpelled, apart, image};
 ghost use Rattle.adr_image.specs.Whole as whole;
 ghost use Rattle.adr_image.specs.Written.{HaveFewRows, IsShortSaid, IsWritable, IsWritten, first_object, held, next_object, own_rows, told};
 
-use crate::contents::Contents;
+use crate::contents::{Contents, ContentsRef};
 use crate::decoding::{MAGIC, VERSION};
 use adr_change::Kept;
 use adr_guid::Guid;
@@ -54,9 +55,9 @@ fn write_held(writer: &mut Writer, row: &Held) -> Result<(), NoMemory>
 }
 
 /// Writes rows, one behind the other.
-fn write_each(writer: &mut Writer, rows: &[Held]) -> Result<(), NoMemory>
-    requires { All (λ row. IsShortSaid row.update.said) rows.now }
-    ensures { OnOk result (writer.new ≡ writer.old ++ flat_map held rows.now) }
+fn write_each(writer: &mut Writer, rows: &[&Held]) -> Result<(), NoMemory>
+    requires { All (λ row. IsShortSaid row.now.update.said) rows.now }
+    ensures { OnOk result (writer.new ≡ writer.old ++ flat_map held (referents rows.now)) }
 {
     for row in rows {
         write_held(writer, row)?;
@@ -65,8 +66,8 @@ fn write_each(writer: &mut Writer, rows: &[Held]) -> Result<(), NoMemory>
 }
 
 /// How many rows at the front are the object's.
-fn own_rows(rows: &[Held], object: &Oid) -> usize
-    ensures value { result ≡ own_rows object.now rows.now }
+fn own_rows(rows: &[&Held], object: &Oid) -> usize
+    ensures value { result ≡ own_rows object.now (referents rows.now) }
     ensures within { result ≤ length rows.now }
 {
     let mut own = 0;
@@ -80,8 +81,8 @@ fn own_rows(rows: &[Held], object: &Oid) -> usize
 }
 
 /// The object of the first row.
-fn first_object(rows: &[Held]) -> Option<Oid>
-    ensures { result ≡ first_object rows.now }
+fn first_object(rows: &[&Held]) -> Option<Oid>
+    ensures { result ≡ first_object (referents rows.now) }
 {
     match rows.first()?.key() {
         Key::Row { object, .. } => Some(object),
@@ -89,52 +90,53 @@ fn first_object(rows: &[Held]) -> Option<Oid>
     }
 }
 
-/// Writes the object at the front with its rows, and gives the rows behind them.
-fn write_next_object<'a>(
-    writer: &mut Writer,
-    rows: &'a [Held],
-    object: &Oid,
-) -> Result<&'a [Held], NoMemory>
-    requires few { HaveFewRows rows.now }
-    requires short { All (λ row. IsShortSaid row.update.said) rows.now }
-    ensures written { OnOk result (writer.new ≡ writer.old ++ next_object object.now rows.now) }
-    ensures others { IfOk result (λ others. others.now ≡ drop (own_rows object.now rows.now) rows.now) }
+/// Writes the object at the front with its rows, and tells how many these are.
+fn write_next_object(writer: &mut Writer, rows: &[&Held], object: &Oid) -> Result<usize, NoMemory>
+    requires few { HaveFewRows (referents rows.now) }
+    requires short { All (λ row. IsShortSaid row.now.update.said) rows.now }
+    ensures written { OnOk result (writer.new ≡ writer.old ++ next_object object.now (referents rows.now)) }
+    ensures own { IfOk result (λ own. own ≡ own_rows object.now (referents rows.now)) }
+    ensures within { IfOk result (λ own. own ≤ length rows.now) }
 {
     let own = own_rows(rows, object);
     writer.write_oid(object)?;
     writer.write_u16(&(own as u16))?;
     write_each(writer, &rows[..own])?;
-    Ok(&rows[own..])
+    Ok(own)
 }
 
-/// Writes the objects at the front, one behind the other, and gives the rows behind them.
-fn write_objects<'a>(writer: &mut Writer, rows: &'a [Held]) -> Result<&'a [Held], NoMemory>
-    requires few { HaveFewRows rows.now }
-    requires short { All (λ row. IsShortSaid row.update.said) rows.now }
-    ensures { IfOk result (λ links. IsWritten writer.old writer.new rows.now links.now) }
+/// Writes the objects at the front, one behind the other, and tells how many rows they have together.
+fn write_objects(writer: &mut Writer, rows: &[&Held]) -> Result<usize, NoMemory>
+    requires few { HaveFewRows (referents rows.now) }
+    requires short { All (λ row. IsShortSaid row.now.update.said) rows.now }
+    ensures written { IfOk result (λ done.
+        IsWritten writer.old writer.new (referents rows.now) (referents (drop done rows.now))) }
+    ensures within { IfOk result (λ done. done ≤ length rows.now) }
 {
-    let mut rest = rows;
-    'objects: while let Some(object) = first_object(rest) {
-        rest = write_next_object(writer, rest, &object)?;
+    let mut done = 0;
+    'objects: while let Some(object) = first_object(&rows[done..]) {
+        done += write_next_object(writer, &rows[done..], &object)?;
     }
-    Ok(rest)
+    Ok(done)
 }
 
 /// How many objects are born by the rows.
-fn births(rows: &[Held]) -> usize
-    ensures { result ≡ length (filter_map (λ h. born h.update.key) rows.now) }
+fn births(rows: &[&Held]) -> usize
+    ensures { result ≡ length (filter_map (λ row. born row.now.update.key) rows.now) }
 {
     rows.iter().filter_map(|row| row.key().born()).count()
 }
 
 /// Writes all objects, and all links.
-fn write_rows(writer: &mut Writer, rows: &[Held]) -> Result<(), NoMemory>
-    requires { IsWritable rows.now }
+fn write_rows(writer: &mut Writer, rows: &[&Held]) -> Result<(), NoMemory>
+    requires { IsWritable (referents rows.now) }
     ensures { OnOk result (writer.new
-        ≡ writer.old ++ (whole.objects (apart rows.now).0 ++ whole.links (apart rows.now).1)) }
+        ≡ writer.old
+        ++ (whole.objects (apart (referents rows.now)).0 ++ whole.links (apart (referents rows.now)).1)) }
 {
     writer.write_u32(&(births(rows) as u32))?;
-    let links = write_objects(writer, rows)?;
+    let done = write_objects(writer, rows)?;
+    let links = &rows[done..];
     writer.write_u32(&(links.len() as u32))?;
     write_each(writer, links)
 }
@@ -161,7 +163,7 @@ fn write_marks(writer: &mut Writer, marks: &[(Guid, Kept)]) -> Result<(), NoMemo
 }
 
 /// Writes the image of a database.
-pub fn write_image(writer: &mut Writer, contents: &Contents) -> Result<(), NoMemory>
+pub fn write_image(writer: &mut Writer, contents: &ContentsRef<'_>) -> Result<(), NoMemory>
     requires formed { IsFormedStore contents.now }
     requires spelled { IsSpelled contents.now }
     ensures { OnOk result (writer.new ≡ writer.old ++ image contents.now) }
@@ -170,14 +172,14 @@ pub fn write_image(writer: &mut Writer, contents: &Contents) -> Result<(), NoMem
     writer.write_u16(&VERSION)?;
     writer.write_u32(&contents.schema.number())?;
     writer.write_usn0(&contents.usn)?;
-    writer.write_vector(&contents.vector)?;
-    writer.write_vector(&contents.purged)?;
-    write_marks(writer, &contents.marks)?;
-    write_rows(writer, &contents.rows)
+    writer.write_vector(contents.vector)?;
+    writer.write_vector(contents.purged)?;
+    write_marks(writer, contents.marks)?;
+    write_rows(writer, contents.rows)
 }
 
 /// The image of a database.
-pub fn encode(alloc: Global, contents: &Contents) -> Result<Vec<u8>, NoMemory>
+pub fn encode(alloc: Global, contents: &ContentsRef<'_>) -> Result<Vec<u8>, NoMemory>
     requires formed { IsFormedStore contents.now }
     requires spelled { IsSpelled contents.now }
     ensures { IfOk result (λ bytes. bytes.items ≡ image contents.now) }
@@ -185,4 +187,35 @@ pub fn encode(alloc: Global, contents: &Contents) -> Result<Vec<u8>, NoMemory>
     let mut writer = Writer::new(alloc);
     write_image(&mut writer, contents)?;
     Ok(writer.into_bytes())
+}
+
+/// References to rows.
+fn rows_of(alloc: Global, rows: &[Held]) -> Result<Vec<&Held>, NoMemory>
+    ensures { IfOk result (λ references. referents references.items ≡ rows.now) }
+{
+    let mut references = Vec::new(alloc);
+    for row in rows {
+        references.push(row)?;
+    }
+    Ok(references)
+}
+
+impl Contents {
+    /// The image of what was read.
+    pub fn encode(&self, alloc: Global) -> Result<Vec<u8>, NoMemory>
+        requires formed { IsFormedStore self.now }
+        requires spelled { IsSpelled self.now }
+        ensures { IfOk result (λ bytes. bytes.items ≡ image self.now) }
+    {
+        let rows = rows_of(alloc, &self.rows)?;
+        let contents = ContentsRef {
+            schema: self.schema,
+            usn: self.usn,
+            rows: rows.as_slice(),
+            vector: &self.vector,
+            purged: &self.purged,
+            marks: &self.marks,
+        };
+        encode(alloc, &contents)
+    }
 }

@@ -24,7 +24,7 @@ mod rows;
 pub use adr_wire::{DecodeRefusal, Failure, NoMemory};
 pub use bodies::encode_change;
 pub use changes::decode_change;
-pub use contents::Contents;
+pub use contents::{Contents, ContentsRef};
 pub use decoding::{decode, read_image};
 pub use dormant::Dormant;
 pub use encoding::{encode, write_image};

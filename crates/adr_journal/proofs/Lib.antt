@@ -1,3 +1,10 @@
 mod Steps
-pub mod Heads
+pub mod Staging
+pub mod Commits
+pub mod Fitting
+pub mod Prepared
+mod Bounded
+pub mod Begun
+pub mod Starts
+pub mod Plans
 pub mod Found

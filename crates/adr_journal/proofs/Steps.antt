@@ -1,15 +1,23 @@
 -- One write with its sync after another.
-use Rattle.std.proofs.Common.{◌≡◌, inl, ℕ, ◌+◌, List, [], ◌∷◌, ◌++◌, length, take, Option, Some, IfSome, IsSome, refl, sym, ◌∙◌, ap, subst, arith}
-use Rattle.std.specs.Prelude.{◌↔◌}
+use Rattle.std.proofs.Common.{◌≡◌, ◌⊎◌, inl, inr, ⊎_elim, ℕ, ◌+◌, ◌≤◌, ◌<◌, List, [], ◌∷◌, ◌++◌, length, take, Option, Some, Err, IfSome, IsSome, refl, sym, ◌∙◌, ap, subst, arith}
+use Rattle.std.specs.Prelude.{◌↔◌, IsErrOf}
+use Rattle.adr_io.specs.declared.Fault.{Fault}
+use Rattle.adr_io.specs.declared.Fault.TheVariants.{Failed, NoMemory}
 use Rattle.std.proofs.lemmas.List.{append-nil, drop_all}
+use Rattle.std.proofs.lemmas.Option.{IfSome_then}
 use Rattle.adr_disk.specs.Disk.{put, Torn, Among, Only}
-use Rattle.adr_wire.specs.Reading.{Reading}
 use Rattle.adr_model.specs.Store.{State}
-use Rattle.adr_law_journal.specs.Log.{found, Following, open_gate, start_of, IsAtRest}
-use Rattle.adr_law_journal.proofs.Logs.{at_rest_stands}
-use Rattle.adr_law_journal.proofs.Formats.{torn_first, torn_rest, torn_last}
-use Rattle.adr_law_journal.proofs.Told.{at_told, some_of, is_some_of, some_is}
-use Rattle.adr_journal.specs.Written.{IsNone}
+use Rattle.adr_model.specs.Lengths.{Log}
+use Rattle.adr_law_journal.specs.Log.{open_gate}
+use Rattle.adr_law_journal.specs.Areas.{found}
+use Rattle.adr_law_journal.specs.Kept.{Layout, starts, Rests, IsSettled}
+use Rattle.adr_law_journal.specs.Recording.{log_behind}
+use Rattle.adr_law_journal.proofs.Formatting.{torn_first, torn_rest, torn_last}
+use Rattle.adr_law_journal.proofs.Recording.{torn_gate}
+use Rattle.adr_law_journal.proofs.Settled.{stands, first_finds, mid_staged, settled_after}
+use Rattle.adr_law_journal.proofs.Told.{if_told, at_told, some_of, is_some_of, some_is}
+use Rattle.adr_journal.specs.Kept.{Ids}
+use Rattle.adr_journal.specs.Written.{AreNoLonger, IsEitherLog, IsNone, Takes}
 
 -- what is there after a write and a sync, where it was this before
 pub stepped : {D : Type 0} (content : D → Option (List ℕ)) (may_leave : D → List ℕ → Type 0) (old new : D) (was : List ℕ) (at : ℕ) (bytes : List ℕ)
@@ -21,6 +29,52 @@ stepped content may_leave old new was at bytes stood now only both y told =
       sym same ∙ ap (λ (l : List ℕ). put l at bytes) (stood before.0 before.1),
       subst (λ (l : List ℕ). Only l (may_leave new)) same (at_told (content old) _ before.0 before.1 only),
     )
+
+-- ---- how long it becomes
+
+pub torn_no_longer : (content : Option (List ℕ)) (left : List ℕ → Type 0) (at n end : ℕ) → at + n ≤ end → IfSome content (λ there. Among (Torn at n there) left) → AreNoLonger content left end
+torn_no_longer content left at n end within h = IfSome_then content h (λ there torn bytes is. let t = torn bytes is in omega (arith, t.no_longer, within))
+
+-- one run of calls behind another
+pub no_longer_behind : {D : Type 0} (content : D → Option (List ℕ)) (may_leave : D → List ℕ → Type 0) (old mid new : D) (first end : ℕ)
+    → (IsSome (content mid) ↔ IsSome (content old)) → IfSome (content mid) (may_leave mid) → first ≤ end → AreNoLonger (content old) (may_leave mid) first → AreNoLonger (content mid) (may_leave new) end
+    → AreNoLonger (content old) (may_leave new) end
+no_longer_behind content may_leave old mid new first end both honest within h then =
+    if_told (content old) _ (λ there told bytes left.
+    let x = some_of (content mid) (both.1 (is_some_of (content old) there told)) in
+    let long = at_told (content old) _ there told h x.0 (at_told (content mid) _ x.0 x.1 honest) in
+    let longer = at_told (content mid) _ x.0 x.1 then bytes left in
+    omega (arith, within, long, longer))
+
+-- ---- a record
+
+module _ {D : Type 0} (l : Layout Ids State) (content : D → Option (List ℕ)) (may_leave : D → List ℕ → Type 0) (old mid new : D) (end : ℕ) (written : List ℕ) (s t : State) (log : Log) (body : List ℕ) (takes : Takes l content may_leave old end written s t log body) where
+  abbrev Either : List ℕ → Type 0
+  Either bytes = IsEitherLog s log t (log_behind log body) (starts l bytes)
+
+  -- whatever a crash leaves of the record
+  pub record_finds : (there : List ℕ) → content old ≡ Some there → Among Either (Torn end (length written) there)
+  record_finds there told = λ bytes torn.
+      inl (first_finds l content may_leave old old old s log body written takes.is takes.settled there told bytes (subst (λ (n : ℕ). Torn n (length written) there bytes) (sym takes.ends) torn))
+
+  module _ (now : IfSome (content old) (λ there. content mid ≡ Some (put there end written))) (only : IfSome (content old) (λ there. Only (put there end written) (may_leave mid))) (both : IsSome (content mid) ↔ IsSome (content old)) (at : ℕ) (is_at : at + 1 ≡ end) where
+    now_there : IfSome (content old) (λ there. content mid ≡ Some (put there log.log_end written))
+    now_there = subst (λ (n : ℕ). IfSome (content old) (λ there. content mid ≡ Some (put there n written))) (sym takes.ends) now
+
+    only_there : IfSome (content old) (λ there. Only (put there log.log_end written) (may_leave mid))
+    only_there = subst (λ (n : ℕ). IfSome (content old) (λ there. Only (put there n written) (may_leave mid))) (sym takes.ends) only
+
+    -- and of its gate
+    pub gate_finds : (x : List ℕ) → content mid ≡ Some x → Among Either (Torn at 1 x)
+    gate_finds x told = λ bytes torn. ⊎_elim
+        (λ as_it_was. inl (stands l s log bytes as_it_was))
+        (λ with_record. inr (stands l t (log_behind log body) bytes with_record))
+        (torn_gate l.head l.area l.following l.front l.told l.is_head s log t at (is_at ∙ sym takes.ends) body x bytes
+        (mid_staged l content may_leave old mid new s log body written takes.is takes.settled now_there only_there both x told).0 takes.follows takes.fits torn)
+
+    pub record_after : IfSome (content mid) (λ there. content new ≡ Some (put there at (open_gate ∷ []))) → IfSome (content mid) (λ there. Only (put there at (open_gate ∷ [])) (may_leave new)) → (IsSome (content new) ↔ IsSome (content mid))
+        → IsSettled l content may_leave new t (log_behind log body)
+    record_after = settled_after l content may_leave old mid new s log body written takes.is takes.settled now_there only_there both at (is_at ∙ sym takes.ends) t takes.follows takes.fits
 
 -- ---- a format
 
@@ -35,16 +89,24 @@ second_is written =
 pub third_is : (written : List ℕ) → put (0 ∷ written) 0 (open_gate ∷ []) ≡ open_gate ∷ written
 third_is written = refl
 
-module _ (head : Reading State) (following : Following State) (s : State) (end : ℕ) where
+module _ (l : Layout Ids State) (s : State) (log : Log) where
   abbrev pub None_at : List ℕ → Type 0
-  None_at bytes = IsNone s end (start_of head following bytes)
+  None_at bytes = IsNone s log (starts l bytes)
 
   pub tears_first : (x : List ℕ) → x ≡ [] → Among None_at (Torn 0 1 x)
-  tears_first x is bytes torn = inl (torn_first head following bytes (subst (λ (l : List ℕ). Torn 0 1 l bytes) is torn))
+  tears_first x is bytes torn = inl (torn_first l.head l.area l.following bytes (subst (λ (y : List ℕ). Torn 0 1 y bytes) is torn))
 
   pub tears_second : (n : ℕ) (x : List ℕ) → x ≡ 0 ∷ [] → Among None_at (Torn 1 n x)
-  tears_second n x is bytes torn = inl (torn_rest head following n bytes (subst (λ (l : List ℕ). Torn 1 n l bytes) is torn))
+  tears_second n x is bytes torn = inl (torn_rest l.head l.area l.following n bytes (subst (λ (y : List ℕ). Torn 1 n y bytes) is torn))
 
-  pub tears_third : (written x : List ℕ) → IsAtRest head following s end (open_gate ∷ written) → x ≡ 0 ∷ written → Among None_at (Torn 0 1 x)
+  pub tears_third : (written x : List ℕ) → Rests l s log (open_gate ∷ written) → x ≡ 0 ∷ written → Among None_at (Torn 0 1 x)
   tears_third written x rests is bytes torn =
-      torn_last head following written (found s end) bytes (at_rest_stands head following s end (open_gate ∷ written) rests) (subst (λ (l : List ℕ). Torn 0 1 l bytes) is torn)
+      torn_last l.head l.area l.following written (found s log) bytes (stands l s log (open_gate ∷ written) rests) (subst (λ (y : List ℕ). Torn 0 1 y bytes) is torn)
+
+-- ---- memory
+
+-- a call that finds memory and yet fails is a fault of the disk
+pub no_memory_left : (P : Fault → Type 0) (e : Fault) (calls bytes n m : ℕ) → (IsErrOf {T = Unit {0}} (Err e) NoMemory → (calls < n) ⊎ (bytes < m)) → n ≤ calls → m ≤ bytes → P e → P Failed
+no_memory_left P Failed calls bytes n m wants enough long p = p
+no_memory_left P NoMemory calls bytes n m wants enough long p =
+    absurd (⊎_elim (λ (few : calls < n). let no : ⊥ = omega (arith, few, enough) in no) (λ (short : bytes < m). let no : ⊥ = omega (arith, short, long) in no) (wants refl))

@@ -3,8 +3,8 @@ use Rattle.std.specs.Prelude.{◌≡◌, ℕ, true, false, Option, Some, None, R
 use Rattle.adr_disk.specs.Disk.{Among, Keeps}
 use Rattle.adr_model.specs.Store.{State}
 use Rattle.adr_model.specs.Change.{Change, after}
-use Rattle.adr_model.specs.Lengths.{new_log_end, log_end_after}
-use Rattle.adr_law_journal.specs.Log.{Found, found, Started}
+use Rattle.adr_model.specs.Lengths.{new_log, next_log}
+use Rattle.adr_law_journal.specs.Areas.{Found, found, Started}
 use Rattle.adr_journal.specs.Written.{IsNone}
 use Rattle.adr_journal.specs.declared.keeper.KeeperRefusal.{KeeperRefusal}
 use Rattle.adr_journal.specs.declared.keeper.StartRefusal.{StartRefusal}
@@ -20,11 +20,11 @@ ended_start (Err refusal) = Some refusal
 
 -- what is found after a change
 abbrev pub found_after : Found State → Change → Found State
-found_after f c = found (after f.state c) (log_end_after f.log_end c)
+found_after f c = found (after f.state c) (next_log f.log f.state.store c)
 
 -- a format that was cut short leaves no log, or the new one
 abbrev pub IsNewOrNone : State → Started State → Type 0
-IsNewOrNone s = IsNone s (new_log_end s)
+IsNewOrNone s = IsNone s (new_log s)
 
 -- what is damaged is damaged at this place, where that is told
 abbrev pub IsDamageOf : StartRefusal → Option (Started State) → Type 0

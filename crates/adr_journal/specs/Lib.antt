@@ -2,6 +2,7 @@ pub mod Ended
 pub mod Ran
 pub mod Written
 pub mod Kept
+pub mod Reached
 pub mod Planned
 pub mod Laws
 pub mod PlanLaws

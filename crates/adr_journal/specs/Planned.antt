@@ -6,7 +6,7 @@ use Rattle.adr_disk.specs.declared.memory.Crash.{Crash}
 use Rattle.adr_disk.specs.declared.memory.Crash.TheVariants.{Kept, Lost, Torn}
 use Rattle.adr_model.specs.Store.{State}
 use Rattle.adr_model.specs.Replica.{Replica, Failed as stands_failed}
-use Rattle.adr_law_journal.specs.Log.{Started}
+use Rattle.adr_law_journal.specs.Areas.{Started}
 use Rattle.adr_law_journal.specs.Replicas.{standing_of, IsRunning}
 use Rattle.adr_journal.specs.declared.keeper.KeeperRefusal.{KeeperRefusal}
 use Rattle.adr_journal.specs.declared.keeper.StartRefusal.{StartRefusal}

@@ -1,10 +1,11 @@
 -- What the calls of a disk did in a call of its journal, as far as they came.
-use Rattle.std.specs.Prelude.{◌≡◌, ◌⊎◌, ℕ, List, [], ◌∷◌, true, false, Option, Some, None}
+use Rattle.std.specs.Prelude.{◌≡◌, ◌⊎◌, ℕ, ◌-◌, List, [], ◌∷◌, length, true, false, Option, Some, None}
 use Rattle.adr_io.specs.declared.Fault.{Fault as Cause}
 use Rattle.adr_io.specs.declared.Fault.TheVariants.{Failed as failed_call, NoMemory as no_memory}
 use Rattle.adr_disk.specs.Disk.{Call, Looks, Syncs, Through}
 use Rattle.adr_law_journal.specs.Log.{open_gate, record_of}
-use Rattle.adr_law_journal.specs.Commits.{Commits}
+use Rattle.adr_law_journal.specs.Commits.{Commits, Checkpoints}
+use Rattle.adr_model.specs.Lengths.{Log}
 use Rattle.adr_journal.specs.declared.keeper.KeeperRefusal.{KeeperRefusal}
 use Rattle.adr_journal.specs.declared.keeper.KeeperRefusal.TheVariants.{DiskFault, Failed, Full, NoMemory}
 use Rattle.adr_journal.specs.declared.keeper.StartRefusal.{StartRefusal}
@@ -18,11 +19,24 @@ Prepares gives old (Some NoMemory) new = (new ≡ old) ⊎ gives old Looks (Some
 Prepares gives old (Some Full) new = new ≡ old
 Prepares gives old (Some Failed) new = new ≡ old
 
--- a record of this body was written
-abbrev pub Records : {D : Type 0} → (D → Call → Option Cause → D → Type 0) → ℕ → List ℕ → D → Option KeeperRefusal → D → Type 0
-Records gives end body old None new = Commits gives end (record_of body) old None new
-Records gives end body old (Some DiskFault) new = Commits gives end (record_of body) old (Some failed_call) new
-Records gives end body old (Some refusal) new = ⊥
+-- a new area was written and selected, if there is one; and then the record, behind which the log is this
+abbrev pub Makes : {D : Type 0} → (D → Call → Option Cause → D → Type 0) → List ℕ → Log → List ℕ → D → Option Cause → D → Type 0
+Makes gives [] next written old e new = Commits gives (next.log_end - length written) written old e new
+Makes {D} gives (b ∷ area) next written old None new =
+    (mid : D) × Checkpoints gives next.place (b ∷ area) next.second old None mid × Commits gives (next.log_end - length written) written mid None new
+Makes {D} gives (b ∷ area) next written old (Some cause) new =
+    Checkpoints gives next.place (b ∷ area) next.second old (Some cause) new
+    ⊎ ((mid : D) × Checkpoints gives next.place (b ∷ area) next.second old None mid × Commits gives (next.log_end - length written) written mid (Some cause) new)
+
+-- where the record of a body stands in a log that it ends
+abbrev pub record_place : Log → List ℕ → ℕ
+record_place next body = next.log_end - length (record_of body)
+
+-- a commit of a record of this body
+abbrev pub CommitsDisk : {D : Type 0} → (D → Call → Option Cause → D → Type 0) → List ℕ → Log → List ℕ → D → Option KeeperRefusal → D → Type 0
+CommitsDisk gives area next body old None new = Makes gives area next (record_of body) old None new
+CommitsDisk gives area next body old (Some DiskFault) new = Makes gives area next (record_of body) old (Some failed_call) new
+CommitsDisk gives area next body old (Some refusal) new = ⊥
 
 -- the length was asked for, and the bytes were read
 abbrev pub Reads : {D : Type 0} → (D → Call → Option Cause → D → Type 0) → D → Option Cause → D → Type 0

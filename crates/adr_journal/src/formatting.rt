@@ -1,36 +1,60 @@
 //! Writes a new log.
 
-ghost use Rattle.std.specs.Prelude.{◌≡◌, ◌⊎◌, ◌↔◌, ℕ, ◌+◌, ◌<◌, ◌^◌, [], ◌∷◌, IsSome, IfSome, OnOk, IsErrOf, length};
+ghost use Rattle.std.specs.Prelude.{◌≡◌, ◌⊎◌, ◌↔◌, ℕ, ◌+◌, ◌<◌, ◌^◌, List, [], ◌∷◌, IsSome, IfOk, IfSome, OnOk, IsErrOf, length};
 ghost use Rattle.std.specs.Option.{ForSome};
-ghost use Rattle.adr_wire.specs.Reading.{Reading};
 ghost use Rattle.adr_disk.specs.Disk.{Among, Only, LeavesOnly, Counts, ended};
 ghost use Rattle.adr_model.specs.Store.{State as Defined};
-ghost use Rattle.adr_law_journal.specs.Log.{Following, open_gate, start_of, IsAtRest};
-ghost use Rattle.adr_law_journal.specs.Kept.{IsSettled};
+ghost use Rattle.adr_model.specs.Lengths.{Log as Logs, new_log};
+ghost use Rattle.adr_law_journal.specs.Log.{open_gate};
+ghost use Rattle.adr_law_journal.specs.Kept.{Layout, starts, Rests, IsSettled};
+ghost use Rattle.adr_law_journal.specs.Recording.{new_bytes};
+ghost use Rattle.adr_journal.specs.Kept.{ids_of};
 ghost use Rattle.adr_journal.specs.Ran.{Formats};
-ghost use Rattle.adr_journal.specs.Written.{IsNone};
+ghost use Rattle.adr_journal.specs.Written.{AreNoLonger, IsNone};
 
-use crate::recording::{CLOSED_GATE, OPEN_GATE};
+use crate::form::Form;
+use crate::recording::{CLOSED_GATE, OPEN_GATE, area_with_gate, log_with_area};
 use adr_disk::{Disk, write_through};
+use adr_failure::NoMemory;
 use adr_io::Fault;
+use adr_state::{Log, State};
+use std::alloc::Global;
+
+/// The bytes of a new log of a state behind its first gate, and where it stands.
+pub fn new_log<F: Form>(alloc: Global, state: &State) -> Result<(Vec<u8>, Log), NoMemory>
+    requires { F.can_begin state.now }
+    ensures bytes { IfOk result (λ r. r.0.items ≡ new_bytes (F.front_of (ids_of state.now)) (F.area_of state.now)) }
+    ensures log { IfOk result (λ r. r.1 ≡ new_log state.now) }
+    ensures long { IfOk result (λ r. length r.0.items + 1 ≡ (new_log state.now).log_end) }
+{
+    let area = match area_with_gate::<F>(alloc, state)? {
+        Some(area) => area,
+        None => unreachable!(),
+    };
+    let written = log_with_area::<F>(alloc, state, &area)?;
+    let log = Log::new(area.len() as u64 - 7);
+    Ok((written, log))
+}
 
 /// Writes a log behind a closed gate on an empty disk, and then opens the gate.
 pub(crate) fn write_log<D: Disk>(disk: &mut D, written: &[u8]) -> Result<(), Fault>
     requires room { length written.now + 1 < 2 ^ 64 }
     requires empty { ForSome (D.content disk.old) (λ there. there ≡ []) }
     requires synced { ForSome (D.content disk.old) (λ there. Only there (D.may_leave disk.old)) }
-    ensures settled { OnOk result ((head : Reading Defined) (following : Following Defined) (s : Defined) (end : ℕ)
-        → IsAtRest head following s end (open_gate ∷ written.now) → IsSettled head following D.content D.may_leave disk.new end s) }
+    ensures settled { OnOk result ((l : Layout (List ℕ × List ℕ) Defined) (s : Defined) (log : Logs)
+        → Rests l s log (open_gate ∷ written.now) → IsSettled l D.content D.may_leave disk.new s log) }
     ensures told { IsSome (D.content disk.new) ↔ IsSome (D.content disk.old) }
 
     // Whatever it answers, what a crash leaves now and might have left since.
-    ensures left { (head : Reading Defined) (following : Following Defined) (s : Defined) (end : ℕ)
-        → IsAtRest head following s end (open_gate ∷ written.now)
-        → IfSome (D.content disk.old) (λ _. Among (λ bytes. IsNone s end (start_of head following bytes)) (D.may_leave disk.new)) }
-    ensures any_moment { (head : Reading Defined) (following : Following Defined) (s : Defined) (end : ℕ)
-        → IsAtRest head following s end (open_gate ∷ written.now)
+    ensures left { (l : Layout (List ℕ × List ℕ) Defined) (s : Defined) (log : Logs)
+        → Rests l s log (open_gate ∷ written.now)
+        → IfSome (D.content disk.old) (λ _. Among (λ bytes. IsNone s log (starts l bytes)) (D.may_leave disk.new)) }
+    ensures any_moment { (l : Layout (List ℕ × List ℕ) Defined) (s : Defined) (log : Logs)
+        → Rests l s log (open_gate ∷ written.now)
         → IfSome (D.content disk.old) (λ _. LeavesOnly D.moment D.left_since disk.old disk.new
-        (λ bytes. IsNone s end (start_of head following bytes))) }
+        (λ bytes. IsNone s log (starts l bytes))) }
+
+    ensures no_longer { AreNoLonger (D.content disk.old) (D.may_leave disk.new) (length written.now + 1) }
 
     ensures cause { Counts (D.faults disk.old) (D.faults disk.new) result }
     ensures no_memory_only { IsErrOf result Fault.NoMemory

@@ -3,29 +3,31 @@
 ghost use Rattle.std.specs.Prelude.{◌≡◌, [], false};
 ghost use Rattle.std.specs.Option.{ForSome, option_map};
 ghost use Rattle.adr_disk.specs.Disk.{Only};
-ghost use Rattle.adr_law_journal.specs.Log.{start_of};
+ghost use Rattle.adr_law_journal.specs.Areas.{start_of};
 
+use crate::committing::{reserve, spell, write_commit};
 use crate::form::Form;
-use crate::formatting::write_log;
+use crate::formatting::{new_log, write_log};
 use crate::keeper::{Keeper, KeeperRefusal, StartRefusal};
 use crate::reading::read_synced;
-use crate::recording::{has_room, head_with_gate, record_of, write_record};
 use crate::replaying::replay;
 use adr_disk::Disk;
 use adr_io::Fault;
-use adr_state::{Change, State};
+use adr_state::{Change, Log, State};
 use std::alloc::Global;
 use std::marker::PhantomData;
 
-/// A log on a disk, in bytes of a form. `end` is the place behind its closed gate, 0 before it is formatted or started;
-/// `prepared` is what the next commit writes.
+/// A log on a disk, in bytes of a form. Before it is formatted or started, `log` has no bytes. The next commit writes
+/// `area`, which has no bytes where no checkpoint is due, and `prepared`, and then the log is `next`.
 #[derive(Drop)]
 pub struct Journal<D, F> {
     pub(crate) alloc: Global,
     pub(crate) disk: D,
-    pub(crate) end: u64,
+    pub(crate) log: Log,
     pub(crate) failed: bool,
+    pub(crate) area: Vec<u8>,
     pub(crate) prepared: Vec<u8>,
+    pub(crate) next: Log,
     pub(crate) form: PhantomData<F>,
 }
 
@@ -35,54 +37,57 @@ impl<D: Disk, F: Form> Journal<D, F> {
         ensures empty { ForSome (D.content disk) (λ there. there ≡ []) → ForSome (D.content disk) (λ there. Only there (D.may_leave disk))
             → ⟦<Journal<D, F> as Keeper>⟧.is_empty result }
         ensures up { ⟦<Journal<D, F> as Keeper>⟧.is_failed result ≡ false }
-        ensures told { ⟦<Journal<D, F> as Keeper>⟧.told result ≡ option_map (start_of F.head F.following) (D.content disk) }
+        ensures told { ⟦<Journal<D, F> as Keeper>⟧.told result ≡ option_map (start_of F.head F.area F.following) (D.content disk) }
     {
         Journal::over(alloc, disk)
     }
 
     pub(crate) fn over(alloc: Global, disk: D) -> Journal<D, F>
         ensures disk { result.disk ≡ disk }
-        ensures end { result.end ≡ 0 }
         ensures up { result.failed ≡ false }
     {
+        let none = Log::found(false, 0, 0, 0, 0);
         Journal {
             alloc,
             disk,
-            end: 0,
+            log: none,
             failed: false,
+            area: Vec::new(alloc),
             prepared: Vec::new(alloc),
+            next: none,
             form: PhantomData,
         }
     }
 }
 
 impl<D: Disk, F: Form> Keeper for Journal<D, F> {
-    ghost use Rattle.std.specs.Prelude.{◌≡◌, ◌<◌, ◌+◌, false, []};
-    ghost use Rattle.std.specs.Option.{option_map, ForSome};
-    ghost use Rattle.adr_disk.specs.Disk.{Only};
-    ghost use Rattle.adr_law_journal.specs.Log.{start_of, record_of};
+    ghost use Rattle.std.specs.Prelude.{◌≡◌, false};
+    ghost use Rattle.std.specs.Option.{option_map};
+    ghost use Rattle.adr_law_journal.specs.Areas.{start_of};
     ghost use Rattle.adr_law_journal.specs.Kept.{Finds};
-    ghost use Rattle.adr_journal.specs.Ran.{FormatsDisk, Prepares, Records, Starts};
-    ghost use Rattle.adr_journal.specs.Kept.{IsEmpty, IsAt, IsPrepared};
+    ghost use Rattle.adr_journal.specs.Ran.{FormatsDisk, Prepares, CommitsDisk, Starts};
+    ghost use Rattle.adr_journal.specs.Kept.{IsEmpty, IsAt, IsPrepared, IsWithin};
     ghost use Rattle.adr_journal.specs.Laws.{at_tells, at_leaves, is_honest};
 
     ghost faults = { λ j. D.faults j.disk };
 
     ghost is_failed = { λ j. j.failed };
 
-    ghost is_empty = { λ j. IsEmpty D.content D.may_leave j.disk j.end };
+    ghost is_empty = { λ j. IsEmpty D.content D.may_leave j.disk };
 
-    ghost is_at = { λ j f. j.failed ≡ false → IsAt F.head F.following D.content D.may_leave j.disk j.end f };
+    ghost is_at = { λ j f. j.failed ≡ false → IsAt F.head F.area F.following D.content D.may_leave j.disk j.log f };
 
-    ghost is_prepared = { λ j c. IsPrepared D.spare_calls D.spare_bytes j.disk j.end j.prepared.items (F.body_of c) };
+    ghost is_prepared = { λ j s c. IsPrepared D.spare_calls D.spare_bytes j.disk j.log j.next j.area.items j.prepared.items (F.area_of s) (F.body_of c) s c };
 
-    ghost told = { λ j. option_map (start_of F.head F.following) (D.content j.disk) };
+    ghost is_within = { λ j file image longest. IsWithin F.head F.area F.following D.content D.may_leave j.disk file image longest };
 
-    ghost may_leave = { λ j. Finds F.head F.following (D.may_leave j.disk) };
+    ghost told = { λ j. option_map (start_of F.head F.area F.following) (D.content j.disk) };
+
+    ghost may_leave = { λ j. Finds F.head F.area F.following (D.may_leave j.disk) };
 
     ghost moment = { λ j. D.moment j.disk };
 
-    ghost left_since = { λ j t. Finds F.head F.following (D.left_since j.disk t) };
+    ghost left_since = { λ j t. Finds F.head F.area F.following (D.left_since j.disk t) };
 
     ghost can_begin = { F.can_begin };
 
@@ -94,20 +99,20 @@ impl<D: Disk, F: Form> Keeper for Journal<D, F> {
 
     ghost prepares = { λ j e new. Prepares D.gives j.disk e new.disk };
 
-    ghost commits = { λ j c e new. Records D.gives j.end (F.body_of c) j.disk e new.disk };
+    ghost commits = { λ j c e new. CommitsDisk D.gives j.area.items j.next (F.body_of c) j.disk e new.disk };
 
     ghost starts = { λ j e new. Starts D.gives j.disk e new.disk };
 
-    ghost tells = { λ j f at up. at_tells F.head F.following D.content D.may_leave j.disk j.end f (at up) };
+    ghost tells = { λ j f at up. at_tells F.head F.area F.following D.content D.may_leave j.disk j.log f (at up) };
 
-    ghost leaves = { λ j f t at up told left. at_leaves F.head F.following D.content D.may_leave j.disk j.end f (at up) t told left };
+    ghost leaves = { λ j f t at up told left. at_leaves F.head F.area F.following D.content D.may_leave j.disk j.log f (at up) t told left };
 
-    ghost honest = { λ j. is_honest F.head F.following (D.content j.disk) (D.may_leave j.disk) (D.honest j.disk) };
+    ghost honest = { λ j. is_honest F.head F.area F.following (D.content j.disk) (D.may_leave j.disk) (D.honest j.disk) };
 
     ghost only_now = { λ j t left. (left.0, D.only_now j.disk left.0 left.1, left.2) };
 
     fn format(&mut self, state: &State) -> Result<(), KeeperRefusal> {
-        let Ok(written) = head_with_gate::<F>(self.alloc, state) else {
+        let Ok((written, log)) = new_log::<F>(self.alloc, state) else {
             return Err(KeeperRefusal::NoMemory);
         };
         match self.disk.reserve(6, written.len() as u64 + 2) {
@@ -120,7 +125,7 @@ impl<D: Disk, F: Form> Keeper for Journal<D, F> {
         }
         match write_log(&mut self.disk, &written) {
             Ok(()) => {
-                self.end = written.len() as u64 + 1;
+                self.log = log;
                 self.failed = false;
                 Ok(())
             }
@@ -131,19 +136,19 @@ impl<D: Disk, F: Form> Keeper for Journal<D, F> {
         }
     }
 
-    fn prepare(&mut self, change: &Change) -> Result<(), KeeperRefusal> {
+    fn prepare(&mut self, state: &State, change: &Change) -> Result<(), KeeperRefusal> {
         if self.failed {
             return Err(KeeperRefusal::Failed);
         }
-        if !has_room(self.end, change) {
-            return Err(KeeperRefusal::Full);
-        }
-        let Ok(written) = record_of::<F>(self.alloc, change) else {
-            return Err(KeeperRefusal::NoMemory);
+        let spelled = match spell::<F>(self.alloc, self.log, state, change) {
+            Ok(spelled) => spelled,
+            Err(refusal) => return Err(refusal),
         };
-        match self.disk.reserve(4, written.len() as u64 + 1) {
+        match reserve(&mut self.disk, &spelled.area, &spelled.written) {
             Ok(()) => {
-                self.prepared = written;
+                self.area = spelled.area;
+                self.prepared = spelled.written;
+                self.next = spelled.next;
                 Ok(())
             }
             Err(Fault::Failed) => {
@@ -155,9 +160,11 @@ impl<D: Disk, F: Form> Keeper for Journal<D, F> {
     }
 
     fn commit(&mut self, _change: &Change) -> Result<(), KeeperRefusal> {
-        match write_record(&mut self.disk, self.end, &self.prepared) {
+        let written = write_commit(&mut self.disk, &self.area, &self.prepared, self.next);
+        self.area = Vec::new(self.alloc);
+        match written {
             Ok(()) => {
-                self.end += self.prepared.len() as u64;
+                self.log = self.next;
                 Ok(())
             }
             Err(_) => {
@@ -180,9 +187,9 @@ impl<D: Disk, F: Form> Keeper for Journal<D, F> {
             Err(StartRefusal::Damaged { .. }) => unreachable!(),
         };
         match replay::<F>(self.alloc, &bytes) {
-            Ok((state, end)) => {
+            Ok((state, log)) => {
                 self.failed = false;
-                self.end = end as u64;
+                self.log = log;
                 Ok(state)
             }
             Err(refusal) => Err(refusal),

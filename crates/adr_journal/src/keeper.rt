@@ -1,12 +1,12 @@
 //! What keeps a state.
 
-ghost use Rattle.std.specs.Prelude.{◌≡◌, ◌⊎◌, ◌↔◌, ℕ, ◌≤◌, ◌<◌, Bool, true, false, Option, IsSome, Ok, IfOk, IfErr, OnOk, OnErr, IsErrOf, IfSome, ⊤};
+ghost use Rattle.std.specs.Prelude.{◌≡◌, ◌⊎◌, ◌↔◌, ℕ, ◌+◌, ◌≤◌, ◌<◌, max, if◌then◌else◌, Bool, true, false, Option, IsSome, Ok, IfOk, IfErr, OnOk, OnErr, IsErrOf, IfSome, ⊤};
 ghost use Rattle.adr_disk.specs.Disk.{Among, Keeps, LeavesOnly};
 ghost use Rattle.adr_model.specs.Store.{State as Defined};
-ghost use Rattle.adr_model.specs.Change.{Change as Changes};
-ghost use Rattle.adr_model.specs.Lengths.{log_limit, new_log_end, log_end_after};
-ghost use Rattle.adr_law_journal.specs.Log.{Found, found, Started};
-ghost use Rattle.adr_law_journal.specs.Kept.{IsEither};
+ghost use Rattle.adr_model.specs.Change.{Change as Changes, after};
+ghost use Rattle.adr_model.specs.Lengths.{Log, new_log, change_fits, is_due, image_length, change_length};
+ghost use Rattle.adr_law_journal.specs.Areas.{Found, found, Started};
+ghost use Rattle.adr_law_journal.specs.Kept.{FindsEither};
 ghost use Rattle.adr_journal.specs.Ended.{ended, ended_start, found_after, IsNewOrNone, IsDamageOf, StillReads};
 ghost use Rattle.adr_journal.specs.declared.keeper.KeeperRefusal.{KeeperRefusal as Refusal};
 ghost use Rattle.adr_journal.specs.declared.keeper.StartRefusal.{StartRefusal as Refused};
@@ -54,8 +54,8 @@ pub trait Keeper {
     /// It was formatted or started, and while it isn't failed, it stands for this.
     ghost is_at: { Self → Found Defined → Type 0 };
 
-    /// It is ready to commit this change.
-    ghost is_prepared: { Self → Changes → Type 0 };
+    /// It is ready to commit this change of this state.
+    ghost is_prepared: { Self → Defined → Changes → Type 0 };
 
     /// What a start would find, where it is told; what one may find after a crash now, and after one at that moment or
     /// later.
@@ -74,6 +74,10 @@ pub trait Keeper {
 
     ghost is_formed: { Defined → Type 0 };
 
+    /// How long its disk has become, where that is told: it had so many bytes when it was first started, 0 where it was
+    /// formatted, and no image and no record that was written or found is longer than these.
+    ghost is_within: { Self → ℕ → ℕ → ℕ → Type 0 };
+
     /// What a call did, where it is told to the last: from a keeper, by a call that ended so, to a keeper.
     ghost formats: { Self → Option Refusal → Self → Type 0 } = { λ _ _ _. ⊤ };
 
@@ -87,7 +91,7 @@ pub trait Keeper {
     fn format(&mut self, state: &State) -> Result<(), KeeperRefusal>
         requires empty { is_empty self.old }
         requires begins { can_begin state.now }
-        ensures ok { OnOk result (is_at self.new (found state.now (new_log_end state.now))) }
+        ensures ok { OnOk result (is_at self.new (found state.now (new_log state.now))) }
         ensures up { OnOk result (is_failed self.new ≡ false) }
         ensures refused { OnErr result (IsErrOf result KeeperRefusal.DiskFault ⊎ IsErrOf result KeeperRefusal.NoMemory) }
         ensures fault { IsErrOf result KeeperRefusal.DiskFault
@@ -102,34 +106,40 @@ pub trait Keeper {
         ensures any_moment { IfSome (told self.old) (λ _.
             LeavesOnly moment left_since self.old self.new (IsNewOrNone state.now)) }
         ensures left { IfSome (told self.old) (λ _. Among (IsNewOrNone state.now) (may_leave self.new)) }
+        ensures within { OnOk result (is_within self.new 0 (image_length state.now.store) 0) }
         ensures formats { formats self.old (ended result) self.new };
 
-    /// Makes ready to commit a change: all that can be refused, but for a fault, is refused here. Nothing changes of
-    /// what a start finds.
-    fn prepare(&mut self, change: &Change) -> Result<(), KeeperRefusal>
-        requires { (f : Found Defined) × is_at self.old f × (is_failed self.old ≡ false → can_follow f.state change.now) }
-        ensures prepared { OnOk result (is_prepared self.new change.now) }
+    /// Makes ready to commit a change of the state that it stands for: all that can be refused, but for a fault, is
+    /// refused here. Nothing changes of what a start finds. It is full where the log would end beyond its limit, or
+    /// what is to be written would be too long for the field that tells its length.
+    fn prepare(&mut self, state: &State, change: &Change) -> Result<(), KeeperRefusal>
+        requires { (log : Log) × is_at self.old (found state.now log) × (is_failed self.old ≡ false → can_follow state.now change.now) }
+        ensures prepared { OnOk result (is_prepared self.new state.now change.now) }
         ensures up { OnOk result (is_failed self.new ≡ false) }
         ensures at { (f : Found Defined) → is_at self.old f → is_at self.new f }
         ensures keeps { Keeps told may_leave moment left_since self.old self.new }
         ensures later { faults self.old ≤ faults self.new }
         ensures failed { IsErrOf result KeeperRefusal.Failed ↔ (is_failed self.old ≡ true) }
-        ensures full { (f : Found Defined) → is_at self.old f → (IsErrOf result KeeperRefusal.Full
-            ↔ ((is_failed self.old ≡ false) × (log_limit < log_end_after f.log_end change.now))) }
+        ensures full { IsErrOf result KeeperRefusal.Full → (log : Log) → is_at self.old (found state.now log)
+            → (is_failed self.old ≡ false) × (change_fits log state.now.store change.now ≡ false) }
+        ensures fits { OnOk result ((log : Log) → is_at self.old (found state.now log)
+            → change_fits log state.now.store change.now ≡ true) }
+        ensures fits_too { IsErrOf result KeeperRefusal.DiskFault → (log : Log) → is_at self.old (found state.now log)
+            → change_fits log state.now.store change.now ≡ true }
         ensures stays_failed { IsErrOf result KeeperRefusal.Failed → self.new ≡ self.old }
         ensures stays_full { IsErrOf result KeeperRefusal.Full → self.new ≡ self.old }
         ensures fault { IsErrOf result KeeperRefusal.DiskFault
             → (faults self.old < faults self.new) × (is_failed self.new ≡ true) }
         ensures no_memory { IsErrOf result KeeperRefusal.NoMemory → is_failed self.new ≡ is_failed self.old }
+        ensures within { (file image longest : ℕ) → is_within self.old file image longest → is_within self.new file image longest }
         ensures prepares { prepares self.old (ended result) self.new };
 
     /// Commits the change that it is ready for. Only the disk can fail.
     fn commit(&mut self, change: &Change) -> Result<(), KeeperRefusal>
         requires up { is_failed self.old ≡ false }
-        requires prepared { is_prepared self.old change.now }
-        requires follows { (f : Found Defined) × is_at self.old f × can_follow f.state change.now }
-        ensures ok { OnOk result ((f : Found Defined) → is_at self.old f → can_follow f.state change.now
-            → is_at self.new (found_after f change.now)) }
+        requires prepared { (f : Found Defined) × is_at self.old f × is_prepared self.old f.state change.now × can_follow f.state change.now }
+        ensures ok { OnOk result ((f : Found Defined) → is_at self.old f → is_prepared self.old f.state change.now
+            → can_follow f.state change.now → is_at self.new (found_after f change.now)) }
         ensures up { OnOk result (is_failed self.new ≡ false) }
         ensures err { OnErr result ((f : Found Defined) → is_at self.old f → is_at self.new f) }
         ensures fault { OnErr result (IsErrOf result KeeperRefusal.DiskFault
@@ -138,15 +148,21 @@ pub trait Keeper {
         ensures told { IsSome (told self.new) ↔ IsSome (told self.old) }
 
         // Whatever it answers, what a start finds after a crash at any moment of the call, and after one from then on.
-        ensures any_moment { (f : Found Defined) → is_at self.old f → can_follow f.state change.now → IfSome (told self.old) (λ _.
-            LeavesOnly moment left_since self.old self.new (IsEither f (found_after f change.now))) }
-        ensures left { (f : Found Defined) → is_at self.old f → can_follow f.state change.now → IfSome (told self.old) (λ _.
-            Among (IsEither f (found_after f change.now)) (may_leave self.new)) }
+        // A checkpoint within the call moves the log, and leaves the state.
+        ensures any_moment { (f : Found Defined) → is_at self.old f → is_prepared self.old f.state change.now
+            → can_follow f.state change.now → IfSome (told self.old) (λ _.
+            LeavesOnly moment left_since self.old self.new (FindsEither f.state (after f.state change.now))) }
+        ensures left { (f : Found Defined) → is_at self.old f → is_prepared self.old f.state change.now
+            → can_follow f.state change.now → IfSome (told self.old) (λ _.
+            Among (FindsEither f.state (after f.state change.now)) (may_leave self.new)) }
+        ensures within { (f : Found Defined) (file image longest : ℕ) → is_at self.old f → is_prepared self.old f.state change.now
+            → is_within self.old file image longest
+            → is_within self.new file (max image (if is_due f.log change.now then image_length f.state.store else 0)) (max longest (5 + change_length change.now)) }
         ensures commits { commits self.old change.now (ended result) self.new };
 
     /// Finds the state that is kept.
     fn start(&mut self) -> Result<State, StartRefusal>
-        ensures ok { IfOk result (λ s. (end : ℕ) × is_at self.new (found s end) × IfSome (told self.old) (λ t. t ≡ Ok (found s end))) }
+        ensures ok { IfOk result (λ s. (log : Log) × is_at self.new (found s log) × IfSome (told self.old) (λ t. t ≡ Ok (found s log))) }
         ensures formed { IfOk result is_formed }
         ensures up { OnOk result (is_failed self.new ≡ false) }
         ensures damaged { IfErr result (λ e. IsDamageOf e (told self.old)) }
@@ -160,6 +176,7 @@ pub trait Keeper {
         // After a crash at any moment of the call, a start finds what one might have found before it.
         ensures any_moment { LeavesOnly moment left_since self.old self.new (may_leave self.old) }
         ensures left { Among (may_leave self.old) (may_leave self.new) }
+        ensures within { (file image longest : ℕ) → is_within self.old file image longest → is_within self.new file image longest }
         ensures starts { starts self.old (ended_start result) self.new };
 
     /// What a start would find of a keeper that isn't failed, now and after a crash, is what it stands for.

@@ -1,10 +1,13 @@
 //! What keeps a controller's state beyond a crash: a log of gated records on a disk, of which a start finds the state
-//! before a change or after it, whatever the crash.
+//! before a change or after it, whatever the crash. Where the records have become long, a commit first writes a new area
+//! with the state's image beside the live one, and selects it.
 //!
 //! It stands on the disks of `adr_disk`, on the state of `adr_state` and on the laws of `adr_law_journal`. The bytes of a
 //! state and of a change are those of a form that it takes as a parameter. It knows nothing of why a change is made.
 #![tactic(auto)]
 
+mod checkpoint;
+mod committing;
 mod form;
 mod formatting;
 mod journal;
@@ -17,9 +20,11 @@ mod replaying;
 
 pub use adr_failure::NoMemory;
 pub use adr_state::{Change, State};
-pub use form::{FollowRefusal, Form};
+pub use committing::{Spelled, spell};
+pub use form::{AreaRead, FollowRefusal, Form, Owner};
+pub use formatting::new_log;
 pub use journal::Journal;
 pub use keeper::{Keeper, KeeperRefusal, StartRefusal};
 pub use planned::PlannedKeeper;
-pub use recording::{OPEN_GATE, has_room, head_with_gate, record_of};
+pub use recording::{OPEN_GATE, record_of};
 pub use replaying::replay;

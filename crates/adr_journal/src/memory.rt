@@ -43,35 +43,37 @@ impl<F: Form> PlannedKeeper for Journal<MemDisk, F> {
     ghost use Rattle.std.proofs.Common.{refl};
     ghost use Rattle.adr_disk.specs.Memory.{read_of, left_by};
     ghost use Rattle.adr_disk.specs.declared.memory.Crash.TheVariants.{Torn};
-    ghost use Rattle.adr_law_journal.specs.Log.{start_of};
+    ghost use Rattle.adr_law_journal.specs.Areas.{start_of};
     ghost use Rattle.adr_law_journal.specs.Replicas.{plan_of};
     ghost use Rattle.adr_journal.specs.PlanLaws.{prepares_so, commits_so, starts_so, formats_so, keeps_so};
 
-    ghost read = { λ j. start_of F.head F.following (read_of j.disk.held.surface) };
+    ghost read = { λ j. start_of F.head F.area F.following (read_of j.disk.held.surface) };
 
-    ghost safe = { λ j. start_of F.head F.following j.disk.held.surface.synced };
+    ghost safe = { λ j. start_of F.head F.area F.following j.disk.held.surface.synced };
 
-    ghost torn = { λ j. start_of F.head F.following (left_by Torn j.disk.held.surface) };
+    ghost torn = { λ j. start_of F.head F.area F.following (left_by Torn j.disk.held.surface) };
 
     ghost plan = { λ j. plan_of j.disk.plan };
 
     ghost has_stopped = { λ j. j.disk.stopped };
 
-    ghost found_in = { start_of F.head F.following };
+    ghost found_in = { start_of F.head F.area F.following };
 
     ghost tells_read = { λ k. refl };
 
-    ghost keeps_it = { λ k f at up. keeps_so F.head F.following k.disk k.end f (at up) };
+    ghost keeps_it = { λ k f at up. keeps_so F.head F.area F.following k.disk k.log f (at up) };
 
-    ghost formats_unplanned = { λ k new e up none ran. formats_so F.head F.following (λ j. j.disk) k new e up none ran };
+    ghost formats_unplanned = { λ k new e up none ran. formats_so F.head F.area F.following (λ j. j.disk) k new e up none ran };
 
-    ghost prepares_unmet = { λ k new e r up has ran. prepares_so F.head F.following (λ j. j.disk) k new e r up has ran };
+    ghost prepares_unmet = { λ k new e r up has ran. prepares_so F.head F.area F.following (λ j. j.disk) k new e r up has ran };
 
     ghost commits_as_planned = { λ k new c e book r p at running prepared follows up same has of_p ran.
-        commits_so F.head F.following (λ j. j.disk) k new k.end (F.body_of c) k.prepared.items c book r p (at running)
-        prepared.room prepared.is (F.body_follows r.safe c follows) (F.body_length r.safe c follows) up same has of_p e ran };
+        commits_so F.head F.area F.following (λ j. j.disk) k new k.log k.next k.area.items k.prepared.items (F.area_of r.safe) (F.body_of c) c book r p
+        (at running) prepared.before prepared.leads prepared.fits
+        (λ short place. F.tells_area place r.safe (F.begins_anew r.safe c follows short)) (λ short. F.area_length r.safe (F.begins_anew r.safe c follows short))
+        (F.body_follows r.safe c follows) (F.body_length r.safe c follows) up same has of_p e ran };
 
-    ghost starts_as_planned = { λ k new e book r up has ran. starts_so F.head F.following (λ j. j.disk) k new book r up has e ran };
+    ghost starts_as_planned = { λ k new e book r up has ran. starts_so F.head F.area F.following (λ j. j.disk) k new book r up has e ran };
 
     fn stop_after(&mut self, calls: u32, how: Crash) {
         self.disk.stop_after(calls, how);

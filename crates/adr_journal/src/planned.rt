@@ -4,7 +4,7 @@ ghost use Rattle.std.specs.Prelude.{◌≡◌, ◌⊎◌, ℕ, List, Bool, true,
 ghost use Rattle.adr_model.specs.Store.{State as Defined};
 ghost use Rattle.adr_model.specs.Change.{Change as Changes};
 ghost use Rattle.adr_model.specs.Replica.{Stops, Fails, Plan, Replica, Pending, Book};
-ghost use Rattle.adr_law_journal.specs.Log.{Found, Started};
+ghost use Rattle.adr_law_journal.specs.Areas.{Found, Started};
 ghost use Rattle.adr_law_journal.specs.Replicas.{read_found, safe_found, Has, committed, started};
 ghost use Rattle.adr_journal.specs.Planned.{left_found, Same, CommitsAs, StartsAs};
 ghost use Rattle.adr_journal.specs.declared.keeper.KeeperRefusal.{KeeperRefusal as Refusal};
@@ -87,7 +87,7 @@ pub trait PlannedKeeper: Keeper {
 
     /// A commit does to what is read, to what is safe and to the plan what it does to a replica.
     ghost commits_as_planned: { (k new : Self) (c : Changes) (e : Option Refusal) (book : Book) (r : Replica) (p : Pending)
-        → Self.is_at k (safe_found r) → Self.is_failed k ≡ false → Self.is_prepared k c → Self.can_follow r.safe c
+        → Self.is_at k (safe_found r) → Self.is_failed k ≡ false → Self.is_prepared k r.safe c → Self.can_follow r.safe c
         → has_stopped k ≡ false → read_found r ≡ safe_found r → Has read safe torn plan k r → p.change ≡ c
         → Self.commits k c e new → CommitsAs (Has read safe torn plan) has_stopped e (committed book r p) new };
 

@@ -1,21 +1,23 @@
-//! Spells what a log begins with and its records, and writes a record.
+//! Spells what a log begins with, its areas and its records, and writes a record.
 
-ghost use Rattle.std.specs.Prelude.{◌≡◌, ◌⊎◌, ◌↔◌, ℕ, ◌+◌, ◌≤◌, ◌<◌, ◌^◌, List, [], ◌∷◌, ◌++◌, true, false, IsSome, Ok, IfOk, IfSome, OnOk, IsErrOf, length};
+ghost use Rattle.std.specs.Prelude.{◌≡◌, ◌⊎◌, ◌↔◌, ℕ, ◌+◌, ◌≤◌, ◌<◌, ◌^◌, List, [], ◌∷◌, ◌++◌, true, false, IsSome, is_some, nat_lt, Ok, IfOk, IfSome, OnOk, IsErrOf, length};
 ghost use Rattle.std.specs.Option.{ForSome};
-ghost use Rattle.adr_wire.specs.Reading.{Reading};
+ghost use Rattle.adr_wire.specs.Fields.{u64};
 ghost use Rattle.adr_disk.specs.Disk.{Among, Only, LeavesOnly, Counts, ended};
 ghost use Rattle.adr_model.specs.Store.{State as Defined};
-ghost use Rattle.adr_model.specs.Lengths.{log_limit, log_end_after};
-ghost use Rattle.adr_law_journal.specs.Log.{found, Following, start_of, record_of, end_behind};
-ghost use Rattle.adr_law_journal.specs.Kept.{IsEither, IsSettled};
+ghost use Rattle.adr_model.specs.Lengths.{Log, first_area, image_length, length_limit};
+ghost use Rattle.adr_law_journal.specs.Log.{record_of};
 ghost use Rattle.adr_law_journal.specs.Commits.{Commits};
-ghost use Rattle.adr_journal.specs.Written.{Takes};
+ghost use Rattle.adr_law_journal.specs.Kept.{Layout, starts, IsSettled};
+ghost use Rattle.adr_law_journal.specs.Recording.{log_behind, new_bytes};
+ghost use Rattle.adr_journal.specs.Kept.{ids_of};
+ghost use Rattle.adr_journal.specs.Written.{AreNoLonger, IsEitherLog, Takes};
 
 use crate::form::Form;
 use adr_disk::{Disk, write_through};
 use adr_failure::NoMemory;
 use adr_io::Fault;
-use adr_state::{Change, LOG_LIMIT, State, log_end_after};
+use adr_state::{Change, State};
 use std::alloc::Global;
 
 /// A gate that is open; every other byte is a closed one.
@@ -23,21 +25,44 @@ pub const OPEN_GATE: u8 = 0xC3;
 
 pub(crate) const CLOSED_GATE: u8 = 0;
 
-/// Whether a log that ends here has room for a change's record.
-pub fn has_room(end: u64, change: &Change) -> bool
-    ensures room { result ≡ true → log_end_after end change.now ≤ log_limit }
-    ensures none { result ≡ false → log_limit < log_end_after end change.now }
+/// The place of the area of a new log.
+const FIRST_AREA: u64 = 56;
+
+/// A new area of a state, with its closed gate; none where its image would be 4 GiB or longer.
+pub(crate) fn area_with_gate<F: Form>(
+    alloc: Global,
+    state: &State,
+) -> Result<Option<Vec<u8>>, NoMemory>
+    requires { F.is_formed state.now }
+    ensures bytes { IfOk result (λ area. IfSome area (λ bytes. bytes.items ≡ F.area_of state.now ++ 0 ∷ [])) }
+    ensures long { IfOk result (λ area. IfSome area (λ bytes. length bytes.items ≡ 7 + image_length state.now.store)) }
+    ensures fits { IfOk result (λ area. is_some area ≡ nat_lt (image_length state.now.store) length_limit) }
 {
-    end <= LOG_LIMIT && log_end_after(end, change).is_some()
+    match F::write_area(alloc, state)? {
+        Some(mut written) => {
+            written.push(CLOSED_GATE)?;
+            Ok(Some(written))
+        }
+        None => Ok(None),
+    }
 }
 
-/// What stands behind the first gate of a new log: the head of a state, and a closed gate.
-pub fn head_with_gate<F: Form>(alloc: Global, state: &State) -> Result<Vec<u8>, NoMemory>
-    requires { F.can_begin state.now }
-    ensures { IfOk result (λ bytes. bytes.items ≡ F.head_of state.now ++ 0 ∷ []) }
+/// What stands behind the first gate of a new log: its head, a selector and both slots, and this area.
+#[tactic(auto, unfolding(adr_wire::specs::Fields::u64))]
+pub(crate) fn log_with_area<F: Form>(
+    alloc: Global,
+    state: &State,
+    area: &[u8],
+) -> Result<Vec<u8>, NoMemory>
+    requires { F.is_formed state.now }
+    ensures { IfOk result (λ bytes. bytes.items
+        ≡ F.front_of (ids_of state.now) ++ (0 ∷ (u64 first_area ++ (u64 first_area ++ area.now)))) }
 {
-    let mut written = F::write_head(alloc, state)?;
-    written.push(CLOSED_GATE)?;
+    let mut written = F::write_front(alloc, state)?;
+    written.push(0)?;
+    written.extend_from_slice(&FIRST_AREA.to_be_bytes())?;
+    written.extend_from_slice(&FIRST_AREA.to_be_bytes())?;
+    written.extend_from_slice(area)?;
     Ok(written)
 }
 
@@ -62,20 +87,21 @@ pub(crate) fn write_record<D: Disk>(disk: &mut D, end: u64, written: &[u8]) -> R
     requires room { end + length written.now < 2 ^ 64 }
     requires within { ForSome (D.content disk.old) (λ there. end ≤ length there) }
     requires synced { ForSome (D.content disk.old) (λ there. Only there (D.may_leave disk.old)) }
-    ensures settled { OnOk result ((head : Reading Defined) (following : Following Defined) (s t : Defined) (body : List ℕ)
-        → Takes head following D.content D.may_leave disk.old end written.now s t body
-        → IsSettled head following D.content D.may_leave disk.new (end_behind end body) t) }
+    ensures settled { OnOk result ((l : Layout (List ℕ × List ℕ) Defined) (s t : Defined) (log : Log) (body : List ℕ)
+        → Takes l D.content D.may_leave disk.old end written.now s t log body
+        → IsSettled l D.content D.may_leave disk.new t (log_behind log body)) }
     ensures told { IsSome (D.content disk.new) ↔ IsSome (D.content disk.old) }
 
     // Whatever it answers, what a crash leaves now and might have left since.
-    ensures left { (head : Reading Defined) (following : Following Defined) (s t : Defined) (body : List ℕ)
-        → Takes head following D.content D.may_leave disk.old end written.now s t body
+    ensures left { (l : Layout (List ℕ × List ℕ) Defined) (s t : Defined) (log : Log) (body : List ℕ)
+        → Takes l D.content D.may_leave disk.old end written.now s t log body
         → IfSome (D.content disk.old) (λ _.
-        Among (λ bytes. IsEither (found s end) (found t (end_behind end body)) (start_of head following bytes)) (D.may_leave disk.new)) }
-    ensures any_moment { (head : Reading Defined) (following : Following Defined) (s t : Defined) (body : List ℕ)
-        → Takes head following D.content D.may_leave disk.old end written.now s t body
+        Among (λ bytes. IsEitherLog s log t (log_behind log body) (starts l bytes)) (D.may_leave disk.new)) }
+    ensures any_moment { (l : Layout (List ℕ × List ℕ) Defined) (s t : Defined) (log : Log) (body : List ℕ)
+        → Takes l D.content D.may_leave disk.old end written.now s t log body
         → IfSome (D.content disk.old) (λ _. LeavesOnly D.moment D.left_since disk.old disk.new
-        (λ bytes. IsEither (found s end) (found t (end_behind end body)) (start_of head following bytes))) }
+        (λ bytes. IsEitherLog s log t (log_behind log body) (starts l bytes))) }
+    ensures no_longer { AreNoLonger (D.content disk.old) (D.may_leave disk.new) (end + length written.now) }
 
     ensures cause { Counts (D.faults disk.old) (D.faults disk.new) result }
     ensures no_memory_only { IsErrOf result Fault.NoMemory

@@ -1,16 +1,43 @@
 //! Reads a log from its bytes.
 
-ghost use Rattle.std.specs.Prelude.{◌≡◌, ◌≤◌, ◌<◌, ◌+◌, ◌^◌, ◌++◌, ℕ, false, Some, Err, IfOk, IfErr, IfSome, IfNone, OnOk, IsErrOf, length, take, drop, get_or};
-ghost use Rattle.adr_law_journal.specs.Log.{body_at, open_gate, with_length, start_of, Reaches, IsAtRest};
+ghost use Rattle.std.specs.Prelude.{◌≡◌, ◌≤◌, ◌<◌, ◌+◌, ◌^◌, ◌++◌, ℕ, List, false, true, Some, Err, IfOk, IfErr, IfSome, IfNone, OnOk, IsErrOf, length, drop, get_or};
+ghost use Rattle.std.specs.Int.{w64, from_be_bytes};
+ghost use Rattle.adr_model.specs.Lengths.{log_version};
+ghost use Rattle.adr_law_journal.specs.Log.{body_at, open_gate, with_length};
+ghost use Rattle.adr_law_journal.specs.Areas.{start_of, window};
+ghost use Rattle.adr_law_journal.specs.Begun.{IsNamed};
 ghost use Rattle.adr_journal.specs.Ended.{IsDamageOf};
+ghost use Rattle.adr_journal.specs.Reached.{IsOwned, IsReached, IsLog};
 
-use crate::form::{FollowRefusal, Form};
+use crate::form::{AreaRead, FollowRefusal, Form, Owner};
 use crate::keeper::StartRefusal;
 use crate::recording::OPEN_GATE;
 use adr_failure::Failure;
-use adr_state::State;
+use adr_state::{Log, State};
 use adr_wire::Reader;
 use std::alloc::Global;
+
+/// The places behind the head, in bytes: the selector, both slots, and the first at which an area may stand.
+const SELECTOR: usize = 39;
+
+const FIRST_SLOT: usize = 40;
+
+const SECOND_SLOT: usize = 48;
+
+const FIRST_AREA: usize = 56;
+
+/// The selector that selects the second slot; every other one selects the first.
+const SELECTS_SECOND: u8 = 0xC3;
+
+/// An area whose records are read: whether the second slot selects it, its place and version, and the place of its
+/// first gate; places in bytes.
+#[derive(Clone, Copy)]
+struct Area {
+    second: bool,
+    place: usize,
+    version: u16,
+    first: usize,
+}
 
 /// The body that stands behind a gate, if all of it is there.
 fn body_of(bytes: &[u8]) -> Option<&[u8]>
@@ -39,12 +66,10 @@ fn damaged(place: usize) -> StartRefusal
     }
 }
 
-/// The state at the head of a log, and the place of the gate behind it.
-fn read_first<F: Form>(alloc: Global, bytes: &[u8]) -> Result<(State, usize), StartRefusal>
-    ensures within { IfOk result (λ r. r.1 ≤ length bytes.now) }
-    ensures reaches { IfOk result (λ r. Reaches F.head F.following (take r.1 bytes.now) r.0) }
-    ensures formed { IfOk result (λ r. F.is_formed r.0) }
-    ensures damaged { IfErr result (λ e. IsDamageOf e (Some (start_of F.head F.following bytes.now))) }
+/// Whose log it is, as its head says behind an open gate.
+fn read_owner<F: Form>(bytes: &[u8]) -> Result<Owner, StartRefusal>
+    ensures owned { IfOk result (λ o. IsOwned F.head (o.dsa, o.inv) bytes.now) }
+    ensures damaged { IfErr result (λ e. IsDamageOf e (Some (start_of F.head F.area F.following bytes.now))) }
     ensures refused { IsErrOf result StartRefusal.DiskFault → ⊥ }
     ensures settled { IsErrOf result (StartRefusal.NoMemory false) → ⊥ }
 {
@@ -54,8 +79,92 @@ fn read_first<F: Form>(alloc: Global, bytes: &[u8]) -> Result<(State, usize), St
     if bytes[0] != OPEN_GATE {
         return Err(damaged(0));
     }
-    match F::read_head(alloc, bytes) {
-        Ok(read) => Ok(read),
+    match F::read_front(bytes) {
+        Ok(owner) => Ok(owner),
+        Err(Failure::Refused(malformed)) => Err(StartRefusal::Damaged {
+            place: malformed.place,
+        }),
+        Err(Failure::NoMemory) => Err(StartRefusal::NoMemory { settled: true }),
+    }
+}
+
+/// The eight bytes at a place as a number, the high byte first.
+fn number_at(bytes: &[u8], place: usize) -> u64
+    requires { place + 8 ≤ length bytes.now }
+    ensures { result ≡ from_be_bytes w64 (window place 8 bytes.now) }
+{
+    let (_, rest) = bytes.split_at(place);
+    match rest.split_first_chunk::<8>() {
+        Some((number, _)) => u64::from_be_bytes(*number),
+        None => unreachable!(),
+    }
+}
+
+/// Whether the second slot is selected, and the place that the selected one holds. The file is damaged at the field
+/// that it ends within, or at the selected slot where no area can stand at its place.
+fn read_selected<F: Form>(bytes: &[u8]) -> Result<(bool, usize), StartRefusal>
+    requires short { length bytes.now < 2 ^ 63 }
+    requires owned { (o : List ℕ × List ℕ) × IsOwned F.head o bytes.now }
+    ensures named { IfOk result (λ r. IsNamed r.0 r.1 bytes.now) }
+    ensures damaged { IfErr result (λ e. IsDamageOf e (Some (start_of F.head F.area F.following bytes.now))) }
+    ensures refused { IsErrOf result StartRefusal.DiskFault → ⊥ }
+    ensures settled { IsErrOf result (StartRefusal.NoMemory false) → ⊥ }
+{
+    if bytes.len() < FIRST_SLOT {
+        return Err(damaged(SELECTOR));
+    }
+    if bytes.len() < SECOND_SLOT {
+        return Err(damaged(FIRST_SLOT));
+    }
+    if bytes.len() < FIRST_AREA {
+        return Err(damaged(SECOND_SLOT));
+    }
+    let second = bytes[SELECTOR] == SELECTS_SECOND;
+    let slot = if second { SECOND_SLOT } else { FIRST_SLOT };
+    let place = number_at(bytes, slot);
+    if place < FIRST_AREA as u64 {
+        return Err(damaged(slot));
+    }
+    if place >= bytes.len() as u64 {
+        return Err(damaged(slot));
+    }
+    Ok((second, place as usize))
+}
+
+/// The state that the selected area begins with.
+fn read_first<F: Form>(alloc: Global, bytes: &[u8]) -> Result<(State, Area), StartRefusal>
+    requires { length bytes.now < 2 ^ 63 }
+    ensures reached { IfOk result (λ r. IsReached F.head F.area F.following r.1.second r.1.place r.1.version r.1.first r.1.first bytes.now r.0) }
+    ensures formed { IfOk result (λ r. F.is_formed r.0) }
+    ensures version { IfOk result (λ r. r.1.version ≤ log_version) }
+    ensures damaged { IfErr result (λ e. IsDamageOf e (Some (start_of F.head F.area F.following bytes.now))) }
+    ensures refused { IsErrOf result StartRefusal.DiskFault → ⊥ }
+    ensures settled { IsErrOf result (StartRefusal.NoMemory false) → ⊥ }
+{
+    let owner = match read_owner::<F>(bytes) {
+        Ok(owner) => owner,
+        Err(refusal) => return Err(refusal),
+    };
+    let (second, place) = match read_selected::<F>(bytes) {
+        Ok(selected) => selected,
+        Err(refusal) => return Err(refusal),
+    };
+    match F::read_area(alloc, bytes, place, owner) {
+        Ok(
+            AreaRead {
+                state,
+                first,
+                version,
+            },
+        ) => Ok((
+            state,
+            Area {
+                second,
+                place,
+                version,
+                first,
+            },
+        )),
         Err(Failure::Refused(malformed)) => Err(StartRefusal::Damaged {
             place: malformed.place,
         }),
@@ -68,17 +177,18 @@ fn take_record<F: Form>(
     alloc: Global,
     state: &mut State,
     bytes: &[u8],
+    area: Area,
     gate: usize,
 ) -> Result<usize, StartRefusal>
     requires short { length bytes.now < 2 ^ 63 }
     requires there { gate < length bytes.now }
     requires open { get_or bytes.now gate 0 ≡ open_gate }
-    requires reaches { Reaches F.head F.following (take gate bytes.now) state.old }
+    requires reached { IsReached F.head F.area F.following area.second area.place area.version area.first gate bytes.now state.old }
     requires formed { F.is_formed state.old }
-    ensures within { IfOk result (λ next. (gate < next) × (next ≤ length bytes.now)) }
-    ensures reaches { IfOk result (λ next. Reaches F.head F.following (take next bytes.now) state.new) }
+    ensures further { IfOk result (λ next. gate < next) }
+    ensures reached { IfOk result (λ next. IsReached F.head F.area F.following area.second area.place area.version area.first next bytes.now state.new) }
     ensures formed { OnOk result (F.is_formed state.new) }
-    ensures damaged { IfErr result (λ e. IsDamageOf e (Some (start_of F.head F.following bytes.now))) }
+    ensures damaged { IfErr result (λ e. IsDamageOf e (Some (start_of F.head F.area F.following bytes.now))) }
     ensures refused { IsErrOf result StartRefusal.DiskFault → ⊥ }
     ensures settled { IsErrOf result (StartRefusal.NoMemory false) → ⊥ }
 {
@@ -86,36 +196,37 @@ fn take_record<F: Form>(
     let Some(body) = body_of(behind) else {
         return Err(damaged(gate));
     };
-    match F::follow(alloc, state, body) {
+    match F::follow(alloc, area.version, state, body) {
         Ok(()) => Ok(gate + 5 + body.len()),
         Err(FollowRefusal::CannotFollow) => Err(damaged(gate)),
         Err(FollowRefusal::NoMemory) => Err(StartRefusal::NoMemory { settled: true }),
     }
 }
 
-/// Takes the records from a gate on, and tells the place behind the closed one.
+/// Takes the records of an area from its first gate on, and tells the place behind the closed one.
 fn take_records<F: Form>(
     alloc: Global,
     state: &mut State,
     bytes: &[u8],
-    first: usize,
+    area: Area,
 ) -> Result<usize, StartRefusal>
     requires short { length bytes.now < 2 ^ 63 }
-    requires within { first ≤ length bytes.now }
-    requires reaches { Reaches F.head F.following (take first bytes.now) state.old }
+    requires reached { IsReached F.head F.area F.following area.second area.place area.version area.first area.first bytes.now state.old }
     requires formed { F.is_formed state.old }
-    ensures rests { IfOk result (λ end. IsAtRest F.head F.following state.new end bytes.now) }
+    ensures rests { IfOk result (λ end. IsLog F.head F.area F.following bytes.now state.new
+        (record { second = area.second; place = area.place; version = area.version; first = area.first; log_end = end })) }
+    ensures within { IfOk result (λ end. (area.first < end) × (end ≤ length bytes.now)) }
     ensures formed { OnOk result (F.is_formed state.new) }
-    ensures damaged { IfErr result (λ e. IsDamageOf e (Some (start_of F.head F.following bytes.now))) }
+    ensures damaged { IfErr result (λ e. IsDamageOf e (Some (start_of F.head F.area F.following bytes.now))) }
     ensures refused { IsErrOf result StartRefusal.DiskFault → ⊥ }
     ensures settled { IsErrOf result (StartRefusal.NoMemory false) → ⊥ }
 {
-    let mut gate = first;
+    let mut gate = area.first;
     'records: while gate < bytes.len() {
         if bytes[gate] != OPEN_GATE {
             return Ok(gate + 1);
         }
-        gate = match take_record::<F>(alloc, state, bytes, gate) {
+        gate = match take_record::<F>(alloc, state, bytes, area, gate) {
             Ok(next) => next,
             Err(refusal) => return Err(refusal),
         };
@@ -123,21 +234,32 @@ fn take_records<F: Form>(
     Err(damaged(gate))
 }
 
-/// The state that a log leads to, and the place behind its closed gate.
-pub fn replay<F: Form>(alloc: Global, bytes: &[u8]) -> Result<(State, usize), StartRefusal>
+/// The state that a log leads to, and where the log stands.
+pub fn replay<F: Form>(alloc: Global, bytes: &[u8]) -> Result<(State, Log), StartRefusal>
     requires { length bytes.now < 2 ^ 63 }
-    ensures rests { IfOk result (λ r. IsAtRest F.head F.following r.0 r.1 bytes.now) }
+    ensures rests { IfOk result (λ r. IsLog F.head F.area F.following bytes.now r.0 r.1) }
+    ensures within { IfOk result (λ r. (r.1.first < r.1.log_end) × (r.1.log_end ≤ length bytes.now)) }
+    ensures version { IfOk result (λ r. r.1.version ≤ log_version) }
     ensures formed { IfOk result (λ r. F.is_formed r.0) }
-    ensures damaged { IfErr result (λ e. IsDamageOf e (Some (start_of F.head F.following bytes.now))) }
+    ensures damaged { IfErr result (λ e. IsDamageOf e (Some (start_of F.head F.area F.following bytes.now))) }
     ensures refused { IsErrOf result StartRefusal.DiskFault → ⊥ }
     ensures settled { IsErrOf result (StartRefusal.NoMemory false) → ⊥ }
 {
-    let (mut state, gate) = match read_first::<F>(alloc, bytes) {
+    let (mut state, area) = match read_first::<F>(alloc, bytes) {
         Ok(read) => read,
         Err(refusal) => return Err(refusal),
     };
-    match take_records::<F>(alloc, &mut state, bytes, gate) {
-        Ok(end) => Ok((state, end)),
+    match take_records::<F>(alloc, &mut state, bytes, area) {
+        Ok(end) => Ok((
+            state,
+            Log::found(
+                area.second,
+                area.place as u64,
+                area.version,
+                area.first as u64,
+                end as u64,
+            ),
+        )),
         Err(refusal) => Err(refusal),
     }
 }

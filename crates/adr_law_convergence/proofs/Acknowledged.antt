@@ -17,12 +17,12 @@ use Rattle.adr_model.specs.Update.{Update}
 use Rattle.adr_model.specs.Store.{State, updates_of}
 use Rattle.adr_model.specs.Change.{Written, Change, updates_written}
 use Rattle.adr_event.specs.declared.refusal.Table.TheVariants.{Log}
-use Rattle.adr_model.specs.Lengths.{log_limit, log_end_after}
+use Rattle.adr_model.specs.Lengths.{log_limit, change_fits}
 use Rattle.adr_model.specs.Serve.{Request, Reply}
 use Rattle.adr_model.specs.Write.{Write, AddObject, Modify, Rename, Delete, AddLink, RemoveLink, next_row, object_of, nodes_held, rows_written, items_written, own_change, write_refusal, write, Revive}
 use Rattle.adr_model.specs.Given.{IsWellGiven}
 use Rattle.adr_model.specs.Refused.{write_refused, serve_refused, take_refused, full}
-use Rattle.adr_model.specs.Replica.{Pending, ToWrite, Up, Failed, Stops, Fails, Replica, moved, Went, Passed, Met, went, moves_of_commit, standing_after, plan_after, outcome_after}
+use Rattle.adr_model.specs.Replica.{Pending, ToWrite, Up, Failed, Stops, Fails, Replica, moved, Went, Passed, Met, moves_of_commit, standing_after, outcome_after, commit_goes, device_after_commit}
 use Rattle.adr_model.specs.World.{Name, World, Gone, stays, bound_at, with_replica, committed, commit, after_write, writes, asks, serves_request, delivers}
 use Rattle.adr_model.specs.Cycles.{reply_limit, pull_version}
 use Rattle.adr_model.specs.Step.{ClientWrite, client_write, write_of, step}
@@ -77,7 +77,7 @@ module _ (w : World) (e : Event) (r : Replica) (there : Member r w.replicas) whe
     gone g = (
       record w {
         book = (fold moved (w.book, r) (moves_of_commit pending g)).0;
-        replicas = with_replica w.replicas (record (fold moved (w.book, r) (moves_of_commit pending g)).1 { standing = standing_after Failed g; plan = plan_after g });
+        replicas = with_replica w.replicas (record (fold moved (w.book, r) (moves_of_commit pending g)).1 { standing = standing_after Failed g; device = device_after_commit r pending });
       },
       outcome_after g (outcomes.Usn change.usn),
     )
@@ -99,8 +99,8 @@ module _ (w : World) (e : Event) (r : Replica) (there : Member r w.replicas) whe
       row = let u = a_row r.safe what w.time is in (record { local = r.safe.store.usn + 1; item = rows_written r.safe what w.time }, u.0, inl refl, u.1);
       issued = items_issued usn same;
       stays = (
-        record (fold moved (w.book, r) (moves_of_commit pending (Passed left))).1 { standing = Up; plan = left },
-        in_its_place (record (fold moved (w.book, r) (moves_of_commit pending (Passed left))).1 { standing = Up; plan = left }) refl,
+        record (fold moved (w.book, r) (moves_of_commit pending (Passed left))).1 { standing = Up; device = device_after_commit r pending },
+        in_its_place (record (fold moved (w.book, r) (moves_of_commit pending (Passed left))).1 { standing = Up; device = device_after_commit r pending }) refl,
         refl,
         refl,
       );
@@ -115,7 +115,7 @@ module _ (w : World) (e : Event) (r : Replica) (there : Member r w.replicas) whe
     wrote (Err x) h = λ usn same. absurd (plain_is_not (write_refused x) (write_refused_plainly x) usn same)
     wrote (Ok c) h = subst (λ (d : Change). IsTrueOf w e (commit w r (record { call = ToWrite what w.time; change = d }) (outcomes.Usn d.usn)))
         (answered (write_refusal r.safe what) change c h).1
-        (within_case (IsTrueOf w e) w (log_end_after r.safe_end change) (committed w r pending (outcomes.Usn change.usn)) (λ usn same. absurd (plain_is_not (full Log log_limit) refl usn same)) (was_issued (went r.plan 4)))
+        (within_case (IsTrueOf w e) w (change_fits r.device.safe_log r.safe.store change) (committed w r pending (outcomes.Usn change.usn)) (λ usn same. absurd (plain_is_not (full Log log_limit) refl usn same)) (was_issued (commit_goes r pending)))
 
 -- ---- other refusals are plain
 

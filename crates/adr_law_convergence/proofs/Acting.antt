@@ -10,13 +10,13 @@ use Rattle.adr_event.specs.declared.refusal.CollectRefusal.{CollectRefusal}
 use Rattle.adr_model.specs.Member.{Member}
 use Rattle.adr_model.specs.Update.{Identifier}
 use Rattle.adr_model.specs.Change.{Change, after}
-use Rattle.adr_model.specs.Lengths.{log_end_after}
+use Rattle.adr_model.specs.Lengths.{change_fits}
 use Rattle.adr_model.specs.Serve.{Reply}
 use Rattle.adr_model.specs.Write.{Write, items_written, own_change, write_refusal, write}
 use Rattle.adr_model.specs.Given.{IsWellGiven}
 use Rattle.adr_model.specs.Take.{take}
 use Rattle.adr_model.specs.Collect.{collection, deaths_to_collect, collect_refusal, collect}
-use Rattle.adr_model.specs.Replica.{Pending, ToWrite, ToTake, ToCollect, change_of, change_in, Standing, Up, Plan, Replica, Book, Settle, moved, went, moves_of_commit, moves_of_start, standing_after, plan_after, Failed, ToUpgrade}
+use Rattle.adr_model.specs.Replica.{Pending, ToWrite, ToTake, ToCollect, change_of, change_in, Standing, Up, Plan, Replica, Book, Settle, moved, moves_of_commit, moves_of_start, standing_after, Failed, ToUpgrade, Device, commit_goes, start_goes, device_after_commit, device_after_start}
 use Rattle.adr_model.specs.World.{World, Gone, with_replica, committed, commit, after_write, after_collect, after_take, after_moves, after_upgrade}
 use Rattle.adr_model.specs.Sound.{IsSoundCall, IsSettled, IsSoundReplica, IsSoundReply, IsGiven, IsSoundWorld, WereTold, IsTraced, IsTracedReply, IsSoundLast}
 use Rattle.adr_law_calls.proofs.Refused.{no_rollback as reply_shows_no_rollback}
@@ -32,22 +32,22 @@ use Rattle.adr_law_calls.specs.OnTheWay.{change_taken}
 use Rattle.adr_law_calls.proofs.Passed.{passed}
 use Rattle.adr_law_logs.proofs.Empty.{empty_is_formed}
 
--- a plan changes nothing of what is sound
-with_plan_sound : (sc : Book) (r : Replica) (plan : Option Plan) → IsSoundReplica sc r → IsSoundReplica sc (record r { plan = plan })
-with_plan_sound sc r plan is = record { safe = is.safe; read = ⊎_elim (λ settled. inl settled) (λ p. inr (p.0, record { kept = p.1.kept; call = p.1.call; made = p.1.made; read = p.1.read; not_up = p.1.not_up })) is.read }
+-- a device changes nothing of what is sound
+on_device_sound : (sc : Book) (r : Replica) (device : Device) → IsSoundReplica sc r → IsSoundReplica sc (record r { device = device })
+on_device_sound sc r device is = record { safe = is.safe; read = ⊎_elim (λ settled. inl settled) (λ p. inr (p.0, record { kept = p.1.kept; call = p.1.call; made = p.1.made; read = p.1.read; not_up = p.1.not_up })) is.read }
 
 module _ (w : World) (sound : IsSoundWorld w) (r : Replica) (there : Member r w.replicas) where
-  pub moved_world : (m : Book × Replica) (standing : Standing) (plan : Option Plan) → HasMoved (IsTraced w) w.book r m standing
-      → IsSoundWorld (record w { book = m.0; replicas = with_replica w.replicas (record m.1 { standing = standing; plan = plan }) })
-  moved_world m standing plan h = replaced w m.0 r (record m.1 { standing = standing; plan = plan }) sound there may h.name h.dsa (inl h.inv) (λ i other. h.only i (λ e. other (e ∙ sym h.inv)))
+  pub moved_world : (m : Book × Replica) (standing : Standing) (device : Device) → HasMoved (IsTraced w) w.book r m standing
+      → IsSoundWorld (record w { book = m.0; replicas = with_replica w.replicas (record m.1 { standing = standing; device = device }) })
+  moved_world m standing device h = replaced w m.0 r (record m.1 { standing = standing; device = device }) sound there may h.name h.dsa (inl h.inv) (λ i other. h.only i (λ e. other (e ∙ sym h.inv)))
     where
-      may : MayStand w m.0 (record m.1 { standing = standing; plan = plan })
+      may : MayStand w m.0 (record m.1 { standing = standing; device = device })
       may = record {
         later = h.later;
         book = h.book;
         given = subst (λ (i : Identifier). Member i w.given.invs) (sym h.inv) (sound.identifiers.invs_given r there);
         dsa_given = subst (λ (i : Identifier). Member i w.given.dsas) (sym h.dsa) (sound.identifiers.dsas_given r there);
-        sound = with_plan_sound m.0 (record m.1 { standing = standing }) plan h.sound;
+        sound = on_device_sound m.0 (record m.1 { standing = standing }) device h.sound;
         stores = h.stores;
         normal = h.normal;
       }
@@ -56,24 +56,24 @@ module _ (w : World) (sound : IsSoundWorld w) (r : Replica) (there : Member r w.
   pub up_is_settled : r.standing ≡ Up → IsSettled r
   up_is_settled up = ⊎_elim (λ settled. settled) (λ p. absurd (p.1.not_up up)) (sound.replicas r there).read
 
-  pub planned : (plan : Plan) → IsSoundWorld (record w { replicas = with_replica w.replicas (record r { plan = Some plan }) })
-  planned plan = moved_world (w.book, r) r.standing (Some plan)
+  pub planned : (plan : Plan) → IsSoundWorld (record w { replicas = with_replica w.replicas (record r { device = record r.device { plan = Some plan } }) })
+  planned plan = moved_world (w.book, r) r.standing (record r.device { plan = Some plan })
       (stays_so (IsTraced w) w.book r sound.book (sound.replicas r there) (sound.identifiers.stores r there) (sound.normal r there) r.standing
       (⊎_elim (λ settled. inl settled) (λ p. inr p.1.not_up) (sound.replicas r there).read))
 
-  pub stopped : (standing : Standing) (plan : Option Plan) → IsSoundWorld (record w { book = (moved (w.book, r) Settle).0; replicas = with_replica w.replicas (record (moved (w.book, r) Settle).1 { standing = standing; plan = plan }) })
-  stopped standing plan = moved_world (moved (w.book, r) Settle) standing plan
+  pub stopped : (standing : Standing) (device : Device) → IsSoundWorld (record w { book = (moved (w.book, r) Settle).0; replicas = with_replica w.replicas (record (moved (w.book, r) Settle).1 { standing = standing; device = device }) })
+  stopped standing device = moved_world (moved (w.book, r) Settle) standing device
       (settles_so (IsTraced w) w.book r sound.book (sound.replicas r there) (sound.identifiers.stores r there) (sound.normal r there) standing)
 
   pub started_sound : r.standing ≢ Up → (outcome : Outcome)
-      → IsSoundWorld (after_moves w r (moves_of_start (went r.plan 1)) (standing_after r.standing (went r.plan 1)) (plan_after (went r.plan 1)) outcome).0
-  started_sound not_up outcome = moved_world (fold moved (w.book, r) (moves_of_start (went r.plan 1))) (standing_after r.standing (went r.plan 1)) (plan_after (went r.plan 1))
-      (start_moves (IsTraced w) w.book r sound.book (sound.replicas r there) (sound.identifiers.stores r there) (sound.normal r there) not_up (went r.plan 1))
+      → IsSoundWorld (after_moves w r (moves_of_start (start_goes r)) (standing_after r.standing (start_goes r)) (device_after_start r) outcome).0
+  started_sound not_up outcome = moved_world (fold moved (w.book, r) (moves_of_start (start_goes r))) (standing_after r.standing (start_goes r)) (device_after_start r)
+      (start_moves (IsTraced w) w.book r sound.book (sound.replicas r there) (sound.identifiers.stores r there) (sound.normal r there) not_up (start_goes r))
 
   module _ (up : r.standing ≡ Up) where
     pub commit_sound : (p : Pending) (outcome : Outcome) → IsSoundCall w.book p.call → change_of r.safe p.call ≡ Some p.change → IsTraced w (after r.safe p.change).store → IsSoundWorld (commit w r p outcome).0
-    commit_sound p outcome call made new = within_case (λ (g : Gone). IsSoundWorld g.0) w (log_end_after r.safe_end p.change) (committed w r p outcome) sound (moved_world (fold moved (w.book, r) (moves_of_commit p (went r.plan 4))) (standing_after Failed (went r.plan 4)) (plan_after (went r.plan 4))
-        (commit_moves (IsTraced w) w.book r sound.book (sound.replicas r there) (sound.identifiers.stores r there) (sound.normal r there) (up_is_settled up) p call made new (went r.plan 4)))
+    commit_sound p outcome call made new = within_case (λ (g : Gone). IsSoundWorld g.0) w (change_fits r.device.safe_log r.safe.store p.change) (committed w r p outcome) sound (moved_world (fold moved (w.book, r) (moves_of_commit p (commit_goes r p))) (standing_after Failed (commit_goes r p)) (device_after_commit r p)
+        (commit_moves (IsTraced w) w.book r sound.book (sound.replicas r there) (sound.identifiers.stores r there) (sound.normal r there) (up_is_settled up) p call made new (commit_goes r p)))
 
     -- a change that brings no mark and no times
     brings_none : (c : Change) → IsVector c.joined → c.mark ≡ None → c.times ≡ [] → IsTraced w (after r.safe c).store

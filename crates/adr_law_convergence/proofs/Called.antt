@@ -1,5 +1,5 @@
 -- Behind a call of a controller the world is as it was, or a change that the call makes is committed: what holds of both holds behind every call.
-use Rattle.std.proofs.Common.{◌≡◌, ◌≢◌, ◌≤◌, ℕ, List, [], ◌∷◌, Option, Some, None, Result, Ok, Err, refl, ap, length}
+use Rattle.std.proofs.Common.{◌≡◌, ◌≢◌, ℕ, true, List, [], ◌∷◌, Option, Some, None, Result, Ok, Err, refl, ap, length}
 use Rattle.adr_event.specs.declared.answer.Outcome.{Outcome}
 use Rattle.adr_event.specs.declared.answer.Outcome.TheVariants as outcomes
 use Rattle.adr_event.specs.declared.refusal.WriteRefusal.{WriteRefusal}
@@ -11,7 +11,7 @@ use Rattle.adr_event.specs.declared.refusal.CollectRefusal.{CollectRefusal}
 use Rattle.adr_model.specs.Member.{Member}
 use Rattle.adr_model.specs.Store.{Store}
 use Rattle.adr_model.specs.Change.{Change}
-use Rattle.adr_model.specs.Lengths.{log_limit, log_end_after}
+use Rattle.adr_model.specs.Lengths.{change_fits}
 use Rattle.adr_model.specs.Serve.{Request, Reply, serve}
 use Rattle.adr_model.specs.Write.{Write, write}
 use Rattle.adr_model.specs.Take.{take}
@@ -19,7 +19,7 @@ use Rattle.adr_model.specs.Collect.{collect, backup, quarantine}
 use Rattle.adr_event.specs.declared.refusal.UpgradeRefusal.{UpgradeRefusal}
 use Rattle.adr_model.specs.Upgrade.{upgrade}
 use Rattle.adr_model.specs.Refused.{serve_refused, take_refused}
-use Rattle.adr_model.specs.Replica.{Call, Pending, change_in, change_of, ToWrite, ToTake, ToCollect, ToUpgrade, ToQuarantine, Standing, Up, Down, Failed, Plan, Replica, Move, Settle, went, moves_of_commit, moves_of_start, standing_after, plan_after}
+use Rattle.adr_model.specs.Replica.{Call, Pending, change_in, change_of, ToWrite, ToTake, ToCollect, ToUpgrade, ToQuarantine, Standing, Up, Down, Failed, Plan, Replica, Move, Settle, moves_of_commit, moves_of_start, standing_after, Device, commit_goes, start_goes, device_after_commit, device_after_start, device_settled}
 use Rattle.adr_model.specs.World.{Name, World, Gone, Sent, stays, nothing, replica_at, of_made, of_controller, committed, commit, quarantines, writes, after_write, after_collect, after_upgrade, noted, asks, after_serve, served, serves_request, after_take, delivered, delivers, backed_up, with_plan, after_moves, stops, starts}
 use Rattle.adr_law_convergence.proofs.Reached.{made_case, up_case, reached_case, fits_case}
 
@@ -28,25 +28,25 @@ pub record IsKeptBehind (Q : World → Type 0) (May : Call → Type 0) (w : Worl
   pub same : Q w
   pub notes : (reply : Reply) → Q (noted w reply)
   pub commits :
-      (r : Replica) → Member r w.replicas → r.standing ≡ Up → (p : Pending) → May p.call → change_of r.safe p.call ≡ Some p.change → log_end_after r.safe_end p.change ≤ log_limit
-      → Q (after_moves w r (moves_of_commit p (went r.plan 4)) (standing_after Failed (went r.plan 4)) (plan_after (went r.plan 4)) outcomes.Ok).0
-  pub starts : (r : Replica) → Member r w.replicas → r.standing ≢ Up → Q (after_moves w r (moves_of_start (went r.plan 1)) (standing_after r.standing (went r.plan 1)) (plan_after (went r.plan 1)) outcomes.Ok).0
-  pub stops : (r : Replica) → Member r w.replicas → Q (after_moves w r (Settle ∷ []) Down None outcomes.Ok).0
-  pub plans : (r : Replica) → Member r w.replicas → (plan : Plan) → Q (after_moves w r [] r.standing (Some plan) outcomes.Ok).0
+      (r : Replica) → Member r w.replicas → r.standing ≡ Up → (p : Pending) → May p.call → change_of r.safe p.call ≡ Some p.change → change_fits r.device.safe_log r.safe.store p.change ≡ true
+      → Q (after_moves w r (moves_of_commit p (commit_goes r p)) (standing_after Failed (commit_goes r p)) (device_after_commit r p) outcomes.Ok).0
+  pub starts : (r : Replica) → Member r w.replicas → r.standing ≢ Up → Q (after_moves w r (moves_of_start (start_goes r)) (standing_after r.standing (start_goes r)) (device_after_start r) outcomes.Ok).0
+  pub stops : (r : Replica) → Member r w.replicas → Q (after_moves w r (Settle ∷ []) Down (device_settled r) outcomes.Ok).0
+  pub plans : (r : Replica) → Member r w.replicas → (plan : Plan) → Q (after_moves w r [] r.standing (record r.device { plan = Some plan }) outcomes.Ok).0
 
 abbrev pub AnyCall : Call → Type 0
 AnyCall call = Unit {0}
 
 -- where whatever moves keep it
-pub by_moves : (Q : World → Type 0) (w : World) → Q w → ((reply : Reply) → Q (noted w reply)) → ((r : Replica) → Member r w.replicas → (ms : List Move) (standing : Standing) (plan : Option Plan) → Q (after_moves w r ms standing plan outcomes.Ok).0)
+pub by_moves : (Q : World → Type 0) (w : World) → Q w → ((reply : Reply) → Q (noted w reply)) → ((r : Replica) → Member r w.replicas → (ms : List Move) (standing : Standing) (device : Device) → Q (after_moves w r ms standing device outcomes.Ok).0)
     → IsKeptBehind Q AnyCall w
 by_moves Q w same notes moves = record {
   same = same;
   notes = notes;
-  commits = λ r there up p may made fits. moves r there (moves_of_commit p (went r.plan 4)) (standing_after Failed (went r.plan 4)) (plan_after (went r.plan 4));
-  starts = λ r there not_up. moves r there (moves_of_start (went r.plan 1)) (standing_after r.standing (went r.plan 1)) (plan_after (went r.plan 1));
-  stops = λ r there. moves r there (Settle ∷ []) Down None;
-  plans = λ r there plan. moves r there [] r.standing (Some plan);
+  commits = λ r there up p may made fits. moves r there (moves_of_commit p (commit_goes r p)) (standing_after Failed (commit_goes r p)) (device_after_commit r p);
+  starts = λ r there not_up. moves r there (moves_of_start (start_goes r)) (standing_after r.standing (start_goes r)) (device_after_start r);
+  stops = λ r there. moves r there (Settle ∷ []) Down (device_settled r);
+  plans = λ r there plan. moves r there [] r.standing (record r.device { plan = Some plan });
 }
 
 module _ (Q : World → Type 0) (May : Call → Type 0) (w : World) (keeps : IsKeptBehind Q May w) where
@@ -64,7 +64,7 @@ module _ (Q : World → Type 0) (May : Call → Type 0) (w : World) (keeps : IsK
 
     module _ (up : r.standing ≡ Up) where
       commits : (p : Pending) (outcome : Outcome) → May p.call → change_of r.safe p.call ≡ Some p.change → Behind (commit w r p outcome)
-      commits p outcome may made = fits_case Behind w (log_end_after r.safe_end p.change) (committed w r p outcome) keeps.same (λ fits. keeps.commits r there up p may made fits)
+      commits p outcome may made = fits_case Behind w (change_fits r.device.safe_log r.safe.store p.change) (committed w r p outcome) keeps.same (λ fits. keeps.commits r there up p may made fits)
 
       quarantining : May ToQuarantine → (outcome : Outcome) → Behind (quarantines w r outcome)
       quarantining may outcome = commits (record { call = ToQuarantine; change = quarantine r.safe }) outcome may refl

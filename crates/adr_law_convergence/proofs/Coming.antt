@@ -7,7 +7,7 @@ use Rattle.adr_model.specs.Store.{Normal, Store, State, empty_state}
 use Rattle.adr_model.specs.LocalLog.{no_log}
 use Rattle.adr_model.specs.Collect.{woken, adopt}
 use Rattle.adr_model.specs.Replica.{Replica, on_new_disk, log_of, begun}
-use Rattle.adr_model.specs.Lengths.{new_log_end}
+use Rattle.adr_model.specs.Lengths.{new_log, area_fits}
 use Rattle.adr_model.specs.World.{Name, World, Gone, with_replica, adopts}
 use Rattle.adr_model.specs.Step.{gives}
 use Rattle.adr_model.specs.Sound.{IsSoundBook, IsSoundStore, IsSoundState, IsTraced, IsSoundWorld}
@@ -97,7 +97,7 @@ module _ (w : World) (sound : IsSoundWorld w) (inv : Identifier) (new_inv : IsNe
         by : (t : Result State AdoptRefusal) → adopt image dsa inv ≡ t → IsSoundWorld (adopts (given_more (dsa ∷ [])) (λ r. w.replicas ++ r ∷ []) name t).0
         by (Err x) e = given_sound w (dsa ∷ []) (inv ∷ []) sound
         by (Ok s) e = let is = adopted_is_woken image dsa inv s e in
-            within_case (λ (g : Gone). IsSoundWorld g.0) (given_more (dsa ∷ [])) (new_log_end s) (record (given_more (dsa ∷ [])) { book = begun w.book s; replicas = w.replicas ++ on_new_disk name s ∷ [] }, outcomes.Ok) (given_sound w (dsa ∷ []) (inv ∷ []) sound)
+            within_case (λ (g : Gone). IsSoundWorld g.0) (given_more (dsa ∷ [])) (area_fits (new_log s) s.store) (record (given_more (dsa ∷ [])) { book = begun w.book s; replicas = w.replicas ++ on_new_disk name s ∷ [] }, outcomes.Ok) (given_sound w (dsa ∷ []) (inv ∷ []) sound)
             (comes name dsa new_name new_dsa s (ap (λ (d : State). d.inv) (sym is)) (ap (λ (d : State). d.dsa) (sym is)) (ap (λ (d : State). d.mode) (sym is))
             (image_marks (dsa ∷ []) image dsa s is given_image) (adopted_is_sound w.book image dsa inv s sound.book sound_image fresh e))
 
@@ -107,7 +107,7 @@ module _ (w : World) (sound : IsSoundWorld w) (inv : Identifier) (new_inv : IsNe
         by : (t : Result State AdoptRefusal) → adopt image r.safe.dsa inv ≡ t → IsSoundWorld (adopts (given_more []) (with_replica w.replicas) name t).0
         by (Err x) e = given_sound w [] (inv ∷ []) sound
         by (Ok s) e = let is = adopted_is_woken image r.safe.dsa inv s e in let dsa : s.dsa ≡ r.safe.dsa = ap (λ (d : State). d.dsa) (sym is) in
-            within_case (λ (g : Gone). IsSoundWorld g.0) (given_more []) (new_log_end s) (record (given_more []) { book = begun w.book s; replicas = with_replica w.replicas (on_new_disk name s) }, outcomes.Ok) (given_sound w [] (inv ∷ []) sound)
+            within_case (λ (g : Gone). IsSoundWorld g.0) (given_more []) (area_fits (new_log s) s.store) (record (given_more []) { book = begun w.book s; replicas = with_replica w.replicas (on_new_disk name s) }, outcomes.Ok) (given_sound w [] (inv ∷ []) sound)
             (replaced (given_more []) (begun w.book s) r (on_new_disk name s) (given_sound w [] (inv ∷ []) sound) there
             (stands [] name s (ap (λ (d : State). d.inv) (sym is)) (ap (λ (d : State). d.mode) (sym is))
             (subst (λ (d : Identifier). Member d (w.given.dsas ++ [])) (sym dsa) (member_left w.given.dsas [] r.safe.dsa (sound.identifiers.dsas_given r there)))

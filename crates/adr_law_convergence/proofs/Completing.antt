@@ -217,7 +217,7 @@ Goal n w v dest d s t = AreUnlimited t.1 → TookAll n dest d s t.1 ⊎ Ended w 
 unlimited_rest : (first rest : List Answer) → AreUnlimited (first ++ rest) → AreUnlimited rest
 unlimited_rest first rest none = (λ a m. none.0 a (member_right first rest a m), λ a m. none.1 a (member_right first rest a m))
 
-completes : (w : World) (dest source : Name) (most : ℕ) → 1 ≤ most → (fuel : ℕ) (v : World) (d s : Replica) → Goes w v dest source d s → d.plan ≡ None → Goal fuel w v dest d.safe s.safe (pulls fuel v dest source most)
+completes : (w : World) (dest source : Name) (most : ℕ) → 1 ≤ most → (fuel : ℕ) (v : World) (d s : Replica) → Goes w v dest source d s → d.device.plan ≡ None → Goal fuel w v dest d.safe s.safe (pulls fuel v dest source most)
 completes w dest source most le zero v d s goes unplanned = λ none. inl (record { replies = refl; units = λ one. omega (arith, one); more = inl refl })
 completes w dest source most le (suc fuel) v d s goes unplanned = by (λ x e f is none. completes w dest source most le fuel x e f is none) (taken_or_not w v dest source d s goes most unplanned)
   where
@@ -240,7 +240,7 @@ completes w dest source most le (suc fuel) v d s goes unplanned = by (λ x e f i
     go x = pulls fuel x dest source most
 
     Rest : Type 0
-    Rest = (x : World) (e f : Replica) → Goes w x dest source e f → e.plan ≡ None → Goal fuel w x dest e.safe f.safe (pulls fuel x dest source most)
+    Rest = (x : World) (e f : Replica) → Goes w x dest source e f → e.device.plan ≡ None → Goal fuel w x dest e.safe f.safe (pulls fuel x dest source most)
 
     was : Rest → (ok : Takes w v dest source d s goes most) → (o : Option Cursors) → r.last ≡ o → Goal (suc fuel) w v dest d.safe s.safe (and_then (u, answers, is_none o) go)
     was rest ok (Some W) last none = inr (record {

@@ -75,7 +75,7 @@ event_covered w covered (events.Backup name bind) may keeps clean = binds_image 
 event_covered w covered (events.Restore name image inv) may keeps clean = restores_covered (gives w [] (inv ∷ [])) (given_more w covered [] (inv ∷ [])) name image inv
 event_covered w covered (events.Install name dsa image inv) may keeps clean = installs_covered (gives w (dsa ∷ []) (inv ∷ [])) (given_more w covered (dsa ∷ []) (inv ∷ [])) name image dsa inv
 event_covered w covered (events.Snapshot name bind) may keeps clean =
-    let c = made_case (λ (t : Sent Snapshot). IsPurgedCovered t.0) w name (nothing w) (λ x. covered) (λ r. (w, outcomes.Ok, Some (record { state = r.read; log_end = r.read_end }))) (λ r is. covered) in record { stores = c.stores; requests = c.requests }
+    let c = made_case (λ (t : Sent Snapshot). IsPurgedCovered t.0) w name (nothing w) (λ x. covered) (λ r. (w, outcomes.Ok, Some (record { state = r.read; log = r.device.read_log }))) (λ r is. covered) in record { stores = c.stores; requests = c.requests }
 event_covered w covered (events.Rollback name snapshot) may keeps clean = put_back_covered w covered name (bound_at w.snapshots snapshot) clean
 event_covered w covered (events.StopAfter name calls how) may keeps clean = plans_covered w covered name (record { calls = calls; fault = Stops how })
 event_covered w covered (events.Fail name calls) may keeps clean = plans_covered w covered name (record { calls = calls; fault = Fails })

@@ -18,9 +18,9 @@ use Rattle.adr_model.specs.Serve.{Request, Reply, is_quarantined, ask, serve}
 use Rattle.adr_model.specs.Write.{Write, items_written, own_change, write_refusal, write}
 use Rattle.adr_model.specs.Take.{take_items, taken_change, take_refusal, take}
 use Rattle.adr_model.specs.Collect.{collection, deaths_to_collect, collect_refusal, collect, backup, adopt, quarantine}
-use Rattle.adr_model.specs.Lengths.{new_log_end, log_end_after}
+use Rattle.adr_model.specs.Lengths.{new_log, area_fits, change_fits}
 use Rattle.adr_model.specs.Refused.{serve_refused, take_refused, quarantined}
-use Rattle.adr_model.specs.Replica.{Pending, ToWrite, ToTake, ToCollect, ToUpgrade, ToQuarantine, Standing, Up, Down, Failed, Plan, Replica, on_new_disk, Book, begun, Settle, moved, went, moves_of_commit, moves_of_start, standing_after, plan_after}
+use Rattle.adr_model.specs.Replica.{Pending, ToWrite, ToTake, ToCollect, ToUpgrade, ToQuarantine, Standing, Up, Down, Failed, Plan, Replica, on_new_disk, Book, begun, Settle, moved, moves_of_commit, moves_of_start, standing_after, Device, commit_goes, start_goes, device_after_commit, device_after_start, device_settled}
 use Rattle.adr_model.specs.World.{Name, World, Snapshot, Gone, Sent, stays, nothing, bound, bound_at, replica_at, with_replica, of_made, of_controller, committed, commit, quarantines, after_write, writes, after_collect, asks, after_serve, served, serves_request, after_take, delivered, delivers, backed_up, adopts, of_image, put_back, with_plan, stops, starts, shown, after_upgrade}
 use Rattle.adr_model.specs.Step.{gives, step}
 use Rattle.adr_model.specs.Convergence.{IsStoreOf, IsPurgedCovered, KeepsCovered}
@@ -45,13 +45,13 @@ module _ (w : World) (covered : IsPurgedCovered w) where
   unpurged c d e none = subst (λ (f : Change). IsCovered w f.purged) e (subst (IsCovered w) (sym none) (nothing_covered w))
 
   module _ (r : Replica) (there : Member r w.replicas) where
-    moved_world : (m : Book × Replica) (standing : Standing) (plan : Option Plan) → MayCome w m.1.safe.store × MayCome w m.1.read.store
-        → IsPurgedCovered (record w { book = m.0; replicas = with_replica w.replicas (record m.1 { standing = standing; plan = plan }) })
-    moved_world m standing plan comes = placed w covered m.0 (record m.1 { standing = standing; plan = plan }) comes
+    moved_world : (m : Book × Replica) (standing : Standing) (plan : Device) → MayCome w m.1.safe.store × MayCome w m.1.read.store
+        → IsPurgedCovered (record w { book = m.0; replicas = with_replica w.replicas (record m.1 { standing = standing; device = plan }) })
+    moved_world m standing plan comes = placed w covered m.0 (record m.1 { standing = standing; device = plan }) comes
 
     commits : (p : Pending) (outcome : Outcome) → IsCovered w p.change.purged → IsPurgedCovered (commit w r p outcome).0
-    commits p outcome purged = within_case OfWorld w (log_end_after r.safe_end p.change) (committed w r p outcome) covered (moved_world (fold moved (w.book, r) (moves_of_commit p (went r.plan 4))) (standing_after Failed (went r.plan 4)) (plan_after (went r.plan 4))
-        (committing (λ (s : State). MayCome w s.store) w.book r (both_come w covered r there) p (changed_comes w covered r.safe p.change (inl (r, there, inl refl)) purged) (went r.plan 4)))
+    commits p outcome purged = within_case OfWorld w (change_fits r.device.safe_log r.safe.store p.change) (committed w r p outcome) covered (moved_world (fold moved (w.book, r) (moves_of_commit p (commit_goes r p))) (standing_after Failed (commit_goes r p)) (device_after_commit r p)
+        (committing (λ (s : State). MayCome w s.store) w.book r (both_come w covered r there) p (changed_comes w covered r.safe p.change (inl (r, there, inl refl)) purged) (commit_goes r p)))
 
     quarantining : (outcome : Outcome) → IsPurgedCovered (quarantines w r outcome).0
     quarantining outcome = commits (record { call = ToQuarantine; change = quarantine r.safe }) outcome (nothing_covered w)
@@ -94,8 +94,8 @@ module _ (w : World) (covered : IsPurgedCovered w) where
 
     started_from : (standing : Standing) → IsPurgedCovered (starts w r standing).0
     started_from Up = covered
-    started_from Down = moved_world (fold moved (w.book, r) (moves_of_start (went r.plan 1))) (standing_after r.standing (went r.plan 1)) (plan_after (went r.plan 1)) (starting (λ (s : State). MayCome w s.store) w.book r (both_come w covered r there) (went r.plan 1))
-    started_from Failed = moved_world (fold moved (w.book, r) (moves_of_start (went r.plan 1))) (standing_after r.standing (went r.plan 1)) (plan_after (went r.plan 1)) (starting (λ (s : State). MayCome w s.store) w.book r (both_come w covered r there) (went r.plan 1))
+    started_from Down = moved_world (fold moved (w.book, r) (moves_of_start (start_goes r))) (standing_after r.standing (start_goes r)) (device_after_start r) (starting (λ (s : State). MayCome w s.store) w.book r (both_come w covered r there) (start_goes r))
+    started_from Failed = moved_world (fold moved (w.book, r) (moves_of_start (start_goes r))) (standing_after r.standing (start_goes r)) (device_after_start r) (starting (λ (s : State). MayCome w s.store) w.book r (both_come w covered r there) (start_goes r))
 
     imaged_from : (b : Bool) → MakesHere w (MayCome w) (backed_up w (if b then None else Some r.safe.store))
     imaged_from true = made_none w (MayCome w) quarantined
@@ -110,12 +110,12 @@ module _ (w : World) (covered : IsPurgedCovered w) where
   restored : (name : Name) (dsa inv : Identifier) (image : Store) → IsStoreOf w image → (t : Result State AdoptRefusal) → adopt image dsa inv ≡ t → IsPurgedCovered (adopts w (with_replica w.replicas) name t).0
   restored name dsa inv image of (Err x) e = covered
   restored name dsa inv image of (Ok s) e = let new = woken_comes image dsa inv s of e in
-      within_case OfWorld w (new_log_end s) (record w { book = begun w.book s; replicas = with_replica w.replicas (on_new_disk name s) }, outcomes.Ok) covered (placed w covered (begun w.book s) (on_new_disk name s) (new, new))
+      within_case OfWorld w (area_fits (new_log s) s.store) (record w { book = begun w.book s; replicas = with_replica w.replicas (on_new_disk name s) }, outcomes.Ok) covered (placed w covered (begun w.book s) (on_new_disk name s) (new, new))
 
   installed : (name : Name) (dsa inv : Identifier) (image : Store) → IsStoreOf w image → (t : Result State AdoptRefusal) → adopt image dsa inv ≡ t → IsPurgedCovered (adopts w (λ r. w.replicas ++ r ∷ []) name t).0
   installed name dsa inv image of (Err x) e = covered
   installed name dsa inv image of (Ok s) e = let new = woken_comes image dsa inv s of e in
-      within_case OfWorld w (new_log_end s) (record w { book = begun w.book s; replicas = w.replicas ++ on_new_disk name s ∷ [] }, outcomes.Ok) covered (joining w covered (begun w.book s) (on_new_disk name s) (new, new))
+      within_case OfWorld w (area_fits (new_log s) s.store) (record w { book = begun w.book s; replicas = w.replicas ++ on_new_disk name s ∷ [] }, outcomes.Ok) covered (joining w covered (begun w.book s) (on_new_disk name s) (new, new))
 
   of_bound : (image : Name) (act : Store → Gone) → ((i : Store) → IsStoreOf w i → IsPurgedCovered (act i).0) → IsPurgedCovered (of_image w (bound_at w.images image) act).0
   of_bound image act acts = by (bound_at w.images image) refl
@@ -157,10 +157,10 @@ module _ (w : World) (covered : IsPurgedCovered w) where
   backups_covered name = reached_case (MakesHere w (MayCome w)) w name (nothing w) (made_none w (MayCome w)) (λ r. backed_up w (backup r.safe)) (λ r is up. imaged_from r is.there (is_quarantined r.safe.mode))
 
   pub plans_covered : (name : Name) (plan : Plan) → IsPurgedCovered (of_made (stays w) (replica_at w name) (λ r. with_plan w r plan)).0
-  plans_covered name plan = made_case OfWorld w name (stays w) (λ x. covered) (λ r. with_plan w r plan) (λ r is. placed w covered w.book (record r { plan = Some plan }) (both_come w covered r is.there))
+  plans_covered name plan = made_case OfWorld w name (stays w) (λ x. covered) (λ r. with_plan w r plan) (λ r is. placed w covered w.book (record r { device = record r.device { plan = Some plan } }) (both_come w covered r is.there))
 
   pub stops_covered : (name : Name) → IsPurgedCovered (of_made (stays w) (replica_at w name) (λ r. stops w r)).0
-  stops_covered name = made_case OfWorld w name (stays w) (λ x. covered) (λ r. stops w r) (λ r is. moved_world r is.there (moved (w.book, r) Settle) Down None (settling (λ (s : State). MayCome w s.store) w.book r (both_come w covered r is.there)))
+  stops_covered name = made_case OfWorld w name (stays w) (λ x. covered) (λ r. stops w r) (λ r is. moved_world r is.there (moved (w.book, r) Settle) Down (device_settled r) (settling (λ (s : State). MayCome w s.store) w.book r (both_come w covered r is.there)))
 
   pub starts_covered : (name : Name) → IsPurgedCovered (of_made (stays w) (replica_at w name) (λ r. starts w r r.standing)).0
   starts_covered name = made_case OfWorld w name (stays w) (λ x. covered) (λ r. starts w r r.standing) (λ r is. started_from r is.there r.standing)

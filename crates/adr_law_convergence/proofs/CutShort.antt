@@ -2,7 +2,7 @@
 use Rattle.std.proofs.Common.{◌≢◌, inr, fold}
 use Rattle.adr_disk.specs.declared.memory.Crash.TheVariants.{Kept as KeptAll, Lost, Torn}
 use Rattle.adr_model.specs.Member.{Member}
-use Rattle.adr_model.specs.Replica.{Stops, Fails, Up, Replica, moved, Went, Passed, Met, went, moves_of_start, plan_after}
+use Rattle.adr_model.specs.Replica.{Stops, Fails, Up, Replica, moved, Went, Passed, Met, moves_of_start, start_goes, device_after_start}
 use Rattle.adr_model.specs.World.{World}
 use Rattle.adr_model.specs.Sound.{IsTraced, IsSoundWorld}
 use Rattle.adr_law_convergence.specs.CutShort.{StartsCutShort}
@@ -22,5 +22,5 @@ module _ (w : World) (r : Replica) (there : Member r w.replicas) (not_up : r.sta
 pub cut_short_sound : StartsCutShort
 cut_short_sound w r is there not_up = record {
   orderly = behind_call w is.orderly _ (behind_start w is.orderly r there r.standing (λ place e. not_up));
-  sound = λ clean. moved_world w (is.sound clean) r there (fold moved (w.book, r) (moves_of_start (went r.plan 1))) r.standing (plan_after (went r.plan 1)) (cut_moves w r there not_up (is.sound clean) (went r.plan 1));
+  sound = λ clean. moved_world w (is.sound clean) r there (fold moved (w.book, r) (moves_of_start (start_goes r))) r.standing (device_after_start r) (cut_moves w r there not_up (is.sound clean) (start_goes r));
 }

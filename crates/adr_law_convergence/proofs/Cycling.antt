@@ -2,7 +2,7 @@
 use Rattle.std.proofs.Common.{◌≡◌, ◌⊎◌, inl, inr, ⊎_elim, ℕ, ◌≤◌, ◌+◌, List, [], ◌∷◌, Bool, true, false, cond, Option, Some, None, is_none, is_some, unwrap_or, Ok, Err, refl, sym, ap, ◌∙◌, subst, arith, fold, length, ◌==◌, append-nil, if◌then◌else◌}
 use Rattle.std.specs.List.{find}
 use Rattle.std.specs.Option.{option_map}
-use Rattle.std.specs.Prelude.{codes, nat_lt}
+use Rattle.std.specs.Prelude.{codes}
 use Rattle.std.specs.Str.{bytes_eq}
 use Rattle.adr_vector.specs.Vector.{Cursors, at, at_most, joined}
 use Rattle.adr_vector.proofs.Comparing.{everywhere_from_at_most, at_most_from_everywhere}
@@ -19,10 +19,10 @@ use Rattle.adr_model.specs.Change.{Item, Change, held_of, rows_after, after}
 use Rattle.adr_model.specs.LocalLog.{Follows}
 use Rattle.adr_model.specs.Serve.{Request, Reply, candidates, byte_limit, first_items, reply_of, begins_at, ask, reply_to}
 use Rattle.adr_model.specs.Take.{take_items, taken_change, take}
-use Rattle.adr_event.specs.declared.refusal.Table.TheVariants.{Log}
-use Rattle.adr_model.specs.Lengths.{log_limit, log_end_after}
+use Rattle.adr_event.specs.declared.refusal.Table.TheVariants.{Log as log_table}
+use Rattle.adr_model.specs.Lengths.{Log, log_limit, change_fits, is_due, log_before, next_log}
 use Rattle.adr_model.specs.Refused.{usn_limited, full, full_fields}
-use Rattle.adr_model.specs.Replica.{Pending, ToTake, Up, Fault, Stops, Fails, Plan, Replica, recorded, moved, Went, Passed, Met, went, moves_of_commit, standing_after, plan_after, outcome_after, Failed}
+use Rattle.adr_model.specs.Replica.{Pending, ToTake, Up, Fault, Stops, Fails, Plan, Replica, recorded, moved, Went, Passed, Met, went, moves_of_commit, standing_after, outcome_after, Failed, calls_before, recorded_on, checkpointed_on, behind as behind_calls, commit_goes, device_after_commit}
 use Rattle.adr_model.specs.World.{Name, World, Gone, answer, replica_at, with_replica, of_made, where_up, nothing, stays, asks, rows_in, after_serve, served, serves_request, committed, commit, after_take, delivered, delivers, noted}
 use Rattle.adr_model.specs.Cycles.{Pulled, first_told, pull_delivered, pull_served, pull_asked, pull, pull_version}
 use Rattle.adr_model.specs.Sound.{last_of, IsSoundState, IsSoundReply, IsSent, IsSoundWorld}
@@ -57,6 +57,18 @@ found_in_place (x ∷ xs) new name = by (bytes_eq x.name new.name) refl (found_i
         on : (t : Bool) → cond t (Some x) (find (λ (y : Replica). bytes_eq y.name name) (with_replica xs new)) ≡ option_map (put_in new) (cond t (Some x) (find (λ (y : Replica). bytes_eq y.name name) xs))
         on true = sym (ap (λ b. Some (cond b new x)) is)
         on false = rest
+
+-- ---- a commit without a plan leaves none
+
+no_plan_left : (r : Replica) (p : Pending) → r.device.plan ≡ None → (device_after_commit r p).plan ≡ None
+no_plan_left r p none =
+    let l = r.device.safe_log in
+    let next = next_log l r.safe.store p.change in
+    ap (λ (o : Option Plan). (if is_due l p.change then checkpointed_on l (log_before l r.safe.store p.change) next (went o 5) else recorded_on l next o).plan) none ∙ by (is_due l p.change) l (log_before l r.safe.store p.change) next
+  where
+    by : (b : Bool) (l mid next : Log) → (if b then checkpointed_on l mid next (went None 5) else recorded_on l next None).plan ≡ None
+    by true l mid next = refl
+    by false l mid next = refl
 
 -- ---- where a cycle stands
 
@@ -118,23 +130,21 @@ module _ (w v : World) (dest source : Name) (d s : Replica) (goes : Goes w v des
   abbrev pub next : Replica
   next = record d {
     read = after d.safe change;
-    read_end = log_end_after d.safe_end change;
     safe = after d.safe change;
-    safe_end = log_end_after d.safe_end change;
     kept = None;
     standing = Up;
-    plan = plan_after (went d.plan 4);
+    device = device_after_commit d pending;
   }
 
   -- the device calls of the commit go well
   abbrev pub Passes : Type 0
-  Passes = (left : Option Plan) × (went d.plan 4 ≡ Passed left)
+  Passes = (left : Option Plan) × (commit_goes d pending ≡ Passed left)
 
-  pub unplanned_passes : d.plan ≡ None → Passes
-  unplanned_passes none = (None, ap (λ (p : Option Plan). went p 4) none)
+  pub unplanned_passes : d.device.plan ≡ None → Passes
+  unplanned_passes none = (None, ap (λ (p : Option Plan). behind_calls (calls_before d pending) (went p (calls_before d pending + 4))) none)
 
-  pub still_unplanned : d.plan ≡ None → next.plan ≡ None
-  still_unplanned none = ap (λ (p : Option Plan). plan_after (went p 4)) none
+  pub still_unplanned : d.device.plan ≡ None → next.device.plan ≡ None
+  still_unplanned none = no_plan_left d pending none
 
   abbrev pub behind : World
   behind = record serving { book = recorded v.book d.safe.inv pending; replicas = with_replica v.replicas next }
@@ -151,23 +161,23 @@ module _ (w v : World) (dest source : Name) (d s : Replica) (goes : Goes w v des
       ∙ (ap (λ st. where_up (nothing v) st (served v s (Some request))) goes.s_up
       ∙ ap (after_serve v s) (serves_it v.book d.safe s.safe most v.time goes.sound.book d_safe s_safe d_normal s_normal goes.schema goes.purged))
 
-  -- whether the log has no room for the change
-  abbrev is_full : Bool
-  is_full = nat_lt log_limit (log_end_after d.safe_end change)
+  -- whether the change fits into the log
+  abbrev has_room : Bool
+  has_room = change_fits d.device.safe_log d.safe.store change
 
   -- what comes of the commit, by how its device calls go
   abbrev comes : Outcome → Went → Gone
   comes o g = let m = fold moved (serving.book, d) (moves_of_commit pending g) in (
-    record serving { book = m.0; replicas = with_replica serving.replicas (record m.1 { standing = standing_after Failed g; plan = plan_after g }) },
+    record serving { book = m.0; replicas = with_replica serving.replicas (record m.1 { standing = standing_after Failed g; device = device_after_commit d pending }) },
     outcome_after g o,
   )
 
   committed_is : Passes → (o : Outcome) → committed serving d pending o ≡ (behind, o)
-  committed_is passes o = ap (comes o) passes.1 ∙ ap (λ (p : Option Plan). let t : Gone = (record serving { book = recorded v.book d.safe.inv pending; replicas = with_replica v.replicas (record next { plan = p }) }, o) in t) (sym (ap plan_after passes.1))
+  committed_is passes o = ap (comes o) passes.1
 
   -- the commit, where it is known whether the log has room for the change
-  commit_by : (b : Bool) → is_full ≡ b → (o : Outcome) → commit serving d pending o ≡ (if b then (serving, full Log log_limit) else committed serving d pending o)
-  commit_by b is o = ap (λ (t : Bool). if t then (serving, full Log log_limit) else committed serving d pending o) is
+  commit_by : (b : Bool) → has_room ≡ b → (o : Outcome) → commit serving d pending o ≡ (if b then committed serving d pending o else (serving, full log_table log_limit))
+  commit_by b is o = ap (λ (t : Bool). if t then committed serving d pending o else (serving, full log_table log_limit)) is
 
   reaches : delivers serving dest (Some reply) ≡ after_take serving d reply (take d.safe reply)
   reaches =
@@ -195,10 +205,10 @@ module _ (w v : World) (dest source : Name) (d s : Replica) (goes : Goes w v des
 
   -- the reply is taken, the log has room for its change, and the device calls go well
   abbrev pub Takes : Type 0
-  Takes = (take d.safe reply ≡ Ok change) × (is_full ≡ false) × Passes
+  Takes = (take d.safe reply ≡ Ok change) × (has_room ≡ true) × Passes
 
   pub took : Takes → pull v dest source most ≡ (behind, told taking, is_none reply.last)
-  took t = pull_is (behind, taking) (reaches ∙ (ap (after_take serving d reply) t.0 ∙ (commit_by false t.1 taking ∙ committed_is t.2 taking)))
+  took t = pull_is (behind, taking) (reaches ∙ (ap (after_take serving d reply) t.0 ∙ (commit_by true t.1 taking ∙ committed_is t.2 taking)))
 
   -- the pull changes no controller, and says that a limit is met
   abbrev pub MeetsLimit : Type 0
@@ -213,24 +223,24 @@ module _ (w v : World) (dest source : Name) (d s : Replica) (goes : Goes w v des
   MeetsFault = (u : World) × (o : Outcome) × (pull v dest source most ≡ (u, told o, false)) × ((o ≡ outcomes.Stopped) ⊎ (o ≡ outcomes.Disk)) × (Passes → ⊥)
 
   pub taken_or_met : Takes ⊎ (MeetsLimit ⊎ MeetsFault)
-  taken_or_met = ⊎_elim (λ ok. by is_full refl ok) (λ t. inr (inl (refused t.0 t.1 t.2))) (taken_or_limited v.book d.safe s.safe most v.time goes.sound.book d_safe s_safe d_normal s_normal goes.schema goes.purged)
+  taken_or_met = ⊎_elim (λ ok. by has_room refl ok) (λ t. inr (inl (refused t.0 t.1 t.2))) (taken_or_limited v.book d.safe s.safe most v.time goes.sound.book d_safe s_safe d_normal s_normal goes.schema goes.purged)
     where
-      meets : {place : ℕ} {fault : Fault} → Passes → went d.plan 4 ≡ Met place fault → ⊥
+      meets : {place : ℕ} {fault : Fault} → Passes → commit_goes d pending ≡ Met place fault → ⊥
       meets p e = let both = sym p.1 ∙ e in absurd (cc)
 
-      on : (g : Went) → went d.plan 4 ≡ g → take d.safe reply ≡ Ok change → is_full ≡ false → Takes ⊎ (MeetsLimit ⊎ MeetsFault)
+      on : (g : Went) → commit_goes d pending ≡ g → take d.safe reply ≡ Ok change → has_room ≡ true → Takes ⊎ (MeetsLimit ⊎ MeetsFault)
       on (Passed left) e ok room = inl (ok, room, (left, e))
       on (Met place (Stops how)) e ok room = let g = comes taking (Met place (Stops how)) in
-          inr (inr (g.0, outcomes.Stopped, pull_is g (reaches ∙ (ap (after_take serving d reply) ok ∙ (commit_by false room taking ∙ ap (comes taking) e))), inl refl, λ p. meets p e))
+          inr (inr (g.0, outcomes.Stopped, pull_is g (reaches ∙ (ap (after_take serving d reply) ok ∙ (commit_by true room taking ∙ ap (comes taking) e))), inl refl, λ p. meets p e))
       on (Met place Fails) e ok room = let g = comes taking (Met place Fails) in
-          inr (inr (g.0, outcomes.Disk, pull_is g (reaches ∙ (ap (after_take serving d reply) ok ∙ (commit_by false room taking ∙ ap (comes taking) e))), inr refl, λ p. meets p e))
+          inr (inr (g.0, outcomes.Disk, pull_is g (reaches ∙ (ap (after_take serving d reply) ok ∙ (commit_by true room taking ∙ ap (comes taking) e))), inr refl, λ p. meets p e))
 
-      by : (b : Bool) → is_full ≡ b → take d.safe reply ≡ Ok change → Takes ⊎ (MeetsLimit ⊎ MeetsFault)
-      by true is ok = inr (inl (full Log log_limit, pull_is (serving, full Log log_limit) (reaches ∙ (ap (after_take serving d reply) ok ∙ commit_by true is taking)), inr (codes "Full", full_fields Log log_limit, refl)))
-      by false is ok = on (went d.plan 4) refl ok is
+      by : (b : Bool) → has_room ≡ b → take d.safe reply ≡ Ok change → Takes ⊎ (MeetsLimit ⊎ MeetsFault)
+      by false is ok = inr (inl (full log_table log_limit, pull_is (serving, full log_table log_limit) (reaches ∙ (ap (after_take serving d reply) ok ∙ commit_by false is taking)), inr (codes "Full", full_fields log_table log_limit, refl)))
+      by true is ok = on (commit_goes d pending) refl ok is
 
   -- no plan, no fault
-  pub taken_or_not : d.plan ≡ None → Takes ⊎ MeetsLimit
+  pub taken_or_not : d.device.plan ≡ None → Takes ⊎ MeetsLimit
   taken_or_not none = by taken_or_met
     where
       by : Takes ⊎ (MeetsLimit ⊎ MeetsFault) → Takes ⊎ MeetsLimit

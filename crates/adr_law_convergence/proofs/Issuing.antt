@@ -4,12 +4,12 @@ use Rattle.adr_event.specs.declared.answer.Outcome.TheVariants as outcomes
 use Rattle.adr_event.specs.declared.event.Event.{Event}
 use Rattle.adr_event.specs.declared.event.Event.TheVariants as events
 use Rattle.adr_event.specs.declared.refusal.AdoptRefusal.{AdoptRefusal}
-use Rattle.adr_model.specs.Lengths.{new_log_end}
+use Rattle.adr_model.specs.Lengths.{new_log, area_fits}
 use Rattle.adr_model.specs.Member.{Member, Each}
 use Rattle.adr_model.specs.Store.{Store, State}
 use Rattle.adr_model.specs.Write.{AddObject, Modify, Rename, Delete, AddLink, RemoveLink}
 use Rattle.adr_model.specs.Collect.{adopt}
-use Rattle.adr_model.specs.Replica.{Pending, issued_by, Standing, Stops, Fails, Plan, Replica, on_new_disk, Book, begun, Move, Begin, Settle, Forget, moved}
+use Rattle.adr_model.specs.Replica.{Pending, issued_by, Standing, Stops, Fails, Replica, on_new_disk, Book, begun, Move, Begin, Settle, Forget, moved, Device}
 use Rattle.adr_model.specs.World.{Name, World, Snapshot, Gone, Sent, stays, nothing, bound_at, with_replica, begins, adopts, of_image, put_back, after_moves, shown, marks_shown}
 use Rattle.adr_model.specs.Cycles.{pulls, reply_limit, pull_version}
 use Rattle.adr_model.specs.Step.{gives, step}
@@ -60,7 +60,7 @@ module _ (put : Bool) (w : World) where
   abbrev KeptBy : {A : Type 0} → Sent A → Type 0
   KeptBy t = Keeps put w t.0
 
-  moving : (v : World) → Keeps put w v → (r : Replica) → Member r v.replicas → (ms : List Move) (standing : Standing) (plan : Option Plan) → Keeps put w (after_moves v r ms standing plan outcomes.Ok).0
+  moving : (v : World) → Keeps put w v → (r : Replica) → Member r v.replicas → (ms : List Move) (standing : Standing) (plan : Device) → Keeps put w (after_moves v r ms standing plan outcomes.Ok).0
   moving v kept r there ms standing plan = onward put w v (after_moves v r ms standing plan outcomes.Ok).0 kept (record { issued = moves_keep ms (v.book, r); unclean = λ e. e; alike = λ e. refl })
 
   notes_kept : (v : World) → Keeps put w v → (reply : Reply) → Keeps put w (noted v reply)
@@ -70,7 +70,7 @@ module _ (put : Bool) (w : World) where
   keeping v kept = by_moves (Keeps put w) v kept (notes_kept v kept) (moving v kept)
 
   begins_keep : (placed : Replica → List Replica) (name : Name) (s : State) → Kept (begins w placed name s)
-  begins_keep placed name s = within_case Kept w (new_log_end s) (record w { book = begun w.book s; replicas = placed (on_new_disk name s) }, outcomes.Ok) (same put w) (record { issued = λ u m. m; unclean = λ e. e; alike = λ e. refl })
+  begins_keep placed name s = within_case Kept w (area_fits (new_log s) s.store) (record w { book = begun w.book s; replicas = placed (on_new_disk name s) }, outcomes.Ok) (same put w) (record { issued = λ u m. m; unclean = λ e. e; alike = λ e. refl })
 
   adopts_keep : (placed : Replica → List Replica) (name : Name) (t : Result State AdoptRefusal) → Kept (adopts w placed name t)
   adopts_keep placed name (Err x) = same put w
@@ -134,7 +134,7 @@ module _ (w : World) where
       let k = of_image_keeps false (gives w (dsa ∷ []) (inv ∷ [])) (bound_at w.images image) (λ i. adopts (gives w (dsa ∷ []) (inv ∷ [])) (λ r. w.replicas ++ r ∷ []) name (adopt i dsa inv)) (λ i. adopts_keep false (gives w (dsa ∷ []) (inv ∷ [])) (λ r. w.replicas ++ r ∷ []) name (adopt i dsa inv)) in
       record { issued = k.issued; unclean = k.unclean; alike = k.alike }
   step_keeps (events.Snapshot name bind) =
-      let k = made_case (KeptBy false w) w name (nothing w) (λ o. same false w) (λ r. (w, outcomes.Ok, Some (record { state = r.read; log_end = r.read_end }))) (λ r called. same false w) in record { issued = k.issued; unclean = k.unclean; alike = k.alike }
+      let k = made_case (KeptBy false w) w name (nothing w) (λ o. same false w) (λ r. (w, outcomes.Ok, Some (record { state = r.read; log = r.device.read_log }))) (λ r called. same false w) in record { issued = k.issued; unclean = k.unclean; alike = k.alike }
   step_keeps (events.Rollback name snapshot) = made_case (Kept true w) w name (stays w) (λ o. same true w) (λ r. put_back w name (bound_at w.snapshots snapshot)) (λ r called. put_back_keeps w name (bound_at w.snapshots snapshot))
   step_keeps (events.StopAfter name calls how) = plans_so Q AnyCall w here name (record { calls = calls; fault = Stops how })
   step_keeps (events.Fail name calls) = plans_so Q AnyCall w here name (record { calls = calls; fault = Fails })

@@ -9,6 +9,7 @@ pub mod Moves
 pub mod Called
 pub mod Exchanges
 pub mod Issuing
+pub mod OrderlyLogs
 pub mod OrderlyReplicas
 pub mod Orderly
 pub mod Acting

@@ -1,9 +1,8 @@
 -- What the moves of a commit, a start and a stop leave of a sound controller.
-use Rattle.std.proofs.Common.{◌≡◌, ◌≢◌, ◌⊎◌, inl, inr, ⊎_elim, ℕ, List, [], ◌∷◌, Bool, true, false, Option, Some, None, refl, sym, ap, ◌∙◌, subst, fold, nat_le, ◌==◌, if◌then◌else◌}
+use Rattle.std.proofs.Common.{◌≡◌, ◌≢◌, ◌⊎◌, inl, inr, ⊎_elim, List, [], ◌∷◌, Bool, true, false, Option, Some, None, refl, sym, ap, ◌∙◌, subst, fold, nat_le, ◌==◌, if◌then◌else◌}
 use Rattle.adr_disk.specs.declared.memory.Crash.TheVariants.{Kept as KeptAll, Lost, Torn}
 use Rattle.adr_model.specs.Store.{Normal, Store, State}
 use Rattle.adr_model.specs.Change.{after}
-use Rattle.adr_model.specs.Lengths.{log_end_after}
 use Rattle.adr_model.specs.LocalLog.{no_log}
 use Rattle.adr_model.specs.Replica.{Pending, Stops, Fails, change_of, Standing, Up, Down, Failed, Replica, Book, log_of, with_change, recorded, Move, Begin, Settle, Forget, moved, Went, Passed, Met, moves_of_commit, moves_of_start, standing_after}
 use Rattle.adr_model.specs.Sound.{IsSoundBook, IsSoundState, IsSoundCall, IsPending, IsSettled, IsSoundReplica}
@@ -56,10 +55,10 @@ module _ (P : Store → Type 0) (sc : Book) (r : Replica) (book : IsSoundBook sc
   }
 
   module _ (p : Pending) (is : Settles sc r.safe p) where
-    -- the kept call settles, wherever the log ends then
-    settled_so : (end : ℕ) (standing : Standing) → P (after r.safe p.change).store
-        → HasMoved P sc r (recorded sc r.safe.inv p, record r { safe = after r.safe p.change; safe_end = end; read = after r.safe p.change; read_end = end; kept = None }) standing
-    settled_so end standing of = record {
+    -- the kept call settles
+    settled_so : (standing : Standing) → P (after r.safe p.change).store
+        → HasMoved P sc r (recorded sc r.safe.inv p, record r { safe = after r.safe p.change; read = after r.safe p.change; kept = None }) standing
+    settled_so standing of = record {
       later = recorded_later sc r.safe.inv p is.follows is.issued;
       book = recorded_sound sc r.safe.inv p is.follows is.issued is.content book;
       only = λ i other. entry_other sc.logs no_log r.safe.inv i (with_change (log_of sc r.safe.inv) p.change) other;
@@ -90,8 +89,8 @@ module _ (P : Store → Type 0) (sc : Book) (r : Replica) (book : IsSoundBook sc
 
       on : (p : Pending) → IsPending sc r p → HasMoved P sc r (moved (sc, r) Settle) standing
       on p k = subst (λ (o : Option Pending). HasMoved P sc r (moved (sc, record r { kept = o }) Settle) standing) (sym k.kept)
-          (subst (λ (d : State). HasMoved P sc r (recorded sc r.safe.inv p, record r { safe = d; safe_end = r.read_end; read = d; kept = None }) standing) (sym k.read)
-          (settled_so p (call_settles sc r.safe book sound.safe p k.call k.made) r.read_end standing (subst (λ (d : State). P d.store) k.read stores.1)))
+          (subst (λ (d : State). HasMoved P sc r (recorded sc r.safe.inv p, record r { safe = d; read = d; kept = None }) standing) (sym k.read)
+          (settled_so p (call_settles sc r.safe book sound.safe p k.call k.made) standing (subst (λ (d : State). P d.store) k.read stores.1)))
 
       by : IsSettled r ⊎ ((p : Pending) × IsPending sc r p) → HasMoved P sc r (moved (sc, r) Settle) standing
       by (inl s) = idle s
@@ -141,8 +140,8 @@ module _ (P : Store → Type 0) (sc : Book) (r : Replica) (book : IsSoundBook sc
     begins_and_forgets = forgets Down
 
     pub commit_moves : (g : Went) → HasMoved P sc r (fold moved (sc, r) (moves_of_commit p g)) (standing_after Failed g)
-    commit_moves (Passed left) = settled_so p is (log_end_after r.safe_end p.change) Up given
+    commit_moves (Passed left) = settled_so p is Up given
     commit_moves (Met place Fails) = begins_or_not (place == 3)
     commit_moves (Met place (Stops Lost)) = either (place == 3) (Begin p ∷ Forget ∷ []) begins_and_forgets
-    commit_moves (Met place (Stops KeptAll)) = either (nat_le 2 place) (Begin p ∷ Settle ∷ []) (settled_so p is (log_end_after r.safe_end p.change) Down given)
-    commit_moves (Met place (Stops Torn)) = either (nat_le 2 place) (Begin p ∷ Settle ∷ []) (settled_so p is (log_end_after r.safe_end p.change) Down given)
+    commit_moves (Met place (Stops KeptAll)) = either (nat_le 2 place) (Begin p ∷ Settle ∷ []) (settled_so p is Down given)
+    commit_moves (Met place (Stops Torn)) = either (nat_le 2 place) (Begin p ∷ Settle ∷ []) (settled_so p is Down given)

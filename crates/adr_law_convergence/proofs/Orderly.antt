@@ -11,11 +11,11 @@ use Rattle.adr_model.specs.Update.{Identifier}
 use Rattle.adr_model.specs.Store.{Store, State, empty_state}
 use Rattle.adr_model.specs.Given.{IsWellGiven}
 use Rattle.adr_model.specs.Spelled.{IsSpelledReply}
-use Rattle.adr_model.specs.Lengths.{new_log_end}
+use Rattle.adr_model.specs.Lengths.{new_log, area_fits}
 use Rattle.adr_model.specs.Serve.{Request, Reply, is_quarantined, serve}
 use Rattle.adr_model.specs.Write.{Write, AddObject, Modify, Rename, Delete, AddLink, RemoveLink, Revive}
 use Rattle.adr_model.specs.Collect.{adopt, backup}
-use Rattle.adr_model.specs.Replica.{Standing, Up, Down, Failed, Stops, Fails, Plan, Replica, on_disk, on_new_disk, Book, begun, Move, Settle, moved, Went, Met, went, moves_of_commit, moves_of_start, standing_after, plan_after}
+use Rattle.adr_model.specs.Replica.{Standing, Up, Down, Failed, Stops, Fails, Replica, on_disk, on_new_disk, Book, begun, Move, Settle, moved, Went, Met, moves_of_commit, moves_of_start, standing_after, Device, commit_goes, start_goes, device_after_commit, device_after_start, device_settled}
 use Rattle.adr_model.specs.World.{Name, World, Given, LastReply, Snapshot, Gone, Sent, stays, nothing, noted, bound, bound_at, replica_at, with_replica, of_made, of_controller, writes, asks, after_serve, served, serves_request, delivers, backed_up, adopts, of_image, put_back, after_moves, shown, marks_shown}
 use Rattle.adr_model.specs.Cycles.{pulls, reply_limit, pull_version}
 use Rattle.adr_model.specs.Step.{gives, step, stepped, revival}
@@ -27,7 +27,8 @@ use Rattle.adr_law_formed.proofs.Still.{new_is_formed}
 use Rattle.adr_law_convergence.proofs.Found.{bound_member, each_bound, in_place}
 use Rattle.adr_law_convergence.proofs.Reached.{made_case, reached_case, fits_case}
 use Rattle.adr_law_convergence.proofs.Binding.{only_made}
-use Rattle.adr_law_convergence.proofs.OrderlyReplicas.{IsGivenCall, call_orderly, woken_orderly, replica_in, on_disk_orderly, stays_orderly, settles_orderly, start_orderly, commit_orderly}
+use Rattle.adr_law_convergence.proofs.OrderlyLogs.{new_log_orderly}
+use Rattle.adr_law_convergence.proofs.OrderlyReplicas.{IsGivenCall, call_orderly, woken_orderly, replica_in, on_disk_orderly, plan_orderly, stop_orderly, start_orderly, commit_orderly}
 use Rattle.adr_law_convergence.proofs.Called.{IsKeptBehind, upgrades_so, writes_so, asks_so, serves_so, delivers_so, collects_so, plans_so, stops_so, starts_so, reports_so}
 use Rattle.adr_law_convergence.proofs.Exchanges.{IsKeptByCalls, pull_so, pulls_so, ring_so}
 
@@ -107,7 +108,7 @@ module _ (w : World) (is : IsOrderlyWorld w) where
     replicas = λ r m. replica_in w v as_given r (are.replicas r m);
     replies = replies;
     images = images;
-    snapshots = λ s m. record { state = as_given s.1.state (snapshots s m).state; log_end = (snapshots s m).log_end };
+    snapshots = λ s m. record { state = as_given s.1.state (snapshots s m).state; log = (snapshots s m).log };
     bound_requests = bound_requests;
     bound_replies = bound_replies;
     bound_images = bound_images;
@@ -129,32 +130,32 @@ module _ (w : World) (is : IsOrderlyWorld w) where
       subst IsOrderlyWorld (sym b.is) (of_parts (record w { book = b.book; replicas = b.replicas; last_replies = b.told }) refl b.orderly is.replies is.images is.snapshots is.bound_requests is.bound_replies is.bound_images is.bound_snapshots)
 
   -- moves of one controller
-  behind_moves : (r : Replica) (ms : List Move) (standing : Standing) (plan : Option Plan) → IsOrderlyReplica w (record (fold moved (w.book, r) ms).1 { standing = standing; plan = plan })
-      → IsBehindCall w (after_moves w r ms standing plan outcomes.Ok).0
-  behind_moves r ms standing plan left = record {
+  behind_moves : (r : Replica) (ms : List Move) (standing : Standing) (device : Device) → IsOrderlyReplica w (record (fold moved (w.book, r) ms).1 { standing = standing; device = device })
+      → IsBehindCall w (after_moves w r ms standing device outcomes.Ok).0
+  behind_moves r ms standing device left = record {
     book = (fold moved (w.book, r) ms).0;
-    replicas = with_replica w.replicas (record (fold moved (w.book, r) ms).1 { standing = standing; plan = plan });
+    replicas = with_replica w.replicas (record (fold moved (w.book, r) ms).1 { standing = standing; device = device });
     told = w.last_replies;
     is = refl;
-    orderly = placed w w.replicas here (record (fold moved (w.book, r) ms).1 { standing = standing; plan = plan }) left;
+    orderly = placed w w.replicas here (record (fold moved (w.book, r) ms).1 { standing = standing; device = device }) left;
   }
 
   -- a start, of whose failing it is known how the controller stands then
-  pub behind_start : (r : Replica) → Member r w.replicas → (standing : Standing) → ((place : ℕ) → went r.plan 1 ≡ Met place Fails → standing ≢ Up)
-      → IsBehindCall w (after_moves w r (moves_of_start (went r.plan 1)) standing (plan_after (went r.plan 1)) outcomes.Ok).0
-  behind_start r there standing stands = behind_moves r (moves_of_start (went r.plan 1)) standing (plan_after (went r.plan 1))
-      (start_orderly w w.book r (is.replicas r there) (plan_after (went r.plan 1)) (went r.plan 1) standing stands)
+  pub behind_start : (r : Replica) → Member r w.replicas → (standing : Standing) → ((place : ℕ) → start_goes r ≡ Met place Fails → standing ≢ Up)
+      → IsBehindCall w (after_moves w r (moves_of_start (start_goes r)) standing (device_after_start r) outcomes.Ok).0
+  behind_start r there standing stands = behind_moves r (moves_of_start (start_goes r)) standing (device_after_start r)
+      (start_orderly w w.book r (is.replicas r there) (start_goes r) standing stands)
 
   -- what calls keep
   calls_keep : IsKeptBehind (IsBehindCall w) IsGivenCall w
   calls_keep = record {
     same = record { book = w.book; replicas = w.replicas; told = w.last_replies; is = refl; orderly = here };
     notes = λ reply. record { book = w.book; replicas = w.replicas; told = (noted w reply).last_replies; is = refl; orderly = here };
-    commits = λ r there up p given made fits. let o = is.replicas r there in behind_moves r (moves_of_commit p (went r.plan 4)) (standing_after Failed (went r.plan 4)) (plan_after (went r.plan 4))
-        (commit_orderly w w.book r o (plan_after (went r.plan 4)) (o.up up) p (call_orderly w r.safe p.call p.change o.safe given made) fits (went r.plan 4));
-    starts = λ r there not_up. behind_start r there (standing_after r.standing (went r.plan 1)) (λ place e. subst (λ (g : Went). standing_after r.standing g ≢ Up) (sym e) not_up);
-    stops = λ r there. behind_moves r (Settle ∷ []) Down None (settles_orderly w w.book r (is.replicas r there) None Down);
-    plans = λ r there plan. behind_moves r [] r.standing (Some plan) (stays_orderly w w.book r (is.replicas r there) (Some plan) r.standing (is.replicas r there).up);
+    commits = λ r there up p given made fits. let o = is.replicas r there in behind_moves r (moves_of_commit p (commit_goes r p)) (standing_after Failed (commit_goes r p)) (device_after_commit r p)
+        (commit_orderly w w.book r o (o.up up) p (call_orderly w r.safe p.call p.change o.safe given made) fits);
+    starts = λ r there not_up. behind_start r there (standing_after r.standing (start_goes r)) (λ place e. subst (λ (g : Went). standing_after r.standing g ≢ Up) (sym e) not_up);
+    stops = λ r there. behind_moves r (Settle ∷ []) Down (device_settled r) (stop_orderly w w.book r (is.replicas r there));
+    plans = λ r there plan. behind_moves r [] r.standing (record r.device { plan = Some plan }) (plan_orderly w w.book r (is.replicas r there) (Some plan));
   }
 
   -- lines give more identifiers
@@ -164,7 +165,7 @@ module _ (w : World) (is : IsOrderlyWorld w) where
     replicas = λ r m. replica_in w (gives w dsas invs) (given_orderly w dsas invs) r (is.replicas r m);
     replies = is.replies;
     images = is.images;
-    snapshots = λ s m. record { state = given_orderly w dsas invs s.1.state (is.snapshots s m).state; log_end = (is.snapshots s m).log_end };
+    snapshots = λ s m. record { state = given_orderly w dsas invs s.1.state (is.snapshots s m).state; log = (is.snapshots s m).log };
     bound_requests = is.bound_requests;
     bound_replies = is.bound_replies;
     bound_images = is.bound_images;
@@ -199,8 +200,8 @@ module _ (w : World) (is : IsOrderlyWorld w) where
     where
       by : (t : Result State AdoptRefusal) → adopt image dsa inv ≡ t → Orderly (adopts w place name t)
       by (Err x) e = is
-      by (Ok s) e = fits_case Orderly w (new_log_end s) (record w { book = begun w.book s; replicas = place (on_new_disk name s) }, outcomes.Ok) is
-          (λ fits. moved_on (begun w.book s) (place (on_new_disk name s)) (places (on_new_disk name s) refl (on_disk_orderly w name s (new_log_end s) (woken_orderly w image dsa inv s of d i e) fits)))
+      by (Ok s) e = fits_case Orderly w (area_fits (new_log s) s.store) (record w { book = begun w.book s; replicas = place (on_new_disk name s) }, outcomes.Ok) is
+          (λ fits. moved_on (begun w.book s) (place (on_new_disk name s)) (places (on_new_disk name s) refl (on_disk_orderly w name s (new_log s) (woken_orderly w image dsa inv s of d i e) (new_log_orderly s fits))))
 
   of_bound : (image : Name) (act : Store → Gone) → ((i : Store) → IsOrderlyStore i → Orderly (act i)) → Orderly (of_image w (bound_at w.images image) act)
   of_bound image act acts = by (bound_at w.images image) refl
@@ -224,15 +225,15 @@ module _ (w : World) (is : IsOrderlyWorld w) where
   pub rolled_back : (name : Name) (o : Option Snapshot) → ((s : Snapshot) → o ≡ Some s → IsOrderlySnapshot w s) → Orderly (put_back w name o)
   rolled_back name None all = is
   rolled_back name (Some s) all =
-      of_parts (record w { clean = false; replicas = with_replica w.replicas (on_disk name s.state s.log_end) }) refl
-      (placed w w.replicas here (on_disk name s.state s.log_end) (on_disk_orderly w name s.state s.log_end (all s refl).state (all s refl).log_end))
+      of_parts (record w { clean = false; replicas = with_replica w.replicas (on_disk name s.state s.log) }) refl
+      (placed w w.replicas here (on_disk name s.state s.log) (on_disk_orderly w name s.state s.log (all s refl).state (all s refl).log))
       is.replies is.images is.snapshots is.bound_requests is.bound_replies is.bound_images is.bound_snapshots
 
   -- a new, empty controller, with identifiers that lines gave
   pub comes : (name : Name) (dsa inv : Identifier) → Member dsa w.given.dsas → Member inv w.given.invs → IsNewName w name
       → IsOrderlyWorld (record w { book = begun w.book (empty_state dsa inv); replicas = w.replicas ++ on_new_disk name (empty_state dsa inv) ∷ [] })
   comes name dsa inv d i new = moved_on (begun w.book (empty_state dsa inv)) (w.replicas ++ on_new_disk name (empty_state dsa inv) ∷ [])
-      (joined w w.replicas here (on_new_disk name (empty_state dsa inv)) (on_disk_orderly w name (empty_state dsa inv) (new_log_end (empty_state dsa inv)) empty (omega arith)) new)
+      (joined w w.replicas here (on_new_disk name (empty_state dsa inv)) (on_disk_orderly w name (empty_state dsa inv) (new_log (empty_state dsa inv)) empty (record { version = refl; within = omega arith })) new)
     where
       empty : IsOrderlyState w (empty_state dsa inv)
       empty = let t = new_is_formed dsa inv in record { dsa = d; inv = i; formed = t.0; store = record { formed = t.0.store; classes = t.1; says = λ u m. absurd m } }
@@ -305,9 +306,9 @@ module _ (w : World) (is : IsOrderlyWorld w) where
       by true r there = (refl, λ s e. absurd (cc))
       by false r there = (refl, only_made IsOrderlyStore r.safe.store (is.replicas r there).safe.store)
 
-  copies : (name : Name) → Sends_snapshot (of_made (nothing w) (replica_at w name) (λ r. (w, outcomes.Ok, Some (record { state = r.read; log_end = r.read_end }))))
-  copies name = made_case Sends_snapshot w name (nothing w) (λ x. (refl, λ s e. absurd (cc))) (λ r. (w, outcomes.Ok, Some (record { state = r.read; log_end = r.read_end })))
-      (λ r called. (refl, only_made (IsOrderlySnapshot w) (record { state = r.read; log_end = r.read_end }) (record { state = (is.replicas r called.there).read; log_end = (is.replicas r called.there).read_end })))
+  copies : (name : Name) → Sends_snapshot (of_made (nothing w) (replica_at w name) (λ r. (w, outcomes.Ok, Some (record { state = r.read; log = r.device.read_log }))))
+  copies name = made_case Sends_snapshot w name (nothing w) (λ x. (refl, λ s e. absurd (cc))) (λ r. (w, outcomes.Ok, Some (record { state = r.read; log = r.device.read_log })))
+      (λ r called. (refl, only_made (IsOrderlySnapshot w) (record { state = r.read; log = r.device.read_log }) (record { state = (is.replicas r called.there).read; log = (is.replicas r called.there).read_log })))
 
   pub step_orderly : (e : Event) → MayHappen w e → IsOrderlyWorld (step w e).0
   step_orderly (events.Controller name dsa inv) may = comes (gives w (dsa ∷ []) (inv ∷ [])) (gives_more w is (dsa ∷ []) (inv ∷ [])) name dsa inv (member_right w.given.dsas (dsa ∷ []) dsa (inl refl)) (member_right w.given.invs (inv ∷ []) inv (inl refl)) may.0
@@ -343,8 +344,8 @@ module _ (w : World) (is : IsOrderlyWorld w) where
   step_orderly (events.Restore name image inv) may = restored (gives w [] (inv ∷ [])) (gives_more w is [] (inv ∷ [])) name image inv (member_right w.given.invs (inv ∷ []) inv (inl refl))
   step_orderly (events.Install name dsa image inv) may = installed (gives w (dsa ∷ []) (inv ∷ [])) (gives_more w is (dsa ∷ []) (inv ∷ [])) name image dsa inv (member_right w.given.dsas (dsa ∷ []) dsa (inl refl)) (member_right w.given.invs (inv ∷ []) inv (inl refl)) may.0
   step_orderly (events.Snapshot name bind) may =
-      subst (λ (v : World). IsOrderlyWorld (record v { snapshots = bound v.snapshots bind (of_made (nothing w) (replica_at w name) (λ r. (w, outcomes.Ok, Some (record { state = r.read; log_end = r.read_end })))).2 })) (sym (copies name).0)
-      (copied w is bind (of_made (nothing w) (replica_at w name) (λ r. (w, outcomes.Ok, Some (record { state = r.read; log_end = r.read_end })))).2 may (copies name).1)
+      subst (λ (v : World). IsOrderlyWorld (record v { snapshots = bound v.snapshots bind (of_made (nothing w) (replica_at w name) (λ r. (w, outcomes.Ok, Some (record { state = r.read; log = r.device.read_log })))).2 })) (sym (copies name).0)
+      (copied w is bind (of_made (nothing w) (replica_at w name) (λ r. (w, outcomes.Ok, Some (record { state = r.read; log = r.device.read_log })))).2 may (copies name).1)
   step_orderly (events.Rollback name snapshot) may = made_case (λ (g : Gone). IsOrderlyWorld g.0) w name (stays w) (λ x. is) (λ r. put_back w name (bound_at w.snapshots snapshot))
       (λ r called. rolled_back w is name (bound_at w.snapshots snapshot) (λ s e. bound_member (IsOrderlySnapshot w) w.snapshots snapshot s is.snapshots e))
   step_orderly (events.StopAfter name calls how) may = behind_call w is _ (plans_so Q IsGivenCall w keeps name (record { calls = calls; fault = Stops how }))

@@ -1,5 +1,6 @@
 -- What calls and moves leave of orderly states and controllers.
-use Rattle.std.proofs.Common.{◌≡◌, ◌≢◌, ◌≤◌, inl, inr, ⊎_elim, ℕ, List, [], ◌∷◌, Bool, true, false, Option, Some, Ok, refl, sym, subst, fold, nat_le, ◌==◌, if◌then◌else◌}
+use Rattle.std.proofs.Common.{◌≡◌, ◌≢◌, inl, inr, ⊎_elim, ℕ, List, [], ◌∷◌, Bool, true, false, not, ◌&&◌, Option, Some, None, Ok, refl, sym, subst, fold, nat_le, ◌==◌, if◌then◌else◌}
+use Rattle.std.proofs.lemmas.Bool.{eqb-true}
 use Rattle.adr_disk.specs.declared.memory.Crash.TheVariants.{Kept as KeptAll, Lost, Torn}
 use Rattle.adr_model.specs.Member.{Member}
 use Rattle.adr_model.specs.Update.{Identifier}
@@ -8,14 +9,14 @@ use Rattle.adr_model.specs.Change.{Change, after}
 use Rattle.adr_model.specs.Formed.{IsFormed}
 use Rattle.adr_model.specs.Given.{IsWellGiven}
 use Rattle.adr_model.specs.Spelled.{IsSpelledReply}
-use Rattle.adr_model.specs.Lengths.{log_limit, log_end_after}
+use Rattle.adr_model.specs.Lengths.{Log, change_fits}
 use Rattle.adr_model.specs.Write.{write}
 use Rattle.adr_model.specs.Take.{take}
 use Rattle.adr_model.specs.Collect.{collect, adopt, woken, quarantine}
 use Rattle.adr_model.specs.Upgrade.{upgrade}
-use Rattle.adr_model.specs.Replica.{Call, ToWrite, ToTake, ToCollect, ToUpgrade, ToQuarantine, change_of, Pending, Stops, Fails, Plan, Standing, Up, Down, Failed, Replica, on_disk, Book, Move, Begin, Settle, Forget, moved, Went, Passed, Met, moves_of_commit, moves_of_start, standing_after}
+use Rattle.adr_model.specs.Replica.{Call, ToWrite, ToTake, ToCollect, ToUpgrade, ToQuarantine, change_of, Pending, Stops, Fails, Plan, Standing, Up, Down, Failed, Device, Replica, on_disk, Book, Move, Begin, Settle, Forget, moved, Went, Passed, Met, moves_of_commit, moves_of_start, standing_after, plan_after, torn_log, logs_of_start, commit_goes, device_after_commit, device_settled}
 use Rattle.adr_model.specs.World.{Name, World}
-use Rattle.adr_model.specs.Sound.{IsOrderlyStore, IsOrderlyState, IsSettled, IsOrderlyReplica}
+use Rattle.adr_model.specs.Sound.{IsOrderlyStore, IsOrderlyState, IsOrderlyLog, IsSettled, IsOrderlyReplica}
 use Rattle.adr_law_logs.proofs.Woken.{adopted_is_woken}
 use Rattle.adr_law_formed.specs.Follow.{CanFollow}
 use Rattle.adr_law_formed.proofs.EachWrite.{write_follows}
@@ -24,6 +25,7 @@ use Rattle.adr_law_formed.proofs.Collected.{collected_follows}
 use Rattle.adr_law_formed.proofs.Still.{quarantine_follows, upgrade_follows, adopted_is_formed}
 use Rattle.adr_law_formed.proofs.Served.{still_say}
 use Rattle.adr_law_convergence.proofs.Calls.{in_change}
+use Rattle.adr_law_convergence.proofs.OrderlyLogs.{LogsLead, commit_leads}
 
 -- ---- states
 
@@ -75,60 +77,92 @@ module _ (w : World) where
 
 -- what a state is in one world it is in another
 pub replica_in : (w v : World) → ((s : State) → IsOrderlyState w s → IsOrderlyState v s) → (r : Replica) → IsOrderlyReplica w r → IsOrderlyReplica v r
-replica_in w v into r is = record { safe = into r.safe is.safe; read = into r.read is.read; safe_end = is.safe_end; read_end = is.read_end; up = is.up; settled = is.settled }
+replica_in w v into r is = record { safe = into r.safe is.safe; read = into r.read is.read; safe_log = is.safe_log; read_log = is.read_log; up = is.up; up_log = is.up_log; settled = is.settled }
 
 -- ---- moves
 
 module _ (w : World) where
-  pub on_disk_orderly : (name : Name) (s : State) (end : ℕ) → IsOrderlyState w s → end ≤ log_limit → IsOrderlyReplica w (on_disk name s end)
-  on_disk_orderly name s end is fits = record { safe = is; read = is; safe_end = fits; read_end = fits; up = λ e. (refl, refl); settled = inl (refl, refl) }
+  pub on_disk_orderly : (name : Name) (s : State) (log : Log) → IsOrderlyState w s → IsOrderlyLog log → IsOrderlyReplica w (on_disk name s log)
+  on_disk_orderly name s log is fits = record { safe = is; read = is; safe_log = fits; read_log = fits; up = λ e. (refl, refl); up_log = λ e. refl; settled = inl (refl, refl) }
 
   -- a controller behind moves, as it stands then
-  abbrev pub Leaves : Book × Replica → Standing → Option Plan → Type 0
-  Leaves m standing plan = IsOrderlyReplica w (record m.1 { standing = standing; plan = plan })
+  abbrev pub Leaves : Book × Replica → Standing → Device → Type 0
+  Leaves m standing device = IsOrderlyReplica w (record m.1 { standing = standing; device = device })
 
-  module _ (sc : Book) (r : Replica) (is : IsOrderlyReplica w r) (plan : Option Plan) where
-    pub stays_orderly : (standing : Standing) → (standing ≡ Up → IsSettled r) → Leaves (sc, r) standing plan
-    stays_orderly standing up = record {
+  module _ (sc : Book) (r : Replica) (is : IsOrderlyReplica w r) where
+    -- no move, and no other log
+    stays_orderly : (standing : Standing) (plan : Option Plan) → (standing ≡ Up → r.standing ≡ Up) → Leaves (sc, r) standing (record r.device { plan = plan })
+    stays_orderly standing plan up = record {
       safe = is.safe;
       read = is.read;
-      safe_end = is.safe_end;
-      read_end = is.read_end;
-      up = up;
-      settled = ⊎_elim (λ settled. inl settled) (λ p. inr (p.0, record { kept = p.1.kept; read = p.1.read; read_end = p.1.read_end })) is.settled;
+      safe_log = is.safe_log;
+      read_log = is.read_log;
+      up = λ e. is.up (up e);
+      up_log = λ e. is.up_log (up e);
+      settled = ⊎_elim (λ settled. inl settled) (λ p. inr (p.0, record { kept = p.1.kept; read = p.1.read; read_log = p.1.read_log })) is.settled;
     }
 
-    pub settles_orderly : (standing : Standing) → Leaves (moved (sc, r) Settle) standing plan
-    settles_orderly standing = record { safe = is.read; read = is.read; safe_end = is.read_end; read_end = is.read_end; up = λ e. (refl, refl); settled = inl (refl, refl) }
+    -- both states are the one that was found, in one log
+    settles_orderly : (standing : Standing) (log : Log) (plan : Option Plan) → IsOrderlyLog log → Leaves (moved (sc, r) Settle) standing (record { read_log = log; safe_log = log; plan = plan })
+    settles_orderly standing log plan fits = record { safe = is.read; read = is.read; safe_log = fits; read_log = fits; up = λ e. (refl, refl); up_log = λ e. refl; settled = inl (refl, refl) }
 
-    forgets_orderly : (standing : Standing) → Leaves (moved (sc, r) Forget) standing plan
-    forgets_orderly standing = record { safe = is.safe; read = is.safe; safe_end = is.safe_end; read_end = is.safe_end; up = λ e. (refl, refl); settled = inl (refl, refl) }
+    -- both states are the one that was safe, in one log
+    forgets_orderly : (standing : Standing) (log : Log) (plan : Option Plan) → IsOrderlyLog log → Leaves (moved (sc, r) Forget) standing (record { read_log = log; safe_log = log; plan = plan })
+    forgets_orderly standing log plan fits = record { safe = is.safe; read = is.safe; safe_log = fits; read_log = fits; up = λ e. (refl, refl); up_log = λ e. refl; settled = inl (refl, refl) }
+
+    pub plan_orderly : (plan : Option Plan) → Leaves (sc, r) r.standing (record r.device { plan = plan })
+    plan_orderly plan = stays_orderly r.standing plan (λ up. up)
+
+    pub stop_orderly : Leaves (moved (sc, r) Settle) Down (device_settled r)
+    stop_orderly = settles_orderly Down r.device.read_log None is.read_log
+
+    torn_orderly : (b : Bool) → IsOrderlyLog (if b then r.device.safe_log else r.device.read_log)
+    torn_orderly true = is.safe_log
+    torn_orderly false = is.read_log
+
+    abbrev started_on : Went → Device
+    started_on g = record { read_log = (logs_of_start r.device.read_log r.device.safe_log g).0; safe_log = (logs_of_start r.device.read_log r.device.safe_log g).1; plan = plan_after g }
 
     -- the moves of a start, however the controller stands then, but not up where the start failed
-    pub start_orderly : (g : Went) (standing : Standing) → ((place : ℕ) → g ≡ Met place Fails → standing ≢ Up) → Leaves (fold moved (sc, r) (moves_of_start g)) standing plan
-    start_orderly (Passed left) standing stands = settles_orderly standing
-    start_orderly (Met place Fails) standing stands = stays_orderly standing (λ e. absurd (stands place refl e))
-    start_orderly (Met place (Stops Lost)) standing stands = forgets_orderly standing
-    start_orderly (Met place (Stops KeptAll)) standing stands = settles_orderly standing
-    start_orderly (Met place (Stops Torn)) standing stands = settles_orderly standing
+    pub start_orderly : (g : Went) (standing : Standing) → ((place : ℕ) → g ≡ Met place Fails → standing ≢ Up) → Leaves (fold moved (sc, r) (moves_of_start g)) standing (started_on g)
+    start_orderly (Passed left) standing stands = settles_orderly standing r.device.read_log left is.read_log
+    start_orderly (Met place Fails) standing stands = stays_orderly standing None (λ up. absurd (stands place refl up))
+    start_orderly (Met place (Stops Lost)) standing stands = forgets_orderly standing r.device.safe_log None is.safe_log
+    start_orderly (Met place (Stops KeptAll)) standing stands = settles_orderly standing r.device.read_log None is.read_log
+    start_orderly (Met place (Stops Torn)) standing stands = settles_orderly standing (torn_log r.device.read_log r.device.safe_log) None (torn_orderly (r.device.safe_log.second && not r.device.read_log.second))
 
-    module _ (settled : IsSettled r) (p : Pending) (new : IsOrderlyState w (after r.safe p.change)) (fits : log_end_after r.safe_end p.change ≤ log_limit) where
-      begins_orderly : Leaves (moved (sc, r) (Begin p)) Failed plan
-      begins_orderly = record { safe = is.safe; read = new; safe_end = is.safe_end; read_end = fits; up = λ e. absurd (cc); settled = inr (p, record { kept = refl; read = refl; read_end = refl }) }
+    module _ (settled : IsSettled r) (p : Pending) (new : IsOrderlyState w (after r.safe p.change)) where
+      module _ (device : Device) where
+        unmoved : (g : Went) (standing : Standing) → standing ≢ Up → LogsLead p.change g device → Leaves (sc, r) standing device
+        unmoved g standing not_up logs = record { safe = is.safe; read = is.read; safe_log = logs.safe_log; read_log = logs.read_log; up = λ e. absurd (not_up e); up_log = λ e. absurd (not_up e); settled = inl settled }
 
-      done_orderly : (standing : Standing) → Leaves (fold moved (sc, r) (Begin p ∷ Settle ∷ [])) standing plan
-      done_orderly standing = record { safe = new; read = new; safe_end = fits; read_end = fits; up = λ e. (refl, refl); settled = inl (refl, refl) }
+        begins_orderly : LogsLead p.change (Met 3 Fails) device → Leaves (moved (sc, r) (Begin p)) Failed device
+        begins_orderly logs = record { safe = is.safe; read = new; safe_log = logs.safe_log; read_log = logs.read_log; up = λ e. absurd (cc); up_log = λ e. absurd (cc); settled = inr (p, record { kept = refl; read = refl; read_log = logs.begun refl }) }
 
-      undone_orderly : (standing : Standing) → Leaves (fold moved (sc, r) (Begin p ∷ Forget ∷ [])) standing plan
-      undone_orderly standing = record { safe = is.safe; read = is.safe; safe_end = is.safe_end; read_end = is.safe_end; up = λ e. (refl, refl); settled = inl (refl, refl) }
+        done_orderly : (g : Went) (standing : Standing) → (standing ≡ Up → device.read_log ≡ device.safe_log) → LogsLead p.change g device → Leaves (fold moved (sc, r) (Begin p ∷ Settle ∷ [])) standing device
+        done_orderly g standing one logs = record { safe = new; read = new; safe_log = logs.safe_log; read_log = logs.read_log; up = λ e. (refl, refl); up_log = one; settled = inl (refl, refl) }
 
-      where_so : (b : Bool) (ms : List Move) (standing : Standing) → Leaves (fold moved (sc, r) ms) standing plan → Leaves (fold moved (sc, r) (if b then ms else [])) standing plan
-      where_so true ms standing left = left
-      where_so false ms standing left = stays_orderly standing (λ e. settled)
+        undone_orderly : (g : Went) → LogsLead p.change g device → Leaves (fold moved (sc, r) (Begin p ∷ Forget ∷ [])) Down device
+        undone_orderly g logs = record { safe = is.safe; read = is.safe; safe_log = logs.safe_log; read_log = logs.read_log; up = λ e. absurd (cc); up_log = λ e. absurd (cc); settled = inl (refl, refl) }
 
-      pub commit_orderly : (g : Went) → Leaves (fold moved (sc, r) (moves_of_commit p g)) (standing_after Failed g) plan
-      commit_orderly (Passed left) = done_orderly Up
-      commit_orderly (Met place Fails) = where_so (place == 3) (Begin p ∷ []) Failed begins_orderly
-      commit_orderly (Met place (Stops Lost)) = where_so (place == 3) (Begin p ∷ Forget ∷ []) Down (undone_orderly Down)
-      commit_orderly (Met place (Stops KeptAll)) = where_so (nat_le 2 place) (Begin p ∷ Settle ∷ []) Down (done_orderly Down)
-      commit_orderly (Met place (Stops Torn)) = where_so (nat_le 2 place) (Begin p ∷ Settle ∷ []) Down (done_orderly Down)
+        where_so : (b : Bool) (ms : List Move) → Leaves (sc, r) Down device → Leaves (fold moved (sc, r) ms) Down device → Leaves (fold moved (sc, r) (if b then ms else [])) Down device
+        where_so true ms not_moved left = left
+        where_so false ms not_moved left = not_moved
+
+        down : (g : Went) → LogsLead p.change g device → Leaves (sc, r) Down device
+        down g logs = unmoved g Down (λ e. absurd (cc)) logs
+
+        -- the moves of a commit, with what its calls left of the logs
+        led_orderly : (g : Went) → LogsLead p.change g device → Leaves (fold moved (sc, r) (moves_of_commit p g)) (standing_after Failed g) device
+        led_orderly (Passed left) logs = done_orderly (Passed left) Up (λ e. logs.one left refl) logs
+        led_orderly (Met place Fails) logs = by (place == 3) refl
+          where
+            by : (b : Bool) → (place == 3) ≡ b → Leaves (fold moved (sc, r) (if b then Begin p ∷ [] else [])) Failed device
+            by true e = begins_orderly (subst (λ (n : ℕ). LogsLead p.change (Met n Fails) device) (eqb-true place 3 e) logs)
+            by false e = unmoved (Met place Fails) Failed (λ up. absurd (cc)) logs
+        led_orderly (Met place (Stops Lost)) logs = where_so (place == 3) (Begin p ∷ Forget ∷ []) (down (Met place (Stops Lost)) logs) (undone_orderly (Met place (Stops Lost)) logs)
+        led_orderly (Met place (Stops KeptAll)) logs = where_so (nat_le 2 place) (Begin p ∷ Settle ∷ []) (down (Met place (Stops KeptAll)) logs) (done_orderly (Met place (Stops KeptAll)) Down (λ e. absurd (cc)) logs)
+        led_orderly (Met place (Stops Torn)) logs = where_so (nat_le 2 place) (Begin p ∷ Settle ∷ []) (down (Met place (Stops Torn)) logs) (done_orderly (Met place (Stops Torn)) Down (λ e. absurd (cc)) logs)
+
+      pub commit_orderly : change_fits r.device.safe_log r.safe.store p.change ≡ true → Leaves (fold moved (sc, r) (moves_of_commit p (commit_goes r p))) (standing_after Failed (commit_goes r p)) (device_after_commit r p)
+      commit_orderly fits = led_orderly (device_after_commit r p) (commit_goes r p) (commit_leads r p is.safe_log fits)

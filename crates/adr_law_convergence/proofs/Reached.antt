@@ -1,7 +1,5 @@
 -- What a call of a controller by its name comes to.
-use Rattle.std.proofs.Common.{◌≡◌, ◌≤◌, ℕ, Bool, true, false, Option, Some, None, refl, if◌then◌else◌}
-use Rattle.std.specs.Prelude.{nat_lt}
-use Rattle.std.proofs.lemmas.Bool.{ltb-false}
+use Rattle.std.proofs.Common.{◌≡◌, Bool, true, false, Option, Some, None, refl}
 use Rattle.adr_event.specs.declared.answer.Outcome.{Outcome}
 use Rattle.adr_event.specs.declared.answer.Outcome.TheVariants as outcomes
 use Rattle.adr_event.specs.declared.refusal.Table.TheVariants.{Log}
@@ -48,12 +46,9 @@ module _ {A : Type 0} (Q : A → Type 0) (w : World) (name : Name) (other : Outc
     reached_case = plain_reached (λ o plain. others o)
 
 -- a change that the log has no room for leaves the world as it was
-pub fits_case : (Q : Gone → Type 0) (w : World) (end : ℕ) (gone : Gone) → Q (w, full Log log_limit) → (end ≤ log_limit → Q gone) → Q (within_log w end gone)
-fits_case Q w end gone refused goes = by (nat_lt log_limit end) refl
-  where
-    by : (b : Bool) → nat_lt log_limit end ≡ b → Q (if b then (w, full Log log_limit) else gone)
-    by true e = refused
-    by false e = goes (ltb-false log_limit end e)
+pub fits_case : (Q : Gone → Type 0) (w : World) (fits : Bool) (gone : Gone) → Q (w, full Log log_limit) → (fits ≡ true → Q gone) → Q (within_log w fits gone)
+fits_case Q w true gone refused goes = goes refl
+fits_case Q w false gone refused goes = refused
 
-pub within_case : (Q : Gone → Type 0) (w : World) (end : ℕ) (gone : Gone) → Q (w, full Log log_limit) → Q gone → Q (within_log w end gone)
-within_case Q w end gone refused goes = fits_case Q w end gone refused (λ fits. goes)
+pub within_case : (Q : Gone → Type 0) (w : World) (fits : Bool) (gone : Gone) → Q (w, full Log log_limit) → Q gone → Q (within_log w fits gone)
+within_case Q w fits gone refused goes = fits_case Q w fits gone refused (λ so. goes)

@@ -10,13 +10,13 @@ use Rattle.adr_event.specs.declared.refusal.AdoptRefusal.{AdoptRefusal}
 use Rattle.adr_model.specs.Update.{Identifier}
 use Rattle.adr_model.specs.Store.{Store, State}
 use Rattle.adr_model.specs.Change.{Change}
-use Rattle.adr_model.specs.Lengths.{new_log_end, log_end_after}
+use Rattle.adr_model.specs.Lengths.{new_log, area_fits, change_fits}
 use Rattle.adr_model.specs.Member.{Each}
 use Rattle.adr_model.specs.Serve.{is_quarantined}
 use Rattle.adr_model.specs.Write.{Write, AddObject, Modify, Rename, Delete, AddLink, RemoveLink, Revive}
 use Rattle.adr_model.specs.Given.{IsWellGiven}
 use Rattle.adr_model.specs.Collect.{collect, backup, adopt}
-use Rattle.adr_model.specs.Replica.{ToCollect, Standing, Up, Down, Failed, Plan, Stops, Fails, Replica, on_new_disk, begun, went, ToUpgrade}
+use Rattle.adr_model.specs.Replica.{ToCollect, Standing, Up, Down, Failed, Plan, Stops, Fails, Replica, on_new_disk, begun, commit_goes, start_goes, ToUpgrade}
 use Rattle.adr_model.specs.World.{Name, World, Snapshot, Gone, Sent, answer, stays, nothing, bound_at, replica_at, with_replica, of_made, of_controller, committed, writes, after_collect, asks, serves_request, delivers, backed_up, adopts, of_image, put_back, with_plan, stops, starts, shown, marks_shown, after_upgrade}
 use Rattle.adr_model.specs.Step.{client_write, write_of, gives, step, revival, stepped}
 use Rattle.adr_model.specs.Convergence.{MayHappen}
@@ -40,16 +40,16 @@ module _ (w : World) where
 
   collected : (r : Replica) (lifetime : ℕ) (t : Result Change CollectRefusal) → AnswersPlainly (after_collect w r lifetime t)
   collected r lifetime (Err x) = collect_refused_plainly x
-  collected r lifetime (Ok c) = within_case AnswersPlainly w (log_end_after r.safe_end c) (committed w r (record { call = ToCollect w.time lifetime; change = c }) (outcomes.Removed (length c.removed))) refl
-      (after_calls IsPlain (λ o is. is) (outcomes.Removed (length c.removed)) refl (went r.plan 4))
+  collected r lifetime (Ok c) = within_case AnswersPlainly w (change_fits r.device.safe_log r.safe.store c) (committed w r (record { call = ToCollect w.time lifetime; change = c }) (outcomes.Removed (length c.removed))) refl
+      (after_calls IsPlain (λ o is. is) (outcomes.Removed (length c.removed)) refl (commit_goes r (record { call = ToCollect w.time lifetime; change = c })))
 
   collects : (name : Name) (lifetime : ℕ) → AnswersPlainly (of_controller w name (stays w) (λ r. after_collect w r lifetime (collect r.safe w.time lifetime)))
   collects name lifetime = plain_reached AnswersPlainly w name (stays w) (λ o plain. plain) (λ r. after_collect w r lifetime (collect r.safe w.time lifetime)) (λ r is up. collected r lifetime (collect r.safe w.time lifetime))
 
   upgrades_from : (r : Replica) (t : Result Change UpgradeRefusal) → AnswersPlainly (after_upgrade w r t)
   upgrades_from r (Err x) = upgrade_refused_plainly x
-  upgrades_from r (Ok c) = within_case AnswersPlainly w (log_end_after r.safe_end c) (committed w r (record { call = ToUpgrade; change = c }) outcomes.Ok) refl
-      (after_calls IsPlain (λ o is. is) outcomes.Ok refl (went r.plan 4))
+  upgrades_from r (Ok c) = within_case AnswersPlainly w (change_fits r.device.safe_log r.safe.store c) (committed w r (record { call = ToUpgrade; change = c }) outcomes.Ok) refl
+      (after_calls IsPlain (λ o is. is) outcomes.Ok refl (commit_goes r (record { call = ToUpgrade; change = c })))
 
   upgrades : (name : Name) → AnswersPlainly (of_controller w name (stays w) (λ r. after_upgrade w r (upgrade r.safe)))
   upgrades name = plain_reached AnswersPlainly w name (stays w) (λ o plain. plain) (λ r. after_upgrade w r (upgrade r.safe)) (λ r is up. upgrades_from r (upgrade r.safe))
@@ -70,7 +70,7 @@ module _ (w : World) where
 
   adopted : (placed : Replica → List Replica) (name : Name) (t : Result State AdoptRefusal) → AnswersPlainly (adopts w placed name t)
   adopted placed name (Err x) = adopt_refused_plainly x
-  adopted placed name (Ok s) = within_case AnswersPlainly w (new_log_end s) (record w { book = begun w.book s; replicas = placed (on_new_disk name s) }, outcomes.Ok) refl refl
+  adopted placed name (Ok s) = within_case AnswersPlainly w (area_fits (new_log s) s.store) (record w { book = begun w.book s; replicas = placed (on_new_disk name s) }, outcomes.Ok) refl refl
 
   restores : (name image : Name) (inv : Identifier) → AnswersPlainly (of_made (stays w) (replica_at w name) (λ r. of_image w (bound_at w.images image) (λ i. adopts w (with_replica w.replicas) name (adopt i r.safe.dsa inv))))
   restores name image inv = plain_made AnswersPlainly w name (stays w) (λ o plain. plain) (λ r. of_image w (bound_at w.images image) (λ i. adopts w (with_replica w.replicas) name (adopt i r.safe.dsa inv)))
@@ -90,8 +90,8 @@ module _ (w : World) where
     where
       by : (r : Replica) (standing : Standing) → AnswersPlainly (starts w r standing)
       by r Up = refl
-      by r Down = after_calls IsPlain (λ o is. is) outcomes.Ok refl (went r.plan 1)
-      by r Failed = after_calls IsPlain (λ o is. is) outcomes.Ok refl (went r.plan 1)
+      by r Down = after_calls IsPlain (λ o is. is) outcomes.Ok refl (start_goes r)
+      by r Failed = after_calls IsPlain (λ o is. is) outcomes.Ok refl (start_goes r)
 
   shows : (name : Name) → AnswersPlainly (of_controller w name (stays w) (λ r. (w, outcomes.Show (shown w r.safe))))
   shows name = plain_reached AnswersPlainly w name (stays w) (λ o plain. plain) (λ r. (w, outcomes.Show (shown w r.safe))) (λ r is up. refl)
@@ -102,8 +102,8 @@ module _ (w : World) where
   tells_marks : (name : Name) → AnswersPlainly (of_controller w name (stays w) (λ r. (w, outcomes.Marks (marks_shown r.safe.store))))
   tells_marks name = plain_reached AnswersPlainly w name (stays w) (λ o plain. plain) (λ r. (w, outcomes.Marks (marks_shown r.safe.store))) (λ r is up. refl)
 
-  taken_back : (name : Name) → SendsPlainly {A = Snapshot} (of_made (nothing w) (replica_at w name) (λ r. (w, outcomes.Ok, Some (record { state = r.read; log_end = r.read_end }))))
-  taken_back name = plain_made (SendsPlainly {A = Snapshot}) w name (nothing w) (λ o plain. plain) (λ r. (w, outcomes.Ok, Some (record { state = r.read; log_end = r.read_end }))) (λ r is. refl)
+  taken_back : (name : Name) → SendsPlainly {A = Snapshot} (of_made (nothing w) (replica_at w name) (λ r. (w, outcomes.Ok, Some (record { state = r.read; log = r.device.read_log }))))
+  taken_back name = plain_made (SendsPlainly {A = Snapshot}) w name (nothing w) (λ o plain. plain) (λ r. (w, outcomes.Ok, Some (record { state = r.read; log = r.device.read_log }))) (λ r is. refl)
 
   rolls_back : (name : Name) (o : Option Snapshot) → AnswersPlainly (of_made (stays w) (replica_at w name) (λ r. put_back w name o))
   rolls_back name o = plain_made AnswersPlainly w name (stays w) (λ x plain. plain) (λ r. put_back w name o) (λ r is. by o)

@@ -16,9 +16,9 @@ use Rattle.adr_model.specs.Write.{Write, write}
 use Rattle.adr_model.specs.Take.{take}
 use Rattle.adr_event.specs.declared.refusal.Table.TheVariants.{Log}
 use Rattle.adr_model.specs.Collect.{quarantine}
-use Rattle.adr_model.specs.Lengths.{log_limit, log_end_after}
+use Rattle.adr_model.specs.Lengths.{log_limit, change_fits}
 use Rattle.adr_model.specs.Refused.{write_refused, serve_refused, take_refused, full}
-use Rattle.adr_model.specs.Replica.{Pending, ToWrite, ToTake, ToQuarantine, Replica, went}
+use Rattle.adr_model.specs.Replica.{Pending, ToWrite, ToTake, ToQuarantine, Replica, commit_goes}
 use Rattle.adr_model.specs.World.{Name, World, Gone, Sent, stays, nothing, bound_at, committed, commit, after_write, writes, after_serve, served, serves_request, after_take, delivered, delivers}
 use Rattle.adr_model.specs.Cycles.{pull, pulls, reply_limit}
 use Rattle.adr_model.specs.Rings.{rings}
@@ -33,7 +33,7 @@ use Rattle.adr_model.specs.Formed.{IsFormedStore}
 module _ (P : Outcome → Type 0) (plain : (o : Outcome) → IsPlain o → P o) (w : World) where
   -- an answer behind a commit
   after_all : (r : Replica) (p : Pending) (o : Outcome) → P o → P (commit w r p o).1
-  after_all r p o is = within_case (λ (g : Gone). P g.1) w (log_end_after r.safe_end p.change) (committed w r p o) (plain (full Log log_limit) refl) (after_calls P plain o is (went r.plan 4))
+  after_all r p o is = within_case (λ (g : Gone). P g.1) w (change_fits r.device.safe_log r.safe.store p.change) (committed w r p o) (plain (full Log log_limit) refl) (after_calls P plain o is (commit_goes r p))
 
   refused_request : (r : Replica) (x : ServeRefusal) → P (serve_refused x) → P (after_serve w r (Err x)).1
   refused_request r (serves.RolledBack inv mine shown) is = after_all r (record { call = ToQuarantine; change = quarantine r.safe }) (serve_refused (serves.RolledBack inv mine shown)) is

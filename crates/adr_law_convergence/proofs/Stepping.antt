@@ -10,7 +10,7 @@ use Rattle.adr_model.specs.Serve.{Request, Reply}
 use Rattle.adr_model.specs.Write.{Write, AddObject, Modify, Rename, Delete, AddLink, RemoveLink, write, Revive}
 use Rattle.adr_model.specs.Given.{IsWellGiven}
 use Rattle.adr_model.specs.Collect.{collect, adopt, backup}
-use Rattle.adr_model.specs.Replica.{Standing, Up, Down, Failed, Stops, Fails, Plan, Replica}
+use Rattle.adr_model.specs.Replica.{Standing, Up, Down, Failed, Stops, Fails, Plan, Replica, device_settled}
 use Rattle.adr_model.specs.World.{Name, World, Snapshot, Gone, Sent, stays, nothing, bound, bound_at, writes, asks, serves_request, delivered, delivers, after_write, after_collect, backed_up, adopts, of_made, of_image, put_back, of_controller, with_plan, stops, starts, with_replica, replica_at, shown, marks_shown, after_upgrade}
 use Rattle.adr_model.specs.Cycles.{pull, pulls, reply_limit, pull_version}
 use Rattle.adr_model.specs.Step.{gives, step, revival, stepped}
@@ -97,10 +97,10 @@ module _ (w : World) (sound : IsSoundWorld w) where
   image_case v Q (Some i) act none acts = acts i refl
 
   abbrev copied : (name : Name) → Sent Snapshot
-  copied name = of_made (nothing w) (replica_at w name) (λ r. (w, outcomes.Ok, Some (record { state = r.read; log_end = r.read_end })))
+  copied name = of_made (nothing w) (replica_at w name) (λ r. (w, outcomes.Ok, Some (record { state = r.read; log = r.device.read_log })))
 
   snapshot_makes : (name : Name) → (copied name).0 ≡ w
-  snapshot_makes name = made_case (λ (t : Sent Snapshot). t.0 ≡ w) w name (nothing w) (λ x. refl) (λ r. (w, outcomes.Ok, Some (record { state = r.read; log_end = r.read_end }))) (λ r called. refl)
+  snapshot_makes name = made_case (λ (t : Sent Snapshot). t.0 ≡ w) w name (nothing w) (λ x. refl) (λ r. (w, outcomes.Ok, Some (record { state = r.read; log = r.device.read_log }))) (λ r called. refl)
 
   -- a world into which a snapshot was put back isn't clean
   put_back_so : (name : Name) (o : Option Snapshot) → (put_back w name o).0.clean ≡ true → SoundBehind (put_back w name o)
@@ -155,7 +155,7 @@ module _ (w : World) (sound : IsSoundWorld w) where
       made_case (λ (g : Gone). g.0.clean ≡ true → SoundBehind g) w name (stays w) (λ x is. sound) (λ r. put_back w name (bound_at w.snapshots snapshot)) (λ r called is. put_back_so name (bound_at w.snapshots snapshot) is) clean
   step_sound (events.StopAfter name calls how) may clean = with_plan_so name (record { calls = calls; fault = Stops how })
   step_sound (events.Fail name calls) may clean = with_plan_so name (record { calls = calls; fault = Fails })
-  step_sound (events.Stop name) may clean = made_case SoundBehind w name (stays w) (λ x. sound) (λ r. stops w r) (λ r called. stopped w sound r called.there Down None)
+  step_sound (events.Stop name) may clean = made_case SoundBehind w name (stays w) (λ x. sound) (λ r. stops w r) (λ r called. stopped w sound r called.there Down (device_settled r))
   step_sound (events.Start name) may clean = made_case SoundBehind w name (stays w) (λ x. sound) (λ r. starts w r r.standing) (λ r called. started_so r called.there r.standing refl)
   step_sound (events.Show name) may clean = reached_case SoundBehind w name (stays w) (λ x. sound) (λ r. (w, outcomes.Show (shown w r.safe))) (λ r called up. sound)
   step_sound (events.Vector name) may clean = reached_case SoundBehind w name (stays w) (λ x. sound) (λ r. (w, outcomes.Vector r.safe.store.vector r.safe.store.times)) (λ r called up. sound)

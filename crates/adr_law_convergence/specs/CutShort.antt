@@ -2,7 +2,7 @@
 use Rattle.std.specs.Prelude.{◌≢◌}
 use Rattle.adr_event.specs.declared.answer.Outcome.TheVariants as outcomes
 use Rattle.adr_model.specs.Member.{Member}
-use Rattle.adr_model.specs.Replica.{Replica, Up, went, moves_of_start, plan_after}
+use Rattle.adr_model.specs.Replica.{Replica, Up, moves_of_start, start_goes, device_after_start}
 use Rattle.adr_model.specs.World.{World, after_moves}
 use Rattle.adr_model.specs.Sound.{IsWorldOfRun}
 
@@ -10,4 +10,4 @@ use Rattle.adr_model.specs.Sound.{IsWorldOfRun}
 abbrev pub StartsCutShort : Type 0
 StartsCutShort =
     (w : World) (r : Replica) → IsWorldOfRun w → Member r w.replicas → r.standing ≢ Up
-    → IsWorldOfRun (after_moves w r (moves_of_start (went r.plan 1)) r.standing (plan_after (went r.plan 1)) outcomes.Ok).0
+    → IsWorldOfRun (after_moves w r (moves_of_start (start_goes r)) r.standing (device_after_start r) outcomes.Ok).0

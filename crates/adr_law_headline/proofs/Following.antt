@@ -261,8 +261,8 @@ event_may seen w (events.Install name dsa image inv) agrees cause allowed =
           (λ o. came_not seen w name dsa inv agrees) (λ s. came seen w (on_new_disk name s) dsa inv (begun w.book s) agrees),
     )
 event_may seen w (events.Snapshot name bind) agrees cause allowed =
-    let t = of_made (nothing w) (replica_at w name) (λ r. (w, outcomes.Ok, Some (record { state = r.read; log_end = r.read_end }))) in
-    let a = agrees_on seen w t.0 agrees (snapshots_stay w name (λ r. record { state = r.read; log_end = r.read_end })) in (
+    let t = of_made (nothing w) (replica_at w name) (λ r. (w, outcomes.Ok, Some (record { state = r.read; log = r.device.read_log }))) in
+    let a = agrees_on seen w t.0 agrees (snapshots_stay w name (λ r. record { state = r.read; log = r.device.read_log })) in (
       unbound w.snapshots seen.snapshots bind agrees.snapshots (new_snapshot seen name bind cause),
       record { controllers = a.controllers; dsas = a.dsas; invs = a.invs; requests = a.requests; replies = a.replies; images = a.images; snapshots = one_more t.0.snapshots seen.snapshots bind t.2 a.snapshots },
     )

@@ -19,9 +19,9 @@ use Rattle.adr_model.specs.Write.{Write, write}
 use Rattle.adr_model.specs.Given.{IsWellGiven}
 use Rattle.adr_model.specs.Take.{take}
 use Rattle.adr_model.specs.Collect.{collect, backup, adopt, quarantine}
-use Rattle.adr_model.specs.Lengths.{new_log_end, log_end_after}
+use Rattle.adr_model.specs.Lengths.{new_log, area_fits, change_fits}
 use Rattle.adr_model.specs.Refused.{serve_refused, take_refused, quarantined}
-use Rattle.adr_model.specs.Replica.{Pending, ToWrite, ToTake, ToCollect, ToQuarantine, Standing, Up, Down, Failed, Plan, Replica, on_disk, on_new_disk, Book, begun, Settle, moved, went, moves_of_commit, moves_of_start, standing_after, plan_after}
+use Rattle.adr_model.specs.Replica.{Pending, ToWrite, ToTake, ToCollect, ToQuarantine, Standing, Up, Down, Failed, Plan, Device, Replica, on_disk, on_new_disk, Book, begun, Settle, moved, moves_of_commit, moves_of_start, standing_after, commit_goes, start_goes, device_after_commit, device_after_start, device_settled}
 use Rattle.adr_model.specs.World.{Name, World, Snapshot, Gone, Sent, stays, nothing, bound_at, replica_at, with_replica, of_made, of_controller, committed, commit, quarantines, after_write, writes, after_collect, noted, asks, after_serve, served, serves_request, after_take, delivered, delivers, backed_up, adopts, of_image, put_back, with_plan, stops, starts}
 use Rattle.adr_model.proofs.Members.{member_of_either}
 use Rattle.adr_law_convergence.proofs.Found.{bound_member, in_place}
@@ -73,14 +73,14 @@ module _ (P : Update → Type 0) (w : World) (is : IsWorldInForm P w) where
   -- ---- calls of a controller that is there
 
   module _ (r : Replica) (there : Member r w.replicas) where
-    moved_world : (m : Book × Replica) (standing : Standing) (plan : Option Plan) → IsInForm P m.1.safe × IsInForm P m.1.read
-        → IsWorldInForm P (record w { book = m.0; replicas = with_replica w.replicas (record m.1 { standing = standing; plan = plan }) })
-    moved_world m standing plan both = moved_on m.0 (with_replica w.replicas (record m.1 { standing = standing; plan = plan })) (each_placed (record m.1 { standing = standing; plan = plan }) both)
+    moved_world : (m : Book × Replica) (standing : Standing) (device : Device) → IsInForm P m.1.safe × IsInForm P m.1.read
+        → IsWorldInForm P (record w { book = m.0; replicas = with_replica w.replicas (record m.1 { standing = standing; device = device }) })
+    moved_world m standing device both = moved_on m.0 (with_replica w.replicas (record m.1 { standing = standing; device = device })) (each_placed (record m.1 { standing = standing; device = device }) both)
 
     commits : (p : Pending) (outcome : Outcome) → IsInForm P (after r.safe p.change) → InForm (commit w r p outcome)
-    commits p outcome new = within_case InForm w (log_end_after r.safe_end p.change) (committed w r p outcome) is
-        (moved_world (fold moved (w.book, r) (moves_of_commit p (went r.plan 4))) (standing_after Failed (went r.plan 4)) (plan_after (went r.plan 4))
-        (committing (IsInForm P) w.book r (is.replicas r there) p new (went r.plan 4)))
+    commits p outcome new = within_case InForm w (change_fits r.device.safe_log r.safe.store p.change) (committed w r p outcome) is
+        (moved_world (fold moved (w.book, r) (moves_of_commit p (commit_goes r p))) (standing_after Failed (commit_goes r p)) (device_after_commit r p)
+        (committing (IsInForm P) w.book r (is.replicas r there) p new (commit_goes r p)))
 
     quarantining : (outcome : Outcome) → InForm (quarantines w r outcome)
     quarantining outcome = commits (record { call = ToQuarantine; change = quarantine r.safe }) outcome (quarantined_in_form P r.safe (is.replicas r there).0)
@@ -116,7 +116,7 @@ module _ (P : Update → Type 0) (w : World) (is : IsWorldInForm P w) where
     collected lifetime (Ok c) e = commits (record { call = ToCollect w.time lifetime; change = c }) (outcomes.Removed (length c.removed)) (collected_in_form P r.safe w.time lifetime c (is.replicas r there).0 e)
 
     started_so : InForm (starts w r Down)
-    started_so = moved_world (fold moved (w.book, r) (moves_of_start (went r.plan 1))) (standing_after r.standing (went r.plan 1)) (plan_after (went r.plan 1)) (starting (IsInForm P) w.book r (is.replicas r there) (went r.plan 1))
+    started_so = moved_world (fold moved (w.book, r) (moves_of_start (start_goes r))) (standing_after r.standing (start_goes r)) (device_after_start r) (starting (IsInForm P) w.book r (is.replicas r there) (start_goes r))
 
     started_from : (standing : Standing) → InForm (starts w r standing)
     started_from Up = is
@@ -152,15 +152,15 @@ module _ (P : Update → Type 0) (w : World) (is : IsWorldInForm P w) where
   pub backups_in_form : (name : Name) → MakesInForm P (IsImageInForm P) (of_controller w name (nothing w) (λ r. backed_up w (backup r.safe)))
   backups_in_form name = reached_case (MakesInForm P (IsImageInForm P)) w name (nothing w) (nothing_made (IsImageInForm P)) (λ r. backed_up w (backup r.safe)) (λ r called up. imaged_from r called.there (is_quarantined r.safe.mode))
 
-  pub copies_in_form : (name : Name) → MakesInForm P (λ (s : Snapshot). IsInForm P s.state) (of_made (nothing w) (replica_at w name) (λ r. (w, outcomes.Ok, Some (record { state = r.read; log_end = r.read_end }))))
-  copies_in_form name = made_case (MakesInForm P (λ (s : Snapshot). IsInForm P s.state)) w name (nothing w) (nothing_made (λ (s : Snapshot). IsInForm P s.state)) (λ r. (w, outcomes.Ok, Some (record { state = r.read; log_end = r.read_end })))
-      (λ r called. (is, only_made (λ (s : Snapshot). IsInForm P s.state) (record { state = r.read; log_end = r.read_end }) (is.replicas r called.there).1))
+  pub copies_in_form : (name : Name) → MakesInForm P (λ (s : Snapshot). IsInForm P s.state) (of_made (nothing w) (replica_at w name) (λ r. (w, outcomes.Ok, Some (record { state = r.read; log = r.device.read_log }))))
+  copies_in_form name = made_case (MakesInForm P (λ (s : Snapshot). IsInForm P s.state)) w name (nothing w) (nothing_made (λ (s : Snapshot). IsInForm P s.state)) (λ r. (w, outcomes.Ok, Some (record { state = r.read; log = r.device.read_log })))
+      (λ r called. (is, only_made (λ (s : Snapshot). IsInForm P s.state) (record { state = r.read; log = r.device.read_log }) (is.replicas r called.there).1))
 
   pub plans_in_form : (name : Name) (plan : Plan) → InForm (of_made (stays w) (replica_at w name) (λ r. with_plan w r plan))
-  plans_in_form name plan = made_case InForm w name (stays w) (λ x. is) (λ r. with_plan w r plan) (λ r called. moved_on w.book (with_replica w.replicas (record r { plan = Some plan })) (each_placed (record r { plan = Some plan }) (is.replicas r called.there)))
+  plans_in_form name plan = made_case InForm w name (stays w) (λ x. is) (λ r. with_plan w r plan) (λ r called. moved_on w.book (with_replica w.replicas (record r { device = record r.device { plan = Some plan } })) (each_placed (record r { device = record r.device { plan = Some plan } }) (is.replicas r called.there)))
 
   pub stops_in_form : (name : Name) → InForm (of_made (stays w) (replica_at w name) (λ r. stops w r))
-  stops_in_form name = made_case InForm w name (stays w) (λ x. is) (λ r. stops w r) (λ r called. moved_world r called.there (moved (w.book, r) Settle) Down None (settling (IsInForm P) w.book r (is.replicas r called.there)))
+  stops_in_form name = made_case InForm w name (stays w) (λ x. is) (λ r. stops w r) (λ r called. moved_world r called.there (moved (w.book, r) Settle) Down (device_settled r) (settling (IsInForm P) w.book r (is.replicas r called.there)))
 
   pub starts_in_form : (name : Name) → InForm (of_made (stays w) (replica_at w name) (λ r. starts w r r.standing))
   starts_in_form name = made_case InForm w name (stays w) (λ x. is) (λ r. starts w r r.standing) (λ r called. started_from r called.there r.standing)
@@ -176,7 +176,7 @@ module _ (P : Update → Type 0) (w : World) (is : IsWorldInForm P w) where
     where
       by : (t : Result State AdoptRefusal) → adopt image dsa inv ≡ t → InForm (adopts w place name t)
       by (Err x) e = is
-      by (Ok s) e = within_case InForm w (new_log_end s) (record w { book = begun w.book s; replicas = place (on_new_disk name s) }, outcomes.Ok) is
+      by (Ok s) e = within_case InForm w (area_fits (new_log s) s.store) (record w { book = begun w.book s; replicas = place (on_new_disk name s) }, outcomes.Ok) is
           (moved_on (begun w.book s) (place (on_new_disk name s)) (places s (adopted_in_form P image dsa inv s of right_dsa right_inv e)))
 
   of_bound : (image : Name) (act : Store → Gone) → ((i : Store) → IsImageInForm P i → InForm (act i)) → InForm (of_image w (bound_at w.images image) act)
@@ -201,7 +201,7 @@ module _ (P : Update → Type 0) (w : World) (is : IsWorldInForm P w) where
       by None e = is
       by (Some s) e =
           let of : IsInForm P s.state = bound_member (λ (t : Snapshot). IsInForm P t.state) w.snapshots snapshot s is.snapshots e in
-          record { time = is.time; replicas = each_placed (on_disk name s.state s.log_end) (of, of); requests = is.requests; replies = is.replies; images = is.images; snapshots = is.snapshots }
+          record { time = is.time; replicas = each_placed (on_disk name s.state s.log) (of, of); requests = is.requests; replies = is.replies; images = is.images; snapshots = is.snapshots }
 
   -- a new, empty controller
   pub comes_in_form : (name : Name) (dsa inv : Identifier) → IsId dsa → IsId inv → IsWorldInForm P (record w { book = begun w.book (empty_state dsa inv); replicas = w.replicas ++ on_new_disk name (empty_state dsa inv) ∷ [] })

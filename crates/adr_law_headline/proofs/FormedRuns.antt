@@ -150,7 +150,7 @@ module _ (P : Update → Type 0) where
     event_in_form w is (events.Restore name image inv) may does typed so = restores_in_form P (gives w [] (inv ∷ [])) (given_more w [] (inv ∷ []) is) name image inv typed.0
     event_in_form w is (events.Install name dsa image inv) may does typed so = installs_in_form P (gives w (dsa ∷ []) (inv ∷ [])) (given_more w (dsa ∷ []) (inv ∷ []) is) name image dsa inv typed.0.0 typed.0.1
     event_in_form w is (events.Snapshot name bind) may does typed so =
-        bound_snapshot (of_made (nothing w) (replica_at w name) (λ r. (w, outcomes.Ok, Some (record { state = r.read; log_end = r.read_end })))) bind (copies_in_form P w is name)
+        bound_snapshot (of_made (nothing w) (replica_at w name) (λ r. (w, outcomes.Ok, Some (record { state = r.read; log = r.device.read_log })))) bind (copies_in_form P w is name)
     event_in_form w is (events.Rollback name snapshot) may does typed so = puts_back_in_form P w is name snapshot
     event_in_form w is (events.StopAfter name calls how) may does typed so = plans_in_form P w is name (record { calls = calls; fault = Stops how })
     event_in_form w is (events.Fail name calls) may does typed so = plans_in_form P w is name (record { calls = calls; fault = Fails })

@@ -1,5 +1,5 @@
 -- Lines leave who is there, by name, which identifiers were given and what is bound, but for those that say otherwise.
-use Rattle.std.proofs.Common.{◌≡◌, ◌∙◌, refl, sym, ap, ℕ, zero, suc, List, [], ◌∷◌, length, Bool, true, false, cond, map, nat_lt, Option, Some, None, Result, Ok, Err}
+use Rattle.std.proofs.Common.{◌≡◌, ◌∙◌, refl, sym, ap, ℕ, zero, suc, List, [], ◌∷◌, length, Bool, true, false, cond, map, Option, Some, None, Result, Ok, Err}
 use Rattle.std.specs.Str.{bytes_eq}
 use Rattle.adr_event.specs.declared.answer.Answer.{Answer}
 use Rattle.adr_event.specs.declared.answer.Outcome.{Outcome}
@@ -15,14 +15,14 @@ use Rattle.adr_event.specs.declared.refusal.UpgradeRefusal.{UpgradeRefusal}
 use Rattle.adr_event.specs.declared.refusal.AdoptRefusal.{AdoptRefusal}
 use Rattle.adr_model.specs.Store.{State, Store}
 use Rattle.adr_model.specs.Change.{Change}
-use Rattle.adr_model.specs.Lengths.{log_limit, log_end_after, new_log_end}
+use Rattle.adr_model.specs.Lengths.{log_limit, new_log, area_fits, change_fits}
 use Rattle.adr_model.specs.Serve.{Request, Reply, serve}
 use Rattle.adr_model.specs.Write.{Write, write}
 use Rattle.adr_model.specs.Take.{take}
 use Rattle.adr_model.specs.Collect.{quarantine, collect, backup}
 use Rattle.adr_model.specs.Upgrade.{upgrade}
 use Rattle.adr_model.specs.Refused.{adopt_refused, full}
-use Rattle.adr_model.specs.Replica.{Pending, ToWrite, ToTake, ToCollect, ToUpgrade, ToQuarantine, Settle, Move, Standing, Up, Down, Failed, Plan, Replica, on_new_disk, begun, went, moves_of_start, standing_after, plan_after, outcome_after}
+use Rattle.adr_model.specs.Replica.{Pending, ToWrite, ToTake, ToCollect, ToUpgrade, ToQuarantine, Settle, Move, Standing, Up, Down, Failed, Plan, Device, Replica, on_new_disk, begun, moves_of_start, standing_after, outcome_after, start_goes, device_after_start, device_settled}
 use Rattle.adr_model.specs.World.{Name, Snapshot, World, Gone, Sent, stays, nothing, with_replica, committed, commit, writes, after_write, after_collect, after_upgrade, asks, after_serve, served, serves_request, after_take, delivered, delivers, backed_up, adopts, of_image, put_back, of_made, of_controller, replica_at, with_plan, after_moves, stops, starts}
 use Rattle.adr_model.specs.Cycles.{Pulled, pull_served, pull_asked, pull, and_then, pulls, cycle, reply_limit, pull_version}
 use Rattle.adr_model.specs.Rings.{rings}
@@ -74,7 +74,7 @@ adopted_case Q w placed name (Some i) adopted others comes = by (adopted i)
     by : (t : Result State AdoptRefusal) → Q (adopts w placed name t)
     by (Err x) = others (adopt_refused x)
     by (Ok s) =
-        within_case Q w (new_log_end s) (record w { book = begun w.book s; replicas = placed (on_new_disk name s) }, outcomes.Ok) (others (full Log log_limit)) (comes s)
+        within_case Q w (area_fits (new_log s) s.store) (record w { book = begun w.book s; replicas = placed (on_new_disk name s) }, outcomes.Ok) (others (full Log log_limit)) (comes s)
 
 module _ (w : World) where
   abbrev Kept : Gone → Type 0
@@ -83,13 +83,8 @@ module _ (w : World) where
   abbrev KeptBy : {A : Type 0} → Sent A → Type 0
   KeptBy t = Stays w t.0
 
-  -- what is written to a log, or refused there
-  within : (b : Bool) (gone : Gone) → Kept gone → Kept (cond b (w, full Log log_limit) gone)
-  within true gone kept = same w
-  within false gone kept = kept
-
   commits : (r : Replica) (p : Pending) (o : Outcome) → Kept (commit w r p o)
-  commits r p o = within (nat_lt log_limit (log_end_after r.safe_end p.change)) (committed w r p o)
+  commits r p o = within_case Kept w (change_fits r.device.safe_log r.safe.store p.change) (committed w r p o) (same w)
       (record { names = replacing_keeps_names w.replicas _; given = refl; requests = refl; replies = refl; images = refl; snapshots = refl })
 
   wrote : (r : Replica) (what : Write) (t : Result Change WriteRefusal) → Kept (after_write w r what t)
@@ -171,13 +166,13 @@ module _ (w : World) where
   reports_stay name what = reached_case Kept w name (stays w) (λ o. same w) (λ r. (w, what r)) (λ r called up. same w)
 
   -- what moves leave of a controller stands in its place
-  moves_stay : (r : Replica) (moves : List Move) (standing : Standing) (plan : Option Plan) (o : Outcome) → Kept (after_moves w r moves standing plan o)
-  moves_stay r moves standing plan o = record { names = replacing_keeps_names w.replicas _; given = refl; requests = refl; replies = refl; images = refl; snapshots = refl }
+  moves_stay : (r : Replica) (moves : List Move) (standing : Standing) (device : Device) (o : Outcome) → Kept (after_moves w r moves standing device o)
+  moves_stay r moves standing device o = record { names = replacing_keeps_names w.replicas _; given = refl; requests = refl; replies = refl; images = refl; snapshots = refl }
 
   started_stays : (r : Replica) (standing : Standing) → Kept (starts w r standing)
   started_stays r Up = same w
-  started_stays r Down = let g = went r.plan 1 in moves_stay r (moves_of_start g) (standing_after r.standing g) (plan_after g) (outcome_after g outcomes.Ok)
-  started_stays r Failed = let g = went r.plan 1 in moves_stay r (moves_of_start g) (standing_after r.standing g) (plan_after g) (outcome_after g outcomes.Ok)
+  started_stays r Down = let g = start_goes r in moves_stay r (moves_of_start g) (standing_after r.standing g) (device_after_start r) (outcome_after g outcomes.Ok)
+  started_stays r Failed = let g = start_goes r in moves_stay r (moves_of_start g) (standing_after r.standing g) (device_after_start r) (outcome_after g outcomes.Ok)
 
   pub plans_stay : (name : Name) (plan : Plan) → Kept (of_made (stays w) (replica_at w name) (λ r. with_plan w r plan))
   plans_stay name plan =
@@ -185,7 +180,7 @@ module _ (w : World) where
       (λ r called. record { names = replacing_keeps_names w.replicas _; given = refl; requests = refl; replies = refl; images = refl; snapshots = refl })
 
   pub stops_stay : (name : Name) → Kept (of_made (stays w) (replica_at w name) (λ r. stops w r))
-  stops_stay name = made_case Kept w name (stays w) (λ o. same w) (λ r. stops w r) (λ r called. moves_stay r (Settle ∷ []) Down None outcomes.Ok)
+  stops_stay name = made_case Kept w name (stays w) (λ o. same w) (λ r. stops w r) (λ r called. moves_stay r (Settle ∷ []) Down (device_settled r) outcomes.Ok)
 
   pub starts_stay : (name : Name) → Kept (of_made (stays w) (replica_at w name) (λ r. starts w r r.standing))
   starts_stay name = made_case Kept w name (stays w) (λ o. same w) (λ r. starts w r r.standing) (λ r called. started_stays r r.standing)

@@ -2,14 +2,13 @@
 -- and this of its rows, and such a state answers so.
 use Rattle.std.proofs.Common.{◌≡◌, ℕ, List, Ok, refl, sym, ap, ◌∙◌, subst, map, filter}
 use Rattle.std.specs.Prelude.{◌&&◌}
-use Rattle.adr_stamp.specs.declared.LinkStamp.{LinkStamp}
 use Rattle.adr_vector.specs.declared.mark.Mark.{Mark}
 use Rattle.adr_wire.specs.Ranges.{IsId, IsU64}
-use Rattle.adr_image.specs.Stored.{IsSpelledRow, IsSpelled}
+use Rattle.adr_image.specs.Stored.{IsSpelled}
 use Rattle.adr_records.specs.Logged.{IsLogged, MayBeRecorded}
-use Rattle.adr_records.specs.BodyLaws.{content_of_attr, logged_after}
+use Rattle.adr_records.specs.BodyLaws.{logged_after}
 use Rattle.adr_model.specs.Member.{Member, Each}
-use Rattle.adr_model.specs.Update.{Identifier, Key, RowOf, LinkOf, Said, Holds, IsPresent, Update, same_unit, unit_of}
+use Rattle.adr_model.specs.Update.{Identifier, Update, same_unit, unit_of}
 use Rattle.adr_model.specs.Store.{Held, Normal, Store, State, updates_of, empty_state}
 use Rattle.adr_model.specs.Change.{Item, Change, updates_written, after}
 use Rattle.adr_model.specs.Formed.{IsFormedStore, IsFormed}
@@ -24,13 +23,13 @@ use Rattle.adr_law_steps.proofs.Rows.{held_as, updated}
 use Rattle.adr_law_logs.proofs.Woken.{adopted_is_woken}
 use Rattle.adr_law_logs.proofs.Candidates.{candidate_from}
 use Rattle.adr_law_logs.proofs.Ground.{first_front}
-use Rattle.adr_model.specs.Spelled.{IsSaidOfKey, IsSpelledReply, SayOfTheirKeys}
+use Rattle.adr_model.specs.Spelled.{IsSpelledReply}
 use Rattle.adr_law_formed.proofs.Whence.{rows_from}
 use Rattle.adr_law_formed.proofs.TakenFollow.{taken_brings}
 use Rattle.adr_law_recorded.specs.Typed.{IsTypedWrite}
 use Rattle.adr_law_recorded.specs.Ranged.{IsRangedRequest, IsRangedReply}
 use Rattle.adr_law_recorded.proofs.Beginning.{new_may_begin, adopted_is_logged}
-use Rattle.adr_law_recorded.proofs.Served.{logged_says, served_in_range}
+use Rattle.adr_law_recorded.proofs.Served.{served_in_range}
 use Rattle.adr_law_recorded.proofs.Written.{write_is_recorded}
 use Rattle.adr_law_recorded.proofs.Taken.{taken_recorded}
 use Rattle.adr_law_recorded.proofs.Collected.{quarantine_is_recorded, collection_is_recorded}
@@ -51,8 +50,6 @@ pub record IsReplyInForm (P : Update → Type 0) (r : Reply) : Type 0 where
   pub spelled : IsSpelledReply r
   pub ranged : IsRangedReply r
   pub rows : Each (λ (i : Item). Each P i.rows) r.items
-
--- ---- rows
 
 -- ---- changes
 

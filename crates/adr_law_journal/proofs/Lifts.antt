@@ -3,27 +3,29 @@ use Rattle.std.proofs.Common.{inl, inr, ⊎_elim, ℕ, List, Option, sym, ◌∙
 use Rattle.std.specs.Option.{option_map}
 use Rattle.adr_disk.specs.Disk.{Among, Keeps, LeavesOnly}
 use Rattle.adr_wire.specs.Reading.{Reading}
-use Rattle.adr_law_journal.specs.Log.{Started, Following, start_of}
-use Rattle.adr_law_journal.specs.Kept.{Finds, IsSettled}
+use Rattle.adr_model.specs.Lengths.{Log}
+use Rattle.adr_law_journal.specs.Log.{Following}
+use Rattle.adr_law_journal.specs.Areas.{Began, Started, start_of}
+use Rattle.adr_law_journal.specs.Kept.{Layout, Finds, IsSettled}
 
 -- what each crash image has, what a start finds has
-pub finds_each : {S : Type 0} (head : Reading S) (following : Following S) (may_leave : List ℕ → Type 0) (P : Started S → Type 0) → Among (λ bytes. P (start_of head following bytes)) may_leave → Among P (Finds head following may_leave)
-finds_each head following may_leave P h f left = subst P left.2 (h left.0 left.1)
+pub finds_each : {H S : Type 0} (head : Reading H) (area : H → Reading (Began S)) (following : ℕ → Following S) (may_leave : List ℕ → Type 0) (P : Started S → Type 0) → Among (λ bytes. P (start_of head area following bytes)) may_leave → Among P (Finds head area following may_leave)
+finds_each head area following may_leave P h f left = subst P left.2 (h left.0 left.1)
 
-module _ {K D S : Type 0} (head : Reading S) (following : Following S) (disk : K → D) (content : D → Option (List ℕ)) (may_leave : D → List ℕ → Type 0) (moment : D → ℕ) (left_since : D → ℕ → List ℕ → Type 0) (old new : K) where
+module _ {K D H S : Type 0} (head : Reading H) (area : H → Reading (Began S)) (following : ℕ → Following S) (disk : K → D) (content : D → Option (List ℕ)) (may_leave : D → List ℕ → Type 0) (moment : D → ℕ) (left_since : D → ℕ → List ℕ → Type 0) (old new : K) where
   abbrev pub told_by : K → Option (Started S)
-  told_by k = option_map (start_of head following) (content (disk k))
+  told_by k = option_map (start_of head area following) (content (disk k))
 
   abbrev pub leaves_by : K → Started S → Type 0
-  leaves_by k = Finds head following (may_leave (disk k))
+  leaves_by k = Finds head area following (may_leave (disk k))
 
   abbrev pub moment_by : K → ℕ
   moment_by k = moment (disk k)
 
   abbrev pub since_by : K → ℕ → Started S → Type 0
-  since_by k t = Finds head following (left_since (disk k) t)
+  since_by k t = Finds head area following (left_since (disk k) t)
 
-  pub lifted : (P : Started S → Type 0) → LeavesOnly moment left_since (disk old) (disk new) (λ bytes. P (start_of head following bytes)) → LeavesOnly moment_by since_by old new P
+  pub lifted : (P : Started S → Type 0) → LeavesOnly moment left_since (disk old) (disk new) (λ bytes. P (start_of head area following bytes)) → LeavesOnly moment_by since_by old new P
   lifted P h = record {
     later = h.later;
     each = λ f left. subst P left.2 (h.each left.0 left.1);
@@ -33,19 +35,12 @@ module _ {K D S : Type 0} (head : Reading S) (following : Following S) (disk : K
   -- nothing changes
   pub kept_same : Keeps content may_leave moment left_since (disk old) (disk new) → Keeps told_by leaves_by moment_by since_by old new
   kept_same h = record {
-    content_stays = ap (option_map (start_of head following)) h.content_stays;
+    content_stays = ap (option_map (start_of head area following)) h.content_stays;
     no_more = λ f left. (left.0, h.no_more left.0 left.1, left.2);
     no_fewer = λ f left. (left.0, h.no_fewer left.0 left.1, left.2);
     moment_stays = h.moment_stays;
     past_stays = λ t f left. (left.0, h.past_stays t left.0 left.1, left.2);
     past_kept = λ t f left. (left.0, h.past_kept t left.0 left.1, left.2);
-  }
-
-  pub settled_kept : (s : S) (end : ℕ) → Keeps content may_leave moment left_since (disk old) (disk new) → IsSettled head following content may_leave (disk old) end s → IsSettled head following content may_leave (disk new) end s
-  settled_kept s end h settled = record {
-    at_rest = λ there is. settled.at_rest there (sym h.content_stays ∙ is);
-    finds = λ there is. settled.finds there (sym h.content_stays ∙ is);
-    synced = λ there is bytes left. settled.synced there (sym h.content_stays ∙ is) bytes (h.no_more bytes left);
   }
 
   -- where nothing has changed, what is left is what was left
@@ -55,6 +50,14 @@ module _ {K D S : Type 0} (head : Reading S) (following : Following S) (disk : K
     each = λ bytes left. here bytes (only_now (disk old) bytes (h.past_stays (moment (disk old)) bytes left));
     before = λ t bytes le left. inl (h.past_stays t bytes left);
   }
+
+-- a log that is settled stays so
+pub settled_kept : {D H S : Type 0} (l : Layout H S) (content : D → Option (List ℕ)) (may_leave : D → List ℕ → Type 0) (moment : D → ℕ) (left_since : D → ℕ → List ℕ → Type 0) (old new : D) (s : S) (log : Log)
+    → Keeps content may_leave moment left_since old new → IsSettled l content may_leave old s log → IsSettled l content may_leave new s log
+settled_kept l content may_leave moment left_since old new s log h settled = record {
+  at_rest = λ there is. settled.at_rest there (sym h.content_stays ∙ is);
+  synced = λ there is bytes left. settled.synced there (sym h.content_stays ∙ is) bytes (h.no_more bytes left);
+}
 
 -- one run of calls behind one that changed nothing
 module _ {D : Type 0} (content : D → Option (List ℕ)) (may_leave : D → List ℕ → Type 0) (moment : D → ℕ) (left_since : D → ℕ → List ℕ → Type 0) (old mid new : D) where

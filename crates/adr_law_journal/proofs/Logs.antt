@@ -1,15 +1,14 @@
--- What a log stands for, and what a crash within a commit leaves of it.
-use Rattle.std.proofs.Common.{◌≡◌, ◌≢◌, ◌⊎◌, inl, inr, ℕ, zero, suc, ◌+◌, ◌≤◌, ◌<◌, ◌^◌, List, [], ◌∷◌, ◌++◌, length, take, drop, get_or, Bool, true, false, nat_lt, Option, Some, None, Ok, Err, refl, sym, ◌∙◌, ap, subst, arith, append_assoc, length-append, length-drop, take-append-drop, if◌then◌else◌, ◌==◌}
-use Rattle.std.proofs.lemmas.List.{take_at, drop_at, drop_more}
-use Rattle.std.proofs.lemmas.Bool.{cases_eq, le-ltb}
+-- What records lead to, one by one.
+use Rattle.std.proofs.Common.{◌≡◌, ◌≢◌, ℕ, zero, suc, ◌+◌, ◌≤◌, ◌<◌, ◌^◌, List, [], ◌∷◌, ◌++◌, length, take, drop, Bool, true, false, nat_lt, Option, Some, None, Ok, Err, refl, ◌∙◌, ap, arith, append_assoc, length-append, length-drop, if◌then◌else◌, ◌==◌}
+use Rattle.std.proofs.lemmas.List.{take_at, drop_at}
+use Rattle.std.proofs.lemmas.Bool.{le-ltb}
 use Rattle.std.proofs.lemmas.Bool.Decides.{nat_tests}
-use Rattle.adr_disk.specs.Disk.{put, Torn}
-use Rattle.adr_wire.specs.Reading.{Rest, Read, Reading, ◌>>=◌, bytes_at}
-use Rattle.adr_wire.specs.Fields.{u32_at, u32}
 use Rattle.std.specs.Int.{w32, byte_len, from_be_bytes}
+use Rattle.adr_wire.specs.Reading.{Rest, Read, ◌>>=◌, bytes_at}
+use Rattle.adr_wire.specs.Fields.{u32_at, u32}
 use Rattle.adr_wire.specs.Spelling.{behind}
 use Rattle.adr_wire.proofs.FieldLaws.{u32_spelled}
-use Rattle.adr_law_journal.specs.Log.{found, Started, end_behind, record_of, open_gate, Following, body_at, with_length, or_damaged, behind_gate, found_from, start_of, Reaches, IsAtRest, IsStaged}
+use Rattle.adr_law_journal.specs.Log.{Followed, open_gate, Following, body_at, with_length, or_damaged, behind_gate, found_from}
 
 -- ---- readings leave no more than there was
 
@@ -47,10 +46,10 @@ pub length_u32 : (n : ℕ) → length (u32 n) ≡ 4
 unfolding u32
 length_u32 n = refl
 
-module _ {S : Type 0} (head : Reading S) (following : Following S) where
+module _ {S : Type 0} (following : Following S) where
   -- ---- how many gates may be passed doesn't matter, if they are enough
 
-  same_behind : (k : ℕ) (s : S) (place : ℕ) (b : Read (ℕ × List ℕ)) (f g : S → ℕ → List ℕ → Started S) → Leaves k b → ((t : S) (p : ℕ) (bytes : List ℕ) → length bytes ≤ k → f t p bytes ≡ g t p bytes) → behind_gate following s place b f ≡ behind_gate following s place b g
+  same_behind : (k : ℕ) (s : S) (place : ℕ) (b : Read (ℕ × List ℕ)) (f g : S → ℕ → List ℕ → Followed S) → Leaves k b → ((t : S) (p : ℕ) (bytes : List ℕ) → length bytes ≤ k → f t p bytes ≡ g t p bytes) → behind_gate following s place b f ≡ behind_gate following s place b g
   same_behind k s place (Err fault) f g leaves same = refl
   same_behind k s place (Ok b) f g leaves same = inner (following s b.0.1)
     where
@@ -67,7 +66,7 @@ module _ {S : Type 0} (head : Reading S) (following : Following S) where
   same_found (suc n) (suc m) s place [] h k = refl
   same_found (suc n) (suc m) s place (gate ∷ rest) h k =
       let after : Rest = record { place = place + 1; bytes = rest } in
-      ap (λ (x : Started S). if gate == open_gate then x else Ok (found s (place + 1)))
+      ap (λ (x : Followed S). if gate == open_gate then x else Ok (record { state = s; log_end = place + 1 }))
       (same_behind (length rest) s place (body_at after) (λ t p bytes. found_from following n t p bytes) (λ t p bytes. found_from following m t p bytes) (body_leaves after)
       (λ t p bytes le. same_found n m t p bytes (omega (arith, le, h)) (omega (arith, le, k))))
 
@@ -79,7 +78,7 @@ module _ {S : Type 0} (head : Reading S) (following : Following S) where
   refused : {X : Type 0} (gate : ℕ) (x y : X) → gate ≢ open_gate → (if gate == open_gate then x else y) ≡ y
   refused gate x y shut = grind (arith, nat_tests)
 
-  pub closed : (n : ℕ) (s : S) (place gate : ℕ) (rest : List ℕ) → gate ≢ open_gate → found_from following (suc n) s place (gate ∷ rest) ≡ Ok (found s (place + 1))
+  pub closed : (n : ℕ) (s : S) (place gate : ℕ) (rest : List ℕ) → gate ≢ open_gate → found_from following (suc n) s place (gate ∷ rest) ≡ Ok (record { state = s; log_end = place + 1 })
   closed n s place gate rest shut = refused gate _ _ shut
 
   bytes_again : (place : ℕ) (body rest : List ℕ) → bytes_at (length body) (record { place = place; bytes = body ++ rest }) ≡ Ok (body, behind place body rest)
@@ -105,128 +104,14 @@ module _ {S : Type 0} (head : Reading S) (following : Following S) where
       ∙ ap (λ (b : Read (ℕ × List ℕ)). behind_gate following s place b (λ t p bytes. found_from following n t p bytes)) (body_again (place + 1) body rest fits)
       ∙ ap (λ (o : Option S). or_damaged place o (λ t. found_from following n t (place + 1 + length (with_length body)) rest)) follows
 
-  -- ---- what bytes stand for
+  -- ---- what can't be passed
 
-  pub stands : (opened behind : List ℕ) (s : S) (gate : ℕ) → Reaches head following opened s → gate ≢ open_gate → start_of head following (opened ++ gate ∷ behind) ≡ Ok (found s (length opened + 1))
-  stands opened behind s gate reaches shut = reaches (gate ∷ behind) (suc (length behind)) (omega arith) ∙ closed (length behind) s (length opened) gate behind shut
+  pub none_left : (n : ℕ) (s : S) (place : ℕ) → found_from following n s place [] ≡ Err place
+  none_left zero s place = refl
+  none_left (suc n) s place = refl
 
-  abbrev stands_at : (opened behind : List ℕ) (s : S) (gate end : ℕ) → Reaches head following opened s → gate ≢ open_gate → length opened + 1 ≡ end → start_of head following (opened ++ gate ∷ behind) ≡ Ok (found s end)
-  stands_at opened behind s gate end reaches shut long = stands opened behind s gate reaches shut ∙ ap (λ (n : ℕ). let x : Started S = Ok (found s n) in x) long
+  pub open_it : (n : ℕ) (s : S) (place gate : ℕ) (rest : List ℕ) → gate ≡ open_gate → found_from following (suc n) s place (gate ∷ rest) ≡ behind_gate following s place (body_at (record { place = place + 1; bytes = rest })) (λ t p bytes. found_from following n t p bytes)
+  open_it n s place gate rest is = decided gate _ _ is
 
-  pub reaches_more : (opened body : List ℕ) (s t : S) → Reaches head following opened s → following s body ≡ Some t → length body < 2 ^ 32 → Reaches head following (opened ++ open_gate ∷ with_length body) t
-  reaches_more opened body s t reaches follows fits = λ behind n le.
-      ap (start_of head following) (append_assoc opened (open_gate ∷ with_length body) behind)
-      ∙ reaches (open_gate ∷ (with_length body ++ behind)) (suc (length (with_length body) + n)) (omega (arith, le, length-append (with_length body) behind))
-      ∙ passed (length (with_length body) + n) s t (length opened) open_gate body behind refl follows fits
-      ∙ same_found (length (with_length body) + n) n t (length opened + 1 + length (with_length body)) behind (omega (arith, le)) le
-      ∙ ap (λ (p : ℕ). found_from following n t p behind) (omega (arith, length-append opened (open_gate ∷ with_length body)))
-
-  -- ---- crashes
-
-  -- whatever a crash within the first write leaves, the closed gate stands
-  pub torn_behind : (s : S) (end n : ℕ) (there bytes : List ℕ) → IsAtRest head following s end there → Torn end n there bytes → start_of head following bytes ≡ Ok (found s end)
-  torn_behind s end n there bytes at_rest torn =
-      let opened = at_rest.opened in
-      let gate = at_rest.gate in
-      let front : List ℕ = opened ++ gate ∷ [] in
-      let long : length front ≡ end = omega (arith, at_rest.long, length-append opened (gate ∷ [])) in
-      let split : there ≡ front ++ at_rest.behind = at_rest.parts ∙ sym (append_assoc opened (gate ∷ []) at_rest.behind) in
-      let is_front : take end there ≡ front = ap (take end) split ∙ take_at front at_rest.behind end long in
-      let begins : take (length front) bytes ≡ front = subst (λ (l : List ℕ). take (length l) bytes ≡ l) is_front torn.before in
-      let whole : bytes ≡ opened ++ gate ∷ drop (length front) bytes =
-      sym (take-append-drop (length front) bytes) ∙ ap (λ (l : List ℕ). l ++ drop (length front) bytes) begins ∙ append_assoc opened (gate ∷ []) (drop (length front) bytes) in
-      ap (start_of head following) whole ∙ stands_at opened (drop (length front) bytes) s gate end at_rest.reaches at_rest.closed at_rest.long
-
-  -- the first write stages the record
-  pub staged : (s : S) (end : ℕ) (body there : List ℕ) → IsAtRest head following s end there → IsStaged head following s end body (put there end (record_of body))
-  staged s end body there at_rest =
-      let opened = at_rest.opened in
-      let gate = at_rest.gate in
-      let x : List ℕ = record_of body in
-      let front : List ℕ = opened ++ gate ∷ [] in
-      let long : length front ≡ end = omega (arith, at_rest.long, length-append opened (gate ∷ [])) in
-      let split : there ≡ front ++ at_rest.behind = at_rest.parts ∙ sym (append_assoc opened (gate ∷ []) at_rest.behind) in
-      let is_front : take end there ≡ front = ap (take end) split ∙ take_at front at_rest.behind end long in
-      let rest : List ℕ = drop (end + length x) there in
-      record {
-        opened = opened;
-        gate = gate;
-        behind = rest;
-        parts =
-            ap (λ (l : List ℕ). l ++ x ++ rest) is_front
-            ∙ append_assoc front x rest
-            ∙ append_assoc opened (gate ∷ []) (x ++ rest)
-            ∙ ap (λ (l : List ℕ). opened ++ gate ∷ l) (append_assoc (with_length body) (0 ∷ []) rest);
-        closed = at_rest.closed;
-        long = at_rest.long;
-        reaches = at_rest.reaches;
-      }
-
-  pub staged_stands : (s : S) (end : ℕ) (body there : List ℕ) → IsStaged head following s end body there → start_of head following there ≡ Ok (found s end)
-  staged_stands s end body there st =
-      ap (start_of head following) st.parts ∙ stands_at st.opened (with_length body ++ 0 ∷ st.behind) s st.gate end st.reaches st.closed st.long
-
-  abbrev IsOneOf : S → S → ℕ → List ℕ → List ℕ → Type 0
-  IsOneOf s t end body bytes = (start_of head following bytes ≡ Ok (found s end)) ⊎ (start_of head following bytes ≡ Ok (found t (end_behind end body)))
-
-  opened_long : (opened body : List ℕ) (end : ℕ) → length opened + 1 ≡ end → length (opened ++ open_gate ∷ with_length body) + 1 ≡ end_behind end body
-  opened_long opened body end long = omega (arith, long, length-append opened (open_gate ∷ with_length body), length-append (u32 (length body)) body, length_u32 (length body))
-
-  -- with any byte as its gate, the record counts or it doesn't
-  either : (opened body behind : List ℕ) (gate end : ℕ) (s t : S) → Reaches head following opened s → length opened + 1 ≡ end → following s body ≡ Some t → length body < 2 ^ 32
-      → IsOneOf s t end body (opened ++ gate ∷ (with_length body ++ 0 ∷ behind))
-  either opened body behind gate end s t reaches long follows fits = elim (cases_eq gate open_gate) [
-    | inl is ↦ inr (
-        ap (λ (g : ℕ). start_of head following (opened ++ g ∷ (with_length body ++ 0 ∷ behind))) is
-        ∙ ap (start_of head following) (sym (append_assoc opened (open_gate ∷ with_length body) (0 ∷ behind)))
-        ∙ stands_at (opened ++ open_gate ∷ with_length body) behind t 0 (end_behind end body) (reaches_more opened body s t reaches follows fits) (omega arith) (opened_long opened body end long)
-        )
-    | inr shut ↦ inl (stands_at opened (with_length body ++ 0 ∷ behind) s gate end reaches shut long)
-  ]
-
-  module _ (s t : S) (end at : ℕ) (is_at : at + 1 ≡ end) (body there : List ℕ) (st : IsStaged head following s end body there) where
-    abbrev tail : List ℕ
-    tail = with_length body ++ 0 ∷ st.behind
-
-    long_at : length st.opened ≡ at
-    long_at = omega (arith, st.long, is_at)
-
-    is_front : take at there ≡ st.opened
-    is_front = ap (take at) st.parts ∙ take_at st.opened (st.gate ∷ tail) at long_at
-
-    is_tail : drop (at + 1) there ≡ tail
-    is_tail =
-        ap (drop (at + 1)) (st.parts ∙ sym (append_assoc st.opened (st.gate ∷ []) tail))
-        ∙ drop_at (st.opened ++ st.gate ∷ []) tail (at + 1) (omega (arith, long_at, length-append st.opened (st.gate ∷ [])))
-
-    pub torn_gate : (bytes : List ℕ) → following s body ≡ Some t → length body < 2 ^ 32 → Torn at 1 there bytes → IsOneOf s t end body bytes
-    torn_gate bytes follows fits torn =
-        let opened = st.opened in
-        let begins : take at bytes ≡ opened = subst (λ (k : ℕ). take k bytes ≡ opened) long_at (subst (λ (l : List ℕ). take (length l) bytes ≡ l) is_front torn.before) in
-        let gate = get_or bytes at 0 in
-        let long : at < length bytes = omega (arith, torn.no_shorter, ap length st.parts, long_at, length-append opened (st.gate ∷ tail)) in
-        let rest : drop at bytes ≡ gate ∷ tail = drop_more bytes at 0 long ∙ ap (λ (l : List ℕ). gate ∷ l) (torn.after ∙ is_tail) in
-        let whole : bytes ≡ opened ++ gate ∷ tail =
-        sym (take-append-drop at bytes) ∙ ap (λ (l : List ℕ). l ++ drop at bytes) begins ∙ ap (λ (l : List ℕ). opened ++ l) rest in
-        subst (IsOneOf s t end body) (sym whole) (either opened body st.behind gate end s t st.reaches st.long follows fits)
-
-    -- the second write opens the gate
-    pub opened_up : following s body ≡ Some t → length body < 2 ^ 32 → IsAtRest head following t (end_behind end body) (put there at (open_gate ∷ []))
-    opened_up follows fits =
-        let opened = st.opened in
-        record {
-          opened = opened ++ open_gate ∷ with_length body;
-          gate = 0;
-          behind = st.behind;
-          parts =
-              ap (λ (l : List ℕ). l ++ (open_gate ∷ []) ++ drop (at + 1) there) is_front
-              ∙ ap (λ (l : List ℕ). opened ++ (open_gate ∷ []) ++ l) is_tail
-              ∙ append_assoc opened (open_gate ∷ []) tail
-              ∙ sym (append_assoc opened (open_gate ∷ with_length body) (0 ∷ st.behind));
-          closed = omega arith;
-          long = opened_long opened body end st.long;
-          reaches = reaches_more opened body s t st.reaches follows fits;
-        }
-
-  pub at_rest_stands : (s : S) (end : ℕ) (there : List ℕ) → IsAtRest head following s end there → start_of head following there ≡ Ok (found s end)
-  at_rest_stands s end there r = ap (start_of head following) r.parts ∙ stands_at r.opened r.behind s r.gate end r.reaches r.closed r.long
+  pub no_body : (n : ℕ) (s : S) (place gate : ℕ) (rest : List ℕ) (p : ℕ) → gate ≡ open_gate → body_at (record { place = place + 1; bytes = rest }) ≡ Err p → found_from following (suc n) s place (gate ∷ rest) ≡ Err place
+  no_body n s place gate rest p is err = open_it n s place gate rest is ∙ ap (λ (b : Read (ℕ × List ℕ)). behind_gate following s place b (λ t p bytes. found_from following n t p bytes)) err

@@ -1,5 +1,6 @@
 -- What a commit and a start do to a disk in memory is what the definitions say of its replica.
-use Rattle.std.proofs.Common.{◌≡◌, inl, inr, ℕ, ◌+◌, ◌-◌, ◌<◌, ◌^◌, List, [], ◌∷◌, length, false, Option, Some, None, Ok, refl, ◌∙◌, ap, arith}
+use Rattle.std.proofs.Common.{◌≡◌, inl, inr, ℕ, ◌+◌, ◌-◌, ◌<◌, ◌^◌, List, [], ◌∷◌, length, Bool, true, false, Option, Some, None, Ok, refl, sym, ◌∙◌, ap, subst, arith, if◌then◌else◌}
+use Rattle.std.specs.Prelude.{fold}
 use Rattle.adr_io.specs.declared.Fault.{Fault as Cause}
 use Rattle.adr_io.specs.declared.Fault.TheVariants.{Failed as failed_call}
 use Rattle.adr_disk.specs.declared.memory.Crash.TheVariants.{Kept, Lost, Torn}
@@ -12,61 +13,83 @@ use Rattle.adr_disk.proofs.Writes.{length-torn_half}
 use Rattle.adr_disk.proofs.Outcomes.{IsImage-left_by}
 use Rattle.adr_model.specs.Store.{State}
 use Rattle.adr_model.specs.Change.{after}
-use Rattle.adr_model.specs.Lengths.{change_length, log_end_after}
-use Rattle.adr_model.specs.Replica.{Pending, Failed, Replica, Book, Went, Passed, Met, Move, went, moves_of_commit, moves_of_start}
-use Rattle.adr_wire.specs.Reading.{Reading}
-use Rattle.adr_law_journal.specs.Log.{Found, found, Started, Following, start_of, open_gate, record_of, end_behind, IsAtRest}
-use Rattle.adr_law_journal.specs.Commits.{Commits}
-use Rattle.adr_law_journal.specs.Replicas.{fault_of, plan_of, read_found, safe_found, IsOn, CommitLeads, StartLeads}
-use Rattle.adr_law_journal.proofs.Logs.{at_rest_stands, torn_behind, staged, staged_stands, opened_up}
-use Rattle.adr_law_journal.proofs.Stages.{less, Stage, Ends, step_write, step_sync, fail_write, fail_sync}
-use Rattle.adr_law_journal.proofs.Moves.{went_passed, went_met, read_after, safe_after, Shows, Holds, gone, met_holds, passed_holds, from, none_yet}
+use Rattle.adr_model.specs.Lengths.{Log, log_version, change_length, is_due, checkpointed, log_after}
+use Rattle.adr_model.specs.Replica.{Pending, Failed, Fault, Stops, Fails as FailsCall, Plan, Replica, Device, Book, Went, Passed, Met, went, behind, moved, moves_of_commit, moves_of_start, standing_after, plan_after, logs_of_record, logs_of_checkpoint, logs_of_start, torn_log, recorded_on, checkpointed_on, commit_goes, device_after_commit}
+use Rattle.adr_law_journal.specs.Log.{open_gate, record_of}
+use Rattle.adr_law_journal.specs.Areas.{Found, found, Started, IsFree, other_log}
+use Rattle.adr_law_journal.specs.Commits.{Commits, Checkpoints}
+use Rattle.adr_law_journal.specs.Due.{record_goes}
+use Rattle.adr_law_journal.specs.Kept.{Layout, starts, Rests}
+use Rattle.adr_law_journal.specs.Planned.{IsReadyToCommit, IsNextArea}
+use Rattle.adr_law_journal.specs.Replicas.{fault_of, plan_of, standing_of, IsRunning, read_found, safe_found, torn_found, Has, IsOn, committed, started, CommitLeads, StartLeads}
+use Rattle.adr_law_journal.proofs.NineCalls.{two_runs}
+use Rattle.adr_law_journal.proofs.Placing.{free_place, next_area, written_now}
+use Rattle.adr_law_journal.proofs.Recording.{torn_record, staged, opened_up}
+use Rattle.adr_law_journal.proofs.Settled.{stands}
+use Rattle.adr_law_journal.proofs.Stages.{Stage, step_write, step_sync, fail_write, fail_sync}
+use Rattle.adr_law_journal.proofs.Moves.{Three, all_of, three_of, three_after, Shows, Holds, Fails, passed_holds, failed_holds, met_fails, none_yet, torn_beside, rest_of}
+use Rattle.adr_law_journal.proofs.Planned.{Selected, checkpoint_three, selected, unselected}
 
--- ---- a commit
+-- ---- the four calls of a record
 
-module _ (head : Reading State) (following : Following State) (book : Book) (r : Replica) (p : Pending) (new : DiskState) (same : read_found r ≡ safe_found r) where
-  abbrev next : Found State
-  next = found (after r.safe p.change) (log_end_after r.safe_end p.change)
+-- a replica after the moves of a commit that went so
+abbrev gone : Book → Replica → Pending → Went → Replica
+gone book r p g = (fold moved (book, r) (moves_of_commit p g)).1
 
-  abbrev moves : Went → List Move
-  moves = moves_of_commit p
+abbrev record_three : Book → Replica → Pending → Log → Went → Three State
+record_three book r p log g = three_of (gone book r p g).read (gone book r p g).safe (logs_of_record log (log_after log p.change) g)
 
-  abbrev gone_on : Went → Replica
-  gone_on = gone head following book r new moves Failed
+module _ (book : Book) (r : Replica) (p : Pending) (log : Log) (same : r.read ≡ r.safe) where
+  abbrev here : Found State
+  here = found r.safe log
 
-  -- where a mishap of each call leads
-  abbrev Agrees : ℕ → Mishap → Found State → Found State → Type 0
-  Agrees k m before begun = (read_found (gone_on (Met k (fault_of m))) ≡ read_after m before begun (safe_found r)) × (safe_found (gone_on (Met k (fault_of m))) ≡ safe_after m begun (safe_found r))
+  abbrev next : Log
+  next = log_after log p.change
 
-  at_0 : (m : Mishap) → Agrees 0 m (safe_found r) (safe_found r)
-  at_0 Failure = (same, refl)
-  at_0 (Crash Kept) = (same, refl)
-  at_0 (Crash Lost) = (same, refl)
-  at_0 (Crash Torn) = (same, refl)
+  abbrev with_record : Found State
+  with_record = found (after r.safe p.change) next
 
-  at_1 : (m : Mishap) → Agrees 1 m (safe_found r) (safe_found r)
-  at_1 Failure = (same, refl)
-  at_1 (Crash Kept) = (same, refl)
-  at_1 (Crash Lost) = (same, refl)
-  at_1 (Crash Torn) = (same, refl)
+  abbrev begun : Three State
+  begun = (with_record, here, with_record)
 
-  at_2 : (m : Mishap) → Agrees 2 m (safe_found r) next
-  at_2 Failure = (same, refl)
-  at_2 (Crash Kept) = (refl, refl)
-  at_2 (Crash Lost) = (same, refl)
-  at_2 (Crash Torn) = (refl, refl)
+  abbrev Agrees : ℕ → Mishap → Three State → Three State → Type 0
+  Agrees k m before begun = record_three book r p log (Met k (fault_of m)) ≡ three_after m before begun
 
-  at_3 : (m : Mishap) → Agrees 3 m next next
-  at_3 Failure = (refl, refl)
-  at_3 (Crash Kept) = (refl, refl)
-  at_3 (Crash Lost) = (refl, refl)
-  at_3 (Crash Torn) = (refl, refl)
+  quiet : three_of r.read r.safe (log, log) ≡ all_of here
+  quiet = ap (λ (s : State). three_of s r.safe (log, log)) same ∙ rest_of r.safe log
 
-  module _ (old : DiskState) (body : List ℕ) (up : old.stopped ≡ false) (on : plan_of old.plan ≡ r.plan)
-      (at_rest : IsAtRest head following r.safe r.safe_end (read_of old.held.surface)) (only : Only (read_of old.held.surface) (IsImage old.held.surface))
-      (follows : following r.safe body ≡ Some (after r.safe p.change)) (fits : length body < 2 ^ 32) (long : length body ≡ change_length p.change) where
+  settled : three_of (after r.safe p.change) (after r.safe p.change) (next, next) ≡ all_of with_record
+  settled = rest_of (after r.safe p.change) next
+
+  at_0 : (m : Mishap) → Agrees 0 m (all_of here) (all_of here)
+  at_0 Failure = quiet
+  at_0 (Crash Kept) = quiet
+  at_0 (Crash Lost) = quiet
+  at_0 (Crash Torn) = quiet
+
+  at_1 : (m : Mishap) → Agrees 1 m (all_of here) (all_of here)
+  at_1 Failure = quiet
+  at_1 (Crash Kept) = quiet
+  at_1 (Crash Lost) = quiet
+  at_1 (Crash Torn) = quiet
+
+  at_2 : (m : Mishap) → Agrees 2 m (all_of here) begun
+  at_2 Failure = quiet
+  at_2 (Crash Kept) = settled
+  at_2 (Crash Lost) = quiet
+  at_2 (Crash Torn) = settled
+
+  at_3 : (m : Mishap) → Agrees 3 m begun begun
+  at_3 Failure = λ i. (with_record, here, found (after r.safe p.change) (torn_beside log next refl i))
+  at_3 (Crash Kept) = settled
+  at_3 (Crash Lost) = rest_of r.safe log
+  at_3 (Crash Torn) = settled
+
+  module _ {H : Type 0} (l : Layout H State) (old new : DiskState) (body : List ℕ) (up : old.stopped ≡ false)
+      (rests : Rests l r.safe log (read_of old.held.surface)) (only : Only (read_of old.held.surface) (IsImage old.held.surface))
+      (follows : l.following log.version r.safe body ≡ Some (after r.safe p.change)) (fits : length body < 2 ^ 32) (long : length body ≡ change_length p.change) where
     abbrev end : ℕ
-    end = r.safe_end
+    end = log.log_end
 
     abbrev gate : ℕ
     gate = end - 1
@@ -87,82 +110,213 @@ module _ (head : Reading State) (following : Following State) (book : Book) (r :
     open_bytes = put staged_bytes gate (open_gate ∷ [])
 
     gate_is : gate + 1 ≡ end
-    gate_is = omega (arith, at_rest.long)
+    gate_is = let is = rests.ready.stands in omega (arith, is.long)
 
-    there_is : start_of head following there ≡ Ok (safe_found r)
-    there_is = at_rest_stands head following r.safe end there at_rest
+    there_is : starts l there ≡ Ok here
+    there_is = stands l r.safe log there rests
 
-    staged_is : start_of head following staged_bytes ≡ Ok (safe_found r)
-    staged_is = staged_stands head following r.safe end body staged_bytes (staged head following r.safe end body there at_rest)
+    staged_is : starts l staged_bytes ≡ Ok here
+    staged_is = stands l r.safe log staged_bytes (staged l.head l.area l.following l.front l.told l.is_head r.safe log body there rests).rests
 
-    torn_is : start_of head following torn_bytes ≡ Ok (safe_found r)
-    torn_is = torn_behind head following r.safe end (length written) there torn_bytes at_rest (Torn-put there end (length written) (torn_half written) (length-torn_half written))
+    torn_is : starts l torn_bytes ≡ Ok here
+    torn_is = stands l r.safe log torn_bytes
+        (torn_record l.head l.area l.following l.front l.told l.is_head r.safe log (length written) there torn_bytes rests (Torn-put there end (length written) (torn_half written) (length-torn_half written)))
 
-    open_is : start_of head following open_bytes ≡ Ok next
-    open_is =
-        at_rest_stands head following (after r.safe p.change) (end_behind end body) open_bytes
-        (opened_up head following r.safe (after r.safe p.change) end gate gate_is body staged_bytes (staged head following r.safe end body there at_rest) follows fits)
-        ∙ ap (λ (n : ℕ). let x : Started State = Ok (found (after r.safe p.change) n) in x) (omega (arith, long))
+    open_is : starts l open_bytes ≡ Ok with_record
+    open_is = stands l (after r.safe p.change) next open_bytes (subst (λ (n : ℕ). Rests l (after r.safe p.change) (record log { log_end = log.log_end + 5 + n }) open_bytes) long
+        (opened_up l.head l.area l.following l.front l.told l.is_head r.safe log (after r.safe p.change) gate gate_is body staged_bytes (staged l.head l.area l.following l.front l.told l.is_head r.safe log body there rests) follows fits))
 
-    all : (x y z : List ℕ) (f : Found State) → start_of head following x ≡ Ok f → start_of head following y ≡ Ok (safe_found r) → start_of head following z ≡ Ok f → Shows head following x y z f (safe_found r)
+    all : (x y z : List ℕ) (f : Found State) → starts l x ≡ Ok f → starts l y ≡ Ok here → starts l z ≡ Ok f → Shows (starts l) x y z (f, here, f)
     all x y z f ix iy iz = record { in_read = ix; in_lost = iy; in_torn = iz }
 
     stage_0 : Stage old.plan 0 old there there there
     stage_0 = none_yet old there there there up (record { is_read = refl; is_lost = only old.held.surface.synced (IsImage-left_by Lost old.held.surface); is_torn = only _ (IsImage-left_by Torn old.held.surface) })
 
-    abbrev stage_1 : (d : DiskState) → Does old (Writes end written) None d → Stage old.plan 1 d staged_bytes there torn_bytes
+    stage_1 : (d : DiskState) → Does old (Writes end written) None d → Stage old.plan 1 d staged_bytes there torn_bytes
     stage_1 d does = step_write old.plan 0 old there there there stage_0 end written d does
 
-    abbrev stage_2 : (d e : DiskState) → Does old (Writes end written) None d → Does d Syncs None e → Stage old.plan 2 e staged_bytes staged_bytes staged_bytes
+    stage_2 : (d e : DiskState) → Does old (Writes end written) None d → Does d Syncs None e → Stage old.plan 2 e staged_bytes staged_bytes staged_bytes
     stage_2 d e does syncs = step_sync old.plan 1 d staged_bytes there torn_bytes (stage_1 d does) e syncs
 
-    abbrev stage_3 : (d e f : DiskState) → Does old (Writes end written) None d → Does d Syncs None e → Does e (Writes gate (open_gate ∷ [])) None f → Stage old.plan 3 f open_bytes staged_bytes open_bytes
+    stage_3 : (d e f : DiskState) → Does old (Writes end written) None d → Does d Syncs None e → Does e (Writes gate (open_gate ∷ [])) None f → Stage old.plan 3 f open_bytes staged_bytes open_bytes
     stage_3 d e f does syncs opens = step_write old.plan 2 e staged_bytes staged_bytes staged_bytes (stage_2 d e does syncs) gate (open_gate ∷ []) f opens
 
-    abbrev Did : Option Cause → Type 0
-    Did e = Holds head following book r new moves Failed e (went r.plan 4)
+    abbrev Goes : Option Cause → Type 0
+    Goes e = Holds (starts l) new (record_three book r p log (went (plan_of old.plan) 4)) Failed e (went (plan_of old.plan) 4)
 
-    all_passed : Commits Does end written old None new → Did None
-    all_passed (mid, (d, w, s), (f, o, l)) =
-        let stage = step_sync old.plan 3 f open_bytes staged_bytes open_bytes (stage_3 d mid f w s o) new l in
-        from head following book r new moves Failed old 4 None (Passed (plan_of (less 4 old.plan))) on (went_passed old.plan 4 stage.waits)
-        (passed_holds head following book r new moves Failed old.plan 4 open_bytes next stage open_is (refl, refl))
+    all_passed : Commits Does end written old None new → Goes None
+    all_passed (mid, (d, w, s), (f, o, last)) =
+        passed_holds (starts l) new (record_three book r p log) Failed old.plan 4 open_bytes with_record (step_sync old.plan 3 f open_bytes staged_bytes open_bytes (stage_3 d mid f w s o) new last) open_is (λ left. settled)
 
-    met_at : (k : ℕ) (a b c x y z : List ℕ) (before begun : Found State) → k < 4 → Shows head following a b c before (safe_found r) → Shows head following x y z begun (safe_found r)
-        → ((m : Mishap) → Agrees k m before begun) → Ends old.plan k new (a, b, c) (x, y, z) → Did (Some failed_call)
-    met_at k a b c x y z before begun lt so now agrees ends =
-        from head following book r new moves Failed old 4 (Some failed_call) (Met k (fault_of ends.mishap)) on (went_met old.plan k 4 ends.mishap ends.met lt)
-        (met_holds head following book r new moves Failed k a b c x y z before begun (safe_found r) so now ends.mishap ends.left (agrees ends.mishap))
+    abbrev Failing : Type 0
+    Failing = Fails (starts l) new (record_three book r p log) Failed old.plan 4
 
-    one_failed : Commits Does end written old (Some failed_call) new → Did (Some failed_call)
+    one_failed : Commits Does end written old (Some failed_call) new → Failing
     one_failed (inl (inl w)) =
-        met_at 0 there there there staged_bytes there torn_bytes (safe_found r) (safe_found r) (omega arith) (all there there there (safe_found r) there_is there_is there_is)
-        (all staged_bytes there torn_bytes (safe_found r) staged_is there_is torn_is) at_0 (fail_write old.plan 0 old there there there stage_0 end written new w)
+        met_fails (starts l) new (record_three book r p log) Failed old.plan 4 0 there there there staged_bytes there torn_bytes (all_of here) (all_of here) (omega arith)
+        (all there there there here there_is there_is there_is) (all staged_bytes there torn_bytes here staged_is there_is torn_is) at_0 (fail_write old.plan 0 old there there there stage_0 end written new w)
     one_failed (inl (inr (d, w, s))) =
-        let so = all staged_bytes there torn_bytes (safe_found r) staged_is there_is torn_is in
-        met_at 1 staged_bytes there torn_bytes staged_bytes there torn_bytes (safe_found r) (safe_found r) (omega arith) so so at_1 (fail_sync old.plan 1 d staged_bytes there torn_bytes (stage_1 d w) new s)
+        let so_far = all staged_bytes there torn_bytes here staged_is there_is torn_is in
+        met_fails (starts l) new (record_three book r p log) Failed old.plan 4 1 staged_bytes there torn_bytes staged_bytes there torn_bytes (all_of here) (all_of here) (omega arith)
+        so_far so_far at_1 (fail_sync old.plan 1 d staged_bytes there torn_bytes (stage_1 d w) new s)
     one_failed (inr (mid, (d, w, s), inl o)) =
-        met_at 2 staged_bytes staged_bytes staged_bytes open_bytes staged_bytes open_bytes (safe_found r) next (omega arith) (all staged_bytes staged_bytes staged_bytes (safe_found r) staged_is staged_is staged_is)
-        (all open_bytes staged_bytes open_bytes next open_is staged_is open_is) at_2 (fail_write old.plan 2 mid staged_bytes staged_bytes staged_bytes (stage_2 d mid w s) gate (open_gate ∷ []) new o)
-    one_failed (inr (mid, (d, w, s), inr (f, o, l))) =
-        let so = all open_bytes staged_bytes open_bytes next open_is staged_is open_is in
-        met_at 3 open_bytes staged_bytes open_bytes open_bytes staged_bytes open_bytes next next (omega arith) so so at_3 (fail_sync old.plan 3 f open_bytes staged_bytes open_bytes (stage_3 d mid f w s o) new l)
+        met_fails (starts l) new (record_three book r p log) Failed old.plan 4 2 staged_bytes staged_bytes staged_bytes open_bytes staged_bytes open_bytes (all_of here) begun (omega arith)
+        (all staged_bytes staged_bytes staged_bytes here staged_is staged_is staged_is) (all open_bytes staged_bytes open_bytes with_record open_is staged_is open_is) at_2
+        (fail_write old.plan 2 mid staged_bytes staged_bytes staged_bytes (stage_2 d mid w s) gate (open_gate ∷ []) new o)
+    one_failed (inr (mid, (d, w, s), inr (f, o, last))) =
+        let so_far = all open_bytes staged_bytes open_bytes with_record open_is staged_is open_is in
+        met_fails (starts l) new (record_three book r p log) Failed old.plan 4 3 open_bytes staged_bytes open_bytes open_bytes staged_bytes open_bytes begun begun (omega arith)
+        so_far so_far at_3 (fail_sync old.plan 3 f open_bytes staged_bytes open_bytes (stage_3 d mid f w s o) new last)
 
-    abbrev Leads : Option Cause → Type 0
-    Leads = CommitLeads head following book r p new
+    pub record_passed : Commits Does end written old None new → Goes None
+    record_passed commits = all_passed commits
 
-    leads : (e : Option Cause) → Did e → Leads e
-    leads e h = (record { is_read = h.shows.in_read; is_safe = h.shows.in_lost; is_torn = h.shows.in_torn; is_plan = h.plan }, h.stands, h.running)
+    pub record_failed : Commits Does end written old (Some failed_call) new → Goes (Some failed_call)
+    record_failed commits = failed_holds (starts l) new (record_three book r p log) Failed old.plan 4 (one_failed commits)
 
-    pub commit_passed : Commits Does end written old None new → Leads None
-    commit_passed commits = leads None (all_passed commits)
+-- ---- a commit
 
-    pub commit_failed : Commits Does end written old (Some failed_call) new → Leads (Some failed_call)
-    commit_failed commits = leads (Some failed_call) (one_failed commits)
+-- how a replica is after a commit that went so, on this device
+abbrev committed_as : Book → Replica → Pending → Went → Device → Replica
+committed_as book r p g d = record (gone book r p g) { standing = standing_after Failed g; device = d }
+
+abbrev device_as : Log × Log → Went → Device
+device_as logs g = record { read_log = logs.0; safe_log = logs.1; plan = plan_after g }
+
+behind_none : (g : Went) → behind 0 g ≡ g
+behind_none (Passed left) = refl
+behind_none (Met place fault) = let same : place - 0 ≡ place = omega arith in ap (λ (n : ℕ). Met n fault) same
+
+module _ {H : Type 0} (l : Layout H State) (book : Book) (r : Replica) (p : Pending) (new : DiskState) where
+  abbrev log : Log
+  log = r.device.safe_log
+
+  abbrev LeadsTo : Option Cause → Replica → Type 0
+  LeadsTo e c = IsOn l c new × (standing_of e new.stopped Failed ≡ c.standing) × IsRunning e new.stopped
+
+  leads : (e : Option Cause) (g h : Went) (logs : Log × Log) → Holds (starts l) new (three_of (gone book r p g).read (gone book r p g).safe logs) Failed e h → standing_after Failed h ≡ standing_after Failed g
+      → commit_goes r p ≡ g → device_after_commit r p ≡ device_as logs h → CommitLeads l book r p new e
+  leads e g h logs holds stand goes device =
+      let so : committed book r p ≡ committed_as book r p g (device_as logs h) = λ i. committed_as book r p (goes i) (device i) in
+      subst (LeadsTo e) (sym so) (record { is_read = holds.shows.in_read; is_safe = holds.shows.in_lost; is_torn = holds.shows.in_torn; is_plan = holds.plan }, holds.stands ∙ stand, holds.running)
+
+  -- where no checkpoint is due
+  module _ (old : DiskState) (body : List ℕ) (ready : IsReadyToCommit l r p body old) (undue : is_due log p.change ≡ false) where
+    abbrev plain_goes : Went
+    plain_goes = went (plan_of old.plan) 4
+
+    goes_plain : commit_goes r p ≡ plain_goes
+    goes_plain =
+        ap (λ (b : Bool). let n : ℕ = if b then 5 else 0 in behind n (went r.device.plan (n + 4))) undue ∙ behind_none (went r.device.plan 4)
+        ∙ ap (λ (q : Option Plan). went q 4) (sym ready.is_plan)
+
+    device_plain : device_after_commit r p ≡ device_as (logs_of_record log (log_after log p.change) plain_goes) plain_goes
+    device_plain =
+        ap (λ (b : Bool).
+        let before : Log = if b then checkpointed log r.safe.store else log in
+        let later : Log = log_after before p.change in
+        if b then checkpointed_on log before later (went r.device.plan 5) else recorded_on log later r.device.plan) undue
+        ∙ ap (λ (q : Option Plan). recorded_on log (log_after log p.change) q) (sym ready.is_plan)
+
+    version_is : l.following log.version r.safe body ≡ Some (after r.safe p.change)
+    version_is = ap (λ (n : ℕ). l.following n r.safe body) (written_now log p.change undue ready.version) ∙ ready.follows
+
+    read_is : r.read ≡ r.safe
+    read_is = ap (λ (f : Found State). f.state) ready.settled
+
+    pub commit_passed : Commits Does log.log_end (record_of body) old None new → CommitLeads l book r p new None
+    commit_passed ran = leads None plain_goes plain_goes (logs_of_record log (log_after log p.change) plain_goes)
+        (record_passed book r p log read_is l old new body ready.running ready.rests ready.synced version_is ready.fits ready.is_long ran) refl goes_plain device_plain
+
+    pub commit_failed : Commits Does log.log_end (record_of body) old (Some failed_call) new → CommitLeads l book r p new (Some failed_call)
+    commit_failed ran = leads (Some failed_call) plain_goes plain_goes (logs_of_record log (log_after log p.change) plain_goes)
+        (record_failed book r p log read_is l old new body ready.running ready.rests ready.synced version_is ready.fits ready.is_long ran) refl goes_plain device_plain
+
+  -- where one is due
+  module _ (old : DiskState) (body written : List ℕ) (ready : IsReadyToCommit l r p body old) (area : IsNextArea l r written) (due : is_due log p.change ≡ true) where
+    abbrev mid_log : Log
+    mid_log = checkpointed log r.safe.store
+
+    abbrev last_log : Log
+    last_log = log_after mid_log p.change
+
+    read_so : r.read ≡ r.safe
+    read_so = ap (λ (f : Found State). f.state) ready.settled
+
+    free : IsFree log mid_log.place (length area.image + 1)
+    free = free_place log r.safe.store (length area.image + 1) (omega (arith, area.is_long))
+
+    other_is : other_log log mid_log.place log_version (length area.image) ≡ mid_log
+    other_is = next_area log r.safe.store (length area.image) area.is_long
+
+    goes_due : (g : Went) → went (plan_of old.plan) 5 ≡ g → commit_goes r p ≡ record_goes g
+    goes_due g is =
+        ap (λ (b : Bool). let n : ℕ = if b then 5 else 0 in behind n (went r.device.plan (n + 4))) due
+        ∙ two_runs r.device.plan
+        ∙ ap (λ (q : Option Plan). record_goes (went q 5)) (sym ready.is_plan)
+        ∙ ap record_goes is
+
+    device_due : (g : Went) → went (plan_of old.plan) 5 ≡ g → device_after_commit r p ≡ checkpointed_on log mid_log last_log g
+    device_due g is =
+        ap (λ (b : Bool).
+        let before : Log = if b then mid_log else log in
+        let later : Log = log_after before p.change in
+        if b then checkpointed_on log before later (went r.device.plan 5) else recorded_on log later r.device.plan) due
+        ∙ ap (λ (q : Option Plan). checkpointed_on log mid_log last_log (went q 5)) (sym ready.is_plan)
+        ∙ ap (checkpointed_on log mid_log last_log) is
+
+    -- it was made, and then the record
+    module _ (mid : DiskState) (ran : Checkpoints Does mid_log.place written mid_log.second old None mid) where
+      made : Selected l r.safe (other_log log mid_log.place log_version (length area.image)) old mid
+      made = selected l r.safe log mid_log.place log_version area.image old mid ready.running ready.rests ready.synced free area.tells area.near
+          (subst (λ (w : List ℕ). Checkpoints Does mid_log.place w mid_log.second old None mid) area.is ran)
+
+      abbrev left : Option Plan
+      left = plan_of mid.plan
+
+      abbrev due_goes : Went
+      due_goes = went left 4
+
+      rests_there : Rests l r.safe mid_log (read_of mid.held.surface)
+      rests_there = subst (λ (o : Log). Rests l r.safe o (read_of mid.held.surface)) other_is made.rests
+
+      pub due_passed : Commits Does mid_log.log_end (record_of body) mid None new → CommitLeads l book r p new None
+      due_passed records = leads None due_goes due_goes (logs_of_record mid_log last_log due_goes)
+          (record_passed book r p mid_log read_so l mid new body made.up rests_there made.only ready.follows ready.fits ready.is_long records) refl (goes_due (Passed left) made.goes) (device_due (Passed left) made.goes)
+
+      pub due_failed : Commits Does mid_log.log_end (record_of body) mid (Some failed_call) new → CommitLeads l book r p new (Some failed_call)
+      due_failed records = leads (Some failed_call) due_goes due_goes (logs_of_record mid_log last_log due_goes)
+          (record_failed book r p mid_log read_so l mid new body made.up rests_there made.only ready.follows ready.fits ready.is_long records) refl (goes_due (Passed left) made.goes) (device_due (Passed left) made.goes)
+
+    -- or it failed
+    unmoved : (fault : Fault) → gone book r p (Met 0 fault) ≡ r
+    unmoved FailsCall = refl
+    unmoved (Stops Kept) = refl
+    unmoved (Stops Lost) = refl
+    unmoved (Stops Torn) = refl
+
+    stand_as : (k : ℕ) (fault : Fault) → standing_after Failed (Met k fault) ≡ standing_after Failed (Met 0 fault)
+    stand_as k FailsCall = refl
+    stand_as k (Stops how) = refl
+
+    pub checkpoint_failed : Checkpoints Does mid_log.place written mid_log.second old (Some failed_call) new → CommitLeads l book r p new (Some failed_call)
+    checkpoint_failed ran =
+        let fails = unselected l r.safe log mid_log.place log_version area.image old new ready.running ready.rests ready.synced free area.tells area.near
+        (subst (λ (w : List ℕ). Checkpoints Does mid_log.place w mid_log.second old (Some failed_call) new) area.is ran) in
+        let g : Went = Met fails.place fails.fault in
+        let none : fails.place - 5 ≡ 0 = omega (arith, fails.within) in
+        let logs : Log × Log = logs_of_checkpoint log mid_log g in
+        let shown = subst (λ (o : Log). Holds (starts l) new (checkpoint_three r.safe log o g) Failed (Some failed_call) g) other_is fails.holds in
+        let as_gone : three_of r.safe r.safe logs ≡ three_of (gone book r p (Met 0 fails.fault)).read (gone book r p (Met 0 fails.fault)).safe logs =
+        (λ i. three_of (sym read_so i) r.safe logs) ∙ (λ i. three_of (sym (unmoved fails.fault) i).read (sym (unmoved fails.fault) i).safe logs) in
+        leads (Some failed_call) (Met 0 fails.fault) g logs (subst (λ (t : Three State). Holds (starts l) new t Failed (Some failed_call) g) as_gone shown) (stand_as fails.place fails.fault)
+        (goes_due g fails.goes ∙ ap (λ (n : ℕ). Met n fails.fault) none) (device_due g fails.goes)
 
 -- ---- a start
 
-module _ (head : Reading State) (following : Following State) (book : Book) (r : Replica) (old new : DiskState) (up : old.stopped ≡ false) (on : IsOn head following r old) where
+-- by whatever is found in bytes
+module _ (find : List ℕ → Started State) (book : Book) (r : Replica) (old new : DiskState) (up : old.stopped ≡ false)
+    (on : Has (λ (d : DiskState). find (read_of d.held.surface)) (λ (d : DiskState). find d.held.surface.synced) (λ (d : DiskState). find (left_by Torn d.held.surface)) (λ (d : DiskState). plan_of d.plan) old r) where
   abbrev r0 : List ℕ
   r0 = read_of old.held.surface
 
@@ -172,43 +326,46 @@ module _ (head : Reading State) (following : Following State) (book : Book) (r :
   abbrev t0 : List ℕ
   t0 = left_by Torn old.held.surface
 
+  abbrev start_three : Went → Three State
+  start_three g =
+      let m = (fold moved (book, r) (moves_of_start g)).1 in
+      three_of m.read m.safe (logs_of_start r.device.read_log r.device.safe_log g)
+
+  abbrev so_far : Three State
+  so_far = (read_found r, safe_found r, torn_found r)
+
   begin : Stage old.plan 0 old r0 l0 t0
   begin = none_yet old r0 l0 t0 up (record { is_read = refl; is_lost = refl; is_torn = refl })
 
-  before : Shows head following r0 l0 t0 (read_found r) (safe_found r)
-  before = record { in_read = on.is_read; in_lost = on.is_safe; in_torn = on.is_torn }
+  shown : Shows find r0 l0 t0 so_far
+  shown = record { in_read = on.is_read; in_lost = on.is_safe; in_torn = on.is_torn }
 
-  agrees : (m : Mishap)
-      → (read_found (gone head following book r new moves_of_start r.standing (Met 0 (fault_of m))) ≡ read_after m (read_found r) (read_found r) (safe_found r))
-      × (safe_found (gone head following book r new moves_of_start r.standing (Met 0 (fault_of m))) ≡ safe_after m (read_found r) (safe_found r))
-  agrees Failure = (refl, refl)
-  agrees (Crash Kept) = (refl, refl)
-  agrees (Crash Lost) = (refl, refl)
-  agrees (Crash Torn) = (refl, refl)
+  agrees : (m : Mishap) → start_three (Met 0 (fault_of m)) ≡ three_after m so_far so_far
+  agrees Failure = refl
+  agrees (Crash Kept) = rest_of r.read r.device.read_log
+  agrees (Crash Lost) = rest_of r.safe r.device.safe_log
+  agrees (Crash Torn) = rest_of r.read (torn_log r.device.read_log r.device.safe_log)
 
-  abbrev DidStart : Option Cause → Type 0
-  DidStart e = Holds head following book r new moves_of_start r.standing e (went r.plan 1)
+  abbrev pub LeadsBy : Option Cause → Type 0
+  LeadsBy e =
+      Has (λ (d : DiskState). find (read_of d.held.surface)) (λ (d : DiskState). find d.held.surface.synced) (λ (d : DiskState). find (left_by Torn d.held.surface)) (λ (d : DiskState). plan_of d.plan) new (started book r)
+      × (standing_of e new.stopped r.standing ≡ (started book r).standing) × IsRunning e new.stopped
 
-  sync_passed : Does old Syncs None new → DidStart None
-  sync_passed does =
-      let stage = step_sync old.plan 0 old r0 l0 t0 begin new does in
-      from head following book r new moves_of_start r.standing old 1 None (Passed (plan_of (less 1 old.plan))) on.is_plan (went_passed old.plan 1 stage.waits)
-      (passed_holds head following book r new moves_of_start r.standing old.plan 1 r0 (read_found r) stage on.is_read (refl, refl))
+  start_leads : (e : Option Cause) → Holds find new (start_three (went (plan_of old.plan) 1)) r.standing e (went (plan_of old.plan) 1) → LeadsBy e
+  start_leads e holds =
+      let h = subst (λ (q : Option Plan). Holds find new (start_three (went q 1)) r.standing e (went q 1)) on.is_plan holds in
+      (record { is_read = h.shows.in_read; is_safe = h.shows.in_lost; is_torn = h.shows.in_torn; is_plan = h.plan }, h.stands, h.running)
 
-  sync_failed : Does old Syncs (Some failed_call) new → DidStart (Some failed_call)
-  sync_failed does =
-      let ends = fail_sync old.plan 0 old r0 l0 t0 begin new does in
-      from head following book r new moves_of_start r.standing old 1 (Some failed_call) (Met 0 (fault_of ends.mishap)) on.is_plan (went_met old.plan 0 1 ends.mishap ends.met (omega arith))
-      (met_holds head following book r new moves_of_start r.standing 0 r0 l0 t0 r0 l0 t0 (read_found r) (read_found r) (safe_found r) before before ends.mishap ends.left (agrees ends.mishap))
+  pub passed_by : Does old Syncs None new → LeadsBy None
+  passed_by does = start_leads None (passed_holds find new start_three r.standing old.plan 1 r0 (read_found r) (step_sync old.plan 0 old r0 l0 t0 begin new does) on.is_read (λ left. rest_of r.read r.device.read_log))
 
-  abbrev LeadsUp : Option Cause → Type 0
-  LeadsUp = StartLeads head following book r new
+  pub failed_by : Does old Syncs (Some failed_call) new → LeadsBy (Some failed_call)
+  failed_by does = start_leads (Some failed_call) (failed_holds find new start_three r.standing old.plan 1
+      (met_fails find new start_three r.standing old.plan 1 0 r0 l0 t0 r0 l0 t0 so_far so_far (omega arith) shown shown agrees (fail_sync old.plan 0 old r0 l0 t0 begin new does)))
 
-  leads_up : (e : Option Cause) → DidStart e → LeadsUp e
-  leads_up e h = (record { is_read = h.shows.in_read; is_safe = h.shows.in_lost; is_torn = h.shows.in_torn; is_plan = h.plan }, h.stands, h.running)
+module _ {H : Type 0} (l : Layout H State) (book : Book) (r : Replica) (old new : DiskState) (up : old.stopped ≡ false) (on : IsOn l r old) where
+  pub start_passed : Does old Syncs None new → StartLeads l book r new None
+  start_passed does = passed_by (starts l) book r old new up on does
 
-  pub start_passed : Does old Syncs None new → LeadsUp None
-  start_passed does = leads_up None (sync_passed does)
-
-  pub start_failed : Does old Syncs (Some failed_call) new → LeadsUp (Some failed_call)
-  start_failed does = leads_up (Some failed_call) (sync_failed does)
+  pub start_failed : Does old Syncs (Some failed_call) new → StartLeads l book r new (Some failed_call)
+  start_failed does = failed_by (starts l) book r old new up on does

@@ -1,25 +1,9 @@
 -- What may be told or not.
-use Rattle.std.proofs.Common.{◌≡◌, ℕ, Option, Some, None, Result, Ok, Err, IfSome, IsSome, refl, sym, ap, subst}
-use Rattle.std.specs.Prelude.{unwrap_or, OnOk}
+use Rattle.std.proofs.Common.{◌≡◌, ℕ, Option, Some, None, Result, Ok, Err, IfSome, refl}
+use Rattle.std.specs.Prelude.{OnOk}
 use Rattle.std.specs.Option.{option_map}
 use Rattle.adr_disk.specs.Disk.{Keeps}
-
-pub if_told : {A : Type 0} (o : Option A) (P : A → Type 0) → ((there : A) → o ≡ Some there → P there) → IfSome o P
-if_told None P h = tt
-if_told (Some there) P h = h there refl
-
-pub at_told : {A : Type 0} (o : Option A) (P : A → Type 0) (there : A) → o ≡ Some there → IfSome o P → P there
-at_told {A} o P there is h = let Q : Option A → Type 0 = λ o. IfSome o P in subst Q is h
-
-pub some_of : {A : Type 0} (o : Option A) → IsSome o → (x : A) × (o ≡ Some x)
-some_of None is = absurd (cc is)
-some_of (Some x) is = (x, refl)
-
-pub is_some_of : {A : Type 0} (o : Option A) (x : A) → o ≡ Some x → IsSome o
-is_some_of {A} o x is = let Q : Option A → Type 0 = λ o. IsSome o in subst Q (sym is) refl
-
-pub some_is : {A : Type 0} (x y : A) → Some x ≡ Some y → x ≡ y
-some_is x y is = ap (λ o. unwrap_or o x) is
+pub use Rattle.adr_disk.proofs.Told.{if_told, at_told, some_of, is_some_of, some_is}
 
 pub if_mapped : {A B : Type 0} (f : A → B) (o : Option A) (Q : B → Type 0) → ((there : A) → o ≡ Some there → Q (f there)) → IfSome (option_map f o) Q
 if_mapped f None Q h = tt

@@ -1,4 +1,10 @@
 pub mod Log
+pub mod Areas
+pub mod Begun
 pub mod Kept
+pub mod Recording
 pub mod Commits
 pub mod Replicas
+pub mod Planned
+pub mod Bound
+pub mod Due

@@ -1,5 +1,5 @@
 -- What a state of a log answers to a request in range is a reply in range, and of the form of one.
-use Rattle.std.proofs.Common.{◌≡◌, ℕ, ◌-◌, ◌≤◌, List, [], ◌∷◌, Bool, true, false, cond, ◌||◌, ◌==◌, None, Ok, refl, sym, ap, ◌∙◌, subst, length, arith}
+use Rattle.std.proofs.Common.{◌≡◌, ℕ, ◌-◌, ◌≤◌, List, [], ◌∷◌, Bool, true, false, cond, ◌||◌, ◌==◌, None, Ok, refl, sym, ap, subst, length, arith}
 use Rattle.std.specs.Prelude.{if◌then◌else◌, IfSome}
 use Rattle.std.specs.Bool.{then_some}
 use Rattle.std.specs.List.{AllByRecursion}
@@ -11,7 +11,6 @@ use Rattle.adr_wire.specs.Ranges.{IsCursor, IsMark}
 use Rattle.adr_model.specs.Update.{Key, RowOf, LinkOf, Said, Holds, IsPresent, Update}
 use Rattle.adr_model.specs.Store.{State, updates_of}
 use Rattle.adr_model.specs.Change.{Item}
-use Rattle.adr_model.specs.Formed.{IsFormed}
 use Rattle.adr_model.specs.Serve.{Request, Reply, item_of, item_length, candidates, byte_limit, first_items, times_told, reply_to, serve_refusal, serve}
 use Rattle.adr_model.specs.Spelled.{IsSaidOfKey, SayOfTheirKeys, IsSpelledReply}
 use Rattle.adr_law_knowledge.proofs.Refusing.{answered}

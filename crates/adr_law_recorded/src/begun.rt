@@ -14,7 +14,7 @@ pub fn adopted_states_are_logged()
     ensures { AdoptedIsLogged }
 {}
 
-/// A log may begin with a state of a log that is up, where it is not beyond the limit from its beginning.
+/// A log may begin with a state of a log that is up, where the area of its image fits on a disk.
 #[tactic(none)]
 pub fn fitting_states_may_begin()
     ensures { FittingMayBegin }

@@ -1,6 +1,5 @@
 -- What calls leave of a controller that is shut off, and what they answer in its name.
-use Rattle.std.proofs.Common.{◌≡◌, ◌≢◌, ℕ, List, [], ◌∷◌, ◌++◌, Bool, true, false, Option, Some, None, Result, Ok, Err, refl, sym, ap, ◌∙◌, subst, fold, length, if◌then◌else◌}
-use Rattle.std.specs.Prelude.{nat_lt}
+use Rattle.std.proofs.Common.{◌≡◌, ◌≢◌, ℕ, List, [], ◌∷◌, ◌++◌, Bool, true, false, Option, Some, None, Result, Ok, Err, refl, sym, ap, ◌∙◌, subst, fold, length}
 use Rattle.adr_disk.specs.declared.memory.Crash.TheVariants.{Kept as KeptAll, Lost, Torn}
 use Rattle.adr_event.specs.declared.answer.Outcome.{Outcome}
 use Rattle.adr_event.specs.declared.answer.Outcome.TheVariants as outcomes
@@ -22,9 +21,9 @@ use Rattle.adr_model.specs.Write.{Write, write}
 use Rattle.adr_model.specs.Take.{take}
 use Rattle.adr_model.specs.Collect.{collect, backup, adopt, quarantine}
 use Rattle.adr_model.specs.Upgrade.{upgrade}
-use Rattle.adr_model.specs.Lengths.{log_limit, new_log_end, log_end_after}
+use Rattle.adr_model.specs.Lengths.{log_limit, new_log, area_fits, change_fits}
 use Rattle.adr_model.specs.Refused.{serve_refused, take_refused, adopt_refused, full}
-use Rattle.adr_model.specs.Replica.{Pending, ToWrite, ToTake, ToCollect, ToUpgrade, ToQuarantine, Standing, Up, Down, Failed, Stops, Fails, Plan, Replica, on_disk, on_new_disk, Book, begun, Move, Begin, Settle, Forget, moved, Went, Passed, Met, went, moves_of_commit, moves_of_start, standing_after, plan_after, outcome_after}
+use Rattle.adr_model.specs.Replica.{Pending, ToWrite, ToTake, ToCollect, ToUpgrade, ToQuarantine, Standing, Up, Down, Failed, Stops, Fails, Plan, Replica, on_disk, on_new_disk, Book, begun, Move, Begin, Settle, Forget, moved, Went, Passed, Met, moves_of_commit, moves_of_start, standing_after, outcome_after, Device, commit_goes, start_goes, device_after_commit, device_after_start, device_settled}
 use Rattle.adr_model.specs.World.{Name, World, Snapshot, Gone, Sent, stays, nothing, replica_at, with_replica, of_made, where_up, of_controller, within_log, committed, commit, writes, after_write, after_collect, after_upgrade, asks, after_serve, served, serves_request, after_take, delivered, delivers, backed_up, begins, adopts, of_image, put_back, with_plan, stops, started, starts}
 use Rattle.adr_law_rollback.specs.ShutOff.{RefusesAll, RestsAs, RestsIn, is_done}
 use Rattle.adr_law_rollback.proofs.Placing.{name_case, FoundAmong, found_named, replaced, spared, first_stays, rests_too}
@@ -49,12 +48,9 @@ module _ {A : Type 0} (Q : A → Type 0) (w : World) (n : Name) (other : Outcome
     pub reached : (act : Replica → A) → ((r : Replica) → replica_at w n ≡ Some r → Q (act r)) → Q (of_controller w n other act)
     reached act acts = made (λ r. where_up other r.standing (act r)) (λ r is. up_or_not r.standing (act r) (acts r is))
 
-within : (Q : Gone → Type 0) (w : World) (end : ℕ) (gone : Gone) → Q (w, full Log log_limit) → Q gone → Q (within_log w end gone)
-within Q w end gone refused goes = by (nat_lt log_limit end)
-  where
-    by : (b : Bool) → Q (if b then (w, full Log log_limit) else gone)
-    by true = refused
-    by false = goes
+within : (Q : Gone → Type 0) (w : World) (fits : Bool) (gone : Gone) → Q (w, full Log log_limit) → Q gone → Q (within_log w fits gone)
+within Q w true gone refused goes = goes
+within Q w false gone refused goes = refused
 
 -- ---- what moves leave
 
@@ -67,17 +63,17 @@ all_moved_named : (ms : List Move) (m : Book × Replica) → (fold moved m ms).1
 all_moved_named [] m = refl
 all_moved_named (move ∷ ms) m = all_moved_named ms (moved m move) ∙ moved_named m move
 
-module _ (s : State) (end : ℕ) where
-  other_standing : (r : Replica) → RestsAs s end r → (standing : Standing) (plan : Option Plan) → RestsAs s end (record r { standing = standing; plan = plan })
-  other_standing r is standing plan = record { safe = is.safe; safe_end = is.safe_end; read = is.read; read_end = is.read_end; kept = is.kept }
+module _ (s : State) where
+  other_standing : (r : Replica) → RestsAs s r → (standing : Standing) (device : Device) → RestsAs s (record r { standing = standing; device = device })
+  other_standing r is standing device = record { safe = is.safe; read = is.read; kept = is.kept }
 
-  settled_rests : (sc : Book) (r : Replica) → RestsAs s end r → RestsAs s end (moved (sc, r) Settle).1
-  settled_rests sc r is = record { safe = is.read; safe_end = is.read_end; read = is.read; read_end = is.read_end; kept = refl }
+  settled_rests : (sc : Book) (r : Replica) → RestsAs s r → RestsAs s (moved (sc, r) Settle).1
+  settled_rests sc r is = record { safe = is.read; read = is.read; kept = refl }
 
-  forgotten_rests : (sc : Book) (r : Replica) → RestsAs s end r → RestsAs s end (moved (sc, r) Forget).1
-  forgotten_rests sc r is = record { safe = is.safe; safe_end = is.safe_end; read = is.safe; read_end = is.safe_end; kept = refl }
+  forgotten_rests : (sc : Book) (r : Replica) → RestsAs s r → RestsAs s (moved (sc, r) Forget).1
+  forgotten_rests sc r is = record { safe = is.safe; read = is.safe; kept = refl }
 
-  start_rests : (sc : Book) (r : Replica) → RestsAs s end r → (g : Went) → RestsAs s end (fold moved (sc, r) (moves_of_start g)).1
+  start_rests : (sc : Book) (r : Replica) → RestsAs s r → (g : Went) → RestsAs s (fold moved (sc, r) (moves_of_start g)).1
   start_rests sc r is (Passed left) = settled_rests sc r is
   start_rests sc r is (Met place Fails) = is
   start_rests sc r is (Met place (Stops Lost)) = forgotten_rests sc r is
@@ -96,20 +92,20 @@ adoption_not_done (adoptions.Full table limit) = refl
 
 -- ---- calls in a world where the controller of a name is shut off
 
-module _ (name : Name) (s : State) (end : ℕ) (closed : s.mode ≡ Quarantined) where
+module _ (name : Name) (s : State) (closed : s.mode ≡ Quarantined) where
   -- among these controllers it is
   abbrev Among : List Replica → Type 0
-  Among rs = (r : Replica) × FoundAmong rs name r × RestsAs s end r
+  Among rs = (r : Replica) × FoundAmong rs name r × RestsAs s r
 
   -- behind a call of a controller it is shut off still, and where the call was its own nothing was done
   abbrev pub Holds : Name → Gone → Type 0
-  Holds n g = RestsIn s end g.0 name × (n ≡ name → is_done g.1 ≡ false)
+  Holds n g = RestsIn s g.0 name × (n ≡ name → is_done g.1 ≡ false)
 
   abbrev pub HoldsSent : {A : Type 0} → Name → Sent A → Type 0
-  HoldsSent n t = RestsIn s end t.0 name × (n ≡ name → is_done t.1 ≡ false)
+  HoldsSent n t = RestsIn s t.0 name × (n ≡ name → is_done t.1 ≡ false)
 
-  module _ (w : World) (i : RestsIn s end w name) where
-    put_in : (new : Replica) → (new.name ≡ name → RestsAs s end new) → Among (with_replica w.replicas new)
+  module _ (w : World) (i : RestsIn s w name) where
+    put_in : (new : Replica) → (new.name ≡ name → RestsAs s new) → Among (with_replica w.replicas new)
     put_in new rests = name_case (Among (with_replica w.replicas new)) new.name name
         (λ e. (new, replaced w.replicas new i.0 name e i.1, rests e))
         (λ differ. (i.0, spared w.replicas new i.0 name differ i.1, i.2))
@@ -118,8 +114,8 @@ module _ (name : Name) (s : State) (end : ℕ) (closed : s.mode ≡ Quarantined)
     comes new = (i.0, first_stays w.replicas (new ∷ []) i.0 name i.1, i.2)
 
     module _ (n : Name) (r : Replica) (found : replica_at w n ≡ Some r) where
-      rests : n ≡ name → RestsAs s end r
-      rests e = rests_too s end w name r i (subst (λ m. replica_at w m ≡ Some r) e found)
+      rests : n ≡ name → RestsAs s r
+      rests e = rests_too s w name r i (subst (λ m. replica_at w m ≡ Some r) e found)
 
       own_name : r.name ≡ name → n ≡ name
       own_name e = sym (found_named w.replicas n r found) ∙ e
@@ -127,38 +123,38 @@ module _ (name : Name) (s : State) (end : ℕ) (closed : s.mode ≡ Quarantined)
       refuses : n ≡ name → RefusesAll r.safe
       refuses e = refuses_all r.safe (ap (λ (x : State). x.mode) (rests e).safe ∙ closed)
 
-      moves : (ms : List Move) (standing : Standing) (plan : Option Plan) → (n ≡ name → RestsAs s end (fold moved (w.book, r) ms).1)
-          → Among (with_replica w.replicas (record (fold moved (w.book, r) ms).1 { standing = standing; plan = plan }))
-      moves ms standing plan rest = put_in (record (fold moved (w.book, r) ms).1 { standing = standing; plan = plan })
-          (λ e. other_standing s end (fold moved (w.book, r) ms).1 (rest (own_name (sym (all_moved_named ms (w.book, r)) ∙ e))) standing plan)
+      moves : (ms : List Move) (standing : Standing) (device : Device) → (n ≡ name → RestsAs s (fold moved (w.book, r) ms).1)
+          → Among (with_replica w.replicas (record (fold moved (w.book, r) ms).1 { standing = standing; device = device }))
+      moves ms standing device rest = put_in (record (fold moved (w.book, r) ms).1 { standing = standing; device = device })
+          (λ e. other_standing s (fold moved (w.book, r) ms).1 (rest (own_name (sym (all_moved_named ms (w.book, r)) ∙ e))) standing device)
 
       -- a call of another one
       module _ (differ : n ≢ name) where
-        commits : (p : Pending) (o : Outcome) → RestsIn s end (commit w r p o).0 name
-        commits p o = within (λ g. RestsIn s end g.0 name) w (log_end_after r.safe_end p.change) (committed w r p o) i
-            (moves (moves_of_commit p (went r.plan 4)) (standing_after Failed (went r.plan 4)) (plan_after (went r.plan 4)) (λ e. absurd (differ e)))
+        commits : (p : Pending) (o : Outcome) → RestsIn s (commit w r p o).0 name
+        commits p o = within (λ g. RestsIn s g.0 name) w (change_fits r.device.safe_log r.safe.store p.change) (committed w r p o) i
+            (moves (moves_of_commit p (commit_goes r p)) (standing_after Failed (commit_goes r p)) (device_after_commit r p) (λ e. absurd (differ e)))
 
         abbrev put_back_by : Pending
         put_back_by = record { call = ToQuarantine; change = quarantine r.safe }
 
-        other_wrote : (what : Write) (t : Result Change WriteRefusal) → RestsIn s end (after_write w r what t).0 name
+        other_wrote : (what : Write) (t : Result Change WriteRefusal) → RestsIn s (after_write w r what t).0 name
         other_wrote what (Err x) = i
         other_wrote what (Ok c) = commits (record { call = ToWrite what w.time; change = c }) (outcomes.Usn c.usn)
 
-        other_collected : (lifetime : ℕ) (t : Result Change CollectRefusal) → RestsIn s end (after_collect w r lifetime t).0 name
+        other_collected : (lifetime : ℕ) (t : Result Change CollectRefusal) → RestsIn s (after_collect w r lifetime t).0 name
         other_collected lifetime (Err x) = i
         other_collected lifetime (Ok c) = commits (record { call = ToCollect w.time lifetime; change = c }) (outcomes.Removed (length c.removed))
 
-        other_upgraded : (t : Result Change UpgradeRefusal) → RestsIn s end (after_upgrade w r t).0 name
+        other_upgraded : (t : Result Change UpgradeRefusal) → RestsIn s (after_upgrade w r t).0 name
         other_upgraded (Err x) = i
         other_upgraded (Ok c) = commits (record { call = ToUpgrade; change = c }) outcomes.Ok
 
-        other_took : (reply : Reply) (t : Result Change TakeRefusal) → RestsIn s end (after_take w r reply t).0 name
+        other_took : (reply : Reply) (t : Result Change TakeRefusal) → RestsIn s (after_take w r reply t).0 name
         other_took reply (Ok c) = commits (record { call = ToTake reply; change = c }) (outcomes.Took (length reply.items) (length c.writes) c.usn)
         other_took reply (Err (takes.RolledBack inv mine shown)) = commits put_back_by (take_refused (takes.RolledBack inv mine shown))
         other_took reply (Err x) = i
 
-        other_served : (t : Result Reply ServeRefusal) → RestsIn s end (after_serve w r t).0 name
+        other_served : (t : Result Reply ServeRefusal) → RestsIn s (after_serve w r t).0 name
         other_served (Ok reply) = i
         other_served (Err (serves.RolledBack inv mine shown)) = commits put_back_by (serve_refused (serves.RolledBack inv mine shown))
         other_served (Err x) = i
@@ -198,16 +194,16 @@ module _ (name : Name) (s : State) (end : ℕ) (closed : s.mode ≡ Quarantined)
       sent_one (Some q) = sent q
 
       planned : (plan : Plan) → Holds n (with_plan w r plan)
-      planned plan = (put_in (record r { plan = Some plan }) (λ e. other_standing s end r (rests (own_name e)) r.standing (Some plan)), λ e. refl)
+      planned plan = (put_in (record r { device = record r.device { plan = Some plan } }) (λ e. other_standing s r (rests (own_name e)) r.standing (record r.device { plan = Some plan })), λ e. refl)
 
       stopped : Holds n (stops w r)
-      stopped = (moves (Settle ∷ []) Down None (λ e. settled_rests s end w.book r (rests e)), λ e. refl)
+      stopped = (moves (Settle ∷ []) Down (device_settled r) (λ e. settled_rests s w.book r (rests e)), λ e. refl)
 
       begun_again : Holds n (started w r)
       begun_again = (
-        moves (moves_of_start (went r.plan 1)) (standing_after r.standing (went r.plan 1)) (plan_after (went r.plan 1))
-            (λ e. start_rests s end w.book r (rests e) (went r.plan 1)),
-        λ e. start_not_done (went r.plan 1),
+        moves (moves_of_start (start_goes r)) (standing_after r.standing (start_goes r)) (device_after_start r)
+            (λ e. start_rests s w.book r (rests e) (start_goes r)),
+        λ e. start_not_done (start_goes r),
       )
 
       started_or_up : (standing : Standing) → Holds n (starts w r standing)
@@ -253,10 +249,10 @@ module _ (name : Name) (s : State) (end : ℕ) (closed : s.mode ≡ Quarantined)
           by (Some image) = (i, λ e. refl)
 
       abbrev pub copied : Sent Snapshot
-      copied = of_made (nothing w) (replica_at w n) (λ r. (w, outcomes.Ok, Some (record { state = r.read; log_end = r.read_end })))
+      copied = of_made (nothing w) (replica_at w n) (λ r. (w, outcomes.Ok, Some (record { state = r.read; log = r.device.read_log })))
 
       pub copies_hold : HoldsSent n copied
-      copies_hold = made (HoldsSent n) w n (nothing w) (i, λ e. refl) (λ r. (w, outcomes.Ok, Some (record { state = r.read; log_end = r.read_end }))) (λ r found. (i, λ e. refl))
+      copies_hold = made (HoldsSent n) w n (nothing w) (i, λ e. refl) (λ r. (w, outcomes.Ok, Some (record { state = r.read; log = r.device.read_log }))) (λ r found. (i, λ e. refl))
 
       pub plans_hold : (plan : Plan) → Holds n (of_made (stays w) (replica_at w n) (λ r. with_plan w r plan))
       plans_hold plan = made (Holds n) w n (stays w) (i, λ e. refl) (λ r. with_plan w r plan) (λ r found. planned n r found plan)
@@ -274,7 +270,7 @@ module _ (name : Name) (s : State) (end : ℕ) (closed : s.mode ≡ Quarantined)
 
       begins_hold : (placed : Replica → List Replica) (t : State) → Among (placed (on_new_disk n t)) → Holds n (begins w placed n t)
       begins_hold placed t among =
-          within (Holds n) w (new_log_end t) (record w { book = begun w.book t; replicas = placed (on_new_disk n t) }, outcomes.Ok) (i, λ e. refl) (among, λ e. refl)
+          within (Holds n) w (area_fits (new_log t) t.store) (record w { book = begun w.book t; replicas = placed (on_new_disk n t) }, outcomes.Ok) (i, λ e. refl) (among, λ e. refl)
 
       adopts_hold : (placed : Replica → List Replica) → ((t : State) → Among (placed (on_new_disk n t))) → (o : Option Store) (dsa inv : Store → Identifier)
           → Holds n (of_image w o (λ image. adopts w placed n (adopt image (dsa image) (inv image))))
@@ -299,4 +295,4 @@ module _ (name : Name) (s : State) (end : ℕ) (closed : s.mode ≡ Quarantined)
           where
             by : (p : Option Snapshot) → Holds n (put_back w n p)
             by None = (i, λ e. refl)
-            by (Some t) = (put_in (on_disk n t.state t.log_end) (λ e. absurd (differ e)), λ e. refl)
+            by (Some t) = (put_in (on_disk n t.state t.log) (λ e. absurd (differ e)), λ e. refl)

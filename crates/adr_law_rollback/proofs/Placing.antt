@@ -1,5 +1,5 @@
 -- Who is found by a name after a controller was put in place of another one, or came.
-use Rattle.std.proofs.Common.{◌≡◌, ◌≢◌, ℕ, List, [], ◌∷◌, ◌++◌, Bool, true, false, cond, Option, Some, refl, sym, ap, ◌∙◌, subst}
+use Rattle.std.proofs.Common.{◌≡◌, ◌≢◌, List, [], ◌∷◌, ◌++◌, Bool, true, false, cond, Option, Some, refl, sym, ap, ◌∙◌, subst}
 use Rattle.std.specs.List.{find}
 use Rattle.std.specs.Str.{bytes_eq}
 use Rattle.std.proofs.lemmas.Slice.Eq.{bytes_eq-Decides}
@@ -85,5 +85,5 @@ first_stays (x ∷ xs) more r name h = by (bytes_eq x.name name) h (λ f. first_
     by false f next = next f
 
 -- who is found by the name of one that rests is that one
-pub rests_too : (s : State) (end : ℕ) (w : World) (name : Name) (r : Replica) → RestsIn s end w name → replica_at w name ≡ Some r → RestsAs s end r
-rests_too s end w name r (q, found, rests) h = let same : q ≡ r = cc in subst (RestsAs s end) same rests
+pub rests_too : (s : State) (w : World) (name : Name) (r : Replica) → RestsIn s w name → replica_at w name ≡ Some r → RestsAs s r
+rests_too s w name r (q, found, rests) h = let same : q ≡ r = cc in subst (RestsAs s) same rests

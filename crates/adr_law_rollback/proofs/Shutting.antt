@@ -1,17 +1,16 @@
 -- A controller that finds out that its database was put back answers so, and is shut off.
-use Rattle.std.proofs.Common.{◌≡◌, ℕ, Bool, Option, Some, None, refl, sym, ap, ◌∙◌, subst, fold, if◌then◌else◌}
-use Rattle.std.proofs.lemmas.Bool.{le-ltb}
+use Rattle.std.proofs.Common.{◌+◌, ◌≡◌, Bool, Option, Some, None, refl, sym, ap, ◌∙◌, subst, fold, if◌then◌else◌}
 use Rattle.adr_event.specs.declared.answer.Outcome.{Outcome}
 use Rattle.adr_event.specs.declared.refusal.Table.TheVariants.{Log}
 use Rattle.adr_event.specs.declared.refusal.ServeRefusal.TheVariants as serves
 use Rattle.adr_event.specs.declared.refusal.TakeRefusal.TheVariants as takes
 use Rattle.adr_vector.specs.Vector.{at}
 use Rattle.adr_model.specs.Change.{Change, after}
-use Rattle.adr_model.specs.Lengths.{log_limit, log_end_after}
+use Rattle.adr_model.specs.Lengths.{log_limit}
 use Rattle.adr_model.specs.Collect.{quarantine}
 use Rattle.adr_model.specs.Serve.{Reply, shown_by}
 use Rattle.adr_model.specs.Refused.{full, serve_refused, take_refused}
-use Rattle.adr_model.specs.Replica.{Pending, ToQuarantine, Up, Failed, Plan, Replica, recorded, moved, went, moves_of_commit, standing_after, plan_after, outcome_after}
+use Rattle.adr_model.specs.Replica.{Pending, ToQuarantine, Up, Failed, Plan, Replica, recorded, moved, went, moves_of_commit, standing_after, outcome_after, calls_before, behind as behind_calls, device_after_commit}
 use Rattle.adr_model.specs.World.{Name, World, Gone, Sent, stays, nothing, not_sent, with_replica, of_made, where_up, committed, quarantines, after_serve, served, serves_request, after_take, delivered, delivers}
 use Rattle.adr_law_rollback.specs.Found.{IsReady, IsShutOffNow, ServingShutsOff, TakingShutsOff}
 use Rattle.adr_law_rollback.proofs.Placing.{found_named, replaced}
@@ -24,28 +23,25 @@ module _ (w : World) (name : Name) (r : Replica) (ready : IsReady w name r) wher
   abbrev pending : Pending
   pending = record { call = ToQuarantine; change = change }
 
-  abbrev end : ℕ
-  end = log_end_after r.safe_end change
-
   -- the controller and the world behind its quarantine
   abbrev next : Replica
-  next = record r { read = after r.safe change; read_end = end; safe = after r.safe change; safe_end = end; kept = None; standing = Up; plan = None }
+  next = record r { read = after r.safe change; safe = after r.safe change; kept = None; standing = Up; device = device_after_commit r pending }
 
   abbrev behind : World
   behind = record w { book = recorded w.book r.safe.inv pending; replicas = with_replica w.replicas next }
 
   committed_is : (o : Outcome) → committed w r pending o ≡ (behind, o)
-  committed_is o = ap (λ (p : Option Plan). let g = went p 4 in let m = fold moved (w.book, r) (moves_of_commit pending g) in (
-    record w { book = m.0; replicas = with_replica w.replicas (record m.1 { standing = standing_after Failed g; plan = plan_after g }) },
+  committed_is o = ap (λ (p : Option Plan). let g = behind_calls (calls_before r pending) (went p (calls_before r pending + 4)) in let m = fold moved (w.book, r) (moves_of_commit pending g) in (
+    record w { book = m.0; replicas = with_replica w.replicas (record m.1 { standing = standing_after Failed g; device = device_after_commit r pending }) },
     outcome_after g o,
   )) ready.unplanned
 
   pub quarantines_it : (o : Outcome) → quarantines w r o ≡ (behind, o)
-  quarantines_it o = ap (λ (b : Bool). if b then (w, full Log log_limit) else committed w r pending o) (le-ltb log_limit end ready.room) ∙ committed_is o
+  quarantines_it o = ap (λ (b : Bool). if b then committed w r pending o else (w, full Log log_limit)) ready.room ∙ committed_is o
 
   pub shut_off : IsShutOffNow behind name r
   shut_off =
-      (next, replaced w.replicas next r name (found_named w.replicas name r ready.found) ready.found, record { safe = refl; safe_end = refl; read = refl; read_end = refl; kept = refl })
+      (next, replaced w.replicas next r name (found_named w.replicas name r ready.found) ready.found, record { safe = refl; read = refl; kept = refl })
 
 pub serving_shuts_off : ServingShutsOff
 serving_shuts_off w name r q ready is more =

@@ -1,5 +1,5 @@
 -- Who finds out that a controller's database was put back without a fresh identifier: whoever has seen more of its incarnation than it has itself.
-use Rattle.std.specs.Prelude.{◌≡◌, ◌≤◌, ◌<◌, ℕ, true, Some, None, Err}
+use Rattle.std.specs.Prelude.{◌≡◌, ◌<◌, ℕ, true, Some, None, Err}
 use Rattle.adr_vector.specs.Vector.{Cursors, at, at_most}
 use Rattle.adr_event.specs.declared.refusal.ServeRefusal.TheVariants as serves
 use Rattle.adr_event.specs.declared.refusal.TakeRefusal.TheVariants as takes
@@ -7,7 +7,7 @@ use Rattle.adr_model.specs.Store.{Normal, Quarantined, State, kept_of, mark_of}
 use Rattle.adr_model.specs.Change.{after}
 use Rattle.adr_model.specs.LocalLog.{IsOrdered}
 use Rattle.adr_model.specs.Formed.{IsFormed}
-use Rattle.adr_model.specs.Lengths.{log_limit, log_end_after}
+use Rattle.adr_model.specs.Lengths.{change_fits}
 use Rattle.adr_model.specs.Serve.{Request, Reply, ask, shown_by, serve}
 use Rattle.adr_model.specs.Take.{kept_mark, take}
 use Rattle.adr_model.specs.Collect.{quarantine}
@@ -65,12 +65,12 @@ FoundByTaking =
 pub record IsReady (w : World) (name : Name) (r : Replica) : Type 0 where
   pub found : replica_at w name ≡ Some r
   pub up : r.standing ≡ Up
-  pub unplanned : r.plan ≡ None
-  pub room : log_end_after r.safe_end (quarantine r.safe) ≤ log_limit
+  pub unplanned : r.device.plan ≡ None
+  pub room : change_fits r.device.safe_log r.safe.store (quarantine r.safe) ≡ true
 
 -- behind its quarantine it is shut off
 abbrev pub IsShutOffNow : World → Name → Replica → Type 0
-IsShutOffNow v name r = RestsIn (after r.safe (quarantine r.safe)) (log_end_after r.safe_end (quarantine r.safe)) v name
+IsShutOffNow v name r = RestsIn (after r.safe (quarantine r.safe)) v name
 
 -- that state is quarantined
 abbrev pub QuarantineQuarantines : Type 0

@@ -36,16 +36,14 @@ QuarantinedRefusesAll = (s : State) → s.mode ≡ Quarantined → RefusesAll s
 -- ---- in a world
 
 -- a controller whose disk has this state and nothing that waits: a start finds it, and a crash leaves it
-pub record RestsAs (s : State) (end : ℕ) (r : Replica) : Type 0 where
+pub record RestsAs (s : State) (r : Replica) : Type 0 where
   pub safe : r.safe ≡ s
-  pub safe_end : r.safe_end ≡ end
   pub read : r.read ≡ s
-  pub read_end : r.read_end ≡ end
   pub kept : r.kept ≡ None
 
 -- the controller of a name rests as this state
-abbrev pub RestsIn : State → ℕ → World → Name → Type 0
-RestsIn s end w name = (r : Replica) × (replica_at w name ≡ Some r) × RestsAs s end r
+abbrev pub RestsIn : State → World → Name → Type 0
+RestsIn s w name = (r : Replica) × (replica_at w name ≡ Some r) × RestsAs s r
 
 -- an answer that says that something was written, served, taken or collected
 abbrev pub is_done : Outcome → Bool
@@ -68,12 +66,12 @@ Spares name e = Unit {0}
 -- behind such a line a quarantined controller is as before, and has done nothing
 abbrev pub QuarantineHolds : Type 0
 QuarantineHolds =
-    (w : World) (name : Name) (s : State) (end : ℕ) (e : Event) → s.mode ≡ Quarantined → RestsIn s end w name → Spares name e
-    → RestsIn s end (step w e).0 name × DoesNothing name (step w e).1
+    (w : World) (name : Name) (s : State) (e : Event) → s.mode ≡ Quarantined → RestsIn s w name → Spares name e
+    → RestsIn s (step w e).0 name × DoesNothing name (step w e).1
 
 -- and so throughout such lines, however many come
 abbrev pub QuarantineHoldsThroughout : Type 0
 QuarantineHoldsThroughout =
-    (w : World) (name : Name) (s : State) (end : ℕ) (es : List Event) → s.mode ≡ Quarantined → RestsIn s end w name
+    (w : World) (name : Name) (s : State) (es : List Event) → s.mode ≡ Quarantined → RestsIn s w name
     → Each (Spares name) es
-    → RestsIn s end (after_lines w es) name × DoesNothing name (answers w es)
+    → RestsIn s (after_lines w es) name × DoesNothing name (answers w es)

@@ -9,10 +9,10 @@ use Rattle.adr_event.specs.declared.refusal.ServeRefusal.{ServeRefusal}
 use Rattle.adr_event.specs.declared.refusal.ServeRefusal.TheVariants as serves
 use Rattle.adr_model.specs.Member.{Member}
 use Rattle.adr_model.specs.Serve.{Request, Reply, ask, serve_refusal, serve_refusals, reply_to, serve}
-use Rattle.adr_model.specs.Lengths.{log_end_after}
+use Rattle.adr_model.specs.Lengths.{change_fits}
 use Rattle.adr_model.specs.Refused.{serve_refused}
 use Rattle.adr_model.specs.Collect.{quarantine}
-use Rattle.adr_model.specs.Replica.{ToQuarantine, Standing, Up, Down, Failed, Stops, Fails, Went, Passed, Met, went, Pending, Replica, outcome_after}
+use Rattle.adr_model.specs.Replica.{ToQuarantine, Standing, Up, Down, Failed, Stops, Fails, Went, Passed, Met, Pending, Replica, outcome_after, commit_goes}
 use Rattle.adr_model.specs.World.{Name, World, Gone, Sent, answer, replica_at, of_made, where_up, nothing, asks, after_serve, served, serves_request, committed, commit, quarantines}
 use Rattle.adr_model.specs.Cycles.{Pulled, first_told, pull_asked, pull, and_then, pull_version}
 use Rattle.adr_model.specs.Sound.{IsSoundWorld}
@@ -34,7 +34,7 @@ after_calls o none (Met place (Stops how)) fine = absurd (cc)
 after_calls o none (Met place Fails) fine = absurd (cc)
 
 not_committed : (w : World) (r : Replica) (p : Pending) (o : Outcome) → (IsFine o → ⊥) → IsFine (commit w r p o).1 → ⊥
-not_committed w r p o none = within_case (λ (g : Gone). IsFine g.1 → ⊥) w (log_end_after r.safe_end p.change) (committed w r p o) (λ fine. absurd (cc)) (after_calls o none (went r.plan 4))
+not_committed w r p o none = within_case (λ (g : Gone). IsFine g.1 → ⊥) w (change_fits r.device.safe_log r.safe.store p.change) (committed w r p o) (λ fine. absurd (cc)) (after_calls o none (commit_goes r p))
 
 -- a request that is answered
 was_served : (w : World) (s : Replica) (t : Result Reply ServeRefusal) → IsFine (after_serve w s t).1 → (r : Reply) × (t ≡ Ok r)

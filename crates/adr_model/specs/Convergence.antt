@@ -264,8 +264,8 @@ pub record MayCycle (w : World) (dest source : Replica) : Type 0 where
   pub source_there : Member source w.replicas
   pub dest_up : dest.standing ≡ Up
   pub source_up : source.standing ≡ Up
-  pub dest_unplanned : dest.plan ≡ None
-  pub source_unplanned : source.plan ≡ None
+  pub dest_unplanned : dest.device.plan ≡ None
+  pub source_unplanned : source.device.plan ≡ None
   pub schema : dest.safe.store.schema ≡ source.safe.store.schema
   pub purged : at_most source.safe.store.purged dest.safe.store.vector ≡ true
 

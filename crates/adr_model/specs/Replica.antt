@@ -1,5 +1,5 @@
 -- A controller with its disk: what a start would find, what a crash that loses the unsynced would leave, and the moves between the two.
-use Rattle.std.specs.Prelude.{ℕ, ◌-◌, List, [], ◌∷◌, ◌++◌, nat_le, ◌==◌, Option, Some, None, unwrap_or, Result, Ok, Err, if◌then◌else◌}
+use Rattle.std.specs.Prelude.{ℕ, ◌+◌, ◌-◌, List, [], ◌∷◌, ◌++◌, Bool, not, ◌&&◌, nat_le, ◌==◌, Option, Some, None, unwrap_or, Result, Ok, Err, if◌then◌else◌}
 use Rattle.std.specs.Map.{lookup}
 use Rattle.std.specs.BTreeMap.{is_at, insert_entry}
 use Rattle.adr_stamp.specs.Order.{identifier_order}
@@ -10,7 +10,7 @@ use Rattle.adr_event.specs.declared.answer.Outcome.TheVariants as outcomes
 use Rattle.adr_model.specs.Update.{Identifier, Update}
 use Rattle.adr_model.specs.Store.{State}
 use Rattle.adr_model.specs.Change.{Change, after, updates_written}
-use Rattle.adr_model.specs.Lengths.{new_log_end, log_end_after}
+use Rattle.adr_model.specs.Lengths.{Log, new_log, is_due, log_before, next_log}
 use Rattle.adr_model.specs.LocalLog.{LocalLog, first_log, no_log}
 use Rattle.adr_model.specs.Serve.{Reply}
 use Rattle.adr_model.specs.Write.{Write, write}
@@ -65,24 +65,32 @@ pub record Plan : Type 0 where
   pub calls : ℕ
   pub fault : Fault
 
+-- what a run knows of a disk beside the states: where the log stands that a start would find, and the one that a crash would leave that loses the unsynced; and the plan
+pub record Device : Type 0 where
+  pub read_log : Log
+  pub safe_log : Log
+  pub plan : Option Plan
+
 -- a controller by its name; where it is up, both states are one and no call is kept
 pub record Replica : Type 0 where
   pub name : List ℕ
   pub read : State  -- what a start would find
-  pub read_end : ℕ  -- where the log of that ends
   pub safe : State  -- what a crash would leave that loses the unsynced
-  pub safe_end : ℕ
   pub kept : Option Pending
   pub standing : Standing
-  pub plan : Option Plan
+  pub device : Device
 
--- a controller that is up, whose log ends here
-abbrev pub on_disk : List ℕ → State → ℕ → Replica
-on_disk name s end = record { name = name; read = s; read_end = end; safe = s; safe_end = end; kept = None; standing = Up; plan = None }
+-- all of a log is synced, and nothing is planned
+abbrev pub rests_at : Log → Device
+rests_at log = record { read_log = log; safe_log = log; plan = None }
+
+-- a controller that is up, whose log stands so
+abbrev pub on_disk : List ℕ → State → Log → Replica
+on_disk name s log = record { name = name; read = s; safe = s; kept = None; standing = Up; device = rests_at log }
 
 -- a controller on a new disk
 abbrev pub on_new_disk : List ℕ → State → Replica
-on_new_disk name s = on_disk name s (new_log_end s)
+on_new_disk name s = on_disk name s (new_log s)
 
 -- what all controllers are compared with: what clients wrote, in the order in which it became safe, and the log of each incarnation
 pub record Book : Type 0 where
@@ -124,9 +132,9 @@ settled (Some p) sc inv = recorded sc inv p
 
 -- a change begins: a start would find it. It settles: it is safe. Or it is forgotten
 abbrev pub moved : Book × Replica → Move → Book × Replica
-moved t (Begin p) = (t.0, record t.1 { read = after t.1.safe p.change; read_end = log_end_after t.1.safe_end p.change; kept = Some p })
-moved t Settle = (settled t.1.kept t.0 t.1.safe.inv, record t.1 { safe = t.1.read; safe_end = t.1.read_end; kept = None })
-moved t Forget = (t.0, record t.1 { read = t.1.safe; read_end = t.1.safe_end; kept = None })
+moved t (Begin p) = (t.0, record t.1 { read = after t.1.safe p.change; kept = Some p })
+moved t Settle = (settled t.1.kept t.0 t.1.safe.inv, record t.1 { safe = t.1.read; kept = None })
+moved t Forget = (t.0, record t.1 { read = t.1.safe; kept = None })
 
 -- ---- device calls
 
@@ -169,3 +177,75 @@ abbrev pub outcome_after : Went → Outcome → Outcome
 outcome_after (Passed left) outcome = outcome
 outcome_after (Met place (Stops how)) outcome = outcomes.Stopped
 outcome_after (Met place Fails) outcome = outcomes.Disk
+
+-- ---- what device calls leave of logs
+
+abbrev pub rest : Log → Log × Log
+rest l = (l, l)
+
+-- the four calls of a record: the log that is found, and the one that is safe
+abbrev pub logs_of_record : Log → Log → Went → Log × Log
+logs_of_record l next (Passed left) = rest next
+logs_of_record l next (Met place Fails) = if place == 3 then (next, l) else rest l
+logs_of_record l next (Met place (Stops Lost)) = rest l
+logs_of_record l next (Met place (Stops KeptAll)) = rest (if nat_le 2 place then next else l)
+logs_of_record l next (Met place (Stops Torn)) = rest (if nat_le 2 place then next else l)
+
+-- the five calls of a checkpoint: the area, the slot, a sync, the selector, a sync. A torn selector selects the second slot
+abbrev pub logs_of_checkpoint : Log → Log → Went → Log × Log
+logs_of_checkpoint l next (Passed left) = rest next
+logs_of_checkpoint l next (Met place Fails) = if place == 4 then (next, l) else rest l
+logs_of_checkpoint l next (Met place (Stops Lost)) = rest l
+logs_of_checkpoint l next (Met place (Stops KeptAll)) = rest (if nat_le 3 place then next else l)
+logs_of_checkpoint l next (Met place (Stops Torn)) = rest (if nat_le 3 place && next.second then next else l)
+
+-- a start is one sync
+abbrev pub torn_log : Log → Log → Log
+torn_log read safe = if safe.second && not read.second then safe else read
+
+abbrev pub logs_of_start : Log → Log → Went → Log × Log
+logs_of_start read safe (Passed left) = rest read
+logs_of_start read safe (Met place Fails) = (read, safe)
+logs_of_start read safe (Met place (Stops Lost)) = rest safe
+logs_of_start read safe (Met place (Stops KeptAll)) = rest read
+logs_of_start read safe (Met place (Stops Torn)) = rest (torn_log read safe)
+
+abbrev device_of : Log × Log → Went → Device
+device_of l g = record { read_log = l.0; safe_log = l.1; plan = plan_after g }
+
+-- ---- how commits and starts go
+
+-- the calls of a checkpoint, where one is due
+abbrev pub calls_before : Replica → Pending → ℕ
+calls_before r p = if is_due r.device.safe_log p.change then 5 else 0
+
+abbrev pub behind : ℕ → Went → Went
+behind n (Passed left) = Passed left
+behind n (Met place fault) = Met (place - n) fault
+
+-- how a commit goes, from the first call of its record on: one that goes wrong before is as the first
+abbrev pub commit_goes : Replica → Pending → Went
+commit_goes r p = behind (calls_before r p) (went r.device.plan (calls_before r p + 4))
+
+abbrev pub start_goes : Replica → Went
+start_goes r = went r.device.plan 1
+
+abbrev pub recorded_on : Log → Log → Option Plan → Device
+recorded_on l next plan = let g = went plan 4 in device_of (logs_of_record l next g) g
+
+abbrev pub checkpointed_on : Log → Log → Log → Went → Device
+checkpointed_on l mid next (Passed left) = recorded_on mid next left
+checkpointed_on l mid next (Met place fault) = device_of (logs_of_checkpoint l mid (Met place fault)) (Met place fault)
+
+abbrev pub device_after_commit : Replica → Pending → Device
+device_after_commit r p =
+    let l = r.device.safe_log in
+    let next = next_log l r.safe.store p.change in
+    if is_due l p.change then checkpointed_on l (log_before l r.safe.store p.change) next (went r.device.plan 5) else recorded_on l next r.device.plan
+
+abbrev pub device_after_start : Replica → Device
+device_after_start r = let g = start_goes r in device_of (logs_of_start r.device.read_log r.device.safe_log g) g
+
+-- a crash that keeps the unsynced
+abbrev pub device_settled : Replica → Device
+device_settled r = rests_at r.device.read_log

@@ -16,7 +16,7 @@ use Rattle.adr_model.specs.Change.{Item, Change, updates_written, after}
 use Rattle.adr_model.specs.LocalLog.{LocalLog, no_log, last_usn, rows_at, IsCut, IsKept, IsOrdered, IsBelow, WatermarkHolds}
 use Rattle.adr_model.specs.Serve.{Request, Reply}
 use Rattle.adr_model.specs.Given.{IsWellGiven}
-use Rattle.adr_model.specs.Lengths.{log_limit, log_end_after}
+use Rattle.adr_model.specs.Lengths.{Log, log_limit, log_version, log_after}
 use Rattle.adr_model.specs.Spelled.{SayOfTheirKeys, IsSpelledReply}
 use Rattle.adr_model.specs.Take.{is_birth}
 use Rattle.adr_model.specs.Formed.{AreRising, AreFormedRows, IsFormedStore, IsFormed, IsClosed}
@@ -218,24 +218,30 @@ pub record IsOrderlyState (w : World) (s : State) : Type 0 where
   pub formed : IsFormed s
   pub store : IsOrderlyStore s.store
 
--- what a start would find is what the kept change leaves, and the log ends behind that
+-- what a start would find is what the kept change leaves, and its log is that of the change's record
 pub record IsUnsettled (r : Replica) (p : Pending) : Type 0 where
   pub kept : r.kept ≡ Some p
   pub read : r.read ≡ after r.safe p.change
-  pub read_end : r.read_end ≡ log_end_after r.safe_end p.change
+  pub read_log : r.device.read_log ≡ log_after r.device.safe_log p.change
 
--- both states are orderly, and no log is over its limit. A controller that is up is settled, and any other is, or keeps a change
+-- a log of the version that is written, within the limit
+pub record IsOrderlyLog (l : Log) : Type 0 where
+  pub version : l.version ≡ log_version
+  pub within : l.log_end ≤ log_limit
+
+-- both states are orderly, and so are both logs. A controller that is up is settled, with one log, and any other is, or keeps a change
 pub record IsOrderlyReplica (w : World) (r : Replica) : Type 0 where
   pub safe : IsOrderlyState w r.safe
   pub read : IsOrderlyState w r.read
-  pub safe_end : r.safe_end ≤ log_limit
-  pub read_end : r.read_end ≤ log_limit
+  pub safe_log : IsOrderlyLog r.device.safe_log
+  pub read_log : IsOrderlyLog r.device.read_log
   pub up : r.standing ≡ Up → IsSettled r
+  pub up_log : r.standing ≡ Up → r.device.read_log ≡ r.device.safe_log
   pub settled : IsSettled r ⊎ ((p : Pending) × IsUnsettled r p)
 
 pub record IsOrderlySnapshot (w : World) (s : Snapshot) : Type 0 where
   pub state : IsOrderlyState w s.state
-  pub log_end : s.log_end ≤ log_limit
+  pub log : IsOrderlyLog s.log
 
 -- nothing is bound to a name twice
 abbrev pub AreBoundOnce : {A : Type 0} → List (Name × A) → Type 0

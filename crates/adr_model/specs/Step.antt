@@ -81,7 +81,7 @@ step_of_other w (events.Install name dsa image inv) =
     told (codes "install") name (of_image v (bound_at v.images image) (λ i. adopts v (λ r. v.replicas ++ r ∷ []) name (adopt i dsa inv)))
 step_of_other w (events.Snapshot name bind) =
     told_bound (codes "snapshot") name
-    (of_made (nothing w) (replica_at w name) (λ r. (w, outcomes.Ok, Some (record { state = r.read; log_end = r.read_end }))))
+    (of_made (nothing w) (replica_at w name) (λ r. (w, outcomes.Ok, Some (record { state = r.read; log = r.device.read_log }))))
     (λ v s. record v { snapshots = bound v.snapshots bind s })
 step_of_other w (events.Rollback name snapshot) =
     told (codes "rollback") name (of_made (stays w) (replica_at w name) (λ r. put_back w name (bound_at w.snapshots snapshot)))

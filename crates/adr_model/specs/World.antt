@@ -1,5 +1,5 @@
 -- Where a run stands: the time, the book, the controllers and what is bound to names; and what each call of a controller does.
-use Rattle.std.specs.Prelude.{ℕ, List, [], ◌∷◌, ◌++◌, ◌&&◌, ◌==◌, Bool, true, false, Option, Some, None, is_some, Result, Ok, Err, map, fold, length, nat_lt, if◌then◌else◌}
+use Rattle.std.specs.Prelude.{ℕ, List, [], ◌∷◌, ◌++◌, ◌&&◌, ◌==◌, Bool, true, false, Option, Some, None, is_some, Result, Ok, Err, map, fold, length, if◌then◌else◌}
 use Rattle.std.specs.List.{find, flat_map}
 use Rattle.std.specs.Option.{option_map}
 use Rattle.std.specs.Str.{bytes_eq}
@@ -7,7 +7,7 @@ use Rattle.adr_event.specs.declared.answer.Answer.{Answer}
 use Rattle.adr_event.specs.declared.answer.Outcome.{Outcome}
 use Rattle.adr_event.specs.declared.answer.Outcome.TheVariants as outcomes
 use Rattle.adr_event.specs.declared.directory.Entry.{Entry}
-use Rattle.adr_event.specs.declared.refusal.Table.TheVariants.{Log}
+use Rattle.adr_event.specs.declared.refusal.Table.TheVariants.{Log as log_table}
 use Rattle.adr_event.specs.declared.refusal.WriteRefusal.{WriteRefusal}
 use Rattle.adr_event.specs.declared.refusal.ServeRefusal.{ServeRefusal}
 use Rattle.adr_event.specs.declared.refusal.ServeRefusal.TheVariants as serves
@@ -27,8 +27,8 @@ use Rattle.adr_model.specs.Write.{Write, write}
 use Rattle.adr_model.specs.Take.{take}
 use Rattle.adr_model.specs.Collect.{quarantine}
 use Rattle.adr_model.specs.Refused.{write_refused, serve_refused, take_refused, collect_refused, upgrade_refused, adopt_refused, quarantined, full}
-use Rattle.adr_model.specs.Lengths.{log_limit, new_log_end, log_end_after}
-use Rattle.adr_model.specs.Replica.{ToWrite, ToTake, ToCollect, ToUpgrade, ToQuarantine, Pending, Standing, Up, Down, Failed, Plan, Replica, on_disk, on_new_disk, Book, begun, Move, Settle, moved, went, moves_of_commit, moves_of_start, standing_after, plan_after, outcome_after}
+use Rattle.adr_model.specs.Lengths.{Log, log_limit, new_log, area_fits, change_fits}
+use Rattle.adr_model.specs.Replica.{ToWrite, ToTake, ToCollect, ToUpgrade, ToQuarantine, Pending, Standing, Up, Down, Failed, Plan, Replica, on_disk, on_new_disk, Book, begun, Move, Settle, Device, moved, moves_of_commit, moves_of_start, standing_after, outcome_after, commit_goes, start_goes, device_after_commit, device_after_start, device_settled}
 
 abbrev pub Name : Type 0
 Name = List ℕ
@@ -38,10 +38,10 @@ pub record Given : Type 0 where
   pub dsas : List Identifier
   pub invs : List Identifier
 
--- a copy of a controller's disk: what a start finds there, and where the log ends
+-- a copy of a controller's disk: what a start finds there, and where the log stands
 pub record Snapshot : Type 0 where
   pub state : State
-  pub log_end : ℕ
+  pub log : Log
 
 -- a last reply of version 2 that was made: by which incarnation, when, and at which USN
 pub record LastReply : Type 0 where
@@ -135,24 +135,24 @@ abbrev pub unless_refused : {A E : Type 0} → World → (E → Outcome) → (A 
 unless_refused w refused act (Err refusal) = (w, refused refusal)
 unless_refused w refused act (Ok a) = act a
 
--- what is written to a log must not end beyond its limit
-abbrev pub within_log : World → ℕ → Gone → Gone
-within_log w end gone = if nat_lt log_limit end then (w, full Log log_limit) else gone
+-- what is written to a log must fit
+abbrev pub within_log : World → Bool → Gone → Gone
+within_log w fits gone = if fits then gone else (w, full log_table log_limit)
 
 -- what moves leave of a controller
-abbrev pub after_moves : World → Replica → List Move → Standing → Option Plan → Outcome → Gone
-after_moves w r moves standing plan outcome =
+abbrev pub after_moves : World → Replica → List Move → Standing → Device → Outcome → Gone
+after_moves w r moves standing device outcome =
     let m = fold moved (w.book, r) moves in
-    (record w { book = m.0; replicas = with_replica w.replicas (record m.1 { standing = standing; plan = plan }) }, outcome)
+    (record w { book = m.0; replicas = with_replica w.replicas (record m.1 { standing = standing; device = device }) }, outcome)
 
--- a change is committed by four device calls
+-- a change is committed by four device calls, behind five of a checkpoint where it is due
 abbrev pub committed : World → Replica → Pending → Outcome → Gone
 committed w r p outcome =
-    let g = went r.plan 4 in after_moves w r (moves_of_commit p g) (standing_after Failed g) (plan_after g) (outcome_after g outcome)
+    let g = commit_goes r p in after_moves w r (moves_of_commit p g) (standing_after Failed g) (device_after_commit r p) (outcome_after g outcome)
 
 -- a change that the log has room for is committed
 abbrev pub commit : World → Replica → Pending → Outcome → Gone
-commit w r p outcome = within_log w (log_end_after r.safe_end p.change) (committed w r p outcome)
+commit w r p outcome = within_log w (change_fits r.device.safe_log r.safe.store p.change) (committed w r p outcome)
 
 -- a controller that showed that it was put back is quarantined before it refuses
 abbrev pub quarantines : World → Replica → Outcome → Gone
@@ -237,7 +237,7 @@ backed_up w (Some image) = (w, outcomes.Ok, Some image)
 -- a controller begins on a new disk, with a state of a fresh identifier
 abbrev pub begins : World → (Replica → List Replica) → Name → State → Gone
 begins w placed name s =
-    within_log w (new_log_end s) (record w { book = begun w.book s; replicas = placed (on_new_disk name s) }, outcomes.Ok)
+    within_log w (area_fits (new_log s) s.store) (record w { book = begun w.book s; replicas = placed (on_new_disk name s) }, outcomes.Ok)
 
 abbrev pub adopts : World → (Replica → List Replica) → Name → Result State AdoptRefusal → Gone
 adopts w placed name t = unless_refused w adopt_refused (begins w placed name) t
@@ -249,16 +249,16 @@ of_image w (Some image) act = act image
 -- a snapshot is put back: from here on nothing is said of what controllers have in view
 abbrev pub put_back : World → Name → Option Snapshot → Gone
 put_back w name None = (w, outcomes.Absent)
-put_back w name (Some s) = (record w { clean = false; replicas = with_replica w.replicas (on_disk name s.state s.log_end) }, outcomes.Ok)
+put_back w name (Some s) = (record w { clean = false; replicas = with_replica w.replicas (on_disk name s.state s.log) }, outcomes.Ok)
 
 abbrev pub with_plan : World → Replica → Plan → Gone
-with_plan w r plan = (record w { replicas = with_replica w.replicas (record r { plan = Some plan }) }, outcomes.Ok)
+with_plan w r plan = (record w { replicas = with_replica w.replicas (record r { device = record r.device { plan = Some plan } }) }, outcomes.Ok)
 
 abbrev pub stops : World → Replica → Gone
-stops w r = after_moves w r (Settle ∷ []) Down None outcomes.Ok
+stops w r = after_moves w r (Settle ∷ []) Down (device_settled r) outcomes.Ok
 
 abbrev pub started : World → Replica → Gone
-started w r = let g = went r.plan 1 in after_moves w r (moves_of_start g) (standing_after r.standing g) (plan_after g) (outcome_after g outcomes.Ok)
+started w r = let g = start_goes r in after_moves w r (moves_of_start g) (standing_after r.standing g) (device_after_start r) (outcome_after g outcomes.Ok)
 
 abbrev pub starts : World → Replica → Standing → Gone
 starts w r Up = (w, outcomes.Up)

@@ -1,26 +1,45 @@
 //! A keeper in memory alone. It stands on the keepers of `adr_journal`, and on the bytes of logs there.
 #![tactic(auto)]
 
-ghost use Rattle.std.specs.Prelude.{◌≡◌, ◌+◌, ◌-◌, ◌≤◌, ◌∷◌, ◌++◌, take, length, vec_capacity, IfOk};
+ghost use Rattle.std.specs.Prelude.{◌≡◌, ◌+◌, ◌-◌, ◌≤◌, ◌<◌, ◌^◌, ℕ, List, [], ◌∷◌, length, vec_capacity, Some, IfOk};
+ghost use Rattle.adr_disk.specs.Disk.{put as put_over};
+ghost use Rattle.adr_wire.specs.Fields.{u64};
+ghost use Rattle.adr_model.specs.Store.{State as Defined};
+ghost use Rattle.adr_model.specs.Lengths.{Log as Logs};
 ghost use Rattle.adr_law_journal.specs.Log.{open_gate};
+ghost use Rattle.adr_law_journal.specs.Areas.{selector_place, slot_place};
+ghost use Rattle.adr_law_journal.specs.Commits.{selector_of};
+ghost use Rattle.adr_law_journal.specs.Kept.{Layout, IsSettled};
+ghost use Rattle.adr_law_journal.specs.Recording.{log_behind};
+ghost use Rattle.adr_journal.specs.Written.{TakesBoth};
 
 use adr_failure::NoMemory;
-use adr_journal::{
-    Form, Keeper, KeeperRefusal, OPEN_GATE, StartRefusal, has_room, head_with_gate, record_of,
-    replay,
-};
-use adr_state::{Change, State};
+use adr_journal::{Form, Keeper, KeeperRefusal, OPEN_GATE, StartRefusal, new_log, replay, spell};
+use adr_state::{Change, Log, State};
 use std::alloc::Global;
 use std::marker::PhantomData;
 
+/// The place of the byte that selects a slot, and of the slots.
+const SELECTOR: usize = 39;
+
+const FIRST_SLOT: usize = 40;
+
+const SECOND_SLOT: usize = 48;
+
+/// The selector that selects the second slot; every other one selects the first.
+const SELECTS_SECOND: u8 = 0xC3;
+
 /// A log in memory, for whom no disk is at hand: nothing of it is lost at a crash, and nothing outlives the program.
-/// `end` is the place behind its closed gate; `prepared` is the record that the next commit puts there.
+/// Before it is formatted or started, `log` has no bytes. The next commit puts `area` there, which has no bytes where no
+/// checkpoint is due, and `prepared`, and then the log is `next`.
 #[derive(Drop)]
 pub struct Plain<F> {
     alloc: Global,
-    log: Vec<u8>,
-    end: u64,
+    bytes: Vec<u8>,
+    log: Log,
+    area: Vec<u8>,
     prepared: Vec<u8>,
+    next: Log,
     form: PhantomData<F>,
 }
 
@@ -29,11 +48,14 @@ impl<F: Form> Plain<F> {
     pub fn new(alloc: Global) -> Plain<F>
         ensures { ⟦<Plain<F> as Keeper>⟧.is_empty result }
     {
+        let none = Log::found(false, 0, 0, 0, 0);
         Plain {
             alloc,
-            log: Vec::new(alloc),
-            end: 0,
+            bytes: Vec::new(alloc),
+            log: none,
+            area: Vec::new(alloc),
             prepared: Vec::new(alloc),
+            next: none,
             form: PhantomData,
         }
     }
@@ -49,44 +71,97 @@ fn opened(alloc: Global, written: &[u8]) -> Result<Vec<u8>, NoMemory>
     Ok(log)
 }
 
-/// Opens the gate at which a log ends, and puts a record behind it.
-fn add_record(log: &mut Vec<u8>, end: u64, written: &[u8])
-    requires some { 1 ≤ end }
-    requires within { end ≤ length log.old.items }
-    requires room { end + length written.now ≤ vec_capacity log.old }
-    ensures { log.new.items ≡ take (end - 1) log.old.items ++ open_gate ∷ written.now }
+/// Writes over what is there, and past the end.
+fn put(bytes: &mut Vec<u8>, at: usize, new: &[u8])
+    requires { length (put_over bytes.old.items at new.now) ≤ vec_capacity bytes.old }
+    ensures items { bytes.new.items ≡ put_over bytes.old.items at new.now }
+    ensures capacity { vec_capacity bytes.old ≤ vec_capacity bytes.new }
 {
-    log.truncate(end as usize - 1);
-    log.push_reserved(OPEN_GATE);
-    let Ok(()) = log.extend_from_slice(written) else {
-        unreachable!();
+    if new.len() < bytes.len().saturating_sub(at) {
+        bytes[at..at + new.len()].copy_from_slice(new);
+    } else {
+        bytes.truncate(at);
+        bytes.extend_from_slice(new).unwrap();
+    }
+}
+
+/// Puts an area at a place and the place into a slot, and selects it.
+#[tactic(auto, unfolding(adr_wire::specs::Fields::u64))]
+fn put_area(bytes: &mut Vec<u8>, place: u64, second: bool, area: &[u8])
+    requires within { place ≤ length bytes.old.items }
+    requires slots { 57 ≤ length bytes.old.items }
+    requires room { length bytes.old.items + length area.now ≤ vec_capacity bytes.old }
+    ensures items { bytes.new.items
+        ≡ put_over (put_over (put_over bytes.old.items place area.now) (slot_place second) (u64 place)) selector_place (selector_of second ∷ []) }
+    ensures long { length bytes.new.items ≤ length bytes.old.items + length area.now }
+    ensures capacity { vec_capacity bytes.old ≤ vec_capacity bytes.new }
+{
+    let (slot, selector) = if second {
+        (SECOND_SLOT, SELECTS_SECOND)
+    } else {
+        (FIRST_SLOT, 0)
     };
+    put(bytes, place as usize, area);
+    put(bytes, slot, &place.to_be_bytes());
+    put(bytes, SELECTOR, &[selector]);
+}
+
+/// Puts a record where a log ends, behind its closed gate, and opens the gate.
+fn put_record(bytes: &mut Vec<u8>, end: u64, written: &[u8])
+    requires begun { 1 ≤ end }
+    requires within { end ≤ length bytes.old.items }
+    requires room { length bytes.old.items + length written.now ≤ vec_capacity bytes.old }
+    ensures { bytes.new.items ≡ put_over (put_over bytes.old.items end written.now) (end - 1) (open_gate ∷ []) }
+{
+    put(bytes, end as usize, written);
+    put(bytes, end as usize - 1, &[OPEN_GATE]);
+}
+
+/// Puts an area, if there is one, and selects it, and then a record.
+fn put_commit(bytes: &mut Vec<u8>, area: &[u8], written: &[u8], next: Log)
+    requires takes { (l : Layout (List ℕ × List ℕ) Defined) × (s : Defined) × (t : Defined) × (log : Logs) × (mid : Logs) × (body : List ℕ)
+        × TakesBoth l (λ there. Some there) (λ there left. left ≡ there) bytes.old.items area.now next (next.log_end - length written.now) written.now s t log mid body }
+    requires begun { length written.now < next.log_end }
+    requires room { length bytes.old.items + length area.now + length written.now ≤ vec_capacity bytes.old }
+    ensures { (l : Layout (List ℕ × List ℕ) Defined) (s t : Defined) (log mid : Logs) (body : List ℕ)
+        → TakesBoth l (λ there. Some there) (λ there left. left ≡ there) bytes.old.items area.now next (next.log_end - length written.now) written.now s t log mid body
+        → IsSettled l (λ there. Some there) (λ there left. left ≡ there) bytes.new.items t (log_behind mid body) }
+{
+    let end = next.end() - written.len() as u64;
+    if area.is_empty() {
+        put_record(bytes, end, written);
+        return;
+    }
+    put_area(bytes, next.place(), next.second(), area);
+    put_record(bytes, end, written);
 }
 
 impl<F: Form> Keeper for Plain<F> {
-    ghost use Rattle.std.specs.Prelude.{◌≡◌, false, Some, [], vec_capacity};
+    ghost use Rattle.std.specs.Prelude.{◌≡◌, false, Some, [], vec_capacity, ⊤};
     ghost use Rattle.std.proofs.Common.{refl};
-    ghost use Rattle.adr_law_journal.specs.Log.{start_of};
-    ghost use Rattle.adr_plain.specs.Kept.{IsLog, IsNext};
+    ghost use Rattle.adr_law_journal.specs.Areas.{start_of};
+    ghost use Rattle.adr_plain.specs.Kept.{IsAtBytes, IsNext};
     ghost use Rattle.adr_plain.specs.Laws.{log_tells, log_leaves};
 
     ghost faults = { λ _. 0 };
 
     ghost is_failed = { λ _. false };
 
-    ghost is_empty = { λ p. p.log.items ≡ [] };
+    ghost is_empty = { λ p. p.bytes.items ≡ [] };
 
-    ghost is_at = { λ p f. IsLog F.head F.following p.log.items p.end f };
+    ghost is_at = { λ p f. IsAtBytes F.head F.area F.following p.bytes.items p.log f };
 
-    ghost is_prepared = { λ p c. IsNext (vec_capacity p.log) p.end p.prepared.items (F.body_of c) };
+    ghost is_prepared = { λ p s c. IsNext (vec_capacity p.bytes) p.bytes.items p.log p.next p.area.items p.prepared.items (F.area_of s) (F.body_of c) s c };
 
-    ghost told = { λ p. Some (start_of F.head F.following p.log.items) };
+    ghost is_within = { λ _ _ _ _. ⊤ };
 
-    ghost may_leave = { λ p t. t ≡ start_of F.head F.following p.log.items };
+    ghost told = { λ p. Some (start_of F.head F.area F.following p.bytes.items) };
+
+    ghost may_leave = { λ p t. t ≡ start_of F.head F.area F.following p.bytes.items };
 
     ghost moment = { λ _. 0 };
 
-    ghost left_since = { λ p _ t. t ≡ start_of F.head F.following p.log.items };
+    ghost left_since = { λ p _ t. t ≡ start_of F.head F.area F.following p.bytes.items };
 
     ghost can_begin = { F.can_begin };
 
@@ -94,50 +169,54 @@ impl<F: Form> Keeper for Plain<F> {
 
     ghost is_formed = { F.is_formed };
 
-    ghost tells = { λ p f at up. log_tells F.head F.following p.log.items p.end f at };
+    ghost tells = { λ p f at up. log_tells F.head F.area F.following p.bytes.items p.log f at };
 
-    ghost leaves = { λ p f t at up told left. log_leaves F.head F.following p.log.items p.end f at t left };
+    ghost leaves = { λ p f t at up told left. log_leaves F.head F.area F.following p.bytes.items p.log f at t left };
 
     ghost honest = { λ p. refl };
 
     ghost only_now = { λ p t left. left };
 
     fn format(&mut self, state: &State) -> Result<(), KeeperRefusal> {
-        let Ok(written) = head_with_gate::<F>(self.alloc, state) else {
+        let Ok((written, log)) = new_log::<F>(self.alloc, state) else {
             return Err(KeeperRefusal::NoMemory);
         };
-        let Ok(log) = opened(self.alloc, &written) else {
+        let Ok(bytes) = opened(self.alloc, &written) else {
             return Err(KeeperRefusal::NoMemory);
         };
-        self.end = log.len() as u64;
+        self.bytes = bytes;
         self.log = log;
         Ok(())
     }
 
-    fn prepare(&mut self, change: &Change) -> Result<(), KeeperRefusal> {
-        if !has_room(self.end, change) {
-            return Err(KeeperRefusal::Full);
-        }
-        let Ok(written) = record_of::<F>(self.alloc, change) else {
+    fn prepare(&mut self, state: &State, change: &Change) -> Result<(), KeeperRefusal> {
+        let spelled = match spell::<F>(self.alloc, self.log, state, change) {
+            Ok(spelled) => spelled,
+            Err(refusal) => return Err(refusal),
+        };
+        let Ok(()) = self
+            .bytes
+            .reserve(spelled.area.len() + spelled.written.len())
+        else {
             return Err(KeeperRefusal::NoMemory);
         };
-        let Ok(()) = self.log.reserve(written.len()) else {
-            return Err(KeeperRefusal::NoMemory);
-        };
-        self.prepared = written;
+        self.area = spelled.area;
+        self.prepared = spelled.written;
+        self.next = spelled.next;
         Ok(())
     }
 
     fn commit(&mut self, _change: &Change) -> Result<(), KeeperRefusal> {
-        add_record(&mut self.log, self.end, &self.prepared);
-        self.end = self.log.len() as u64;
+        put_commit(&mut self.bytes, &self.area, &self.prepared, self.next);
+        self.area = Vec::new(self.alloc);
+        self.log = self.next;
         Ok(())
     }
 
     fn start(&mut self) -> Result<State, StartRefusal> {
-        match replay::<F>(self.alloc, &self.log) {
-            Ok((state, end)) => {
-                self.end = end as u64;
+        match replay::<F>(self.alloc, &self.bytes) {
+            Ok((state, log)) => {
+                self.log = log;
                 Ok(state)
             }
             Err(refusal) => Err(refusal),

@@ -5,30 +5,28 @@ use Rattle.std.proofs.lemmas.Bool.{cases_lt, le-ltb, lt-ltb}
 use Rattle.std.proofs.lemmas.List.{drop-take, length-drop, take_all}
 use Rattle.adr_failure.specs.declared.Failure.{Failure}
 use Rattle.adr_wire.specs.declared.refusal.Malformed.{Malformed}
-use Rattle.adr_wire.specs.Reading.{Rest, Read, Reading, ◌>>=◌, Refuses, bytes_at}
-use Rattle.adr_wire.proofs.Combining.{from, guard_ok}
+use Rattle.adr_wire.specs.Reading.{Rest, Read, Reading, ◌>>=◌, Refuses}
+use Rattle.adr_wire.proofs.Combining.{from}
 use Rattle.adr_wire.proofs.Loops.{refuses_then}
 use Rattle.adr_records.specs.Head.{framed_at, within_at}
 
 -- ---- as far as the bytes are there
 
--- bytes up to where the image ends, behind the place where it begins
-window_is : (bytes : List ℕ) (len end : ℕ) → end ≡ min (43 + len) (length bytes) → 43 ≤ length bytes → drop 43 (take end bytes) ≡ take len (drop 43 bytes)
-window_is bytes len end is long =
-    ap (λ (n : ℕ). drop 43 (take n bytes)) (let whole : end ≡ 43 + (end - 43) = omega (arith, is, long) in whole) ∙ drop-take 43 (end - 43) bytes ∙ by (cases_lt (43 + len) (length bytes))
+-- bytes up to where an image ends, behind the place where it begins
+window_is : (bytes : List ℕ) (at len end : ℕ) → end ≡ min (at + len) (length bytes) → at ≤ length bytes → drop at (take end bytes) ≡ take len (drop at bytes)
+window_is bytes at len end is long =
+    ap (λ (n : ℕ). drop at (take n bytes)) (let whole : end ≡ at + (end - at) = omega (arith, is, long) in whole) ∙ drop-take at (end - at) bytes ∙ by (cases_lt (at + len) (length bytes))
   where
-    by : (43 + len < length bytes) ⊎ (length bytes ≤ 43 + len) → take (end - 43) (drop 43 bytes) ≡ take len (drop 43 bytes)
-    by (inl lt) = ap (λ (n : ℕ). take n (drop 43 bytes)) (omega (arith, is, lt))
+    by : (at + len < length bytes) ⊎ (length bytes ≤ at + len) → take (end - at) (drop at bytes) ≡ take len (drop at bytes)
+    by (inl lt) = ap (λ (n : ℕ). take n (drop at bytes)) (omega (arith, is, lt))
     by (inr le) =
-        let left = length-drop 43 bytes in
-        take_all (end - 43) (drop 43 bytes) (omega (arith, is, le, left)) ∙ sym (take_all len (drop 43 bytes) (omega (arith, le, left)))
+        let left = length-drop at bytes in
+        take_all (end - at) (drop at bytes) (omega (arith, is, le, left)) ∙ sym (take_all len (drop at bytes) (omega (arith, le, left)))
 
--- a reader of these bytes that passed over what stands in front of the image
-pub stands_there : (bytes window front : List ℕ) (len end : ℕ) (rest : Rest) → window ≡ take end bytes → end ≡ min (43 + len) (length bytes) → 43 ≤ length bytes
-    → bytes_at 43 (from 0 window) ≡ Ok (front, rest) → rest ≡ from 43 (take len (drop 43 bytes))
-stands_there bytes window front len end rest is ends long read =
-    let g = guard_ok (ltb (length window) 43) 0 (take 43 window, from 43 (drop 43 window)) (front, rest) read in
-    sym (ap (λ (p : List ℕ × Rest). p.1) g.1) ∙ ap (λ (l : List ℕ). from 43 (drop 43 l)) is ∙ ap (λ (l : List ℕ). from 43 l) (window_is bytes len end ends long)
+-- a reader from the place on of the bytes up to there
+pub stands_there : (bytes : List ℕ) (at len end : ℕ) (rest : Rest) → end ≡ min (at + len) (length bytes) → at ≤ length bytes
+    → rest ≡ from at (drop at (take end bytes)) → rest ≡ from at (take len (drop at bytes))
+stands_there bytes at len end rest ends long is = is ∙ ap (λ (l : List ℕ). from at l) (window_is bytes at len end ends long)
 
 module _ {A : Type 0} (a : Reading A) (n : ℕ) (rest : Rest) where
   abbrev Inner : Rest

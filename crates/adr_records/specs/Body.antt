@@ -1,5 +1,5 @@
 -- What a record makes of a state.
-use Rattle.std.specs.Prelude.{if◌then◌else◌, ◌&&◌, ℕ, nat_le, List, Bool, Option, Some, None}
+use Rattle.std.specs.Prelude.{if◌then◌else◌, ◌==◌, ◌&&◌, ℕ, nat_le, List, Bool, Option, Some, None}
 use Rattle.std.specs.List.{list_all}
 use Rattle.adr_model.specs.Change.{Change, Written, after}
 use Rattle.adr_model.specs.Store.{State}
@@ -17,3 +17,7 @@ by_change s (Some c) = if are_locals_within c && can_follow s c then Some (after
 -- the state after the change whose body these bytes are, under the schema of the state, where it can follow
 abbrev pub following : State → List ℕ → Option State
 following s bytes = by_change s (decoded_change s.store.usn s.store.schema bytes)
+
+-- the same, by the version of the area in which the record stands
+abbrev pub following_in : ℕ → State → List ℕ → Option State
+following_in version s bytes = if version == 1 then following s bytes else None

@@ -1,5 +1,5 @@
 -- A change that may be recorded is read from its body and follows, and what follows leads to a state of a log.
-use Rattle.std.proofs.Common.{◌≡◌, ℕ, ◌≤◌, Bool, true, false, cond, eqb, leb, List, [], ◌∷◌, ◌&&◌, length, map, Option, Some, None, refl, sym, ap, subst, ◌∙◌, arith, inl, inr}
+use Rattle.std.proofs.Common.{◌≡◌, ℕ, ◌<◌, ◌≤◌, Bool, true, false, cond, eqb, leb, List, [], ◌∷◌, ◌&&◌, length, map, Option, Some, None, refl, sym, ap, subst, ◌∙◌, arith, inl, inr}
 use Rattle.std.specs.Prelude.{is_some}
 use Rattle.std.specs.List.{AllByRecursion, list_all}
 use Rattle.std.specs.List.Sorted.{IsStrictlySortedBy}
@@ -23,7 +23,7 @@ use Rattle.adr_wire.specs.Reading.{is_above}
 use Rattle.adr_wire.specs.Spelling.{AreBytes}
 use Rattle.adr_law_lengths.specs.Written.{update_of}
 use Rattle.adr_model.specs.Change.{Change, Written, after}
-use Rattle.adr_model.specs.Lengths.{change_length}
+use Rattle.adr_model.specs.Lengths.{change_length, image_length, length_limit, log_version}
 use Rattle.adr_model.specs.LocalLog.{IsOrdered}
 use Rattle.adr_model.specs.Member.{Each, Member}
 use Rattle.adr_model.specs.Store.{State}
@@ -31,6 +31,7 @@ use Rattle.adr_model.specs.Update.{Key, RowOf, LinkOf, IsPresent, Update, key_or
 use Rattle.adr_model.specs.Spelled.{AreLocalsRising, IsContentOfAttr, IsSaidOfKey, IsSpelledChange, IsSpelledItem, IsSpelledWrite}
 use Rattle.adr_law_formed.specs.Tested.{can_follow}
 use Rattle.adr_law_formed.proofs.WholeTested.{follows_where_tested, tested_where_follows}
+use Rattle.adr_journal.specs.Kept.{ids_of}
 use Rattle.adr_image.specs.Body.{IsMarkIf, IsWrite, Write}
 use Rattle.adr_image.specs.Changes.{HasBody, change_bytes, decoded_change, item_of, written_of}
 use Rattle.adr_image.specs.Image.{Marked}
@@ -38,8 +39,8 @@ use Rattle.adr_image.proofs.Recorded.{change_again, change_long, change_only}
 use Rattle.adr_image.proofs.Staying.{stays_spelled}
 use Rattle.adr_image.proofs.Storing.{chain, less_from_test}
 use Rattle.adr_image.proofs.Taking.{less_is}
-use Rattle.adr_records.specs.Body.{are_locals_within, by_change, following}
-use Rattle.adr_records.specs.Logged.{IsLogged, MayBeRecorded}
+use Rattle.adr_records.specs.Body.{are_locals_within, by_change, following, following_in}
+use Rattle.adr_records.specs.Logged.{IsLogged, MayBegin, MayBeRecorded}
 
 -- ---- what a body in range says is of the form of a change
 
@@ -185,3 +186,29 @@ stays_logged s t body are logged follows = by (decoded_change s.store.usn s.stor
     by : (r : Option Change) → decoded_change s.store.usn s.store.schema body ≡ r → by_change s r ≡ Some t → IsLogged t
     by (Some c) says h = on c (are_locals_within c && can_follow s c) says refl h
     by None says h = absurd (cc)
+
+-- ---- by the version of an area
+
+pub body_follows_in : (s : State) (c : Change) → MayBeRecorded s c → following_in log_version s (change_bytes c) ≡ Some (after s c)
+body_follows_in s c may = body_follows s c may
+
+pub begins_anew : (s : State) (c : Change) → MayBeRecorded s c → image_length s.store < length_limit → MayBegin s
+begins_anew s c may short = record { logged = may.logged; normal = may.follows.goes_on.normal; short = short }
+
+follows_owned : (s t : State) (body : List ℕ) → following s body ≡ Some t → ids_of t ≡ ids_of s
+follows_owned s t body follows = by (decoded_change s.store.usn s.store.schema body) follows
+  where
+    on : (c : Change) (b : Bool) → cond b (Some (after s c)) None ≡ Some t → ids_of t ≡ ids_of s
+    on c true h = let is : after s c ≡ t = cc in ap ids_of (sym is)
+    on c false h = absurd (cc)
+
+    by : (r : Option Change) → by_change s r ≡ Some t → ids_of t ≡ ids_of s
+    by (Some c) h = on c (are_locals_within c && can_follow s c) h
+    by None h = absurd (cc)
+
+pub stays_owned : (version : ℕ) (s t : State) (body : List ℕ) → AreBytes body → IsLogged s → following_in version s body ≡ Some t → IsLogged t × (ids_of t ≡ ids_of s)
+stays_owned version s t body are logged follows = by (eqb version 1) follows
+  where
+    by : (b : Bool) → cond b (following s body) None ≡ Some t → IsLogged t × (ids_of t ≡ ids_of s)
+    by true h = (stays_logged s t body are logged h, follows_owned s t body h)
+    by false h = absurd (cc)

@@ -1,33 +1,30 @@
--- The head of a log: whose it is, and the image of its state.
+-- The front of a log, which says whose it is, and an area, which has the image of a state.
 use Rattle.std.specs.Prelude.{if◌then◌else◌, ◌==◌, ℕ, ◌+◌, List, [], ◌∷◌, ◌++◌, length, take, drop, nat_lt, Ok, Err}
 use Rattle.adr_vector.specs.Vector.{at}
 use Rattle.adr_wire.specs.Reading.{Reading, ◌>>=◌, as_at, then_at, where_at}
 use Rattle.adr_wire.specs.Fields.{format_version_at, id_at, magic_at, u32_at, u16, u32, id}
 use Rattle.adr_model.specs.Update.{Identifier}
 use Rattle.adr_model.specs.Store.{Normal, State, Store}
+use Rattle.adr_law_journal.specs.Areas.{Began}
 use Rattle.adr_image.specs.Stored.{image, image_at}
-use Rattle.adr_records.specs.declared.head.Owner.{Owner}
+
+-- ---- whose log it is: the controller and its database
 
 -- `ADJL`
 abbrev pub magic : List ℕ
 magic = 65 ∷ 68 ∷ 74 ∷ 76 ∷ []
 
--- ---- whose log it is: the controller, its database, and how long the image of that is
-
-abbrev pub owner_of : Identifier × (Identifier × ℕ) → Owner
-owner_of p = record { dsa = p.0; inv = p.1.0; len = p.1.1 }
-
-unfoldable pub owner_at : Reading Owner
-owner_at =
-    as_at (λ p. owner_of p.1.1)
+unfoldable pub front_at : Reading (Identifier × Identifier)
+front_at =
+    as_at (λ p. p.1.1)
     (then_at (magic_at magic) (λ _.
-    then_at (format_version_at 1) (λ _.
-    then_at id_at (λ _. then_at id_at (λ _. u32_at)))))
+    then_at (format_version_at 2) (λ _.
+    then_at id_at (λ _. id_at))))
 
-abbrev pub owner : Owner → List ℕ
-owner o = magic ++ (u16 1 ++ (id o.dsa ++ (id o.inv ++ u32 o.len)))
+abbrev pub front : Identifier × Identifier → List ℕ
+front o = magic ++ (u16 2 ++ (id o.0 ++ id o.1))
 
--- ---- its image
+-- ---- an image of so many bytes
 
 -- what so many bytes are as a whole, as far as they are there
 unfoldable pub within_at : {X : Type 0} → Reading X → ℕ → Reading X
@@ -43,19 +40,25 @@ framed_at read n rest =
     else Ok (x.0, record { place = rest.place + n; bytes = drop n rest.bytes })
 
 -- an image whose own cursor is its USN
-unfoldable pub own_image_at : Owner → Reading Store
-own_image_at o = where_at (λ (s : Store). at s.vector o.inv == s.usn) (framed_at image_at o.len)
+unfoldable pub own_image_at : Identifier → ℕ → Reading Store
+own_image_at inv n = where_at (λ (s : Store). at s.vector inv == s.usn) (framed_at image_at n)
 
--- ---- the whole
+-- ---- an area: its version, how many bytes its image has, and the image
 
-abbrev pub state_of : Owner → Store → State
-state_of o s = record { dsa = o.dsa; inv = o.inv; mode = Normal; store = s }
+unfoldable pub sized_at : Reading (ℕ × ℕ)
+sized_at = then_at (format_version_at 1) (λ _. u32_at)
 
-unfoldable pub head_at : Reading State
-head_at = as_at (λ p. state_of p.0 p.1) (then_at owner_at own_image_at)
+abbrev pub sized : ℕ × ℕ → List ℕ
+sized p = u16 p.0 ++ u32 p.1
 
-abbrev pub owner_in : State → Owner
-owner_in s = record { dsa = s.dsa; inv = s.inv; len = length (image s.store) }
+abbrev pub state_of : Identifier × Identifier → Store → State
+state_of o s = record { dsa = o.0; inv = o.1; mode = Normal; store = s }
 
-abbrev pub head : State → List ℕ
-head s = owner (owner_in s) ++ image s.store
+abbrev pub began : ℕ → State → Began State
+began version s = record { version = version; state = s }
+
+unfoldable pub area_at : Identifier × Identifier → Reading (Began State)
+area_at o = as_at (λ p. began p.0.0 (state_of o p.1)) (then_at sized_at (λ p. own_image_at o.1 p.1))
+
+abbrev pub area : State → List ℕ
+area s = sized (1, length (image s.store)) ++ image s.store

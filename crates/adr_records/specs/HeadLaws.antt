@@ -1,5 +1,5 @@
--- The head of a log is spelled in one way, and is as long as is counted.
-use Rattle.std.proofs.Common.{◌≡◌, ℕ, ◌+◌, ◌<◌, Bool, true, false, cond, eqb, ltb, List, [], ◌++◌, length, take, drop, Ok, Err, refl, sym, ap, subst, ◌∙◌, arith, append-nil}
+-- The front of a log and an area are spelled in one way, and an area is as long as is counted.
+use Rattle.std.proofs.Common.{◌≡◌, ℕ, ◌+◌, ◌≤◌, ◌<◌, Bool, true, false, cond, eqb, ltb, List, [], ◌++◌, length, take, drop, Ok, Err, refl, sym, ap, subst, ◌∙◌, arith, append-nil}
 use Rattle.std.proofs.lemmas.Bool.{eq-eqb, eqb-true, le-ltb, ltb-false}
 use Rattle.std.proofs.lemmas.List.{take_at, drop_at, take-append-drop, length-append, length-take, nil_from_length}
 use Rattle.adr_vector.specs.Vector.{at}
@@ -7,20 +7,20 @@ use Rattle.adr_wire.specs.Fields.{format_version_at, id_at, magic_at, u32_at, u1
 use Rattle.adr_wire.specs.Ranges.{IsId, IsU32}
 use Rattle.adr_wire.specs.Reading.{Rest, Read, Reading, ◌>>=◌, then_at}
 use Rattle.adr_wire.specs.Spelling.{AreBytes, behind, Was, IsSpelling}
-use Rattle.adr_wire.proofs.Combining.{as_they_are, bind_ok, both, from, guard_ok, made, pair, passed, spelled_bytes}
+use Rattle.adr_wire.proofs.Combining.{as_they_are, bind_ok, both, from, guard_ok, made, ok_is, pair, passed, spelled_bytes}
 use Rattle.adr_wire.proofs.FieldLaws.{format_version_spelled, id_spelled, magic_spelled, u32_spelled}
 use Rattle.adr_model.specs.Formed.{IsFormedStore}
-use Rattle.adr_model.specs.Lengths.{new_log_end}
-use Rattle.adr_model.specs.Store.{Held, Mode, State, Store}
+use Rattle.adr_model.specs.Lengths.{image_length, log_version}
+use Rattle.adr_model.specs.Store.{Held, Mode, Normal, State, Store}
 use Rattle.adr_model.specs.Update.{Identifier}
 use Rattle.adr_model.proofs.Members.{mapped_member}
 use Rattle.adr_law_formed.specs.Follow.{HasKnownClasses}
+use Rattle.adr_law_journal.specs.Areas.{Began, IsHead, TellsArea, WasArea}
 use Rattle.adr_image.specs.Stored.{IsSpelled, image, image_at}
 use Rattle.adr_image.proofs.Counted.{store_long}
 use Rattle.adr_image.proofs.Placed.{image_spelled}
-use Rattle.adr_records.specs.Head.{framed_at, head, head_at, magic, own_image_at, owner, owner_at, owner_in, owner_of, state_of, within_at}
-use Rattle.adr_records.specs.Logged.{MayBegin}
-use Rattle.adr_records.specs.declared.head.Owner.{Owner}
+use Rattle.adr_records.specs.Head.{area, area_at, began, framed_at, front, front_at, magic, own_image_at, sized, sized_at, state_of, within_at}
+use Rattle.adr_records.specs.Logged.{IsLogged, MayBegin}
 
 -- ---- what stands in so many bytes
 
@@ -79,106 +79,209 @@ module _ {A : Type 0} (P : A → Type 0) (s : A → List ℕ) (a : Reading A) (l
 
 -- ---- whose log it is
 
-abbrev Ids : Type 0
-Ids = Identifier × (Identifier × ℕ)
+abbrev pub Ids : Type 0
+Ids = Identifier × Identifier
 
-abbrev AreIds : Ids → Type 0
-AreIds p = IsId p.0 × (IsId p.1.0 × IsU32 p.1.1)
+abbrev pub AreIds : Ids → Type 0
+AreIds o = IsId o.0 × IsId o.1
 
 abbrev ids : Ids → List ℕ
-ids p = id p.0 ++ (id p.1.0 ++ u32 p.1.1)
+ids o = id o.0 ++ id o.1
 
 abbrev ids_at : Reading Ids
-ids_at = then_at id_at (λ _. then_at id_at (λ _. u32_at))
+ids_at = then_at id_at (λ _. id_at)
 
 ids_spelled : IsSpelling AreIds ids ids_at
-ids_spelled = pair IsId id id_at id_spelled (λ p. IsId p.0 × IsU32 p.1) (λ p. id p.0 ++ u32 p.1) (then_at id_at (λ _. u32_at)) (pair IsId id id_at id_spelled IsU32 u32 u32_at u32_spelled)
+ids_spelled = pair IsId id id_at id_spelled IsId id id_at id_spelled
 
 abbrev Whole : Type 0
 Whole = List ℕ × (ℕ × Ids)
 
 abbrev IsWhole : Whole → Type 0
-IsWhole p = (p.0 ≡ magic) × ((p.1.0 ≡ 1) × AreIds p.1.1)
+IsWhole p = (p.0 ≡ magic) × ((p.1.0 ≡ 2) × AreIds p.1.1)
 
 abbrev whole : Whole → List ℕ
 whole p = p.0 ++ (u16 p.1.0 ++ ids p.1.1)
 
+abbrev versioned_at : Reading (ℕ × Ids)
+versioned_at = then_at (format_version_at 2) (λ _. ids_at)
+
 abbrev whole_at : Reading Whole
-whole_at = then_at (magic_at magic) (λ _. then_at (format_version_at 1) (λ _. ids_at))
+whole_at = then_at (magic_at magic) (λ _. versioned_at)
 
 whole_spelled : IsSpelling IsWhole whole whole_at
 whole_spelled =
-    pair (λ m. m ≡ magic) as_they_are (magic_at magic) (magic_spelled magic refl) (λ p. (p.0 ≡ 1) × AreIds p.1) (λ p. u16 p.0 ++ ids p.1) (then_at (format_version_at 1) (λ _. ids_at))
-    (pair (λ v. v ≡ 1) u16 (format_version_at 1) (format_version_spelled 1 (omega arith)) AreIds ids ids_at ids_spelled)
+    pair (λ m. m ≡ magic) as_they_are (magic_at magic) (magic_spelled magic refl) (λ p. (p.0 ≡ 2) × AreIds p.1) (λ p. u16 p.0 ++ ids p.1) versioned_at
+    (pair (λ v. v ≡ 2) u16 (format_version_at 2) (format_version_spelled 2 (omega arith)) AreIds ids ids_at ids_spelled)
 
-abbrev pub IsOwner : Owner → Type 0
-IsOwner o = IsId o.dsa × (IsId o.inv × IsU32 o.len)
-
-pub owner_spelled : IsSpelling IsOwner owner owner_at
-unfolding owner_at
-owner_spelled =
-    made IsWhole whole whole_at whole_spelled (λ p. owner_of p.1.1) IsOwner owner
-    (λ o q. ((magic, (1, (o.dsa, (o.inv, o.len)))), refl, (refl, (refl, q)), refl))
+pub front_spelled : IsSpelling AreIds front front_at
+unfolding front_at
+front_spelled =
+    made IsWhole whole whole_at whole_spelled (λ p. p.1.1) AreIds front
+    (λ o q. ((magic, (2, o)), refl, (refl, (refl, q)), refl))
     (λ p q fits. (
       q.1.1,
-      ap (λ (m : List ℕ). m ++ (u16 1 ++ ids p.1.1)) (sym q.0) ∙ ap (λ (v : ℕ). p.0 ++ (u16 v ++ ids p.1.1)) (sym q.1.0),
+      ap (λ (m : List ℕ). m ++ (u16 2 ++ ids p.1.1)) (sym q.0) ∙ ap (λ (v : ℕ). p.0 ++ (u16 v ++ ids p.1.1)) (sym q.1.0),
     ))
 
-pub owner_long : (o : Owner) → IsOwner o → length (owner o) ≡ 42
-unfolding u16 u32
-owner_long o q = simp length-append (omega (arith, q.0, q.1.0))
+pub front_long : (o : Ids) → AreIds o → length (front o) ≡ 38
+unfolding u16
+front_long o q = simp length-append (omega (arith, q.0, q.1))
 
--- ---- the whole head
+pub front_told : (o : Ids) → AreIds o → IsHead front_at (front o) o
+front_told o q = record { long = front_long o q; tells = λ rest. front_spelled.again 1 o rest q }
+
+pub front_read : (bytes : List ℕ) (o : Ids) (rest : Rest) → AreBytes bytes → front_at (from 1 bytes) ≡ Ok (o, rest) → IsHead front_at (take 38 bytes) o × (rest ≡ from 39 (drop 38 bytes))
+front_read bytes o rest are read =
+    let was = front_spelled.only 1 bytes o rest are read in
+    let long = front_long o was.in_range in
+    let here : take 38 bytes ≡ front o = ap (take 38) was.spelled_so ∙ take_at (front o) rest.bytes 38 long in
+    let left : rest.bytes ≡ drop 38 bytes = sym (drop_at (front o) rest.bytes 38 long) ∙ ap (drop 38) (sym was.spelled_so) in
+    let place : rest.place ≡ 39 = omega (arith, was.moved, long) in (
+      subst (λ (l : List ℕ). IsHead front_at l o) (sym here) (front_told o was.in_range),
+      ap (λ (n : ℕ). from n rest.bytes) place ∙ ap (λ (l : List ℕ). from 39 l) left,
+    )
+
+-- identifiers that were read have sixteen bytes
+module _ {A B : Type 0} (P : A → Type 0) (Q : B → Type 0) (a : Reading A) (b : A → Reading B) where
+  gives_both : ((rest : Rest) (x : A) (r : Rest) → a rest ≡ Ok (x, r) → P x) → ((x : A) (rest : Rest) (y : B) (r : Rest) → b x rest ≡ Ok (y, r) → Q y)
+      → (rest : Rest) (p : A × B) (r : Rest) → then_at a b rest ≡ Ok (p, r) → P p.0 × Q p.1
+  gives_both f g rest p r e =
+      let first = bind_ok (a rest) (λ u. b u.0 u.1 >>= λ v. Ok ((u.0, v.0), v.1)) (p, r) e in
+      let second = bind_ok (b first.0.0 first.0.1) (λ v. Ok ((first.0.0, v.0), v.1)) (p, r) first.2 in
+      subst (λ (z : (A × B) × Rest). P z.0.0 × Q z.0.1) (ok_is ((first.0.0, second.0.0), second.0.1) (p, r) second.2)
+      (f rest first.0.0 first.0.1 first.1, g first.0.0 first.0.1 second.0.0 second.0.1 second.1)
+
+id_read : (rest : Rest) (x : List ℕ) (r : Rest) → id_at rest ≡ Ok (x, r) → IsId x
+unfolding id_at
+id_read rest x r e =
+    let g = guard_ok (ltb (length rest.bytes) 16) rest.place (take 16 rest.bytes, from (rest.place + 16) (drop 16 rest.bytes)) (x, r) e in
+    let is = ap (λ (p : List ℕ × Rest). length p.0) g.1 in
+    omega (arith, is, length-take 16 rest.bytes, ltb-false (length rest.bytes) 16 g.0)
+
+ids_read : (rest : Rest) (o : Ids) (r : Rest) → front_at rest ≡ Ok (o, r) → AreIds o
+unfolding front_at
+ids_read rest o r e =
+    let b = bind_ok (whole_at rest) (λ z. Ok (z.0.1.1, z.1)) (o, r) e in
+    let all =
+    gives_both (λ _. Unit {0}) (λ (p : ℕ × Ids). Unit {0} × AreIds p.1) (magic_at magic) (λ _. versioned_at) (λ _ _ _ _. tt)
+    (λ _. gives_both (λ _. Unit {0}) AreIds (format_version_at 2) (λ _. ids_at) (λ _ _ _ _. tt) (λ _. gives_both IsId IsId id_at (λ _. id_at) id_read (λ _. id_read)))
+    rest b.0.0 b.0.1 b.1 in
+    subst (λ (z : Ids × Rest). AreIds z.0) (ok_is (b.0.0.1.1, b.0.1) (o, r) b.2) all.1.1
+
+head_ids : (l : List ℕ) (o : Ids) → IsHead front_at l o → AreIds o
+head_ids l o head = ids_read (from 1 (l ++ [])) o (behind 1 l []) (head.tells [])
+
+-- ---- the image of an area
 
 abbrev pub IsRight : Store → Type 0
 IsRight s = IsFormedStore s × IsSpelled s
 
-abbrev pub is_own : Owner → Store → Bool
-is_own o s = eqb (at s.vector o.inv) s.usn
+abbrev pub is_own : Identifier → Store → Bool
+is_own inv s = eqb (at s.vector inv) s.usn
 
-abbrev pub IsOwn : Owner → Store → Type 0
-IsOwn o s = (IsRight s × (length (image s) ≡ o.len)) × (is_own o s ≡ true)
+abbrev pub IsOwn : Identifier → ℕ → Store → Type 0
+IsOwn inv n s = (IsRight s × (length (image s) ≡ n)) × (is_own inv s ≡ true)
 
-pub own_spelled : (o : Owner) → IsSpelling (IsOwn o) image (own_image_at o)
+pub own_spelled : (inv : Identifier) (n : ℕ) → IsSpelling (IsOwn inv n) image (own_image_at inv n)
 unfolding own_image_at
-own_spelled o = passed (λ s. IsRight s × (length (image s) ≡ o.len)) image (framed_at image_at o.len) (framed IsRight image image_at image_spelled o.len) (is_own o)
+own_spelled inv n = passed (λ s. IsRight s × (length (image s) ≡ n)) image (framed_at image_at n) (framed IsRight image image_at image_spelled n) (is_own inv)
 
 pub classes_known : (s : State) → IsSpelled s.store → HasKnownClasses s
 classes_known s q u m class said =
     let h = mapped_member (λ (h : Held). h.update) s.store.rows u m in
     q.classes h.0 h.1 class (ap (λ w. w.said) (sym h.2) ∙ said)
 
-pub head_spelled : IsSpelling MayBegin head head_at
-unfolding head_at
-head_spelled =
-    made (λ (p : Owner × Store). IsOwner p.0 × IsOwn p.0 p.1) (λ p. owner p.0 ++ image p.1) (then_at owner_at own_image_at)
-    (both IsOwner owner owner_at owner_spelled IsOwn (λ o s. image s) own_image_at (λ o q. own_spelled o))
-    (λ p. state_of p.0 p.1) MayBegin head
-    (λ s q. (
-      (owner_in s, s.store),
-      ap (λ (m : Mode). let t : State = record { dsa = s.dsa; inv = s.inv; mode = m; store = s.store } in t) q.normal,
-      (
-        (q.logged.dsa, (q.logged.inv, subst (λ (n : ℕ). n < 4294967296) (sym (store_long s.store q.logged.formed.store q.logged.spelled)) q.short)),
-        (((q.logged.formed.store, q.logged.spelled), refl), eq-eqb (at s.store.vector s.inv) s.store.usn q.logged.formed.own),
-      ),
+-- ---- the whole area
+
+abbrev pub IsSized : ℕ × ℕ → Type 0
+IsSized p = (p.0 ≡ 1) × IsU32 p.1
+
+pub sized_spelled : IsSpelling IsSized sized sized_at
+unfolding sized_at
+sized_spelled = pair (λ v. v ≡ 1) u16 (format_version_at 1) (format_version_spelled 1 (omega arith)) IsU32 u32 u32_at u32_spelled
+
+pub sized_long : (p : ℕ × ℕ) → length (sized p) ≡ 6
+unfolding u16 u32
+sized_long p = simp length-append (omega arith)
+
+-- what an area begins with in a log of these identifiers
+pub record IsBegun (o : Ids) (b : Began State) : Type 0 where
+  pub version : b.version ≡ 1
+  pub owner : (b.state.dsa, b.state.inv) ≡ o
+  pub normal : b.state.mode ≡ Normal
+  pub own : IsOwn o.1 (length (image b.state.store)) b.state.store
+  pub short : IsU32 (length (image b.state.store))
+
+abbrev area_in : Began State → List ℕ
+area_in b = area b.state
+
+pub area_spelled : (o : Ids) → IsSpelling (IsBegun o) area_in (area_at o)
+unfolding area_at
+area_spelled o =
+    made (λ (p : (ℕ × ℕ) × Store). IsSized p.0 × IsOwn o.1 p.0.1 p.1) (λ p. sized p.0 ++ image p.1) (then_at sized_at (λ p. own_image_at o.1 p.1))
+    (both IsSized sized sized_at sized_spelled (λ p s. IsOwn o.1 p.1 s) (λ p s. image s) (λ p. own_image_at o.1 p.1) (λ p q. own_spelled o.1 p.1))
+    (λ p. began p.0.0 (state_of o p.1)) (IsBegun o) area_in
+    (λ b q. (
+      ((1, length (image b.state.store)), b.state.store),
+      ap (λ (v : ℕ). began v b.state) q.version
+          ∙ ap (λ (m : Mode). began 1 (record { dsa = b.state.dsa; inv = b.state.inv; mode = m; store = b.state.store })) q.normal
+          ∙ ap (λ (p : Ids). began 1 (state_of p b.state.store)) q.owner,
+      ((refl, q.short), q.own),
       refl,
     ))
     (λ p q fits. (
       record {
-        logged = record {
-          dsa = q.0.0;
-          inv = q.0.1.0;
-          formed = record { store = q.1.0.0.0; own = eqb-true (at p.1.vector p.0.inv) p.1.usn q.1.1 };
-          spelled = q.1.0.0.1;
-          classes = classes_known (state_of p.0 p.1) q.1.0.0.1;
-        };
+        version = q.0.0;
+        owner = refl;
         normal = refl;
-        short = subst (λ (n : ℕ). n < 4294967296) (sym q.1.0.1 ∙ store_long p.1 q.1.0.0.0 q.1.0.0.1) q.0.1.1;
+        own = ((q.1.0.0, refl), q.1.1);
+        short = subst IsU32 (sym q.1.0.1) q.0.1;
       },
-      ap (λ (n : ℕ). owner (record { dsa = p.0.dsa; inv = p.0.inv; len = n }) ++ image p.1) q.1.0.1,
+      ap (λ (n : ℕ). sized (1, n) ++ image p.1) q.1.0.1 ∙ ap (λ (v : ℕ). sized (v, p.0.1) ++ image p.1) (sym q.0.0),
     ))
 
-pub head_long : (s : State) → MayBegin s → length (head s) + 2 ≡ new_log_end s
-head_long s begins =
-    let o : IsOwner (owner_in s) = (begins.logged.dsa, (begins.logged.inv, subst (λ (n : ℕ). n < 4294967296) (sym (store_long s.store begins.logged.formed.store begins.logged.spelled)) begins.short)) in
-    omega (arith, length-append (owner (owner_in s)) (image s.store), owner_long (owner_in s) o, store_long s.store begins.logged.formed.store begins.logged.spelled)
+begins_begun : (s : State) → MayBegin s → IsBegun (s.dsa, s.inv) (began 1 s)
+begins_begun s begins = record {
+  version = refl;
+  owner = refl;
+  normal = begins.normal;
+  own = (((begins.logged.formed.store, begins.logged.spelled), refl), eq-eqb (at s.store.vector s.inv) s.store.usn begins.logged.formed.own);
+  short = subst (λ (n : ℕ). n < 4294967296) (sym (store_long s.store begins.logged.formed.store begins.logged.spelled)) begins.short;
+}
+
+begun_logged : (o : Ids) (b : Began State) → AreIds o → IsBegun o b → IsLogged b.state
+begun_logged o b are q = record {
+  dsa = subst (λ (p : Ids). IsId p.0) (sym q.owner) are.0;
+  inv = subst (λ (p : Ids). IsId p.1) (sym q.owner) are.1;
+  formed = record {
+    store = q.own.0.0.0;
+    own = eqb-true (at b.state.store.vector b.state.inv) b.state.store.usn (subst (λ (p : Ids). is_own p.1 b.state.store ≡ true) (sym q.owner) q.own.1);
+  };
+  spelled = q.own.0.0.1;
+  classes = classes_known b.state q.own.0.0.1;
+}
+
+pub area_told : (place : ℕ) (s : State) → MayBegin s → TellsArea (area_at (s.dsa, s.inv)) place (area s) log_version s
+area_told place s begins rest = (area_spelled (s.dsa, s.inv)).again place (began 1 s) rest (begins_begun s begins)
+
+pub area_long : (s : State) → IsLogged s → length (area s) ≡ 6 + image_length s.store
+area_long s logged =
+    let front = sized_long (1, length (image s.store)) in
+    omega (arith, length-append (sized (1, length (image s.store))) (image s.store), front, store_long s.store logged.formed.store logged.spelled)
+
+pub area_read : (place : ℕ) (o : Ids) (bytes : List ℕ) (b : Began State) (rest : Rest) → AreBytes bytes → area_at o (from place bytes) ≡ Ok (b, rest) → WasArea (area_at o) place bytes b rest
+area_read place o bytes b rest are read =
+    let was = (area_spelled o).only place bytes b rest are read in
+    record {
+      read = area b.state;
+      parts = was.spelled_so;
+      moved = was.moved;
+      tells = λ after. (area_spelled o).again place b after was.in_range;
+    }
+
+pub area_formed : (place : ℕ) (l : List ℕ) (o : Ids) (bytes : List ℕ) (b : Began State) (rest : Rest) → IsHead front_at l o → AreBytes bytes → area_at o (from place bytes) ≡ Ok (b, rest)
+    → IsLogged b.state × ((b.state.dsa, b.state.inv) ≡ o) × (b.version ≤ log_version)
+area_formed place l o bytes b rest head are read =
+    let was = (area_spelled o).only place bytes b rest are read in
+    (begun_logged o b (head_ids l o head) was.in_range, was.in_range.owner, (let v = was.in_range.version in omega (arith, v)))

@@ -2,9 +2,10 @@
 
 ghost use Rattle.std.specs.Prelude.{◌≡◌, None, Some, OnOk, OnErr, IsErrOf};
 ghost use Rattle.adr_image.specs.Changes.{HasBody};
-ghost use Rattle.adr_records.specs.Body.{are_locals_within, by_change, following};
+ghost use Rattle.adr_records.specs.Body.{are_locals_within, by_change, following, following_in};
 ghost use Rattle.adr_records.specs.Logged.{IsLogged};
 
+use crate::head::AREA_VERSION;
 use adr_failure::Failure;
 use adr_follow::can_follow;
 use adr_image::decode_change;
@@ -44,7 +45,7 @@ fn apply_read(alloc: Global, state: &mut State, change: &Change) -> Result<(), F
 }
 
 /// Takes a record of this body.
-pub(crate) fn follow(alloc: Global, state: &mut State, body: &[u8]) -> Result<(), FollowRefusal>
+fn follow_body(alloc: Global, state: &mut State, body: &[u8]) -> Result<(), FollowRefusal>
     requires { IsLogged state.old }
     ensures ok { OnOk result (following state.old body.now ≡ Some state.new) }
     ensures refused { IsErrOf result FollowRefusal.CannotFollow → following state.old body.now ≡ None }
@@ -59,4 +60,22 @@ pub(crate) fn follow(alloc: Global, state: &mut State, body: &[u8]) -> Result<()
         Ok(None) => Err(FollowRefusal::CannotFollow),
         Err(_) => Err(FollowRefusal::NoMemory),
     }
+}
+
+/// Takes a record of this body in an area of this version.
+pub(crate) fn follow(
+    alloc: Global,
+    version: u16,
+    state: &mut State,
+    body: &[u8],
+) -> Result<(), FollowRefusal>
+    requires { IsLogged state.old }
+    ensures ok { OnOk result (following_in version state.old body.now ≡ Some state.new) }
+    ensures refused { IsErrOf result FollowRefusal.CannotFollow → following_in version state.old body.now ≡ None }
+    ensures err { OnErr result (state.new ≡ state.old) }
+{
+    if version != AREA_VERSION {
+        return Err(FollowRefusal::CannotFollow);
+    }
+    follow_body(alloc, state, body)
 }

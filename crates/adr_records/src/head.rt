@@ -1,64 +1,72 @@
-//! The head of a log is written and read.
+//! The front of a log and its areas are written and read.
 
-ghost use Rattle.std.specs.Prelude.{◌≡◌, ◌+◌, ◌≤◌, ◌<◌, ◌++◌, Ok, IfOk, IfErr, OnOk, length, drop};
-ghost use Rattle.adr_wire.specs.Reading.{Gives, Refuses, Rest, Tells};
+ghost use Rattle.std.specs.Prelude.{◌≡◌, ◌+◌, ◌≤◌, ◌<◌, ◌^◌, ◌++◌, Ok, IfOk, IfErr, IfSome, OnOk, is_some, length, drop, nat_lt};
+ghost use Rattle.adr_wire.specs.Reading.{Gives, Refuses, Rest, Tells, TellsAs};
+ghost use Rattle.adr_model.specs.Lengths.{image_length, length_limit};
 ghost use Rattle.adr_image.specs.Stored.{image_at};
 ghost use Rattle.adr_records.specs.Head as form;
 ghost use Rattle.adr_records.specs.HeadLaws.{IsOwn};
-ghost use Rattle.adr_records.specs.Logged.{MayBegin};
+ghost use Rattle.adr_records.specs.Logged.{IsLogged};
 
 use crate::contents::image_of;
 use crate::waking::wake;
 use adr_failure::{Failure, NoMemory};
 use adr_guid::Guid;
 use adr_image::{Contents, read_image};
+use adr_journal::{AreaRead, Owner};
 use adr_state::State;
 use adr_wire::{Malformed, Reader, WireRefusal, Writer};
 use std::alloc::{AllocError, Global};
 
-/// The bytes with which the head of a log begins.
+/// The bytes with which a log begins behind its first gate.
 const MAGIC: [u8; 4] = [65, 68, 74, 76];
 
 /// The version of the logs that are read and written.
-const VERSION: u16 = 1;
+const VERSION: u16 = 2;
 
-/// Where the image begins.
-const IMAGE_PLACE: usize = 43;
+/// The version of the areas that are read and written, and of their records.
+pub(crate) const AREA_VERSION: u16 = 1;
 
-/// Whose log it is: the controller's identifier, that of its database, and how many bytes the image has.
-#[derive(Clone, Copy)]
-pub struct Owner {
-    pub dsa: Guid,
-    pub inv: Guid,
-    pub len: u32,
-}
+/// How many bytes of an area stand in front of its image: its version, and how many bytes the image has.
+const IMAGE_OFFSET: usize = 6;
 
-/// Writes whose log it is.
-fn write_owner(writer: &mut Writer, owner: &Owner) -> Result<(), NoMemory>
-    ensures { OnOk result (writer.new ≡ writer.old ++ form.owner owner.now) }
+/// The front of a state's log.
+pub(crate) fn write_front(alloc: Global, state: &State) -> Result<Vec<u8>, NoMemory>
+    ensures { IfOk result (λ bytes. bytes.items ≡ form.front (state.now.dsa, state.now.inv)) }
 {
+    let mut writer = Writer::new(alloc);
     writer.write_bytes(&MAGIC)?;
     writer.write_u16(&VERSION)?;
-    writer.write_id(&owner.dsa)?;
-    writer.write_id(&owner.inv)?;
-    writer.write_u32(&owner.len)
+    writer.write_id(&state.dsa())?;
+    writer.write_id(&state.inv())?;
+    Ok(writer.into_bytes())
 }
 
-/// The head of a log that begins with this state.
-pub(crate) fn write_head(alloc: Global, state: &State) -> Result<Vec<u8>, NoMemory>
-    requires { MayBegin state.now }
-    ensures { IfOk result (λ bytes. bytes.items ≡ form.head state.now) }
+/// An area of an image.
+fn area_of(alloc: Global, image: &[u8]) -> Result<Vec<u8>, NoMemory>
+    requires { length image.now < 2 ^ 32 }
+    ensures { IfOk result (λ bytes. bytes.items ≡ form.sized (1, length image.now) ++ image.now) }
+{
+    let mut writer = Writer::new(alloc);
+    writer.write_u16(&AREA_VERSION)?;
+    writer.write_u32(&(image.len() as u32))?;
+    writer.write_bytes(image)?;
+    Ok(writer.into_bytes())
+}
+
+/// A new area of a state without its closed gate, if a length of four bytes can say how long its image is.
+pub(crate) fn write_area(alloc: Global, state: &State) -> Result<Option<Vec<u8>>, NoMemory>
+    requires { IsLogged state.now }
+    ensures bytes { IfOk result (λ area. IfSome area (λ bytes. bytes.items ≡ form.area state.now)) }
+    ensures long { IfOk result (λ area. IfSome area (λ bytes.
+        length bytes.items ≡ 6 + image_length state.now.store)) }
+    ensures fits { IfOk result (λ area. is_some area ≡ nat_lt (image_length state.now.store) length_limit) }
 {
     let image = image_of(alloc, state)?;
-    let owner = Owner {
-        dsa: state.dsa(),
-        inv: state.inv(),
-        len: image.len() as u32,
-    };
-    let mut writer = Writer::new(alloc);
-    write_owner(&mut writer, &owner)?;
-    writer.write_bytes(&image)?;
-    Ok(writer.into_bytes())
+    if image.len() > u32::MAX as usize {
+        return Ok(None);
+    }
+    Ok(Some(area_of(alloc, &image)?))
 }
 
 fn malformed(place: usize) -> WireRefusal
@@ -70,56 +78,74 @@ fn malformed(place: usize) -> WireRefusal
 }
 
 /// Whose log it is.
-#[tactic(auto, unfolding(crate::specs::Head::owner_at))]
+#[tactic(auto, unfolding(crate::specs::Head::front_at))]
 fn read_owner(reader: &mut Reader<'_>) -> Result<Owner, WireRefusal>
-    ensures { Tells result reader.new (form.owner_at reader.old) }
+    ensures { TellsAs (λ o. (o.dsa, o.inv)) result reader.new (form.front_at reader.old) }
 {
     reader.read_magic(&MAGIC)?;
     reader.read_format_version(VERSION)?;
     let dsa = reader.read_id()?;
     let inv = reader.read_id()?;
-    let len = reader.read_u32()?;
-    Ok(Owner { dsa, inv, len })
+    Ok(Owner { dsa, inv })
 }
 
 /// Whose log it is, from a file's bytes; the gate at its first byte isn't looked at.
-fn read_owner_of(bytes: &[u8]) -> Result<Owner, WireRefusal>
-    ensures owner { Tells result (record { place = 43; bytes = drop 43 bytes.now })
-        (form.owner_at (record { place = 1; bytes = drop 1 bytes.now })) }
-    ensures long { OnOk result (43 ≤ length bytes.now) }
+pub(crate) fn read_front(bytes: &[u8]) -> Result<Owner, WireRefusal>
+    ensures ok { IfOk result (λ o. form.front_at (record { place = 1; bytes = drop 1 bytes.now })
+        ≡ Ok ((o.dsa, o.inv), record { place = 39; bytes = drop 39 bytes.now })) }
+    ensures err { IfErr result (λ e. Refuses e (form.front_at (record { place = 1; bytes = drop 1 bytes.now }))) }
 {
     if bytes.is_empty() {
         return Err(malformed(1));
     }
-    let mut reader = Reader::new(bytes);
-    reader.take::<1>()?;
+    let mut reader = Reader::at(bytes, 1);
     read_owner(&mut reader)
 }
 
-/// What the image in a file says which has so many bytes, as far as they are there.
-fn read_there(alloc: Global, bytes: &[u8], len: u32) -> Result<Contents, WireRefusal>
-    requires { 43 ≤ length bytes.now }
-    ensures read { IfOk result (λ contents. (r : Rest)
-        × (form.within_at image_at len (record { place = 43; bytes = drop 43 bytes.now }) ≡ Ok (contents, r))) }
-    ensures refused { IfErr result (λ e.
-        Refuses e (form.within_at image_at len (record { place = 43; bytes = drop 43 bytes.now }))) }
+/// The version of the area at a place, and how many bytes its image has.
+#[tactic(auto, unfolding(crate::specs::Head::sized_at))]
+fn read_sized(reader: &mut Reader<'_>) -> Result<(u16, u32), WireRefusal>
+    ensures { Tells result reader.new (form.sized_at reader.old) }
 {
-    let end = IMAGE_PLACE + len as usize;
-    let mut reader = Reader::new(&bytes[..end.min(bytes.len())]);
-    reader.take::<IMAGE_PLACE>()?;
+    let version = reader.read_format_version(AREA_VERSION)?;
+    let len = reader.read_u32()?;
+    Ok((version, len))
+}
+
+/// The version of the area at a place of a file, and how many bytes its image has.
+fn read_sized_of(bytes: &[u8], place: usize) -> Result<(u16, u32), WireRefusal>
+    requires { place ≤ length bytes.now }
+    ensures sized { Tells result (record { place = place + 6; bytes = drop (place + 6) bytes.now })
+        (form.sized_at (record { place = place; bytes = drop place bytes.now })) }
+    ensures long { OnOk result (place + 6 ≤ length bytes.now) }
+{
+    let mut reader = Reader::at(bytes, place);
+    read_sized(&mut reader)
+}
+
+/// What the image at a place of a file says which has so many bytes, as far as they are there.
+fn read_there(alloc: Global, bytes: &[u8], place: usize, len: u32) -> Result<Contents, WireRefusal>
+    requires { place ≤ length bytes.now }
+    ensures read { IfOk result (λ contents. (r : Rest)
+        × (form.within_at image_at len (record { place = place; bytes = drop place bytes.now }) ≡ Ok (contents, r))) }
+    ensures refused { IfErr result (λ e.
+        Refuses e (form.within_at image_at len (record { place = place; bytes = drop place bytes.now }))) }
+{
+    let end = (place + len as usize).min(bytes.len());
+    let mut reader = Reader::at(&bytes[..end], place);
     let contents = read_image(&mut reader, alloc)?;
     reader.end()?;
     Ok(contents)
 }
 
-/// What the image in a file says, which has so many bytes.
-fn read_framed(alloc: Global, bytes: &[u8], len: u32) -> Result<Contents, WireRefusal>
-    requires { 43 ≤ length bytes.now }
-    ensures { Gives result (record { place = 43 + len; bytes = drop (43 + len) bytes.now })
-        (form.framed_at image_at len (record { place = 43; bytes = drop 43 bytes.now })) }
+/// What the image at a place of a file says, which has so many bytes.
+fn read_framed(alloc: Global, bytes: &[u8], place: usize, len: u32) -> Result<Contents, WireRefusal>
+    requires { place ≤ length bytes.now }
+    ensures { Gives result (record { place = place + len; bytes = drop (place + len) bytes.now })
+        (form.framed_at image_at len (record { place = place; bytes = drop place bytes.now })) }
 {
-    let contents = read_there(alloc, bytes, len)?;
-    if bytes.len() < IMAGE_PLACE + len as usize {
+    let contents = read_there(alloc, bytes, place, len)?;
+    if bytes.len() < place + len as usize {
         drop(contents);
         return Err(malformed(bytes.len()));
     }
@@ -127,23 +153,29 @@ fn read_framed(alloc: Global, bytes: &[u8], len: u32) -> Result<Contents, WireRe
 }
 
 /// What the image in a log says, whose own cursor is its update sequence number.
-fn read_own(alloc: Global, bytes: &[u8], owner: &Owner) -> Result<Contents, WireRefusal>
-    requires { 43 ≤ length bytes.now }
-    ensures { Gives result (record { place = 43 + owner.now.len; bytes = drop (43 + owner.now.len) bytes.now })
-        (form.own_image_at owner.now (record { place = 43; bytes = drop 43 bytes.now })) }
+fn read_own(
+    alloc: Global,
+    bytes: &[u8],
+    place: usize,
+    len: u32,
+    inv: Guid,
+) -> Result<Contents, WireRefusal>
+    requires { place ≤ length bytes.now }
+    ensures { Gives result (record { place = place + len; bytes = drop (place + len) bytes.now })
+        (form.own_image_at inv len (record { place = place; bytes = drop place bytes.now })) }
 {
-    let contents = read_framed(alloc, bytes, owner.len)?;
-    if contents.vector.at(owner.inv) != contents.usn {
+    let contents = read_framed(alloc, bytes, place, len)?;
+    if contents.vector.at(inv) != contents.usn {
         drop(contents);
-        return Err(malformed(IMAGE_PLACE));
+        return Err(malformed(place));
     }
     Ok(contents)
 }
 
-/// A controller of a log's owner and of what its image says.
-fn woken(alloc: Global, contents: &Contents, owner: &Owner) -> Result<State, NoMemory>
-    requires { IsOwn owner.now contents.now }
-    ensures { IfOk result (λ state. state ≡ form.state_of owner.now contents.now) }
+/// A controller of a log's owner and of what an image of so many bytes says.
+fn woken(alloc: Global, contents: &Contents, owner: Owner, len: u32) -> Result<State, NoMemory>
+    requires { IsOwn owner.inv len contents.now }
+    ensures { IfOk result (λ state. state ≡ form.state_of (owner.dsa, owner.inv) contents.now) }
 {
     match wake(alloc, contents, owner.dsa, owner.inv) {
         Ok(state) => Ok(state),
@@ -152,15 +184,29 @@ fn woken(alloc: Global, contents: &Contents, owner: &Owner) -> Result<State, NoM
     }
 }
 
-/// Reads the head of a log, and tells the place behind it. The gate in front of it isn't looked at.
-pub(crate) fn read_head(alloc: Global, bytes: &[u8]) -> Result<(State, usize), WireRefusal>
-    ensures ok { IfOk result (λ r. form.head_at (record { place = 1; bytes = drop 1 bytes.now })
-        ≡ Ok (r.0, record { place = r.1; bytes = drop r.1 bytes.now })) }
-    ensures err { IfErr result (λ e. Refuses e (form.head_at (record { place = 1; bytes = drop 1 bytes.now }))) }
+/// Reads the area at a place, in bytes, of a log of this owner.
+pub(crate) fn read_area(
+    alloc: Global,
+    bytes: &[u8],
+    place: usize,
+    owner: Owner,
+) -> Result<AreaRead, WireRefusal>
+    requires { place ≤ length bytes.now }
+    ensures ok { IfOk result (λ r.
+        form.area_at (owner.dsa, owner.inv) (record { place = place; bytes = drop place bytes.now })
+        ≡ Ok (record { version = r.version; state = r.state }, record { place = r.first; bytes = drop r.first bytes.now })) }
+    ensures err { IfErr result (λ e.
+        Refuses e (form.area_at (owner.dsa, owner.inv) (record { place = place; bytes = drop place bytes.now }))) }
 {
-    let owner = read_owner_of(bytes)?;
-    let contents = read_own(alloc, bytes, &owner)?;
-    let state = woken(alloc, &contents, &owner);
+    let sized = read_sized_of(bytes, place)?;
+    let (version, len) = sized;
+    let image = place + IMAGE_OFFSET;
+    let contents = read_own(alloc, bytes, image, len, owner.inv)?;
+    let state = woken(alloc, &contents, owner, len);
     drop(contents);
-    Ok((state?, IMAGE_PLACE + owner.len as usize))
+    Ok(AreaRead {
+        state: state?,
+        first: image + len as usize,
+        version,
+    })
 }

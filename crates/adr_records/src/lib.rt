@@ -1,8 +1,10 @@
-//! The bytes of a controller's log: the head with the image of a state, and the body of each record with a change.
+//! The bytes of a controller's log: the front that says whose it is, areas with the image of a state, and the body of each
+//! record with a change.
 //!
 //! This crate ties the images and bodies of `adr_image` to the journals of `adr_journal`, and makes a controller of what an
-//! image says. What a log begins with and what its records say is read again as it was written, each state of a log is
-//! formed, and a record is refused that can't follow the state before it. It knows nothing of disks and gates.
+//! image says. What an area begins with and what its records say is read again as it was written, each state of a log is
+//! formed, and a record is refused that can't follow the state before it. It knows nothing of disks, gates and of where
+//! areas stand.
 #![tactic(auto)]
 
 mod contents;

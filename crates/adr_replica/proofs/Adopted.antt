@@ -1,10 +1,9 @@
 -- What comes of an image that is adopted.
-use Rattle.std.proofs.Common.{◌≡◌, ◌∙◌, sym, ap, ℕ, ◌≤◌, false, Option, Some, None, Ok, nat_lt, if◌then◌else◌, arith}
-use Rattle.std.proofs.lemmas.Bool.Decides.{nat_tests}
+use Rattle.std.proofs.Common.{◌≡◌, ◌∙◌, sym, ap, true, Option, Some, None, Ok, if◌then◌else◌}
 use Rattle.adr_event.specs.declared.answer.Outcome.TheVariants as outcomes
 use Rattle.adr_event.specs.declared.refusal.Table.TheVariants.{Log}
 use Rattle.adr_model.specs.Collect.{adopt, woken}
-use Rattle.adr_model.specs.Lengths.{log_limit, new_log_end}
+use Rattle.adr_model.specs.Lengths.{log_limit, new_log, area_fits}
 use Rattle.adr_model.specs.Refused.{full}
 use Rattle.adr_model.specs.Refusing.{unless}
 use Rattle.adr_model.specs.Replica.{Replica, Up, begun, on_new_disk}
@@ -12,10 +11,6 @@ use Rattle.adr_model.specs.Store.{State, Store}
 use Rattle.adr_model.specs.Update.{Identifier}
 use Rattle.adr_model.specs.World.{Gone, Name, adopts}
 use Rattle.adr_replica.specs.Led.{Adopts}
-
--- a new disk has room for the log
-pub at_most : (limit end : ℕ) → nat_lt limit end ≡ false → end ≤ limit
-at_most limit end within = grind (arith, nat_tests)
 
 -- ---- an adoption
 
@@ -25,10 +20,10 @@ adopted_ok (Some refusal) x s is = absurd (cc is)
 
 module _ (name : Name) (image : Store) (dsa inv : Identifier) where
   module _ (s : State) (is : adopt image dsa inv ≡ Ok s) where
-    pub adopts_so : (made : Replica) → nat_lt log_limit (new_log_end s) ≡ false → made ≡ on_new_disk name s → Adopts name (adopt image dsa inv) made
-    adopts_so made within same w placed =
+    pub adopts_so : (made : Replica) → area_fits (new_log s) s.store ≡ true → made ≡ on_new_disk name s → Adopts name (adopt image dsa inv) made
+    adopts_so made fits same w placed =
         let gone : Replica → Gone = λ m. (record w { book = begun w.book m.safe; replicas = placed m }, outcomes.Ok) in
-        ap (adopts w placed name) is ∙ ap (λ b. if b then (w, full Log log_limit) else gone (on_new_disk name s)) within ∙ ap gone (sym same)
+        ap (adopts w placed name) is ∙ ap (λ b. if b then gone (on_new_disk name s) else (w, full Log log_limit)) fits ∙ ap gone (sym same)
 
     pub made_up : (made : Replica) → made ≡ on_new_disk name s → (made.name ≡ name) × (made.standing ≡ Up) × (made.safe.dsa ≡ dsa) × (made.safe.inv ≡ inv)
     made_up made same =

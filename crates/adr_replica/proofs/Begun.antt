@@ -4,9 +4,9 @@ use Rattle.std.specs.Prelude.{IfOk, IfSome, IfErr, OnOk, OnErr, MatchOption, is_
 use Rattle.adr_event.specs.declared.answer.Outcome.TheVariants as outcomes
 use Rattle.adr_model.specs.Update.{Identifier}
 use Rattle.adr_model.specs.Store.{State}
-use Rattle.adr_model.specs.Replica.{Replica, Pending, Plan, Went, Passed, Met, Stops, Fails, went, moves_of_start, standing_after, Standing, Up, Failed}
+use Rattle.adr_model.specs.Replica.{Replica, Pending, Plan, Went, Passed, Met, Stops, Fails, moves_of_start, start_goes, standing_after, Standing, Up, Failed}
 use Rattle.adr_model.specs.World.{World, starts}
-use Rattle.adr_law_journal.specs.Log.{Started}
+use Rattle.adr_law_journal.specs.Areas.{Started}
 use Rattle.adr_law_journal.specs.Replicas.{Has, started}
 use Rattle.adr_journal.specs.Ended.{ended_start, IsDamageOf}
 use Rattle.adr_journal.specs.Planned.{Same, StartsAs}
@@ -75,7 +75,7 @@ module _ {K : Type 0} (k : Ghosts K) (read safe torn : K → Started State) (pla
   r = seen read safe plan name old kept
 
   abbrev begun : Ahead
-  begun = ahead_of past r (moves_of_start (went r.plan 1))
+  begun = ahead_of past r (moves_of_start (start_goes r))
 
   -- the same, had it failed
   abbrev failed : Replica
@@ -103,8 +103,8 @@ module _ {K : Type 0} (k : Ghosts K) (read safe torn : K → Started State) (pla
         → IfErr made (λ e. IsDamageOf e (k.told revived.keeper)) → k.starts revived.keeper (ended_start made) mid.keeper → LeftBy made
     came (Ok x) ok err damaged ran =
         let goes : StartsAs (Has read safe torn plan) has_stopped None r (started past.book r) mid.keeper = law.starts revived.keeper mid.keeper None past.book r runs has ran in
-        let up : Up ≡ standing_after r.standing (went r.plan 1) = goes.1 in
-        let again = up_again (went r.plan 1) r.standing (restarts.not_up read safe torn plan has_stopped name dsa old kept held past none) up in
+        let up : Up ≡ standing_after r.standing (start_goes r) = goes.1 in
+        let again = up_again (start_goes r) r.standing (restarts.not_up read safe torn plan has_stopped name dsa old kept held past none) up in
         record {
           held = restarts.started_held read safe torn plan has_stopped name dsa old kept held past none mid ok.state ok.in_memory ok.up goes.0 up again goes.2;
           passed = λ y is. restarts.started_leads read safe torn plan has_stopped name dsa old kept held past none mid ok.state ok.in_memory ok.up goes.0 up again goes.2;
@@ -148,7 +148,7 @@ module _ {K : Type 0} (k : Ghosts K) (read safe torn : K → Started State) (pla
 
     -- the same, told of what the controller is seen as, and of what the start left
     pub begins_so : (v : Replica) (past_then : Past) (kept_then : Option Pending) (made : Result T StartRefusal) (how : Option Hindrance) (new : Running K) (x : Option Pending) (later : Past) → r ≡ v
-        → past_then ≡ (ahead_of past v (moves_of_start (went v.plan 1))).past → kept_then ≡ (ahead_of past v (moves_of_start (went v.plan 1))).kept
+        → past_then ≡ (ahead_of past v (moves_of_start (start_goes v))).past → kept_then ≡ (ahead_of past v (moves_of_start (start_goes v))).kept
         → how ≡ hindrance_of_start (ended_start made) → new ≡ left_by has_stopped how mid → x ≡ come how kept kept_then → later ≡ come how past past_then
         → OnOk made (IsStarted k revived.keeper mid) → OnErr made ((mid.state ≡ None) × (mid.down ≡ revived.down))
         → IfErr made (λ e. IsDamageOf e (k.told revived.keeper)) → k.starts revived.keeper (ended_start made) mid.keeper
@@ -157,9 +157,9 @@ module _ {K : Type 0} (k : Ghosts K) (read safe torn : K → Started State) (pla
         let said = hindrance_of_start (ended_start made) in
         let Told : Replica → Running K → Option Pending → Past → Type 0 = λ v n y l. Begins (IsHeld read safe torn plan has_stopped name dsa n y) v (seen read safe plan name n y) past l made (has_stopped n.keeper) in
         let kept_is : x ≡ come said kept begun.kept =
-        keeps ∙ ap (λ h. come h kept kept_then) hinders ∙ ap (come said kept) (aheadk ∙ ap (λ (v : Replica). (ahead_of past v (moves_of_start (went v.plan 1))).kept) (sym is)) in
+        keeps ∙ ap (λ h. come h kept kept_then) hinders ∙ ap (come said kept) (aheadk ∙ ap (λ (v : Replica). (ahead_of past v (moves_of_start (start_goes v))).kept) (sym is)) in
         let past_is : later ≡ come said past begun.past =
-        comes ∙ ap (λ h. come h past past_then) hinders ∙ ap (come said past) (aheadp ∙ ap (λ (v : Replica). (ahead_of past v (moves_of_start (went v.plan 1))).past) (sym is)) in
+        comes ∙ ap (λ h. come h past past_then) hinders ∙ ap (come said past) (aheadp ∙ ap (λ (v : Replica). (ahead_of past v (moves_of_start (start_goes v))).past) (sym is)) in
         let new_is : new ≡ left_by has_stopped said mid = newly ∙ ap (λ h. left_by has_stopped h mid) hinders in
         subst (λ v. Told v new x later) is
         (subst (λ n. Told r n x later) (sym new_is)
@@ -178,7 +178,7 @@ pub begins_to : {K : Type 0} {k : Ghosts K} {read safe torn : K → Started Stat
     {kept kept_then x : Option Pending} {v : Replica} {ahead later : Past} {how : Option Hindrance} {T : Type 0}
     → (held : IsHeld read safe torn plan has_stopped name dsa old kept) → IsInOrder k old → GoesAsPlanned k read safe torn plan has_stopped → (past : Past) → old.state ≡ None
     → plan revived.keeper ≡ plan old.keeper → Same read safe torn k.is_failed old.keeper revived.keeper → has_stopped revived.keeper ≡ false → revived ≡ record old { keeper = revived.keeper }
-    → seen read safe plan name old kept ≡ v → ahead ≡ (ahead_of past v (moves_of_start (went v.plan 1))).past → kept_then ≡ (ahead_of past v (moves_of_start (went v.plan 1))).kept
+    → seen read safe plan name old kept ≡ v → ahead ≡ (ahead_of past v (moves_of_start (start_goes v))).past → kept_then ≡ (ahead_of past v (moves_of_start (start_goes v))).kept
     → (mid : Running K) (made : Result T StartRefusal) → how ≡ hindrance_of_start (ended_start made) → new ≡ left_by has_stopped how mid → x ≡ come how kept kept_then → later ≡ come how past ahead
     → OnOk made (IsStarted k revived.keeper mid) → OnErr made ((mid.state ≡ None) × (mid.down ≡ revived.down))
     → IfErr made (λ e. IsDamageOf e (k.told revived.keeper)) → k.starts revived.keeper (ended_start made) mid.keeper → BeginsTo held v past made new x later

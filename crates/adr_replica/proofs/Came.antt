@@ -1,7 +1,6 @@
 -- What a call of a controller leaves that commits at most one change, and what it is answered.
-use Rattle.std.proofs.Common.{◌≡◌, ◌⊎◌, inl, inr, ⊎_elim, ◌∙◌, refl, sym, ap, subst, ℕ, ◌≤◌, ◌<◌, List, Bool, true, false, Option, Some, None, nat_lt, fold, if◌then◌else◌, arith}
+use Rattle.std.proofs.Common.{◌≡◌, ◌⊎◌, inl, inr, ⊎_elim, ◌∙◌, refl, sym, ap, subst, ℕ, List, Bool, true, false, Option, Some, None, fold, if◌then◌else◌}
 use Rattle.std.specs.Option.{option_map}
-use Rattle.std.proofs.lemmas.Bool.Decides.{nat_tests}
 use Rattle.adr_io.specs.declared.Fault.TheVariants.{Failed as failed_call}
 use Rattle.adr_event.specs.declared.answer.Outcome.{Outcome}
 use Rattle.adr_event.specs.declared.answer.Outcome.TheVariants as outcomes
@@ -9,12 +8,12 @@ use Rattle.adr_event.specs.declared.refusal.Table.TheVariants.{Log}
 use Rattle.adr_model.specs.Update.{Identifier}
 use Rattle.adr_model.specs.Store.{State}
 use Rattle.adr_model.specs.Change.{Change}
-use Rattle.adr_model.specs.Lengths.{log_limit, log_end_after}
+use Rattle.adr_model.specs.Lengths.{log_limit, change_fits}
 use Rattle.adr_model.specs.Refused.{full}
-use Rattle.adr_model.specs.Replica.{Replica, Pending, Plan, Book, moved, went, moves_of_commit, outcome_after, Up, Down as stands_down, Failed as stands_failed}
+use Rattle.adr_model.specs.Replica.{Replica, Pending, Plan, Book, moved, moves_of_commit, commit_goes, outcome_after, Up, Down as stands_down, Failed as stands_failed}
 use Rattle.adr_model.specs.World.{World, Gone, Sent, commit, stays, nothing, not_sent, where_up, with_replica}
 use Rattle.adr_model.specs.World.{committed as committed_in}
-use Rattle.adr_law_journal.specs.Log.{Found, found, Started}
+use Rattle.adr_law_journal.specs.Areas.{Found, found, Started}
 use Rattle.adr_law_journal.specs.Replicas.{Has, read_found, safe_found, committed, standing_of}
 use Rattle.adr_journal.specs.declared.keeper.Keeper.{Ghosts}
 use Rattle.adr_controller.specs.Running.{Running, IsInOrder}
@@ -38,27 +37,21 @@ same_world w r q past later stands is same =
     ap (λ b. record w { book = b }) stands.book ∙ ap (λ rs. record w { book = past.book; replicas = rs }) (sym stands.there)
     ∙ ap (λ x. record w { book = past.book; replicas = with_replica w.replicas x }) (sym is) ∙ ap (λ (p : Past). record w { book = p.book; replicas = with_replica w.replicas q }) (sym same)
 
--- a commit that the log has room for
-room_so : (end limit : ℕ) → end ≤ limit → nat_lt limit end ≡ false
-room_so end limit within = grind (arith, nat_tests)
-
-beyond_so : (end limit : ℕ) → limit < end → nat_lt limit end ≡ true
-beyond_so end limit beyond = grind (arith, nat_tests)
-
+-- a commit that the log has room for, and one that it hasn't
 module _ (w : World) (r q : Replica) (past later : Past) (p : Pending) (o told : Outcome) where
-  pub commit_made : StandsIn w r past → log_end_after r.safe_end p.change ≤ log_limit → q ≡ committed past.book r p → later ≡ (after_commit past r (Some p)).past
-      → outcome_after (went r.plan 4) o ≡ told → commit w r p o ≡ (world_with w q later, told)
-  commit_made stands within is comes tells =
-      let g = went r.plan 4 in
+  pub commit_made : StandsIn w r past → change_fits r.device.safe_log r.safe.store p.change ≡ true → q ≡ committed past.book r p → later ≡ (after_commit past r (Some p)).past
+      → outcome_after (commit_goes r p) o ≡ told → commit w r p o ≡ (world_with w q later, told)
+  commit_made stands fits is comes tells =
+      let g = commit_goes r p in
       let gone : Book → Replica → Outcome → Gone = λ b x t. (record w { book = b; replicas = with_replica w.replicas x }, t) in
       let book_of : Book → Book = λ b. (fold moved (b, r) (moves_of_commit p g)).0 in
-      ap (λ x. if x then (w, full Log log_limit) else committed_in w r p o) (room_so (log_end_after r.safe_end p.change) log_limit within)
+      ap (λ x. if x then committed_in w r p o else (w, full Log log_limit)) fits
       ∙ ap (λ b. gone (book_of b) (committed b r p) (outcome_after g o)) stands.book ∙ ap (λ t. gone (book_of past.book) (committed past.book r p) t) tells
       ∙ ap (λ x. gone (book_of past.book) x told) (sym is) ∙ ap (λ (x : Past). gone x.book q told) (sym comes)
 
-  pub commit_full : StandsIn w r past → log_limit < log_end_after r.safe_end p.change → q ≡ r → later ≡ past → commit w r p o ≡ (world_with w q later, full Log log_limit)
+  pub commit_full : StandsIn w r past → change_fits r.device.safe_log r.safe.store p.change ≡ false → q ≡ r → later ≡ past → commit w r p o ≡ (world_with w q later, full Log log_limit)
   commit_full stands beyond is same =
-      ap (λ x. if x then (w, full Log log_limit) else committed_in w r p o) (beyond_so (log_end_after r.safe_end p.change) log_limit beyond)
+      ap (λ x. if x then committed_in w r p o else (w, full Log log_limit)) beyond
       ∙ ap (λ x. let gone : Gone = (x, full Log log_limit) in gone) (same_world w r q past later stands is same)
 
 -- ---- what a call came to
@@ -134,7 +127,7 @@ module _ {K : Type 0} (k : Ghosts K) (read safe torn : K → Started State) (pla
   pub at_rest : (s : State) → old.state ≡ Some s → AtRest
   at_rest s is =
       let up = order.up s is in
-      let f = found s up.0.log_end in
+      let f = found s up.0.log in
       let three = law.keeps old.keeper f up.0.at up.0.running in
       let reads : read_found r ≡ f = ap found_or_none three.0 in
       let safes : safe_found r ≡ f = ap found_or_none three.1 in
@@ -196,10 +189,10 @@ module _ {K : Type 0} (k : Ghosts K) (read safe torn : K → Started State) (pla
       past_ahead = ap (λ o. (after_commit past r o).past) of
 
       dsas : (left.read.dsa ≡ dsa) × (left.safe.dsa ≡ dsa)
-      dsas = same_dsa (moves_of_commit p (went r.plan 4)) past.book r dsa held.reads held.keeps
+      dsas = same_dsa (moves_of_commit p (commit_goes r p)) past.book r dsa held.reads held.keeps
 
       named : name ≡ left.name
-      named = sym (same_name (moves_of_commit p (went r.plan 4)) past.book r)
+      named = sym (same_name (moves_of_commit p (commit_goes r p)) past.book r)
 
       done_so : Calls k changes old mid None → CameBy None
       done_so calls =
@@ -209,12 +202,12 @@ module _ {K : Type 0} (k : Ghosts K) (read safe torn : K → Started State) (pla
           let is = seen_so read safe torn plan name mid ahead.kept left g.0 named stands kept_ahead in
           record {
             held = held_so read safe torn plan has_stopped name dsa mid ahead.kept left is g.0
-                (λ s there. (g.2, kept_ahead ∙ none_kept (went r.plan 4) past.book r p g.1)) held.is_id dsas.0 dsas.1;
+                (λ s there. (g.2, kept_ahead ∙ none_kept (commit_goes r p) past.book r p g.1)) held.is_id dsas.0 dsas.1;
             given = ap (λ (x : Past). x.given) past_ahead;
             was_up = λ _. (rest.up, rest.in_memory);
             idle = λ _ none. absurd (cc (of, none));
             done = λ _ x ofx w o stands. subst (λ y. commit w r y o ≡ (world_with w (seen read safe plan name mid ahead.kept) ahead.past, o)) (some_same p x (sym of ∙ ofx))
-                (commit_made w r (seen read safe plan name mid ahead.kept) past ahead.past p o o stands (commits.within (inl refl) r.safe_end rest.at) is past_ahead (up_answers (went r.plan 4) o g.1));
+                (commit_made w r (seen read safe plan name mid ahead.kept) past ahead.past p o o stands (commits.within (inl refl) r.device.safe_log rest.at) is past_ahead (up_answers (commit_goes r p) o g.1));
             hinders = λ h none. absurd (cc none);
             wanted = λ h none. absurd (cc none);
           }
@@ -237,8 +230,8 @@ module _ {K : Type 0} (k : Ghosts K) (read safe torn : K → Started State) (pla
             hinders = λ h ish told tells.
                 let tells_it : hindered_so DiskFault (has_stopped new.keeper) ≡ Some told = ap (λ x. hindered_so x (has_stopped new.keeper)) (some_same DiskFault h ish) ∙ tells in
                 Ended p rest.up of
-                (λ w o stands. commit_made w r (seen read safe plan name new ahead.kept) past ahead.past p o told stands (commits.within (inr refl) r.safe_end rest.at) is past_ahead
-                (fault_answers (went r.plan 4) o stopped g.1 ∙ ap of_fault (ap has_stopped (downed_keeper stopped mid)) ∙ some_same (of_fault (has_stopped new.keeper)) told tells_it));
+                (λ w o stands. commit_made w r (seen read safe plan name new ahead.kept) past ahead.past p o told stands (commits.within (inr refl) r.device.safe_log rest.at) is past_ahead
+                (fault_answers (commit_goes r p) o stopped g.1 ∙ ap of_fault (ap has_stopped (downed_keeper stopped mid)) ∙ some_same (of_fault (has_stopped new.keeper)) told tells_it));
             wanted = λ h ish wants. absurd (⊎_elim (λ (f : h ≡ Full). let no : ⊥ = cc (ish, f) in no) (λ (f : h ≡ NoMemory). let no : ⊥ = cc (ish, f) in no) wants);
           }
 
@@ -255,7 +248,7 @@ module _ {K : Type 0} (k : Ghosts K) (read safe torn : K → Started State) (pla
             hinders = λ h ish told tells.
                 let tells_it : hindered_so Full (has_stopped mid.keeper) ≡ Some told = ap (λ x. hindered_so x (has_stopped mid.keeper)) (some_same Full h ish) ∙ tells in
                 Ended p rest.up of
-                (λ w o stands. commit_full w r (seen read safe plan name mid kept) past past p o o stands (commits.beyond refl r.safe_end rest.at) (still_seen mid kept is refl) refl
+                (λ w o stands. commit_full w r (seen read safe plan name mid kept) past past p o o stands (commits.beyond refl r.device.safe_log rest.at) (still_seen mid kept is refl) refl
                 ∙ ap (λ t. (world_with w (seen read safe plan name mid kept) past, t)) (some_same (full Log log_limit) told tells_it));
             wanted = λ h ish wants. (still_seen mid kept is refl, refl);
           }

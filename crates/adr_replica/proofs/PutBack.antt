@@ -5,7 +5,7 @@ use Rattle.adr_model.specs.Update.{Identifier}
 use Rattle.adr_model.specs.Store.{State}
 use Rattle.adr_model.specs.Replica.{Replica, Pending, Plan, Book, on_disk}
 use Rattle.adr_model.specs.World.{Snapshot}
-use Rattle.adr_law_journal.specs.Log.{Started}
+use Rattle.adr_law_journal.specs.Areas.{Started}
 use Rattle.adr_law_journal.specs.Replicas.{Has, read_found, started}
 use Rattle.adr_journal.specs.Planned.{StartsAs}
 use Rattle.adr_journal.specs.declared.keeper.Keeper.{Ghosts}
@@ -13,7 +13,7 @@ use Rattle.adr_controller.specs.Running.{Running, IsStarted}
 use Rattle.adr_replica.specs.Planned.{GoesAsPlanned}
 use Rattle.adr_replica.specs.Held.{found_or_none, standing_by, seen, IsHeld}
 use Rattle.adr_replica.specs.Put.{IsWhole, aside, found_on}
-use Rattle.adr_replica.proofs.Seen.{seen_so, held_so}
+use Rattle.adr_replica.proofs.Seen.{seen_so, held_so, torn_at_rest}
 
 -- bytes of which a start finds what is read of a keeper
 module _ {K : Type 0} (read safe torn : K → Started State) (plan : K → Option Plan) (has_stopped : K → Bool) (name : List ℕ) (dsa : Identifier) (c : Running K) (kept : Option Pending)
@@ -33,10 +33,10 @@ module _ {K : Type 0} (read safe torn : K → Started State) (plan : K → Optio
   pub aside_dsa : dsa ≡ (aside bytes).state.dsa
   aside_dsa = sym (ap (λ t. (found_or_none t).state.dsa) finds ∙ held.reads)
 
-  pub aside_so : (v : Replica) → r ≡ v → aside bytes ≡ record { state = v.read; log_end = v.read_end }
+  pub aside_so : (v : Replica) → r ≡ v → aside bytes ≡ record { state = v.read; log = v.device.read_log }
   aside_so v is =
-      ap (λ t. let f = found_or_none t in let s : Snapshot = record { state = f.state; log_end = f.log_end } in s) finds
-      ∙ ap (λ (r : Replica). let s : Snapshot = record { state = r.read; log_end = r.read_end } in s) is
+      ap (λ t. let f = found_or_none t in let s : Snapshot = record { state = f.state; log = f.log } in s) finds
+      ∙ ap (λ (r : Replica). let s : Snapshot = record { state = r.read; log = r.device.read_log } in s) is
 
 -- a disk with such bytes, which has started
 module _ {K : Type 0} (k : Ghosts K) (read safe torn : K → Started State) (plan : K → Option Plan) (has_stopped : K → Bool) (name : List ℕ) (dsa : Identifier) (c : Running K) (kept : Option Pending)
@@ -45,13 +45,13 @@ module _ {K : Type 0} (k : Ghosts K) (read safe torn : K → Started State) (pla
     (planned : plan old ≡ None) (runs : has_stopped old ≡ false) (begun : IsStarted k old c) (ran : k.starts old None c.keeper)
     (given : dsa ≡ (aside bytes).state.dsa) (none : kept ≡ None) where
   abbrev put : Replica
-  put = on_disk name (aside bytes).state (aside bytes).log_end
+  put = on_disk name (aside bytes).state (aside bytes).log
 
   no_book : Book
   no_book = record { issued = []; logs = [] }
 
   put_goes : StartsAs (Has read safe torn plan) has_stopped None put (started no_book put) c.keeper
-  put_goes = law.starts old c.keeper None no_book put runs (record { is_read = reads ∙ whole.finds; is_safe = safes ∙ whole.finds; is_torn = torns ∙ whole.finds; is_plan = planned }) ran
+  put_goes = law.starts old c.keeper None no_book put runs (record { is_read = reads ∙ whole.finds; is_safe = safes ∙ whole.finds; is_torn = torns ∙ whole.finds ∙ torn_at_rest (aside bytes).state (aside bytes).log; is_plan = planned }) ran
 
   pub put_seen : seen read safe plan name c kept ≡ put
   put_seen =

@@ -1,17 +1,26 @@
 -- What is seen of a controller, by what its keeper has.
-use Rattle.std.proofs.Common.{◌≡◌, ◌∙◌, sym, ap, subst, ℕ, List, Bool, false, Option, Some, None}
+use Rattle.std.proofs.Common.{◌≡◌, ◌∙◌, refl, sym, ap, subst, ℕ, List, Bool, true, false, not, ◌&&◌, Option, Some, None, Ok, if◌then◌else◌}
 use Rattle.adr_wire.specs.Ranges.{IsId}
 use Rattle.adr_model.specs.Update.{Identifier}
 use Rattle.adr_model.specs.Store.{State}
-use Rattle.adr_model.specs.Replica.{Pending, Plan, Replica, Standing}
-use Rattle.adr_law_journal.specs.Log.{Found, Started}
+use Rattle.adr_model.specs.Lengths.{Log}
+use Rattle.adr_model.specs.Replica.{Pending, Plan, Replica, Standing, torn_log}
+use Rattle.adr_law_journal.specs.Areas.{Found, found, Started}
 use Rattle.adr_law_journal.specs.Replicas.{Has, read_found, safe_found}
 use Rattle.adr_controller.specs.Running.{Running}
-use Rattle.adr_replica.specs.Held.{found_or_none, standing_by, seen, IsHeld}
+use Rattle.adr_replica.specs.Held.{device_seen, found_or_none, standing_by, seen, IsHeld}
 
 abbrev made : List ℕ → Found State → Found State → Option Pending → Standing → Option Plan → Replica
 made name read safe kept standing plan =
-    record { name = name; read = read.state; read_end = read.log_end; safe = safe.state; safe_end = safe.log_end; kept = kept; standing = standing; plan = plan }
+    record { name = name; read = read.state; safe = safe.state; kept = kept; standing = standing; device = device_seen read safe plan }
+
+-- a crash that tears what is synced leaves it
+same_either : {A : Type 0} (b : Bool) (x : A) → (if b then x else x) ≡ x
+same_either true x = refl
+same_either false x = refl
+
+pub torn_at_rest : (s : State) (log : Log) → ◌≡◌ {A = Started State} (Ok (found s log)) (Ok (found s (torn_log log log)))
+torn_at_rest s log = ap (λ l. let f : Started State = Ok (found s l) in f) (sym (same_either (log.second && not log.second) log))
 
 module _ {K : Type 0} (read safe torn : K → Started State) (plan : K → Option Plan) where
   pub seen_so : (name : List ℕ) (c : Running K) (kept : Option Pending) (r : Replica) → Has read safe torn plan c.keeper r → name ≡ r.name → standing_by c.down c.state ≡ r.standing

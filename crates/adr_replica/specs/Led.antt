@@ -4,7 +4,7 @@ use Rattle.adr_event.specs.declared.answer.Outcome.{Outcome}
 use Rattle.adr_event.specs.declared.answer.Outcome.TheVariants as outcomes
 use Rattle.adr_event.specs.declared.refusal.AdoptRefusal.{AdoptRefusal}
 use Rattle.adr_model.specs.Store.{State}
-use Rattle.adr_model.specs.Replica.{Replica, begun, went, moves_of_start, plan_after}
+use Rattle.adr_model.specs.Replica.{Replica, begun, moves_of_start, start_goes, device_after_start}
 use Rattle.adr_model.specs.World.{World, Name, Gone, Sent, adopts, after_moves, with_replica}
 use Rattle.adr_replica.specs.Past.{Past}
 
@@ -36,7 +36,7 @@ IsUndone r past new later = (new ≡ r) × (later ≡ past)
 
 -- the world behind a start that wanted memory when its sync was made: the sync stands, and the controller is as down or failed as before
 abbrev pub synced : World → Replica → World
-synced w r = (after_moves w r (moves_of_start (went r.plan 1)) r.standing (plan_after (went r.plan 1)) outcomes.Ok).0
+synced w r = (after_moves w r (moves_of_start (start_goes r)) r.standing (device_after_start r) outcomes.Ok).0
 
 -- an image was adopted: this controller was made, and its incarnation begins, wherever it is placed
 abbrev pub Adopts : Name → Result State AdoptRefusal → Replica → Type 0

@@ -1,6 +1,6 @@
 -- What happened in a run so far, which only proofs see: its book, the identifiers that lines gave, and the calls that are kept.
 use Rattle.std.specs.Prelude.{List, [], Option, None, Some, fold}
-use Rattle.adr_model.specs.Replica.{Pending, Replica, Book, Move, moved, went, moves_of_commit}
+use Rattle.adr_model.specs.Replica.{Pending, Replica, Book, Move, moved, moves_of_commit, commit_goes}
 use Rattle.adr_model.specs.World.{Given}
 
 pub record Past : Type 0 where
@@ -25,4 +25,4 @@ after_moves past r moves = let m = fold moved (past.book, r) moves in record { p
 -- what a call makes of it that commits this, if it commits anything
 abbrev pub after_commit : Past → Replica → Option Pending → Ahead
 after_commit past r None = unmoved past r
-after_commit past r (Some p) = after_moves past r (moves_of_commit p (went r.plan 4))
+after_commit past r (Some p) = after_moves past r (moves_of_commit p (commit_goes r p))

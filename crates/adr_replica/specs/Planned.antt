@@ -3,7 +3,7 @@ use Rattle.std.specs.Prelude.{◌≡◌, ◌⊎◌, Bool, false, Option, Some, N
 use Rattle.adr_model.specs.Change.{Change}
 use Rattle.adr_model.specs.Store.{State}
 use Rattle.adr_model.specs.Replica.{Book, Pending, Plan, Replica}
-use Rattle.adr_law_journal.specs.Log.{Found, Started}
+use Rattle.adr_law_journal.specs.Areas.{Found, Started}
 use Rattle.adr_law_journal.specs.Replicas.{Has, committed, read_found, safe_found, started}
 use Rattle.adr_journal.specs.Planned.{StartsAs}
 use Rattle.adr_journal.specs.declared.keeper.Keeper.{Ghosts}
@@ -25,7 +25,7 @@ pub record GoesAsPlanned {K : Type 0} (k : Ghosts K) (read safe torn : K → Sta
   pub commits :
       (old new : K) (c : Change) (how : Option Hindrance) (book : Book) (r : Replica) (p : Pending)
       → k.is_at old (safe_found r) → k.is_failed old ≡ false → k.can_follow r.safe c → has_stopped old ≡ false
-      → read_found r ≡ safe_found r → Has read safe torn plan old r → p.change ≡ c → Ran k old c how new
+      → read_found r ≡ safe_found r → Has read safe torn plan old r → p.change ≡ c → Ran k old r.safe c how new
       → GoesAs (Has read safe torn plan) has_stopped how r (committed book r p) new
   pub formats :
       (x new : K) (e : Option KeeperRefusal) → has_stopped x ≡ false → plan x ≡ None → k.formats x e new

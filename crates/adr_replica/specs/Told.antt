@@ -1,7 +1,7 @@
 -- What the past of a run becomes by what it is told, and the call that a controller keeps then.
 use Rattle.std.specs.Prelude.{[], ◌∷◌, ◌++◌, None}
 use Rattle.adr_event.specs.declared.event.Event.{Event}
-use Rattle.adr_model.specs.Replica.{Replica, Settle, begun, went, moves_of_start}
+use Rattle.adr_model.specs.Replica.{Replica, Settle, begun, moves_of_start, start_goes}
 use Rattle.adr_model.specs.Serve.{Request, Reply}
 use Rattle.adr_model.specs.Store.{State}
 use Rattle.adr_replica.specs.Past.{Past, Ahead, after_commit, after_moves}
@@ -21,4 +21,4 @@ told_of p (Serves replica request) = after_commit p replica.now (serving request
 told_of p (Takes replica reply) = after_commit p replica.now (taking reply.now replica.now.safe)
 told_of p (Collects replica now lifetime) = after_commit p replica.now (collecting now lifetime replica.now.safe)
 told_of p (Stops replica) = after_moves p replica.now (Settle ∷ [])
-told_of p (Starts replica) = after_moves p replica.now (moves_of_start (went replica.now.plan 1))
+told_of p (Starts replica) = after_moves p replica.now (moves_of_start (start_goes replica.now))

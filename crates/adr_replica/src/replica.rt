@@ -277,14 +277,14 @@ impl Replica {
 
     /// Lets so many writes and syncs of its disk pass, and crashes within the next.
     pub fn stop_after(&mut self, calls: u32, how: Crash)
-        ensures { self.new ≡ record self.old { plan = Some (record { calls = calls; fault = Stops how }) } }
+        ensures { self.new ≡ record self.old { device = record self.old.device { plan = Some (record { calls = calls; fault = Stops how }) } } }
     {
         self.controller.stop_after(calls, how);
     }
 
     /// Lets so many writes and syncs of its disk pass, and fails the next, which changes nothing.
     pub fn fail_after(&mut self, calls: u32)
-        ensures { self.new ≡ record self.old { plan = Some (record { calls = calls; fault = Fails }) } }
+        ensures { self.new ≡ record self.old { device = record self.old.device { plan = Some (record { calls = calls; fault = Fails }) } } }
     {
         self.controller.fail_after(calls);
     }

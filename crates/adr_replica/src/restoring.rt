@@ -1,10 +1,10 @@
 //! Images of controllers, and controllers that adopt them.
 
-ghost use Rattle.std.specs.Prelude.{◌≡◌, Ok, false, IfOk, IsErrOf, nat_lt};
+ghost use Rattle.std.specs.Prelude.{◌≡◌, Ok, true, false, IfOk, IsErrOf};
 ghost use Rattle.adr_event.specs.declared.answer.Outcome.{Outcome};
 ghost use Rattle.adr_wire.specs.Ranges.{IsId};
 ghost use Rattle.adr_model.specs.Collect.{adopt, backup};
-ghost use Rattle.adr_model.specs.Lengths.{log_limit, new_log_end};
+ghost use Rattle.adr_model.specs.Lengths.{log_limit, new_log, area_fits};
 ghost use Rattle.adr_model.specs.Refused.{adopt_refused};
 ghost use Rattle.adr_model.specs.Replica.{Up as stands_up};
 ghost use Rattle.adr_model.specs.Store.{Normal};
@@ -17,7 +17,7 @@ use adr_event::{AdoptRefusal, Failure, Outcome, Table};
 use adr_guid::Guid;
 use adr_law_recorded::fitting_states_may_begin;
 use adr_outcome::{adopt_refused, quarantined};
-use adr_restore::{Image, new_log_end};
+use adr_restore::{Image, new_log};
 use adr_schema::{NoMemory, Text};
 use adr_state::{LOG_LIMIT, State};
 use std::alloc::Global;
@@ -28,12 +28,12 @@ fn woken(alloc: Global, image: &Image, dsa: Guid, inv: Guid) -> Result<State, Fa
     requires inv { IsId inv }
     ensures adopted { IfOk result (λ state. adopt image.now dsa inv ≡ Ok state) }
     ensures logged { IfOk result (λ state. IsLogged state × (state.mode ≡ Normal)) }
-    ensures room { IfOk result (λ state. nat_lt log_limit (new_log_end state) ≡ false) }
+    ensures room { IfOk result (λ state. area_fits (new_log state) state.store ≡ true) }
     ensures other { (refusal : AdoptRefusal) → IsErrOf result (Failure.Refused refusal)
         → (name : Name) → Unadopted name (adopt image.now dsa inv) (adopt_refused refusal) }
 {
     let state = image.adopt(alloc, dsa, inv)?;
-    match new_log_end(alloc, &state) {
+    match new_log(alloc, &state) {
         Ok(Some(_)) => Ok(state),
         Ok(None) => {
             drop(state);

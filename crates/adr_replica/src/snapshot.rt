@@ -35,7 +35,7 @@ impl Model for Snapshot {
 impl Replica {
     /// The bytes of its disk, put aside.
     pub fn snapshot(&self) -> Result<Snapshot, NoMemory>
-        ensures { IfOk result (λ s. s ≡ record { state = self.now.read; log_end = self.now.read_end }) }
+        ensures { IfOk result (λ s. s ≡ record { state = self.now.read; log = self.now.device.read_log }) }
     {
         Ok(Snapshot {
             bytes: self.controller.bytes()?,
@@ -45,7 +45,7 @@ impl Replica {
 
     /// A controller on a disk with the bytes that were put aside, started.
     pub fn put_back(alloc: Global, name: Text, snapshot: &Snapshot) -> Result<Replica, NoMemory>
-        ensures { IfOk result (λ made. made ≡ on_disk name snapshot.now.state snapshot.now.log_end) }
+        ensures { IfOk result (λ made. made ≡ on_disk name snapshot.now.state snapshot.now.log) }
     {
         let journal = Journal::with_bytes(alloc, snapshot.bytes.to_vec(alloc)?)?;
 

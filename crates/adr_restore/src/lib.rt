@@ -11,4 +11,4 @@ mod lengths;
 pub use adr_event::{AdoptRefusal, Failure};
 pub use adr_state::{NoMemory, State};
 pub use image::Image;
-pub use lengths::new_log_end;
+pub use lengths::new_log;

@@ -2,7 +2,7 @@
 
 use adr_change::{Change, Mode};
 use adr_checks::Schema;
-use adr_image::{DecodeRefusal, Failure, decode, decode_change, encode, encode_change};
+use adr_image::{DecodeRefusal, Failure, decode, decode_change, encode_change};
 use adr_vector::Vector;
 use std::alloc::Global;
 use std::test::Fail;
@@ -69,7 +69,7 @@ fn put(bytes: &mut [u8], at: usize, byte: u8) {
 /// How many rows an image has, and the image of what it says.
 fn written_again(alloc: Global, bytes: &[u8]) -> Result<(usize, Vec<u8>), Fail> {
     let read = decode(alloc, bytes)?;
-    let written = encode(alloc, read.contents())?;
+    let written = read.contents().encode(alloc)?;
     Ok((read.contents().rows.len(), written))
 }
 

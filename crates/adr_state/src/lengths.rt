@@ -1,9 +1,10 @@
-//! How long items and changes are as bytes, as far as a limit goes, and where a log ends after a change.
+//! How long items and changes are as bytes, as far as a limit goes, and where a log stands before and after a change.
 
-ghost use Rattle.std.specs.Prelude.{◌≡◌, ◌≤◌, ◌+◌, ◌*◌, None, Some, fold, min, nat_lt, if◌then◌else◌};
+ghost use Rattle.std.specs.Prelude.{◌≡◌, ◌≤◌, ◌<◌, ◌+◌, ◌*◌, ◌^◌, ◌&&◌, false, None, Some, fold, min, nat_le, nat_lt, if◌then◌else◌};
 ghost use Rattle.adr_model.specs.Update.{Update as Row};
 ghost use Rattle.adr_model.specs.Change.{Written as Wrote};
-ghost use Rattle.adr_model.specs.Lengths.{change_length, log_end_after, log_limit};
+ghost use Rattle.adr_model.specs.Store.{Store};
+ghost use Rattle.adr_model.specs.Lengths.{area_at, change_length, checkpointed, first_area, image_length, is_due, length_limit, log_after, log_limit};
 ghost use Rattle.adr_model.specs.Serve.{content_length, item_length, value_length, vector_length};
 ghost use Rattle.adr_update.specs.Said.{said_of};
 
@@ -12,16 +13,152 @@ use adr_schema::{Content, Value};
 use adr_stamp::Unit;
 use adr_update::{Item, LOG_LIMIT, Said, Update, Written};
 use adr_vector::Vector;
+use std::marker::Model;
 
-/// Where a log that ends at a place ends after the change; none where that would be beyond the limit.
-pub fn log_end_after(end: u64, change: &Change) -> Option<u64>
-    requires { end ≤ log_limit }
-    ensures { result
-        ≡ (if nat_lt log_limit (log_end_after end change.now) then None else Some (log_end_after end change.now)) }
-{
-    let limit = LOG_LIMIT + 1;
-    let after = sum_within(limit, end + 5, change_length_within(change, limit));
-    if LOG_LIMIT < after { None } else { Some(after) }
+/// An image and the body of a record are shorter than this, in bytes: 4 GiB.
+pub const LENGTH_LIMIT: u64 = 4_294_967_296;
+
+/// The version of the areas that are written.
+const LOG_VERSION: u16 = 1;
+
+/// The place of the area of a new log.
+const FIRST_AREA: u64 = 56;
+
+/// Where a log stands on a disk: whether the second slot selects its area, the area's place and version, the place of
+/// the first gate behind the area's image, and where the log ends, behind its closed gate; all places in bytes.
+#[derive(Clone, Copy)]
+pub struct Log {
+    second: bool,
+    place: u64,
+    version: u16,
+    first: u64,
+    end: u64,
+}
+
+impl Model for Log {
+    ghost use Rattle.adr_model.specs.Lengths.{Log as Defined};
+
+    ghost Value = { Defined };
+
+    ghost view = { λ l. record { second = l.second; place = l.place; version = l.version; first = l.first; log_end = l.end } };
+
+    ghost inverse = { λ l. record { second = l.second; place = l.place; version = l.version; first = l.first; end = l.log_end } };
+}
+
+impl Log {
+    /// The log on a new disk of a state whose image is so long, in bytes.
+    pub fn new(image: u64) -> Log
+        requires { image < 2 ^ 63 }
+        ensures { (s : Store) → image ≡ image_length s → result ≡ area_at false first_area s }
+    {
+        Log::at(false, FIRST_AREA, image)
+    }
+
+    /// A log that was found.
+    pub fn found(second: bool, place: u64, version: u16, first: u64, end: u64) -> Log
+        ensures { result ≡ record { second = second; place = place; version = version; first = first; log_end = end } }
+    {
+        Log {
+            second,
+            place,
+            version,
+            first,
+            end,
+        }
+    }
+
+    /// The log of an area without records, whose image is so long.
+    fn at(second: bool, place: u64, image: u64) -> Log
+        requires { place + 7 + image < 2 ^ 64 }
+        ensures { (s : Store) → image ≡ image_length s → result ≡ area_at second place s }
+    {
+        Log {
+            second,
+            place,
+            version: LOG_VERSION,
+            first: place + 6 + image,
+            end: place + 7 + image,
+        }
+    }
+
+    /// Whether the second slot selects its area.
+    pub fn second(&self) -> bool
+        ensures { result ≡ self.now.second }
+    {
+        self.second
+    }
+
+    /// The place of its area.
+    pub fn place(&self) -> u64
+        ensures { result ≡ self.now.place }
+    {
+        self.place
+    }
+
+    /// The version of its area, by which its records are read.
+    pub fn version(&self) -> u16
+        ensures { result ≡ self.now.version }
+    {
+        self.version
+    }
+
+    /// The place of its first gate.
+    pub fn first(&self) -> u64
+        ensures { result ≡ self.now.first }
+    {
+        self.first
+    }
+
+    /// The place behind its closed gate.
+    pub fn end(&self) -> u64
+        ensures { result ≡ self.now.log_end }
+    {
+        self.end
+    }
+
+    /// Whether a checkpoint comes before this change is recorded.
+    pub fn is_due(&self, change: &Change) -> bool
+        requires { self.now.first < 2 ^ 63 }
+        ensures { result ≡ is_due self.now change.now }
+    {
+        let image = self.first.saturating_sub(self.place).saturating_sub(6);
+        let records = self.end.saturating_sub(self.first).saturating_sub(1);
+        let record = sum_within(u64::MAX, 5, change_length_within(change, u64::MAX));
+        let after = sum_within(u64::MAX, records, record);
+        0 < records && image + 65536 < after || self.version < LOG_VERSION
+    }
+
+    /// The log after a checkpoint of a state whose image is so long: a new area in the other slot, before the live one
+    /// where it fits there, and else behind it.
+    pub fn checkpointed(&self, image: u64) -> Log
+        requires ends { self.now.log_end < 2 ^ 63 }
+        requires short { image < length_limit }
+        ensures { (s : Store) → image ≡ image_length s → result ≡ checkpointed self.now s }
+    {
+        let place = if FIRST_AREA + 7 + image <= self.place {
+            FIRST_AREA
+        } else {
+            self.end
+        };
+        Log::at(!self.second, place, image)
+    }
+
+    /// The log behind the record of a change; none where it would end beyond its limit, or the change is too long for
+    /// the field that tells its length.
+    pub fn after(&self, change: &Change) -> Option<Log>
+        ensures { result
+            ≡ (if nat_le (log_after self.now change.now).log_end log_limit && nat_lt (change_length change.now) length_limit then Some (log_after self.now change.now) else None) }
+    {
+        let length = change_length_within(change, LENGTH_LIMIT);
+        if LENGTH_LIMIT <= length || LOG_LIMIT < self.end {
+            return None;
+        }
+        let end = self.end + 5 + length;
+        if LOG_LIMIT < end {
+            return None;
+        }
+        Some(Log { end, ..*self })
+    }
 }
 
 /// The length of a change as the body of a record in bytes, or the limit if it is longer.

@@ -1,5 +1,5 @@
 //! A controller's state in memory: its rows and the live objects that they make, what it has seen and collected, and how
-//! far it has read each partner, what a change makes of them, and how long it is as bytes.
+//! far it has read each partner, what a change makes of them, how long it is as bytes, and where its log stands on a disk.
 //!
 //! It stands on the table of rows, on the tree of live objects and on the vectors, ties them together, and meets the
 //! definitions in `adr_model`. It knows nothing of why a change is made, of messages, or of the disk.
@@ -20,7 +20,7 @@ pub use adr_update::{
     Said, USN_LIMIT, Update, VERSION_LIMIT, Written, is_same, is_same_object,
 };
 pub use adr_vector::{CURSOR_LIMIT, Full, Mark, Vector};
-pub use lengths::{item_length_within, log_end_after};
+pub use lengths::{LENGTH_LIMIT, Log, item_length_within};
 pub use marks::Marks;
 pub use rows::Rows;
 pub use state::State;

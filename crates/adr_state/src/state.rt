@@ -6,7 +6,7 @@ ghost use Rattle.adr_vector.specs.Refusal.{full};
 ghost use Rattle.adr_vector.specs.Vector.{joined, raised, cursor_limit};
 ghost use Rattle.adr_model.specs.Store.{empty_state, empty_store};
 ghost use Rattle.adr_model.specs.Change.{after};
-ghost use Rattle.adr_model.specs.Lengths.{first_log_end, new_log_end};
+ghost use Rattle.adr_model.specs.Lengths.{first_log_end, new_log};
 ghost use Rattle.adr_state.specs.Known.{has_cursors_for};
 ghost use Rattle.adr_change.specs.Mode.{mode_of};
 ghost use Rattle.adr_state.specs.Refusal.{IsOverfull};
@@ -73,7 +73,7 @@ impl State {
     /// A new, empty controller.
     pub fn new(alloc: Global, dsa: Guid, inv: Guid, schema: Schema) -> State
         ensures empty { result ≡ record (empty_state dsa inv) { store = empty_store schema.number } }
-        ensures log { new_log_end result ≡ first_log_end }
+        ensures log { (new_log result).log_end ≡ first_log_end }
     {
         State {
             alloc,

@@ -24,5 +24,5 @@ pub const LINK_LIMIT: u64 = 1_000_000;
 /// How many partners' marks it keeps at most.
 pub const MARK_LIMIT: u64 = 10_000;
 
-/// The most bytes of a log: 2 GiB.
-pub const LOG_LIMIT: u64 = 2_147_483_648;
+/// The most bytes of a log: 8 GiB.
+pub const LOG_LIMIT: u64 = 8_589_934_592;

@@ -1,6 +1,6 @@
 //! A reader of bytes, field by field.
 
-ghost use Rattle.std.specs.Prelude.{◌≡◌, ◌↔◌, ◌+◌, ◌<◌, ◌^◌, IsOk, IfErr, [], length};
+ghost use Rattle.std.specs.Prelude.{◌≡◌, ◌↔◌, ◌+◌, ◌≤◌, ◌<◌, ◌^◌, IsOk, IfErr, [], drop, length};
 ghost use Rattle.std.specs.Str.{is_utf8};
 ghost use Rattle.adr_wire.specs.Reading.{Gives, Tells, TellsAs, bytes_at};
 ghost use Rattle.adr_wire.specs.Fields.{u8_at, u16_at, u32_at, u64_at, i64_at, id_at, flag_at, usn_at, usn0_at, version_at, text_at, octets_at, magic_at, format_version_at};
@@ -35,6 +35,17 @@ impl<'a> Reader<'a> {
         ensures { result ≡ record { place = 0; bytes = bytes.now } }
     {
         Reader { place: 0, bytes }
+    }
+
+    /// A reader of bytes from a place on.
+    pub fn at(bytes: &'a [u8], place: usize) -> Reader<'a>
+        requires { place ≤ length bytes.now }
+        ensures { result ≡ record { place = place; bytes = drop place bytes.now } }
+    {
+        Reader {
+            place: place as u64,
+            bytes: &bytes[place..],
+        }
     }
 
     /// A reader of the same bytes from the same place.

@@ -9,6 +9,7 @@ pub mod RefusedReplies
 pub mod Stops
 pub mod Exchanges
 pub mod Logs
+pub mod Checkpoints
 pub mod Forged
 pub mod Versions
 pub mod Rings

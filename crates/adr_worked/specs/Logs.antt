@@ -1,5 +1,5 @@
 -- Logs that are nearly full, and disks that are put back with their logs.
-use Rattle.std.specs.Prelude.{ℕ, List, [], ◌∷◌, Option, codes}
+use Rattle.std.specs.Prelude.{ℕ, ◌-◌, false, List, [], ◌∷◌, Option, codes}
 use Rattle.std.specs.Option.{option_map}
 use Rattle.adr_event.specs.declared.event.Event.{Event}
 use Rattle.adr_event.specs.declared.event.Event.TheVariants.{Serve, Snapshot, Rollback, Show}
@@ -7,6 +7,7 @@ use Rattle.adr_event.specs.declared.answer.Answer.{Answer}
 use Rattle.adr_event.specs.declared.answer.Plainly.TheVariants.{Number, Word}
 use Rattle.adr_event.specs.declared.answer.Outcome.TheVariants as outcomes
 use Rattle.adr_model.specs.Place.{identifier}
+use Rattle.adr_model.specs.Lengths.{first_area, log_version, new_log}
 use Rattle.adr_model.specs.Replica.{on_disk}
 use Rattle.adr_model.specs.Refused.{field, rolled_back}
 use Rattle.adr_model.specs.World.{World, empty_world, answer, replica_at}
@@ -14,15 +15,21 @@ use Rattle.adr_model.specs.Step.{answers}
 use Rattle.adr_worked.specs.Acting.{first, second, container}
 use Rattle.adr_worked.specs.Stops.{new_a, add_container}
 
--- a world of two controllers, of which the log of the first ends here
+-- a world of two controllers, of which the log of the first ends here, behind a long image
 abbrev pub with_log : ℕ → World
-with_log end = record empty_world { replicas = on_disk (codes "A") first end ∷ on_disk (codes "B") second 82 ∷ [] }
+with_log end =
+    record empty_world {
+      replicas =
+          on_disk (codes "A") first (record { second = false; place = first_area; version = log_version; first = end - 1; log_end = end })
+          ∷ on_disk (codes "B") second (new_log second)
+          ∷ [];
+    }
 
 abbrev pub full_log : List ℕ → Answer
 full_log verb =
-    answer verb (codes "A") (outcomes.Refused 22 (codes "Full") (field (codes "table") (Word (codes "Log")) ∷ field (codes "limit") (Number 2147483648) ∷ []))
+    answer verb (codes "A") (outcomes.Refused 22 (codes "Full") (field (codes "table") (Word (codes "Log")) ∷ field (codes "limit") (Number 8589934592) ∷ []))
 
--- a new disk's log ends at 82; a container of one letter takes 179 bytes, whose object is 140 of them. One fits to the last
+-- a new disk's log ends at 101; a container of one letter takes 179 bytes, whose object is 140 of them. One fits to the last
 -- byte, and the next isn't written
 abbrev pub last_room : List Event
 last_room = add_container (codes "A") 16 (codes "x") ∷ add_container (codes "A") 17 (codes "y") ∷ Show (codes "A") ∷ []
@@ -40,10 +47,10 @@ no_room_told = full_log (codes "add") ∷ full_log (codes "add") ∷ answer (cod
 
 -- where a log ends, of what a start finds and of what is safe
 abbrev pub log_ends : World → Option (ℕ × ℕ)
-log_ends w = option_map (λ r. (r.read_end, r.safe_end)) (replica_at w (codes "A"))
+log_ends w = option_map (λ r. (r.device.read_log.log_end, r.device.safe_log.log_end)) (replica_at w (codes "A"))
 
 -- a disk that is put back has the log that it had: its end is that of the snapshot, 358 bytes behind that of a new disk. A new
--- disk of that state would end at 416
+-- disk of that state would end at 435
 abbrev pub put_back : List Event
 put_back =
     new_a

@@ -1,10 +1,10 @@
 //! The definitions of `adr_model`, computed on runs small enough to be followed by hand: directories of
-//! sets of updates, controllers that act one after the other, and whole runs with their answers. Each
-//! function's contract is what comes out, worked out by the rules; there is no code. Each wrong
-//! definition that was tried is refused by one of them.
+//! sets of updates, controllers that act one after the other, what device calls leave of a disk's logs, and
+//! whole runs with their answers. Each function's contract is what comes out, worked out by the rules; there
+//! is no code. Each wrong definition that was tried is refused by one of them.
 #![tactic(auto)]
 
-ghost use Rattle.std.specs.Prelude.{◌≡◌, [], ◌∷◌, true, false, Some, None, codes};
+ghost use Rattle.std.specs.Prelude.{◌≡◌, [], ◌∷◌, true, false, Some, None, map, codes};
 ghost use Rattle.adr_model.specs.Directory.{directory};
 ghost use Rattle.adr_worked.specs.Exchanges.{a, b};
 ghost use Rattle.adr_worked.specs.Rings.{after_rounds, ring_of, stopped, stopped_told, three, three_told};
@@ -30,8 +30,9 @@ ghost use Rattle.adr_model.specs.Convergence.{MayHappen};
 ghost use Rattle.adr_model.specs.Sound.{IsOfOneChange};
 ghost use Rattle.adr_worked.specs.Acting.{first, container};
 ghost use Rattle.adr_worked.specs.Runs.{object};
-ghost use Rattle.adr_worked.specs.Stops.{new_a, add_container};
+ghost use Rattle.adr_worked.specs.Stops.{new_a, add_container, add_x};
 ghost use Rattle.adr_worked.specs.Logs.{with_log, full_log, last_room, last_room_told, no_room_told, log_ends, put_back as log_put_back, asked_for_more, shut_off};
+ghost use Rattle.adr_worked.specs.Checkpoints.{in_both, commits_due, commits_due_told, nine_calls, nine_calls_told, states_under, states_told, start_behind, selector_told, gate_told, is_due_behind, is_long_due_behind, is_due_at, log_at, anew, ends_at, full_of_records, added, not_added, stopped_due_add, stopped_due_add_told};
 ghost use Rattle.adr_worked.specs.Forged.{on_a_fixed_guid, on_a_fixed_guid_shown, two_classes, dead_with_row_0, keys_taken, refused_with_row_0, two_items, birth_at_1, one_usn_twice};
 ghost use Rattle.adr_worked.specs.Exchanges.{asked_once};
 ghost use Rattle.adr_worked.specs.Versions.{in_version, one_time_told, no_time_told, other_schema, other_schema_told, revived, revived_told};
@@ -140,14 +141,53 @@ pub fn small_exchanges()
 /// Where logs end: of a new disk, of one with no room left, and of one that is put back.
 #[tactic(none)]
 pub fn logs_end()
-    ensures new { log_ends (after_lines empty_world (new_a ∷ [])) ≡ Some (82, 82) }
+    ensures new { log_ends (after_lines empty_world (new_a ∷ [])) ≡ Some (101, 101) }
     ensures grown { log_ends (after_lines empty_world (new_a ∷ add_container (codes "A") 16 (codes "x") ∷ []))
-        ≡ Some (261, 261) }
-    ensures last { answers (with_log 2147483469) last_room ≡ last_room_told }
-    ensures none { answers (with_log 2147483470) last_room ≡ no_room_told }
-    ensures put_back { log_ends (after_lines empty_world log_put_back) ≡ Some (440, 440) }
-    ensures shut_off { asked_for_more 2147483617 ≡ shut_off }
-    ensures unnoted { asked_for_more 2147483618 ≡ full_log (codes "serve") ∷ [] }
+        ≡ Some (280, 280) }
+    ensures last { answers (with_log 8589934413) last_room ≡ last_room_told }
+    ensures none { answers (with_log 8589934414) last_room ≡ no_room_told }
+    ensures put_back { log_ends (after_lines empty_world log_put_back) ≡ Some (459, 459) }
+    ensures shut_off { asked_for_more 8589934561 ≡ shut_off }
+    ensures unnoted { asked_for_more 8589934562 ≡ full_log (codes "serve") ∷ [] }
+{}
+
+/// The nine calls of a commit that is due, under plans, with the live area in the first slot and in the second
+/// one: what each call leaves of logs, what it is to the states, and what a start leaves behind a selector or a
+/// gate that isn't synced.
+#[tactic(none)]
+pub fn nine_calls_under_plans()
+    ensures pass { in_both commits_due ≡ in_both commits_due_told }
+    ensures logs { in_both nine_calls ≡ in_both nine_calls_told }
+    ensures states { in_both states_under ≡ in_both states_told }
+    ensures selector { in_both (start_behind 4) ≡ in_both selector_told }
+    ensures gate { in_both (start_behind 8) ≡ in_both gate_told }
+{}
+
+/// When a checkpoint comes: not with one byte less, nor where there is no record, but at once where the area is
+/// of an earlier version. The new area stands before the live one where there is room to the byte, else behind.
+#[tactic(none)]
+pub fn checkpoints_come()
+    ensures due { map is_due_behind (65543 ∷ 65544 ∷ []) ≡ false ∷ true ∷ [] }
+    ensures no_record { map is_long_due_behind (0 ∷ 31 ∷ []) ≡ false ∷ true ∷ [] }
+    ensures version { map is_due_at (1 ∷ 0 ∷ []) ≡ false ∷ true ∷ [] }
+    ensures room { anew (log_at false 101 70000) ≡ log_at true 56 101 }
+    ensures no_room { anew (log_at false 100 70000) ≡ log_at true 70000 70045 }
+    ensures back { anew (log_at true 70000 140000) ≡ log_at false 56 101 }
+{}
+
+/// Lines that make a checkpoint: what is written fits to the last byte or isn't written, a log that is full is
+/// begun anew where there is room before it, and where the disk stops the object is there or it isn't.
+#[tactic(none)]
+pub fn checkpointed_lines()
+    ensures last { answers (ends_at 8589934368) (add_x ∷ []) ≡ added }
+    ensures last_end { log_ends (after_lines (ends_at 8589934368) (add_x ∷ [])) ≡ Some (8589934592, 8589934592) }
+    ensures no_room { answers (ends_at 8589934369) (add_x ∷ []) ≡ not_added }
+    ensures stays { log_ends (after_lines (ends_at 8589934369) (add_x ∷ [])) ≡ Some (8589934369, 8589934369) }
+    ensures full { answers full_of_records (add_x ∷ []) ≡ added }
+    ensures begun_anew { log_ends (after_lines full_of_records (add_x ∷ [])) ≡ Some (280, 280) }
+    ensures torn { answers (ends_at 70000) (stopped_due_add 3 Torn) ≡ stopped_due_add_told [] }
+    ensures lost { answers (ends_at 70000) (stopped_due_add 7 Lost) ≡ stopped_due_add_told [] }
+    ensures kept { answers (ends_at 70000) (stopped_due_add 7 Kept) ≡ stopped_due_add_told one_object }
 {}
 
 /// Rows that only a forged packet brings.

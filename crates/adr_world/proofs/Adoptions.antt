@@ -72,7 +72,7 @@ module _ (r : Run) (name : Name) (i : ℕ) (d : Replica) (here : replica_at (wor
       ∙ sym is
 
   -- what putting back a snapshot comes to
-  pub put_back_so : (s : Snapshot) (o : Option Snapshot) → Some s ≡ o → made ≡ on_disk name s.state s.log_end
+  pub put_back_so : (s : Snapshot) (o : Option Snapshot) → Some s ≡ o → made ≡ on_disk name s.state s.log
       → of_made (stays (world_of r)) (replica_at (world_of r) name) (λ x. put_back (world_of r) name o) ≡ (record (world_of r) { clean = false; replicas = slice_set r.controllers.items i made }, outcomes.Ok)
   put_back_so s o is made_is =
       ap (λ x. of_made (stays (world_of r)) x (λ y. put_back (world_of r) name o)) here

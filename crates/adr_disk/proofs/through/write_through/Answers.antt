@@ -1,16 +1,10 @@
-use Rattle.std.proofs.Common.{◌≡◌, Option, Some, None, IfSome, ℕ, List, length, refl, sym, subst}
-use Rattle.adr_disk.specs.Disk.{Torn, After, Among, Only}
+use Rattle.std.proofs.Common.{length, sym, subst}
+use Rattle.adr_disk.specs.Disk.{Torn, Among}
 use Rattle.adr_disk.proofs.Bytes.{Torn-same}
 use Rattle.adr_disk.proofs.Moments.{started, goes_on}
+use Rattle.adr_disk.proofs.Told.{if_told}
+use Rattle.adr_disk.proofs.Torn.{tears}
 use Rattle.adr_disk.proofs.through.write_through.Goals as goal
-
-if_told : (o : Option (List ℕ)) (P : List ℕ → Type 0) → ((there : List ℕ) → o ≡ Some there → P there) → IfSome o P
-if_told None P h = tt
-if_told (Some there) P h = h there refl
-
--- where these bytes alone may be left, a write tears them
-tears : (at n : ℕ) (there : List ℕ) (outcomes : List ℕ → Type 0) → Only there outcomes → Among (Torn at n there) (After (Torn at n) outcomes)
-tears at n there outcomes only = λ bytes left. subst (λ (old : List ℕ). Torn at n old bytes) (only left.0 left.1) left.2
 
 pub returns-in_err-write_at-clause-left : goal.returns-in_err-write_at-clause-left
 returns-in_err-write_at-clause-left g c =

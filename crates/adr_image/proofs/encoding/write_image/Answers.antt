@@ -1,4 +1,4 @@
-use Rattle.std.proofs.Common.{◌≡◌, ℕ, List, ◌++◌, ap, subst, ◌∙◌}
+use Rattle.std.proofs.Common.{◌≡◌, ℕ, List, ◌++◌, ap, subst, sym, ◌∙◌}
 use Rattle.adr_wire.specs.Composites.{vector}
 use Rattle.adr_wire.specs.Fields.{u32, u64}
 use Rattle.adr_model.specs.Store.{Held, Store}
@@ -12,10 +12,7 @@ use Rattle.adr_image.proofs.encoding.write_image.Goals as goal
 
 pub write_rows-requires : goal.write_rows-requires
 write_rows-requires c =
-    let rows = ap (λ (s : Store). s.rows) c.contents.view_is in
-    let here = c.deref-2.ensures.value in
-    let same : c.args.contents.now.rows ≡ c.deref-2.result.now = cc in
-    subst IsWritable same (writable c.args.contents.now c.requires.formed c.requires.spelled)
+    subst IsWritable (sym (ap (λ (s : Store). s.rows) c.contents.view_is)) (writable c.args.contents.now c.requires.formed c.requires.spelled)
 
 pub returns : goal.returns
 returns c =
@@ -29,5 +26,5 @@ returns c =
     (c.in_ok-write_usn0.ensures.ok ∙ ap (λ (t : Store). c.write_u32.new.self ++ u64 t.usn) is)
     (c.in_ok-write_vector.ensures ∙ ap (λ (t : Store). c.write_usn0.new.self ++ vector t.vector) is)
     (c.in_ok-write_vector-2.ensures ∙ ap (λ (t : Store). c.write_vector.new.self ++ vector t.purged) is)
-    (c.in_ok-write_marks.ensures ∙ ap (λ (ms : List Marked). c.write_vector-2.new.self ++ marks ms) (c.deref.ensures.value ∙ ap (λ (t : Store). t.marks) is))
-    (all ∙ ap (λ (hs : List Held). c.write_marks.new.writer ++ (objects (apart hs).0 ++ links (apart hs).1)) (c.deref-2.ensures.value ∙ ap (λ (t : Store). t.rows) is)))
+    (c.in_ok-write_marks.ensures ∙ ap (λ (ms : List Marked). c.write_vector-2.new.self ++ marks ms) (ap (λ (t : Store). t.marks) is))
+    (all ∙ ap (λ (hs : List Held). c.write_marks.new.writer ++ (objects (apart hs).0 ++ links (apart hs).1)) (ap (λ (t : Store). t.rows) is)))

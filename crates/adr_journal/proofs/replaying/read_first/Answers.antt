@@ -1,31 +1,39 @@
-use Rattle.std.proofs.Common.{arith}
-use Rattle.adr_law_journal.proofs.Replays.{short_at_0, wrong_at_0}
-use Rattle.adr_journal.proofs.Heads.{reached, damage_at}
+use Rattle.std.proofs.Common.{◌≡◌, ◌≤◌, drop, subst}
+use Rattle.adr_wire.specs.Reading.{Refuses}
+use Rattle.adr_model.specs.Lengths.{log_version}
+use Rattle.adr_journal.specs.Kept.{ids_of}
+use Rattle.adr_journal.proofs.Starts.{dropped_bytes, begins, no_area}
 use Rattle.adr_journal.proofs.replaying.read_first.Goals as goal
+use Rattle.adr_journal.proofs.replaying.read_first.Goals.{In-Ok-read_area}
 
-pub returns-then-bytes-lt2-clause-damaged : goal.returns-then-bytes-lt2-clause-damaged
-returns-then-bytes-lt2-clause-damaged g c =
-    damage_at c.damaged.result 0 _ c.damaged.ensures (short_at_0 g.F.Form.head g.F.Form.following c.args.bytes.now c.if-bytes-lt2.true)
+-- what the area begins with
+began : (g : _) (c : In-Ok-read_area g)
+    → g.F.Form.is_formed c.in-Ok-read_area.field-0.state × (ids_of c.in-Ok-read_area.field-0.state ≡ (c.in-Ok.owner.dsa, c.in-Ok.owner.inv)) × (c.in-Ok-read_area.field-0.version ≤ log_version)
+began g c =
+    let place = c.in-Ok-read_selected.selected.1 in
+    let o = c.in-Ok.owner in
+    let owned = c.in-Ok.ensures.owned in
+    g.met.F.Form.area_formed place owned.front (o.dsa, o.inv) (drop place c.args.bytes.now) _ _ owned.is_head (dropped_bytes c.args.bytes.now place (λ i. (c.type_inv.bytes i).fits)) c.in-Ok-read_area.ensures.ok
 
-pub returns-then-bytes-clause-damaged : goal.returns-then-bytes-clause-damaged
-returns-then-bytes-clause-damaged g c =
-    damage_at c.damaged-then-bytes.result 0 _ c.damaged-then-bytes.ensures (wrong_at_0 g.F.Form.head g.F.Form.following c.args.bytes.now c.if-bytes.true)
-
-pub returns-in-Ok-clause-within : goal.returns-in-Ok-clause-within
-returns-in-Ok-clause-within g c =
+pub returns-in-Ok-read_area-clause-reached : goal.returns-in-Ok-read_area-clause-reached
+returns-in-Ok-read_area-clause-reached g c =
     let f = g.F.Form in
-    let law = g.met.F.Form in
-    (reached f.head f.following f.can_begin f.head_of law.spells_head law.head_length c.args.bytes.now c.in-Ok.read.0 c.in-Ok.read.1 (λ i. (c.type_inv.bytes i).fits) (omega (arith, c.if-bytes-lt2.false)) c.if-bytes.false c.in-Ok.ensures.ok).0
+    let place = c.in-Ok-read_selected.selected.1 in
+    let o = c.in-Ok.owner in
+    let r = c.in-Ok-read_area.field-0 in
+    let was = g.met.F.Form.area_read place (o.dsa, o.inv) (drop place c.args.bytes.now) _ _ (dropped_bytes c.args.bytes.now place (λ i. (c.type_inv.bytes i).fits)) c.in-Ok-read_area.ensures.ok in
+    begins f.head f.area f.following c.args.bytes.now (o.dsa, o.inv) c.in-Ok.ensures.owned c.in-Ok-read_selected.selected.0 place c.in-Ok-read_selected.ensures.named (record { version = r.version; state = r.state }) r.first was (began g c).1
 
-pub returns-in-Ok-clause-reaches : goal.returns-in-Ok-clause-reaches
-returns-in-Ok-clause-reaches g c =
-    let f = g.F.Form in
-    let law = g.met.F.Form in
-    (reached f.head f.following f.can_begin f.head_of law.spells_head law.head_length c.args.bytes.now c.in-Ok.read.0 c.in-Ok.read.1 (λ i. (c.type_inv.bytes i).fits) (omega (arith, c.if-bytes-lt2.false)) c.if-bytes.false c.in-Ok.ensures.ok).1
+pub returns-in-Ok-read_area-clause-formed : goal.returns-in-Ok-read_area-clause-formed
+returns-in-Ok-read_area-clause-formed g c = (began g c).0
 
-pub returns-in-Ok-clause-formed : goal.returns-in-Ok-clause-formed
-returns-in-Ok-clause-formed g c =
+pub returns-in-Ok-read_area-clause-version : goal.returns-in-Ok-read_area-clause-version
+returns-in-Ok-read_area-clause-version g c = (began g c).2
+
+pub returns-in-Err-Refused-clause-damaged : goal.returns-in-Err-Refused-clause-damaged
+returns-in-Err-Refused-clause-damaged g c =
     let f = g.F.Form in
-    let law = g.met.F.Form in
-    law.begins_formed c.in-Ok.read.0
-    (reached f.head f.following f.can_begin f.head_of law.spells_head law.head_length c.args.bytes.now c.in-Ok.read.0 c.in-Ok.read.1 (λ i. (c.type_inv.bytes i).fits) (omega (arith, c.if-bytes-lt2.false)) c.if-bytes.false c.in-Ok.ensures.ok).2
+    let o = c.in-Ok.owner in
+    let place = c.in-Ok-read_selected.selected.1 in
+    let refused = subst (λ e. Refuses e (f.area (o.dsa, o.inv) (record { place = place; bytes = drop place c.args.bytes.now }))) c.in-Err-Refused.field-0-is c.in-Err-Refused.ensures.err in
+    no_area f.head f.area f.following c.args.bytes.now (o.dsa, o.inv) c.in-Ok.ensures.owned c.in-Ok-read_selected.selected.0 place c.in-Ok-read_selected.ensures.named c.in-Err-Refused.malformed.place refused

@@ -1,11 +1,10 @@
-use Rattle.std.proofs.Common.{◌≤◌, ◌-◌, length, take}
-use Rattle.adr_law_journal.specs.Log.{Reaches}
+use Rattle.std.proofs.Common.{◌-◌, length}
+use Rattle.adr_journal.specs.Reached.{IsReached}
 use Rattle.adr_journal.proofs.replaying.take_records.Given as goal
 
 abbrev pub invariant-records : goal.invariant-records
 invariant-records g l = record {
-  within : l.gate ≤ length l.bytes;
-  reaches : Reaches g.F.Form.head g.F.Form.following (take l.gate l.bytes) l.state;
+  reached : IsReached g.F.Form.head g.F.Form.area g.F.Form.following l.area.second l.area.place l.area.version l.area.first l.gate l.bytes l.state;
   formed : g.F.Form.is_formed l.state;
 }
 

@@ -1,19 +1,11 @@
-use Rattle.std.proofs.Common.{length, ap, arith}
+use Rattle.std.proofs.Common.{◌≡◌, ℕ, List, true, false, Err, sym, subst, ap}
+use Rattle.adr_model.specs.Lengths.{Log, change_fits}
 use Rattle.adr_law_journal.proofs.Lifts.{kept_same}
 use Rattle.adr_law_journal.proofs.Told.{same_keeps}
-use Rattle.adr_journal.proofs.Found.{record_length, still_at}
+use Rattle.adr_journal.specs.Kept.{IsRoom}
+use Rattle.adr_journal.specs.declared.keeper.KeeperRefusal.TheVariants.{Full}
+use Rattle.adr_journal.proofs.Found.{kept_within, refused_so, still_at}
 use Rattle.adr_journal.proofs.journal.JournalKeeper.prepare.Goals as goal
-
-pub returns-in-Ok-reserve-clause-prepared : goal.returns-in-Ok-reserve-clause-prepared
-returns-in-Ok-reserve-clause-prepared g c =
-    let body = g.F.Form.body_of c.args.change.now in
-    let long = g.met.F.Form.body_length c.requires.0.state c.args.change.now (c.requires.2 c.if-self.false) in
-    let spare = c.in-Ok-reserve.ensures.reserved in
-    record {
-      is = c.in-Ok.ensures;
-      room = omega (arith, c.if-not-has_room.ensures.room, long, ap length c.in-Ok.ensures, record_length body);
-      spare = (spare.0, omega (arith, spare.1, c.len.ensures, c.in-Ok.written.ok));
-    }
 
 pub returns-then-self-clause-at : goal.returns-then-self-clause-at
 returns-then-self-clause-at g c = λ f at. at
@@ -22,47 +14,86 @@ pub returns-then-self-clause-keeps : goal.returns-then-self-clause-keeps
 returns-then-self-clause-keeps g c =
     let d = g.D.Disk in
     let j = c.args.self.now in
-    kept_same g.F.Form.head g.F.Form.following (λ j. j.disk) d.content d.may_leave d.moment d.left_since j j (same_keeps d.content d.may_leave d.moment d.left_since j.disk)
+    kept_same g.F.Form.head g.F.Form.area g.F.Form.following (λ j. j.disk) d.content d.may_leave d.moment d.left_since j j (same_keeps d.content d.may_leave d.moment d.left_since j.disk)
 
-pub returns-then-not-has_room-clause-at : goal.returns-then-not-has_room-clause-at
-returns-then-not-has_room-clause-at g c = λ f at. at
+pub returns-in-Err-clause-at : goal.returns-in-Err-clause-at
+returns-in-Err-clause-at g c = λ f at. at
 
-pub returns-then-not-has_room-clause-keeps : goal.returns-then-not-has_room-clause-keeps
-returns-then-not-has_room-clause-keeps g c =
+pub returns-in-Err-clause-keeps : goal.returns-in-Err-clause-keeps
+returns-in-Err-clause-keeps g c =
     let d = g.D.Disk in
     let j = c.args.self.now in
-    kept_same g.F.Form.head g.F.Form.following (λ j. j.disk) d.content d.may_leave d.moment d.left_since j j (same_keeps d.content d.may_leave d.moment d.left_since j.disk)
-
-pub returns-in_default-clause-at : goal.returns-in_default-clause-at
-returns-in_default-clause-at g c = λ f at. at
-
-pub returns-in_default-clause-keeps : goal.returns-in_default-clause-keeps
-returns-in_default-clause-keeps g c =
-    let d = g.D.Disk in
-    let j = c.args.self.now in
-    kept_same g.F.Form.head g.F.Form.following (λ j. j.disk) d.content d.may_leave d.moment d.left_since j j (same_keeps d.content d.may_leave d.moment d.left_since j.disk)
+    kept_same g.F.Form.head g.F.Form.area g.F.Form.following (λ j. j.disk) d.content d.may_leave d.moment d.left_since j j (same_keeps d.content d.may_leave d.moment d.left_since j.disk)
 
 pub returns-in-Ok-reserve-clause-at : goal.returns-in-Ok-reserve-clause-at
 returns-in-Ok-reserve-clause-at g c = λ f at up.
     let d = g.D.Disk in
-    still_at g.F.Form.head g.F.Form.following d.content d.may_leave d.moment d.left_since c.args.self.now.disk c.reserve.new.self c.args.self.now.end f c.reserve.ensures.keeps (at c.if-self.false)
+    still_at g.F.Form.head g.F.Form.area g.F.Form.following d.content d.may_leave d.moment d.left_since c.args.self.now.disk c.reserve.new.disk c.args.self.now.log f c.reserve.ensures.keeps (at c.if-self.false)
 
 pub returns-in-Ok-reserve-clause-keeps : goal.returns-in-Ok-reserve-clause-keeps
 returns-in-Ok-reserve-clause-keeps g c =
     let d = g.D.Disk in
-    kept_same g.F.Form.head g.F.Form.following (λ j. j.disk) d.content d.may_leave d.moment d.left_since c.args.self.now _ c.reserve.ensures.keeps
+    kept_same g.F.Form.head g.F.Form.area g.F.Form.following (λ j. j.disk) d.content d.may_leave d.moment d.left_since c.args.self.now _ c.reserve.ensures.keeps
 
 pub returns-in-Err-Failed-clause-keeps : goal.returns-in-Err-Failed-clause-keeps
 returns-in-Err-Failed-clause-keeps g c =
     let d = g.D.Disk in
-    kept_same g.F.Form.head g.F.Form.following (λ j. j.disk) d.content d.may_leave d.moment d.left_since c.args.self.now _ c.reserve.ensures.keeps
+    kept_same g.F.Form.head g.F.Form.area g.F.Form.following (λ j. j.disk) d.content d.may_leave d.moment d.left_since c.args.self.now _ c.reserve.ensures.keeps
 
 pub returns-clause-at : goal.returns-clause-at
 returns-clause-at g c = λ f at up.
     let d = g.D.Disk in
-    still_at g.F.Form.head g.F.Form.following d.content d.may_leave d.moment d.left_since c.args.self.now.disk c.reserve.new.self c.args.self.now.end f c.reserve.ensures.keeps (at c.if-self.false)
+    still_at g.F.Form.head g.F.Form.area g.F.Form.following d.content d.may_leave d.moment d.left_since c.args.self.now.disk c.reserve.new.disk c.args.self.now.log f c.reserve.ensures.keeps (at c.if-self.false)
 
 pub returns-clause-keeps : goal.returns-clause-keeps
 returns-clause-keeps g c =
     let d = g.D.Disk in
-    kept_same g.F.Form.head g.F.Form.following (λ j. j.disk) d.content d.may_leave d.moment d.left_since c.args.self.now _ c.reserve.ensures.keeps
+    kept_same g.F.Form.head g.F.Form.area g.F.Form.following (λ j. j.disk) d.content d.may_leave d.moment d.left_since c.args.self.now _ c.reserve.ensures.keeps
+
+-- where the log stands
+pub spell-requires-clause-first : goal.spell-requires-clause-first
+spell-requires-clause-first g c = (c.requires.1 c.if-self.false).first
+
+pub spell-requires-clause-ends : goal.spell-requires-clause-ends
+spell-requires-clause-ends g c = (c.requires.1 c.if-self.false).ends
+
+pub returns-in-Ok-reserve-clause-prepared : goal.returns-in-Ok-reserve-clause-prepared
+returns-in-Ok-reserve-clause-prepared g c =
+    let d = g.D.Disk in
+    let e = c.in-Ok.ensures in
+    record {
+      is = e.written;
+      before = e.area;
+      leads = e.next;
+      fits = e.fits;
+      spare = subst (λ (a : List ℕ). IsRoom a c.in-Ok.spelled.written.items (d.spare_calls c.reserve.new.disk) (d.spare_bytes c.reserve.new.disk)) c.deref.ensures.value
+          (subst (λ (w : List ℕ). IsRoom c.deref.result.now w (d.spare_calls c.reserve.new.disk) (d.spare_bytes c.reserve.new.disk)) c.deref-2.ensures.value c.in-Ok-reserve.ensures.room);
+    }
+
+pub returns-in-Err-clause-full : goal.returns-in-Err-clause-full
+returns-in-Err-clause-full g c = λ is log at.
+    (c.if-self.false, subst (λ (l : Log). change_fits l c.args.state.now.store c.args.change.now ≡ false) (sym (at c.if-self.false).is_log) (c.in-Err.ensures.full (ap Err (refused_so c.in-Err.refusal Full is))))
+
+pub returns-in-Ok-reserve-clause-fits : goal.returns-in-Ok-reserve-clause-fits
+returns-in-Ok-reserve-clause-fits g c = λ log at. subst (λ (l : Log). change_fits l c.args.state.now.store c.args.change.now ≡ true) (sym (at c.if-self.false).is_log) c.in-Ok.ensures.fits
+
+pub returns-in-Err-Failed-clause-fits_too : goal.returns-in-Err-Failed-clause-fits_too
+returns-in-Err-Failed-clause-fits_too g c = λ is log at. subst (λ (l : Log). change_fits l c.args.state.now.store c.args.change.now ≡ true) (sym (at c.if-self.false).is_log) c.in-Ok.ensures.fits
+
+pub returns-in-Ok-reserve-clause-within : goal.returns-in-Ok-reserve-clause-within
+returns-in-Ok-reserve-clause-within g c = λ file image longest within.
+    let d = g.D.Disk in
+    let f = g.F.Form in
+    kept_within f.head f.area f.following d.content d.may_leave d.moment d.left_since c.args.self.now.disk c.reserve.new.disk file image longest c.reserve.ensures.keeps within
+
+pub returns-in-Err-Failed-clause-within : goal.returns-in-Err-Failed-clause-within
+returns-in-Err-Failed-clause-within g c = λ file image longest within.
+    let d = g.D.Disk in
+    let f = g.F.Form in
+    kept_within f.head f.area f.following d.content d.may_leave d.moment d.left_since c.args.self.now.disk c.reserve.new.disk file image longest c.reserve.ensures.keeps within
+
+pub returns-clause-within : goal.returns-clause-within
+returns-clause-within g c = λ file image longest within.
+    let d = g.D.Disk in
+    let f = g.F.Form in
+    kept_within f.head f.area f.following d.content d.may_leave d.moment d.left_since c.args.self.now.disk c.reserve.new.disk file image longest c.reserve.ensures.keeps within

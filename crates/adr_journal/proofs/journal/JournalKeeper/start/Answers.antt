@@ -1,10 +1,13 @@
-use Rattle.std.proofs.Common.{◌≡◌, ℕ, List, Some, Ok, Err, refl, sym, ◌∙◌, ap, subst, arith}
-use Rattle.adr_law_journal.specs.Log.{found, start_of, IsAtRest}
-use Rattle.adr_law_journal.proofs.Logs.{at_rest_stands}
+use Rattle.std.proofs.Common.{◌≡◌, ℕ, List, length, Some, Err, refl, sym, ◌∙◌, ap, subst, arith}
+use Rattle.adr_law_journal.specs.Areas.{start_of}
+use Rattle.adr_law_journal.specs.Kept.{Rests}
+use Rattle.adr_law_journal.proofs.Reading.{area_long}
+use Rattle.adr_law_journal.proofs.Settled.{stands}
 use Rattle.adr_law_journal.proofs.Told.{at_told, if_mapped}
 use Rattle.adr_journal.specs.Ended.{StillReads}
+use Rattle.adr_journal.specs.Kept.{ids_of, layout_of}
 use Rattle.adr_journal.specs.declared.keeper.StartRefusal.TheVariants.{NoMemory}
-use Rattle.adr_journal.proofs.Found.{for_some, left_before, read_still, still_found}
+use Rattle.adr_journal.proofs.Found.{for_some, left_before, still_within, read_still, still_found}
 use Rattle.adr_journal.proofs.journal.JournalKeeper.start.Goals as goal
 
 pub returns-in-Ok-replay-clause-ok : goal.returns-in-Ok-replay-clause-ok
@@ -12,30 +15,38 @@ returns-in-Ok-replay-clause-ok g c =
     let d = g.D.Disk in
     let f = g.F.Form in
     let s = c.in-Ok-replay.state in
-    let end = c.in-Ok-replay.end in
+    let log = c.in-Ok-replay.log in
     let old = c.args.self.now.disk in
     let new = c.read_synced.new.disk in
     let same : d.content new ≡ d.content old = c.in-Ok.ensures.same in
-    let rests : (there : List ℕ) → d.content old ≡ Some there → IsAtRest f.head f.following s end there = λ there told.
-    subst (λ (l : List ℕ). IsAtRest f.head f.following s end l) (c.deref.ensures.value ∙ at_told (d.content old) _ there told c.in-Ok.ensures.bytes) c.in-Ok-replay.ensures.rests in
-    let finds : (there : List ℕ) → d.content old ≡ Some there → start_of f.head f.following there ≡ Ok (found s end) = λ there told. at_rest_stands f.head f.following s end there (rests there told) in (
-      end,
+    let is = c.in-Ok-replay.ensures.rests in
+    let within = c.in-Ok-replay.ensures.within in
+    let l = layout_of f.head f.area f.following is.front (ids_of s) is.is_head in
+    let rests : (there : List ℕ) → d.content old ≡ Some there → Rests l s log there = λ there told.
+    subst (λ (y : List ℕ). Rests l s log y) (c.deref.ensures.value ∙ at_told (d.content old) _ there told c.in-Ok.ensures.bytes) is.rests in
+    let far = area_long (f.area (ids_of s)) f.following s log.place log.version log.first log.log_end c.deref.result.now is.rests.ready.stands in (
+      log,
       (λ up. record {
-        ends = refl;
-        some = omega (arith, c.in-Ok-replay.ensures.rests.long);
+        is_log = refl;
+        version = c.in-Ok-replay.ensures.version;
+        front = is.front;
+        is_head = is.is_head;
         settled = record {
           at_rest = λ there told. rests there (sym same ∙ told);
           synced = λ there told. for_some (d.content old) _ c.in-Ok.ensures.synced there (sym same ∙ told);
-          finds = λ there told. finds there (sym same ∙ told);
         };
+        place = is.rests.ready.low;
+        first = omega (arith, within.0, within.1, c.in-Ok.bytes.ok, c.in-Ok.bytes.small, ap length c.deref.ensures.value);
+        begun = far.0;
+        ends = omega (arith, within.1, c.in-Ok.bytes.ok, c.in-Ok.bytes.small, ap length c.deref.ensures.value);
       }),
-      if_mapped (start_of f.head f.following) (d.content old) _ finds,
+      if_mapped (start_of f.head f.area f.following) (d.content old) _ (λ there told. stands l s log there (rests there told)),
     )
 
 pub returns-in-Err-DiskFault-clause-any_moment : goal.returns-in-Err-DiskFault-clause-any_moment
 returns-in-Err-DiskFault-clause-any_moment g c =
     let d = g.D.Disk in
-    left_before g.F.Form.head g.F.Form.following (λ j. j.disk) d.may_leave d.moment d.left_since c.args.self.now _ c.read_synced.ensures.any_moment
+    left_before g.F.Form.head g.F.Form.area g.F.Form.following (λ j. j.disk) d.may_leave d.moment d.left_since c.args.self.now _ c.read_synced.ensures.any_moment
 
 pub returns-in-Err-DiskFault-clause-left : goal.returns-in-Err-DiskFault-clause-left
 returns-in-Err-DiskFault-clause-left g c = λ t left. (left.0, c.read_synced.ensures.left left.0 left.1, left.2)
@@ -43,7 +54,7 @@ returns-in-Err-DiskFault-clause-left g c = λ t left. (left.0, c.read_synced.ens
 pub returns-in-Err-NoMemory-clause-any_moment : goal.returns-in-Err-NoMemory-clause-any_moment
 returns-in-Err-NoMemory-clause-any_moment g c =
     let d = g.D.Disk in
-    left_before g.F.Form.head g.F.Form.following (λ j. j.disk) d.may_leave d.moment d.left_since c.args.self.now _ c.read_synced.ensures.any_moment
+    left_before g.F.Form.head g.F.Form.area g.F.Form.following (λ j. j.disk) d.may_leave d.moment d.left_since c.args.self.now _ c.read_synced.ensures.any_moment
 
 pub returns-in-Err-NoMemory-clause-left : goal.returns-in-Err-NoMemory-clause-left
 returns-in-Err-NoMemory-clause-left g c = λ t left. (left.0, c.read_synced.ensures.left left.0 left.1, left.2)
@@ -51,7 +62,7 @@ returns-in-Err-NoMemory-clause-left g c = λ t left. (left.0, c.read_synced.ensu
 pub returns-in-Ok-replay-clause-any_moment : goal.returns-in-Ok-replay-clause-any_moment
 returns-in-Ok-replay-clause-any_moment g c =
     let d = g.D.Disk in
-    left_before g.F.Form.head g.F.Form.following (λ j. j.disk) d.may_leave d.moment d.left_since c.args.self.now _ c.read_synced.ensures.any_moment
+    left_before g.F.Form.head g.F.Form.area g.F.Form.following (λ j. j.disk) d.may_leave d.moment d.left_since c.args.self.now _ c.read_synced.ensures.any_moment
 
 pub returns-in-Ok-replay-clause-left : goal.returns-in-Ok-replay-clause-left
 returns-in-Ok-replay-clause-left g c = λ t left. (left.0, c.read_synced.ensures.left left.0 left.1, left.2)
@@ -59,7 +70,7 @@ returns-in-Ok-replay-clause-left g c = λ t left. (left.0, c.read_synced.ensures
 pub returns-clause-any_moment : goal.returns-clause-any_moment
 returns-clause-any_moment g c =
     let d = g.D.Disk in
-    left_before g.F.Form.head g.F.Form.following (λ j. j.disk) d.may_leave d.moment d.left_since c.args.self.now _ c.read_synced.ensures.any_moment
+    left_before g.F.Form.head g.F.Form.area g.F.Form.following (λ j. j.disk) d.may_leave d.moment d.left_since c.args.self.now _ c.read_synced.ensures.any_moment
 
 pub returns-clause-left : goal.returns-clause-left
 returns-clause-left g c = λ t left. (left.0, c.read_synced.ensures.left left.0 left.1, left.2)
@@ -69,7 +80,7 @@ returns-in-Err-NoMemory-clause-still g c =
     let d = g.D.Disk in
     let old = c.args.self.now in
     let new = c.read_synced.new.disk in
-    still_found g.F.Form.head g.F.Form.following (λ j. j.disk) d.content d.may_leave d.moment d.left_since old (record old { disk = new }) (NoMemory c.in-Err-NoMemory.settled)
+    still_found g.F.Form.head g.F.Form.area g.F.Form.following (λ j. j.disk) d.content d.may_leave d.moment d.left_since old (record old { disk = new }) (NoMemory c.in-Err-NoMemory.settled)
     (subst (λ e. StillReads d.content d.may_leave d.moment d.left_since e old.disk new) c.in-Err-NoMemory.field-0-is c.in-Err-NoMemory.ensures.still)
 
 pub returns-clause-still : goal.returns-clause-still
@@ -77,5 +88,29 @@ returns-clause-still g c =
     let d = g.D.Disk in
     let old = c.args.self.now in
     let new = c.read_synced.new.disk in
-    still_found g.F.Form.head g.F.Form.following (λ j. j.disk) d.content d.may_leave d.moment d.left_since old (record old { disk = new }) c.in-Err.refusal
+    still_found g.F.Form.head g.F.Form.area g.F.Form.following (λ j. j.disk) d.content d.may_leave d.moment d.left_since old (record old { disk = new }) c.in-Err.refusal
     (read_still d.content d.may_leave d.moment d.left_since old.disk new c.in-Err.refusal (λ is. c.in-Err.ensures.settled (ap Err is)) (c.in-Ok.ensures.same, c.in-Ok.ensures.synced))
+
+pub returns-in-Err-DiskFault-clause-within : goal.returns-in-Err-DiskFault-clause-within
+returns-in-Err-DiskFault-clause-within g c = λ file image longest within.
+    let d = g.D.Disk in
+    let f = g.F.Form in
+    still_within f.head f.area f.following d.content d.may_leave c.args.self.now.disk c.read_synced.new.disk file image longest c.read_synced.ensures.told c.read_synced.ensures.left within
+
+pub returns-in-Err-NoMemory-clause-within : goal.returns-in-Err-NoMemory-clause-within
+returns-in-Err-NoMemory-clause-within g c = λ file image longest within.
+    let d = g.D.Disk in
+    let f = g.F.Form in
+    still_within f.head f.area f.following d.content d.may_leave c.args.self.now.disk c.read_synced.new.disk file image longest c.read_synced.ensures.told c.read_synced.ensures.left within
+
+pub returns-in-Ok-replay-clause-within : goal.returns-in-Ok-replay-clause-within
+returns-in-Ok-replay-clause-within g c = λ file image longest within.
+    let d = g.D.Disk in
+    let f = g.F.Form in
+    still_within f.head f.area f.following d.content d.may_leave c.args.self.now.disk c.read_synced.new.disk file image longest c.read_synced.ensures.told c.read_synced.ensures.left within
+
+pub returns-clause-within : goal.returns-clause-within
+returns-clause-within g c = λ file image longest within.
+    let d = g.D.Disk in
+    let f = g.F.Form in
+    still_within f.head f.area f.following d.content d.may_leave c.args.self.now.disk c.read_synced.new.disk file image longest c.read_synced.ensures.told c.read_synced.ensures.left within

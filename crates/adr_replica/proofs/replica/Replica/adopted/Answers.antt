@@ -1,11 +1,9 @@
-use Rattle.adr_model.specs.Lengths.{log_limit, new_log_end}
-use Rattle.adr_replica.proofs.Adopted.{adopts_so, at_most, made_up}
+use Rattle.adr_replica.proofs.Adopted.{adopts_so, made_up}
 use Rattle.adr_replica.proofs.replica.Replica.adopted.Goals as goal
 
 pub on_new_disk-requires : goal.on_new_disk-requires
 on_new_disk-requires c =
-    c.fitting_states_may_begin.ensures c.in-Ok.state c.in-Ok.ensures.logged.0 c.in-Ok.ensures.logged.1
-    (at_most log_limit (new_log_end c.in-Ok.state) c.in-Ok.ensures.room)
+    c.fitting_states_may_begin.ensures c.in-Ok.state c.in-Ok.ensures.logged.0 c.in-Ok.ensures.logged.1 c.in-Ok.ensures.room
 
 pub returns-in-Ok-clause-made : goal.returns-in-Ok-clause-made
 returns-in-Ok-clause-made c =

@@ -18,4 +18,4 @@ returns c =
     put_seen _ _ _ _ _ _ c.args.name c.snapshot.inside.dsa c.in-Ok.controller c.none.result c.goes_as_planned.ensures.planned c.snapshot.inside.bytes.items c.snapshot.invariant.0 c.in_ok-journal.journal
     (c.in_ok-journal.ensures.read ∙ same) (c.in_ok-journal.ensures.safe ∙ same) (c.in_ok-journal.ensures.torn ∙ same) c.in_ok-journal.ensures.plan c.in_ok-journal.ensures.running
     c.in-Ok.ensures.ok c.in-Ok.ensures.starts c.snapshot.invariant.1 c.none.ensures
-    ∙ ap (λ (s : Snapshot). on_disk c.args.name s.state s.log_end) c.snapshot.view_is
+    ∙ ap (λ (s : Snapshot). on_disk c.args.name s.state s.log) c.snapshot.view_is

@@ -23,7 +23,7 @@ returns-clause-done c =
     let w = world_of c.args.self.now in
     let d = somebody_at c.args.self.now.controllers.items c.in-Some.place c.in-Some.ensures.place in
     let s = c.in-Some-get.snapshot.now in
-    let is = c.in_ok-controller.ensures ∙ ap (λ n. on_disk n s.state s.log_end) c.in_ok-name.ensures in
+    let is = c.in_ok-controller.ensures ∙ ap (λ n. on_disk n s.state s.log) c.in_ok-name.ensures in
     put_back_so c.args.self.now c.args.name.now c.in-Some.place d.0 (c.in-Some.ensures.found ∙ d.1) d.1 c.requires c.in_ok-controller.controller (ap (λ (r : Replica). r.name) is)
     s (bound_at w.snapshots c.args.snapshot.now) c.in-Some-get.ensures is
     ∙ ap (λ rs. (record w { clean = false; replicas = rs }, outcomes.Ok)) (sym c.replace.ensures)
@@ -32,7 +32,7 @@ pub returns-clause-tidy : goal.returns-clause-tidy
 returns-clause-tidy c =
     let d = somebody_at c.args.self.now.controllers.items c.in-Some.place c.in-Some.ensures.place in
     let s = c.in-Some-get.snapshot.now in
-    let is = c.in_ok-controller.ensures ∙ ap (λ n. on_disk n s.state s.log_end) c.in_ok-name.ensures in
+    let is = c.in_ok-controller.ensures ∙ ap (λ n. on_disk n s.state s.log) c.in_ok-name.ensures in
     record {
       apart = subst AreApart (sym c.replace.ensures) (apart_there c.args.self.now c.args.name.now c.in-Some.place d.0 (c.in-Some.ensures.found ∙ d.1) d.1 c.requires c.in_ok-controller.controller (ap (λ (r : Replica). r.name) is));
       requests = c.requires.requests;
