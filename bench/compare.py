@@ -24,7 +24,12 @@ PROFILES = {
     'all': dict(FAULTS, collect=4, delete=7, backup=3, restore=2, install=1, snapshot=3, rollback=2, controller=1, time=7),
     'faults': dict(FAULTS, collect=3, delete=5, backup=2, restore=1, install=1, snapshot=2, rollback=1),
     'rings': {'ring': 12},
+    'logs': {'time': 1, 'add': 6, 'modify': 100, 'rename': 2, 'delete': 1, 'link': 1, 'unlink': 1, 'ask': 0, 'serve': 0, 'deliver': 0,
+             'pull': 2, 'cycle': 3, 'show': 0, 'vector': 0, 'marks': 0, 'stop': 1, 'stop after': 1, 'fail after': 1, 'start': 6,
+             'snapshot': 0.7, 'rollback': 0.3, 'backup': 0.7, 'restore': 0.3, 'collect': 0.3},
 }
+# the bytes of a record with a long description, nearly
+LONG_RECORD = 2200
 # what stands in the way of the rings of a schedule: nothing, down controllers and faults, late ones, disks put back, or all of it
 IN_THE_WAY = ['plain', 'stops', 'collect', 'both', 'rollback', 'all']
 
@@ -46,6 +51,7 @@ class Maker:
         self.r.shuffle(self.dsas)
         self.guids = [0x10 + k for k in range(self.r.randint(2, 7))]
         self.texts = self.r.sample(['x', 'X', 'y', 'z', 'Z', 'lostandfound', 'ß', 'SS', 'w'], self.r.randint(2, 5))
+        self.long = profile == 'logs'     # descriptions are long, so that logs are written anew every thirty writes
         self.now, self.most = 0, self.r.choice(((1,), (1, 2), (2, 3, 10), (10000,), (1, 10, 10000)))
 
     def emit(self, line):
@@ -94,13 +100,28 @@ class Maker:
     def new(self, kind):
         return '%s%d' % (kind, len(self.bound[kind]) + 1)
 
+    def long_description(self):
+        return ' description=' + ','.join('"%d%s"' % (k, self.r.choice('abc') * 255) for k in range(8))
+
+    def long_write(self, name):
+        """A long description of a live object at that controller, or another line that brings one nearer."""
+        controller = self.world.controllers[name]
+        live = [oid for oid, rows in controller.read.objects.items() if 3 not in rows]
+        if controller.standing != 'up':
+            return 'start ' + name
+        if not live:
+            return 'add %s #%x container #1 "long"%s' % (name, self.guids[0], self.long_description())
+        return 'modify %s #%x%s' % (name, self.r.choice(live).guid, self.long_description())
+
     def sets(self, class_name):
         r = self.r
         must = {'user': ' sAMAccountName="%s"' % r.choice('ab'), 'computer': ' sAMAccountName="c"', 'group': ' groupType=%d' % r.choice((2, -3))}
         out = must.get(class_name, '')
         if r.random() < 0.02:
             out = ''
-        if r.random() < 0.3:
+        if self.long and r.random() < 0.8:
+            out += self.long_description()
+        elif r.random() < 0.3:
             out += ' description=' + ','.join(r.sample(['"d"', '"e"', '"f"'], r.randint(1, 2)))
         if class_name == 'user' and r.random() < 0.2:
             out += ' mail="%s"' % r.choice('mn')
@@ -157,6 +178,8 @@ class Maker:
                     guid = r.choice(free)
             text = self.text() if r.random() < 0.98 else r.choice(('""', '" x"', '"x "', '"a\\0ab"', '"%s"' % ('n' * 129)))
             return 'add %s #%x %s %s %s%s' % (a, guid, kind, self.parent(a), text, self.sets(kind))
+        if verb == 'modify' and self.long and r.random() < 0.95:
+            return self.long_write(a)
         if verb == 'modify':
             guid = self.held_guid(a)
             return 'modify %s %s %s' % (a, guid, self.known_sets(a, guid))
@@ -255,9 +278,27 @@ class Maker:
         return 'ring %d %d %s' % (rounds, r.choice(self.most), ' '.join(chosen))
 
     def some(self, verb=None):
+        if self.long:
+            self.due()
         line = self.line(verb)
         if line:
             self.emit(line)
+
+    def due(self):
+        """Where a log is about to be written anew, most often one of the nine calls goes wrong, and the start behind it maybe too."""
+        r = self.r
+        for name, controller in list(self.world.controllers.items()):
+            log = controller.read_log
+            if controller.standing == 'up' and log.end - log.first + LONG_RECORD > log.first - log.place + model.RECORDS_MORE and r.random() < 0.7:
+                calls = r.choice((0, 1, 2, 3, 3, 4, 4, 4, 5, 6, 7, 8, 9))
+                self.emit(r.choice(('fail %s after %d' % (name, calls), 'stop %s after %d %s' % (name, calls, r.choice(('kept', 'lost', 'torn'))))))
+                self.emit(self.long_write(name))
+                if controller.standing != 'up':
+                    if r.random() < 0.6:
+                        self.emit(r.choice(('fail %s after 0' % name, 'stop %s after 0 %s' % (name, r.choice(('kept', 'lost', 'torn', 'torn'))))))
+                        self.emit('start ' + name)
+                    self.emit('start ' + name)
+                self.emit('marks ' + name)
 
     def pattern(self):
         """A few lines that belong together, where the profile has the verbs."""
@@ -327,13 +368,13 @@ class Maker:
             self.names = names
 
     def make(self):
-        for _ in range(self.r.randint(2, 4)):
+        for _ in range(self.r.randint(1, 2) if self.long else self.r.randint(2, 4)):
             name = 'ABCD'[len(self.names)]
             self.names.append(name)
             self.emit('controller %s #%x #%x' % (name, self.dsas.pop(), self.ids.pop()))
         for _ in range(self.r.randint(0, 6)):
             self.some('add')
-        for _ in range(self.r.choice((15, 30, 60, 120))):
+        for _ in range(self.r.choice((90, 180, 300)) if self.long else self.r.choice((15, 30, 60, 120))):
             if self.r.random() < 0.06:
                 self.pattern()
             else:

@@ -10,6 +10,7 @@ import sys
 from dataclasses import dataclass, field
 
 OPEN = 0xC3
+FIRST_AREA = 56
 MOST_CURSORS = 10_000
 MOST_MARKS = 10_000
 MOST_OBJECTS = 200_000
@@ -462,31 +463,53 @@ def follow(state, change):
 # ---- logs
 
 
-def read_head(data, state):
-    """The place behind the head."""
+@dataclass
+class Log:
+    """Whether the second slot selects its area, and the places of that, of its first gate and behind its closed one."""
+
+    second: bool
+    place: int
+    first: int
+    end: int
+
+
+def read_front(data, state):
+    """Whether the second slot is selected, and the place of the area that it names."""
     reader = Reader(data, 1, len(data))
     if reader.take(min(4, reader.end - 1)) != b"ADJL":
         raise Damaged(1)
-    reader.number(2, 1, 1)
+    reader.number(2, 2, 2)
     state.dsa, state.inv = reader.identifier(), reader.identifier()
-    end = 43 + reader.number(4)
-    read_image(Reader(data, 43, min(end, len(data))), state)
+    second = reader.number(1) == OPEN
+    place = (reader.number(8), reader.number(8))[second]
+    if not FIRST_AREA <= place < len(data):
+        raise Damaged(48 if second else 40)
+    return second, place
+
+
+def read_area(data, place, state):
+    """The place behind an area's image."""
+    reader = Reader(data, place, len(data))
+    reader.number(2, 1, 1)
+    end = place + 6 + reader.number(4)
+    read_image(Reader(data, place + 6, min(end, len(data))), state)
     if end > len(data):
         raise Damaged(len(data))
     if state.vector.get(state.inv, 0) != state.usn:
-        raise Damaged(43)
+        raise Damaged(place + 6)
     return end
 
 
 def read_log(data):
-    """The state that a log leads to, and the place behind its closed gate."""
+    """The state that a log leads to, and where it stands."""
     if len(data) < 2 or data[0] != OPEN:
         raise Damaged(0)
     state = State()
-    gate = read_head(data, state)
+    second, place = read_front(data, state)
+    first = gate = read_area(data, place, state)
     while gate < len(data):
         if data[gate] != OPEN:
-            return state, gate + 1
+            return state, Log(second, place, first, gate + 1)
         behind = gate + 5
         end = behind + int.from_bytes(data[gate + 1 : behind], "big")
         if behind > len(data) or end > len(data):
@@ -499,9 +522,10 @@ def read_log(data):
     raise Damaged(gate)
 
 
-def told(state, end):
+def told(state, log):
     yield f"controller {state.dsa.hex()} invocation {state.inv.hex()}"
-    yield f"usn {state.usn}{' quarantined' if state.quarantined else ''}, the log ends at {end}"
+    yield f"usn {state.usn}{' quarantined' if state.quarantined else ''}"
+    yield f"area {int(log.second)} at {log.place}, records from {log.first} on, end {log.end}"
     for name, vector in (("seen", state.vector), ("collected", state.collected)):
         for inv, usn in sorted(vector.items()):
             yield f"{name} {inv.hex()} {usn}"

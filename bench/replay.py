@@ -114,6 +114,12 @@ def shows(size):
     return before, ["show A"] * 5
 
 
+def few_objects(size):
+    """Writes of ten objects, so that the log is written anew again and again."""
+    before = controllers(["A"]) + [f'add A #{0x10 + number:x} container #1 "box {number}"' for number in range(10)]
+    return before, [f'modify A #{0x10 + turn % 10:x} description="turn {turn}"' for turn in range(size)]
+
+
 def start(size):
     before = controllers(["A"]) + users("A", range(size))
     return before, ["stop A", "start A"]
@@ -127,6 +133,7 @@ WORKS = [
     ("cycle, MAX 1000", cycles_of(1000), 20000),
     ("adds on both sides, cycles both ways", both_ways, 20000),
     ("modifies of all", modifies, 20000),
+    ("modifies of ten objects", few_objects, 50000),
     ("deletes of all, and the cycle", deletes, 10000),
     ("members of one group, and the cycle", one_group, 20000),
     ("death of the group, and the cycle", group_deleted, 20000),

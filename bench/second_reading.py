@@ -28,6 +28,8 @@ ATTR_NUMBER = {name: number for number, name in ATTRS.items()}
 ROOT, LOST = 1, 2
 USN_MAX, VERSION_MAX = 2**63 - 1, 2**32 - 1
 ITEM_BYTES = 4 * 1024 * 1024
+# a record's body without writes, marks, cursors and removed objects; the limit of a log; and what records may exceed an image by
+BODY_LEAST, LOG_LIMIT, RECORDS_MORE = 26, 2**33, 65536
 LIMIT = {'Objects': 200000, 'Links': 1000000, 'Cursors': 10000, 'Marks': 10000}
 
 Oid = namedtuple('Oid', 'guid inv usn')
@@ -156,6 +158,7 @@ class State:
         self.marks = {}           # dsa: (inv, mark)
         self.objects = {}         # Oid: {attr: Row}
         self.links = {}           # (from, attr, to): LinkRow
+        self.body = BODY_LEAST    # the bytes of the change that led here, as the body of a record
 
     def copy(self):
         new = State(self.dsa, self.inv)
@@ -335,6 +338,16 @@ def full(state):
             raise Refusal(22, 'Full', ('table', table), ('limit', LIMIT[table]))
 
 
+def written(state):
+    """Counts what a client's write of this USN wrote."""
+    for oid, rows in state.objects.items():
+        sent = [(attr, row.stamp, row.content) for attr, row in rows.items() if row.local == state.usn]
+        if sent:
+            state.body += 8 + item_length(('object', oid, sent))
+    state.body += sum(8 + item_length(('link',)) for row in state.links.values() if row.local == state.usn)
+    return state
+
+
 def write_add(old, now, guid, class_number, parent, text, values):
     not_quarantined(old)
     state, view = old.copy(), View(old)
@@ -447,20 +460,21 @@ def ask(state, partner, most):
     return Request(state.dsa, partner, inv, mark, 1, most, state.vector())
 
 
+def content_length(attr, content):
+    if attr == 1:
+        return 2
+    if attr == 2:
+        return 16 + 2 + len(content[0].encode())
+    if attr == 3:
+        return 0
+    return 1 + sum({'text': lambda c: 3 + len(c.encode()), 'num': lambda c: 9, 'flag': lambda c: 2,
+                    'oct': lambda c: 3 + len(c) // 2, 'ref': lambda c: 17}[kind](c) for kind, c in content)
+
+
 def item_length(item):
     if item[0] == 'link':
         return 1 + 40 + 2 + 40 + 8 + 36 + 1
-    length = 1 + 40 + 2
-    for attr, stamp, content in item[2]:
-        length += 2 + 36
-        if attr == 1:
-            length += 2
-        elif attr == 2:
-            length += 16 + 2 + len(content[0].encode())
-        elif attr != 3:
-            length += 1 + sum({'text': lambda c: 3 + len(c.encode()), 'num': lambda c: 9, 'flag': lambda c: 2,
-                               'oct': lambda c: 3 + len(c) // 2, 'ref': lambda c: 17}[kind](c) for kind, c in content)
-    return length
+    return 1 + 40 + 2 + sum(2 + 36 + content_length(attr, content) for attr, stamp, content in item[2])
 
 
 def candidates(state, start, vector):
@@ -549,17 +563,18 @@ def take_object(state, vector, place, oid, sent):
             raise Refusal(43, 'Incomplete', ('object', show_id(oid.guid)))
     usn = state.usn + 1
     if held is None:
-        state.objects[oid] = {attr: Row(stamp, usn, content) for attr, stamp, content in kept}
-        wrote = True
+        new = kept
+        state.objects[oid] = {}
     else:
-        wrote = False
-        for attr, stamp, content in kept:
-            if attr != 1 and (attr not in held or stamp > held[attr].stamp):
-                state.objects[oid][attr] = Row(stamp, usn, content)
-                wrote = True
+        new = [row for row in kept if row[0] != 1 and (row[0] not in held or row[1] > held[row[0]].stamp)]
+    for attr, stamp, content in new:
+        state.objects[oid][attr] = Row(stamp, usn, content)
     if 3 in state.objects[oid]:
         state.strip(oid)
-    return wrote
+        new = [row for row in new if row[0] in (1, 2, 3)]
+    if new:
+        state.body += 8 + item_length(('object', oid, new))
+    return bool(new)
 
 
 def take_link(state, vector, place, key, stamp, present):
@@ -575,6 +590,7 @@ def take_link(state, vector, place, key, stamp, present):
     if held is not None and not stamp > held.stamp:
         return False
     state.links[key] = LinkRow(stamp, present, state.usn + 1)
+    state.body += 8 + item_length(('link',))
     return True
 
 
@@ -611,8 +627,10 @@ def take(old, reply):
     if state.usn > USN_MAX:
         raise Refusal(21, 'UsnLimit')
     state.marks[reply.source] = (reply.inv, reply.to)
+    state.body += 56
     if reply.last is not None:
         join(state.others, reply.last)
+        state.body += 24 * len(reply.last)
     if fault is not None:
         raise fault
     full(state)
@@ -631,10 +649,13 @@ def collect(old, now, lifetime):
                 gone.append((oid, death))
     if gone:
         take_usn(state)
+        least = {}
         for oid, death in gone:
             del state.objects[oid]
-            join(state.purged, {oid.inv: oid.usn})
-            join(state.purged, {death.inv: death.usn})
+            join(least, {oid.inv: oid.usn})
+            join(least, {death.inv: death.usn})
+        join(state.purged, least)
+        state.body += 40 * len(gone) + 24 * len(least)
     return state, len(gone)
 
 
@@ -663,16 +684,33 @@ class Halt(Exception):
     """An answer that ends a call: down, failed, disk, stopped, absent."""
 
 
+def image_length(state):
+    rows = sum(46 + content_length(attr, row.content) for held in state.objects.values() for attr, row in held.items())
+    return (30 + 4 + 24 * len(state.vector()) + 4 + 24 * len(state.purged) + 56 * len(state.marks) + 42 * len(state.objects)
+            + rows + 135 * len(state.links))
+
+
+Log = namedtuple('Log', 'second place first end')        # the slot that selects its area, and three places
+
+
+def area(second, place, state):
+    image = image_length(state)
+    return Log(second, place, place + 6 + image, place + 7 + image)
+
+
 class Controller:
     def __init__(self, state):
-        self.fresh(state)
+        self.fresh(state, None)
 
-    def fresh(self, state):
+    def fresh(self, state, log):
         self.read = self.safe = state
+        self.read_log = self.safe_log = log or area(False, 56, state)
+        if self.read_log.end > LOG_LIMIT:
+            raise Refusal(22, 'Full', ('table', 'Log'), ('limit', LOG_LIMIT))
         self.standing, self.plan = 'up', None
 
     def device(self):
-        """Whether the plan lets the next device call pass: None, ('fail',) or ('stop', how)."""
+        """What the next device call meets by the plan: None, ('fail', None) or ('stop', how)."""
         if self.plan is None:
             return None
         kind, left, how = self.plan
@@ -684,32 +722,57 @@ class Controller:
 
     def crash(self, how):
         if how == 'lost':
-            self.read = self.safe
-        else:
-            self.safe = self.read
+            self.read, self.read_log = self.safe, self.safe_log
+        elif how == 'torn' and self.read_log.second != self.safe_log.second:
+            # the selector isn't synced, and its torn byte selects the second slot
+            self.read_log = self.read_log if self.read_log.second else self.safe_log
+        self.safe, self.safe_log = self.read, self.read_log
         self.standing = 'down'
 
-    def commit(self, state):
-        for call in ('body', 'sync', 'gate', 'sync'):
+    def calls(self, names, does):
+        """Device calls, one after the other: what each but a sync does is seen at once, and safe with the next sync."""
+        for call in names:
             met = self.device()
             if met is not None and met[0] == 'fail':
                 self.standing = 'failed'
                 raise Halt('disk')
-            if call == 'gate':
-                if met is None or met[1] != 'lost':
-                    self.read = state
+            if met is None or met[1] != 'lost':
+                does(call)
             if met is not None:
                 self.crash(met[1])
                 raise Halt('stopped')
             if call == 'sync':
-                self.safe = self.read
+                self.safe, self.safe_log = self.read, self.read_log
+
+    def commit(self, state):
+        old, record = self.read_log, 5 + state.body
+        records, image = old.end - old.first - 1, old.first - old.place - 6
+        due = records > 0 and records + record > image + RECORDS_MORE
+        log = old
+        if due:
+            size = image_length(self.read) + 7
+            log = area(not old.second, 56 if 56 + size <= old.place else old.end, self.read)
+        if log.end + record > LOG_LIMIT:
+            raise Refusal(22, 'Full', ('table', 'Log'), ('limit', LOG_LIMIT))
+
+        def checkpoint(call):
+            if call == 'selector':
+                self.read_log = log
+
+        def commits(call):
+            if call == 'gate':
+                self.read, self.read_log = state, log._replace(end=log.end + record)
+
+        if due:
+            self.calls(('area', 'slot', 'sync', 'selector', 'sync'), checkpoint)
+        self.calls(('body', 'sync', 'gate', 'sync'), commits)
 
     def start(self):
         if self.standing == 'up':
             return 'up'
         met = self.device()
         if met is None:
-            self.safe = self.read
+            self.safe, self.safe_log = self.read, self.read_log
             self.standing = 'up'
             return 'ok'
         if met[0] == 'fail':
@@ -758,7 +821,7 @@ class World:
     def write(self, name, function, *arguments):
         def work():
             controller = self.up(name)
-            controller.commit(function(controller.read, self.now, *arguments))
+            controller.commit(written(function(controller.read, self.now, *arguments)))
             return 'ok usn=%d' % controller.read.usn
         return self.call(work)
 
@@ -923,7 +986,7 @@ class World:
     def line_restore(self, name, image, inv):
         def work():
             controller = self.there(name)
-            controller.fresh(adopt(self.bound(self.images, image), controller.read.dsa, inv))
+            controller.fresh(adopt(self.bound(self.images, image), controller.read.dsa, inv), None)
             return 'ok'
         return self.call(work)
 
@@ -935,14 +998,16 @@ class World:
 
     def line_snapshot(self, name, bound):
         def work():
-            self.snapshots[bound] = self.there(name).read.copy()
+            controller = self.there(name)
+            self.snapshots[bound] = controller.read.copy(), controller.read_log
             return 'ok'
         return self.call(work)
 
     def line_rollback(self, name, snapshot):
         def work():
             controller = self.there(name)
-            controller.fresh(self.bound(self.snapshots, snapshot).copy())
+            state, log = self.bound(self.snapshots, snapshot)
+            controller.fresh(state.copy(), log)
             return 'ok'
         return self.call(work)
 
