@@ -33,6 +33,9 @@ TOP = os.path.dirname(os.path.dirname(os.path.abspath(__file__)))
 PROGRAM = f"{TOP}/crates/adr_survivor/out/adr_survivor"
 ROUNDS_OF_FILE = 100
 FORMATS_OF_FILE = 10
+# Of the kills while a log is written anew.
+KILLS_OF_LOG = 25
+KILLS_OF_FILE = 75
 # More than a process adds before it is killed.
 MANY = 100_000
 # What the records of an area may exceed its image by.
@@ -203,9 +206,12 @@ class FullFile(File):
 
 def checkpoints(folder, chance, count):
     """Kills processes while they write logs anew, in either slot and at several places; how many there were of each kind."""
-    killed, file = {"before": 0, "within": 0, "behind": 0}, FullFile(folder, "anew")
+    killed = {"before": 0, "within": 0, "behind": 0}
     for turn in range(count):
-        if turn % 100 == 99:
+        # Each time the log is written anew its image is twice as long, so a new file is begun now and then.
+        if turn % KILLS_OF_FILE == 0:
+            file = FullFile(folder, f"anew{turn}")
+        elif turn % KILLS_OF_LOG == 0:
             file.go_on()
         killed[file.kill(chance)] += 1
     return killed
