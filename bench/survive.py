@@ -3,8 +3,8 @@
 
 Usage: bench/survive.py [--rounds N] [--checkpoints N] [--seed N]
 
-A round starts `adr_survivor run`, which adds objects one by one and tells each as soon as it is acknowledged, and kills
-the process (SIGKILL) within 30 ms, or behind a random number of lines. Then `adr_survivor show` has to tell all that was
+A round starts `adr_test_killed run`, which adds objects one by one and tells each as soon as it is acknowledged, and kills
+the process (SIGKILL) within 30 ms, or behind a random number of lines. Then `adr_test_killed show` has to tell all that was
 acknowledged, at most one object more (that of the write under way), no other, and the USN of the last one. The next round
 goes on behind these. Each hundred rounds new files are begun, and the processes that format them are killed as well.
 
@@ -30,7 +30,7 @@ import time
 import read_log
 
 TOP = os.path.dirname(os.path.dirname(os.path.abspath(__file__)))
-PROGRAM = f"{TOP}/crates/adr_survivor/out/adr_survivor"
+PROGRAM = f"{TOP}/crates/adr_test_killed/out/adr_test_killed"
 ROUNDS_OF_FILE = 100
 FORMATS_OF_FILE = 10
 # Of the kills while a log is written anew.
@@ -252,7 +252,7 @@ def main():
     seed = given.seed if given.seed is not None else random.randrange(2**32)
     chance = random.Random(seed)
     if not os.path.exists(PROGRAM):
-        sys.exit(f"survive: {PROGRAM} isn't built: `rt run` in crates/adr_survivor builds it")
+        sys.exit(f"survive: {PROGRAM} isn't built: `rt run` in crates/adr_test_killed builds it")
     files = acknowledged = under_way = unfinished = 0
     folder = tempfile.mkdtemp(prefix="survive-")
     print(f"seed {seed}, in {folder}", flush=True)

@@ -7,7 +7,7 @@ use Rattle.std.proofs.lemmas.List.{length-take, drop_all}
 use Rattle.adr_io.specs.Told.{Adds, AddsFront}
 use Rattle.adr_io.specs.declared.Fault.{Fault}
 use Rattle.adr_io.specs.declared.Fault.TheVariants.{Failed, NoMemory}
-use Rattle.adr_report.proofs.Due.{none_added}
+use Rattle.adr_answers.proofs.Due.{none_added}
 use Rattle.adr_schedule.specs.declared.fault.Cause.TheVariants.{TooLong}
 use Rattle.adr_schedule.specs.Limits.{text_limit}
 use Rattle.adr_schedule.specs.Lines.{lines_of}

@@ -1,6 +1,5 @@
 -- What a text gives: a status, and what is written.
-use Rattle.std.specs.Prelude.{◌≡◌, ◌⊎◌, ℕ, List, [], ◌∷◌, Bool, false, Result, Ok, Err, codes}
-use Rattle.std.specs.Str.{bytes_eq}
+use Rattle.std.specs.Prelude.{◌≡◌, ◌⊎◌, ℕ, List, Bool, true, false, Option, Some, Result, Ok, Err, codes}
 use Rattle.adr_event.specs.declared.event.Event.{Event}
 use Rattle.adr_io.specs.declared.Fault.{Fault}
 use Rattle.adr_io.specs.declared.Fault.TheVariants.{Failed, NoMemory}
@@ -8,7 +7,10 @@ use Rattle.adr_schedule.specs.declared.fault.ScheduleFault.{ScheduleFault}
 use Rattle.adr_schedule.specs.Schedules.{IsSchedule, IsFault}
 use Rattle.adr_schedule.specs.Telling.{fault_line}
 use Rattle.adr_model.specs.World.{empty_world}
-use Rattle.adr_world.specs.Played.{output_from}
+use Rattle.adr_run_world.specs.Played.{output_from}
+use Rattle.adr_words.specs.declared.kinds.Command.{Command}
+use Rattle.adr_words.specs.declared.kinds.Command.TheVariants.{Replay}
+use Rattle.adr_words.specs.Commands.{command_of}
 
 -- a schedule of some events gives 0 and the output of their run; a text with a fault gives 3 and the fault's line
 abbrev pub Gives : List ℕ → ℕ → List ℕ → Type 0
@@ -22,11 +24,13 @@ TextsGiveOne =
     (text : List ℕ) → (status : ℕ) × (written : List ℕ) × Gives text status written
     × ((s : ℕ) (w : List ℕ) → Gives text s w → (s ≡ status) × (w ≡ written))
 
--- the words of a command
+-- the one command that runs yet; the words of every other get the usage line
+abbrev pub is_replay_command : Option Command → Bool
+is_replay_command (Some Replay) = true
+is_replay_command _ = false
+
 abbrev pub is_replay : List (List ℕ) → Bool
-is_replay [] = false
-is_replay (w ∷ []) = bytes_eq w (codes "replay")
-is_replay (w ∷ v ∷ ws) = false
+is_replay words = is_replay_command (command_of words)
 
 unfoldable pub usage_line : List ℕ
 usage_line = codes "usage: adrep replay | exercise N | create NAME | install NAME | restore NAME DSA | backup NAME | show NAME | export NAME | serve NAME PORT COUNT | pull NAME PORT | send PORT\n"

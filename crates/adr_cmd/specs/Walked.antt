@@ -5,7 +5,7 @@ use Rattle.adr_schedule.specs.declared.fault.ScheduleFault.{ScheduleFault}
 use Rattle.adr_schedule.specs.Events.{events_of}
 use Rattle.adr_schedule.specs.Telling.{fault_line}
 use Rattle.adr_model.specs.World.{empty_world}
-use Rattle.adr_world.specs.Played.{output_from}
+use Rattle.adr_run_world.specs.Played.{output_from}
 
 -- a text's status, and what is written for it: the run of its events, or its first fault
 abbrev pub outcome_of : Result (List Event) ScheduleFault → ℕ × List ℕ

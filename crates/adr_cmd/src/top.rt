@@ -1,27 +1,29 @@
 //! The top call.
 
-ghost use Rattle.std.specs.Prelude.{◌≡◌, ◌⊎◌, ◌<◌, ◌≤◌, ◌+◌, ℕ, List, [], map, string_bytes, true, false, OnOk, OnErr, IfSome, IsErrOf, drop, Some};
+ghost use Rattle.std.specs.Prelude.{◌≡◌, ◌⊎◌, ◌<◌, ◌≤◌, ◌+◌, ℕ, List, [], map, string_bytes, true, false, OnOk, OnErr, IfOk, IfSome, IsErrOf, drop, Some};
 ghost use Rattle.adr_io.specs.Told.{Adds, AddsFront};
 ghost use Rattle.adr_law_headline.specs.Headline.{IsHeadline};
-ghost use Rattle.adr_report.specs.Laws.{EqualLinesMeanEqualDirectories};
+ghost use Rattle.adr_answers.specs.Laws.{EqualLinesMeanEqualDirectories};
 ghost use Rattle.adr_schedule.specs.Limits.{text_limit};
 ghost use Rattle.adr_schedule.specs.Telling.{fault_line};
 ghost use Rattle.adr_cmd.specs.Outcome.{Gives, TextsGiveOne, is_replay, usage_line, ended};
 ghost use Rattle.adr_cmd.specs.Shown.{AtEachShow};
 ghost use Rattle.adr_cmd.specs.Walked.{outcome};
 
+use adr_failure::NoMemory;
 use adr_io::{Fault, Sink, Source, read_at_most};
+use adr_run_world::play;
 use adr_schedule::{Failure, ScheduleFault, TEXT_LIMIT, discard, fault_line, parse};
-use adr_world::play;
+use adr_words::{Command, command};
 use std::alloc::Global;
 
-/// Whether the words are the one command that there is.
-fn is_replay(words: &[String]) -> bool
-    ensures { result ≡ is_replay (map string_bytes words.now) }
+/// Whether the words are those of the one command that runs yet.
+fn is_replay(alloc: Global, words: &[String]) -> Result<bool, NoMemory>
+    ensures { IfOk result (λ is. is ≡ is_replay (map string_bytes words.now)) }
 {
-    match words {
-        [word] => word.as_bytes() == b"replay".as_slice(),
-        _ => false,
+    match command(alloc, words)? {
+        Some(Command::Replay) => Ok(true),
+        _ => Ok(false),
     }
 }
 
@@ -166,10 +168,10 @@ pub fn run<S: Source, K: Sink>(alloc: Global, words: &[String], source: &mut S, 
     ensures source_faults { S.faults source.old ≤ S.faults source.new }
     ensures sink_faults { K.faults sink.old ≤ K.faults sink.new }
 {
-    if is_replay(words) {
-        replay(alloc, source, sink)
-    } else {
-        usage(sink)
+    match is_replay(alloc, words) {
+        Ok(true) => replay(alloc, source, sink),
+        Ok(false) => usage(sink),
+        Err(_) => 8,
     }
 }
 

@@ -1,12 +1,12 @@
 //! A collection.
 
 ghost use Rattle.std.specs.Prelude.{◌≡◌, ◌+◌, None, Some, Ok, Err, IfOk, IsErrOf, nat_lt, if◌then◌else◌};
-ghost use Rattle.adr_event.specs.declared.refusal.CollectRefusal.{CollectRefusal};
+ghost use Rattle.adr_call.specs.declared.refusal.CollectRefusal.{CollectRefusal};
 ghost use Rattle.adr_model.specs.Collect.{collect};
 ghost use Rattle.adr_model.specs.Write.{usn_limit};
 
 use crate::deaths::dead_to_collect;
-use adr_event::{CollectRefusal, Failure};
+use adr_call::{CollectRefusal, Failure};
 use adr_state::{Change, Mode, State, USN_LIMIT, Vector};
 use std::alloc::Global;
 

@@ -10,7 +10,7 @@ ghost use Rattle.adr_model.specs.Collect.{collected_by, covering, deaths_to_coll
 ghost use Rattle.adr_collect.specs.Covering.{covering_with};
 
 use crate::NoMemory;
-use adr_event::Failure;
+use adr_call::Failure;
 use adr_guid::Guid;
 use adr_state::{Oid, State, Update, Vector, covers_birth, covers_update};
 use std::alloc::{AllocError, Global};

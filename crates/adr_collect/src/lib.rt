@@ -7,6 +7,6 @@
 mod collecting;
 mod deaths;
 
-pub use adr_event::{CollectRefusal, Failure};
+pub use adr_call::{CollectRefusal, Failure};
 pub use adr_state::{Change, NoMemory, State};
 pub use collecting::collect;

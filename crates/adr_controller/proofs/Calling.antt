@@ -1,18 +1,14 @@
 -- A call of a controller, by what it committed.
-use Rattle.std.proofs.Common.{◌≡◌, ◌⊎◌, inl, inr, ⊎_elim, ◌∙◌, sym, ap, subst, refl, ℕ, Bool, true, false, Option, Some, None, IfSome, IsSome, Result, Ok, Err}
-use Rattle.std.specs.Prelude.{◌↔◌, IsErrOf}
+use Rattle.std.proofs.Common.{◌≡◌, ◌⊎◌, inl, inr, ⊎_elim, ◌∙◌, sym, ap, subst, refl, ℕ, Bool, true, false, Option, Some, None, IsSome, Result, Ok, Err, arith}
+use Rattle.std.specs.Prelude.{◌↔◌}
 use Rattle.std.specs.Bool.{then_some}
 use Rattle.adr_failure.specs.declared.Failure.{Failure}
 use Rattle.adr_failure.specs.declared.Failure.TheVariants as failures
-use Rattle.adr_event.specs.declared.refusal.WriteRefusal.{WriteRefusal}
 use Rattle.adr_disk.specs.Disk.{LeavesOnly}
 use Rattle.adr_disk.proofs.Moments.{started}
 use Rattle.adr_model.specs.Store.{State}
 use Rattle.adr_model.specs.Change.{Change, after}
 use Rattle.adr_model.specs.Collect.{quarantine}
-use Rattle.adr_model.specs.Replica.{change_in}
-use Rattle.adr_model.specs.Step.{ClientWrite}
-use Rattle.adr_model.specs.Write.{write}
 use Rattle.adr_law_journal.specs.Areas.{Found, found, Started}
 use Rattle.adr_law_journal.specs.Kept.{FindsEither}
 use Rattle.adr_journal.specs.declared.keeper.Keeper.{Ghosts}
@@ -21,7 +17,6 @@ use Rattle.adr_controller.specs.declared.refusal.Hindrance.TheVariants.{Down, Fa
 use Rattle.adr_controller.specs.declared.refusal.CallRefusal.{CallRefusal}
 use Rattle.adr_controller.specs.declared.refusal.CallRefusal.TheVariants.{Refused, Hindered}
 use Rattle.adr_controller.specs.Running.{Running, IsInOrder}
-use Rattle.adr_controller.specs.Able.{change_of_write}
 use Rattle.adr_controller.specs.Ended.{call_hindrance, of_failure}
 use Rattle.adr_controller.specs.Did.{Ran, Commits, Calls, IsMade}
 use Rattle.adr_controller.proofs.Bounding.{grown}
@@ -37,6 +32,8 @@ module _ {K : Type 0} (k : Ghosts K) where
     unchanged = λ s is none. calls.unchanged s is (same s is ∙ none);
     idle = λ s is none. calls.idle s is (same s is ∙ none);
     commits = λ s c is makes. calls.commits s c is (same s is ∙ makes);
+    later = calls.later;
+    still_told = calls.still_told;
   }
 
   -- the change that a call makes of the state was committed
@@ -50,6 +47,8 @@ module _ {K : Type 0} (k : Ghosts K) where
     unchanged = λ s is none. absurd (cc (none, makes s is));
     idle = λ s is none. absurd (cc (none, makes s is));
     commits = λ s d is other. subst (λ e. Commits k s e old new how) (some_is c d (sym (makes s is) ∙ other)) (commits s is);
+    later = (commits made.state made.in_memory).later;
+    still_told = (commits made.state made.in_memory).still_told;
   }
     where
       makes : (s : State) → old.state ≡ Some s → changes s ≡ Some c
@@ -65,6 +64,8 @@ module _ {K : Type 0} (k : Ghosts K) where
     unchanged = λ s is _. absurd (cc (is, none));
     idle = λ s is _. absurd (cc (is, none));
     commits = λ s c is _. absurd (cc (is, none));
+    later = omega arith;
+    still_told = (λ some. some, λ some. some);
   }
   not_running changes old h (inr (is, up, none)) how same = record {
     down = (λ down. absurd (cc (is, same, down)), λ down. absurd (cc (down, up)));
@@ -73,6 +74,8 @@ module _ {K : Type 0} (k : Ghosts K) where
     unchanged = λ s is _. absurd (cc (is, none));
     idle = λ s is _. absurd (cc (is, none));
     commits = λ s c is _. absurd (cc (is, none));
+    later = omega arith;
+    still_told = (λ some. some, λ some. some);
   }
 
   -- nothing was committed: memory was wanting, or the call makes no change
@@ -88,8 +91,11 @@ module _ {K : Type 0} (k : Ghosts K) where
       stands = λ h log at. absurd (cc (wants, h));
       full = λ h. refl;
       no_memory = λ h. (refl, same_keeps k.told k.may_leave k.moment k.left_since old.keeper);
+      still_there = λ h. record { at = λ f at. at; failed = refl };
       fault = λ h. absurd (cc (wants, h));
       still_up = (order.up s is).1;
+      later = omega arith;
+      still_told = (λ some. some, λ some. some);
       within = λ h log at. absurd (⊎_elim (λ (n : how ≡ None). let no : ⊥ = cc (wants, n) in no) (λ (f : how ≡ Some DiskFault). let no : ⊥ = cc (wants, f) in no) h);
       beyond = λ h. absurd (cc (wants, h));
       any_moment = if_told (k.told old.keeper) (λ _. LeavesOnly k.moment k.left_since old.keeper old.keeper (FindsEither s (after s c))) (λ t tells.
@@ -108,6 +114,8 @@ module _ {K : Type 0} (k : Ghosts K) where
       unchanged = λ t ist none. refl;
       idle = λ t ist none. inr wants;
       commits = λ t c ist makes. wanted_memory t c ist how wants;
+      later = omega arith;
+      still_told = (λ some. some, λ some. some);
     }
     unmade changes s is how (inr (done, none)) = record {
       down = (λ h. absurd (cc (done, h)), λ d. absurd (cc ((order.up s is).1, d)));
@@ -116,6 +124,8 @@ module _ {K : Type 0} (k : Ghosts K) where
       unchanged = λ t ist none. refl;
       idle = λ t ist none. inl done;
       commits = λ t c ist makes. absurd (cc (none, makes, ap changes (some_is s t (sym is ∙ ist))));
+      later = omega arith;
+      still_told = (λ some. some, λ some. some);
     }
 
 -- a pure call that gave nothing
@@ -136,17 +146,6 @@ refused_by failures.NoMemory result y refusal is gives refused = absurd (cc (is,
 -- what was hindered wasn't refused
 pub not_refused_by : {T R : Type 0} (h : Hindrance) (result : Result T (CallRefusal R)) (y : CallRefusal R) (refusal : R) → result ≡ Err y → y ≡ Hindered h → result ≡ Err (Refused refusal) → ⊥
 not_refused_by h result y refusal is gives refused = cc (is, gives, refused)
-
--- what a client's write makes
-pub write_makes : (now : ℕ) (s : State) (w : Option ClientWrite) (c : Change) → IsSome w → IfSome w (λ w. write s w.what now ≡ Ok c) → Some c ≡ change_of_write now s w
-write_makes now s None c some makes = absurd (cc some)
-write_makes now s (Some w) c some makes = sym (ap change_in makes)
-
--- and where it is refused it makes nothing
-pub write_refuses : (now : ℕ) (s : State) (w : Option ClientWrite) (r : WriteRefusal) (e : Failure WriteRefusal) → e ≡ failures.Refused r → IsSome w
-    → IfSome w (λ w. (refusal : WriteRefusal) → IsErrOf {T = Change} (Err e) (failures.Refused refusal) → write s w.what now ≡ Err refusal) → change_of_write now s w ≡ None
-write_refuses now s None r e is some refuses = absurd (cc some)
-write_refuses now s (Some w) r e is some refuses = ap change_in (refuses r (ap (λ e. let x : Result Change (Failure WriteRefusal) = Err e in x) is))
 
 -- the change of a quarantine, where it is asked for
 pub quarantines : (c : Change) (s : State) (asked : Bool) → c ≡ quarantine s → asked ≡ true → Some c ≡ then_some asked (quarantine s)

@@ -49,6 +49,10 @@ module _ {K : Type 0} (k : Ghosts K) where
       subst (λ v. Commits k s c old v how) same (subst (λ v. Commits k s c v mid how) (same_running keeper state x down was up ∙ view)
       (subst (λ y. Commits k y c (up_behind None keeper x) mid how) (some_is x s (sym was ∙ ap (λ v. v.state) view ∙ is)) commits))
 
+-- what tells the same tells as much
+pub same_told : {T : Type 0} {old new : Option T} → new ≡ old → IsSome new ↔ IsSome old
+same_told is = (λ some. subst (λ o. IsSome o) is some, λ some. subst (λ o. IsSome o) (sym is) some)
+
 module _ {K : Type 0} (k : Ghosts K)
     (leaves : (keeper : K) (f : Found State) (t : Started State) → k.is_at keeper f → k.is_failed keeper ≡ false → IsSome (k.told keeper) → k.may_leave keeper t → t ≡ Ok f)
     (only_now : (keeper : K) (t : Started State) → k.left_since keeper (k.moment keeper) t → k.may_leave keeper t)
@@ -68,6 +72,9 @@ module _ {K : Type 0} (k : Ghosts K)
     faulty = λ none down. absurd (cc none);
   }
 
+  abbrev GoesOnTelling : K → Type 0
+  GoesOnTelling new = IsSome (k.told new) ↔ IsSome (k.told old)
+
   -- all that the commit writes fits on the disk
   abbrev Fits : Type 0
   Fits = (log : Log) → k.is_at old (found s log) → change_fits log s.store c ≡ true
@@ -84,16 +91,19 @@ module _ {K : Type 0} (k : Ghosts K)
   Bounded new = (log : Log) (file image longest : ℕ) → k.is_at old (found s log) → IsBoundedBy k old file image longest → IsBoundedBy k new file (max image (image_of log)) (max longest record_length)
 
   -- a call of the disk failed
-  faulted : (new : K) (t : State) → Ran k old s c (Some DiskFault) new → (k.faults old < k.faults new) × (k.is_failed new ≡ true) → Fits → Moments old new → Left new → Bounded new
+  faulted : (new : K) (t : State) → Ran k old s c (Some DiskFault) new → (k.faults old < k.faults new) × (k.is_failed new ≡ true) → GoesOnTelling new → Fits → Moments old new → Left new → Bounded new
       → Kept k s c (up_behind None old s) (up_behind (Some DiskFault) new t) (Some DiskFault)
-  faulted new t ran fault fits moments left bounded = record {
+  faulted new t ran fault told fits moments left bounded = record {
     commits = record {
       done = λ h. absurd (cc h);
       stands = λ h. absurd (cc h);
       full = λ h. absurd (cc h);
       no_memory = λ h. absurd (cc h);
+      still_there = λ h. absurd (cc h);
       fault = λ h. (refl, fault.0);
       still_up = refl;
+      later = omega (arith, fault.0);
+      still_told = told;
       within = λ h. fits;
       beyond = λ h. absurd (cc h);
       any_moment = moments;
@@ -107,8 +117,11 @@ module _ {K : Type 0} (k : Ghosts K)
     not_failed = λ h. cc h;
   }
 
-  module _ (new : K) (kept : KeepsAll k old new) (at : (f : Found State) → k.is_at old f → k.is_at new f)
+  module _ (new : K) (kept : KeepsAll k old new) (later : k.faults old ≤ k.faults new) (at : (f : Found State) → k.is_at old f → k.is_at new f)
       (within : (file image longest : ℕ) → k.is_within old file image longest → k.is_within new file image longest) where
+    tells_on : GoesOnTelling new
+    tells_on = same_told kept.content_stays
+
     still : k.is_failed new ≡ false → IsUp k new s
     still running = record { log = up.log; at = at (found s up.log) up.at; running = running; formed = up.formed }
 
@@ -133,8 +146,11 @@ module _ {K : Type 0} (k : Ghosts K)
         stands = λ h. absurd (cc h);
         full = λ h. absurd (cc h);
         no_memory = λ h. (refl, kept);
+        still_there = λ h. record { at = at; failed = running ∙ sym up.running };
         fault = λ h. absurd (cc h);
         still_up = refl;
+        later = later;
+        still_told = tells_on;
         within = λ h. ⊎_elim (λ none. absurd (cc none)) (λ fault. absurd (cc fault)) h;
         beyond = λ h. absurd (cc h);
         any_moment = moments_kept;
@@ -155,8 +171,11 @@ module _ {K : Type 0} (k : Ghosts K)
         stands = λ h. absurd (cc h);
         full = λ h. ap (λ (x : K). up_behind None x s) same;
         no_memory = λ h. absurd (cc h);
+        still_there = λ h. absurd (cc h);
         fault = λ h. absurd (cc h);
         still_up = refl;
+        later = later;
+        still_told = tells_on;
         within = λ h. ⊎_elim (λ none. absurd (cc none)) (λ fault. absurd (cc fault)) h;
         beyond = λ h. beyond;
         any_moment = moments_kept;
@@ -177,7 +196,7 @@ module _ {K : Type 0} (k : Ghosts K)
         → (IsErrOf {T = Unit {0}} (Err e) keeps.Full → new ≡ old) → (IsErrOf {T = Unit {0}} (Err e) keeps.DiskFault → (k.faults old < k.faults new) × (k.is_failed new ≡ true))
         → (IsErrOf {T = Unit {0}} (Err e) keeps.NoMemory → k.is_failed new ≡ k.is_failed old) → k.prepares old (Some e) new
         → Kept k s c (up_behind None old s) (up_behind (Some (kept_as e)) new s) (Some (kept_as e))
-    refused keeps.DiskFault failed full fits same fault no_memory prepares = faulted new s (inl prepares) (fault refl) (fits refl) moments_kept left_kept bound_kept
+    refused keeps.DiskFault failed full fits same fault no_memory prepares = faulted new s (inl prepares) (fault refl) tells_on (fits refl) moments_kept left_kept bound_kept
     refused keeps.Failed failed full fits same fault no_memory prepares = absurd (cc (failed.0 refl, up.running))
     refused keeps.Full failed full fits same fault no_memory prepares = full_so (same refl) (λ log was. (full refl log was).1)
     refused keeps.NoMemory failed full fits same fault no_memory prepares = wanted (no_memory refl ∙ up.running) (inr (inl prepares))
@@ -185,7 +204,7 @@ module _ {K : Type 0} (k : Ghosts K)
   -- it was made ready, and then committed or not
   module _ (ready new : K) (made : MadeReady k old s c ready) (kept : KeepsAll k old ready) (later : k.faults old ≤ k.faults ready)
       (within : (file image longest : ℕ) → k.is_within old file image longest → k.is_within ready file image longest)
-      (fits : Fits)
+      (fits : Fits) (told : IsSome (k.told new) ↔ IsSome (k.told ready)) (counts : k.faults ready ≤ k.faults new)
       (moments : (f : Found State) → k.is_at ready f → k.is_prepared ready f.state c → k.can_follow f.state c → IfSome (k.told ready) (λ _. LeavesOnly k.moment k.left_since ready new (FindsEither f.state (after f.state c))))
       (left : (f : Found State) → k.is_at ready f → k.is_prepared ready f.state c → k.can_follow f.state c → IfSome (k.told ready) (λ _. Among (FindsEither f.state (after f.state c)) (k.may_leave new)))
       (writes : (f : Found State) (file image longest : ℕ) → k.is_at ready f → k.is_prepared ready f.state c → k.is_within ready file image longest
@@ -196,27 +215,33 @@ module _ {K : Type 0} (k : Ghosts K)
     moments_so : Moments old new
     moments_so = if_told (k.told old) (λ _. LeavesOnly k.moment k.left_since old new (FindsEither s (after s c))) (λ t tells.
         joined k.moment k.left_since old ready new (FindsEither s (after s c))
-        (at_told (k.told old) (λ _. LeavesOnly k.moment k.left_since old ready (FindsEither s (after s c))) t tells (moments_kept ready kept made.at within))
+        (at_told (k.told old) (λ _. LeavesOnly k.moment k.left_since old ready (FindsEither s (after s c))) t tells (moments_kept ready kept later made.at within))
         (at_told (k.told ready) (λ _. LeavesOnly k.moment k.left_since ready new (FindsEither s (after s c))) t (kept.content_stays ∙ tells) (moments (found s up.log) here made.is_prepared able.follows)))
 
     left_so : Left new
     left_so = if_told (k.told old) (λ _. Among (FindsEither s (after s c)) (k.may_leave new)) (λ t tells x was.
         at_told (k.told ready) (λ _. Among (FindsEither s (after s c)) (k.may_leave new)) t (kept.content_stays ∙ tells) (left (found s up.log) here made.is_prepared able.follows) x was)
 
+    told_so : GoesOnTelling new
+    told_so = let there = same_told {old = k.told old} {new = k.told ready} kept.content_stays in (λ some. there.0 (told.0 some), λ some. told.1 (there.1 some))
+
     bound_so : Bounded new
     bound_so log file image longest was b =
         new_bound k old new (image_of log) record_length (λ file i n is. writes (found s log) file i n (made.at (found s log) was) made.is_prepared (within file i n is)) file image longest b
 
-    pub done : (t : State) → t ≡ after s c → (IsSome (k.told new) ↔ IsSome (k.told ready)) → ((f : Found State) → k.is_at ready f → k.is_prepared ready f.state c → k.can_follow f.state c → k.is_at new (found_after f c)) → k.is_failed new ≡ false → k.commits ready c None new
+    pub done : (t : State) → t ≡ after s c → ((f : Found State) → k.is_at ready f → k.is_prepared ready f.state c → k.can_follow f.state c → k.is_at new (found_after f c)) → k.is_failed new ≡ false → k.commits ready c None new
         → Kept k s c (up_behind None old s) (up_behind None new t) None
-    done t is told at running commits = subst (λ (x : State). Kept k s c (up_behind None old s) (up_behind None new x) None) (sym is) (record {
+    done t is at running commits = subst (λ (x : State). Kept k s c (up_behind None old s) (up_behind None new x) None) (sym is) (record {
       commits = record {
         done = λ h. refl;
         stands = λ h log was. at (found s log) (made.at (found s log) was) made.is_prepared able.follows;
         full = λ h. absurd (cc h);
         no_memory = λ h. absurd (cc h);
+        still_there = λ h. absurd (cc h);
         fault = λ h. absurd (cc h);
         still_up = refl;
+        later = omega (arith, later, counts);
+        still_told = told_so;
         within = λ h. fits;
         beyond = λ h. absurd (cc h);
         any_moment = moments_so;
@@ -236,7 +261,7 @@ module _ {K : Type 0} (k : Ghosts K)
 
     pub failed : (t : State) (e : KeeperRefusal) → IsErrOf {T = Unit {0}} (Err e) keeps.DiskFault × (k.faults ready < k.faults new) × (k.is_failed new ≡ true) → k.commits ready c (Some e) new
         → Kept k s c (up_behind None old s) (up_behind (Some (kept_as e)) new t) (Some (kept_as e))
-    failed t keeps.DiskFault fault commits = faulted new t (inr (ready, made, commits)) (omega (arith, later, fault.1), fault.2) fits moments_so left_so bound_so
+    failed t keeps.DiskFault fault commits = faulted new t (inr (ready, made, commits)) (omega (arith, later, fault.1), fault.2) told_so fits moments_so left_so bound_so
     failed t keeps.Failed fault commits = absurd (cc fault.0)
     failed t keeps.Full fault commits = absurd (cc fault.0)
     failed t keeps.NoMemory fault commits = absurd (cc fault.0)

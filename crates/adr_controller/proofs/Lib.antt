@@ -2,5 +2,4 @@ mod Results
 mod Bounding
 mod Orders
 mod Calling
-mod Planning
 mod Keeps

@@ -9,14 +9,3 @@ use Rattle.adr_controller.proofs.Results.{none_of}
 module _ {K : Type 0} (k : Ghosts K) where
   pub none_when_down : (c : Running K) → IsInOrder k c → c.down ≡ true → c.state ≡ None
   none_when_down c order down = none_of c.state (λ s is. cc ((order.up s is).1, down))
-
-  -- a keeper that stands for what it stood for, and has failed if it had
-  module _ (old new : K) (at : (f : Found State) → k.is_at old f → k.is_at new f) (failed : k.is_failed new ≡ k.is_failed old) where
-    still_up : (s : State) → IsUp k old s → IsUp k new s
-    still_up s up = record { log = up.log; at = at (found s up.log) up.at; running = failed ∙ up.running; formed = up.formed }
-
-    pub still_in_order : (c : Running K) → c.keeper ≡ old → IsInOrder k (record c { keeper = old }) → IsInOrder k (record c { keeper = new })
-    still_in_order c same order = record {
-      up = λ s is. let was = order.up s is in (still_up s was.0, was.1);
-      faulty = λ none up. failed ∙ order.faulty none up;
-    }

@@ -1,20 +1,18 @@
 -- Which changes a controller can commit.
 use Rattle.std.specs.Prelude.{◌≡◌, ℕ, Bool, true, false, Option, Some, None, Result, Ok, Err}
 use Rattle.std.specs.Bool.{then_some}
-use Rattle.adr_event.specs.declared.event.Event.{Event}
-use Rattle.adr_event.specs.declared.refusal.ServeRefusal.{ServeRefusal}
-use Rattle.adr_event.specs.declared.refusal.ServeRefusal.TheVariants as serves
-use Rattle.adr_event.specs.declared.refusal.TakeRefusal.{TakeRefusal}
-use Rattle.adr_event.specs.declared.refusal.TakeRefusal.TheVariants as takes
+use Rattle.adr_call.specs.declared.refusal.ServeRefusal.{ServeRefusal}
+use Rattle.adr_call.specs.declared.refusal.ServeRefusal.TheVariants as serves
+use Rattle.adr_call.specs.declared.refusal.TakeRefusal.{TakeRefusal}
+use Rattle.adr_call.specs.declared.refusal.TakeRefusal.TheVariants as takes
+use Rattle.adr_call.specs.declared.write.Write.{Write as Asked}
 use Rattle.adr_model.specs.Store.{State}
 use Rattle.adr_model.specs.Change.{Change, after}
 use Rattle.adr_model.specs.Serve.{Request, Reply, serve}
 use Rattle.adr_model.specs.Take.{take}
-use Rattle.adr_model.specs.Write.{write}
+use Rattle.adr_model.specs.Write.{write, write_meant}
 use Rattle.adr_model.specs.Collect.{collect, quarantine}
 use Rattle.adr_model.specs.Replica.{change_in}
-use Rattle.adr_model.specs.Step.{ClientWrite, write_of}
-use Rattle.adr_model.specs.World.{empty_world}
 use Rattle.adr_state.specs.Refusal.{IsOverfull}
 use Rattle.adr_journal.specs.declared.keeper.Keeper.{Ghosts}
 
@@ -30,17 +28,9 @@ AllFollow k changes = (s : State) (c : Change) → k.is_formed s → changes s �
 
 -- ---- what calls make of a state
 
--- the change of a client's write, if there is one
-abbrev pub change_of_write : ℕ → State → Option ClientWrite → Option Change
-change_of_write now s None = None
-change_of_write now s (Some w) = change_in (write s w.what now)
-
--- the write of an event, where that asks for no image
-abbrev pub plain_write : Event → Option ClientWrite
-plain_write event = write_of empty_world event
-
-abbrev pub written_in : Event → ℕ → State → Option Change
-written_in event now s = change_of_write now s (plain_write event)
+-- a client's write at a time
+abbrev pub written_in : Asked → ℕ → State → Option Change
+written_in what now s = change_in (write s (write_meant what) now)
 
 -- a refused request, and a refused reply, that shows a controller that it was put back
 abbrev pub request_shows : ServeRefusal → Bool

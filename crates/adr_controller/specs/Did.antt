@@ -1,13 +1,11 @@
 -- What committing a change does to a controller.
-use Rattle.std.specs.Prelude.{◌≡◌, ◌⊎◌, ◌↔◌, ◌<◌, ◌≤◌, ◌+◌, ℕ, max, if◌then◌else◌, true, false, Option, Some, None, IfSome, Bool}
+use Rattle.std.specs.Prelude.{◌≡◌, ◌⊎◌, ◌↔◌, ◌<◌, ◌≤◌, ◌+◌, ℕ, max, if◌then◌else◌, true, false, Option, Some, None, IfSome, IsSome, Bool}
 use Rattle.adr_disk.specs.Disk.{Among, Keeps, LeavesOnly}
 use Rattle.adr_model.specs.Store.{State}
 use Rattle.adr_model.specs.Change.{Change, after}
 use Rattle.adr_model.specs.Lengths.{Log, change_fits, change_length, image_length, is_due, next_log}
-use Rattle.adr_model.specs.Replica.{Replica}
 use Rattle.adr_law_journal.specs.Areas.{Found, found}
 use Rattle.adr_law_journal.specs.Kept.{FindsState, FindsEither}
-use Rattle.adr_journal.specs.Planned.{CommitsAs}
 use Rattle.adr_journal.specs.declared.keeper.Keeper.{Ghosts}
 use Rattle.adr_journal.specs.declared.keeper.KeeperRefusal.TheVariants as keeps
 use Rattle.adr_controller.specs.Running.{Running, IsInOrder}
@@ -19,6 +17,11 @@ use Rattle.adr_controller.specs.declared.refusal.Hindrance.TheVariants.{Down, Fa
 -- nothing has changed of what a start finds, now and after a crash
 abbrev pub KeepsAll : {K : Type 0} → Ghosts K → K → K → Type 0
 KeepsAll k old new = Keeps k.told k.may_leave k.moment k.left_since old new
+
+-- it stands for what it stood for, and has failed if it had
+pub record StandsAsBefore {K : Type 0} (k : Ghosts K) (old new : K) : Type 0 where
+  pub at : (f : Found State) → k.is_at old f → k.is_at new f
+  pub failed : k.is_failed new ≡ k.is_failed old
 
 -- it was made ready for a change of this state, and stands for what it stood for
 pub record MadeReady {K : Type 0} (k : Ghosts K) (old : K) (s : State) (c : Change) (ready : K) : Type 0 where
@@ -55,8 +58,12 @@ pub record Commits {K : Type 0} (k : Ghosts K) (s : State) (c : Change) (old new
       → k.is_at new.keeper (found (after s c) (next_log log s.store c))
   pub full : how ≡ Some Full → new ≡ old
   pub no_memory : how ≡ Some NoMemory → (new.state ≡ old.state) × KeepsAll k old.keeper new.keeper
+  pub still_there : how ≡ Some NoMemory → StandsAsBefore k old.keeper new.keeper
   pub fault : how ≡ Some DiskFault → (new.state ≡ None) × (k.faults old.keeper < k.faults new.keeper)
   pub still_up : new.down ≡ false
+  -- no count of faults falls, and a keeper that tells goes on telling
+  pub later : k.faults old.keeper ≤ k.faults new.keeper
+  pub still_told : IsSome (k.told new.keeper) ↔ IsSome (k.told old.keeper)
   -- where the log would end beyond its limit, or what is written would be too long, it is full, and else it is not
   pub within :
       (how ≡ None) ⊎ (how ≡ Some DiskFault) → (log : Log) → k.is_at old.keeper (found s log)
@@ -115,12 +122,6 @@ pub record Calls {K : Type 0} (k : Ghosts K) (changes : State → Option Change)
   pub idle : (s : State) → old.state ≡ Some s → changes s ≡ None → (how ≡ None) ⊎ (how ≡ Some NoMemory)
   pub commits :
       (s : State) (c : Change) → old.state ≡ Some s → changes s ≡ Some c → Commits k s c old new how
-
--- ---- a replica beside it
-
--- it goes where a commit takes the replica; where none was made it stays as it was
-abbrev pub GoesAs :
-    {K : Type 0} → (K → Replica → Type 0) → (K → Bool) → Option Hindrance → Replica → Replica → K → Type 0
-GoesAs has has_stopped None before after new = CommitsAs has has_stopped None after new
-GoesAs has has_stopped (Some DiskFault) before after new = CommitsAs has has_stopped (Some keeps.DiskFault) after new
-GoesAs has has_stopped (Some hindrance) before after new = has new before × (has_stopped new ≡ false)
+  -- whatever it comes to, no count of faults falls, and a keeper that tells goes on telling
+  pub later : k.faults old.keeper ≤ k.faults new.keeper
+  pub still_told : IsSome (k.told new.keeper) ↔ IsSome (k.told old.keeper)

@@ -1,7 +1,7 @@
 //! Collections.
 
 ghost use Rattle.std.specs.Prelude.{◌≡◌, Some, Ok, Err, IfOk, IsErrOf, length};
-ghost use Rattle.adr_event.specs.declared.refusal.CollectRefusal.{CollectRefusal};
+ghost use Rattle.adr_call.specs.declared.refusal.CollectRefusal.{CollectRefusal};
 ghost use Rattle.adr_model.specs.Store.{State as Defined};
 ghost use Rattle.adr_model.specs.Change.{Change as Changes};
 ghost use Rattle.adr_model.specs.Collect.{collect};
@@ -11,9 +11,9 @@ ghost use Rattle.adr_controller.specs.Did.{Calls};
 
 use crate::controller::Controller;
 use crate::refusal::CallRefusal;
+use adr_call::CollectRefusal;
 use adr_collect::collect;
 use adr_cycle::count;
-use adr_event::CollectRefusal;
 use adr_journal::Keeper;
 use std::alloc::Global;
 

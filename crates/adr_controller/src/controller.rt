@@ -1,13 +1,14 @@
 //! A controller over its keeper.
 
-ghost use Rattle.std.specs.Prelude.{◌≡◌, ◌⊎◌, ◌↔◌, ◌<◌, ℕ, true, false, Option, Some, None, Ok, IfOk, IfErr, IfSome, IsErrOf, OnErr, OnOk, MatchOption};
+ghost use Rattle.std.specs.Prelude.{◌≡◌, ◌⊎◌, ◌↔◌, ◌-◌, ◌^◌, ◌≤◌, ◌<◌, ℕ, true, false, Option, Some, None, Ok, IfOk, IfErr, IfSome, IsErrOf, IsSome, OnErr, OnOk, MatchOption};
+ghost use Rattle.std.specs.Fn.{FnOnceReturnsAtMut};
 ghost use Rattle.std.specs.Option.{ForSome};
 ghost use Rattle.adr_disk.specs.Disk.{Among, LeavesOnly};
 ghost use Rattle.adr_model.specs.Store.{State as Defined};
 ghost use Rattle.adr_model.specs.Change.{Change as Changes};
-ghost use Rattle.adr_model.specs.Lengths.{image_length, new_log};
+ghost use Rattle.adr_model.specs.Lengths.{area_fits, image_length, new_log};
 ghost use Rattle.adr_law_journal.specs.Areas.{found};
-ghost use Rattle.adr_journal.specs.Ended.{ended_start, IsNewOrNone, IsDamageOf};
+ghost use Rattle.adr_journal.specs.Ended.{ended_start, IsNewOrNone, IsDamageOf, StillReads};
 ghost use Rattle.adr_controller.specs.Running.{IsInOrder, IsStarted};
 ghost use Rattle.adr_controller.specs.Able.{CanCommit};
 ghost use Rattle.adr_controller.specs.Ended.{call_hindrance, handed_back, hindrance_of, keeper_of};
@@ -46,19 +47,30 @@ pub(crate) fn forget(state: &mut Option<State>)
 }
 
 impl<K: Keeper> Controller<K> {
-    /// Formats a keeper with a state, which a controller then has. A keeper that couldn't be formatted comes back.
+    /// Formats a keeper with a state, which a controller then has. A keeper that couldn't be formatted comes back. It is
+    /// full where the log would end beyond its limit, or the image would be too long.
     pub fn format(mut keeper: K, state: State) -> Result<Controller<K>, (KeeperRefusal, K)>
         requires empty { K.is_empty keeper }
         requires begins { K.can_begin state }
         requires formed { K.is_formed state }
         ensures ok { IfOk result (λ c. (c.state ≡ Some state) × (c.down ≡ false)
             × K.is_at c.keeper (found state (new_log state))) }
-        ensures refused { IfErr result (λ e.
-            (e.0 ≡ KeeperRefusal.DiskFault) ⊎ (e.0 ≡ KeeperRefusal.NoMemory)) }
+        ensures refused { IfErr result (λ e. (e.0 ≡ KeeperRefusal.DiskFault)
+            ⊎ ((e.0 ≡ KeeperRefusal.Full) ⊎ (e.0 ≡ KeeperRefusal.NoMemory))) }
+        ensures full { IfErr result (λ e. e.0 ≡ KeeperRefusal.Full
+            → (e.1 ≡ keeper) × (area_fits (new_log state) state.store ≡ false)) }
+        ensures fits { OnOk result (area_fits (new_log state) state.store ≡ true) }
+        ensures fits_too { IfErr result (λ e. e.0 ≡ KeeperRefusal.DiskFault
+            → area_fits (new_log state) state.store ≡ true) }
         ensures fault { IfErr result (λ e. e.0 ≡ KeeperRefusal.DiskFault
             → (K.faults keeper < K.faults e.1) × (K.is_failed e.1 ≡ true)) }
         ensures no_memory { IfErr result (λ e. e.0 ≡ KeeperRefusal.NoMemory
             → KeepsAll K.Keeper keeper e.1) }
+
+        // But for a fault of its disk, a keeper that comes back is empty still.
+        ensures again { IfErr result (λ e. (e.0 ≡ KeeperRefusal.DiskFault) ⊎ K.is_empty e.1) }
+        ensures later { K.faults keeper ≤ K.faults (keeper_of result) }
+        ensures told { IsSome (K.told (keeper_of result)) ↔ IsSome (K.told keeper) }
 
         // Whatever it answers, what a start finds after a crash at any moment of the call, and after one from then on.
         ensures any_moment { IfSome (K.told keeper) (λ _.
@@ -87,6 +99,12 @@ impl<K: Keeper> Controller<K> {
         ensures damaged { IfErr result (λ e. IsDamageOf e.0 (K.told keeper)) }
         ensures fault { IfErr result (λ e.
             e.0 ≡ StartRefusal.DiskFault → K.faults keeper < K.faults e.1) }
+        ensures uncounted { IfErr result (λ e. e.0 ≡ StartRefusal.NoMemory false
+            → K.faults keeper ≡ 2 ^ 64 - 1) }
+        ensures still { IfErr result (λ e.
+            StillReads K.told K.may_leave K.moment K.left_since e.0 keeper e.1) }
+        ensures later { K.faults keeper ≤ K.faults (keeper_of result) }
+        ensures told { IsSome (K.told (keeper_of result)) ↔ IsSome (K.told keeper) }
 
         // After a crash at any moment of the call, a start finds what one might have found before it.
         ensures any_moment { let kept = keeper_of result in
@@ -114,6 +132,12 @@ impl<K: Keeper> Controller<K> {
         ensures damaged { IfErr result (λ e. IsDamageOf e (K.told self.old.keeper)) }
         ensures fault { IsErrOf result StartRefusal.DiskFault
             → K.faults self.old.keeper < K.faults self.new.keeper }
+        ensures uncounted { IsErrOf result (StartRefusal.NoMemory false)
+            → K.faults self.old.keeper ≡ 2 ^ 64 - 1 }
+        ensures still { IfErr result (λ e.
+            StillReads K.told K.may_leave K.moment K.left_since e self.old.keeper self.new.keeper) }
+        ensures later { K.faults self.old.keeper ≤ K.faults self.new.keeper }
+        ensures told { IsSome (K.told self.new.keeper) ↔ IsSome (K.told self.old.keeper) }
 
         // After a crash at any moment of the call, a start finds what one might have found before it.
         ensures any_moment { let before = K.may_leave self.old.keeper in
@@ -141,6 +165,24 @@ impl<K: Keeper> Controller<K> {
         self.down = true;
     }
 
+    /// Its keeper.
+    pub fn keeper(&self) -> &K
+        ensures { result.now ≡ self.now.keeper }
+    {
+        &self.keeper
+    }
+
+    /// Has something done to its keeper that leaves the controller in order, as whoever rehearses faults does.
+    pub fn attend<A: FnOnce(&mut K)>(&mut self, act: A)
+        requires callable { A.IsAlwaysCallable act }
+        requires in_order { (keeper : K) → FnOnceReturnsAtMut A.FnOnce act self.old.keeper tt keeper
+            → IsInOrder K.Keeper self.old → IsInOrder K.Keeper (record self.old { keeper = keeper }) }
+        ensures acted { FnOnceReturnsAtMut A.FnOnce act self.old.keeper tt self.new.keeper }
+        ensures stays { self.new ≡ record self.old { keeper = self.new.keeper } }
+    {
+        act(&mut self.keeper);
+    }
+
     /// The state; none while the controller is down or failed.
     pub fn state(&self) -> Option<&State>
         ensures state { MatchOption result (self.now.state ≡ None) (λ s. self.now.state ≡ Some s.now) }
@@ -156,7 +198,7 @@ impl<K: Keeper> Controller<K> {
         self.down
     }
 
-    /// Its keeper.
+    /// Its keeper, without the controller.
     pub fn into_keeper(self) -> K
         ensures { result ≡ self.keeper }
     {

@@ -9,15 +9,13 @@ mod collecting;
 mod controller;
 mod keeping;
 mod messages;
-mod planned;
 mod refusal;
 mod writing;
 
+pub use adr_call::{CollectRefusal, ServeRefusal, TakeRefusal, Write, WriteRefusal};
 pub use adr_cycle::{Reply, Request};
-pub use adr_event::{CollectRefusal, Event, ServeRefusal, TakeRefusal, WriteRefusal};
-pub use adr_journal::{Keeper, KeeperRefusal, PlannedKeeper, StartRefusal};
+pub use adr_journal::{Keeper, KeeperRefusal, StartRefusal};
 pub use adr_state::{Change, State};
 pub use controller::Controller;
 pub use messages::Taken;
-pub use planned::commits_go_as_planned;
 pub use refusal::{CallRefusal, Hindrance};

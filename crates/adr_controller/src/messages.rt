@@ -2,22 +2,23 @@
 
 ghost use Rattle.std.specs.Prelude.{◌≡◌, ◌↔◌, ◌≤◌, ℕ, true, false, Some, None, Ok, Err, IfOk, IfErr, IsErrOf, IsSome, length};
 ghost use Rattle.std.specs.Option.{ForSome};
-ghost use Rattle.adr_event.specs.declared.refusal.ServeRefusal.{ServeRefusal};
-ghost use Rattle.adr_event.specs.declared.refusal.TakeRefusal.{TakeRefusal};
+ghost use Rattle.adr_call.specs.declared.refusal.ServeRefusal.{ServeRefusal};
+ghost use Rattle.adr_call.specs.declared.refusal.TakeRefusal.{TakeRefusal};
 ghost use Rattle.adr_model.specs.Store.{State as Defined};
-ghost use Rattle.adr_model.specs.Change.{Change as Changes};
+ghost use Rattle.adr_model.specs.Change.{Change as Changes, after};
 ghost use Rattle.adr_model.specs.Collect.{quarantine};
 ghost use Rattle.adr_model.specs.Serve.{ask, serve};
 ghost use Rattle.adr_model.specs.Take.{take};
 ghost use Rattle.adr_model.specs.Write.{usn_limit};
+ghost use Rattle.adr_cycle.specs.ReplyRefused.{refusal_before};
 ghost use Rattle.adr_controller.specs.Able.{AllFollow, CanCommit, quarantine_in, reply_shows, request_shows, served_in, taken_in};
 ghost use Rattle.adr_controller.specs.Ended.{call_hindrance, hindrance_in, hindrance_of};
 ghost use Rattle.adr_controller.specs.Did.{Calls};
 
 use crate::controller::Controller;
 use crate::refusal::{CallRefusal, Hindrance};
+use adr_call::{Failure, ServeRefusal, TakeRefusal};
 use adr_cycle::{Reply, Request, ask, count, serve, take};
-use adr_event::{Failure, ServeRefusal, TakeRefusal};
 use adr_failure::NoMemory;
 use adr_guid::Guid;
 use adr_journal::Keeper;
@@ -84,7 +85,8 @@ impl<K: Keeper> Controller<K> {
         requires up { IsSome self.old.state }
         requires follows { ForSome self.old.state (λ s.
             put_back ≡ true → CanCommit K.Keeper s (quarantine s)) }
-        ensures { Calls K.Keeper (quarantine_in put_back) self.old self.new (hindrance_of result) }
+        ensures unshown { put_back ≡ false → hindrance_of result ≡ None }
+        ensures calls { Calls K.Keeper (quarantine_in put_back) self.old self.new (hindrance_of result) }
     {
         let state = self.running()?;
         if !put_back {
@@ -102,6 +104,7 @@ impl<K: Keeper> Controller<K> {
         requires follows { ForSome self.old.state (λ s.
             request_shows refusal ≡ true → CanCommit K.Keeper s (quarantine s)) }
         ensures refused { (r : ServeRefusal) → result ≡ CallRefusal.Refused r → r ≡ refusal }
+        ensures unshown { request_shows refusal ≡ false → result ≡ CallRefusal.Refused refusal }
         ensures calls { Calls K.Keeper (quarantine_in (request_shows refusal)) self.old self.new (hindrance_in result) }
     {
         match self.quarantine_if(alloc, request_shows(&refusal)) {
@@ -116,6 +119,7 @@ impl<K: Keeper> Controller<K> {
         requires follows { ForSome self.old.state (λ s.
             reply_shows refusal ≡ true → CanCommit K.Keeper s (quarantine s)) }
         ensures refused { (r : TakeRefusal) → result ≡ CallRefusal.Refused r → r ≡ refusal }
+        ensures unshown { reply_shows refusal ≡ false → result ≡ CallRefusal.Refused refusal }
         ensures calls { Calls K.Keeper (quarantine_in (reply_shows refusal)) self.old self.new (hindrance_in result) }
     {
         match self.quarantine_if(alloc, reply_shows(&refusal)) {
@@ -152,6 +156,14 @@ impl<K: Keeper> Controller<K> {
             (s : Defined) (now : ℕ) → self.old.state ≡ Some s → serve s request.now now ≡ Ok reply) }
         ensures refused { (s : Defined) (refusal : ServeRefusal) (now : ℕ) → self.old.state ≡ Some s
             → IsErrOf result (CallRefusal.Refused refusal) → serve s request.now now ≡ Err refusal }
+
+        // Want of memory never stands for a refusal. One that shows that it was put back is answered behind the quarantine.
+        ensures exact { (s : Defined) (refusal : ServeRefusal) (now : ℕ) → self.old.state ≡ Some s
+            → request_shows refusal ≡ false → serve s request.now now ≡ Err refusal
+            → IsErrOf result (CallRefusal.Refused refusal) }
+        ensures put_back { (s : Defined) (refusal : ServeRefusal) → self.old.state ≡ Some s
+            → IsErrOf result (CallRefusal.Refused refusal) → request_shows refusal ≡ true
+            → self.new.state ≡ Some (after s (quarantine s)) }
         ensures calls { (now : ℕ) → Calls K.Keeper (served_in request.now now) self.old self.new (call_hindrance result) }
     {
         let state = self.running()?;
@@ -171,6 +183,15 @@ impl<K: Keeper> Controller<K> {
             × (taken ≡ record { items = length reply.now.items; wrote = length c.writes; usn = c.usn })) }
         ensures refused { (s : Defined) (refusal : TakeRefusal) → self.old.state ≡ Some s
             → IsErrOf result (CallRefusal.Refused refusal) → take s reply.now ≡ Err refusal }
+
+        // Want of memory never stands for a refusal that comes before the items are looked at. One that shows that it
+        // was put back is answered behind the quarantine.
+        ensures before { (s : Defined) (refusal : TakeRefusal) → self.old.state ≡ Some s
+            → reply_shows refusal ≡ false → refusal_before s reply.now ≡ Some refusal
+            → IsErrOf result (CallRefusal.Refused refusal) }
+        ensures put_back { (s : Defined) (refusal : TakeRefusal) → self.old.state ≡ Some s
+            → IsErrOf result (CallRefusal.Refused refusal) → reply_shows refusal ≡ true
+            → self.new.state ≡ Some (after s (quarantine s)) }
         ensures calls { Calls K.Keeper (taken_in reply.now) self.old self.new (call_hindrance result) }
     {
         let state = self.running()?;

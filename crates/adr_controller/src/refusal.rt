@@ -7,26 +7,37 @@ ghost use Rattle.adr_controller.specs.Ended.{kept_as, of_failure};
 
 use adr_failure::Failure;
 use adr_journal::KeeperRefusal;
+use adr_state::LOG_LIMIT;
 use std::alloc::AllocError;
+use std::fmt::Display;
+use thiserror::Error;
 
 /// What keeps a controller from making a call, whatever the call.
-#[derive(Clone, Copy)]
+#[derive(Clone, Copy, Debug, Error)]
 pub enum Hindrance {
     /// It was stopped, and not started since.
+    #[error("down")]
     Down,
     /// A call of its disk failed, and no start has succeeded since.
+    #[error("failed")]
     Failed,
     /// Its log would end beyond its limit.
+    #[error("Full table=Log limit={}", LOG_LIMIT)]
     Full,
     /// A call of its disk failed within this call.
+    #[error("disk")]
     DiskFault,
+    #[error("no memory")]
     NoMemory,
 }
 
 /// Why a call of a controller didn't answer: its state refused the call, or the controller couldn't make it.
-#[derive(Clone, Copy, Drop)]
+#[derive(Clone, Copy, Debug, Drop, Error)]
+#[error_bound(R: Display)]
 pub enum CallRefusal<R> {
+    #[error(transparent)]
     Refused(R),
+    #[error(transparent)]
     Hindered(Hindrance),
 }
 

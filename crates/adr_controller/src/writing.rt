@@ -1,18 +1,17 @@
 //! Clients' writes.
 
-ghost use Rattle.std.specs.Prelude.{◌≡◌, Ok, Err, IfOk, IfSome, IsErrOf, IsSome};
-ghost use Rattle.adr_event.specs.declared.refusal.WriteRefusal.{WriteRefusal};
+ghost use Rattle.std.specs.Prelude.{◌≡◌, Some, Ok, Err, IfOk, IsErrOf};
+ghost use Rattle.adr_call.specs.declared.refusal.WriteRefusal.{WriteRefusal};
 ghost use Rattle.adr_model.specs.Store.{State as Defined};
 ghost use Rattle.adr_model.specs.Change.{Change as Changes};
-ghost use Rattle.adr_model.specs.Step.{ClientWrite};
-ghost use Rattle.adr_model.specs.Write.{write};
-ghost use Rattle.adr_controller.specs.Able.{AllFollow, plain_write, written_in};
+ghost use Rattle.adr_model.specs.Write.{write, write_meant};
+ghost use Rattle.adr_controller.specs.Able.{AllFollow, written_in};
 ghost use Rattle.adr_controller.specs.Ended.{call_hindrance};
 ghost use Rattle.adr_controller.specs.Did.{Calls};
 
 use crate::controller::Controller;
 use crate::refusal::CallRefusal;
-use adr_event::{Event, Failure, WriteRefusal};
+use adr_call::{Failure, Write, WriteRefusal};
 use adr_journal::Keeper;
 use adr_origin::{LinkEnds, NewObject, add, delete, link, modify, rename, unlink};
 use adr_state::{Change, State};
@@ -22,22 +21,19 @@ use std::alloc::Global;
 fn change_of(
     alloc: Global,
     state: &State,
-    event: &Event,
+    what: &Write,
     now: u64,
 ) -> Result<Change, Failure<WriteRefusal>>
-    requires { IsSome (plain_write event.now) }
-    ensures ok { IfSome (plain_write event.now) (λ w. IfOk result (λ change. write state.now w.what now ≡ Ok change)) }
-    ensures refused { IfSome (plain_write event.now) (λ w. (refusal : WriteRefusal)
-        → IsErrOf result (Failure.Refused refusal) → write state.now w.what now ≡ Err refusal) }
+    ensures ok { IfOk result (λ change. write state.now (write_meant what.now) now ≡ Ok change) }
+    ensures refused { (refusal : WriteRefusal) → IsErrOf result (Failure.Refused refusal) → write state.now (write_meant what.now) now ≡ Err refusal }
 {
-    match event {
-        Event::Add {
+    match what {
+        Write::Add {
             guid,
             class,
             parent,
             text,
             values,
-            ..
         } => {
             let object = NewObject {
                 guid: *guid,
@@ -48,15 +44,10 @@ fn change_of(
             };
             add(alloc, state, &object, now)
         }
-        Event::Modify { guid, values, .. } => modify(alloc, state, *guid, values, now),
-        Event::Rename {
-            guid,
-            parent,
-            text,
-            ..
-        } => rename(alloc, state, *guid, *parent, text, now),
-        Event::Delete { guid, .. } => delete(alloc, state, *guid, now),
-        Event::Link { from, attr, to, .. } => {
+        Write::Modify { guid, values } => modify(alloc, state, *guid, values, now),
+        Write::Rename { guid, parent, text } => rename(alloc, state, *guid, *parent, text, now),
+        Write::Delete { guid } => delete(alloc, state, *guid, now),
+        Write::Link { from, attr, to } => {
             let ends = LinkEnds {
                 from: *from,
                 attr: *attr,
@@ -64,7 +55,7 @@ fn change_of(
             };
             link(alloc, state, &ends, now)
         }
-        Event::Unlink { from, attr, to, .. } => {
+        Write::Unlink { from, attr, to } => {
             let ends = LinkEnds {
                 from: *from,
                 attr: *attr,
@@ -72,30 +63,26 @@ fn change_of(
             };
             unlink(alloc, state, &ends, now)
         }
-        _ => unreachable!(),
     }
 }
 
 impl<K: Keeper> Controller<K> {
-    /// A client's write, as an event without an image has it, at a time in seconds; it answers the USN of what was written.
+    /// A client's write at a time in seconds; it answers the USN of what was written.
     pub fn write(
         &mut self,
         alloc: Global,
-        event: &Event,
+        what: &Write,
         now: u64,
     ) -> Result<u64, CallRefusal<WriteRefusal>>
-        requires write { IsSome (plain_write event.now) }
-        requires follows { AllFollow K.Keeper (written_in event.now now) }
-        ensures written { IfOk result (λ usn.
-            (s : Defined) (w : ClientWrite) → self.old.state ≡ Some s → plain_write event.now ≡ Some w
-            → (c : Changes) × (write s w.what now ≡ Ok c) × (usn ≡ c.usn)) }
-        ensures refused { (s : Defined) (w : ClientWrite) (refusal : WriteRefusal)
-            → self.old.state ≡ Some s → plain_write event.now ≡ Some w
-            → IsErrOf result (CallRefusal.Refused refusal) → write s w.what now ≡ Err refusal }
-        ensures calls { Calls K.Keeper (written_in event.now now) self.old self.new (call_hindrance result) }
+        requires follows { AllFollow K.Keeper (written_in what.now now) }
+        ensures written { IfOk result (λ usn. (s : Defined) → self.old.state ≡ Some s
+            → (c : Changes) × (write s (write_meant what.now) now ≡ Ok c) × (usn ≡ c.usn)) }
+        ensures refused { (s : Defined) (refusal : WriteRefusal) → self.old.state ≡ Some s
+            → IsErrOf result (CallRefusal.Refused refusal) → write s (write_meant what.now) now ≡ Err refusal }
+        ensures calls { Calls K.Keeper (written_in what.now now) self.old self.new (call_hindrance result) }
     {
         let state = self.running()?;
-        let change = change_of(alloc, state, event, now)?;
+        let change = change_of(alloc, state, what, now)?;
         let concluded = self.conclude(&change, Ok(change.usn()));
         drop(change);
         concluded

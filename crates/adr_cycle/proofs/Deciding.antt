@@ -5,9 +5,9 @@ use Rattle.std.specs.Bool.{then_some}
 use Rattle.std.specs.Option.{option_or}
 use Rattle.std.proofs.lemmas.Bool.Decides.{nat_tests}
 use Rattle.adr_vector.specs.Vector.{cursor_limit}
-use Rattle.adr_event.specs.declared.refusal.Table.TheVariants.{Objects, Links, Cursors as CursorTable, Marks}
-use Rattle.adr_event.specs.declared.refusal.TakeRefusal.TheVariants.{UsnLimit}
-use Rattle.adr_event.specs.declared.refusal.TakeRefusal.{TakeRefusal}
+use Rattle.adr_call.specs.declared.refusal.Table.TheVariants.{Objects, Links, Cursors as CursorTable, Marks}
+use Rattle.adr_call.specs.declared.refusal.TakeRefusal.TheVariants.{UsnLimit}
+use Rattle.adr_call.specs.declared.refusal.TakeRefusal.{TakeRefusal}
 use Rattle.adr_model.specs.Change.{Change, Item, after}
 use Rattle.adr_failure.specs.First.{first_of}
 use Rattle.adr_failure.specs.declared.Failure.{Failure}

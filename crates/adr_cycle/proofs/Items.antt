@@ -3,7 +3,7 @@ use Rattle.std.proofs.Common.{◌≡◌, ℕ, ◌+◌, List, [], ◌++◌, Optio
 use Rattle.std.specs.Option.{option_or}
 use Rattle.adr_schema.specs.Table.{Table as Schema}
 use Rattle.adr_vector.specs.Vector.{Cursors}
-use Rattle.adr_event.specs.declared.refusal.TakeRefusal.{TakeRefusal}
+use Rattle.adr_call.specs.declared.refusal.TakeRefusal.{TakeRefusal}
 use Rattle.adr_model.specs.Update.{Update}
 use Rattle.adr_model.specs.Live.{objects_of}
 use Rattle.adr_model.specs.Store.{updates_of}

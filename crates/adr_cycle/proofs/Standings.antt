@@ -5,18 +5,18 @@ use Rattle.adr_stamp.specs.declared.Unit.{Unit as Named}
 use Rattle.adr_stamp.specs.declared.Unit.TheVariants.{Object, Link}
 use Rattle.adr_schema.specs.Table.{Table as Schema}
 use Rattle.adr_failure.specs.First.{first_of}
-use Rattle.adr_event.specs.declared.refusal.ItemFault.{ItemFault}
+use Rattle.adr_call.specs.declared.refusal.ItemFault.{ItemFault}
 use Rattle.adr_vector.specs.Vector.{Cursors}
 use Rattle.adr_model.specs.Update.{Update}
 use Rattle.adr_model.specs.Store.{Held as Row}
 use Rattle.adr_model.specs.Change.{Item}
 use Rattle.adr_model.specs.Take.{class_among, is_above, item_fault, left_by_death, object_rows_taken, object_rows_tested, presence_of, row_fault, rows_taken}
 use Rattle.adr_model.proofs.Members.{filter_all}
-use Rattle.adr_told.specs.Presence.{defined}
-use Rattle.adr_told.specs.Standing.{IsStanding}
-use Rattle.adr_told.specs.declared.presence.Presence.TheVariants.{Dead, Held, Gone, New}
-use Rattle.adr_told.specs.declared.standing.Standing.{Standing}
-use Rattle.adr_told.specs.declared.standing.Standing.TheVariants.{OfObject, OfLink}
+use Rattle.adr_overlay.specs.Presence.{defined}
+use Rattle.adr_overlay.specs.Standing.{IsStanding}
+use Rattle.adr_overlay.specs.declared.presence.Presence.TheVariants.{Dead, Held, Gone, New}
+use Rattle.adr_overlay.specs.declared.standing.Standing.{Standing}
+use Rattle.adr_overlay.specs.declared.standing.Standing.TheVariants.{OfObject, OfLink}
 use Rattle.adr_cycle.specs.RowsTaken.{can_die, is_taken}
 
 abbrev pub taken_by : List Row → List Update → Standing → List Update

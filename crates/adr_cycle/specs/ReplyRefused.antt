@@ -1,6 +1,6 @@
 -- Why a reply is refused before its items are looked at.
 use Rattle.std.specs.Prelude.{[], Option}
-use Rattle.adr_event.specs.declared.refusal.TakeRefusal.{TakeRefusal}
+use Rattle.adr_call.specs.declared.refusal.TakeRefusal.{TakeRefusal}
 use Rattle.adr_model.specs.Store.{State, empty_state}
 use Rattle.adr_model.specs.Serve.{Reply}
 use Rattle.adr_model.specs.Take.{begin, take_refusal}

@@ -3,9 +3,9 @@ use Rattle.std.specs.Prelude.{List, Bool, true, false, ◌&&◌, not}
 use Rattle.adr_model.specs.Update.{Update, class_attr, deleted_attr}
 use Rattle.adr_model.specs.Store.{Held as Row}
 use Rattle.adr_model.specs.Take.{is_above, is_of_attr}
-use Rattle.adr_told.specs.declared.presence.Presence.TheVariants.{Dead, Held, Gone, New}
-use Rattle.adr_told.specs.declared.standing.Standing.{Standing}
-use Rattle.adr_told.specs.declared.standing.Standing.TheVariants.{OfObject, OfLink}
+use Rattle.adr_overlay.specs.declared.presence.Presence.TheVariants.{Dead, Held, Gone, New}
+use Rattle.adr_overlay.specs.declared.standing.Standing.{Standing}
+use Rattle.adr_overlay.specs.declared.standing.Standing.TheVariants.{OfObject, OfLink}
 
 -- whether a row is taken, by what stands of its unit
 abbrev pub is_taken : List Row → Standing → Update → Bool

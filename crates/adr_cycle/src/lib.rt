@@ -3,7 +3,7 @@
 //!
 //! It stands on the definitions of requests, replies and what is taken in `adr_model` and meets them, and on `adr_state`
 //! for what a controller holds. No row of the state is copied where a reply is taken: what comes is told over the rows
-//! that are there, by `adr_told`. It knows nothing of bytes, of the disk, or of how a change is made.
+//! that are there, by `adr_overlay`. It knows nothing of bytes, of the disk, or of how a change is made.
 #![tactic(auto)]
 
 mod asking;
@@ -19,7 +19,7 @@ mod taken_reply;
 mod taken_rows;
 mod taking;
 
-pub use adr_event::{Failure, ServeRefusal, TakeRefusal};
+pub use adr_call::{Failure, ServeRefusal, TakeRefusal};
 pub use adr_state::{Change, Item, NoMemory, State};
 pub use adr_vector::{Mark, Vector};
 pub use asking::ask;

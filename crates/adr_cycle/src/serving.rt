@@ -6,11 +6,11 @@ ghost use Rattle.std.specs.Option.{option_map};
 ghost use Rattle.adr_vector.specs.Vector.{first_gap};
 ghost use Rattle.adr_model.specs.Update.{same_identifier};
 ghost use Rattle.adr_model.specs.Serve.{is_quarantined, serve, serve_refusal, shown_by};
-ghost use Rattle.adr_event.specs.declared.refusal.ServeRefusal.{ServeRefusal};
+ghost use Rattle.adr_call.specs.declared.refusal.ServeRefusal.{ServeRefusal};
 
 use crate::replying::{begins_at, reply_to};
 use crate::{Reply, Request};
-use adr_event::{Failure, ServeRefusal};
+use adr_call::{Failure, ServeRefusal};
 use adr_state::{State, is_same};
 use adr_vector::Mark;
 use std::alloc::Global;

@@ -5,16 +5,16 @@ ghost use Rattle.adr_failure.specs.First.{first_of};
 ghost use Rattle.adr_vector.specs.Vector.{Cursors};
 ghost use Rattle.adr_model.specs.Store.{Held};
 ghost use Rattle.adr_model.specs.Take.{incomplete, item_fault, item_refusal, object_lacks, object_rows_tested, row_fault};
-ghost use Rattle.adr_told.specs.Presence.{defined};
-ghost use Rattle.adr_told.specs.Standing.{IsStanding};
+ghost use Rattle.adr_overlay.specs.Presence.{defined};
+ghost use Rattle.adr_overlay.specs.Standing.{IsStanding};
 
 use crate::NoMemory;
 use crate::counting::count;
+use adr_call::{ItemFault, TakeRefusal};
 use adr_checks::Schema;
-use adr_event::{ItemFault, TakeRefusal};
+use adr_overlay::{Presence, Standing, class_among, first_fault, has_row, lacks};
 use adr_stamp::Unit;
 use adr_state::{DELETED, Item, Update};
-use adr_told::{Presence, Standing, class_among, first_fault, has_row, lacks};
 
 /// What is wrong with the first wrong one of the rows of an object's item that are looked at.
 fn object_fault(

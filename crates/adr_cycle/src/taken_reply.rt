@@ -1,7 +1,7 @@
 //! The whole of a reply.
 
 ghost use Rattle.std.specs.Prelude.{◌≡◌, ◌≤◌, [], None, Some, Ok, Err, IfOk, IsErrOf, unwrap_or};
-ghost use Rattle.adr_event.specs.declared.refusal.TakeRefusal.{TakeRefusal};
+ghost use Rattle.adr_call.specs.declared.refusal.TakeRefusal.{TakeRefusal};
 ghost use Rattle.adr_model.specs.Change.{after};
 ghost use Rattle.adr_model.specs.Take.{over_limit, take_refusal, same_mark, shown_by_last, take, taken_change};
 ghost use Rattle.adr_model.specs.Write.{usn_limit};
@@ -9,12 +9,12 @@ ghost use Rattle.adr_cycle.specs.ReplyRefused.{refusal_before};
 
 use crate::taking::{Taking, take_items};
 use crate::{NoMemory, Reply};
-use adr_event::{Failure, Table, TakeRefusal};
+use adr_call::{Failure, Table, TakeRefusal};
+use adr_overlay::len_after;
 use adr_state::{
     CURSOR_LIMIT, Change, Kept, LINK_LIMIT, MARK_LIMIT, Mode, OBJECT_LIMIT, State, USN_LIMIT,
     is_same,
 };
-use adr_told::len_after;
 use adr_vector::{Mark, Vector};
 use std::alloc::Global;
 

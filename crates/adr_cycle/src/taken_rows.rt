@@ -3,18 +3,18 @@
 ghost use Rattle.std.specs.Prelude.{◌≡◌, ◌++◌, ◌∷◌, [], IfOk, OnOk, filter, if◌then◌else◌};
 ghost use Rattle.adr_vector.specs.Vector.{Cursors};
 ghost use Rattle.adr_model.specs.Take.{is_reserved_row, left_by_death, rows_taken};
-ghost use Rattle.adr_told.specs.Standing.{IsStanding};
+ghost use Rattle.adr_overlay.specs.Standing.{IsStanding};
 ghost use Rattle.adr_cycle.specs.RowsTaken.{can_die, is_taken};
 
 use crate::NoMemory;
+use adr_overlay::{Overlay, Presence, Standing, has_row, is_above, is_of_attr, is_reserved};
 use adr_state::{CLASS, DELETED, Item, Update};
-use adr_told::{Presence, Standing, Told, has_row, is_above, is_of_attr, is_reserved};
 use std::alloc::Global;
 
 /// The rows of an item that are written, by what stands of its unit.
 pub fn rows_taken(
     alloc: Global,
-    held: &Told,
+    held: &Overlay,
     standing: Standing,
     item: &Item,
 ) -> Result<Vec<Update>, NoMemory>
@@ -29,7 +29,7 @@ pub fn rows_taken(
 /// The rows that are taken one by one.
 fn each_taken(
     alloc: Global,
-    held: &Told,
+    held: &Overlay,
     standing: Standing,
     rows: &[Update],
 ) -> Result<Vec<Update>, NoMemory>
@@ -45,7 +45,7 @@ fn each_taken(
 /// Copies a row behind those that are taken, if it is.
 fn take_row(
     alloc: Global,
-    held: &Told,
+    held: &Overlay,
     standing: Standing,
     row: &Update,
     taken: &mut Vec<Update>,
@@ -61,7 +61,7 @@ fn take_row(
 
 /// Whether a row is taken: of a dead object a younger death, of a live one a younger row but its class, of a new one any
 /// row, and of a link a younger row, unless an end of it is dead or gone.
-fn is_taken(held: &Told, standing: Standing, row: &Update) -> bool
+fn is_taken(held: &Overlay, standing: Standing, row: &Update) -> bool
     ensures { result ≡ is_taken held.now standing row.now }
 {
     match standing {

@@ -9,11 +9,11 @@ ghost use Rattle.adr_model.specs.Write.{usn_limit};
 use crate::NoMemory;
 use crate::taken_item::item_refusal;
 use crate::taken_rows::rows_taken;
+use adr_call::TakeRefusal;
 use adr_checks::Schema;
-use adr_event::TakeRefusal;
+use adr_overlay::{Overlay, new_object, standing_of};
 use adr_stamp::Oid;
 use adr_state::{Item, State, Update, Written};
-use adr_told::{Told, new_object, standing_of};
 use adr_vector::Vector;
 use std::alloc::Global;
 use std::marker::Model;
@@ -21,7 +21,7 @@ use std::marker::Model;
 /// How far a reply has been taken: what is told, the update sequence number and the writes so far, the first refusal,
 /// how many items there were, and the most objects and links on the way.
 pub struct Taking<'a> {
-    told: Told<'a>,
+    told: Overlay<'a>,
     usn: u64,
     writes: Vec<Written>,
     refusal: Option<TakeRefusal>,
@@ -58,7 +58,7 @@ impl<'a> Taking<'a> {
         ensures { result ≡ begin state.now }
     {
         Taking {
-            told: Told::new(alloc, state.rows().table()),
+            told: Overlay::new(alloc, state.rows().table()),
             usn: state.usn(),
             writes: Vec::new(alloc),
             refusal: None,

@@ -1,13 +1,14 @@
 //! What a disk gives, what a crash may leave of it, and what each call changes of both.
 
-ghost use Rattle.std.specs.Prelude.{◌≡◌, ◌⊎◌, ℕ, ◌+◌, ◌-◌, ◌≤◌, ◌<◌, ⊤, List, Option, Some, IsSome, ◌↔◌, IfOk, IfSome, OnOk, IsErrOf, length, take, drop, min};
+ghost use Rattle.std.specs.Prelude.{◌≡◌, ◌⊎◌, ℕ, ◌+◌, ◌-◌, ◌^◌, ◌≤◌, ◌<◌, ⊤, List, Option, Some, IsSome, ◌↔◌, IfOk, IfSome, OnOk, IsErrOf, length, take, drop, min};
 ghost use Rattle.std.specs.Option.{ForSome};
 ghost use Rattle.adr_io.specs.declared.Fault.{Fault as Cause};
 ghost use Rattle.adr_disk.specs.Disk.{put, Torn, After, Among, Only, Elapses, Counts, Keeps, IsSpare, Call, Writes, Syncs, Looks, ended};
 
 use adr_io::Fault;
 
-/// A list of bytes that outlives a crash, of which only what was synced is sure to.
+/// A list of bytes that outlives a crash, of which only what was synced is sure to. Naming, measuring, reading and syncing
+/// it want no memory, but where one more failure can't be counted.
 pub trait Disk {
     /// How many calls have failed so far.
     ghost faults: { Self → ℕ };
@@ -37,6 +38,7 @@ pub trait Disk {
     fn attach(&mut self, name: &str) -> Result<(), Fault>
         ensures keeps { Keeps content may_leave moment left_since self.old self.new }
         ensures cause { Counts (faults self.old) (faults self.new) result }
+        ensures uncounted { IsErrOf result Fault.NoMemory → faults self.old ≡ 2 ^ 64 - 1 }
         ensures spare { OnOk result (IsSpare (spare_calls self.old) (spare_bytes self.old) (spare_calls self.new) (spare_bytes self.new)) }
         ensures gives { gives self.old Looks (ended result) self.new };
 
@@ -45,6 +47,7 @@ pub trait Disk {
         ensures len { IfOk result (λ len. IfSome (content self.old) (λ bytes. len ≡ length bytes)) }
         ensures keeps { Keeps content may_leave moment left_since self.old self.new }
         ensures cause { Counts (faults self.old) (faults self.new) result }
+        ensures uncounted { IsErrOf result Fault.NoMemory → faults self.old ≡ 2 ^ 64 - 1 }
         ensures spare { OnOk result (IsSpare (spare_calls self.old) (spare_bytes self.old) (spare_calls self.new) (spare_bytes self.new)) }
         ensures gives { gives self.old Looks (ended result) self.new };
 
@@ -57,6 +60,7 @@ pub trait Disk {
             take n into.new ≡ take n (drop at bytes))) }
         ensures keeps { Keeps content may_leave moment left_since self.old self.new }
         ensures cause { Counts (faults self.old) (faults self.new) result }
+        ensures uncounted { IsErrOf result Fault.NoMemory → faults self.old ≡ 2 ^ 64 - 1 }
         ensures spare { OnOk result (IsSpare (spare_calls self.old) (spare_bytes self.old) (spare_calls self.new) (spare_bytes self.new)) }
         ensures gives { gives self.old Looks (ended result) self.new };
 
@@ -93,6 +97,7 @@ pub trait Disk {
         ensures time { Elapses (moment self.old) (moment self.new) (left_since self.old) (left_since self.new) (may_leave self.old) }
 
         ensures cause { Counts (faults self.old) (faults self.new) result }
+        ensures uncounted { IsErrOf result Fault.NoMemory → faults self.old ≡ 2 ^ 64 - 1 }
         ensures no_memory { IsErrOf result Fault.NoMemory
             → Keeps content may_leave moment left_since self.old self.new }
         ensures no_memory_only { IsErrOf result Fault.NoMemory → spare_calls self.old ≡ 0 }

@@ -1,5 +1,9 @@
 -- The verbs: the words that lines begin with and answers repeat. And the controllers that lines go to.
 use Rattle.std.specs.Prelude.{ℕ, List, [], codes}
+use Rattle.adr_call.specs.declared.write.Write.{Write}
+use Rattle.adr_call.specs.declared.write.Write.TheVariants as writes
+use Rattle.adr_call.specs.declared.report.Report.{Report}
+use Rattle.adr_call.specs.declared.report.Report.TheVariants as reports
 use Rattle.adr_event.specs.declared.event.Event.{Event}
 use Rattle.adr_event.specs.declared.event.Event.TheVariants as events
 use Rattle.adr_event.specs.declared.verb.Verb.{Verb}
@@ -35,16 +39,26 @@ word_of Show = codes "show"
 word_of Vector = codes "vector"
 word_of Marks = codes "marks"
 
+-- the verb of the line that says a write, and of the one that asks for a report
+
+abbrev pub verb_of_write : Write → Verb
+verb_of_write (writes.Add guid class parent text values) = Add
+verb_of_write (writes.Modify guid values) = Modify
+verb_of_write (writes.Rename guid parent text) = Rename
+verb_of_write (writes.Delete guid) = Delete
+verb_of_write (writes.Link from attr to) = Link
+verb_of_write (writes.Unlink from attr to) = Unlink
+
+abbrev pub verb_of_report : Report → Verb
+verb_of_report reports.Directory = Show
+verb_of_report reports.Vector = Vector
+verb_of_report reports.Marks = Marks
+
 -- the verb of an event's line
 abbrev pub verb_of : Event → Verb
 verb_of (events.Controller name dsa inv) = Controller
 verb_of (events.Time now) = Time
-verb_of (events.Add name guid class parent text values) = Add
-verb_of (events.Modify name guid values) = Modify
-verb_of (events.Rename name guid parent text) = Rename
-verb_of (events.Delete name guid) = Delete
-verb_of (events.Link name from attr to) = Link
-verb_of (events.Unlink name from attr to) = Unlink
+verb_of (events.Write name what) = verb_of_write what
 verb_of (events.Ask name partner max version bind) = Ask
 verb_of (events.Serve name request bind) = Serve
 verb_of (events.Deliver name reply) = Deliver
@@ -63,20 +77,13 @@ verb_of (events.StopAfter name calls how) = Stop
 verb_of (events.Fail name calls) = Fail
 verb_of (events.Stop name) = Stop
 verb_of (events.Start name) = Start
-verb_of (events.Show name) = Show
-verb_of (events.Vector name) = Vector
-verb_of (events.Marks name) = Marks
+verb_of (events.Report name what) = verb_of_report what
 
 -- the controller that a line goes to, if there is one
 abbrev pub name_of : Event → List ℕ
 name_of (events.Controller name dsa inv) = name
 name_of (events.Time now) = []
-name_of (events.Add name guid class parent text values) = name
-name_of (events.Modify name guid values) = name
-name_of (events.Rename name guid parent text) = name
-name_of (events.Delete name guid) = name
-name_of (events.Link name from attr to) = name
-name_of (events.Unlink name from attr to) = name
+name_of (events.Write name what) = name
 name_of (events.Ask name partner max version bind) = name
 name_of (events.Serve name request bind) = name
 name_of (events.Deliver name reply) = name
@@ -95,6 +102,4 @@ name_of (events.StopAfter name calls how) = name
 name_of (events.Fail name calls) = name
 name_of (events.Stop name) = name
 name_of (events.Start name) = name
-name_of (events.Show name) = name
-name_of (events.Vector name) = name
-name_of (events.Marks name) = name
+name_of (events.Report name what) = name

@@ -1,9 +1,9 @@
 //! The events of a run.
 
 use crate::names::Names;
+use adr_call::{Report, Text, Write};
 use adr_disk::Crash;
 use adr_guid::Guid;
-use adr_schema::{Assignments, Text};
 
 /// What happens. `name` names the controller that it happens to.
 #[derive(Drop)]
@@ -18,46 +18,10 @@ pub enum Event {
     Time {
         now: u64,
     },
-    /// A client adds an object under a parent, with a name and the values of its attributes.
-    Add {
+    /// A client has the controller write.
+    Write {
         name: Text,
-        guid: Guid,
-        class: u16,
-        parent: Guid,
-        text: Text,
-        values: Assignments,
-    },
-    /// A client replaces the values of attributes.
-    Modify {
-        name: Text,
-        guid: Guid,
-        values: Assignments,
-    },
-    /// A client gives an object a name and a parent.
-    Rename {
-        name: Text,
-        guid: Guid,
-        parent: Guid,
-        text: Text,
-    },
-    /// A client deletes an object.
-    Delete {
-        name: Text,
-        guid: Guid,
-    },
-    /// A client links two objects.
-    Link {
-        name: Text,
-        from: Guid,
-        attr: u16,
-        to: Guid,
-    },
-    /// A client removes a link.
-    Unlink {
-        name: Text,
-        from: Guid,
-        attr: u16,
-        to: Guid,
+        what: Write,
     },
     /// The controller asks a partner for at most `max` items, in version 1 or 2; the request is bound to a name.
     Ask {
@@ -161,16 +125,9 @@ pub enum Event {
     Start {
         name: Text,
     },
-    /// A client asks for the directory.
-    Show {
+    /// A client asks the controller for a report.
+    Report {
         name: Text,
-    },
-    /// A client asks what the controller has seen of each incarnation.
-    Vector {
-        name: Text,
-    },
-    /// A client asks how far the controller has read each partner.
-    Marks {
-        name: Text,
+        what: Report,
     },
 }

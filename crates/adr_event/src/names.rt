@@ -2,7 +2,7 @@
 
 ghost use Rattle.std.specs.Prelude.{◌≡◌};
 
-use adr_schema::Text;
+use adr_call::Text;
 use std::marker::Model;
 
 /// Names of controllers, in the order of their line.

@@ -1,9 +1,10 @@
 //! The words that lines begin with, and that answers repeat.
 
 ghost use Rattle.std.specs.Prelude.{◌≡◌};
-ghost use Rattle.adr_event.specs.Verbs.{verb_of, word_of};
+ghost use Rattle.adr_event.specs.Verbs.{verb_of, verb_of_report, verb_of_write, word_of};
 
 use crate::event::Event;
+use adr_call::{Report, Write};
 
 /// What a line begins with.
 #[derive(Clone, Copy)]
@@ -76,6 +77,31 @@ impl Verb {
     }
 }
 
+/// The verb of the line that says a write.
+fn verb_of_write(what: &Write) -> Verb
+    ensures { result ≡ verb_of_write what.now }
+{
+    match what {
+        Write::Add { .. } => Verb::Add,
+        Write::Modify { .. } => Verb::Modify,
+        Write::Rename { .. } => Verb::Rename,
+        Write::Delete { .. } => Verb::Delete,
+        Write::Link { .. } => Verb::Link,
+        Write::Unlink { .. } => Verb::Unlink,
+    }
+}
+
+/// The verb of the line that asks for a report.
+fn verb_of_report(what: Report) -> Verb
+    ensures { result ≡ verb_of_report what }
+{
+    match what {
+        Report::Directory => Verb::Show,
+        Report::Vector => Verb::Vector,
+        Report::Marks => Verb::Marks,
+    }
+}
+
 impl Event {
     /// The verb of the line that says the event.
     pub fn verb(&self) -> Verb
@@ -84,12 +110,7 @@ impl Event {
         match self {
             Event::Controller { .. } => Verb::Controller,
             Event::Time { .. } => Verb::Time,
-            Event::Add { .. } => Verb::Add,
-            Event::Modify { .. } => Verb::Modify,
-            Event::Rename { .. } => Verb::Rename,
-            Event::Delete { .. } => Verb::Delete,
-            Event::Link { .. } => Verb::Link,
-            Event::Unlink { .. } => Verb::Unlink,
+            Event::Write { what, .. } => verb_of_write(what),
             Event::Ask { .. } => Verb::Ask,
             Event::Serve { .. } => Verb::Serve,
             Event::Deliver { .. } => Verb::Deliver,
@@ -107,9 +128,7 @@ impl Event {
             Event::StopAfter { .. } | Event::Stop { .. } => Verb::Stop,
             Event::Fail { .. } => Verb::Fail,
             Event::Start { .. } => Verb::Start,
-            Event::Show { .. } => Verb::Show,
-            Event::Vector { .. } => Verb::Vector,
-            Event::Marks { .. } => Verb::Marks,
+            Event::Report { what, .. } => verb_of_report(*what),
         }
     }
 }

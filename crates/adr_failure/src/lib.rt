@@ -1,21 +1,26 @@
 //! Why a call gave nothing: it was refused, or memory ran out.
 //!
 //! Every call that may be refused and that takes memory answers in this shape, with a refusal of its own. This crate
-//! stands on nothing, and knows no refusal.
+//! stands on `thiserror` alone, and knows no refusal.
 #![tactic(auto)]
 
 ghost use Rattle.std.specs.Prelude.{◌≡◌};
 ghost use Rattle.adr_failure.specs.declared.Failure.TheVariants.{NoMemory as no_memory};
 
 use std::alloc::{AllocError, AllocFailed};
+use std::fmt::Display;
+use thiserror::Error;
 
 /// Memory ran out.
 pub type NoMemory = AllocError;
 
 /// Why a call gave nothing: it was refused, or memory ran out.
-#[derive(Debug, Drop, PartialEq, Eq)]
+#[derive(Debug, Drop, PartialEq, Eq, Error)]
+#[error_bound(R: Display)]
 pub enum Failure<R> {
+    #[error(transparent)]
     Refused(R),
+    #[error("no memory")]
     NoMemory,
 }
 

@@ -5,15 +5,29 @@ ghost use Rattle.std.specs.Prelude.{◌≡◌, ◌-◌, ◌^◌, ◌≤◌, Opti
 
 use adr_disk::Disk;
 use adr_io::{Failures, Fault};
-use std::alloc::Global;
+use arrayvec::ArrayString;
 use std::fs::{File, Files, OpenFile, OpenOptions};
 use std::io;
 use std::os::unix::fs::FileExt;
 
+/// The longest name that a file can have, in bytes.
+const LONGEST_NAME: usize = 255;
+
+/// `NAME.adr`; none where no file can be called so.
+fn file_name(name: &str) -> Option<ArrayString<LONGEST_NAME>> {
+    let mut path = ArrayString::new();
+    if path.try_push_str(name).is_err() {
+        return None;
+    }
+    if path.try_push_str(".adr").is_err() {
+        return None;
+    }
+    Some(path)
+}
+
 /// A file in the present folder, and how many calls have failed.
 #[derive(Drop)]
 pub struct FileDisk<R> {
-    alloc: Global,
     files: R,
     file: Option<File>,
     failures: Failures,
@@ -21,15 +35,25 @@ pub struct FileDisk<R> {
 
 impl<R: Files<File = File> + Drop> FileDisk<R> {
     /// No file as yet: `attach` opens it.
-    pub fn new(alloc: Global, files: R) -> FileDisk<R>
+    pub fn new(files: R) -> FileDisk<R>
         ensures { ⟦<FileDisk<R> as Disk>⟧.faults result ≡ 0 }
     {
         FileDisk {
-            alloc,
             files,
             file: None,
             failures: Failures::new(),
         }
+    }
+
+    fn open(&self, name: &str) -> io::Result<File> {
+        let Some(path) = file_name(name) else {
+            return Err(io::Error::from(io::ErrorKind::InvalidInput));
+        };
+        OpenOptions::new()
+            .read(true)
+            .write(true)
+            .create(true)
+            .open(&self.files, path.as_str())
     }
 
     fn opened(&self) -> io::Result<&File> {
@@ -92,15 +116,7 @@ impl<R: Files<File = File> + Drop> Disk for FileDisk<R> {
 
     /// Opens `NAME.adr` in the present folder, and makes it where it isn't there.
     fn attach(&mut self, name: &str) -> Result<(), Fault> {
-        let Ok(path) = format!(in self.alloc; "{name}.adr") else {
-            return Err(Fault::NoMemory);
-        };
-        let opened = OpenOptions::new()
-            .read(true)
-            .write(true)
-            .create(true)
-            .open(&self.files, path.as_str());
-        match opened {
+        match self.open(name) {
             Ok(file) => {
                 self.file = Some(file);
                 Ok(())

@@ -13,8 +13,8 @@ use crate::touched::are_touched_formed;
 use crate::vectors::{are_in_order, comes_after};
 use crate::writes::may_follow_in_turn;
 use adr_law_formed::changes_are_tested;
+use adr_overlay::Overlay;
 use adr_state::{Change, State};
-use adr_told::Told;
 use std::alloc::Global;
 
 /// Whether a change that was read can follow a state. The time that it takes goes by what the change writes, not by what
@@ -43,7 +43,7 @@ fn passes(alloc: Global, state: &State, change: &Change) -> Result<bool, NoMemor
     if !are_in_order(state, change) {
         return Ok(false);
     }
-    let mut told = Told::new(alloc, state.rows().table());
+    let mut told = Overlay::new(alloc, state.rows().table());
     writes_pass(alloc, state, &mut told, change)
 }
 
@@ -51,7 +51,7 @@ fn passes(alloc: Global, state: &State, change: &Change) -> Result<bool, NoMemor
 fn writes_pass(
     alloc: Global,
     state: &State,
-    told: &mut Told,
+    told: &mut Overlay,
     change: &Change,
 ) -> Result<bool, NoMemory>
     requires { told.old ≡ state.now.store.rows }

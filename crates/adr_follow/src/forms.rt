@@ -9,8 +9,8 @@ ghost use Rattle.adr_update.specs.Said.{said_of};
 ghost use Rattle.adr_law_formed.specs.Tested.{fits_class, is_class_known, says_allowed_name, says_dead};
 
 use adr_checks::{Schema, check_name};
+use adr_overlay::is_reserved;
 use adr_schema::{Content, SchemaRefusal};
-use adr_told::is_reserved;
 use adr_update::{CLASS, Held, Key, NAME, Said, Update};
 
 fn is_allowed(checked: Result<(), SchemaRefusal>) -> bool

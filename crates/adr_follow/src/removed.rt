@@ -8,16 +8,16 @@ ghost use Rattle.adr_law_formed.specs.Tested.{are_removable, is_removable};
 
 use crate::NoMemory;
 use adr_guid::Guid;
+use adr_overlay::Overlay;
 use adr_stamp::Oid;
 use adr_state::Change;
-use adr_told::Told;
 use adr_update::Key;
 use adr_vector::{Vector, seen_by_both};
 use std::alloc::Global;
 use std::collections::BTreeSet;
 
 /// Whether the objects that a change removes are held dead, and the births and deaths of all are purged.
-pub(crate) fn are_removable(told: &Told, purged: &Vector, change: &Change) -> bool
+pub(crate) fn are_removable(told: &Overlay, purged: &Vector, change: &Change) -> bool
     ensures { result ≡ are_removable told.now (joined purged.now change.now.purged) change.now.removed }
 {
     let more = change.purged();
@@ -30,7 +30,7 @@ pub(crate) fn are_removable(told: &Told, purged: &Vector, change: &Change) -> bo
 }
 
 /// Whether an object is held dead, and its birth and its death are purged.
-fn is_removable(told: &Told, purged: &Vector, more: &Vector, object: &Oid) -> bool
+fn is_removable(told: &Overlay, purged: &Vector, more: &Vector, object: &Oid) -> bool
     ensures { result ≡ is_removable told.now (joined purged.now more.now) object.now }
 {
     let birth = object.birth;

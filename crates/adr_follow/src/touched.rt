@@ -19,9 +19,9 @@ use crate::forms::{
 };
 use crate::removed::set_of;
 use adr_checks::Schema;
+use adr_overlay::{Overlay, class_said, is_birth};
 use adr_stamp::{Oid, Unit};
 use adr_state::Change;
-use adr_told::{Told, class_said, is_birth};
 use adr_update::{CLASS, Held, Key, NAME};
 use std::alloc::Global;
 use std::collections::BTreeSet;
@@ -30,7 +30,7 @@ use std::collections::BTreeSet;
 pub(crate) fn are_touched_formed(
     alloc: Global,
     schema: Schema,
-    told: &Told,
+    told: &Overlay,
     change: &Change,
 ) -> Result<bool, NoMemory>
     ensures { IfOk result (λ are. are
@@ -49,7 +49,7 @@ pub(crate) fn are_touched_formed(
 fn is_touched_formed(
     alloc: Global,
     schema: Schema,
-    told: &Told,
+    told: &Overlay,
     removed: &BTreeSet<Oid>,
     unit: Unit,
 ) -> Result<bool, NoMemory>
@@ -73,7 +73,7 @@ fn is_touched_formed(
 fn is_object_formed(
     alloc: Global,
     schema: Schema,
-    told: &Told,
+    told: &Overlay,
     object: &Oid,
 ) -> Result<bool, NoMemory>
     ensures { IfOk result (λ is. is ≡ is_object_formed schema told.now object.now) }
@@ -99,7 +99,7 @@ fn row_key(object: &Oid, attr: u16) -> Key
 fn is_named_formed(
     alloc: Global,
     schema: Schema,
-    told: &Told,
+    told: &Overlay,
     object: &Oid,
     class: &Held,
     name: &Held,
@@ -130,7 +130,7 @@ fn is_named_formed(
 }
 
 /// Whether a dead object's rows are those that stay of one.
-fn are_reserved(alloc: Global, told: &Told, object: &Oid) -> Result<bool, NoMemory>
+fn are_reserved(alloc: Global, told: &Overlay, object: &Oid) -> Result<bool, NoMemory>
     ensures { IfOk result (λ are. are ≡ all_of_object told.now object.now (λ u. is_reserved_row u.key)) }
 {
     Ok(all_reserved(told.rows_of(alloc, object)?.as_slice()))
@@ -140,7 +140,7 @@ fn are_reserved(alloc: Global, told: &Told, object: &Oid) -> Result<bool, NoMemo
 fn is_alive_formed(
     alloc: Global,
     schema: Schema,
-    told: &Told,
+    told: &Overlay,
     object: &Oid,
     class: Option<u16>,
 ) -> Result<bool, NoMemory>
@@ -159,7 +159,7 @@ fn is_alive_formed(
 fn are_of_class(
     alloc: Global,
     schema: Schema,
-    told: &Told,
+    told: &Overlay,
     object: &Oid,
     class: u16,
 ) -> Result<bool, NoMemory>
@@ -169,7 +169,7 @@ fn are_of_class(
 }
 
 /// Whether an object has each row that one of its class must have.
-fn has_must(schema: Schema, told: &Told, object: &Oid, class: u16) -> bool
+fn has_must(schema: Schema, told: &Overlay, object: &Oid, class: u16) -> bool
     ensures { result
         ≡ list_all (λ attr. is_some (row_held told.now (RowOf object.now attr))) (must_of schema class) }
 {

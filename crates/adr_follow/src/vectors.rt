@@ -6,8 +6,8 @@ ghost use Rattle.adr_model.specs.Change.{after, with_mark};
 ghost use Rattle.adr_law_formed.specs.Tested.{are_in_order, comes_after};
 
 use adr_guid::Guid;
+use adr_overlay::len_after;
 use adr_state::{CURSOR_LIMIT, Change, MARK_LIMIT, State, is_same};
-use adr_told::len_after;
 use adr_vector::seen_by_both;
 
 /// Whether a state is up, and a change at its USN or above it.

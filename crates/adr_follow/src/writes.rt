@@ -10,12 +10,14 @@ ghost use Rattle.adr_model.specs.Take.{is_above, is_of_attr};
 ghost use Rattle.adr_model.specs.Update.{deleted_attr};
 ghost use Rattle.adr_law_formed.specs.Follow.{after_write};
 ghost use Rattle.adr_law_formed.specs.Tested.{are_within_limits, may_follow, may_follow_in_turn, may_write_object, may_write_unit};
-ghost use Rattle.adr_told.specs.Presence.{defined};
-ghost use Rattle.adr_told.specs.Standing.{IsStanding};
+ghost use Rattle.adr_overlay.specs.Presence.{defined};
+ghost use Rattle.adr_overlay.specs.Standing.{IsStanding};
 
 use crate::NoMemory;
 use adr_checks::Schema;
-use adr_told::{Presence, Standing, Told, is_above, is_of_attr, lacks, new_object, standing_of};
+use adr_overlay::{
+    Overlay, Presence, Standing, is_above, is_of_attr, lacks, new_object, standing_of,
+};
 use adr_update::{DELETED, Item, LINK_LIMIT, OBJECT_LIMIT, Update, Written};
 use adr_vector::Vector;
 use std::alloc::Global;
@@ -26,7 +28,7 @@ pub(crate) fn may_follow_in_turn(
     alloc: Global,
     schema: Schema,
     vector: &Vector,
-    told: &mut Told,
+    told: &mut Overlay,
     writes: &[Written],
 ) -> Result<bool, NoMemory>
     ensures may { IfOk result (λ may. may ≡ may_follow_in_turn schema vector.now told.old writes.now) }
@@ -46,7 +48,7 @@ fn follows(
     alloc: Global,
     schema: Schema,
     vector: &Vector,
-    told: &mut Told,
+    told: &mut Overlay,
     written: &Written,
 ) -> Result<bool, NoMemory>
     ensures may { IfOk result (λ may. may ≡ (may_follow schema vector.now told.old written.now.item
@@ -69,14 +71,14 @@ fn follows(
 }
 
 /// Whether no table is over its limit.
-fn are_within_limits(told: &Told) -> bool
+fn are_within_limits(told: &Overlay) -> bool
     ensures { result ≡ are_within_limits told.now }
 {
     told.objects() as u64 <= OBJECT_LIMIT && told.links() as u64 <= LINK_LIMIT
 }
 
 /// Whether each row of an item is above the one that is held, and its unit may be written to, by what stands of it.
-fn may_follow(schema: Schema, told: &Told, standing: Standing, item: &Item) -> bool
+fn may_follow(schema: Schema, told: &Overlay, standing: Standing, item: &Item) -> bool
     ensures { (vector : Cursors) → IsStanding vector told.now item.now.unit standing
         → result ≡ may_follow schema vector told.now item.now }
 {
@@ -84,7 +86,7 @@ fn may_follow(schema: Schema, told: &Told, standing: Standing, item: &Item) -> b
 }
 
 /// Whether each row is above the one that is held.
-fn are_above(told: &Told, rows: &[Update]) -> bool
+fn are_above(told: &Overlay, rows: &[Update]) -> bool
     ensures { result ≡ list_all (is_above told.now) rows.now }
 {
     for row in rows {

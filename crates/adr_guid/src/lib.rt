@@ -16,6 +16,7 @@ ghost use Rattle.std.specs.Int.{from_be_bytes, to_be_bytes, w128};
 ghost use Rattle.uuid.specs.Text.{hyphenated_text, lower, parsed};
 
 use std::cmp::Ordering;
+use std::fmt;
 use std::marker::Model;
 use uuid::Uuid;
 
@@ -77,6 +78,19 @@ impl Guid {
         ensures { result.now ≡ hyphenated_text lower self.now }
     {
         Uuid::from_bytes(self.0).hyphenated().encode_lower(buffer)
+    }
+}
+
+// Its text of 36 bytes, in lower case.
+impl fmt::Display for Guid {
+    fn fmt<W: fmt::Write>(&self, f: &mut fmt::Formatter<W>) -> fmt::Result {
+        f.write_str(self.hyphenated(&mut [0; 36]))
+    }
+}
+
+impl fmt::Debug for Guid {
+    fn fmt<W: fmt::Write>(&self, f: &mut fmt::Formatter<W>) -> fmt::Result {
+        fmt::Display::fmt(self, f)
     }
 }
 

@@ -1,6 +1,7 @@
 -- How long a commit and a format let a disk become.
-use Rattle.std.proofs.Common.{◌≡◌, ◌⊎◌, inl, inr, ⊎_elim, ℕ, ◌+◌, ◌≤◌, List, length, Bool, true, false, Option, Ok, Err, IfSome, IsSome, refl, sym, ◌∙◌, ap, subst, arith, if◌then◌else◌}
+use Rattle.std.proofs.Common.{◌≡◌, ◌⊎◌, inl, inr, ⊎_elim, ℕ, ◌+◌, ◌≤◌, ◌<◌, List, length, Bool, true, false, Option, Ok, Err, IfSome, IsSome, refl, sym, ◌∙◌, ap, subst, arith, if◌then◌else◌}
 use Rattle.std.specs.Prelude.{◌↔◌, ◌&&◌, ◌||◌, max, nat_le, nat_lt}
+use Rattle.std.specs.Option.{option_map}
 use Rattle.std.proofs.lemmas.Bool.{leb-true, leb-false, ltb-false}
 use Rattle.adr_disk.specs.Disk.{Among}
 use Rattle.adr_wire.specs.Reading.{Reading}
@@ -11,8 +12,9 @@ use Rattle.adr_law_journal.specs.Log.{Following}
 use Rattle.adr_law_journal.specs.Areas.{Began, Found, found, Started, start_of}
 use Rattle.adr_law_journal.specs.Bound.{IsBounded, IsPlaced, IsUndue}
 use Rattle.adr_law_journal.proofs.Bounds.{records_stay, areas_stay, files_stay}
-use Rattle.adr_law_journal.proofs.Told.{if_told, at_told, some_of, is_some_of}
-use Rattle.adr_journal.specs.Kept.{Ids, IsWithin}
+use Rattle.adr_law_journal.proofs.Settled.{stands}
+use Rattle.adr_law_journal.proofs.Told.{if_mapped, if_told, at_told, some_of, is_some_of}
+use Rattle.adr_journal.specs.Kept.{Ids, ids_of, layout_of, IsAt, IsWithin}
 use Rattle.adr_journal.specs.Written.{AreNoLonger, IsNone, IsOneOfThree}
 
 wider : (file image longest more longer : ℕ) (l : Log) → image ≤ more → longest ≤ longer → IsBounded file image longest l → IsBounded file more longer l
@@ -133,3 +135,26 @@ module _ {D : Type 0} (head : Reading Ids) (area : Ids → Reading (Began State)
       if_told (content new) _ (λ x told.
       let was = some_of (content old) (both.0 (is_some_of (content new) x told)) in
       subst P (same_found f0 f (sym (at_told (content old) _ was.0 was.1 finds0) ∙ at_told (content old) _ was.0 was.1 finds)) (at_told (content new) _ x told h))
+
+-- a start
+found_bounded : (file : ℕ) (l : Log) → l.place + 6 ≤ l.first → l.first < l.log_end → l.log_end ≤ file → IsBounded file (image_bytes l) 0 l
+found_bounded file l apart first ends = record {
+  starts = apart;
+  ends = omega (arith, first);
+  images = omega arith;
+  area = inl ends;
+  low = omega (arith, apart, first, ends);
+}
+
+pub found_within : {D : Type 0} (head : Reading Ids) (area : Ids → Reading (Began State)) (following : ℕ → Following State) (content : D → Option (List ℕ)) (may_leave : D → List ℕ → Type 0) (disk : D) (log : Log) (f : Found State)
+    → IsAt head area following content may_leave disk log f → f.log.place + 6 ≤ f.log.first → f.log.first < f.log.log_end → IfSome (content disk) (λ there. f.log.log_end ≤ length there)
+    → IfSome (option_map length (content disk)) (λ file. IsWithin head area following content may_leave disk file (image_bytes f.log) 0)
+found_within head area following content may_leave disk log f at apart first ends =
+    if_mapped length (content disk) (λ file. IsWithin head area following content may_leave disk file (image_bytes f.log) 0) (λ there told.
+    if_told (content disk) _ (λ other known bytes left.
+    let is : bytes ≡ there = at.settled.synced there told bytes left in
+    let finds = stands (layout_of head area following at.front (ids_of f.state) at.is_head) f.state f.log there (at.settled.at_rest there told) in
+    let bounded = found_bounded (length there) f.log apart first (at_told (content disk) (λ there. f.log.log_end ≤ length there) there told ends) in (
+      omega (arith, ap length is),
+      λ g found_it. subst (λ (h : Found State). IsBounded (length there) (image_bytes f.log) 0 h.log) (same_found f g (sym finds ∙ ap (start_of head area following) (sym is) ∙ found_it)) bounded,
+    )))

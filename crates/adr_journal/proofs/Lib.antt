@@ -6,5 +6,4 @@ pub mod Prepared
 mod Bounded
 pub mod Begun
 pub mod Starts
-pub mod Plans
 pub mod Found

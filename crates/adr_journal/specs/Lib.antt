@@ -3,6 +3,4 @@ pub mod Ran
 pub mod Written
 pub mod Kept
 pub mod Reached
-pub mod Planned
 pub mod Laws
-pub mod PlanLaws

@@ -72,5 +72,5 @@ FormatsDisk {D} gives old None new = (mid : D) × gives old Looks None mid × ((
 FormatsDisk {D} gives old (Some DiskFault) new =
     gives old Looks (Some failed_call) new ⊎ ((mid : D) × gives old Looks None mid × ((written : List ℕ) × Formats gives written mid (Some failed_call) new))
 FormatsDisk gives old (Some NoMemory) new = (new ≡ old) ⊎ gives old Looks (Some no_memory) new
-FormatsDisk gives old (Some Full) new = ⊥
+FormatsDisk gives old (Some Full) new = new ≡ old
 FormatsDisk gives old (Some Failed) new = ⊥

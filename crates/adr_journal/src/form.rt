@@ -14,12 +14,15 @@ use adr_guid::Guid;
 use adr_state::{Change, State};
 use adr_wire::WireRefusal;
 use std::alloc::Global;
+use thiserror::Error;
 
 /// Why a record was not taken.
-#[derive(Clone, Copy)]
+#[derive(Clone, Copy, Debug, Error)]
 pub enum FollowRefusal {
     /// Its body spells no change, or one that can't follow the state.
+    #[error("the record can't follow the state")]
     CannotFollow,
+    #[error("no memory")]
     NoMemory,
 }
 
@@ -57,7 +60,8 @@ pub trait Form {
 
     ghost body_of: { Changes → List ℕ };
 
-    /// Which state may begin a log or an area, which change may follow a state, and what every state of a log is.
+    /// Which state may begin a log or an area, however long its image is; which change may follow a state; and what every
+    /// state of a log is.
     ghost can_begin: { Defined → Type 0 };
 
     ghost can_follow: { Defined → Changes → Type 0 };
@@ -87,7 +91,7 @@ pub trait Form {
             ≡ Ok ((o.dsa, o.inv), record { place = 39; bytes = drop 39 bytes.now })) }
         ensures err { IfErr result (λ e. Refuses e (head (record { place = 1; bytes = drop 1 bytes.now }))) };
 
-    /// Reads the area at a place, in bytes, of a log of this owner.
+    /// Reads the area at a place, in bytes, of a log of this owner. Six bytes or more stand in front of what it begins with.
     fn read_area(
         alloc: Global,
         bytes: &[u8],
@@ -97,6 +101,7 @@ pub trait Form {
         requires { place < length bytes.now }
         ensures ok { IfOk result (λ r. area (owner.dsa, owner.inv) (record { place = place; bytes = drop place bytes.now })
             ≡ Ok (record { version = r.version; state = r.state }, record { place = r.first; bytes = drop r.first bytes.now })) }
+        ensures apart { IfOk result (λ r. place + 6 ≤ r.first) }
         ensures err { IfErr result (λ e. Refuses e (area (owner.dsa, owner.inv) (record { place = place; bytes = drop place bytes.now }))) };
 
     /// Takes a record of this body in an area of this version.
@@ -111,10 +116,11 @@ pub trait Form {
         ensures refused { IsErrOf result FollowRefusal.CannotFollow → following version state.old body.now ≡ None }
         ensures err { OnErr result (state.new ≡ state.old) };
 
-    /// A head and an area are read as they were written, in a log of the state's identifiers.
+    /// A head and an area are read as they were written, in a log of the state's identifiers, where its image isn't too long.
     ghost tells_front: { (s : Defined) → is_formed s → IsHead head (front_of (s.dsa, s.inv)) (s.dsa, s.inv) };
 
-    ghost tells_area: { (place : ℕ) (s : Defined) → can_begin s → TellsArea (area (s.dsa, s.inv)) place (area_of s) log_version s };
+    ghost tells_area: { (place : ℕ) (s : Defined) → can_begin s → image_length s.store < length_limit
+        → TellsArea (area (s.dsa, s.inv)) place (area_of s) log_version s };
 
     ghost area_length: { (s : Defined) → can_begin s → length (area_of s) ≡ 6 + image_length s.store };
 
@@ -135,12 +141,10 @@ pub trait Form {
 
     ghost body_length: { (s : Defined) (c : Changes) → can_follow s c → length (body_of c) ≡ change_length c };
 
-    /// A state that a change may follow is formed, and begins an area where its image isn't too long.
+    /// A state that a change may follow is formed, and may begin an area.
     ghost follows_formed: { (s : Defined) (c : Changes) → can_follow s c → is_formed s };
 
-    ghost begins_anew: { (s : Defined) (c : Changes) → can_follow s c → image_length s.store < length_limit → can_begin s };
-
-    ghost begins_short: { (s : Defined) → can_begin s → image_length s.store < length_limit };
+    ghost begins_anew: { (s : Defined) (c : Changes) → can_follow s c → can_begin s };
 
     /// Each state of a log is formed, and has the identifiers that the log began with.
     ghost begins_formed: { (s : Defined) → can_begin s → is_formed s };

@@ -1,10 +1,10 @@
 //! Writes a new log.
 
-ghost use Rattle.std.specs.Prelude.{◌≡◌, ◌⊎◌, ◌↔◌, ℕ, ◌+◌, ◌<◌, ◌^◌, List, [], ◌∷◌, IsSome, IfOk, IfSome, OnOk, IsErrOf, length};
+ghost use Rattle.std.specs.Prelude.{◌≡◌, ◌⊎◌, ◌↔◌, ℕ, ◌+◌, ◌<◌, ◌^◌, List, [], ◌∷◌, true, false, IsSome, IfOk, IfSome, OnOk, OnErr, IsErrOf, length};
 ghost use Rattle.std.specs.Option.{ForSome};
 ghost use Rattle.adr_disk.specs.Disk.{Among, Only, LeavesOnly, Counts, ended};
 ghost use Rattle.adr_model.specs.Store.{State as Defined};
-ghost use Rattle.adr_model.specs.Lengths.{Log as Logs, new_log};
+ghost use Rattle.adr_model.specs.Lengths.{Log as Logs, area_fits, image_length, length_limit, new_log};
 ghost use Rattle.adr_law_journal.specs.Log.{open_gate};
 ghost use Rattle.adr_law_journal.specs.Kept.{Layout, starts, Rests, IsSettled};
 ghost use Rattle.adr_law_journal.specs.Recording.{new_bytes};
@@ -13,27 +13,37 @@ ghost use Rattle.adr_journal.specs.Ran.{Formats};
 ghost use Rattle.adr_journal.specs.Written.{AreNoLonger, IsNone};
 
 use crate::form::Form;
+use crate::keeper::KeeperRefusal;
 use crate::recording::{CLOSED_GATE, OPEN_GATE, area_with_gate, log_with_area};
 use adr_disk::{Disk, write_through};
-use adr_failure::NoMemory;
 use adr_io::Fault;
 use adr_state::{Log, State};
 use std::alloc::Global;
 
-/// The bytes of a new log of a state behind its first gate, and where it stands.
-pub fn new_log<F: Form>(alloc: Global, state: &State) -> Result<(Vec<u8>, Log), NoMemory>
+/// The bytes of a new log of a state behind its first gate, and where it stands. It is full where the image would be 4
+/// GiB or longer; any other log ends within its limit.
+pub fn new_log<F: Form>(alloc: Global, state: &State) -> Result<(Vec<u8>, Log), KeeperRefusal>
     requires { F.can_begin state.now }
     ensures bytes { IfOk result (λ r. r.0.items ≡ new_bytes (F.front_of (ids_of state.now)) (F.area_of state.now)) }
     ensures log { IfOk result (λ r. r.1 ≡ new_log state.now) }
     ensures long { IfOk result (λ r. length r.0.items + 1 ≡ (new_log state.now).log_end) }
+    ensures short { OnOk result (image_length state.now.store < length_limit) }
+    ensures fits { OnOk result (area_fits (new_log state.now) state.now.store ≡ true) }
+    ensures full { IsErrOf result KeeperRefusal.Full → area_fits (new_log state.now) state.now.store ≡ false }
+    ensures only { OnErr result (IsErrOf result KeeperRefusal.Full ⊎ IsErrOf result KeeperRefusal.NoMemory) }
 {
-    let area = match area_with_gate::<F>(alloc, state)? {
-        Some(area) => area,
-        None => unreachable!(),
+    let area = match area_with_gate::<F>(alloc, state) {
+        Ok(Some(area)) => area,
+        Ok(None) => return Err(KeeperRefusal::Full),
+        Err(_) => return Err(KeeperRefusal::NoMemory),
     };
-    let written = log_with_area::<F>(alloc, state, &area)?;
-    let log = Log::new(area.len() as u64 - 7);
-    Ok((written, log))
+    match log_with_area::<F>(alloc, state, &area) {
+        Ok(written) => {
+            let log = Log::new(area.len() as u64 - 7);
+            Ok((written, log))
+        }
+        Err(_) => Err(KeeperRefusal::NoMemory),
+    }
 }
 
 /// Writes a log behind a closed gate on an empty disk, and then opens the gate.

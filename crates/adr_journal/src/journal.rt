@@ -1,9 +1,11 @@
 //! A journal on a disk.
 
-ghost use Rattle.std.specs.Prelude.{◌≡◌, [], false};
+ghost use Rattle.std.specs.Prelude.{◌≡◌, ℕ, [], false, length};
+ghost use Rattle.std.specs.Fn.{FnOnceReturnsAtMut};
 ghost use Rattle.std.specs.Option.{ForSome, option_map};
-ghost use Rattle.adr_disk.specs.Disk.{Only};
+ghost use Rattle.adr_disk.specs.Disk.{Among, Only};
 ghost use Rattle.adr_law_journal.specs.Areas.{start_of};
+ghost use Rattle.adr_law_journal.specs.Kept.{Finds};
 
 use crate::committing::{reserve, spell, write_commit};
 use crate::form::Form;
@@ -34,12 +36,49 @@ pub struct Journal<D, F> {
 impl<D: Disk, F: Form> Journal<D, F> {
     /// A journal that is neither formatted nor started.
     pub fn new(alloc: Global, disk: D) -> Journal<D, F>
+        ensures disk { result.disk ≡ disk }
         ensures empty { ForSome (D.content disk) (λ there. there ≡ []) → ForSome (D.content disk) (λ there. Only there (D.may_leave disk))
             → ⟦<Journal<D, F> as Keeper>⟧.is_empty result }
         ensures up { ⟦<Journal<D, F> as Keeper>⟧.is_failed result ≡ false }
         ensures told { ⟦<Journal<D, F> as Keeper>⟧.told result ≡ option_map (start_of F.head F.area F.following) (D.content disk) }
     {
         Journal::over(alloc, disk)
+    }
+
+    /// Its disk, of which a start finds what one would have found of the journal.
+    pub fn into_disk(self) -> D
+        ensures told { ⟦<Journal<D, F> as Keeper>⟧.told self ≡ option_map (start_of F.head F.area F.following) (D.content result) }
+        ensures left { Among (⟦<Journal<D, F> as Keeper>⟧.may_leave self) (Finds F.head F.area F.following (D.may_leave result)) }
+        ensures since { (t : ℕ) → Among (⟦<Journal<D, F> as Keeper>⟧.left_since self t) (Finds F.head F.area F.following (D.left_since result t)) }
+        ensures moment { D.moment result ≡ ⟦<Journal<D, F> as Keeper>⟧.moment self }
+        ensures faults { D.faults result ≡ ⟦<Journal<D, F> as Keeper>⟧.faults self }
+        ensures long { option_map length (D.content result) ≡ ⟦<Journal<D, F> as Keeper>⟧.long self }
+    {
+        let Journal {
+            disk,
+            area,
+            prepared,
+            ..
+        } = self;
+        drop(area);
+        drop(prepared);
+        disk
+    }
+
+    /// Its disk.
+    pub fn disk(&self) -> &D
+        ensures { result.now ≡ self.now.disk }
+    {
+        &self.disk
+    }
+
+    /// Has something done to its disk, as whoever rehearses faults does.
+    pub fn attend<A: FnOnce(&mut D)>(&mut self, act: A)
+        requires { A.IsAlwaysCallable act }
+        ensures acted { FnOnceReturnsAtMut A.FnOnce act self.old.disk tt self.new.disk }
+        ensures stays { self.new ≡ record self.old { disk = self.new.disk } }
+    {
+        act(&mut self.disk);
     }
 
     pub(crate) fn over(alloc: Global, disk: D) -> Journal<D, F>
@@ -61,7 +100,7 @@ impl<D: Disk, F: Form> Journal<D, F> {
 }
 
 impl<D: Disk, F: Form> Keeper for Journal<D, F> {
-    ghost use Rattle.std.specs.Prelude.{◌≡◌, false};
+    ghost use Rattle.std.specs.Prelude.{◌≡◌, false, length};
     ghost use Rattle.std.specs.Option.{option_map};
     ghost use Rattle.adr_law_journal.specs.Areas.{start_of};
     ghost use Rattle.adr_law_journal.specs.Kept.{Finds};
@@ -80,6 +119,8 @@ impl<D: Disk, F: Form> Keeper for Journal<D, F> {
     ghost is_prepared = { λ j s c. IsPrepared D.spare_calls D.spare_bytes j.disk j.log j.next j.area.items j.prepared.items (F.area_of s) (F.body_of c) s c };
 
     ghost is_within = { λ j file image longest. IsWithin F.head F.area F.following D.content D.may_leave j.disk file image longest };
+
+    ghost long = { λ j. option_map length (D.content j.disk) };
 
     ghost told = { λ j. option_map (start_of F.head F.area F.following) (D.content j.disk) };
 
@@ -112,8 +153,9 @@ impl<D: Disk, F: Form> Keeper for Journal<D, F> {
     ghost only_now = { λ j t left. (left.0, D.only_now j.disk left.0 left.1, left.2) };
 
     fn format(&mut self, state: &State) -> Result<(), KeeperRefusal> {
-        let Ok((written, log)) = new_log::<F>(self.alloc, state) else {
-            return Err(KeeperRefusal::NoMemory);
+        let (written, log) = match new_log::<F>(self.alloc, state) {
+            Ok(both) => both,
+            Err(refusal) => return Err(refusal),
         };
         match self.disk.reserve(6, written.len() as u64 + 2) {
             Ok(()) => {}

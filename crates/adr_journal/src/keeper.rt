@@ -1,39 +1,47 @@
 //! What keeps a state.
 
-ghost use Rattle.std.specs.Prelude.{◌≡◌, ◌⊎◌, ◌↔◌, ℕ, ◌+◌, ◌≤◌, ◌<◌, max, if◌then◌else◌, Bool, true, false, Option, IsSome, Ok, IfOk, IfErr, OnOk, OnErr, IsErrOf, IfSome, ⊤};
+ghost use Rattle.std.specs.Prelude.{◌≡◌, ◌⊎◌, ◌↔◌, ℕ, ◌+◌, ◌-◌, ◌^◌, ◌≤◌, ◌<◌, max, if◌then◌else◌, Bool, true, false, Option, IsSome, Ok, IfOk, IfErr, OnOk, OnErr, IsErrOf, IfSome, ⊤};
 ghost use Rattle.adr_disk.specs.Disk.{Among, Keeps, LeavesOnly};
 ghost use Rattle.adr_model.specs.Store.{State as Defined};
 ghost use Rattle.adr_model.specs.Change.{Change as Changes, after};
-ghost use Rattle.adr_model.specs.Lengths.{Log, new_log, change_fits, is_due, image_length, change_length};
+ghost use Rattle.adr_model.specs.Lengths.{Log, new_log, area_fits, change_fits, is_due, image_bytes, image_length, change_length};
 ghost use Rattle.adr_law_journal.specs.Areas.{Found, found, Started};
 ghost use Rattle.adr_law_journal.specs.Kept.{FindsEither};
 ghost use Rattle.adr_journal.specs.Ended.{ended, ended_start, found_after, IsNewOrNone, IsDamageOf, StillReads};
 ghost use Rattle.adr_journal.specs.declared.keeper.KeeperRefusal.{KeeperRefusal as Refusal};
 ghost use Rattle.adr_journal.specs.declared.keeper.StartRefusal.{StartRefusal as Refused};
 
-use adr_state::{Change, State};
+use adr_state::{Change, LOG_LIMIT, State};
+use thiserror::Error;
 
 /// Why a state was not formatted, or a change not committed.
-#[derive(Clone, Copy)]
+#[derive(Clone, Copy, Debug, Error)]
 pub enum KeeperRefusal {
     /// A call of the disk failed.
+    #[error("disk")]
     DiskFault,
     /// One failed before, and no start has succeeded since.
+    #[error("failed")]
     Failed,
     /// The log would end beyond its limit.
+    #[error("Full table=Log limit={}", LOG_LIMIT)]
     Full,
+    #[error("no memory")]
     NoMemory,
 }
 
 /// Why a keeper was not started.
-#[derive(Clone, Copy)]
+#[derive(Clone, Copy, Debug, Error)]
 pub enum StartRefusal {
     /// A call of the disk failed.
+    #[error("disk")]
     DiskFault,
     /// The bytes are no log; the place of the first fault, in bytes.
+    #[error("damaged at byte {place}")]
     Damaged {
         place: u64,
     },
+    #[error("no memory")]
     NoMemory {
         /// Whether the sync that a start begins with was made before.
         settled: bool,
@@ -78,6 +86,9 @@ pub trait Keeper {
     /// formatted, and no image and no record that was written or found is longer than these.
     ghost is_within: { Self → ℕ → ℕ → ℕ → Type 0 };
 
+    /// How many bytes its disk has, where that is told.
+    ghost long: { Self → Option ℕ };
+
     /// What a call did, where it is told to the last: from a keeper, by a call that ended so, to a keeper.
     ghost formats: { Self → Option Refusal → Self → Type 0 } = { λ _ _ _. ⊤ };
 
@@ -87,13 +98,20 @@ pub trait Keeper {
 
     ghost starts: { Self → Option Refused → Self → Type 0 } = { λ _ _ _. ⊤ };
 
-    /// Begins to keep a state.
+    /// Begins to keep a state. It is full where the log would end beyond its limit, or the image would be too long for the
+    /// field that tells its length.
     fn format(&mut self, state: &State) -> Result<(), KeeperRefusal>
         requires empty { is_empty self.old }
         requires begins { can_begin state.now }
         ensures ok { OnOk result (is_at self.new (found state.now (new_log state.now))) }
         ensures up { OnOk result (is_failed self.new ≡ false) }
-        ensures refused { OnErr result (IsErrOf result KeeperRefusal.DiskFault ⊎ IsErrOf result KeeperRefusal.NoMemory) }
+        ensures refused { OnErr result (IsErrOf result KeeperRefusal.DiskFault
+            ⊎ (IsErrOf result KeeperRefusal.Full ⊎ IsErrOf result KeeperRefusal.NoMemory)) }
+        ensures full { IsErrOf result KeeperRefusal.Full
+            → (self.new ≡ self.old) × (area_fits (new_log state.now) state.now.store ≡ false) }
+        ensures fits { OnOk result (area_fits (new_log state.now) state.now.store ≡ true) }
+        ensures fits_too { IsErrOf result KeeperRefusal.DiskFault
+            → area_fits (new_log state.now) state.now.store ≡ true }
         ensures fault { IsErrOf result KeeperRefusal.DiskFault
             → (faults self.old < faults self.new) × (is_failed self.new ≡ true) }
         ensures no_memory { IsErrOf result KeeperRefusal.NoMemory
@@ -168,6 +186,7 @@ pub trait Keeper {
         ensures damaged { IfErr result (λ e. IsDamageOf e (told self.old)) }
         ensures fault { IsErrOf result StartRefusal.DiskFault
             → (faults self.old < faults self.new) × (is_failed self.new ≡ true) }
+        ensures uncounted { IsErrOf result (StartRefusal.NoMemory false) → faults self.old ≡ 2 ^ 64 - 1 }
         ensures stays { OnErr result (IsErrOf result StartRefusal.DiskFault ⊎ (is_failed self.new ≡ is_failed self.old)) }
         ensures still { IfErr result (λ e. StillReads told may_leave moment left_since e self.old self.new) }
         ensures later { faults self.old ≤ faults self.new }
@@ -177,6 +196,10 @@ pub trait Keeper {
         ensures any_moment { LeavesOnly moment left_since self.old self.new (may_leave self.old) }
         ensures left { Among (may_leave self.old) (may_leave self.new) }
         ensures within { (file image longest : ℕ) → is_within self.old file image longest → is_within self.new file image longest }
+
+        // Where it is told how long its disk is, a bound begins with the log that was found.
+        ensures within_found { IfOk result (λ s. (log : Log) → is_at self.new (found s log)
+            → IfSome (long self.new) (λ file. is_within self.new file (image_bytes log) 0)) }
         ensures starts { starts self.old (ended_start result) self.new };
 
     /// What a start would find of a keeper that isn't failed, now and after a crash, is what it stands for.

@@ -1,6 +1,6 @@
 //! Reads a whole disk.
 
-ghost use Rattle.std.specs.Prelude.{◌≡◌, ◌≤◌, ◌<◌, ◌↔◌, ℕ, IsSome, IfOk, IfErr, IfSome, OnOk, IsErrOf};
+ghost use Rattle.std.specs.Prelude.{◌≡◌, ◌-◌, ◌^◌, ◌≤◌, ◌<◌, ◌↔◌, ℕ, false, IsSome, IfOk, IfErr, IfSome, OnOk, IsErrOf};
 ghost use Rattle.adr_disk.specs.Disk.{Among, Only, Keeps, LeavesOnly, ended};
 ghost use Rattle.adr_journal.specs.Ended.{ended_start, StillReads};
 ghost use Rattle.adr_journal.specs.Ran.{Reads, Starts};
@@ -40,6 +40,7 @@ pub(crate) fn read_synced<D: Disk>(alloc: Global, disk: &mut D) -> Result<Vec<u8
     ensures left { Among (D.may_leave disk.old) (D.may_leave disk.new) }
     ensures any_moment { LeavesOnly D.moment D.left_since disk.old disk.new (D.may_leave disk.old) }
     ensures failed { IsErrOf result StartRefusal.DiskFault → D.faults disk.old < D.faults disk.new }
+    ensures uncounted { IsErrOf result (StartRefusal.NoMemory false) → D.faults disk.old ≡ 2 ^ 64 - 1 }
     ensures undamaged { (place : ℕ) → IsErrOf result (StartRefusal.Damaged place) → ⊥ }
     ensures gives { Starts D.gives disk.old (ended_start result) disk.new }
 {

@@ -137,6 +137,7 @@ fn read_first<F: Form>(alloc: Global, bytes: &[u8]) -> Result<(State, Area), Sta
     ensures reached { IfOk result (λ r. IsReached F.head F.area F.following r.1.second r.1.place r.1.version r.1.first r.1.first bytes.now r.0) }
     ensures formed { IfOk result (λ r. F.is_formed r.0) }
     ensures version { IfOk result (λ r. r.1.version ≤ log_version) }
+    ensures apart { IfOk result (λ r. r.1.place + 6 ≤ r.1.first) }
     ensures damaged { IfErr result (λ e. IsDamageOf e (Some (start_of F.head F.area F.following bytes.now))) }
     ensures refused { IsErrOf result StartRefusal.DiskFault → ⊥ }
     ensures settled { IsErrOf result (StartRefusal.NoMemory false) → ⊥ }
@@ -239,6 +240,7 @@ pub fn replay<F: Form>(alloc: Global, bytes: &[u8]) -> Result<(State, Log), Star
     requires { length bytes.now < 2 ^ 63 }
     ensures rests { IfOk result (λ r. IsLog F.head F.area F.following bytes.now r.0 r.1) }
     ensures within { IfOk result (λ r. (r.1.first < r.1.log_end) × (r.1.log_end ≤ length bytes.now)) }
+    ensures apart { IfOk result (λ r. r.1.place + 6 ≤ r.1.first) }
     ensures version { IfOk result (λ r. r.1.version ≤ log_version) }
     ensures formed { IfOk result (λ r. F.is_formed r.0) }
     ensures damaged { IfErr result (λ e. IsDamageOf e (Some (start_of F.head F.area F.following bytes.now))) }

@@ -15,9 +15,9 @@ use Rattle.adr_schema.proofs.ExactCalls.{may_be_added}
 use Rattle.adr_schema.proofs.ExactRows.{may_be_held, added_may_be_held}
 use Rattle.adr_vector.specs.Vector.{at, raised, cursor_limit}
 use Rattle.adr_vector.proofs.Cursors.{test_itself}
-use Rattle.adr_event.specs.declared.refusal.Table.TheVariants.{Objects, Cursors}
-use Rattle.adr_event.specs.declared.refusal.WriteRefusal.{WriteRefusal}
-use Rattle.adr_event.specs.declared.refusal.WriteRefusal.TheVariants.{GuidThere}
+use Rattle.adr_call.specs.declared.refusal.Table.TheVariants.{Objects, Cursors}
+use Rattle.adr_call.specs.declared.refusal.WriteRefusal.{WriteRefusal}
+use Rattle.adr_call.specs.declared.refusal.WriteRefusal.TheVariants.{GuidThere}
 use Rattle.adr_model.specs.Member.{Member}
 use Rattle.adr_model.specs.Update.{Identifier, RowOf, Update, unit_of, class_attr, name_attr, deleted_attr}
 use Rattle.adr_model.specs.Live.{objects_of}

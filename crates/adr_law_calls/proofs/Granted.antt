@@ -9,7 +9,7 @@ use Rattle.adr_vector.specs.Vector.{first_gap}
 use Rattle.adr_vector.specs.declared.mark.Mark.{Mark}
 use Rattle.adr_vector.proofs.Cursors.{same_from_test}
 use Rattle.adr_vector.proofs.Comparing.{everywhere_from_at_most}
-use Rattle.adr_event.specs.declared.refusal.TakeRefusal.TheVariants.{Stale, VectorBehind, SchemaMismatch}
+use Rattle.adr_call.specs.declared.refusal.TakeRefusal.TheVariants.{Stale, VectorBehind, SchemaMismatch}
 use Rattle.adr_model.specs.Update.{Identifier, same_identifier}
 use Rattle.adr_model.specs.Member.{Each}
 use Rattle.adr_model.specs.Place.{identifier}

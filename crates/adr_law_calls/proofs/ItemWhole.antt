@@ -12,7 +12,7 @@ use Rattle.adr_schema.specs.declared.content.Content.TheVariants.{Class}
 use Rattle.adr_schema.specs.Numbered.{numbered}
 use Rattle.adr_schema.specs.Table.{has, must_of, class_at}
 use Rattle.adr_vector.specs.Vector.{at}
-use Rattle.adr_event.specs.declared.refusal.TakeRefusal.TheVariants.{Incomplete}
+use Rattle.adr_call.specs.declared.refusal.TakeRefusal.TheVariants.{Incomplete}
 use Rattle.adr_model.specs.Member.{Member, Each}
 use Rattle.adr_failure.specs.First.{first_of}
 use Rattle.adr_model.specs.Update.{RowOf, Update, Said, Holds, class_attr, name_attr, deleted_attr}

@@ -10,9 +10,9 @@ use Rattle.adr_schema.specs.Numbered.{numbered}
 use Rattle.adr_schema.specs.Rules.{not_link_refusal, link_refusal as schema_link_refusal}
 use Rattle.adr_schema.proofs.ExactCalls.{neither, not_then}
 use Rattle.adr_vector.specs.Vector.{at}
-use Rattle.adr_event.specs.declared.refusal.WriteRefusal.{WriteRefusal}
-use Rattle.adr_event.specs.declared.refusal.Table.TheVariants.{Links}
-use Rattle.adr_event.specs.declared.refusal.WriteRefusal.TheVariants.{LinkThere, LinkNotThere}
+use Rattle.adr_call.specs.declared.refusal.WriteRefusal.{WriteRefusal}
+use Rattle.adr_call.specs.declared.refusal.Table.TheVariants.{Links}
+use Rattle.adr_call.specs.declared.refusal.WriteRefusal.TheVariants.{LinkThere, LinkNotThere}
 use Rattle.adr_model.specs.Member.{Each}
 use Rattle.adr_model.specs.Update.{Identifier, LinkOf, IsPresent, Update, same_key, unit_of, ends}
 use Rattle.adr_model.specs.Store.{Held, State, updates_of, row_held}

@@ -12,8 +12,8 @@ use Rattle.adr_model.specs.Live.{standing, live, is_among, live_rows}
 use Rattle.adr_model.specs.Place.{Node, root, node_of, node_at}
 use Rattle.adr_model.specs.Reflects.{HoldsObject, IsTombstoned}
 use Rattle.adr_model.specs.Formed.{AreFormedRows, IsNamed, IsObjectFormed}
-use Rattle.adr_event.specs.declared.refusal.WriteRefusal.{WriteRefusal}
-use Rattle.adr_event.specs.declared.refusal.WriteRefusal.TheVariants.{NoObject, Deleted}
+use Rattle.adr_call.specs.declared.refusal.WriteRefusal.{WriteRefusal}
+use Rattle.adr_call.specs.declared.refusal.WriteRefusal.TheVariants.{NoObject, Deleted}
 use Rattle.adr_model.specs.Write.{holds_guid, nodes_held, object_refusal, object_of, class_of}
 use Rattle.std.specs.Bool.{then_some}
 use Rattle.adr_model.proofs.Nodes.{IsNodeOf, is_node_of}

@@ -11,11 +11,11 @@ use Rattle.adr_schema.specs.Numbered.{numbered}
 use Rattle.adr_schema.specs.Table.{Table as Schema}
 use Rattle.adr_vector.specs.Vector.{Cursors, at, first_gap, cursor_limit}
 use Rattle.adr_vector.specs.declared.mark.Mark.{Mark}
-use Rattle.adr_event.specs.declared.refusal.Table.{Table}
-use Rattle.adr_event.specs.declared.refusal.Table.TheVariants.{Objects, Links, Cursors as CursorTable, Marks}
-use Rattle.adr_event.specs.declared.refusal.ItemFault.{ItemFault}
-use Rattle.adr_event.specs.declared.refusal.TakeRefusal.{TakeRefusal}
-use Rattle.adr_event.specs.declared.refusal.TakeRefusal.TheVariants.{Quarantined, NotMine, Stale, VectorBehind, SchemaMismatch, RolledBack, BadItem, Incomplete, UsnLimit, Full}
+use Rattle.adr_call.specs.declared.refusal.Table.{Table}
+use Rattle.adr_call.specs.declared.refusal.Table.TheVariants.{Objects, Links, Cursors as CursorTable, Marks}
+use Rattle.adr_call.specs.declared.refusal.ItemFault.{ItemFault}
+use Rattle.adr_call.specs.declared.refusal.TakeRefusal.{TakeRefusal}
+use Rattle.adr_call.specs.declared.refusal.TakeRefusal.TheVariants.{Quarantined, NotMine, Stale, VectorBehind, SchemaMismatch, RolledBack, BadItem, Incomplete, UsnLimit, Full}
 use Rattle.adr_model.specs.Member.{Member, Each}
 use Rattle.adr_failure.specs.First.{first_of}
 use Rattle.adr_model.specs.Update.{Identifier, Update, same_identifier}

@@ -25,10 +25,10 @@ use Rattle.adr_schema.specs.Names.{name_fault}
 use Rattle.adr_schema.specs.Rules.{link_refusal as schema_link_refusal}
 use Rattle.adr_schema.proofs.Extending.{schemas_grow}
 use Rattle.adr_vector.specs.Vector.{at, raised, cursor_limit}
-use Rattle.adr_event.specs.declared.refusal.WriteRefusal.{WriteRefusal}
-use Rattle.adr_event.specs.declared.refusal.WriteRefusal.TheVariants.{SchemaMismatch, NotInImage, BirthThere}
-use Rattle.adr_event.specs.declared.refusal.Table.TheVariants.{Objects, Links, Cursors}
-use Rattle.adr_event.specs.declared.directory.Entry.{Entry}
+use Rattle.adr_call.specs.declared.refusal.WriteRefusal.{WriteRefusal}
+use Rattle.adr_call.specs.declared.refusal.WriteRefusal.TheVariants.{SchemaMismatch, NotInImage, BirthThere}
+use Rattle.adr_call.specs.declared.refusal.Table.TheVariants.{Objects, Links, Cursors}
+use Rattle.adr_call.specs.declared.directory.Entry.{Entry}
 use Rattle.adr_model.specs.Member.{Member, Each}
 use Rattle.adr_model.specs.Update.{Identifier, RowOf, LinkOf, IsPresent, Update, ends, unit_of, same_identifier, same_object, class_attr, deleted_attr}
 use Rattle.adr_model.specs.Live.{objects_of}

@@ -11,7 +11,7 @@ use Rattle.adr_schema.specs.declared.refusal.SchemaRefusal.TheVariants.{UnknownC
 use Rattle.adr_schema.specs.Table.{Table, Class as TableClass, class_at, kind_at, is_forward}
 use Rattle.adr_schema.specs.Rules.{class_refusal}
 use Rattle.adr_schema.proofs.ExactRows.{not_refused_held}
-use Rattle.adr_event.specs.declared.refusal.ItemFault.TheVariants.{WrongBirth}
+use Rattle.adr_call.specs.declared.refusal.ItemFault.TheVariants.{WrongBirth}
 use Rattle.adr_model.specs.Member.{Each}
 use Rattle.adr_failure.specs.First.{first_of}
 use Rattle.adr_model.specs.Update.{RowOf, LinkOf, Update, Said, Holds}

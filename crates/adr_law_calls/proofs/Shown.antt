@@ -9,7 +9,7 @@ use Rattle.adr_schema.specs.Table.{Table, class_at, must_of, has}
 use Rattle.adr_schema.specs.Allowed.{IsAllowed, MayBeHeld}
 use Rattle.adr_schema.specs.Assignments.{Given}
 use Rattle.adr_schema.specs.Extends.{Extends}
-use Rattle.adr_event.specs.declared.directory.Entry.{Entry}
+use Rattle.adr_call.specs.declared.directory.Entry.{Entry}
 use Rattle.adr_model.specs.Member.{Member, Each}
 use Rattle.adr_model.specs.Update.{Identifier, Key, RowOf, LinkOf, Said, Holds, IsPresent, Update, ends, same_identifier, same_object, class_attr, deleted_attr}
 use Rattle.adr_model.specs.Winner.{winners}

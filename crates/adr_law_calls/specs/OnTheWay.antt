@@ -4,8 +4,8 @@ use Rattle.std.specs.Bool.{then_some}
 use Rattle.std.specs.Option.{option_map}
 use Rattle.adr_schema.specs.Numbered.{numbered}
 use Rattle.adr_vector.specs.Vector.{at, first_gap, cursor_limit}
-use Rattle.adr_event.specs.declared.refusal.TakeRefusal.{TakeRefusal}
-use Rattle.adr_event.specs.declared.refusal.TakeRefusal.TheVariants.{Stale, VectorBehind, SchemaMismatch, RolledBack}
+use Rattle.adr_call.specs.declared.refusal.TakeRefusal.{TakeRefusal}
+use Rattle.adr_call.specs.declared.refusal.TakeRefusal.TheVariants.{Stale, VectorBehind, SchemaMismatch, RolledBack}
 use Rattle.adr_model.specs.Member.{Member, Each}
 use Rattle.adr_model.specs.Reflects.{AtMost, Covers, Knowledge, knowledge_of, Reflects}
 use Rattle.adr_model.specs.Store.{Held, Normal, State, Store, updates_of}

@@ -3,8 +3,8 @@
 ghost use Rattle.std.specs.Prelude.{◌≡◌, ◌≢◌, ◌⊎◌, ℕ, [], Ok, Err};
 ghost use Rattle.adr_stamp.specs.declared.Oid.{Oid};
 ghost use Rattle.adr_vector.specs.Vector.{at};
-ghost use Rattle.adr_event.specs.declared.refusal.ItemFault.{ItemFault};
-ghost use Rattle.adr_event.specs.declared.refusal.TakeRefusal.TheVariants.{RolledBack, BadItem, Incomplete};
+ghost use Rattle.adr_call.specs.declared.refusal.ItemFault.{ItemFault};
+ghost use Rattle.adr_call.specs.declared.refusal.TakeRefusal.TheVariants.{RolledBack, BadItem, Incomplete};
 ghost use Rattle.adr_model.specs.Member.{Member, Each};
 ghost use Rattle.adr_model.specs.Update.{Identifier, Update};
 ghost use Rattle.adr_model.specs.Reflects.{Covers, knowledge_of, Reflects};

@@ -1,12 +1,12 @@
 -- Calls that change a controller keep a world sound.
 use Rattle.std.proofs.Common.{◌≡◌, ◌≢◌, inl, inr, ⊎_elim, ℕ, Option, Some, Result, Ok, Err, refl, sym, ap, ◌∙◌, subst, fold, length, [], None, unwrap_or}
 use Rattle.std.specs.Option.{IfSome}
-use Rattle.adr_event.specs.declared.answer.Outcome.TheVariants as outcomes
-use Rattle.adr_event.specs.declared.answer.Outcome.{Outcome}
-use Rattle.adr_event.specs.declared.refusal.TakeRefusal.{TakeRefusal}
-use Rattle.adr_event.specs.declared.refusal.TakeRefusal.TheVariants as takes
-use Rattle.adr_event.specs.declared.refusal.WriteRefusal.{WriteRefusal}
-use Rattle.adr_event.specs.declared.refusal.CollectRefusal.{CollectRefusal}
+use Rattle.adr_call.specs.declared.outcome.Outcome.TheVariants as outcomes
+use Rattle.adr_call.specs.declared.outcome.Outcome.{Outcome}
+use Rattle.adr_call.specs.declared.refusal.TakeRefusal.{TakeRefusal}
+use Rattle.adr_call.specs.declared.refusal.TakeRefusal.TheVariants as takes
+use Rattle.adr_call.specs.declared.refusal.WriteRefusal.{WriteRefusal}
+use Rattle.adr_call.specs.declared.refusal.CollectRefusal.{CollectRefusal}
 use Rattle.adr_model.specs.Member.{Member}
 use Rattle.adr_model.specs.Update.{Identifier}
 use Rattle.adr_model.specs.Change.{Change, after}
@@ -25,7 +25,7 @@ use Rattle.adr_law_convergence.proofs.Reached.{within_case}
 use Rattle.adr_law_convergence.proofs.Replacing.{MayStand, replaced}
 use Rattle.adr_law_convergence.proofs.Moving.{HasMoved, stays_so, settles_so, start_moves, commit_moves}
 use Rattle.adr_vector.specs.Vector.{Cursors, IsVector}
-use Rattle.adr_event.specs.declared.refusal.UpgradeRefusal.{UpgradeRefusal}
+use Rattle.adr_call.specs.declared.refusal.UpgradeRefusal.{UpgradeRefusal}
 use Rattle.adr_model.specs.Upgrade.{upgraded, upgrade_refusal, upgrade}
 use Rattle.adr_law_convergence.proofs.Traced.{changed_traced, brought_told}
 use Rattle.adr_law_calls.specs.OnTheWay.{change_taken}

@@ -1,6 +1,6 @@
 -- Controllers that come, and that are restored, in a sound world.
 use Rattle.std.proofs.Common.{◌≡◌, ◌≢◌, inl, inr, List, [], ◌∷◌, ◌++◌, Result, Ok, Err, refl, sym, ap, ◌∙◌, subst, arith}
-use Rattle.adr_event.specs.declared.refusal.AdoptRefusal.{AdoptRefusal}
+use Rattle.adr_call.specs.declared.refusal.AdoptRefusal.{AdoptRefusal}
 use Rattle.adr_model.specs.Member.{Member, Each}
 use Rattle.adr_model.specs.Update.{Identifier}
 use Rattle.adr_model.specs.Store.{Normal, Store, State, empty_state}
@@ -18,7 +18,7 @@ use Rattle.adr_model.specs.LocalLog.{first_log}
 use Rattle.adr_law_logs.proofs.Empty.{new_is_sound}
 use Rattle.adr_law_logs.proofs.Woken.{adopted_is_woken, adopted_is_sound}
 use Rattle.adr_law_logs.proofs.Tables.{entry_other}
-use Rattle.adr_event.specs.declared.answer.Outcome.TheVariants as outcomes
+use Rattle.adr_call.specs.declared.outcome.Outcome.TheVariants as outcomes
 use Rattle.adr_law_convergence.proofs.Beside.{beside_sound, still_given, still_traced, reply_still_traced}
 use Rattle.adr_law_convergence.proofs.Reached.{within_case}
 use Rattle.adr_law_convergence.proofs.Replacing.{MayStand, OnlyLog, replaced, added}

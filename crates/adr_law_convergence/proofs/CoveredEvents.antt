@@ -1,15 +1,15 @@
 -- What was collected stays covered by every line that may happen and keeps it so.
 use Rattle.std.proofs.Common.{◌≡◌, ℕ, [], ◌∷◌, true, Some, sym, subst, List, Option, None}
 use Rattle.adr_vector.specs.Vector.{at_most}
-use Rattle.adr_event.specs.declared.answer.Outcome.{Outcome}
-use Rattle.adr_event.specs.declared.answer.Outcome.TheVariants as outcomes
+use Rattle.adr_call.specs.declared.outcome.Outcome.{Outcome}
+use Rattle.adr_call.specs.declared.outcome.Outcome.TheVariants as outcomes
 use Rattle.adr_event.specs.declared.event.Event.{Event}
 use Rattle.adr_event.specs.declared.event.Event.TheVariants as events
 use Rattle.adr_model.specs.Store.{Store}
 use Rattle.adr_model.specs.Serve.{Request, Reply}
-use Rattle.adr_model.specs.Write.{AddObject, Modify, Rename, Delete, AddLink, RemoveLink, Revive}
+use Rattle.adr_model.specs.Write.{write_meant, Revive}
 use Rattle.adr_model.specs.Replica.{Stops, Fails}
-use Rattle.adr_model.specs.World.{Name, World, Snapshot, Sent, nothing, bound_at, asks, serves_request, delivers, shown, marks_shown}
+use Rattle.adr_model.specs.World.{Name, World, Snapshot, Sent, nothing, bound_at, asks, serves_request, delivers, reported}
 use Rattle.adr_model.specs.Cycles.{pulls, reply_limit, pull_version}
 use Rattle.adr_model.specs.Step.{gives, step, revival, stepped}
 use Rattle.adr_model.specs.Convergence.{MayHappen, IsStoreOf, IsPurgedCovered, KeepsCovered, StaysCovered}
@@ -55,12 +55,7 @@ revived_covered w covered name guid image parent text = by (bound_at w.images im
 event_covered : (w : World) (covered : IsPurgedCovered w) (e : Event) → MayHappen w e → KeepsCovered w e → (step w e).0.clean ≡ true → IsPurgedCovered (step w e).0
 event_covered w covered (events.Controller name dsa inv) may keeps clean = comes_covered w covered name dsa inv keeps
 event_covered w covered (events.Time now) may keeps clean = record { stores = covered.stores; requests = covered.requests }
-event_covered w covered (events.Add name guid class parent text values) may keeps clean = writes_covered w covered name (AddObject guid class parent text values)
-event_covered w covered (events.Modify name guid values) may keeps clean = writes_covered w covered name (Modify guid values)
-event_covered w covered (events.Rename name guid parent text) may keeps clean = writes_covered w covered name (Rename guid parent text)
-event_covered w covered (events.Delete name guid) may keeps clean = writes_covered w covered name (Delete guid)
-event_covered w covered (events.Link name from attr to) may keeps clean = writes_covered w covered name (AddLink from attr to)
-event_covered w covered (events.Unlink name from attr to) may keeps clean = writes_covered w covered name (RemoveLink from attr to)
+event_covered w covered (events.Write name what) may keeps clean = writes_covered w covered name (write_meant what)
 event_covered w covered (events.Ask name partner max version bind) may keeps clean = binds_request w covered name partner bind max version
 event_covered w covered (events.Serve name request bind) may keeps clean =
     let c = serves_covered w covered name (bound_at w.requests request) in record { stores = c.stores; requests = c.requests }
@@ -81,9 +76,7 @@ event_covered w covered (events.StopAfter name calls how) may keeps clean = plan
 event_covered w covered (events.Fail name calls) may keeps clean = plans_covered w covered name (record { calls = calls; fault = Fails })
 event_covered w covered (events.Stop name) may keeps clean = stops_covered w covered name
 event_covered w covered (events.Start name) may keeps clean = starts_covered w covered name
-event_covered w covered (events.Show name) may keeps clean = reports_covered w covered name (λ r. outcomes.Show (shown w r.safe))
-event_covered w covered (events.Vector name) may keeps clean = reports_covered w covered name (λ r. outcomes.Vector r.safe.store.vector r.safe.store.times)
-event_covered w covered (events.Marks name) may keeps clean = reports_covered w covered name (λ r. outcomes.Marks (marks_shown r.safe.store))
+event_covered w covered (events.Report name what) may keeps clean = reports_covered w covered name (λ r. reported w r.safe what)
 
 -- what was collected is still covered
 pub stays_covered : StaysCovered

@@ -8,9 +8,9 @@ use Rattle.adr_vector.specs.Vector.{Cursors, at, at_most, joined}
 use Rattle.adr_vector.proofs.Comparing.{everywhere_from_at_most, at_most_from_everywhere}
 use Rattle.adr_vector.proofs.Joining.{at-raised, at-joined}
 use Rattle.adr_event.specs.declared.answer.Answer.{Answer}
-use Rattle.adr_event.specs.declared.answer.Outcome.{Outcome}
-use Rattle.adr_event.specs.declared.answer.Outcome.TheVariants as outcomes
-use Rattle.adr_event.specs.declared.refusal.TakeRefusal.{TakeRefusal}
+use Rattle.adr_call.specs.declared.outcome.Outcome.{Outcome}
+use Rattle.adr_call.specs.declared.outcome.Outcome.TheVariants as outcomes
+use Rattle.adr_call.specs.declared.refusal.TakeRefusal.{TakeRefusal}
 use Rattle.adr_model.specs.Member.{Member, Each}
 use Rattle.adr_model.specs.Update.{Update}
 use Rattle.adr_model.specs.Reflects.{AtMost, Covers, knowledge_of, Reflects}
@@ -19,7 +19,7 @@ use Rattle.adr_model.specs.Change.{Item, Change, held_of, rows_after, after}
 use Rattle.adr_model.specs.LocalLog.{Follows}
 use Rattle.adr_model.specs.Serve.{Request, Reply, candidates, byte_limit, first_items, reply_of, begins_at, ask, reply_to}
 use Rattle.adr_model.specs.Take.{take_items, taken_change, take}
-use Rattle.adr_event.specs.declared.refusal.Table.TheVariants.{Log as log_table}
+use Rattle.adr_call.specs.declared.refusal.Table.TheVariants.{Log as log_table}
 use Rattle.adr_model.specs.Lengths.{Log, log_limit, change_fits, is_due, log_before, next_log}
 use Rattle.adr_model.specs.Refused.{usn_limited, full, full_fields}
 use Rattle.adr_model.specs.Replica.{Pending, ToTake, Up, Fault, Stops, Fails, Plan, Replica, recorded, moved, Went, Passed, Met, went, moves_of_commit, standing_after, outcome_after, Failed, calls_before, recorded_on, checkpointed_on, behind as behind_calls, commit_goes, device_after_commit}

@@ -1,23 +1,22 @@
 -- What was issued stays issued, whatever line comes; a world that isn't clean stays so, and only a database that is put back makes one unclean.
 use Rattle.std.proofs.Common.{◌≡◌, ℕ, List, [], ◌∷◌, ◌++◌, Bool, true, false, Option, Some, None, Result, Ok, Err, refl, ◌∙◌, fold}
-use Rattle.adr_event.specs.declared.answer.Outcome.TheVariants as outcomes
+use Rattle.adr_call.specs.declared.outcome.Outcome.TheVariants as outcomes
 use Rattle.adr_event.specs.declared.event.Event.{Event}
 use Rattle.adr_event.specs.declared.event.Event.TheVariants as events
-use Rattle.adr_event.specs.declared.refusal.AdoptRefusal.{AdoptRefusal}
+use Rattle.adr_call.specs.declared.refusal.AdoptRefusal.{AdoptRefusal}
 use Rattle.adr_model.specs.Lengths.{new_log, area_fits}
 use Rattle.adr_model.specs.Member.{Member, Each}
 use Rattle.adr_model.specs.Store.{Store, State}
-use Rattle.adr_model.specs.Write.{AddObject, Modify, Rename, Delete, AddLink, RemoveLink}
+use Rattle.adr_model.specs.Write.{write_meant, Revive}
 use Rattle.adr_model.specs.Collect.{adopt}
 use Rattle.adr_model.specs.Replica.{Pending, issued_by, Standing, Stops, Fails, Replica, on_new_disk, Book, begun, Move, Begin, Settle, Forget, moved, Device}
-use Rattle.adr_model.specs.World.{Name, World, Snapshot, Gone, Sent, stays, nothing, bound_at, with_replica, begins, adopts, of_image, put_back, after_moves, shown, marks_shown}
+use Rattle.adr_model.specs.World.{Name, World, Snapshot, Gone, Sent, stays, nothing, bound_at, with_replica, begins, adopts, of_image, put_back, after_moves, reported}
 use Rattle.adr_model.specs.Cycles.{pulls, reply_limit, pull_version}
 use Rattle.adr_model.specs.Step.{gives, step}
 use Rattle.adr_model.specs.Convergence.{IssuedStays, StaysClean, StaysUnclean, puts_back}
 use Rattle.adr_model.proofs.Members.{member_left}
 use Rattle.adr_law_convergence.proofs.Reached.{made_case, within_case}
 use Rattle.adr_model.specs.Step.{stepped, revival}
-use Rattle.adr_model.specs.Write.{Revive}
 use Rattle.adr_model.specs.World.{noted}
 use Rattle.adr_law_convergence.proofs.Called.{IsKeptBehind, AnyCall, by_moves, upgrades_so, writes_so, asks_so, serves_so, delivers_so, collects_so, backs_up_so, plans_so, stops_so, starts_so, reports_so}
 use Rattle.adr_law_convergence.proofs.Exchanges.{IsKeptByCalls, worlds_alone, pull_so, pulls_so, ring_so, way_case}
@@ -101,12 +100,7 @@ module _ (w : World) where
   pub step_keeps : (e : Event) → Keeps (puts_back e) w (step w e).0
   step_keeps (events.Controller name dsa inv) = record { issued = λ u m. m; unclean = λ e. e; alike = λ e. refl }
   step_keeps (events.Time now) = record { issued = λ u m. m; unclean = λ e. e; alike = λ e. refl }
-  step_keeps (events.Add name guid class parent text values) = writes_so Q AnyCall w here name (AddObject guid class parent text values) tt
-  step_keeps (events.Modify name guid values) = writes_so Q AnyCall w here name (Modify guid values) tt
-  step_keeps (events.Rename name guid parent text) = writes_so Q AnyCall w here name (Rename guid parent text) tt
-  step_keeps (events.Delete name guid) = writes_so Q AnyCall w here name (Delete guid) tt
-  step_keeps (events.Link name from attr to) = writes_so Q AnyCall w here name (AddLink from attr to) tt
-  step_keeps (events.Unlink name from attr to) = writes_so Q AnyCall w here name (RemoveLink from attr to) tt
+  step_keeps (events.Write name what) = writes_so Q AnyCall w here name (write_meant what) tt
   step_keeps (events.Ask name partner max version bind) = let k = asks_so Q AnyCall w here name partner max version in record { issued = k.issued; unclean = k.unclean; alike = k.alike }
   step_keeps (events.Serve name request bind) = let k = serves_so Q AnyCall w here name (bound_at w.requests request) tt in record { issued = k.issued; unclean = k.unclean; alike = k.alike }
   step_keeps (events.Deliver name reply) = delivers_so Q AnyCall w here name (bound_at w.replies reply) tt (λ p e. tt)
@@ -140,9 +134,7 @@ module _ (w : World) where
   step_keeps (events.Fail name calls) = plans_so Q AnyCall w here name (record { calls = calls; fault = Fails })
   step_keeps (events.Stop name) = stops_so Q AnyCall w here name
   step_keeps (events.Start name) = starts_so Q AnyCall w here name
-  step_keeps (events.Show name) = reports_so Q AnyCall w here name (λ r. outcomes.Show (shown w r.safe))
-  step_keeps (events.Vector name) = reports_so Q AnyCall w here name (λ r. outcomes.Vector r.safe.store.vector r.safe.store.times)
-  step_keeps (events.Marks name) = reports_so Q AnyCall w here name (λ r. outcomes.Marks (marks_shown r.safe.store))
+  step_keeps (events.Report name what) = reports_so Q AnyCall w here name (λ r. reported w r.safe what)
 
 pub issued_stays : IssuedStays
 issued_stays w e = (step_keeps w e).issued

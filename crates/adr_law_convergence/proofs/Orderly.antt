@@ -1,11 +1,11 @@
 -- What holds always: names and identifiers are those of lines, what is held is formed, replies are spelled, and nothing is bound to a name twice.
 use Rattle.std.proofs.Common.{◌≡◌, ◌≢◌, ◌⊎◌, inl, inr, ℕ, List, [], ◌∷◌, ◌++◌, Bool, true, false, Option, Some, None, Result, Ok, Err, refl, sym, ap, ◌∙◌, subst, fold, if◌then◌else◌, arith}
-use Rattle.adr_event.specs.declared.answer.Outcome.TheVariants as outcomes
+use Rattle.adr_call.specs.declared.outcome.Outcome.TheVariants as outcomes
 use Rattle.adr_event.specs.declared.event.Event.{Event}
 use Rattle.adr_event.specs.declared.event.Event.TheVariants as events
-use Rattle.adr_event.specs.declared.refusal.AdoptRefusal.{AdoptRefusal}
-use Rattle.adr_event.specs.declared.refusal.ServeRefusal.{ServeRefusal}
-use Rattle.adr_event.specs.declared.refusal.ServeRefusal.TheVariants as serves
+use Rattle.adr_call.specs.declared.refusal.AdoptRefusal.{AdoptRefusal}
+use Rattle.adr_call.specs.declared.refusal.ServeRefusal.{ServeRefusal}
+use Rattle.adr_call.specs.declared.refusal.ServeRefusal.TheVariants as serves
 use Rattle.adr_model.specs.Member.{Member, Each}
 use Rattle.adr_model.specs.Update.{Identifier}
 use Rattle.adr_model.specs.Store.{Store, State, empty_state}
@@ -13,10 +13,10 @@ use Rattle.adr_model.specs.Given.{IsWellGiven}
 use Rattle.adr_model.specs.Spelled.{IsSpelledReply}
 use Rattle.adr_model.specs.Lengths.{new_log, area_fits}
 use Rattle.adr_model.specs.Serve.{Request, Reply, is_quarantined, serve}
-use Rattle.adr_model.specs.Write.{Write, AddObject, Modify, Rename, Delete, AddLink, RemoveLink, Revive}
+use Rattle.adr_model.specs.Write.{Write, write_meant, Revive}
 use Rattle.adr_model.specs.Collect.{adopt, backup}
 use Rattle.adr_model.specs.Replica.{Standing, Up, Down, Failed, Stops, Fails, Replica, on_disk, on_new_disk, Book, begun, Move, Settle, moved, Went, Met, moves_of_commit, moves_of_start, standing_after, Device, commit_goes, start_goes, device_after_commit, device_after_start, device_settled}
-use Rattle.adr_model.specs.World.{Name, World, Given, LastReply, Snapshot, Gone, Sent, stays, nothing, noted, bound, bound_at, replica_at, with_replica, of_made, of_controller, writes, asks, after_serve, served, serves_request, delivers, backed_up, adopts, of_image, put_back, after_moves, shown, marks_shown}
+use Rattle.adr_model.specs.World.{Name, World, Given, LastReply, Snapshot, Gone, Sent, stays, nothing, noted, bound, bound_at, replica_at, with_replica, of_made, of_controller, writes, asks, after_serve, served, serves_request, delivers, backed_up, adopts, of_image, put_back, after_moves, reported}
 use Rattle.adr_model.specs.Cycles.{pulls, reply_limit, pull_version}
 use Rattle.adr_model.specs.Step.{gives, step, stepped, revival}
 use Rattle.adr_model.specs.Sound.{IsOrderlyStore, IsOrderlyState, IsOrderlyReplica, IsOrderlySnapshot, AreBoundOnce, IsOrderlyWorld}
@@ -313,12 +313,7 @@ module _ (w : World) (is : IsOrderlyWorld w) where
   pub step_orderly : (e : Event) → MayHappen w e → IsOrderlyWorld (step w e).0
   step_orderly (events.Controller name dsa inv) may = comes (gives w (dsa ∷ []) (inv ∷ [])) (gives_more w is (dsa ∷ []) (inv ∷ [])) name dsa inv (member_right w.given.dsas (dsa ∷ []) dsa (inl refl)) (member_right w.given.invs (inv ∷ []) inv (inl refl)) may.0
   step_orderly (events.Time now) may = at_time w is now
-  step_orderly (events.Add name guid class parent text values) may = writes_orderly name (AddObject guid class parent text values) may
-  step_orderly (events.Modify name guid values) may = writes_orderly name (Modify guid values) may
-  step_orderly (events.Rename name guid parent text) may = writes_orderly name (Rename guid parent text) tt
-  step_orderly (events.Delete name guid) may = writes_orderly name (Delete guid) tt
-  step_orderly (events.Link name from attr to) may = writes_orderly name (AddLink from attr to) tt
-  step_orderly (events.Unlink name from attr to) may = writes_orderly name (RemoveLink from attr to) tt
+  step_orderly (events.Write name what) may = writes_orderly name (write_meant what) may
   step_orderly (events.Ask name partner max version bind) may = bound_behind (asks w name partner max version).0 (asks_orderly w is name partner max version)
     where
       bound_behind : (v : World) → IsBehindCall w v → IsOrderlyWorld (record v { requests = bound v.requests bind (asks w name partner max version).2 })
@@ -352,6 +347,4 @@ module _ (w : World) (is : IsOrderlyWorld w) where
   step_orderly (events.Fail name calls) may = behind_call w is _ (plans_so Q IsGivenCall w keeps name (record { calls = calls; fault = Fails }))
   step_orderly (events.Stop name) may = behind_call w is _ (stops_so Q IsGivenCall w keeps name)
   step_orderly (events.Start name) may = behind_call w is _ (starts_so Q IsGivenCall w keeps name)
-  step_orderly (events.Show name) may = behind_call w is _ (reports_so Q IsGivenCall w keeps name (λ r. outcomes.Show (shown w r.safe)))
-  step_orderly (events.Vector name) may = behind_call w is _ (reports_so Q IsGivenCall w keeps name (λ r. outcomes.Vector r.safe.store.vector r.safe.store.times))
-  step_orderly (events.Marks name) may = behind_call w is _ (reports_so Q IsGivenCall w keeps name (λ r. outcomes.Marks (marks_shown r.safe.store)))
+  step_orderly (events.Report name what) may = behind_call w is _ (reports_so Q IsGivenCall w keeps name (λ r. reported w r.safe what))

@@ -11,11 +11,11 @@ use Rattle.adr_vector.specs.Vector.{at, at_most, first_gap, cursor_limit}
 use Rattle.adr_vector.specs.declared.mark.Mark.{Mark}
 use Rattle.adr_vector.proofs.Cursors.{test_itself}
 use Rattle.adr_vector.proofs.Comparing.{at_most_from_everywhere}
-use Rattle.adr_event.specs.declared.refusal.ServeRefusal.TheVariants as serves
-use Rattle.adr_event.specs.declared.refusal.Table.{Table}
-use Rattle.adr_event.specs.declared.refusal.Table.TheVariants.{Objects, Links, Marks, Cursors as CursorTable}
-use Rattle.adr_event.specs.declared.refusal.TakeRefusal.{TakeRefusal}
-use Rattle.adr_event.specs.declared.refusal.TakeRefusal.TheVariants as takes
+use Rattle.adr_call.specs.declared.refusal.ServeRefusal.TheVariants as serves
+use Rattle.adr_call.specs.declared.refusal.Table.{Table}
+use Rattle.adr_call.specs.declared.refusal.Table.TheVariants.{Objects, Links, Marks, Cursors as CursorTable}
+use Rattle.adr_call.specs.declared.refusal.TakeRefusal.{TakeRefusal}
+use Rattle.adr_call.specs.declared.refusal.TakeRefusal.TheVariants as takes
 use Rattle.adr_model.specs.Cycles.{pull_version}
 use Rattle.adr_model.specs.Member.{Member}
 use Rattle.adr_failure.specs.First.{first_of}

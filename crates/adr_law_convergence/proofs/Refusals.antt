@@ -1,17 +1,21 @@
 -- Which outcomes are plain: no write is acknowledged, and no refusal is one that never comes in a sound world.
 use Rattle.std.proofs.Common.{◌≡◌, ℕ, Bool, true, false, not, ◌||◌, ◌==◌, refl, ap}
-use Rattle.adr_event.specs.declared.answer.Outcome.{Outcome}
-use Rattle.adr_event.specs.declared.answer.Outcome.TheVariants as outcomes
-use Rattle.adr_event.specs.declared.refusal.WriteRefusal.{WriteRefusal}
-use Rattle.adr_event.specs.declared.refusal.WriteRefusal.TheVariants as writes
-use Rattle.adr_event.specs.declared.refusal.CollectRefusal.{CollectRefusal}
-use Rattle.adr_event.specs.declared.refusal.CollectRefusal.TheVariants as collects
-use Rattle.adr_event.specs.declared.refusal.UpgradeRefusal.{UpgradeRefusal}
-use Rattle.adr_event.specs.declared.refusal.UpgradeRefusal.TheVariants as upgrades
-use Rattle.adr_event.specs.declared.refusal.AdoptRefusal.{AdoptRefusal}
-use Rattle.adr_event.specs.declared.refusal.AdoptRefusal.TheVariants as adopts
+use Rattle.adr_call.specs.declared.outcome.Outcome.{Outcome}
+use Rattle.adr_call.specs.declared.outcome.Outcome.TheVariants as outcomes
+use Rattle.adr_call.specs.declared.report.Report.{Report}
+use Rattle.adr_call.specs.declared.report.Report.TheVariants as reports
+use Rattle.adr_call.specs.declared.refusal.WriteRefusal.{WriteRefusal}
+use Rattle.adr_call.specs.declared.refusal.WriteRefusal.TheVariants as writes
+use Rattle.adr_call.specs.declared.refusal.CollectRefusal.{CollectRefusal}
+use Rattle.adr_call.specs.declared.refusal.CollectRefusal.TheVariants as collects
+use Rattle.adr_call.specs.declared.refusal.UpgradeRefusal.{UpgradeRefusal}
+use Rattle.adr_call.specs.declared.refusal.UpgradeRefusal.TheVariants as upgrades
+use Rattle.adr_call.specs.declared.refusal.AdoptRefusal.{AdoptRefusal}
+use Rattle.adr_call.specs.declared.refusal.AdoptRefusal.TheVariants as adopts
+use Rattle.adr_model.specs.Store.{State}
 use Rattle.adr_model.specs.Refused.{write_refused, collect_refused, adopt_refused, upgrade_refused}
 use Rattle.adr_model.specs.Replica.{Stops, Fails, Went, Passed, Met, outcome_after}
+use Rattle.adr_model.specs.World.{World, reported}
 use Rattle.adr_model.specs.Convergence.{IsRefused}
 
 -- the number of a refusal, or 0
@@ -49,6 +53,10 @@ upgrade_refused_plainly _ = refl
 pub adopt_refused_plainly : (x : AdoptRefusal) → IsPlain (adopt_refused x)
 adopt_refused_plainly adopts.IdentifierUsed = refl
 adopt_refused_plainly _ = refl
+
+pub reported_plainly : (w : World) (s : State) (what : Report) → IsPlain (reported w s what)
+reported_plainly w s reports.Directory = refl
+reported_plainly w s _ = refl
 
 -- how device calls go adds plain outcomes only
 pub after_calls : (P : Outcome → Type 0) → ((o : Outcome) → IsPlain o → P o) → (o : Outcome) → P o → (g : Went) → P (outcome_after g o)

@@ -1,28 +1,30 @@
 -- All lines but writes, messages that come and pulls answer plainly.
 use Rattle.std.proofs.Common.{◌≡◌, inl, inr, sym, subst, ℕ, List, [], ◌∷◌, ◌++◌, Bool, true, false, Option, Some, None, Result, Ok, Err, refl, length, if◌then◌else◌, codes, ap}
 use Rattle.adr_event.specs.declared.answer.Answer.{Answer}
-use Rattle.adr_event.specs.declared.answer.Outcome.{Outcome}
-use Rattle.adr_event.specs.declared.answer.Outcome.TheVariants as outcomes
+use Rattle.adr_call.specs.declared.outcome.Outcome.{Outcome}
+use Rattle.adr_call.specs.declared.outcome.Outcome.TheVariants as outcomes
 use Rattle.adr_event.specs.declared.event.Event.{Event}
 use Rattle.adr_event.specs.declared.event.Event.TheVariants as events
-use Rattle.adr_event.specs.declared.refusal.CollectRefusal.{CollectRefusal}
-use Rattle.adr_event.specs.declared.refusal.AdoptRefusal.{AdoptRefusal}
+use Rattle.adr_event.specs.Verbs.{verb_of_report, verb_of_write, word_of}
+use Rattle.adr_call.specs.declared.report.Report.{Report}
+use Rattle.adr_call.specs.declared.refusal.CollectRefusal.{CollectRefusal}
+use Rattle.adr_call.specs.declared.refusal.AdoptRefusal.{AdoptRefusal}
 use Rattle.adr_model.specs.Update.{Identifier}
 use Rattle.adr_model.specs.Store.{Store, State}
 use Rattle.adr_model.specs.Change.{Change}
 use Rattle.adr_model.specs.Lengths.{new_log, area_fits, change_fits}
 use Rattle.adr_model.specs.Member.{Each}
 use Rattle.adr_model.specs.Serve.{is_quarantined}
-use Rattle.adr_model.specs.Write.{Write, AddObject, Modify, Rename, Delete, AddLink, RemoveLink, Revive}
+use Rattle.adr_model.specs.Write.{Write, write_meant, Revive}
 use Rattle.adr_model.specs.Given.{IsWellGiven}
 use Rattle.adr_model.specs.Collect.{collect, backup, adopt}
 use Rattle.adr_model.specs.Replica.{ToCollect, Standing, Up, Down, Failed, Plan, Stops, Fails, Replica, on_new_disk, begun, commit_goes, start_goes, ToUpgrade}
-use Rattle.adr_model.specs.World.{Name, World, Snapshot, Gone, Sent, answer, stays, nothing, bound_at, replica_at, with_replica, of_made, of_controller, committed, writes, after_collect, asks, serves_request, delivers, backed_up, adopts, of_image, put_back, with_plan, stops, starts, shown, marks_shown, after_upgrade}
+use Rattle.adr_model.specs.World.{Name, World, Snapshot, Gone, Sent, answer, stays, nothing, bound_at, replica_at, with_replica, of_made, of_controller, committed, writes, after_collect, asks, serves_request, delivers, backed_up, adopts, of_image, put_back, with_plan, stops, starts, reported, after_upgrade}
 use Rattle.adr_model.specs.Step.{client_write, write_of, gives, step, revival, stepped}
 use Rattle.adr_model.specs.Convergence.{MayHappen}
 use Rattle.adr_law_convergence.proofs.Reached.{plain_made, plain_up, plain_reached, within_case}
-use Rattle.adr_law_convergence.proofs.Refusals.{IsPlain, collect_refused_plainly, adopt_refused_plainly, after_calls, upgrade_refused_plainly}
-use Rattle.adr_event.specs.declared.refusal.UpgradeRefusal.{UpgradeRefusal}
+use Rattle.adr_law_convergence.proofs.Refusals.{IsPlain, collect_refused_plainly, adopt_refused_plainly, reported_plainly, after_calls, upgrade_refused_plainly}
+use Rattle.adr_call.specs.declared.refusal.UpgradeRefusal.{UpgradeRefusal}
 use Rattle.adr_model.specs.Upgrade.{upgrade}
 use Rattle.adr_model.specs.Formed.{IsFormedStore}
 use Rattle.adr_law_convergence.proofs.Found.{bound_member}
@@ -93,14 +95,8 @@ module _ (w : World) where
       by r Down = after_calls IsPlain (λ o is. is) outcomes.Ok refl (start_goes r)
       by r Failed = after_calls IsPlain (λ o is. is) outcomes.Ok refl (start_goes r)
 
-  shows : (name : Name) → AnswersPlainly (of_controller w name (stays w) (λ r. (w, outcomes.Show (shown w r.safe))))
-  shows name = plain_reached AnswersPlainly w name (stays w) (λ o plain. plain) (λ r. (w, outcomes.Show (shown w r.safe))) (λ r is up. refl)
-
-  tells_vector : (name : Name) → AnswersPlainly (of_controller w name (stays w) (λ r. (w, outcomes.Vector r.safe.store.vector r.safe.store.times)))
-  tells_vector name = plain_reached AnswersPlainly w name (stays w) (λ o plain. plain) (λ r. (w, outcomes.Vector r.safe.store.vector r.safe.store.times)) (λ r is up. refl)
-
-  tells_marks : (name : Name) → AnswersPlainly (of_controller w name (stays w) (λ r. (w, outcomes.Marks (marks_shown r.safe.store))))
-  tells_marks name = plain_reached AnswersPlainly w name (stays w) (λ o plain. plain) (λ r. (w, outcomes.Marks (marks_shown r.safe.store))) (λ r is up. refl)
+  reports : (name : Name) (what : Report) → AnswersPlainly (of_controller w name (stays w) (λ r. (w, reported w r.safe what)))
+  reports name what = plain_reached AnswersPlainly w name (stays w) (λ o plain. plain) (λ r. (w, reported w r.safe what)) (λ r is up. reported_plainly w r.safe what)
 
   taken_back : (name : Name) → SendsPlainly {A = Snapshot} (of_made (nothing w) (replica_at w name) (λ r. (w, outcomes.Ok, Some (record { state = r.read; log = r.device.read_log }))))
   taken_back name = plain_made (SendsPlainly {A = Snapshot}) w name (nothing w) (λ o plain. plain) (λ r. (w, outcomes.Ok, Some (record { state = r.read; log = r.device.read_log }))) (λ r is. refl)
@@ -147,12 +143,7 @@ module _ (Q : Event → World → Answer → Type 0) (w : World) (plain : (e : E
   pub line_case : (e : Event) → MayHappen w e → OfAnswers (Q e) (step w e)
   line_case (events.Controller name dsa inv) may = plainly (events.Controller name dsa inv) (codes "controller") name (step w (events.Controller name dsa inv)).0 outcomes.Ok refl
   line_case (events.Time now) may = λ a m. absurd m
-  line_case (events.Add name guid class parent text values) may = written (events.Add name guid class parent text values) (codes "add") name (AddObject guid class parent text values) may refl
-  line_case (events.Modify name guid values) may = written (events.Modify name guid values) (codes "modify") name (Modify guid values) may refl
-  line_case (events.Rename name guid parent text) may = written (events.Rename name guid parent text) (codes "rename") name (Rename guid parent text) tt refl
-  line_case (events.Delete name guid) may = written (events.Delete name guid) (codes "delete") name (Delete guid) tt refl
-  line_case (events.Link name from attr to) may = written (events.Link name from attr to) (codes "link") name (AddLink from attr to) tt refl
-  line_case (events.Unlink name from attr to) may = written (events.Unlink name from attr to) (codes "unlink") name (RemoveLink from attr to) tt refl
+  line_case (events.Write name what) may = written (events.Write name what) (word_of (verb_of_write what)) name (write_meant what) may refl
   line_case (events.Ask name partner max version bind) may = plainly (events.Ask name partner max version bind) (codes "ask") name (step w (events.Ask name partner max version bind)).0 (asks w name partner max version).1 (asked w name partner max version)
   line_case (events.Serve name request bind) may = one_answer (Q (events.Serve name request bind)) (step w (events.Serve name request bind)).0 (answer (codes "serve") name (serves_request w name (bound_at w.requests request)).1) (served name request bind)
   line_case (events.Deliver name reply) may = one_answer (Q (events.Deliver name reply)) (step w (events.Deliver name reply)).0 (answer (codes "deliver") name (delivers w name (bound_at w.replies reply)).1) (took name reply)
@@ -171,6 +162,4 @@ module _ (Q : Event → World → Answer → Type 0) (w : World) (plain : (e : E
   line_case (events.Fail name calls) may = plainly (events.Fail name calls) (codes "fail") name (step w (events.Fail name calls)).0 _ (plans w name (record { calls = calls; fault = Fails }))
   line_case (events.Stop name) may = plainly (events.Stop name) (codes "stop") name (step w (events.Stop name)).0 _ (stopped w name)
   line_case (events.Start name) may = plainly (events.Start name) (codes "start") name (step w (events.Start name)).0 _ (started w name)
-  line_case (events.Show name) may = plainly (events.Show name) (codes "show") name (step w (events.Show name)).0 _ (shows w name)
-  line_case (events.Vector name) may = plainly (events.Vector name) (codes "vector") name (step w (events.Vector name)).0 _ (tells_vector w name)
-  line_case (events.Marks name) may = plainly (events.Marks name) (codes "marks") name (step w (events.Marks name)).0 _ (tells_marks w name)
+  line_case (events.Report name what) may = plainly (events.Report name what) (word_of (verb_of_report what)) name (step w (events.Report name what)).0 _ (reports w name what)

@@ -1,8 +1,8 @@
 -- A request that covers what was collected isn't refused for its age.
 use Rattle.std.proofs.Common.{◌≡◌, Bool, true, false, Err, refl, ℕ}
 use Rattle.adr_vector.specs.Vector.{at_most}
-use Rattle.adr_event.specs.declared.refusal.ServeRefusal.{ServeRefusal}
-use Rattle.adr_event.specs.declared.refusal.ServeRefusal.TheVariants.{RolledBack, TooOld}
+use Rattle.adr_call.specs.declared.refusal.ServeRefusal.{ServeRefusal}
+use Rattle.adr_call.specs.declared.refusal.ServeRefusal.TheVariants.{RolledBack, TooOld}
 use Rattle.adr_model.specs.Store.{State}
 use Rattle.adr_model.specs.Serve.{Request, shown_by, serve}
 use Rattle.adr_law_knowledge.proofs.Refusing.{tested_is, none_is, all_covered}

@@ -1,17 +1,17 @@
 -- Every line that may happen keeps a world sound, as long as it stays clean.
 use Rattle.std.proofs.Common.{◌≡◌, ℕ, true, [], ◌∷◌, ◌++◌, Option, Some, None, refl, sym, subst}
-use Rattle.adr_event.specs.declared.answer.Outcome.{Outcome}
-use Rattle.adr_event.specs.declared.answer.Outcome.TheVariants as outcomes
+use Rattle.adr_call.specs.declared.outcome.Outcome.{Outcome}
+use Rattle.adr_call.specs.declared.outcome.Outcome.TheVariants as outcomes
 use Rattle.adr_event.specs.declared.event.Event.{Event}
 use Rattle.adr_event.specs.declared.event.Event.TheVariants as events
 use Rattle.adr_model.specs.Member.{Member}
 use Rattle.adr_model.specs.Store.{Store}
 use Rattle.adr_model.specs.Serve.{Request, Reply}
-use Rattle.adr_model.specs.Write.{Write, AddObject, Modify, Rename, Delete, AddLink, RemoveLink, write, Revive}
+use Rattle.adr_model.specs.Write.{Write, write_meant, write, Revive}
 use Rattle.adr_model.specs.Given.{IsWellGiven}
 use Rattle.adr_model.specs.Collect.{collect, adopt, backup}
 use Rattle.adr_model.specs.Replica.{Standing, Up, Down, Failed, Stops, Fails, Plan, Replica, device_settled}
-use Rattle.adr_model.specs.World.{Name, World, Snapshot, Gone, Sent, stays, nothing, bound, bound_at, writes, asks, serves_request, delivered, delivers, after_write, after_collect, backed_up, adopts, of_made, of_image, put_back, of_controller, with_plan, stops, starts, with_replica, replica_at, shown, marks_shown, after_upgrade}
+use Rattle.adr_model.specs.World.{Name, World, Snapshot, Gone, Sent, stays, nothing, bound, bound_at, writes, asks, serves_request, delivered, delivers, after_write, after_collect, backed_up, adopts, of_made, of_image, put_back, of_controller, with_plan, stops, starts, with_replica, replica_at, reported, after_upgrade}
 use Rattle.adr_model.specs.Cycles.{pull, pulls, reply_limit, pull_version}
 use Rattle.adr_model.specs.Step.{gives, step, revival, stepped}
 use Rattle.adr_model.specs.Sound.{IsSoundRequest, IsSoundReply, IsSoundStore, IsSoundWorld, IsTraced}
@@ -110,12 +110,7 @@ module _ (w : World) (sound : IsSoundWorld w) where
   pub step_sound : (e : Event) → MayHappen w e → (step w e).0.clean ≡ true → IsSoundWorld (step w e).0
   step_sound (events.Controller name dsa inv) may clean = new_comes w sound inv may.1.1 name dsa may.0 may.1.0
   step_sound (events.Time now) may clean = aside w sound now w.snapshots
-  step_sound (events.Add name guid class parent text values) may clean = writes_sound w sound name (AddObject guid class parent text values) may
-  step_sound (events.Modify name guid values) may clean = writes_sound w sound name (Modify guid values) may
-  step_sound (events.Rename name guid parent text) may clean = writes_sound w sound name (Rename guid parent text) tt
-  step_sound (events.Delete name guid) may clean = writes_sound w sound name (Delete guid) tt
-  step_sound (events.Link name from attr to) may clean = writes_sound w sound name (AddLink from attr to) tt
-  step_sound (events.Unlink name from attr to) may clean = writes_sound w sound name (RemoveLink from attr to) tt
+  step_sound (events.Write name what) may clean = writes_sound w sound name (write_meant what) may
   step_sound (events.Ask name partner max version bind) may clean =
       let makes = asks_sound w sound name partner max version in
       made_bound w IsRequest (asks w name partner max version) (λ v. record v { requests = bound v.requests bind (asks w name partner max version).2 }) makes
@@ -157,6 +152,4 @@ module _ (w : World) (sound : IsSoundWorld w) where
   step_sound (events.Fail name calls) may clean = with_plan_so name (record { calls = calls; fault = Fails })
   step_sound (events.Stop name) may clean = made_case SoundBehind w name (stays w) (λ x. sound) (λ r. stops w r) (λ r called. stopped w sound r called.there Down (device_settled r))
   step_sound (events.Start name) may clean = made_case SoundBehind w name (stays w) (λ x. sound) (λ r. starts w r r.standing) (λ r called. started_so r called.there r.standing refl)
-  step_sound (events.Show name) may clean = reached_case SoundBehind w name (stays w) (λ x. sound) (λ r. (w, outcomes.Show (shown w r.safe))) (λ r called up. sound)
-  step_sound (events.Vector name) may clean = reached_case SoundBehind w name (stays w) (λ x. sound) (λ r. (w, outcomes.Vector r.safe.store.vector r.safe.store.times)) (λ r called up. sound)
-  step_sound (events.Marks name) may clean = reached_case SoundBehind w name (stays w) (λ x. sound) (λ r. (w, outcomes.Marks (marks_shown r.safe.store))) (λ r called up. sound)
+  step_sound (events.Report name what) may clean = reached_case SoundBehind w name (stays w) (λ x. sound) (λ r. (w, reported w r.safe what)) (λ r called up. sound)

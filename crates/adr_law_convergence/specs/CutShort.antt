@@ -1,6 +1,6 @@
 -- A start that wants memory once its sync was made.
 use Rattle.std.specs.Prelude.{◌≢◌}
-use Rattle.adr_event.specs.declared.answer.Outcome.TheVariants as outcomes
+use Rattle.adr_call.specs.declared.outcome.Outcome.TheVariants as outcomes
 use Rattle.adr_model.specs.Member.{Member}
 use Rattle.adr_model.specs.Replica.{Replica, Up, moves_of_start, start_goes, device_after_start}
 use Rattle.adr_model.specs.World.{World, after_moves}

@@ -14,7 +14,7 @@ use Rattle.adr_schema.proofs.ExactCalls.{not_then}
 use Rattle.adr_vector.specs.Vector.{Cursors, IsVector, at, raised}
 use Rattle.adr_vector.proofs.Cursors.{FromOne}
 use Rattle.adr_vector.proofs.Joining.{from_one-raised}
-use Rattle.adr_event.specs.declared.refusal.CollectRefusal.TheVariants.{Quarantined as IsQuarantined, UsnLimit}
+use Rattle.adr_call.specs.declared.refusal.CollectRefusal.TheVariants.{Quarantined as IsQuarantined, UsnLimit}
 use Rattle.adr_model.specs.Member.{Member, Each}
 use Rattle.adr_model.specs.Update.{Key, RowOf, Update, inv_of, usn_of, key_order, deleted_attr}
 use Rattle.adr_model.specs.Reflects.{Covers, CoversBirth}

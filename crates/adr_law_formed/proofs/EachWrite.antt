@@ -14,9 +14,9 @@ use Rattle.adr_schema.specs.declared.content.Content.TheVariants.{Class, Name, D
 use Rattle.adr_schema.specs.declared.content.Value.{Value as Datum}
 use Rattle.adr_schema.specs.Numbered.{numbered}
 use Rattle.adr_schema.specs.Rules.{add_refusal as schema_add_refusal, modify_refusal as schema_modify_refusal, name_refusal as schema_name_refusal, link_refusal as schema_link_refusal}
-use Rattle.adr_event.specs.declared.refusal.WriteRefusal.{WriteRefusal}
-use Rattle.adr_event.specs.declared.refusal.WriteRefusal.TheVariants.{Quarantined, GuidThere, NameTaken, LinkThere, LinkNotThere}
-use Rattle.adr_event.specs.declared.refusal.Table.TheVariants.{Objects, Links}
+use Rattle.adr_call.specs.declared.refusal.WriteRefusal.{WriteRefusal}
+use Rattle.adr_call.specs.declared.refusal.WriteRefusal.TheVariants.{Quarantined, GuidThere, NameTaken, LinkThere, LinkNotThere}
+use Rattle.adr_call.specs.declared.refusal.Table.TheVariants.{Objects, Links}
 use Rattle.std.specs.Cmp.{nat_cmp_is}
 use Rattle.std.proofs.lemmas.Bool.{or_parts}
 use Rattle.adr_stamp.specs.declared.LinkKey.{LinkKey}
@@ -59,7 +59,7 @@ use Rattle.adr_law_formed.proofs.ItemMay.{new_is_above}
 use Rattle.adr_law_calls.proofs.ItemPut.{some_or_none}
 use Rattle.adr_law_calls.proofs.Passed.{normal_where_not_quarantined}
 use Rattle.adr_law_formed.proofs.OwnWrite.{new_placed, live_placed, link_placed, written_follows, says_of_written}
-use Rattle.adr_event.specs.declared.directory.Entry.{Entry}
+use Rattle.adr_call.specs.declared.directory.Entry.{Entry}
 use Rattle.adr_law_calls.proofs.Reviving.{absent, apart, may_revive, may_relink, may_relink_all}
 use Rattle.adr_law_calls.proofs.InTurn.{in_turn_formed}
 use Rattle.adr_law_formed.proofs.TakenFollow.{nothing_is_vector}

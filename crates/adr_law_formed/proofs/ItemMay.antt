@@ -17,8 +17,8 @@ use Rattle.adr_schema.specs.Numbered.{numbered}
 use Rattle.adr_schema.specs.Rules.{not_link_refusal}
 use Rattle.adr_schema.specs.Table.{Table, has, must_of, class_at, kind_at, is_forward}
 use Rattle.adr_vector.specs.Vector.{Cursors, at}
-use Rattle.adr_event.specs.declared.refusal.ItemFault.TheVariants.{Schema as BreaksSchema}
-use Rattle.adr_event.specs.declared.refusal.TakeRefusal.TheVariants.{BadItem, Incomplete}
+use Rattle.adr_call.specs.declared.refusal.ItemFault.TheVariants.{Schema as BreaksSchema}
+use Rattle.adr_call.specs.declared.refusal.TakeRefusal.TheVariants.{BadItem, Incomplete}
 use Rattle.adr_model.specs.Member.{Member, Each}
 use Rattle.adr_failure.specs.First.{first_of}
 use Rattle.adr_model.specs.Update.{RowOf, LinkOf, Update, Said, Holds, is_older, key_order, ends, class_attr, name_attr, deleted_attr}

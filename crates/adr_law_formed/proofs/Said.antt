@@ -12,7 +12,7 @@ use Rattle.adr_schema.specs.Rules.{class_refusal, name_refusal, row_refusal}
 use Rattle.adr_schema.specs.Names.{name_fault}
 use Rattle.adr_schema.specs.Allowed.{MayBeHeld}
 use Rattle.adr_schema.proofs.ExactRows.{may_be_held}
-use Rattle.adr_event.specs.declared.refusal.ItemFault.TheVariants.{Schema as BreaksSchema, WrongBirth}
+use Rattle.adr_call.specs.declared.refusal.ItemFault.TheVariants.{Schema as BreaksSchema, WrongBirth}
 use Rattle.adr_failure.specs.First.{first_of}
 use Rattle.adr_model.specs.Update.{Key, RowOf, Said, Holds, IsPresent, Update, class_attr}
 use Rattle.adr_model.specs.Take.{is_birth, broken, row_fault}

@@ -12,7 +12,7 @@ use Rattle.adr_vector.specs.Vector.{Cursors, IsVector, at}
 use Rattle.adr_vector.specs.Times.{AreTimesOf}
 use Rattle.adr_vector.proofs.Moments.{no_times, times_raise, times_filter}
 use Rattle.adr_vector.specs.declared.mark.Mark.{Mark}
-use Rattle.adr_event.specs.declared.refusal.ServeRefusal.TheVariants.{BadMark, RolledBack}
+use Rattle.adr_call.specs.declared.refusal.ServeRefusal.TheVariants.{BadMark, RolledBack}
 use Rattle.adr_model.specs.Member.{Member, Each}
 use Rattle.adr_model.specs.Update.{Identifier, Key, Update, key_order, same_identifier, same_unit, unit_of}
 use Rattle.adr_model.specs.Store.{Held, State, no_mark, updates_of}

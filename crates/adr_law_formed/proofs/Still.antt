@@ -14,15 +14,15 @@ use Rattle.adr_vector.proofs.Cursors.{same_from_test, test_itself}
 use Rattle.adr_vector.proofs.Comparing.{everywhere_from_at_most, at_most_from_everywhere}
 use Rattle.adr_vector.proofs.Joining.{raised_here, rising-raised, from_one-raised}
 use Rattle.adr_vector.proofs.Moments.{no_times, times_stay}
-use Rattle.adr_event.specs.declared.refusal.Table.TheVariants.{Cursors as CursorTable}
-use Rattle.adr_event.specs.declared.refusal.AdoptRefusal.TheVariants.{IdentifierUsed, Full}
+use Rattle.adr_call.specs.declared.refusal.Table.TheVariants.{Cursors as CursorTable}
+use Rattle.adr_call.specs.declared.refusal.AdoptRefusal.TheVariants.{IdentifierUsed, Full}
 use Rattle.adr_model.specs.Update.{Identifier, inv_of, same_identifier, ends}
 use Rattle.adr_model.specs.Store.{Held, Kept, Normal, Store, State, updates_of, empty_state}
 use Rattle.adr_model.specs.Formed.{IsFormedStore, IsFormed}
 use Rattle.adr_model.specs.Sound.{AreClassesKnown}
 use Rattle.adr_model.specs.Collect.{names_inv, woken, adopt_refusal, adopt, quarantine}
 use Rattle.adr_schema.proofs.Extending.{second_is_last}
-use Rattle.adr_event.specs.declared.refusal.UpgradeRefusal.TheVariants.{Quarantined, SchemaThere}
+use Rattle.adr_call.specs.declared.refusal.UpgradeRefusal.TheVariants.{Quarantined, SchemaThere}
 use Rattle.adr_model.specs.Change.{Change}
 use Rattle.adr_model.specs.Serve.{is_quarantined}
 use Rattle.adr_model.specs.Upgrade.{upgraded, upgrade_refusal, upgrade}

@@ -2,21 +2,24 @@
 use Rattle.std.proofs.Common.{◌≡◌, ◌≢◌, ◌<◌, ◌∙◌, ◌⊎◌, inl, inr, refl, sym, ap, subst, ℕ, List, [], ◌∷◌, ◌++◌, Bool, true, false, ◌||◌, Option, Some, None, length, arith}
 use Rattle.std.specs.Str.{bytes_eq}
 use Rattle.std.proofs.lemmas.List.{append-nil, map-append}
-use Rattle.adr_event.specs.declared.answer.Outcome.TheVariants as outcomes
+use Rattle.adr_call.specs.declared.outcome.Outcome.TheVariants as outcomes
+use Rattle.adr_call.specs.declared.write.Write.{Write}
+use Rattle.adr_call.specs.declared.write.Write.TheVariants as writes
 use Rattle.adr_event.specs.declared.event.Event.{Event}
 use Rattle.adr_event.specs.declared.event.Event.TheVariants as events
 use Rattle.adr_schema.specs.Assignments.{Given}
 use Rattle.adr_schema.proofs.ExactCalls.{not_then}
 use Rattle.adr_schedule.specs.declared.fault.Cause.{Cause}
-use Rattle.adr_schedule.specs.Grammar.{IsAllowed}
+use Rattle.adr_schedule.specs.Grammar.{AreGiven, IsAllowed}
 use Rattle.adr_failure.specs.First.{first_of}
 use Rattle.adr_schedule.specs.Seen.{Seen, nothing_seen, is_bound, if_bound, if_inv_given, if_given, if_full, unless_bound, cause_after, with_controller, seen_after, IsFollowing}
 use Rattle.adr_model.specs.Member.{Member, Each}
-use Rattle.adr_model.specs.Write.{AddObject, Modify, Rename, Delete, AddLink, RemoveLink}
+use Rattle.adr_model.specs.Write.{write_meant}
+use Rattle.adr_model.specs.Given.{IsWellGiven}
 use Rattle.adr_model.specs.Store.{empty_state}
 use Rattle.adr_model.specs.Collect.{backup, adopt}
 use Rattle.adr_model.specs.Replica.{Stops, Fails, Replica, Book, on_new_disk, begun}
-use Rattle.adr_model.specs.World.{Name, World, empty_world, nothing, bound, bound_at, replica_at, of_made, of_controller, asks, serves_request, backed_up, shown, marks_shown}
+use Rattle.adr_model.specs.World.{Name, World, empty_world, nothing, bound, bound_at, replica_at, of_made, of_controller, asks, serves_request, backed_up, reported}
 use Rattle.adr_model.specs.Cycles.{reply_limit}
 use Rattle.adr_model.specs.Step.{gives, step}
 use Rattle.adr_model.specs.Convergence.{IsNewName, IsNewDsa, IsNewInv, IsUnbound, MayHappen, MayAllHappen}
@@ -209,22 +212,22 @@ inv_given seen w inv agrees = record {
   snapshots = agrees.snapshots;
 }
 
+-- a write whose values are given as a line gives them is one that a client can send
+well_given : (what : Write) → AreGiven what → IsWellGiven (write_meant what)
+well_given (writes.Add guid class parent text values) given = given
+well_given (writes.Modify guid values) given = (given.0, some_given values given.1)
+well_given (writes.Rename guid parent text) given = tt
+well_given (writes.Delete guid) given = tt
+well_given (writes.Link from attr to) given = tt
+well_given (writes.Unlink from attr to) given = tt
+
 event_may : (seen : Seen) (w : World) (e : Event) → Agrees seen w → cause_after seen e ≡ None → IsAllowed e → Goes seen w e
 event_may seen w (events.Controller name dsa inv) agrees cause allowed =
     (is_new seen w name dsa inv agrees (new_controller seen name dsa inv cause), came seen w (on_new_disk name (empty_state dsa inv)) dsa inv _ agrees)
 event_may seen w (events.Time now) agrees cause allowed =
     (tt, record { controllers = agrees.controllers; dsas = agrees.dsas; invs = agrees.invs; requests = agrees.requests; replies = agrees.replies; images = agrees.images; snapshots = agrees.snapshots })
-event_may seen w (events.Add name guid class parent text values) agrees cause allowed =
-    (allowed.0, agrees_on seen w (step w (events.Add name guid class parent text values)).0 agrees (writes_stay w name (AddObject guid class parent text values)))
-event_may seen w (events.Modify name guid values) agrees cause allowed =
-    ((allowed.0.0, some_given values allowed.0.1), agrees_on seen w (step w (events.Modify name guid values)).0 agrees (writes_stay w name (Modify guid values)))
-event_may seen w (events.Rename name guid parent text) agrees cause allowed =
-    (tt, agrees_on seen w (step w (events.Rename name guid parent text)).0 agrees (writes_stay w name (Rename guid parent text)))
-event_may seen w (events.Delete name guid) agrees cause allowed = (tt, agrees_on seen w (step w (events.Delete name guid)).0 agrees (writes_stay w name (Delete guid)))
-event_may seen w (events.Link name from attr to) agrees cause allowed =
-    (tt, agrees_on seen w (step w (events.Link name from attr to)).0 agrees (writes_stay w name (AddLink from attr to)))
-event_may seen w (events.Unlink name from attr to) agrees cause allowed =
-    (tt, agrees_on seen w (step w (events.Unlink name from attr to)).0 agrees (writes_stay w name (RemoveLink from attr to)))
+event_may seen w (events.Write name what) agrees cause allowed =
+    (well_given what allowed.0, agrees_on seen w (step w (events.Write name what)).0 agrees (writes_stay w name (write_meant what)))
 event_may seen w (events.Ask name partner max version bind) agrees cause allowed =
     let t = asks w name partner max version in let a = agrees_on seen w t.0 agrees (asks_stay w name partner max version) in (
       unbound w.requests seen.requests bind agrees.requests (new_request seen name partner bind max version cause),
@@ -274,9 +277,8 @@ event_may seen w (events.Fail name calls) agrees cause allowed =
     (tt, agrees_on seen w (step w (events.Fail name calls)).0 agrees (plans_stay w name (record { calls = calls; fault = Fails })))
 event_may seen w (events.Stop name) agrees cause allowed = (tt, agrees_on seen w (step w (events.Stop name)).0 agrees (stops_stay w name))
 event_may seen w (events.Start name) agrees cause allowed = (tt, agrees_on seen w (step w (events.Start name)).0 agrees (starts_stay w name))
-event_may seen w (events.Show name) agrees cause allowed = (tt, agrees_on seen w (step w (events.Show name)).0 agrees (reports_stay w name (λ r. outcomes.Show (shown w r.safe))))
-event_may seen w (events.Vector name) agrees cause allowed = (tt, agrees_on seen w (step w (events.Vector name)).0 agrees (reports_stay w name (λ r. outcomes.Vector r.safe.store.vector r.safe.store.times)))
-event_may seen w (events.Marks name) agrees cause allowed = (tt, agrees_on seen w (step w (events.Marks name)).0 agrees (reports_stay w name (λ r. outcomes.Marks (marks_shown r.safe.store))))
+event_may seen w (events.Report name what) agrees cause allowed =
+    (tt, agrees_on seen w (step w (events.Report name what)).0 agrees (reports_stay w name (λ r. reported w r.safe what)))
 
 all_may : (es : List Event) (seen : Seen) (w : World) → Agrees seen w → IsFollowing seen es → MayAllHappen w es
 all_may [] seen w agrees follow = tt

@@ -3,7 +3,7 @@ use Rattle.std.proofs.Common.{◌≡◌, inl, inr, ℕ, zero, suc, List, [], ◌
 use Rattle.std.specs.Prelude.{IfSome}
 use Rattle.adr_event.specs.Supported.{IsSupported}
 use Rattle.adr_event.specs.declared.answer.Answer.{Answer}
-use Rattle.adr_event.specs.declared.answer.Outcome.TheVariants as outcomes
+use Rattle.adr_call.specs.declared.outcome.Outcome.TheVariants as outcomes
 use Rattle.adr_event.specs.declared.event.Event.{Event}
 use Rattle.adr_event.specs.declared.event.Event.TheVariants as events
 use Rattle.adr_wire.specs.Ranges.{IsU32}
@@ -11,11 +11,11 @@ use Rattle.adr_model.specs.Member.{Each}
 use Rattle.adr_model.specs.Update.{Update}
 use Rattle.adr_model.specs.Store.{Store, State, updates_of}
 use Rattle.adr_model.specs.Serve.{Request, Reply}
-use Rattle.adr_model.specs.Write.{Write, AddObject, Modify, Rename, Delete, AddLink, RemoveLink}
+use Rattle.adr_model.specs.Write.{Write, write_meant}
 use Rattle.adr_model.specs.Given.{IsWellGiven}
 use Rattle.adr_model.specs.Collect.{backup}
 use Rattle.adr_model.specs.Replica.{Stops, Fails}
-use Rattle.adr_model.specs.World.{World, Name, Snapshot, Sent, empty_world, nothing, bound, bound_at, replica_at, of_made, of_controller, writes, asks, serves_request, backed_up, shown, marks_shown}
+use Rattle.adr_model.specs.World.{World, Name, Snapshot, Sent, empty_world, nothing, bound, bound_at, replica_at, of_made, of_controller, writes, asks, serves_request, backed_up, reported}
 use Rattle.adr_model.specs.Cycles.{Pulled, pull_served, pull_asked, pull, and_then, pulls, cycle, reply_limit, pull_version}
 use Rattle.adr_model.specs.Rings.{Connection, ring, times, rings}
 use Rattle.adr_model.specs.Step.{ClientWrite, write_of, gives, step, after_lines}
@@ -128,12 +128,7 @@ module _ (P : Update → Type 0) where
     event_in_form : (w : World) (is : IsWorldInForm P w) (e : Event) → MayHappen w e → IsSupported e → IsTyped e × HasTypedNumbers e → WritesSo Q e → IsWorldInForm P (step w e).0
     event_in_form w is (events.Controller name dsa inv) may does typed so = comes_in_form P (gives w (dsa ∷ []) (inv ∷ [])) (given_more w (dsa ∷ []) (inv ∷ []) is) name dsa inv typed.0.0 typed.0.1
     event_in_form w is (events.Time now) may does typed so = record { time = typed.1; replicas = is.replicas; requests = is.requests; replies = is.replies; images = is.images; snapshots = is.snapshots }
-    event_in_form w is (events.Add name guid class parent text values) may does typed so = written w is name (AddObject guid class parent text values) may typed.0 so
-    event_in_form w is (events.Modify name guid values) may does typed so = written w is name (Modify guid values) may typed.0 so
-    event_in_form w is (events.Rename name guid parent text) may does typed so = written w is name (Rename guid parent text) tt typed.0 so
-    event_in_form w is (events.Delete name guid) may does typed so = written w is name (Delete guid) tt typed.0 so
-    event_in_form w is (events.Link name from attr to) may does typed so = written w is name (AddLink from attr to) tt typed.0 so
-    event_in_form w is (events.Unlink name from attr to) may does typed so = written w is name (RemoveLink from attr to) tt typed.0 so
+    event_in_form w is (events.Write name what) may does typed so = written w is name (write_meant what) may typed.0 so
     event_in_form w is (events.Ask name partner max version bind) may does typed so =
         subst (λ (v : ℕ). IsWorldInForm P (step w (events.Ask name partner max v bind)).0) (sym does) (bound_request (asks w name partner max 1) bind (asks_in_form P w is name partner max typed.1))
     event_in_form w is (events.Serve name request bind) may does typed so =
@@ -156,9 +151,7 @@ module _ (P : Update → Type 0) where
     event_in_form w is (events.Fail name calls) may does typed so = plans_in_form P w is name (record { calls = calls; fault = Fails })
     event_in_form w is (events.Stop name) may does typed so = stops_in_form P w is name
     event_in_form w is (events.Start name) may does typed so = starts_in_form P w is name
-    event_in_form w is (events.Show name) may does typed so = reports_in_form P w is name (λ r. outcomes.Show (shown w r.safe))
-    event_in_form w is (events.Vector name) may does typed so = reports_in_form P w is name (λ r. outcomes.Vector r.safe.store.vector r.safe.store.times)
-    event_in_form w is (events.Marks name) may does typed so = reports_in_form P w is name (λ r. outcomes.Marks (marks_shown r.safe.store))
+    event_in_form w is (events.Report name what) may does typed so = reports_in_form P w is name (λ r. reported w r.safe what)
 
     -- ---- runs
 

@@ -11,7 +11,7 @@ use Rattle.adr_model.specs.Sound.{IsWorldOfRun}
 use Rattle.adr_model.specs.Convergence.{held_by}
 use Rattle.adr_model.proofs.Members.{member_of_either}
 use Rattle.adr_law_convergence.proofs.Controllers.{shows_what_is_visible}
-use Rattle.adr_report.specs.Printable.{IsPrintable}
+use Rattle.adr_answers.specs.Printable.{IsPrintable}
 use Rattle.adr_law_headline.specs.Printable.{IsWholeWrite, ShowPrintable, RunsArePrintable}
 use Rattle.adr_law_headline.proofs.Throughout.{both_always, runs_always_sound}
 use Rattle.adr_law_headline.proofs.WholeRows.{IsWholeRow, written_whole}

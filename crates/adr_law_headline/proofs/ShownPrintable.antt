@@ -29,9 +29,9 @@ use Rattle.adr_model.proofs.Members.{mapped_member, flat_member, of_filter_map}
 use Rattle.adr_law_knowledge.proofs.Lists.{of_sorted}
 use Rattle.adr_model.specs.Spelled.{IsContentOfAttr, IsSaidOfKey, SayOfTheirKeys}
 use Rattle.adr_law_recorded.proofs.Values.{all_in}
-use Rattle.adr_report.specs.Laws.{IsWholeReference}
-use Rattle.adr_report.specs.Printable.{ArePrintableValues, ArePrintableLinks, IsPrintableEntry, IsPrintable}
-use Rattle.adr_report.proofs.Allowed.{classes as class_printable, values as values_printable, links as links_printable}
+use Rattle.adr_answers.specs.Laws.{IsWholeReference}
+use Rattle.adr_answers.specs.Printable.{ArePrintableValues, ArePrintableLinks, IsPrintableEntry, IsPrintable}
+use Rattle.adr_answers.proofs.Allowed.{classes as class_printable, values as values_printable, links as links_printable}
 use Rattle.adr_law_headline.proofs.WholeRows.{IsWholeSaid, IsWholeRow, live_row, class_row, guid_whole, parent_whole}
 
 -- of each member, and so at each place

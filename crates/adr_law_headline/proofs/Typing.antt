@@ -3,6 +3,8 @@ use Rattle.std.proofs.Common.{◌≡◌, ℕ, List, [], ◌∷◌, length, inl, 
 use Rattle.std.specs.Prelude.{nat_le}
 use Rattle.std.specs.Str.{is_utf8}
 use Rattle.std.proofs.lemmas.Bool.{and_parts}
+use Rattle.adr_call.specs.declared.write.Write.{Write}
+use Rattle.adr_call.specs.declared.write.Write.TheVariants.{Add, Modify, Rename, Delete, Link, Unlink}
 use Rattle.adr_event.specs.Supported.{IsSupported}
 use Rattle.adr_event.specs.declared.event.Event.{Event}
 use Rattle.adr_event.specs.declared.event.Event.TheVariants as events
@@ -11,13 +13,14 @@ use Rattle.adr_schema.specs.declared.content.Value.{Value as Item}
 use Rattle.adr_schema.specs.declared.content.Value.TheVariants.{Text, Number, Flag, Octets, Ref}
 use Rattle.adr_token.specs.Texts.{is_text}
 use Rattle.adr_token.specs.Spelled.{SpellsValue, SpellsValues}
-use Rattle.adr_schedule.specs.Grammar.{tokens_behind, sets, HaveSpellings, IsLimit, IsAllowed}
+use Rattle.adr_schedule.specs.Grammar.{given_in, tokens_written, tokens_behind, sets, HaveSpellings, IsLimit, IsAllowed}
 use Rattle.adr_schedule.specs.Seen.{Seen, nothing_seen, seen_after, IsFollowing}
 use Rattle.adr_schedule.proofs.AllowedLaws.{lined_supported}
 use Rattle.adr_wire.specs.Ranges.{IsU32}
 use Rattle.adr_model.specs.Member.{Each}
-use Rattle.adr_law_recorded.specs.Typed.{IsTypedValue, AreTypedValues, IsTyped, AreTyped}
-use Rattle.adr_report.specs.Laws.{IsWholeReference}
+use Rattle.adr_model.specs.Write.{write_meant}
+use Rattle.adr_law_recorded.specs.Typed.{IsTypedValue, AreTypedValues, IsTypedWrite, IsTyped, AreTyped}
+use Rattle.adr_answers.specs.Laws.{IsWholeReference}
 use Rattle.adr_law_headline.specs.Formed.{HasTypedNumbers, AreAllTyped, AreSupported}
 use Rattle.adr_law_headline.specs.Printable.{AreWholeValues, IsWholeWrite, WritesSo, AreWhole}
 
@@ -59,17 +62,19 @@ module _ (Q : Event → Type 0) (of_event : (e : Event) → IsAllowed e → Q e)
 
 -- ---- events
 
+-- a write whose tokens have spellings
+write_typed : (what : Write) → HaveSpellings (tokens_written (given_in what) what) → IsTypedWrite (write_meant what)
+write_typed (Add guid class parent text values) (of_guid, (of_class, (of_parent, (of_text, given)))) = (of_guid.1.0.0, of_parent.1.0.0, text_typed text of_text.1.0, given_typed values given)
+write_typed (Modify guid values) (of_guid, given) = (of_guid.1.0.0, given_typed values given)
+write_typed (Rename guid parent text) (of_guid, (of_parent, (of_text, end))) = (of_guid.1.0.0, of_parent.1.0.0, text_typed text of_text.1.0)
+write_typed (Delete guid) (of_guid, end) = of_guid.1.0.0
+write_typed (Link from attr to) (of_from, (of_attr, (of_to, end))) = (of_from.1.0.0, of_to.1.0.0)
+write_typed (Unlink from attr to) (of_from, (of_attr, (of_to, end))) = (of_from.1.0.0, of_to.1.0.0)
+
 event_typed : (e : Event) → IsAllowed e → IsTyped e
 unfolding tokens_behind
 event_typed (events.Controller name dsa inv) (line, (verb, (to, (of_dsa, (of_inv, end))))) = (of_dsa.1.0.0, of_inv.1.0.0)
-event_typed (events.Add name guid class parent text values) (line, (verb, (to, (of_guid, (of_class, (of_parent, (of_text, given))))))) =
-    (of_guid.1.0.0, of_parent.1.0.0, text_typed text of_text.1.0, given_typed values given)
-event_typed (events.Modify name guid values) (line, (verb, (to, (of_guid, given)))) = (of_guid.1.0.0, given_typed values given)
-event_typed (events.Rename name guid parent text) (line, (verb, (to, (of_guid, (of_parent, (of_text, end)))))) =
-    (of_guid.1.0.0, of_parent.1.0.0, text_typed text of_text.1.0)
-event_typed (events.Delete name guid) (line, (verb, (to, (of_guid, end)))) = of_guid.1.0.0
-event_typed (events.Link name from attr to) (line, (verb, (at, (of_from, (of_attr, (of_to, end)))))) = (of_from.1.0.0, of_to.1.0.0)
-event_typed (events.Unlink name from attr to) (line, (verb, (at, (of_from, (of_attr, (of_to, end)))))) = (of_from.1.0.0, of_to.1.0.0)
+event_typed (events.Write name what) (line, (verb, (to, behind))) = write_typed what behind
 event_typed (events.Restore name image inv) (line, (verb, (to, (of_image, (of_inv, end))))) = of_inv.1.0.0
 event_typed (events.Install name dsa image inv) (line, (verb, (to, (of_dsa, (of_image, (of_inv, end)))))) = (of_dsa.1.0.0, of_inv.1.0.0)
 event_typed (events.Revive name guid image parent text) allowed = absurd allowed.0
@@ -109,14 +114,17 @@ reference_whole (Ref id) bytes q = q.0
 given_whole : (gs : List Given) → HaveSpellings (sets gs) → AreWholeValues gs
 given_whole = given_so IsWholeReference reference_whole
 
+write_whole : (what : Write) → HaveSpellings (tokens_written (given_in what) what) → IsWholeWrite (write_meant what)
+write_whole (Add guid class parent text values) (of_guid, (of_class, (of_parent, (of_text, given)))) = (of_guid.1.0, of_parent.1.0, given_whole values given)
+write_whole (Modify guid values) (of_guid, given) = (of_guid.1.0, given_whole values given)
+write_whole (Rename guid parent text) (of_guid, (of_parent, more)) = (of_guid.1.0, of_parent.1.0)
+write_whole (Delete guid) (of_guid, end) = of_guid.1.0
+write_whole (Link from attr to) (of_from, (of_attr, (of_to, end))) = (of_from.1.0, of_to.1.0)
+write_whole (Unlink from attr to) (of_from, (of_attr, (of_to, end))) = (of_from.1.0, of_to.1.0)
+
 event_whole : (e : Event) → IsAllowed e → WritesSo IsWholeWrite e
 unfolding tokens_behind
-event_whole (events.Add name guid class parent text values) (line, (verb, (to, (of_guid, (of_class, (of_parent, (of_text, given))))))) = (of_guid.1.0, of_parent.1.0, given_whole values given)
-event_whole (events.Modify name guid values) (line, (verb, (to, (of_guid, given)))) = (of_guid.1.0, given_whole values given)
-event_whole (events.Rename name guid parent text) (line, (verb, (to, (of_guid, (of_parent, more))))) = (of_guid.1.0, of_parent.1.0)
-event_whole (events.Delete name guid) (line, (verb, (to, (of_guid, end)))) = of_guid.1.0
-event_whole (events.Link name from attr to) (line, (verb, (at, (of_from, (of_attr, (of_to, end)))))) = (of_from.1.0, of_to.1.0)
-event_whole (events.Unlink name from attr to) (line, (verb, (at, (of_from, (of_attr, (of_to, end)))))) = (of_from.1.0, of_to.1.0)
+event_whole (events.Write name what) (line, (verb, (to, behind))) = write_whole what behind
 event_whole _ allowed = tt
 
 -- what may follow from the beginning on is whole

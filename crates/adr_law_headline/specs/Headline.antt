@@ -1,6 +1,7 @@
 -- What is claimed of every run of a text.
 use Rattle.std.specs.Prelude.{◌≡◌, ℕ, List, [], ◌∷◌, ◌++◌, true, codes}
-use Rattle.adr_event.specs.declared.answer.Outcome.TheVariants as outcomes
+use Rattle.adr_call.specs.declared.outcome.Outcome.TheVariants as outcomes
+use Rattle.adr_call.specs.declared.report.Report.TheVariants.{Directory}
 use Rattle.adr_event.specs.declared.event.Event.{Event}
 use Rattle.adr_event.specs.declared.event.Event.TheVariants as events
 use Rattle.adr_schedule.specs.Schedules.{IsSchedule}
@@ -19,7 +20,7 @@ use Rattle.adr_law_headline.specs.Refused.{FindsNoDamage, FindsNobodyTooOld, Lea
 -- a controller that is up answers a `show` by the directory of what it has in view, and nothing changes
 abbrev pub AnswerByTheirView : World → Type 0
 AnswerByTheirView w =
-    Each (λ r. r.standing ≡ Up → step w (events.Show r.name) ≡ (w, answer (codes "show") r.name (outcomes.Show (directory (in_view w r.safe))) ∷ [])) w.replicas
+    Each (λ r. r.standing ≡ Up → step w (events.Report r.name Directory) ≡ (w, answer (codes "show") r.name (outcomes.Show (directory (in_view w r.safe))) ∷ [])) w.replicas
 
 -- No database was put back where no line so far puts one back. Wherever a run stands, as long as none was: each controller that
 -- is up answers by the directory of the issued updates that it covers or holds, and that of the rows which it holds is the same;

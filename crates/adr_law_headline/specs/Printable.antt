@@ -11,8 +11,8 @@ use Rattle.adr_model.specs.Directory.{directory}
 use Rattle.adr_model.specs.World.{World, empty_world, shown}
 use Rattle.adr_model.specs.Step.{ClientWrite, write_of}
 use Rattle.adr_model.specs.Convergence.{MayAllHappen, held_by}
-use Rattle.adr_report.specs.Printable.{IsPrintable}
-use Rattle.adr_report.specs.Laws.{IsWholeReference}
+use Rattle.adr_answers.specs.Printable.{IsPrintable}
+use Rattle.adr_answers.specs.Laws.{IsWholeReference}
 use Rattle.adr_law_headline.specs.Throughout.{HoldsAlways}
 use Rattle.adr_law_headline.specs.Formed.{AreSupported, AreAllTyped}
 

@@ -3,7 +3,7 @@
 //! It stands on the theorem of `adr_law_convergence` and on the definitions of schedules in `adr_schedule`: what the lines
 //! of a text say may happen, is typed, and is done by the program, so that the theorem holds of its run. That every state
 //! of a run of such events is one that a log may lead to stands on the laws of `adr_law_recorded`, which ask nothing of a
-//! sound world; that what is held then shows a directory which its lines tell, on those of `adr_report`. Its functions
+//! sound world; that what is held then shows a directory which its lines tell, on those of `adr_answers`. Its functions
 //! have no code.
 #![tactic(auto)]
 

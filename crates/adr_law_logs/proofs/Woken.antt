@@ -13,9 +13,9 @@ use Rattle.adr_vector.proofs.Cursors.{same_from_test}
 use Rattle.adr_vector.proofs.Moments.{times_stay}
 use Rattle.adr_vector.proofs.Comparing.{everywhere_from_at_most, at_most_from_everywhere}
 use Rattle.adr_vector.proofs.Joining.{at-raised, raised_here}
-use Rattle.adr_event.specs.declared.refusal.AdoptRefusal.{AdoptRefusal}
-use Rattle.adr_event.specs.declared.refusal.AdoptRefusal.TheVariants.{IdentifierUsed, Full}
-use Rattle.adr_event.specs.declared.refusal.Table.TheVariants.{Cursors as CursorTable}
+use Rattle.adr_call.specs.declared.refusal.AdoptRefusal.{AdoptRefusal}
+use Rattle.adr_call.specs.declared.refusal.AdoptRefusal.TheVariants.{IdentifierUsed, Full}
+use Rattle.adr_call.specs.declared.refusal.Table.TheVariants.{Cursors as CursorTable}
 use Rattle.adr_model.specs.Member.{Member, Each}
 use Rattle.adr_model.specs.Update.{Identifier, Update, inv_of, ends, same_identifier}
 use Rattle.adr_model.specs.Reflects.{Numbers, AtMost, Covers, Reflects, knowledge_of}

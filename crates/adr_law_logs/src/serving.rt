@@ -1,7 +1,7 @@
 //! Asking and serving: what is asked is sound, what a reply leaves out, wherever it is cut, and that it is sound.
 
 ghost use Rattle.std.specs.Prelude.{◌≡◌, ◌≢◌, ◌≤◌, ℕ, true, Ok, Err};
-ghost use Rattle.adr_event.specs.declared.refusal.ServeRefusal.TheVariants.{RolledBack};
+ghost use Rattle.adr_call.specs.declared.refusal.ServeRefusal.TheVariants.{RolledBack};
 ghost use Rattle.adr_vector.specs.Vector.{at_most};
 ghost use Rattle.adr_model.specs.Update.{Identifier};
 ghost use Rattle.adr_model.specs.Store.{State};

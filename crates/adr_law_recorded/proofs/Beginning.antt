@@ -1,10 +1,8 @@
 -- Where logs begin, and which states they lead to.
-use Rattle.std.proofs.Common.{◌≡◌, leb, ltb, true, Ok, refl, sym, ap, subst, arith, inl, inr}
-use Rattle.std.proofs.lemmas.Bool.{and_parts, ltb-true}
+use Rattle.std.proofs.Common.{◌≡◌, Ok, refl, sym, ap, subst, arith, inl, inr}
 use Rattle.adr_model.specs.Update.{Identifier}
 use Rattle.adr_model.specs.Collect.{adopt, woken}
 use Rattle.adr_model.specs.Formed.{IsFormedStore}
-use Rattle.adr_model.specs.Lengths.{area_fits, image_length, length_limit, log_limit, new_log}
 use Rattle.adr_model.specs.Store.{Normal, State, Store, empty_state}
 use Rattle.adr_wire.specs.Ranges.{IsId}
 use Rattle.adr_law_formed.proofs.Still.{adopted_is_formed, new_is_formed}
@@ -21,7 +19,6 @@ new_may_begin dsa inv right_dsa right_inv =
     record {
       logged = record { dsa = right_dsa; inv = right_inv; formed = formed.0; spelled = begins_spelled; classes = formed.1 };
       normal = refl;
-      short = omega arith;
     }
 
 pub logged_fits : (s : State) → IsLogged s → IsOverfull s → ⊥
@@ -55,8 +52,3 @@ adopted_is_logged image dsa inv s formed spelled right_dsa right_inv e =
       },
       ap (λ (t : State). t.mode) (sym is),
     )
-
-pub fitting_may_begin : (s : State) → IsLogged s → s.mode ≡ Normal → area_fits (new_log s) s.store ≡ true → MayBegin s
-fitting_may_begin s logged normal fits =
-    let both = and_parts (leb (new_log s).log_end log_limit) (ltb (image_length s.store) length_limit) fits in
-    record { logged = logged; normal = normal; short = ltb-true (image_length s.store) length_limit both.1 }

@@ -14,7 +14,7 @@ use Rattle.adr_stamp.specs.contracts.OidOrd.TheImpl.Laws.{total-law as objects_t
 use Rattle.adr_stamp.proofs.Exact.{exact_objects}
 use Rattle.adr_schema.proofs.ExactCalls.{not_then}
 use Rattle.adr_vector.specs.Vector.{Cursors, at, covers, raised}
-use Rattle.adr_event.specs.declared.refusal.CollectRefusal.TheVariants.{Quarantined as IsQuarantined, UsnLimit}
+use Rattle.adr_call.specs.declared.refusal.CollectRefusal.TheVariants.{Quarantined as IsQuarantined, UsnLimit}
 use Rattle.adr_wire.specs.Ranges.{IsCursor, IsId, IsOid, IsStamp, IsUsn}
 use Rattle.adr_model.specs.Change.{Change}
 use Rattle.adr_model.specs.Collect.{collect, collect_refusal, collection, covering, deaths_to_collect, quarantine}

@@ -6,7 +6,7 @@ use Rattle.std.proofs.lemmas.Bool.{ltb-false, eqb-false}
 use Rattle.adr_stamp.specs.declared.Oid.{Oid}
 use Rattle.adr_stamp.specs.declared.LinkKey.{LinkKey}
 use Rattle.adr_stamp.specs.declared.LinkStamp.{LinkStamp}
-use Rattle.adr_event.specs.declared.refusal.WriteRefusal.TheVariants.{UsnLimit, VersionLimit}
+use Rattle.adr_call.specs.declared.refusal.WriteRefusal.TheVariants.{UsnLimit, VersionLimit}
 use Rattle.adr_schema.specs.Numbered.{numbered}
 use Rattle.adr_wire.specs.Ranges.{IsU64, IsUsn, IsOid, IsStamp}
 use Rattle.adr_model.specs.Member.{Each}

@@ -4,7 +4,7 @@ use Rattle.adr_schema.specs.declared.content.Value.{Value as Datum}
 use Rattle.adr_schema.specs.declared.content.Value.TheVariants.{Text, Number, Flag, Octets, Ref}
 use Rattle.adr_schema.specs.Assignments.{Given}
 use Rattle.adr_schema.specs.Numbered.{numbered}
-use Rattle.adr_event.specs.declared.directory.Entry.{Entry}
+use Rattle.adr_call.specs.declared.directory.Entry.{Entry}
 use Rattle.adr_wire.specs.Ranges.{IsValue}
 use Rattle.adr_model.specs.Member.{Each, Member}
 use Rattle.adr_model.specs.Update.{Identifier, RowOf, Update, same_identifier}

@@ -11,10 +11,10 @@ use Rattle.adr_schema.specs.Table.{class_at}
 use Rattle.adr_schema.specs.Numbered.{numbered}
 use Rattle.adr_schema.specs.declared.content.Content.{Content}
 use Rattle.adr_schema.specs.declared.content.Content.TheVariants.{Class, Name, Dead, Values}
-use Rattle.adr_event.specs.declared.refusal.WriteRefusal.{WriteRefusal}
-use Rattle.adr_event.specs.declared.refusal.WriteRefusal.TheVariants.{LinkThere, LinkNotThere}
-use Rattle.adr_event.specs.declared.refusal.Table.TheVariants.{Links}
-use Rattle.adr_event.specs.declared.directory.Entry.{Entry}
+use Rattle.adr_call.specs.declared.refusal.WriteRefusal.{WriteRefusal}
+use Rattle.adr_call.specs.declared.refusal.WriteRefusal.TheVariants.{LinkThere, LinkNotThere}
+use Rattle.adr_call.specs.declared.refusal.Table.TheVariants.{Links}
+use Rattle.adr_call.specs.declared.directory.Entry.{Entry}
 use Rattle.adr_wire.specs.Ranges.{IsId, IsU16, IsUsn, IsOid, IsStamp, IsContent}
 use Rattle.adr_model.specs.Member.{Member, Each}
 use Rattle.adr_model.specs.Update.{Identifier, RowOf, LinkOf, Said, Holds, IsPresent, Update, name_attr, deleted_attr}

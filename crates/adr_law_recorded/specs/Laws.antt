@@ -3,7 +3,6 @@ use Rattle.std.specs.Prelude.{◌≡◌, ◌<◌, ◌^◌, ℕ, Ok, true}
 use Rattle.adr_wire.specs.Ranges.{IsId, IsU32}
 use Rattle.adr_model.specs.Update.{Identifier}
 use Rattle.adr_model.specs.Formed.{IsFormedStore}
-use Rattle.adr_model.specs.Lengths.{area_fits, new_log}
 use Rattle.adr_model.specs.Store.{Normal, State, Store, empty_state}
 use Rattle.adr_model.specs.Change.{Change, after}
 use Rattle.adr_model.specs.Serve.{Request, Reply, ask, serve}
@@ -28,10 +27,6 @@ abbrev pub AdoptedIsLogged : Type 0
 AdoptedIsLogged =
     (image : Store) (dsa inv : Identifier) (s : State) → IsFormedStore image → IsSpelled image → IsId dsa → IsId inv → adopt image dsa inv ≡ Ok s
     → IsLogged s × (s.mode ≡ Normal)
-
--- a log may begin with a state of a log that is up, where the area of its image fits on a disk
-abbrev pub FittingMayBegin : Type 0
-FittingMayBegin = (s : State) → IsLogged s → s.mode ≡ Normal → area_fits (new_log s) s.store ≡ true → MayBegin s
 
 -- what was recorded leads to a state of a log, and every one of those fits into memory
 abbrev pub RecordedIsLogged : Type 0

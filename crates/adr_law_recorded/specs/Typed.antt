@@ -1,5 +1,5 @@
 -- What an event's types say beyond the definitions: the identifiers that it gives and writes have sixteen bytes, written texts are UTF-8, and number values have 64 bits.
-use Rattle.std.specs.Prelude.{◌≡◌, List, true, FitsSigned, IfSome}
+use Rattle.std.specs.Prelude.{◌≡◌, List, true, FitsSigned}
 use Rattle.std.specs.Int.{w64}
 use Rattle.std.specs.Str.{is_utf8}
 use Rattle.adr_schema.specs.Assignments.{Given}
@@ -9,10 +9,8 @@ use Rattle.adr_event.specs.declared.event.Event.{Event}
 use Rattle.adr_event.specs.declared.event.Event.TheVariants as events
 use Rattle.adr_wire.specs.Ranges.{IsId}
 use Rattle.adr_model.specs.Member.{Each}
-use Rattle.adr_model.specs.Write.{Write, AddObject, Modify, Rename, Delete, AddLink, RemoveLink, Revive}
+use Rattle.adr_model.specs.Write.{Write, AddObject, Modify, Rename, Delete, AddLink, RemoveLink, Revive, write_meant}
 use Rattle.adr_image.specs.Stored.{IsSpelled}
-use Rattle.adr_model.specs.Step.{ClientWrite, write_of}
-use Rattle.adr_model.specs.World.{empty_world}
 
 abbrev pub IsTypedValue : Item → Type 0
 IsTypedValue (Text bytes) = is_utf8 bytes ≡ true
@@ -33,13 +31,14 @@ IsTypedWrite (AddLink from attr to) = IsId from × IsId to
 IsTypedWrite (RemoveLink from attr to) = IsId from × IsId to
 IsTypedWrite (Revive image guid parent text) = IsSpelled image × IsId guid × IsId parent × (is_utf8 text ≡ true)
 
--- an event whose write is so, and which gives identifiers that are; the image of a revival isn't the event's
+-- an event whose write is so, or which gives identifiers that are; the image of a revival isn't the event's
 abbrev pub IsTyped : Event → Type 0
 IsTyped (events.Controller name dsa inv) = IsId dsa × IsId inv
 IsTyped (events.Restore name image inv) = IsId inv
 IsTyped (events.Install name dsa image inv) = IsId dsa × IsId inv
 IsTyped (events.Revive name guid image parent text) = IsId guid × IsId parent × (is_utf8 text ≡ true)
-IsTyped e = IfSome (write_of empty_world e) (λ (w : ClientWrite). IsTypedWrite w.what)
+IsTyped (events.Write name what) = IsTypedWrite (write_meant what)
+IsTyped e = Unit {0}
 
 abbrev pub AreTyped : List Event → Type 0
 AreTyped events = Each IsTyped events

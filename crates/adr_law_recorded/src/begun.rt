@@ -1,6 +1,6 @@
 //! Where logs begin, and which states they lead to.
 
-ghost use Rattle.adr_law_recorded.specs.Laws.{AdoptedIsLogged, FittingMayBegin, LoggedFits, NewMayBegin, RecordedIsLogged};
+ghost use Rattle.adr_law_recorded.specs.Laws.{AdoptedIsLogged, LoggedFits, NewMayBegin, RecordedIsLogged};
 
 /// A log may begin with a new, empty controller.
 #[tactic(none)]
@@ -12,12 +12,6 @@ pub fn new_controllers_may_begin()
 #[tactic(none)]
 pub fn adopted_states_are_logged()
     ensures { AdoptedIsLogged }
-{}
-
-/// A log may begin with a state of a log that is up, where the area of its image fits on a disk.
-#[tactic(none)]
-pub fn fitting_states_may_begin()
-    ensures { FittingMayBegin }
 {}
 
 /// A change that may be recorded leaves a state of a log.

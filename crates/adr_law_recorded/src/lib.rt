@@ -12,8 +12,8 @@ mod called;
 mod sent;
 
 pub use begun::{
-    adopted_states_are_logged, fitting_states_may_begin, logged_states_fit,
-    new_controllers_may_begin, recorded_changes_leave_logged_states,
+    adopted_states_are_logged, logged_states_fit, new_controllers_may_begin,
+    recorded_changes_leave_logged_states,
 };
 pub use called::{
     collections_are_recorded, quarantines_are_recorded, taken_replies_are_recorded,

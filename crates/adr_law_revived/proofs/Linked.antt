@@ -13,7 +13,7 @@ use Rattle.adr_schema.specs.declared.table.Kind.TheVariants.{Reserved, Plain, Fo
 use Rattle.adr_schema.specs.Table.{kind_at}
 use Rattle.adr_schema.specs.Schemas.{newest}
 use Rattle.adr_schema.specs.Numbered.{numbered}
-use Rattle.adr_event.specs.declared.refusal.WriteRefusal.TheVariants.{BirthThere}
+use Rattle.adr_call.specs.declared.refusal.WriteRefusal.TheVariants.{BirthThere}
 use Rattle.adr_model.specs.Member.{Member, Each}
 use Rattle.adr_model.specs.Update.{Identifier, Key, LinkOf, Said, IsPresent, Update, ends, same_identifier, same_object}
 use Rattle.adr_model.specs.Live.{live_rows}

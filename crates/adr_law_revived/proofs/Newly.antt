@@ -4,7 +4,7 @@ use Rattle.std.proofs.lemmas.Cmp.{nat_list_cmp_total}
 use Rattle.adr_stamp.specs.Order.{identifier_order}
 use Rattle.adr_stamp.specs.declared.Oid.{Oid}
 use Rattle.adr_schema.specs.declared.content.Content.TheVariants.{Name}
-use Rattle.adr_event.specs.declared.refusal.WriteRefusal.TheVariants.{StillLive}
+use Rattle.adr_call.specs.declared.refusal.WriteRefusal.TheVariants.{StillLive}
 use Rattle.adr_model.specs.Member.{Member}
 use Rattle.adr_model.specs.Update.{Identifier, Update, RowOf, class_attr, name_attr, deleted_attr, same_identifier}
 use Rattle.adr_model.specs.Live.{standing, live, is_among, live_rows}

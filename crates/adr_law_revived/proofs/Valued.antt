@@ -25,7 +25,7 @@ use Rattle.adr_law_calls.proofs.Shown.{IsShown, shown, row_is_shown}
 use Rattle.adr_law_calls.proofs.Reviving.{absent, first, of_new}
 use Rattle.adr_schema.specs.declared.content.Content.TheVariants.{Class, Name, Values}
 use Rattle.adr_schema.specs.Numbered.{numbered}
-use Rattle.adr_event.specs.declared.directory.Entry.{Entry}
+use Rattle.adr_call.specs.declared.directory.Entry.{Entry}
 use Rattle.adr_model.proofs.Members.{mapped_member, member_mapped}
 use Rattle.adr_law_knowledge.proofs.Refusing.{answered}
 use Rattle.adr_law_steps.proofs.Rising.{one_update}

@@ -1,7 +1,7 @@
 -- What a directory shows behind a revival: one entry more, and links to it.
 use Rattle.std.proofs.Common.{◌≡◌, ℕ, List, [], ◌∷◌, Bool, true, false, cond, Option, Some, None, Ok, refl, sym, ap, ◌∙◌, subst, map}
 use Rattle.std.specs.Option.{option_map}
-use Rattle.adr_event.specs.declared.directory.Entry.{Entry}
+use Rattle.adr_call.specs.declared.directory.Entry.{Entry}
 use Rattle.adr_model.specs.Member.{Member, Each}
 use Rattle.adr_model.specs.Update.{Identifier, same_identifier}
 use Rattle.adr_model.specs.Live.{live_rows}

@@ -10,8 +10,8 @@ use Rattle.adr_stamp.specs.Order.{identifier_order}
 use Rattle.adr_vector.specs.Vector.{at, first_gap}
 use Rattle.adr_vector.specs.declared.mark.Mark.{Mark}
 use Rattle.adr_vector.proofs.Cursors.{test_itself}
-use Rattle.adr_event.specs.declared.refusal.ServeRefusal.TheVariants as serves
-use Rattle.adr_event.specs.declared.refusal.TakeRefusal.TheVariants as takes
+use Rattle.adr_call.specs.declared.refusal.ServeRefusal.TheVariants as serves
+use Rattle.adr_call.specs.declared.refusal.TakeRefusal.TheVariants as takes
 use Rattle.adr_model.specs.Member.{Each}
 use Rattle.adr_model.specs.Refusing.{unless}
 use Rattle.adr_model.specs.Update.{Identifier, same_identifier}

@@ -2,12 +2,12 @@
 use Rattle.std.proofs.Common.{◌≡◌, List, ◌∷◌, Bool, true, Option, Some, None, ap, if◌then◌else◌}
 use Rattle.std.specs.Bool.{then_some}
 use Rattle.adr_failure.specs.First.{first_of}
-use Rattle.adr_event.specs.declared.refusal.WriteRefusal.{WriteRefusal}
-use Rattle.adr_event.specs.declared.refusal.WriteRefusal.TheVariants as writes
-use Rattle.adr_event.specs.declared.refusal.ServeRefusal.TheVariants as serves
-use Rattle.adr_event.specs.declared.refusal.TakeRefusal.TheVariants as takes
-use Rattle.adr_event.specs.declared.refusal.CollectRefusal.TheVariants as collects
-use Rattle.adr_event.specs.declared.refusal.UpgradeRefusal.TheVariants as upgrades
+use Rattle.adr_call.specs.declared.refusal.WriteRefusal.{WriteRefusal}
+use Rattle.adr_call.specs.declared.refusal.WriteRefusal.TheVariants as writes
+use Rattle.adr_call.specs.declared.refusal.ServeRefusal.TheVariants as serves
+use Rattle.adr_call.specs.declared.refusal.TakeRefusal.TheVariants as takes
+use Rattle.adr_call.specs.declared.refusal.CollectRefusal.TheVariants as collects
+use Rattle.adr_call.specs.declared.refusal.UpgradeRefusal.TheVariants as upgrades
 use Rattle.adr_model.specs.Refusing.{unless}
 use Rattle.adr_model.specs.Store.{Quarantined, State}
 use Rattle.adr_model.specs.Serve.{is_quarantined, reply_to}

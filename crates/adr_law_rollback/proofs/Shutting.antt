@@ -1,9 +1,9 @@
 -- A controller that finds out that its database was put back answers so, and is shut off.
 use Rattle.std.proofs.Common.{◌+◌, ◌≡◌, Bool, Option, Some, None, refl, sym, ap, ◌∙◌, subst, fold, if◌then◌else◌}
-use Rattle.adr_event.specs.declared.answer.Outcome.{Outcome}
-use Rattle.adr_event.specs.declared.refusal.Table.TheVariants.{Log}
-use Rattle.adr_event.specs.declared.refusal.ServeRefusal.TheVariants as serves
-use Rattle.adr_event.specs.declared.refusal.TakeRefusal.TheVariants as takes
+use Rattle.adr_call.specs.declared.outcome.Outcome.{Outcome}
+use Rattle.adr_call.specs.declared.refusal.Table.TheVariants.{Log}
+use Rattle.adr_call.specs.declared.refusal.ServeRefusal.TheVariants as serves
+use Rattle.adr_call.specs.declared.refusal.TakeRefusal.TheVariants as takes
 use Rattle.adr_vector.specs.Vector.{at}
 use Rattle.adr_model.specs.Change.{Change, after}
 use Rattle.adr_model.specs.Lengths.{log_limit}

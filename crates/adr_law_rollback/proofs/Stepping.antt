@@ -1,16 +1,18 @@
 -- Behind every line that puts nothing back on its disk a controller that is shut off is so still, and has done nothing.
 use Rattle.std.proofs.Common.{◌≡◌, inl, inr, ℕ, List, [], ◌∷◌, false, Option, Some, None, refl}
 use Rattle.adr_event.specs.declared.answer.Answer.{Answer}
-use Rattle.adr_event.specs.declared.answer.Outcome.{Outcome}
-use Rattle.adr_event.specs.declared.answer.Outcome.TheVariants as outcomes
+use Rattle.adr_call.specs.declared.outcome.Outcome.{Outcome}
+use Rattle.adr_call.specs.declared.outcome.Outcome.TheVariants as outcomes
+use Rattle.adr_call.specs.declared.report.Report.{Report}
+use Rattle.adr_call.specs.declared.report.Report.TheVariants as reports
 use Rattle.adr_event.specs.declared.event.Event.{Event}
 use Rattle.adr_event.specs.declared.event.Event.TheVariants as events
 use Rattle.adr_model.specs.Member.{Each}
 use Rattle.adr_model.specs.Store.{Quarantined, Store, State, empty_state}
-use Rattle.adr_model.specs.Write.{AddObject, Modify, Rename, Delete, AddLink, RemoveLink, Revive}
+use Rattle.adr_model.specs.Write.{write_meant, Revive}
 use Rattle.adr_model.specs.Collect.{backup}
 use Rattle.adr_model.specs.Replica.{Stops, Fails, on_new_disk}
-use Rattle.adr_model.specs.World.{Name, World, Sent, answer, nothing, bound, bound_at, asks, serves_request, of_controller, backed_up, shown, marks_shown}
+use Rattle.adr_model.specs.World.{Name, World, Sent, answer, nothing, bound, bound_at, asks, serves_request, of_controller, backed_up, reported}
 use Rattle.adr_model.specs.Cycles.{reply_limit}
 use Rattle.adr_model.specs.Step.{gives, told_bound, revival, stepped, step, after_lines, answers}
 use Rattle.adr_model.proofs.Ringing.{rings_so}
@@ -18,6 +20,11 @@ use Rattle.adr_law_rollback.specs.ShutOff.{RestsIn, is_done, DoesNothing, Spares
 use Rattle.adr_law_rollback.proofs.Placing.{first_stays}
 use Rattle.adr_law_rollback.proofs.Calls.{HoldsSent, writes_hold, collects_hold, upgrades_hold, delivers_hold, serves_hold, asks_hold, backs_up_hold, copied, copies_hold, plans_hold, stops_hold, starts_hold, reports_hold, installs_hold, restores_hold, rollbacks_hold}
 use Rattle.adr_law_rollback.proofs.Cycling.{silent, one_more, both_silent, Still, pull_still, pulls_still}
+
+-- a report says nothing of the kind
+reported_undone : (w : World) (s : State) (what : Report) → is_done (reported w s what) ≡ false
+reported_undone w s reports.Directory = refl
+reported_undone w s _ = refl
 
 module _ (name : Name) (s : State) (closed : s.mode ≡ Quarantined) where
   abbrev Behind : World × List Answer → Type 0
@@ -34,12 +41,7 @@ module _ (name : Name) (s : State) (closed : s.mode ≡ Quarantined) where
     pub step_still : (e : Event) → Spares name e → Behind (step w e)
     step_still (events.Controller n dsa inv) spares = ((i.0, first_stays w.replicas (on_new_disk n (empty_state dsa inv) ∷ []) i.0 name i.1, i.2), one _ n outcomes.Ok (λ e. refl))
     step_still (events.Time now) spares = (i, silent name)
-    step_still (events.Add n guid class parent text values) spares = let t = writes_hold name s closed w i n (AddObject guid class parent text values) in (t.0, one _ n _ t.1)
-    step_still (events.Modify n guid values) spares = let t = writes_hold name s closed w i n (Modify guid values) in (t.0, one _ n _ t.1)
-    step_still (events.Rename n guid parent text) spares = let t = writes_hold name s closed w i n (Rename guid parent text) in (t.0, one _ n _ t.1)
-    step_still (events.Delete n guid) spares = let t = writes_hold name s closed w i n (Delete guid) in (t.0, one _ n _ t.1)
-    step_still (events.Link n from attr to) spares = let t = writes_hold name s closed w i n (AddLink from attr to) in (t.0, one _ n _ t.1)
-    step_still (events.Unlink n from attr to) spares = let t = writes_hold name s closed w i n (RemoveLink from attr to) in (t.0, one _ n _ t.1)
+    step_still (events.Write n what) spares = let t = writes_hold name s closed w i n (write_meant what) in (t.0, one _ n _ t.1)
     step_still (events.Ask n partner max version bind) spares =
         one_bound _ n (asks w n partner max version) (λ v q. record v { requests = bound v.requests bind q }) (λ v q j. j) (asks_hold name s closed w i n partner max version)
     step_still (events.Serve n request bind) spares =
@@ -72,9 +74,7 @@ module _ (name : Name) (s : State) (closed : s.mode ≡ Quarantined) where
     step_still (events.Fail n calls) spares = let t = plans_hold name s closed w i n (record { calls = calls; fault = Fails }) in (t.0, one _ n _ t.1)
     step_still (events.Stop n) spares = let t = stops_hold name s closed w i n in (t.0, one _ n _ t.1)
     step_still (events.Start n) spares = let t = starts_hold name s closed w i n in (t.0, one _ n _ t.1)
-    step_still (events.Show n) spares = let t = reports_hold name s closed w i n (λ r. outcomes.Show (shown w r.safe)) (λ r. refl) in (t.0, one _ n _ t.1)
-    step_still (events.Vector n) spares = let t = reports_hold name s closed w i n (λ r. outcomes.Vector r.safe.store.vector r.safe.store.times) (λ r. refl) in (t.0, one _ n _ t.1)
-    step_still (events.Marks n) spares = let t = reports_hold name s closed w i n (λ r. outcomes.Marks (marks_shown r.safe.store)) (λ r. refl) in (t.0, one _ n _ t.1)
+    step_still (events.Report n what) spares = let t = reports_hold name s closed w i n (λ r. reported w r.safe what) (λ r. reported_undone w r.safe what) in (t.0, one _ n _ t.1)
 
   lines_still : (es : List Event) (w : World) → RestsIn s w name → Each (Spares name) es → Still name s closed (after_lines w es) (answers w es)
   lines_still [] w i spares = (i, silent name)

@@ -1,15 +1,15 @@
 -- A controller that is shut off: what it refuses, and what it stays until it is restored, or put back again.
 use Rattle.std.specs.Prelude.{◌≡◌, ◌≢◌, ℕ, List, Bool, true, false, Some, None, Err}
 use Rattle.adr_event.specs.declared.answer.Answer.{Answer}
-use Rattle.adr_event.specs.declared.answer.Outcome.{Outcome}
-use Rattle.adr_event.specs.declared.answer.Outcome.TheVariants as outcomes
+use Rattle.adr_call.specs.declared.outcome.Outcome.{Outcome}
+use Rattle.adr_call.specs.declared.outcome.Outcome.TheVariants as outcomes
 use Rattle.adr_event.specs.declared.event.Event.{Event}
 use Rattle.adr_event.specs.declared.event.Event.TheVariants as events
-use Rattle.adr_event.specs.declared.refusal.WriteRefusal.TheVariants as writes
-use Rattle.adr_event.specs.declared.refusal.ServeRefusal.TheVariants as serves
-use Rattle.adr_event.specs.declared.refusal.TakeRefusal.TheVariants as takes
-use Rattle.adr_event.specs.declared.refusal.CollectRefusal.TheVariants as collects
-use Rattle.adr_event.specs.declared.refusal.UpgradeRefusal.TheVariants as upgrades
+use Rattle.adr_call.specs.declared.refusal.WriteRefusal.TheVariants as writes
+use Rattle.adr_call.specs.declared.refusal.ServeRefusal.TheVariants as serves
+use Rattle.adr_call.specs.declared.refusal.TakeRefusal.TheVariants as takes
+use Rattle.adr_call.specs.declared.refusal.CollectRefusal.TheVariants as collects
+use Rattle.adr_call.specs.declared.refusal.UpgradeRefusal.TheVariants as upgrades
 use Rattle.adr_model.specs.Member.{Each}
 use Rattle.adr_model.specs.Store.{Quarantined, State}
 use Rattle.adr_model.specs.Serve.{Request, Reply, serve}

@@ -4,11 +4,11 @@ use Rattle.std.specs.List.{filter_map}
 use Rattle.std.specs.Bool.{then_some}
 use Rattle.adr_stamp.specs.declared.Oid.{Oid}
 use Rattle.adr_vector.specs.Vector.{Cursors, raised, cursor_limit}
-use Rattle.adr_event.specs.declared.refusal.Table.TheVariants.{Cursors as CursorTable}
-use Rattle.adr_event.specs.declared.refusal.CollectRefusal.{CollectRefusal}
-use Rattle.adr_event.specs.declared.refusal.CollectRefusal.TheVariants.{Quarantined as IsQuarantined, UsnLimit}
-use Rattle.adr_event.specs.declared.refusal.AdoptRefusal.{AdoptRefusal}
-use Rattle.adr_event.specs.declared.refusal.AdoptRefusal.TheVariants.{IdentifierUsed, Full}
+use Rattle.adr_call.specs.declared.refusal.Table.TheVariants.{Cursors as CursorTable}
+use Rattle.adr_call.specs.declared.refusal.CollectRefusal.{CollectRefusal}
+use Rattle.adr_call.specs.declared.refusal.CollectRefusal.TheVariants.{Quarantined as IsQuarantined, UsnLimit}
+use Rattle.adr_call.specs.declared.refusal.AdoptRefusal.{AdoptRefusal}
+use Rattle.adr_call.specs.declared.refusal.AdoptRefusal.TheVariants.{IdentifierUsed, Full}
 use Rattle.adr_failure.specs.First.{first_of}
 use Rattle.adr_model.specs.Refusing.{unless}
 use Rattle.adr_model.specs.Update.{Identifier, Update, inv_of, usn_of}

@@ -6,9 +6,9 @@ use Rattle.adr_vector.specs.Vector.{Cursors, at, at_most}
 use Rattle.adr_event.specs.declared.event.Event.{Event}
 use Rattle.adr_event.specs.declared.event.Event.TheVariants as events
 use Rattle.adr_event.specs.declared.answer.Answer.{Answer}
-use Rattle.adr_event.specs.declared.answer.Field.{Field}
-use Rattle.adr_event.specs.declared.answer.Outcome.{Outcome}
-use Rattle.adr_event.specs.declared.answer.Outcome.TheVariants as outcomes
+use Rattle.adr_call.specs.declared.outcome.Field.{Field}
+use Rattle.adr_call.specs.declared.outcome.Outcome.{Outcome}
+use Rattle.adr_call.specs.declared.outcome.Outcome.TheVariants as outcomes
 use Rattle.adr_model.specs.Member.{Member, Each}
 use Rattle.adr_model.specs.Update.{Identifier, Update, inv_of, usn_of}
 use Rattle.adr_model.specs.Visible.{covers_update, covers_birth}
@@ -16,7 +16,7 @@ use Rattle.adr_model.specs.Directory.{directory}
 use Rattle.adr_model.specs.Store.{State, Store, updates_of, kept_of, mark_of}
 use Rattle.adr_model.specs.Serve.{Request, last_local, units_of}
 use Rattle.adr_model.specs.Change.{Written, Change}
-use Rattle.adr_model.specs.Write.{AddObject, Modify, items_written}
+use Rattle.adr_model.specs.Write.{write_meant, items_written}
 use Rattle.adr_model.specs.Given.{IsWellGiven}
 use Rattle.adr_model.specs.Reflects.{knowledge_of, Reflects}
 use Rattle.adr_model.specs.Collect.{deaths_to_collect, collect}
@@ -47,8 +47,7 @@ abbrev pub MayHappen : World → Event → Type 0
 MayHappen w (events.Controller name dsa inv) = IsNewName w name × (IsNewDsa w dsa × IsNewInv w inv)
 MayHappen w (events.Install name dsa image inv) = IsNewName w name × (IsNewDsa w dsa × IsNewInv w inv)
 MayHappen w (events.Restore name image inv) = IsNewInv w inv
-MayHappen w (events.Add name guid class parent text values) = IsWellGiven (AddObject guid class parent text values)
-MayHappen w (events.Modify name guid values) = IsWellGiven (Modify guid values)
+MayHappen w (events.Write name what) = IsWellGiven (write_meant what)
 MayHappen w (events.Ask name partner max version bind) = IsUnbound w.requests bind
 MayHappen w (events.Serve name request bind) = IsUnbound w.replies bind
 MayHappen w (events.Backup name bind) = IsUnbound w.images bind

@@ -1,28 +1,28 @@
 -- Refusals as they are answered: a number, a name and fields.
 use Rattle.std.specs.Prelude.{ℕ, List, [], ◌∷◌, codes}
-use Rattle.adr_event.specs.declared.answer.Field.{Field}
-use Rattle.adr_event.specs.declared.answer.Plainly.{Plainly}
-use Rattle.adr_event.specs.declared.answer.Plainly.TheVariants.{Id, Number, Mark as OneMark, Attr, Word}
-use Rattle.adr_event.specs.declared.answer.Outcome.{Outcome}
-use Rattle.adr_event.specs.declared.answer.Outcome.TheVariants as outcomes
-use Rattle.adr_event.specs.declared.refusal.Table.{Table}
-use Rattle.adr_event.specs.declared.refusal.Table.TheVariants as tables
-use Rattle.adr_event.specs.declared.refusal.WriteRefusal.{WriteRefusal}
-use Rattle.adr_event.specs.declared.refusal.WriteRefusal.TheVariants as writes
+use Rattle.adr_call.specs.declared.outcome.Field.{Field}
+use Rattle.adr_call.specs.declared.outcome.Plainly.{Plainly}
+use Rattle.adr_call.specs.declared.outcome.Plainly.TheVariants.{Id, Number, Mark as OneMark, Attr, Word}
+use Rattle.adr_call.specs.declared.outcome.Outcome.{Outcome}
+use Rattle.adr_call.specs.declared.outcome.Outcome.TheVariants as outcomes
+use Rattle.adr_call.specs.declared.refusal.Table.{Table}
+use Rattle.adr_call.specs.declared.refusal.Table.TheVariants as tables
+use Rattle.adr_call.specs.declared.refusal.WriteRefusal.{WriteRefusal}
+use Rattle.adr_call.specs.declared.refusal.WriteRefusal.TheVariants as writes
 use Rattle.adr_schema.specs.declared.refusal.SchemaRefusal.{SchemaRefusal}
 use Rattle.adr_schema.specs.declared.refusal.SchemaRefusal.TheVariants as schema
-use Rattle.adr_event.specs.declared.refusal.ItemFault.{ItemFault}
-use Rattle.adr_event.specs.declared.refusal.ItemFault.TheVariants as faults
-use Rattle.adr_event.specs.declared.refusal.ServeRefusal.{ServeRefusal}
-use Rattle.adr_event.specs.declared.refusal.ServeRefusal.TheVariants as serves
-use Rattle.adr_event.specs.declared.refusal.TakeRefusal.{TakeRefusal}
-use Rattle.adr_event.specs.declared.refusal.TakeRefusal.TheVariants as takes
-use Rattle.adr_event.specs.declared.refusal.CollectRefusal.{CollectRefusal}
-use Rattle.adr_event.specs.declared.refusal.CollectRefusal.TheVariants as collects
-use Rattle.adr_event.specs.declared.refusal.UpgradeRefusal.{UpgradeRefusal}
-use Rattle.adr_event.specs.declared.refusal.UpgradeRefusal.TheVariants as upgrades
-use Rattle.adr_event.specs.declared.refusal.AdoptRefusal.{AdoptRefusal}
-use Rattle.adr_event.specs.declared.refusal.AdoptRefusal.TheVariants as adopts
+use Rattle.adr_call.specs.declared.refusal.ItemFault.{ItemFault}
+use Rattle.adr_call.specs.declared.refusal.ItemFault.TheVariants as faults
+use Rattle.adr_call.specs.declared.refusal.ServeRefusal.{ServeRefusal}
+use Rattle.adr_call.specs.declared.refusal.ServeRefusal.TheVariants as serves
+use Rattle.adr_call.specs.declared.refusal.TakeRefusal.{TakeRefusal}
+use Rattle.adr_call.specs.declared.refusal.TakeRefusal.TheVariants as takes
+use Rattle.adr_call.specs.declared.refusal.CollectRefusal.{CollectRefusal}
+use Rattle.adr_call.specs.declared.refusal.CollectRefusal.TheVariants as collects
+use Rattle.adr_call.specs.declared.refusal.UpgradeRefusal.{UpgradeRefusal}
+use Rattle.adr_call.specs.declared.refusal.UpgradeRefusal.TheVariants as upgrades
+use Rattle.adr_call.specs.declared.refusal.AdoptRefusal.{AdoptRefusal}
+use Rattle.adr_call.specs.declared.refusal.AdoptRefusal.TheVariants as adopts
 
 abbrev pub field : List ℕ → Plainly → Field
 field name value = record { name = name; value = value }

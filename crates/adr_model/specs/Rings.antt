@@ -7,9 +7,9 @@ use Rattle.std.specs.Str.{bytes_eq}
 use Rattle.adr_schema.specs.declared.content.Value.{Value as Item}
 use Rattle.adr_schema.specs.Values.{same_value}
 use Rattle.adr_event.specs.declared.answer.Answer.{Answer}
-use Rattle.adr_event.specs.declared.answer.Outcome.{Outcome}
-use Rattle.adr_event.specs.declared.answer.Outcome.TheVariants as outcomes
-use Rattle.adr_event.specs.declared.directory.Entry.{Entry}
+use Rattle.adr_call.specs.declared.outcome.Outcome.{Outcome}
+use Rattle.adr_call.specs.declared.outcome.Outcome.TheVariants as outcomes
+use Rattle.adr_call.specs.declared.directory.Entry.{Entry}
 use Rattle.adr_model.specs.Update.{Identifier}
 use Rattle.adr_model.specs.Store.{State}
 use Rattle.adr_model.specs.Replica.{Standing, Up, Down, Failed}

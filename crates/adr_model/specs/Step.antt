@@ -3,14 +3,15 @@ use Rattle.std.specs.Prelude.{ℕ, List, [], ◌∷◌, ◌++◌, Option, Some, 
 use Rattle.adr_event.specs.declared.event.Event.{Event}
 use Rattle.adr_event.specs.declared.event.Event.TheVariants as events
 use Rattle.adr_event.specs.declared.answer.Answer.{Answer}
-use Rattle.adr_event.specs.declared.answer.Outcome.TheVariants as outcomes
+use Rattle.adr_call.specs.declared.outcome.Outcome.TheVariants as outcomes
 use Rattle.adr_model.specs.Update.{Identifier}
 use Rattle.adr_model.specs.Store.{Store, empty_state}
-use Rattle.adr_model.specs.Write.{Write, AddObject, Modify, Rename, Delete, AddLink, RemoveLink, Revive}
+use Rattle.adr_event.specs.Verbs.{verb_of_report, verb_of_write, word_of}
+use Rattle.adr_model.specs.Write.{Write, Revive, write_meant}
 use Rattle.adr_model.specs.Collect.{collect, backup, adopt}
 use Rattle.adr_model.specs.Upgrade.{upgrade}
 use Rattle.adr_model.specs.Replica.{Stops, Fails, on_new_disk, begun}
-use Rattle.adr_model.specs.World.{World, Name, Gone, Sent, answer, stays, nothing, bound, bound_at, replica_at, with_replica, shown, marks_shown, of_made, of_controller, of_image, writes, after_collect, after_upgrade, asks, serves_request, delivers, backed_up, adopts, put_back, with_plan, stops, starts}
+use Rattle.adr_model.specs.World.{World, Name, Gone, Sent, answer, stays, nothing, bound, bound_at, replica_at, with_replica, reported, of_made, of_controller, of_image, writes, after_collect, after_upgrade, asks, serves_request, delivers, backed_up, adopts, put_back, with_plan, stops, starts}
 use Rattle.adr_model.specs.Cycles.{pull, cycle}
 use Rattle.adr_model.specs.Rings.{rings}
 
@@ -29,12 +30,7 @@ revival name guid parent text None = None
 revival name guid parent text (Some image) = client_write (codes "revive") name (Revive image guid parent text)
 
 abbrev pub write_of : World → Event → Option ClientWrite
-write_of w (events.Add name guid class parent text values) = client_write (codes "add") name (AddObject guid class parent text values)
-write_of w (events.Modify name guid values) = client_write (codes "modify") name (Modify guid values)
-write_of w (events.Rename name guid parent text) = client_write (codes "rename") name (Rename guid parent text)
-write_of w (events.Delete name guid) = client_write (codes "delete") name (Delete guid)
-write_of w (events.Link name from attr to) = client_write (codes "link") name (AddLink from attr to)
-write_of w (events.Unlink name from attr to) = client_write (codes "unlink") name (RemoveLink from attr to)
+write_of w (events.Write name what) = client_write (word_of (verb_of_write what)) name (write_meant what)
 write_of w (events.Revive name guid image parent text) = revival name guid parent text (bound_at w.images image)
 write_of w _ = None
 
@@ -91,9 +87,8 @@ step_of_other w (events.Fail name calls) =
     told (codes "fail") name (of_made (stays w) (replica_at w name) (λ r. with_plan w r (record { calls = calls; fault = Fails })))
 step_of_other w (events.Stop name) = told (codes "stop") name (of_made (stays w) (replica_at w name) (λ r. stops w r))
 step_of_other w (events.Start name) = told (codes "start") name (of_made (stays w) (replica_at w name) (λ r. starts w r r.standing))
-step_of_other w (events.Show name) = told (codes "show") name (of_controller w name (stays w) (λ r. (w, outcomes.Show (shown w r.safe))))
-step_of_other w (events.Vector name) = told (codes "vector") name (of_controller w name (stays w) (λ r. (w, outcomes.Vector r.safe.store.vector r.safe.store.times)))
-step_of_other w (events.Marks name) = told (codes "marks") name (of_controller w name (stays w) (λ r. (w, outcomes.Marks (marks_shown r.safe.store))))
+step_of_other w (events.Report name what) =
+    told (word_of (verb_of_report what)) name (of_controller w name (stays w) (λ r. (w, reported w r.safe what)))
 step_of_other w _ = (w, [])  -- none is left: a client's write is no such line
 
 abbrev pub stepped : World → Event → Option ClientWrite → World × List Answer

@@ -14,12 +14,12 @@ use Rattle.adr_schema.specs.Numbered.{numbered}
 use Rattle.adr_schema.specs.Rules.{class_refusal, name_refusal, row_refusal, not_link_refusal}
 use Rattle.adr_vector.specs.Vector.{Cursors, at, first_gap, cursor_limit}
 use Rattle.adr_vector.specs.declared.mark.Mark.{Mark}
-use Rattle.adr_event.specs.declared.refusal.Table.{Table}
-use Rattle.adr_event.specs.declared.refusal.Table.TheVariants.{Objects, Links, Cursors as CursorTable, Marks}
-use Rattle.adr_event.specs.declared.refusal.ItemFault.{ItemFault}
-use Rattle.adr_event.specs.declared.refusal.ItemFault.TheVariants.{Schema as BreaksSchema, WrongBirth}
-use Rattle.adr_event.specs.declared.refusal.TakeRefusal.{TakeRefusal}
-use Rattle.adr_event.specs.declared.refusal.TakeRefusal.TheVariants.{Quarantined, NotMine, Stale, VectorBehind, SchemaMismatch, RolledBack, BadItem, Incomplete, UsnLimit, Full}
+use Rattle.adr_call.specs.declared.refusal.Table.{Table}
+use Rattle.adr_call.specs.declared.refusal.Table.TheVariants.{Objects, Links, Cursors as CursorTable, Marks}
+use Rattle.adr_call.specs.declared.refusal.ItemFault.{ItemFault}
+use Rattle.adr_call.specs.declared.refusal.ItemFault.TheVariants.{Schema as BreaksSchema, WrongBirth}
+use Rattle.adr_call.specs.declared.refusal.TakeRefusal.{TakeRefusal}
+use Rattle.adr_call.specs.declared.refusal.TakeRefusal.TheVariants.{Quarantined, NotMine, Stale, VectorBehind, SchemaMismatch, RolledBack, BadItem, Incomplete, UsnLimit, Full}
 use Rattle.adr_failure.specs.First.{first_of}
 use Rattle.adr_model.specs.Refusing.{unless}
 use Rattle.adr_model.specs.Update.{Key, RowOf, LinkOf, Said, Holds, IsPresent, Update, same_identifier, is_older, class_attr, name_attr, deleted_attr}

@@ -4,18 +4,20 @@ use Rattle.std.specs.List.{find, flat_map}
 use Rattle.std.specs.Option.{option_map}
 use Rattle.std.specs.Str.{bytes_eq}
 use Rattle.adr_event.specs.declared.answer.Answer.{Answer}
-use Rattle.adr_event.specs.declared.answer.Outcome.{Outcome}
-use Rattle.adr_event.specs.declared.answer.Outcome.TheVariants as outcomes
-use Rattle.adr_event.specs.declared.directory.Entry.{Entry}
-use Rattle.adr_event.specs.declared.refusal.Table.TheVariants.{Log as log_table}
-use Rattle.adr_event.specs.declared.refusal.WriteRefusal.{WriteRefusal}
-use Rattle.adr_event.specs.declared.refusal.ServeRefusal.{ServeRefusal}
-use Rattle.adr_event.specs.declared.refusal.ServeRefusal.TheVariants as serves
-use Rattle.adr_event.specs.declared.refusal.TakeRefusal.{TakeRefusal}
-use Rattle.adr_event.specs.declared.refusal.TakeRefusal.TheVariants as takes
-use Rattle.adr_event.specs.declared.refusal.CollectRefusal.{CollectRefusal}
-use Rattle.adr_event.specs.declared.refusal.UpgradeRefusal.{UpgradeRefusal}
-use Rattle.adr_event.specs.declared.refusal.AdoptRefusal.{AdoptRefusal}
+use Rattle.adr_call.specs.declared.outcome.Outcome.{Outcome}
+use Rattle.adr_call.specs.declared.outcome.Outcome.TheVariants as outcomes
+use Rattle.adr_call.specs.declared.directory.Entry.{Entry}
+use Rattle.adr_call.specs.declared.report.Report.{Report}
+use Rattle.adr_call.specs.declared.report.Report.TheVariants as reports
+use Rattle.adr_call.specs.declared.refusal.Table.TheVariants.{Log as log_table}
+use Rattle.adr_call.specs.declared.refusal.WriteRefusal.{WriteRefusal}
+use Rattle.adr_call.specs.declared.refusal.ServeRefusal.{ServeRefusal}
+use Rattle.adr_call.specs.declared.refusal.ServeRefusal.TheVariants as serves
+use Rattle.adr_call.specs.declared.refusal.TakeRefusal.{TakeRefusal}
+use Rattle.adr_call.specs.declared.refusal.TakeRefusal.TheVariants as takes
+use Rattle.adr_call.specs.declared.refusal.CollectRefusal.{CollectRefusal}
+use Rattle.adr_call.specs.declared.refusal.UpgradeRefusal.{UpgradeRefusal}
+use Rattle.adr_call.specs.declared.refusal.AdoptRefusal.{AdoptRefusal}
 use Rattle.adr_model.specs.Update.{Identifier, Update}
 use Rattle.adr_model.specs.Visible.{visible}
 use Rattle.adr_model.specs.Directory.{directory}
@@ -103,6 +105,12 @@ shown w s = directory (if w.clean then in_view w s else updates_of s.store.rows)
 -- how far each partner was read: its identifier, the incarnation that was read, and the mark
 abbrev pub marks_shown : Store → List (Identifier × Identifier × Mark)
 marks_shown s = map (λ (k : Identifier × Kept). (k.0, k.1.inv, k.1.mark)) s.marks
+
+-- what a client is told that asks a controller for a report
+abbrev pub reported : World → State → Report → Outcome
+reported w s reports.Directory = outcomes.Show (shown w s)
+reported w s reports.Vector = outcomes.Vector s.store.vector s.store.times
+reported w s reports.Marks = outcomes.Marks (marks_shown s.store)
 
 abbrev pub answer : List ℕ → Name → Outcome → Answer
 answer verb name outcome = record { verb = verb; name = name; outcome = outcome }

@@ -21,12 +21,14 @@ use Rattle.adr_schema.specs.Schemas.{newest}
 use Rattle.adr_schema.specs.Numbered.{numbered}
 use Rattle.adr_schema.specs.Rules.{add_refusal as schema_add_refusal, modify_refusal as schema_modify_refusal, link_refusal as schema_link_refusal, name_refusal as schema_name_refusal}
 use Rattle.adr_vector.specs.Vector.{raised, cursor_limit}
-use Rattle.adr_event.specs.declared.directory.Entry.{Entry}
-use Rattle.adr_event.specs.declared.refusal.Table.{Table}
-use Rattle.adr_event.specs.declared.refusal.Table.TheVariants.{Objects, Links, Cursors}
-use Rattle.adr_event.specs.declared.refusal.WriteRefusal.{WriteRefusal}
-use Rattle.adr_event.specs.declared.refusal.WriteRefusal.TheVariants as refusal
-use Rattle.adr_event.specs.declared.refusal.WriteRefusal.TheVariants.{Quarantined, Fixed, NoObject, Deleted, GuidThere, NoParent, BadSuperior, NameTaken, WouldLoop, HasChildren, LinkThere, LinkNotThere, VersionLimit, UsnLimit, Full, SchemaMismatch, NotInImage, StillLive, BirthThere}
+use Rattle.adr_call.specs.declared.write.Write.{Write as Asked}
+use Rattle.adr_call.specs.declared.write.Write.TheVariants as asked
+use Rattle.adr_call.specs.declared.directory.Entry.{Entry}
+use Rattle.adr_call.specs.declared.refusal.Table.{Table}
+use Rattle.adr_call.specs.declared.refusal.Table.TheVariants.{Objects, Links, Cursors}
+use Rattle.adr_call.specs.declared.refusal.WriteRefusal.{WriteRefusal}
+use Rattle.adr_call.specs.declared.refusal.WriteRefusal.TheVariants as refusal
+use Rattle.adr_call.specs.declared.refusal.WriteRefusal.TheVariants.{Quarantined, Fixed, NoObject, Deleted, GuidThere, NoParent, BadSuperior, NameTaken, WouldLoop, HasChildren, LinkThere, LinkNotThere, VersionLimit, UsnLimit, Full, SchemaMismatch, NotInImage, StillLive, BirthThere}
 use Rattle.adr_failure.specs.First.{first_of}
 use Rattle.adr_model.specs.Refusing.{unless}
 use Rattle.adr_model.specs.Update.{Identifier, Key, RowOf, LinkOf, Said, Holds, IsPresent, Update, same_identifier, same_object, ends, class_attr, name_attr, deleted_attr}
@@ -60,6 +62,15 @@ pub data Write : Type 0 where
   AddLink : (from : Identifier) (attr : ℕ) (to : Identifier) → Write
   RemoveLink : (from : Identifier) (attr : ℕ) (to : Identifier) → Write
   Revive : (image : Store) (guid parent : Identifier) (text : List ℕ) → Write
+
+-- what a client asks to be written
+abbrev pub write_meant : Asked → Write
+write_meant (asked.Add guid class parent text values) = AddObject guid class parent text values
+write_meant (asked.Modify guid values) = Modify guid values
+write_meant (asked.Rename guid parent text) = Rename guid parent text
+write_meant (asked.Delete guid) = Delete guid
+write_meant (asked.Link from attr to) = AddLink from attr to
+write_meant (asked.Unlink from attr to) = RemoveLink from attr to
 
 -- ---- refusals
 

@@ -7,7 +7,7 @@ use Rattle.adr_schema.specs.Numbered.{numbered}
 use Rattle.adr_schema.specs.Rules.{modify_refusal as schema_modify_refusal, name_refusal as schema_name_refusal}
 use Rattle.adr_failure.specs.declared.Failure.{Failure}
 use Rattle.adr_failure.specs.declared.Failure.TheVariants.{Refused, NoMemory}
-use Rattle.adr_event.specs.declared.refusal.WriteRefusal.{WriteRefusal}
+use Rattle.adr_call.specs.declared.refusal.WriteRefusal.{WriteRefusal}
 use Rattle.adr_model.specs.Place.{Node}
 use Rattle.adr_failure.specs.First.{first_of}
 use Rattle.adr_model.specs.Store.{State, updates_of}

@@ -3,7 +3,7 @@ use Rattle.std.proofs.Common.{◌≡◌, ℕ, ◌+◌, Bool, [], ◌∷◌}
 use Rattle.std.specs.Option.{option_map}
 use Rattle.adr_schema.specs.Numbered.{numbered}
 use Rattle.adr_schema.specs.Rules.{link_refusal as schema_link_refusal}
-use Rattle.adr_event.specs.declared.refusal.WriteRefusal.TheVariants.{Quarantined}
+use Rattle.adr_call.specs.declared.refusal.WriteRefusal.TheVariants.{Quarantined}
 use Rattle.adr_failure.specs.First.{first_of}
 use Rattle.adr_model.specs.Serve.{is_quarantined}
 use Rattle.adr_model.specs.Store.{State, updates_of}

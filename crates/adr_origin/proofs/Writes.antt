@@ -3,7 +3,7 @@ use Rattle.std.proofs.Common.{◌≡◌, ℕ, ◌+◌, List, [], ◌∷◌, None
 use Rattle.std.specs.Prelude.{IsErrAnd, IsErrOf, Option}
 use Rattle.adr_failure.specs.declared.Failure.{Failure}
 use Rattle.adr_failure.specs.declared.Failure.TheVariants.{Refused}
-use Rattle.adr_event.specs.declared.refusal.WriteRefusal.{WriteRefusal}
+use Rattle.adr_call.specs.declared.refusal.WriteRefusal.{WriteRefusal}
 use Rattle.adr_model.specs.Change.{Change, Item, Written, unchanged}
 use Rattle.adr_model.specs.Refusing.{unless}
 use Rattle.adr_model.specs.Store.{State}

@@ -5,9 +5,9 @@ use Rattle.adr_schema.specs.Assignments.{Given}
 use Rattle.adr_schema.specs.Numbered.{numbered}
 use Rattle.adr_schema.specs.Table.{Table as Schema}
 use Rattle.adr_schema.specs.Rules.{add_refusal as schema_add_refusal, name_refusal as schema_name_refusal}
-use Rattle.adr_event.specs.declared.refusal.Table.TheVariants.{Objects}
-use Rattle.adr_event.specs.declared.refusal.WriteRefusal.{WriteRefusal}
-use Rattle.adr_event.specs.declared.refusal.WriteRefusal.TheVariants.{Quarantined, GuidThere, NameTaken}
+use Rattle.adr_call.specs.declared.refusal.Table.TheVariants.{Objects}
+use Rattle.adr_call.specs.declared.refusal.WriteRefusal.{WriteRefusal}
+use Rattle.adr_call.specs.declared.refusal.WriteRefusal.TheVariants.{Quarantined, GuidThere, NameTaken}
 use Rattle.adr_model.specs.Live.{objects_of}
 use Rattle.adr_model.specs.Place.{Node, is_fixed}
 use Rattle.adr_failure.specs.First.{first_of}

@@ -2,7 +2,7 @@
 
 ghost use Rattle.std.specs.Prelude.{◌≡◌, ◌<◌, ◌≤◌, ◌∷◌, [], Ok, Err, IfOk, IsErrOf, OnOk};
 ghost use Rattle.std.specs.Result.{result_err};
-ghost use Rattle.adr_event.specs.declared.refusal.WriteRefusal.{WriteRefusal};
+ghost use Rattle.adr_call.specs.declared.refusal.WriteRefusal.{WriteRefusal};
 ghost use Rattle.adr_schema.specs.Numbered.{numbered};
 ghost use Rattle.adr_model.specs.Change.{unchanged};
 ghost use Rattle.adr_model.specs.Store.{updates_of};
@@ -16,8 +16,8 @@ use crate::checks::{
 };
 use crate::new_object::{NewObject, new_rows};
 use crate::placing::{check_name_free, check_parent, check_superior};
+use adr_call::{Failure, WriteRefusal};
 use adr_checks::check_name;
-use adr_event::{Failure, WriteRefusal};
 use adr_stamp::{Birth, LinkStamp, Oid, Stamp, Unit};
 use adr_state::{Change, Item, Mode, State, Written};
 use adr_vector::Vector;

@@ -2,7 +2,7 @@
 
 ghost use Rattle.std.specs.Prelude.{◌≡◌, ◌<◌, ◌≤◌, Err, Ok, IfOk, IsErrOf, IsSome, OnOk};
 ghost use Rattle.std.specs.Result.{result_err};
-ghost use Rattle.adr_event.specs.declared.refusal.WriteRefusal.{WriteRefusal};
+ghost use Rattle.adr_call.specs.declared.refusal.WriteRefusal.{WriteRefusal};
 ghost use Rattle.adr_model.specs.Place.{node_at};
 ghost use Rattle.adr_model.specs.Store.{updates_of};
 ghost use Rattle.adr_model.specs.Write.{Delete, delete_refusal, nodes_held, rows_written, usn_limit, write};
@@ -12,7 +12,7 @@ use crate::adding::own_change;
 use crate::checks::{check_live, check_usn};
 use crate::placing::check_no_child;
 use crate::stamps::{next_item, object_of};
-use adr_event::{Failure, WriteRefusal};
+use adr_call::{Failure, WriteRefusal};
 use adr_guid::Guid;
 use adr_schema::Content;
 use adr_state::{Change, DELETED, Item, State};

@@ -16,7 +16,7 @@ mod renaming;
 mod stamps;
 
 pub use adding::add;
-pub use adr_event::{Failure, WriteRefusal};
+pub use adr_call::{Failure, WriteRefusal};
 pub use adr_schema::{Assignments, Text};
 pub use adr_state::{Change, State};
 pub use adr_update::NoMemory;

@@ -2,8 +2,8 @@
 
 ghost use Rattle.std.specs.Prelude.{◌≡◌, ◌≢◌, ◌+◌, ◌<◌, ◌≤◌, Ok, Err, IfOk, IsErrOf, OnOk, is_some, if◌then◌else◌};
 ghost use Rattle.std.specs.Result.{result_err};
-ghost use Rattle.adr_event.specs.declared.refusal.Table.TheVariants.{Links as links};
-ghost use Rattle.adr_event.specs.declared.refusal.WriteRefusal.{WriteRefusal};
+ghost use Rattle.adr_call.specs.declared.refusal.Table.TheVariants.{Links as links};
+ghost use Rattle.adr_call.specs.declared.refusal.WriteRefusal.{WriteRefusal};
 ghost use Rattle.adr_model.specs.Store.{row_held, updates_of};
 ghost use Rattle.adr_model.specs.Update.{LinkOf};
 ghost use Rattle.adr_model.specs.Write.{AddLink, RemoveLink, any_link_refusal, full_refusal, is_linked, link_limit, link_of, link_refusal, links_in, nodes_held, of_link, says_present, usn_limit, version_limit, version_of, write};
@@ -17,7 +17,7 @@ use crate::checks::{
     check_mode, check_not_fixed, check_object, check_schema, check_usn, check_version,
 };
 use crate::stamps::{class_of, next_stamp, object_of};
-use adr_event::{Failure, Table, WriteRefusal};
+use adr_call::{Failure, Table, WriteRefusal};
 use adr_guid::Guid;
 use adr_stamp::{LinkKey, Unit};
 use adr_state::{Change, Item, Key, LINK_LIMIT, Mode, Rows, Said, State, Update};

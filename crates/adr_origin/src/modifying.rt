@@ -2,7 +2,7 @@
 
 ghost use Rattle.std.specs.Prelude.{◌≡◌, ◌<◌, ◌≤◌, Err, Ok, IfOk, IsErrOf, OnOk};
 ghost use Rattle.std.specs.Result.{result_err};
-ghost use Rattle.adr_event.specs.declared.refusal.WriteRefusal.{WriteRefusal};
+ghost use Rattle.adr_call.specs.declared.refusal.WriteRefusal.{WriteRefusal};
 ghost use Rattle.adr_model.specs.Store.{updates_of};
 ghost use Rattle.adr_model.specs.Write.{Modify, modify_refusal, nodes_held, object_of, of_object, usn_limit, write};
 ghost use Rattle.adr_origin.specs.LiveParts.{given_refusal, rows_refusal};
@@ -12,7 +12,7 @@ use crate::NoMemory;
 use crate::adding::own_change;
 use crate::checks::{check_live, check_schema, check_usn, check_version};
 use crate::stamps::{class_of, next_row, object_of};
-use adr_event::{Failure, WriteRefusal};
+use adr_call::{Failure, WriteRefusal};
 use adr_guid::Guid;
 use adr_schema::{Assignments, Content};
 use adr_stamp::{Oid, Unit};

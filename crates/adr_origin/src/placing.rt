@@ -3,7 +3,7 @@
 ghost use Rattle.std.specs.Prelude.{◌≡◌, ◌||◌, IsSome, OnOk, false, is_some, true};
 ghost use Rattle.std.specs.Option.{option_map};
 ghost use Rattle.std.specs.Result.{result_err};
-ghost use Rattle.adr_event.specs.declared.refusal.WriteRefusal.TheVariants.{NameTaken as name_taken};
+ghost use Rattle.adr_call.specs.declared.refusal.WriteRefusal.TheVariants.{NameTaken as name_taken};
 ghost use Rattle.adr_schema.specs.Numbered.{numbered};
 ghost use Rattle.adr_model.specs.Place.{is_fixed, lost_and_found, node_at};
 ghost use Rattle.adr_model.specs.Shown.{name_holder};
@@ -15,8 +15,8 @@ ghost use Rattle.adr_origin.specs.Telling.{Tells};
 
 use crate::live::{first_child, holder, is_met_above, is_taken, node};
 use crate::stamps::class_of;
+use adr_call::{Failure, WriteRefusal};
 use adr_checks::{LOST_AND_FOUND_CLASS, ROOT_CLASS};
-use adr_event::{Failure, WriteRefusal};
 use adr_guid::Guid;
 use adr_schema::Text;
 use adr_state::State;

@@ -2,7 +2,7 @@
 
 ghost use Rattle.std.specs.Prelude.{◌≡◌, ◌<◌, ◌≤◌, ◌≢◌, Err, Ok, IfOk, IsErrOf, OnOk};
 ghost use Rattle.std.specs.Result.{result_err};
-ghost use Rattle.adr_event.specs.declared.refusal.WriteRefusal.{WriteRefusal};
+ghost use Rattle.adr_call.specs.declared.refusal.WriteRefusal.{WriteRefusal};
 ghost use Rattle.adr_schema.specs.Numbered.{numbered};
 ghost use Rattle.adr_model.specs.Store.{row_held, updates_of};
 ghost use Rattle.adr_model.specs.Update.{RowOf, name_attr};
@@ -15,8 +15,8 @@ use crate::checks::{check_live, check_schema, check_usn, check_version};
 use crate::new_object::name_content;
 use crate::placing::{check_new_name, check_no_loop, check_parent, check_superior};
 use crate::stamps::{class_of, next_item, object_of};
+use adr_call::{Failure, WriteRefusal};
 use adr_checks::check_name;
-use adr_event::{Failure, WriteRefusal};
 use adr_guid::Guid;
 use adr_schema::Text;
 use adr_stamp::Oid;

@@ -4,8 +4,8 @@ ghost use Rattle.std.specs.Prelude.{◌≡◌, Some, is_some, length, IfOk};
 ghost use Rattle.adr_model.specs.World.{rows_in};
 ghost use Rattle.adr_outcome.specs.Unsent.{unsent};
 
+use adr_call::Outcome;
 use adr_cycle::{Reply, count};
-use adr_event::Outcome;
 use adr_schema::NoMemory;
 
 /// How many rows a reply has.

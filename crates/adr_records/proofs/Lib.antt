@@ -2,3 +2,4 @@ mod Framing
 mod Heads
 mod Anew
 mod Making
+mod Adoption

@@ -23,7 +23,7 @@ use Rattle.adr_wire.specs.Reading.{is_above}
 use Rattle.adr_wire.specs.Spelling.{AreBytes}
 use Rattle.adr_law_lengths.specs.Written.{update_of}
 use Rattle.adr_model.specs.Change.{Change, Written, after}
-use Rattle.adr_model.specs.Lengths.{change_length, image_length, length_limit, log_version}
+use Rattle.adr_model.specs.Lengths.{change_length, log_version}
 use Rattle.adr_model.specs.LocalLog.{IsOrdered}
 use Rattle.adr_model.specs.Member.{Each, Member}
 use Rattle.adr_model.specs.Store.{State}
@@ -192,8 +192,8 @@ stays_logged s t body are logged follows = by (decoded_change s.store.usn s.stor
 pub body_follows_in : (s : State) (c : Change) → MayBeRecorded s c → following_in log_version s (change_bytes c) ≡ Some (after s c)
 body_follows_in s c may = body_follows s c may
 
-pub begins_anew : (s : State) (c : Change) → MayBeRecorded s c → image_length s.store < length_limit → MayBegin s
-begins_anew s c may short = record { logged = may.logged; normal = may.follows.goes_on.normal; short = short }
+pub begins_anew : (s : State) (c : Change) → MayBeRecorded s c → MayBegin s
+begins_anew s c may = record { logged = may.logged; normal = may.follows.goes_on.normal }
 
 follows_owned : (s t : State) (body : List ℕ) → following s body ≡ Some t → ids_of t ≡ ids_of s
 follows_owned s t body follows = by (decoded_change s.store.usn s.store.schema body) follows

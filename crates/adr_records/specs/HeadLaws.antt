@@ -10,7 +10,7 @@ use Rattle.adr_wire.specs.Spelling.{AreBytes, behind, Was, IsSpelling}
 use Rattle.adr_wire.proofs.Combining.{as_they_are, bind_ok, both, from, guard_ok, made, ok_is, pair, passed, spelled_bytes}
 use Rattle.adr_wire.proofs.FieldLaws.{format_version_spelled, id_spelled, magic_spelled, u32_spelled}
 use Rattle.adr_model.specs.Formed.{IsFormedStore}
-use Rattle.adr_model.specs.Lengths.{image_length, log_version}
+use Rattle.adr_model.specs.Lengths.{image_length, length_limit, log_version}
 use Rattle.adr_model.specs.Store.{Held, Mode, Normal, State, Store}
 use Rattle.adr_model.specs.Update.{Identifier}
 use Rattle.adr_model.proofs.Members.{mapped_member}
@@ -241,13 +241,13 @@ area_spelled o =
       ap (λ (n : ℕ). sized (1, n) ++ image p.1) q.1.0.1 ∙ ap (λ (v : ℕ). sized (v, p.0.1) ++ image p.1) (sym q.0.0),
     ))
 
-begins_begun : (s : State) → MayBegin s → IsBegun (s.dsa, s.inv) (began 1 s)
-begins_begun s begins = record {
+begins_begun : (s : State) → MayBegin s → image_length s.store < length_limit → IsBegun (s.dsa, s.inv) (began 1 s)
+begins_begun s begins short = record {
   version = refl;
   owner = refl;
   normal = begins.normal;
   own = (((begins.logged.formed.store, begins.logged.spelled), refl), eq-eqb (at s.store.vector s.inv) s.store.usn begins.logged.formed.own);
-  short = subst (λ (n : ℕ). n < 4294967296) (sym (store_long s.store begins.logged.formed.store begins.logged.spelled)) begins.short;
+  short = subst (λ (n : ℕ). n < 4294967296) (sym (store_long s.store begins.logged.formed.store begins.logged.spelled)) short;
 }
 
 begun_logged : (o : Ids) (b : Began State) → AreIds o → IsBegun o b → IsLogged b.state
@@ -262,8 +262,8 @@ begun_logged o b are q = record {
   classes = classes_known b.state q.own.0.0.1;
 }
 
-pub area_told : (place : ℕ) (s : State) → MayBegin s → TellsArea (area_at (s.dsa, s.inv)) place (area s) log_version s
-area_told place s begins rest = (area_spelled (s.dsa, s.inv)).again place (began 1 s) rest (begins_begun s begins)
+pub area_told : (place : ℕ) (s : State) → MayBegin s → image_length s.store < length_limit → TellsArea (area_at (s.dsa, s.inv)) place (area s) log_version s
+area_told place s begins short rest = (area_spelled (s.dsa, s.inv)).again place (began 1 s) rest (begins_begun s begins short)
 
 pub area_long : (s : State) → IsLogged s → length (area s) ≡ 6 + image_length s.store
 area_long s logged =

@@ -1,9 +1,8 @@
 -- Which states a log leads to, and which states and changes may be written to one.
-use Rattle.std.specs.Prelude.{◌≡◌, ◌<◌, ◌^◌}
+use Rattle.std.specs.Prelude.{◌≡◌}
 use Rattle.adr_wire.specs.Ranges.{IsId}
 use Rattle.adr_model.specs.Change.{Change}
 use Rattle.adr_model.specs.Formed.{IsFormed}
-use Rattle.adr_model.specs.Lengths.{image_length}
 use Rattle.adr_model.specs.Store.{Normal, State}
 use Rattle.adr_law_formed.specs.Follow.{CanFollow, HasKnownClasses}
 use Rattle.adr_image.specs.Changes.{HasBody}
@@ -17,11 +16,10 @@ pub record IsLogged (s : State) : Type 0 where
   pub spelled : IsSpelled s.store
   pub classes : HasKnownClasses s
 
--- a state that a log may begin with: it is up, and its image isn't too long for the field that says so
+-- a state that a log may begin with, however long its image is: it is up
 pub record MayBegin (s : State) : Type 0 where
   pub logged : IsLogged s
   pub normal : s.mode ≡ Normal
-  pub short : image_length s.store < 2 ^ 32
 
 -- a change that can be written as a record and can follow the state
 pub record MayBeRecorded (s : State) (c : Change) : Type 0 where

@@ -195,6 +195,7 @@ pub(crate) fn read_area(
     ensures ok { IfOk result (λ r.
         form.area_at (owner.dsa, owner.inv) (record { place = place; bytes = drop place bytes.now })
         ≡ Ok (record { version = r.version; state = r.state }, record { place = r.first; bytes = drop r.first bytes.now })) }
+    ensures apart { IfOk result (λ r. place + 6 ≤ r.first) }
     ensures err { IfErr result (λ e.
         Refuses e (form.area_at (owner.dsa, owner.inv) (record { place = place; bytes = drop place bytes.now }))) }
 {

@@ -2,18 +2,19 @@
 //! record with a change.
 //!
 //! This crate ties the images and bodies of `adr_image` to the journals of `adr_journal`, and makes a controller of what an
-//! image says. What an area begins with and what its records say is read again as it was written, each state of a log is
+//! image says: the start of its own log does that, and an adoption under a fresh invocation identifier, and nothing else. What an area begins with and what its records say is read again as it was written, each state of a log is
 //! formed, and a record is refused that can't follow the state before it. It knows nothing of disks, gates and of where
 //! areas stand.
 #![tactic(auto)]
 
+mod adopting;
 mod contents;
 mod following;
 mod head;
 mod records;
 mod waking;
 
+pub use adopting::adopt;
 pub use adr_journal::{Change, FollowRefusal, Form, NoMemory, State};
 pub use contents::image_of;
 pub use records::Records;
-pub use waking::wake;

@@ -40,7 +40,7 @@ impl Form for Records {
 
     ghost tells_front = { λ s logged. front_told (s.dsa, s.inv) (logged.dsa, logged.inv) };
 
-    ghost tells_area = { λ place s begins. area_told place s begins };
+    ghost tells_area = { λ place s begins short. area_told place s begins short };
 
     ghost area_length = { λ s begins. area_long s begins.logged };
 
@@ -56,9 +56,7 @@ impl Form for Records {
 
     ghost follows_formed = { λ s c may. may.logged };
 
-    ghost begins_anew = { λ s c may short. begins_anew s c may short };
-
-    ghost begins_short = { λ s begins. begins.short };
+    ghost begins_anew = { λ s c may. begins_anew s c may };
 
     ghost begins_formed = { λ s begins. begins.logged };
 

@@ -48,7 +48,7 @@ fn fill(alloc: Global, state: &mut State, contents: &Contents) -> Result<(), Fai
 
 /// A controller of what an image says: its own cursor is raised to the update sequence number. `Full` where that needs one
 /// cursor too many.
-pub fn wake(
+pub(crate) fn wake(
     alloc: Global,
     contents: &Contents,
     dsa: Guid,

@@ -1,1 +1,1 @@
-mod Adopting
+mod Reading

@@ -1,21 +1,20 @@
 //! Images, and what adopts them.
 
-ghost use Rattle.std.specs.Prelude.{◌≡◌, None, Ok, Err, IfOk, IsErrOf};
+ghost use Rattle.std.specs.Prelude.{◌≡◌, Ok, Err, IfOk, IsErrOf};
 ghost use Rattle.adr_wire.specs.Ranges.{IsId};
-ghost use Rattle.adr_event.specs.declared.refusal.AdoptRefusal.{AdoptRefusal};
-ghost use Rattle.adr_model.specs.Collect.{adopt, adopt_refusal, backup, woken};
+ghost use Rattle.adr_call.specs.declared.refusal.AdoptRefusal.{AdoptRefusal};
+ghost use Rattle.adr_model.specs.Collect.{adopt, backup};
 ghost use Rattle.adr_model.specs.Formed.{IsFormedStore};
 ghost use Rattle.adr_model.specs.Store.{Normal};
-ghost use Rattle.adr_model.specs.Update.{Identifier};
 ghost use Rattle.adr_image.specs.Stored.{IsSpelled, image};
 ghost use Rattle.adr_records.specs.Logged.{IsLogged};
 
-use adr_event::{AdoptRefusal, Failure, Table};
+use adr_call::{AdoptRefusal, Failure};
 use adr_failure::NoMemory;
 use adr_guid::Guid;
-use adr_image::{Contents, Dormant, decode, names_inv};
-use adr_records::{image_of, wake};
-use adr_state::{CURSOR_LIMIT, State};
+use adr_image::{Dormant, decode};
+use adr_records::{adopt, image_of};
+use adr_state::State;
 use std::alloc::{AllocError, Global};
 use std::marker::Model;
 
@@ -73,7 +72,7 @@ impl Image {
         ensures logged { IfOk result (λ state. IsLogged state × (state.mode ≡ Normal)) }
     {
         let dormant = self.read(alloc)?;
-        adopted(alloc, dormant.contents(), dsa, inv)
+        adopt(alloc, dormant.contents(), dsa, inv)
     }
 
     /// What it says.
@@ -85,57 +84,5 @@ impl Image {
             Err(Failure::NoMemory) => Err(AllocError),
             Err(Failure::Refused(_)) => unreachable!(),
         }
-    }
-}
-
-/// Why a database can't be adopted under an identifier, first in order.
-fn adopt_refusal(contents: &Contents, inv: Guid) -> Option<AdoptRefusal>
-    ensures { (dsa : Identifier) → result ≡ adopt_refusal contents.now inv (woken contents.now dsa inv) }
-{
-    if names_inv(contents, inv) {
-        return Some(AdoptRefusal::IdentifierUsed);
-    }
-    if contents.vector.is_full_for(inv, contents.usn) {
-        return Some(AdoptRefusal::Full {
-            table: Table::Cursors,
-            limit: CURSOR_LIMIT,
-        });
-    }
-    None
-}
-
-/// A controller of a database that can be adopted under the identifier.
-fn woken(alloc: Global, contents: &Contents, dsa: Guid, inv: Guid) -> Result<State, NoMemory>
-    requires formed { IsFormedStore contents.now }
-    requires spelled { IsSpelled contents.now }
-    requires fits { adopt_refusal contents.now inv (woken contents.now dsa inv) ≡ None }
-    ensures { IfOk result (λ state. state ≡ woken contents.now dsa inv) }
-{
-    match wake(alloc, contents, dsa, inv) {
-        Ok(state) => Ok(state),
-        Err(Failure::NoMemory) => Err(AllocError),
-        Err(Failure::Refused(_)) => unreachable!(),
-    }
-}
-
-/// A controller of a database under an identifier that it doesn't name.
-fn adopted(
-    alloc: Global,
-    contents: &Contents,
-    dsa: Guid,
-    inv: Guid,
-) -> Result<State, Failure<AdoptRefusal>>
-    requires formed { IsFormedStore contents.now }
-    requires spelled { IsSpelled contents.now }
-    requires dsa { IsId dsa }
-    requires inv { IsId inv }
-    ensures ok { IfOk result (λ state. adopt contents.now dsa inv ≡ Ok state) }
-    ensures refused { (refusal : AdoptRefusal) → IsErrOf result (Failure.Refused refusal)
-        → adopt contents.now dsa inv ≡ Err refusal }
-    ensures logged { IfOk result (λ state. IsLogged state × (state.mode ≡ Normal)) }
-{
-    match adopt_refusal(contents, inv) {
-        Some(refusal) => Err(Failure::Refused(refusal)),
-        None => Ok(woken(alloc, contents, dsa, inv)?),
     }
 }

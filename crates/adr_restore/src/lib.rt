@@ -6,9 +6,7 @@
 #![tactic(auto)]
 
 mod image;
-mod lengths;
 
-pub use adr_event::{AdoptRefusal, Failure};
+pub use adr_call::{AdoptRefusal, Failure};
 pub use adr_state::{NoMemory, State};
 pub use image::Image;
-pub use lengths::new_log;

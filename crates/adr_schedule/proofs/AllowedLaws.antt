@@ -2,7 +2,8 @@
 use Rattle.std.proofs.Common.{◌≡◌, ℕ, List, [], ◌∷◌, Some}
 use Rattle.adr_schema.specs.Assignments.{Given}
 use Rattle.adr_event.specs.declared.event.Event.{Event}
-use Rattle.adr_event.specs.declared.event.Event.TheVariants.{Add, Modify, Ask, Upgrade, Revive}
+use Rattle.adr_call.specs.declared.write.Write.TheVariants.{Add, Modify}
+use Rattle.adr_event.specs.declared.event.Event.TheVariants.{Write, Ask, Upgrade, Revive}
 use Rattle.adr_event.specs.Supported.{IsSupported}
 use Rattle.adr_schedule.specs.Sets.{rising}
 use Rattle.adr_schedule.specs.Grammar.{Token, given_by, tokens_behind, tokens_in, AreSpelled, HasLine, HaveSpellings, SpelledEventsAreAllowed}
@@ -15,9 +16,9 @@ have_spellings (token ∷ tokens) bytes h = ((h.1.0, h.1.1), have_spellings toke
 -- the tokens of an event, its sets in rising order
 in_rising_order : (order : List Given) (e : Event) → rising order ≡ Some (given_by e) → HaveSpellings (tokens_in order e) → HaveSpellings (tokens_in (given_by e) e)
 unfolding tokens_behind
-in_rising_order order (Add name guid class parent text values) r h =
+in_rising_order order (Write name (Add guid class parent text values)) r h =
     (h.0, (h.1.0, (h.1.1.0, (h.1.1.1.0, (h.1.1.1.1.0, (h.1.1.1.1.1.0, spelled_rising order values r h.1.1.1.1.1.1))))))
-in_rising_order order (Modify name guid values) r h = (h.0, (h.1.0, (h.1.1.0, spelled_rising order values r h.1.1.1)))
+in_rising_order order (Write name (Modify guid values)) r h = (h.0, (h.1.0, (h.1.1.0, spelled_rising order values r h.1.1.1)))
 in_rising_order order e r h = h
 
 pub spelled_allowed : SpelledEventsAreAllowed

@@ -6,9 +6,13 @@ use Rattle.std.specs.Str.{bytes_eq}
 use Rattle.std.proofs.lemmas.Bool.{eqb-false, ne_eqb}
 use Rattle.adr_disk.specs.declared.memory.Crash.{Crash}
 use Rattle.adr_schema.specs.Assignments.{Given}
+use Rattle.adr_call.specs.declared.write.Write.{Write as Written}
+use Rattle.adr_call.specs.declared.write.Write.TheVariants.{Add, Modify, Rename, Delete, Link, Unlink}
+use Rattle.adr_call.specs.declared.report.Report.{Report as Asked}
+use Rattle.adr_call.specs.declared.report.Report.TheVariants.{Directory}
 use Rattle.adr_event.specs.declared.event.Event.{Event}
-use Rattle.adr_event.specs.declared.event.Event.TheVariants.{Controller, Time, Add, Modify, Rename, Delete, Link, Unlink, Ask, Serve, Deliver, Pull, Cycle, Ring, Collect, Upgrade, Revive, Backup, Restore, Install, Snapshot, Rollback, StopAfter, Fail, Stop, Start, Show, Vector, Marks}
-use Rattle.adr_event.specs.Verbs.{verb_of, word_of}
+use Rattle.adr_event.specs.declared.event.Event.TheVariants.{Controller, Time, Write, Ask, Serve, Deliver, Pull, Cycle, Ring, Collect, Upgrade, Revive, Backup, Restore, Install, Snapshot, Rollback, StopAfter, Fail, Stop, Start, Report}
+use Rattle.adr_event.specs.Verbs.{verb_of, verb_of_report, word_of}
 use Rattle.adr_token.specs.Gives.{◌>>=◌}
 use Rattle.adr_token.specs.Words.{unspaced, ended, word_at, name_at}
 use Rattle.adr_token.specs.Numbers.{number_at}
@@ -25,7 +29,7 @@ use Rattle.adr_schedule.specs.Sets.{rising, sets_at}
 use Rattle.adr_schedule.specs.Members.{names_at}
 use Rattle.adr_schedule.proofs.LineNames.{names_were, names_read}
 use Rattle.adr_schedule.specs.Verbs.{verb_said, verbs as all_verbs}
-use Rattle.adr_schedule.specs.Commands.{add_line, ask_line, binding_line, bound_at, by_verb, calls_at, collect_line, controller_line, crash_at, delete_line, event_of, fail_line, install_line, limit_at, link_line, modify_line, name_line, pull_line, rename_line, restore_line, ring_line, rounds_at, serve_line, stop_after, stop_line, time_line, use_line}
+use Rattle.adr_schedule.specs.Commands.{add_line, ask_line, binding_line, bound_at, by_verb, calls_at, collect_line, controller_line, crash_at, delete_line, event_of, fail_line, install_line, limit_at, link_line, modify_line, pull_line, rename_line, report_line, restore_line, ring_line, rounds_at, serve_line, start_line, stop_after, stop_line, time_line, use_line}
 use Rattle.adr_schedule.specs.Grammar.{Word, Name, Number, Identifier, Class, Attribute, Quoted, sets, named, tokens_behind, IsNext, AreSpelled, IsLimit, AreRounds, AreMembers, Spells, SpelledLinesAreRead, LinesSpellOneEvent, LinesWereSpelled}
 use Rattle.adr_schedule.proofs.LineSets.{none_left, sets_read, sets_were}
 use Rattle.adr_schedule.proofs.VerbLaws.{verb_read}
@@ -48,12 +52,6 @@ made : {A B : Type 0} (P : B → Type 0) (f : A → B) (o : Option A) → ((x : 
 made P f None each y h = absurd (cc)
 made P f (Some x) each y h = let same : f x ≡ y = cc in subst P same (each x refl)
 
--- NAME
-name_was : (P : Event → Type 0) (event : List ℕ → Event) (bytes : List ℕ) → ((name : List ℕ) → AreSpelled (Name name ∷ []) bytes → P (event name)) → (e : Event) → name_line event bytes ≡ Some e → P e
-unfolding name_line
-name_was P event bytes go e h =
-    each_step P (name_at bytes) _ (λ name n. at_end P name.1 (event name.0) (λ last. go name.0 (name.1, name_next bytes name n, last))) e h
-
 -- NAME NAME
 use_was : (P : Event → Type 0) (event : List ℕ → List ℕ → Event) (bytes : List ℕ) → ((name other : List ℕ) → AreSpelled (Name name ∷ Name other ∷ []) bytes → P (event name other)) → (e : Event) → use_line event bytes ≡ Some e → P e
 unfolding use_line
@@ -62,13 +60,13 @@ use_was P event bytes go e h =
     go name.0 other.0 (name.1, name_next bytes name n, (other.1, name_next name.1 other o, last))))) e h
 
 -- NAME ID ATTR ID
-link_was : (P : Event → Type 0) (event : List ℕ → List ℕ → ℕ → List ℕ → Event) (bytes : List ℕ)
-    → ((name from : List ℕ) (attr : ℕ) (to : List ℕ) → AreSpelled (Name name ∷ Identifier from ∷ Attribute attr ∷ Identifier to ∷ []) bytes → P (event name from attr to))
-    → (e : Event) → link_line event bytes ≡ Some e → P e
+link_was : (P : Event → Type 0) (what : List ℕ → ℕ → List ℕ → Written) (bytes : List ℕ)
+    → ((name from : List ℕ) (attr : ℕ) (to : List ℕ) → AreSpelled (Name name ∷ Identifier from ∷ Attribute attr ∷ Identifier to ∷ []) bytes → P (Write name (what from attr to)))
+    → (e : Event) → link_line what bytes ≡ Some e → P e
 unfolding link_line
-link_was P event bytes go e h =
+link_was P what bytes go e h =
     each_step P (name_at bytes) _ (λ name n. each_step P (identifier_at name.1) _ (λ from f. each_step P (attribute_at from.1) _ (λ attr a. each_step P (identifier_at attr.1) _ (λ to t.
-    at_end P to.1 (event name.0 from.0 attr.0 to.0) (λ last.
+    at_end P to.1 (Write name.0 (what from.0 attr.0 to.0)) (λ last.
     go name.0 from.0 attr.0 to.0 (name.1, name_next bytes name n, (from.1, identifier_next name.1 from f, (attr.1, attribute_next from.1 attr a, (to.1, identifier_next attr.1 to t, last))))))))) e h
 
 -- NAME NAME MAX
@@ -115,7 +113,7 @@ unfolding add_line tokens_behind
 add_was line rest verb e h =
     let P = Spells line in
     each_step P (name_at rest) _ (λ name n. each_step P (identifier_at name.1) _ (λ guid g. each_step P (class_at guid.1) _ (λ class c. each_step P (identifier_at class.1) _ (λ parent p.
-    each_step P (text_at (unspaced parent.1)) _ (λ text t. made P (λ values. Add name.0 guid.0 class.0 parent.0 text.0 values) (sets_at text.1) (λ values v.
+    each_step P (text_at (unspaced parent.1)) _ (λ text t. made P (λ values. Write name.0 (Add guid.0 class.0 parent.0 text.0 values)) (sets_at text.1) (λ values v.
     let s = sets_were text.1 values v in (
       rising_from s.order values s.give,
       (
@@ -146,9 +144,9 @@ add_was line rest verb e h =
     ))))))) e h
 
 -- some values
-modified : (name guid : List ℕ) (values : List Given) (e : Event) → (if length values == 0 then None else Some (Modify name guid values)) ≡ Some e → (0 < length values) × (Modify name guid values ≡ e)
+modified : (name guid : List ℕ) (values : List Given) (e : Event) → (if length values == 0 then None else Some (Write name (Modify guid values))) ≡ Some e → (0 < length values) × (Write name (Modify guid values) ≡ e)
 modified name guid values e h =
-    let s = unless_some (length values == 0) (Modify name guid values) e h in
+    let s = unless_some (length values == 0) (Write name (Modify guid values)) e h in
     let some = eqb-false (length values) 0 s.0 in
     (omega (arith, some), s.1)
 
@@ -189,14 +187,14 @@ unfolding rename_line tokens_behind
 rename_was line rest verb e h =
     let P = Spells line in
     each_step P (name_at rest) _ (λ name n. each_step P (identifier_at name.1) _ (λ guid g. each_step P (identifier_at guid.1) _ (λ parent p. each_step P (text_at (unspaced parent.1)) _ (λ text t.
-    at_end P text.1 (Rename name.0 guid.0 parent.0 text.0) (λ last.
+    at_end P text.1 (Write name.0 (Rename guid.0 parent.0 text.0)) (λ last.
     (tt, ([], refl, (rest, verb, (name.1, name_next rest name n, (guid.1, identifier_next name.1 guid g, (parent.1, identifier_next guid.1 parent p, (text.1, text_next parent.1 text t, last)))))))))))) e h
 
 delete_was : Follows verbs.Delete
 unfolding delete_line tokens_behind
 delete_was line rest verb e h =
     let P = Spells line in
-    each_step P (name_at rest) _ (λ name n. each_step P (identifier_at name.1) _ (λ guid g. at_end P guid.1 (Delete name.0 guid.0) (λ last.
+    each_step P (name_at rest) _ (λ name n. each_step P (identifier_at name.1) _ (λ guid g. at_end P guid.1 (Write name.0 (Delete guid.0)) (λ last.
     (tt, ([], refl, (rest, verb, (name.1, name_next rest name n, (guid.1, identifier_next name.1 guid g, last)))))))) e h
 
 ask_was : Follows verbs.Ask
@@ -259,6 +257,19 @@ stop_was line rest verb e h = each_step P (name_at rest) _ (λ name n. by name n
         let after = planned.1 in
         (planned.0, ([], refl, (rest, verb, (name.1, name_next rest name n, (after.0, after.1, (calls.1, after.2, (how.1, crash_next calls.1 how w, last)))))))))) event told
 
+start_was : Follows verbs.Start
+unfolding start_line tokens_behind
+start_was line rest verb e h =
+    let P = Spells line in
+    each_step P (name_at rest) _ (λ name n. at_end P name.1 (Start name.0) (λ last. (tt, ([], refl, (rest, verb, (name.1, name_next rest name n, last)))))) e h
+
+-- any report
+report_was : (what : Asked) (line rest : List ℕ) → IsNext (Word (word_of (verb_of_report what))) line rest → (e : Event) → report_line what rest ≡ Some e → Spells line e
+unfolding report_line tokens_behind
+report_was what line rest verb e h =
+    let P = Spells line in
+    each_step P (name_at rest) _ (λ name n. at_end P name.1 (Report name.0 what) (λ last. (tt, ([], refl, (rest, verb, (name.1, name_next rest name n, last)))))) e h
+
 fail_was : Follows verbs.Fail
 unfolding fail_line tokens_behind
 fail_was line rest verb e h =
@@ -294,10 +305,8 @@ verb_was verbs.Snapshot line rest verb e h = binding_was (Spells line) Snapshot 
 verb_was verbs.Rollback line rest verb e h = use_was (Spells line) Rollback rest (λ name other u. (tt, ([], refl, (rest, verb, u)))) e h
 verb_was verbs.Stop line rest verb e h = stop_was line rest verb e h
 verb_was verbs.Fail line rest verb e h = fail_was line rest verb e h
-verb_was verbs.Start line rest verb e h = name_was (Spells line) Start rest (λ name n. (tt, ([], refl, (rest, verb, n)))) e h
-verb_was verbs.Show line rest verb e h = name_was (Spells line) Show rest (λ name n. (tt, ([], refl, (rest, verb, n)))) e h
-verb_was verbs.Vector line rest verb e h = name_was (Spells line) Vector rest (λ name n. (tt, ([], refl, (rest, verb, n)))) e h
-verb_was verbs.Marks line rest verb e h = name_was (Spells line) Marks rest (λ name n. (tt, ([], refl, (rest, verb, n)))) e h
+verb_was verbs.Start line rest verb e h = start_was line rest verb e h
+verb_was report line rest verb e h = report_was _ line rest verb e h
 
 pub lines_spelled : LinesWereSpelled
 unfolding event_of
@@ -309,18 +318,18 @@ lines_spelled line e h =
 
 -- ---- what is spelled is read
 
-name_again : (event : List ℕ → Event) (bytes name : List ℕ) → AreSpelled (Name name ∷ []) bytes → name_line event bytes ≡ Some (event name)
-unfolding name_line
-name_again event bytes name h = rw (name_read name bytes h.0 h.1, h.2) refl
+report_again : (what : Asked) (bytes name : List ℕ) → AreSpelled (Name name ∷ []) bytes → report_line what bytes ≡ Some (Report name what)
+unfolding report_line
+report_again what bytes name h = rw (name_read name bytes h.0 h.1, h.2) refl
 
 use_again : (event : List ℕ → List ℕ → Event) (bytes name other : List ℕ) → AreSpelled (Name name ∷ Name other ∷ []) bytes → use_line event bytes ≡ Some (event name other)
 unfolding use_line
 use_again event bytes name other h = rw (name_read name bytes h.0 h.1, name_read other h.0 h.2.0 h.2.1, h.2.2) refl
 
-link_again : (event : List ℕ → List ℕ → ℕ → List ℕ → Event) (bytes name from : List ℕ) (attr : ℕ) (to : List ℕ) → AreSpelled (Name name ∷ Identifier from ∷ Attribute attr ∷ Identifier to ∷ []) bytes
-    → link_line event bytes ≡ Some (event name from attr to)
+link_again : (what : List ℕ → ℕ → List ℕ → Written) (bytes name from : List ℕ) (attr : ℕ) (to : List ℕ) → AreSpelled (Name name ∷ Identifier from ∷ Attribute attr ∷ Identifier to ∷ []) bytes
+    → link_line what bytes ≡ Some (Write name (what from attr to))
 unfolding link_line
-link_again event bytes name from attr to h =
+link_again what bytes name from attr to h =
     let a = h.2.2 in
     rw (name_read name bytes h.0 h.1, identifier_read from h.0 h.2.0 h.2.1, attribute_read attr h.2.0 a.0 a.1, identifier_read to a.0 a.2.0 a.2.1, a.2.2) refl
 
@@ -340,7 +349,7 @@ unfolding time_line
 time_again bytes now h = rw (number_read now bytes h.0 h.1, h.2) refl
 
 add_again : (bytes name guid : List ℕ) (class : ℕ) (parent text : List ℕ) (values order : List Given) → rising order ≡ Some values
-    → AreSpelled (Name name ∷ Identifier guid ∷ Class class ∷ Identifier parent ∷ Quoted text ∷ sets order) bytes → add_line bytes ≡ Some (Add name guid class parent text values)
+    → AreSpelled (Name name ∷ Identifier guid ∷ Class class ∷ Identifier parent ∷ Quoted text ∷ sets order) bytes → add_line bytes ≡ Some (Write name (Add guid class parent text values))
 unfolding add_line
 add_again bytes name guid class parent text values order r h =
     let c = h.2.2 in
@@ -355,7 +364,7 @@ add_again bytes name guid class parent text values order r h =
     ) refl
 
 modify_again : (bytes name guid : List ℕ) (values order : List Given) → 0 < length values → rising order ≡ Some values → AreSpelled (Name name ∷ Identifier guid ∷ sets order) bytes
-    → modify_line bytes ≡ Some (Modify name guid values)
+    → modify_line bytes ≡ Some (Write name (Modify guid values))
 unfolding modify_line
 modify_again bytes name guid values order some r h =
     let more : (length values == 0) ≡ false = ne_eqb (length values) 0 (λ none. omega arith) in
@@ -371,13 +380,13 @@ ring_again bytes name others rounds max is h =
     rw (rounds_read rounds bytes h.0 is.0 h.1, limit_read max h.0 l.0 is.1 l.1, name_read name l.0 n.0 n.1, names_read name n.0 others is.2.1 n.2, more) refl
 
 rename_again : (bytes name guid parent text : List ℕ) → AreSpelled (Name name ∷ Identifier guid ∷ Identifier parent ∷ Quoted text ∷ []) bytes
-    → rename_line bytes ≡ Some (Rename name guid parent text)
+    → rename_line bytes ≡ Some (Write name (Rename guid parent text))
 unfolding rename_line
 rename_again bytes name guid parent text h =
     let p = h.2.2 in
     rw (name_read name bytes h.0 h.1, identifier_read guid h.0 h.2.0 h.2.1, identifier_read parent h.2.0 p.0 p.1, text_read text p.0 p.2.0 p.2.1, p.2.2) refl
 
-delete_again : (bytes name guid : List ℕ) → AreSpelled (Name name ∷ Identifier guid ∷ []) bytes → delete_line bytes ≡ Some (Delete name guid)
+delete_again : (bytes name guid : List ℕ) → AreSpelled (Name name ∷ Identifier guid ∷ []) bytes → delete_line bytes ≡ Some (Write name (Delete guid))
 unfolding delete_line
 delete_again bytes name guid h = rw (name_read name bytes h.0 h.1, identifier_read guid h.0 h.2.0 h.2.1, h.2.2) refl
 
@@ -438,6 +447,10 @@ stop_after_again bytes name calls how most h =
       c.2.2,
     ) refl
 
+start_again : (bytes name : List ℕ) → AreSpelled (Name name ∷ []) bytes → start_line bytes ≡ Some (Start name)
+unfolding start_line
+start_again bytes name h = rw (name_read name bytes h.0 h.1, h.2) refl
+
 fail_again : (bytes name : List ℕ) (calls : ℕ) → calls ≤ plan_limit → AreSpelled (Name name ∷ Word (codes "after") ∷ Number calls ∷ []) bytes → fail_line bytes ≡ Some (Fail name calls)
 unfolding fail_line
 fail_again bytes name calls most h =
@@ -445,17 +458,22 @@ fail_again bytes name calls most h =
     let c = a.2 in
     rw (name_read name bytes h.0 h.1, calls_read calls h.0 a.0 c.0 most a.1 c.1, c.2) refl
 
+-- the verb of a report asks for it, whatever reports there are
+report_said : (what : Asked) (rest : List ℕ) → by_verb (verb_of_report what) rest ≡ report_line what rest
+report_said Directory rest = refl
+report_said what rest = refl
+
 -- what a line says, behind its verb
 behind_read : (line : List ℕ) (event : Event) (s : Spells line event) → by_verb (verb_of event) s.1.2.0 ≡ Some event
 unfolding tokens_behind
 behind_read line (Controller name dsa inv) h = controller_again h.1.2.0 name dsa inv h.1.2.2
 behind_read line (Time now) h = time_again h.1.2.0 now h.1.2.2
-behind_read line (Add name guid class parent text values) h = add_again h.1.2.0 name guid class parent text values h.1.0 h.1.1 h.1.2.2
-behind_read line (Modify name guid values) h = modify_again h.1.2.0 name guid values h.1.0 h.0.1 h.1.1 h.1.2.2
-behind_read line (Rename name guid parent text) h = rename_again h.1.2.0 name guid parent text h.1.2.2
-behind_read line (Delete name guid) h = delete_again h.1.2.0 name guid h.1.2.2
-behind_read line (Link name from attr to) h = link_again Link h.1.2.0 name from attr to h.1.2.2
-behind_read line (Unlink name from attr to) h = link_again Unlink h.1.2.0 name from attr to h.1.2.2
+behind_read line (Write name (Add guid class parent text values)) h = add_again h.1.2.0 name guid class parent text values h.1.0 h.1.1 h.1.2.2
+behind_read line (Write name (Modify guid values)) h = modify_again h.1.2.0 name guid values h.1.0 h.0.1 h.1.1 h.1.2.2
+behind_read line (Write name (Rename guid parent text)) h = rename_again h.1.2.0 name guid parent text h.1.2.2
+behind_read line (Write name (Delete guid)) h = delete_again h.1.2.0 name guid h.1.2.2
+behind_read line (Write name (Link from attr to)) h = link_again Link h.1.2.0 name from attr to h.1.2.2
+behind_read line (Write name (Unlink from attr to)) h = link_again Unlink h.1.2.0 name from attr to h.1.2.2
 behind_read line (Ask name partner max version bound) h = ask_again h.1.2.0 name partner bound max version h.0 h.1.2.2
 behind_read line (Serve name request bound) h = serve_again h.1.2.0 name request bound h.1.2.2
 behind_read line (Deliver name reply) h = use_again Deliver h.1.2.0 name reply h.1.2.2
@@ -473,10 +491,8 @@ behind_read line (Rollback name snapshot) h = use_again Rollback h.1.2.0 name sn
 behind_read line (StopAfter name calls how) h = stop_after_again h.1.2.0 name calls how h.0 h.1.2.2
 behind_read line (Fail name calls) h = fail_again h.1.2.0 name calls h.0 h.1.2.2
 behind_read line (Stop name) h = stop_again h.1.2.0 name h.1.2.2
-behind_read line (Start name) h = name_again Start h.1.2.0 name h.1.2.2
-behind_read line (Show name) h = name_again Show h.1.2.0 name h.1.2.2
-behind_read line (Vector name) h = name_again Vector h.1.2.0 name h.1.2.2
-behind_read line (Marks name) h = name_again Marks h.1.2.0 name h.1.2.2
+behind_read line (Start name) h = start_again h.1.2.0 name h.1.2.2
+behind_read line (Report name what) h = report_said what h.1.2.0 ∙ report_again what h.1.2.0 name h.1.2.2
 
 pub lines_read : SpelledLinesAreRead
 lines_read line event h = verb_read (verb_of event) line h.1.2.0 h.1.2.1 ∙ behind_read line event h

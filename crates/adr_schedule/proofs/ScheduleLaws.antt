@@ -7,7 +7,7 @@ use Rattle.std.proofs.lemmas.Bool.{le-ltb, lt-ltb, ltb-false, ltb-true}
 use Rattle.std.proofs.lemmas.List.Elements.{All-cons, All-nil}
 use Rattle.adr_event.specs.Supported.{IsSupported}
 use Rattle.adr_event.specs.declared.event.Event.{Event}
-use Rattle.adr_event.specs.declared.event.Event.TheVariants.{Controller, Time, Add, Modify, Rename, Delete, Link, Unlink, Ask, Serve, Deliver, Pull, Cycle, Ring, Collect, Upgrade, Revive, Backup, Restore, Install, Snapshot, Rollback, StopAfter, Fail, Stop, Start, Show, Vector, Marks}
+use Rattle.adr_event.specs.declared.event.Event.TheVariants.{Controller, Time, Write, Ask, Serve, Deliver, Pull, Cycle, Ring, Collect, Upgrade, Revive, Backup, Restore, Install, Snapshot, Rollback, StopAfter, Fail, Stop, Start, Report}
 use Rattle.adr_schedule.specs.declared.fault.Cause.{Cause}
 use Rattle.adr_schedule.specs.declared.fault.Cause.TheVariants.{NotUtf8, NoCommand, UnknownName, NameUsed, IdentifierUsed, TooMany, TooLong}
 use Rattle.adr_schedule.specs.declared.fault.ScheduleFault.{ScheduleFault}
@@ -170,12 +170,7 @@ cause_late : (seen : Seen) (e : Event) (x : Cause) → cause_after seen e ≡ So
 cause_late seen (Controller name dsa inv) x c =
     first_late (if_bound seen.controllers name ∷ if_given seen dsa inv ∷ if_full seen ∷ []) (bound_late seen.controllers name, (given_late seen dsa inv, (full_late seen, tt))) x c
 cause_late seen (Time now) x c = absurd (cc)
-cause_late seen (Add name guid class parent text values) x c = unless_late seen.controllers name x c
-cause_late seen (Modify name guid values) x c = unless_late seen.controllers name x c
-cause_late seen (Rename name guid parent text) x c = unless_late seen.controllers name x c
-cause_late seen (Delete name guid) x c = unless_late seen.controllers name x c
-cause_late seen (Link name from attr to) x c = unless_late seen.controllers name x c
-cause_late seen (Unlink name from attr to) x c = unless_late seen.controllers name x c
+cause_late seen (Write name what) x c = unless_late seen.controllers name x c
 cause_late seen (Ask name partner max version bound) x c =
     first_late (unless_bound seen.controllers name ∷ unless_bound seen.controllers partner ∷ if_bound seen.requests bound ∷ [])
     (unless_late seen.controllers name, (unless_late seen.controllers partner, (bound_late seen.requests bound, tt))) x c
@@ -209,9 +204,7 @@ cause_late seen (StopAfter name calls how) x c = unless_late seen.controllers na
 cause_late seen (Fail name calls) x c = unless_late seen.controllers name x c
 cause_late seen (Stop name) x c = unless_late seen.controllers name x c
 cause_late seen (Start name) x c = unless_late seen.controllers name x c
-cause_late seen (Show name) x c = unless_late seen.controllers name x c
-cause_late seen (Vector name) x c = unless_late seen.controllers name x c
-cause_late seen (Marks name) x c = unless_late seen.controllers name x c
+cause_late seen (Report name what) x c = unless_late seen.controllers name x c
 
 late_cause : (seen : Seen) (line : List ℕ) (e : Event) (cause : Cause) → is_utf8 line ≡ true → Spells line e → cause_after seen e ≡ Some cause → is_late cause ≡ true → IsCause seen line cause
 late_cause seen line e NotUtf8 u s c l = absurd (cc)

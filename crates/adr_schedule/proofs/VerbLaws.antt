@@ -4,7 +4,7 @@ use Rattle.std.specs.Prelude.{◌==◌}
 use Rattle.std.proofs.lemmas.Bool.{and_parts, ne_eqb, not-true}
 use Rattle.adr_event.specs.Verbs.{word_of}
 use Rattle.adr_event.specs.declared.verb.Verb.{Verb}
-use Rattle.adr_event.specs.declared.verb.Verb.TheVariants.{Controller, Time, Add, Modify, Rename, Delete, Link, Unlink, Ask, Serve, Deliver, Pull, Cycle, Ring, Collect, Upgrade, Revive, Backup, Restore, Install, Snapshot, Rollback, Stop, Fail, Start, Show, Vector, Marks}
+use Rattle.adr_event.specs.declared.verb.Verb.TheVariants.{Controller}
 use Rattle.adr_token.specs.Gives.{◌>>=◌}
 use Rattle.adr_token.proofs.WordLaws.{are_graphic, graphic_word}
 use Rattle.adr_schedule.specs.Verbs.{verb_said}
@@ -20,35 +20,10 @@ is_command (b ∷ bs) = are_graphic (b ∷ bs) && (not (b == 59) && not (b == 32
 abbrev IsItsWord : Verb → Type 0
 IsItsWord verb = (is_command (word_of verb) ≡ true) × ((rest : List ℕ) → (verb_said (word_of verb) >>= λ said. by_verb said rest) ≡ by_verb verb rest)
 
+-- by the words alone, whatever verbs there are
 its_word : (verb : Verb) → IsItsWord verb
 its_word Controller = (refl, λ rest. refl)
-its_word Time = (refl, λ rest. refl)
-its_word Add = (refl, λ rest. refl)
-its_word Modify = (refl, λ rest. refl)
-its_word Rename = (refl, λ rest. refl)
-its_word Delete = (refl, λ rest. refl)
-its_word Link = (refl, λ rest. refl)
-its_word Unlink = (refl, λ rest. refl)
-its_word Ask = (refl, λ rest. refl)
-its_word Serve = (refl, λ rest. refl)
-its_word Deliver = (refl, λ rest. refl)
-its_word Pull = (refl, λ rest. refl)
-its_word Cycle = (refl, λ rest. refl)
-its_word Ring = (refl, λ rest. refl)
-its_word Collect = (refl, λ rest. refl)
-its_word Upgrade = (refl, λ rest. refl)
-its_word Revive = (refl, λ rest. refl)
-its_word Backup = (refl, λ rest. refl)
-its_word Restore = (refl, λ rest. refl)
-its_word Install = (refl, λ rest. refl)
-its_word Snapshot = (refl, λ rest. refl)
-its_word Rollback = (refl, λ rest. refl)
-its_word Stop = (refl, λ rest. refl)
-its_word Fail = (refl, λ rest. refl)
-its_word Start = (refl, λ rest. refl)
-its_word Show = (refl, λ rest. refl)
-its_word Vector = (refl, λ rest. refl)
-its_word Marks = (refl, λ rest. refl)
+its_word verb = (refl, λ rest. refl)
 
 command_seen : (word : List ℕ) → is_command word ≡ true → (are_graphic word ≡ true) × (0 < length word)
 command_seen [] h = absurd (cc)

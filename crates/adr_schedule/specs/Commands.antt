@@ -3,8 +3,12 @@ use Rattle.std.specs.Prelude.{ℕ, List, Bool, ◌&&◌, ◌||◌, ◌==◌, nat
 use Rattle.std.specs.Option.{option_map}
 use Rattle.std.specs.Str.{bytes_eq}
 use Rattle.adr_disk.specs.declared.memory.Crash.{Crash}
+use Rattle.adr_call.specs.declared.write.Write.{Write as Written}
+use Rattle.adr_call.specs.declared.write.Write.TheVariants.{Add, Modify, Rename, Delete, Link, Unlink}
+use Rattle.adr_call.specs.declared.report.Report.{Report as Asked}
+use Rattle.adr_call.specs.declared.report.Report.TheVariants as reports
 use Rattle.adr_event.specs.declared.event.Event.{Event}
-use Rattle.adr_event.specs.declared.event.Event.TheVariants.{Controller, Time, Add, Modify, Rename, Delete, Link, Unlink, Ask, Serve, Deliver, Pull, Cycle, Ring, Collect, Backup, Restore, Install, Snapshot, Rollback, StopAfter, Fail, Stop, Start, Show, Vector, Marks}
+use Rattle.adr_event.specs.declared.event.Event.TheVariants.{Controller, Time, Write, Ask, Serve, Deliver, Pull, Cycle, Ring, Collect, Backup, Restore, Install, Snapshot, Rollback, StopAfter, Fail, Stop, Start, Report}
 use Rattle.adr_schedule.specs.Limits.{ask_limit, plan_limit, rounds_limit}
 use Rattle.adr_schedule.specs.Members.{names_at}
 use Rattle.adr_token.specs.Gives.{Reading, ◌>>=◌}
@@ -21,11 +25,11 @@ use Rattle.adr_schedule.specs.Verbs.{verb_said}
 
 -- ---- lines that some verbs share
 
--- NAME
-unfoldable pub name_line : (List ℕ → Event) → List ℕ → Option Event
-name_line event bytes = do
+-- NAME, behind the word of any report
+unfoldable pub report_line : Asked → List ℕ → Option Event
+report_line what bytes = do
   name ← name_at bytes
-  ended name.1 (event name.0)
+  ended name.1 (Report name.0 what)
 
 -- NAME NAME
 unfoldable pub use_line : (List ℕ → List ℕ → Event) → List ℕ → Option Event
@@ -35,13 +39,13 @@ use_line event bytes = do
   ended other.1 (event name.0 other.0)
 
 -- NAME ID ATTR ID
-unfoldable pub link_line : (List ℕ → List ℕ → ℕ → List ℕ → Event) → List ℕ → Option Event
-link_line event bytes = do
+unfoldable pub link_line : (List ℕ → ℕ → List ℕ → Written) → List ℕ → Option Event
+link_line what bytes = do
   name ← name_at bytes
   from ← identifier_at name.1
   attr ← attribute_at from.1
   to ← identifier_at attr.1
-  ended to.1 (event name.0 from.0 attr.0 to.0)
+  ended to.1 (Write name.0 (what from.0 attr.0 to.0))
 
 -- how many items may be asked for
 abbrev pub is_limit : ℕ → Bool
@@ -109,7 +113,7 @@ add_line bytes = do
   class ← class_at guid.1
   parent ← identifier_at class.1
   text ← text_at (unspaced parent.1)
-  option_map (λ values. Add name.0 guid.0 class.0 parent.0 text.0 values) (sets_at text.1)
+  option_map (λ values. Write name.0 (Add guid.0 class.0 parent.0 text.0 values)) (sets_at text.1)
 
 -- one set or more
 unfoldable pub modify_line : List ℕ → Option Event
@@ -117,7 +121,7 @@ modify_line bytes = do
   name ← name_at bytes
   guid ← identifier_at name.1
   values ← sets_at guid.1
-  if length values == 0 then None else Some (Modify name.0 guid.0 values)
+  if length values == 0 then None else Some (Write name.0 (Modify guid.0 values))
 
 -- how many rounds
 abbrev pub are_rounds : ℕ → Bool
@@ -143,13 +147,13 @@ rename_line bytes = do
   guid ← identifier_at name.1
   parent ← identifier_at guid.1
   text ← text_at (unspaced parent.1)
-  ended text.1 (Rename name.0 guid.0 parent.0 text.0)
+  ended text.1 (Write name.0 (Rename guid.0 parent.0 text.0))
 
 unfoldable pub delete_line : List ℕ → Option Event
 delete_line bytes = do
   name ← name_at bytes
   guid ← identifier_at name.1
-  ended guid.1 (Delete name.0 guid.0)
+  ended guid.1 (Write name.0 (Delete guid.0))
 
 -- the request is of version 1
 unfoldable pub ask_line : List ℕ → Option Event
@@ -201,6 +205,11 @@ stop_line bytes = do
   name ← name_at bytes
   if length (unspaced name.1) == 0 then Some (Stop name.0) else stop_after name.0 name.1
 
+unfoldable pub start_line : List ℕ → Option Event
+start_line bytes = do
+  name ← name_at bytes
+  ended name.1 (Start name.0)
+
 unfoldable pub fail_line : List ℕ → Option Event
 fail_line bytes = do
   name ← name_at bytes
@@ -233,10 +242,10 @@ by_verb verbs.Snapshot rest = binding_line Snapshot rest
 by_verb verbs.Rollback rest = use_line Rollback rest
 by_verb verbs.Stop rest = stop_line rest
 by_verb verbs.Fail rest = fail_line rest
-by_verb verbs.Start rest = name_line Start rest
-by_verb verbs.Show rest = name_line Show rest
-by_verb verbs.Vector rest = name_line Vector rest
-by_verb verbs.Marks rest = name_line Marks rest
+by_verb verbs.Start rest = start_line rest
+by_verb verbs.Show rest = report_line reports.Directory rest
+by_verb verbs.Vector rest = report_line reports.Vector rest
+by_verb verbs.Marks rest = report_line reports.Marks rest
 
 -- what a line says
 unfoldable pub event_of : List ℕ → Option Event

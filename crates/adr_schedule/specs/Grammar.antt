@@ -5,8 +5,10 @@ use Rattle.std.specs.List.Sorted.{IsStrictlySortedBy}
 use Rattle.std.specs.Ordering.{nat_cmp}
 use Rattle.adr_schema.specs.Assignments.{Given, attributes}
 use Rattle.adr_schema.specs.declared.content.Value.{Value as Item}
+use Rattle.adr_call.specs.declared.write.Write.{Write as Written}
+use Rattle.adr_call.specs.declared.write.Write.TheVariants.{Add, Modify, Rename, Delete, Link, Unlink}
 use Rattle.adr_event.specs.declared.event.Event.{Event}
-use Rattle.adr_event.specs.declared.event.Event.TheVariants.{Controller, Time, Add, Modify, Rename, Delete, Link, Unlink, Ask, Serve, Deliver, Pull, Cycle, Ring, Collect, Upgrade, Revive, Backup, Restore, Install, Snapshot, Rollback, StopAfter, Fail, Stop, Start, Show, Vector, Marks}
+use Rattle.adr_event.specs.declared.event.Event.TheVariants.{Controller, Time, Write, Ask, Serve, Deliver, Pull, Cycle, Ring, Collect, Upgrade, Revive, Backup, Restore, Install, Snapshot, Rollback, StopAfter, Fail, Stop, Start, Report}
 use Rattle.adr_event.specs.Verbs.{verb_of, word_of}
 use Rattle.adr_token.specs.Words.{unspaced, is_name}
 use Rattle.adr_token.specs.Laws.{Stands}
@@ -36,22 +38,31 @@ sets values = map (λ given. Set given.0 given.1) values
 abbrev pub named : List (List ℕ) → List Token
 named names = map (λ name. Name name) names
 
+-- what the sets of a write's line give
+abbrev pub given_in : Written → List Given
+given_in (Add guid class parent text values) = values
+given_in (Modify guid values) = values
+given_in _ = []
+
 -- what the sets of an event's line give
 abbrev pub given_by : Event → List Given
-given_by (Add name guid class parent text values) = values
-given_by (Modify name guid values) = values
+given_by (Write name what) = given_in what
 given_by _ = []
+
+-- what a line has a controller write, the sets in this order
+abbrev pub tokens_written : List Given → Written → List Token
+tokens_written order (Add guid class parent text values) = Identifier guid ∷ Class class ∷ Identifier parent ∷ Quoted text ∷ sets order
+tokens_written order (Modify guid values) = Identifier guid ∷ sets order
+tokens_written order (Rename guid parent text) = Identifier guid ∷ Identifier parent ∷ Quoted text ∷ []
+tokens_written order (Delete guid) = Identifier guid ∷ []
+tokens_written order (Link from attr to) = Identifier from ∷ Attribute attr ∷ Identifier to ∷ []
+tokens_written order (Unlink from attr to) = Identifier from ∷ Attribute attr ∷ Identifier to ∷ []
 
 -- what stands behind the verb in the line of an event, its sets in this order; nothing where it has no line
 unfoldable pub tokens_behind : List Given → Event → List Token
 tokens_behind order (Controller name dsa inv) = Name name ∷ Identifier dsa ∷ Identifier inv ∷ []
 tokens_behind order (Time now) = Number now ∷ []
-tokens_behind order (Add name guid class parent text values) = Name name ∷ Identifier guid ∷ Class class ∷ Identifier parent ∷ Quoted text ∷ sets order
-tokens_behind order (Modify name guid values) = Name name ∷ Identifier guid ∷ sets order
-tokens_behind order (Rename name guid parent text) = Name name ∷ Identifier guid ∷ Identifier parent ∷ Quoted text ∷ []
-tokens_behind order (Delete name guid) = Name name ∷ Identifier guid ∷ []
-tokens_behind order (Link name from attr to) = Name name ∷ Identifier from ∷ Attribute attr ∷ Identifier to ∷ []
-tokens_behind order (Unlink name from attr to) = Name name ∷ Identifier from ∷ Attribute attr ∷ Identifier to ∷ []
+tokens_behind order (Write name what) = Name name ∷ tokens_written order what
 tokens_behind order (Ask name partner max version bound) = Name name ∷ Name partner ∷ Number max ∷ Word (codes "as") ∷ Name bound ∷ []
 tokens_behind order (Serve name request bound) = Name name ∷ Name request ∷ Word (codes "as") ∷ Name bound ∷ []
 tokens_behind order (Deliver name reply) = Name name ∷ Name reply ∷ []
@@ -68,9 +79,7 @@ tokens_behind order (StopAfter name calls how) = Name name ∷ Word (codes "afte
 tokens_behind order (Fail name calls) = Name name ∷ Word (codes "after") ∷ Number calls ∷ []
 tokens_behind order (Stop name) = Name name ∷ []
 tokens_behind order (Start name) = Name name ∷ []
-tokens_behind order (Show name) = Name name ∷ []
-tokens_behind order (Vector name) = Name name ∷ []
-tokens_behind order (Marks name) = Name name ∷ []
+tokens_behind order (Report name what) = Name name ∷ []
 tokens_behind order event = []
 
 -- the tokens of the line of an event, its sets in this order
@@ -116,17 +125,18 @@ AreMembers name others = (0 < length others) × (with_names name [] others ≡ S
 abbrev pub AreRising : List Given → Type 0
 AreRising values = IsStrictlySortedBy nat_cmp (attributes values)
 
+-- the values of a write are given so: each attribute once, in rising order, and where they are modified, one or more
+abbrev pub AreGiven : Written → Type 0
+AreGiven (Add guid class parent text values) = AreRising values
+AreGiven (Modify guid values) = AreRising values × (0 < length values)
+AreGiven _ = Unit {0}
+
 -- what the tokens of an event don't say: how many items are asked for and that the request is of version 1, how many calls a plan lets pass, and how
 -- values are given; some events have no line
 abbrev pub HasLine : Event → Type 0
 HasLine (Controller name dsa inv) = Unit {0}
 HasLine (Time now) = Unit {0}
-HasLine (Add name guid class parent text values) = AreRising values
-HasLine (Modify name guid values) = AreRising values × (0 < length values)
-HasLine (Rename name guid parent text) = Unit {0}
-HasLine (Delete name guid) = Unit {0}
-HasLine (Link name from attr to) = Unit {0}
-HasLine (Unlink name from attr to) = Unit {0}
+HasLine (Write name what) = AreGiven what
 HasLine (Ask name partner max version bound) = IsLimit max × (version ≡ 1)
 HasLine (Serve name request bound) = Unit {0}
 HasLine (Deliver name reply) = Unit {0}
@@ -145,9 +155,7 @@ HasLine (StopAfter name calls how) = calls ≤ plan_limit
 HasLine (Fail name calls) = calls ≤ plan_limit
 HasLine (Stop name) = Unit {0}
 HasLine (Start name) = Unit {0}
-HasLine (Show name) = Unit {0}
-HasLine (Vector name) = Unit {0}
-HasLine (Marks name) = Unit {0}
+HasLine (Report name what) = Unit {0}
 
 -- a line spells an event, which has one: the event's tokens stand in the line, its sets in any order
 abbrev pub Spells : List ℕ → Event → Type 0

@@ -5,7 +5,7 @@ use Rattle.std.specs.List.{list_any}
 use Rattle.std.specs.Str.{bytes_eq}
 use Rattle.adr_failure.specs.First.{first_of}
 use Rattle.adr_event.specs.declared.event.Event.{Event}
-use Rattle.adr_event.specs.declared.event.Event.TheVariants.{Controller, Time, Add, Modify, Rename, Delete, Link, Unlink, Ask, Serve, Deliver, Pull, Cycle, Ring, Collect, Upgrade, Revive, Backup, Restore, Install, Snapshot, Rollback, StopAfter, Fail, Stop, Start, Show, Vector, Marks}
+use Rattle.adr_event.specs.declared.event.Event.TheVariants.{Controller, Time, Write, Ask, Serve, Deliver, Pull, Cycle, Ring, Collect, Upgrade, Revive, Backup, Restore, Install, Snapshot, Rollback, StopAfter, Fail, Stop, Start, Report}
 use Rattle.adr_schedule.specs.declared.fault.Cause.{Cause}
 use Rattle.adr_schedule.specs.declared.fault.Cause.TheVariants.{UnknownName, NameUsed, IdentifierUsed, TooMany}
 use Rattle.adr_schedule.specs.Limits.{controller_limit}
@@ -58,12 +58,7 @@ unless_all_bound names used = then_some (is_any_unbound names used) UnknownName
 abbrev pub cause_after : Seen → Event → Option Cause
 cause_after seen (Controller name dsa inv) = first_of (if_bound seen.controllers name ∷ if_given seen dsa inv ∷ if_full seen ∷ [])
 cause_after seen (Time now) = None
-cause_after seen (Add name guid class parent text values) = unless_bound seen.controllers name
-cause_after seen (Modify name guid values) = unless_bound seen.controllers name
-cause_after seen (Rename name guid parent text) = unless_bound seen.controllers name
-cause_after seen (Delete name guid) = unless_bound seen.controllers name
-cause_after seen (Link name from attr to) = unless_bound seen.controllers name
-cause_after seen (Unlink name from attr to) = unless_bound seen.controllers name
+cause_after seen (Write name what) = unless_bound seen.controllers name
 cause_after seen (Ask name partner max version bound) =
     first_of (unless_bound seen.controllers name ∷ unless_bound seen.controllers partner ∷ if_bound seen.requests bound ∷ [])
 cause_after seen (Serve name request bound) =
@@ -86,9 +81,7 @@ cause_after seen (StopAfter name calls how) = unless_bound seen.controllers name
 cause_after seen (Fail name calls) = unless_bound seen.controllers name
 cause_after seen (Stop name) = unless_bound seen.controllers name
 cause_after seen (Start name) = unless_bound seen.controllers name
-cause_after seen (Show name) = unless_bound seen.controllers name
-cause_after seen (Vector name) = unless_bound seen.controllers name
-cause_after seen (Marks name) = unless_bound seen.controllers name
+cause_after seen (Report name what) = unless_bound seen.controllers name
 
 -- one more controller, with the identifiers that its line gives
 abbrev pub with_controller : Seen → List ℕ → List ℕ → List ℕ → Seen

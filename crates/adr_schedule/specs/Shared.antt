@@ -1,9 +1,9 @@
--- The events of the verbs whose lines have one form.
+-- The events and the writes of the verbs whose lines have one form.
 use Rattle.std.specs.Prelude.{ℕ, List}
+use Rattle.adr_call.specs.declared.write.Write.{Write}
+use Rattle.adr_call.specs.declared.write.Write.TheVariants.{Link, Unlink}
 use Rattle.adr_event.specs.declared.event.Event.{Event}
-use Rattle.adr_event.specs.declared.event.Event.TheVariants.{Link, Unlink, Deliver, Pull, Cycle, Backup, Snapshot, Rollback, Start, Show, Vector, Marks}
-use Rattle.adr_schedule.specs.declared.verb.NameVerb.{NameVerb}
-use Rattle.adr_schedule.specs.declared.verb.NameVerb.TheVariants as name_verbs
+use Rattle.adr_event.specs.declared.event.Event.TheVariants.{Deliver, Pull, Cycle, Backup, Snapshot, Rollback}
 use Rattle.adr_schedule.specs.declared.verb.UseVerb.{UseVerb}
 use Rattle.adr_schedule.specs.declared.verb.UseVerb.TheVariants as use_verbs
 use Rattle.adr_schedule.specs.declared.verb.LinkVerb.{LinkVerb}
@@ -13,17 +13,11 @@ use Rattle.adr_schedule.specs.declared.verb.PullVerb.TheVariants as pull_verbs
 use Rattle.adr_schedule.specs.declared.verb.CopyVerb.{CopyVerb}
 use Rattle.adr_schedule.specs.declared.verb.CopyVerb.TheVariants as copy_verbs
 
-abbrev pub named : NameVerb → List ℕ → Event
-named name_verbs.Start = Start
-named name_verbs.Show = Show
-named name_verbs.Vector = Vector
-named name_verbs.Marks = Marks
-
 abbrev pub used : UseVerb → List ℕ → List ℕ → Event
 used use_verbs.Deliver = Deliver
 used use_verbs.Rollback = Rollback
 
-abbrev pub linked : LinkVerb → List ℕ → List ℕ → ℕ → List ℕ → Event
+abbrev pub linked : LinkVerb → List ℕ → ℕ → List ℕ → Write
 linked link_verbs.Link = Link
 linked link_verbs.Unlink = Unlink
 

@@ -3,16 +3,17 @@
 ghost use Rattle.std.specs.Prelude.{◌≡◌, ◌==◌, ◌<◌, Some, None};
 ghost use Rattle.adr_token.specs.Gives.{Gives, Answers};
 ghost use Rattle.adr_token.specs.Words.{ended};
-ghost use Rattle.adr_schedule.specs.Commands.{add_line, ask_line, binding_line, bound_at, by_verb, calls_at, collect_line, controller_line, crash_at, delete_line, event_of, fail_line, install_line, is_passed, limit_at, link_line, modify_line, name_line, pull_line, rename_line, restore_line, ring_line, rounds_at, serve_line, stop_after, stop_line, time_line, use_line};
-ghost use Rattle.adr_schedule.specs.Shared.{copied, linked, named, pulled, used};
+ghost use Rattle.adr_schedule.specs.Commands.{add_line, ask_line, binding_line, bound_at, by_verb, calls_at, collect_line, controller_line, crash_at, delete_line, event_of, fail_line, install_line, is_passed, limit_at, link_line, modify_line, pull_line, rename_line, report_line, restore_line, ring_line, rounds_at, serve_line, start_line, stop_after, stop_line, time_line, use_line};
+ghost use Rattle.adr_schedule.specs.Shared.{copied, linked, pulled, used};
 
 use crate::crashes::crash_of;
 use crate::limits::{ASK_LIMIT, PLAN_LIMIT, ROUNDS_LIMIT};
 use crate::members::members;
 use crate::sets::sets;
-use crate::verb::{CopyVerb, LinkVerb, NameVerb, PullVerb, UseVerb, verb_said};
+use crate::verb::{CopyVerb, LinkVerb, PullVerb, UseVerb, verb_said};
+use adr_call::{Failure, Report, Write};
 use adr_disk::Crash;
-use adr_event::{Event, Failure, Verb};
+use adr_event::{Event, Verb};
 use adr_guid::Guid;
 use adr_schema::Text;
 use adr_token::{Bad, Line, Stop, without_spaces};
@@ -30,19 +31,13 @@ fn ended<T: Drop>(line: &Line<'_>, value: T) -> Result<T, Stop>
     }
 }
 
-/// NAME, behind one of four verbs.
-#[tactic(auto, unfolding(crate::specs::Commands::name_line))]
-fn named(alloc: Global, verb: NameVerb, line: &mut Line<'_>) -> Result<Event, Stop>
-    ensures { Answers result (name_line (named verb) line.old) }
+/// NAME, behind the word of any report.
+#[tactic(auto, unfolding(crate::specs::Commands::report_line))]
+fn reported(alloc: Global, what: Report, line: &mut Line<'_>) -> Result<Event, Stop>
+    ensures { Answers result (report_line what line.old) }
 {
     let name = line.name(alloc)?;
-    let event = match verb {
-        NameVerb::Start => Event::Start { name },
-        NameVerb::Show => Event::Show { name },
-        NameVerb::Vector => Event::Vector { name },
-        NameVerb::Marks => Event::Marks { name },
-    };
-    ended(line, event)
+    ended(line, Event::Report { name, what })
 }
 
 /// NAME NAME, behind `deliver` or `rollback`.
@@ -71,21 +66,11 @@ fn linked(alloc: Global, verb: LinkVerb, line: &mut Line<'_>) -> Result<Event, S
     let from = line.identifier()?;
     let attr = line.attribute()?;
     let to = line.identifier()?;
-    let event = match verb {
-        LinkVerb::Link => Event::Link {
-            name,
-            from,
-            attr,
-            to,
-        },
-        LinkVerb::Unlink => Event::Unlink {
-            name,
-            from,
-            attr,
-            to,
-        },
+    let what = match verb {
+        LinkVerb::Link => Write::Link { from, attr, to },
+        LinkVerb::Unlink => Write::Unlink { from, attr, to },
     };
-    ended(line, event)
+    ended(line, Event::Write { name, what })
 }
 
 /// MAX: how many items are asked for.
@@ -168,14 +153,14 @@ fn add(alloc: Global, line: &mut Line<'_>) -> Result<Event, Stop>
     line.skip_spaces();
     let text = line.text(alloc)?;
     let values = sets(alloc, line)?;
-    Ok(Event::Add {
-        name,
+    let what = Write::Add {
         guid,
         class,
         parent,
         text,
         values,
-    })
+    };
+    Ok(Event::Write { name, what })
 }
 
 /// How many rounds.
@@ -221,7 +206,8 @@ fn modify(alloc: Global, line: &mut Line<'_>) -> Result<Event, Stop>
     if values.is_empty() {
         return Err(Failure::Refused(Bad));
     }
-    Ok(Event::Modify { name, guid, values })
+    let what = Write::Modify { guid, values };
+    Ok(Event::Write { name, what })
 }
 
 #[tactic(auto, unfolding(crate::specs::Commands::rename_line))]
@@ -233,15 +219,8 @@ fn rename(alloc: Global, line: &mut Line<'_>) -> Result<Event, Stop>
     let parent = line.identifier()?;
     line.skip_spaces();
     let text = line.text(alloc)?;
-    ended(
-        line,
-        Event::Rename {
-            name,
-            guid,
-            parent,
-            text,
-        },
-    )
+    let what = Write::Rename { guid, parent, text };
+    ended(line, Event::Write { name, what })
 }
 
 #[tactic(auto, unfolding(crate::specs::Commands::delete_line))]
@@ -250,7 +229,8 @@ fn delete(alloc: Global, line: &mut Line<'_>) -> Result<Event, Stop>
 {
     let name = line.name(alloc)?;
     let guid = line.identifier()?;
-    ended(line, Event::Delete { name, guid })
+    let what = Write::Delete { guid };
+    ended(line, Event::Write { name, what })
 }
 
 #[tactic(auto, unfolding(crate::specs::Commands::ask_line))]
@@ -376,6 +356,14 @@ fn stop(alloc: Global, line: &mut Line<'_>) -> Result<Event, Stop>
     Ok(Event::Stop { name })
 }
 
+#[tactic(auto, unfolding(crate::specs::Commands::start_line))]
+fn start(alloc: Global, line: &mut Line<'_>) -> Result<Event, Stop>
+    ensures { Answers result (start_line line.old) }
+{
+    let name = line.name(alloc)?;
+    ended(line, Event::Start { name })
+}
+
 #[tactic(auto, unfolding(crate::specs::Commands::fail_line))]
 fn fail(alloc: Global, line: &mut Line<'_>) -> Result<Event, Stop>
     ensures { Answers result (fail_line line.old) }
@@ -413,10 +401,10 @@ fn by_verb(alloc: Global, verb: Verb, line: &mut Line<'_>) -> Result<Event, Stop
         Verb::Rollback => used(alloc, UseVerb::Rollback, line),
         Verb::Stop => stop(alloc, line),
         Verb::Fail => fail(alloc, line),
-        Verb::Start => named(alloc, NameVerb::Start, line),
-        Verb::Show => named(alloc, NameVerb::Show, line),
-        Verb::Vector => named(alloc, NameVerb::Vector, line),
-        Verb::Marks => named(alloc, NameVerb::Marks, line),
+        Verb::Start => start(alloc, line),
+        Verb::Show => reported(alloc, Report::Directory, line),
+        Verb::Vector => reported(alloc, Report::Vector, line),
+        Verb::Marks => reported(alloc, Report::Marks, line),
     }
 }
 

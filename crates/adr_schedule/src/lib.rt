@@ -16,7 +16,8 @@ mod sets;
 mod telling;
 mod verb;
 
-pub use adr_event::{Event, Failure};
+pub use adr_call::Failure;
+pub use adr_event::Event;
 pub use crashes::crash_word;
 pub use fault::{Cause, ScheduleFault};
 pub use laws::{faults_read_back, lines_read_back, schedules_read_back};

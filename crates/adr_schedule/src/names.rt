@@ -4,7 +4,7 @@ ghost use Rattle.std.specs.Prelude.{◌≡◌, false, [], ◌∷◌, ◌++◌, l
 ghost use Rattle.adr_schedule.specs.Seen.{is_bound};
 
 use crate::fault::Cause;
-use adr_event::Failure;
+use adr_call::Failure;
 use adr_schema::Text;
 use indexmap::IndexSet;
 use std::alloc::Global;

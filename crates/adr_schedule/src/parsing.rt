@@ -13,7 +13,8 @@ use crate::fault::{Cause, ScheduleFault};
 use crate::limits::TEXT_LIMIT;
 use crate::lines::first_line;
 use crate::seen::Seen;
-use adr_event::{Event, Failure};
+use adr_call::Failure;
+use adr_event::Event;
 use adr_token::utf8;
 use std::alloc::Global;
 

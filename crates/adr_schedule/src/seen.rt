@@ -8,7 +8,8 @@ ghost use Rattle.adr_schedule.specs.Seen.{nothing_seen, is_bound, is_any_unbound
 use crate::fault::Cause;
 use crate::limits::CONTROLLER_LIMIT;
 use crate::names::Names;
-use adr_event::{Event, Failure};
+use adr_call::Failure;
+use adr_event::Event;
 use adr_guid::Guid;
 use adr_schema::Text;
 use std::alloc::Global;
@@ -253,21 +254,14 @@ impl Seen {
                 snapshot,
             ),
             Event::Revive { name, image, .. } => self.cause_of_use(name, &self.images, image),
-            Event::Add { name, .. }
-            | Event::Modify { name, .. }
-            | Event::Rename { name, .. }
-            | Event::Delete { name, .. }
-            | Event::Link { name, .. }
-            | Event::Unlink { name, .. }
+            Event::Write { name, .. }
             | Event::Collect { name, .. }
             | Event::Upgrade { name }
             | Event::StopAfter { name, .. }
             | Event::Fail { name, .. }
             | Event::Stop { name }
             | Event::Start { name }
-            | Event::Show { name }
-            | Event::Vector { name }
-            | Event::Marks { name } => self.unless_controller(name),
+            | Event::Report { name, .. } => self.unless_controller(name),
         }
     }
 

@@ -5,15 +5,6 @@ ghost use Rattle.adr_schedule.specs.Verbs.{verb_said};
 
 use adr_event::Verb;
 
-/// A verb that stands before one name alone.
-#[derive(Clone, Copy)]
-pub enum NameVerb {
-    Start,
-    Show,
-    Vector,
-    Marks,
-}
-
 /// A verb by which a controller uses what a name stands for.
 #[derive(Clone, Copy)]
 pub enum UseVerb {

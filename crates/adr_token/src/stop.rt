@@ -1,9 +1,11 @@
 //! Why a reader stopped.
 
 use adr_failure::Failure;
+use thiserror::Error;
 
 /// No such token stands there.
-#[derive(Clone, Copy, Debug)]
+#[derive(Clone, Copy, Debug, Error)]
+#[error("no such token")]
 pub struct Bad;
 
 /// Why a token wasn't read.

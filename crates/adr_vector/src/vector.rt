@@ -13,12 +13,14 @@ use adr_failure::{Failure, NoMemory};
 use adr_guid::Guid;
 use std::alloc::Global;
 use std::marker::Model;
+use thiserror::Error;
 
 /// How many cursors a vector has at most: `cursor_limit` of the definitions.
 pub const CURSOR_LIMIT: u64 = 10_000;
 
 /// There would be more cursors than a vector has at most.
-#[derive(Clone, Copy)]
+#[derive(Clone, Copy, Debug, Error)]
+#[error("Full table=Cursors limit={}", CURSOR_LIMIT)]
 pub struct Full;
 
 /// What has been seen: for each invocation identifier the update sequence number up to which all was seen (MS-DRSR,

@@ -1,11 +1,11 @@
 -- What is told of a store to a client that asks for a report.
-use Rattle.adr_event.specs.declared.answer.Outcome.{Outcome}
-use Rattle.adr_event.specs.declared.answer.Outcome.TheVariants as outcomes
+use Rattle.adr_call.specs.declared.outcome.Outcome.{Outcome}
+use Rattle.adr_call.specs.declared.outcome.Outcome.TheVariants as outcomes
+use Rattle.adr_call.specs.declared.report.Report.{Report}
+use Rattle.adr_call.specs.declared.report.Report.TheVariants.{Directory, Vector, Marks}
 use Rattle.adr_model.specs.Directory.{directory}
 use Rattle.adr_model.specs.Store.{Store, updates_of}
 use Rattle.adr_model.specs.World.{marks_shown}
-use Rattle.adr_view.specs.declared.reports.Report.{Report}
-use Rattle.adr_view.specs.declared.reports.Report.TheVariants.{Directory, Vector, Marks}
 
 -- the directory of its rows, what it has seen and when, or how far it has read its partners
 abbrev pub report_of : Report → Store → Outcome

@@ -16,7 +16,7 @@ use crate::links::links_at;
 use crate::names::{Names, youngest_names};
 use crate::shown::shown_name;
 use crate::values::values_at;
-use adr_event::{Directory, Entry};
+use adr_call::{Directory, Entry};
 use adr_state::{Node, Rows};
 use std::alloc::Global;
 

@@ -2,7 +2,7 @@
 //! values and its links. And what it tells a client that asks for a report: that directory, what the
 //! controller has seen, or how far it has read its partners.
 //!
-//! It stands on the rows of `adr_state` and on the entries of `adr_event`, and meets the definitions
+//! It stands on the rows of `adr_state` and on the entries of `adr_call`, and meets the definitions
 //! in `adr_model`. It knows nothing of how rows come to be, of other controllers, or of lines.
 #![tactic(auto)]
 
@@ -16,10 +16,10 @@ mod shown;
 mod slot;
 mod values;
 
-pub use adr_event::Directory;
+pub use adr_call::{Directory, Report};
 pub use adr_state::Rows;
 pub use adr_vector::NoMemory;
 pub use comparing::{same_directory, same_vector};
 pub use entries::directory;
 pub use laws::formed_rows_have_back_links;
-pub use reports::Report;
+pub use reports::report;

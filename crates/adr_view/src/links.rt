@@ -16,7 +16,7 @@ ghost use Rattle.adr_view.specs.Ends.{back_end, forward_end, is_live};
 ghost use Rattle.adr_view.specs.Named.{AreNamed};
 
 use crate::NoMemory;
-use adr_event::{EntryLinks, Guids};
+use adr_call::{EntryLinks, Guids};
 use adr_guid::Guid;
 use adr_stamp::Oid;
 use adr_state::{Held, Key, Rows, Said, Update, is_same_object};

@@ -9,7 +9,7 @@ ghost use Rattle.adr_view.specs.Report.{report_of};
 
 use crate::NoMemory;
 use crate::entries::directory;
-use adr_event::{Outcome, PartnerMarks, Times};
+use adr_call::{Outcome, PartnerMarks, Report, Times};
 use adr_state::{Marks, State};
 use std::alloc::Global;
 
@@ -24,34 +24,21 @@ fn partner_marks(alloc: Global, marks: &Marks) -> Result<PartnerMarks, NoMemory>
     Ok(PartnerMarks::of(list))
 }
 
-/// What a client asks a controller for.
-#[derive(Clone, Copy)]
-pub enum Report {
-    /// The directory of live objects.
-    Directory,
-    /// What the controller has seen of each incarnation, and when.
-    Vector,
-    /// How far it has read its partners.
-    Marks,
-}
-
-impl Report {
-    /// What a client is answered that asks for it.
-    pub fn of(self, alloc: Global, state: &State) -> Result<Outcome, NoMemory>
-        requires links { IsTrue (have_back_links (updates_of state.now.store.rows)) }
-        requires named { AreNamed (updates_of state.now.store.rows) }
-        ensures { IfOk result (λ outcome. outcome ≡ report_of self state.now.store) }
-    {
-        match self {
-            Report::Directory => Ok(Outcome::Show(directory(alloc, state.rows())?)),
-            Report::Vector => {
-                state.knows_no_times();
-                Ok(Outcome::Vector {
-                    vector: state.vector().copy(alloc)?,
-                    times: Times::new(alloc),
-                })
-            }
-            Report::Marks => Ok(Outcome::Marks(partner_marks(alloc, state.marks())?)),
+/// What a client is answered that asks a controller for a report.
+pub fn report(alloc: Global, what: Report, state: &State) -> Result<Outcome, NoMemory>
+    requires links { IsTrue (have_back_links (updates_of state.now.store.rows)) }
+    requires named { AreNamed (updates_of state.now.store.rows) }
+    ensures { IfOk result (λ outcome. outcome ≡ report_of what state.now.store) }
+{
+    match what {
+        Report::Directory => Ok(Outcome::Show(directory(alloc, state.rows())?)),
+        Report::Vector => {
+            state.knows_no_times();
+            Ok(Outcome::Vector {
+                vector: state.vector().copy(alloc)?,
+                times: Times::new(alloc),
+            })
         }
+        Report::Marks => Ok(Outcome::Marks(partner_marks(alloc, state.marks())?)),
     }
 }

@@ -9,7 +9,7 @@ ghost use Rattle.adr_update.specs.Referents.{referents};
 ghost use Rattle.adr_view.specs.Ends.{is_live};
 
 use crate::NoMemory;
-use adr_event::EntryValues;
+use adr_call::EntryValues;
 use adr_schema::{Content, Values};
 use adr_stamp::Oid;
 use adr_state::{Held, Key, Rows, Said, Update, is_same_object};

@@ -1,21 +1,20 @@
-use Rattle.std.proofs.Common.{◌≡◌, sym, subst, ℕ, IfSome, Result, Ok, Err}
+use Rattle.std.proofs.Common.{◌≡◌, sym, subst, ℕ, Result, Ok, Err}
 use Rattle.std.specs.Prelude.{IfOk, IsErrOf}
 use Rattle.adr_failure.specs.declared.Failure.{Failure}
 use Rattle.adr_failure.specs.declared.Failure.TheVariants as failures
-use Rattle.adr_event.specs.declared.event.Event.{Event}
-use Rattle.adr_event.specs.declared.refusal.WriteRefusal.{WriteRefusal}
+use Rattle.adr_call.specs.declared.refusal.WriteRefusal.{WriteRefusal}
+use Rattle.adr_call.specs.declared.write.Write.{Write}
 use Rattle.adr_model.specs.Store.{State}
 use Rattle.adr_model.specs.Change.{Change}
-use Rattle.adr_model.specs.Write.{write}
-use Rattle.adr_controller.specs.Able.{plain_write}
+use Rattle.adr_model.specs.Write.{write, write_meant}
 use Rattle.adr_controller.proofs.writing.change_of.Goals as goal
 
--- the two clauses, by the event
-abbrev Makes : State → ℕ → Result Change (Failure WriteRefusal) → Event → Type 0
-Makes s now result event = IfSome (plain_write event) (λ w. IfOk result (λ change. write s w.what now ≡ Ok change))
+-- the two clauses, by the write
+abbrev Makes : State → ℕ → Result Change (Failure WriteRefusal) → Write → Type 0
+Makes s now result what = IfOk result (λ change. write s (write_meant what) now ≡ Ok change)
 
-abbrev Refuses : State → ℕ → Result Change (Failure WriteRefusal) → Event → Type 0
-Refuses s now result event = IfSome (plain_write event) (λ w. (refusal : WriteRefusal) → IsErrOf result (failures.Refused refusal) → write s w.what now ≡ Err refusal)
+abbrev Refuses : State → ℕ → Result Change (Failure WriteRefusal) → Write → Type 0
+Refuses s now result what = (refusal : WriteRefusal) → IsErrOf result (failures.Refused refusal) → write s (write_meant what) now ≡ Err refusal
 
 pub returns-in-Add-clause-ok : goal.returns-in-Add-clause-ok
 returns-in-Add-clause-ok c = subst (Makes c.args.state.now c.args.now c.add.result) (sym c.in-Add.is) c.add.ensures.ok

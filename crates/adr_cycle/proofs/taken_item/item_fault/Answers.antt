@@ -3,7 +3,7 @@ use Rattle.std.specs.Option.{option_or}
 use Rattle.adr_failure.specs.First.{first_of}
 use Rattle.adr_model.specs.Update.{Update}
 use Rattle.adr_model.specs.Take.{class_among, object_rows_tested, row_fault}
-use Rattle.adr_told.specs.Presence.{defined}
+use Rattle.adr_overlay.specs.Presence.{defined}
 use Rattle.adr_cycle.proofs.Standings.{fault_by, fault_so}
 use Rattle.adr_cycle.proofs.taken_item.item_fault.Goals as goal
 

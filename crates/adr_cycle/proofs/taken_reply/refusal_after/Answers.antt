@@ -2,8 +2,8 @@ use Rattle.std.proofs.Common.{◌<◌, ◌≤◌, Some, Option, ◌∷◌, lengt
 use Rattle.std.specs.Option.{option_copied}
 use Rattle.adr_failure.specs.First.{first_of}
 use Rattle.adr_vector.specs.Vector.{cursor_limit, joined, raised}
-use Rattle.adr_event.specs.declared.refusal.Table.TheVariants.{Objects, Links, Cursors as CursorTable, Marks}
-use Rattle.adr_event.specs.declared.refusal.TakeRefusal.{TakeRefusal}
+use Rattle.adr_call.specs.declared.refusal.Table.TheVariants.{Objects, Links, Cursors as CursorTable, Marks}
+use Rattle.adr_call.specs.declared.refusal.TakeRefusal.{TakeRefusal}
 use Rattle.adr_model.specs.Change.{after, with_mark}
 use Rattle.adr_model.specs.Take.{mark_limit, over_limit, taken_change}
 use Rattle.adr_model.specs.Write.{link_limit, object_limit, usn_limit}

@@ -1,7 +1,7 @@
 use Rattle.std.proofs.Common.{◌+◌, Err, refl, ap, subst}
 use Rattle.adr_failure.specs.declared.Failure.{Failure}
 use Rattle.adr_failure.specs.declared.Failure.TheVariants.{Refused}
-use Rattle.adr_event.specs.declared.refusal.WriteRefusal.{WriteRefusal}
+use Rattle.adr_call.specs.declared.refusal.WriteRefusal.{WriteRefusal}
 use Rattle.adr_model.specs.Write.{AddObject, add_refusal}
 use Rattle.adr_origin.specs.Telling.{Tells}
 use Rattle.adr_origin.proofs.Writes.{passed, passed_on, refused}

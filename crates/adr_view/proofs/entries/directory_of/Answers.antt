@@ -1,5 +1,5 @@
 use Rattle.std.proofs.Common.{◌+◌, ◌++◌, ◌∷◌, [], arith, ap, ◌∙◌}
-use Rattle.adr_event.specs.declared.directory.Entry.{Entry}
+use Rattle.adr_call.specs.declared.directory.Entry.{Entry}
 use Rattle.adr_model.specs.Directory.{entry_of}
 use Rattle.adr_model.specs.Live.{live_rows}
 use Rattle.adr_model.specs.Store.{updates_of}

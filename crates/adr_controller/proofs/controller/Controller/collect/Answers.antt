@@ -1,7 +1,7 @@
 use Rattle.std.proofs.Common.{◌≡◌, sym, ◌∙◌, ap, subst, length, Result, Ok, Err}
 use Rattle.std.proofs.lemmas.Result.{IfOk-at_ok, IfOk-weaker, err_from_is_err_and}
 use Rattle.adr_failure.specs.declared.Failure.{Failure}
-use Rattle.adr_event.specs.declared.refusal.CollectRefusal.{CollectRefusal}
+use Rattle.adr_call.specs.declared.refusal.CollectRefusal.{CollectRefusal}
 use Rattle.adr_model.specs.Change.{Change}
 use Rattle.adr_model.specs.Collect.{collect}
 use Rattle.adr_model.specs.Replica.{change_in}

@@ -4,8 +4,8 @@ use Rattle.adr_model.specs.Collect.{quarantine}
 use Rattle.adr_controller.proofs.Calling.{committed_so, quarantines}
 use Rattle.adr_controller.proofs.controller.Controller.quarantine_if.Goals as goal
 
-pub returns : goal.returns
-returns g c =
+pub returns-clause-calls : goal.returns-clause-calls
+returns-clause-calls g c =
     let s = c.in_ok-state.state.now in
     let change = c.quarantine-change.result in
     let ends = c.commit-committed.ensures in

@@ -1,9 +1,11 @@
-use Rattle.std.proofs.Common.{◌≡◌, inl, inr, refl, sym, ◌∙◌, ap, subst, Some, None, Err}
+use Rattle.std.proofs.Common.{◌≡◌, inl, inr, ⊎_elim, refl, sym, ◌∙◌, ap, subst, Some, None, Err}
 use Rattle.std.proofs.lemmas.Result.{err_from_is_err_and}
 use Rattle.std.specs.Bool.{then_some}
 use Rattle.adr_model.specs.Collect.{quarantine}
 use Rattle.adr_model.specs.Serve.{serve}
 use Rattle.adr_controller.specs.declared.refusal.Hindrance.TheVariants.{NoMemory}
+use Rattle.adr_controller.specs.declared.refusal.CallRefusal.TheVariants.{Refused}
+use Rattle.adr_controller.specs.Ended.{hindrance_in}
 use Rattle.adr_controller.specs.Able.{CanCommit, request_shows, change_of_served, served_in}
 use Rattle.adr_law_journal.proofs.Told.{some_is}
 use Rattle.adr_controller.proofs.Results.{err_same}
@@ -52,3 +54,37 @@ returns-in-Err-Refused-clause-calls g c = λ now.
     as_made g.K.Keeper (λ y. then_some (request_shows r) (quarantine y)) (served_in c.args.request.now now) c.args.self.now c.refuse_request.new.self _
     (λ x is. subst (λ y. then_some (request_shows r) (quarantine y) ≡ served_in c.args.request.now now y) (some_is s x (sym was.0 ∙ is)) (sym (ap (change_of_served s) refused)))
     c.refuse_request.ensures.calls
+
+pub returns-in_err-state-clause-exact : goal.returns-in_err-state-clause-exact
+returns-in_err-state-clause-exact g c = λ x refusal now is shows refuses. absurd (⊎_elim (λ d. let no : ⊥ = cc (is, d.2) in no) (λ f. let no : ⊥ = cc (is, f.2) in no) c.in_err-state.ensures.err)
+
+pub returns-in_err-state-clause-put_back : goal.returns-in_err-state-clause-put_back
+returns-in_err-state-clause-put_back g c = λ x refusal is e shows. absurd (⊎_elim (λ d. let no : ⊥ = cc (is, d.2) in no) (λ f. let no : ⊥ = cc (is, f.2) in no) c.in_err-state.ensures.err)
+
+pub returns-in-Ok-clause-exact : goal.returns-in-Ok-clause-exact
+returns-in-Ok-clause-exact g c = λ x refusal now is shows refuses.
+    let s = c.in_ok-state.state.now in
+    let here = subst (λ y. serve y c.args.request.now now ≡ Err refusal) (some_is x s (sym is ∙ c.in_ok-state.ensures.ok.0)) refuses in
+    absurd (cc (here, c.in-Ok.ensures.ok now))
+
+pub returns-in-Err-NoMemory-clause-exact : goal.returns-in-Err-NoMemory-clause-exact
+returns-in-Err-NoMemory-clause-exact g c = λ x refusal now is shows refuses.
+    let s = c.in_ok-state.state.now in
+    let here = subst (λ y. serve y c.args.request.now now ≡ Err refusal) (some_is x s (sym is ∙ c.in_ok-state.ensures.ok.0)) refuses in
+    absurd (cc ((c.serve.ensures.refused refusal now).1 here, c.in-Err-NoMemory.is, c.in-Err-NoMemory.field-0-is))
+
+pub returns-in-Err-Refused-clause-exact : goal.returns-in-Err-Refused-clause-exact
+returns-in-Err-Refused-clause-exact g c = λ x refusal now is shows refuses.
+    let s = c.in_ok-state.state.now in
+    let r = c.in-Err-Refused.refusal in
+    let refused : serve s c.args.request.now now ≡ Err r = (c.serve.ensures.refused r now).0 (c.in-Err-Refused.is ∙ ap Err c.in-Err-Refused.field-0-is) in
+    let here = subst (λ y. serve y c.args.request.now now ≡ Err refusal) (some_is x s (sym is ∙ c.in_ok-state.ensures.ok.0)) refuses in
+    let same : r ≡ refusal = err_same r refusal _ refused here in
+    ap Err (c.refuse_request.ensures.unshown (ap request_shows same ∙ shows) ∙ ap Refused same)
+
+pub returns-in-Err-Refused-clause-put_back : goal.returns-in-Err-Refused-clause-put_back
+returns-in-Err-Refused-clause-put_back g c = λ x refusal is e shows.
+    let r = c.in-Err-Refused.refusal in
+    let told = err_same c.refuse_request.result (Refused refusal) _ refl e in
+    let shown = ap request_shows (sym (c.refuse_request.ensures.refused refusal told)) ∙ shows in
+    (c.refuse_request.ensures.calls.commits x (quarantine x) is (ap (λ asked. then_some asked (quarantine x)) shown)).done (ap hindrance_in told)

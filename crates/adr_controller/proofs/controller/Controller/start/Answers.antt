@@ -1,4 +1,4 @@
-use Rattle.std.proofs.Common.{⊎_elim, ◌∙◌, ap, subst}
+use Rattle.std.proofs.Common.{rules, ⊎_elim, ◌∙◌, ap, subst}
 use Rattle.adr_controller.specs.Running.{IsInOrder}
 use Rattle.adr_controller.proofs.Orders.{none_when_down}
 use Rattle.adr_controller.proofs.controller.Controller.start.Goals as goal
@@ -17,3 +17,8 @@ returns-in-Err-clause-err g c =
     let order = subst (λ v. IsInOrder g.K.Keeper v) c.self.view_is c.self.invariant in
     let none = ap (λ v. v.state) c.self.view_is ∙ ⊎_elim (λ down. none_when_down g.K.Keeper c.args.self.now order down) (λ none. none) c.requires in
     (none, ap (λ v. v.down) c.self.view_is)
+
+pub returns-in-Ok-clause-ok : goal.returns-in-Ok-clause-ok
+returns-in-Ok-clause-ok g c =
+    let found = c.in-Ok.ensures.ok in
+    record { state = c.in-Ok.state; log = found.0; in_memory = search rules; up = search rules; at = found.1; told = search rules; within = c.in-Ok.ensures.within_found found.0 found.1 }

@@ -1,9 +1,12 @@
-use Rattle.std.proofs.Common.{◌≡◌, inl, refl, sym, ◌∙◌, ap, subst, Some, Ok, Err}
+use Rattle.std.proofs.Common.{◌≡◌, inl, ⊎_elim, refl, sym, ◌∙◌, ap, subst, Some, Ok, Err}
 use Rattle.std.specs.Bool.{then_some}
 use Rattle.std.proofs.lemmas.Result.{IfOk-at_ok, IfOk-weaker, err_from_is_err_and}
 use Rattle.adr_model.specs.Collect.{quarantine}
 use Rattle.adr_model.specs.Take.{take}
 use Rattle.adr_controller.specs.declared.refusal.Hindrance.TheVariants.{NoMemory}
+use Rattle.adr_cycle.specs.ReplyRefused.{refusal_before}
+use Rattle.adr_controller.specs.declared.refusal.CallRefusal.TheVariants.{Refused}
+use Rattle.adr_controller.specs.Ended.{hindrance_in}
 use Rattle.adr_controller.specs.Able.{CanCommit, reply_shows, change_of_taken, taken_in}
 use Rattle.adr_law_journal.proofs.Told.{some_is}
 use Rattle.adr_controller.proofs.Results.{err_same}
@@ -73,3 +76,38 @@ returns-in-Err-Refused-clause-calls g c =
     as_made g.K.Keeper (λ y. then_some (reply_shows r) (quarantine y)) (taken_in c.args.reply.now) c.args.self.now c.refuse_reply.new.self _
     (λ x is. subst (λ y. then_some (reply_shows r) (quarantine y) ≡ taken_in c.args.reply.now y) (some_is s x (sym was.0 ∙ is)) (sym (ap (change_of_taken s) refused)))
     c.refuse_reply.ensures.calls
+
+pub returns-in_err-state-clause-before : goal.returns-in_err-state-clause-before
+returns-in_err-state-clause-before g c = λ x refusal is shows first. absurd (⊎_elim (λ d. let no : ⊥ = cc (is, d.2) in no) (λ f. let no : ⊥ = cc (is, f.2) in no) c.in_err-state.ensures.err)
+
+pub returns-in_err-state-clause-put_back : goal.returns-in_err-state-clause-put_back
+returns-in_err-state-clause-put_back g c = λ x refusal is e shows. absurd (⊎_elim (λ d. let no : ⊥ = cc (is, d.2) in no) (λ f. let no : ⊥ = cc (is, f.2) in no) c.in_err-state.ensures.err)
+
+pub returns-in-Ok-clause-before : goal.returns-in-Ok-clause-before
+returns-in-Ok-clause-before g c = λ x refusal is shows first.
+    let s = c.in_ok-state.state.now in
+    let here = subst (λ y. refusal_before y c.args.reply.now ≡ Some refusal) (some_is x s (sym is ∙ c.in_ok-state.ensures.ok.0)) first in
+    absurd (cc (c.take.ensures.before refusal here, c.in-Ok.is))
+
+pub returns-in-Ok-clause-put_back : goal.returns-in-Ok-clause-put_back
+returns-in-Ok-clause-put_back g c = λ x refusal is e shows. absurd (c.conclude-concluded.ensures.not_refused refusal e)
+
+pub returns-in-Err-NoMemory-clause-before : goal.returns-in-Err-NoMemory-clause-before
+returns-in-Err-NoMemory-clause-before g c = λ x refusal is shows first.
+    let s = c.in_ok-state.state.now in
+    let here = subst (λ y. refusal_before y c.args.reply.now ≡ Some refusal) (some_is x s (sym is ∙ c.in_ok-state.ensures.ok.0)) first in
+    absurd (cc (c.take.ensures.before refusal here, c.in-Err-NoMemory.is, c.in-Err-NoMemory.field-0-is))
+
+pub returns-in-Err-Refused-clause-before : goal.returns-in-Err-Refused-clause-before
+returns-in-Err-Refused-clause-before g c = λ x refusal is shows first.
+    let s = c.in_ok-state.state.now in
+    let r = c.in-Err-Refused.refusal in
+    let here = subst (λ y. refusal_before y c.args.reply.now ≡ Some refusal) (some_is x s (sym is ∙ c.in_ok-state.ensures.ok.0)) first in
+    let same : r ≡ refusal = cc (c.take.ensures.before refusal here, c.in-Err-Refused.is, c.in-Err-Refused.field-0-is) in
+    ap Err (c.refuse_reply.ensures.unshown (ap reply_shows same ∙ shows) ∙ ap Refused same)
+
+pub returns-in-Err-Refused-clause-put_back : goal.returns-in-Err-Refused-clause-put_back
+returns-in-Err-Refused-clause-put_back g c = λ x refusal is e shows.
+    let told = err_same c.refuse_reply.result (Refused refusal) _ refl e in
+    let shown = ap reply_shows (sym (c.refuse_reply.ensures.refused refusal told)) ∙ shows in
+    (c.refuse_reply.ensures.calls.commits x (quarantine x) is (ap (λ asked. then_some asked (quarantine x)) shown)).done (ap hindrance_in told)

@@ -6,8 +6,8 @@ use Rattle.adr_model.specs.Store.{Held, holds_object, updates_of}
 use Rattle.adr_model.specs.Take.{Taking, item_refusal, rows_taken}
 use Rattle.adr_model.specs.Live.{objects_of}
 use Rattle.adr_model.specs.Write.{links_in}
-use Rattle.adr_told.specs.Standing.{IsStanding}
-use Rattle.adr_told.proofs.Standings.{new_unheld}
+use Rattle.adr_overlay.specs.Standing.{IsStanding}
+use Rattle.adr_overlay.proofs.Standings.{new_unheld}
 use Rattle.adr_cycle.proofs.Items.{counted, item_taken}
 use Rattle.adr_cycle.proofs.taking.Taking.take_item.Goals as goal
 

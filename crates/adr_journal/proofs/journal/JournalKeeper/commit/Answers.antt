@@ -28,7 +28,7 @@ write_commit-written-requires-clause-takes g c =
     let change = c.args._change.now in
     let f0 = c.requires.prepared.0 in
     let r = ready (c.requires.prepared.1 c.requires.up) c.requires.prepared.2 c.deref.ensures.value c.deref-2.ensures.value (law.body_follows f0.state change c.requires.prepared.3) (law.body_length f0.state change c.requires.prepared.3)
-    (λ short place. law.tells_area place f0.state (law.begins_anew f0.state change c.requires.prepared.3 short)) (λ short. law.area_length f0.state (law.begins_anew f0.state change c.requires.prepared.3 short)) in
+    (λ short place. law.tells_area place f0.state (law.begins_anew f0.state change c.requires.prepared.3) short) (λ short. law.area_length f0.state (law.begins_anew f0.state change c.requires.prepared.3)) in
     (layout r, f0.state, after f0.state change, c.args.self.now.log, mid r, f.body_of change, takes_both r)
 
 pub write_commit-written-requires-clause-begun : goal.write_commit-written-requires-clause-begun
@@ -39,7 +39,7 @@ write_commit-written-requires-clause-begun g c =
     let change = c.args._change.now in
     let f0 = c.requires.prepared.0 in
     let r = ready (c.requires.prepared.1 c.requires.up) c.requires.prepared.2 c.deref.ensures.value c.deref-2.ensures.value (law.body_follows f0.state change c.requires.prepared.3) (law.body_length f0.state change c.requires.prepared.3)
-    (λ short place. law.tells_area place f0.state (law.begins_anew f0.state change c.requires.prepared.3 short)) (λ short. law.area_length f0.state (law.begins_anew f0.state change c.requires.prepared.3 short)) in
+    (λ short place. law.tells_area place f0.state (law.begins_anew f0.state change c.requires.prepared.3) short) (λ short. law.area_length f0.state (law.begins_anew f0.state change c.requires.prepared.3)) in
     record_within r
 
 pub write_commit-written-requires-clause-ends : goal.write_commit-written-requires-clause-ends
@@ -50,7 +50,7 @@ write_commit-written-requires-clause-ends g c =
     let change = c.args._change.now in
     let f0 = c.requires.prepared.0 in
     let r = ready (c.requires.prepared.1 c.requires.up) c.requires.prepared.2 c.deref.ensures.value c.deref-2.ensures.value (law.body_follows f0.state change c.requires.prepared.3) (law.body_length f0.state change c.requires.prepared.3)
-    (λ short place. law.tells_area place f0.state (law.begins_anew f0.state change c.requires.prepared.3 short)) (λ short. law.area_length f0.state (law.begins_anew f0.state change c.requires.prepared.3 short)) in
+    (λ short place. law.tells_area place f0.state (law.begins_anew f0.state change c.requires.prepared.3) short) (λ short. law.area_length f0.state (law.begins_anew f0.state change c.requires.prepared.3)) in
     near_end r
 
 pub returns-in-Ok-clause-ok : goal.returns-in-Ok-clause-ok
@@ -60,7 +60,7 @@ returns-in-Ok-clause-ok g c = λ f0 at prepared can up.
     let law = g.met.F.Form in
     let change = c.args._change.now in
     let r = ready (at c.requires.up) prepared c.deref.ensures.value c.deref-2.ensures.value (law.body_follows f0.state change can) (law.body_length f0.state change can)
-    (λ short place. law.tells_area place f0.state (law.begins_anew f0.state change can short)) (λ short. law.area_length f0.state (law.begins_anew f0.state change can short)) in
+    (λ short place. law.tells_area place f0.state (law.begins_anew f0.state change can) short) (λ short. law.area_length f0.state (law.begins_anew f0.state change can)) in
     next_at r c.write_commit-written.new.disk (c.in-Ok.ensures.settled (layout r) f0.state (after f0.state change) c.args.self.now.log (mid r) (f.body_of change) (takes_both r))
 
 pub returns-in-Ok-clause-any_moment : goal.returns-in-Ok-clause-any_moment
@@ -70,7 +70,7 @@ returns-in-Ok-clause-any_moment g c = λ f0 at prepared can.
     let law = g.met.F.Form in
     let change = c.args._change.now in
     let r = ready (at c.requires.up) prepared c.deref.ensures.value c.deref-2.ensures.value (law.body_follows f0.state change can) (law.body_length f0.state change can)
-    (λ short place. law.tells_area place f0.state (law.begins_anew f0.state change can short)) (λ short. law.area_length f0.state (law.begins_anew f0.state change can short)) in
+    (λ short place. law.tells_area place f0.state (law.begins_anew f0.state change can) short) (λ short. law.area_length f0.state (law.begins_anew f0.state change can)) in
     moments_behind f.head f.area f.following (λ j. j.disk) d.content d.may_leave d.moment d.left_since c.args.self.now _ c.args.self.now.disk (same_keeps d.content d.may_leave d.moment d.left_since c.args.self.now.disk) (FindsEither f0.state (after f0.state change))
     (c.write_commit-written.ensures.any_moment (layout r) f0.state (after f0.state change) c.args.self.now.log (mid r) (f.body_of change) (takes_both r))
 
@@ -81,7 +81,7 @@ returns-in-Ok-clause-left g c = λ f0 at prepared can.
     let law = g.met.F.Form in
     let change = c.args._change.now in
     let r = ready (at c.requires.up) prepared c.deref.ensures.value c.deref-2.ensures.value (law.body_follows f0.state change can) (law.body_length f0.state change can)
-    (λ short place. law.tells_area place f0.state (law.begins_anew f0.state change can short)) (λ short. law.area_length f0.state (law.begins_anew f0.state change can short)) in
+    (λ short place. law.tells_area place f0.state (law.begins_anew f0.state change can) short) (λ short. law.area_length f0.state (law.begins_anew f0.state change can)) in
     left_behind f.head f.area f.following (λ j. j.disk) d.content d.may_leave d.moment d.left_since c.args.self.now (record (c.args.self.now) { disk = c.write_commit-written.new.disk }) c.args.self.now.disk (same_keeps d.content d.may_leave d.moment d.left_since c.args.self.now.disk) (FindsEither f0.state (after f0.state change))
     (IfSome_then (d.content c.args.self.now.disk) (c.write_commit-written.ensures.left (layout r) f0.state (after f0.state change) c.args.self.now.log (mid r) (f.body_of change) (takes_both r)) (λ there h bytes left.
     either_of (layout r) d.content d.may_leave c.args.self.now.disk c.deref.result.now c.args.self.now.next (c.args.self.now.next.log_end - length c.deref-2.result.now) c.deref-2.result.now f0.state (after f0.state change) c.args.self.now.log (mid r) (f.body_of change) (takes_both r) bytes (h bytes left)))
@@ -98,7 +98,7 @@ returns-in-Ok-clause-within g c = λ f1 file image longest at1 prepared1 within.
     let change = c.args._change.now in
     let f0 = c.requires.prepared.0 in
     let r = ready (c.requires.prepared.1 c.requires.up) c.requires.prepared.2 c.deref.ensures.value c.deref-2.ensures.value (law.body_follows f0.state change c.requires.prepared.3) (law.body_length f0.state change c.requires.prepared.3)
-    (λ short place. law.tells_area place f0.state (law.begins_anew f0.state change c.requires.prepared.3 short)) (λ short. law.area_length f0.state (law.begins_anew f0.state change c.requires.prepared.3 short)) in
+    (λ short place. law.tells_area place f0.state (law.begins_anew f0.state change c.requires.prepared.3) short) (λ short. law.area_length f0.state (law.begins_anew f0.state change c.requires.prepared.3)) in
     let old = c.args.self.now.disk in
     let new = c.write_commit-written.new.disk in
     let at0 = c.requires.prepared.1 c.requires.up in
@@ -121,7 +121,7 @@ returns-in-Err-clause-any_moment g c = λ f0 at prepared can.
     let law = g.met.F.Form in
     let change = c.args._change.now in
     let r = ready (at c.requires.up) prepared c.deref.ensures.value c.deref-2.ensures.value (law.body_follows f0.state change can) (law.body_length f0.state change can)
-    (λ short place. law.tells_area place f0.state (law.begins_anew f0.state change can short)) (λ short. law.area_length f0.state (law.begins_anew f0.state change can short)) in
+    (λ short place. law.tells_area place f0.state (law.begins_anew f0.state change can) short) (λ short. law.area_length f0.state (law.begins_anew f0.state change can)) in
     moments_behind f.head f.area f.following (λ j. j.disk) d.content d.may_leave d.moment d.left_since c.args.self.now _ c.args.self.now.disk (same_keeps d.content d.may_leave d.moment d.left_since c.args.self.now.disk) (FindsEither f0.state (after f0.state change))
     (c.write_commit-written.ensures.any_moment (layout r) f0.state (after f0.state change) c.args.self.now.log (mid r) (f.body_of change) (takes_both r))
 
@@ -132,7 +132,7 @@ returns-in-Err-clause-left g c = λ f0 at prepared can.
     let law = g.met.F.Form in
     let change = c.args._change.now in
     let r = ready (at c.requires.up) prepared c.deref.ensures.value c.deref-2.ensures.value (law.body_follows f0.state change can) (law.body_length f0.state change can)
-    (λ short place. law.tells_area place f0.state (law.begins_anew f0.state change can short)) (λ short. law.area_length f0.state (law.begins_anew f0.state change can short)) in
+    (λ short place. law.tells_area place f0.state (law.begins_anew f0.state change can) short) (λ short. law.area_length f0.state (law.begins_anew f0.state change can)) in
     left_behind f.head f.area f.following (λ j. j.disk) d.content d.may_leave d.moment d.left_since c.args.self.now (record (c.args.self.now) { disk = c.write_commit-written.new.disk }) c.args.self.now.disk (same_keeps d.content d.may_leave d.moment d.left_since c.args.self.now.disk) (FindsEither f0.state (after f0.state change))
     (IfSome_then (d.content c.args.self.now.disk) (c.write_commit-written.ensures.left (layout r) f0.state (after f0.state change) c.args.self.now.log (mid r) (f.body_of change) (takes_both r)) (λ there h bytes left.
     either_of (layout r) d.content d.may_leave c.args.self.now.disk c.deref.result.now c.args.self.now.next (c.args.self.now.next.log_end - length c.deref-2.result.now) c.deref-2.result.now f0.state (after f0.state change) c.args.self.now.log (mid r) (f.body_of change) (takes_both r) bytes (h bytes left)))
@@ -149,7 +149,7 @@ returns-in-Err-clause-within g c = λ f1 file image longest at1 prepared1 within
     let change = c.args._change.now in
     let f0 = c.requires.prepared.0 in
     let r = ready (c.requires.prepared.1 c.requires.up) c.requires.prepared.2 c.deref.ensures.value c.deref-2.ensures.value (law.body_follows f0.state change c.requires.prepared.3) (law.body_length f0.state change c.requires.prepared.3)
-    (λ short place. law.tells_area place f0.state (law.begins_anew f0.state change c.requires.prepared.3 short)) (λ short. law.area_length f0.state (law.begins_anew f0.state change c.requires.prepared.3 short)) in
+    (λ short place. law.tells_area place f0.state (law.begins_anew f0.state change c.requires.prepared.3) short) (λ short. law.area_length f0.state (law.begins_anew f0.state change c.requires.prepared.3)) in
     let old = c.args.self.now.disk in
     let new = c.write_commit-written.new.disk in
     let at0 = c.requires.prepared.1 c.requires.up in
@@ -173,7 +173,7 @@ returns-in-Ok-clause-commits g c =
     let change = c.args._change.now in
     let f0 = c.requires.prepared.0 in
     let r = ready (c.requires.prepared.1 c.requires.up) c.requires.prepared.2 c.deref.ensures.value c.deref-2.ensures.value (law.body_follows f0.state change c.requires.prepared.3) (law.body_length f0.state change c.requires.prepared.3)
-    (λ short place. law.tells_area place f0.state (law.begins_anew f0.state change c.requires.prepared.3 short)) (λ short. law.area_length f0.state (law.begins_anew f0.state change c.requires.prepared.3 short)) in
+    (λ short place. law.tells_area place f0.state (law.begins_anew f0.state change c.requires.prepared.3) short) (λ short. law.area_length f0.state (law.begins_anew f0.state change c.requires.prepared.3)) in
     subst (λ (w : List ℕ). Makes d.gives c.args.self.now.area.items c.args.self.now.next w c.args.self.now.disk None c.write_commit-written.new.disk) r.prepared.is
     (subst (λ (a : List ℕ). Makes d.gives a c.args.self.now.next c.deref-2.result.now c.args.self.now.disk None c.write_commit-written.new.disk) c.deref.ensures.value c.in-Ok.ensures.gives)
 
@@ -185,7 +185,7 @@ returns-in-Err-clause-commits g c =
     let change = c.args._change.now in
     let f0 = c.requires.prepared.0 in
     let r = ready (c.requires.prepared.1 c.requires.up) c.requires.prepared.2 c.deref.ensures.value c.deref-2.ensures.value (law.body_follows f0.state change c.requires.prepared.3) (law.body_length f0.state change c.requires.prepared.3)
-    (λ short place. law.tells_area place f0.state (law.begins_anew f0.state change c.requires.prepared.3 short)) (λ short. law.area_length f0.state (law.begins_anew f0.state change c.requires.prepared.3 short)) in
+    (λ short place. law.tells_area place f0.state (law.begins_anew f0.state change c.requires.prepared.3) short) (λ short. law.area_length f0.state (law.begins_anew f0.state change c.requires.prepared.3)) in
     let failed = failed_so c.in-Err.field-0 (λ is. room_suffices c.deref.result.now c.deref-2.result.now (d.spare_calls c.args.self.now.disk) (d.spare_bytes c.args.self.now.disk) r.prepared.spare (c.in-Err.ensures.no_memory_only is)) in
     subst (λ (w : List ℕ). Makes d.gives c.args.self.now.area.items c.args.self.now.next w c.args.self.now.disk (Some Failed) c.write_commit-written.new.disk) r.prepared.is
     (subst (λ (a : List ℕ). Makes d.gives a c.args.self.now.next c.deref-2.result.now c.args.self.now.disk (Some Failed) c.write_commit-written.new.disk) c.deref.ensures.value
@@ -199,6 +199,6 @@ returns-in-Err-clause-fault g c =
     let change = c.args._change.now in
     let f0 = c.requires.prepared.0 in
     let r = ready (c.requires.prepared.1 c.requires.up) c.requires.prepared.2 c.deref.ensures.value c.deref-2.ensures.value (law.body_follows f0.state change c.requires.prepared.3) (law.body_length f0.state change c.requires.prepared.3)
-    (λ short place. law.tells_area place f0.state (law.begins_anew f0.state change c.requires.prepared.3 short)) (λ short. law.area_length f0.state (law.begins_anew f0.state change c.requires.prepared.3 short)) in
+    (λ short place. law.tells_area place f0.state (law.begins_anew f0.state change c.requires.prepared.3) short) (λ short. law.area_length f0.state (law.begins_anew f0.state change c.requires.prepared.3)) in
     let failed = failed_so c.in-Err.field-0 (λ is. room_suffices c.deref.result.now c.deref-2.result.now (d.spare_calls c.args.self.now.disk) (d.spare_bytes c.args.self.now.disk) r.prepared.spare (c.in-Err.ensures.no_memory_only is)) in
     (refl, c.in-Err.ensures.cause.failed (ap Err failed), refl)

@@ -1,12 +1,14 @@
-use Rattle.std.proofs.Common.{◌≡◌, ℕ, List, length, Some, Err, refl, sym, ◌∙◌, ap, subst, arith}
-use Rattle.adr_law_journal.specs.Areas.{start_of}
+use Rattle.std.proofs.Common.{◌≡◌, ℕ, ◌+◌, ◌≤◌, ◌<◌, List, length, Some, Err, refl, sym, ◌∙◌, ap, subst, arith}
+use Rattle.adr_model.specs.Lengths.{Log}
+use Rattle.adr_law_journal.specs.Areas.{found, start_of}
 use Rattle.adr_law_journal.specs.Kept.{Rests}
 use Rattle.adr_law_journal.proofs.Reading.{area_long}
 use Rattle.adr_law_journal.proofs.Settled.{stands}
-use Rattle.adr_law_journal.proofs.Told.{at_told, if_mapped}
+use Rattle.adr_law_journal.proofs.Told.{at_told, if_mapped, if_told}
 use Rattle.adr_journal.specs.Ended.{StillReads}
 use Rattle.adr_journal.specs.Kept.{ids_of, layout_of}
 use Rattle.adr_journal.specs.declared.keeper.StartRefusal.TheVariants.{NoMemory}
+use Rattle.adr_journal.proofs.Bounded.{found_within}
 use Rattle.adr_journal.proofs.Found.{for_some, left_before, still_within, read_still, still_found}
 use Rattle.adr_journal.proofs.journal.JournalKeeper.start.Goals as goal
 
@@ -114,3 +116,17 @@ returns-clause-within g c = λ file image longest within.
     let d = g.D.Disk in
     let f = g.F.Form in
     still_within f.head f.area f.following d.content d.may_leave c.args.self.now.disk c.read_synced.new.disk file image longest c.read_synced.ensures.told c.read_synced.ensures.left within
+
+pub returns-in-Ok-replay-clause-within_found : goal.returns-in-Ok-replay-clause-within_found
+returns-in-Ok-replay-clause-within_found g c = λ log is_at.
+    let d = g.D.Disk in
+    let f = g.F.Form in
+    let at = is_at refl in
+    let within = c.in-Ok-replay.ensures.within in
+    let same : d.content c.read_synced.new.disk ≡ d.content c.args.self.now.disk = c.in-Ok.ensures.same in
+    found_within f.head f.area f.following d.content d.may_leave c.read_synced.new.disk c.in-Ok-replay.log (found c.in-Ok-replay.state log) at
+    (subst (λ (l : Log). l.place + 6 ≤ l.first) (sym at.is_log) c.in-Ok-replay.ensures.apart)
+    (subst (λ (l : Log). l.first < l.log_end) (sym at.is_log) within.0)
+    (if_told (d.content c.read_synced.new.disk) _ (λ there told.
+    let read = at_told (d.content c.args.self.now.disk) _ there (sym same ∙ told) c.in-Ok.ensures.bytes in
+    omega (arith, within.1, ap length c.deref.ensures.value, ap length read, ap (λ (l : Log). l.log_end) at.is_log)))

@@ -1,7 +1,7 @@
 use Rattle.std.proofs.Common.{◌≡◌, Bool, false, cond, Option, None, Some, ap, sym, ◌∙◌}
 use Rattle.adr_model.specs.Serve.{is_quarantined}
 use Rattle.adr_model.specs.Store.{Store}
-use Rattle.adr_restore.proofs.Adopting.{is_image, said_again}
+use Rattle.adr_restore.proofs.Reading.{is_image, said_again}
 use Rattle.adr_restore.proofs.image.Image.of.Goals as goal
 
 pub invariant_of-result : goal.invariant_of-result

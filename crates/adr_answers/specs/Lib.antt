@@ -1,0 +1,5 @@
+pub mod Line
+pub mod Printable
+pub mod Laws
+pub mod Alone
+pub mod Whole

@@ -1,0 +1,70 @@
+//! What stands at the head of an answer.
+
+ghost use Rattle.std.specs.Prelude.{◌≡◌, IfOk};
+ghost use Rattle.adr_event.specs.Verbs.{name_of};
+ghost use Rattle.adr_answers.specs.Alone.{HasOneAnswer};
+
+use adr_call::Outcome;
+use adr_event::{Answer, Event};
+use adr_schema::{NoMemory, Text};
+use std::alloc::Global;
+
+/// What stands before an outcome: the word of a call, and a controller's name.
+#[derive(Drop)]
+pub struct Heading {
+    pub verb: Text,
+    pub name: Text,
+}
+
+impl Heading {
+    /// The heading of a call. Whoever changes something makes it first: then nothing fails behind the change.
+    pub fn new(alloc: Global, verb: &str, name: &Text) -> Result<Heading, NoMemory>
+        ensures { IfOk result (λ made. (made.verb ≡ verb.now) × (made.name ≡ name.now)) }
+    {
+        Ok(Heading {
+            verb: Text::from_str(alloc, verb)?,
+            name: name.copy(alloc)?,
+        })
+    }
+
+    /// The answer of this outcome.
+    pub fn of(self, outcome: Outcome) -> Answer
+        ensures { result ≡ record { verb = self.verb; name = self.name; outcome = outcome } }
+    {
+        Answer {
+            verb: self.verb,
+            name: self.name,
+            outcome,
+        }
+    }
+}
+
+/// The name of the controller that a line goes to.
+pub fn name_of(event: &Event) -> &Text
+    requires { HasOneAnswer event.now }
+    ensures { result.now ≡ name_of event.now }
+{
+    match event {
+        Event::Controller { name, .. } => name,
+        Event::Write { name, .. } => name,
+        Event::Ask { name, .. } => name,
+        Event::Serve { name, .. } => name,
+        Event::Deliver { name, .. } => name,
+        Event::Collect { name, .. } => name,
+        Event::Upgrade { name, .. } => name,
+        Event::Revive { name, .. } => name,
+        Event::Backup { name, .. } => name,
+        Event::Restore { name, .. } => name,
+        Event::Install { name, .. } => name,
+        Event::Snapshot { name, .. } => name,
+        Event::Rollback { name, .. } => name,
+        Event::StopAfter { name, .. } => name,
+        Event::Fail { name, .. } => name,
+        Event::Stop { name, .. } => name,
+        Event::Start { name, .. } => name,
+        Event::Report { name, .. } => name,
+        Event::Time { .. } | Event::Pull { .. } | Event::Cycle { .. } | Event::Ring { .. } => {
+            unreachable!()
+        }
+    }
+}

@@ -1,0 +1,25 @@
+//! The words of one controller: what a client writes and asks, why a call is refused, what is shown, and how a call went.
+//! Plain values, shared by the definitions, the calls and the answers. It stands on the small types of `adr_guid`,
+//! `adr_stamp`, `adr_schema` and `adr_vector`, and knows nothing of text, of schedules, or of what a call does.
+#![tactic(auto)]
+
+mod directory;
+mod outcome;
+mod partners;
+mod refusal;
+mod report;
+mod write;
+
+pub use adr_failure::Failure;
+pub use adr_schema::{Assignments, SchemaRefusal, Text, Values};
+pub use adr_stamp::Oid;
+pub use adr_vector::{Mark, Times, Vector};
+pub use directory::{Directory, Entry, EntryLinks, EntryValues, Guids};
+pub use outcome::{Field, Fields, Label, Outcome, Plainly};
+pub use partners::PartnerMarks;
+pub use refusal::{
+    AdoptRefusal, CollectRefusal, ItemFault, ServeRefusal, Table, TakeRefusal, UpgradeRefusal,
+    WriteRefusal,
+};
+pub use report::Report;
+pub use write::Write;

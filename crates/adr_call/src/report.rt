@@ -1,0 +1,12 @@
+//! What a client asks for.
+
+/// What a client asks a controller for, which changes nothing.
+#[derive(Clone, Copy)]
+pub enum Report {
+    /// The directory of live objects.
+    Directory,
+    /// What the controller has seen of each incarnation, and when.
+    Vector,
+    /// How far it has read its partners.
+    Marks,
+}

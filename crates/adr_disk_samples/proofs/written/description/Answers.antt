@@ -1,5 +1,0 @@
-use Rattle.std.proofs.lemmas.Str.{is_utf8-from_IsUtf8}
-use Rattle.adr_disk_samples.proofs.written.description.Goals as goal
-
-pub returns : goal.returns
-returns c = is_utf8-from_IsUtf8 c.from_string-text.result c.items.ensures.text

@@ -1,0 +1,4 @@
+pub mod Follows
+mod Steps
+mod Chains
+mod Working

@@ -1,0 +1,65 @@
+//! A controller adopts what an image says.
+
+ghost use Rattle.std.specs.Prelude.{◌≡◌, None, Ok, Err, IfOk, IsErrOf};
+ghost use Rattle.adr_call.specs.declared.refusal.AdoptRefusal.{AdoptRefusal};
+ghost use Rattle.adr_model.specs.Collect.{adopt, adopt_refusal, woken};
+ghost use Rattle.adr_model.specs.Formed.{IsFormedStore};
+ghost use Rattle.adr_model.specs.Update.{Identifier};
+ghost use Rattle.adr_image.specs.Stored.{IsSpelled};
+
+use crate::waking::wake;
+use adr_call::{AdoptRefusal, Table};
+use adr_failure::{Failure, NoMemory};
+use adr_guid::Guid;
+use adr_image::{Contents, names_inv};
+use adr_state::{CURSOR_LIMIT, State};
+use std::alloc::{AllocError, Global};
+
+/// Why a database can't be adopted under an identifier, first in order.
+fn adopt_refusal(contents: &Contents, inv: Guid) -> Option<AdoptRefusal>
+    ensures { (dsa : Identifier) → result ≡ adopt_refusal contents.now inv (woken contents.now dsa inv) }
+{
+    if names_inv(contents, inv) {
+        return Some(AdoptRefusal::IdentifierUsed);
+    }
+    if contents.vector.is_full_for(inv, contents.usn) {
+        return Some(AdoptRefusal::Full {
+            table: Table::Cursors,
+            limit: CURSOR_LIMIT,
+        });
+    }
+    None
+}
+
+/// A controller of a database that can be adopted under the identifier.
+fn woken(alloc: Global, contents: &Contents, dsa: Guid, inv: Guid) -> Result<State, NoMemory>
+    requires formed { IsFormedStore contents.now }
+    requires spelled { IsSpelled contents.now }
+    requires fits { adopt_refusal contents.now inv (woken contents.now dsa inv) ≡ None }
+    ensures { IfOk result (λ state. state ≡ woken contents.now dsa inv) }
+{
+    match wake(alloc, contents, dsa, inv) {
+        Ok(state) => Ok(state),
+        Err(Failure::NoMemory) => Err(AllocError),
+        Err(Failure::Refused(_)) => unreachable!(),
+    }
+}
+
+/// A controller of a database under an identifier that it doesn't name.
+pub fn adopt(
+    alloc: Global,
+    contents: &Contents,
+    dsa: Guid,
+    inv: Guid,
+) -> Result<State, Failure<AdoptRefusal>>
+    requires formed { IsFormedStore contents.now }
+    requires spelled { IsSpelled contents.now }
+    ensures ok { IfOk result (λ state. adopt contents.now dsa inv ≡ Ok state) }
+    ensures refused { (refusal : AdoptRefusal) → IsErrOf result (Failure.Refused refusal)
+        → adopt contents.now dsa inv ≡ Err refusal }
+{
+    match adopt_refusal(contents, inv) {
+        Some(refusal) => Err(Failure::Refused(refusal)),
+        None => Ok(woken(alloc, contents, dsa, inv)?),
+    }
+}

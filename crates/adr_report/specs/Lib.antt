@@ -1,4 +1,0 @@
-pub mod Line
-pub mod Printable
-pub mod Laws
-pub mod Alone

@@ -1,0 +1,10 @@
+use Rattle.std.proofs.Common.{◌≡◌, ◌≤◌, map, take, vec_capacity}
+use Rattle.adr_disk.specs.Memory.{over, torn_write}
+use Rattle.adr_run_disk.specs.Platter.{write_of}
+use Rattle.adr_run_disk.proofs.platter.tear.Given as goal
+
+abbrev pub invariant-writes : goal.invariant-writes
+invariant-writes l = record {
+  items : l.safe.items ≡ over l.fn.safe.items (map torn_write (map (write_of l.log) (take l.entry-index l.entries)));
+  capacity : vec_capacity l.fn.safe ≤ vec_capacity l.safe;
+}

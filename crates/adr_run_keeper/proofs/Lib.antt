@@ -1,0 +1,3 @@
+pub mod Plans
+mod Planning
+pub mod Orders

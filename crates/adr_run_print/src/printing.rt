@@ -1,0 +1,569 @@
+//! The text of some events.
+
+ghost use Rattle.std.specs.Prelude.{◌≡◌, ◌++◌, ◌∷◌, [], IfOk, OnOk, codes, map};
+ghost use Rattle.adr_token.specs.Spelling.{set_token};
+ghost use Rattle.adr_schedule.specs.Crashes.{crash_word};
+ghost use Rattle.adr_schedule.specs.Grammar.{Attribute as attributed, Class as classed, Identifier as identified, Name as named, Number as numbered, Quoted as quoted, Word as said, given_by, given_in, named as names_of, sets, tokens_behind, tokens_written};
+ghost use Rattle.adr_run_print.specs.Printed.{line_of, printed, set_tokens, spaced, token_of, token_text};
+
+use adr_call::Write;
+use adr_disk::Crash;
+use adr_event::Event;
+use adr_guid::Guid;
+use adr_schedule::crash_word;
+use adr_schema::{Assignments, NoMemory, Text, Value};
+use adr_token::{
+    push, push_attribute, push_class, push_identifier, push_number, push_set, push_text,
+};
+use std::alloc::Global;
+
+/// A token of a line.
+#[derive(Clone, Copy)]
+enum Token<'a> {
+    Word(&'a [u8]),
+    Name(&'a Text),
+    Number(u64),
+    Identifier(Guid),
+    Class(u16),
+    Attribute(u16),
+    Quoted(&'a Text),
+}
+
+fn push_token(alloc: Global, out: &mut Vec<u8>, token: &Token<'_>) -> Result<(), NoMemory>
+    ensures { OnOk result (out.new.items ≡ out.old.items ++ token_text (token_of token.now)) }
+{
+    match token {
+        Token::Word(word) => push(out, word),
+        Token::Name(name) => push(out, name.items()),
+        Token::Number(number) => push_number(alloc, out, *number),
+        Token::Identifier(id) => push_identifier(alloc, out, *id),
+        Token::Class(class) => push_class(alloc, out, *class),
+        Token::Attribute(attr) => push_attribute(alloc, out, *attr),
+        Token::Quoted(text) => push_text(out, text.items()),
+    }
+}
+
+/// Adds tokens, each behind a space.
+fn push_tokens(alloc: Global, out: &mut Vec<u8>, tokens: &[Token<'_>]) -> Result<(), NoMemory>
+    ensures { OnOk result (out.new.items
+        ≡ out.old.items ++ spaced (map (λ token. token_text (token_of token)) tokens.now)) }
+{
+    for token in tokens {
+        push(out, b" ")?;
+        push_token(alloc, out, token)?;
+    }
+    Ok(())
+}
+
+fn push_spaced_set(
+    alloc: Global,
+    out: &mut Vec<u8>,
+    attr: u16,
+    values: &[Value],
+) -> Result<(), NoMemory>
+    ensures { OnOk result (out.new.items ≡ out.old.items ++ (codes " " ++ set_token attr values.now)) }
+{
+    push(out, b" ")?;
+    push_set(alloc, out, attr, values)
+}
+
+fn push_sets(alloc: Global, out: &mut Vec<u8>, values: &Assignments) -> Result<(), NoMemory>
+    ensures { OnOk result (out.new.items ≡ out.old.items ++ spaced (set_tokens values.now)) }
+{
+    'attributes: for (attr, list) in values.entries() {
+        push_spaced_set(alloc, out, *attr, list.items())?;
+    }
+    Ok(())
+}
+
+fn push_spaced_name(out: &mut Vec<u8>, name: &Text) -> Result<(), NoMemory>
+    ensures { OnOk result (out.new.items ≡ out.old.items ++ (codes " " ++ name.now)) }
+{
+    push(out, b" ")?;
+    push(out, name.items())
+}
+
+/// Adds names, each behind a space.
+fn push_names(out: &mut Vec<u8>, names: &[Text]) -> Result<(), NoMemory>
+    ensures { OnOk result (out.new.items ≡ out.old.items ++ spaced (map token_text (names_of names.now))) }
+{
+    for name in names {
+        push_spaced_name(out, name)?;
+    }
+    Ok(())
+}
+
+/// Adds tokens and names, each behind a space.
+fn push_with_names(
+    alloc: Global,
+    out: &mut Vec<u8>,
+    tokens: &[Token<'_>],
+    names: &[Text],
+) -> Result<(), NoMemory>
+    ensures { OnOk result (out.new.items
+        ≡ out.old.items
+        ++ (spaced (map (λ token. token_text (token_of token)) tokens.now) ++ spaced (map token_text (names_of names.now)))) }
+{
+    push_tokens(alloc, out, tokens)?;
+    push_names(out, names)
+}
+
+/// NUM MAX NAME NAME.., of `ring`.
+fn push_ring(
+    alloc: Global,
+    out: &mut Vec<u8>,
+    name: &Text,
+    others: &[Text],
+    rounds: u32,
+    max: u32,
+) -> Result<(), NoMemory>
+    ensures { OnOk result (out.new.items
+        ≡ out.old.items ++ spaced (map token_text (numbered rounds ∷ numbered max ∷ named name.now ∷ names_of others.now))) }
+{
+    push_with_names(
+        alloc,
+        out,
+        &[
+            Token::Number(u64::from(rounds)),
+            Token::Number(u64::from(max)),
+            Token::Name(name),
+        ],
+        others,
+    )
+}
+
+/// Adds tokens and sets, each behind a space.
+fn push_with_sets(
+    alloc: Global,
+    out: &mut Vec<u8>,
+    tokens: &[Token<'_>],
+    values: &Assignments,
+) -> Result<(), NoMemory>
+    ensures { OnOk result (out.new.items
+        ≡ out.old.items
+        ++ (spaced (map (λ token. token_text (token_of token)) tokens.now) ++ spaced (set_tokens values.now))) }
+{
+    push_tokens(alloc, out, tokens)?;
+    push_sets(alloc, out, values)
+}
+
+/// NAME ID ID, of `controller`.
+fn push_controller(
+    alloc: Global,
+    out: &mut Vec<u8>,
+    name: &Text,
+    dsa: Guid,
+    inv: Guid,
+) -> Result<(), NoMemory>
+    ensures { OnOk result (out.new.items
+        ≡ out.old.items ++ spaced (map token_text (named name.now ∷ identified dsa ∷ identified inv ∷ []))) }
+{
+    push_tokens(
+        alloc,
+        out,
+        &[
+            Token::Name(name),
+            Token::Identifier(dsa),
+            Token::Identifier(inv),
+        ],
+    )
+}
+
+/// NAME ID CLASS ID TEXT SET.., of `add`.
+fn push_added<'a>(
+    alloc: Global,
+    out: &mut Vec<u8>,
+    name: &'a Text,
+    guid: Guid,
+    class: u16,
+    parent: Guid,
+    text: &'a Text,
+    values: &Assignments,
+) -> Result<(), NoMemory>
+    ensures { OnOk result (out.new.items
+        ≡ out.old.items ++ spaced (map token_text (named name.now ∷ identified guid ∷ classed class ∷ identified parent ∷ quoted text.now ∷ sets values.now))) }
+{
+    push_with_sets(
+        alloc,
+        out,
+        &[
+            Token::Name(name),
+            Token::Identifier(guid),
+            Token::Class(class),
+            Token::Identifier(parent),
+            Token::Quoted(text),
+        ],
+        values,
+    )
+}
+
+/// NAME ID SET.., of `modify`.
+fn push_modified(
+    alloc: Global,
+    out: &mut Vec<u8>,
+    name: &Text,
+    guid: Guid,
+    values: &Assignments,
+) -> Result<(), NoMemory>
+    ensures { OnOk result (out.new.items
+        ≡ out.old.items ++ spaced (map token_text (named name.now ∷ identified guid ∷ sets values.now))) }
+{
+    push_with_sets(
+        alloc,
+        out,
+        &[Token::Name(name), Token::Identifier(guid)],
+        values,
+    )
+}
+
+/// NAME ID ID TEXT, of `rename`.
+fn push_renamed<'a>(
+    alloc: Global,
+    out: &mut Vec<u8>,
+    name: &'a Text,
+    guid: Guid,
+    parent: Guid,
+    text: &'a Text,
+) -> Result<(), NoMemory>
+    ensures { OnOk result (out.new.items
+        ≡ out.old.items ++ spaced (map token_text (named name.now ∷ identified guid ∷ identified parent ∷ quoted text.now ∷ []))) }
+{
+    push_tokens(
+        alloc,
+        out,
+        &[
+            Token::Name(name),
+            Token::Identifier(guid),
+            Token::Identifier(parent),
+            Token::Quoted(text),
+        ],
+    )
+}
+
+/// NAME ID, of `delete`.
+fn push_deleted(alloc: Global, out: &mut Vec<u8>, name: &Text, guid: Guid) -> Result<(), NoMemory>
+    ensures { OnOk result (out.new.items
+        ≡ out.old.items ++ spaced (map token_text (named name.now ∷ identified guid ∷ []))) }
+{
+    push_tokens(alloc, out, &[Token::Name(name), Token::Identifier(guid)])
+}
+
+/// NAME ID ATTR ID, of `link` and `unlink`.
+fn push_linked(
+    alloc: Global,
+    out: &mut Vec<u8>,
+    name: &Text,
+    from: Guid,
+    attr: u16,
+    to: Guid,
+) -> Result<(), NoMemory>
+    ensures { OnOk result (out.new.items
+        ≡ out.old.items ++ spaced (map token_text (named name.now ∷ identified from ∷ attributed attr ∷ identified to ∷ []))) }
+{
+    push_tokens(
+        alloc,
+        out,
+        &[
+            Token::Name(name),
+            Token::Identifier(from),
+            Token::Attribute(attr),
+            Token::Identifier(to),
+        ],
+    )
+}
+
+/// NAME NAME MAX as NAME, of `ask`.
+fn push_asked<'a>(
+    alloc: Global,
+    out: &mut Vec<u8>,
+    name: &'a Text,
+    partner: &'a Text,
+    max: u32,
+    bound: &'a Text,
+) -> Result<(), NoMemory>
+    ensures { OnOk result (out.new.items
+        ≡ out.old.items ++ spaced (map token_text (named name.now ∷ named partner.now ∷ numbered max ∷ said (codes "as") ∷ named bound.now ∷ []))) }
+{
+    push_tokens(
+        alloc,
+        out,
+        &[
+            Token::Name(name),
+            Token::Name(partner),
+            Token::Number(u64::from(max)),
+            Token::Word(b"as"),
+            Token::Name(bound),
+        ],
+    )
+}
+
+/// NAME NAME as NAME, of `serve`.
+fn push_served<'a>(
+    alloc: Global,
+    out: &mut Vec<u8>,
+    name: &'a Text,
+    request: &'a Text,
+    bound: &'a Text,
+) -> Result<(), NoMemory>
+    ensures { OnOk result (out.new.items
+        ≡ out.old.items ++ spaced (map token_text (named name.now ∷ named request.now ∷ said (codes "as") ∷ named bound.now ∷ []))) }
+{
+    push_tokens(
+        alloc,
+        out,
+        &[
+            Token::Name(name),
+            Token::Name(request),
+            Token::Word(b"as"),
+            Token::Name(bound),
+        ],
+    )
+}
+
+/// NAME NAME, of `deliver` and `rollback`.
+fn push_used<'a>(
+    alloc: Global,
+    out: &mut Vec<u8>,
+    name: &'a Text,
+    other: &'a Text,
+) -> Result<(), NoMemory>
+    ensures { OnOk result (out.new.items
+        ≡ out.old.items ++ spaced (map token_text (named name.now ∷ named other.now ∷ []))) }
+{
+    push_tokens(alloc, out, &[Token::Name(name), Token::Name(other)])
+}
+
+/// NAME NAME MAX, of `pull` and `cycle`.
+fn push_pulled<'a>(
+    alloc: Global,
+    out: &mut Vec<u8>,
+    name: &'a Text,
+    source: &'a Text,
+    max: u32,
+) -> Result<(), NoMemory>
+    ensures { OnOk result (out.new.items
+        ≡ out.old.items ++ spaced (map token_text (named name.now ∷ named source.now ∷ numbered max ∷ []))) }
+{
+    push_tokens(
+        alloc,
+        out,
+        &[
+            Token::Name(name),
+            Token::Name(source),
+            Token::Number(u64::from(max)),
+        ],
+    )
+}
+
+/// NAME LIFETIME, of `collect`.
+fn push_collected(
+    alloc: Global,
+    out: &mut Vec<u8>,
+    name: &Text,
+    lifetime: u64,
+) -> Result<(), NoMemory>
+    ensures { OnOk result (out.new.items
+        ≡ out.old.items ++ spaced (map token_text (named name.now ∷ numbered lifetime ∷ []))) }
+{
+    push_tokens(alloc, out, &[Token::Name(name), Token::Number(lifetime)])
+}
+
+/// NAME as NAME, of `backup` and `snapshot`.
+fn push_copied<'a>(
+    alloc: Global,
+    out: &mut Vec<u8>,
+    name: &'a Text,
+    bound: &'a Text,
+) -> Result<(), NoMemory>
+    ensures { OnOk result (out.new.items
+        ≡ out.old.items ++ spaced (map token_text (named name.now ∷ said (codes "as") ∷ named bound.now ∷ []))) }
+{
+    push_tokens(
+        alloc,
+        out,
+        &[Token::Name(name), Token::Word(b"as"), Token::Name(bound)],
+    )
+}
+
+/// NAME NAME ID, of `restore`.
+fn push_restored<'a>(
+    alloc: Global,
+    out: &mut Vec<u8>,
+    name: &'a Text,
+    image: &'a Text,
+    inv: Guid,
+) -> Result<(), NoMemory>
+    ensures { OnOk result (out.new.items
+        ≡ out.old.items ++ spaced (map token_text (named name.now ∷ named image.now ∷ identified inv ∷ []))) }
+{
+    push_tokens(
+        alloc,
+        out,
+        &[
+            Token::Name(name),
+            Token::Name(image),
+            Token::Identifier(inv),
+        ],
+    )
+}
+
+/// NAME ID NAME ID, of `install`.
+fn push_installed<'a>(
+    alloc: Global,
+    out: &mut Vec<u8>,
+    name: &'a Text,
+    dsa: Guid,
+    image: &'a Text,
+    inv: Guid,
+) -> Result<(), NoMemory>
+    ensures { OnOk result (out.new.items
+        ≡ out.old.items ++ spaced (map token_text (named name.now ∷ identified dsa ∷ named image.now ∷ identified inv ∷ []))) }
+{
+    push_tokens(
+        alloc,
+        out,
+        &[
+            Token::Name(name),
+            Token::Identifier(dsa),
+            Token::Name(image),
+            Token::Identifier(inv),
+        ],
+    )
+}
+
+/// NAME after CALLS CRASH, of `stop` where a plan is made.
+fn push_planned(
+    alloc: Global,
+    out: &mut Vec<u8>,
+    name: &Text,
+    calls: u32,
+    how: Crash,
+) -> Result<(), NoMemory>
+    ensures { OnOk result (out.new.items
+        ≡ out.old.items ++ spaced (map token_text (named name.now ∷ said (codes "after") ∷ numbered calls ∷ said (crash_word how) ∷ []))) }
+{
+    push_tokens(
+        alloc,
+        out,
+        &[
+            Token::Name(name),
+            Token::Word(b"after"),
+            Token::Number(u64::from(calls)),
+            Token::Word(crash_word(how)),
+        ],
+    )
+}
+
+/// NAME after CALLS, of `fail`.
+fn push_failed(alloc: Global, out: &mut Vec<u8>, name: &Text, calls: u32) -> Result<(), NoMemory>
+    ensures { OnOk result (out.new.items
+        ≡ out.old.items ++ spaced (map token_text (named name.now ∷ said (codes "after") ∷ numbered calls ∷ []))) }
+{
+    push_tokens(
+        alloc,
+        out,
+        &[
+            Token::Name(name),
+            Token::Word(b"after"),
+            Token::Number(u64::from(calls)),
+        ],
+    )
+}
+
+/// NAME and what stands behind it, of a write.
+fn push_write(alloc: Global, out: &mut Vec<u8>, name: &Text, what: &Write) -> Result<(), NoMemory>
+    ensures { OnOk result (out.new.items
+        ≡ out.old.items ++ spaced (map token_text (named name.now ∷ tokens_written (given_in what.now) what.now))) }
+{
+    match what {
+        Write::Add {
+            guid,
+            class,
+            parent,
+            text,
+            values,
+        } => push_added(alloc, out, name, *guid, *class, *parent, text, values),
+        Write::Modify { guid, values } => push_modified(alloc, out, name, *guid, values),
+        Write::Rename { guid, parent, text } => push_renamed(
+            alloc, out, name, *guid, *parent, text,
+        ),
+        Write::Delete { guid } => push_deleted(alloc, out, name, *guid),
+        Write::Link { from, attr, to } | Write::Unlink { from, attr, to } => {
+            push_linked(alloc, out, name, *from, *attr, *to)
+        }
+    }
+}
+
+/// Adds what stands behind the verb in the line of an event, by one call for each kind: an arm with
+/// many steps makes a long proof.
+#[tactic(auto, unfolding(adr_schedule::specs::Grammar::tokens_behind))]
+fn push_behind(alloc: Global, out: &mut Vec<u8>, event: &Event) -> Result<(), NoMemory>
+    ensures { OnOk result (out.new.items
+        ≡ out.old.items ++ spaced (map token_text (tokens_behind (given_by event.now) event.now))) }
+{
+    match event {
+        Event::Controller { name, dsa, inv } => push_controller(alloc, out, name, *dsa, *inv),
+        Event::Time { now } => push_tokens(alloc, out, &[Token::Number(*now)]),
+        Event::Write { name, what } => push_write(alloc, out, name, what),
+        Event::Ask {
+            name,
+            partner,
+            max,
+            bound,
+            ..
+        } => push_asked(alloc, out, name, partner, *max, bound),
+        Event::Serve {
+            name,
+            request,
+            bound,
+        } => push_served(alloc, out, name, request, bound),
+        Event::Deliver { name, reply } => push_used(alloc, out, name, reply),
+        Event::Pull { name, source, max } | Event::Cycle { name, source, max } => {
+            push_pulled(alloc, out, name, source, *max)
+        }
+        Event::Ring {
+            name,
+            others,
+            rounds,
+            max,
+        } => push_ring(alloc, out, name, others.items(), *rounds, *max),
+        Event::Collect { name, lifetime } => push_collected(alloc, out, name, *lifetime),
+        Event::Upgrade { .. } | Event::Revive { .. } => Ok(()),
+        Event::Backup { name, bound } | Event::Snapshot { name, bound } => {
+            push_copied(alloc, out, name, bound)
+        }
+        Event::Restore { name, image, inv } => push_restored(alloc, out, name, image, *inv),
+        Event::Install {
+            name,
+            dsa,
+            image,
+            inv,
+        } => push_installed(alloc, out, name, *dsa, image, *inv),
+        Event::Rollback { name, snapshot } => push_used(alloc, out, name, snapshot),
+        Event::StopAfter { name, calls, how } => push_planned(alloc, out, name, *calls, *how),
+        Event::Fail { name, calls } => push_failed(alloc, out, name, *calls),
+        Event::Stop { name } | Event::Start { name } | Event::Report { name, .. } => {
+            push_tokens(alloc, out, &[Token::Name(name)])
+        }
+    }
+}
+
+#[tactic(auto, unfolding(crate::specs::Printed::line_of))]
+fn push_line(alloc: Global, out: &mut Vec<u8>, event: &Event) -> Result<(), NoMemory>
+    ensures { OnOk result (out.new.items ≡ out.old.items ++ line_of event.now) }
+{
+    push(out, event.verb().word().as_bytes())?;
+    push_behind(alloc, out, event)
+}
+
+/// The text of some events, a line each. An event that the language has no line for is its verb alone.
+pub fn print(alloc: Global, events: &[Event]) -> Result<Vec<u8>, NoMemory>
+    ensures { IfOk result (λ text. text.items ≡ printed events.now) }
+{
+    let mut out = Vec::new(alloc);
+    for event in events {
+        push_line(alloc, &mut out, event)?;
+        push(&mut out, b"\n")?;
+    }
+    Ok(out)
+}

@@ -1,0 +1,123 @@
+-- What calls of a controller come to, as the definitions say.
+use Rattle.std.proofs.Common.{◌≡◌, ◌∙◌, refl, sym, ap, ℕ, Bool, Option, Some, None, Result, Ok, Err, length, is_some}
+use Rattle.std.specs.Option.{option_map}
+use Rattle.adr_call.specs.declared.outcome.Outcome.{Outcome}
+use Rattle.adr_call.specs.declared.outcome.Outcome.TheVariants as outcomes
+use Rattle.adr_call.specs.declared.write.Write.{Write as Asked}
+use Rattle.adr_call.specs.declared.refusal.WriteRefusal.{WriteRefusal}
+use Rattle.adr_call.specs.declared.refusal.CollectRefusal.{CollectRefusal}
+use Rattle.adr_call.specs.declared.refusal.ServeRefusal.{ServeRefusal}
+use Rattle.adr_call.specs.declared.refusal.ServeRefusal.TheVariants as serves
+use Rattle.adr_call.specs.declared.refusal.TakeRefusal.{TakeRefusal}
+use Rattle.adr_call.specs.declared.refusal.TakeRefusal.TheVariants as takes
+use Rattle.adr_model.specs.Store.{State}
+use Rattle.adr_model.specs.Change.{Change}
+use Rattle.adr_model.specs.Collect.{collect}
+use Rattle.adr_model.specs.Refused.{write_refused, serve_refused, take_refused, collect_refused}
+use Rattle.adr_model.specs.Replica.{Replica, Pending, Call, ToCollect, ToWrite, change_in}
+use Rattle.adr_model.specs.Serve.{Request, Reply, serve}
+use Rattle.adr_model.specs.Take.{take}
+use Rattle.adr_model.specs.World.{World, Gone, Sent, after_write, after_serve, after_take, after_collect, commit, stays, nothing, not_sent, rows_in, noted, where_up}
+use Rattle.adr_model.specs.Write.{Write, write, write_meant}
+use Rattle.adr_controller.specs.Able.{written_in, served_in, taken_in, collected_in, change_of_served, change_of_taken}
+use Rattle.adr_controller.specs.declared.refusal.Hindrance.{Hindrance}
+use Rattle.adr_run_replica.specs.Past.{Past}
+use Rattle.adr_run_replica.specs.Pending.{with_call, writing, served_by, serving, taken_by, taking, collecting}
+use Rattle.adr_run_replica.specs.Led.{StandsIn, world_with}
+use Rattle.adr_run_replica.proofs.Came.{Came, same_world, some_same, by_option}
+
+-- ---- what is pending is a call with the change that the controller makes
+
+with_change : (call : Call) (o : Option Change) → option_map (λ (p : Pending). p.change) (with_call call o) ≡ o
+with_change call None = refl
+with_change call (Some c) = refl
+
+pub same_written : (what : Asked) (now : ℕ) (s : State) → option_map (λ (p : Pending). p.change) (writing (write_meant what) now s) ≡ written_in what now s
+same_written what now s = with_change (ToWrite (write_meant what) now) (change_in (write s (write_meant what) now))
+
+pub same_served : (request : Request) (s : State) → option_map (λ (p : Pending). p.change) (serving request s) ≡ served_in request 0 s
+same_served request s = by (serve s request 0)
+  where
+    by : (t : Result Reply ServeRefusal) → option_map (λ (p : Pending). p.change) (served_by s t) ≡ change_of_served s t
+    by (Ok reply) = refl
+    by (Err refusal) = with_change _ _
+
+pub same_taken : (reply : Reply) (s : State) → option_map (λ (p : Pending). p.change) (taking reply s) ≡ taken_in reply s
+same_taken reply s = by (take s reply)
+  where
+    by : (t : Result Change TakeRefusal) → option_map (λ (p : Pending). p.change) (taken_by reply s t) ≡ change_of_taken s t
+    by (Ok c) = refl
+    by (Err refusal) = with_change _ _
+
+pub same_collected : (now lifetime : ℕ) (s : State) → option_map (λ (p : Pending). p.change) (collecting now lifetime s) ≡ collected_in now lifetime s
+same_collected now lifetime s = with_change (ToCollect now lifetime) (change_in (collect s now lifetime))
+
+-- ---- what the definitions make of a call
+
+-- with nothing to commit it is answered so, and else so when that is committed
+abbrev pub Makes : World → Replica → Option Pending → Gone → Outcome → Type 0
+Makes w r po gone told = (po ≡ None → gone ≡ (w, told)) × ((p : Pending) → po ≡ Some p → gone ≡ commit w r p told)
+
+abbrev pub write_told : Result Change WriteRefusal → Outcome
+write_told (Ok c) = outcomes.Usn c.usn
+write_told (Err refusal) = write_refused refusal
+
+pub write_makes : (w : World) (r : Replica) (what : Write) (t : Result Change WriteRefusal) → Makes w r (with_call (ToWrite what w.time) (change_in t)) (after_write w r what t) (write_told t)
+write_makes w r what (Ok c) = (λ none. absurd (cc none), λ p of. ap (λ x. commit w r x (outcomes.Usn c.usn)) (some_same _ p of))
+write_makes w r what (Err refusal) = (λ none. refl, λ p of. absurd (cc of))
+
+abbrev pub take_told : Reply → Result Change TakeRefusal → Outcome
+take_told reply (Ok c) = outcomes.Took (length reply.items) (length c.writes) c.usn
+take_told reply (Err refusal) = take_refused refusal
+
+pub take_makes : (w : World) (r : Replica) (reply : Reply) (t : Result Change TakeRefusal) → Makes w r (taken_by reply r.safe t) (after_take w r reply t) (take_told reply t)
+take_makes w r reply (Ok c) = (λ none. absurd (cc none), λ p of. ap (λ x. commit w r x (take_told reply (Ok c))) (some_same _ p of))
+take_makes w r reply (Err (takes.RolledBack inv mine shown)) = (λ none. absurd (cc none), λ p of. ap (λ x. commit w r x (take_refused (takes.RolledBack inv mine shown))) (some_same _ p of))
+take_makes w r reply (Err _) = (λ none. refl, λ p of. absurd (cc of))
+
+abbrev pub collect_told : Result Change CollectRefusal → Outcome
+collect_told (Ok c) = outcomes.Removed (length c.removed)
+collect_told (Err refusal) = collect_refused refusal
+
+pub collect_makes : (w : World) (r : Replica) (lifetime : ℕ) (t : Result Change CollectRefusal)
+    → Makes w r (with_call (ToCollect w.time lifetime) (change_in t)) (after_collect w r lifetime t) (collect_told t)
+collect_makes w r lifetime (Ok c) = (λ none. absurd (cc none), λ p of. ap (λ x. commit w r x (collect_told (Ok c))) (some_same _ p of))
+collect_makes w r lifetime (Err refusal) = (λ none. refl, λ p of. absurd (cc of))
+
+abbrev pub serve_told : Result Reply ServeRefusal → Outcome
+serve_told (Ok reply) = outcomes.Served reply.from reply.to (length reply.items) (rows_in reply) (is_some reply.last)
+serve_told (Err refusal) = serve_refused refusal
+
+abbrev pub serve_sent : Result Reply ServeRefusal → Option Reply
+serve_sent (Ok reply) = Some reply
+serve_sent (Err refusal) = None
+
+-- a reply that isn't noted leaves the world as it was
+pub serve_makes : (w : World) (r : Replica) (t : Result Reply ServeRefusal) → ((reply : Reply) → t ≡ Ok reply → noted w reply ≡ w)
+    → (served_by r.safe t ≡ None → after_serve w r t ≡ (w, serve_told t, serve_sent t))
+    × ((p : Pending) → served_by r.safe t ≡ Some p → (after_serve w r t ≡ not_sent (commit w r p (serve_told t))) × (serve_sent t ≡ None))
+serve_makes w r (Ok reply) keeps = (λ none. ap (λ x. let sent : Sent Reply = (x, serve_told (Ok reply), Some reply) in sent) (keeps reply refl), λ p of. absurd (cc of))
+serve_makes w r (Err (serves.RolledBack inv mine shown)) keeps =
+    (λ none. absurd (cc none), λ p of. (ap (λ x. let sent : Sent Reply = not_sent (commit w r x (serve_refused (serves.RolledBack inv mine shown))) in sent) (some_same _ p of), refl))
+serve_makes w r (Err _) keeps = (λ none. refl, λ p of. absurd (cc of))
+
+-- ---- a call that was made
+
+module _ (is_held : Type 0) (r q : Replica) (past later : Past) (po : Option Pending) (state : Option State) (stopped : Bool) (how : Option Hindrance) (came : Came is_held r q past later po state stopped how) (none : how ≡ None) where
+  pub gone_made : (w : World) (gone : Gone) (told : Outcome) → StandsIn w r past → Makes w r po gone told → where_up (stays w) r.standing gone ≡ (world_with w q later, told)
+  gone_made w gone told stands makes =
+      ap (λ st. where_up (stays w) st gone) (came.was_up none).0
+      ∙ by_option po (gone ≡ (world_with w q later, told))
+      (λ idle. makes.0 idle ∙ ap (λ x. (x, told)) (same_world w r q past later stands (came.idle none idle).0 (came.idle none idle).1))
+      (λ p of. makes.1 p of ∙ came.done none p of w told stands)
+
+  pub sent_made : (w : World) (t : Result Reply ServeRefusal) → ((reply : Reply) → t ≡ Ok reply → noted w reply ≡ w) → StandsIn w r past → po ≡ served_by r.safe t
+      → where_up (nothing w) r.standing (after_serve w r t) ≡ (world_with w q later, serve_told t, serve_sent t)
+  sent_made w t keeps stands is =
+      let makes = serve_makes w r t keeps in
+      ap (λ st. where_up (nothing w) st (after_serve w r t)) (came.was_up none).0
+      ∙ by_option po (after_serve w r t ≡ (world_with w q later, serve_told t, serve_sent t))
+      (λ idle. makes.0 (sym is ∙ idle) ∙ ap (λ x. (x, serve_told t, serve_sent t)) (same_world w r q past later stands (came.idle none idle).0 (came.idle none idle).1))
+      (λ p of.
+      let made = makes.1 p (sym is ∙ of) in
+      made.0 ∙ ap not_sent (came.done none p of w (serve_told t) stands) ∙ ap (λ o. (world_with w q later, serve_told t, o)) (sym made.1))

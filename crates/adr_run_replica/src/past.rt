@@ -1,0 +1,113 @@
+//! What happened in a run so far, and the call that a controller keeps.
+
+ghost use Rattle.std.specs.Prelude.{◌≡◌, ◌++◌, ◌∷◌, [], None};
+ghost use Rattle.adr_model.specs.Replica.{begun};
+ghost use Rattle.adr_run_replica.specs.Past.{nothing_yet};
+ghost use Rattle.adr_run_replica.specs.Told.{told_of};
+
+use crate::replica::Replica;
+use crate::told::{Call, Deed, Told};
+use adr_call::Write;
+use adr_cycle::{Reply, Request};
+use adr_guid::Guid;
+use adr_state::State;
+use std::marker::Model;
+
+/// The book of a run: what clients wrote, in the order in which it became safe, and the log of each incarnation, by its
+/// invocation identifier; and the identifiers that lines gave to controllers and to their databases, in order. It keeps
+/// nothing when it runs: contracts see it.
+#[derive(Drop)]
+pub struct Past {
+    told: Told,
+}
+
+impl Model for Past {
+    ghost use Rattle.adr_run_replica.specs.Past.{Past as Defined};
+
+    ghost Value = { Defined };
+
+    ghost view = { λ p. p.told.past };
+}
+
+impl Past {
+    /// The past of a run that hasn't begun.
+    pub fn new() -> Past
+        ensures { result ≡ nothing_yet }
+    {
+        Past { told: Told::new() }
+    }
+
+    /// An incarnation begins with what its state has.
+    pub fn begin(&mut self, state: &State)
+        ensures { self.new ≡ record self.old { book = begun self.old.book state.now } }
+    {
+        let begun = Deed::Begun(state);
+        self.told = self.told.with(&begun);
+    }
+
+    /// A line gives the identifiers of a controller and of its database.
+    pub fn give(&mut self, dsa: Guid, inv: Guid)
+        ensures { self.new
+            ≡ record self.old { given = record { dsas = self.old.given.dsas ++ dsa ∷ []; invs = self.old.given.invs ++ inv ∷ [] } } }
+    {
+        let gave = Deed::Gave { dsa, inv };
+        self.told = self.told.with(&gave);
+    }
+
+    /// A line gives the identifier of a database alone.
+    pub fn give_inv(&mut self, inv: Guid)
+        ensures { self.new
+            ≡ record self.old { given = record { dsas = self.old.given.dsas ++ []; invs = self.old.given.invs ++ inv ∷ [] } } }
+    {
+        let gave = Deed::GaveInv { inv };
+        self.told = self.told.with(&gave);
+    }
+}
+
+/// The call of a controller that is on its disk and isn't safe, if there is one. It keeps nothing when it runs: contracts
+/// see it.
+#[derive(Drop)]
+pub(crate) struct Kept {
+    call: Call,
+}
+
+impl Model for Kept {
+    ghost use Rattle.std.specs.Prelude.{Option};
+    ghost use Rattle.adr_model.specs.Replica.{Pending};
+
+    ghost Value = { Option Pending };
+
+    ghost view = { λ k. k.call.kept };
+}
+
+impl Kept {
+    /// No call.
+    pub(crate) fn none() -> Kept
+        ensures { result ≡ None }
+    {
+        Kept { call: Call::none() }
+    }
+}
+
+/// The past, and a controller's kept call, behind a call that is about to be made.
+#[derive(Drop)]
+pub(crate) struct Ahead {
+    pub(crate) past: Past,
+    pub(crate) kept: Kept,
+}
+
+impl Ahead {
+    pub(crate) fn of(past: &Past, deed: &Deed<'_, State, Replica, Write, Request, Reply>) -> Ahead
+        ensures past { result.past ≡ (told_of past.now deed.now).past }
+        ensures kept { result.kept ≡ (told_of past.now deed.now).kept }
+    {
+        Ahead {
+            past: Past {
+                told: past.told.with(deed),
+            },
+            kept: Kept {
+                call: Call::behind(&past.told, deed),
+            },
+        }
+    }
+}

@@ -1,0 +1,115 @@
+//! What a run was told. Only proofs read it, and it takes no memory.
+
+ghost use Rattle.std.specs.Prelude.{◌≡◌, Option, None};
+ghost use Rattle.adr_model.specs.Replica.{Pending};
+ghost use Rattle.adr_run_replica.specs.Past.{Past, nothing_yet};
+ghost use Rattle.adr_run_replica.specs.Told.{told_of};
+
+use crate::replica::Replica;
+use adr_call::Write;
+use adr_cycle::{Reply, Request};
+use adr_guid::Guid;
+use adr_state::State;
+use std::marker::Model;
+
+/// What a past is told, also before a call that may commit something. The types behind the references are parameters,
+/// since the check isn't told which modules hold a type that an enum has behind a reference.
+#[derive(Drop)]
+pub(crate) enum Deed<'a, S, R, W, Q, A> {
+    /// An incarnation begins with what its state has.
+    Begun(&'a S),
+    /// A line gives the identifiers of a controller and of its database.
+    Gave {
+        dsa: Guid,
+        inv: Guid,
+    },
+    /// A line gives the identifier of a database alone.
+    GaveInv {
+        inv: Guid,
+    },
+    /// A controller is about to write what a client writes, at a time.
+    Writes {
+        replica: &'a R,
+        what: &'a W,
+        now: u64,
+    },
+    /// It is about to answer a request.
+    Serves {
+        replica: &'a R,
+        request: &'a Q,
+    },
+    /// It is about to take a reply.
+    Takes {
+        replica: &'a R,
+        reply: &'a A,
+    },
+    /// It is about to collect its tombstones at a time and after a lifetime.
+    Collects {
+        replica: &'a R,
+        now: u64,
+        lifetime: u64,
+    },
+    /// It is about to be stopped.
+    Stops(&'a R),
+    /// It is about to be started.
+    Starts(&'a R),
+}
+
+/// All that a run was told so far.
+#[derive(Drop)]
+pub(crate) struct Told {
+    pub(crate) ghost past: { Past },
+}
+
+impl Model for Told {
+    ghost use Rattle.std.specs.Borrow.{ftrue};
+
+    ghost also_owns = { λ _. ftrue };
+}
+
+impl Told {
+    /// Nothing yet.
+    pub(crate) fn new() -> Told
+        ensures { result.past ≡ nothing_yet }
+    {
+        Told {}
+    }
+
+    /// And one thing more.
+    pub(crate) fn with(&self, _deed: &Deed<'_, State, Replica, Write, Request, Reply>) -> Told
+        ensures { result.past ≡ (told_of self.now.past _deed.now).past }
+    {
+        Told {}
+    }
+}
+
+/// The call of a controller that is on its disk and isn't safe.
+#[derive(Drop)]
+pub(crate) struct Call {
+    pub(crate) ghost kept: { Option Pending },
+}
+
+impl Model for Call {
+    ghost use Rattle.std.specs.Borrow.{ftrue};
+
+    ghost also_owns = { λ _. ftrue };
+}
+
+impl Call {
+    /// None.
+    pub(crate) fn none() -> Call
+        ensures { result.kept ≡ None }
+    {
+        Call {}
+    }
+
+    /// The one that is kept behind what a past is told.
+    pub(crate) fn behind(
+        _told: &Told,
+        _deed: &Deed<'_, State, Replica, Write, Request, Reply>,
+    ) -> Call
+        ensures { result.kept ≡ (told_of _told.now.past _deed.now).kept }
+    {
+        Call {}
+    }
+}

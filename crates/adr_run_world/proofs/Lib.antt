@@ -1,0 +1,16 @@
+pub mod Places
+pub mod Calls
+pub mod Becoming
+pub mod Pulls
+pub mod Turns
+pub mod Bindings
+pub mod Doors
+pub mod Results
+pub mod Left
+pub mod Tables
+pub mod Adoptions
+pub mod Answered
+pub mod Shows
+pub mod PlayLemmas
+pub mod Tells
+pub mod RingLemmas

@@ -1,0 +1,47 @@
+use Rattle.std.proofs.Common.{◌∙◌, Some, ap, sym}
+use Rattle.std.proofs.lemmas.Result.{IfOk-weaker}
+use Rattle.adr_model.specs.World.{bound_at, delivers, delivered, stays}
+use Rattle.adr_run_world.specs.Run.{world_of}
+use Rattle.adr_run_world.proofs.Becoming.{found_there, stands, undone, apart_with, led}
+use Rattle.adr_run_world.proofs.Bindings.{reply_spelled}
+use Rattle.adr_run_world.proofs.Calls.{reaches_none, no_reply_so}
+use Rattle.adr_run_world.proofs.Results.{on_err_so}
+use Rattle.adr_run_world.proofs.run.Run.take_bound.Goals as goal
+
+pub returns-in_default-clause-taken : goal.returns-in_default-clause-taken
+returns-in_default-clause-taken c =
+    let w = world_of c.args.self.now in
+    reaches_none w c.args.name.now (stays w) (λ r. delivered w r (bound_at w.replies c.args.reply.now)) c.in_default.ensures.none
+
+pub returns-in_default-get-clause-taken : goal.returns-in_default-get-clause-taken
+returns-in_default-get-clause-taken c =
+    let w = world_of c.args.self.now in
+    no_reply_so w c.args.name.now c.index.result.now (found_there c.args.self.now c.args.name.now c.in-Some.place c.index.result.now c.in-Some.ensures.place c.index.ensures c.in-Some.ensures.found) c.not_there.result (c.not_there.ensures w) (bound_at w.replies c.args.reply.now) c.in_default-get.ensures
+
+pub take-requires-clause-spelled : goal.take-requires-clause-spelled
+take-requires-clause-spelled c = (reply_spelled c.args.self.now.replies c.args.reply.now c.in-Some-get.reply.now c.requires.replies c.in-Some-get.ensures).0
+
+pub take-requires-clause-ranged : goal.take-requires-clause-ranged
+take-requires-clause-ranged c = (reply_spelled c.args.self.now.replies c.args.reply.now c.in-Some-get.reply.now c.requires.replies c.in-Some-get.ensures).1
+
+pub returns-clause-taken : goal.returns-clause-taken
+returns-clause-taken c =
+    let w = world_of c.args.self.now in
+    IfOk-weaker c.take.result _ _
+    (λ sent is.
+    ap (delivers w c.args.name.now) (sym c.in-Some-get.ensures)
+    ∙ led c.args.self.now c.args.name.now c.in-Some.place c.index_mut.result.now c.in-Some.ensures.place c.index_mut.ensures.value c.in-Some.ensures.found c.requires c.take.new.self c.take.ensures.name c.take.new.past c.take.ensures.given
+    (λ r. delivered w r (Some c.in-Some-get.reply.now)) sent (is w (stands c.args.self.now c.args.name.now c.in-Some.place c.index_mut.result.now c.in-Some.ensures.place c.index_mut.ensures.value c.in-Some.ensures.found c.requires)))
+    c.take.ensures.taken
+
+pub returns-clause-err : goal.returns-clause-err
+returns-clause-err c =
+    on_err_so c.take.result c.take.ensures.err
+    (undone c.args.self.now c.args.name.now c.in-Some.place c.index_mut.result.now c.in-Some.ensures.place c.index_mut.ensures.value c.in-Some.ensures.found c.requires c.take.new.self c.take.new.past)
+
+pub returns-clause-tidy : goal.returns-clause-tidy
+returns-clause-tidy c = record {
+  apart = apart_with c.args.self.now c.args.name.now c.in-Some.place c.index_mut.result.now c.in-Some.ensures.place c.index_mut.ensures.value c.in-Some.ensures.found c.requires c.take.new.self c.take.ensures.name;
+  requests = c.requires.requests;
+  replies = c.requires.replies;
+}

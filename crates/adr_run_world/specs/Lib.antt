@@ -1,0 +1,7 @@
+pub mod Run
+pub mod Adopted
+pub mod Pulls
+pub mod Short
+pub mod Door
+pub mod Played
+pub mod Rung

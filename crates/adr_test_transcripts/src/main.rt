@@ -1,0 +1,68 @@
+//! Replays the schedules named by its words. In each the answers stand as comments, each behind the
+//! line that it answers: a line that begins with `;> ` is what the program has to write there.
+#![tactic(auto)]
+
+use adr_cmd::run;
+use adr_test_io::{MemSink, MemSource};
+use std::alloc::Global;
+use std::process::ExitCode;
+use std::{env, fs, io};
+
+/// What begins the comment of an answer.
+const ANSWER: &[u8] = b";> ";
+
+/// The answers that stand in a schedule.
+fn answers_in(alloc: Global, schedule: &[u8]) -> io::Result<Vec<u8>> {
+    let mut answers = Vec::new(alloc);
+    for line in schedule.split(|byte| *byte == b'\n') {
+        if let Some(answer) = line.strip_prefix(ANSWER) {
+            answers.extend_from_slice(answer)?;
+            answers.push(b'\n')?;
+        }
+    }
+    Ok(answers)
+}
+
+/// Whether the program writes these answers for the schedule, of which it is given some bytes at a time.
+fn is_answered(alloc: Global, schedule: &[u8], answers: &[u8]) -> io::Result<bool> {
+    let mut words = Vec::new(alloc);
+    words.push(String::from_str(alloc, "replay")?)?;
+    let mut source = MemSource::new(Vec::from_slice(alloc, schedule)?, 7);
+    let mut sink = MemSink::new(alloc);
+    let status = run(alloc, words.as_slice(), &mut source, &mut sink);
+    let due = if answers.starts_with(b"line ".as_slice()) {
+        3
+    } else {
+        0
+    };
+    Ok(status == due && sink.bytes() == answers)
+}
+
+/// Whether the schedule in a file is answered as it says.
+fn is_as_written(rt: &HostRuntime, name: &str) -> io::Result<bool> {
+    let schedule = fs::read(rt, format!(in rt.alloc(); "{name}.schedule")?)?;
+    let answers = answers_in(rt.alloc(), schedule.as_slice())?;
+    is_answered(rt.alloc(), schedule.as_slice(), answers.as_slice())
+}
+
+/// Whether all are as written; each is told.
+fn are_as_written(rt: &HostRuntime) -> io::Result<bool> {
+    let mut all = true;
+    let mut names = env::args(rt)?;
+    let _program = names.next();
+    for name in names {
+        let same = is_as_written(rt, name.as_str())?;
+        let told = if same { "as written" } else { "other answers" };
+        println!(rt; "{name}: {told}")?;
+        all = all && same;
+    }
+    Ok(all)
+}
+
+fn main(rt: HostRuntime) -> ExitCode {
+    match are_as_written(&rt) {
+        Ok(true) => ExitCode::from(0),
+        Ok(false) => ExitCode::from(1),
+        Err(_) => ExitCode::from(2),
+    }
+}
