@@ -24,15 +24,16 @@ CRATES = TREE / "crates"
 RUN = [("adr_cmd/src/top.rt", "fn run")]
 # Functions, types with all their public functions, and traits.
 ROOTS = [
-    ("adr_world/src/world.rt", "type World"),
-    ("adr_replica", "type Replica"),
+    ("adr_run_world/src/world.rt", "type World"),
+    ("adr_run_replica", "type Replica"),
     ("adr_controller", "type Controller"),
     ("adr_journal", "type Journal"),
     ("adr_journal/src/keeper.rt", "trait Keeper"),
-    ("adr_journal/src/planned.rt", "trait PlannedKeeper"),
+    ("adr_run_keeper/src/planned.rt", "trait PlannedKeeper"),
+    ("adr_run_keeper", "fn *"),
     ("adr_records/src/records.rt", "type Records"),
     ("adr_disk/src/disk.rt", "trait Disk"),
-    ("adr_disk_memory", "type MemDisk"),
+    ("adr_run_disk", "type MemDisk"),
     ("adr_image/src/encoding.rt", "fn encode"),
     ("adr_image/src/decoding.rt", "fn decode"),
     ("adr_image/src/changes.rt", "fn decode_change"),
@@ -43,6 +44,7 @@ ROOTS = [
     ("adr_image/src/laws.rt", "fn stores_stay_spelled"),
     ("adr_restore", "type Image"),
     ("adr_law_journal", "fn *"),
+    ("adr_law_controller", "fn *"),
     ("adr_law_convergence", "fn *"),
     ("adr_law_rounds", "fn *"),
     ("adr_law_headline", "fn *"),
