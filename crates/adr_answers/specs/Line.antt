@@ -8,8 +8,12 @@ use Rattle.adr_call.specs.declared.outcome.Field.{Field}
 use Rattle.adr_call.specs.declared.outcome.Plainly.{Plainly}
 use Rattle.adr_call.specs.declared.outcome.Plainly.TheVariants.{Id, Number, Mark as OneMark, Attr, Word}
 use Rattle.adr_call.specs.declared.outcome.Outcome.{Outcome}
-use Rattle.adr_call.specs.declared.outcome.Outcome.TheVariants.{Ok, Usn, Served, Took, Removed, Compared, Show, Vector, Marks, More, Up, Down, Failed, Disk, Stopped, Absent, Refused}
+use Rattle.adr_call.specs.declared.outcome.Outcome.TheVariants.{Ok, Usn, Served, Took, Removed, Compared, Show, Vector, Marks, Meta, More, Up, Down, Failed, Disk, Stopped, Absent, Refused}
 use Rattle.adr_call.specs.declared.directory.Entry.{Entry}
+use Rattle.adr_call.specs.declared.meta.Life.{Life}
+use Rattle.adr_call.specs.declared.meta.Life.TheVariants.{Live, Hidden, Dead}
+use Rattle.adr_call.specs.declared.meta.MetaLine.{MetaLine}
+use Rattle.adr_call.specs.declared.meta.MetaLine.TheVariants.{Object, Row}
 use Rattle.adr_token.specs.Spelling.{identifier_token, text_token, class_token, attribute_token, set_token}
 
 -- an attribute with its values, behind a space
@@ -43,6 +47,22 @@ cursor_line c = codes "  " ++ identifier_token c.0 ++ codes " " ++ decimal c.1 +
 -- the line of a partner: the incarnation that was read, and how far
 unfoldable pub partner_line : List ℕ × List ℕ × Mark → List ℕ
 partner_line p = codes "  " ++ identifier_token p.0 ++ codes " " ++ identifier_token p.1 ++ codes " " ++ mark_text p.2 ++ codes "\n"
+
+-- how an object is held
+abbrev pub life_text : Life → List ℕ
+life_text Live = codes " live"
+life_text Hidden = codes " hidden"
+life_text Dead = codes " dead"
+
+-- the line of an object, or of a row: which write made it, and under which USN it was written here
+unfoldable pub meta_line : MetaLine → List ℕ
+meta_line (Object birth life name) =
+    codes "  object" ++ (codes " birth=" ++ identifier_token birth.inv ++ codes "/" ++ decimal birth.usn)
+    ++ life_text life ++ codes " name=" ++ text_token name ++ codes "\n"
+meta_line (Row attr stamp local) =
+    (codes "  attr=" ++ attribute_token attr ++ codes " version=" ++ decimal stamp.version)
+    ++ (codes " time=" ++ decimal stamp.time ++ codes " inv=" ++ identifier_token stamp.inv)
+    ++ codes " usn=" ++ decimal stamp.usn ++ codes " local=" ++ decimal local ++ codes "\n"
 
 unfoldable pub plain_text : Plainly → List ℕ
 plain_text (Id id) = identifier_token id
@@ -83,6 +103,7 @@ result_text (Compared rounds directories vectors) = codes "ok rounds=" ++ decima
 result_text (Show entries) = decimal (length entries)
 result_text (Vector vector times) = decimal (length vector)
 result_text (Marks marks) = decimal (length marks)
+result_text (Meta lines) = decimal (length lines)
 result_text More = codes "more"
 result_text Up = codes "up"
 result_text Down = codes "down"
@@ -97,6 +118,7 @@ unfoldable pub report_lines : Outcome → List ℕ
 report_lines (Show entries) = flat_map entry_line entries
 report_lines (Vector vector times) = flat_map cursor_line vector
 report_lines (Marks marks) = flat_map partner_line marks
+report_lines (Meta lines) = flat_map meta_line lines
 report_lines _ = []
 
 -- an answer's line, and the lines behind it

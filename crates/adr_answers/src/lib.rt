@@ -9,6 +9,7 @@ mod entries;
 mod knowledge;
 mod laws;
 mod lines;
+mod meta;
 mod telling;
 
 pub use adr_event::Answer;

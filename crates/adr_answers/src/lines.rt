@@ -6,6 +6,7 @@ ghost use Rattle.adr_answers.specs.Line.{plain_text, from_to, left_text, counts_
 
 use crate::entries::push_entries;
 use crate::knowledge::{push_cursors, push_mark, push_number_behind, push_partners};
+use crate::meta::push_meta;
 use adr_call::{Field, Outcome, Plainly};
 use adr_event::Answer;
 use adr_schema::NoMemory;
@@ -186,6 +187,7 @@ fn push_result(alloc: Global, out: &mut Vec<u8>, outcome: &Outcome) -> Result<()
         Outcome::Show(directory) => push_number(alloc, out, directory.entries().len() as u64),
         Outcome::Vector { vector, .. } => push_number(alloc, out, vector.len() as u64),
         Outcome::Marks(marks) => push_number(alloc, out, marks.items().len() as u64),
+        Outcome::Meta(lines) => push_number(alloc, out, lines.items().len() as u64),
         Outcome::More => push(out, b"more"),
         Outcome::Up => push(out, b"up"),
         Outcome::Down => push(out, b"down"),
@@ -210,6 +212,7 @@ fn push_report(alloc: Global, out: &mut Vec<u8>, outcome: &Outcome) -> Result<()
         Outcome::Show(directory) => push_entries(alloc, out, directory.entries()),
         Outcome::Vector { vector, .. } => push_cursors(alloc, out, vector.cursors()),
         Outcome::Marks(marks) => push_partners(alloc, out, marks.items()),
+        Outcome::Meta(lines) => push_meta(alloc, out, lines.items()),
         _ => Ok(()),
     }
 }

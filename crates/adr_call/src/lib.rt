@@ -4,6 +4,7 @@
 #![tactic(auto)]
 
 mod directory;
+mod meta;
 mod outcome;
 mod partners;
 mod refusal;
@@ -12,9 +13,10 @@ mod write;
 
 pub use adr_failure::Failure;
 pub use adr_schema::{Assignments, SchemaRefusal, Text, Values};
-pub use adr_stamp::Oid;
+pub use adr_stamp::{Birth, Oid, Stamp};
 pub use adr_vector::{Mark, Times, Vector};
 pub use directory::{Directory, Entry, EntryLinks, EntryValues, Guids};
+pub use meta::{Life, MetaLine, MetaLines};
 pub use outcome::{Field, Fields, Label, Outcome, Plainly};
 pub use partners::PartnerMarks;
 pub use refusal::{

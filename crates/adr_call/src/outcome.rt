@@ -3,6 +3,7 @@
 ghost use Rattle.std.specs.Prelude.{◌≡◌, ◌∷◌, []};
 
 use crate::directory::Directory;
+use crate::meta::MetaLines;
 use crate::partners::PartnerMarks;
 use adr_guid::Guid;
 use adr_vector::{Mark, Times, Vector};
@@ -169,6 +170,8 @@ pub enum Outcome {
     },
     /// How far each partner was read.
     Marks(PartnerMarks),
+    /// The rows of the GUID that was asked for, and which writes made them.
+    Meta(MetaLines),
     /// So many rounds were made, and then the directories, and the vectors, were all equal or not.
     Compared {
         rounds: u32,
@@ -206,6 +209,7 @@ impl Drop for Outcome {
                 times: _times,
             } => {}
             Outcome::Marks(_marks) => {}
+            Outcome::Meta(_lines) => {}
             Outcome::Refused {
                 number: _,
                 label: _label,

@@ -13,7 +13,7 @@ use std::fmt;
 use thiserror::Error;
 
 /// A table that has a limit.
-#[derive(Clone, Copy, Debug)]
+#[derive(Clone, Copy)]
 pub enum Table {
     /// The objects that a controller holds, live or dead.
     Objects,
@@ -40,7 +40,7 @@ impl fmt::Display for Table {
 }
 
 /// Why an originating write was refused. It then changed nothing. An `attr` is an attribute's number.
-#[derive(Clone, Copy, Debug, Error)]
+#[derive(Clone, Copy, Error)]
 pub enum WriteRefusal {
     /// The schema has no such class.
     #[error("UnknownClass")]
@@ -134,7 +134,7 @@ impl From<WriteRefusal> for Failure<WriteRefusal> {
 }
 
 /// Why a request for changes was refused (MS-DRSR, GetNCChanges; the rules are this project's own).
-#[derive(Clone, Copy, Debug, Error)]
+#[derive(Clone, Copy, Error)]
 pub enum ServeRefusal {
     /// The controller is quarantined.
     #[error("Quarantined")]
@@ -157,7 +157,7 @@ pub enum ServeRefusal {
 }
 
 /// What is wrong with a row of an item.
-#[derive(Clone, Copy, Debug, Error)]
+#[derive(Clone, Copy, Error)]
 pub enum ItemFault {
     /// It breaks the schema.
     #[error(transparent)]
@@ -168,7 +168,7 @@ pub enum ItemFault {
 }
 
 /// Why a reply was not taken. Nothing of it was taken; a controller that answers `RolledBack` is quarantined.
-#[derive(Clone, Copy, Debug, Error)]
+#[derive(Clone, Copy, Error)]
 pub enum TakeRefusal {
     /// The controller is quarantined.
     #[error("Quarantined")]
@@ -203,7 +203,7 @@ pub enum TakeRefusal {
 }
 
 /// Why tombstones were not collected.
-#[derive(Clone, Copy, Debug, Error)]
+#[derive(Clone, Copy, Error)]
 pub enum CollectRefusal {
     /// The controller is quarantined.
     #[error("Quarantined")]
@@ -214,7 +214,7 @@ pub enum CollectRefusal {
 }
 
 /// Why a controller did not change over to schema 2.
-#[derive(Clone, Copy, Debug, Error)]
+#[derive(Clone, Copy, Error)]
 pub enum UpgradeRefusal {
     /// The controller is quarantined.
     #[error("Quarantined")]
@@ -225,7 +225,7 @@ pub enum UpgradeRefusal {
 }
 
 /// Why an image was not adopted.
-#[derive(Clone, Copy, Debug, Error)]
+#[derive(Clone, Copy, Error)]
 pub enum AdoptRefusal {
     /// The image names the identifier.
     #[error("IdentifierUsed")]
@@ -233,4 +233,54 @@ pub enum AdoptRefusal {
     /// The table would pass its limit.
     #[error("Full table={table} limit={limit}")]
     Full { table: Table, limit: u64 },
+}
+
+// Of each refusal `Debug` is its message.
+
+impl fmt::Debug for Table {
+    fn fmt<W: fmt::Write>(&self, f: &mut fmt::Formatter<W>) -> fmt::Result {
+        fmt::Display::fmt(self, f)
+    }
+}
+
+impl fmt::Debug for WriteRefusal {
+    fn fmt<W: fmt::Write>(&self, f: &mut fmt::Formatter<W>) -> fmt::Result {
+        fmt::Display::fmt(self, f)
+    }
+}
+
+impl fmt::Debug for ServeRefusal {
+    fn fmt<W: fmt::Write>(&self, f: &mut fmt::Formatter<W>) -> fmt::Result {
+        fmt::Display::fmt(self, f)
+    }
+}
+
+impl fmt::Debug for ItemFault {
+    fn fmt<W: fmt::Write>(&self, f: &mut fmt::Formatter<W>) -> fmt::Result {
+        fmt::Display::fmt(self, f)
+    }
+}
+
+impl fmt::Debug for TakeRefusal {
+    fn fmt<W: fmt::Write>(&self, f: &mut fmt::Formatter<W>) -> fmt::Result {
+        fmt::Display::fmt(self, f)
+    }
+}
+
+impl fmt::Debug for CollectRefusal {
+    fn fmt<W: fmt::Write>(&self, f: &mut fmt::Formatter<W>) -> fmt::Result {
+        fmt::Display::fmt(self, f)
+    }
+}
+
+impl fmt::Debug for UpgradeRefusal {
+    fn fmt<W: fmt::Write>(&self, f: &mut fmt::Formatter<W>) -> fmt::Result {
+        fmt::Display::fmt(self, f)
+    }
+}
+
+impl fmt::Debug for AdoptRefusal {
+    fn fmt<W: fmt::Write>(&self, f: &mut fmt::Formatter<W>) -> fmt::Result {
+        fmt::Display::fmt(self, f)
+    }
 }

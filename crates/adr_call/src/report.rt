@@ -1,5 +1,7 @@
 //! What a client asks for.
 
+use adr_guid::Guid;
+
 /// What a client asks a controller for, which changes nothing.
 #[derive(Clone, Copy)]
 pub enum Report {
@@ -9,4 +11,6 @@ pub enum Report {
     Vector,
     /// How far it has read its partners.
     Marks,
+    /// Which write made each row of the objects of a GUID, live or not.
+    Meta { guid: Guid },
 }

@@ -1,2 +1,4 @@
 pub mod TopLemmas
 pub mod ShowLemmas
+pub mod Counting
+pub mod Generated

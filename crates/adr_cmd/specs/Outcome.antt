@@ -1,5 +1,5 @@
 -- What a text gives: a status, and what is written.
-use Rattle.std.specs.Prelude.{◌≡◌, ◌⊎◌, ℕ, List, Bool, true, false, Option, Some, Result, Ok, Err, codes}
+use Rattle.std.specs.Prelude.{◌≡◌, ◌⊎◌, ◌<◌, ◌^◌, ℕ, List, Option, Some, None, Result, Ok, Err, codes}
 use Rattle.adr_event.specs.declared.event.Event.{Event}
 use Rattle.adr_io.specs.declared.Fault.{Fault}
 use Rattle.adr_io.specs.declared.Fault.TheVariants.{Failed, NoMemory}
@@ -9,8 +9,15 @@ use Rattle.adr_schedule.specs.Telling.{fault_line}
 use Rattle.adr_model.specs.World.{empty_world}
 use Rattle.adr_run_world.specs.Played.{output_from}
 use Rattle.adr_words.specs.declared.kinds.Command.{Command}
-use Rattle.adr_words.specs.declared.kinds.Command.TheVariants.{Replay}
+use Rattle.adr_words.specs.declared.kinds.Command.TheVariants.{Replay, Exercise}
 use Rattle.adr_words.specs.Commands.{command_of}
+use Rattle.adr_law_headline.specs.Headline.{Headline}
+use Rattle.adr_law_headline.specs.Formed.{AreFormedThroughout}
+use Rattle.adr_law_headline.specs.Printable.{ArePrintableThroughout}
+use Rattle.adr_run_exercise.specs.Generated.{schedule}
+use Rattle.adr_run_exercise.specs.Summary.{summary, summary_line}
+use Rattle.adr_cmd.specs.declared.top.Work.{Work}
+use Rattle.adr_cmd.specs.declared.top.Work.TheVariants as works
 
 -- a schedule of some events gives 0 and the output of their run; a text with a fault gives 3 and the fault's line
 abbrev pub Gives : List ℕ → ℕ → List ℕ → Type 0
@@ -24,13 +31,22 @@ TextsGiveOne =
     (text : List ℕ) → (status : ℕ) × (written : List ℕ) × Gives text status written
     × ((s : ℕ) (w : List ℕ) → Gives text s w → (s ≡ status) × (w ≡ written))
 
--- the one command that runs yet; the words of every other get the usage line
-abbrev pub is_replay_command : Option Command → Bool
-is_replay_command (Some Replay) = true
-is_replay_command _ = false
+-- the commands that run yet; the words of every other get the usage line
+abbrev pub work_of : Option Command → Option Work
+work_of (Some Replay) = Some works.Replay
+work_of (Some (Exercise number)) = Some (works.Exercise number)
+work_of _ = None
 
-abbrev pub is_replay : List (List ℕ) → Bool
-is_replay words = is_replay_command (command_of words)
+abbrev pub work : List (List ℕ) → Option Work
+work words = work_of (command_of words)
+
+-- what `exercise` writes: what the run of the generated schedule comes to
+abbrev pub exercised : ℕ → List ℕ
+exercised number = summary_line number (summary number)
+
+-- of the generated schedules all is claimed that is of those that are read
+abbrev pub GeneratedRunsAreSo : Type 0
+GeneratedRunsAreSo = (number : ℕ) → number < 2 ^ 64 → Headline (schedule number) × AreFormedThroughout (schedule number) × ArePrintableThroughout (schedule number)
 
 unfoldable pub usage_line : List ℕ
 usage_line = codes "usage: adrep replay | exercise N | create NAME | install NAME | restore NAME DSA | backup NAME | show NAME | export NAME | serve NAME PORT COUNT | pull NAME PORT | send PORT\n"

@@ -2,6 +2,7 @@
 //! parser of schedules, the run and the lines of answers, and on sources and sinks of any kind.
 #![tactic(auto)]
 
+mod exercising;
 mod top;
 
 pub use top::run;

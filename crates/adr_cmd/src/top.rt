@@ -6,10 +6,12 @@ ghost use Rattle.adr_law_headline.specs.Headline.{IsHeadline};
 ghost use Rattle.adr_answers.specs.Laws.{EqualLinesMeanEqualDirectories};
 ghost use Rattle.adr_schedule.specs.Limits.{text_limit};
 ghost use Rattle.adr_schedule.specs.Telling.{fault_line};
-ghost use Rattle.adr_cmd.specs.Outcome.{Gives, TextsGiveOne, is_replay, usage_line, ended};
+ghost use Rattle.adr_cmd.specs.Outcome.{Gives, GeneratedRunsAreSo, TextsGiveOne, ended, exercised, usage_line, work};
+ghost use Rattle.adr_cmd.specs.declared.top.Work.TheVariants.{Replay as Replays, Exercise as Exercises};
 ghost use Rattle.adr_cmd.specs.Shown.{AtEachShow};
 ghost use Rattle.adr_cmd.specs.Walked.{outcome};
 
+use crate::exercising::{exercise_line, generated_runs_are_so};
 use adr_failure::NoMemory;
 use adr_io::{Fault, Sink, Source, read_at_most};
 use adr_run_world::play;
@@ -17,13 +19,23 @@ use adr_schedule::{Failure, ScheduleFault, TEXT_LIMIT, discard, fault_line, pars
 use adr_words::{Command, command};
 use std::alloc::Global;
 
-/// Whether the words are those of the one command that runs yet.
-fn is_replay(alloc: Global, words: &[String]) -> Result<bool, NoMemory>
-    ensures { IfOk result (λ is. is ≡ is_replay (map string_bytes words.now)) }
+/// What the program does yet.
+#[derive(Clone, Copy)]
+enum Work {
+    /// Runs the schedule that is read.
+    Replay,
+    /// Runs the generated schedule of a number.
+    Exercise { number: u32 },
+}
+
+/// What the words ask for, of that which the program does yet.
+fn asked(alloc: Global, words: &[String]) -> Result<Option<Work>, NoMemory>
+    ensures { IfOk result (λ asks. asks ≡ work (map string_bytes words.now)) }
 {
     match command(alloc, words)? {
-        Some(Command::Replay) => Ok(true),
-        _ => Ok(false),
+        Some(Command::Replay) => Ok(Some(Work::Replay)),
+        Some(Command::Exercise { number }) => Ok(Some(Work::Exercise { number })),
+        _ => Ok(None),
     }
 }
 
@@ -101,6 +113,20 @@ fn replay<S: Source, K: Sink>(alloc: Global, source: &mut S, sink: &mut K) -> u8
     ended(status, written)
 }
 
+/// Runs the generated schedule of a number, and writes what that comes to.
+fn exercise<K: Sink>(alloc: Global, number: u32, sink: &mut K) -> u8
+    ensures statuses { (result ≡ 0) ⊎ ((result ≡ 5) ⊎ (result ≡ 8)) }
+    ensures added { result ≡ 0 → Adds (K.written sink.old) (K.written sink.new) (exercised number) }
+    ensures front { (result ≡ 5) ⊎ (result ≡ 8) → AddsFront (K.written sink.old) (K.written sink.new) (exercised number) }
+    ensures failed { result ≡ 5 → K.faults sink.old < K.faults sink.new }
+    ensures sink_faults { K.faults sink.old ≤ K.faults sink.new }
+{
+    match exercise_line(alloc, u64::from(number)) {
+        Ok(line) => ended(0, sink.write(line.as_slice())),
+        Err(_) => 8,
+    }
+}
+
 /// Writes the usage line.
 #[tactic(auto, unfolding(crate::specs::Outcome::usage_line))]
 fn usage<K: Sink>(sink: &mut K) -> u8
@@ -118,25 +144,36 @@ fn usage<K: Sink>(sink: &mut K) -> u8
 /// want of memory.
 pub fn run<S: Source, K: Sink>(alloc: Global, words: &[String], source: &mut S, sink: &mut K) -> u8
     // Wrong words get the usage line, and no other words do.
-    ensures usage { result ≡ 2 → is_replay (map string_bytes words.now) ≡ false }
-    ensures usage_only { is_replay (map string_bytes words.now) ≡ false
+    ensures usage { result ≡ 2 → work (map string_bytes words.now) ≡ None }
+    ensures usage_only { work (map string_bytes words.now) ≡ None
         → (result ≡ 2) ⊎ ((result ≡ 5) ⊎ (result ≡ 8)) }
     ensures usage_line { result ≡ 2 → Adds (K.written sink.old) (K.written sink.new) usage_line }
-    ensures usage_front { is_replay (map string_bytes words.now) ≡ false → (result ≡ 5) ⊎ (result ≡ 8)
+    ensures usage_front { work (map string_bytes words.now) ≡ None → (result ≡ 5) ⊎ (result ≡ 8)
         → AddsFront (K.written sink.old) (K.written sink.new) usage_line }
-    ensures usage_unread { is_replay (map string_bytes words.now) ≡ false → source.new ≡ source.old }
+    ensures usage_unread { work (map string_bytes words.now) ≡ None → source.new ≡ source.old }
+
+    // `exercise` reads nothing, and writes what the run of the generated schedule comes to. All that is claimed of the schedules
+    // that are read is claimed of those that are generated.
+    ensures exercised { (number : ℕ) → work (map string_bytes words.now) ≡ Some (Exercises number) → result ≡ 0
+        → Adds (K.written sink.old) (K.written sink.new) (exercised number) }
+    ensures exercised_front { (number : ℕ) → work (map string_bytes words.now) ≡ Some (Exercises number)
+        → (result ≡ 5) ⊎ (result ≡ 8) → AddsFront (K.written sink.old) (K.written sink.new) (exercised number) }
+    ensures exercised_statuses { (number : ℕ) → work (map string_bytes words.now) ≡ Some (Exercises number)
+        → (result ≡ 0) ⊎ ((result ≡ 5) ⊎ (result ≡ 8)) }
+    ensures exercised_unread { (number : ℕ) → work (map string_bytes words.now) ≡ Some (Exercises number) → source.new ≡ source.old }
+    ensures generated { GeneratedRunsAreSo }
 
     // Each text is a schedule of some events or has a fault, by the grammar, and so gives one status and one output. With 0
     // or 3 that is the status and what was written. With 0 the source is at its end.
     ensures texts { TextsGiveOne }
-    ensures written { (result ≡ 0) ⊎ (result ≡ 3)
+    ensures written { work (map string_bytes words.now) ≡ Some Replays → (result ≡ 0) ⊎ (result ≡ 3)
         → IfSome (S.left source.old) (λ text. (given : List ℕ) × Gives text result given
         × Adds (K.written sink.old) (K.written sink.new) given) }
-    ensures ended { result ≡ 0 → IfSome (S.left source.old) (λ text. S.left source.new ≡ Some []) }
+    ensures ended { work (map string_bytes words.now) ≡ Some Replays → result ≡ 0 → IfSome (S.left source.old) (λ text. S.left source.new ≡ Some []) }
 
     // And where a schedule asks a controller that is up for its directory, what was written is there the directory of the
     // issued updates that the controller covers or holds.
-    ensures printed { result ≡ 0
+    ensures printed { work (map string_bytes words.now) ≡ Some Replays → result ≡ 0
         → IfSome (S.left source.old) (λ text. AtEachShow text (Adds (K.written sink.old) (K.written sink.new))) }
 
     // Equal lines mean equal directories, of entries that are printable, as those of every run are (*headline*).
@@ -151,12 +188,12 @@ pub fn run<S: Source, K: Sink>(alloc: Global, words: &[String], source: &mut S, 
     ensures headline { (text : List ℕ) → IsHeadline text }
 
     // With a fault it is a front of that. Of the source no more is read than a text may have, and one byte.
-    ensures front { is_replay (map string_bytes words.now) ≡ true → (result ≡ 5) ⊎ (result ≡ 8)
+    ensures front { work (map string_bytes words.now) ≡ Some Replays → (result ≡ 5) ⊎ (result ≡ 8)
         → IfSome (S.left source.old) (λ text. (status : ℕ) × (given : List ℕ) × Gives text status given
         × AddsFront (K.written sink.old) (K.written sink.new) given) }
     ensures read { IfSome (S.left source.old) (λ before. (n : ℕ) × (n ≤ text_limit + 1)
         × (S.left source.new ≡ Some (drop n before))) }
-    ensures read_whole { (result ≡ 0) ⊎ (result ≡ 3)
+    ensures read_whole { work (map string_bytes words.now) ≡ Some Replays → (result ≡ 0) ⊎ (result ≡ 3)
         → IfSome (S.left source.old) (λ text. S.left source.new ≡ Some (drop (text_limit + 1) text)) }
 
     // A fault has its cause.
@@ -168,9 +205,11 @@ pub fn run<S: Source, K: Sink>(alloc: Global, words: &[String], source: &mut S, 
     ensures source_faults { S.faults source.old ≤ S.faults source.new }
     ensures sink_faults { K.faults sink.old ≤ K.faults sink.new }
 {
-    match is_replay(alloc, words) {
-        Ok(true) => replay(alloc, source, sink),
-        Ok(false) => usage(sink),
+    generated_runs_are_so();
+    match asked(alloc, words) {
+        Ok(Some(Work::Replay)) => replay(alloc, source, sink),
+        Ok(Some(Work::Exercise { number })) => exercise(alloc, number, sink),
+        Ok(None) => usage(sink),
         Err(_) => 8,
     }
 }

@@ -7,7 +7,7 @@ use Rattle.adr_call.specs.declared.report.Report.TheVariants as reports
 use Rattle.adr_event.specs.declared.event.Event.{Event}
 use Rattle.adr_event.specs.declared.event.Event.TheVariants as events
 use Rattle.adr_event.specs.declared.verb.Verb.{Verb}
-use Rattle.adr_event.specs.declared.verb.Verb.TheVariants.{Controller, Time, Add, Modify, Rename, Delete, Link, Unlink, Ask, Serve, Deliver, Pull, Cycle, Ring, Collect, Upgrade, Revive, Backup, Restore, Install, Snapshot, Rollback, Stop, Fail, Start, Show, Vector, Marks}
+use Rattle.adr_event.specs.declared.verb.Verb.TheVariants.{Controller, Time, Add, Modify, Rename, Delete, Link, Unlink, Ask, Serve, Deliver, Pull, Cycle, Ring, Collect, Upgrade, Revive, Backup, Restore, Install, Snapshot, Rollback, Stop, Fail, Start, Show, Vector, Marks, Meta}
 
 abbrev pub word_of : Verb → List ℕ
 word_of Controller = codes "controller"
@@ -38,6 +38,7 @@ word_of Start = codes "start"
 word_of Show = codes "show"
 word_of Vector = codes "vector"
 word_of Marks = codes "marks"
+word_of Meta = codes "meta"
 
 -- the verb of the line that says a write, and of the one that asks for a report
 
@@ -53,6 +54,7 @@ abbrev pub verb_of_report : Report → Verb
 verb_of_report reports.Directory = Show
 verb_of_report reports.Vector = Vector
 verb_of_report reports.Marks = Marks
+verb_of_report (reports.Meta guid) = Meta
 
 -- the verb of an event's line
 abbrev pub verb_of : Event → Verb

@@ -37,6 +37,7 @@ pub enum Verb {
     Show,
     Vector,
     Marks,
+    Meta,
 }
 
 impl Verb {
@@ -73,6 +74,7 @@ impl Verb {
             Verb::Show => "show",
             Verb::Vector => "vector",
             Verb::Marks => "marks",
+            Verb::Meta => "meta",
         }
     }
 }
@@ -99,6 +101,7 @@ fn verb_of_report(what: Report) -> Verb
         Report::Directory => Verb::Show,
         Report::Vector => Verb::Vector,
         Report::Marks => Verb::Marks,
+        Report::Meta { .. } => Verb::Meta,
     }
 }
 

@@ -1,99 +1,184 @@
-//! A disk over a file. It stands on the trait of `adr_disk`, and tells nothing of its bytes.
+//! A disk over a file of the present folder. It stands on the trait of `adr_disk`, and tells nothing of its bytes.
 #![tactic(auto)]
 
-ghost use Rattle.std.specs.Prelude.{◌≡◌, ◌-◌, ◌^◌, ◌≤◌, Option, Some, None, ⊤, IfOk, length};
+ghost use Rattle.std.specs.Prelude.{◌≡◌, ◌+◌, ◌-◌, ◌^◌, ◌≤◌, Option, Some, None, true, false, ⊤, IfOk, OnOk, OnErr, IsErr, IsErrOf, length};
+ghost use Rattle.adr_file.specs.State.{CountsOne};
+
+mod folder;
 
 use adr_disk::Disk;
 use adr_io::{Failures, Fault};
-use arrayvec::ArrayString;
-use std::fs::{File, Files, OpenFile, OpenOptions};
+use folder::FileName;
+use std::fs::{File, Files, OpenFile};
 use std::io;
+use std::marker::Model;
 use std::os::unix::fs::FileExt;
 
-/// The longest name that a file can have, in bytes.
-const LONGEST_NAME: usize = 255;
-
-/// `NAME.adr`; none where no file can be called so.
-fn file_name(name: &str) -> Option<ArrayString<LONGEST_NAME>> {
-    let mut path = ArrayString::new();
-    if path.try_push_str(name).is_err() {
-        return None;
-    }
-    if path.try_push_str(".adr").is_err() {
-        return None;
-    }
-    Some(path)
-}
-
 /// A file in the present folder, and how many calls have failed.
+///
+/// It is made at its first write, with mode 0600 and never over another, and is locked while it is attached: a second
+/// process that would open or make it meets a fault. Where it isn't there it has no bytes. Before the first sync answers
+/// `Ok` the folder is synced too, so that a power failure leaves the file's name.
+///
+/// Where a sync failed, the file is let go, and each further call but `reserve` fails until `attach` opens it anew. By
+/// then Linux may have forgotten which bytes were not written, and a sync that passes says nothing of those.
 #[derive(Drop)]
 pub struct FileDisk<R> {
     files: R,
+    path: Option<FileName>,
+    /// None where it isn't there.
     file: Option<File>,
+    /// Whether the folder was synced since the file was looked for or made.
+    is_name_safe: bool,
     failures: Failures,
+}
+
+impl<R> Model for FileDisk<R> {
+    ghost use Rattle.std.specs.Prelude.{is_some};
+    ghost use Rattle.adr_file.specs.State.{FileState};
+
+    ghost Value = { FileState };
+
+    ghost view = { λ d. record { is_attached = is_some d.path; faults = d.failures } };
+}
+
+fn not_attached() -> io::Error {
+    io::Error::from(io::ErrorKind::NotConnected)
 }
 
 impl<R: Files<File = File> + Drop> FileDisk<R> {
     /// No file as yet: `attach` opens it.
     pub fn new(files: R) -> FileDisk<R>
-        ensures { ⟦<FileDisk<R> as Disk>⟧.faults result ≡ 0 }
+        ensures { result ≡ record { is_attached = false; faults = 0 } }
     {
         FileDisk {
             files,
+            path: None,
             file: None,
+            is_name_safe: false,
             failures: Failures::new(),
         }
     }
 
-    fn open(&self, name: &str) -> io::Result<File> {
-        let Some(path) = file_name(name) else {
+    fn let_go(&mut self)
+        ensures { self.new ≡ record self.old { is_attached = false } }
+    {
+        self.path = None;
+        self.file = None;
+    }
+
+    fn open(&mut self, name: &str) -> io::Result<()>
+        ensures attached { OnOk result (self.new ≡ record self.old { is_attached = true }) }
+        ensures detached { OnErr result (self.new ≡ record self.old { is_attached = false }) }
+    {
+        // The lock of a file that is still open would stand in the way.
+        self.let_go();
+        let Some(path) = folder::file_name(name) else {
             return Err(io::Error::from(io::ErrorKind::InvalidInput));
         };
-        OpenOptions::new()
-            .read(true)
-            .write(true)
-            .create(true)
-            .open(&self.files, path.as_str())
+        self.file = folder::open(&self.files, &path)?;
+        self.is_name_safe = false;
+        self.path = Some(path);
+        Ok(())
     }
 
-    fn opened(&self) -> io::Result<&File> {
-        match &self.file {
-            Some(file) => Ok(file),
-            None => Err(io::Error::from(io::ErrorKind::NotFound)),
+    /// The file, if it is there.
+    fn opened(&self) -> io::Result<Option<&File>>
+        ensures { self.now.is_attached ≡ false → IsErr result }
+    {
+        if self.path.is_none() {
+            return Err(not_attached());
         }
+        Ok(self.file.as_ref())
     }
 
-    fn count_bytes(&self) -> io::Result<u64> {
-        Ok(self.opened()?.metadata()?.len())
+    fn count_bytes(&self) -> io::Result<u64>
+        ensures { self.now.is_attached ≡ false → IsErr result }
+    {
+        match self.opened()? {
+            Some(file) => Ok(file.metadata()?.len()),
+            None => Ok(0),
+        }
     }
 
     /// Reads until the buffer is full or the file ends.
     fn fill(&self, at: u64, into: &mut [u8]) -> io::Result<usize>
-        ensures { IfOk result (λ n. n ≤ length into.new) }
+        ensures within { IfOk result (λ n. n ≤ length into.new) }
+        ensures refused { self.now.is_attached ≡ false → IsErr result }
     {
-        let file = self.opened()?;
-        let mut filled = 0;
-        'parts: while filled < into.len() {
-            let place = at.saturating_add(filled as u64);
-            match file.read_at(&mut into[filled..], place)? {
-                0 => break,
-                n => filled += n,
-            }
+        match self.opened()? {
+            Some(file) => fill_from(file, at, into),
+            None => Ok(0),
         }
-        Ok(filled)
     }
 
-    fn write_whole(&self, at: u64, bytes: &[u8]) -> io::Result<()> {
-        self.opened()?.write_all_at(bytes, at)
+    /// The file, which is made where it isn't there.
+    fn made(&mut self) -> io::Result<()>
+        ensures refused { self.old.is_attached ≡ false → IsErr result }
+        ensures same { self.new ≡ self.old }
+    {
+        let Some(path) = &self.path else {
+            return Err(not_attached());
+        };
+        if self.file.is_none() {
+            let file = folder::make(&self.files, path)?;
+            self.file = Some(file);
+            self.is_name_safe = false;
+        }
+        Ok(())
     }
 
-    fn sync_whole(&self) -> io::Result<()> {
-        self.opened()?.sync_all()
+    fn write_whole(&mut self, at: u64, bytes: &[u8]) -> io::Result<()>
+        ensures refused { self.old.is_attached ≡ false → IsErr result }
+        ensures same { self.new ≡ self.old }
+    {
+        self.made()?;
+        match &self.file {
+            Some(file) => file.write_all_at(bytes, at),
+            None => Err(not_attached()),
+        }
+    }
+
+    fn sync_whole(&mut self) -> io::Result<()>
+        ensures refused { self.old.is_attached ≡ false → IsErr result }
+        ensures same { self.new ≡ self.old }
+    {
+        if let Some(file) = self.opened()? {
+            file.sync_all()?;
+        }
+        if !self.is_name_safe {
+            folder::sync_names(&self.files)?;
+            self.is_name_safe = true;
+        }
+        Ok(())
+    }
+
+    fn fail(&mut self) -> Fault
+        ensures failed { result ≡ Fault.Failed → self.new ≡ record self.old { faults = self.old.faults + 1 } }
+        ensures no_memory { result ≡ Fault.NoMemory → self.new ≡ self.old }
+        ensures limit { result ≡ Fault.NoMemory → self.old.faults ≡ 2 ^ 64 - 1 }
+    {
+        self.failures.fail()
     }
 }
 
+/// Reads until the buffer is full or the file ends.
+fn fill_from(file: &File, at: u64, into: &mut [u8]) -> io::Result<usize>
+    ensures { IfOk result (λ n. n ≤ length into.new) }
+{
+    let mut filled = 0;
+    'parts: while filled < into.len() {
+        let place = at.saturating_add(filled as u64);
+        match file.read_at(&mut into[filled..], place)? {
+            0 => break,
+            n => filled += n,
+        }
+    }
+    Ok(filled)
+}
+
 impl<R: Files<File = File> + Drop> Disk for FileDisk<R> {
-    ghost faults = { λ d. d.failures };
+    ghost faults = { λ d. d.faults };
 
     ghost content = { λ _. None };
 
@@ -104,7 +189,7 @@ impl<R: Files<File = File> + Drop> Disk for FileDisk<R> {
     ghost left_since = { λ _ _ _. ⊤ };
 
     // A call that wants no memory fails by its count alone.
-    ghost spare_calls = { λ d. 2 ^ 64 - 1 - d.failures };
+    ghost spare_calls = { λ d. 2 ^ 64 - 1 - d.faults };
 
     ghost spare_bytes = { λ _. 2 ^ 64 };
 
@@ -114,42 +199,66 @@ impl<R: Files<File = File> + Drop> Disk for FileDisk<R> {
 
     ghost only_now = { λ _ _ _. tt };
 
-    /// Opens `NAME.adr` in the present folder, and makes it where it isn't there.
-    fn attach(&mut self, name: &str) -> Result<(), Fault> {
+    /// Opens `NAME.adr` in the present folder, if it is there, in place of the file before. A name with a slash is none.
+    fn attach(&mut self, name: &str) -> Result<(), Fault>
+        ensures attached { OnOk result (self.new.is_attached ≡ true) }
+        ensures detached { OnErr result (self.new.is_attached ≡ false) }
+        ensures counts { CountsOne self.old result self.new }
+    {
         match self.open(name) {
-            Ok(file) => {
-                self.file = Some(file);
-                Ok(())
-            }
-            Err(_) => Err(self.failures.fail()),
+            Ok(()) => Ok(()),
+            Err(_) => Err(self.fail()),
         }
     }
 
-    fn len(&mut self) -> Result<u64, Fault> {
+    fn len(&mut self) -> Result<u64, Fault>
+        ensures refused { self.old.is_attached ≡ false → IsErr result }
+        ensures stays { self.new.is_attached ≡ self.old.is_attached }
+        ensures counts { CountsOne self.old result self.new }
+    {
         match self.count_bytes() {
             Ok(count) => Ok(count),
-            Err(_) => Err(self.failures.fail()),
+            Err(_) => Err(self.fail()),
         }
     }
 
-    fn read(&mut self, at: u64, into: &mut [u8]) -> Result<usize, Fault> {
+    fn read(&mut self, at: u64, into: &mut [u8]) -> Result<usize, Fault>
+        ensures within { IfOk result (λ n. n ≤ length into.new) }
+        ensures refused { self.old.is_attached ≡ false → IsErr result }
+        ensures stays { self.new.is_attached ≡ self.old.is_attached }
+        ensures counts { CountsOne self.old result self.new }
+    {
         match self.fill(at, into) {
             Ok(count) => Ok(count),
-            Err(_) => Err(self.failures.fail()),
+            Err(_) => Err(self.fail()),
         }
     }
 
-    fn write_at(&mut self, at: u64, bytes: &[u8]) -> Result<(), Fault> {
+    /// Makes the file where it isn't there.
+    fn write_at(&mut self, at: u64, bytes: &[u8]) -> Result<(), Fault>
+        ensures refused { self.old.is_attached ≡ false → IsErr result }
+        ensures stays { self.new.is_attached ≡ self.old.is_attached }
+        ensures counts { CountsOne self.old result self.new }
+    {
         match self.write_whole(at, bytes) {
             Ok(()) => Ok(()),
-            Err(_) => Err(self.failures.fail()),
+            Err(_) => Err(self.fail()),
         }
     }
 
-    fn sync(&mut self) -> Result<(), Fault> {
+    /// Lets go of the file where it fails.
+    fn sync(&mut self) -> Result<(), Fault>
+        ensures refused { self.old.is_attached ≡ false → IsErr result }
+        ensures stays { OnOk result (self.new.is_attached ≡ true) }
+        ensures lets_go { OnErr result (self.new.is_attached ≡ false) }
+        ensures counts { CountsOne self.old result self.new }
+    {
         match self.sync_whole() {
             Ok(()) => Ok(()),
-            Err(_) => Err(self.failures.fail()),
+            Err(_) => {
+                self.let_go();
+                Err(self.fail())
+            }
         }
     }
 

@@ -1,6 +1,5 @@
 -- The body of a record is spelled in one way.
-use Rattle.std.proofs.Common.{◌≡◌, ℕ, Bool, true, false, cond, List, ◌++◌, length, Option, Some, None, Ok, refl, sym, ap, subst}
-use Rattle.std.specs.Prelude.{is_some}
+use Rattle.std.proofs.Common.{◌≡◌, ℕ, true, List, ◌++◌, length, Option, Some, None, refl, sym, ap, subst}
 use Rattle.std.specs.List.{flat_map}
 use Rattle.std.specs.Ordering.{nat_cmp}
 use Rattle.adr_wire.specs.Reading.{Reading, as_at, where_at, then_at, elements_at, is_above}
@@ -8,15 +7,16 @@ use Rattle.adr_wire.specs.Fields.{u32_at, usn_at, usn0_at, flag_at, u32, u64, fl
 use Rattle.adr_wire.specs.Composites.{oid_at, oid, vector_at, vector}
 use Rattle.adr_wire.specs.Spelling.{IsSpelling}
 use Rattle.adr_wire.specs.Ranges.{IsU32, IsFlag, IsUsn, IsUsn0, IsOid, IsCursors, InTurn}
-use Rattle.adr_wire.proofs.Combining.{made, in_range_too, passed, both, pair, followed, either, nothing, elements_spelled, counted}
+use Rattle.adr_wire.proofs.Combining.{made, passed, both, pair, elements_spelled, counted}
 use Rattle.adr_wire.proofs.FieldLaws.{u32_spelled, usn_spelled, usn0_spelled, flag_spelled}
 use Rattle.adr_wire.proofs.CompositeLaws.{oid_spelled}
+use Rattle.adr_wire.proofs.OptionalLaws.{if_there_spelled}
 use Rattle.adr_wire.proofs.VectorLaws.{vector_spelled}
-use Rattle.adr_image.specs.Image.{Marked, kept_above, kept}
+use Rattle.adr_image.specs.Image.{kept_above, kept}
 use Rattle.adr_image.specs.Ranged.{IsMarked}
 use Rattle.adr_wire.specs.Pieces.{piece_at, piece, IsPiece}
 use Rattle.adr_wire.proofs.Pieces.{piece_spelled}
-use Rattle.adr_image.specs.Body.{Write, write_above, write, IsWrite, one_name, mark_if_at, mark_told, mark_if, IsMarkIf, removed_at, writes_at, body_at, body, AreRemoved, AreWrites, IsBody}
+use Rattle.adr_image.specs.Body.{Write, write_above, write, IsWrite, one_name, mark_if_at, mark_if, IsMarkIf, removed_at, writes_at, body_at, body, AreRemoved, AreWrites, IsBody}
 use Rattle.adr_image.proofs.ImageLaws.{kept_spelled}
 
 write_spelled : (last : Option ℕ) → IsSpelling (IsWrite last) write (write_above last)
@@ -24,32 +24,8 @@ unfolding write_above
 write_spelled last =
     pair (λ n. IsUsn n × (is_above nat_cmp last n ≡ true)) u64 (where_at (is_above nat_cmp last) usn_at) (passed IsUsn u64 usn_at usn_spelled (is_above nat_cmp last)) IsPiece piece piece_at piece_spelled
 
-abbrev after_flag : Bool → Reading (Option Marked)
-after_flag there = cond there (as_at Some (kept_above None)) (λ behind. Ok (None, behind))
-
-after_flag_spelled : (b : Bool) → IsSpelling (λ m. IsMarkIf m × (is_some m ≡ b)) mark_told (after_flag b)
-after_flag_spelled b = either (λ m. IsMarkIf m × (is_some m ≡ b)) mark_told b (as_at Some (kept_above None)) (λ behind. Ok (None, behind)) there gone
-  where
-    there : b ≡ true → IsSpelling (λ m. IsMarkIf m × (is_some m ≡ b)) mark_told (as_at Some (kept_above None))
-    there e = made (IsMarked None) kept (kept_above None) (kept_spelled None) Some (λ m. IsMarkIf m × (is_some m ≡ b)) mark_told out (λ k p fits. ((p, sym e), refl))
-      where
-        out : (m : Option Marked) → IsMarkIf m × (is_some m ≡ b) → (k : Marked) × (m ≡ Some k) × IsMarked None k × (mark_told m ≡ kept k)
-        out None q = absurd (let f = q.1 in cc)
-        out (Some k) q = (k, refl, q.0, refl)
-
-    gone : b ≡ false → IsSpelling (λ m. IsMarkIf m × (is_some m ≡ b)) mark_told (λ behind. Ok (None, behind))
-    gone e = nothing (λ m. IsMarkIf m × (is_some m ≡ b)) mark_told None (tt, sym e) refl out
-      where
-        out : (m : Option Marked) → IsMarkIf m × (is_some m ≡ b) → m ≡ None
-        out None q = refl
-        out (Some k) q = absurd (let f = q.1 in cc)
-
-pub mark_if_spelled : IsSpelling IsMarkIf mark_if mark_if_at
-unfolding mark_if_at
-mark_if_spelled =
-    in_range_too (λ m. IsFlag (is_some m) × IsMarkIf m) mark_if mark_if_at
-    (followed IsFlag flag flag_at flag_spelled (λ (m : Option Marked). is_some m) IsMarkIf mark_told (λ _ b. after_flag b) (λ place b h. after_flag_spelled b))
-    IsMarkIf (λ m h. (tt, h)) (λ m h. h.1)
+mark_if_spelled : IsSpelling IsMarkIf mark_if mark_if_at
+mark_if_spelled = if_there_spelled (IsMarked None) kept (kept_above None) (kept_spelled None)
 
 removed_spelled : IsSpelling AreRemoved (λ os. u32 (length os) ++ flat_map oid os) removed_at
 unfolding removed_at

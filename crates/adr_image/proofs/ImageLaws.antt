@@ -15,16 +15,16 @@ use Rattle.adr_model.specs.Store.{Kept}
 use Rattle.adr_model.specs.Live.{is_among}
 use Rattle.adr_wire.specs.Reading.{Rest, Reading, ◌>>=◌, as_at, where_at, then_at, is_above}
 use Rattle.adr_wire.specs.Fields.{u16_at, id_at, flag_at, usn_at, u16, u64, id, flag}
-use Rattle.adr_wire.specs.Composites.{mark_at, mark, oid_at, oid, row_of, row_after, row, link_stamp_at, link_stamp, link_key}
+use Rattle.adr_wire.specs.Composites.{ordered_mark_at, mark, oid_at, oid, row_of, row_after, row, link_stamp_at, link_stamp, link_key}
 use Rattle.adr_wire.specs.Spelling.{IsSpelling}
-use Rattle.adr_wire.specs.Ranges.{IsU16, IsU64, IsId, IsUsn, IsFlag, IsMark, IsOid, IsStamp, IsRowAbove}
+use Rattle.adr_wire.specs.Ranges.{IsU16, IsU64, IsId, IsUsn, IsFlag, IsOrderedMark, IsOid, IsStamp, IsRowAbove}
 use Rattle.adr_wire.proofs.Combining.{bind_ok, made, in_range_too, passed, both, pair, followed}
 use Rattle.adr_wire.proofs.FieldLaws.{u16_spelled, id_spelled, flag_spelled, usn_spelled}
-use Rattle.adr_wire.proofs.CompositeLaws.{mark_spelled, oid_spelled, IsBehind, behind_attr, row_of_spelled, link_stamp_spelled}
+use Rattle.adr_wire.proofs.CompositeLaws.{ordered_mark_spelled, oid_spelled, IsBehind, behind_attr, row_of_spelled, link_stamp_spelled}
 use Rattle.adr_image.specs.declared.rows.Before.{Before}
 use Rattle.adr_model.specs.Write.{usn_limit}
 use Rattle.adr_wire.specs.Gathering.{passing_at, gathered_at, GivesToo}
-use Rattle.adr_image.specs.Image.{HeldRow, Rows, HeldLink, local_at, no_rows, with_held, is_allowed, held_row_at, held_row, Earlier, is_whole, object_with, object_at, object, Linked, key_with, local_and_key, link_behind, link_at, held_link, is_ordered, Marked, kept_above, kept}
+use Rattle.adr_image.specs.Image.{HeldRow, Rows, HeldLink, local_at, no_rows, with_held, is_allowed, held_row_at, held_row, Earlier, is_whole, object_with, object_at, object, Linked, key_with, local_and_key, link_behind, link_at, held_link, Marked, kept_above, kept}
 use Rattle.adr_image.specs.Ranged.{IsLocal, IsHeldRow, AreHeldRows, IsObjectIn, IsKeyIn, IsForward, IsLinkIn, IsMarked}
 use Rattle.adr_wire.proofs.Gathering.{passed_at, placed, counted_too, looked, gives_same, gives_tested, gives_passed, gives_as, gives_then, gives_all}
 
@@ -215,15 +215,15 @@ module _ (dead : List Oid) where
 -- ---- marks
 
 abbrev IsKept : Kept → Type 0
-IsKept k = IsId k.inv × (IsMark k.mark × (is_ordered k.mark ≡ true))
+IsKept k = IsId k.inv × IsOrderedMark k.mark
 
 abbrev kept_behind : Marked → List ℕ
 kept_behind k = id k.1.inv ++ mark k.1.mark
 
-kept_of_spelled : (dsa : Identifier) → IsSpelling {X = Marked} (λ k. IsKept k.1 × (k.0 ≡ dsa)) kept_behind (as_at (λ p. (dsa, record { inv = p.0; mark = p.1 })) (then_at id_at (λ _. where_at is_ordered mark_at)))
+kept_of_spelled : (dsa : Identifier) → IsSpelling {X = Marked} (λ k. IsKept k.1 × (k.0 ≡ dsa)) kept_behind (as_at (λ p. (dsa, record { inv = p.0; mark = p.1 })) (then_at id_at (λ _. ordered_mark_at)))
 kept_of_spelled dsa =
-    made (λ (p : List ℕ × Mark). IsId p.0 × (IsMark p.1 × (is_ordered p.1 ≡ true))) (λ p. id p.0 ++ mark p.1) (then_at id_at (λ _. where_at is_ordered mark_at))
-    (pair IsId id id_at id_spelled (λ m. IsMark m × (is_ordered m ≡ true)) mark (where_at is_ordered mark_at) (passed IsMark mark mark_at mark_spelled is_ordered))
+    made (λ (p : List ℕ × Mark). IsId p.0 × IsOrderedMark p.1) (λ p. id p.0 ++ mark p.1) (then_at id_at (λ _. ordered_mark_at))
+    (pair IsId id id_at id_spelled IsOrderedMark mark ordered_mark_at ordered_mark_spelled)
     (λ p. (dsa, record { inv = p.0; mark = p.1 })) (λ k. IsKept k.1 × (k.0 ≡ dsa)) kept_behind
     (λ k q. ((k.1.inv, k.1.mark), (λ i. (q.1 i, k.1)), q.0, refl)) (λ p q fits. ((q, refl), refl))
 
@@ -232,4 +232,4 @@ unfolding kept_above
 kept_spelled last =
     followed (λ dsa. IsId dsa × (is_above identifier_order last dsa ≡ true)) id (where_at (is_above identifier_order last) id_at) (passed IsId id id_at id_spelled (is_above identifier_order last))
     (λ (k : Marked). k.0) (λ k. IsKept k.1) kept_behind
-    (λ _ dsa. as_at (λ p. (dsa, record { inv = p.0; mark = p.1 })) (then_at id_at (λ _. where_at is_ordered mark_at))) (λ place dsa h. kept_of_spelled dsa)
+    (λ _ dsa. as_at (λ p. (dsa, record { inv = p.0; mark = p.1 })) (then_at id_at (λ _. ordered_mark_at))) (λ place dsa h. kept_of_spelled dsa)

@@ -1,5 +1,5 @@
 -- A formed and spelled store, taken apart, is in range: it has an image.
-use Rattle.std.proofs.Common.{◌≡◌, ℕ, ◌<◌, ◌≤◌, ◌^◌, Bool, true, false, cond, eqb, leb, List, [], ◌∷◌, ◌++◌, length, map, fold, Option, Some, None, Ok, refl, sym, ap, subst, ◌∙◌, inl, inr, ⊎_elim, arith}
+use Rattle.std.proofs.Common.{◌≡◌, ℕ, ◌<◌, ◌≤◌, ◌^◌, Bool, true, false, cond, eqb, leb, List, [], ◌∷◌, ◌++◌, length, map, fold, Option, Some, None, refl, sym, ap, subst, ◌∙◌, inl, inr, ⊎_elim, arith}
 use Rattle.std.specs.Prelude.{not, ◌&&◌, ◌⊎◌, is_some, filter, unwrap_or}
 use Rattle.std.specs.List.{flat_map, list_all, AllByRecursion, cons_option}
 use Rattle.std.specs.List.Sorted.{IsStrictlySortedBy}
@@ -38,10 +38,9 @@ use Rattle.adr_law_tree.proofs.Rising.{keys_that_rise}
 use Rattle.adr_image.specs.Image.{HeldRow, Rows, HeldLink, Marked, has_attr, is_dead, last_of, told_by, Earlier, no_objects, with_rows, is_whole, Linked, with_link}
 use Rattle.adr_image.specs.Whole.{dead_of, no_links}
 use Rattle.adr_image.specs.Ranged.{IsObjectIn, IsLinkIn, IsMarked, IsCount, AreParts}
-use Rattle.adr_image.specs.Stored.{held_of, link_of, rows_of_object, rows_of, apart, parts_in, image, decoded, IsSpelledRow, IsSpelled}
+use Rattle.adr_image.specs.Stored.{held_of, link_of, rows_of_object, rows_of, apart, parts_in, image, IsSpelledRow, IsSpelled}
 use Rattle.adr_image.proofs.Names.{object_itself}
 use Rattle.adr_image.proofs.Parting.{joined_again}
-use Rattle.adr_image.proofs.Storing.{image_again}
 use Rattle.adr_image.proofs.Formed.{names, links}
 use Rattle.adr_image.proofs.Alone.{AllDiffer, Differ, last_of_object, last_of_link, all_links_differ, AllDifferLinks, DifferLinks}
 use Rattle.adr_image.proofs.Limits.{births, later, no_births, links_are}
@@ -295,6 +294,3 @@ module _ (s : Store) (f : IsFormedStore s) (q : IsSpelled s) where
 
   pub objects_counted : length (objects_of (updates_of s.rows)) ≡ length os
   objects_counted = ap (λ (hs : List Held). length (objects_of (updates_of hs))) (sym same_rows) ∙ objects_are s.schema s.usn os ls right
-
-  pub image_read : decoded (image s) ≡ Ok s
-  image_read = image_again s f.rising q in_range

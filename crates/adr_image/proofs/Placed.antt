@@ -1,15 +1,16 @@
--- An image that stands in other bytes is spelled in one way.
+-- An image is spelled in one way, alone and in other bytes.
 use Rattle.std.proofs.Common.{◌≡◌, ℕ, List, [], ◌++◌, Ok, refl, sym, ap, ◌∙◌, arith}
 use Rattle.adr_vector.specs.Vector.{Cursors}
 use Rattle.adr_wire.specs.Fields.{format_version_at, magic_at, u16}
 use Rattle.adr_wire.specs.Reading.{Rest, Read, Reading, ◌>>=◌, then_at}
-use Rattle.adr_wire.specs.Spelling.{IsSpelling}
+use Rattle.adr_wire.specs.Spelling.{AreBytes, IsSpelling}
 use Rattle.adr_wire.proofs.Combining.{as_they_are, made, pair}
 use Rattle.adr_wire.proofs.FieldLaws.{format_version_spelled, magic_spelled}
+use Rattle.adr_wire.proofs.HeadedLaws.{first_again, first_only}
 use Rattle.adr_model.specs.Formed.{IsFormedStore}
 use Rattle.adr_model.specs.Store.{Held, Store}
 use Rattle.adr_image.specs.Ranged.{AreParts}
-use Rattle.adr_image.specs.Stored.{IsSpelled, image, image_at, parts_in, store_of}
+use Rattle.adr_image.specs.Stored.{IsSpelled, decoded, image, image_at, parts_in, store_at, store_of}
 use Rattle.adr_image.specs.Whole.{Parts, body, image_of, magic, parts_at}
 use Rattle.adr_image.proofs.InRange.{in_range, same_rows}
 use Rattle.adr_image.proofs.Limits.{formed}
@@ -43,6 +44,25 @@ stored_again s f q =
     ap (λ (rows : List Held). let x : Store = record { schema = s.schema; usn = s.usn; rows = rows; vector = s.vector; times = []; purged = s.purged; marks = s.marks } in x) (same_rows s f q)
     ∙ ap (λ (times : Cursors). let x : Store = record s { times = times } in x) (sym q.times)
 
+-- a store behind magic and version, to the end
+abbrev fields : Store → List ℕ
+fields s = body (parts_in s)
+
+store_spelled : IsSpelling IsRight fields store_at
+store_spelled =
+    made AreParts body parts_at parts_spelled store_of IsRight fields
+    (λ s q. (parts_in s, sym (stored_again s q.0 q.1), in_range s q.0 q.1, refl))
+    (λ p q fits. ((formed p q, spelled p q), ap body (parts_again_in p q)))
+
+-- the image of a formed and spelled store is read again
+pub image_read : (s : Store) → IsFormedStore s → IsSpelled s → decoded (image s) ≡ Ok s
+image_read s f q = first_again magic refl IsRight fields store_at store_spelled s (f, q)
+
+-- what is read of an image is a formed and spelled store, whose image it is
+pub read_is_formed : (bytes : List ℕ) (s : Store) → AreBytes bytes → decoded bytes ≡ Ok s → IsFormedStore s × IsSpelled s × (bytes ≡ image s)
+read_is_formed bytes s fits e = let law = first_only magic refl IsRight fields store_at store_spelled bytes s fits e in (law.0.0, law.0.1, law.1)
+
+-- and one that stands in other bytes
 pub image_spelled : IsSpelling IsRight image image_at
 unfolding image_at
 image_spelled =

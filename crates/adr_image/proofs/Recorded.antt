@@ -32,7 +32,7 @@ rows_told : (o : Oid) (rows : List Row) → flat_map update_bytes (map (update_o
 rows_told o [] = refl
 rows_told o (r ∷ rs) = ap (λ (bytes : List ℕ). row r ++ bytes) (rows_told o rs)
 
-piece_told : (p : Piece) → unit_bytes (item_of p).unit (item_of p).rows ≡ piece p
+pub piece_told : (p : Piece) → unit_bytes (item_of p).unit (item_of p).rows ≡ piece p
 piece_told (OfRows x) =
     ap (λ (n : ℕ). (1 ∷ []) ++ (oid x.0 ++ (u16 n ++ flat_map update_bytes (map (update_of x.0) x.1)))) (mapped_long (update_of x.0) x.1)
     ∙ ap (λ (bytes : List ℕ). (1 ∷ []) ++ (oid x.0 ++ (u16 (length x.1) ++ bytes))) (rows_told x.0 x.1)
@@ -89,7 +89,7 @@ rows_short o last [] turn k d lt = absurd (omega arith)
 rows_short o last (r ∷ rs) turn zero d lt = content_short r.0 r.2 turn.0.0.1.1
 rows_short o last (r ∷ rs) turn (suc k) d lt = rows_short o (Some r.0) rs turn.1 k d (omega arith)
 
-piece_short : (p : Piece) → IsPiece p → AreShort (item_of p).rows
+pub piece_short : (p : Piece) → IsPiece p → AreShort (item_of p).rows
 piece_short (OfRows x) q =
     let long = mapped_long (update_of x.0) x.1 in
     let few = q.1.0.1 in

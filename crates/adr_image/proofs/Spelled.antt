@@ -1,5 +1,5 @@
 -- What is read of an image is formed and spelled.
-use Rattle.std.proofs.Common.{◌≡◌, ℕ, true, List, [], ◌∷◌, map, Option, Some, None, Ok, refl, sym, ap, subst, inl, inr, ⊎_elim}
+use Rattle.std.proofs.Common.{◌≡◌, ℕ, true, List, [], ◌∷◌, map, Option, Some, None, refl, sym, ap, subst, inl, inr, ⊎_elim}
 use Rattle.std.specs.Prelude.{is_some}
 use Rattle.std.specs.List.{flat_map}
 use Rattle.std.proofs.lemmas.Cmp.{nat_list_cmp_total}
@@ -8,19 +8,16 @@ use Rattle.adr_schema.specs.declared.content.Content.TheVariants.{Class}
 use Rattle.adr_schema.specs.Table.{class_at}
 use Rattle.adr_schema.specs.Numbered.{numbered}
 use Rattle.adr_wire.specs.Reading.{is_above}
-use Rattle.adr_wire.specs.Spelling.{AreBytes}
 use Rattle.adr_wire.specs.Ranges.{InTurn, IsId, IsMark}
 use Rattle.adr_model.specs.Member.{Member, Each}
 use Rattle.adr_model.specs.Update.{Holds}
-use Rattle.adr_model.specs.Store.{Held, Store}
-use Rattle.adr_model.specs.Formed.{IsFormedStore}
+use Rattle.adr_model.specs.Store.{Held}
 use Rattle.adr_model.proofs.Members.{member_of_either, mapped_member, flat_member}
 use Rattle.adr_image.specs.Image.{HeldRow, Rows, HeldLink, Marked, with_link}
-use Rattle.adr_image.specs.Whole.{Parts, dead_of, no_links, read_parts}
+use Rattle.adr_image.specs.Whole.{Parts, dead_of, no_links}
 use Rattle.adr_image.specs.Ranged.{IsMarked, IsLinkIn, AreParts}
-use Rattle.adr_image.specs.Stored.{held_of, link_of, rows_of_object, store_of, image, decoded, IsSpelledRow, IsSpelled}
-use Rattle.adr_image.proofs.WholeLaws.{parts_only}
-use Rattle.adr_image.proofs.Storing.{chain, stored_ok, image_only}
+use Rattle.adr_image.specs.Stored.{held_of, link_of, rows_of_object, store_of, image, IsSpelledRow, IsSpelled}
+use Rattle.adr_image.proofs.Storing.{chain}
 use Rattle.adr_image.proofs.Births.{of_object, of_row, each_along}
 use Rattle.adr_image.proofs.Named.{known_class, content_of}
 use Rattle.adr_image.proofs.Limits.{formed}
@@ -73,10 +70,3 @@ module _ (p : Parts) (q : AreParts p) where
         rows = λ h m. (all_right h m).0;
         classes = λ h m. (all_right h m).1;
       }
-
--- what is read of an image is a formed and spelled store, whose image it is
-pub read_is_formed : (bytes : List ℕ) (s : Store) → AreBytes bytes → decoded bytes ≡ Ok s → IsFormedStore s × IsSpelled s × (bytes ≡ image s)
-read_is_formed bytes s fits e =
-    let r = stored_ok (read_parts bytes) s e in
-    let parts = (parts_only bytes r.0 fits r.1).0 in
-    (subst IsFormedStore r.2 (formed r.0 parts), subst IsSpelled r.2 (spelled r.0 parts), (image_only bytes s fits e).1)

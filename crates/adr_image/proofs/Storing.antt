@@ -1,5 +1,5 @@
 -- What is read of an image is a store whose image it is.
-use Rattle.std.proofs.Common.{◌≡◌, ℕ, Bool, true, false, List, [], ◌∷◌, map, Option, Some, None, Result, Ok, Err, refl, sym, ap, subst, ◌∙◌}
+use Rattle.std.proofs.Common.{◌≡◌, ℕ, Bool, true, false, List, [], ◌∷◌, map, Option, Some, None, refl, ap, subst}
 use Rattle.std.specs.Prelude.{◌&&◌}
 use Rattle.std.specs.List.{AllByRecursion}
 use Rattle.std.specs.List.Sorted.{IsStrictlySortedBy}
@@ -13,22 +13,16 @@ use Rattle.adr_schema.specs.declared.content.Content.{Content}
 use Rattle.adr_schema.specs.declared.content.Content.TheVariants.{Class, Name, Dead, Values}
 use Rattle.adr_schema.specs.Table.{Table}
 use Rattle.adr_schema.specs.Numbered.{numbered}
-use Rattle.adr_vector.specs.Vector.{Cursors}
 use Rattle.adr_wire.specs.Reading.{is_above}
 use Rattle.adr_wire.specs.Ranges.{InTurn}
-use Rattle.adr_wire.specs.declared.refusal.DecodeRefusal.{DecodeRefusal}
-use Rattle.adr_wire.specs.Spelling.{AreBytes}
 use Rattle.adr_model.specs.Update.{same_object}
-use Rattle.adr_model.specs.Store.{Held, Store}
-use Rattle.adr_model.specs.Formed.{AreRising}
 use Rattle.adr_image.specs.declared.rows.Before.{Before}
 use Rattle.adr_wire.specs.Gathering.{Along}
 use Rattle.adr_image.specs.Image.{HeldRow, Rows, HeldLink, with_held, Earlier, no_objects, with_rows, is_whole, Linked, with_link}
-use Rattle.adr_image.specs.Whole.{Parts, read_parts, image_of}
+use Rattle.adr_image.specs.Whole.{Parts}
 use Rattle.adr_image.specs.Ranged.{IsHeldRow, IsObjectIn, IsLinkIn, AreParts}
-use Rattle.adr_image.specs.Stored.{AreTidy, IsNotFirst, store_of, parts_in, image, stored, decoded, IsSpelled}
-use Rattle.adr_image.proofs.WholeLaws.{parts_again, parts_only}
-use Rattle.adr_image.proofs.Parting.{joined_again, apart_again}
+use Rattle.adr_image.specs.Stored.{AreTidy, IsNotFirst, store_of, parts_in, image}
+use Rattle.adr_image.proofs.Parting.{apart_again}
 
 -- ---- rising keys
 
@@ -111,28 +105,3 @@ pub parts_again_in : (p : Parts) → AreParts p → parts_in (store_of p) ≡ p
 parts_again_in p q =
     ap (λ (a : List Rows × List HeldLink). let x : Parts = record { schema = p.schema; usn = p.usn; vector = p.vector; purged = p.purged; marks = p.marks; objects = a.0; links = a.1 } in x)
     (apart_again p.links p.objects (tidy p.usn (numbered p.schema) no_objects p.objects q.objects.1))
-
--- ---- the law of images
-
-abbrev right : Parts → Result Parts DecodeRefusal
-right p = Ok p
-
-pub stored_ok : (r : Result Parts DecodeRefusal) (s : Store) → stored r ≡ Ok s → (p : Parts) × (r ≡ Ok p) × (store_of p ≡ s)
-stored_ok (Ok p) s e = (p, refl, cc)
-stored_ok (Err f) s e = absurd (cc)
-
--- what is read of an image is a store whose image it is
-pub image_only : (bytes : List ℕ) (s : Store) → AreBytes bytes → decoded bytes ≡ Ok s → AreParts (parts_in s) × (bytes ≡ image s)
-image_only bytes s fits e =
-    let r = stored_ok (read_parts bytes) s e in
-    let p = r.0 in
-    let law = parts_only bytes p fits r.1 in
-    let same : parts_in s ≡ p = ap parts_in (sym r.2) ∙ parts_again_in p law.0 in
-    (subst AreParts (sym same) law.0, law.1 ∙ ap image_of (sym same))
-
--- the image of a store whose parts are in range is read again
-pub image_again : (s : Store) → AreRising s.rows → IsSpelled s → AreParts (parts_in s) → decoded (image s) ≡ Ok s
-image_again s rising spelled q =
-    ap stored (parts_again (parts_in s) q)
-    ∙ ap (λ (rows : List Held). let r : Result Store DecodeRefusal = Ok (record { schema = s.schema; usn = s.usn; rows = rows; vector = s.vector; times = []; purged = s.purged; marks = s.marks }) in r) (joined_again s.rows rising spelled.rows)
-    ∙ ap (λ (times : Cursors). let r : Result Store DecodeRefusal = Ok (record s { times = times }) in r) (sym spelled.times)

@@ -1,26 +1,23 @@
 -- A whole image is spelled in one way.
-use Rattle.std.proofs.Common.{◌≡◌, ℕ, ◌+◌, ◌≤◌, Bool, true, false, cond, leb, eqb, List, [], ◌++◌, length, Result, Ok, Err, refl, sym, ap, ◌∙◌, append_assoc, append-nil, arith}
+use Rattle.std.proofs.Common.{◌≡◌, ℕ, ◌≤◌, Bool, true, leb, List, ◌++◌, Ok, refl, arith}
 use Rattle.std.specs.Prelude.{is_some}
-use Rattle.std.proofs.lemmas.Bool.{eqb-true}
-use Rattle.std.proofs.lemmas.List.{nil_from_length}
 use Rattle.adr_schema.specs.Table.{Table}
 use Rattle.adr_schema.specs.Schemas.{schema_table}
 use Rattle.adr_schema.specs.Numbered.{numbered}
 use Rattle.adr_vector.specs.Vector.{Cursors, at_most}
-use Rattle.adr_wire.specs.Reading.{Rest, Read, Reading, where_at, then_at}
-use Rattle.adr_wire.specs.Fields.{u16_at, u32_at, usn0_at, magic_at, u16, u32, u64}
+use Rattle.adr_wire.specs.Reading.{Reading, where_at, then_at}
+use Rattle.adr_wire.specs.Fields.{u32_at, usn0_at, u32, u64}
 use Rattle.adr_wire.specs.Composites.{vector_at, vector}
-use Rattle.adr_wire.specs.declared.refusal.DecodeRefusal.{DecodeRefusal}
-use Rattle.adr_wire.specs.declared.refusal.DecodeRefusal.TheVariants.{Malformed, WrongVersion}
 use Rattle.adr_wire.specs.Spelling.{AreBytes, IsSpelling}
-use Rattle.adr_wire.specs.Ranges.{IsU16, IsU32, IsUsn0, IsCursors}
-use Rattle.adr_wire.proofs.Combining.{from, rest_bytes, made, passed, both, pair, counted, as_they_are}
-use Rattle.adr_wire.proofs.FieldLaws.{u16_spelled, u32_spelled, usn0_spelled, magic_spelled}
+use Rattle.adr_wire.specs.Ranges.{IsU32, IsUsn0, IsCursors}
+use Rattle.adr_wire.proofs.Combining.{made, passed, both, pair, counted}
+use Rattle.adr_wire.proofs.FieldLaws.{u32_spelled, usn0_spelled}
+use Rattle.adr_wire.proofs.HeadedLaws.{first_again, first_only}
 use Rattle.adr_wire.proofs.VectorLaws.{vector_spelled}
 use Rattle.adr_model.specs.Take.{mark_limit}
 use Rattle.adr_model.specs.Write.{object_limit, link_limit, usn_limit}
 use Rattle.adr_image.specs.Image.{Rows, HeldLink, Marked, kept, kept_above, marks_of, object_at, object, no_objects, with_rows, link_at, held_link, with_link}
-use Rattle.adr_image.specs.Whole.{Parts, count_at, marks_at, objects_at, links_at, dead_of, no_links, Tuple, tuple_at, parts_of, parts_at, magic, version_at, ended, versioned, read_parts, marks, objects, links, body, image_of}
+use Rattle.adr_image.specs.Whole.{Parts, count_at, marks_at, objects_at, links_at, dead_of, no_links, Tuple, tuple_at, parts_of, parts_at, magic, read_parts, marks, objects, links, body, image_of}
 use Rattle.adr_image.specs.Ranged.{IsCount, IsMarked, AreMarks, IsObjectIn, AreObjects, IsLinkIn, AreLinks, AreParts}
 use Rattle.adr_wire.proofs.Gathering.{counted_too}
 use Rattle.adr_image.proofs.ImageLaws.{kept_spelled, object_in_spelled, link_in_spelled}
@@ -145,59 +142,12 @@ parts_spelled =
     (λ p q. (tuple_of p, refl, (q.schema, (q.usn, (q.vector, (q.purged, (q.marks, (q.objects, q.links)))))), refl))
     (λ t q fits. (record { schema = q.0; usn = q.1.0; vector = q.1.1.0; purged = q.1.1.1.0; marks = q.1.1.1.1.0; objects = q.1.1.1.1.1.0; links = q.1.1.1.1.1.1 }, refl))
 
--- ---- the head, and the end
-
-abbrev head : ℕ → List ℕ
-head v = magic ++ u16 v
-
-version_spelled : IsSpelling IsU16 head version_at
-unfolding version_at
-version_spelled =
-    made (λ (p : List ℕ × ℕ). (p.0 ≡ magic) × IsU16 p.1) (λ p. p.0 ++ u16 p.1) (then_at (magic_at magic) (λ _. u16_at))
-    (pair (λ m. m ≡ magic) as_they_are (magic_at magic) (magic_spelled magic refl) IsU16 u16 u16_at u16_spelled)
-    (λ p. p.1) IsU16 head
-    (λ v q. ((magic, v), refl, (refl, q), refl))
-    (λ p q fits. (q.1, ap (λ (m : List ℕ). m ++ u16 p.1) (sym q.0)))
-
-abbrev said : {X : Type 0} → X → Result X DecodeRefusal
-said x = Ok x
-
-abbrev given : {X : Type 0} → X → Rest → Read X
-given x rest = Ok (x, rest)
-
-said_is : {X : Type 0} (x y : X) → said x ≡ said y → x ≡ y
-said_is x y e = cc
-
-ended_ok : {X : Type 0} (r : Read X) (x : X) → ended r ≡ Ok x → (rest : Rest) × (r ≡ Ok (x, rest)) × (rest.bytes ≡ [])
-ended_ok {X} (Ok y) x e = by (eqb (length y.1.bytes) 0) refl e
-  where
-    by : (b : Bool) → eqb (length y.1.bytes) 0 ≡ b → cond b (Ok y.0) (Err (Malformed y.1.place)) ≡ said x → (rest : Rest) × (given y.0 y.1 ≡ given x rest) × (rest.bytes ≡ [])
-    by true t h = (y.1, ap (λ (z : X). given z y.1) (said_is y.0 x h), nil_from_length y.1.bytes (eqb-true (length y.1.bytes) 0 t))
-    by false t h = absurd (cc)
-ended_ok (Err place) x e = absurd (cc)
-
-versioned_ok : {X : Type 0} (a : Reading X) (r : Read ℕ) (x : X) → versioned a r ≡ Ok x → (rest : Rest) × (r ≡ Ok (1, rest)) × (ended (a rest) ≡ Ok x)
-versioned_ok {X} a (Ok v) x e = by (eqb v.0 1) refl e
-  where
-    by : (b : Bool) → eqb v.0 1 ≡ b → cond b (ended (a v.1)) (Err (WrongVersion v.0)) ≡ said x → (rest : Rest) × (given v.0 v.1 ≡ given 1 rest) × (ended (a rest) ≡ Ok x)
-    by true t h = (v.1, ap (λ (n : ℕ). given n v.1) (eqb-true v.0 1 t), h)
-    by false t h = absurd (cc)
-versioned_ok a (Err place) x e = absurd (cc)
+-- ---- behind magic and version, to the end
 
 -- what is written is read again
 pub parts_again : (p : Parts) → AreParts p → read_parts (image_of p) ≡ Ok p
-parts_again p q =
-    let one : IsU16 1 = omega arith in
-    ap (versioned parts_at) (ap (λ (bytes : List ℕ). version_at (from 0 bytes)) (sym (append_assoc magic (u16 1) (body p))) ∙ version_spelled.again 0 1 (body p) one)
-    ∙ ap ended (ap (λ (bytes : List ℕ). parts_at (from (0 + length (head 1)) bytes)) (sym (append-nil (body p))) ∙ parts_spelled.again (0 + length (head 1)) p [] q)
+parts_again p q = first_again magic refl AreParts body parts_at parts_spelled p q
 
 -- what is read was written so
 pub parts_only : (bytes : List ℕ) (p : Parts) → AreBytes bytes → read_parts bytes ≡ Ok p → AreParts p × (bytes ≡ image_of p)
-parts_only bytes p fits e =
-    let v = versioned_ok parts_at (version_at (from 0 bytes)) p e in
-    let first = version_spelled.only 0 bytes 1 v.0 fits v.1 in
-    let d = ended_ok (parts_at v.0) p v.2 in
-    let second = parts_spelled.only v.0.place v.0.bytes p d.0 (rest_bytes IsU16 head 0 bytes 1 v.0 first fits) d.1 in (
-      second.in_range,
-      first.spelled_so ∙ ap (λ (w : List ℕ). head 1 ++ w) (second.spelled_so ∙ ap (λ (w : List ℕ). body p ++ w) d.2 ∙ append-nil (body p)) ∙ append_assoc magic (u16 1) (body p),
-    )
+parts_only bytes p fits e = first_only magic refl AreParts body parts_at parts_spelled bytes p fits e

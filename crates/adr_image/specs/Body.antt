@@ -1,12 +1,13 @@
 -- The body of a journal's record: a change as bytes.
-use Rattle.std.specs.Prelude.{if◌then◌else◌, ◌≡◌, ℕ, List, [], ◌++◌, length, Bool, true, Option, None, Some, is_some, Ok, ⊤}
+use Rattle.std.specs.Prelude.{◌≡◌, ℕ, List, ◌++◌, length, Bool, true, Option, None, Some, ⊤}
 use Rattle.std.specs.List.{flat_map}
 use Rattle.std.specs.Ordering.{nat_cmp}
 use Rattle.adr_stamp.specs.declared.Oid.{Oid}
 use Rattle.adr_vector.specs.Vector.{Cursors}
-use Rattle.adr_wire.specs.Reading.{Reading, ◌>>=◌, as_at, where_at, then_at, elements_at, is_above}
+use Rattle.adr_wire.specs.Reading.{Reading, as_at, where_at, then_at, elements_at, is_above}
 use Rattle.adr_wire.specs.Fields.{u32_at, usn_at, usn0_at, flag_at, u32, u64, flag}
 use Rattle.adr_wire.specs.Composites.{oid_at, oid, vector_at, vector}
+use Rattle.adr_wire.specs.Optional.{if_there_at, if_there, IsIfThere}
 use Rattle.adr_wire.specs.Pieces.{Piece, piece_at, piece, IsPiece}
 use Rattle.adr_wire.specs.Ranges.{IsU32, IsUsn, IsUsn0, IsOid, IsCursors, InTurn}
 use Rattle.adr_image.specs.Image.{Marked, kept_above, kept}
@@ -33,19 +34,14 @@ one_name o = tt
 
 -- ---- a mark, if there is one
 
-unfoldable pub mark_if_at : Reading (Option Marked)
-mark_if_at rest = flag_at rest >>= λ there. (if there.0 then as_at Some (kept_above None) else λ behind. Ok (None, behind)) there.1
-
-abbrev pub mark_told : Option Marked → List ℕ
-mark_told None = []
-mark_told (Some k) = kept k
+abbrev pub mark_if_at : Reading (Option Marked)
+mark_if_at = if_there_at (kept_above None)
 
 abbrev pub mark_if : Option Marked → List ℕ
-mark_if m = flag (is_some m) ++ mark_told m
+mark_if = if_there kept
 
 abbrev pub IsMarkIf : Option Marked → Type 0
-IsMarkIf None = ⊤
-IsMarkIf (Some k) = IsMarked None k
+IsMarkIf = IsIfThere (IsMarked None)
 
 -- ---- a body: the USN after, whether it quarantines, the mark, the vectors, the removed objects and the writes
 

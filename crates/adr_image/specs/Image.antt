@@ -9,10 +9,9 @@ use Rattle.adr_schema.specs.declared.content.Content.TheVariants.{Class, Name, D
 use Rattle.adr_schema.specs.Table.{Table, class_at, must_of, has, kind_at, is_forward}
 use Rattle.adr_schema.specs.Names.{name_fault}
 use Rattle.adr_schema.specs.Rules.{row_refusal}
-use Rattle.adr_vector.specs.declared.mark.Mark.{Mark}
 use Rattle.adr_wire.specs.Reading.{Reading, as_at, where_at, then_at, elements_at, is_above, above_at}
 use Rattle.adr_wire.specs.Fields.{u16_at, id_at, usn_at, flag_at, u16, u64, id}
-use Rattle.adr_wire.specs.Composites.{oid_at, oid, Row, row_after, row, link_stamp_at, LinkItem, link, mark_at, mark}
+use Rattle.adr_wire.specs.Composites.{oid_at, oid, Row, row_after, row, link_stamp_at, LinkItem, link, ordered_mark_at, mark}
 use Rattle.adr_model.specs.Update.{Identifier}
 use Rattle.adr_model.specs.Store.{Kept}
 use Rattle.adr_model.specs.Live.{is_among}
@@ -158,16 +157,13 @@ held_link l = u64 l.0 ++ link l.1
 
 -- ---- marks
 
-abbrev pub is_ordered : Mark → Bool
-is_ordered m = nat_le m.prop m.obj && nat_le m.obj m.seen
-
 abbrev pub Marked : Type 0
 Marked = Identifier × Kept
 
 unfoldable pub kept_above : Option Identifier → Reading Marked
 kept_above =
     above_at identifier_order id_at
-    (λ dsa. as_at (λ p. (dsa, record { inv = p.0; mark = p.1 })) (then_at id_at (λ _. where_at is_ordered mark_at)))
+    (λ dsa. as_at (λ p. (dsa, record { inv = p.0; mark = p.1 })) (then_at id_at (λ _. ordered_mark_at)))
 
 unfoldable pub marks_of : ℕ → Reading (List Marked)
 marks_of count = elements_at (λ k. k.0) kept_above count None

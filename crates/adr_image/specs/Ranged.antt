@@ -8,14 +8,14 @@ use Rattle.adr_schema.specs.Schemas.{schema_table}
 use Rattle.adr_schema.specs.Numbered.{numbered}
 use Rattle.adr_vector.specs.Vector.{at_most}
 use Rattle.adr_wire.specs.Reading.{is_above}
-use Rattle.adr_wire.specs.Ranges.{IsU16, IsU32, IsU64, IsId, IsUsn, IsUsn0, IsMark, IsOid, IsStamp, IsRowAbove, InTurn, IsCursors}
+use Rattle.adr_wire.specs.Ranges.{IsU16, IsU32, IsU64, IsId, IsUsn, IsUsn0, IsOrderedMark, IsOid, IsStamp, IsRowAbove, InTurn, IsCursors}
 use Rattle.adr_model.specs.Update.{Identifier}
 use Rattle.adr_model.specs.Live.{is_among}
 use Rattle.adr_model.specs.Write.{object_limit, link_limit}
 use Rattle.adr_model.specs.Take.{mark_limit}
 use Rattle.adr_image.specs.declared.rows.Before.{Before}
 use Rattle.adr_wire.specs.Gathering.{Along}
-use Rattle.adr_image.specs.Image.{HeldRow, Rows, HeldLink, no_rows, with_held, is_allowed, Earlier, no_objects, with_rows, is_whole, Linked, with_link, Marked, is_ordered}
+use Rattle.adr_image.specs.Image.{HeldRow, Rows, HeldLink, no_rows, with_held, is_allowed, Earlier, no_objects, with_rows, is_whole, Linked, with_link, Marked}
 use Rattle.adr_image.specs.Whole.{Parts, dead_of, no_links}
 
 -- from 1 to the USN of the image
@@ -46,7 +46,7 @@ IsLinkIn usn table dead k l =
     × (IsU64 l.1.1.created × IsStamp l.1.1.stamp)
 
 abbrev pub IsMarked : Option Identifier → Marked → Type 0
-IsMarked last k = (IsId k.0 × (is_above identifier_order last k.0 ≡ true)) × (IsId k.1.inv × (IsMark k.1.mark × (is_ordered k.1.mark ≡ true)))
+IsMarked last k = (IsId k.0 × (is_above identifier_order last k.0 ≡ true)) × (IsId k.1.inv × IsOrderedMark k.1.mark)
 
 -- a count of a list
 abbrev pub IsCount : ℕ → ℕ → Type 0

@@ -2,21 +2,17 @@
 use Rattle.std.specs.Prelude.{◌≡◌, ◌&&◌, ◌||◌, ℕ, Bool, List, fold, Result, Ok, Err}
 use Rattle.std.specs.List.{flat_map}
 use Rattle.adr_failure.specs.declared.Failure.{Failure}
-use Rattle.adr_failure.specs.declared.Failure.TheVariants.{Refused, NoMemory}
 use Rattle.adr_stamp.specs.declared.Oid.{Oid}
 use Rattle.adr_schema.specs.Table.{has}
 use Rattle.adr_wire.specs.declared.refusal.Malformed.{Malformed}
-use Rattle.adr_wire.specs.declared.refusal.DecodeRefusal.{DecodeRefusal}
-use Rattle.adr_wire.specs.declared.refusal.DecodeRefusal.TheVariants.{Malformed as MalformedImage}
 use Rattle.adr_wire.specs.Reading.{Rest, Read, Refuses}
 use Rattle.adr_model.specs.Update.{same_object}
 use Rattle.adr_model.specs.Live.{is_among}
-use Rattle.adr_model.specs.Store.{Store}
 use Rattle.adr_image.specs.declared.gathered.Objects.{Objects}
 use Rattle.adr_image.specs.declared.links.Links.{Links}
 use Rattle.adr_image.specs.Image.{Rows, HeldLink, no_objects, with_rows, with_link}
-use Rattle.adr_image.specs.Whole.{Parts, dead_of, no_links, ended}
-use Rattle.adr_image.specs.Stored.{rows_of_object, rows_of, stored}
+use Rattle.adr_image.specs.Whole.{dead_of, no_links}
+use Rattle.adr_image.specs.Stored.{rows_of_object, rows_of}
 
 -- a reading gave what is seen in this way, or was refused, or memory ran out
 abbrev pub GivesSeen : {X Y : Type 0} → (X → Y → Type 0) → Result X (Failure Malformed) → Rest → Read Y → Type 0
@@ -40,21 +36,3 @@ pub record KeepsLinks (os : List Rows) (k : Links) (ls : List HeldLink) : Type 0
   pub last : k.last ≡ (fold with_link (no_links os) ls).last
   pub used : (n : ℕ) → has k.used.keys n ≡ has (fold with_link (no_links os) ls).used n
   pub dead : (o : Oid) → is_among k.dead.keys o ≡ is_among (dead_of os) o
-
--- ---- whole images
-
--- a refusal of bytes of the right version
-abbrev pub as_decoding : Failure Malformed → Failure DecodeRefusal
-as_decoding (Refused malformed) = Refused (MalformedImage malformed.place)
-as_decoding NoMemory = NoMemory
-
--- bytes were refused so, or memory ran out
-abbrev pub IsRefusedSo : Result Store DecodeRefusal → Failure DecodeRefusal → Type 0
-IsRefusedSo read (Refused why) = read ≡ Err why
-IsRefusedSo read NoMemory = Unit {0}
-
--- a reading gave the parts of a store and left nothing, or was refused, or memory ran out
-abbrev pub Ends : Result Store (Failure Malformed) → Read Parts → Type 0
-Ends (Ok s) read = stored (ended read) ≡ Ok s
-Ends (Err (Refused malformed)) read = stored (ended read) ≡ Err (MalformedImage malformed.place)
-Ends (Err NoMemory) read = Unit {0}

@@ -1,5 +1,5 @@
 -- A store as the parts of an image, and the image of a store.
-use Rattle.std.specs.Prelude.{if◌then◌else◌, ◌≡◌, ℕ, List, [], ◌∷◌, ◌++◌, map, true, false, is_some, Result, Ok, Err, ⊤}
+use Rattle.std.specs.Prelude.{if◌then◌else◌, ◌≡◌, ℕ, List, [], ◌∷◌, ◌++◌, map, true, false, is_some, Result, ⊤}
 use Rattle.std.specs.List.{flat_map, AllByRecursion}
 use Rattle.std.specs.List.Sorted.{IsStrictlySortedBy}
 use Rattle.adr_stamp.specs.Order.{identifier_order}
@@ -11,13 +11,14 @@ use Rattle.adr_schema.specs.Schemas.{schema_table}
 use Rattle.adr_schema.specs.Numbered.{numbered}
 use Rattle.adr_wire.specs.declared.refusal.DecodeRefusal.{DecodeRefusal}
 use Rattle.adr_wire.specs.Fields.{format_version_at, magic_at}
+use Rattle.adr_wire.specs.Headed.{Forms, first_form, read_message}
 use Rattle.adr_wire.specs.Reading.{Reading, as_at, then_at}
 use Rattle.adr_wire.specs.Ranges.{IsU16, IsU64, IsId, IsUsn0, IsMark, IsOid, IsStamp, IsContent, IsCursor}
 use Rattle.adr_model.specs.Member.{Each}
 use Rattle.adr_model.specs.Update.{Key, RowOf, LinkOf, Said, Holds, IsPresent, same_object}
 use Rattle.adr_model.specs.Store.{Held, Store}
 use Rattle.adr_image.specs.Image.{HeldRow, Rows, HeldLink, Marked}
-use Rattle.adr_image.specs.Whole.{Parts, magic, parts_at, image_of, read_parts}
+use Rattle.adr_image.specs.Whole.{Parts, magic, parts_at, image_of}
 
 -- ---- from parts to a store, which has no times
 
@@ -72,12 +73,15 @@ parts_in s = record { schema = s.schema; usn = s.usn; vector = s.vector; purged 
 abbrev pub image : Store → List ℕ
 image s = image_of (parts_in s)
 
-abbrev pub stored : Result Parts DecodeRefusal → Result Store DecodeRefusal
-stored (Ok p) = Ok (store_of p)
-stored (Err fault) = Err fault
+-- what stands behind the version of an image, as a store
+abbrev pub store_at : Reading Store
+store_at = as_at store_of parts_at
+
+abbrev pub store_forms : Forms Store
+store_forms = first_form store_at
 
 abbrev pub decoded : List ℕ → Result Store DecodeRefusal
-decoded bytes = stored (read_parts bytes)
+decoded bytes = read_message magic store_forms bytes
 
 -- an image of version 1 that stands in other bytes
 unfoldable pub image_at : Reading Store

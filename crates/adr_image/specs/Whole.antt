@@ -1,5 +1,5 @@
 -- A whole image: its parts as bytes, and the store that they are.
-use Rattle.std.specs.Prelude.{if◌then◌else◌, ℕ, List, [], ◌∷◌, ◌++◌, length, map, ◌==◌, nat_le, filter, fold, None, is_some, Result, Ok, Err}
+use Rattle.std.specs.Prelude.{ℕ, List, [], ◌∷◌, ◌++◌, length, map, nat_le, filter, fold, None, is_some, Result}
 use Rattle.std.specs.List.{flat_map}
 use Rattle.adr_stamp.specs.declared.Oid.{Oid}
 use Rattle.adr_schema.specs.Table.{Table}
@@ -7,9 +7,9 @@ use Rattle.adr_schema.specs.Schemas.{schema_table}
 use Rattle.adr_schema.specs.Numbered.{numbered}
 use Rattle.adr_vector.specs.Vector.{Cursors, at_most}
 use Rattle.adr_wire.specs.declared.refusal.DecodeRefusal.{DecodeRefusal}
-use Rattle.adr_wire.specs.declared.refusal.DecodeRefusal.TheVariants.{Malformed, WrongVersion}
-use Rattle.adr_wire.specs.Reading.{Read, Reading, as_at, where_at, then_at}
-use Rattle.adr_wire.specs.Fields.{u16_at, u32_at, usn0_at, magic_at, u16, u32, u64}
+use Rattle.adr_wire.specs.Headed.{Forms, first_form, head, read_message}
+use Rattle.adr_wire.specs.Reading.{Reading, as_at, where_at, then_at}
+use Rattle.adr_wire.specs.Fields.{u32_at, usn0_at, u32, u64}
 use Rattle.adr_wire.specs.Composites.{vector_at, vector}
 use Rattle.adr_model.specs.Write.{object_limit, link_limit}
 use Rattle.adr_model.specs.Take.{mark_limit}
@@ -81,21 +81,12 @@ parts_at = as_at parts_of tuple_at
 abbrev pub magic : List ℕ
 magic = 65 ∷ 68 ∷ 73 ∷ 77 ∷ []
 
-unfoldable pub version_at : Reading ℕ
-version_at = as_at (λ p. p.1) (then_at (magic_at magic) (λ _. u16_at))
-
--- all bytes are read
-abbrev pub ended : {X : Type 0} → Read X → Result X DecodeRefusal
-ended (Ok x) = if length x.1.bytes == 0 then Ok x.0 else Err (Malformed x.1.place)
-ended (Err place) = Err (Malformed place)
-
-abbrev pub versioned : {X : Type 0} → Reading X → Read ℕ → Result X DecodeRefusal
-versioned body (Ok v) = if v.0 == 1 then ended (body v.1) else Err (WrongVersion v.0)
-versioned body (Err place) = Err (Malformed place)
+abbrev pub parts_forms : Forms Parts
+parts_forms = first_form parts_at
 
 -- what bytes say, or that they are of another version, or the least place that breaks a rule
 abbrev pub read_parts : List ℕ → Result Parts DecodeRefusal
-read_parts bytes = versioned parts_at (version_at (record { place = 0; bytes = bytes }))
+read_parts bytes = read_message magic parts_forms bytes
 
 -- ---- spelled
 
@@ -112,4 +103,4 @@ abbrev pub body : Parts → List ℕ
 body p = u32 p.schema ++ (u64 p.usn ++ (vector p.vector ++ (vector p.purged ++ (marks p.marks ++ (objects p.objects ++ links p.links)))))
 
 abbrev pub image_of : Parts → List ℕ
-image_of p = magic ++ (u16 1 ++ body p)
+image_of p = head magic 1 ++ body p

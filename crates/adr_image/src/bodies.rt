@@ -36,7 +36,7 @@ fn write_updates(writer: &mut Writer, updates: &[Update]) -> Result<(), NoMemory
 }
 
 /// Writes rows of a unit, behind the kind that says what it is.
-fn write_unit(writer: &mut Writer, unit: &Unit, rows: &[Update]) -> Result<(), NoMemory>
+pub fn write_item(writer: &mut Writer, unit: &Unit, rows: &[Update]) -> Result<(), NoMemory>
     requires { AreShort rows.now }
     ensures { OnOk result (writer.new ≡ writer.old ++ unit_bytes unit.now rows.now) }
 {
@@ -61,7 +61,7 @@ fn write_written(writer: &mut Writer, written: &Written) -> Result<(), NoMemory>
 {
     writer.write_usn(&written.local())?;
     let item = written.item();
-    write_unit(writer, &item.unit(), item.rows())
+    write_item(writer, &item.unit(), item.rows())
 }
 
 /// Writes a count, and what is written, one local USN behind the other.

@@ -73,7 +73,7 @@ fn read_link_item(reader: &mut Reader<'_>, alloc: Global) -> Result<Item, WireRe
 
 /// An item behind its kind.
 #[tactic(auto, unfolding(adr_wire::specs::Pieces::piece_at))]
-fn read_item(reader: &mut Reader<'_>, alloc: Global) -> Result<Item, WireRefusal>
+pub fn read_item(reader: &mut Reader<'_>, alloc: Global) -> Result<Item, WireRefusal>
     ensures { GivesSeen (λ item p. item ≡ item_of p) result reader.new (piece_at reader.old) }
 {
     let place = reader.place();
@@ -142,7 +142,7 @@ fn read_removed(reader: &mut Reader<'_>, alloc: Global) -> Result<Vec<Oid>, Wire
 }
 
 /// The mark that a change keeps, if there is one.
-#[tactic(auto, unfolding(crate::specs::Body::mark_if_at))]
+#[tactic(auto, unfolding(adr_wire::specs::Optional::if_there_at))]
 fn read_mark_if(reader: &mut Reader<'_>) -> Result<Option<(Guid, Kept)>, WireRefusal>
     ensures { Tells result reader.new (form.mark_if_at reader.old) }
 {

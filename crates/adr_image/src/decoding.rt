@@ -1,14 +1,13 @@
 //! Images are read.
 
 ghost use Rattle.std.specs.Prelude.{◌≡◌, IfErr, IfOk};
-ghost use Rattle.adr_wire.specs.Reading.{Gives, Tells};
-ghost use Rattle.adr_image.specs.Seen.{Ends, IsRefusedSo, as_decoding};
-ghost use Rattle.adr_image.specs.Stored.{decoded, image_at};
-ghost use Rattle.adr_image.specs.Whole.{parts_at, version_at};
+ghost use Rattle.adr_wire.specs.Headed.{Ends, IsRefusedSo};
+ghost use Rattle.adr_wire.specs.Reading.{Gives};
+ghost use Rattle.adr_image.specs.Stored.{decoded, image_at, store_at};
 
 use crate::contents::{Contents, read_contents};
 use crate::dormant::Dormant;
-use adr_wire::{DecodeRefusal, Failure, Malformed, Reader, WireRefusal};
+use adr_wire::{DecodeRefusal, Failure, Reader, WireRefusal, malformed};
 use std::alloc::Global;
 
 /// The bytes with which an image begins.
@@ -17,18 +16,9 @@ pub const MAGIC: [u8; 4] = [65, 68, 73, 77];
 /// The version of the images that are read and written.
 pub const VERSION: u16 = 1;
 
-/// The version of an image, behind its first bytes.
-#[tactic(auto, unfolding(crate::specs::Whole::version_at))]
-fn read_version(reader: &mut Reader<'_>) -> Result<u16, WireRefusal>
-    ensures { Tells result reader.new (version_at reader.old) }
-{
-    reader.read_magic(&MAGIC)?;
-    reader.read_u16()
-}
-
 /// All that stands behind the version of an image, to its end.
 fn read_to_end(reader: &mut Reader<'_>, alloc: Global) -> Result<Contents, WireRefusal>
-    ensures { Ends result (parts_at reader.old) }
+    ensures { Ends result (store_at reader.old) }
 {
     let contents = read_contents(reader, alloc)?;
     reader.end()?;
@@ -46,25 +36,13 @@ pub fn read_image(reader: &mut Reader<'_>, alloc: Global) -> Result<Contents, Wi
     Ok(contents)
 }
 
-/// A refusal of bytes of the right version.
-fn malformed(refusal: WireRefusal) -> Failure<DecodeRefusal>
-    ensures { result ≡ as_decoding refusal }
-{
-    match refusal {
-        Failure::Refused(Malformed { place }) => Failure::Refused(DecodeRefusal::Malformed {
-            place,
-        }),
-        Failure::NoMemory => Failure::NoMemory,
-    }
-}
-
 /// What an image says.
 fn read_whole(alloc: Global, bytes: &[u8]) -> Result<Contents, Failure<DecodeRefusal>>
     ensures read { IfOk result (λ contents. decoded bytes.now ≡ Ok contents) }
     ensures refused { IfErr result (IsRefusedSo (decoded bytes.now)) }
 {
     let mut reader = Reader::new(bytes);
-    let found = match read_version(&mut reader) {
+    let found = match reader.read_head(&MAGIC) {
         Ok(found) => found,
         Err(refusal) => return Err(malformed(refusal)),
     };

@@ -168,8 +168,7 @@ pub fn write_image(writer: &mut Writer, contents: &ContentsRef<'_>) -> Result<()
     requires spelled { IsSpelled contents.now }
     ensures { OnOk result (writer.new ≡ writer.old ++ image contents.now) }
 {
-    writer.write_bytes(&MAGIC)?;
-    writer.write_u16(&VERSION)?;
+    writer.write_head(&MAGIC, &VERSION)?;
     writer.write_u32(&contents.schema.number())?;
     writer.write_usn0(&contents.usn)?;
     writer.write_vector(contents.vector)?;

@@ -22,8 +22,8 @@ mod objects;
 mod rows;
 
 pub use adr_wire::{DecodeRefusal, Failure, NoMemory};
-pub use bodies::encode_change;
-pub use changes::decode_change;
+pub use bodies::{encode_change, write_item};
+pub use changes::{decode_change, read_item};
 pub use contents::{Contents, ContentsRef};
 pub use decoding::{decode, read_image};
 pub use dormant::Dormant;

@@ -1,29 +1,14 @@
 //! How far each partner was read.
 
-ghost use Rattle.std.specs.Prelude.{None};
-ghost use Rattle.adr_wire.specs.Composites.{mark_at};
-ghost use Rattle.adr_wire.specs.Reading.{GivesAs, Tells, where_at};
-ghost use Rattle.adr_image.specs.Image.{is_ordered, kept_above};
+ghost use Rattle.adr_wire.specs.Reading.{GivesAs, Tells};
+ghost use Rattle.adr_image.specs.Image.{kept_above};
 ghost use Rattle.adr_image.specs.Whole.{marks_at};
 
 use adr_change::Kept;
 use adr_guid::Guid;
 use adr_update::MARK_LIMIT;
-use adr_vector::Mark;
 use adr_wire::{Failure, Malformed, Reader, WireRefusal};
 use std::alloc::Global;
-
-/// A mark whose numbers are in order.
-fn read_ordered_mark(reader: &mut Reader<'_>) -> Result<Mark, WireRefusal>
-    ensures { Tells result reader.new (where_at is_ordered mark_at reader.old) }
-{
-    let place = reader.place();
-    let mark = reader.read_mark()?;
-    if mark.prop > mark.obj || mark.obj > mark.seen {
-        return Err(Failure::Refused(Malformed { place }));
-    }
-    Ok(mark)
-}
 
 /// How far a partner behind the last one was read.
 #[tactic(auto, unfolding(crate::specs::Image::kept_above))]
@@ -36,7 +21,7 @@ pub fn read_kept(reader: &mut Reader<'_>, last: Option<Guid>) -> Result<(Guid, K
         return Err(Failure::Refused(Malformed { place }));
     }
     let inv = reader.read_id()?;
-    let mark = read_ordered_mark(reader)?;
+    let mark = reader.read_ordered_mark()?;
     Ok((partner, Kept::new(inv, mark)))
 }
 

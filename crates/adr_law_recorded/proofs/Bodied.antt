@@ -285,7 +285,7 @@ link_piece l [] some form right = absurd some.1
 link_piece l (u ∷ []) some form right = one_link l u.key u.said u.stamp (form.of_unit u (inl refl)) (right u (inl refl))
 link_piece l (u ∷ v ∷ vs) some form right = absurd (not_behind l u.key v.key (form.of_unit u (inl refl)) (form.of_unit v (inr (inl refl))) form.rising.0.0)
 
-item_piece : (unit : Named) (us : List Update) → ((u : Update) × Member u us)
+pub item_piece : (unit : Named) (us : List Update) → ((u : Update) × Member u us)
     → IsSpelledItem (record { unit = unit; rows = us }) → AreBare us → Each IsRightUpdate us
     → HasPiece (record { unit = unit; rows = us })
 item_piece (Object o) us some form bare right = object_piece o us some form bare right

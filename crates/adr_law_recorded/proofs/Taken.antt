@@ -44,7 +44,7 @@ last_in_range : (o : Option Cursors) → IfSome o (AllByRecursion IsCursor)
 last_in_range None all = tt
 last_in_range (Some v) all = all
 
-no_times_brought : (r : Reply) → r.times ≡ [] → times_brought r ≡ []
+pub no_times_brought : (r : Reply) → r.times ≡ [] → times_brought r ≡ []
 no_times_brought r none = by (is_some r.last)
   where
     by : (b : Bool) → cond b r.times [] ≡ []

@@ -18,6 +18,7 @@ use Rattle.adr_call.specs.declared.refusal.TakeRefusal.TheVariants as takes
 use Rattle.adr_call.specs.declared.refusal.CollectRefusal.{CollectRefusal}
 use Rattle.adr_call.specs.declared.refusal.UpgradeRefusal.{UpgradeRefusal}
 use Rattle.adr_call.specs.declared.refusal.AdoptRefusal.{AdoptRefusal}
+use Rattle.adr_model.specs.Meta.{meta}
 use Rattle.adr_model.specs.Update.{Identifier, Update}
 use Rattle.adr_model.specs.Visible.{visible}
 use Rattle.adr_model.specs.Directory.{directory}
@@ -111,6 +112,7 @@ abbrev pub reported : World → State → Report → Outcome
 reported w s reports.Directory = outcomes.Show (shown w s)
 reported w s reports.Vector = outcomes.Vector s.store.vector s.store.times
 reported w s reports.Marks = outcomes.Marks (marks_shown s.store)
+reported w s (reports.Meta guid) = outcomes.Meta (meta s.store.rows guid)
 
 abbrev pub answer : List ℕ → Name → Outcome → Answer
 answer verb name outcome = record { verb = verb; name = name; outcome = outcome }

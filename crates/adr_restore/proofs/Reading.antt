@@ -4,7 +4,7 @@ use Rattle.adr_wire.specs.declared.refusal.DecodeRefusal.{DecodeRefusal}
 use Rattle.adr_model.specs.Formed.{IsFormedStore}
 use Rattle.adr_model.specs.Store.{Store}
 use Rattle.adr_image.specs.Stored.{IsSpelled, decoded, image}
-use Rattle.adr_image.proofs.InRange.{image_read}
+use Rattle.adr_image.proofs.Placed.{image_read}
 use Rattle.adr_restore.specs.Said.{or_empty, said_by}
 
 module _ (bytes : List ℕ) (s : Store) (is : bytes ≡ image s) (formed : IsFormedStore s) (spelled : IsSpelled s) where

@@ -1,6 +1,7 @@
 //! A controller over a keeper under a plan.
 
 ghost use Rattle.std.specs.Prelude.{◌≡◌, true, false, Option, Some, None, IfOk};
+ghost use Rattle.adr_disk.specs.Disk.{Keeps};
 ghost use Rattle.adr_model.specs.Change.{Change as Changes};
 ghost use Rattle.adr_model.specs.Replica.{Book, Fails, Pending, Replica, Stops};
 ghost use Rattle.adr_law_journal.specs.Replicas.{Has, committed, read_found, safe_found};
@@ -22,6 +23,8 @@ pub fn stop_after<K: PlannedKeeper>(controller: &mut Controller<K>, calls: u32, 
     ensures plan { K.plan controller.new.keeper ≡ Some (record { calls = calls; fault = Stops how }) }
     ensures same { Same K.read K.safe K.torn K.is_failed controller.old.keeper controller.new.keeper }
     ensures running { K.has_stopped controller.new.keeper ≡ K.has_stopped controller.old.keeper }
+    ensures keeps { Keeps K.told K.may_leave K.moment K.left_since controller.old.keeper controller.new.keeper }
+    ensures counted { K.faults controller.new.keeper ≡ K.faults controller.old.keeper }
     ensures stays { controller.new ≡ record controller.old { keeper = controller.new.keeper } }
 {
     controller.attend(|keeper| keeper.stop_after(calls, how));
@@ -33,6 +36,8 @@ pub fn fail_after<K: PlannedKeeper>(controller: &mut Controller<K>, calls: u32)
     ensures plan { K.plan controller.new.keeper ≡ Some (record { calls = calls; fault = Fails }) }
     ensures same { Same K.read K.safe K.torn K.is_failed controller.old.keeper controller.new.keeper }
     ensures running { K.has_stopped controller.new.keeper ≡ K.has_stopped controller.old.keeper }
+    ensures keeps { Keeps K.told K.may_leave K.moment K.left_since controller.old.keeper controller.new.keeper }
+    ensures counted { K.faults controller.new.keeper ≡ K.faults controller.old.keeper }
     ensures stays { controller.new ≡ record controller.old { keeper = controller.new.keeper } }
 {
     controller.attend(|keeper| keeper.fail_after(calls));
@@ -47,6 +52,7 @@ pub fn crash<K: PlannedKeeper>(controller: &mut Controller<K>, how: Crash)
     ensures plan { K.plan controller.new.keeper ≡ None }
     ensures down { controller.new ≡ record { keeper = controller.new.keeper; state = None; down = true } }
     ensures stopped { K.has_stopped controller.new.keeper ≡ true }
+    ensures counted { K.faults controller.new.keeper ≡ K.faults controller.old.keeper }
 {
     controller.stop();
     controller.attend(|keeper| keeper.crash(how));
@@ -65,6 +71,8 @@ pub fn revive<K: PlannedKeeper>(controller: &mut Controller<K>)
     ensures plan { K.plan controller.new.keeper ≡ K.plan controller.old.keeper }
     ensures same { Same K.read K.safe K.torn K.is_failed controller.old.keeper controller.new.keeper }
     ensures running { K.has_stopped controller.new.keeper ≡ false }
+    ensures keeps { Keeps K.told K.may_leave K.moment K.left_since controller.old.keeper controller.new.keeper }
+    ensures counted { K.faults controller.new.keeper ≡ K.faults controller.old.keeper }
     ensures stays { controller.new ≡ record controller.old { keeper = controller.new.keeper } }
 {
     controller.attend(|keeper| keeper.revive());

@@ -89,6 +89,7 @@ impl<F: Form> PlannedKeeper for Journal<MemDisk, F> {
         self.disk().is_stopped()
     }
 
+    #[tactic(auto, using(crate::proofs::Plans::held_at))]
     fn revive(&mut self) {
         self.attend(|disk| disk.revive());
     }

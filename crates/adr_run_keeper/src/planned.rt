@@ -1,6 +1,7 @@
 //! A keeper under a plan.
 
 ghost use Rattle.std.specs.Prelude.{◌≡◌, ◌⊎◌, ℕ, List, Bool, true, false, Option, Some, None, Ok, IfOk};
+ghost use Rattle.adr_disk.specs.Disk.{Keeps};
 ghost use Rattle.adr_model.specs.Store.{State as Defined};
 ghost use Rattle.adr_model.specs.Change.{Change as Changes};
 ghost use Rattle.adr_model.specs.Replica.{Stops, Fails, Plan, Replica, Pending, Book};
@@ -38,14 +39,18 @@ pub trait PlannedKeeper: Keeper {
         ensures plan { plan self.new ≡ Some (record { calls = calls; fault = Stops how }) }
         ensures same { Same read safe torn Self.is_failed self.old self.new }
         ensures running { has_stopped self.new ≡ has_stopped self.old }
-        ensures at { (f : Found Defined) → Self.is_at self.old f → Self.is_at self.new f };
+        ensures at { (f : Found Defined) → Self.is_at self.old f → Self.is_at self.new f }
+        ensures keeps { Keeps Self.told Self.may_leave Self.moment Self.left_since self.old self.new }
+        ensures counted { Self.faults self.new ≡ Self.faults self.old };
 
     /// Lets so many writes and syncs pass, and fails the next, which changes nothing.
     fn fail_after(&mut self, calls: u32)
         ensures plan { plan self.new ≡ Some (record { calls = calls; fault = Fails }) }
         ensures same { Same read safe torn Self.is_failed self.old self.new }
         ensures running { has_stopped self.new ≡ has_stopped self.old }
-        ensures at { (f : Found Defined) → Self.is_at self.old f → Self.is_at self.new f };
+        ensures at { (f : Found Defined) → Self.is_at self.old f → Self.is_at self.new f }
+        ensures keeps { Keeps Self.told Self.may_leave Self.moment Self.left_since self.old self.new }
+        ensures counted { Self.faults self.new ≡ Self.faults self.old };
 
     /// Crashes now, and drops a plan.
     fn crash(&mut self, how: Crash)
@@ -54,7 +59,8 @@ pub trait PlannedKeeper: Keeper {
         ensures torn { torn self.new ≡ read self.new }
         ensures failed { Self.is_failed self.new ≡ Self.is_failed self.old }
         ensures plan { plan self.new ≡ None }
-        ensures stopped { has_stopped self.new ≡ true };
+        ensures stopped { has_stopped self.new ≡ true }
+        ensures counted { Self.faults self.new ≡ Self.faults self.old };
 
     /// Whether its disk has crashed and was not revived.
     fn is_stopped(&self) -> bool
@@ -64,7 +70,10 @@ pub trait PlannedKeeper: Keeper {
     fn revive(&mut self)
         ensures plan { plan self.new ≡ plan self.old }
         ensures same { Same read safe torn Self.is_failed self.old self.new }
-        ensures running { has_stopped self.new ≡ false };
+        ensures running { has_stopped self.new ≡ false }
+        ensures at { (f : Found Defined) → Self.is_at self.old f → Self.is_at self.new f }
+        ensures keeps { Keeps Self.told Self.may_leave Self.moment Self.left_since self.old self.new }
+        ensures counted { Self.faults self.new ≡ Self.faults self.old };
 
     /// A copy of the bytes on its disk.
     fn bytes(&self, alloc: Global) -> Result<Vec<u8>, NoMemory>

@@ -10,8 +10,10 @@ use Rattle.adr_disk.specs.declared.memory.Crash.TheVariants.{Kept, Lost, Torn}
 use Rattle.adr_schema.specs.Assignments.{Given}
 use Rattle.adr_schema.specs.declared.content.Value.{Value as Item}
 use Rattle.adr_call.specs.declared.write.Write.TheVariants.{Add, Modify}
+use Rattle.adr_call.specs.declared.report.Report.{Report as Asked}
+use Rattle.adr_call.specs.declared.report.Report.TheVariants.{Meta}
 use Rattle.adr_event.specs.declared.event.Event.{Event}
-use Rattle.adr_event.specs.declared.event.Event.TheVariants.{Write, Ring, StopAfter}
+use Rattle.adr_event.specs.declared.event.Event.TheVariants.{Write, Ring, StopAfter, Report}
 use Rattle.adr_event.specs.Verbs.{verb_of, word_of}
 use Rattle.adr_event.specs.declared.verb.Verb.{Verb}
 use Rattle.adr_token.specs.Words.{unspaced}
@@ -28,7 +30,7 @@ use Rattle.adr_token.proofs.SetBytes.{set_holds, set_starts}
 use Rattle.adr_schedule.specs.Limits.{text_limit}
 use Rattle.adr_schedule.specs.Lines.{is_line_feed, lines_of}
 use Rattle.adr_schedule.specs.Commands.{event_of, is_passed}
-use Rattle.adr_schedule.specs.Grammar.{Token, Word, Name, Number, Identifier, Class, Attribute, Quoted, Set, sets, named, given_by, tokens_behind, tokens_in, tokens_of, AreRising, AreSpelled, HasLine, HaveSpellings, IsAllowed, IsSpelled, Spells}
+use Rattle.adr_schedule.specs.Grammar.{Token, Word, Name, Number, Identifier, Class, Attribute, Quoted, Set, sets, named, given_by, tokens_asked, tokens_behind, tokens_in, tokens_of, AreRising, AreSpelled, HasLine, HaveSpellings, IsAllowed, IsSpelled, Spells}
 use Rattle.adr_schedule.specs.Seen.{Seen, nothing_seen, cause_after, seen_after, IsFollowing}
 use Rattle.adr_schedule.specs.Events.{events_from, events_of, line_after}
 use Rattle.adr_run_print.specs.Printed.{AllowedEventsHaveLines, EventsAreReadAgain, PrintedEventsAreRead, joined, line_of, printed, spaced, token_text}
@@ -101,6 +103,11 @@ pub names_text : (names : List (List ℕ)) → map token_text (named names) ≡ 
 names_text [] = refl
 names_text (name ∷ names) = ap (λ (rest : List (List ℕ)). name ∷ rest) (names_text names)
 
+-- what a report wants beside a name
+asked_seen : (what : Asked) → list_all is_seen (tokens_asked what) ≡ true
+asked_seen (Meta guid) = refl
+asked_seen what = refl
+
 -- so are the words of an event
 behind_seen : (order : List Given) (e : Event) → list_all is_seen (tokens_behind order e) ≡ true
 unfolding tokens_behind
@@ -110,6 +117,7 @@ behind_seen order (Ring name others rounds max) = names_seen others
 behind_seen order (StopAfter name calls Kept) = refl
 behind_seen order (StopAfter name calls Lost) = refl
 behind_seen order (StopAfter name calls Torn) = refl
+behind_seen order (Report name what) = asked_seen what
 behind_seen order e = refl
 
 verb_word_seen : (verb : Verb) → is_seen (Word (word_of verb)) ≡ true

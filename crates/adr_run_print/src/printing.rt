@@ -3,10 +3,10 @@
 ghost use Rattle.std.specs.Prelude.{◌≡◌, ◌++◌, ◌∷◌, [], IfOk, OnOk, codes, map};
 ghost use Rattle.adr_token.specs.Spelling.{set_token};
 ghost use Rattle.adr_schedule.specs.Crashes.{crash_word};
-ghost use Rattle.adr_schedule.specs.Grammar.{Attribute as attributed, Class as classed, Identifier as identified, Name as named, Number as numbered, Quoted as quoted, Word as said, given_by, given_in, named as names_of, sets, tokens_behind, tokens_written};
+ghost use Rattle.adr_schedule.specs.Grammar.{Attribute as attributed, Class as classed, Identifier as identified, Name as named, Number as numbered, Quoted as quoted, Word as said, given_by, given_in, named as names_of, sets, tokens_asked, tokens_behind, tokens_written};
 ghost use Rattle.adr_run_print.specs.Printed.{line_of, printed, set_tokens, spaced, token_of, token_text};
 
-use adr_call::Write;
+use adr_call::{Report, Write};
 use adr_disk::Crash;
 use adr_event::Event;
 use adr_guid::Guid;
@@ -240,8 +240,13 @@ fn push_renamed<'a>(
     )
 }
 
-/// NAME ID, of `delete`.
-fn push_deleted(alloc: Global, out: &mut Vec<u8>, name: &Text, guid: Guid) -> Result<(), NoMemory>
+/// NAME ID, of `delete` and `meta`.
+fn push_identified(
+    alloc: Global,
+    out: &mut Vec<u8>,
+    name: &Text,
+    guid: Guid,
+) -> Result<(), NoMemory>
     ensures { OnOk result (out.new.items
         ≡ out.old.items ++ spaced (map token_text (named name.now ∷ identified guid ∷ []))) }
 {
@@ -487,9 +492,27 @@ fn push_write(alloc: Global, out: &mut Vec<u8>, name: &Text, what: &Write) -> Re
         Write::Rename { guid, parent, text } => push_renamed(
             alloc, out, name, *guid, *parent, text,
         ),
-        Write::Delete { guid } => push_deleted(alloc, out, name, *guid),
+        Write::Delete { guid } => push_identified(alloc, out, name, *guid),
         Write::Link { from, attr, to } | Write::Unlink { from, attr, to } => {
             push_linked(alloc, out, name, *from, *attr, *to)
+        }
+    }
+}
+
+/// NAME, and what else a report wants.
+fn push_reported(
+    alloc: Global,
+    out: &mut Vec<u8>,
+    name: &Text,
+    what: Report,
+) -> Result<(), NoMemory>
+    ensures { OnOk result (out.new.items
+        ≡ out.old.items ++ spaced (map token_text (named name.now ∷ tokens_asked what))) }
+{
+    match what {
+        Report::Meta { guid } => push_identified(alloc, out, name, guid),
+        Report::Directory | Report::Vector | Report::Marks => {
+            push_tokens(alloc, out, &[Token::Name(name)])
         }
     }
 }
@@ -542,9 +565,10 @@ fn push_behind(alloc: Global, out: &mut Vec<u8>, event: &Event) -> Result<(), No
         Event::Rollback { name, snapshot } => push_used(alloc, out, name, snapshot),
         Event::StopAfter { name, calls, how } => push_planned(alloc, out, name, *calls, *how),
         Event::Fail { name, calls } => push_failed(alloc, out, name, *calls),
-        Event::Stop { name } | Event::Start { name } | Event::Report { name, .. } => {
+        Event::Stop { name } | Event::Start { name } => {
             push_tokens(alloc, out, &[Token::Name(name)])
         }
+        Event::Report { name, what } => push_reported(alloc, out, name, *what),
     }
 }
 

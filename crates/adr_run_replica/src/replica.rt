@@ -84,7 +84,9 @@ impl Replica {
         new_controllers_may_begin();
         match Replica::on_new_disk(alloc, name, State::first(alloc, dsa, inv)) {
             Ok(made) => Ok(made),
-            // An empty controller fits on a disk, and a disk without a plan doesn't fail.
+            // An empty controller fits on a disk.
+            Err(KeeperRefusal::Full) => unreachable!(),
+            // A disk without a plan doesn't fail.
             Err(_) => Err(AllocError),
         }
     }

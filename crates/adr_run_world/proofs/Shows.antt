@@ -3,7 +3,7 @@ use Rattle.std.proofs.Common.{◌≡◌, ◌∙◌, ◌⊎◌, refl, sym, ap, in
 use Rattle.adr_call.specs.declared.outcome.Outcome.{Outcome}
 use Rattle.adr_call.specs.declared.outcome.Outcome.TheVariants as outcomes
 use Rattle.adr_call.specs.declared.report.Report.{Report}
-use Rattle.adr_call.specs.declared.report.Report.TheVariants.{Directory, Vector, Marks}
+use Rattle.adr_call.specs.declared.report.Report.TheVariants.{Directory, Vector, Marks, Meta}
 use Rattle.adr_model.specs.Directory.{directory}
 use Rattle.adr_model.specs.Store.{updates_of}
 use Rattle.adr_model.specs.Replica.{Up, Down, Failed, Replica}
@@ -26,6 +26,7 @@ store_reports : (w : World) → IsWorldOfRun w → (name : Name) (r : Replica) �
 store_reports w run name r is Directory = ap outcomes.Show (rows_shown w run name r is w.clean refl)
 store_reports w run name r is Vector = refl
 store_reports w run name r is Marks = refl
+store_reports w run name r is (Meta guid) = refl
 
 module _ (w : World) (name : Name) (what : Report) where
   -- the call comes to this outcome

@@ -1,5 +1,6 @@
 pub mod Run
 pub mod Adopted
+pub mod Counted
 pub mod Pulls
 pub mod Short
 pub mod Door

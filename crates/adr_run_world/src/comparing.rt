@@ -37,7 +37,7 @@ fn saw_same(a: &Option<Vector>, b: &Option<Vector>) -> bool
 
 impl Run {
     /// What a controller shows, where it is up.
-    fn shown(&self, alloc: Global, name: &Text) -> Result<Option<Directory>, NoMemory>
+    pub fn shown(&self, alloc: Global, name: &Text) -> Result<Option<Directory>, NoMemory>
         requires { IsSoundRun self.now }
         ensures { IfOk result (λ told. told ≡ told_of (world_of self.now) (shown (world_of self.now)) name.now) }
     {

@@ -51,7 +51,7 @@ impl Run {
     }
 
     /// A turn of a line, by its number from 0: its answers, at most three, and whether the line goes on.
-    fn turn(
+    pub fn turn(
         &mut self,
         alloc: Global,
         event: &Event,

@@ -1,20 +1,25 @@
 //! The world of a run.
 
-ghost use Rattle.std.specs.Prelude.{◌≡◌, ◌<◌, ◌≤◌, true, OnErr, OnOk, IsErrOf, flat_map};
+ghost use Rattle.std.specs.Prelude.{◌≡◌, ◌<◌, ◌≤◌, ◌∷◌, true, IfOk, OnErr, OnOk, IsErrOf, flat_map};
 ghost use Rattle.adr_event.specs.Supported.{IsSupported};
 ghost use Rattle.adr_io.specs.Told.{Adds, AddsFront};
 ghost use Rattle.adr_law_recorded.specs.Typed.{IsTyped};
 ghost use Rattle.adr_model.specs.Convergence.{AreAcknowledged, MayHappen, OwnIsInView, ShowAlike, ShowWhatIsVisible};
+ghost use Rattle.adr_model.specs.Rings.{show_alike, told_of};
 ghost use Rattle.adr_model.specs.Sound.{IsWorldOfRun};
 ghost use Rattle.adr_model.specs.Step.{step};
-ghost use Rattle.adr_model.specs.World.{empty_world};
+ghost use Rattle.adr_model.specs.World.{empty_world, shown};
 ghost use Rattle.adr_answers.specs.Line.{line};
+ghost use Rattle.adr_run_world.specs.Counted.{counted};
 ghost use Rattle.adr_run_world.specs.Door.{IsCompletedBy, IsLeftBy, IsShortBy};
 ghost use Rattle.adr_run_world.specs.Rung.{IsRungBy};
 
+use crate::counting::Tally;
 use crate::run::Run;
 use adr_event::Event;
 use adr_io::{Fault, Sink};
+use adr_schema::{NoMemory, Text};
+use adr_view::Directory;
 use std::alloc::Global;
 use std::marker::Model;
 
@@ -84,5 +89,31 @@ impl World {
     {
         self.run.step(alloc, event, sink)?;
         Ok(())
+    }
+
+    /// Does what a line says, as `step`, and counts its answers in place of writing them.
+    pub fn count(&mut self, alloc: Global, event: &Event, tally: &mut Tally) -> Result<(), NoMemory>
+        requires may { MayHappen self.old event.now }
+        requires typed { IsTyped event.now }
+        requires supported { IsSupported event.now }
+        ensures stepped { OnOk result (self.new ≡ (step self.old event.now).0) }
+        ensures counted { OnOk result (tally.new ≡ counted tally.old (step self.old event.now).1) }
+        ensures sound { IsWorldOfRun self.new }
+    {
+        self.run.count(alloc, event, tally)
+    }
+
+    /// What a controller shows, where it is up.
+    pub fn shown(&self, alloc: Global, name: &Text) -> Result<Option<Directory>, NoMemory>
+        ensures { IfOk result (λ told. told ≡ told_of self.now (shown self.now) name.now) }
+    {
+        self.run.shown(alloc, name)
+    }
+
+    /// Whether all of these show what the first shows, where those that are not up show nothing.
+    pub fn show_alike(&self, alloc: Global, first: &Text, others: &[Text]) -> Result<bool, NoMemory>
+        ensures { IfOk result (λ alike. alike ≡ show_alike self.now (first.now ∷ others.now)) }
+    {
+        self.run.show_alike(alloc, first, others)
     }
 }

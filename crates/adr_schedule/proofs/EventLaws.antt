@@ -1,5 +1,5 @@
 -- A line that spells an event says that event, and what a line said is spelled there.
-use Rattle.std.proofs.Common.{◌≡◌, ℕ, ◌<◌, ◌≤◌, Bool, true, false, List, [], ◌∷◌, length, Option, Some, None, refl, subst, ◌∙◌, arith}
+use Rattle.std.proofs.Common.{◌≡◌, ℕ, ◌<◌, ◌≤◌, Bool, true, false, List, [], ◌∷◌, length, Option, Some, None, refl, sym, subst, ◌∙◌, arith}
 use Rattle.std.specs.Prelude.{◌==◌, if◌then◌else◌, codes}
 use Rattle.std.specs.Option.{option_map}
 use Rattle.std.specs.Str.{bytes_eq}
@@ -9,7 +9,7 @@ use Rattle.adr_schema.specs.Assignments.{Given}
 use Rattle.adr_call.specs.declared.write.Write.{Write as Written}
 use Rattle.adr_call.specs.declared.write.Write.TheVariants.{Add, Modify, Rename, Delete, Link, Unlink}
 use Rattle.adr_call.specs.declared.report.Report.{Report as Asked}
-use Rattle.adr_call.specs.declared.report.Report.TheVariants.{Directory}
+use Rattle.adr_call.specs.declared.report.Report.TheVariants.{Directory, Vector, Marks, Meta}
 use Rattle.adr_event.specs.declared.event.Event.{Event}
 use Rattle.adr_event.specs.declared.event.Event.TheVariants.{Controller, Time, Write, Ask, Serve, Deliver, Pull, Cycle, Ring, Collect, Upgrade, Revive, Backup, Restore, Install, Snapshot, Rollback, StopAfter, Fail, Stop, Start, Report}
 use Rattle.adr_event.specs.Verbs.{verb_of, verb_of_report, word_of}
@@ -29,8 +29,8 @@ use Rattle.adr_schedule.specs.Sets.{rising, sets_at}
 use Rattle.adr_schedule.specs.Members.{names_at}
 use Rattle.adr_schedule.proofs.LineNames.{names_were, names_read}
 use Rattle.adr_schedule.specs.Verbs.{verb_said, verbs as all_verbs}
-use Rattle.adr_schedule.specs.Commands.{add_line, ask_line, binding_line, bound_at, by_verb, calls_at, collect_line, controller_line, crash_at, delete_line, event_of, fail_line, install_line, limit_at, link_line, modify_line, pull_line, rename_line, report_line, restore_line, ring_line, rounds_at, serve_line, start_line, stop_after, stop_line, time_line, use_line}
-use Rattle.adr_schedule.specs.Grammar.{Word, Name, Number, Identifier, Class, Attribute, Quoted, sets, named, tokens_behind, IsNext, AreSpelled, IsLimit, AreRounds, AreMembers, Spells, SpelledLinesAreRead, LinesSpellOneEvent, LinesWereSpelled}
+use Rattle.adr_schedule.specs.Commands.{add_line, ask_line, binding_line, bound_at, by_verb, calls_at, collect_line, controller_line, crash_at, delete_line, event_of, fail_line, install_line, limit_at, link_line, meta_line, modify_line, pull_line, rename_line, report_line, restore_line, ring_line, rounds_at, serve_line, start_line, stop_after, stop_line, time_line, use_line}
+use Rattle.adr_schedule.specs.Grammar.{Word, Name, Number, Identifier, Class, Attribute, Quoted, sets, named, tokens_asked, tokens_behind, IsNext, AreSpelled, IsLimit, AreRounds, AreMembers, Spells, SpelledLinesAreRead, LinesSpellOneEvent, LinesWereSpelled}
 use Rattle.adr_schedule.proofs.LineSets.{none_left, sets_read, sets_were}
 use Rattle.adr_schedule.proofs.VerbLaws.{verb_read}
 use Rattle.adr_schedule.proofs.RisingLemmas.{rising_from, unless_some}
@@ -263,12 +263,21 @@ start_was line rest verb e h =
     let P = Spells line in
     each_step P (name_at rest) _ (λ name n. at_end P name.1 (Start name.0) (λ last. (tt, ([], refl, (rest, verb, (name.1, name_next rest name n, last)))))) e h
 
--- any report
-report_was : (what : Asked) (line rest : List ℕ) → IsNext (Word (word_of (verb_of_report what))) line rest → (e : Event) → report_line what rest ≡ Some e → Spells line e
+-- a report that wants no more than a name
+report_was : (what : Asked) → tokens_asked what ≡ [] → (line rest : List ℕ) → IsNext (Word (word_of (verb_of_report what))) line rest → (e : Event)
+    → report_line what rest ≡ Some e → Spells line e
 unfolding report_line tokens_behind
-report_was what line rest verb e h =
+report_was what none line rest verb e h =
     let P = Spells line in
-    each_step P (name_at rest) _ (λ name n. at_end P name.1 (Report name.0 what) (λ last. (tt, ([], refl, (rest, verb, (name.1, name_next rest name n, last)))))) e h
+    each_step P (name_at rest) _ (λ name n. at_end P name.1 (Report name.0 what) (λ last.
+    (tt, ([], refl, (rest, verb, (name.1, name_next rest name n, subst (λ tokens. AreSpelled tokens name.1) (sym none) last)))))) e h
+
+meta_was : Follows verbs.Meta
+unfolding meta_line tokens_behind
+meta_was line rest verb e h =
+    let P = Spells line in
+    each_step P (name_at rest) _ (λ name n. each_step P (identifier_at name.1) _ (λ guid g. at_end P guid.1 (Report name.0 (Meta guid.0)) (λ last.
+    (tt, ([], refl, (rest, verb, (name.1, name_next rest name n, (guid.1, identifier_next name.1 guid g, last)))))))) e h
 
 fail_was : Follows verbs.Fail
 unfolding fail_line tokens_behind
@@ -306,7 +315,10 @@ verb_was verbs.Rollback line rest verb e h = use_was (Spells line) Rollback rest
 verb_was verbs.Stop line rest verb e h = stop_was line rest verb e h
 verb_was verbs.Fail line rest verb e h = fail_was line rest verb e h
 verb_was verbs.Start line rest verb e h = start_was line rest verb e h
-verb_was report line rest verb e h = report_was _ line rest verb e h
+verb_was verbs.Show line rest verb e h = report_was Directory refl line rest verb e h
+verb_was verbs.Vector line rest verb e h = report_was Vector refl line rest verb e h
+verb_was verbs.Marks line rest verb e h = report_was Marks refl line rest verb e h
+verb_was verbs.Meta line rest verb e h = meta_was line rest verb e h
 
 pub lines_spelled : LinesWereSpelled
 unfolding event_of
@@ -458,10 +470,9 @@ fail_again bytes name calls most h =
     let c = a.2 in
     rw (name_read name bytes h.0 h.1, calls_read calls h.0 a.0 c.0 most a.1 c.1, c.2) refl
 
--- the verb of a report asks for it, whatever reports there are
-report_said : (what : Asked) (rest : List ℕ) → by_verb (verb_of_report what) rest ≡ report_line what rest
-report_said Directory rest = refl
-report_said what rest = refl
+meta_again : (bytes name guid : List ℕ) → AreSpelled (Name name ∷ Identifier guid ∷ []) bytes → meta_line bytes ≡ Some (Report name (Meta guid))
+unfolding meta_line
+meta_again bytes name guid h = rw (name_read name bytes h.0 h.1, identifier_read guid h.0 h.2.0 h.2.1, h.2.2) refl
 
 -- what a line says, behind its verb
 behind_read : (line : List ℕ) (event : Event) (s : Spells line event) → by_verb (verb_of event) s.1.2.0 ≡ Some event
@@ -492,7 +503,10 @@ behind_read line (StopAfter name calls how) h = stop_after_again h.1.2.0 name ca
 behind_read line (Fail name calls) h = fail_again h.1.2.0 name calls h.0 h.1.2.2
 behind_read line (Stop name) h = stop_again h.1.2.0 name h.1.2.2
 behind_read line (Start name) h = start_again h.1.2.0 name h.1.2.2
-behind_read line (Report name what) h = report_said what h.1.2.0 ∙ report_again what h.1.2.0 name h.1.2.2
+behind_read line (Report name Directory) h = report_again Directory h.1.2.0 name h.1.2.2
+behind_read line (Report name Vector) h = report_again Vector h.1.2.0 name h.1.2.2
+behind_read line (Report name Marks) h = report_again Marks h.1.2.0 name h.1.2.2
+behind_read line (Report name (Meta guid)) h = meta_again h.1.2.0 name guid h.1.2.2
 
 pub lines_read : SpelledLinesAreRead
 lines_read line event h = verb_read (verb_of event) line h.1.2.0 h.1.2.1 ∙ behind_read line event h

@@ -25,11 +25,18 @@ use Rattle.adr_schedule.specs.Verbs.{verb_said}
 
 -- ---- lines that some verbs share
 
--- NAME, behind the word of any report
+-- NAME, behind the word of a report that wants no more
 unfoldable pub report_line : Asked → List ℕ → Option Event
 report_line what bytes = do
   name ← name_at bytes
   ended name.1 (Report name.0 what)
+
+-- NAME ID
+unfoldable pub meta_line : List ℕ → Option Event
+meta_line bytes = do
+  name ← name_at bytes
+  guid ← identifier_at name.1
+  ended guid.1 (Report name.0 (reports.Meta guid.0))
 
 -- NAME NAME
 unfoldable pub use_line : (List ℕ → List ℕ → Event) → List ℕ → Option Event
@@ -246,6 +253,7 @@ by_verb verbs.Start rest = start_line rest
 by_verb verbs.Show rest = report_line reports.Directory rest
 by_verb verbs.Vector rest = report_line reports.Vector rest
 by_verb verbs.Marks rest = report_line reports.Marks rest
+by_verb verbs.Meta rest = meta_line rest
 
 -- what a line says
 unfoldable pub event_of : List ℕ → Option Event

@@ -7,6 +7,8 @@ use Rattle.adr_schema.specs.Assignments.{Given, attributes}
 use Rattle.adr_schema.specs.declared.content.Value.{Value as Item}
 use Rattle.adr_call.specs.declared.write.Write.{Write as Written}
 use Rattle.adr_call.specs.declared.write.Write.TheVariants.{Add, Modify, Rename, Delete, Link, Unlink}
+use Rattle.adr_call.specs.declared.report.Report.{Report as Asked}
+use Rattle.adr_call.specs.declared.report.Report.TheVariants as reports
 use Rattle.adr_event.specs.declared.event.Event.{Event}
 use Rattle.adr_event.specs.declared.event.Event.TheVariants.{Controller, Time, Write, Ask, Serve, Deliver, Pull, Cycle, Ring, Collect, Upgrade, Revive, Backup, Restore, Install, Snapshot, Rollback, StopAfter, Fail, Stop, Start, Report}
 use Rattle.adr_event.specs.Verbs.{verb_of, word_of}
@@ -58,6 +60,13 @@ tokens_written order (Delete guid) = Identifier guid ∷ []
 tokens_written order (Link from attr to) = Identifier from ∷ Attribute attr ∷ Identifier to ∷ []
 tokens_written order (Unlink from attr to) = Identifier from ∷ Attribute attr ∷ Identifier to ∷ []
 
+-- what a controller is asked for
+abbrev pub tokens_asked : Asked → List Token
+tokens_asked reports.Directory = []
+tokens_asked reports.Vector = []
+tokens_asked reports.Marks = []
+tokens_asked (reports.Meta guid) = Identifier guid ∷ []
+
 -- what stands behind the verb in the line of an event, its sets in this order; nothing where it has no line
 unfoldable pub tokens_behind : List Given → Event → List Token
 tokens_behind order (Controller name dsa inv) = Name name ∷ Identifier dsa ∷ Identifier inv ∷ []
@@ -79,7 +88,7 @@ tokens_behind order (StopAfter name calls how) = Name name ∷ Word (codes "afte
 tokens_behind order (Fail name calls) = Name name ∷ Word (codes "after") ∷ Number calls ∷ []
 tokens_behind order (Stop name) = Name name ∷ []
 tokens_behind order (Start name) = Name name ∷ []
-tokens_behind order (Report name what) = Name name ∷ []
+tokens_behind order (Report name what) = Name name ∷ tokens_asked what
 tokens_behind order event = []
 
 -- the tokens of the line of an event, its sets in this order

@@ -3,7 +3,7 @@
 ghost use Rattle.std.specs.Prelude.{◌≡◌, ◌==◌, ◌<◌, Some, None};
 ghost use Rattle.adr_token.specs.Gives.{Gives, Answers};
 ghost use Rattle.adr_token.specs.Words.{ended};
-ghost use Rattle.adr_schedule.specs.Commands.{add_line, ask_line, binding_line, bound_at, by_verb, calls_at, collect_line, controller_line, crash_at, delete_line, event_of, fail_line, install_line, is_passed, limit_at, link_line, modify_line, pull_line, rename_line, report_line, restore_line, ring_line, rounds_at, serve_line, start_line, stop_after, stop_line, time_line, use_line};
+ghost use Rattle.adr_schedule.specs.Commands.{add_line, ask_line, binding_line, bound_at, by_verb, calls_at, collect_line, controller_line, crash_at, delete_line, event_of, fail_line, install_line, is_passed, limit_at, link_line, meta_line, modify_line, pull_line, rename_line, report_line, restore_line, ring_line, rounds_at, serve_line, start_line, stop_after, stop_line, time_line, use_line};
 ghost use Rattle.adr_schedule.specs.Shared.{copied, linked, pulled, used};
 
 use crate::crashes::crash_of;
@@ -31,12 +31,23 @@ fn ended<T: Drop>(line: &Line<'_>, value: T) -> Result<T, Stop>
     }
 }
 
-/// NAME, behind the word of any report.
+/// NAME, behind the word of a report that wants no more.
 #[tactic(auto, unfolding(crate::specs::Commands::report_line))]
 fn reported(alloc: Global, what: Report, line: &mut Line<'_>) -> Result<Event, Stop>
     ensures { Answers result (report_line what line.old) }
 {
     let name = line.name(alloc)?;
+    ended(line, Event::Report { name, what })
+}
+
+/// NAME ID, behind `meta`.
+#[tactic(auto, unfolding(crate::specs::Commands::meta_line))]
+fn meta(alloc: Global, line: &mut Line<'_>) -> Result<Event, Stop>
+    ensures { Answers result (meta_line line.old) }
+{
+    let name = line.name(alloc)?;
+    let guid = line.identifier()?;
+    let what = Report::Meta { guid };
     ended(line, Event::Report { name, what })
 }
 
@@ -405,6 +416,7 @@ fn by_verb(alloc: Global, verb: Verb, line: &mut Line<'_>) -> Result<Event, Stop
         Verb::Show => reported(alloc, Report::Directory, line),
         Verb::Vector => reported(alloc, Report::Vector, line),
         Verb::Marks => reported(alloc, Report::Marks, line),
+        Verb::Meta => meta(alloc, line),
     }
 }
 

@@ -34,7 +34,7 @@ pub enum CopyVerb {
 }
 
 /// The verbs that a text knows: those of the events that have a line.
-const VERBS: [Verb; 26] = [
+const VERBS: [Verb; 27] = [
     Verb::Controller,
     Verb::Time,
     Verb::Add,
@@ -61,6 +61,7 @@ const VERBS: [Verb; 26] = [
     Verb::Show,
     Verb::Vector,
     Verb::Marks,
+    Verb::Meta,
 ];
 
 /// The verb of a word.

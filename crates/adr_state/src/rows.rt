@@ -10,7 +10,7 @@ ghost use Rattle.adr_model.specs.Place.{is_fixed, node_at, place, upward};
 ghost use Rattle.adr_model.specs.Shown.{name_holder};
 ghost use Rattle.adr_model.specs.Store.{is_row_of, row_held, updates_of};
 ghost use Rattle.adr_model.specs.Update.{same_identifier};
-ghost use Rattle.adr_model.specs.Write.{holds_guid, is_taken, links_in, nodes_held};
+ghost use Rattle.adr_model.specs.Write.{holds_guid, is_of_guid, is_taken, links_in, nodes_held};
 ghost use Rattle.adr_update.specs.Key.{key_of};
 ghost use Rattle.adr_update.specs.Referents.{referents};
 ghost use Rattle.adr_update.specs.Sought.{IsNextLocal, is_link_from, is_link_to, rows_of_unit, units_at};
@@ -108,6 +108,14 @@ impl Rows {
             referents rows.items ≡ filter (λ h. is_row_of object.now h.update.key) self.now) }
     {
         self.table.rows_of(alloc, object)
+    }
+
+    /// The rows of the objects of a GUID, live or not, in order.
+    pub fn rows_of_guid(&self, alloc: Global, guid: Guid) -> Result<Vec<&Held>, NoMemory>
+        ensures { IfOk result (λ rows.
+            referents rows.items ≡ filter (λ h. is_of_guid guid h.update.key) self.now) }
+    {
+        self.table.rows_of_guid(alloc, guid)
     }
 
     /// The link rows from an object, in order.

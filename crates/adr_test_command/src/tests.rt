@@ -64,9 +64,11 @@ const PEOPLE_WRITTEN: [&str; 4] = [
 fn usage_for_other_words(rt: HostRuntime) -> Result<(), Fail> {
     let usage =
         "usage: adrep replay | exercise N | create NAME | install NAME | restore NAME DSA | backup NAME | show NAME | export NAME | serve NAME PORT COUNT | pull NAME PORT | send PORT\n";
-    let cases: [&[&str]; 5] = [
+    let cases: [&[&str]; 7] = [
         &[],
         &["replay", "x"],
+        &["exercise"],
+        &["exercise", "1001"],
         &["--help"],
         &["Replay"],
         &["show", "A"],
@@ -76,6 +78,41 @@ fn usage_for_other_words(rt: HostRuntime) -> Result<(), Fail> {
         assert_eq!(rt; status, 2);
         assert_eq!(rt; written.as_slice(), usage.as_bytes());
     }
+    Ok(())
+}
+
+/// Numbers, and what the runs of their generated schedules come to: 10 groups, five persons for each one of the number,
+/// every tenth of whom is deleted, and then forgotten by four controllers.
+const EXERCISES: [(&str, &str); 3] = [
+    (
+        "1",
+        "exercise 1: objects=15 links=5 refused=0 collected=0 equal=true\n",
+    ),
+    (
+        "7",
+        "exercise 7: objects=42 links=32 refused=0 collected=12 equal=true\n",
+    ),
+    (
+        "40",
+        "exercise 40: objects=190 links=180 refused=0 collected=80 equal=true\n",
+    ),
+];
+
+#[test]
+fn generated_schedules(rt: HostRuntime) -> Result<(), Fail> {
+    for (number, line) in EXERCISES {
+        let words = ["exercise", number];
+        let (status, written) = outcome(rt.alloc(), &words, PEOPLE, 7, NEVER)?;
+        assert_eq!(rt; status, 0);
+        assert_eq!(rt; written.as_slice(), line.as_bytes());
+    }
+    let failing = Failing {
+        read: None,
+        write: Some(0),
+    };
+    let (status, written) = outcome(rt.alloc(), &["exercise", "1"], PEOPLE, 7, failing)?;
+    assert_eq!(rt; status, 5);
+    assert_eq!(rt; written.len(), 0);
     Ok(())
 }
 

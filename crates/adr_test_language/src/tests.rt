@@ -413,6 +413,8 @@ ring 1 1 A B
 ring 126 10000 B A
 vector A
 marks B
+meta A #10
+meta B #00000001-0000-0000-0000-000000000000
 show B
 stop A
 stop A after 0 kept
@@ -433,6 +435,10 @@ controller q #b1 #b0
 /// Lines that may not follow those, each with its cause.
 const MISPLACED: &[(&[u8], &[u8])] = &[
     (b"pull A B 0", b"line 5: no command\n"),
+    (b"meta A", b"line 5: no command\n"),
+    (b"meta #10", b"line 5: no command\n"),
+    (b"meta A #10 #11", b"line 5: no command\n"),
+    (b"meta q #10", b"line 5: unknown name\n"),
     (b"cycle A B 10001", b"line 5: no command\n"),
     (b"ask A B 5 q", b"line 5: no command\n"),
     (b"ask A C 5 as q", b"line 5: unknown name\n"),

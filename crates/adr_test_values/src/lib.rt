@@ -1,4 +1,4 @@
-//! Tests of what no clause tells and no schedule comes to: words, images and the bodies of records against values from
+//! Tests of what no clause tells and no schedule comes to: words, images, packets and the bodies of records against values from
 //! outside (bytes of the formats, spellings, the schema's table, crash images), readers, writers and files, and calls at
 //! their limits (replies that are cut by their bytes, vectors with too many cursors, the last version and the last USN).
 #![tactic(auto)]
@@ -12,7 +12,11 @@ mod holding;
 #[cfg(test)]
 mod images;
 #[cfg(test)]
+mod json;
+#[cfg(test)]
 mod messages;
+#[cfg(test)]
+mod packets;
 #[cfg(test)]
 mod words;
 #[cfg(test)]

@@ -9,6 +9,7 @@ ghost use Rattle.adr_view.specs.Report.{report_of};
 
 use crate::NoMemory;
 use crate::entries::directory;
+use crate::meta::meta;
 use adr_call::{Outcome, PartnerMarks, Report, Times};
 use adr_state::{Marks, State};
 use std::alloc::Global;
@@ -40,5 +41,6 @@ pub fn report(alloc: Global, what: Report, state: &State) -> Result<Outcome, NoM
             })
         }
         Report::Marks => Ok(Outcome::Marks(partner_marks(alloc, state.marks())?)),
+        Report::Meta { guid } => Ok(Outcome::Meta(meta(alloc, state.rows(), guid)?)),
     }
 }

@@ -10,9 +10,9 @@ use Rattle.adr_schema.specs.declared.content.Content.{Content}
 use Rattle.adr_schema.specs.declared.content.Content.TheVariants.{Class, Name, Dead, Values}
 use Rattle.adr_wire.specs.Reading.{as_at, where_at, then_at, is_above}
 use Rattle.adr_wire.specs.Fields.{u8_at, u16_at, u64_at, i64_at, id_at, flag_at, usn_at, usn0_at, version_at, octets_at, text_at, u8, u16, u32, u64, i64, id, flag, octets, text}
-use Rattle.adr_wire.specs.Composites.{mark_at, mark, oid_at, oid, stamp_at, stamp, value_of, value_at, kind_of, told, value, one_key, values_at, content_at, content, Row, row_of, row_above, row_at, row, rows_at, object_at, object, link_key_at, link_key, link_stamp_at, link_stamp, link_at, link}
+use Rattle.adr_wire.specs.Composites.{mark_at, mark, is_ordered, ordered_mark_at, oid_at, oid, stamp_at, stamp, value_of, value_at, kind_of, told, value, one_key, values_at, content_at, content, Row, row_of, row_above, row_at, row, rows_at, object_at, object, link_key_at, link_key, link_stamp_at, link_stamp, link_at, link}
 use Rattle.adr_wire.specs.Spelling.{IsSpelling}
-use Rattle.adr_wire.specs.Ranges.{IsU8, IsU16, IsU64, IsI64, IsId, IsFlag, IsUsn, IsUsn0, IsVersion, IsOctets, IsText, IsMark, IsOid, IsStamp, IsValue, IsContent, IsRow, InTurn, IsRowAbove, RowsRise, IsObject, IsLink}
+use Rattle.adr_wire.specs.Ranges.{IsU8, IsU16, IsU64, IsI64, IsId, IsFlag, IsUsn, IsUsn0, IsVersion, IsOctets, IsText, IsMark, IsOrderedMark, IsOid, IsStamp, IsValue, IsContent, IsRow, InTurn, IsRowAbove, RowsRise, IsObject, IsLink}
 use Rattle.adr_wire.proofs.Combining.{made, in_range_too, passed, both, pair, followed, either, never, nothing, elements_spelled, counted}
 use Rattle.adr_wire.proofs.FieldLaws.{u8_spelled, u16_spelled, u64_spelled, i64_spelled, id_spelled, flag_spelled, usn_spelled, usn0_spelled, version_spelled, octets_spelled, text_spelled}
 
@@ -24,6 +24,9 @@ mark_spelled =
     made _ _ _ (pair IsUsn0 u64 usn0_at usn0_spelled (λ p. IsUsn0 p.0 × IsUsn0 p.1) (λ p. u64 p.0 ++ u64 p.1) (then_at usn0_at (λ _. usn0_at)) (pair IsUsn0 u64 usn0_at usn0_spelled IsUsn0 u64 usn0_at usn0_spelled))
     (λ p. record { obj = p.0; prop = p.1.0; seen = p.1.1 }) IsMark mark
     (λ m q. ((m.obj, (m.prop, m.seen)), refl, q, refl)) (λ p q fits. (q, refl))
+
+pub ordered_mark_spelled : IsSpelling IsOrderedMark mark ordered_mark_at
+ordered_mark_spelled = passed IsMark mark mark_at mark_spelled is_ordered
 
 pub oid_spelled : IsSpelling IsOid oid oid_at
 unfolding oid_at

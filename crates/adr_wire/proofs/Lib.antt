@@ -5,3 +5,5 @@ pub mod CompositeLaws
 pub mod VectorLaws
 pub mod Gathering
 pub mod Pieces
+pub mod HeadedLaws
+pub mod OptionalLaws

@@ -1,5 +1,5 @@
 -- The composites: marks, names, stamps, values, contents, rows, and the lists of them.
-use Rattle.std.specs.Prelude.{ℕ, ◌<◌, ◌^◌, List, [], ◌++◌, length, Bool, nat_le, if◌then◌else◌, ◌==◌, Option, None, Ok, Err, ⊤, All}
+use Rattle.std.specs.Prelude.{ℕ, ◌<◌, ◌^◌, List, [], ◌++◌, length, Bool, nat_le, ◌&&◌, if◌then◌else◌, ◌==◌, Option, None, Ok, Err, ⊤, All}
 use Rattle.std.specs.List.{flat_map}
 use Rattle.std.specs.Ordering.{nat_cmp}
 use Rattle.adr_stamp.specs.declared.Oid.{Oid}
@@ -24,6 +24,13 @@ mark_at = as_at (λ p. record { obj = p.0; prop = p.1.0; seen = p.1.1 }) (then_a
 
 abbrev pub mark : Mark → List ℕ
 mark m = u64 m.obj ++ (u64 m.prop ++ u64 m.seen)
+
+-- a mark whose numbers are in order, else a fault at its first byte
+abbrev pub is_ordered : Mark → Bool
+is_ordered m = nat_le m.prop m.obj && nat_le m.obj m.seen
+
+abbrev pub ordered_mark_at : Reading Mark
+ordered_mark_at = where_at is_ordered mark_at
 
 unfoldable pub oid_at : Reading Oid
 oid_at = as_at (λ p. record { guid = p.0; birth = record { inv = p.1.0; usn = p.1.1 } }) (then_at id_at (λ _. then_at id_at (λ _. usn_at)))

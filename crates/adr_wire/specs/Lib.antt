@@ -5,3 +5,5 @@ pub mod Spelling
 pub mod Ranges
 pub mod Gathering
 pub mod Pieces
+pub mod Headed
+pub mod Optional

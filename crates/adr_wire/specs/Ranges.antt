@@ -13,7 +13,7 @@ use Rattle.adr_schema.specs.declared.content.Content.TheVariants.{Class, Name, D
 use Rattle.adr_vector.specs.declared.mark.Mark.{Mark}
 use Rattle.adr_vector.specs.Vector.{Cursors, IsVector}
 use Rattle.adr_wire.specs.Reading.{is_above}
-use Rattle.adr_wire.specs.Composites.{Row, LinkItem}
+use Rattle.adr_wire.specs.Composites.{Row, LinkItem, is_ordered}
 
 abbrev pub IsU8 : ℕ → Type 0
 IsU8 n = n < 256
@@ -53,6 +53,9 @@ IsText bytes = IsOctets bytes × (is_utf8 bytes ≡ true)
 
 abbrev pub IsMark : Mark → Type 0
 IsMark m = IsUsn0 m.obj × (IsUsn0 m.prop × IsUsn0 m.seen)
+
+abbrev pub IsOrderedMark : Mark → Type 0
+IsOrderedMark m = IsMark m × (is_ordered m ≡ true)
 
 abbrev pub IsOid : Oid → Type 0
 IsOid o = IsId o.guid × (IsId o.birth.inv × IsUsn o.birth.usn)

@@ -1,7 +1,7 @@
 //! Composites are read field by field.
 
 ghost use Rattle.adr_wire.specs.Reading.{Gives, GivesAs, Tells};
-ghost use Rattle.adr_wire.specs.Composites.{mark_at, oid_at, stamp_at, value_at, content_at, object_at, link_key_at, link_stamp_at, link_at, vector_at};
+ghost use Rattle.adr_wire.specs.Composites.{mark_at, ordered_mark_at, oid_at, stamp_at, value_at, content_at, object_at, link_key_at, link_stamp_at, link_at, vector_at};
 
 use crate::reader::Reader;
 use crate::refusal::{Malformed, WireRefusal};
@@ -20,6 +20,18 @@ impl Reader<'_> {
         let prop = self.read_usn0()?;
         let seen = self.read_usn0()?;
         Ok(Mark { obj, prop, seen })
+    }
+
+    /// A mark whose numbers are in order.
+    pub fn read_ordered_mark(&mut self) -> Result<Mark, WireRefusal>
+        ensures { Tells result self.new (ordered_mark_at self.old) }
+    {
+        let place = self.place();
+        let mark = self.read_mark()?;
+        if mark.prop > mark.obj || mark.obj > mark.seen {
+            return Err(Failure::Refused(Malformed { place }));
+        }
+        Ok(mark)
     }
 
     #[tactic(auto, unfolding(crate::specs::Composites::oid_at))]

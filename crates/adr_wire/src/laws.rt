@@ -30,6 +30,7 @@ pub fn fields_have_one_spelling()
 /// So has each composite. The spelling of a content is that of a row of its attribute.
 pub fn composites_have_one_spelling()
     ensures mark { IsSpelling range.IsMark composite.mark composite.mark_at }
+    ensures ordered_mark { IsSpelling range.IsOrderedMark composite.mark composite.ordered_mark_at }
     ensures oid { IsSpelling range.IsOid composite.oid composite.oid_at }
     ensures stamp { IsSpelling range.IsStamp composite.stamp composite.stamp_at }
     ensures value { IsSpelling range.IsValue composite.value composite.value_at }

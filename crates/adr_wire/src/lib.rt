@@ -1,13 +1,14 @@
 //! Fields and composites as bytes.
 //!
-//! This crate decides how numbers, identifiers, texts, values, rows, links, marks and vectors are spelled in images and
-//! journal records, and with what such a format begins: each in one way. Whatever is read is the value whose
-//! spelling stands there, and all else is refused at the first place that is wrong. It stands on `adr_stamp`,
-//! `adr_schema` and `adr_vector` for the values, and knows nothing of messages, images or journals, nor of what a schema
-//! allows.
+//! This crate decides how numbers, identifiers, texts, values, rows, links, marks and vectors are spelled in messages,
+//! images and journal records: each in one way. It decides with what a message begins, and that it ends with its last
+//! byte. Whatever is read is the value whose spelling stands there, and all else is refused at the first place that is
+//! wrong. It stands on `adr_stamp`, `adr_schema` and `adr_vector` for the values. It knows nothing of what a message, an
+//! image or a journal says, nor of what a schema allows.
 #![tactic(auto)]
 
 mod composites;
+mod headed;
 mod laws;
 mod lists;
 mod reader;
@@ -16,6 +17,7 @@ mod writer;
 mod writing;
 
 pub use adr_failure::{Failure, NoMemory};
+pub use headed::malformed;
 pub use laws::{composites_have_one_spelling, fields_have_one_spelling, pieces_have_one_spelling};
 pub use reader::Reader;
 pub use refusal::{DecodeRefusal, Malformed, WireRefusal};

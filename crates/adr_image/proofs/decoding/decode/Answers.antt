@@ -1,5 +1,5 @@
 use Rattle.std.proofs.Common.{arith}
-use Rattle.adr_image.proofs.Spelled.{read_is_formed}
+use Rattle.adr_image.proofs.Placed.{read_is_formed}
 use Rattle.adr_image.proofs.decoding.decode.Goals as goal
 
 pub of-requires-clause-formed : goal.of-requires-clause-formed

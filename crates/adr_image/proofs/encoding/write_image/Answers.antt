@@ -20,9 +20,9 @@ returns c =
     let is = c.contents.view_is in
     let number : c.number.result ≡ s.schema = c.number.ensures.number ∙ ap (λ (t : Store). t.schema) is in
     on_ok_then c.write_rows.result c.write_rows.ensures (λ all.
-    image_written s c.args.writer.now c.write_bytes.new.self c.write_u16.new.self c.write_u32.new.self c.write_usn0.new.self c.write_vector.new.self c.write_vector-2.new.self c.write_marks.new.writer c.write_rows.new.writer
-    c.in_ok-write_bytes.ensures.ok c.in_ok-write_u16.ensures.ok
-    (c.in_ok-write_u32.ensures.ok ∙ ap (λ (n : ℕ). c.write_u16.new.self ++ u32 n) number)
+    image_written s c.args.writer.now c.write_head.new.self c.write_u32.new.self c.write_usn0.new.self c.write_vector.new.self c.write_vector-2.new.self c.write_marks.new.writer c.write_rows.new.writer
+    c.in_ok-write_head.ensures
+    (c.in_ok-write_u32.ensures.ok ∙ ap (λ (n : ℕ). c.write_head.new.self ++ u32 n) number)
     (c.in_ok-write_usn0.ensures.ok ∙ ap (λ (t : Store). c.write_u32.new.self ++ u64 t.usn) is)
     (c.in_ok-write_vector.ensures ∙ ap (λ (t : Store). c.write_usn0.new.self ++ vector t.vector) is)
     (c.in_ok-write_vector-2.ensures ∙ ap (λ (t : Store). c.write_vector.new.self ++ vector t.purged) is)

@@ -1,6 +1,5 @@
-use Rattle.adr_image.proofs.InRange.{in_range, image_read}
-use Rattle.adr_image.proofs.Placed.{image_spelled}
-use Rattle.adr_image.proofs.Spelled.{read_is_formed}
+use Rattle.adr_image.proofs.InRange.{in_range}
+use Rattle.adr_image.proofs.Placed.{image_read, image_spelled, read_is_formed}
 use Rattle.adr_image.proofs.laws.images_have_one_spelling.Goals as goal
 
 pub returns-clause-formed : goal.returns-clause-formed

@@ -1,9 +1,12 @@
-use Rattle.adr_wire.proofs.CompositeLaws.{mark_spelled, oid_spelled, stamp_spelled, value_spelled, content_spelled, row_spelled, object_spelled, link_spelled}
+use Rattle.adr_wire.proofs.CompositeLaws.{mark_spelled, ordered_mark_spelled, oid_spelled, stamp_spelled, value_spelled, content_spelled, row_spelled, object_spelled, link_spelled}
 use Rattle.adr_wire.proofs.VectorLaws.{vector_spelled}
 use Rattle.adr_wire.proofs.laws.composites_have_one_spelling.Goals as goal
 
 pub returns-clause-mark : goal.returns-clause-mark
 returns-clause-mark c = mark_spelled
+
+pub returns-clause-ordered_mark : goal.returns-clause-ordered_mark
+returns-clause-ordered_mark c = ordered_mark_spelled
 
 pub returns-clause-oid : goal.returns-clause-oid
 returns-clause-oid c = oid_spelled

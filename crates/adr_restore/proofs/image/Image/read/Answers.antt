@@ -1,6 +1,6 @@
 use Rattle.std.proofs.Common.{subst}
-use Rattle.adr_image.specs.Seen.{IsRefusedSo}
 use Rattle.adr_image.specs.Stored.{decoded}
+use Rattle.adr_wire.specs.Headed.{IsRefusedSo}
 use Rattle.adr_restore.proofs.Reading.{never_refused, one_store}
 use Rattle.adr_restore.proofs.image.Image.read.Goals as goal
 

@@ -1,0 +1,3 @@
+pub mod ReceivedLemmas
+pub mod Framing
+pub mod FrameLaws

@@ -1,0 +1,4 @@
+pub mod Text
+pub mod Worked
+pub mod Exportable
+pub mod Laws

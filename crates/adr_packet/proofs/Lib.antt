@@ -1,0 +1,5 @@
+pub mod PartLaws
+pub mod RequestLaws
+pub mod ReplyLaws
+pub mod RefusalLaws
+pub mod ItemSteps

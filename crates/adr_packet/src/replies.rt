@@ -1,0 +1,105 @@
+//! Replies.
+
+ghost use Rattle.std.specs.Prelude.{◌≡◌, ◌++◌, Ok, IfErr, IfOk, OnOk};
+ghost use Rattle.std.specs.Option.{option_copied};
+ghost use Rattle.adr_wire.specs.Reading.{Gives, GivesAs};
+ghost use Rattle.adr_wire.specs.Headed.{Ends, IsRefusedSo};
+ghost use Rattle.adr_packet.specs.Replies as form;
+
+use crate::items::{read_items, write_items};
+use crate::parts::{read_last, read_parties, read_reach, write_last, write_parties, write_reach};
+use adr_cycle::{Item, NoMemory, Reply, Vector};
+use adr_wire::{DecodeRefusal, Failure, Reader, WireRefusal, Writer, malformed};
+use std::alloc::Global;
+
+/// The bytes with which a reply begins.
+const MAGIC: [u8; 4] = [65, 68, 82, 80];
+
+/// The version of the replies that are read and written.
+const VERSION: u16 = 1;
+
+/// The source's vector, if nothing is left to send, and the items.
+#[tactic(auto, unfolding(crate::specs::Replies::sent_at))]
+fn read_sent(
+    reader: &mut Reader<'_>,
+    alloc: Global,
+) -> Result<(Option<Vector>, Vec<Item>), WireRefusal>
+    ensures { GivesAs (λ sent. (sent.0, sent.1.items)) result reader.new (form.sent_at reader.old) }
+{
+    let last = read_last(reader, alloc)?;
+    let items = read_items(reader, alloc)?;
+    Ok((last, items))
+}
+
+/// What stands behind the version of a reply.
+#[tactic(auto, unfolding(crate::specs::Replies::reply_at, crate::specs::Replies::tuple_at))]
+fn read_fields(reader: &mut Reader<'_>, alloc: Global) -> Result<Reply, WireRefusal>
+    ensures { Gives result reader.new (form.reply_at reader.old) }
+{
+    let (dest, (source, inv)) = read_parties(reader)?;
+    let (from, to) = read_reach(reader)?;
+    let schema = reader.read_u32()?;
+    let asked = reader.read_vector(alloc)?;
+    let (last, items) = read_sent(reader, alloc)?;
+    Ok(Reply::new(dest, source, inv, from, to, schema, asked, last, items))
+}
+
+/// What stands behind the version, to the end.
+fn read_to_end(reader: &mut Reader<'_>, alloc: Global) -> Result<Reply, WireRefusal>
+    ensures { Ends result (form.reply_at reader.old) }
+{
+    let reply = read_fields(reader, alloc)?;
+    reader.end()?;
+    Ok(reply)
+}
+
+/// Reads a reply. `Malformed` names the first byte of the field, count, element or mark that breaks its form.
+pub fn decode_reply(alloc: Global, bytes: &[u8]) -> Result<Reply, Failure<DecodeRefusal>>
+    ensures read { IfOk result (λ reply. form.decoded_reply bytes.now ≡ Ok reply) }
+    ensures refused { IfErr result (IsRefusedSo (form.decoded_reply bytes.now)) }
+{
+    let mut reader = Reader::new(bytes);
+    let found = match reader.read_head(&MAGIC) {
+        Ok(found) => found,
+        Err(refusal) => return Err(malformed(refusal)),
+    };
+    if found != VERSION {
+        return Err(Failure::Refused(DecodeRefusal::WrongVersion { found }));
+    }
+    match read_to_end(&mut reader, alloc) {
+        Ok(reply) => Ok(reply),
+        Err(refusal) => Err(malformed(refusal)),
+    }
+}
+
+/// Writes the source's vector, if nothing is left to send, and the items.
+fn write_sent(writer: &mut Writer, reply: &Reply) -> Result<(), NoMemory>
+    requires { form.IsShortReply reply.now }
+    ensures { OnOk result (writer.new ≡ writer.old ++ form.sent (reply.now.last, reply.now.items)) }
+{
+    write_last(writer, reply.last())?;
+    write_items(writer, reply.items())
+}
+
+/// Writes what stands behind the version of a reply.
+fn write_fields(writer: &mut Writer, reply: &Reply) -> Result<(), NoMemory>
+    requires { form.IsShortReply reply.now }
+    ensures { OnOk result (writer.new ≡ writer.old ++ form.fields reply.now) }
+{
+    write_parties(writer, reply.dest(), reply.source(), reply.inv())?;
+    write_reach(writer, reply.from(), reply.to())?;
+    writer.write_u32(&reply.schema())?;
+    writer.write_vector(reply.asked())?;
+    write_sent(writer, reply)
+}
+
+/// The bytes of a reply.
+pub fn encode_reply(alloc: Global, reply: &Reply) -> Result<Vec<u8>, NoMemory>
+    requires { form.IsShortReply reply.now }
+    ensures { IfOk result (λ bytes. bytes.items ≡ form.reply_bytes reply.now) }
+{
+    let mut writer = Writer::new(alloc);
+    writer.write_head(&MAGIC, &VERSION)?;
+    write_fields(&mut writer, reply)?;
+    Ok(writer.into_bytes())
+}

@@ -1,0 +1,5 @@
+pub mod Ranges
+pub mod Draws
+mod Numerals
+mod Allowed
+mod Followed

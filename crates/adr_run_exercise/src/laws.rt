@@ -1,0 +1,24 @@
+//! The laws of the schedule.
+
+ghost use Rattle.adr_run_exercise.specs.Laws.{SchedulesAreRead, SchedulesAreSupported, SchedulesFollow};
+
+use adr_run_print::events_are_read_again;
+
+/// The lines of the schedule of every number may follow one another from the beginning on.
+#[tactic(auto, using(crate::proofs::Followed::schedules_follow))]
+pub fn schedules_follow()
+    ensures { SchedulesFollow }
+{}
+
+/// What is printed of the schedule is read again, up to the limit of a text.
+pub fn schedules_are_read()
+    ensures { SchedulesAreRead }
+{
+    events_are_read_again();
+}
+
+/// The program does all that the schedule says.
+#[tactic(auto, using(crate::proofs::Followed::schedules_supported))]
+pub fn schedules_are_supported()
+    ensures { SchedulesAreSupported }
+{}
