@@ -11,7 +11,7 @@ import sys
 import second_reading as model
 
 BASE = {'time': 5, 'add': 10, 'modify': 7, 'rename': 5, 'delete': 4, 'link': 6, 'unlink': 3, 'ask': 4, 'serve': 4, 'deliver': 5,
-        'pull': 10, 'cycle': 9, 'show': 2, 'vector': 1, 'marks': 1, 'stop': 0, 'stop after': 0, 'fail after': 0, 'start': 0,
+        'pull': 10, 'cycle': 9, 'show': 2, 'vector': 1, 'marks': 1, 'meta': 3, 'stop': 0, 'stop after': 0, 'fail after': 0, 'start': 0,
         'collect': 0, 'backup': 0, 'restore': 0, 'install': 0, 'snapshot': 0, 'rollback': 0, 'controller': 0}
 FAULTS = {'stop': 1, 'stop after': 3, 'fail after': 3, 'start': 5}
 PROFILES = {
@@ -25,7 +25,7 @@ PROFILES = {
     'faults': dict(FAULTS, collect=3, delete=5, backup=2, restore=1, install=1, snapshot=2, rollback=1),
     'rings': {'ring': 12},
     'logs': {'time': 1, 'add': 6, 'modify': 100, 'rename': 2, 'delete': 1, 'link': 1, 'unlink': 1, 'ask': 0, 'serve': 0, 'deliver': 0,
-             'pull': 2, 'cycle': 3, 'show': 0, 'vector': 0, 'marks': 0, 'stop': 1, 'stop after': 1, 'fail after': 1, 'start': 6,
+             'pull': 2, 'cycle': 3, 'show': 0, 'vector': 0, 'marks': 0, 'meta': 0, 'stop': 1, 'stop after': 1, 'fail after': 1, 'start': 6,
              'snapshot': 0.7, 'rollback': 0.3, 'backup': 0.7, 'restore': 0.3, 'collect': 0.3},
 }
 # the bytes of a record with a long description, nearly
@@ -227,6 +227,8 @@ class Maker:
             return '%s %s %s %d' % (verb, a, b, r.choice(self.most))
         if verb == 'ring':
             return self.ring(self.names)
+        if verb == 'meta':
+            return 'meta %s #%x' % (a, r.choice(self.guids))
         if verb in ('show', 'vector', 'marks', 'start', 'stop'):
             if verb in ('start',) and r.random() < 0.8:
                 down = [n for n in self.names if n in self.world.controllers and self.world.controllers[n].standing != 'up']
@@ -392,6 +394,7 @@ class Maker:
         for name in self.names:
             for verb in ('show', 'vector', 'marks'):
                 self.emit('%s %s' % (verb, name))
+            self.emit('meta %s #%x' % (name, self.r.choice(self.guids)))
         return ''.join(line + '\n' for line in self.lines)
 
 

@@ -282,6 +282,22 @@ class View:
                          + ''.join(' %s=%s' % (show_attr(attr), ','.join(shown[attr])) for attr in sorted(shown)))
         return lines
 
+    def meta(self, guid):
+        """How each object of a GUID is held, and which write made each of its rows."""
+        lines = []
+        for oid in sorted(oid for oid in self.state.objects if oid.guid == guid):
+            rows = self.state.objects[oid]
+            life, name = 'hidden', rows[2].content[0]
+            if self.state.is_dead(oid):
+                life, name = 'dead', name + '\nDEL:' + full_id(guid)
+            elif self.live[guid] == oid:
+                life, name = 'live', self.shown[guid]
+            lines.append('  object birth=%s/%d %s name=%s' % (show_id(oid.inv), oid.usn, life, show_text(name)))
+            for attr, row in sorted(rows.items()):
+                lines.append('  attr=%s version=%d time=%d inv=%s usn=%d local=%d' % (show_attr(attr), row.stamp.version, row.stamp.time,
+                                                                                     show_id(row.stamp.inv), row.stamp.usn, row.local))
+        return lines
+
 
 # --- originating writes -------------------------------------------------------------------------------------------
 def named(state, view, guid):
@@ -1044,6 +1060,9 @@ class World:
         return self.report(name, lambda state: ['  %s %s %s' % (show_id(dsa), show_id(inv), show_mark(mark))
                                                 for dsa, (inv, mark) in sorted(state.marks.items())])
 
+    def line_meta(self, name, guid):
+        return self.report(name, lambda state: View(state).meta(guid))
+
 
 # --- the grammar --------------------------------------------------------------------------------------------------
 class Outside(Exception):
@@ -1067,7 +1086,7 @@ GRAMMAR = {
     'cycle': ['NAME NAME MAX'], 'collect': ['NAME NUM'], 'backup': ['NAME as NAME'], 'restore': ['NAME NAME ID'],
     'install': ['NAME ID NAME ID'], 'snapshot': ['NAME as NAME'], 'rollback': ['NAME NAME'],
     'stop': ['NAME', 'NAME after CALLS HOW'], 'fail': ['NAME after CALLS'], 'start': ['NAME'], 'show': ['NAME'],
-    'vector': ['NAME'], 'marks': ['NAME'], 'ring': ['ROUNDS MAX NAMES'],
+    'vector': ['NAME'], 'marks': ['NAME'], 'meta': ['NAME ID'], 'ring': ['ROUNDS MAX NAMES'],
 }
 
 

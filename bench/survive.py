@@ -123,7 +123,9 @@ class File:
                 return unfinished
             if status != 3 or process.lines or lines != ["damaged 0"]:
                 lost("a new controller was told and isn't there", (process.lines, status, lines))
-            os.remove(self.path)
+            # A process that was killed before its first write leaves no file.
+            if os.path.exists(self.path):
+                os.remove(self.path)
 
     def add(self, chance, soon=False):
         """Adds objects until the process is killed, and looks at what is there."""
