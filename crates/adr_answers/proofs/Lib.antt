@@ -9,3 +9,4 @@ pub mod Allowed
 pub mod Due
 pub mod ToldLines
 pub mod Results
+pub mod Within

@@ -1,12 +1,12 @@
 -- The lines of answers, written piece by piece.
-use Rattle.std.proofs.Common.{◌≡◌, ◌<◌, List, [], ◌∷◌, ℕ, suc, ◌++◌, Option, drop, drop-cons, get_or, length, sym, ap, ◌∙◌, subst}
+use Rattle.std.proofs.Common.{◌≡◌, ◌<◌, List, [], ◌∷◌, ℕ, suc, ◌+◌, ◌++◌, Option, drop, drop-cons, get_or, length, take, sym, ap, ◌∙◌, subst, arith}
 use Rattle.std.specs.Prelude.{flat_map}
 use Rattle.std.proofs.lemmas.Grind.{flat_map-append}
-use Rattle.std.proofs.lemmas.List.{append-nil}
+use Rattle.std.proofs.lemmas.List.{append-nil, take_more}
 use Rattle.adr_event.specs.declared.answer.Answer.{Answer}
 use Rattle.adr_io.specs.Told.{Adds, AddsFront}
 use Rattle.adr_answers.specs.Line.{line}
-use Rattle.adr_answers.proofs.Due.{Remains, all_remains, rest_remains, adds_more, front_remains}
+use Rattle.adr_answers.proofs.Due.{Remains, all_remains, rest_remains, adds_more, front_remains, less_remains}
 
 module _ (first now next : Option (List ℕ)) (told more : List Answer) (so_far : Adds first now (flat_map line told)) where
   -- the lines of more answers are written
@@ -37,3 +37,17 @@ module _ (first now next : Option (List ℕ)) (answers : List Answer) (i : ℕ) 
 
   pub line_front : AddsFront now next (line a) → AddsFront first next (flat_map line answers)
   line_front added = front_remains first now next (flat_map line answers) (line a) (flat_map line (drop (suc i) answers)) due_next added
+
+  pub line_due : Adds now next (line a) → Remains first next (flat_map line answers) (flat_map line (drop (i + 1) answers))
+  line_due added =
+      let same : suc i ≡ i + 1 = omega arith in
+      subst (λ (k : ℕ). Remains first next (flat_map line answers) (flat_map line (drop k answers))) same
+      (less_remains first now next (flat_map line answers) (line a) (flat_map line (drop (suc i) answers)) due_next added)
+
+-- the lines so far, and that of the next answer
+pub line_more : (first now next : Option (List ℕ)) (answers : List Answer) (i : ℕ) (a : Answer) → i < length answers → a ≡ get_or answers i a → Adds first now (flat_map line (take i answers)) → Adds now next (line a)
+    → Adds first next (flat_map line (take (i + 1) answers))
+line_more first now next answers i a inside is told added =
+    let here : take (i + 1) answers ≡ take i answers ++ (a ∷ []) = take_more answers i a inside ∙ ap (λ (x : Answer). take i answers ++ (x ∷ [])) (sym is) in
+    subst (λ (list : List Answer). Adds first next (flat_map line list)) (sym here)
+    (lines_more first now next (take i answers) (a ∷ []) told (subst (λ (bytes : List ℕ). Adds now next bytes) (sym (append-nil (line a))) added))

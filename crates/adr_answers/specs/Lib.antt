@@ -3,3 +3,4 @@ pub mod Printable
 pub mod Laws
 pub mod Alone
 pub mod Whole
+pub mod Room

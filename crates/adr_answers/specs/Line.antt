@@ -124,3 +124,7 @@ report_lines _ = []
 -- an answer's line, and the lines behind it
 unfoldable pub line : Answer → List ℕ
 line a = a.verb ++ codes " " ++ a.name ++ codes ": " ++ result_text a.outcome ++ codes "\n" ++ report_lines a.outcome
+
+-- an answer's line without a controller's name, and without a line feed
+abbrev pub nameless_line : List ℕ → Outcome → List ℕ
+nameless_line verb outcome = verb ++ codes ": " ++ result_text outcome

@@ -1,7 +1,8 @@
 //! The lines of what a controller has seen, and of how far it has read its partners.
 
-ghost use Rattle.std.specs.Prelude.{◌≡◌, ◌++◌, OnOk, flat_map, codes};
+ghost use Rattle.std.specs.Prelude.{◌≡◌, ◌++◌, ◌+◌, OnOk, flat_map, codes, length};
 ghost use Rattle.std.specs.Fmt.{decimal};
+ghost use Rattle.adr_token.specs.Room.{TakesRoom};
 ghost use Rattle.adr_token.specs.Spelling.{identifier_token};
 ghost use Rattle.adr_answers.specs.Line.{mark_text, cursor_line, partner_line};
 
@@ -9,90 +10,72 @@ use adr_guid::Guid;
 use adr_schema::NoMemory;
 use adr_token::{push, push_identifier, push_number};
 use adr_vector::Mark;
-use std::alloc::Global;
 
 /// Adds a number behind some text.
-pub fn push_number_behind(
-    alloc: Global,
-    out: &mut Vec<u8>,
-    text: &[u8],
-    number: u64,
-) -> Result<(), NoMemory>
-    ensures { OnOk result (out.new.items ≡ out.old.items ++ (text.now ++ decimal number)) }
+pub fn push_number_behind(out: &mut Vec<u8>, text: &[u8], number: u64) -> Result<(), NoMemory>
+    ensures items { OnOk result (out.new.items ≡ out.old.items ++ (text.now ++ decimal number)) }
+    ensures room { TakesRoom (length text.now + 20) out.old result out.new }
 {
     push(out, text)?;
-    push_number(alloc, out, number)
+    push_number(out, number)
 }
 
 /// Adds a mark.
 #[tactic(auto, unfolding(crate::specs::Line::mark_text))]
-pub fn push_mark(alloc: Global, out: &mut Vec<u8>, mark: Mark) -> Result<(), NoMemory>
-    ensures { OnOk result (out.new.items ≡ out.old.items ++ mark_text mark) }
+pub fn push_mark(out: &mut Vec<u8>, mark: Mark) -> Result<(), NoMemory>
+    ensures items { OnOk result (out.new.items ≡ out.old.items ++ mark_text mark) }
+    ensures room { TakesRoom 62 out.old result out.new }
 {
-    push_number(alloc, out, mark.obj)?;
-    push_number_behind(alloc, out, b"/", mark.prop)?;
-    push_number_behind(alloc, out, b"/", mark.seen)
+    push_number(out, mark.obj)?;
+    push_number_behind(out, b"/", mark.prop)?;
+    push_number_behind(out, b"/", mark.seen)
 }
 
 /// Adds the identifier that a line begins with.
-fn push_first_identifier(alloc: Global, out: &mut Vec<u8>, id: Guid) -> Result<(), NoMemory>
+fn push_first_identifier(out: &mut Vec<u8>, id: Guid) -> Result<(), NoMemory>
     ensures { OnOk result (out.new.items ≡ out.old.items ++ (codes "  " ++ identifier_token id ++ codes " ")) }
 {
     push(out, b"  ")?;
-    push_identifier(alloc, out, id)?;
+    push_identifier(out, id)?;
     push(out, b" ")
 }
 
 #[tactic(auto, unfolding(crate::specs::Line::cursor_line))]
-fn push_cursor(alloc: Global, out: &mut Vec<u8>, inv: Guid, usn: u64) -> Result<(), NoMemory>
+fn push_cursor(out: &mut Vec<u8>, inv: Guid, usn: u64) -> Result<(), NoMemory>
     ensures { OnOk result (out.new.items ≡ out.old.items ++ cursor_line (inv, usn)) }
 {
-    push_first_identifier(alloc, out, inv)?;
-    push_number(alloc, out, usn)?;
+    push_first_identifier(out, inv)?;
+    push_number(out, usn)?;
     push(out, b"\n")
 }
 
 /// Adds the lines of a vector's cursors.
-pub fn push_cursors(
-    alloc: Global,
-    out: &mut Vec<u8>,
-    cursors: &[(Guid, u64)],
-) -> Result<(), NoMemory>
+pub fn push_cursors(out: &mut Vec<u8>, cursors: &[(Guid, u64)]) -> Result<(), NoMemory>
     ensures { OnOk result (out.new.items ≡ out.old.items ++ flat_map cursor_line cursors.now) }
 {
     for (inv, usn) in cursors {
-        push_cursor(alloc, out, *inv, *usn)?;
+        push_cursor(out, *inv, *usn)?;
     }
     Ok(())
 }
 
 #[tactic(auto, unfolding(crate::specs::Line::partner_line))]
-fn push_partner(
-    alloc: Global,
-    out: &mut Vec<u8>,
-    dsa: Guid,
-    inv: Guid,
-    mark: Mark,
-) -> Result<(), NoMemory>
+fn push_partner(out: &mut Vec<u8>, dsa: Guid, inv: Guid, mark: Mark) -> Result<(), NoMemory>
     ensures { OnOk result (out.new.items ≡ out.old.items ++ partner_line (dsa, inv, mark)) }
 {
-    push_first_identifier(alloc, out, dsa)?;
-    push_identifier(alloc, out, inv)?;
+    push_first_identifier(out, dsa)?;
+    push_identifier(out, inv)?;
     push(out, b" ")?;
-    push_mark(alloc, out, mark)?;
+    push_mark(out, mark)?;
     push(out, b"\n")
 }
 
 /// Adds the lines of partners' marks.
-pub fn push_partners(
-    alloc: Global,
-    out: &mut Vec<u8>,
-    partners: &[(Guid, Guid, Mark)],
-) -> Result<(), NoMemory>
+pub fn push_partners(out: &mut Vec<u8>, partners: &[(Guid, Guid, Mark)]) -> Result<(), NoMemory>
     ensures { OnOk result (out.new.items ≡ out.old.items ++ flat_map partner_line partners.now) }
 {
     for (dsa, inv, mark) in partners {
-        push_partner(alloc, out, *dsa, *inv, *mark)?;
+        push_partner(out, *dsa, *inv, *mark)?;
     }
     Ok(())
 }

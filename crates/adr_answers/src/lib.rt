@@ -15,9 +15,10 @@ mod telling;
 pub use adr_event::Answer;
 pub use adr_schema::NoMemory;
 pub use answers::{Heading, name_of};
+pub use knowledge::push_number_behind;
 pub use laws::{
     equal_lines_mean_equal_directories, equal_lines_mean_equal_knowledge,
     what_is_allowed_is_printable,
 };
-pub use lines::line;
+pub use lines::{line, push_nameless, result_line, truth_text};
 pub use telling::tell;

@@ -10,7 +10,6 @@ use adr_call::{Birth, Life, MetaLine, Stamp, Text};
 use adr_guid::Guid;
 use adr_schema::NoMemory;
 use adr_token::{push, push_attribute, push_identifier, push_text};
-use std::alloc::Global;
 
 fn life_text(life: Life) -> &'static [u8]
     ensures { result.now ≡ life_text life }
@@ -22,89 +21,77 @@ fn life_text(life: Life) -> &'static [u8]
     }
 }
 
-fn push_birth(alloc: Global, out: &mut Vec<u8>, inv: Guid, usn: u64) -> Result<(), NoMemory>
+fn push_birth(out: &mut Vec<u8>, inv: Guid, usn: u64) -> Result<(), NoMemory>
     ensures { OnOk result (out.new.items
         ≡ out.old.items ++ (codes " birth=" ++ identifier_token inv ++ codes "/" ++ decimal usn)) }
 {
     push(out, b" birth=")?;
-    push_identifier(alloc, out, inv)?;
-    push_number_behind(alloc, out, b"/", usn)
+    push_identifier(out, inv)?;
+    push_number_behind(out, b"/", usn)
 }
 
-fn push_object(
-    alloc: Global,
-    out: &mut Vec<u8>,
-    birth: Birth,
-    life: Life,
-    name: &Text,
-) -> Result<(), NoMemory>
+fn push_object(out: &mut Vec<u8>, birth: Birth, life: Life, name: &Text) -> Result<(), NoMemory>
     ensures { OnOk result (out.new.items
         ≡ out.old.items
         ++ (codes "  object" ++ (codes " birth=" ++ identifier_token birth.inv ++ codes "/" ++ decimal birth.usn)
         ++ life_text life ++ codes " name=" ++ text_token name.now ++ codes "\n")) }
 {
     push(out, b"  object")?;
-    push_birth(alloc, out, birth.inv, birth.usn)?;
+    push_birth(out, birth.inv, birth.usn)?;
     push(out, life_text(life))?;
     push(out, b" name=")?;
     push_text(out, name.items())?;
     push(out, b"\n")
 }
 
-fn push_version(alloc: Global, out: &mut Vec<u8>, attr: u16, version: u32) -> Result<(), NoMemory>
+fn push_version(out: &mut Vec<u8>, attr: u16, version: u32) -> Result<(), NoMemory>
     ensures { OnOk result (out.new.items
         ≡ out.old.items ++ (codes "  attr=" ++ attribute_token attr ++ codes " version=" ++ decimal version)) }
 {
     push(out, b"  attr=")?;
-    push_attribute(alloc, out, attr)?;
-    push_number_behind(alloc, out, b" version=", u64::from(version))
+    push_attribute(out, attr)?;
+    push_number_behind(out, b" version=", u64::from(version))
 }
 
-fn push_origin(alloc: Global, out: &mut Vec<u8>, time: u64, inv: Guid) -> Result<(), NoMemory>
+fn push_origin(out: &mut Vec<u8>, time: u64, inv: Guid) -> Result<(), NoMemory>
     ensures { OnOk result (out.new.items
         ≡ out.old.items ++ (codes " time=" ++ decimal time ++ codes " inv=" ++ identifier_token inv)) }
 {
-    push_number_behind(alloc, out, b" time=", time)?;
+    push_number_behind(out, b" time=", time)?;
     push(out, b" inv=")?;
-    push_identifier(alloc, out, inv)
+    push_identifier(out, inv)
 }
 
-fn push_row(
-    alloc: Global,
-    out: &mut Vec<u8>,
-    attr: u16,
-    stamp: Stamp,
-    local: u64,
-) -> Result<(), NoMemory>
+fn push_row(out: &mut Vec<u8>, attr: u16, stamp: Stamp, local: u64) -> Result<(), NoMemory>
     ensures { OnOk result (out.new.items
         ≡ out.old.items
         ++ ((codes "  attr=" ++ attribute_token attr ++ codes " version=" ++ decimal stamp.version)
         ++ (codes " time=" ++ decimal stamp.time ++ codes " inv=" ++ identifier_token stamp.inv)
         ++ codes " usn=" ++ decimal stamp.usn ++ codes " local=" ++ decimal local ++ codes "\n")) }
 {
-    push_version(alloc, out, attr, stamp.version)?;
-    push_origin(alloc, out, stamp.time, stamp.inv)?;
-    push_number_behind(alloc, out, b" usn=", stamp.usn)?;
-    push_number_behind(alloc, out, b" local=", local)?;
+    push_version(out, attr, stamp.version)?;
+    push_origin(out, stamp.time, stamp.inv)?;
+    push_number_behind(out, b" usn=", stamp.usn)?;
+    push_number_behind(out, b" local=", local)?;
     push(out, b"\n")
 }
 
 #[tactic(auto, unfolding(crate::specs::Line::meta_line))]
-fn push_meta_line(alloc: Global, out: &mut Vec<u8>, line: &MetaLine) -> Result<(), NoMemory>
+fn push_meta_line(out: &mut Vec<u8>, line: &MetaLine) -> Result<(), NoMemory>
     ensures { OnOk result (out.new.items ≡ out.old.items ++ meta_line line.now) }
 {
     match line {
-        MetaLine::Object { birth, life, name } => push_object(alloc, out, *birth, *life, name),
-        MetaLine::Row { attr, stamp, local } => push_row(alloc, out, *attr, *stamp, *local),
+        MetaLine::Object { birth, life, name } => push_object(out, *birth, *life, name),
+        MetaLine::Row { attr, stamp, local } => push_row(out, *attr, *stamp, *local),
     }
 }
 
 /// Adds the lines of what the rows of a GUID tell.
-pub fn push_meta(alloc: Global, out: &mut Vec<u8>, lines: &[MetaLine]) -> Result<(), NoMemory>
+pub fn push_meta(out: &mut Vec<u8>, lines: &[MetaLine]) -> Result<(), NoMemory>
     ensures { OnOk result (out.new.items ≡ out.old.items ++ flat_map meta_line lines.now) }
 {
     for line in lines {
-        push_meta_line(alloc, out, line)?;
+        push_meta_line(out, line)?;
     }
     Ok(())
 }

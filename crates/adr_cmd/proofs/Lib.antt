@@ -1,4 +1,2 @@
 pub mod TopLemmas
-pub mod ShowLemmas
-pub mod Counting
-pub mod Generated
+pub mod DiskLemmas

@@ -1,3 +1,2 @@
-pub mod Outcome
-pub mod Shown
-pub mod Walked
+pub mod Work
+pub mod OnDisk

@@ -1,8 +1,9 @@
-//! The program's one call: it reads a schedule, runs it and writes the answers. It stands on the
-//! parser of schedules, the run and the lines of answers, and on sources and sinks of any kind.
+//! The program's one call: what its words ask for, over a source, a sink, a disk and identifiers of any kind, and the
+//! status of that. It stands on the words of `adr_words`, on the runs of schedules of `adr_run_replay`, and on the
+//! commands over a disk of `adr_node`.
 #![tactic(auto)]
 
-mod exercising;
+mod disk;
 mod top;
 
 pub use top::run;

@@ -1,31 +1,53 @@
 //! The top call.
 
-ghost use Rattle.std.specs.Prelude.{◌≡◌, ◌⊎◌, ◌<◌, ◌≤◌, ◌+◌, ℕ, List, [], map, string_bytes, true, false, OnOk, OnErr, IfOk, IfSome, IsErrOf, drop, Some};
+ghost use Rattle.std.specs.Prelude.{◌≡◌, ◌⊎◌, ◌<◌, ◌≤◌, ◌+◌, ℕ, List, [], map, string_bytes, OnOk, OnErr, IfOk, IfSome, drop, Some};
 ghost use Rattle.adr_io.specs.Told.{Adds, AddsFront};
 ghost use Rattle.adr_law_headline.specs.Headline.{IsHeadline};
 ghost use Rattle.adr_answers.specs.Laws.{EqualLinesMeanEqualDirectories};
+ghost use Rattle.adr_json.specs.Laws.{EqualJsonMeansEqualDirectories};
+ghost use Rattle.adr_run_exercised.specs.Exercised.{ExercisesEndEqual};
+ghost use Rattle.adr_law_exported.specs.Exportable.{TextsAreExportable};
 ghost use Rattle.adr_schedule.specs.Limits.{text_limit};
-ghost use Rattle.adr_schedule.specs.Telling.{fault_line};
-ghost use Rattle.adr_cmd.specs.Outcome.{Gives, GeneratedRunsAreSo, TextsGiveOne, ended, exercised, usage_line, work};
-ghost use Rattle.adr_cmd.specs.declared.top.Work.TheVariants.{Replay as Replays, Exercise as Exercises};
-ghost use Rattle.adr_cmd.specs.Shown.{AtEachShow};
-ghost use Rattle.adr_cmd.specs.Walked.{outcome};
+ghost use Rattle.adr_run_replay.specs.Outcome.{Gives, GeneratedRunsAreSo, TextsGiveOne, exercised};
+ghost use Rattle.adr_run_replay.specs.Shown.{AtEachShow};
+ghost use Rattle.adr_cmd.specs.Work.{on_disk, usage_line, work};
+ghost use Rattle.adr_cmd.specs.OnDisk.{DoesSo};
+ghost use Rattle.adr_cmd.specs.declared.disk.DiskCommand.{DiskCommand};
+ghost use Rattle.adr_cmd.specs.declared.top.Work.TheVariants.{Replay as Replays, Exercise as Exercises, OnDisk as IsOnDisk};
 
-use crate::exercising::{exercise_line, generated_runs_are_so};
+use crate::disk::{DiskCommand, perform};
+use adr_disk::Disk;
 use adr_failure::NoMemory;
-use adr_io::{Fault, Sink, Source, read_at_most};
-use adr_run_world::play;
-use adr_schedule::{Failure, ScheduleFault, TEXT_LIMIT, discard, fault_line, parse};
+use adr_io::{Sink, Source};
+use adr_outside::Fresh;
+use adr_run_replay::{ended, exercise, replay, runs_are_so};
 use adr_words::{Command, command};
 use std::alloc::Global;
 
 /// What the program does yet.
-#[derive(Clone, Copy)]
+#[derive(Drop)]
 enum Work {
     /// Runs the schedule that is read.
     Replay,
     /// Runs the generated schedule of a number.
     Exercise { number: u32 },
+    /// Does a command over a disk.
+    OnDisk(DiskCommand),
+}
+
+/// The command over a disk, if it is one that runs yet.
+fn on_disk(command: Command) -> Option<DiskCommand>
+    ensures { result ≡ on_disk command }
+{
+    match command {
+        Command::Create { name } => Some(DiskCommand::Create { name }),
+        Command::Install { name } => Some(DiskCommand::Install { name }),
+        Command::Restore { name, dsa } => Some(DiskCommand::Restore { name, dsa }),
+        Command::Backup { name } => Some(DiskCommand::Backup { name }),
+        Command::Show { name } => Some(DiskCommand::Show { name }),
+        Command::Export { name } => Some(DiskCommand::Export { name }),
+        _ => None,
+    }
 }
 
 /// What the words ask for, of that which the program does yet.
@@ -35,100 +57,16 @@ fn asked(alloc: Global, words: &[String]) -> Result<Option<Work>, NoMemory>
     match command(alloc, words)? {
         Some(Command::Replay) => Ok(Some(Work::Replay)),
         Some(Command::Exercise { number }) => Ok(Some(Work::Exercise { number })),
-        _ => Ok(None),
-    }
-}
-
-/// The status after a write: this one, or that of the fault.
-fn ended(status: u8, written: Result<(), Fault>) -> u8
-    ensures { result ≡ ended status written }
-{
-    match written {
-        Ok(()) => status,
-        Err(Fault::Failed) => 5,
-        Err(Fault::NoMemory) => 8,
-    }
-}
-
-/// Writes the line of a fault.
-fn tell_fault<K: Sink>(alloc: Global, fault: ScheduleFault, sink: &mut K) -> Result<(), Fault>
-    ensures ok { OnOk result (Adds (K.written sink.old) (K.written sink.new) (fault_line fault)) }
-    ensures front { OnErr result (AddsFront (K.written sink.old) (K.written sink.new) (fault_line fault)) }
-    ensures never_falls { K.faults sink.old ≤ K.faults sink.new }
-    ensures failed { IsErrOf result Fault.Failed → K.faults sink.old < K.faults sink.new }
-{
-    let bytes = fault_line(alloc, fault)?;
-    sink.write(bytes.as_slice())
-}
-
-/// Runs a text, or tells its fault: the status but for a write that fails, and how the writes went.
-#[tactic(auto, unfolding(crate::specs::Walked::outcome))]
-fn perform<K: Sink>(alloc: Global, text: &[u8], sink: &mut K) -> (u8, Result<(), Fault>)
-    ensures status { OnOk result.1 (result.0 ≡ (outcome text.now).0) }
-    ensures ok { OnOk result.1 (Adds (K.written sink.old) (K.written sink.new) (outcome text.now).1) }
-    ensures front { OnErr result.1 (AddsFront (K.written sink.old) (K.written sink.new) (outcome text.now).1) }
-    ensures statuses { (result.0 ≡ 0) ⊎ (result.0 ≡ 3) }
-    ensures never_falls { K.faults sink.old ≤ K.faults sink.new }
-    ensures failed { IsErrOf result.1 Fault.Failed → K.faults sink.old < K.faults sink.new }
-{
-    match parse(alloc, text) {
-        Ok(events) => {
-            let played = play(alloc, events.as_slice(), sink);
-            discard(events);
-            (0, played)
-        }
-        Err(Failure::Refused(fault)) => (3, tell_fault(alloc, fault, sink)),
-        Err(Failure::NoMemory) => (0, Err(Fault::NoMemory)),
-    }
-}
-
-/// Reads a text, and writes what it gives.
-fn replay<S: Source, K: Sink>(alloc: Global, source: &mut S, sink: &mut K) -> u8
-    ensures written { (result ≡ 0) ⊎ (result ≡ 3)
-        → IfSome (S.left source.old) (λ text. (given : List ℕ) × Gives text result given
-        × Adds (K.written sink.old) (K.written sink.new) given) }
-    ensures front { (result ≡ 5) ⊎ (result ≡ 8)
-        → IfSome (S.left source.old) (λ text. (status : ℕ) × (given : List ℕ) × Gives text status given
-        × AddsFront (K.written sink.old) (K.written sink.new) given) }
-    ensures printed { result ≡ 0
-        → IfSome (S.left source.old) (λ text. AtEachShow text (Adds (K.written sink.old) (K.written sink.new))) }
-    ensures read { IfSome (S.left source.old) (λ before. (n : ℕ) × (n ≤ text_limit + 1)
-        × (S.left source.new ≡ Some (drop n before))) }
-    ensures read_whole { (result ≡ 0) ⊎ (result ≡ 3)
-        → IfSome (S.left source.old) (λ text. S.left source.new ≡ Some (drop (text_limit + 1) text)) }
-    ensures ended { result ≡ 0 → IfSome (S.left source.old) (λ text. S.left source.new ≡ Some []) }
-    ensures read_fault { result ≡ 4 → S.faults source.old < S.faults source.new }
-    ensures unwritten { result ≡ 4 → sink.new ≡ sink.old }
-    ensures write_fault { result ≡ 5 → K.faults sink.old < K.faults sink.new }
-    ensures statuses { (result ≡ 0) ⊎ ((result ≡ 3) ⊎ ((result ≡ 4) ⊎ ((result ≡ 5) ⊎ (result ≡ 8)))) }
-    ensures source_faults { S.faults source.old ≤ S.faults source.new }
-    ensures sink_faults { K.faults sink.old ≤ K.faults sink.new }
-{
-    let text = match read_at_most(alloc, source, TEXT_LIMIT + 1) {
-        Ok(text) => text,
-        Err(Fault::Failed) => return 4,
-        Err(Fault::NoMemory) => return 8,
-    };
-    let (status, written) = perform(alloc, text.as_slice(), sink);
-    ended(status, written)
-}
-
-/// Runs the generated schedule of a number, and writes what that comes to.
-fn exercise<K: Sink>(alloc: Global, number: u32, sink: &mut K) -> u8
-    ensures statuses { (result ≡ 0) ⊎ ((result ≡ 5) ⊎ (result ≡ 8)) }
-    ensures added { result ≡ 0 → Adds (K.written sink.old) (K.written sink.new) (exercised number) }
-    ensures front { (result ≡ 5) ⊎ (result ≡ 8) → AddsFront (K.written sink.old) (K.written sink.new) (exercised number) }
-    ensures failed { result ≡ 5 → K.faults sink.old < K.faults sink.new }
-    ensures sink_faults { K.faults sink.old ≤ K.faults sink.new }
-{
-    match exercise_line(alloc, u64::from(number)) {
-        Ok(line) => ended(0, sink.write(line.as_slice())),
-        Err(_) => 8,
+        Some(command) => match on_disk(command) {
+            Some(command) => Ok(Some(Work::OnDisk(command))),
+            None => Ok(None),
+        },
+        None => Ok(None),
     }
 }
 
 /// Writes the usage line.
-#[tactic(auto, unfolding(crate::specs::Outcome::usage_line))]
+#[tactic(auto, unfolding(crate::specs::Work::usage_line))]
 fn usage<K: Sink>(sink: &mut K) -> u8
     ensures statuses { (result ≡ 2) ⊎ ((result ≡ 5) ⊎ (result ≡ 8)) }
     ensures added { result ≡ 2 → Adds (K.written sink.old) (K.written sink.new) usage_line }
@@ -139,45 +77,62 @@ fn usage<K: Sink>(sink: &mut K) -> u8
     ended(2, sink.write(USAGE.as_bytes()))
 }
 
-/// Runs the program's words, without its name, over a source and a sink, and answers the status: 0
-/// done, 2 wrong words, 3 a text that is no schedule, 4 a read that failed, 5 a write that failed, 8
-/// want of memory.
-pub fn run<S: Source, K: Sink>(alloc: Global, words: &[String], source: &mut S, sink: &mut K) -> u8
+/// Runs the program's words, without its name, over a source, a sink, a disk that is attached by a name, and fresh
+/// identifiers. It answers the status, and the disk comes back: 0 done, 2 wrong words, 3 a text that is no schedule, 4 a
+/// read that failed, 5 a write that failed, 6 a call of the disk that failed, 8 want of memory, 9 refused, 10 a disk whose
+/// bytes are no log, 13 an identifier that couldn't be drawn.
+pub fn run<S: Source, K: Sink, D: Disk, F: Fresh>(
+    alloc: Global,
+    words: &[String],
+    source: &mut S,
+    sink: &mut K,
+    disk: D,
+    fresh: &mut F,
+) -> (u8, D)
     // Wrong words get the usage line, and no other words do.
-    ensures usage { result ≡ 2 → work (map string_bytes words.now) ≡ None }
+    ensures usage { result.0 ≡ 2 → work (map string_bytes words.now) ≡ None }
     ensures usage_only { work (map string_bytes words.now) ≡ None
-        → (result ≡ 2) ⊎ ((result ≡ 5) ⊎ (result ≡ 8)) }
-    ensures usage_line { result ≡ 2 → Adds (K.written sink.old) (K.written sink.new) usage_line }
-    ensures usage_front { work (map string_bytes words.now) ≡ None → (result ≡ 5) ⊎ (result ≡ 8)
+        → (result.0 ≡ 2) ⊎ ((result.0 ≡ 5) ⊎ (result.0 ≡ 8)) }
+    ensures usage_line { result.0 ≡ 2 → Adds (K.written sink.old) (K.written sink.new) usage_line }
+    ensures usage_front { work (map string_bytes words.now) ≡ None → (result.0 ≡ 5) ⊎ (result.0 ≡ 8)
         → AddsFront (K.written sink.old) (K.written sink.new) usage_line }
-    ensures usage_unread { work (map string_bytes words.now) ≡ None → source.new ≡ source.old }
+    ensures usage_alone { work (map string_bytes words.now) ≡ None
+        → (source.new ≡ source.old) × (result.1 ≡ disk) × (fresh.new ≡ fresh.old) }
 
     // `exercise` reads nothing, and writes what the run of the generated schedule comes to. All that is claimed of the schedules
     // that are read is claimed of those that are generated.
-    ensures exercised { (number : ℕ) → work (map string_bytes words.now) ≡ Some (Exercises number) → result ≡ 0
+    ensures exercised { (number : ℕ) → work (map string_bytes words.now) ≡ Some (Exercises number) → result.0 ≡ 0
         → Adds (K.written sink.old) (K.written sink.new) (exercised number) }
     ensures exercised_front { (number : ℕ) → work (map string_bytes words.now) ≡ Some (Exercises number)
-        → (result ≡ 5) ⊎ (result ≡ 8) → AddsFront (K.written sink.old) (K.written sink.new) (exercised number) }
+        → (result.0 ≡ 5) ⊎ (result.0 ≡ 8) → AddsFront (K.written sink.old) (K.written sink.new) (exercised number) }
     ensures exercised_statuses { (number : ℕ) → work (map string_bytes words.now) ≡ Some (Exercises number)
-        → (result ≡ 0) ⊎ ((result ≡ 5) ⊎ (result ≡ 8)) }
-    ensures exercised_unread { (number : ℕ) → work (map string_bytes words.now) ≡ Some (Exercises number) → source.new ≡ source.old }
+        → (result.0 ≡ 0) ⊎ ((result.0 ≡ 5) ⊎ (result.0 ≡ 8)) }
+    ensures exercised_alone { (number : ℕ) → work (map string_bytes words.now) ≡ Some (Exercises number)
+        → (source.new ≡ source.old) × (result.1 ≡ disk) × (fresh.new ≡ fresh.old) }
     ensures generated { GeneratedRunsAreSo }
+
+    // And at the end of such a run the four directories are equal where nothing was refused, and no cycle cut off.
+    ensures equal { ExercisesEndEqual }
 
     // Each text is a schedule of some events or has a fault, by the grammar, and so gives one status and one output. With 0
     // or 3 that is the status and what was written. With 0 the source is at its end.
     ensures texts { TextsGiveOne }
-    ensures written { work (map string_bytes words.now) ≡ Some Replays → (result ≡ 0) ⊎ (result ≡ 3)
-        → IfSome (S.left source.old) (λ text. (given : List ℕ) × Gives text result given
+    ensures written { work (map string_bytes words.now) ≡ Some Replays → (result.0 ≡ 0) ⊎ (result.0 ≡ 3)
+        → IfSome (S.left source.old) (λ text. (given : List ℕ) × Gives text result.0 given
         × Adds (K.written sink.old) (K.written sink.new) given) }
-    ensures ended { work (map string_bytes words.now) ≡ Some Replays → result ≡ 0 → IfSome (S.left source.old) (λ text. S.left source.new ≡ Some []) }
+    ensures ended { work (map string_bytes words.now) ≡ Some Replays → result.0 ≡ 0 → IfSome (S.left source.old) (λ text. S.left source.new ≡ Some []) }
 
     // And where a schedule asks a controller that is up for its directory, what was written is there the directory of the
     // issued updates that the controller covers or holds.
-    ensures printed { work (map string_bytes words.now) ≡ Some Replays → result ≡ 0
+    ensures printed { work (map string_bytes words.now) ≡ Some Replays → result.0 ≡ 0
         → IfSome (S.left source.old) (λ text. AtEachShow text (Adds (K.written sink.old) (K.written sink.new))) }
 
     // Equal lines mean equal directories, of entries that are printable, as those of every run are (*headline*).
     ensures directories { EqualLinesMeanEqualDirectories }
+
+    // So does equal JSON, of entries that are exportable, as those of every run of a text are.
+    ensures json { EqualJsonMeansEqualDirectories }
+    ensures exportable { TextsAreExportable }
 
     // Of every text that is a schedule, wherever its run stands while no database was put back, as none is without a
     // `rollback`: each controller shows the directory of the issued updates that it covers or holds, controllers that cover
@@ -188,29 +143,46 @@ pub fn run<S: Source, K: Sink>(alloc: Global, words: &[String], source: &mut S, 
     ensures headline { (text : List ℕ) → IsHeadline text }
 
     // With a fault it is a front of that. Of the source no more is read than a text may have, and one byte.
-    ensures front { work (map string_bytes words.now) ≡ Some Replays → (result ≡ 5) ⊎ (result ≡ 8)
+    ensures front { work (map string_bytes words.now) ≡ Some Replays → (result.0 ≡ 5) ⊎ (result.0 ≡ 8)
         → IfSome (S.left source.old) (λ text. (status : ℕ) × (given : List ℕ) × Gives text status given
         × AddsFront (K.written sink.old) (K.written sink.new) given) }
-    ensures read { IfSome (S.left source.old) (λ before. (n : ℕ) × (n ≤ text_limit + 1)
+    ensures read { work (map string_bytes words.now) ≡ Some Replays → IfSome (S.left source.old) (λ before. (n : ℕ) × (n ≤ text_limit + 1)
         × (S.left source.new ≡ Some (drop n before))) }
-    ensures read_whole { work (map string_bytes words.now) ≡ Some Replays → (result ≡ 0) ⊎ (result ≡ 3)
+    ensures read_whole { work (map string_bytes words.now) ≡ Some Replays → (result.0 ≡ 0) ⊎ (result.0 ≡ 3)
         → IfSome (S.left source.old) (λ text. S.left source.new ≡ Some (drop (text_limit + 1) text)) }
+    ensures replayed_alone { work (map string_bytes words.now) ≡ Some Replays → (result.1 ≡ disk) × (fresh.new ≡ fresh.old) }
+    ensures replayed_statuses { work (map string_bytes words.now) ≡ Some Replays
+        → (result.0 ≡ 0) ⊎ ((result.0 ≡ 3) ⊎ ((result.0 ≡ 4) ⊎ ((result.0 ≡ 5) ⊎ (result.0 ≡ 8)))) }
+
+    // A command over a disk does what it should: what is found there or begun, what is written of it, with which status, and
+    // what a start finds afterwards or behind a crash at any moment.
+    ensures does { (command : DiskCommand) → work (map string_bytes words.now) ≡ Some (IsOnDisk command)
+        → DoesSo S.Source K.Sink D.Disk F.Fresh command
+        (record { source = source.old; sink = sink.old; disk = disk; fresh = fresh.old })
+        (record { source = source.new; sink = sink.new; disk = result.1; fresh = fresh.new }) result.0 }
 
     // A fault has its cause.
-    ensures read_fault { result ≡ 4 → S.faults source.old < S.faults source.new }
-    ensures unwritten { result ≡ 4 → sink.new ≡ sink.old }
-    ensures write_fault { result ≡ 5 → K.faults sink.old < K.faults sink.new }
-    ensures statuses { (result ≡ 0)
-        ⊎ ((result ≡ 2) ⊎ ((result ≡ 3) ⊎ ((result ≡ 4) ⊎ ((result ≡ 5) ⊎ (result ≡ 8))))) }
+    ensures read_fault { result.0 ≡ 4 → S.faults source.old < S.faults source.new }
+    ensures unwritten { result.0 ≡ 4 → sink.new ≡ sink.old }
+    ensures write_fault { result.0 ≡ 5 → K.faults sink.old < K.faults sink.new }
+    ensures disk_fault { result.0 ≡ 6 → D.faults disk < D.faults result.1 }
+    ensures fresh_fault { result.0 ≡ 13 → F.faults fresh.old < F.faults fresh.new }
     ensures source_faults { S.faults source.old ≤ S.faults source.new }
     ensures sink_faults { K.faults sink.old ≤ K.faults sink.new }
+    ensures disk_faults { D.faults disk ≤ D.faults result.1 }
+    ensures fresh_faults { F.faults fresh.old ≤ F.faults fresh.new }
 {
-    generated_runs_are_so();
+    runs_are_so();
     match asked(alloc, words) {
-        Ok(Some(Work::Replay)) => replay(alloc, source, sink),
-        Ok(Some(Work::Exercise { number })) => exercise(alloc, number, sink),
-        Ok(None) => usage(sink),
-        Err(_) => 8,
+        Ok(Some(Work::Replay)) => (replay(alloc, source, sink), disk),
+        Ok(Some(Work::Exercise { number })) => (exercise(alloc, number, sink), disk),
+        Ok(Some(Work::OnDisk(command))) => {
+            let done = perform(alloc, &command, source, sink, disk, fresh);
+            drop(command);
+            done
+        }
+        Ok(None) => (usage(sink), disk),
+        Err(_) => (8, disk),
     }
 }
 

@@ -7,4 +7,4 @@ mod Ordered
 mod Depths
 mod ReadBack
 mod Told
-mod Allowed
+pub mod Allowed

@@ -213,7 +213,7 @@ inv_given seen w inv agrees = record {
 }
 
 -- a write whose values are given as a line gives them is one that a client can send
-well_given : (what : Write) → AreGiven what → IsWellGiven (write_meant what)
+pub well_given : (what : Write) → AreGiven what → IsWellGiven (write_meant what)
 well_given (writes.Add guid class parent text values) given = given
 well_given (writes.Modify guid values) given = (given.0, some_given values given.1)
 well_given (writes.Rename guid parent text) given = tt

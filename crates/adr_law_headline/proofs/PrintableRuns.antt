@@ -12,9 +12,9 @@ use Rattle.adr_model.specs.Convergence.{held_by}
 use Rattle.adr_model.proofs.Members.{member_of_either}
 use Rattle.adr_law_convergence.proofs.Controllers.{shows_what_is_visible}
 use Rattle.adr_answers.specs.Printable.{IsPrintable}
-use Rattle.adr_law_headline.specs.Printable.{IsWholeWrite, ShowPrintable, RunsArePrintable}
+use Rattle.adr_law_headline.specs.Printable.{IsWholeWrite, ShowPrintable, RunsArePrintable, IsWholeRow}
 use Rattle.adr_law_headline.proofs.Throughout.{both_always, runs_always_sound}
-use Rattle.adr_law_headline.proofs.WholeRows.{IsWholeRow, written_whole}
+use Rattle.adr_law_headline.proofs.WholeRows.{written_whole}
 use Rattle.adr_law_headline.proofs.ShownPrintable.{shows_printable}
 use Rattle.adr_law_recorded.proofs.Served.{logged_says}
 use Rattle.adr_law_headline.proofs.StayingFormed.{IsInForm}

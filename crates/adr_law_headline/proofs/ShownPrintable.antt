@@ -32,7 +32,8 @@ use Rattle.adr_law_recorded.proofs.Values.{all_in}
 use Rattle.adr_answers.specs.Laws.{IsWholeReference}
 use Rattle.adr_answers.specs.Printable.{ArePrintableValues, ArePrintableLinks, IsPrintableEntry, IsPrintable}
 use Rattle.adr_answers.proofs.Allowed.{classes as class_printable, values as values_printable, links as links_printable}
-use Rattle.adr_law_headline.proofs.WholeRows.{IsWholeSaid, IsWholeRow, live_row, class_row, guid_whole, parent_whole}
+use Rattle.adr_law_headline.specs.Printable.{IsWholeRow, IsWholeSaid}
+use Rattle.adr_law_headline.proofs.WholeRows.{live_row, class_row, guid_whole, parent_whole}
 
 -- of each member, and so at each place
 each_place : {A : Type 0} (P : A → Type 0) (xs : List A) → Each P xs → All P xs

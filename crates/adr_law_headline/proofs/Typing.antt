@@ -71,7 +71,7 @@ write_typed (Delete guid) (of_guid, end) = of_guid.1.0.0
 write_typed (Link from attr to) (of_from, (of_attr, (of_to, end))) = (of_from.1.0.0, of_to.1.0.0)
 write_typed (Unlink from attr to) (of_from, (of_attr, (of_to, end))) = (of_from.1.0.0, of_to.1.0.0)
 
-event_typed : (e : Event) → IsAllowed e → IsTyped e
+pub event_typed : (e : Event) → IsAllowed e → IsTyped e
 unfolding tokens_behind
 event_typed (events.Controller name dsa inv) (line, (verb, (to, (of_dsa, (of_inv, end))))) = (of_dsa.1.0.0, of_inv.1.0.0)
 event_typed (events.Write name what) (line, (verb, (to, behind))) = write_typed what behind

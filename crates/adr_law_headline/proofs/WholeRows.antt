@@ -20,19 +20,7 @@ use Rattle.adr_model.proofs.Members.{of_filter, found_member, of_filter_map, map
 use Rattle.adr_model.proofs.Nodes.{IsNodeOf, is_node_of}
 use Rattle.adr_law_knowledge.proofs.Winners.{is_won, of_winners}
 use Rattle.adr_answers.specs.Laws.{IsWholeReference}
-use Rattle.adr_law_headline.specs.Printable.{IsWholeWrite}
-
-abbrev pub IsWholeSaid : Said → Type 0
-IsWholeSaid (Holds (Class class)) = Unit {0}
-IsWholeSaid (Holds (Name text parent)) = IsIdentifier parent
-IsWholeSaid (Holds Dead) = Unit {0}
-IsWholeSaid (Holds (Values vs)) = Each IsWholeReference vs
-IsWholeSaid (IsPresent present) = Unit {0}
-
--- the objects that a row is about, and those that it names
-pub record IsWholeRow (u : Update) : Type 0 where
-  pub about : Each (λ (o : Oid). IsIdentifier o.guid) (ends u.key)
-  pub says : IsWholeSaid u.said
+use Rattle.adr_law_headline.specs.Printable.{IsWholeRow, IsWholeSaid, IsWholeWrite}
 
 -- ---- nodes
 

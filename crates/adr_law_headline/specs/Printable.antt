@@ -2,10 +2,13 @@
 -- written have sixteen bytes.
 -- That bytes are below 256 is part of it: that an event is typed says only how many there are.
 use Rattle.std.specs.Prelude.{List, IfSome}
+use Rattle.adr_stamp.specs.declared.Oid.{Oid}
 use Rattle.adr_schema.specs.Assignments.{Given}
+use Rattle.adr_schema.specs.declared.content.Content.TheVariants.{Class, Name, Dead, Values}
 use Rattle.adr_event.specs.declared.event.Event.{Event}
 use Rattle.adr_token.specs.Laws.{IsIdentifier}
 use Rattle.adr_model.specs.Member.{Each}
+use Rattle.adr_model.specs.Update.{Said, Holds, IsPresent, Update, ends}
 use Rattle.adr_model.specs.Write.{Write, AddObject, Modify, Rename, Delete, AddLink, RemoveLink, Revive}
 use Rattle.adr_model.specs.Directory.{directory}
 use Rattle.adr_model.specs.World.{World, empty_world, shown}
@@ -36,6 +39,23 @@ WritesSo Q e = IfSome (write_of empty_world e) (λ (w : ClientWrite). Q w.what)
 -- what each of the events writes is whole
 abbrev pub AreWhole : List Event → Type 0
 AreWhole es = Each (WritesSo IsWholeWrite) es
+
+-- ---- rows
+
+-- the identifiers in what a row says have sixteen bytes
+abbrev pub IsWholeSaid : Said → Type 0
+IsWholeSaid (Holds (Class class)) = Unit {0}
+IsWholeSaid (Holds (Name text parent)) = IsIdentifier parent
+IsWholeSaid (Holds Dead) = Unit {0}
+IsWholeSaid (Holds (Values vs)) = Each IsWholeReference vs
+IsWholeSaid (IsPresent present) = Unit {0}
+
+-- and so have those of the objects that it is about
+pub record IsWholeRow (u : Update) : Type 0 where
+  pub about : Each (λ (o : Oid). IsIdentifier o.guid) (ends u.key)
+  pub says : IsWholeSaid u.said
+
+-- ---- runs
 
 -- the directory of what each controller holds is printable, and so is what it answers where it is asked
 abbrev pub ShowPrintable : World → Type 0

@@ -1,5 +1,5 @@
 -- The summary of the run of the schedule of a number, and its line.
-use Rattle.std.specs.Prelude.{ℕ, List, [], ◌∷◌, ◌++◌, Bool, true, false, if◌then◌else◌, length, codes}
+use Rattle.std.specs.Prelude.{ℕ, List, [], ◌∷◌, ◌++◌, Bool, if◌then◌else◌, length, codes}
 use Rattle.std.specs.Fmt.{decimal}
 use Rattle.std.specs.List.{sum_by}
 use Rattle.std.specs.Option.{unwrap_or}
@@ -13,6 +13,7 @@ use Rattle.adr_model.specs.Update.{Identifier}
 use Rattle.adr_model.specs.World.{World, Name, empty_world, shown}
 use Rattle.adr_model.specs.Step.{after_lines, answers}
 use Rattle.adr_model.specs.Rings.{told_of, show_alike}
+use Rattle.adr_answers.specs.Line.{truth_text}
 use Rattle.adr_run_exercise.specs.Generated.{schedule}
 
 -- what is counted: the entries and the forward links of one directory, the refused answers and the removed objects of a run, and whether
@@ -61,13 +62,9 @@ summed_up w told = record {
 unfoldable pub summary : ℕ → Summary
 summary n = summed_up (after_lines empty_world (schedule n)) (answers empty_world (schedule n))
 
-abbrev pub truth : Bool → List ℕ
-truth true = codes "true"
-truth false = codes "false"
-
 -- its line
 unfoldable pub summary_line : ℕ → Summary → List ℕ
 summary_line n s =
     (codes "exercise " ++ decimal n ++ codes ": objects=" ++ decimal s.objects ++ codes " links=" ++ decimal s.links)
     ++ ((codes " refused=" ++ decimal s.refused) ++ (codes " collected=" ++ decimal s.collected))
-    ++ codes " equal=" ++ truth s.equal ++ codes "\n"
+    ++ codes " equal=" ++ truth_text s.equal ++ codes "\n"

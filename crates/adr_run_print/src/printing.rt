@@ -29,49 +29,44 @@ enum Token<'a> {
     Quoted(&'a Text),
 }
 
-fn push_token(alloc: Global, out: &mut Vec<u8>, token: &Token<'_>) -> Result<(), NoMemory>
+fn push_token(out: &mut Vec<u8>, token: &Token<'_>) -> Result<(), NoMemory>
     ensures { OnOk result (out.new.items ≡ out.old.items ++ token_text (token_of token.now)) }
 {
     match token {
         Token::Word(word) => push(out, word),
         Token::Name(name) => push(out, name.items()),
-        Token::Number(number) => push_number(alloc, out, *number),
-        Token::Identifier(id) => push_identifier(alloc, out, *id),
-        Token::Class(class) => push_class(alloc, out, *class),
-        Token::Attribute(attr) => push_attribute(alloc, out, *attr),
+        Token::Number(number) => push_number(out, *number),
+        Token::Identifier(id) => push_identifier(out, *id),
+        Token::Class(class) => push_class(out, *class),
+        Token::Attribute(attr) => push_attribute(out, *attr),
         Token::Quoted(text) => push_text(out, text.items()),
     }
 }
 
 /// Adds tokens, each behind a space.
-fn push_tokens(alloc: Global, out: &mut Vec<u8>, tokens: &[Token<'_>]) -> Result<(), NoMemory>
+fn push_tokens(out: &mut Vec<u8>, tokens: &[Token<'_>]) -> Result<(), NoMemory>
     ensures { OnOk result (out.new.items
         ≡ out.old.items ++ spaced (map (λ token. token_text (token_of token)) tokens.now)) }
 {
     for token in tokens {
         push(out, b" ")?;
-        push_token(alloc, out, token)?;
+        push_token(out, token)?;
     }
     Ok(())
 }
 
-fn push_spaced_set(
-    alloc: Global,
-    out: &mut Vec<u8>,
-    attr: u16,
-    values: &[Value],
-) -> Result<(), NoMemory>
+fn push_spaced_set(out: &mut Vec<u8>, attr: u16, values: &[Value]) -> Result<(), NoMemory>
     ensures { OnOk result (out.new.items ≡ out.old.items ++ (codes " " ++ set_token attr values.now)) }
 {
     push(out, b" ")?;
-    push_set(alloc, out, attr, values)
+    push_set(out, attr, values)
 }
 
-fn push_sets(alloc: Global, out: &mut Vec<u8>, values: &Assignments) -> Result<(), NoMemory>
+fn push_sets(out: &mut Vec<u8>, values: &Assignments) -> Result<(), NoMemory>
     ensures { OnOk result (out.new.items ≡ out.old.items ++ spaced (set_tokens values.now)) }
 {
     'attributes: for (attr, list) in values.entries() {
-        push_spaced_set(alloc, out, *attr, list.items())?;
+        push_spaced_set(out, *attr, list.items())?;
     }
     Ok(())
 }
@@ -94,23 +89,17 @@ fn push_names(out: &mut Vec<u8>, names: &[Text]) -> Result<(), NoMemory>
 }
 
 /// Adds tokens and names, each behind a space.
-fn push_with_names(
-    alloc: Global,
-    out: &mut Vec<u8>,
-    tokens: &[Token<'_>],
-    names: &[Text],
-) -> Result<(), NoMemory>
+fn push_with_names(out: &mut Vec<u8>, tokens: &[Token<'_>], names: &[Text]) -> Result<(), NoMemory>
     ensures { OnOk result (out.new.items
         ≡ out.old.items
         ++ (spaced (map (λ token. token_text (token_of token)) tokens.now) ++ spaced (map token_text (names_of names.now)))) }
 {
-    push_tokens(alloc, out, tokens)?;
+    push_tokens(out, tokens)?;
     push_names(out, names)
 }
 
 /// NUM MAX NAME NAME.., of `ring`.
 fn push_ring(
-    alloc: Global,
     out: &mut Vec<u8>,
     name: &Text,
     others: &[Text],
@@ -121,7 +110,6 @@ fn push_ring(
         ≡ out.old.items ++ spaced (map token_text (numbered rounds ∷ numbered max ∷ named name.now ∷ names_of others.now))) }
 {
     push_with_names(
-        alloc,
         out,
         &[
             Token::Number(u64::from(rounds)),
@@ -134,7 +122,6 @@ fn push_ring(
 
 /// Adds tokens and sets, each behind a space.
 fn push_with_sets(
-    alloc: Global,
     out: &mut Vec<u8>,
     tokens: &[Token<'_>],
     values: &Assignments,
@@ -143,23 +130,16 @@ fn push_with_sets(
         ≡ out.old.items
         ++ (spaced (map (λ token. token_text (token_of token)) tokens.now) ++ spaced (set_tokens values.now))) }
 {
-    push_tokens(alloc, out, tokens)?;
-    push_sets(alloc, out, values)
+    push_tokens(out, tokens)?;
+    push_sets(out, values)
 }
 
 /// NAME ID ID, of `controller`.
-fn push_controller(
-    alloc: Global,
-    out: &mut Vec<u8>,
-    name: &Text,
-    dsa: Guid,
-    inv: Guid,
-) -> Result<(), NoMemory>
+fn push_controller(out: &mut Vec<u8>, name: &Text, dsa: Guid, inv: Guid) -> Result<(), NoMemory>
     ensures { OnOk result (out.new.items
         ≡ out.old.items ++ spaced (map token_text (named name.now ∷ identified dsa ∷ identified inv ∷ []))) }
 {
     push_tokens(
-        alloc,
         out,
         &[
             Token::Name(name),
@@ -171,7 +151,6 @@ fn push_controller(
 
 /// NAME ID CLASS ID TEXT SET.., of `add`.
 fn push_added<'a>(
-    alloc: Global,
     out: &mut Vec<u8>,
     name: &'a Text,
     guid: Guid,
@@ -184,7 +163,6 @@ fn push_added<'a>(
         ≡ out.old.items ++ spaced (map token_text (named name.now ∷ identified guid ∷ classed class ∷ identified parent ∷ quoted text.now ∷ sets values.now))) }
 {
     push_with_sets(
-        alloc,
         out,
         &[
             Token::Name(name),
@@ -199,7 +177,6 @@ fn push_added<'a>(
 
 /// NAME ID SET.., of `modify`.
 fn push_modified(
-    alloc: Global,
     out: &mut Vec<u8>,
     name: &Text,
     guid: Guid,
@@ -208,17 +185,11 @@ fn push_modified(
     ensures { OnOk result (out.new.items
         ≡ out.old.items ++ spaced (map token_text (named name.now ∷ identified guid ∷ sets values.now))) }
 {
-    push_with_sets(
-        alloc,
-        out,
-        &[Token::Name(name), Token::Identifier(guid)],
-        values,
-    )
+    push_with_sets(out, &[Token::Name(name), Token::Identifier(guid)], values)
 }
 
 /// NAME ID ID TEXT, of `rename`.
 fn push_renamed<'a>(
-    alloc: Global,
     out: &mut Vec<u8>,
     name: &'a Text,
     guid: Guid,
@@ -229,7 +200,6 @@ fn push_renamed<'a>(
         ≡ out.old.items ++ spaced (map token_text (named name.now ∷ identified guid ∷ identified parent ∷ quoted text.now ∷ []))) }
 {
     push_tokens(
-        alloc,
         out,
         &[
             Token::Name(name),
@@ -241,21 +211,15 @@ fn push_renamed<'a>(
 }
 
 /// NAME ID, of `delete` and `meta`.
-fn push_identified(
-    alloc: Global,
-    out: &mut Vec<u8>,
-    name: &Text,
-    guid: Guid,
-) -> Result<(), NoMemory>
+fn push_identified(out: &mut Vec<u8>, name: &Text, guid: Guid) -> Result<(), NoMemory>
     ensures { OnOk result (out.new.items
         ≡ out.old.items ++ spaced (map token_text (named name.now ∷ identified guid ∷ []))) }
 {
-    push_tokens(alloc, out, &[Token::Name(name), Token::Identifier(guid)])
+    push_tokens(out, &[Token::Name(name), Token::Identifier(guid)])
 }
 
 /// NAME ID ATTR ID, of `link` and `unlink`.
 fn push_linked(
-    alloc: Global,
     out: &mut Vec<u8>,
     name: &Text,
     from: Guid,
@@ -266,7 +230,6 @@ fn push_linked(
         ≡ out.old.items ++ spaced (map token_text (named name.now ∷ identified from ∷ attributed attr ∷ identified to ∷ []))) }
 {
     push_tokens(
-        alloc,
         out,
         &[
             Token::Name(name),
@@ -279,7 +242,6 @@ fn push_linked(
 
 /// NAME NAME MAX as NAME, of `ask`.
 fn push_asked<'a>(
-    alloc: Global,
     out: &mut Vec<u8>,
     name: &'a Text,
     partner: &'a Text,
@@ -290,7 +252,6 @@ fn push_asked<'a>(
         ≡ out.old.items ++ spaced (map token_text (named name.now ∷ named partner.now ∷ numbered max ∷ said (codes "as") ∷ named bound.now ∷ []))) }
 {
     push_tokens(
-        alloc,
         out,
         &[
             Token::Name(name),
@@ -304,7 +265,6 @@ fn push_asked<'a>(
 
 /// NAME NAME as NAME, of `serve`.
 fn push_served<'a>(
-    alloc: Global,
     out: &mut Vec<u8>,
     name: &'a Text,
     request: &'a Text,
@@ -314,7 +274,6 @@ fn push_served<'a>(
         ≡ out.old.items ++ spaced (map token_text (named name.now ∷ named request.now ∷ said (codes "as") ∷ named bound.now ∷ []))) }
 {
     push_tokens(
-        alloc,
         out,
         &[
             Token::Name(name),
@@ -326,21 +285,15 @@ fn push_served<'a>(
 }
 
 /// NAME NAME, of `deliver` and `rollback`.
-fn push_used<'a>(
-    alloc: Global,
-    out: &mut Vec<u8>,
-    name: &'a Text,
-    other: &'a Text,
-) -> Result<(), NoMemory>
+fn push_used<'a>(out: &mut Vec<u8>, name: &'a Text, other: &'a Text) -> Result<(), NoMemory>
     ensures { OnOk result (out.new.items
         ≡ out.old.items ++ spaced (map token_text (named name.now ∷ named other.now ∷ []))) }
 {
-    push_tokens(alloc, out, &[Token::Name(name), Token::Name(other)])
+    push_tokens(out, &[Token::Name(name), Token::Name(other)])
 }
 
 /// NAME NAME MAX, of `pull` and `cycle`.
 fn push_pulled<'a>(
-    alloc: Global,
     out: &mut Vec<u8>,
     name: &'a Text,
     source: &'a Text,
@@ -350,7 +303,6 @@ fn push_pulled<'a>(
         ≡ out.old.items ++ spaced (map token_text (named name.now ∷ named source.now ∷ numbered max ∷ []))) }
 {
     push_tokens(
-        alloc,
         out,
         &[
             Token::Name(name),
@@ -361,30 +313,19 @@ fn push_pulled<'a>(
 }
 
 /// NAME LIFETIME, of `collect`.
-fn push_collected(
-    alloc: Global,
-    out: &mut Vec<u8>,
-    name: &Text,
-    lifetime: u64,
-) -> Result<(), NoMemory>
+fn push_collected(out: &mut Vec<u8>, name: &Text, lifetime: u64) -> Result<(), NoMemory>
     ensures { OnOk result (out.new.items
         ≡ out.old.items ++ spaced (map token_text (named name.now ∷ numbered lifetime ∷ []))) }
 {
-    push_tokens(alloc, out, &[Token::Name(name), Token::Number(lifetime)])
+    push_tokens(out, &[Token::Name(name), Token::Number(lifetime)])
 }
 
 /// NAME as NAME, of `backup` and `snapshot`.
-fn push_copied<'a>(
-    alloc: Global,
-    out: &mut Vec<u8>,
-    name: &'a Text,
-    bound: &'a Text,
-) -> Result<(), NoMemory>
+fn push_copied<'a>(out: &mut Vec<u8>, name: &'a Text, bound: &'a Text) -> Result<(), NoMemory>
     ensures { OnOk result (out.new.items
         ≡ out.old.items ++ spaced (map token_text (named name.now ∷ said (codes "as") ∷ named bound.now ∷ []))) }
 {
     push_tokens(
-        alloc,
         out,
         &[Token::Name(name), Token::Word(b"as"), Token::Name(bound)],
     )
@@ -392,7 +333,6 @@ fn push_copied<'a>(
 
 /// NAME NAME ID, of `restore`.
 fn push_restored<'a>(
-    alloc: Global,
     out: &mut Vec<u8>,
     name: &'a Text,
     image: &'a Text,
@@ -402,7 +342,6 @@ fn push_restored<'a>(
         ≡ out.old.items ++ spaced (map token_text (named name.now ∷ named image.now ∷ identified inv ∷ []))) }
 {
     push_tokens(
-        alloc,
         out,
         &[
             Token::Name(name),
@@ -414,7 +353,6 @@ fn push_restored<'a>(
 
 /// NAME ID NAME ID, of `install`.
 fn push_installed<'a>(
-    alloc: Global,
     out: &mut Vec<u8>,
     name: &'a Text,
     dsa: Guid,
@@ -425,7 +363,6 @@ fn push_installed<'a>(
         ≡ out.old.items ++ spaced (map token_text (named name.now ∷ identified dsa ∷ named image.now ∷ identified inv ∷ []))) }
 {
     push_tokens(
-        alloc,
         out,
         &[
             Token::Name(name),
@@ -437,18 +374,11 @@ fn push_installed<'a>(
 }
 
 /// NAME after CALLS CRASH, of `stop` where a plan is made.
-fn push_planned(
-    alloc: Global,
-    out: &mut Vec<u8>,
-    name: &Text,
-    calls: u32,
-    how: Crash,
-) -> Result<(), NoMemory>
+fn push_planned(out: &mut Vec<u8>, name: &Text, calls: u32, how: Crash) -> Result<(), NoMemory>
     ensures { OnOk result (out.new.items
         ≡ out.old.items ++ spaced (map token_text (named name.now ∷ said (codes "after") ∷ numbered calls ∷ said (crash_word how) ∷ []))) }
 {
     push_tokens(
-        alloc,
         out,
         &[
             Token::Name(name),
@@ -460,12 +390,11 @@ fn push_planned(
 }
 
 /// NAME after CALLS, of `fail`.
-fn push_failed(alloc: Global, out: &mut Vec<u8>, name: &Text, calls: u32) -> Result<(), NoMemory>
+fn push_failed(out: &mut Vec<u8>, name: &Text, calls: u32) -> Result<(), NoMemory>
     ensures { OnOk result (out.new.items
         ≡ out.old.items ++ spaced (map token_text (named name.now ∷ said (codes "after") ∷ numbered calls ∷ []))) }
 {
     push_tokens(
-        alloc,
         out,
         &[
             Token::Name(name),
@@ -476,7 +405,7 @@ fn push_failed(alloc: Global, out: &mut Vec<u8>, name: &Text, calls: u32) -> Res
 }
 
 /// NAME and what stands behind it, of a write.
-fn push_write(alloc: Global, out: &mut Vec<u8>, name: &Text, what: &Write) -> Result<(), NoMemory>
+fn push_write(out: &mut Vec<u8>, name: &Text, what: &Write) -> Result<(), NoMemory>
     ensures { OnOk result (out.new.items
         ≡ out.old.items ++ spaced (map token_text (named name.now ∷ tokens_written (given_in what.now) what.now))) }
 {
@@ -487,32 +416,25 @@ fn push_write(alloc: Global, out: &mut Vec<u8>, name: &Text, what: &Write) -> Re
             parent,
             text,
             values,
-        } => push_added(alloc, out, name, *guid, *class, *parent, text, values),
-        Write::Modify { guid, values } => push_modified(alloc, out, name, *guid, values),
-        Write::Rename { guid, parent, text } => push_renamed(
-            alloc, out, name, *guid, *parent, text,
-        ),
-        Write::Delete { guid } => push_identified(alloc, out, name, *guid),
+        } => push_added(out, name, *guid, *class, *parent, text, values),
+        Write::Modify { guid, values } => push_modified(out, name, *guid, values),
+        Write::Rename { guid, parent, text } => push_renamed(out, name, *guid, *parent, text),
+        Write::Delete { guid } => push_identified(out, name, *guid),
         Write::Link { from, attr, to } | Write::Unlink { from, attr, to } => {
-            push_linked(alloc, out, name, *from, *attr, *to)
+            push_linked(out, name, *from, *attr, *to)
         }
     }
 }
 
 /// NAME, and what else a report wants.
-fn push_reported(
-    alloc: Global,
-    out: &mut Vec<u8>,
-    name: &Text,
-    what: Report,
-) -> Result<(), NoMemory>
+fn push_reported(out: &mut Vec<u8>, name: &Text, what: Report) -> Result<(), NoMemory>
     ensures { OnOk result (out.new.items
         ≡ out.old.items ++ spaced (map token_text (named name.now ∷ tokens_asked what))) }
 {
     match what {
-        Report::Meta { guid } => push_identified(alloc, out, name, guid),
+        Report::Meta { guid } => push_identified(out, name, guid),
         Report::Directory | Report::Vector | Report::Marks => {
-            push_tokens(alloc, out, &[Token::Name(name)])
+            push_tokens(out, &[Token::Name(name)])
         }
     }
 }
@@ -520,64 +442,62 @@ fn push_reported(
 /// Adds what stands behind the verb in the line of an event, by one call for each kind: an arm with
 /// many steps makes a long proof.
 #[tactic(auto, unfolding(adr_schedule::specs::Grammar::tokens_behind))]
-fn push_behind(alloc: Global, out: &mut Vec<u8>, event: &Event) -> Result<(), NoMemory>
+fn push_behind(out: &mut Vec<u8>, event: &Event) -> Result<(), NoMemory>
     ensures { OnOk result (out.new.items
         ≡ out.old.items ++ spaced (map token_text (tokens_behind (given_by event.now) event.now))) }
 {
     match event {
-        Event::Controller { name, dsa, inv } => push_controller(alloc, out, name, *dsa, *inv),
-        Event::Time { now } => push_tokens(alloc, out, &[Token::Number(*now)]),
-        Event::Write { name, what } => push_write(alloc, out, name, what),
+        Event::Controller { name, dsa, inv } => push_controller(out, name, *dsa, *inv),
+        Event::Time { now } => push_tokens(out, &[Token::Number(*now)]),
+        Event::Write { name, what } => push_write(out, name, what),
         Event::Ask {
             name,
             partner,
             max,
             bound,
             ..
-        } => push_asked(alloc, out, name, partner, *max, bound),
+        } => push_asked(out, name, partner, *max, bound),
         Event::Serve {
             name,
             request,
             bound,
-        } => push_served(alloc, out, name, request, bound),
-        Event::Deliver { name, reply } => push_used(alloc, out, name, reply),
+        } => push_served(out, name, request, bound),
+        Event::Deliver { name, reply } => push_used(out, name, reply),
         Event::Pull { name, source, max } | Event::Cycle { name, source, max } => {
-            push_pulled(alloc, out, name, source, *max)
+            push_pulled(out, name, source, *max)
         }
         Event::Ring {
             name,
             others,
             rounds,
             max,
-        } => push_ring(alloc, out, name, others.items(), *rounds, *max),
-        Event::Collect { name, lifetime } => push_collected(alloc, out, name, *lifetime),
+        } => push_ring(out, name, others.items(), *rounds, *max),
+        Event::Collect { name, lifetime } => push_collected(out, name, *lifetime),
         Event::Upgrade { .. } | Event::Revive { .. } => Ok(()),
         Event::Backup { name, bound } | Event::Snapshot { name, bound } => {
-            push_copied(alloc, out, name, bound)
+            push_copied(out, name, bound)
         }
-        Event::Restore { name, image, inv } => push_restored(alloc, out, name, image, *inv),
+        Event::Restore { name, image, inv } => push_restored(out, name, image, *inv),
         Event::Install {
             name,
             dsa,
             image,
             inv,
-        } => push_installed(alloc, out, name, *dsa, image, *inv),
-        Event::Rollback { name, snapshot } => push_used(alloc, out, name, snapshot),
-        Event::StopAfter { name, calls, how } => push_planned(alloc, out, name, *calls, *how),
-        Event::Fail { name, calls } => push_failed(alloc, out, name, *calls),
-        Event::Stop { name } | Event::Start { name } => {
-            push_tokens(alloc, out, &[Token::Name(name)])
-        }
-        Event::Report { name, what } => push_reported(alloc, out, name, *what),
+        } => push_installed(out, name, *dsa, image, *inv),
+        Event::Rollback { name, snapshot } => push_used(out, name, snapshot),
+        Event::StopAfter { name, calls, how } => push_planned(out, name, *calls, *how),
+        Event::Fail { name, calls } => push_failed(out, name, *calls),
+        Event::Stop { name } | Event::Start { name } => { push_tokens(out, &[Token::Name(name)]) }
+        Event::Report { name, what } => push_reported(out, name, *what),
     }
 }
 
 #[tactic(auto, unfolding(crate::specs::Printed::line_of))]
-fn push_line(alloc: Global, out: &mut Vec<u8>, event: &Event) -> Result<(), NoMemory>
+fn push_line(out: &mut Vec<u8>, event: &Event) -> Result<(), NoMemory>
     ensures { OnOk result (out.new.items ≡ out.old.items ++ line_of event.now) }
 {
     push(out, event.verb().word().as_bytes())?;
-    push_behind(alloc, out, event)
+    push_behind(out, event)
 }
 
 /// The text of some events, a line each. An event that the language has no line for is its verb alone.
@@ -586,7 +506,7 @@ pub fn print(alloc: Global, events: &[Event]) -> Result<Vec<u8>, NoMemory>
 {
     let mut out = Vec::new(alloc);
     for event in events {
-        push_line(alloc, &mut out, event)?;
+        push_line(&mut out, event)?;
         push(&mut out, b"\n")?;
     }
     Ok(out)

@@ -10,7 +10,7 @@ use Rattle.adr_model.specs.Cycles.{Pulled}
 use Rattle.adr_model.specs.Step.{step}
 use Rattle.adr_answers.specs.Line.{line}
 use Rattle.adr_answers.specs.Whole.{AddsFirstLines}
-use Rattle.adr_run_world.specs.Door.{IsDone, IsLeftBy, IsShortBy, IsStillMidway, IsTold, LacksLines}
+use Rattle.adr_run_world.specs.Door.{IsDone, IsLeftBy, IsShortBy, IsStillMidway, IsTold, IsUndoneBy, LacksLines}
 use Rattle.adr_run_world.specs.Pulls.{IsTurn}
 use Rattle.adr_run_world.specs.Short.{IsMidway, IsCutShort}
 use Rattle.adr_answers.proofs.Due.{all_added}
@@ -68,3 +68,12 @@ module _ (w : World) (e : Event) (turn : ℕ) (v : World) (told : List Answer) (
         inr (subst (λ (x : World × List Answer). LacksLines turn x e p.0 first next) (sym (turns_so_far w e turn v told so))
             (p, is, (n, within, (refl, lines_more first now next told (take n p.1) added more)))),
       )
+
+-- where whole turns were done, and one more wanted memory
+pub undone_turn : (w : World) (e : Event) (turn : ℕ) (v : World) (told : List Answer) (first now : Option (List ℕ)) → IsSoFar w e turn v told → Adds first now (flat_map line told) → (u : World) → IsCutShort v e u
+    → IsUndoneBy w e u first now
+undone_turn w (events.Cycle name source max) turn v told first now so added u (inl same) =
+    (turn, so.within, subst (λ (x : World × List Answer). IsTold x u first now) (sym (turns_so_far w (events.Cycle name source max) turn v told so)) (same, added))
+undone_turn w (events.Cycle name source max) turn v told first now so added u (inr midway) = absurd midway
+undone_turn w e turn v told first now so added u cut =
+    (subst (λ (x : World). IsCutShort x e u) so.first.0 cut, subst (λ (list : List Answer). Adds first now (flat_map line list)) so.first.1 added)

@@ -3,10 +3,13 @@ pub mod Calls
 pub mod Becoming
 pub mod Pulls
 pub mod Turns
+pub mod Brief
+pub mod Fitting
 pub mod Bindings
 pub mod Doors
 pub mod Results
 pub mod Left
+pub mod Lacking
 pub mod Tables
 pub mod Adoptions
 pub mod Answered

@@ -11,7 +11,7 @@ use Rattle.adr_model.specs.Step.{step}
 use Rattle.adr_model.specs.Convergence.{MayCycle, AreUnlimited, EndsOrSaysMore}
 use Rattle.adr_answers.specs.Line.{line}
 use Rattle.adr_run_world.specs.Pulls.{IsTurn}
-use Rattle.adr_run_world.specs.Short.{IsMidway}
+use Rattle.adr_run_world.specs.Short.{IsCutShort, IsMidway}
 
 -- what so many turns of a line come to: of a cycle so many pulls, and any other line is one turn
 abbrev pub turns : ℕ → World → Event → World × List Answer
@@ -49,6 +49,12 @@ abbrev pub IsShortBy : World → Event → World → Option (List ℕ) → Optio
 IsShortBy w e v before after =
     ((n : ℕ) × (n ≤ reply_limit) × (IsTold (turns n w e) v before after ⊎ LacksLines n (turns n w e) e v before after))
     ⊎ IsStillMidway w e v before after
+
+-- what want of memory leaves of a line where the sink wants none: nothing is done but of a start or a ring, and nothing is written;
+-- and of a cycle the pulls are done whose answers are written
+abbrev pub IsUndoneBy : World → Event → World → Option (List ℕ) → Option (List ℕ) → Type 0
+IsUndoneBy w (events.Cycle name source max) v before after = (n : ℕ) × (n ≤ reply_limit) × IsTold (turns n w (events.Cycle name source max)) v before after
+IsUndoneBy w e v before after = IsCutShort w e v × Adds before after []
 
 -- a cycle between two controllers with nothing in the way, which met no limit, says that there is more, or it ended with the last
 -- reply, and the destination has everything

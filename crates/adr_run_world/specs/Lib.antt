@@ -6,3 +6,4 @@ pub mod Short
 pub mod Door
 pub mod Played
 pub mod Rung
+pub mod Room

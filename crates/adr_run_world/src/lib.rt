@@ -22,6 +22,7 @@ mod putting_back;
 mod reports;
 mod restoring;
 mod ringing;
+mod room;
 mod run;
 mod stepping;
 mod stopping;

@@ -1,6 +1,6 @@
 //! What each line does, by its kind.
 
-ghost use Rattle.std.specs.Prelude.{◌≡◌, ◌<◌, ◌≤◌, IfOk, OnErr, OnOk, IsErrOf, flat_map};
+ghost use Rattle.std.specs.Prelude.{◌≡◌, ◌<◌, ◌≤◌, ◌⊎◌, IfOk, OnErr, OnOk, IsErrOf, flat_map};
 ghost use Rattle.adr_event.specs.Supported.{IsSupported};
 ghost use Rattle.adr_event.specs.Verbs.{name_of, verb_of, word_of};
 ghost use Rattle.adr_io.specs.Told.{Adds, AddsFront};
@@ -8,14 +8,16 @@ ghost use Rattle.adr_law_recorded.specs.Typed.{IsTyped};
 ghost use Rattle.adr_model.specs.Convergence.{MayHappen};
 ghost use Rattle.adr_model.specs.Step.{step, told};
 ghost use Rattle.adr_answers.specs.Line.{line};
+ghost use Rattle.adr_answers.specs.Room.{MayWant};
 ghost use Rattle.adr_answers.specs.Alone.{HasOneAnswer};
-ghost use Rattle.adr_run_world.specs.Door.{IsLeftBy, IsShortBy};
+ghost use Rattle.adr_run_world.specs.Door.{IsLeftBy, IsShortBy, IsUndoneBy};
 ghost use Rattle.adr_run_world.specs.Pulls.{IsTurn};
 ghost use Rattle.adr_run_world.specs.Run.{IsSoundRun, IsTidy, world_of};
 ghost use Rattle.adr_run_world.specs.Short.{IsCutShort};
 
 use crate::lists::put;
 use crate::pulling::REPLY_LIMIT;
+use crate::room::room_for;
 use crate::run::Run;
 use adr_answers::{Heading, name_of, tell};
 use adr_call::Outcome;
@@ -25,7 +27,8 @@ use adr_schema::NoMemory;
 use std::alloc::Global;
 
 impl Run {
-    /// Does what a line says, turn by turn, and writes the answers to a turn before the next.
+    /// Does what a line says, turn by turn, and writes the answers to a turn before the next. The room of their lines is
+    /// made before the turn.
     pub fn step<K: Sink>(&mut self, alloc: Global, event: &Event, sink: &mut K) -> Result<(), Fault>
         requires sound { IsSoundRun self.old }
         requires may { MayHappen (world_of self.old) event.now }
@@ -36,13 +39,16 @@ impl Run {
         ensures front { OnErr result (AddsFront (K.written sink.old) (K.written sink.new) (flat_map line (step (world_of self.old) event.now).1)) }
         ensures err { OnErr result (IsLeftBy (world_of self.old) event.now (world_of self.new) (K.written sink.old) (K.written sink.new)) }
         ensures short { IsErrOf result Fault.NoMemory → IsShortBy (world_of self.old) event.now (world_of self.new) (K.written sink.old) (K.written sink.new) }
+        ensures undone { IsErrOf result Fault.NoMemory
+            → IsUndoneBy (world_of self.old) event.now (world_of self.new) (K.written sink.old) (K.written sink.new) ⊎ MayWant K.keeps (K.faults sink.old) }
         ensures never_falls { K.faults sink.old ≤ K.faults sink.new }
         ensures failed { IsErrOf result Fault.Failed → K.faults sink.old < K.faults sink.new }
         ensures sound { IsSoundRun self.new }
     {
         for turn in 0..=REPLY_LIMIT {
+            let mut room = room_for(alloc, event)?;
             let (answers, goes_on) = self.turn(alloc, event, turn)?;
-            tell(alloc, answers.as_slice(), sink)?;
+            tell(&mut room, answers.as_slice(), sink)?;
             if !goes_on {
                 return Ok(());
             }

@@ -1,6 +1,6 @@
 //! The world of a run.
 
-ghost use Rattle.std.specs.Prelude.{◌≡◌, ◌<◌, ◌≤◌, ◌∷◌, true, IfOk, OnErr, OnOk, IsErrOf, flat_map};
+ghost use Rattle.std.specs.Prelude.{◌≡◌, ◌<◌, ◌≤◌, ◌⊎◌, ◌∷◌, true, IfOk, OnErr, OnOk, IsErrOf, flat_map};
 ghost use Rattle.adr_event.specs.Supported.{IsSupported};
 ghost use Rattle.adr_io.specs.Told.{Adds, AddsFront};
 ghost use Rattle.adr_law_recorded.specs.Typed.{IsTyped};
@@ -10,8 +10,9 @@ ghost use Rattle.adr_model.specs.Sound.{IsWorldOfRun};
 ghost use Rattle.adr_model.specs.Step.{step};
 ghost use Rattle.adr_model.specs.World.{empty_world, shown};
 ghost use Rattle.adr_answers.specs.Line.{line};
+ghost use Rattle.adr_answers.specs.Room.{MayWant};
 ghost use Rattle.adr_run_world.specs.Counted.{counted};
-ghost use Rattle.adr_run_world.specs.Door.{IsCompletedBy, IsLeftBy, IsShortBy};
+ghost use Rattle.adr_run_world.specs.Door.{IsCompletedBy, IsLeftBy, IsShortBy, IsUndoneBy};
 ghost use Rattle.adr_run_world.specs.Rung.{IsRungBy};
 
 use crate::counting::Tally;
@@ -69,6 +70,12 @@ impl World {
         ensures front { OnErr result (AddsFront (K.written sink.old) (K.written sink.new) (flat_map line (step self.old event.now).1)) }
         ensures err { OnErr result (IsLeftBy self.old event.now self.new (K.written sink.old) (K.written sink.new)) }
         ensures short { IsErrOf result Fault.NoMemory → IsShortBy self.old event.now self.new (K.written sink.old) (K.written sink.new) }
+
+        // Where memory was wanting, and not in the sink, no answer is wanting of what was done: the world is as it was and
+        // nothing is written. But of a start its sync may stand, and of a ring some of its pulls may be done; and of a cycle
+        // the pulls are done whose answers are written.
+        ensures undone { IsErrOf result Fault.NoMemory
+            → IsUndoneBy self.old event.now self.new (K.written sink.old) (K.written sink.new) ⊎ MayWant K.keeps (K.faults sink.old) }
         ensures never_falls { K.faults sink.old ≤ K.faults sink.new }
         ensures failed { IsErrOf result Fault.Failed → K.faults sink.old < K.faults sink.new }
 

@@ -18,9 +18,11 @@ mod verb;
 
 pub use adr_call::Failure;
 pub use adr_event::Event;
+pub use commands::{event_of, is_passed};
 pub use crashes::crash_word;
 pub use fault::{Cause, ScheduleFault};
 pub use laws::{faults_read_back, lines_read_back, schedules_read_back};
 pub use limits::TEXT_LIMIT;
+pub use lines::first_line;
 pub use parsing::{discard, parse};
 pub use telling::fault_line;

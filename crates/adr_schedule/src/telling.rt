@@ -28,7 +28,7 @@ pub fn fault_line(alloc: Global, fault: ScheduleFault) -> Result<Vec<u8>, AllocE
 {
     let mut out = Vec::new(alloc);
     push(&mut out, b"line ")?;
-    push_number(alloc, &mut out, u64::from(fault.line))?;
+    push_number(&mut out, u64::from(fault.line))?;
     push(&mut out, b": ")?;
     push(&mut out, cause_text(fault.cause).as_bytes())?;
     push(&mut out, b"\n")?;

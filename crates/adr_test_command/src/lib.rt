@@ -1,6 +1,11 @@
-//! Tests of what no clause says of the program's top call: its words, and sources and sinks that fail. Whole schedules
+//! Tests of what no clause says of the program's top call: its words, commands over a disk, and
+//! sources, sinks, disks and identifiers that fail. Whole schedules
 //! stand in `adr_test_transcripts`.
 #![tactic(auto)]
 
 #[cfg(test)]
+mod nodes;
+#[cfg(test)]
 mod tests;
+#[cfg(test)]
+mod words;

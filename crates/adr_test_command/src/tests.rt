@@ -3,7 +3,9 @@
 ghost use Rattle.std.specs.Prelude.{◌<◌};
 
 use adr_cmd::run;
+use adr_run_disk::MemDisk;
 use adr_test_io::{MemSink, MemSource};
+use adr_test_outside::MemFresh;
 use std::alloc::Global;
 use std::test::Fail;
 
@@ -46,7 +48,15 @@ fn outcome(
     if let Some(calls) = failing.write {
         sink.fail_after(calls);
     }
-    let status = run(alloc, words.as_slice(), &mut source, &mut sink);
+    let mut fresh = MemFresh::new(Vec::new(alloc));
+    let (status, _disk) = run(
+        alloc,
+        words.as_slice(),
+        &mut source,
+        &mut sink,
+        MemDisk::new(alloc),
+        &mut fresh,
+    );
     Ok((status, Vec::from_slice(alloc, sink.bytes())?))
 }
 
@@ -71,7 +81,7 @@ fn usage_for_other_words(rt: HostRuntime) -> Result<(), Fail> {
         &["exercise", "1001"],
         &["--help"],
         &["Replay"],
-        &["show", "A"],
+        &["pull", "A", "389"],
     ];
     for words in cases {
         let (status, written) = outcome(rt.alloc(), words, PEOPLE, 7, NEVER)?;

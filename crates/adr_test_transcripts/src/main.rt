@@ -3,7 +3,9 @@
 #![tactic(auto)]
 
 use adr_cmd::run;
+use adr_run_disk::MemDisk;
 use adr_test_io::{MemSink, MemSource};
+use adr_test_outside::MemFresh;
 use std::alloc::Global;
 use std::process::ExitCode;
 use std::{env, fs, io};
@@ -29,7 +31,15 @@ fn is_answered(alloc: Global, schedule: &[u8], answers: &[u8]) -> io::Result<boo
     words.push(String::from_str(alloc, "replay")?)?;
     let mut source = MemSource::new(Vec::from_slice(alloc, schedule)?, 7);
     let mut sink = MemSink::new(alloc);
-    let status = run(alloc, words.as_slice(), &mut source, &mut sink);
+    let mut fresh = MemFresh::new(Vec::new(alloc));
+    let (status, _disk) = run(
+        alloc,
+        words.as_slice(),
+        &mut source,
+        &mut sink,
+        MemDisk::new(alloc),
+        &mut fresh,
+    );
     let due = if answers.starts_with(b"line ".as_slice()) {
         3
     } else {

@@ -214,9 +214,9 @@ fn values(alloc: Global) -> Result<[Value; 5], Fail> {
 fn values_and_names_are_spelled(rt: HostRuntime) -> Result<(), Fail> {
     let alloc = rt.alloc();
     let mut out = Vec::new(alloc);
-    push_class(alloc, &mut out, 7)?;
-    push_class(alloc, &mut out, 99)?;
-    push_set(alloc, &mut out, 12, &values(alloc)?)?;
+    push_class(&mut out, 7)?;
+    push_class(&mut out, 99)?;
+    push_set(&mut out, 12, &values(alloc)?)?;
     let spelled = "computer%99description=\"a\\\"\\0a\\7fé\",x0aff,-7,true,#a1";
     assert_eq!(rt; out.as_slice(), spelled.as_bytes());
     Ok(())

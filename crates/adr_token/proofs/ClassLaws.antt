@@ -1,11 +1,11 @@
 -- Classes and attributes are read again by name and by number, and what is read was one of the two.
-use Rattle.std.proofs.Common.{◌≡◌, ℕ, ◌<◌, ◌^◌, Bool, true, false, not, ◌&&◌, List, [], ◌∷◌, length, Option, Some, None, refl, ap, subst, ◌∙◌, inl, inr, arith}
-use Rattle.std.specs.Prelude.{◌==◌, nat_eq}
+use Rattle.std.proofs.Common.{◌≡◌, ℕ, ◌<◌, ◌≤◌, ◌^◌, Bool, true, false, not, ◌&&◌, List, [], ◌∷◌, length, Option, Some, None, refl, ap, subst, ◌∙◌, inl, inr, arith}
+use Rattle.std.specs.Prelude.{◌==◌, nat_eq, nat_le}
 use Rattle.std.specs.Fmt.{decimal}
 use Rattle.std.specs.List.{find, list_all}
 use Rattle.std.specs.Option.{option_map, option_or}
 use Rattle.std.specs.Str.{bytes_eq}
-use Rattle.std.proofs.lemmas.Bool.{and_parts}
+use Rattle.std.proofs.lemmas.Bool.{and_parts, leb-true}
 use Rattle.std.proofs.lemmas.Bool.Decides.{nat_tests, Decides-eqb}
 use Rattle.std.proofs.lemmas.Slice.Eq.{bytes_eq-Decides}
 use Rattle.adr_schema.specs.Names.{class_name, class_number, attribute_name, attribute_number}
@@ -17,6 +17,7 @@ use Rattle.adr_token.specs.Words.{strip_byte, word_at}
 use Rattle.adr_token.specs.Numbers.{figure, number_of}
 use Rattle.adr_token.specs.Classes.{attribute_at, attribute_of, class_at, class_of, percent_number}
 use Rattle.adr_token.specs.Values.{is_equals}
+use Rattle.adr_token.specs.Room.{name_room}
 use Rattle.adr_token.specs.Spelling.{attribute_token, class_token, name_or_number}
 use Rattle.adr_token.specs.Spelled.{SpellsAttribute, SpellsClass, SpellsNumbered}
 use Rattle.adr_token.specs.SetLaws.{AttributesAreReadAgain, AttributesAreSpelled, AttributesWereSpelled, ClassesAreReadAgain, ClassesAreSpelled, ClassesWereSpelled}
@@ -142,6 +143,18 @@ class_seen n text e = name_seen class_named (λ c. c.number == n) spoken.classes
 
 attribute_seen : (n : ℕ) (text : List ℕ) → attribute_name n ≡ Some text → is_seen_name text ≡ true
 attribute_seen n text e = name_seen attribute_named (λ a. a.number == n) spoken.attributes text attributes_seen e
+
+-- a name that a search finds is short
+attributes_short : list_all (λ (a : Attribute). nat_le (length a.name) 32) spoken.attributes ≡ true
+unfolding schema_1
+attributes_short = refl
+
+name_short : {A : Type 0} (name : A → List ℕ) (test : A → Bool) (xs : List A) (o : Option A) → list_all (λ x. nat_le (length (name x)) 32) xs ≡ true → find test xs ≡ o → name_room (option_map name o) ≤ 32
+name_short name test xs None h e = omega arith
+name_short name test xs (Some x) h e = leb-true (length (name x)) 32 (found test (λ x. nat_le (length (name x)) 32) xs x h e).1
+
+pub attribute_room : (n : ℕ) → name_room (attribute_name n) ≤ 32
+attribute_room n = name_short attribute_named (λ a. a.number == n) spoken.attributes _ attributes_short refl
 
 class_naming : IsNaming class_name class_number
 class_naming = record { named = class_told; numbered = class_untold; unnamed = class_unnamed; seen = class_seen }

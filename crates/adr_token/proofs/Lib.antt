@@ -14,3 +14,4 @@ pub mod ValueLaws
 pub mod ValuesLemmas
 pub mod SetBytes
 pub mod SetLaws
+pub mod Figures

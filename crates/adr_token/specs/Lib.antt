@@ -9,3 +9,4 @@ pub mod Spelling
 pub mod Laws
 pub mod Spelled
 pub mod SetLaws
+pub mod Room

@@ -1,16 +1,19 @@
 //! Writers of tokens, each to the end of some bytes.
 
-ghost use Rattle.std.specs.Prelude.{◌≡◌, ◌++◌, ◌<◌, OnOk, flat_map, false};
+ghost use Rattle.std.specs.Prelude.{◌≡◌, ◌++◌, ◌<◌, OnOk, flat_map, length, false};
 ghost use Rattle.std.specs.Fmt.{decimal, digits};
+ghost use Rattle.adr_token.specs.Room.{TakesRoom};
 ghost use Rattle.adr_token.specs.Spelling.{escaped, two_figures, text_token, identifier_text, identifier_token};
 ghost use Rattle.uuid.specs.Text.{hex_digit, lower, hyphenated_text};
 
 use adr_guid::Guid;
-use std::alloc::{AllocError, Global};
+use itoa::Buffer;
+use std::alloc::AllocError;
 
 /// Adds bytes.
 pub fn push(out: &mut Vec<u8>, bytes: &[u8]) -> Result<(), AllocError>
-    ensures { OnOk result (out.new.items ≡ out.old.items ++ bytes.now) }
+    ensures items { OnOk result (out.new.items ≡ out.old.items ++ bytes.now) }
+    ensures room { TakesRoom (length bytes.now) out.old result out.new }
 {
     out.extend_from_slice(bytes)?;
     Ok(())
@@ -64,26 +67,35 @@ fn push_all_escaped(out: &mut Vec<u8>, text: &[u8]) -> Result<(), AllocError>
 }
 
 /// Adds a number in hexadecimal figures.
-fn push_figures(alloc: Global, out: &mut Vec<u8>, number: u64) -> Result<(), AllocError>
-    ensures { OnOk result (out.new.items ≡ out.old.items ++ digits 16 false number) }
+#[tactic(auto, using(crate::proofs::Figures::one_figure, crate::proofs::Figures::fewer_figures))]
+fn push_figures(out: &mut Vec<u8>, number: u32) -> Result<(), AllocError>
+    ensures items { OnOk result (out.new.items ≡ out.old.items ++ digits 16 false number) }
+    ensures room { TakesRoom (length (digits 16 false number)) out.old result out.new }
 {
-    let text = format!(in alloc; "{number:x}")?;
-    push(out, text.as_bytes())
+    if number < 16 {
+        return push(out, &[figure(number as u8)]);
+    }
+    push_figures(out, number / 16)?;
+    push(out, &[figure((number % 16) as u8)])
 }
 
+#[tactic(auto, using(crate::proofs::Figures::full_length))]
 fn push_full(out: &mut Vec<u8>, id: Guid) -> Result<(), AllocError>
-    ensures { OnOk result (out.new.items ≡ out.old.items ++ hyphenated_text lower id) }
+    ensures items { OnOk result (out.new.items ≡ out.old.items ++ hyphenated_text lower id) }
+    ensures room { TakesRoom 36 out.old result out.new }
 {
     let mut buffer = [0; 36];
     push(out, id.hyphenated(&mut buffer).as_bytes())
 }
 
-fn push_identifier_text(alloc: Global, out: &mut Vec<u8>, id: Guid) -> Result<(), AllocError>
-    ensures { OnOk result (out.new.items ≡ out.old.items ++ identifier_text id) }
+#[tactic(auto, using(crate::proofs::Figures::figures_short))]
+fn push_identifier_text(out: &mut Vec<u8>, id: Guid) -> Result<(), AllocError>
+    ensures items { OnOk result (out.new.items ≡ out.old.items ++ identifier_text id) }
+    ensures room { TakesRoom 36 out.old result out.new }
 {
     let number = id.as_u128();
     if number < 4_294_967_296 {
-        push_figures(alloc, out, number as u64)
+        push_figures(out, number as u32)
     } else {
         push_full(out, id)
     }
@@ -91,16 +103,19 @@ fn push_identifier_text(alloc: Global, out: &mut Vec<u8>, id: Guid) -> Result<()
 
 /// Adds an identifier: its short form below 2^32, else its full form.
 #[tactic(auto, unfolding(crate::specs::Spelling::identifier_token))]
-pub fn push_identifier(alloc: Global, out: &mut Vec<u8>, id: Guid) -> Result<(), AllocError>
-    ensures { OnOk result (out.new.items ≡ out.old.items ++ identifier_token id) }
+pub fn push_identifier(out: &mut Vec<u8>, id: Guid) -> Result<(), AllocError>
+    ensures items { OnOk result (out.new.items ≡ out.old.items ++ identifier_token id) }
+    ensures room { TakesRoom 37 out.old result out.new }
 {
     push(out, b"#")?;
-    push_identifier_text(alloc, out, id)
+    push_identifier_text(out, id)
 }
 
 /// Adds a number in decimal.
-pub fn push_number(alloc: Global, out: &mut Vec<u8>, number: u64) -> Result<(), AllocError>
-    ensures { OnOk result (out.new.items ≡ out.old.items ++ decimal number) }
+pub fn push_number(out: &mut Vec<u8>, number: u64) -> Result<(), AllocError>
+    ensures items { OnOk result (out.new.items ≡ out.old.items ++ decimal number) }
+    ensures room { TakesRoom 20 out.old result out.new }
 {
-    push(out, number.to_string(alloc)?.as_bytes())
+    let mut buffer = Buffer::new();
+    push(out, buffer.format(number).as_bytes())
 }

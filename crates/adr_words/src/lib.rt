@@ -8,8 +8,6 @@ mod asked;
 mod kinds;
 mod parser;
 mod reading;
-#[cfg(test)]
-mod tests;
 
 pub use kinds::Command;
 pub use reading::command;

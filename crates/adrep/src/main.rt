@@ -1,8 +1,11 @@
-//! `adrep`: the program's words over standard input and standard output.
+//! `adrep`: the program's words over standard input and standard output, a file of the present folder, and the system's
+//! random numbers.
 #![tactic(auto)]
 
 use adr_cmd::run;
+use adr_file::FileDisk;
 use adr_io::{ReadSource, WriteSink};
+use adr_outside::RandomFresh;
 use std::process::ExitCode;
 use std::{env, io};
 
@@ -23,5 +26,15 @@ fn main(rt: HostRuntime) -> ExitCode {
     };
     let mut source = ReadSource::new(rt.reader());
     let mut sink = WriteSink::new(io::writer(&rt));
-    ExitCode::from(run(rt.alloc(), words.as_slice(), &mut source, &mut sink))
+    let disk = FileDisk::new(&rt);
+    let mut fresh = RandomFresh::new(&rt);
+    let (status, _disk) = run(
+        rt.alloc(),
+        words.as_slice(),
+        &mut source,
+        &mut sink,
+        disk,
+        &mut fresh,
+    );
+    ExitCode::from(status)
 }

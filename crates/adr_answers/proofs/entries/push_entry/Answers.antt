@@ -16,4 +16,4 @@ returns c =
     on_ok_weaker c.push.result (λ last. last
     ∙ pieces c.args.out.now.items _ _ _ c.push_head.new.out.items c.push_place.new.out.items c.push_all_values.new.out.items c.push_all_links.new.out.items
     c.args.entry.now.values c.items.result.now c.args.entry.now.links c.items-2.result.now
-    c.in_ok-push_head.ensures c.in_ok-push_place.ensures c.in_ok-push_all_values.ensures c.in_ok-push_all_links.ensures c.items.ensures c.items-2.ensures) c.push.ensures
+    c.in_ok-push_head.ensures c.in_ok-push_place.ensures c.in_ok-push_all_values.ensures c.in_ok-push_all_links.ensures c.items.ensures c.items-2.ensures) c.push.ensures.items

@@ -1,60 +1,120 @@
-use Rattle.adr_law_headline.proofs.Texts.{every_text}
+-- What is claimed of every run is claimed whatever the words are.
 use Rattle.adr_answers.proofs.Due.{none_added}
-use Rattle.adr_answers.proofs.ReportLines.{directories_same}
-use Rattle.adr_cmd.specs.Outcome.{exercised}
-use Rattle.adr_cmd.proofs.TopLemmas.{nothing_told, texts_give_one}
+use Rattle.adr_run_replay.specs.Outcome.{exercised}
+use Rattle.adr_run_replay.proofs.GivenLemmas.{nothing_told}
+use Rattle.adr_cmd.proofs.DiskLemmas.{nothing_done}
 use Rattle.adr_cmd.proofs.top.run.Goals as goal
 
 pub returns-in-Ok-Some-Replay-clause-headline : goal.returns-in-Ok-Some-Replay-clause-headline
-returns-in-Ok-Some-Replay-clause-headline g c = every_text
+returns-in-Ok-Some-Replay-clause-headline g c = c.runs_are_so.ensures.headline
 
 pub returns-in-Ok-Some-Replay-clause-directories : goal.returns-in-Ok-Some-Replay-clause-directories
-returns-in-Ok-Some-Replay-clause-directories g c = directories_same
+returns-in-Ok-Some-Replay-clause-directories g c = c.runs_are_so.ensures.directories
 
 pub returns-in-Ok-Some-Replay-clause-texts : goal.returns-in-Ok-Some-Replay-clause-texts
-returns-in-Ok-Some-Replay-clause-texts g c = texts_give_one
+returns-in-Ok-Some-Replay-clause-texts g c = c.runs_are_so.ensures.texts
 
 pub returns-in-Ok-Some-Replay-clause-generated : goal.returns-in-Ok-Some-Replay-clause-generated
-returns-in-Ok-Some-Replay-clause-generated g c = c.generated_runs_are_so.ensures
+returns-in-Ok-Some-Replay-clause-generated g c = c.runs_are_so.ensures.generated
+
+pub returns-in-Ok-Some-Replay-clause-json : goal.returns-in-Ok-Some-Replay-clause-json
+returns-in-Ok-Some-Replay-clause-json g c = c.runs_are_so.ensures.json
+
+pub returns-in-Ok-Some-Replay-clause-exportable : goal.returns-in-Ok-Some-Replay-clause-exportable
+returns-in-Ok-Some-Replay-clause-exportable g c = c.runs_are_so.ensures.exportable
+
+pub returns-in-Ok-Some-Replay-clause-equal : goal.returns-in-Ok-Some-Replay-clause-equal
+returns-in-Ok-Some-Replay-clause-equal g c = c.runs_are_so.ensures.equal
 
 pub returns-in-Ok-Some-Exercise-clause-headline : goal.returns-in-Ok-Some-Exercise-clause-headline
-returns-in-Ok-Some-Exercise-clause-headline g c = every_text
+returns-in-Ok-Some-Exercise-clause-headline g c = c.runs_are_so.ensures.headline
 
 pub returns-in-Ok-Some-Exercise-clause-directories : goal.returns-in-Ok-Some-Exercise-clause-directories
-returns-in-Ok-Some-Exercise-clause-directories g c = directories_same
+returns-in-Ok-Some-Exercise-clause-directories g c = c.runs_are_so.ensures.directories
 
 pub returns-in-Ok-Some-Exercise-clause-texts : goal.returns-in-Ok-Some-Exercise-clause-texts
-returns-in-Ok-Some-Exercise-clause-texts g c = texts_give_one
+returns-in-Ok-Some-Exercise-clause-texts g c = c.runs_are_so.ensures.texts
 
 pub returns-in-Ok-Some-Exercise-clause-generated : goal.returns-in-Ok-Some-Exercise-clause-generated
-returns-in-Ok-Some-Exercise-clause-generated g c = c.generated_runs_are_so.ensures
+returns-in-Ok-Some-Exercise-clause-generated g c = c.runs_are_so.ensures.generated
+
+pub returns-in-Ok-Some-Exercise-clause-json : goal.returns-in-Ok-Some-Exercise-clause-json
+returns-in-Ok-Some-Exercise-clause-json g c = c.runs_are_so.ensures.json
+
+pub returns-in-Ok-Some-Exercise-clause-exportable : goal.returns-in-Ok-Some-Exercise-clause-exportable
+returns-in-Ok-Some-Exercise-clause-exportable g c = c.runs_are_so.ensures.exportable
+
+pub returns-in-Ok-Some-Exercise-clause-equal : goal.returns-in-Ok-Some-Exercise-clause-equal
+returns-in-Ok-Some-Exercise-clause-equal g c = c.runs_are_so.ensures.equal
+
+pub returns-in-Ok-Some-OnDisk-clause-headline : goal.returns-in-Ok-Some-OnDisk-clause-headline
+returns-in-Ok-Some-OnDisk-clause-headline g c = c.runs_are_so.ensures.headline
+
+pub returns-in-Ok-Some-OnDisk-clause-directories : goal.returns-in-Ok-Some-OnDisk-clause-directories
+returns-in-Ok-Some-OnDisk-clause-directories g c = c.runs_are_so.ensures.directories
+
+pub returns-in-Ok-Some-OnDisk-clause-texts : goal.returns-in-Ok-Some-OnDisk-clause-texts
+returns-in-Ok-Some-OnDisk-clause-texts g c = c.runs_are_so.ensures.texts
+
+pub returns-in-Ok-Some-OnDisk-clause-generated : goal.returns-in-Ok-Some-OnDisk-clause-generated
+returns-in-Ok-Some-OnDisk-clause-generated g c = c.runs_are_so.ensures.generated
+
+pub returns-in-Ok-Some-OnDisk-clause-json : goal.returns-in-Ok-Some-OnDisk-clause-json
+returns-in-Ok-Some-OnDisk-clause-json g c = c.runs_are_so.ensures.json
+
+pub returns-in-Ok-Some-OnDisk-clause-exportable : goal.returns-in-Ok-Some-OnDisk-clause-exportable
+returns-in-Ok-Some-OnDisk-clause-exportable g c = c.runs_are_so.ensures.exportable
+
+pub returns-in-Ok-Some-OnDisk-clause-equal : goal.returns-in-Ok-Some-OnDisk-clause-equal
+returns-in-Ok-Some-OnDisk-clause-equal g c = c.runs_are_so.ensures.equal
 
 pub returns-in-Ok-None-clause-headline : goal.returns-in-Ok-None-clause-headline
-returns-in-Ok-None-clause-headline g c = every_text
+returns-in-Ok-None-clause-headline g c = c.runs_are_so.ensures.headline
 
 pub returns-in-Ok-None-clause-directories : goal.returns-in-Ok-None-clause-directories
-returns-in-Ok-None-clause-directories g c = directories_same
+returns-in-Ok-None-clause-directories g c = c.runs_are_so.ensures.directories
 
 pub returns-in-Ok-None-clause-texts : goal.returns-in-Ok-None-clause-texts
-returns-in-Ok-None-clause-texts g c = texts_give_one
+returns-in-Ok-None-clause-texts g c = c.runs_are_so.ensures.texts
 
 pub returns-in-Ok-None-clause-generated : goal.returns-in-Ok-None-clause-generated
-returns-in-Ok-None-clause-generated g c = c.generated_runs_are_so.ensures
+returns-in-Ok-None-clause-generated g c = c.runs_are_so.ensures.generated
+
+pub returns-in-Ok-None-clause-json : goal.returns-in-Ok-None-clause-json
+returns-in-Ok-None-clause-json g c = c.runs_are_so.ensures.json
+
+pub returns-in-Ok-None-clause-exportable : goal.returns-in-Ok-None-clause-exportable
+returns-in-Ok-None-clause-exportable g c = c.runs_are_so.ensures.exportable
+
+pub returns-in-Ok-None-clause-equal : goal.returns-in-Ok-None-clause-equal
+returns-in-Ok-None-clause-equal g c = c.runs_are_so.ensures.equal
 
 pub returns-in-Err-clause-headline : goal.returns-in-Err-clause-headline
-returns-in-Err-clause-headline g c = every_text
+returns-in-Err-clause-headline g c = c.runs_are_so.ensures.headline
 
 pub returns-in-Err-clause-directories : goal.returns-in-Err-clause-directories
-returns-in-Err-clause-directories g c = directories_same
+returns-in-Err-clause-directories g c = c.runs_are_so.ensures.directories
 
 pub returns-in-Err-clause-texts : goal.returns-in-Err-clause-texts
-returns-in-Err-clause-texts g c = texts_give_one
+returns-in-Err-clause-texts g c = c.runs_are_so.ensures.texts
 
 pub returns-in-Err-clause-generated : goal.returns-in-Err-clause-generated
-returns-in-Err-clause-generated g c = c.generated_runs_are_so.ensures
+returns-in-Err-clause-generated g c = c.runs_are_so.ensures.generated
+
+pub returns-in-Err-clause-json : goal.returns-in-Err-clause-json
+returns-in-Err-clause-json g c = c.runs_are_so.ensures.json
+
+pub returns-in-Err-clause-exportable : goal.returns-in-Err-clause-exportable
+returns-in-Err-clause-exportable g c = c.runs_are_so.ensures.exportable
+
+pub returns-in-Err-clause-equal : goal.returns-in-Err-clause-equal
+returns-in-Err-clause-equal g c = c.runs_are_so.ensures.equal
 
 pub returns-in-Err-clause-front : goal.returns-in-Err-clause-front
 returns-in-Err-clause-front g c is faulty = nothing_told (g.S.Source.left c.args.source.now) (g.K.Sink.written c.args.sink.now)
 
 pub returns-in-Err-clause-exercised_front : goal.returns-in-Err-clause-exercised_front
 returns-in-Err-clause-exercised_front g c number is faulty = none_added (g.K.Sink.written c.args.sink.now) (exercised number)
+
+pub returns-in-Err-clause-does : goal.returns-in-Err-clause-does
+returns-in-Err-clause-does g c command is = nothing_done g.S.Source g.K.Sink g.D.Disk g.F.Fresh g.met.D.Disk.only_now command (record { source = c.args.source.now; sink = c.args.sink.now; disk = c.args.disk; fresh = c.args.fresh.now })

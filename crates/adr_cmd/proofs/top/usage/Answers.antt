@@ -2,7 +2,7 @@
 use Rattle.std.proofs.Common.{◌≡◌, ℕ, List, rules, subst}
 use Rattle.std.specs.Prelude.{OnOk, OnErr}
 use Rattle.adr_io.specs.Told.{Adds, AddsFront}
-use Rattle.adr_cmd.specs.Outcome.{usage_line}
+use Rattle.adr_cmd.specs.Work.{usage_line}
 use Rattle.adr_cmd.proofs.TopLemmas.{usage_status, usage_added, usage_front, usage_failed}
 use Rattle.adr_cmd.proofs.top.usage.Goals as goal
 

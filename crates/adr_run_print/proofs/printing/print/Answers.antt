@@ -10,4 +10,4 @@ loop-event-preserved c =
     let event = c.event-item.result in
     added (λ (event : Event). line_of event ++ codes "\n") [] c.loop-event.out.items c.push.new.out.items c.args.events.now c.loop-event.event-index event event
     c.loop-event-test.true c.event-item.is c.loop-event.invariant
-    (c.in_ok-push.ensures ∙ ap (λ out. out ++ codes "\n") c.in_ok-push_line.ensures ∙ append_assoc c.loop-event.out.items (line_of event) (codes "\n"))
+    (c.in_ok-push.ensures.items ∙ ap (λ out. out ++ codes "\n") c.in_ok-push_line.ensures ∙ append_assoc c.loop-event.out.items (line_of event) (codes "\n"))

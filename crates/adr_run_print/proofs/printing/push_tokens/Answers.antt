@@ -15,7 +15,7 @@ loop-token-preserved c =
     let token = c.token-item.result in
     let front = c.args.out.now.items in
     let out = c.loop-token.out.items in
-    let step = c.in_ok-push_token.ensures ∙ ap (λ bytes. bytes ++ token_text (token_of token)) c.in_ok-push.ensures ∙ append_assoc out (codes " ") (token_text (token_of token)) in
+    let step = c.in_ok-push_token.ensures ∙ ap (λ bytes. bytes ++ token_text (token_of token)) c.in_ok-push.ensures.items ∙ append_assoc out (codes " ") (token_text (token_of token)) in
     added (λ (token : Token). codes " " ++ token_text (token_of token)) front out c.push_token.new.out.items c.args.tokens.now c.loop-token.token-index token token
     c.loop-token-test.true c.token-item.is (c.loop-token.invariant ∙ ap (λ bytes. front ++ bytes) (spaced_each (take c.loop-token.token-index c.args.tokens.now))) step
     ∙ ap (λ bytes. front ++ bytes) (sym (spaced_each (take (c.loop-token.token-index + 1) c.args.tokens.now)))

@@ -8,5 +8,5 @@ use Rattle.adr_token.proofs.values.push_more_values.Goals as goal
 pub loop-value-preserved : goal.loop-value-preserved
 loop-value-preserved c =
     let item = c.value-item.result in
-    let pushed = c.in_ok-push_value.ensures ∙ ap (λ out. out ++ value_token item) c.in_ok-push.ensures ∙ append_assoc c.loop-value.out.items (codes ",") (value_token item) in
+    let pushed = c.in_ok-push_value.ensures ∙ ap (λ out. out ++ value_token item) c.in_ok-push.ensures.items ∙ append_assoc c.loop-value.out.items (codes ",") (value_token item) in
     added (λ (v : Value). codes "," ++ value_token v) c.args.out.now.items c.loop-value.out.items c.push_value.new.out.items c.args.values.now c.loop-value.value-index item item c.loop-value-test.true c.value-item.is c.loop-value.invariant pushed

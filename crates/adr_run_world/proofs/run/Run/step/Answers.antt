@@ -1,16 +1,18 @@
 -- A line is what its turns come to.
-use Rattle.std.proofs.Common.{◌≤◌, List, [], ◌++◌, sym, ap, subst, arith, rules}
-use Rattle.std.specs.Prelude.{flat_map}
+use Rattle.std.proofs.Common.{◌≤◌, List, [], ◌++◌, ◌∙◌, inl, refl, sym, ap, subst, arith, rules, vec_capacity}
+use Rattle.std.specs.Prelude.{All, flat_map}
 use Rattle.adr_event.specs.declared.answer.Answer.{Answer}
 use Rattle.adr_io.specs.Told.{Adds, AddsFront}
 use Rattle.adr_model.specs.World.{World}
 use Rattle.adr_model.specs.Cycles.{Pulled, reply_limit}
 use Rattle.adr_answers.specs.Line.{line}
+use Rattle.adr_answers.specs.Room.{IsWithin, MayWant}
 use Rattle.adr_answers.specs.Whole.{AddsFirstLines}
 use Rattle.adr_run_world.specs.Run.{world_of}
 use Rattle.adr_run_world.proofs.Doors.{turned_of_run, short_of_run}
 use Rattle.adr_answers.proofs.Due.{adds_none, all_added}
-use Rattle.adr_run_world.proofs.Left.{front_so_far, left_behind, left_short, short_turn, short_lines, front_behind}
+use Rattle.adr_run_world.proofs.Lacking.{undone_lines}
+use Rattle.adr_run_world.proofs.Left.{front_so_far, left_behind, left_short, short_turn, short_lines, front_behind, undone_turn}
 use Rattle.adr_answers.proofs.Results.{on_err}
 use Rattle.adr_answers.proofs.ToldLines.{lines_more, lines_front}
 use Rattle.adr_run_world.proofs.Turns.{at_first, behind, goes_on, ends}
@@ -20,7 +22,7 @@ pub loop-turn-init : goal.loop-turn-init
 loop-turn-init g c = record {
   sound = c.requires.sound;
   told = ([], at_first (world_of c.args.self.now) c.args.event.now c.requires.may, adds_none (g.K.Sink.written c.args.sink.now));
-  faults = omega arith;
+  faults = refl;
 }
 
 pub loop-turn-preserved : goal.loop-turn-preserved
@@ -41,8 +43,34 @@ loop-turn-preserved g c =
         lines_more (g.K.Sink.written c.args.sink.now) (g.K.Sink.written c.loop-turn.sink) (g.K.Sink.written c.tell.new.sink) told.0 more told.2
             (subst (λ (list : List Answer). Adds (g.K.Sink.written c.loop-turn.sink) (g.K.Sink.written c.tell.new.sink) (flat_map line list)) c.as_slice.ensures.value c.in_ok-tell.ensures.told),
       );
-      faults = omega (arith, c.loop-turn.invariant.faults, c.tell.ensures.never_falls);
+      faults = c.in_ok-tell.ensures.not_counted ∙ c.loop-turn.invariant.faults;
     }
+
+pub returns-in_err-room-clause-front : goal.returns-in_err-room-clause-front
+returns-in_err-room-clause-front g c =
+    let told = c.loop-turn.invariant.told in
+    on_err c.from_residual.result
+    (front_so_far (world_of c.args.self.now) c.args.event.now c.loop-turn.turn (world_of c.loop-turn.self) told.0 (g.K.Sink.written c.args.sink.now) (g.K.Sink.written c.loop-turn.sink)
+    (all_added (g.K.Sink.written c.args.sink.now) (g.K.Sink.written c.loop-turn.sink) (flat_map line told.0) told.2) told.1)
+
+pub returns-in_err-room-clause-err : goal.returns-in_err-room-clause-err
+returns-in_err-room-clause-err g c =
+    let told = c.loop-turn.invariant.told in
+    let v = world_of c.loop-turn.self in
+    on_err c.from_residual.result
+    (left_short (world_of c.args.self.now) c.args.event.now c.loop-turn.turn v told.0 (g.K.Sink.written c.args.sink.now) (g.K.Sink.written c.loop-turn.sink) told.1 told.2 v (inl refl))
+
+pub returns-in_err-room-clause-short : goal.returns-in_err-room-clause-short
+returns-in_err-room-clause-short g c = λ _.
+    let told = c.loop-turn.invariant.told in
+    let v = world_of c.loop-turn.self in
+    short_turn (world_of c.args.self.now) c.args.event.now c.loop-turn.turn v told.0 (g.K.Sink.written c.args.sink.now) (g.K.Sink.written c.loop-turn.sink) told.1 told.2 v (inl refl)
+
+pub returns-in_err-room-clause-undone : goal.returns-in_err-room-clause-undone
+returns-in_err-room-clause-undone g c = λ _.
+    let told = c.loop-turn.invariant.told in
+    let v = world_of c.loop-turn.self in
+    inl (undone_turn (world_of c.args.self.now) c.args.event.now c.loop-turn.turn v told.0 (g.K.Sink.written c.args.sink.now) (g.K.Sink.written c.loop-turn.sink) told.1 told.2 v (inl refl))
 
 -- a line ends at its limit
 pub unreachable-requires : goal.unreachable-requires
@@ -51,7 +79,7 @@ unreachable-requires g c = let most : c.loop-turn.turn ≤ reply_limit = c.loop-
 pub returns-in_err-answers-clause-front : goal.returns-in_err-answers-clause-front
 returns-in_err-answers-clause-front g c =
     let told = c.loop-turn.invariant.told in
-    on_err c.from_residual.result
+    on_err c.from_residual-in_err-answers.result
     (front_so_far (world_of c.args.self.now) c.args.event.now c.loop-turn.turn (world_of c.loop-turn.self) told.0 (g.K.Sink.written c.args.sink.now) (g.K.Sink.written c.loop-turn.sink)
     (all_added (g.K.Sink.written c.args.sink.now) (g.K.Sink.written c.loop-turn.sink) (flat_map line told.0) told.2) told.1)
 
@@ -60,7 +88,7 @@ returns-in_err-answers-clause-err g c =
     let told = c.loop-turn.invariant.told in
     let first = g.K.Sink.written c.args.sink.now in
     let now = g.K.Sink.written c.loop-turn.sink in
-    on_err c.from_residual.result
+    on_err c.from_residual-in_err-answers.result
     (left_short (world_of c.args.self.now) c.args.event.now c.loop-turn.turn (world_of c.loop-turn.self) told.0 first now told.1 told.2 (world_of c.turn.new.self) c.in_err-answers.ensures.err)
 
 pub returns-in_err-answers-clause-short : goal.returns-in_err-answers-clause-short
@@ -68,6 +96,12 @@ returns-in_err-answers-clause-short g c = λ _.
     let told = c.loop-turn.invariant.told in
     short_turn (world_of c.args.self.now) c.args.event.now c.loop-turn.turn (world_of c.loop-turn.self) told.0 (g.K.Sink.written c.args.sink.now) (g.K.Sink.written c.loop-turn.sink) told.1 told.2 (world_of c.turn.new.self)
     c.in_err-answers.ensures.err
+
+pub returns-in_err-answers-clause-undone : goal.returns-in_err-answers-clause-undone
+returns-in_err-answers-clause-undone g c = λ _.
+    let told = c.loop-turn.invariant.told in
+    inl (undone_turn (world_of c.args.self.now) c.args.event.now c.loop-turn.turn (world_of c.loop-turn.self) told.0 (g.K.Sink.written c.args.sink.now) (g.K.Sink.written c.loop-turn.sink) told.1 told.2 (world_of c.turn.new.self)
+    c.in_err-answers.ensures.err)
 
 pub returns-in_err-answers-clause-sound : goal.returns-in_err-answers-clause-sound
 returns-in_err-answers-clause-sound g c = record {
@@ -111,6 +145,19 @@ returns-in_err-tell-clause-short g c = λ is.
     let next = g.K.Sink.written c.tell.new.sink in
     short_lines (world_of c.args.self.now) c.args.event.now c.loop-turn.turn (world_of c.loop-turn.self) told.0 (g.K.Sink.written c.args.sink.now) now told.1 told.2 next p c.in_ok-answers.ensures.turned
     (subst (λ (list : List Answer). AddsFirstLines now next list) c.as_slice.ensures.value (c.in_err-tell.ensures.short (search (rules, is))))
+
+pub returns-in_err-tell-clause-undone : goal.returns-in_err-tell-clause-undone
+returns-in_err-tell-clause-undone g c = λ is.
+    let told = c.loop-turn.invariant.told in
+    let more = c.in_ok-answers.answers.items in
+    let p : Pulled = (world_of c.turn.new.self, more, c.in_ok-answers.goes_on) in
+    let now = g.K.Sink.written c.loop-turn.sink in
+    let next = g.K.Sink.written c.tell.new.sink in
+    undone_lines (world_of c.args.self.now) c.args.event.now c.loop-turn.turn (world_of c.loop-turn.self) told.0 (g.K.Sink.written c.args.sink.now) now next told.1 told.2 p c.in_ok-answers.ensures.turned
+    {Wants = MayWant g.K.Sink.keeps (g.K.Sink.faults c.args.sink.now)} (vec_capacity c.in_ok-room.room) c.in_ok-room.ensures
+    (subst (λ (list : List Answer). AddsFirstLines now next list) c.as_slice.ensures.value (c.in_err-tell.ensures.short (search (rules, is))))
+    (λ all. subst (λ n. MayWant g.K.Sink.keeps n) c.loop-turn.invariant.faults
+    (c.in_err-tell.ensures.within (subst (λ (list : List Answer). All (IsWithin (vec_capacity c.in_ok-room.room)) list) (sym c.as_slice.ensures.value) all) (search (rules, is))))
 
 pub returns-in_err-tell-clause-sound : goal.returns-in_err-tell-clause-sound
 returns-in_err-tell-clause-sound g c =

@@ -1,4 +1,4 @@
-use Rattle.std.proofs.Common.{List, ◌≤◌}
+use Rattle.std.proofs.Common.{List, ◌≡◌, ◌≤◌}
 use Rattle.std.specs.Prelude.{flat_map}
 use Rattle.adr_event.specs.declared.answer.Answer.{Answer}
 use Rattle.adr_io.specs.Told.{Adds}
@@ -12,5 +12,5 @@ abbrev pub invariant-loop-turn : goal.invariant-loop-turn
 invariant-loop-turn g l = record {
   sound : IsSoundRun l.self;
   told : (answers : List Answer) × IsSoFar (world_of l.fn.self) l.event l.turn (world_of l.self) answers × Adds (g.K.Sink.written l.fn.sink) (g.K.Sink.written l.sink) (flat_map line answers);
-  faults : g.K.Sink.faults l.fn.sink ≤ g.K.Sink.faults l.sink;
+  faults : g.K.Sink.faults l.sink ≡ g.K.Sink.faults l.fn.sink;
 }

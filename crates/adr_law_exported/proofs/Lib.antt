@@ -1,0 +1,3 @@
+pub mod RisingShown
+pub mod ShownExportable
+pub mod ExportableRuns

@@ -1,0 +1,103 @@
+-- What a command leaves of one disk, it leaves of another that mirrors it.
+use Rattle.std.proofs.Common.{◌≡◌, refl, sym, ap, ◌∙◌, subst, inl, inr, ⊎_elim, ℕ, ◌≤◌, List, Option, arith, IfSome}
+use Rattle.std.specs.Option.{option_map}
+use Rattle.adr_disk.specs.Disk.{Among, Keeps, LeavesOnly}
+use Rattle.adr_disk.specs.declared.disk.Disk.{Ghosts as DiskGhosts}
+use Rattle.adr_io.specs.declared.Sink.{Ghosts as SinkGhosts}
+use Rattle.adr_model.specs.Store.{State}
+use Rattle.adr_law_journal.specs.Areas.{Started, start_of}
+use Rattle.adr_law_journal.specs.Kept.{Finds}
+use Rattle.adr_records.specs.Head.{area_at, front_at}
+use Rattle.adr_records.specs.Body.{following_in}
+use Rattle.adr_node.specs.Seen.{Seen, of_disk, Mirrors}
+use Rattle.adr_node.specs.Looks.{Due, Looks}
+use Rattle.adr_node.specs.declared.ended.BackedUp.{BackedUp}
+
+-- what two calls keep
+pub keeps_both : {D C O : Type 0} (content : D → Option C) (may_leave : D → O → Type 0) (moment : D → ℕ) (left_since : D → ℕ → O → Type 0) (old mid new : D)
+    → Keeps content may_leave moment left_since old mid → Keeps content may_leave moment left_since mid new → Keeps content may_leave moment left_since old new
+keeps_both content may_leave moment left_since old mid new first second = record {
+  content_stays = second.content_stays ∙ first.content_stays;
+  no_more = λ x left. first.no_more x (second.no_more x left);
+  no_fewer = λ x left. second.no_fewer x (first.no_fewer x left);
+  moment_stays = second.moment_stays ∙ first.moment_stays;
+  past_stays = λ t x left. first.past_stays t x (second.past_stays t x left);
+  past_kept = λ t x left. second.past_kept t x (first.past_kept t x left);
+}
+
+-- what is kept mirrors
+pub kept : {D : Type 0} (d : DiskGhosts D) (old new : D) → Keeps d.content d.may_leave d.moment d.left_since old new → d.faults old ≤ d.faults new
+    → Mirrors (of_disk d) old (of_disk d) new
+kept d old new keeps counted = record {
+  told = ap (option_map (start_of front_at area_at following_in)) keeps.content_stays;
+  left = λ f left. (left.0, keeps.no_more left.0 left.1, left.2);
+  since = λ t f left. (left.0, keeps.past_stays t left.0 left.1, left.2);
+  moment = keeps.moment_stays;
+  faults = counted;
+}
+
+pub both : {A B C : Type 0} (a : Seen A) (b : Seen B) (c : Seen C) (x : A) (y : B) (z : C) → Mirrors a x b y → Mirrors b y c z → Mirrors a x c z
+both a b c x y z first second = record {
+  told = second.told ∙ first.told;
+  left = λ f left. first.left f (second.left f left);
+  since = λ t f left. first.since t f (second.since t f left);
+  moment = second.moment ∙ first.moment;
+  faults = omega (arith, first.faults, second.faults);
+}
+
+module _ {D E : Type 0} (d : Seen D) (e : Seen E) (old new : D) (from to : E) (first : Mirrors d old e from) (last : Mirrors e to d new) where
+  pub leaves_over : (P Q : Started State → Type 0) → Among Q P → LeavesOnly e.moment e.left_since from to P → LeavesOnly d.moment d.left_since old new Q
+  leaves_over P Q says leaves = record {
+    later = omega (arith, first.moment, last.moment, leaves.later);
+    each = λ f left. says f (leaves.each f (subst (λ (t : ℕ). e.left_since to t f) (sym first.moment) (last.since (d.moment old) f left)));
+    before = λ t f le left. ⊎_elim (λ was. inl (first.since t f was)) (λ p. inr (says f p)) (leaves.before t f (omega (arith, first.moment, le)) (last.since t f left));
+  }
+
+  pub told_over : (P : Started State → Type 0) → IfSome (e.told from) P → IfSome (d.told old) P
+  told_over P is = subst (λ (o : Option (Started State)). IfSome o P) first.told is
+
+  pub looks_over : {K : Type 0} (k : SinkGhosts K) (due : Started State → Due) (before after : K) (how : BackedUp) → Looks e k due from to before after how → Looks d k due old new before after how
+  looks_over k due before after how l = record {
+    found = l.found;
+    is_found = told_over (λ t. t ≡ l.found) l.is_found;
+    logged = l.logged;
+    tells = l.tells;
+    disk_fault = λ is. (omega (arith, first.faults, last.faults, (l.disk_fault is).0), (l.disk_fault is).1);
+    later = omega (arith, first.faults, last.faults, l.later);
+    stays = λ no_fault. last.told ∙ l.stays no_fault ∙ first.told;
+    any_moment = leaves_over (e.may_leave from) (d.may_leave old) first.left l.any_moment;
+    left = λ f left. first.left f (l.left f (last.left f left));
+  }
+
+-- what changes nothing leaves what might have been left before it
+pub kept_leaves : {D : Type 0} (d : DiskGhosts D) (only_now : (disk : D) (bytes : List ℕ) → d.left_since disk (d.moment disk) bytes → d.may_leave disk bytes) (old new : D)
+    → Keeps d.content d.may_leave d.moment d.left_since old new → LeavesOnly d.moment (of_disk d).left_since old new ((of_disk d).may_leave old)
+kept_leaves d only_now old new keeps = record {
+  later = omega (arith, keeps.moment_stays);
+  each = λ f left. (left.0, only_now old left.0 (keeps.past_stays (d.moment old) left.0 left.1), left.2);
+  before = λ t f le left. inl (left.0, keeps.past_stays t left.0 left.1, left.2);
+}
+
+-- ---- a log on a disk
+
+module _ {D J : Type 0} (d : DiskGhosts D) (disk_of : J → D) where
+  abbrev pub over : Seen J
+  over =
+      record {
+        faults = λ j. d.faults (disk_of j);
+        told = λ j. option_map (start_of front_at area_at following_in) (d.content (disk_of j));
+        may_leave = λ j. Finds front_at area_at following_in (d.may_leave (disk_of j));
+        moment = λ j. d.moment (disk_of j);
+        left_since = λ j t. Finds front_at area_at following_in (d.left_since (disk_of j) t);
+      }
+
+  -- it mirrors the disk that it was put on
+  pub onto : (disk : D) (j : J) → disk_of j ≡ disk → Mirrors (of_disk d) disk over j
+  onto disk j is =
+      subst (λ (x : D). Mirrors (of_disk d) x over j) is
+      (record { told = refl; left = λ f left. left; since = λ t f left. left; moment = refl; faults = omega arith })
+
+  -- and is mirrored by the one that it gives back
+  pub off : (j : J) (disk : D) → over.told j ≡ (of_disk d).told disk → Among (over.may_leave j) ((of_disk d).may_leave disk)
+      → ((t : ℕ) → Among (over.left_since j t) ((of_disk d).left_since disk t)) → d.moment disk ≡ over.moment j → d.faults disk ≡ over.faults j → Mirrors over j (of_disk d) disk
+  off j disk told left since moment faults = record { told = sym told; left = left; since = since; moment = moment; faults = omega (arith, faults) }

@@ -1,0 +1,38 @@
+use Rattle.std.proofs.Common.{◌≡◌, ap, Err, Result}
+use Rattle.adr_model.specs.Store.{State}
+use Rattle.adr_node.specs.Makes.{Adopts}
+use Rattle.adr_node.specs.declared.ended.Refusal.TheVariants.{NotEmpty}
+use Rattle.adr_node.specs.declared.making.Unmade.{Unmade}
+use Rattle.adr_node.specs.declared.making.Unmade.TheVariants as unmade
+use Rattle.adr_node.proofs.Made.{found_full, made_on, refused_so, unmade_on}
+use Rattle.adr_node.proofs.imaging.image_on.Goals as goal
+
+pub returns-in-Err-clause-made : goal.returns-in-Err-clause-made
+returns-in-Err-clause-made g c =
+    let ids = g.F.Fresh.identifiers c.args.fresh.now in
+    let text = g.S.Source.left c.args.source.now in
+    let e = c.in-Err.ensures in
+    unmade_on g.D.Disk g.met.D.Disk.only_now (Adopts c.args.given text ids ids) c.args.disk c.find_empty.new.disk e.keeps e.later c.in-Err.unmade
+    (λ why is. found_full g.D.Disk (Adopts c.args.given text ids ids) c.args.disk c.in-Err.unmade why is e.refused (λ full. e.not_empty (ap Err full))) (λ is. e.fault (ap Err is))
+
+pub returns-in-Ok-adopt_read-clause-made : goal.returns-in-Ok-adopt_read-clause-made
+returns-in-Ok-adopt_read-clause-made g c =
+    let e = c.in-Ok.ensures in
+    made_on g.D.Disk g.met.D.Disk.only_now
+    (Adopts c.args.given (g.S.Source.left c.args.source.now) (g.F.Fresh.identifiers c.args.fresh.now) (g.F.Fresh.identifiers c.adopt_read.new.fresh)) c.args.disk c.find_empty.new.disk e.keeps e.later
+    c.begin.result.1 c.in-Ok-adopt_read.state e.empty c.in-Ok-adopt_read.ensures.ok c.begin.ensures.begins c.begin.result.0 c.begin.ensures.ends
+
+pub returns-in-Err-adopt_read-clause-made : goal.returns-in-Err-adopt_read-clause-made
+returns-in-Err-adopt_read-clause-made g c =
+    let before = g.F.Fresh.identifiers c.args.fresh.now in
+    let after = g.F.Fresh.identifiers c.adopt_read.new.fresh in
+    let text = g.S.Source.left c.args.source.now in
+    let e = c.in-Ok.ensures in
+    let a = c.in-Err-adopt_read.ensures in
+    unmade_on g.D.Disk g.met.D.Disk.only_now (Adopts c.args.given text before after) c.args.disk c.find_empty.new.disk e.keeps e.later c.in-Err-adopt_read.unmade
+    (λ why is. refused_so g.D.Disk c.args.given text before after c.args.disk why e.empty (a.refused why (ap Err is))) (λ is. absurd (a.not_disk (ap Err is)))
+
+pub returns-in-Err-adopt_read-clause-undrawn : goal.returns-in-Err-adopt_read-clause-undrawn
+returns-in-Err-adopt_read-clause-undrawn g c = λ is.
+    let same : c.in-Err-adopt_read.unmade ≡ unmade.Refused NotEmpty = cc is in
+    absurd (c.in-Err-adopt_read.ensures.refused NotEmpty (ap (λ (e : Unmade). let r : Result State Unmade = Err e in r) same))

@@ -1,0 +1,5 @@
+pub mod Lines
+pub mod Seen
+pub mod Looks
+pub mod Formats
+pub mod Makes

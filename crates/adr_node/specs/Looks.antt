@@ -1,0 +1,126 @@
+-- What a command does that only looks at the controller on a disk, and writes something of it.
+use Rattle.std.specs.Prelude.{◌≡◌, ◌<◌, ◌≤◌, ℕ, List, ◌++◌, Bool, false, codes, if◌then◌else◌, Some, None, Option, Ok, Err, IfOk, IfSome}
+use Rattle.adr_io.specs.Told.{Adds, AddsFront}
+use Rattle.adr_io.specs.declared.Sink.{Ghosts as SinkGhosts}
+use Rattle.adr_disk.specs.Disk.{Among, LeavesOnly}
+use Rattle.adr_model.specs.Collect.{backup}
+use Rattle.adr_model.specs.Directory.{directory}
+use Rattle.adr_model.specs.Refused.{quarantined}
+use Rattle.adr_model.specs.Serve.{is_quarantined}
+use Rattle.adr_model.specs.Store.{State, Store, updates_of}
+use Rattle.adr_law_journal.specs.Areas.{Started}
+use Rattle.adr_journal.specs.declared.keeper.StartRefusal.{StartRefusal}
+use Rattle.adr_journal.specs.declared.keeper.StartRefusal.TheVariants as starts
+use Rattle.adr_image.specs.Stored.{image}
+use Rattle.adr_records.specs.Logged.{IsLogged}
+use Rattle.adr_answers.specs.Laws.{shown}
+use Rattle.adr_json.specs.Text.{json_text}
+use Rattle.adr_node.specs.Lines.{damaged_line, refusal_line}
+use Rattle.adr_node.specs.Seen.{Seen}
+use Rattle.adr_node.specs.declared.ended.BackedUp.{BackedUp}
+use Rattle.adr_node.specs.declared.ended.BackedUp.TheVariants as backed
+use Rattle.adr_node.specs.declared.ended.Looked.{Looked}
+use Rattle.adr_node.specs.declared.ended.Looked.TheVariants as looks
+use Rattle.adr_node.specs.declared.waking.Sight.{Sight}
+use Rattle.adr_node.specs.declared.waking.Sight.TheVariants.{Directory, Json, Image}
+
+-- ---- what is written of a state
+
+-- the answer of a schedule's `show`
+abbrev pub show_bytes : List ℕ → State → List ℕ
+show_bytes name s = shown name (directory (updates_of s.store.rows))
+
+-- the directory as JSON, and a line feed
+abbrev pub export_bytes : State → List ℕ
+export_bytes s = json_text (directory (updates_of s.store.rows)) ++ codes "\n"
+
+-- the bytes of an image, or the line of its refusal
+abbrev pub image_bytes : Option Store → List ℕ
+image_bytes (Some store) = image store
+image_bytes None = refusal_line quarantined
+
+abbrev pub backup_bytes : State → List ℕ
+backup_bytes s = image_bytes (backup s)
+
+abbrev pub bytes_of : Sight → List ℕ → State → List ℕ
+bytes_of Directory name = show_bytes name
+bytes_of Json name = export_bytes
+bytes_of Image name = backup_bytes
+
+-- whether it is refused
+abbrev pub never : State → Bool
+never s = false
+
+abbrev pub refuses_backup : State → Bool
+refuses_backup s = is_quarantined s.mode
+
+abbrev pub refuses : Sight → State → Bool
+refuses Directory = never
+refuses Json = never
+refuses Image = refuses_backup
+
+-- ---- how a command ends
+
+-- what a command has to write, and how it then ends
+pub record Due : Type 0 where
+  pub ends : BackedUp
+  pub bytes : List ℕ
+
+-- all of a state
+abbrev pub whole_of : Bool → BackedUp
+whole_of is_refused = if is_refused then backed.Refused else backed.Done
+
+-- of what a start finds
+abbrev pub due_of : (State → Bool) → (State → List ℕ) → Started State → Due
+due_of refuses bytes (Ok f) = record { ends = whole_of (refuses f.state); bytes = bytes f.state }
+due_of refuses bytes (Err place) = record { ends = backed.Damaged place; bytes = damaged_line place }
+
+-- all that was due is written
+abbrev pub IsWhole : BackedUp → Type 0
+IsWhole backed.Done = Unit {0}
+IsWhole backed.Refused = Unit {0}
+IsWhole (backed.Damaged place) = Unit {0}
+IsWhole backed.WriteFault = ⊥
+IsWhole backed.DiskFault = ⊥
+IsWhole backed.NoMemory = ⊥
+
+-- a command that is never refused
+abbrev pub in_full : Looked → BackedUp
+in_full looks.Done = backed.Done
+in_full (looks.Damaged place) = backed.Damaged place
+in_full looks.WriteFault = backed.WriteFault
+in_full looks.DiskFault = backed.DiskFault
+in_full looks.NoMemory = backed.NoMemory
+
+-- what was written, and how that ended
+pub record Tells {K : Type 0} (k : SinkGhosts K) (due : Due) (before after : K) (how : BackedUp) : Type 0 where
+  -- all of it, and so the command ends; or a front of it
+  pub whole : IsWhole how → (how ≡ due.ends) × Adds (k.written before) (k.written after) due.bytes
+  pub front : AddsFront (k.written before) (k.written after) due.bytes
+  pub write_fault : how ≡ backed.WriteFault → k.faults before < k.faults after
+  pub later : k.faults before ≤ k.faults after
+
+-- what was written of a start that was refused, and how that ended
+abbrev pub TellsOf : {K : Type 0} → SinkGhosts K → StartRefusal → K → K → BackedUp → Type 0
+TellsOf k starts.DiskFault before after how = (how ≡ backed.DiskFault) × (after ≡ before)
+TellsOf k (starts.Damaged place) before after how =
+    Tells k (record { ends = backed.Damaged place; bytes = damaged_line place }) before after how × (how ≡ backed.DiskFault → ⊥)
+TellsOf k (starts.NoMemory settled) before after how = (how ≡ backed.NoMemory) × (after ≡ before)
+
+-- The controller on a disk is started, and something is written of it.
+pub record Looks {D K : Type 0} (d : Seen D) (k : SinkGhosts K) (due : Started State → Due) (old new : D) (before after : K)
+    (how : BackedUp) : Type 0 where
+  -- what the start finds, which is what the bytes of the disk are, where it tells them
+  pub found : Started State
+  pub is_found : IfSome (d.told old) (λ t. t ≡ found)
+  pub logged : IsWhole how → IfOk found (λ f. IsLogged f.state)
+  -- what is due of it is written, or a front of that
+  pub tells : Tells k (due found) before after how
+  -- behind a fault of the disk nothing is
+  pub disk_fault : how ≡ backed.DiskFault → (d.faults old < d.faults new) × (after ≡ before)
+  pub later : d.faults old ≤ d.faults new
+  -- but for such a fault, a start finds afterwards what it found
+  pub stays : (how ≡ backed.DiskFault → ⊥) → d.told new ≡ d.told old
+  -- and behind a crash at any moment of the command, or from then on, nothing that it might not have found before
+  pub any_moment : LeavesOnly d.moment d.left_since old new (d.may_leave old)
+  pub left : Among (d.may_leave old) (d.may_leave new)

@@ -1,0 +1,198 @@
+-- What a command does that makes a controller on an empty disk.
+use Rattle.std.specs.Prelude.{◌≡◌, ◌<◌, ◌≤◌, ◌⊎◌, ◌↔◌, ℕ, List, [], ◌∷◌, true, false, take, Some, None, Option, Result, Ok, Err, IfSome, IsSome}
+use Rattle.adr_io.specs.Told.{Adds, AddsFront}
+use Rattle.adr_io.specs.declared.Sink.{Ghosts as SinkGhosts}
+use Rattle.adr_disk.specs.Disk.{Among, LeavesOnly}
+use Rattle.adr_disk.specs.declared.disk.Disk.{Ghosts as DiskGhosts}
+use Rattle.adr_outside.specs.Given.{Takes}
+use Rattle.adr_wire.specs.declared.refusal.DecodeRefusal.{DecodeRefusal}
+use Rattle.adr_wire.specs.declared.refusal.DecodeRefusal.TheVariants.{Malformed, WrongVersion}
+use Rattle.adr_call.specs.declared.outcome.Outcome.TheVariants as outcomes
+use Rattle.adr_call.specs.declared.refusal.AdoptRefusal.{AdoptRefusal}
+use Rattle.adr_call.specs.declared.refusal.Table.TheVariants.{Log as LogTable}
+use Rattle.adr_model.specs.Collect.{adopt}
+use Rattle.adr_model.specs.Lengths.{area_fits, length_limit, log_limit, new_log}
+use Rattle.adr_model.specs.Refused.{adopt_refused, full}
+use Rattle.adr_model.specs.Store.{State, Store, empty_state}
+use Rattle.adr_model.specs.Update.{Identifier}
+use Rattle.adr_law_journal.specs.Areas.{Started}
+use Rattle.adr_journal.specs.Ended.{IsNewOrNone}
+use Rattle.adr_image.specs.Stored.{decoded}
+use Rattle.adr_answers.specs.Line.{line}
+use Rattle.adr_node.specs.Lines.{malformed_line, not_empty_line, refusal_line, version_line}
+use Rattle.adr_node.specs.Seen.{Seen, StandsNew, of_disk}
+use Rattle.adr_node.specs.declared.ended.Refusal.{Refusal}
+use Rattle.adr_node.specs.declared.ended.Refusal.TheVariants.{NotEmpty, Image, Adoption, Full}
+use Rattle.adr_node.specs.declared.ended.Created.{Created}
+use Rattle.adr_node.specs.declared.ended.Created.TheVariants as creates
+use Rattle.adr_node.specs.declared.ended.Installed.{Installed}
+use Rattle.adr_node.specs.declared.ended.Installed.TheVariants as installs
+use Rattle.adr_node.specs.declared.making.Unmade.{Unmade}
+use Rattle.adr_node.specs.declared.making.Unmade.TheVariants as unmade
+
+-- ---- what is written
+
+-- the answer of a schedule to a line that made a controller
+abbrev pub made_line : List ℕ → List ℕ → List ℕ
+made_line verb name = line (record { verb = verb; name = name; outcome = outcomes.Ok })
+
+abbrev pub image_line : DecodeRefusal → List ℕ
+image_line (Malformed place) = malformed_line place
+image_line (WrongVersion found) = version_line found
+
+abbrev pub refused_line : Refusal → List ℕ
+refused_line NotEmpty = not_empty_line
+refused_line (Image why) = image_line why
+refused_line (Adoption why) = refusal_line (adopt_refused why)
+refused_line Full = refusal_line (full LogTable log_limit)
+
+-- the state of the new controller, or why there is none
+abbrev pub Verdict : Type 0
+Verdict = Result State Refusal
+
+abbrev pub verdict_line : List ℕ → List ℕ → Verdict → List ℕ
+verdict_line verb name (Ok s) = made_line verb name
+verdict_line verb name (Err why) = refused_line why
+
+-- ---- how a command ends
+
+abbrev pub ends_so : Verdict → Installed
+ends_so (Ok s) = installs.Done
+ends_so (Err why) = installs.Refused why
+
+-- the verdict is written
+abbrev pub IsWritten : Installed → Type 0
+IsWritten installs.Done = Unit {0}
+IsWritten (installs.Refused why) = Unit {0}
+IsWritten installs.ReadFault = ⊥
+IsWritten installs.WriteFault = ⊥
+IsWritten installs.DiskFault = ⊥
+IsWritten installs.FreshFault = ⊥
+IsWritten installs.NoMemory = ⊥
+
+-- a command that reads no image can be refused for its disk alone
+abbrev pub as_installed : Created → Installed
+as_installed creates.Done = installs.Done
+as_installed creates.Refused = installs.Refused NotEmpty
+as_installed creates.WriteFault = installs.WriteFault
+as_installed creates.DiskFault = installs.DiskFault
+as_installed creates.FreshFault = installs.FreshFault
+as_installed creates.NoMemory = installs.NoMemory
+
+-- ---- where a state comes from
+
+-- both identifiers were drawn, the controller's before the database's
+abbrev pub DrawsBoth : Option (List Identifier) → Option (List Identifier) → Identifier → Identifier → Type 0
+DrawsBoth before after dsa inv =
+    IfSome before (λ ids. (rest : List Identifier) × (ids ≡ dsa ∷ inv ∷ rest) × (after ≡ Some rest))
+
+-- or the controller's is given
+abbrev pub Draws : Option Identifier → Option (List Identifier) → Option (List Identifier) → Identifier → Identifier → Type 0
+Draws None before after dsa inv = DrawsBoth before after dsa inv
+Draws (Some given) before after dsa inv = (dsa ≡ given) × IfSome before (λ ids. Takes inv ids after)
+
+-- a new, empty controller under fresh identifiers
+abbrev pub IsNew : Option (List Identifier) → Option (List Identifier) → Verdict → Type 0
+IsNew before after (Ok s) = (dsa : Identifier) × (inv : Identifier) × DrawsBoth before after dsa inv × (s ≡ empty_state dsa inv)
+IsNew before after (Err why) = ⊥
+
+-- so many bytes of a source are read at most, one more than an image of a log may have
+abbrev pub image_limit : ℕ
+image_limit = length_limit
+
+-- what is read of a text says this of an image, where the text is told
+abbrev pub Says : Option (List ℕ) → Result Store DecodeRefusal → Type 0
+Says text said = IfSome text (λ bytes. decoded (take image_limit bytes) ≡ said)
+
+-- what comes of an image under identifiers that are drawn, but for the controller's where that is given
+abbrev pub AdoptsImage : Option Identifier → Store → Option (List Identifier) → Option (List Identifier) → Result State AdoptRefusal
+    → Type 0
+AdoptsImage given image before after becomes =
+    (dsa : Identifier) × (inv : Identifier) × (Draws given before after dsa inv × (adopt image dsa inv ≡ becomes))
+
+-- a controller of the image that a text says; or why there is none
+abbrev pub Adopts : Option Identifier → Option (List ℕ) → Option (List Identifier) → Option (List Identifier) → Verdict → Type 0
+Adopts given text before after (Ok s) = (image : Store) × Says text (Ok image) × AdoptsImage given image before after (Ok s)
+Adopts given text before after (Err (Adoption why)) =
+    (image : Store) × Says text (Ok image) × AdoptsImage given image before after (Err why)
+Adopts given text before after (Err (Image why)) = Says text (Err why) × (after ≡ before)
+Adopts given text before after (Err NotEmpty) = ⊥
+Adopts given text before after (Err Full) = ⊥
+
+-- ---- what is left
+
+-- nothing stands on the disk, where it tells its bytes
+abbrev pub HasNone : {D : Type 0} → DiskGhosts D → D → Type 0
+HasNone d disk = IfSome (d.content disk) (λ bytes. bytes ≡ [])
+
+-- why a verdict is one: a disk that has bytes comes first, and a log that would be too long last
+abbrev pub IsVerdict : {D : Type 0} → DiskGhosts D → (Verdict → Type 0) → D → Verdict → Type 0
+IsVerdict d comes old (Ok s) = HasNone d old × comes (Ok s) × (area_fits (new_log s) s.store ≡ true)
+IsVerdict d comes old (Err NotEmpty) = IfSome (d.content old) (λ bytes. bytes ≡ [] → ⊥)
+IsVerdict d comes old (Err Full) = HasNone d old × ((s : State) × comes (Ok s) × (area_fits (new_log s) s.store ≡ false))
+IsVerdict d comes old (Err (Image why)) = HasNone d old × comes (Err (Image why))
+IsVerdict d comes old (Err (Adoption why)) = HasNone d old × comes (Err (Adoption why))
+
+-- what was written of a verdict, if there is one, and how that ended
+abbrev pub TellsVerdict : {K : Type 0} → SinkGhosts K → List ℕ → List ℕ → Option Verdict → K → K → Installed → Type 0
+TellsVerdict k verb name None before after how = (after ≡ before) × (IsWritten how → ⊥) × (how ≡ installs.WriteFault → ⊥)
+TellsVerdict k verb name (Some v) before after how =
+    (IsWritten how → (how ≡ ends_so v) × Adds (k.written before) (k.written after) (verdict_line verb name v))
+    × AddsFront (k.written before) (k.written after) (verdict_line verb name v)
+    × (how ≡ installs.WriteFault → k.faults before < k.faults after)
+    × ((how ≡ installs.ReadFault) ⊎ ((how ≡ installs.FreshFault) ⊎ (how ≡ installs.DiskFault)) → ⊥)
+
+-- what a crash may leave: what it might have left before, or no log or that of a state which was begun to be written
+abbrev pub BeforeOrBegun : {D : Type 0} → Seen D → D → Option State → Started State → Type 0
+BeforeOrBegun d old None f = d.may_leave old f
+BeforeOrBegun d old (Some s) f = d.may_leave old f ⊎ IsNewOrNone s f
+
+-- what is left of a disk where this state was begun to be written, if one was: behind a crash at any moment, and from then on
+pub record Begins {D : Type 0} (d : Seen D) (begun : Option State) (old new : D) : Type 0 where
+  pub later : d.faults old ≤ d.faults new
+  pub still_told : IsSome (d.told new) ↔ IsSome (d.told old)
+  pub any_moment : IfSome (d.told old) (λ _. LeavesOnly d.moment d.left_since old new (BeforeOrBegun d old begun))
+  pub left : IfSome (d.told old) (λ _. Among (BeforeOrBegun d old begun) (d.may_leave new))
+
+-- what a start finds then: the new state, also behind a crash; or behind a refusal what it found before
+abbrev pub LeavesVerdict : {D : Type 0} → Seen D → D → D → Option Verdict → Type 0
+LeavesVerdict d old new None = Unit {0}
+LeavesVerdict d old new (Some (Ok s)) = StandsNew d s new
+LeavesVerdict d old new (Some (Err why)) = d.told new ≡ d.told old
+
+-- the verdict of what was made on a disk: of this state, if it is there
+abbrev pub verdict_of : {T : Type 0} → State → Result T Unmade → Option Verdict
+verdict_of s (Ok _) = Some (Ok s)
+verdict_of s (Err (unmade.Refused why)) = Some (Err why)
+verdict_of s (Err unmade.ReadFault) = None
+verdict_of s (Err unmade.DiskFault) = None
+verdict_of s (Err unmade.FreshFault) = None
+verdict_of s (Err unmade.NoMemory) = None
+
+-- a controller was made on a disk, or not, before any line is written
+pub record MadeOn {D T : Type 0} (d : DiskGhosts D) (comes : Verdict → Type 0) (old new : D) (made : Result T Unmade)
+    : Type 0 where
+  pub state : State
+  pub is_so : IfSome (verdict_of state made) (IsVerdict d comes old)
+  pub leaves : LeavesVerdict (of_disk d) old new (verdict_of state made)
+  pub disk_fault : made ≡ Err unmade.DiskFault → d.faults old < d.faults new
+  pub stays : verdict_of state made ≡ None → (made ≡ Err unmade.DiskFault → ⊥) → (of_disk d).told new ≡ (of_disk d).told old
+  pub begun : Option State
+  pub comes_so : IfSome begun (λ s. comes (Ok s))
+  pub begins : Begins (of_disk d) begun old new
+
+-- A controller is made on an empty disk, of a state that comes so, and its line is written.
+pub record Makes {D K : Type 0} (d : DiskGhosts D) (k : SinkGhosts K) (comes : Verdict → Type 0) (verb name : List ℕ)
+    (old new : D) (before after : K) (how : Installed) : Type 0 where
+  -- the state, or why there is none, if the command came so far; and then all its line is written, or a front of it
+  pub verdict : Option Verdict
+  pub is_so : IfSome verdict (IsVerdict d comes old)
+  pub tells : TellsVerdict k verb name verdict before after how
+  pub leaves : LeavesVerdict (of_disk d) old new verdict
+  pub disk_fault : how ≡ installs.DiskFault → d.faults old < d.faults new
+  -- where it didn't come so far, a start finds what it found, but for such a fault
+  pub stays : verdict ≡ None → (how ≡ installs.DiskFault → ⊥) → (of_disk d).told new ≡ (of_disk d).told old
+  -- the state that was begun to be written, if one was
+  pub begun : Option State
+  pub comes_so : IfSome begun (λ s. comes (Ok s))
+  pub begins : Begins (of_disk d) begun old new

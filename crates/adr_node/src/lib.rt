@@ -1,0 +1,29 @@
+//! One controller over a disk, by a command: it is made, shown, exported or backed up.
+//!
+//! Each command attaches a disk that is handed in and comes back, does its work, writes what is due and tells how it
+//! ended. It stands on the controllers of `adr_controller` over the logs of `adr_records`, on what `adr_view`, `adr_json`
+//! and `adr_answers` make of a state, and on disks, sources and sinks of any kind. It knows nothing of the words of a
+//! command line, of statuses, or of a network.
+#![tactic(auto)]
+
+mod backing_up;
+mod creating;
+mod drawing;
+mod ended;
+mod exporting;
+mod imaging;
+mod installing;
+mod lines;
+mod making;
+mod restoring;
+mod showing;
+mod verdicts;
+mod waking;
+
+pub use backing_up::backup;
+pub use creating::create;
+pub use ended::{BackedUp, Created, Installed, Looked, Refusal};
+pub use exporting::export;
+pub use installing::install;
+pub use restoring::restore;
+pub use showing::show;

@@ -1,0 +1,30 @@
+//! The lines of a node's commands that no answer of a schedule has.
+
+ghost use Rattle.std.specs.Prelude.{◌≡◌, IfOk};
+ghost use Rattle.adr_node.specs.Lines.{damaged_line, refusal_line};
+
+use adr_answers::result_line;
+use adr_call::Outcome;
+use adr_failure::NoMemory;
+use adr_token::{push, push_number};
+use std::alloc::Global;
+
+/// The line of damage at a place, in bytes.
+#[tactic(auto, unfolding(crate::specs::Lines::damaged_line))]
+pub(crate) fn damaged_line(alloc: Global, place: u64) -> Result<Vec<u8>, NoMemory>
+    ensures { IfOk result (λ bytes. bytes.items ≡ damaged_line place) }
+{
+    let mut out = Vec::new(alloc);
+    push(&mut out, b"damaged ")?;
+    push_number(&mut out, place)?;
+    push(&mut out, b"\n")?;
+    Ok(out)
+}
+
+/// The line of a refusal that has a number.
+#[tactic(auto, unfolding(crate::specs::Lines::refusal_line))]
+pub(crate) fn refusal_line(alloc: Global, outcome: &Outcome) -> Result<Vec<u8>, NoMemory>
+    ensures { IfOk result (λ bytes. bytes.items ≡ refusal_line outcome.now) }
+{
+    result_line(alloc, outcome)
+}

@@ -1,0 +1,201 @@
+//! What the commands have in common that only look: the controller is started, and something is written of it.
+
+ghost use Rattle.std.specs.Prelude.{◌≡◌, ◌<◌, ◌≤◌, Ok, Err, IfOk, IsErrOf, IsSome, OnOk, OnErr, Some};
+ghost use Rattle.adr_io.specs.Told.{Adds, AddsFront};
+ghost use Rattle.adr_model.specs.Store.{State as Defined};
+ghost use Rattle.adr_law_journal.specs.Areas.{found};
+ghost use Rattle.adr_model.specs.Lengths.{Log};
+ghost use Rattle.adr_records.specs.Logged.{IsLogged};
+ghost use Rattle.adr_controller.specs.Running.{IsInOrder};
+ghost use Rattle.adr_node.specs.Lines.{damaged_line};
+ghost use Rattle.adr_node.specs.Looks.{Looks, Tells, TellsOf, bytes_of, due_of, in_full, refuses, whole_of};
+ghost use Rattle.adr_node.specs.Seen.{of_disk, of_keeper};
+
+use crate::backing_up::backup_bytes;
+use crate::ended::{BackedUp, Looked};
+use crate::exporting::export_bytes;
+use crate::lines::damaged_line;
+use crate::showing::show_bytes;
+use adr_call::Text;
+use adr_controller::{Controller, Keeper, StartRefusal};
+use adr_disk::Disk;
+use adr_failure::NoMemory;
+use adr_io::{Fault, Sink};
+use adr_journal::Journal;
+use adr_records::Records;
+use adr_state::State;
+use std::alloc::Global;
+
+/// What is written of a controller.
+#[derive(Clone, Copy)]
+pub(crate) enum Sight {
+    /// Its directory, as an answer.
+    Directory,
+    /// Its directory, as JSON.
+    Json,
+    /// Its image.
+    Image,
+}
+
+fn bytes_of(alloc: Global, sight: Sight, name: &Text, state: &State) -> Result<Vec<u8>, NoMemory>
+    requires { IsLogged state.now }
+    ensures { IfOk result (λ bytes. bytes.items ≡ bytes_of sight name.now state.now) }
+{
+    match sight {
+        Sight::Directory => show_bytes(alloc, name, state),
+        Sight::Json => export_bytes(alloc, state),
+        Sight::Image => backup_bytes(alloc, state),
+    }
+}
+
+/// Whether that is refused.
+fn refuses(sight: Sight, state: &State) -> bool
+    ensures { result ≡ refuses sight state.now }
+{
+    match sight {
+        Sight::Directory | Sight::Json => false,
+        Sight::Image => state.mode().is_quarantined(),
+    }
+}
+
+/// How a command ends that has written all that is due of a state.
+fn whole_of(sight: Sight, state: &State) -> BackedUp
+    ensures { result ≡ whole_of (refuses sight state.now) }
+{
+    if refuses(sight, state) {
+        BackedUp::Refused
+    } else {
+        BackedUp::Done
+    }
+}
+
+/// How a command ends behind what was written.
+fn ended(whole: BackedUp, written: Result<(), Fault>) -> BackedUp
+    ensures ok { OnOk written (result ≡ whole) }
+    ensures failed { IsErrOf written Fault.Failed → result ≡ BackedUp.WriteFault }
+    ensures no_memory { IsErrOf written Fault.NoMemory → result ≡ BackedUp.NoMemory }
+{
+    match written {
+        Ok(()) => whole,
+        Err(Fault::Failed) => BackedUp::WriteFault,
+        Err(Fault::NoMemory) => BackedUp::NoMemory,
+    }
+}
+
+/// Writes what was made, if it could be.
+pub(crate) fn write<K: Sink>(made: Result<Vec<u8>, NoMemory>, sink: &mut K) -> Result<(), Fault>
+    ensures ok { OnOk result (IfOk made (λ bytes. Adds (K.written sink.old) (K.written sink.new) bytes.items)) }
+    ensures made { OnOk result (OnErr made ⊥) }
+    ensures front { OnErr result (IfOk made (λ bytes. AddsFront (K.written sink.old) (K.written sink.new) bytes.items)) }
+    ensures unmade { OnErr made (sink.new ≡ sink.old) }
+    ensures never_falls { K.faults sink.old ≤ K.faults sink.new }
+    ensures failed { IsErrOf result Fault.Failed → K.faults sink.old < K.faults sink.new }
+{
+    let bytes = made?;
+    sink.write(bytes.as_slice())
+}
+
+/// Writes what is due of a state.
+fn tell<K: Sink>(alloc: Global, sight: Sight, name: &Text, state: &State, sink: &mut K) -> BackedUp
+    requires { IsLogged state.now }
+    ensures tells { (log : Log)
+        → Tells K.Sink (due_of (refuses sight) (bytes_of sight name.now) (Ok (found state.now log))) sink.old sink.new result }
+    ensures no_fault { result ≡ BackedUp.DiskFault → ⊥ }
+{
+    let whole = whole_of(sight, state);
+    let written = write(bytes_of(alloc, sight, name, state), sink);
+    ended(whole, written)
+}
+
+/// Writes what is due of a start that was refused.
+fn tell_refusal<K: Sink>(alloc: Global, refusal: StartRefusal, sink: &mut K) -> BackedUp
+    ensures { TellsOf K.Sink refusal sink.old sink.new result }
+{
+    match refusal {
+        StartRefusal::DiskFault => BackedUp::DiskFault,
+        StartRefusal::Damaged { place } => {
+            let written = write(damaged_line(alloc, place), sink);
+            ended(BackedUp::Damaged { place }, written)
+        }
+        StartRefusal::NoMemory { .. } => BackedUp::NoMemory,
+    }
+}
+
+/// Writes what is due of a controller that was started.
+fn tell_of<K: Keeper, S: Sink>(
+    alloc: Global,
+    sight: Sight,
+    name: &Text,
+    controller: &Controller<K>,
+    sink: &mut S,
+) -> BackedUp
+    requires up { IsSome controller.now.state }
+    requires formed { (s : Defined) → K.is_formed s → IsLogged s }
+    ensures in_order { IsInOrder K.Keeper controller.now }
+    ensures tells { (s : Defined) (log : Log) → controller.now.state ≡ Some s
+        → Tells S.Sink (due_of (refuses sight) (bytes_of sight name.now) (Ok (found s log))) sink.old sink.new result
+        × IsLogged s }
+    ensures no_fault { result ≡ BackedUp.DiskFault → ⊥ }
+{
+    match controller.state() {
+        Some(state) => tell(alloc, sight, name, state, sink),
+        None => unreachable!(),
+    }
+}
+
+/// Starts a keeper, and writes what is due of it.
+fn look_at<K: Keeper, S: Sink>(
+    alloc: Global,
+    sight: Sight,
+    name: &Text,
+    keeper: K,
+    sink: &mut S,
+) -> (BackedUp, K)
+    requires formed { (s : Defined) → K.is_formed s → IsLogged s }
+    ensures { let due = due_of (refuses sight) (bytes_of sight name.now) in
+        Looks (of_keeper K.Keeper) S.Sink due keeper result.1 sink.old sink.new result.0 }
+{
+    match Controller::resume(keeper) {
+        Ok(controller) => {
+            let ended = tell_of(alloc, sight, name, &controller, sink);
+            (ended, controller.into_keeper())
+        }
+        Err((refusal, keeper)) => (tell_refusal(alloc, refusal, sink), keeper),
+    }
+}
+
+/// Attaches the disk by its name, starts the controller that is there, and writes what is due of it.
+pub(crate) fn look<D: Disk, K: Sink>(
+    alloc: Global,
+    sight: Sight,
+    name: &Text,
+    mut disk: D,
+    sink: &mut K,
+) -> (BackedUp, D)
+    ensures { let due = due_of (refuses sight) (bytes_of sight name.now) in
+        Looks (of_disk D.Disk) K.Sink due disk result.1 sink.old sink.new result.0 }
+{
+    match disk.attach(name.as_str()) {
+        Ok(()) => {}
+        Err(Fault::Failed) => return (BackedUp::DiskFault, disk),
+        Err(Fault::NoMemory) => return (BackedUp::NoMemory, disk),
+    }
+    let journal: Journal<D, Records> = Journal::new(alloc, disk);
+    let (ended, journal) = look_at(alloc, sight, name, journal, sink);
+    (ended, journal.into_disk())
+}
+
+/// How a command ends that isn't refused.
+pub(crate) fn never_refused(ended: BackedUp) -> Looked
+    requires { ended ≡ BackedUp.Refused → ⊥ }
+    ensures { in_full result ≡ ended }
+{
+    match ended {
+        BackedUp::Done => Looked::Done,
+        BackedUp::Refused => unreachable!(),
+        BackedUp::Damaged { place } => Looked::Damaged { place },
+        BackedUp::WriteFault => Looked::WriteFault,
+        BackedUp::DiskFault => Looked::DiskFault,
+        BackedUp::NoMemory => Looked::NoMemory,
+    }
+}

@@ -1,0 +1,5 @@
+pub mod Exchange
+pub mod Fetch
+pub mod Told
+pub mod Sending
+pub mod Worked

@@ -1,0 +1,199 @@
+-- What is told of a pull: where the node, its connection and its lines stand.
+use Rattle.std.specs.Prelude.{◌≡◌, ◌⊎◌, ℕ, suc, List, ◌++◌, take, Bool, Option, Some, None, IfSome, Result, Ok, Err}
+use Rattle.std.specs.Bool.{then_some}
+use Rattle.adr_disk.specs.Disk.{Among}
+use Rattle.adr_model.specs.Store.{State}
+use Rattle.adr_law_journal.specs.Areas.{Found, Started}
+use Rattle.adr_law_journal.specs.Kept.{FindsState, FindsEither}
+use Rattle.adr_records.specs.Logged.{IsLogged}
+use Rattle.adr_journal.specs.declared.keeper.Keeper.{Ghosts}
+use Rattle.adr_call.specs.declared.refusal.Table.TheVariants.{Log}
+use Rattle.adr_model.specs.Lengths.{log_limit}
+use Rattle.adr_model.specs.Refused.{full}
+use Rattle.adr_controller.specs.declared.refusal.Hindrance.{Hindrance}
+use Rattle.adr_controller.specs.declared.refusal.Hindrance.TheVariants.{Down, Failed, Full, DiskFault, NoMemory}
+use Rattle.adr_controller.specs.Running.{Running}
+use Rattle.adr_law_controller.specs.Laws.{GivenCallsFollow}
+use Rattle.adr_outside.specs.Traffic.{Traffic}
+use Rattle.adr_frames.specs.Frames.{frame}
+use Rattle.adr_pull.specs.declared.came.Came.{Came}
+use Rattle.adr_pull.specs.declared.came.Came.TheVariants.{Declined}
+use Rattle.adr_pull.specs.declared.fault.PullFault.{PullFault}
+use Rattle.adr_pull.specs.declared.fault.PullFault.TheVariants as faults
+use Rattle.adr_pull.specs.Exchange.{HasSent, HasSentFront, heard_in, moved}
+use Rattle.adr_pull.specs.Fetch.{Course, Ends, Over, Refused, BadPeer, Made, Point, greeting, met}
+
+-- its keeper takes the change of each call that has the form of one, and keeps states of a log alone
+pub record KeepsLog {K : Type 0} (k : Ghosts K) : Type 0 where
+  pub given : GivenCallsFollow k
+  pub logged : (s : State) → k.is_formed s → IsLogged s
+
+-- ---- the connection alone
+
+-- no frame was heard behind a message: none that is whole came, or a call failed
+abbrev pub Fails : Traffic → List ℕ → PullFault → Option Traffic → Type 0
+Fails t message faults.BadPeer after = (heard_in t.left ≡ None) × HasSent t (frame message) after
+Fails t message faults.Link after = HasSentFront t (frame message) after
+Fails t message faults.NoMemory after = HasSentFront t (frame message) after
+Fails t message faults.Write after = ⊥
+Fails t message faults.Disk after = ⊥
+Fails t message faults.Refused after = ⊥
+Fails t message faults.MoreWaiting after = ⊥
+
+-- a message was sent, and this frame heard
+abbrev pub Converses : {V : Type 0} → (V → List ℕ) → Traffic → List ℕ → Result V PullFault → Option Traffic → Type 0
+Converses items t message (Ok v) after =
+    (rest : List ℕ) × (heard_in t.left ≡ Some (items v, rest)) × (after ≡ Some (moved t rest (frame message)))
+Converses items t message (Err fault) after = Fails t message fault after
+
+-- the partner was met
+abbrev pub Meets : Traffic → Result (List ℕ) PullFault → Option Traffic → Type 0
+Meets t (Ok partner) after = (rest : List ℕ) × (met (heard_in t.left) ≡ Some (partner, rest)) × (after ≡ Some
+    (moved t rest (frame greeting)))
+Meets t (Err faults.BadPeer) after = (met (heard_in t.left) ≡ None) × HasSent t (frame greeting) after
+Meets t (Err faults.Link) after = HasSentFront t (frame greeting) after
+Meets t (Err faults.NoMemory) after = HasSentFront t (frame greeting) after
+Meets t (Err faults.Write) after = ⊥
+Meets t (Err faults.Disk) after = ⊥
+Meets t (Err faults.Refused) after = ⊥
+Meets t (Err faults.MoreWaiting) after = ⊥
+
+-- ---- the node alone
+
+-- the controller is up with this state, and its keeper stands for it
+abbrev pub Stands : {K : Type 0} → Ghosts K → Found State → Running K → Type 0
+Stands k f c = (c.state ≡ Some f.state) × k.is_at c.keeper f
+
+-- a call of its disk failed: it has no state in memory, and a start finds the one or the other
+abbrev pub HasFallen : {K : Type 0} → Ghosts K → State → State → Running K → Type 0
+HasFallen k before after c =
+    (c.state ≡ None) × IfSome (k.told c.keeper) (λ _. Among (FindsEither before after) (k.may_leave c.keeper))
+
+-- a frame came to what is due, or it wasn't due, or the node can't say
+abbrev pub ReactsSo : {K : Type 0} → Ghosts K → Found State → Option Made → Result Came PullFault → Running K → Type 0
+ReactsSo k f due (Ok came) c = (m : Made) × (due ≡ Some m) × (came ≡ m.1) × Stands k m.0 c
+ReactsSo k f due (Err faults.BadPeer) c = (due ≡ None) × Stands k f c
+ReactsSo k f due (Err faults.Disk) c = (m : Made) × (due ≡ Some m) × HasFallen k f.state m.0.state c
+ReactsSo k f due (Err faults.NoMemory) c = Stands k f c
+ReactsSo k f due (Err faults.Write) c = ⊥
+ReactsSo k f due (Err faults.Link) c = ⊥
+ReactsSo k f due (Err faults.Refused) c = ⊥
+ReactsSo k f due (Err faults.MoreWaiting) c = ⊥
+
+-- what a hindrance of a controller that is up comes to
+abbrev pub IsHindered : Hindrance → Result Came PullFault → Type 0
+IsHindered Full result = result ≡ Ok (Declined (full Log log_limit))
+IsHindered DiskFault result = result ≡ Err faults.Disk
+IsHindered NoMemory result = result ≡ Err faults.NoMemory
+IsHindered Down result = ⊥
+IsHindered Failed result = ⊥
+
+-- the state before a frame, or the one that is due behind it
+abbrev pub FindsDue : Found State → Option Made → Started State → Type 0
+FindsDue f None s = FindsState f.state s
+FindsDue f (Some m) s = FindsEither f.state m.0.state s
+
+-- ---- points
+
+-- the controller is up where the point says, and so much was sent and written; what is left may be any part of what came
+pub record IsBehind {K : Type 0} (k : Ghosts K) (t : Traffic) (p : Point) (c : Running K)
+    (traffic : Option Traffic) (written : Option (List ℕ)) : Type 0 where
+  pub node : Stands k p.stands c
+  pub left : List ℕ
+  pub net : traffic ≡ Some (record t { left = left; sent = p.sent })
+  pub lines : written ≡ Some p.written
+
+-- and what is left is what the point says
+pub record IsAt {K : Type 0} (k : Ghosts K) (t : Traffic) (p : Point) (c : Running K) (traffic : Option Traffic)
+    (written : Option (List ℕ)) : Type 0 where
+  pub node : Stands k p.stands c
+  pub net : traffic ≡ Some (record t { left = p.left; sent = p.sent })
+  pub lines : written ≡ Some p.written
+
+-- these bytes begin with the first, and are a front of the last
+abbrev pub IsBetween : List ℕ → List ℕ → List ℕ → Type 0
+IsBetween first bytes last = (more : List ℕ) × (n : ℕ) × (last ≡ first ++ more) × (bytes ≡ first ++ take n more)
+
+-- between one point and the next: a front of what is sent was sent, and nothing else was done
+pub record IsAsking {K : Type 0} (k : Ghosts K) (t : Traffic) (p q : Point) (c : Running K)
+    (traffic : Option Traffic) (written : Option (List ℕ)) : Type 0 where
+  pub node : Stands k p.stands c
+  pub left : List ℕ
+  pub sent : List ℕ
+  pub front : IsBetween p.sent sent q.sent
+  pub net : traffic ≡ Some (record t { left = left; sent = sent })
+  pub lines : written ≡ Some p.written
+
+-- all was done, but for a part of the line
+pub record IsTelling {K : Type 0} (k : Ghosts K) (t : Traffic) (p q : Point) (c : Running K)
+    (traffic : Option Traffic) (written : Option (List ℕ)) : Type 0 where
+  pub node : Stands k q.stands c
+  pub left : List ℕ
+  pub net : traffic ≡ Some (record t { left = left; sent = q.sent })
+  pub told : List ℕ
+  pub front : IsBetween p.written told q.written
+  pub lines : written ≡ Some told
+
+-- all was sent, and a call of the disk failed
+pub record HasFailed {K : Type 0} (k : Ghosts K) (t : Traffic) (p q : Point) (c : Running K)
+    (traffic : Option Traffic) (written : Option (List ℕ)) : Type 0 where
+  pub node : HasFallen k p.stands.state q.stands.state c
+  pub left : List ℕ
+  pub net : traffic ≡ Some (record t { left = left; sent = q.sent })
+  pub lines : written ≡ Some p.written
+
+-- a start finds where the node stands at the one point or the other
+abbrev pub FindsNear : Point → Point → Started State → Type 0
+FindsNear p q s = FindsEither p.stands.state q.stands.state s
+
+-- ---- one request
+
+-- how a cycle ends with what came
+abbrev pub IsEnd : Option Ends → Result Bool PullFault → Type 0
+IsEnd ends (Ok over) = ends ≡ then_some over Over
+IsEnd ends (Err faults.Refused) = ends ≡ Some Refused
+IsEnd ends (Err _) = ⊥
+
+-- what a request comes to, from a point: whether the cycle is over
+abbrev pub TakesTurn : {K : Type 0} → Ghosts K → Traffic → Point → Course → Result Bool PullFault → Running K
+    → Option Traffic → Option (List ℕ) → Type 0
+TakesTurn k t p next (Ok over) c net lines = (next.1 ≡ then_some over Over) × IsAt k t next.0 c net lines
+TakesTurn k t p next (Err faults.Refused) c net lines = (next.1 ≡ Some Refused) × IsAt k t next.0 c net lines
+TakesTurn k t p next (Err faults.BadPeer) c net lines = (next.1 ≡ Some BadPeer) × IsBehind k t next.0 c net lines
+TakesTurn k t p next (Err faults.Link) c net lines = IsAsking k t p next.0 c net lines
+TakesTurn k t p next (Err faults.Write) c net lines = IsTelling k t p next.0 c net lines
+TakesTurn k t p next (Err faults.NoMemory) c net lines = IsAsking k t p next.0 c net lines ⊎ IsTelling k t p next.0 c net lines
+TakesTurn k t p next (Err faults.Disk) c net lines = HasFailed k t p next.0 c net lines
+TakesTurn k t p next (Err faults.MoreWaiting) c net lines = ⊥
+
+-- ---- a cycle, of which this is where it comes to behind so many exchanges
+
+-- it has ended so
+abbrev pub EndsSo : {K : Type 0} → Ghosts K → Traffic → Course → Option Ends → Running K → Option Traffic
+    → Option (List ℕ) → Type 0
+EndsSo k t course ends c net lines = (course.1 ≡ ends) × IsBehind k t course.0 c net lines
+
+-- behind so many exchanges it has not ended, and this holds of where it stands and of where the next one comes to
+abbrev pub Within : (ℕ → Course) → (Point → Point → Type 0) → Type 0
+Within go P = (n : ℕ) × ((go n).1 ≡ None) × P (go n).0 (go (suc n)).0
+
+abbrev pub Goes : {K : Type 0} → Ghosts K → Traffic → (ℕ → Course) → ℕ → Result Unit PullFault → Running K
+    → Option Traffic → Option (List ℕ) → Type 0
+Goes k t go most (Ok _) c net lines = EndsSo k t (go most) (Some Over) c net lines
+Goes k t go most (Err faults.Refused) c net lines = EndsSo k t (go most) (Some Refused) c net lines
+Goes k t go most (Err faults.BadPeer) c net lines = EndsSo k t (go most) (Some BadPeer) c net lines
+Goes k t go most (Err faults.MoreWaiting) c net lines = EndsSo k t (go most) None c net lines
+Goes k t go most (Err faults.Link) c net lines = Within go (λ p q. IsAsking k t p q c net lines)
+Goes k t go most (Err faults.Write) c net lines = Within go (λ p q. IsTelling k t p q c net lines)
+Goes k t go most (Err faults.NoMemory) c net lines = Within go
+    (λ p q. IsAsking k t p q c net lines ⊎ IsTelling k t p q c net lines)
+Goes k t go most (Err faults.Disk) c net lines = Within go (λ p q. HasFailed k t p q c net lines)
+
+-- a start finds where the node stands behind some of the exchanges
+abbrev pub FindsBehind : (ℕ → Course) → Started State → Type 0
+FindsBehind go s = (n : ℕ) × FindsState (go n).0.stands.state s
+
+-- and all lines that were written are of those
+abbrev pub FindsTold : (ℕ → Course) → Option (List ℕ) → Started State → Type 0
+FindsTold go written s =
+    (n : ℕ) × IfSome written (λ lines. (m : ℕ) × (lines ≡ take m (go n).0.written)) × FindsState (go n).0.stands.state s

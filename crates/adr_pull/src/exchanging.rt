@@ -1,0 +1,40 @@
+//! A frame is sent, and the next one heard.
+
+ghost use Rattle.std.specs.Prelude.{◌≡◌, ◌<◌, ◌≤◌, ◌∷◌, IfOk, IfSome, IsErrOf};
+ghost use Rattle.adr_pull.specs.Exchange.{Exchanges};
+
+use adr_failure::NoMemory;
+use adr_frames::{Heard, hear, say};
+use adr_io::Fault;
+use adr_outside::Net;
+use std::alloc::Global;
+
+/// Sends a message as a frame, and hears the next one: its kind and what stands behind it, or none where no whole frame
+/// comes.
+pub(crate) fn exchange<N: Net>(
+    alloc: Global,
+    net: &mut N,
+    message: &[u8],
+) -> Result<Option<Vec<u8>>, Fault>
+    ensures exchanged { IfSome (N.traffic net.old) (λ t.
+        Exchanges (λ v. v.items) t message.now result (N.traffic net.new)) }
+    ensures never_falls { N.lines net.old ≤ N.lines net.new }
+    ensures failed { IsErrOf result Fault.Failed → N.lines net.old < N.lines net.new }
+    ensures doors { N.doors net.new ≡ N.doors net.old }
+{
+    say(alloc, net, message)?;
+    match hear(alloc, net)? {
+        Heard::Frame(bytes) => Ok(Some(bytes)),
+        Heard::Over | Heard::Broken => Ok(None),
+    }
+}
+
+/// A message: its kind, and what stands behind it.
+pub(crate) fn of_kind(alloc: Global, kind: u8, body: &[u8]) -> Result<Vec<u8>, NoMemory>
+    ensures { IfOk result (λ message. message.items ≡ kind ∷ body.now) }
+{
+    let mut message = Vec::new(alloc);
+    message.extend_from_slice(&[kind])?;
+    message.extend_from_slice(body)?;
+    Ok(message)
+}

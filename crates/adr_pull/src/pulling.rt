@@ -1,0 +1,102 @@
+//! A cycle.
+
+ghost use Rattle.std.specs.Prelude.{◌≡◌, ◌↔◌, ◌<◌, ◌≤◌, ◌+◌, IfSome, IsErrOf, IsSome};
+ghost use Rattle.adr_disk.specs.Disk.{Among, LeavesOnly};
+ghost use Rattle.adr_outside.specs.Traffic.{Traffic};
+ghost use Rattle.adr_pull.specs.Fetch.{Point, fetch, pulled, reply_limit};
+ghost use Rattle.adr_pull.specs.Told.{FindsBehind, FindsTold, Goes, IsAt, KeepsLog};
+
+use crate::fault::PullFault;
+use crate::talking::meet;
+use crate::turning::take_turn;
+use adr_controller::{Controller, Keeper};
+use adr_guid::Guid;
+use adr_io::Sink;
+use adr_outside::Net;
+use adr_schema::Text;
+use std::alloc::Global;
+
+/// The most replies of a cycle.
+const REPLY_LIMIT: u32 = 1_000_000;
+
+/// Sends requests to a partner, one after the other, and takes what comes, until a reply is the last.
+fn fetch<K: Keeper, N: Net, S: Sink>(
+    alloc: Global,
+    controller: &mut Controller<K>,
+    name: &Text,
+    partner: Guid,
+    net: &mut N,
+    sink: &mut S,
+) -> Result<(), PullFault>
+    requires up { IsSome controller.old.state }
+    requires log { KeepsLog K.Keeper }
+    ensures goes { (t : Traffic) (p : Point) → IsAt K.Keeper t p controller.old (N.traffic net.old) (S.written sink.old)
+        → Goes K.Keeper t (λ n. fetch name.now partner n p) reply_limit result controller.new (N.traffic net.new)
+        (S.written sink.new) }
+    ensures any_moment { (t : Traffic) (p : Point) → IsAt K.Keeper t p controller.old (N.traffic net.old) (S.written sink.old)
+        → IfSome (K.told controller.old.keeper) (λ _.
+        LeavesOnly K.moment K.left_since controller.old.keeper controller.new.keeper
+        (FindsBehind (λ n. fetch name.now partner n p))) }
+    ensures told { IsSome (K.told controller.new.keeper) ↔ IsSome (K.told controller.old.keeper) }
+    ensures disk { IsErrOf result PullFault.Disk → K.faults controller.old.keeper < K.faults controller.new.keeper }
+    ensures disk_never_falls { K.faults controller.old.keeper ≤ K.faults controller.new.keeper }
+    ensures link { IsErrOf result PullFault.Link → N.lines net.old < N.lines net.new }
+    ensures lines_never_fall { N.lines net.old ≤ N.lines net.new }
+    ensures write { IsErrOf result PullFault.Write → S.faults sink.old < S.faults sink.new }
+    ensures sink_never_falls { S.faults sink.old ≤ S.faults sink.new }
+    ensures doors { N.doors net.new ≡ N.doors net.old }
+{
+    let _ = controller.state();
+    for turn in 0..REPLY_LIMIT {
+        let over = take_turn(alloc, controller, name, partner, net, sink)?;
+        if over {
+            return Ok(());
+        }
+    }
+    Err(PullFault::MoreWaiting)
+}
+
+/// Pulls a cycle over the open connection: asks who is there, and then sends requests for at most 1,000 items each and takes
+/// the replies, until one is the last. It writes the line of a delivery under this name for each reply that is taken, and
+/// for a refusal of the partner or of the controller the refusal alone. A full log refuses too. It doesn't hang up.
+pub fn pull<K: Keeper, N: Net, S: Sink>(
+    alloc: Global,
+    controller: &mut Controller<K>,
+    name: &Text,
+    net: &mut N,
+    sink: &mut S,
+) -> Result<(), PullFault>
+    requires up { IsSome controller.old.state }
+    requires log { KeepsLog K.Keeper }
+
+    // From wherever node, connection and lines stand, as far as they tell it.
+    ensures pulls { (t : Traffic) (p : Point) → IsAt K.Keeper t p controller.old (N.traffic net.old) (S.written sink.old)
+        → Goes K.Keeper t (λ n. pulled name.now n p) (reply_limit + 1) result controller.new (N.traffic net.new)
+        (S.written sink.new) }
+
+    // A start finds the node behind some of the replies, whenever a crash comes; and behind the call, each reply whose
+    // line was written is kept.
+    ensures any_moment { (t : Traffic) (p : Point) → IsAt K.Keeper t p controller.old (N.traffic net.old) (S.written sink.old)
+        → IfSome (K.told controller.old.keeper) (λ _.
+        LeavesOnly K.moment K.left_since controller.old.keeper controller.new.keeper
+        (FindsBehind (λ n. pulled name.now n p))) }
+    ensures left { (t : Traffic) (p : Point) → IsAt K.Keeper t p controller.old (N.traffic net.old) (S.written sink.old)
+        → IfSome (K.told controller.old.keeper) (λ _.
+        Among (FindsTold (λ n. pulled name.now n p) (S.written sink.new)) (K.may_leave controller.new.keeper)) }
+    ensures told { IsSome (K.told controller.new.keeper) ↔ IsSome (K.told controller.old.keeper) }
+
+    // Each fault of the outside comes where its count rose, and no count falls.
+    ensures disk { IsErrOf result PullFault.Disk → K.faults controller.old.keeper < K.faults controller.new.keeper }
+    ensures disk_never_falls { K.faults controller.old.keeper ≤ K.faults controller.new.keeper }
+    ensures link { IsErrOf result PullFault.Link → N.lines net.old < N.lines net.new }
+    ensures lines_never_fall { N.lines net.old ≤ N.lines net.new }
+    ensures write { IsErrOf result PullFault.Write → S.faults sink.old < S.faults sink.new }
+    ensures sink_never_falls { S.faults sink.old ≤ S.faults sink.new }
+    ensures doors { N.doors net.new ≡ N.doors net.old }
+{
+    let _ = controller.state();
+    let partner = meet(alloc, net)?;
+    let fetched = fetch(alloc, controller, name, partner, net, sink);
+    let _ = controller.state();
+    fetched
+}

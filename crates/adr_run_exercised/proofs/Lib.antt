@@ -1,0 +1,17 @@
+mod Standing
+mod Level
+mod Settled
+mod Collecting
+mod Mild
+mod Ends
+mod Manned
+mod Answered
+mod Few
+mod Counted
+mod Uncut
+mod Stores
+mod Between
+mod Limits
+mod Schemas
+mod Steady
+mod Exercises

@@ -1,0 +1,4 @@
+pub mod GivenLemmas
+pub mod ShowLemmas
+pub mod Counting
+pub mod Generated

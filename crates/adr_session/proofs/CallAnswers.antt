@@ -1,0 +1,79 @@
+-- What calls are answered is where their changes lead, and what is told of them.
+use Rattle.std.proofs.Common.{◌≡◌, ◌∙◌, sym, ap, subst, refl, ℕ, List, ◌∷◌, length, Option, Result, Ok, Err}
+use Rattle.std.specs.Prelude.{IfOk}
+use Rattle.adr_call.specs.declared.outcome.Outcome.TheVariants as outcomes
+use Rattle.adr_call.specs.declared.refusal.CollectRefusal.{CollectRefusal}
+use Rattle.adr_call.specs.declared.refusal.ServeRefusal.{ServeRefusal}
+use Rattle.adr_call.specs.declared.refusal.ServeRefusal.TheVariants as serves
+use Rattle.adr_call.specs.declared.refusal.Table.TheVariants.{Log}
+use Rattle.adr_call.specs.declared.refusal.WriteRefusal.{WriteRefusal}
+use Rattle.adr_model.specs.Change.{Change}
+use Rattle.adr_model.specs.Lengths.{log_limit}
+use Rattle.adr_model.specs.Refused.{collect_refused, full, write_refused}
+use Rattle.adr_model.specs.Replica.{change_in}
+use Rattle.adr_model.specs.Serve.{Reply}
+use Rattle.adr_model.specs.Store.{State}
+use Rattle.adr_law_journal.specs.Areas.{Found}
+use Rattle.adr_packet.specs.Replies.{reply_bytes}
+use Rattle.adr_packet.specs.declared.refusal.Refusal.TheVariants.{Serve, LogFull}
+use Rattle.adr_controller.specs.Able.{change_of_served}
+use Rattle.adr_controller.specs.declared.refusal.Hindrance.{Hindrance}
+use Rattle.adr_session.specs.declared.ending.ServeFault.{ServeFault}
+use Rattle.adr_session.specs.declared.lines.Deed.{Deed}
+use Rattle.adr_session.specs.Lines.{collected, written}
+use Rattle.adr_session.specs.Talk.{did, refused, replies, told}
+use Rattle.adr_session.specs.Made.{led, Tells}
+
+-- ---- what is told
+
+pub tells_at : {V : Type 0} (items : V → List ℕ) (said full : List ℕ) (how h : Option Hindrance) (r x : Result V ServeFault) → how ≡ h → r ≡ x → Tells items said full h x → Tells items said full how r
+tells_at {V} items said full how h r x e d t = subst (λ (h : Option Hindrance). Tells items said full h r) (sym e) (subst (λ (r : Result V ServeFault). Tells items said full h r) (sym d) t)
+
+-- the value of an answer that is this
+pub ok_is : {T E : Type 0} (r : Result T E) (x : T) (P : T → Type 0) → r ≡ Ok x → IfOk r P → P x
+ok_is {T} {E} r x P is holds = subst (λ (r : Result T E). IfOk r P) is holds
+
+-- ---- deeds
+
+-- what is told of a log that has no room for the change of a deed
+abbrev pub full_of : Deed → List ℕ
+full_of deed = told deed (full Log log_limit)
+
+pub did_written : (f : Found State) (deed : Deed) (r : Result Change WriteRefusal) → did f deed (written r) ≡ led f (change_in r) (told deed (written r).0) (full_of deed)
+did_written f deed (Ok c) = refl
+did_written f deed (Err refusal) = refl
+
+pub did_collected : (f : Found State) (deed : Deed) (r : Result Change CollectRefusal) → did f deed (collected r) ≡ led f (change_in r) (told deed (collected r).0) (full_of deed)
+did_collected f deed (Ok c) = refl
+did_collected f deed (Err refusal) = refl
+
+pub wrote : (r : Result Change WriteRefusal) (c : Change) (usn : ℕ) → r ≡ Ok c → usn ≡ c.usn → outcomes.Usn usn ≡ (written r).0
+wrote r c usn is same = ap outcomes.Usn same ∙ ap (λ (r : Result Change WriteRefusal). (written r).0) (sym is)
+
+pub wrote_not : (r : Result Change WriteRefusal) (refusal : WriteRefusal) → r ≡ Err refusal → write_refused refusal ≡ (written r).0
+wrote_not r refusal is = ap (λ (r : Result Change WriteRefusal). (written r).0) (sym is)
+
+pub removed : (r : Result Change CollectRefusal) (c : Change) (count : ℕ) → r ≡ Ok c → count ≡ length c.removed → outcomes.Removed count ≡ (collected r).0
+removed r c count is same = ap outcomes.Removed same ∙ ap (λ (r : Result Change CollectRefusal). (collected r).0) (sym is)
+
+pub removed_not : (r : Result Change CollectRefusal) (refusal : CollectRefusal) → r ≡ Err refusal → collect_refused refusal ≡ (collected r).0
+removed_not r refusal is = ap (λ (r : Result Change CollectRefusal). (collected r).0) (sym is)
+
+-- ---- requests
+
+-- what is told of a request, but for a full log
+abbrev pub served_told : Result Reply ServeRefusal → List ℕ
+served_told (Ok reply) = 2 ∷ reply_bytes reply
+served_told (Err refusal) = refused (Serve refusal)
+
+abbrev pub log_full : List ℕ
+log_full = refused (LogFull log_limit)
+
+pub replies_led : (f : Found State) (r : Result Reply ServeRefusal) → replies f r ≡ led f (change_of_served f.state r) (served_told r) log_full
+replies_led f (Ok reply) = refl
+replies_led f (Err serves.Quarantined) = refl
+replies_led f (Err (serves.WrongController mine asked)) = refl
+replies_led f (Err (serves.BadMark prop obj seen)) = refl
+replies_led f (Err (serves.RolledBack inv mine shown)) = refl
+replies_led f (Err (serves.SchemaMismatch mine theirs)) = refl
+replies_led f (Err (serves.TooOld inv purged has)) = refl

@@ -1,0 +1,173 @@
+-- What a frame comes to, by what it says.
+use Rattle.std.proofs.Common.{◌≡◌, inl, ◌∙◌, sym, ap, subst, refl, ℕ, false, List, Option, Some, None, IfSome, IsSome, Result, Ok, Err, arith}
+use Rattle.std.specs.Prelude.{IfOk}
+use Rattle.adr_disk.specs.Disk.{Among, LeavesOnly}
+use Rattle.adr_disk.proofs.Moments.{started}
+use Rattle.adr_model.specs.Store.{State}
+use Rattle.adr_law_journal.specs.Areas.{Found, found, Started}
+use Rattle.adr_law_journal.specs.Kept.{FindsEither, FindsState}
+use Rattle.adr_law_journal.proofs.Told.{at_told, if_told, is_some_of}
+use Rattle.adr_journal.specs.declared.keeper.Keeper.{Ghosts}
+use Rattle.adr_controller.specs.Running.{Running, IsInOrder}
+use Rattle.adr_session.specs.declared.ending.ServeFault.{ServeFault}
+use Rattle.adr_session.specs.declared.ending.ServeFault.TheVariants as faults
+use Rattle.adr_outside.specs.Given.{Takes}
+use Rattle.adr_session.specs.Lines.{deed_said}
+use Rattle.adr_session.specs.Talk.{Answered, Gives, Said, Reaction, Sends, acts, reacts}
+use Rattle.adr_session.specs.Told.{FindsOneOf, ReactsSo, Stands}
+use Rattle.adr_session.specs.Made.{MadeSo, Makes, Reacts}
+use Rattle.adr_session.proofs.Reacting.{finds_one, stands_near}
+
+-- ---- nothing was asked of the controller
+
+module _ {K V : Type 0} (items : V → List ℕ) (k : Ghosts K)
+    (leaves : (keeper : K) (f : Found State) (t : Started State) → k.is_at keeper f → k.is_failed keeper ≡ false → IsSome (k.told keeper) → k.may_leave keeper t → t ≡ Ok f)
+    (only_now : (keeper : K) (t : Started State) → k.left_since keeper (k.moment keeper) t → k.may_leave keeper t)
+    (c : Running K) (order : IsInOrder k c) (up : IsSome c.state) where
+  -- a start finds the state alone
+  finds_now : (f : Found State) → Stands k f c → IsSome (k.told c.keeper) → (x : Started State) → k.may_leave c.keeper x → FindsState f.state x
+  finds_now f stands told x left = (f.log, leaves c.keeper f x stands.1 (order.up f.state stands.0).0.running told left)
+
+  -- it answered so, and stands where it stood
+  same : (said : Option Said) (before after : Option (List ℕ)) (r : Result (Option V) ServeFault)
+      → ((f : Found State) (moments : List ℕ) → Stands k f c → before ≡ Some moments → ReactsSo items k f moments (reacts f moments said) r c after)
+      → ¬ (r ≡ Err faults.Disk) → Reacts items k said c c r before after
+  same said before after r answer not_disk = record {
+    up = on_any r;
+    answer = answer;
+    any_moment = λ f moments stands is.
+        if_told (k.told c.keeper) _ (λ t tells.
+        started k.moment k.left_since c.keeper (FindsOneOf f (reacts f moments said)) (λ x left.
+        finds_one f (reacts f moments said) x (finds_now f stands (is_some_of (k.told c.keeper) t tells) x (only_now c.keeper x left))));
+    left = λ f moments stands is.
+        if_told (k.told c.keeper) _ (λ t tells. λ x left. finds_one f (reacts f moments said) x (finds_now f stands (is_some_of (k.told c.keeper) t tells) x left));
+    told = λ told. told;
+    disk = λ is. absurd (not_disk is);
+    disk_never_falls = omega arith;
+  }
+    where
+      on_any : (r : Result (Option V) ServeFault) → IfOk r (λ _. IsSome c.state)
+      on_any (Ok o) = up
+      on_any (Err e) = tt
+
+  -- it is no message of a client
+  pub says_nothing : (said : Option Said) → said ≡ None → (moments : Option (List ℕ)) (r : Result (Option V) ServeFault) → r ≡ Ok None → Reacts items k said c c r moments moments
+  says_nothing said none moments r is =
+      subst (λ (r : Result (Option V) ServeFault). Reacts items k said c c r moments moments) (sym is)
+      (subst (λ (said : Option Said). Reacts items k said c c (Ok None) moments moments) (sym none)
+      (same None moments moments (Ok None) (λ f here stands is. (refl, stands, is)) (λ e. cc e)))
+
+  -- memory was wanting before anything was done
+  pub wants_memory : (said : Option Said) (before after : Option (List ℕ)) (r : Result (Option V) ServeFault) → r ≡ Err faults.NoMemory → Reacts items k said c c r before after
+  wants_memory said before after r is =
+      subst (λ (r : Result (Option V) ServeFault). Reacts items k said c c r before after) (sym is)
+      (same said before after (Err faults.NoMemory) (λ f moments stands is. stands_near k f (reacts f moments said) c stands) (λ e. cc e))
+
+  -- the clock failed before anything was done
+  pub wants_time : (said : Option Said) (before after : Option (List ℕ)) → after ≡ before → (r : Result (Option V) ServeFault) → r ≡ Err faults.Clock → Reacts items k said c c r before after
+  wants_time said before after still r is =
+      subst (λ (r : Result (Option V) ServeFault). Reacts items k said c c r before after) (sym is)
+      (same said before after (Err faults.Clock) (λ f moments stands is. (stands, still ∙ is)) (λ e. cc e))
+
+  -- what is told without a change
+  makes_same : (answers : Found State → Answered) (r : Result V ServeFault) → ((f : Found State) → Stands k f c → MadeSo items k f (answers f) r c) → ¬ (r ≡ Err faults.Disk) → Makes items k answers c c r
+  makes_same answers r made not_disk = record {
+    up = on_any r;
+    made = made;
+    any_moment = λ f stands.
+        if_told (k.told c.keeper) _ (λ t tells.
+        started k.moment k.left_since c.keeper (FindsEither f.state (answers f).0.state) (λ x left.
+        inl (finds_now f stands (is_some_of (k.told c.keeper) t tells) x (only_now c.keeper x left))));
+    left = λ f stands. if_told (k.told c.keeper) _ (λ t tells. λ x left. inl (finds_now f stands (is_some_of (k.told c.keeper) t tells) x left));
+    told = λ told. told;
+    disk = λ is. absurd (not_disk is);
+    disk_never_falls = omega arith;
+  }
+    where
+      on_any : (r : Result V ServeFault) → IfOk r (λ _. IsSome c.state)
+      on_any (Ok v) = up
+      on_any (Err e) = tt
+
+  pub tells_still : (answers : Found State → Answered) (v : V) (r : Result V ServeFault) → r ≡ Ok v → ((f : Found State) → Stands k f c → answers f ≡ (f, items v)) → Makes items k answers c c r
+  tells_still answers v r is so =
+      subst (λ (r : Result V ServeFault). Makes items k answers c c r) (sym is)
+      (makes_same answers (Ok v) (λ f stands. subst (λ (a : Answered). (items v ≡ a.1) × Stands k a.0 c) (sym (so f stands)) (refl, stands)) (λ e. cc e))
+
+  pub wants_still : (answers : Found State → Answered) (r : Result V ServeFault) → r ≡ Err faults.NoMemory → Makes items k answers c c r
+  wants_still answers r is =
+      subst (λ (r : Result V ServeFault). Makes items k answers c c r) (sym is) (makes_same answers (Err faults.NoMemory) (λ f stands. inl stands) (λ e. cc e))
+
+-- ---- the controller was asked
+
+-- the answer as it is framed
+abbrev of_answer : {V : Type 0} → Result V ServeFault → Result (Option V) ServeFault
+of_answer (Ok v) = Ok (Some v)
+of_answer (Err e) = Err e
+
+-- an answer at a moment is what is sent
+abbrev pub IsSent : (Found State → Answered) → Option Said → Option (List ℕ) → Option (List ℕ) → Type 0
+IsSent answers said before after = (f : Found State) (moments : List ℕ) → before ≡ Some moments → (rest : List ℕ) × (reacts f moments said ≡ Sends (answers f) rest) × (after ≡ Some rest)
+
+module _ {K V : Type 0} (items : V → List ℕ) (k : Ghosts K) (answers : Found State → Answered) (old new : Running K) (r : Result V ServeFault) (makes : Makes items k answers old new r)
+    (said : Option Said) (before after : Option (List ℕ)) (sent : IsSent answers said before after) where
+  sends_so : (f : Found State) (moments rest : List ℕ) → after ≡ Some rest → (r : Result V ServeFault) → MadeSo items k f (answers f) r new → ReactsSo items k f moments (Sends (answers f) rest) (of_answer r) new after
+  sends_so f moments rest is (Ok v) made = (made.0, made.1, is)
+  sends_so f moments rest is (Err faults.Disk) made = made
+  sends_so f moments rest is (Err faults.Clock) made = absurd made
+  sends_so f moments rest is (Err faults.NoMemory) made = made
+
+  still_up : (r : Result V ServeFault) → IfOk r (λ _. IsSome new.state) → IfOk (of_answer r) (λ _. IsSome new.state)
+  still_up (Ok v) up = up
+  still_up (Err e) up = tt
+
+  same_fault : (r : Result V ServeFault) (e : ServeFault) → of_answer r ≡ Err e → r ≡ Err e
+  same_fault (Ok v) e is = absurd (cc is)
+  same_fault (Err x) e is = cc is
+
+  framed : Reacts items k said old new (of_answer r) before after
+  framed = record {
+    up = still_up r makes.up;
+    answer = λ f moments stands is.
+        let s = sent f moments is in
+        subst (λ (x : Reaction). ReactsSo items k f moments x (of_answer r) new after) (sym s.1) (sends_so f moments s.0 s.2 r (makes.made f stands));
+    any_moment = λ f moments stands is.
+        let s = sent f moments is in
+        subst (λ (x : Reaction). IfSome (k.told old.keeper) (λ _. LeavesOnly k.moment k.left_since old.keeper new.keeper (FindsOneOf f x))) (sym s.1) (makes.any_moment f stands);
+    left = λ f moments stands is.
+        let s = sent f moments is in
+        subst (λ (x : Reaction). IfSome (k.told old.keeper) (λ _. Among (FindsOneOf f x) (k.may_leave new.keeper))) (sym s.1) (makes.left f stands);
+    told = makes.told;
+    disk = λ is. makes.disk (same_fault r faults.Disk is);
+    disk_never_falls = makes.disk_never_falls;
+  }
+
+  pub answers_ok : (v : V) (out : Result (Option V) ServeFault) → r ≡ Ok v → out ≡ Ok (Some v) → Reacts items k said old new out before after
+  answers_ok v out is so = subst (λ (o : Result (Option V) ServeFault). Reacts items k said old new o before after) (ap of_answer is ∙ sym so) framed
+
+  pub answers_err : (e : ServeFault) (out : Result (Option V) ServeFault) → r ≡ Err e → out ≡ Err e → Reacts items k said old new out before after
+  answers_err e out is so = subst (λ (o : Result (Option V) ServeFault). Reacts items k said old new o before after) (ap of_answer is ∙ sym so) framed
+
+  -- and no clock failed
+  pub no_clock : r ≡ Err faults.Clock → IsSome old.state → IsInOrder k old → ⊥
+  no_clock is up order = by (order_of old.state refl up)
+    where
+      by : (f : Found State) × Stands k f old → ⊥
+      by t = subst (λ (x : Result V ServeFault). MadeSo items k t.0 (answers t.0) x new) is (makes.made t.0 t.1)
+
+      order_of : (o : Option State) → old.state ≡ o → IsSome o → (f : Found State) × Stands k f old
+      order_of None is up = absurd (cc up)
+      order_of (Some s) is up = let at = (order.up s is).0 in (found s at.log, (is, at.at))
+
+-- where it stands, with what is told
+abbrev pub with_bytes : Found State → List ℕ → Answered
+with_bytes f bytes = (f, bytes)
+
+-- one error
+pub same_err : {A E : Type 0} (r : Result A E) (x y : E) → r ≡ Err x → r ≡ Err y → x ≡ y
+same_err r x y first second = cc (first, second)
+
+-- a line takes the first of the moments that the clock is going to give
+pub line_sent : (body : List ℕ) (now : ℕ) (before after : Option (List ℕ)) → IfSome before (λ moments. Takes now moments after) → IsSent (λ f. acts f now (deed_said body)) (Some (Gives body)) before after
+line_sent body now before after taken f moments is =
+    let t = at_told before (λ moments. Takes now moments after) moments is taken in
+    (t.0, ap (λ (moments : List ℕ). reacts f moments (Some (Gives body))) t.1, t.2)

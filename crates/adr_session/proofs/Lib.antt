@@ -1,0 +1,11 @@
+pub mod Reacting
+pub mod Talking
+pub mod Leaving
+pub mod Hearing
+pub mod Messages
+pub mod Connections
+pub mod Making
+pub mod FrameAnswers
+pub mod CallAnswers
+pub mod FrameKinds
+pub mod LineDeeds

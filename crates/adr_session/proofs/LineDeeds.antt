@@ -1,0 +1,16 @@
+-- What a client's line says may be done.
+use Rattle.std.proofs.Common.{◌≡◌, List, ℕ, Option, Some, None, IfSome}
+use Rattle.std.specs.Option.{option_and_then}
+use Rattle.adr_event.specs.declared.event.Event.{Event}
+use Rattle.adr_event.specs.declared.event.Event.TheVariants as events
+use Rattle.adr_schedule.specs.Commands.{event_of}
+use Rattle.adr_law_lines.specs.Said.{LinesSayGivenCalls}
+use Rattle.adr_session.specs.Lines.{IsGivenDeed, deed_of, named}
+
+deeds_given : LinesSayGivenCalls → (line : List ℕ) (e : Event) → event_of line ≡ Some e → IfSome (deed_of e) IsGivenDeed
+deeds_given law line (events.Write name what) is = λ now small. law line name what now is small
+deeds_given law line _ is = tt
+
+pub said_given : LinesSayGivenCalls → (o : Option (List ℕ × List ℕ)) (e : Event) → option_and_then (λ w. event_of (named w)) o ≡ Some e → IfSome (deed_of e) IsGivenDeed
+said_given law None e is = absurd (cc is)
+said_given law (Some w) e is = deeds_given law (named w) e is

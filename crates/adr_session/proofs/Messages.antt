@@ -1,0 +1,143 @@
+-- One message of a connection: what was heard, what it came to, and what was sent.
+use Rattle.std.proofs.Common.{◌≡◌, inl, inr, ℕ, List, ◌++◌, take, Option, Some, None, Result, Ok, Err, refl, sym, ap, subst, ◌∙◌}
+use Rattle.std.specs.Prelude.{IfSome}
+use Rattle.adr_model.specs.Store.{State}
+use Rattle.adr_law_journal.specs.Areas.{Started}
+use Rattle.adr_law_journal.proofs.Told.{at_told}
+use Rattle.adr_journal.specs.declared.keeper.Keeper.{Ghosts}
+use Rattle.adr_controller.specs.Running.{Running}
+use Rattle.adr_outside.specs.Traffic.{Traffic, Sends as SendsAll, SendsFront}
+use Rattle.adr_frames.specs.Frames.{IsFrame, frame, next_in}
+use Rattle.adr_session.specs.declared.ending.End.{End}
+use Rattle.adr_session.specs.declared.ending.End.TheVariants as ended
+use Rattle.adr_session.specs.declared.ending.ServeFault.{ServeFault}
+use Rattle.adr_session.specs.declared.ending.ServeFault.TheVariants as faults
+use Rattle.adr_session.specs.Talk.{Point, Stops, Reaction, Sends, Leaves, turn, takes, does, reaction}
+use Rattle.adr_session.specs.Told.{FindsNear, FindsOneOf, ReactsSo, ReactsTo, SaysLine, StandsNear, TakesTurn}
+
+-- the message that comes next is what a frame comes to
+pub turn_is :
+    (p : Point) (bytes rest : List ℕ) → next_in p.left ≡ IsFrame bytes rest
+    → turn p ≡ does p rest (reaction p.stands p.moments bytes)
+turn_is p bytes rest next = ap (takes p) next
+
+-- a start finds the one state or the other
+pub one_near :
+    (p : Point) (rest : List ℕ) (r : Reaction) → turn p ≡ does p rest r → (s : Started State) → FindsOneOf p.stands r s
+    → FindsNear p s
+one_near p rest (Sends a moments) is s (inl here) = (p, inl refl, here)
+one_near p rest (Sends a moments) is s (inr next) = (record { stands = a.0; moments = moments; left = rest; sent = p.sent ++ frame a.1 }, inr is, next)
+one_near p rest (Leaves ends) is s here = (p, inl refl, here)
+
+module _ {K V : Type 0} (items : V → List ℕ) (k : Ghosts K) (t : Traffic) (p : Point) (rest : List ℕ) (c : Running K) (clock : Option (List ℕ)) where
+  abbrev pub heard : Traffic
+  heard = record t { left = rest; sent = p.sent }
+
+  abbrev Reacted : Option V → Reaction → Type 0
+  Reacted o r = ReactsTo items k p.stands p.moments o r c clock
+
+  -- no message of a client
+  pub ends_malformed :
+      (o : Option V) (r : Reaction) → o ≡ None → turn p ≡ does p rest r → Reacted o r → (net : Option Traffic) → net ≡ Some heard
+      → TakesTurn k t p (Ok (Some ended.Malformed)) c net clock
+  ends_malformed o r none is reacts net now = by r is (subst (λ (x : Option V). Reacted x r) none reacts)
+    where
+      by : (r : Reaction) → turn p ≡ does p rest r → Reacted None r → TakesTurn k t p (Ok (Some ended.Malformed)) c net clock
+      by (Sends a moments) is reacts = absurd reacts
+      by (Leaves ends) is reacts = (is ∙ ap Stops reacts.0, record { stands = reacts.1; net = (rest, now); clock = reacts.2 })
+
+  -- its frame was sent
+  sent_all :
+      (v : V) (r : Reaction) → turn p ≡ does p rest r → Reacted (Some v) r → (net : Option Traffic)
+      → SendsAll heard net (frame (items v)) → TakesTurn k t p (Ok None) c net clock
+  sent_all v (Leaves ends) is reacts net sends = absurd reacts
+  sent_all v (Sends a moments) is reacts net sends = (
+    record { stands = a.0; moments = moments; left = rest; sent = p.sent ++ frame a.1 },
+    is,
+    record {
+      stands = reacts.1;
+      net = sends.1 ∙ ap (λ (bytes : List ℕ). Some (record t { left = rest; sent = p.sent ++ frame bytes })) reacts.0;
+      clock = reacts.2;
+    },
+  )
+
+  -- a front of it was sent
+  sent_front :
+      (v : V) (r : Reaction) → turn p ≡ does p rest r → Reacted (Some v) r → (net : Option Traffic)
+      → SendsFront heard net (frame (items v)) → TakesTurn k t p (Ok (Some ended.Fault)) c net clock
+  sent_front v (Leaves ends) is reacts net sends = absurd reacts
+  sent_front v (Sends a moments) is reacts net sends = (
+    record { stands = a.0; moments = moments; left = rest; sent = p.sent ++ frame a.1 },
+    record {
+      near = inr is;
+      stands = reacts.1;
+      due = frame a.1;
+      whole = refl;
+      count = sends.0;
+      net = (rest, sends.1 ∙ ap (λ (bytes : List ℕ). Some (record t { left = rest; sent = p.sent ++ take sends.0 (frame bytes) })) reacts.0);
+      clock = reacts.2;
+    },
+  )
+
+  -- nothing of it was sent
+  sent_none :
+      (v : V) (r : Reaction) → turn p ≡ does p rest r → Reacted (Some v) r → (net : Option Traffic) → net ≡ Some heard
+      → TakesTurn k t p (Err faults.NoMemory) c net clock
+  sent_none v (Leaves ends) is reacts net now = absurd reacts
+  sent_none v (Sends a moments) is reacts net now = (
+    record { stands = a.0; moments = moments; left = rest; sent = p.sent ++ frame a.1 },
+    record { near = inr is; stands = reacts.1; net = (rest, now) },
+  )
+
+  module _ (o : Option V) (v : V) (r : Reaction) (some : o ≡ Some v) (is : turn p ≡ does p rest r) (reacts : Reacted o r) where
+    reacts_some : Reacted (Some v) r
+    reacts_some = subst (λ (x : Option V). Reacted x r) some reacts
+
+    pub goes_on_so :
+        (before net : Option Traffic) (bytes : List ℕ) → before ≡ Some heard → bytes ≡ items v → IfSome before (λ u. SendsAll u net (frame bytes))
+        → TakesTurn k t p (Ok None) c net clock
+    goes_on_so before net bytes now same sends =
+        sent_all v r is reacts_some net
+        (subst (λ (b : List ℕ). SendsAll heard net (frame b)) same (at_told before (λ u. SendsAll u net (frame bytes)) heard now sends))
+
+    -- a fault of the line came within its frame
+    pub cut_within :
+        (before net : Option Traffic) (bytes : List ℕ) → before ≡ Some heard → bytes ≡ items v → IfSome before (λ u. SendsFront u net (frame bytes))
+        → TakesTurn k t p (Ok (Some ended.Fault)) c net clock
+    cut_within before net bytes now same sends =
+        sent_front v r is reacts_some net
+        (subst (λ (b : List ℕ). SendsFront heard net (frame b)) same (at_told before (λ u. SendsFront u net (frame bytes)) heard now sends))
+
+    -- memory was wanting for its frame
+    pub wanting_within :
+        (before net : Option Traffic) → before ≡ Some heard → net ≡ before → TakesTurn k t p (Err faults.NoMemory) c net clock
+    wanting_within before net now stays = sent_none v r is reacts_some net (stays ∙ now)
+
+  wanting_near :
+      (r : Reaction) → turn p ≡ does p rest r → StandsNear k p.stands r c → (net : Option Traffic) → net ≡ Some heard → TakesTurn k t p (Err faults.NoMemory) c net clock
+  wanting_near (Leaves ends) is near net now = (p, record { near = inl refl; stands = near; net = (rest, now) })
+  wanting_near (Sends a moments) is (inl here) net now = (p, record { near = inl refl; stands = here; net = (rest, now) })
+  wanting_near (Sends a moments) is (inr there) net now = (
+    record { stands = a.0; moments = moments; left = rest; sent = p.sent ++ frame a.1 },
+    record { near = inr is; stands = there; net = (rest, now) },
+  )
+
+  -- the node can't go on
+  pub fails_so :
+      (bytes : List ℕ) (fault : ServeFault) → next_in p.left ≡ IsFrame bytes rest
+      → ReactsSo items k p.stands p.moments (reaction p.stands p.moments bytes) (Err fault) c clock
+      → (fault ≡ faults.Clock → SaysLine bytes) → (net : Option Traffic) → net ≡ Some heard → TakesTurn k t p (Err fault) c net clock
+  fails_so bytes faults.Disk next reacts line net now = record { state = reacts; net = (rest, now) }
+  fails_so bytes faults.Clock next reacts line net now = (
+    (bytes, rest, next, line refl),
+    record { stands = reacts.0; net = (rest, now); clock = reacts.1 },
+  )
+  fails_so bytes faults.NoMemory next reacts line net now =
+      wanting_near (reaction p.stands p.moments bytes) (turn_is p bytes rest next) reacts net now
+
+-- a fault that is handed on
+pub handed_on :
+    {K : Type 0} (k : Ghosts K) (t : Traffic) (p : Point) (c : Running K) (net : Option Traffic) (clock : Option (List ℕ)) (r : Result (Option End) ServeFault) (e f : ServeFault)
+    → r ≡ Err e → e ≡ f → TakesTurn k t p (Err f) c net clock → TakesTurn k t p r c net clock
+handed_on k t p c net clock r e f is same turn =
+    subst (λ (x : Result (Option End) ServeFault). TakesTurn k t p x c net clock) (sym (is ∙ ap (λ (x : ServeFault). let y : Result (Option End) ServeFault = Err x in y) same)) turn

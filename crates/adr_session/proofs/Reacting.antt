@@ -1,0 +1,18 @@
+-- What a frame comes to where nothing has changed.
+use Rattle.std.proofs.Common.{inl}
+use Rattle.adr_law_journal.specs.Areas.{Found, Started}
+use Rattle.adr_law_journal.specs.Kept.{FindsState}
+use Rattle.adr_model.specs.Store.{State}
+use Rattle.adr_journal.specs.declared.keeper.Keeper.{Ghosts}
+use Rattle.adr_controller.specs.Running.{Running}
+use Rattle.adr_session.specs.Talk.{Reaction, Sends, Leaves}
+use Rattle.adr_session.specs.Told.{FindsOneOf, Stands, StandsNear}
+
+pub finds_one : (f : Found State) (r : Reaction) (s : Started State) → FindsState f.state s → FindsOneOf f r s
+finds_one f (Sends a rest) s here = inl here
+finds_one f (Leaves ends) s here = here
+
+pub stands_near :
+    {K : Type 0} (k : Ghosts K) (f : Found State) (r : Reaction) (c : Running K) → Stands k f c → StandsNear k f r c
+stands_near k f (Sends a rest) c here = inl here
+stands_near k f (Leaves ends) c here = here

@@ -1,0 +1,5 @@
+pub mod Lines
+pub mod Talk
+pub mod Told
+pub mod Worked
+pub mod Made

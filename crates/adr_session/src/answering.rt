@@ -1,0 +1,166 @@
+//! What a client says, and what it is answered.
+
+ghost use Rattle.std.specs.Prelude.{◌≡◌, ◌<◌, ◌≤◌, ◌∷◌, ℕ, List, Option, Some, true, IfOk, IfSome, IsErrOf, IsSome};
+ghost use Rattle.adr_disk.specs.Disk.{Among, LeavesOnly};
+ghost use Rattle.adr_model.specs.Store.{State as Defined};
+ghost use Rattle.adr_law_journal.specs.Areas.{Found};
+ghost use Rattle.adr_session.specs.Lines.{deed_said};
+ghost use Rattle.adr_session.specs.Made.{Makes, Reacts};
+ghost use Rattle.adr_session.specs.Talk.{acts, is_line, reaction, said_in};
+ghost use Rattle.adr_session.specs.Told.{FindsOneOf, KeepsLog, ReactsSo, SaysLine, Stands};
+
+use crate::acting::act;
+use crate::ending::ServeFault;
+use crate::framing::{GREETING, LINE, OUTCOME, REQUEST, framed, greet, is_line};
+use crate::lines::deed_said;
+use crate::replying::reply_to;
+use adr_controller::{Controller, Keeper};
+use adr_io::Fault;
+use adr_outside::Clock;
+use adr_packet::{Failure, decode_request, requests_have_one_spelling};
+use std::alloc::Global;
+
+/// What stands behind the kind of a request, answered, or none where that is no request.
+fn answer_request<K: Keeper>(
+    alloc: Global,
+    controller: &mut Controller<K>,
+    body: &[u8],
+) -> Result<Option<Vec<u8>>, ServeFault>
+    requires up { IsSome controller.old.state }
+    requires log { KeepsLog K.Keeper }
+    ensures answer { (moments : Option (List ℕ))
+        → Reacts (λ v. v.items) K.Keeper (said_in (1 ∷ body.now)) controller.old controller.new result moments moments }
+    ensures no_clock { IsErrOf result ServeFault.Clock → ⊥ }
+{
+    requests_have_one_spelling();
+    let _ = controller.state();
+    let request = match decode_request(alloc, body) {
+        Ok(request) => request,
+        Err(Failure::Refused(_)) => return Ok(None),
+        Err(Failure::NoMemory) => return Err(ServeFault::NoMemory),
+    };
+    Ok(Some(reply_to(alloc, controller, &request)?))
+}
+
+/// What a line is answered at a moment in seconds: a bad one is told so, and else its deed is done.
+fn answer_at<K: Keeper>(
+    alloc: Global,
+    controller: &mut Controller<K>,
+    line: &[u8],
+    now: u64,
+) -> Result<Vec<u8>, ServeFault>
+    requires up { IsSome controller.old.state }
+    requires log { KeepsLog K.Keeper }
+    ensures { Makes (λ v. v.items) K.Keeper (λ f. acts f now (deed_said line.now)) controller.old controller.new result }
+{
+    let _ = controller.state();
+    match deed_said(alloc, line)? {
+        Some(deed) => act(alloc, controller, &deed, now),
+        None => Ok(framed(alloc, OUTCOME, b"bad line")?),
+    }
+}
+
+/// What stands behind the kind of a line, answered at the present moment, or none where that is no line.
+fn answer_line<K: Keeper, C: Clock>(
+    alloc: Global,
+    controller: &mut Controller<K>,
+    clock: &mut C,
+    body: &[u8],
+) -> Result<Option<Vec<u8>>, ServeFault>
+    requires up { IsSome controller.old.state }
+    requires log { KeepsLog K.Keeper }
+    ensures answer { Reacts (λ v. v.items) K.Keeper (said_in (4 ∷ body.now)) controller.old controller.new result
+        (C.moments clock.old) (C.moments clock.new) }
+    ensures at_line { IsErrOf result ServeFault.Clock → is_line body.now ≡ true }
+    ensures clock { IsErrOf result ServeFault.Clock → C.faults clock.old < C.faults clock.new }
+    ensures clock_never_falls { C.faults clock.old ≤ C.faults clock.new }
+{
+    let _ = controller.state();
+    if !is_line(body) {
+        return Ok(None);
+    }
+    let now = match clock.now() {
+        Ok(now) => now,
+        Err(Fault::Failed) => return Err(ServeFault::Clock),
+        Err(Fault::NoMemory) => return Err(ServeFault::NoMemory),
+    };
+    Ok(Some(answer_at(alloc, controller, body, now)?))
+}
+
+/// What stands behind the kind of a greeting, answered, or none where that is anything.
+fn answer_greeting<K: Keeper>(
+    alloc: Global,
+    controller: &mut Controller<K>,
+    body: &[u8],
+) -> Result<Option<Vec<u8>>, ServeFault>
+    requires up { IsSome controller.old.state }
+    ensures answer { (moments : Option (List ℕ))
+        → Reacts (λ v. v.items) K.Keeper (said_in (6 ∷ body.now)) controller.old controller.new result moments moments }
+    ensures no_clock { IsErrOf result ServeFault.Clock → ⊥ }
+{
+    let _ = controller.state();
+    if !body.is_empty() {
+        return Ok(None);
+    }
+    Ok(Some(greet(alloc, controller)?))
+}
+
+/// What the bytes of a frame are answered, by their kind.
+fn answer<K: Keeper, C: Clock>(
+    alloc: Global,
+    controller: &mut Controller<K>,
+    clock: &mut C,
+    bytes: &[u8],
+) -> Result<Option<Vec<u8>>, ServeFault>
+    requires up { IsSome controller.old.state }
+    requires log { KeepsLog K.Keeper }
+    ensures answer { Reacts (λ v. v.items) K.Keeper (said_in bytes.now) controller.old controller.new result
+        (C.moments clock.old) (C.moments clock.new) }
+    ensures at_line { IsErrOf result ServeFault.Clock → SaysLine bytes.now }
+    ensures clock { IsErrOf result ServeFault.Clock → C.faults clock.old < C.faults clock.new }
+    ensures clock_never_falls { C.faults clock.old ≤ C.faults clock.new }
+{
+    let _ = controller.state();
+    let Some((kind, body)) = bytes.split_first() else {
+        return Ok(None);
+    };
+    match *kind {
+        REQUEST => answer_request(alloc, controller, body),
+        LINE => answer_line(alloc, controller, clock, body),
+        GREETING => answer_greeting(alloc, controller, body),
+        _ => Ok(None),
+    }
+}
+
+/// What the bytes of a frame are answered, or none where they say nothing that a client says. What it is answered is
+/// committed before.
+pub(crate) fn react<K: Keeper, C: Clock>(
+    alloc: Global,
+    controller: &mut Controller<K>,
+    clock: &mut C,
+    bytes: &[u8],
+) -> Result<Option<Vec<u8>>, ServeFault>
+    requires up { IsSome controller.old.state }
+    requires log { KeepsLog K.Keeper }
+    ensures up { IfOk result (λ _. IsSome controller.new.state) }
+    ensures reacts { (f : Found Defined) (moments : List ℕ) → Stands K.Keeper f controller.old → C.moments clock.old ≡ Some moments
+        → ReactsSo (λ v. v.items) K.Keeper f moments (reaction f moments bytes.now) result controller.new (C.moments clock.new) }
+
+    // A clock is read for a line alone.
+    ensures at_line { IsErrOf result ServeFault.Clock → SaysLine bytes.now }
+
+    // Whatever it answers, what a start finds behind a crash at any moment of the call, and behind one from then on.
+    ensures any_moment { (f : Found Defined) (moments : List ℕ) → Stands K.Keeper f controller.old → C.moments clock.old ≡ Some moments
+        → IfSome (K.told controller.old.keeper) (λ _.
+        LeavesOnly K.moment K.left_since controller.old.keeper controller.new.keeper (FindsOneOf f (reaction f moments bytes.now))) }
+    ensures left { (f : Found Defined) (moments : List ℕ) → Stands K.Keeper f controller.old → C.moments clock.old ≡ Some moments
+        → IfSome (K.told controller.old.keeper) (λ _.
+        Among (FindsOneOf f (reaction f moments bytes.now)) (K.may_leave controller.new.keeper)) }
+    ensures told { IsSome (K.told controller.old.keeper) → IsSome (K.told controller.new.keeper) }
+    ensures disk { IsErrOf result ServeFault.Disk → K.faults controller.old.keeper < K.faults controller.new.keeper }
+    ensures disk_never_falls { K.faults controller.old.keeper ≤ K.faults controller.new.keeper }
+    ensures clock { IsErrOf result ServeFault.Clock → C.faults clock.old < C.faults clock.new }
+    ensures clock_never_falls { C.faults clock.old ≤ C.faults clock.new }
+{
+    answer(alloc, controller, clock, bytes)
+}
