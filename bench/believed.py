@@ -1,9 +1,9 @@
 #!/usr/bin/env python3
-"""What a reader has to believe, held against the two tables of docs/MODEL.md.
+"""What a reader has to believe, held against the three tables of docs/MODEL.md.
 
 It goes from contracts along the imports, definition by definition: of each it takes the names that its own text uses, and from
-there the definitions of these. The first table is what the contract of `run` reaches, the second what else the other claims
-reach (ROOTS). A type that has a view is followed by its view, another by its fields, and a trait whole. Fields of records count
+there the definitions of these. The first table is what the claims on schedules reach (THEOREM), the second what else the contract
+of `run` does (COMMANDS), the third what else the other claims reach (OTHERS). A type that has a view is followed by its view, another by its fields, and a trait whole. Fields of records count
 with their record, and a local name that is also that of a definition counts as that, so a little too much is found, and nothing
 too little. The standard library's definitions are left out.
 
@@ -21,9 +21,10 @@ from pathlib import Path
 TREE = Path(__file__).resolve().parent.parent
 CRATES = TREE / "crates"
 
-RUN = [("adr_cmd/src/top.rt", "fn run")]
 # Functions, types with all their public functions, and traits.
-ROOTS = [
+THEOREM = [("adr_run_replay", "fn *"), ("adr_words/src/reading.rt", "fn command")]
+COMMANDS = [("adr_cmd/src/top.rt", "fn run")]
+OTHERS = [
     ("adr_run_world/src/world.rt", "type World"),
     ("adr_run_replica", "type Replica"),
     ("adr_controller", "type Controller"),
@@ -45,6 +46,9 @@ ROOTS = [
     ("adr_packet", "fn *"),
     ("adr_law_messages", "fn *"),
     ("adr_json", "fn *"),
+    ("adr_frames", "fn *"),
+    ("adr_session", "fn *"),
+    ("adr_pull", "fn *"),
     ("adr_restore", "type Image"),
     ("adr_law_journal", "fn *"),
     ("adr_law_controller", "fn *"),
@@ -242,12 +246,20 @@ def compared(title, there, table, elsewhere):
 
 
 def main():
-    # What begins a search is what is claimed, and no definition.
-    of_run, of_all = ({d: t for d, t in reached(roots).items() if " " not in d[1]} for roots in (RUN, RUN + ROOTS))
-    more = {d: t for d, t in of_all.items() if d not in of_run}
-    first, second = listed()
-    lacks = compared("What `run` says", of_run, first, set())
-    return compared("What the other claims say beyond that", more, second, first) or lacks
+    roots, seen, listed_so_far, lacks = [], {}, set(), False
+    parts = (
+        ("What the theorem says", THEOREM),
+        ("What the commands say beyond that", COMMANDS),
+        ("What the other claims say beyond that", OTHERS),
+    )
+    for (title, more), table in zip(parts, listed(), strict=True):
+        roots = roots + more
+        # What begins a search is what is claimed, and no definition.
+        there = {d: t for d, t in reached(roots).items() if " " not in d[1] and d not in seen}
+        lacks = compared(title, there, table, listed_so_far) or lacks
+        seen.update(there)
+        listed_so_far |= table
+    return lacks
 
 
 if __name__ == "__main__":
