@@ -1,5 +1,5 @@
 -- What a status says of a command over a disk.
-use Rattle.std.proofs.Common.{◌≡◌, ◌<◌, ◌≤◌, ◌⊎◌, inl, refl, sym, ◌∙◌, subst, ℕ, List, Option, Some, None, Ok, Err, arith}
+use Rattle.std.proofs.Common.{◌≡◌, ◌<◌, ◌≤◌, inl, refl, sym, subst, ℕ, List, Option, Some, None, arith}
 use Rattle.std.specs.Prelude.{codes}
 use Rattle.adr_disk.specs.Disk.{Keeps}
 use Rattle.adr_io.specs.declared.Source.{Ghosts as SourceGhosts}
@@ -171,7 +171,7 @@ module _ {S K D F : Type 0} (s : SourceGhosts S) (k : SinkGhosts K) (d : DiskGho
 
 -- ---- where memory was wanting before anything was done
 
-keeps_itself : {D : Type 0} (d : DiskGhosts D) (disk : D) → Keeps d.content d.may_leave d.moment d.left_since disk disk
+pub keeps_itself : {D : Type 0} (d : DiskGhosts D) (disk : D) → Keeps d.content d.may_leave d.moment d.left_since disk disk
 keeps_itself d disk = record {
   content_stays = refl;
   no_more = λ x left. left;

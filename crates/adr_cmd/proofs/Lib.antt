@@ -1,2 +1,3 @@
 pub mod TopLemmas
 pub mod DiskLemmas
+pub mod OnlineLemmas

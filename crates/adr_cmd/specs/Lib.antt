@@ -1,2 +1,3 @@
 pub mod Work
 pub mod OnDisk
+pub mod Online

@@ -1,6 +1,6 @@
 //! The top call.
 
-ghost use Rattle.std.specs.Prelude.{◌≡◌, ◌⊎◌, ◌<◌, ◌≤◌, ◌+◌, ℕ, List, [], map, string_bytes, OnOk, OnErr, IfOk, IfSome, drop, Some};
+ghost use Rattle.std.specs.Prelude.{◌≡◌, ◌⊎◌, ◌<◌, ◌≤◌, ◌+◌, ℕ, List, [], map, string_bytes, IfOk, IfSome, drop, Some};
 ghost use Rattle.adr_io.specs.Told.{Adds, AddsFront};
 ghost use Rattle.adr_law_headline.specs.Headline.{IsHeadline};
 ghost use Rattle.adr_answers.specs.Laws.{EqualLinesMeanEqualDirectories};
@@ -10,21 +10,24 @@ ghost use Rattle.adr_law_exported.specs.Exportable.{TextsAreExportable};
 ghost use Rattle.adr_schedule.specs.Limits.{text_limit};
 ghost use Rattle.adr_run_replay.specs.Outcome.{Gives, GeneratedRunsAreSo, TextsGiveOne, exercised};
 ghost use Rattle.adr_run_replay.specs.Shown.{AtEachShow};
-ghost use Rattle.adr_cmd.specs.Work.{on_disk, usage_line, work};
+ghost use Rattle.adr_cmd.specs.Work.{usage_line, work, work_of};
 ghost use Rattle.adr_cmd.specs.OnDisk.{DoesSo};
+ghost use Rattle.adr_cmd.specs.Online.{IsOffline, PullsSo, SendsSo, ServesSo};
 ghost use Rattle.adr_cmd.specs.declared.disk.DiskCommand.{DiskCommand};
-ghost use Rattle.adr_cmd.specs.declared.top.Work.TheVariants.{Replay as Replays, Exercise as Exercises, OnDisk as IsOnDisk};
+ghost use Rattle.adr_cmd.specs.declared.top.Work.TheVariants.{Replay as Replays, Exercise as Exercises, OnDisk as IsOnDisk, Serve as Serves, Pull as Pulls, Send as Sends};
 
 use crate::disk::{DiskCommand, perform};
+use crate::online::{pull_from, send_to, serve_at};
+use adr_call::Text;
 use adr_disk::Disk;
 use adr_failure::NoMemory;
 use adr_io::{Sink, Source};
-use adr_outside::Fresh;
+use adr_outside::{Clock, Fresh, Net};
 use adr_run_replay::{ended, exercise, replay, runs_are_so};
 use adr_words::{Command, command};
 use std::alloc::Global;
 
-/// What the program does yet.
+/// What the program does.
 #[derive(Drop)]
 enum Work {
     /// Runs the schedule that is read.
@@ -33,34 +36,39 @@ enum Work {
     Exercise { number: u32 },
     /// Does a command over a disk.
     OnDisk(DiskCommand),
+    /// Serves so many connections at a port.
+    Serve { name: Text, port: u16, count: u32 },
+    /// Pulls a cycle from the node at a port.
+    Pull { name: Text, port: u16 },
+    /// Sends the lines that are read to the node at a port.
+    Send { port: u16 },
 }
 
-/// The command over a disk, if it is one that runs yet.
-fn on_disk(command: Command) -> Option<DiskCommand>
-    ensures { result ≡ on_disk command }
+/// What a command is done by.
+fn work_of(command: Command) -> Work
+    ensures { result ≡ work_of command }
 {
     match command {
-        Command::Create { name } => Some(DiskCommand::Create { name }),
-        Command::Install { name } => Some(DiskCommand::Install { name }),
-        Command::Restore { name, dsa } => Some(DiskCommand::Restore { name, dsa }),
-        Command::Backup { name } => Some(DiskCommand::Backup { name }),
-        Command::Show { name } => Some(DiskCommand::Show { name }),
-        Command::Export { name } => Some(DiskCommand::Export { name }),
-        _ => None,
+        Command::Replay => Work::Replay,
+        Command::Exercise { number } => Work::Exercise { number },
+        Command::Create { name } => Work::OnDisk(DiskCommand::Create { name }),
+        Command::Install { name } => Work::OnDisk(DiskCommand::Install { name }),
+        Command::Restore { name, dsa } => Work::OnDisk(DiskCommand::Restore { name, dsa }),
+        Command::Backup { name } => Work::OnDisk(DiskCommand::Backup { name }),
+        Command::Show { name } => Work::OnDisk(DiskCommand::Show { name }),
+        Command::Export { name } => Work::OnDisk(DiskCommand::Export { name }),
+        Command::Serve { name, port, count } => Work::Serve { name, port, count },
+        Command::Pull { name, port } => Work::Pull { name, port },
+        Command::Send { port } => Work::Send { port },
     }
 }
 
-/// What the words ask for, of that which the program does yet.
+/// What the words ask for.
 fn asked(alloc: Global, words: &[String]) -> Result<Option<Work>, NoMemory>
     ensures { IfOk result (λ asks. asks ≡ work (map string_bytes words.now)) }
 {
     match command(alloc, words)? {
-        Some(Command::Replay) => Ok(Some(Work::Replay)),
-        Some(Command::Exercise { number }) => Ok(Some(Work::Exercise { number })),
-        Some(command) => match on_disk(command) {
-            Some(command) => Ok(Some(Work::OnDisk(command))),
-            None => Ok(None),
-        },
+        Some(command) => Ok(Some(work_of(command))),
         None => Ok(None),
     }
 }
@@ -77,16 +85,19 @@ fn usage<K: Sink>(sink: &mut K) -> u8
     ended(2, sink.write(USAGE.as_bytes()))
 }
 
-/// Runs the program's words, without its name, over a source, a sink, a disk that is attached by a name, and fresh
-/// identifiers. It answers the status, and the disk comes back: 0 done, 2 wrong words, 3 a text that is no schedule, 4 a
-/// read that failed, 5 a write that failed, 6 a call of the disk that failed, 8 want of memory, 9 refused, 10 a disk whose
-/// bytes are no log, 13 an identifier that couldn't be drawn.
-pub fn run<S: Source, K: Sink, D: Disk, F: Fresh>(
+/// Runs the program's words, without its name, over a source, a sink, a disk that is attached by a name, a network, a clock,
+/// and fresh identifiers. It answers the status, and the disk comes back: 0 done, 2 wrong words, 3 a text that is no schedule,
+/// or has a line that no client says, 4 a read that failed, 5 a write that failed, 6 a call of the disk that failed, 7 a call
+/// of the network that failed, 8 want of memory, 9 refused, 10 a disk whose bytes are no log, 11 a cycle that would go on, 12
+/// a clock that couldn't be read, 13 an identifier that couldn't be drawn, 14 a peer that says what isn't due.
+pub fn run<S: Source, K: Sink, D: Disk, N: Net, C: Clock, F: Fresh>(
     alloc: Global,
     words: &[String],
     source: &mut S,
     sink: &mut K,
     disk: D,
+    net: &mut N,
+    clock: &mut C,
     fresh: &mut F,
 ) -> (u8, D)
     // Wrong words get the usage line, and no other words do.
@@ -161,15 +172,46 @@ pub fn run<S: Source, K: Sink, D: Disk, F: Fresh>(
         (record { source = source.old; sink = sink.old; disk = disk; fresh = fresh.old })
         (record { source = source.new; sink = sink.new; disk = result.1; fresh = fresh.new }) result.0 }
 
+    // `serve` starts the controller on the disk, and answers what comes in so many connections, one message after the other. What
+    // is answered was committed before; what a start finds behind a crash is the controller behind some of the messages.
+    ensures serves { (name : List ℕ) (port count : ℕ) → work (map string_bytes words.now) ≡ Some (Serves name port count)
+        → ServesSo D.Disk N.Net C.Clock K.Sink count
+        (record { disk = disk; net = net.old; clock = clock.old; sink = sink.old })
+        (record { disk = result.1; net = net.new; clock = clock.new; sink = sink.new }) result.0 }
+    ensures served_alone { (name : List ℕ) (port count : ℕ) → work (map string_bytes words.now) ≡ Some (Serves name port count)
+        → (source.new ≡ source.old) × (fresh.new ≡ fresh.old) }
+
+    // `pull` takes a cycle of the node at the port, reply by reply. Each reply whose line was written is kept.
+    ensures pulls { (name : List ℕ) (port : ℕ) → work (map string_bytes words.now) ≡ Some (Pulls name port)
+        → PullsSo D.Disk N.Net K.Sink name
+        (record { disk = disk; net = net.old; sink = sink.old })
+        (record { disk = result.1; net = net.new; sink = sink.new }) result.0 }
+    ensures pulled_alone { (name : List ℕ) (port : ℕ) → work (map string_bytes words.now) ≡ Some (Pulls name port)
+        → (source.new ≡ source.old) × (clock.new ≡ clock.old) × (fresh.new ≡ fresh.old) }
+
+    // `send` looks at all lines that are read, sends one after the other, and writes their answers.
+    ensures sends { (port : ℕ) → work (map string_bytes words.now) ≡ Some (Sends port)
+        → SendsSo S.Source N.Net K.Sink source.old source.new net.old net.new sink.old sink.new result.0 }
+    ensures sent_alone { (port : ℕ) → work (map string_bytes words.now) ≡ Some (Sends port)
+        → (result.1 ≡ disk) × (clock.new ≡ clock.old) × (fresh.new ≡ fresh.old) }
+
+    // No other words use the network or the clock.
+    ensures offline { IsOffline (work (map string_bytes words.now)) → (net.new ≡ net.old) × (clock.new ≡ clock.old) }
+
     // A fault has its cause.
     ensures read_fault { result.0 ≡ 4 → S.faults source.old < S.faults source.new }
     ensures unwritten { result.0 ≡ 4 → sink.new ≡ sink.old }
     ensures write_fault { result.0 ≡ 5 → K.faults sink.old < K.faults sink.new }
     ensures disk_fault { result.0 ≡ 6 → D.faults disk < D.faults result.1 }
+    ensures link_fault { result.0 ≡ 7 → (N.doors net.old < N.doors net.new) ⊎ (N.lines net.old < N.lines net.new) }
+    ensures clock_fault { result.0 ≡ 12 → C.faults clock.old < C.faults clock.new }
     ensures fresh_fault { result.0 ≡ 13 → F.faults fresh.old < F.faults fresh.new }
     ensures source_faults { S.faults source.old ≤ S.faults source.new }
     ensures sink_faults { K.faults sink.old ≤ K.faults sink.new }
     ensures disk_faults { D.faults disk ≤ D.faults result.1 }
+    ensures net_doors { N.doors net.old ≤ N.doors net.new }
+    ensures net_lines { N.lines net.old ≤ N.lines net.new }
+    ensures clock_faults { C.faults clock.old ≤ C.faults clock.new }
     ensures fresh_faults { F.faults fresh.old ≤ F.faults fresh.new }
 {
     runs_are_so();
@@ -181,6 +223,11 @@ pub fn run<S: Source, K: Sink, D: Disk, F: Fresh>(
             drop(command);
             done
         }
+        Ok(Some(Work::Serve { name, port, count })) => {
+            serve_at(alloc, &name, port, count, disk, net, clock, sink)
+        }
+        Ok(Some(Work::Pull { name, port })) => pull_from(alloc, &name, port, disk, net, sink),
+        Ok(Some(Work::Send { port })) => (send_to(alloc, port, source, net, sink), disk),
         Ok(None) => (usage(sink), disk),
         Err(_) => (8, disk),
     }

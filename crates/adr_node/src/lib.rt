@@ -25,5 +25,6 @@ pub use creating::create;
 pub use ended::{BackedUp, Created, Installed, Looked, Refusal};
 pub use exporting::export;
 pub use installing::install;
+pub use lines::damaged_line;
 pub use restoring::restore;
 pub use showing::show;

@@ -4,7 +4,7 @@ use Rattle.std.proofs.lemmas.List.{append-nil, replicate_more, map_more, map_pus
 use Rattle.adr_disk.specs.Disk.{put}
 use Rattle.adr_disk.proofs.Bytes.{length-put, put-put}
 use Rattle.adr_disk.specs.Memory.{Write, over, torn_half, torn_write}
-use Rattle.adr_run_disk.specs.Platter.{write_of}
+use Rattle.adr_run_disk.specs.Entries.{write_of}
 use Rattle.adr_run_disk.specs.declared.platter.Entry.{Entry}
 use Rattle.adr_disk.proofs.Writes.{over-append, grows, length-over_torn}
 

@@ -3,6 +3,7 @@
 #![tactic(auto)]
 
 mod memory;
+mod passed;
 mod platter;
 
 pub use memory::MemDisk;

@@ -9,7 +9,7 @@ use adr_io::{Failures, Fault};
 use std::alloc::{AllocError, Global};
 use std::marker::Model;
 
-/// A disk in memory. It keeps all that was ever written, so that each earlier moment can be told.
+/// A disk in memory. What it was at each earlier moment only proofs tell.
 pub struct MemDisk {
     platter: Platter,
     plan: Option<Plan>,
@@ -48,7 +48,7 @@ impl MemDisk {
         ensures faults { result.faults ≡ 0 }
     {
         MemDisk {
-            platter: Platter::new(alloc, Vec::new(alloc), Vec::new(alloc), Vec::new(alloc)),
+            platter: Platter::new(alloc, Vec::new(alloc), Vec::new(alloc)),
             plan: None,
             stopped: false,
             failures: Failures::new(),
@@ -63,10 +63,9 @@ impl MemDisk {
         ensures running { IfOk result (λ disk. disk.stopped ≡ false) }
         ensures faults { IfOk result (λ disk. disk.faults ≡ 0) }
     {
-        let first = bytes.to_vec(alloc)?;
         let safe = bytes.to_vec(alloc)?;
         Ok(MemDisk {
-            platter: Platter::new(alloc, first, safe, bytes),
+            platter: Platter::new(alloc, safe, bytes),
             plan: None,
             stopped: false,
             failures: Failures::new(),

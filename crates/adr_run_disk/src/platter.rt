@@ -1,11 +1,11 @@
-//! The bytes of a disk in memory, those of them that are synced, and all that was ever written, from which each
-//! earlier moment can be told.
+//! The bytes of a disk in memory, those of them that are synced, and the writes since.
 
 ghost use Rattle.std.specs.Prelude.{◌≡◌, ◌+◌, ◌-◌, ◌/◌, ◌≤◌, ◌<◌, ◌^◌, ◌⊎◌, [], length, map, All, OnOk, OnErr, vec_len, vec_capacity};
 ghost use Rattle.adr_disk.specs.Disk.{put as put_over, IsSpare};
 ghost use Rattle.adr_disk.specs.Memory.{Held, over, read_of, left_by, torn_half, torn_write, all_synced, after_write, after_end, SameBytes};
-ghost use Rattle.adr_run_disk.specs.Platter.{IsInRange, EndsLast, write_of};
+ghost use Rattle.adr_run_disk.specs.Entries.{IsInRange, write_of};
 
+use crate::passed::Passed;
 use adr_disk::Crash;
 use std::alloc::{AllocError, Global};
 use std::marker::Model;
@@ -13,26 +13,23 @@ use std::marker::Model;
 /// What the rest of a torn write holds.
 const FILLER: u8 = 0xC3;
 
-/// A write, the place of its bytes in the log, and what ended it: a sync that kept it, or a crash.
+/// A write, and the place of its bytes in the log.
 #[derive(Clone, Copy)]
 pub struct Entry {
     at: usize,
     from: usize,
     len: usize,
-    end: Option<Crash>,
 }
 
 #[derive(Drop)]
 pub struct Platter {
-    /// What it held at first.
-    first: Vec<u8>,
-    /// All writes, in order, and all their bytes.
+    /// What it was before.
+    past: Passed,
+    /// What the last sync or crash left.
+    safe: Vec<u8>,
+    /// The writes since, in order, and their bytes.
     entries: Vec<Entry>,
     log: Vec<u8>,
-    /// How many of the writes have ended.
-    settled: usize,
-    /// What those left.
-    safe: Vec<u8>,
     /// What a read gives.
     bytes: Vec<u8>,
 }
@@ -129,35 +126,18 @@ fn give(bytes: &mut Vec<u8>, safe: &[u8], how: Crash)
     }
 }
 
-/// Says of the last write what ended it.
-fn end_last(entries: &mut Vec<Entry>, how: Crash)
-    requires { 0 < vec_len entries.old }
-    ensures items { EndsLast how entries.old.items entries.new.items }
-    ensures capacity { vec_capacity entries.old ≤ vec_capacity entries.new }
-{
-    if let Some(last) = entries.pop() {
-        let ended = Entry {
-            end: Some(how),
-            ..last
-        };
-        entries.push(ended).unwrap();
-    }
-}
-
 impl Platter {
-    /// These bytes, given three times, all of them synced.
-    pub fn new(alloc: Global, first: Vec<u8>, safe: Vec<u8>, bytes: Vec<u8>) -> Platter
-        requires safe { safe.items ≡ first.items }
-        requires bytes { bytes.items ≡ first.items }
-        ensures surface { result.surface ≡ all_synced first.items }
+    /// These bytes, given twice, all of them synced.
+    pub fn new(alloc: Global, safe: Vec<u8>, bytes: Vec<u8>) -> Platter
+        requires { bytes.items ≡ safe.items }
+        ensures surface { result.surface ≡ all_synced safe.items }
         ensures past { result.past ≡ [] }
     {
         Platter {
-            first,
+            past: Passed::new(),
+            safe,
             entries: Vec::new(alloc),
             log: Vec::new(alloc),
-            settled: 0,
-            safe,
             bytes,
         }
     }
@@ -194,8 +174,8 @@ impl Platter {
             at,
             from: self.log.len(),
             len: new.len(),
-            end: None,
         };
+        self.past.add(&self.safe, &self.entries, &self.log);
         put(&mut self.bytes, at, new);
         self.log.extend_from_slice(new).unwrap();
         self.entries.push(entry).unwrap();
@@ -206,18 +186,13 @@ impl Platter {
         ensures ended { SameBytes (after_end how self.old) self.new }
         ensures room { IsSpare self.old.room_calls self.old.room_bytes self.new.room_calls self.new.room_bytes }
     {
-        let count = self.entries.len();
-        if self.settled == count {
+        if self.entries.is_empty() {
             return;
         }
-        settle(
-            &mut self.safe,
-            &self.entries[self.settled..],
-            &self.log,
-            how,
-        );
+        self.past.add(&self.safe, &self.entries, &self.log);
+        settle(&mut self.safe, &self.entries, &self.log, how);
         give(&mut self.bytes, &self.safe, how);
-        end_last(&mut self.entries, how);
-        self.settled = count;
+        self.entries.clear();
+        self.log.clear();
     }
 }

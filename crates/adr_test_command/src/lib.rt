@@ -1,6 +1,6 @@
 //! Tests of what no clause says of the program's top call: its words, commands over a disk, and
-//! sources, sinks, disks and identifiers that fail. Whole schedules
-//! stand in `adr_test_transcripts`.
+//! sources, sinks, disks and identifiers that fail. Whole schedules stand in `adr_test_transcripts`, commands over a
+//! network in `adr_test_online`.
 #![tactic(auto)]
 
 #[cfg(test)]

@@ -4,7 +4,7 @@ use adr_cmd::run;
 use adr_guid::Guid;
 use adr_run_disk::MemDisk;
 use adr_test_io::{MemSink, MemSource};
-use adr_test_outside::MemFresh;
+use adr_test_outside::{MemClock, MemFresh, MemNet};
 use std::alloc::Global;
 use std::test::Fail;
 
@@ -83,6 +83,8 @@ fn outcome(
     if let Some(calls) = failing.disk {
         disk.fail_after(calls);
     }
+    let mut net = MemNet::new(alloc, Vec::new(alloc));
+    let mut clock = MemClock::new(Vec::new(alloc));
     let mut fresh = given(alloc, case.fresh, failing.fresh)?;
     let (status, disk) = run(
         alloc,
@@ -90,6 +92,8 @@ fn outcome(
         &mut source,
         &mut sink,
         disk,
+        &mut net,
+        &mut clock,
         &mut fresh,
     );
     Ok((status, Vec::from_slice(alloc, sink.bytes())?, disk))

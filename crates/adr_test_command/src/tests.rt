@@ -5,7 +5,7 @@ ghost use Rattle.std.specs.Prelude.{◌<◌};
 use adr_cmd::run;
 use adr_run_disk::MemDisk;
 use adr_test_io::{MemSink, MemSource};
-use adr_test_outside::MemFresh;
+use adr_test_outside::{MemClock, MemFresh, MemNet};
 use std::alloc::Global;
 use std::test::Fail;
 
@@ -48,6 +48,8 @@ fn outcome(
     if let Some(calls) = failing.write {
         sink.fail_after(calls);
     }
+    let mut net = MemNet::new(alloc, Vec::new(alloc));
+    let mut clock = MemClock::new(Vec::new(alloc));
     let mut fresh = MemFresh::new(Vec::new(alloc));
     let (status, _disk) = run(
         alloc,
@@ -55,6 +57,8 @@ fn outcome(
         &mut source,
         &mut sink,
         MemDisk::new(alloc),
+        &mut net,
+        &mut clock,
         &mut fresh,
     );
     Ok((status, Vec::from_slice(alloc, sink.bytes())?))
@@ -81,7 +85,7 @@ fn usage_for_other_words(rt: HostRuntime) -> Result<(), Fail> {
         &["exercise", "1001"],
         &["--help"],
         &["Replay"],
-        &["pull", "A", "389"],
+        &["pull", "A", "0"],
     ];
     for words in cases {
         let (status, written) = outcome(rt.alloc(), words, PEOPLE, 7, NEVER)?;

@@ -5,7 +5,7 @@
 use adr_cmd::run;
 use adr_run_disk::MemDisk;
 use adr_test_io::{MemSink, MemSource};
-use adr_test_outside::MemFresh;
+use adr_test_outside::{MemClock, MemFresh, MemNet};
 use std::alloc::Global;
 use std::process::ExitCode;
 use std::{env, fs, io};
@@ -31,6 +31,8 @@ fn is_answered(alloc: Global, schedule: &[u8], answers: &[u8]) -> io::Result<boo
     words.push(String::from_str(alloc, "replay")?)?;
     let mut source = MemSource::new(Vec::from_slice(alloc, schedule)?, 7);
     let mut sink = MemSink::new(alloc);
+    let mut net = MemNet::new(alloc, Vec::new(alloc));
+    let mut clock = MemClock::new(Vec::new(alloc));
     let mut fresh = MemFresh::new(Vec::new(alloc));
     let (status, _disk) = run(
         alloc,
@@ -38,6 +40,8 @@ fn is_answered(alloc: Global, schedule: &[u8], answers: &[u8]) -> io::Result<boo
         &mut source,
         &mut sink,
         MemDisk::new(alloc),
+        &mut net,
+        &mut clock,
         &mut fresh,
     );
     let due = if answers.starts_with(b"line ".as_slice()) {

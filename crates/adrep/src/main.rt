@@ -1,11 +1,11 @@
-//! `adrep`: the program's words over standard input and standard output, a file of the present folder, and the system's
-//! random numbers.
+//! `adrep`: the program's words over standard input and standard output, a file of the present folder, TCP on this machine,
+//! and the system's clock and random numbers.
 #![tactic(auto)]
 
 use adr_cmd::run;
 use adr_file::FileDisk;
 use adr_io::{ReadSource, WriteSink};
-use adr_outside::RandomFresh;
+use adr_outside::{RandomFresh, SystemClock, TcpNet};
 use std::process::ExitCode;
 use std::{env, io};
 
@@ -27,6 +27,8 @@ fn main(rt: HostRuntime) -> ExitCode {
     let mut source = ReadSource::new(rt.reader());
     let mut sink = WriteSink::new(io::writer(&rt));
     let disk = FileDisk::new(&rt);
+    let mut net = TcpNet::new(&rt);
+    let mut clock = SystemClock::new(&rt);
     let mut fresh = RandomFresh::new(&rt);
     let (status, _disk) = run(
         rt.alloc(),
@@ -34,6 +36,8 @@ fn main(rt: HostRuntime) -> ExitCode {
         &mut source,
         &mut sink,
         disk,
+        &mut net,
+        &mut clock,
         &mut fresh,
     );
     ExitCode::from(status)

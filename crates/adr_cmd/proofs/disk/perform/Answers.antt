@@ -4,7 +4,6 @@ use Rattle.std.specs.Prelude.{None, Some, codes}
 use Rattle.adr_node.specs.Looks.{backup_bytes, due_of, export_bytes, in_full, never, refuses_backup, show_bytes}
 use Rattle.adr_node.specs.Makes.{Adopts, IsNew, as_installed}
 use Rattle.adr_cmd.specs.declared.disk.DiskCommand.TheVariants.{Create, Install, Restore, Backup, Show, Export}
-use Rattle.adr_cmd.specs.OnDisk.{AtHand}
 use Rattle.adr_cmd.proofs.DiskLemmas.{created_causes, does_as, look_causes, making_causes}
 use Rattle.adr_cmd.proofs.disk.perform.Goals as goal
 

@@ -3,6 +3,7 @@ use Rattle.adr_answers.proofs.Due.{none_added}
 use Rattle.adr_run_replay.specs.Outcome.{exercised}
 use Rattle.adr_run_replay.proofs.GivenLemmas.{nothing_told}
 use Rattle.adr_cmd.proofs.DiskLemmas.{nothing_done}
+use Rattle.adr_cmd.proofs.OnlineLemmas.{nothing_served, nothing_pulled, nothing_sent}
 use Rattle.adr_cmd.proofs.top.run.Goals as goal
 
 pub returns-in-Ok-Some-Replay-clause-headline : goal.returns-in-Ok-Some-Replay-clause-headline
@@ -68,6 +69,69 @@ returns-in-Ok-Some-OnDisk-clause-exportable g c = c.runs_are_so.ensures.exportab
 pub returns-in-Ok-Some-OnDisk-clause-equal : goal.returns-in-Ok-Some-OnDisk-clause-equal
 returns-in-Ok-Some-OnDisk-clause-equal g c = c.runs_are_so.ensures.equal
 
+pub returns-in-Ok-Some-Serve-clause-headline : goal.returns-in-Ok-Some-Serve-clause-headline
+returns-in-Ok-Some-Serve-clause-headline g c = c.runs_are_so.ensures.headline
+
+pub returns-in-Ok-Some-Serve-clause-directories : goal.returns-in-Ok-Some-Serve-clause-directories
+returns-in-Ok-Some-Serve-clause-directories g c = c.runs_are_so.ensures.directories
+
+pub returns-in-Ok-Some-Serve-clause-texts : goal.returns-in-Ok-Some-Serve-clause-texts
+returns-in-Ok-Some-Serve-clause-texts g c = c.runs_are_so.ensures.texts
+
+pub returns-in-Ok-Some-Serve-clause-generated : goal.returns-in-Ok-Some-Serve-clause-generated
+returns-in-Ok-Some-Serve-clause-generated g c = c.runs_are_so.ensures.generated
+
+pub returns-in-Ok-Some-Serve-clause-json : goal.returns-in-Ok-Some-Serve-clause-json
+returns-in-Ok-Some-Serve-clause-json g c = c.runs_are_so.ensures.json
+
+pub returns-in-Ok-Some-Serve-clause-exportable : goal.returns-in-Ok-Some-Serve-clause-exportable
+returns-in-Ok-Some-Serve-clause-exportable g c = c.runs_are_so.ensures.exportable
+
+pub returns-in-Ok-Some-Serve-clause-equal : goal.returns-in-Ok-Some-Serve-clause-equal
+returns-in-Ok-Some-Serve-clause-equal g c = c.runs_are_so.ensures.equal
+
+pub returns-in-Ok-Some-Pull-clause-headline : goal.returns-in-Ok-Some-Pull-clause-headline
+returns-in-Ok-Some-Pull-clause-headline g c = c.runs_are_so.ensures.headline
+
+pub returns-in-Ok-Some-Pull-clause-directories : goal.returns-in-Ok-Some-Pull-clause-directories
+returns-in-Ok-Some-Pull-clause-directories g c = c.runs_are_so.ensures.directories
+
+pub returns-in-Ok-Some-Pull-clause-texts : goal.returns-in-Ok-Some-Pull-clause-texts
+returns-in-Ok-Some-Pull-clause-texts g c = c.runs_are_so.ensures.texts
+
+pub returns-in-Ok-Some-Pull-clause-generated : goal.returns-in-Ok-Some-Pull-clause-generated
+returns-in-Ok-Some-Pull-clause-generated g c = c.runs_are_so.ensures.generated
+
+pub returns-in-Ok-Some-Pull-clause-json : goal.returns-in-Ok-Some-Pull-clause-json
+returns-in-Ok-Some-Pull-clause-json g c = c.runs_are_so.ensures.json
+
+pub returns-in-Ok-Some-Pull-clause-exportable : goal.returns-in-Ok-Some-Pull-clause-exportable
+returns-in-Ok-Some-Pull-clause-exportable g c = c.runs_are_so.ensures.exportable
+
+pub returns-in-Ok-Some-Pull-clause-equal : goal.returns-in-Ok-Some-Pull-clause-equal
+returns-in-Ok-Some-Pull-clause-equal g c = c.runs_are_so.ensures.equal
+
+pub returns-in-Ok-Some-Send-clause-headline : goal.returns-in-Ok-Some-Send-clause-headline
+returns-in-Ok-Some-Send-clause-headline g c = c.runs_are_so.ensures.headline
+
+pub returns-in-Ok-Some-Send-clause-directories : goal.returns-in-Ok-Some-Send-clause-directories
+returns-in-Ok-Some-Send-clause-directories g c = c.runs_are_so.ensures.directories
+
+pub returns-in-Ok-Some-Send-clause-texts : goal.returns-in-Ok-Some-Send-clause-texts
+returns-in-Ok-Some-Send-clause-texts g c = c.runs_are_so.ensures.texts
+
+pub returns-in-Ok-Some-Send-clause-generated : goal.returns-in-Ok-Some-Send-clause-generated
+returns-in-Ok-Some-Send-clause-generated g c = c.runs_are_so.ensures.generated
+
+pub returns-in-Ok-Some-Send-clause-json : goal.returns-in-Ok-Some-Send-clause-json
+returns-in-Ok-Some-Send-clause-json g c = c.runs_are_so.ensures.json
+
+pub returns-in-Ok-Some-Send-clause-exportable : goal.returns-in-Ok-Some-Send-clause-exportable
+returns-in-Ok-Some-Send-clause-exportable g c = c.runs_are_so.ensures.exportable
+
+pub returns-in-Ok-Some-Send-clause-equal : goal.returns-in-Ok-Some-Send-clause-equal
+returns-in-Ok-Some-Send-clause-equal g c = c.runs_are_so.ensures.equal
+
 pub returns-in-Ok-None-clause-headline : goal.returns-in-Ok-None-clause-headline
 returns-in-Ok-None-clause-headline g c = c.runs_are_so.ensures.headline
 
@@ -118,3 +182,12 @@ returns-in-Err-clause-exercised_front g c number is faulty = none_added (g.K.Sin
 
 pub returns-in-Err-clause-does : goal.returns-in-Err-clause-does
 returns-in-Err-clause-does g c command is = nothing_done g.S.Source g.K.Sink g.D.Disk g.F.Fresh g.met.D.Disk.only_now command (record { source = c.args.source.now; sink = c.args.sink.now; disk = c.args.disk; fresh = c.args.fresh.now })
+
+pub returns-in-Err-clause-serves : goal.returns-in-Err-clause-serves
+returns-in-Err-clause-serves g c name port count is = nothing_served g.D.Disk g.N.Net g.C.Clock g.K.Sink g.met.D.Disk.only_now count (record { disk = c.args.disk; net = c.args.net.now; clock = c.args.clock.now; sink = c.args.sink.now })
+
+pub returns-in-Err-clause-pulls : goal.returns-in-Err-clause-pulls
+returns-in-Err-clause-pulls g c name port is = nothing_pulled g.D.Disk g.N.Net g.K.Sink g.met.D.Disk.only_now name (record { disk = c.args.disk; net = c.args.net.now; sink = c.args.sink.now })
+
+pub returns-in-Err-clause-sends : goal.returns-in-Err-clause-sends
+returns-in-Err-clause-sends g c port is = nothing_sent g.S.Source g.N.Net g.K.Sink c.args.source.now c.args.net.now c.args.sink.now

@@ -1,6 +1,6 @@
 use Rattle.std.proofs.Common.{◌≡◌, ◌≤◌, map, take, vec_capacity}
 use Rattle.adr_disk.specs.Memory.{over}
-use Rattle.adr_run_disk.specs.Platter.{write_of}
+use Rattle.adr_run_disk.specs.Entries.{write_of}
 use Rattle.adr_run_disk.proofs.platter.keep.Given as goal
 
 abbrev pub invariant-writes : goal.invariant-writes

@@ -1,10 +1,10 @@
 use Rattle.std.proofs.Common.{◌++◌, ◌∷◌, [], List, ℕ, length, sym, ◌∙◌, ap, arith}
 use Rattle.adr_disk.specs.Disk.{put}
-use Rattle.adr_disk.specs.Memory.{Write, Held, all_synced, with_write, over, read_of}
+use Rattle.adr_disk.specs.Memory.{Write, Surface, Held, with_write, over, read_of}
 use Rattle.adr_run_disk.specs.Platter.{surface_of}
 use Rattle.adr_disk.proofs.Bytes.{length-put}
 use Rattle.adr_disk.proofs.Writes.{over-append}
-use Rattle.adr_run_disk.proofs.Steps.{written-added, final-added, passed_by-added, in_range-added}
+use Rattle.adr_run_disk.proofs.Steps.{written-added, in_range-added, surface-shown}
 use Rattle.adr_run_disk.proofs.platter.Platter.write.Goals as goal
 
 pub invariant_of-self : goal.invariant_of-self
@@ -13,13 +13,9 @@ invariant_of-self c =
     let whole = c.self.invariant in
     let grows = rw c.unwrap.ensures at c.extend_from_slice.ensures.items in
     let pushes = rw c.unwrap-2.ensures at c.push.ensures.items in
-    let written = written-added a.log.items c.args.new.now _ c.args.at _ a.settled a.entries.items _ grows pushes (omega arith) whole.in_range whole.settled in
+    let written = written-added a.log.items c.args.new.now _ c.args.at _ a.entries.items _ grows pushes (omega arith) whole.in_range in
     record {
-      in_range = in_range-added a.log.items c.args.new.now _ c.args.at _ a.settled a.entries.items _ grows pushes (omega arith) whole.in_range (omega (arith, ap (λ (h : Held). length (read_of h.surface)) c.self.view_is, ap length whole.bytes));
-      settled = omega arith;
-      surface =
-          final-added a.log.items c.args.new.now _ c.args.at _ a.settled a.entries.items _ grows pushes (omega arith) whole.in_range (all_synced a.first.items) (surface_of a) whole.surface
-          ∙ ap (λ (ws : List Write). record { synced = a.safe.items; written = ws }) (sym written);
+      in_range = in_range-added a.log.items c.args.new.now _ c.args.at _ a.entries.items _ grows pushes (omega arith) whole.in_range (omega (arith, ap (λ (h : Held). length (read_of h.surface)) c.self.view_is, ap length whole.bytes));
       bytes =
           c.put.ensures.items
           ∙ ap (λ (l : List ℕ). put l c.args.at c.args.new.now) whole.bytes
@@ -31,15 +27,14 @@ invariant_of-self c =
 pub returns-clause-written : goal.returns-clause-written
 returns-clause-written c =
     let a = c.self.inside in
-    let whole = c.self.invariant in
     let grows = rw c.unwrap.ensures at c.extend_from_slice.ensures.items in
     let pushes = rw c.unwrap-2.ensures at c.push.ensures.items in
-    let written = written-added a.log.items c.args.new.now _ c.args.at _ a.settled a.entries.items _ grows pushes (omega arith) whole.in_range whole.settled in
     record {
       surface =
-          ap (λ (ws : List Write). record { synced = a.safe.items; written = ws }) written
+          ap (λ (ws : List Write). record { synced = a.safe.items; written = ws }) (written-added a.log.items c.args.new.now _ c.args.at _ a.entries.items _ grows pushes (omega arith) c.self.invariant.in_range)
           ∙ ap (λ (h : Held). with_write h.surface (record { at = c.args.at; bytes = c.args.new.now })) c.self.view_is;
       past =
-          passed_by-added a.log.items c.args.new.now _ c.args.at _ a.settled a.entries.items _ grows pushes (omega arith) whole.in_range (all_synced a.first.items) (surface_of a) whole.surface
+          c.add.ensures
+          ∙ ap (λ (s : Surface). a.past.surfaces ++ s ∷ []) (surface-shown _ a.safe.items _ a.log.items _ a.entries.items c.deref.ensures.value c.deref-3.ensures.value c.deref-2.ensures.value)
           ∙ ap (λ (h : Held). h.past ++ h.surface ∷ []) c.self.view_is;
     }

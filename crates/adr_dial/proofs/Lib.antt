@@ -1,0 +1,5 @@
+mod SentOver
+mod Opened
+mod Cycled
+mod Begun
+mod Carried

@@ -1,0 +1,4 @@
+pub mod Dialled
+pub mod Pulls
+pub mod Texts
+pub mod Sends

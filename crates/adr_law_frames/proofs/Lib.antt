@@ -1,0 +1,6 @@
+pub mod Rooms
+pub mod Offered
+pub mod Short
+pub mod Bytes
+pub mod Cut
+pub mod Fitting

@@ -1,0 +1,92 @@
+-- What a session's end is to the server, once the connection is hung up.
+use Rattle.std.proofs.Common.{◌≡◌, ◌⊎◌, refl, subst, ⊎_elim, ℕ, List, [], ◌++◌, take, Option, Some, None, Result, Ok, Err, IfSome, arith, ◌≤◌, ◌<◌}
+use Rattle.std.specs.Option.{option_map}
+use Rattle.adr_disk.specs.Disk.{Among}
+use Rattle.adr_model.specs.Store.{State}
+use Rattle.adr_law_journal.specs.Areas.{Started}
+use Rattle.adr_law_journal.proofs.Told.{if_told}
+use Rattle.adr_journal.specs.declared.keeper.Keeper.{Ghosts as KeeperGhosts}
+use Rattle.adr_controller.specs.Running.{Running}
+use Rattle.adr_outside.specs.Traffic.{Traffic, hung_up}
+use Rattle.adr_session.specs.declared.ending.End.{End}
+use Rattle.adr_session.specs.declared.ending.End.TheVariants as ended
+use Rattle.adr_session.specs.declared.ending.Served.{Served}
+use Rattle.adr_session.specs.declared.ending.ServeFault.{ServeFault}
+use Rattle.adr_session.specs.declared.ending.ServeFault.TheVariants as faults
+use Rattle.adr_session.specs.Talk.{Point}
+use Rattle.adr_session.specs.Told.{IsAt, FindsNear, LeavesBehind, ServedTo, Serves, Stands}
+use Rattle.adr_online.specs.declared.ended.Stop.TheVariants as stops
+use Rattle.adr_online.specs.Posts.{Post, opened}
+use Rattle.adr_online.specs.Served.{AnswersAll, open_line}
+use Rattle.adr_online.proofs.Hanging.{hung}
+
+-- the connection was opened, and nothing was done in it yet
+pub begun : {K : Type 0} (k : KeeperGhosts K) (p : Post) (came : List ℕ) (rest : List (List ℕ)) (c : Running K) (net : Option Traffic) (clock : Option (List ℕ))
+    → Stands k p.stands c → net ≡ Some (open_line rest p.done came []) → clock ≡ Some p.moments
+    → IsAt k (open_line rest p.done came []) (opened p came) c net clock
+begun k p came rest c net clock stands opens moments = record { stands = stands; net = opens; clock = moments }
+
+module _ {K : Type 0} (k : KeeperGhosts K) (before : K) (p : Post) (came : List ℕ) (rest : List (List ℕ)) (c : Running K) (net new : Option Traffic)
+    (clock : Option (List ℕ)) (is : new ≡ option_map hung_up net) where
+  abbrev line : Traffic
+  line = open_line rest p.done came []
+
+  pub answered_to : (n : ℕ) (end : End) → ServedTo k line (opened p came) n end c net clock
+      → AnswersAll k before p came rest (Ok (record { messages = n; end = end })) c new clock
+  answered_to n ended.Hung b = (b.0, b.0.sent, (b.1, refl), b.2.stands, hung rest p.done came b.0.sent net new is b.2.net, b.2.clock)
+  answered_to n ended.Malformed b = (b.0, b.0.sent, (b.1, refl), b.2.stands, hung rest p.done came b.0.sent net new is b.2.net, b.2.clock)
+  answered_to n ended.Limit b = (b.0, b.0.sent, (b.1, refl), b.2.stands, hung rest p.done came b.0.sent net new is (b.0.left, b.2.net), b.2.clock)
+  answered_to n ended.Fault b =
+      let r = b.2.0 in
+      let cut = b.2.1 in (
+        r,
+        b.0.sent ++ take cut.count cut.due,
+        (b.0, b.1, cut.near, (cut.due, cut.count, cut.whole, refl)),
+        cut.stands,
+        hung rest p.done came (b.0.sent ++ take cut.count cut.due) net new is cut.net,
+        cut.clock,
+      )
+
+  pub answered_clock : Serves k line (opened p came) (Err faults.Clock) c net clock → AnswersAll k before p came rest (Err stops.Clock) c new clock
+  answered_clock s =
+      let q = s.1.0 in
+      (q, s.0, s.1.1, hung rest p.done came q.sent net new is s.1.2.1.net, s.1.2.0, s.1.2.1.stands, s.1.2.1.clock)
+
+  pub answered_memory : Serves k line (opened p came) (Err faults.NoMemory) c net clock → AnswersAll k before p came rest (Err stops.NoMemory) c new clock
+  answered_memory s =
+      let q = s.1.0 in
+      let wants = s.1.2.1 in
+      (q, s.0, s.1.1, hung rest p.done came q.sent net new is wants.net, (s.1.2.0, wants.near, wants.stands))
+
+  -- the point is the one of which it is told what a start finds, where that is told
+  pub answered_disk : Serves k line (opened p came) (Err faults.Disk) c net clock
+      → IfSome (k.told before) (λ _. LeavesBehind k line (opened p came) (Err faults.Disk) c net)
+      → AnswersAll k before p came rest (Err stops.Disk) c new clock
+  answered_disk s left = by_told (k.told before) refl left
+    where
+      by_told : (o : Option (Started State)) → k.told before ≡ o → IfSome o (λ _. LeavesBehind k line (opened p came) (Err faults.Disk) c net)
+          → AnswersAll k before p came rest (Err stops.Disk) c new clock
+      by_told None told left =
+          let q = s.1.0 in
+          let none : IfSome (k.told before) (λ _. Among (FindsNear q) (k.may_leave c.keeper)) = rw told tt in
+          (q, s.0, s.1.1, hung rest p.done came q.sent net new is s.1.2.net, (s.1.2.state, none))
+      by_told (Some x) told left =
+          let q = left.1.0 in
+          (q, left.0, left.1.1, hung rest p.done came q.sent net new is left.1.2.0, (s.1.2.state, if_told (k.told before) (λ _. Among (FindsNear q) (k.may_leave c.keeper)) (λ t tells. left.1.2.1)))
+
+-- by how the session ended
+pub served_is : {K : Type 0} (k : KeeperGhosts K) (t : Traffic) (p : Point) (r : Result Served ServeFault) (s : Served) (c : Running K) (net : Option Traffic) (clock : Option (List ℕ))
+    → r ≡ Ok s → Serves k t p r c net clock → ServedTo k t p s.messages s.end c net clock
+served_is k t p r s c net clock is serves = subst (λ (x : Result Served ServeFault). Serves k t p x c net clock) is serves
+
+pub fault_is : {K : Type 0} (k : KeeperGhosts K) (t : Traffic) (p : Point) (r : Result Served ServeFault) (e : ServeFault) (c : Running K) (net : Option Traffic) (clock : Option (List ℕ))
+    → r ≡ Err e → Serves k t p r c net clock → Serves k t p (Err e) c net clock
+fault_is k t p r e c net clock is serves = subst (λ (x : Result Served ServeFault). Serves k t p x c net clock) is serves
+
+pub left_is : {K : Type 0} (k : KeeperGhosts K) (before : K) (t : Traffic) (p : Point) (r : Result Served ServeFault) (e : ServeFault) (c : Running K) (net : Option Traffic)
+    → r ≡ Err e → IfSome (k.told before) (λ _. LeavesBehind k t p r c net) → IfSome (k.told before) (λ _. LeavesBehind k t p (Err e) c net)
+left_is k before t p r e c net is left = subst (λ (x : Result Served ServeFault). IfSome (k.told before) (λ _. LeavesBehind k t p x c net)) is left
+
+-- no call of a line failed, or one did
+pub lines_later : (A : Type 0) (old new : ℕ) → (A → old < new) → A ⊎ (new ≡ old) → old ≤ new
+lines_later A old new rose either = ⊎_elim (λ a. let h : old < new = rose a in omega arith) (λ same. let h : new ≡ old = same in omega arith) either

@@ -1,0 +1,4 @@
+pub mod Lines
+pub mod Posts
+pub mod Served
+pub mod Serves

@@ -1,0 +1,103 @@
+-- What is told of a server: where its node, its network, its clock and its lines stand.
+use Rattle.std.specs.Prelude.{◌≡◌, ◌⊎◌, ℕ, suc, ◌≤◌, List, [], ◌∷◌, ◌++◌, take, true, false, Option, Some, None, IfSome, Result, Ok, Err}
+use Rattle.std.specs.Option.{option_map}
+use Rattle.adr_disk.specs.Disk.{Among}
+use Rattle.adr_model.specs.Store.{State}
+use Rattle.adr_law_journal.specs.Areas.{Found}
+use Rattle.adr_journal.specs.declared.keeper.Keeper.{Ghosts as KeeperGhosts}
+use Rattle.adr_controller.specs.Running.{Running}
+use Rattle.adr_outside.specs.Traffic.{Traffic, hung_up}
+use Rattle.adr_session.specs.Talk.{Point, Reaches}
+use Rattle.adr_session.specs.Told.{FindsNear, IsAtLine, IsNear, Stands}
+use Rattle.adr_session.specs.declared.ending.Served.{Served}
+use Rattle.adr_online.specs.declared.ended.Stop.{Stop}
+use Rattle.adr_online.specs.declared.ended.Stop.TheVariants as stops
+use Rattle.adr_online.specs.Posts.{Post, Behind, Comes, Connects, opened}
+
+-- what is told of a network and a clock, and of the lines that were written
+pub record Outside : Type 0 where
+  pub net : Option Traffic
+  pub clock : Option (List ℕ)
+  pub lines : Option (List ℕ)
+
+-- no connection is open
+abbrev pub closed : List (List ℕ) → List (List ℕ) → Traffic
+closed waiting done = record { waiting = waiting; is_open = false; left = []; sent = []; done = done }
+
+-- a call of the disk failed at a point: no state is in memory, and a start finds the one there, or the one behind the next message,
+-- where the keeper told before what one finds
+abbrev pub HasFallen : {K : Type 0} → KeeperGhosts K → K → Point → Running K → Type 0
+HasFallen k before x c = (c.state ≡ None) × IfSome (k.told before) (λ _. Among (FindsNear x) (k.may_leave c.keeper))
+
+-- one is open, of which this is left, and in which this was sent
+abbrev pub open_line : List (List ℕ) → List (List ℕ) → List ℕ → List ℕ → Traffic
+open_line waiting done left sent = record { waiting = waiting; is_open = true; left = left; sent = sent; done = done }
+
+-- all outside is where the post says, an open connection being hung up
+pub record IsAt (p : Post) (o : Outside) : Type 0 where
+  pub net : option_map hung_up o.net ≡ Some (closed p.waiting p.done)
+  pub clock : o.clock ≡ Some p.moments
+  pub lines : o.lines ≡ Some p.written
+
+-- between one post and the next: the connection was served, and a front of its line was written
+pub record IsTelling (p q : Post) (o : Outside) : Type 0 where
+  pub net : option_map hung_up o.net ≡ Some (closed q.waiting q.done)
+  pub clock : o.clock ≡ Some q.moments
+  pub line : List ℕ
+  pub whole : q.written ≡ p.written ++ line
+  pub count : ℕ
+  pub lines : o.lines ≡ Some (p.written ++ take count line)
+
+-- The next connection was hung up behind some of its messages, at the point x. What was sent in it are the answers to these,
+-- and no line was written.
+pub record IsCut (p : Post) (x : Point) (o : Outside) : Type 0 where
+  pub came : List ℕ
+  pub rest : List (List ℕ)
+  pub opens : p.waiting ≡ came ∷ rest
+  pub count : ℕ
+  pub reaches : Reaches count (opened p came) x
+  pub net : option_map hung_up o.net ≡ Some (closed rest (p.done ++ x.sent ∷ []))
+  pub lines : o.lines ≡ Some p.written
+
+-- The connection in which this came was answered to its end, and hung up. Or the node can't go on: the next message was not answered,
+-- and it was hung up then.
+abbrev pub AnswersAll :
+    {K : Type 0} → KeeperGhosts K → K → Post → List ℕ → List (List ℕ) → Result Served Stop → Running K → Option Traffic → Option (List ℕ)
+    → Type 0
+AnswersAll k before p came rest (Ok s) c net clock =
+    (r : Point) × (sent : List ℕ) × Comes (opened p came) s.messages s.end r sent × Stands k r.stands c
+    × (net ≡ Some (closed rest (p.done ++ sent ∷ []))) × (clock ≡ Some r.moments)
+AnswersAll k before p came rest (Err stops.Disk) c net clock =
+    (x : Point) × (n : ℕ) × Reaches n (opened p came) x × (net ≡ Some (closed rest (p.done ++ x.sent ∷ []))) × HasFallen k before x c
+AnswersAll k before p came rest (Err stops.Clock) c net clock =
+    (x : Point) × (n : ℕ) × Reaches n (opened p came) x × (net ≡ Some (closed rest (p.done ++ x.sent ∷ []))) × IsAtLine x
+    × Stands k x.stands c × (clock ≡ Some x.moments)
+AnswersAll k before p came rest (Err stops.NoMemory) c net clock =
+    (x : Point) × (n : ℕ) × Reaches n (opened p came) x × (net ≡ Some (closed rest (p.done ++ x.sent ∷ [])))
+    × ((y : Point) × IsNear x y × Stands k y.stands c)
+AnswersAll k before p came rest (Err stops.Write) c net clock = ⊥
+AnswersAll k before p came rest (Err stops.Link) c net clock = ⊥
+
+-- ---- how it ended, where `at` says where the node then stands, and `fallen` at which point a call of its disk failed
+
+-- why the connection of this number wasn't served, or not its line written
+abbrev pub StopsAt : (Found State → Type 0) → (Point → Type 0) → ℕ → Post → Stop → Outside → Type 0
+StopsAt at fallen number p stops.Link o = at p.stands × IsAt p o
+StopsAt at fallen number p stops.Write o = (q : Post) × Connects number p q × at q.stands × IsTelling p q o
+StopsAt at fallen number p stops.Disk o = (x : Point) × IsCut p x o × fallen x
+StopsAt at fallen number p stops.Clock o = (x : Point) × IsCut p x o × IsAtLine x × at x.stands × (o.clock ≡ Some x.moments)
+StopsAt at fallen number p stops.NoMemory o =
+    (at p.stands × IsAt p o)
+    ⊎ (((x : Point) × (y : Point) × IsCut p x o × IsNear x y × at y.stands)
+    ⊎ ((q : Post) × Connects number p q × at q.stands × IsTelling p q o))
+
+-- the next connection
+abbrev pub ServesNext : (Found State → Type 0) → (Point → Type 0) → ℕ → Post → Result Unit Stop → Outside → Type 0
+ServesNext at fallen number p (Ok _) o = (q : Post) × Connects number p q × at q.stands × IsAt q o
+ServesNext at fallen number p (Err stop) o = StopsAt at fallen number p stop o
+
+-- so many connections: all were served, or all before one
+abbrev pub ServesAll : (Found State → Type 0) → (Point → Type 0) → ℕ → Post → Result Unit Stop → Outside → Type 0
+ServesAll at fallen count p (Ok _) o = (q : Post) × Behind count p q × at q.stands × IsAt q o
+ServesAll at fallen count p (Err stop) o =
+    (n : ℕ) × (q : Post) × (n ≤ count) × Behind n p q × StopsAt at fallen (suc n) q stop o

@@ -1,0 +1,438 @@
+//! Nodes over networks in memory, one command after the other. Expected bytes are worked out by hand.
+
+use adr_cmd::run;
+use adr_guid::Guid;
+use adr_run_disk::MemDisk;
+use adr_test_io::{MemSink, MemSource};
+use adr_test_outside::{MemClock, MemFresh, MemNet};
+use std::alloc::Global;
+use std::test::Fail;
+
+/// What a command is given: its words, what comes in each connection, and what it reads. And what comes of it: its status,
+/// what it writes, and what is sent in each connection.
+#[derive(Clone, Copy)]
+struct Case {
+    words: &'static [&'static str],
+    came: &'static [&'static [u8]],
+    source: &'static [u8],
+    status: u8,
+    written: &'static [u8],
+    sent: &'static [&'static [u8]],
+}
+
+/// Which call fails: the one after so many.
+#[derive(Clone, Copy)]
+enum Failing {
+    Never,
+    Net(u32),
+    Clock(u32),
+    Disk(u32),
+    Sink(u32),
+    Source(u32),
+}
+
+/// What came of a command.
+#[derive(Drop)]
+struct Ended {
+    status: u8,
+    written: Vec<u8>,
+    net: MemNet,
+    disk: MemDisk,
+}
+
+impl Ended {
+    fn into_disk(self) -> MemDisk {
+        let Ended {
+            written: _written,
+            net: _net,
+            disk,
+            ..
+        } = self;
+        disk
+    }
+}
+
+fn said(alloc: Global, words: &[&str]) -> Result<Vec<String>, Fail> {
+    let mut said = Vec::new(alloc);
+    for word in words {
+        said.push(String::from_str(alloc, word)?)?;
+    }
+    Ok(said)
+}
+
+fn connections(alloc: Global, came: &[&[u8]]) -> Result<Vec<Vec<u8>>, Fail> {
+    let mut connections = Vec::new(alloc);
+    for bytes in came {
+        connections.push(Vec::from_slice(alloc, *bytes)?)?;
+    }
+    Ok(connections)
+}
+
+fn identifiers(alloc: Global) -> Result<MemFresh, Fail> {
+    let mut given = Vec::new(alloc);
+    given.push(Guid::from_u128(0xa0))?;
+    given.push(Guid::from_u128(0xa1))?;
+    Ok(MemFresh::new(given))
+}
+
+fn net_of(alloc: Global, came: Vec<Vec<u8>>, failing: Failing) -> MemNet {
+    let mut net = MemNet::new(alloc, came);
+    if let Failing::Net(calls) = failing {
+        net.fail_after(calls);
+    }
+    net
+}
+
+fn clock_of(alloc: Global, failing: Failing) -> Result<MemClock, Fail> {
+    let mut clock = MemClock::new(Vec::from_slice(alloc, &[10, 20, 30])?);
+    if let Failing::Clock(calls) = failing {
+        clock.fail_after(calls);
+    }
+    Ok(clock)
+}
+
+fn source_of(alloc: Global, bytes: &[u8], failing: Failing) -> Result<MemSource, Fail> {
+    let mut source = MemSource::new(Vec::from_slice(alloc, bytes)?, 7);
+    if let Failing::Source(calls) = failing {
+        source.fail_after(calls);
+    }
+    Ok(source)
+}
+
+fn sink_of(alloc: Global, failing: Failing) -> MemSink {
+    let mut sink = MemSink::new(alloc);
+    if let Failing::Sink(calls) = failing {
+        sink.fail_after(calls);
+    }
+    sink
+}
+
+fn outcome(
+    alloc: Global,
+    words: &[&str],
+    source: &[u8],
+    mut net: MemNet,
+    mut disk: MemDisk,
+    failing: Failing,
+) -> Result<Ended, Fail> {
+    let words = said(alloc, words)?;
+    let mut source = source_of(alloc, source, failing)?;
+    let mut sink = sink_of(alloc, failing);
+    if let Failing::Disk(calls) = failing {
+        disk.fail_after(calls);
+    }
+    let mut clock = clock_of(alloc, failing)?;
+    let mut fresh = identifiers(alloc)?;
+    let (status, disk) = run(
+        alloc,
+        words.as_slice(),
+        &mut source,
+        &mut sink,
+        disk,
+        &mut net,
+        &mut clock,
+        &mut fresh,
+    );
+    Ok(Ended {
+        status,
+        written: Vec::from_slice(alloc, sink.bytes())?,
+        net,
+        disk,
+    })
+}
+
+fn outcome_of(alloc: Global, case: &Case, disk: MemDisk, failing: Failing) -> Result<Ended, Fail> {
+    let net = net_of(alloc, connections(alloc, case.came)?, failing);
+    outcome(alloc, case.words, case.source, net, disk, failing)
+}
+
+/// The disk of a new controller, of the identifiers `#a0` and `#a1`.
+fn made(alloc: Global) -> Result<MemDisk, Fail> {
+    let net = net_of(alloc, Vec::new(alloc), Failing::Never);
+    let came = outcome(
+        alloc,
+        &["create", "N1"],
+        b"",
+        net,
+        MemDisk::new(alloc),
+        Failing::Never,
+    )?;
+    Ok(came.into_disk())
+}
+
+/// A line that adds a container, and its answer, as frames.
+const ADD: &[u8] = b"\0\0\0\x19\x04add #10 container #1 \"x\"";
+
+const ADDED: &[u8] = b"\0\0\0\x0e\x05add: ok usn=1";
+
+/// The frame that asks who is there.
+const HELLO: &[u8] = b"\0\0\0\x01\x06";
+
+/// The greeting and the request of `#a0` to `#b0`, for 1,000 items from the beginning.
+const ASKED: &[u8] =
+    b"\0\0\0\x01\x06\0\0\0[\x01ADRQ\0\x01\0\0\0\0\0\0\0\0\0\0\0\0\0\0\0\xa0\0\0\0\0\0\0\0\0\0\0\0\0\0\0\0\xb0\0\0\0\0\0\0\0\0\0\0\0\0\0\0\0\0\0\0\0\0\0\0\0\0\0\0\0\0\0\0\0\0\0\0\0\0\0\0\0\0\0\0\0\x01\0\0\x03\xe8\0\0\0\0";
+
+/// The identity of `#b0`, and its last, empty reply to that.
+const NOTHING: &[u8] =
+    b"\0\0\0\x11\x07\0\0\0\0\0\0\0\0\0\0\0\0\0\0\0\xb0\0\0\0x\x02ADRP\0\x01\0\0\0\0\0\0\0\0\0\0\0\0\0\0\0\xa0\0\0\0\0\0\0\0\0\0\0\0\0\0\0\0\xb0\0\0\0\0\0\0\0\0\0\0\0\0\0\0\0\xb1\0\0\0\0\0\0\0\0\0\0\0\0\0\0\0\0\0\0\0\0\0\0\0\0\0\0\0\0\0\0\0\0\0\0\0\0\0\0\0\0\0\0\0\0\0\0\0\0\0\0\0\x01\0\0\0\0\x01\0\0\0\0\0\0\0\0";
+
+/// The same without its last byte.
+const CUT: &[u8] =
+    b"\0\0\0\x11\x07\0\0\0\0\0\0\0\0\0\0\0\0\0\0\0\xb0\0\0\0x\x02ADRP\0\x01\0\0\0\0\0\0\0\0\0\0\0\0\0\0\0\xa0\0\0\0\0\0\0\0\0\0\0\0\0\0\0\0\xb0\0\0\0\0\0\0\0\0\0\0\0\0\0\0\0\xb1\0\0\0\0\0\0\0\0\0\0\0\0\0\0\0\0\0\0\0\0\0\0\0\0\0\0\0\0\0\0\0\0\0\0\0\0\0\0\0\0\0\0\0\0\0\0\0\0\0\0\0\x01\0\0\0\0\x01\0\0\0\0\0\0\0";
+
+/// The identity of `#b0`, and its refusal since its schema is 2.
+const OTHER_SCHEMA: &[u8] =
+    b"\0\0\0\x11\x07\0\0\0\0\0\0\0\0\0\0\0\0\0\0\0\xb0\0\0\0\x10\x03ADRF\0\x01\x1f\0\0\0\x02\0\0\0\x01";
+
+/// Commands over one disk, one after the other, from its making on.
+const SERVED: &[Case] = &[
+    Case {
+        words: &["create", "N1"],
+        came: &[],
+        source: b"",
+        status: 0,
+        written: b"create N1: ok\n",
+        sent: &[],
+    },
+    Case {
+        words: &["serve", "N1", "4000", "1"],
+        came: &[ADD],
+        source: b"",
+        status: 0,
+        written: b"connection 1: 1 end\n",
+        sent: &[ADDED],
+    },
+    Case {
+        words: &["export", "N1"],
+        came: &[],
+        source: b"",
+        status: 0,
+        written: b"[{\"class\":\"container\",\"guid\":\"00000000-0000-0000-0000-000000000010\",\"links\":{},\"name\":\"x\",\"parent\":\"00000000-0000-0000-0000-000000000001\",\"values\":{}}]\n",
+        sent: &[],
+    },
+    Case {
+        words: &["create", "N1"],
+        came: &[],
+        source: b"",
+        status: 9,
+        written: b"refused NotEmpty\n",
+        sent: &[],
+    },
+    Case {
+        words: &["serve", "N1", "4000", "3"],
+        came: &[
+            b"\0\0\0\x0b\x04delete #10\0\0\0\x05\x04what",
+            b"\0\0\0\x01\x06\0\0\0\x01\x09\0\0\0\x01\x06",
+            b"\0\0\0\x01\x06\0\0",
+        ],
+        source: b"",
+        status: 0,
+        written: b"connection 1: 2 end\nconnection 2: 1 malformed\nconnection 3: 1 malformed\n",
+        sent: &[
+            b"\0\0\0\x11\x05delete: ok usn=2\0\0\0\x09\x05bad line",
+            b"\0\0\0\x11\x07\0\0\0\0\0\0\0\0\0\0\0\0\0\0\0\xa0",
+            b"\0\0\0\x11\x07\0\0\0\0\0\0\0\0\0\0\0\0\0\0\0\xa0",
+        ],
+    },
+    Case {
+        words: &["show", "N1"],
+        came: &[],
+        source: b"",
+        status: 0,
+        written: b"show N1: 0\n",
+        sent: &[],
+    },
+];
+
+/// Pulls of a new controller, and lines that are sent.
+const CALLED: &[Case] = &[
+    Case {
+        words: &["pull", "N1", "4000"],
+        came: &[NOTHING],
+        source: b"",
+        status: 0,
+        written: b"deliver N1: ok items=0 wrote=0 usn=0\n",
+        sent: &[ASKED],
+    },
+    Case {
+        words: &["pull", "N1", "4000"],
+        came: &[CUT],
+        source: b"",
+        status: 14,
+        written: b"",
+        sent: &[ASKED],
+    },
+    Case {
+        words: &["pull", "N1", "4000"],
+        came: &[OTHER_SCHEMA],
+        source: b"",
+        status: 9,
+        written: b"refused 31 SchemaMismatch mine=2 theirs=1\n",
+        sent: &[ASKED],
+    },
+    Case {
+        words: &["pull", "N1", "4000"],
+        came: &[],
+        source: b"",
+        status: 7,
+        written: b"",
+        sent: &[],
+    },
+    Case {
+        words: &["send", "4000"],
+        came: &[b"\0\0\0\x0e\x05add: ok usn=1\0\0\0\x0e\x05add: ok usn=2"],
+        source: b"add #10 container #1 \"x\"\n; a comment\nadd #11 container #1 \"y\"\n",
+        status: 0,
+        written: b"add: ok usn=1\nadd: ok usn=2\n",
+        sent: &[
+            b"\0\0\0\x19\x04add #10 container #1 \"x\"\0\0\0\x19\x04add #11 container #1 \"y\"",
+        ],
+    },
+    Case {
+        words: &["send", "4000"],
+        came: &[b"\0\0\0\x25\x05delete: refused 10 NoObject guid=#10\0\0\0\x0d\x05add: okay\nyes"],
+        source: b"delete #10\nadd #11 container #1 \"y\"",
+        status: 14,
+        written: b"delete: refused 10 NoObject guid=#10\n",
+        sent: &[b"\0\0\0\x0b\x04delete #10\0\0\0\x19\x04add #11 container #1 \"y\""],
+    },
+    Case {
+        words: &["send", "4000"],
+        came: &[b"\0\0\0\x25\x05delete: refused 10 NoObject guid=#10\0\0\0\x0e\x05add: ok usn=1"],
+        source: b"delete #10\nadd #11 container #1 \"y\"",
+        status: 9,
+        written: b"delete: refused 10 NoObject guid=#10\nadd: ok usn=1\n",
+        sent: &[b"\0\0\0\x0b\x04delete #10\0\0\0\x19\x04add #11 container #1 \"y\""],
+    },
+    Case {
+        words: &["send", "4000"],
+        came: &[b""],
+        source: b"delete #10\nstop\n",
+        status: 3,
+        written: b"line 2: no command\n",
+        sent: &[],
+    },
+    Case {
+        words: &["send", "4000"],
+        came: &[b""],
+        source: b"\xff\n",
+        status: 3,
+        written: b"line 1: not UTF-8\n",
+        sent: &[],
+    },
+];
+
+/// Whether just this was sent.
+fn has_sent(net: &MemNet, due: &[&[u8]]) -> bool {
+    if net.sent().len() != due.len() {
+        return false;
+    }
+    for (sent, due) in net.sent().iter().zip(due) {
+        if sent.as_slice() != *due {
+            return false;
+        }
+    }
+    true
+}
+
+#[test]
+fn a_client_is_served(rt: HostRuntime) -> Result<(), Fail> {
+    let mut disk = MemDisk::new(rt.alloc());
+    for case in SERVED {
+        let came = outcome_of(rt.alloc(), case, disk, Failing::Never)?;
+        assert_eq!(rt; came.status, case.status);
+        assert_eq!(rt; came.written.as_slice(), case.written);
+        assert!(rt; has_sent(&came.net, case.sent));
+        disk = came.into_disk();
+    }
+    Ok(())
+}
+
+#[test]
+fn other_nodes_are_called(rt: HostRuntime) -> Result<(), Fail> {
+    for case in CALLED {
+        let came = outcome_of(rt.alloc(), case, made(rt.alloc())?, Failing::Never)?;
+        assert_eq!(rt; came.status, case.status);
+        assert_eq!(rt; came.written.as_slice(), case.written);
+        assert!(rt; has_sent(&came.net, case.sent));
+    }
+    Ok(())
+}
+
+/// Which call fails while one line is served, the status, and what is written.
+const FAULTS: &[(Failing, u8, &[u8])] = &[
+    (Failing::Net(0), 7, b""),
+    (Failing::Net(1), 7, b""),
+    (Failing::Net(2), 0, b"connection 1: 0 fault\n"),
+    (Failing::Net(3), 0, b"connection 1: 0 fault\n"),
+    (Failing::Net(4), 0, b"connection 1: 0 fault\n"),
+    (Failing::Net(5), 0, b"connection 1: 1 fault\n"),
+    (Failing::Clock(0), 12, b""),
+    (Failing::Disk(0), 6, b""),
+    (Failing::Disk(1), 6, b""),
+    (Failing::Sink(0), 5, b""),
+];
+
+#[test]
+fn a_call_that_fails_in_a_serve(rt: HostRuntime) -> Result<(), Fail> {
+    for (failing, status, written) in FAULTS {
+        let came = outcome_of(rt.alloc(), &SERVED[1], made(rt.alloc())?, *failing)?;
+        assert_eq!(rt; came.status, *status);
+        assert_eq!(rt; came.written.as_slice(), *written);
+    }
+    Ok(())
+}
+
+/// A source that fails, and one that doesn't behind a fault of the line.
+#[test]
+fn a_call_that_fails_in_a_send(rt: HostRuntime) -> Result<(), Fail> {
+    for (failing, due) in [
+        (Failing::Source(0), 4u8),
+        (Failing::Net(0), 7),
+        (Failing::Net(1), 7),
+        (Failing::Net(2), 7),
+        (Failing::Sink(0), 5),
+    ] {
+        let came = outcome_of(rt.alloc(), &CALLED[4], MemDisk::new(rt.alloc()), failing)?;
+        assert_eq!(rt; came.status, due);
+        assert!(rt; came.written.is_empty());
+    }
+    Ok(())
+}
+
+#[test]
+fn bytes_that_are_no_log_are_not_served(rt: HostRuntime) -> Result<(), Fail> {
+    let disk = MemDisk::of(rt.alloc(), Vec::from_slice(rt.alloc(), b"abc")?)?;
+    let came = outcome_of(rt.alloc(), &SERVED[1], disk, Failing::Never)?;
+    assert_eq!(rt; came.status, 10);
+    assert_eq!(rt; came.written.as_slice(), b"damaged 0\n".as_slice());
+    assert!(rt; has_sent(&came.net, &[]));
+    Ok(())
+}
+
+#[test]
+fn a_connection_has_a_million_messages(rt: HostRuntime) -> Result<(), Fail> {
+    let mut came = Vec::new(rt.alloc());
+    for _ in 0..1_000_001 {
+        came.extend_from_slice(HELLO)?;
+    }
+    let mut all = Vec::new(rt.alloc());
+    all.push(came)?;
+    let came = outcome(
+        rt.alloc(),
+        SERVED[1].words,
+        b"",
+        net_of(rt.alloc(), all, Failing::Never),
+        made(rt.alloc())?,
+        Failing::Never,
+    )?;
+    assert_eq!(rt; came.status, 0);
+    assert_eq!(rt;
+        came.written.as_slice(),
+        b"connection 1: 1000000 limit\n".as_slice()
+    );
+    for sent in came.net.sent() {
+        assert_eq!(rt; sent.len(), 21_000_000usize);
+    }
+    Ok(())
+}
