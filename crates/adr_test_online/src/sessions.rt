@@ -370,6 +370,10 @@ const FAULTS: &[(Failing, u8, &[u8])] = &[
     (Failing::Clock(0), 12, b""),
     (Failing::Disk(0), 6, b""),
     (Failing::Disk(1), 6, b""),
+    (Failing::Disk(2), 6, b""),
+    (Failing::Disk(3), 6, b""),
+    (Failing::Disk(4), 6, b""),
+    (Failing::Disk(5), 0, b"connection 1: 1 end\n"),
     (Failing::Sink(0), 5, b""),
 ];
 
@@ -383,7 +387,34 @@ fn a_call_that_fails_in_a_serve(rt: HostRuntime) -> Result<(), Fail> {
     Ok(())
 }
 
-/// A source that fails, and one that doesn't behind a fault of the line.
+/// Which call fails while a cycle of one reply is pulled, and the status of that.
+const PULL_FAULTS: &[(Failing, u8)] = &[
+    (Failing::Net(0), 7),
+    (Failing::Net(1), 7),
+    (Failing::Net(2), 7),
+    (Failing::Net(3), 7),
+    (Failing::Net(4), 7),
+    (Failing::Net(5), 7),
+    (Failing::Net(6), 7),
+    (Failing::Disk(0), 6),
+    (Failing::Disk(1), 6),
+    (Failing::Disk(2), 6),
+    (Failing::Disk(3), 6),
+    (Failing::Disk(4), 6),
+    (Failing::Sink(0), 5),
+];
+
+#[test]
+fn a_call_that_fails_in_a_pull(rt: HostRuntime) -> Result<(), Fail> {
+    for (failing, status) in PULL_FAULTS {
+        let came = outcome_of(rt.alloc(), &CALLED[0], made(rt.alloc())?, *failing)?;
+        assert_eq!(rt; came.status, *status);
+        assert!(rt; came.written.is_empty());
+    }
+    Ok(())
+}
+
+/// A call that fails while lines are sent, and the status of that.
 #[test]
 fn a_call_that_fails_in_a_send(rt: HostRuntime) -> Result<(), Fail> {
     for (failing, due) in [
