@@ -1,9 +1,10 @@
 //! The lines of entries.
 
-ghost use Rattle.std.specs.Prelude.{◌≡◌, ◌++◌, ℕ, List, OnOk, flat_map, codes};
+ghost use Rattle.std.specs.Prelude.{◌≡◌, ◌++◌, ℕ, List, OnOk, codes};
 ghost use Rattle.adr_token.specs.Spelling.{identifier_token, text_token, class_token, attribute_token};
 ghost use Rattle.adr_answers.specs.Line.{listed, values_text, links_text, entry_line};
 
+use crate::each::{Told, push_each};
 use adr_call::{Entry, Guids};
 use adr_guid::Guid;
 use adr_schema::{NoMemory, Values};
@@ -17,39 +18,25 @@ fn push_attribute_sign(out: &mut Vec<u8>, attr: u16) -> Result<(), NoMemory>
     push(out, b"=")
 }
 
-/// Adds an attribute with its values.
-#[tactic(auto, unfolding(crate::specs::Line::values_text))]
-fn push_values(out: &mut Vec<u8>, attr: u16, values: &Values) -> Result<(), NoMemory>
-    ensures { OnOk result (out.new.items ≡ out.old.items ++ values_text (attr, values.now)) }
-{
-    push(out, b" ")?;
-    push_set(out, attr, values.items())
-}
+// An attribute with its values.
+impl Told for (u16, Values) {
+    ghost text = { values_text };
 
-fn push_all_values(out: &mut Vec<u8>, list: &[(u16, Values)]) -> Result<(), NoMemory>
-    ensures { OnOk result (out.new.items ≡ out.old.items ++ flat_map values_text list.now) }
-{
-    for (attr, values) in list {
-        push_values(out, *attr, values)?;
+    #[tactic(auto, unfolding(crate::specs::Line::values_text))]
+    fn push_to(&self, out: &mut Vec<u8>) -> Result<(), NoMemory> {
+        push(out, b" ")?;
+        push_set(out, self.0, self.1.items())
     }
-    Ok(())
 }
 
-fn push_further_guid(out: &mut Vec<u8>, guid: Guid) -> Result<(), NoMemory>
-    ensures { OnOk result (out.new.items ≡ out.old.items ++ (codes "," ++ identifier_token guid)) }
-{
-    push(out, b",")?;
-    push_identifier(out, guid)
-}
+// A GUID behind others.
+impl Told for Guid {
+    ghost text = { λ (i : List ℕ). codes "," ++ identifier_token i };
 
-fn push_further_guids(out: &mut Vec<u8>, guids: &[Guid]) -> Result<(), NoMemory>
-    ensures { OnOk result (out.new.items
-        ≡ out.old.items ++ flat_map (λ (i : List ℕ). codes "," ++ identifier_token i) guids.now) }
-{
-    for guid in guids {
-        push_further_guid(out, *guid)?;
+    fn push_to(&self, out: &mut Vec<u8>) -> Result<(), NoMemory> {
+        push(out, b",")?;
+        push_identifier(out, *self)
     }
-    Ok(())
 }
 
 fn push_listed_guids(out: &mut Vec<u8>, guids: &[Guid]) -> Result<(), NoMemory>
@@ -59,27 +46,20 @@ fn push_listed_guids(out: &mut Vec<u8>, guids: &[Guid]) -> Result<(), NoMemory>
         None => Ok(()),
         Some((first, rest)) => {
             push_identifier(out, *first)?;
-            push_further_guids(out, rest)
+            push_each(out, rest)
         }
     }
 }
 
-/// Adds a link attribute with the GUIDs at its other ends.
-#[tactic(auto, unfolding(crate::specs::Line::links_text))]
-fn push_links(out: &mut Vec<u8>, attr: u16, guids: &Guids) -> Result<(), NoMemory>
-    ensures { OnOk result (out.new.items ≡ out.old.items ++ links_text (attr, guids.now)) }
-{
-    push_attribute_sign(out, attr)?;
-    push_listed_guids(out, guids.items())
-}
+// A link attribute with the GUIDs at its other ends.
+impl Told for (u16, Guids) {
+    ghost text = { links_text };
 
-fn push_all_links(out: &mut Vec<u8>, list: &[(u16, Guids)]) -> Result<(), NoMemory>
-    ensures { OnOk result (out.new.items ≡ out.old.items ++ flat_map links_text list.now) }
-{
-    for (attr, guids) in list {
-        push_links(out, *attr, guids)?;
+    #[tactic(auto, unfolding(crate::specs::Line::links_text))]
+    fn push_to(&self, out: &mut Vec<u8>) -> Result<(), NoMemory> {
+        push_attribute_sign(out, self.0)?;
+        push_listed_guids(out, self.1.items())
     }
-    Ok(())
 }
 
 /// Adds an entry's identity: its GUID and its class.
@@ -106,24 +86,16 @@ fn push_place(out: &mut Vec<u8>, entry: &Entry) -> Result<(), NoMemory>
     push_text(out, entry.name.items())
 }
 
-/// Adds an entry's line.
-#[tactic(auto, unfolding(crate::specs::Line::entry_line))]
-fn push_entry(out: &mut Vec<u8>, entry: &Entry) -> Result<(), NoMemory>
-    ensures { OnOk result (out.new.items ≡ out.old.items ++ entry_line entry.now) }
-{
-    push_head(out, entry)?;
-    push_place(out, entry)?;
-    push_all_values(out, entry.values.items())?;
-    push_all_links(out, entry.links.items())?;
-    push(out, b"\n")
-}
+// An entry's line.
+impl Told for Entry {
+    ghost text = { entry_line };
 
-/// Adds the lines of entries.
-pub fn push_entries(out: &mut Vec<u8>, entries: &[Entry]) -> Result<(), NoMemory>
-    ensures { OnOk result (out.new.items ≡ out.old.items ++ flat_map entry_line entries.now) }
-{
-    for entry in entries {
-        push_entry(out, entry)?;
+    #[tactic(auto, unfolding(crate::specs::Line::entry_line))]
+    fn push_to(&self, out: &mut Vec<u8>) -> Result<(), NoMemory> {
+        push_head(out, self)?;
+        push_place(out, self)?;
+        push_each(out, self.values.items())?;
+        push_each(out, self.links.items())?;
+        push(out, b"\n")
     }
-    Ok(())
 }

@@ -1,11 +1,12 @@
 //! The lines of what a controller has seen, and of how far it has read its partners.
 
-ghost use Rattle.std.specs.Prelude.{◌≡◌, ◌++◌, ◌+◌, OnOk, flat_map, codes, length};
+ghost use Rattle.std.specs.Prelude.{◌≡◌, ◌++◌, ◌+◌, OnOk, codes, length};
 ghost use Rattle.std.specs.Fmt.{decimal};
 ghost use Rattle.adr_token.specs.Room.{TakesRoom};
 ghost use Rattle.adr_token.specs.Spelling.{identifier_token};
 ghost use Rattle.adr_answers.specs.Line.{mark_text, cursor_line, partner_line};
 
+use crate::each::Told;
 use adr_guid::Guid;
 use adr_schema::NoMemory;
 use adr_token::{push, push_identifier, push_number};
@@ -40,42 +41,28 @@ fn push_first_identifier(out: &mut Vec<u8>, id: Guid) -> Result<(), NoMemory>
     push(out, b" ")
 }
 
-#[tactic(auto, unfolding(crate::specs::Line::cursor_line))]
-fn push_cursor(out: &mut Vec<u8>, inv: Guid, usn: u64) -> Result<(), NoMemory>
-    ensures { OnOk result (out.new.items ≡ out.old.items ++ cursor_line (inv, usn)) }
-{
-    push_first_identifier(out, inv)?;
-    push_number(out, usn)?;
-    push(out, b"\n")
-}
+// A vector's cursor.
+impl Told for (Guid, u64) {
+    ghost text = { cursor_line };
 
-/// Adds the lines of a vector's cursors.
-pub fn push_cursors(out: &mut Vec<u8>, cursors: &[(Guid, u64)]) -> Result<(), NoMemory>
-    ensures { OnOk result (out.new.items ≡ out.old.items ++ flat_map cursor_line cursors.now) }
-{
-    for (inv, usn) in cursors {
-        push_cursor(out, *inv, *usn)?;
+    #[tactic(auto, unfolding(crate::specs::Line::cursor_line))]
+    fn push_to(&self, out: &mut Vec<u8>) -> Result<(), NoMemory> {
+        push_first_identifier(out, self.0)?;
+        push_number(out, self.1)?;
+        push(out, b"\n")
     }
-    Ok(())
 }
 
-#[tactic(auto, unfolding(crate::specs::Line::partner_line))]
-fn push_partner(out: &mut Vec<u8>, dsa: Guid, inv: Guid, mark: Mark) -> Result<(), NoMemory>
-    ensures { OnOk result (out.new.items ≡ out.old.items ++ partner_line (dsa, inv, mark)) }
-{
-    push_first_identifier(out, dsa)?;
-    push_identifier(out, inv)?;
-    push(out, b" ")?;
-    push_mark(out, mark)?;
-    push(out, b"\n")
-}
+// A partner's mark.
+impl Told for (Guid, Guid, Mark) {
+    ghost text = { partner_line };
 
-/// Adds the lines of partners' marks.
-pub fn push_partners(out: &mut Vec<u8>, partners: &[(Guid, Guid, Mark)]) -> Result<(), NoMemory>
-    ensures { OnOk result (out.new.items ≡ out.old.items ++ flat_map partner_line partners.now) }
-{
-    for (dsa, inv, mark) in partners {
-        push_partner(out, *dsa, *inv, *mark)?;
+    #[tactic(auto, unfolding(crate::specs::Line::partner_line))]
+    fn push_to(&self, out: &mut Vec<u8>) -> Result<(), NoMemory> {
+        push_first_identifier(out, self.0)?;
+        push_identifier(out, self.1)?;
+        push(out, b" ")?;
+        push_mark(out, self.2)?;
+        push(out, b"\n")
     }
-    Ok(())
 }

@@ -5,6 +5,7 @@
 #![tactic(auto)]
 
 mod answers;
+mod each;
 mod entries;
 mod knowledge;
 mod laws;

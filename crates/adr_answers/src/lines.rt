@@ -7,9 +7,8 @@ ghost use Rattle.adr_token.specs.Room.{TakesRoom};
 ghost use Rattle.adr_answers.specs.Room.{HasNoReport, field_room, line_room, plain_room, result_room};
 ghost use Rattle.adr_answers.specs.Line.{plain_text, from_to, left_text, counts_text, truth_text, field_text, result_text, report_lines, line, nameless_line};
 
-use crate::entries::push_entries;
-use crate::knowledge::{push_cursors, push_mark, push_number_behind, push_partners};
-use crate::meta::push_meta;
+use crate::each::push_each;
+use crate::knowledge::{push_mark, push_number_behind};
 use adr_call::{Field, Outcome, Plainly};
 use adr_event::Answer;
 use adr_schema::NoMemory;
@@ -204,10 +203,10 @@ fn push_report(out: &mut Vec<u8>, outcome: &Outcome) -> Result<(), NoMemory>
     ensures room { HasNoReport outcome.now → TakesRoom 0 out.old result out.new }
 {
     match outcome {
-        Outcome::Show(directory) => push_entries(out, directory.entries()),
-        Outcome::Vector { vector, .. } => push_cursors(out, vector.cursors()),
-        Outcome::Marks(marks) => push_partners(out, marks.items()),
-        Outcome::Meta(lines) => push_meta(out, lines.items()),
+        Outcome::Show(directory) => push_each(out, directory.entries()),
+        Outcome::Vector { vector, .. } => push_each(out, vector.cursors()),
+        Outcome::Marks(marks) => push_each(out, marks.items()),
+        Outcome::Meta(lines) => push_each(out, lines.items()),
         _ => Ok(()),
     }
 }

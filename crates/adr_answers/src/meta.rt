@@ -1,10 +1,11 @@
 //! The lines of what the rows of a GUID tell of themselves.
 
-ghost use Rattle.std.specs.Prelude.{◌≡◌, ◌++◌, OnOk, flat_map, codes};
+ghost use Rattle.std.specs.Prelude.{◌≡◌, ◌++◌, OnOk, codes};
 ghost use Rattle.std.specs.Fmt.{decimal};
 ghost use Rattle.adr_token.specs.Spelling.{attribute_token, identifier_token, text_token};
 ghost use Rattle.adr_answers.specs.Line.{life_text, meta_line};
 
+use crate::each::Told;
 use crate::knowledge::push_number_behind;
 use adr_call::{Birth, Life, MetaLine, Stamp, Text};
 use adr_guid::Guid;
@@ -76,22 +77,14 @@ fn push_row(out: &mut Vec<u8>, attr: u16, stamp: Stamp, local: u64) -> Result<()
     push(out, b"\n")
 }
 
-#[tactic(auto, unfolding(crate::specs::Line::meta_line))]
-fn push_meta_line(out: &mut Vec<u8>, line: &MetaLine) -> Result<(), NoMemory>
-    ensures { OnOk result (out.new.items ≡ out.old.items ++ meta_line line.now) }
-{
-    match line {
-        MetaLine::Object { birth, life, name } => push_object(out, *birth, *life, name),
-        MetaLine::Row { attr, stamp, local } => push_row(out, *attr, *stamp, *local),
-    }
-}
+impl Told for MetaLine {
+    ghost text = { meta_line };
 
-/// Adds the lines of what the rows of a GUID tell.
-pub fn push_meta(out: &mut Vec<u8>, lines: &[MetaLine]) -> Result<(), NoMemory>
-    ensures { OnOk result (out.new.items ≡ out.old.items ++ flat_map meta_line lines.now) }
-{
-    for line in lines {
-        push_meta_line(out, line)?;
+    #[tactic(auto, unfolding(crate::specs::Line::meta_line))]
+    fn push_to(&self, out: &mut Vec<u8>) -> Result<(), NoMemory> {
+        match self {
+            MetaLine::Object { birth, life, name } => push_object(out, *birth, *life, name),
+            MetaLine::Row { attr, stamp, local } => push_row(out, *attr, *stamp, *local),
+        }
     }
-    Ok(())
 }

@@ -15,6 +15,7 @@ use adr_update::{Held, Written};
 use adr_vector::Vector;
 use std::alloc::Global;
 use std::marker::Model;
+use std::mem::replace;
 
 /// Whether a controller takes part, or is quarantined: it showed that it was put back without a fresh identifier, and
 /// refuses writes, requests, replies, collections and backups until it is restored, or put back again.
@@ -168,14 +169,22 @@ impl Change {
         self.writes.as_slice()
     }
 
-    /// The rows that are written, each under its local update sequence number, in order.
-    pub fn held(&self, alloc: Global) -> Result<Vec<Held>, NoMemory>
-        ensures { IfOk result (λ rows. rows.items ≡ held_of self.now.writes) }
+    /// Takes out the rows that are written, each under its local update sequence number, in order.
+    pub fn take_held(&mut self, alloc: Global) -> Result<Vec<Held>, NoMemory>
+        ensures rows { IfOk result (λ rows. rows.items ≡ held_of self.old.writes) }
+        ensures rest { self.new ≡ record self.old { writes = [] } }
     {
-        let mut rows = Vec::new(alloc);
-        for written in self.writes.as_slice() {
-            written.push_held(alloc, &mut rows)?;
-        }
-        Ok(rows)
+        held_of(alloc, replace(&mut self.writes, Vec::new(alloc)))
     }
+}
+
+/// The rows of what is written, each under its local update sequence number, in order. None is copied.
+fn held_of(alloc: Global, writes: Vec<Written>) -> Result<Vec<Held>, NoMemory>
+    ensures { IfOk result (λ rows. rows.items ≡ held_of writes.items) }
+{
+    let mut rows = Vec::new(alloc);
+    for written in writes {
+        written.push_held(&mut rows)?;
+    }
+    Ok(rows)
 }

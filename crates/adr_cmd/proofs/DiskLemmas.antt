@@ -1,23 +1,26 @@
 -- What a status says of a command over a disk.
-use Rattle.std.proofs.Common.{◌≡◌, ◌<◌, ◌≤◌, inl, refl, sym, subst, ℕ, List, Option, Some, None, arith}
+use Rattle.std.proofs.Common.{◌≡◌, ◌<◌, ◌≤◌, inl, inr, refl, sym, subst, ℕ, List, Bool, Option, Some, None, arith}
 use Rattle.std.specs.Prelude.{codes}
-use Rattle.adr_disk.specs.Disk.{Keeps}
+use Rattle.adr_disk.specs.Disk.{LeavesOnly}
 use Rattle.adr_io.specs.declared.Source.{Ghosts as SourceGhosts}
 use Rattle.adr_io.specs.declared.Sink.{Ghosts as SinkGhosts}
 use Rattle.adr_disk.specs.declared.disk.Disk.{Ghosts as DiskGhosts}
 use Rattle.adr_outside.specs.declared.fresh.Fresh.{Ghosts as FreshGhosts}
 use Rattle.adr_law_journal.specs.Areas.{Started}
+use Rattle.adr_law_journal.proofs.Told.{same_keeps}
 use Rattle.adr_model.specs.Store.{State}
+use Rattle.adr_node.specs.Begins.{IsUnbegun}
 use Rattle.adr_node.specs.Seen.{of_disk}
 use Rattle.adr_node.specs.Looks.{Due, Looks, backup_bytes, due_of, export_bytes, never, refuses_backup, show_bytes}
 use Rattle.adr_node.specs.Makes.{Makes, TellsVerdict, Verdict, as_installed}
+use Rattle.adr_node.specs.declared.ended.Unbegun.TheVariants as unbegun
 use Rattle.adr_node.specs.declared.ended.BackedUp.{BackedUp}
 use Rattle.adr_node.specs.declared.ended.BackedUp.TheVariants as looks
 use Rattle.adr_node.specs.declared.ended.Created.{Created}
 use Rattle.adr_node.specs.declared.ended.Created.TheVariants as creates
 use Rattle.adr_node.specs.declared.ended.Installed.{Installed}
 use Rattle.adr_node.specs.declared.ended.Installed.TheVariants as makes
-use Rattle.adr_node.proofs.Started.{nothing_told}
+use Rattle.adr_node.proofs.Started.{unbegun_looks, wanting}
 use Rattle.adr_node.proofs.Mirrored.{kept_leaves}
 use Rattle.adr_node.proofs.Formatted.{always}
 use Rattle.adr_cmd.specs.declared.disk.DiskCommand.{DiskCommand}
@@ -171,25 +174,20 @@ module _ {S K D F : Type 0} (s : SourceGhosts S) (k : SinkGhosts K) (d : DiskGho
 
 -- ---- where memory was wanting before anything was done
 
-pub keeps_itself : {D : Type 0} (d : DiskGhosts D) (disk : D) → Keeps d.content d.may_leave d.moment d.left_since disk disk
-keeps_itself d disk = record {
-  content_stays = refl;
-  no_more = λ x left. left;
-  no_fewer = λ x left. left;
-  moment_stays = refl;
-  past_stays = λ t x left. left;
-  past_kept = λ t x left. left;
-}
+module _ {D : Type 0} (d : DiskGhosts D) (only_now : (disk : D) (bytes : List ℕ) → d.left_since disk (d.moment disk) bytes → d.may_leave disk bytes) where
+  -- what a crash leaves is what it might have left before
+  unchanged : (disk : D) → LeavesOnly d.moment (of_disk d).left_since disk disk ((of_disk d).may_leave disk)
+  unchanged disk = kept_leaves d only_now disk disk (same_keeps d.content d.may_leave d.moment d.left_since disk)
+
+  -- and no controller was begun with
+  pub none_begun : {K : Type 0} (k : SinkGhosts K) (disk : D) (sink : K) → IsUnbegun (of_disk d) k disk disk sink sink unbegun.NoMemory
+  none_begun k disk sink =
+      wanting (of_disk d) k disk disk sink sink unbegun.NoMemory (inr (refl, refl)) (omega arith) (λ is. is) (unchanged disk) (λ x left. left) refl
 
 module _ {S K D F : Type 0} (s : SourceGhosts S) (k : SinkGhosts K) (d : DiskGhosts D) (f : FreshGhosts F) (only_now : (disk : D) (bytes : List ℕ) → d.left_since disk (d.moment disk) bytes → d.may_leave disk bytes) where
-  nothing_looked : (due : Started State → Due) (at : AtHand S K D F) → LooksSo k d due at at 8
-  nothing_looked due at = (
-    looks.NoMemory,
-    refl,
-    nothing_told (of_disk d) k due at.disk at.disk at.sink at.sink looks.NoMemory refl refl (omega arith) (kept_leaves d only_now at.disk at.disk (keeps_itself d at.disk)) (λ x left. left) refl,
-    refl,
-    refl,
-  )
+  nothing_looked : (refuses : State → Bool) (bytes : State → List ℕ) (at : AtHand S K D F) → LooksSo k d (due_of refuses bytes) at at 8
+  nothing_looked refuses bytes at =
+      (looks.NoMemory, refl, unbegun_looks (of_disk d) k refuses bytes at.disk at.disk at.sink at.sink unbegun.NoMemory (none_begun d only_now k at.disk at.sink), refl, refl)
 
   nothing_made : (comes : Verdict → Type 0) (verb name : List ℕ) (at : AtHand S K D F) → MakesSo k d comes verb name at at 8
   nothing_made comes verb name at = (
@@ -208,7 +206,7 @@ module _ {S K D F : Type 0} (s : SourceGhosts S) (k : SinkGhosts K) (d : DiskGho
           record {
             later = omega arith;
             still_told = (λ is. is, λ is. is);
-            any_moment = always ((of_disk d).told at.disk) (kept_leaves d only_now at.disk at.disk (keeps_itself d at.disk));
+            any_moment = always ((of_disk d).told at.disk) (unchanged d only_now at.disk);
             left = always ((of_disk d).told at.disk) (λ f left. left);
           };
     },
@@ -218,9 +216,9 @@ module _ {S K D F : Type 0} (s : SourceGhosts S) (k : SinkGhosts K) (d : DiskGho
   nothing_done (Create name) at = (nothing_made (NewSo f at at) (codes "create") name at, refl)
   nothing_done (Install name) at = nothing_made (AdoptedSo s f None at at) (codes "install") name at
   nothing_done (Restore name dsa) at = nothing_made (AdoptedSo s f (Some dsa) at at) (codes "restore") name at
-  nothing_done (Backup name) at = nothing_looked (due_of refuses_backup backup_bytes) at
-  nothing_done (Show name) at = nothing_looked (due_of never (show_bytes name)) at
-  nothing_done (Export name) at = nothing_looked (due_of never export_bytes) at
+  nothing_done (Backup name) at = nothing_looked refuses_backup backup_bytes at
+  nothing_done (Show name) at = nothing_looked never (show_bytes name) at
+  nothing_done (Export name) at = nothing_looked never export_bytes at
 
 -- what is shown of a command is shown of what it is
 pub does_as : {S K D F : Type 0} (s : SourceGhosts S) (k : SinkGhosts K) (d : DiskGhosts D) (f : FreshGhosts F) (command is : DiskCommand) (before after : AtHand S K D F) (status : ℕ) → command ≡ is

@@ -54,29 +54,27 @@ module _ {K : Type 0} (k : Ghosts K) where
       makes : (s : State) → old.state ≡ Some s → changes s ≡ Some c
       makes s is = subst (λ x. changes x ≡ Some c) (some_is made.state s (sym made.in_memory ∙ is)) made.makes
 
+  -- with no state in memory nothing is done
+  idle_without : (changes : State → Option Change) (old : Running K) (how : Option Hindrance) → old.state ≡ None → (how ≡ Some Down) ↔ (old.down ≡ true) → (how ≡ Some Failed) ↔ ((old.down ≡ false) × (old.state ≡ None))
+      → Calls k changes old old how
+  idle_without changes old how none down failed = record {
+    down = down;
+    failed = failed;
+    stays = λ _. refl;
+    unchanged = λ s is _. absurd (cc (is, none));
+    idle = λ s is _. absurd (cc (is, none));
+    commits = λ s c is _. absurd (cc (is, none));
+    later = omega arith;
+    still_told = (λ some. some, λ some. some);
+  }
+
   -- the controller is down or failed
   pub not_running : (changes : State → Option Change) (old : Running K) (h : Hindrance) → ((h ≡ Down) × (old.down ≡ true) × (old.state ≡ None)) ⊎ ((h ≡ Failed) × (old.down ≡ false) × (old.state ≡ None))
       → (how : Option Hindrance) → Some h ≡ how → Calls k changes old old how
-  not_running changes old h (inl (is, down, none)) how same = record {
-    down = (λ _. down, λ _. sym same ∙ ap Some is);
-    failed = (λ failed. absurd (cc (is, same, failed)), λ failed. absurd (cc (down, failed.0)));
-    stays = λ _. refl;
-    unchanged = λ s is _. absurd (cc (is, none));
-    idle = λ s is _. absurd (cc (is, none));
-    commits = λ s c is _. absurd (cc (is, none));
-    later = omega arith;
-    still_told = (λ some. some, λ some. some);
-  }
-  not_running changes old h (inr (is, up, none)) how same = record {
-    down = (λ down. absurd (cc (is, same, down)), λ down. absurd (cc (down, up)));
-    failed = (λ _. (up, none), λ _. sym same ∙ ap Some is);
-    stays = λ _. refl;
-    unchanged = λ s is _. absurd (cc (is, none));
-    idle = λ s is _. absurd (cc (is, none));
-    commits = λ s c is _. absurd (cc (is, none));
-    later = omega arith;
-    still_told = (λ some. some, λ some. some);
-  }
+  not_running changes old h (inl (is, down, none)) how same =
+      idle_without changes old how none (λ _. down, λ _. sym same ∙ ap Some is) (λ failed. absurd (cc (is, same, failed)), λ failed. absurd (cc (down, failed.0)))
+  not_running changes old h (inr (is, up, none)) how same =
+      idle_without changes old how none (λ down. absurd (cc (is, same, down)), λ down. absurd (cc (down, up))) (λ _. (up, none), λ _. sym same ∙ ap Some is)
 
   -- nothing was committed: memory was wanting, or the call makes no change
   module _ (leaves : (keeper : K) (f : Found State) (t : Started State) → k.is_at keeper f → k.is_failed keeper ≡ false → IsSome (k.told keeper) → k.may_leave keeper t → t ≡ Ok f)

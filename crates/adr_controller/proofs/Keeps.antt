@@ -207,7 +207,7 @@ module _ {K : Type 0} (k : Ghosts K)
       (fits : Fits) (told : IsSome (k.told new) ↔ IsSome (k.told ready)) (counts : k.faults ready ≤ k.faults new)
       (moments : (f : Found State) → k.is_at ready f → k.is_prepared ready f.state c → k.can_follow f.state c → IfSome (k.told ready) (λ _. LeavesOnly k.moment k.left_since ready new (FindsEither f.state (after f.state c))))
       (left : (f : Found State) → k.is_at ready f → k.is_prepared ready f.state c → k.can_follow f.state c → IfSome (k.told ready) (λ _. Among (FindsEither f.state (after f.state c)) (k.may_leave new)))
-      (writes : (f : Found State) (file image longest : ℕ) → k.is_at ready f → k.is_prepared ready f.state c → k.is_within ready file image longest
+      (writes : (f : Found State) → k.is_at ready f → k.is_prepared ready f.state c → k.can_follow f.state c → (file image longest : ℕ) → k.is_within ready file image longest
       → k.is_within new file (max image (if is_due f.log c then image_length f.state.store else 0)) (max longest (5 + change_length c))) where
     here : k.is_at ready (found s up.log)
     here = made.at (found s up.log) up.at
@@ -227,9 +227,10 @@ module _ {K : Type 0} (k : Ghosts K)
 
     bound_so : Bounded new
     bound_so log file image longest was b =
-        new_bound k old new (image_of log) record_length (λ file i n is. writes (found s log) file i n (made.at (found s log) was) made.is_prepared (within file i n is)) file image longest b
+        new_bound k old new (image_of log) record_length (λ file i n is. writes (found s log) (made.at (found s log) was) made.is_prepared able.follows file i n (within file i n is)) file image longest b
 
-    pub done : (t : State) → t ≡ after s c → ((f : Found State) → k.is_at ready f → k.is_prepared ready f.state c → k.can_follow f.state c → k.is_at new (found_after f c)) → k.is_failed new ≡ false → k.commits ready c None new
+    pub done : (t : State) → t ≡ after s c → ((f : Found State) → k.is_at ready f → k.is_prepared ready f.state c → k.can_follow f.state c → k.is_at new (found_after f c)) → k.is_failed new ≡ false
+        → ((f : Found State) → k.is_at ready f → k.is_prepared ready f.state c → k.can_follow f.state c → k.commits ready c None new)
         → Kept k s c (up_behind None old s) (up_behind None new t) None
     done t is at running commits = subst (λ (x : State). Kept k s c (up_behind None old s) (up_behind None new x) None) (sym is) (record {
       commits = record {
@@ -249,7 +250,7 @@ module _ {K : Type 0} (k : Ghosts K)
         acknowledged = λ h. if_told (k.told old) (λ _. Among (FindsState (after s c)) (k.may_leave new)) (λ t tells x was.
             (next_log up.log s.store c, leaves new (found_after (found s up.log) c) x now running (told.1 (is_some_of (k.told ready) t (kept.content_stays ∙ tells))) was));
         bounded = bound_so;
-        ran = (ready, made, commits);
+        ran = (ready, made, commits (found s up.log) here made.is_prepared able.follows);
       };
       in_order = order new (after s c) (record { log = next_log up.log s.store c; at = now; running = running; formed = able.formed });
       not_down = λ h. cc h;
@@ -259,9 +260,10 @@ module _ {K : Type 0} (k : Ghosts K)
         now : k.is_at new (found_after (found s up.log) c)
         now = at (found s up.log) here made.is_prepared able.follows
 
-    pub failed : (t : State) (e : KeeperRefusal) → IsErrOf {T = Unit {0}} (Err e) keeps.DiskFault × (k.faults ready < k.faults new) × (k.is_failed new ≡ true) → k.commits ready c (Some e) new
+    pub failed : (t : State) (e : KeeperRefusal) → IsErrOf {T = Unit {0}} (Err e) keeps.DiskFault × (k.faults ready < k.faults new) × (k.is_failed new ≡ true)
+        → ((f : Found State) → k.is_at ready f → k.is_prepared ready f.state c → k.can_follow f.state c → k.commits ready c (Some e) new)
         → Kept k s c (up_behind None old s) (up_behind (Some (kept_as e)) new t) (Some (kept_as e))
-    failed t keeps.DiskFault fault commits = faulted new t (inr (ready, made, commits)) (omega (arith, later, fault.1), fault.2) told_so fits moments_so left_so bound_so
+    failed t keeps.DiskFault fault commits = faulted new t (inr (ready, made, commits (found s up.log) here made.is_prepared able.follows)) (omega (arith, later, fault.1), fault.2) told_so fits moments_so left_so bound_so
     failed t keeps.Failed fault commits = absurd (cc fault.0)
     failed t keeps.Full fault commits = absurd (cc fault.0)
     failed t keeps.NoMemory fault commits = absurd (cc fault.0)

@@ -34,8 +34,7 @@ impl<K: Keeper> Controller<K> {
     {
         let state = self.running()?;
         let change = collect(alloc, state, now, lifetime)?;
-        let concluded = self.conclude(&change, count(change.removed().len()));
-        drop(change);
-        concluded
+        let removed = count(change.removed().len());
+        self.conclude(change, removed)
     }
 }

@@ -226,14 +226,14 @@ impl<K: Keeper> Controller<K> {
     }
 
     /// Commits a change of the state, to the keeper and in memory.
-    pub(crate) fn commit(&mut self, change: &Change) -> Result<(), Hindrance>
-        requires { ForSome self.old.state (λ s. CanCommit K.Keeper s change.now) }
+    pub(crate) fn commit(&mut self, change: Change) -> Result<(), Hindrance>
+        requires { ForSome self.old.state (λ s. CanCommit K.Keeper s change) }
         ensures down { (hindrance_of result ≡ Some Hindrance.Down) ↔ (self.old.down ≡ true) }
         ensures failed { (hindrance_of result ≡ Some Hindrance.Failed)
             ↔ ((self.old.down ≡ false) × (self.old.state ≡ None)) }
         ensures stays { self.old.state ≡ None → self.new ≡ self.old }
         ensures commits { (s : Defined) → self.old.state ≡ Some s
-            → Commits K.Keeper s change.now self.old self.new (hindrance_of result) }
+            → Commits K.Keeper s change self.old self.new (hindrance_of result) }
     {
         if self.down {
             return Err(Hindrance::Down);
@@ -255,13 +255,13 @@ impl<K: Keeper> Controller<K> {
     /// wanted memory, nothing is committed.
     pub(crate) fn conclude<T: Copy, R>(
         &mut self,
-        change: &Change,
+        change: Change,
         told: Result<T, NoMemory>,
     ) -> Result<T, CallRefusal<R>>
-        requires { ForSome self.old.state (λ s. CanCommit K.Keeper s change.now) }
+        requires { ForSome self.old.state (λ s. CanCommit K.Keeper s change) }
         ensures told { IfOk result (λ answer. told ≡ Ok answer) }
         ensures not_refused { (refusal : R) → IsErrOf result (CallRefusal.Refused refusal) → ⊥ }
-        ensures calls { (changes : Defined → Option Changes) → IsMade K.Keeper changes self.old change.now
+        ensures calls { (changes : Defined → Option Changes) → IsMade K.Keeper changes self.old change
             → Calls K.Keeper changes self.old self.new (call_hindrance result) }
     {
         let answer = told?;

@@ -15,9 +15,9 @@ use adr_state::{Change, State};
 use std::alloc::AllocError;
 
 /// Makes a change of a state that it fits into.
-fn apply(state: &mut State, change: &Change) -> Result<(), NoMemory>
-    requires { ¬ IsOverfull (after state.old change.now) }
-    ensures ok { OnOk result (state.new ≡ after state.old change.now) }
+fn apply(state: &mut State, change: Change) -> Result<(), NoMemory>
+    requires { ¬ IsOverfull (after state.old change) }
+    ensures ok { OnOk result (state.new ≡ after state.old change) }
     ensures err { OnErr result (state.new ≡ state.old) }
 {
     match state.apply(change) {
@@ -32,14 +32,14 @@ fn apply(state: &mut State, change: &Change) -> Result<(), NoMemory>
 pub(crate) fn keep<K: Keeper>(
     keeper: &mut K,
     state: &mut State,
-    change: &Change,
+    change: Change,
 ) -> Result<(), Hindrance>
     requires up { IsUp K.Keeper keeper.old state.old }
-    requires able { CanCommit K.Keeper state.old change.now }
+    requires able { CanCommit K.Keeper state.old change }
     ensures { let how = hindrance_of result in
-        Kept K.Keeper state.old change.now (up_behind None keeper.old state.old) (up_behind how keeper.new state.new) how }
+        Kept K.Keeper state.old change (up_behind None keeper.old state.old) (up_behind how keeper.new state.new) how }
 {
-    keeper.prepare(state, change)?;
+    keeper.prepare(state, &change)?;
     apply(state, change)?;
-    Ok(keeper.commit(change)?)
+    Ok(keeper.commit()?)
 }

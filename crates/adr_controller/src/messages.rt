@@ -93,9 +93,7 @@ impl<K: Keeper> Controller<K> {
             return Ok(());
         }
         let change = quarantine(alloc, state);
-        let committed = self.commit(&change);
-        drop(change);
-        committed
+        self.commit(change)
     }
 
     /// Refuses a request. A controller that it shows to be put back is quarantined before.
@@ -197,9 +195,8 @@ impl<K: Keeper> Controller<K> {
         let state = self.running()?;
         match take(alloc, state, reply) {
             Ok(change) => {
-                let concluded = self.conclude(&change, told_of(reply, &change));
-                drop(change);
-                concluded
+                let told = told_of(reply, &change);
+                self.conclude(change, told)
             }
             Err(Failure::NoMemory) => Err(CallRefusal::Hindered(Hindrance::NoMemory)),
             Err(Failure::Refused(refusal)) => Err(self.refuse_reply(alloc, refusal)),

@@ -83,8 +83,7 @@ impl<K: Keeper> Controller<K> {
     {
         let state = self.running()?;
         let change = change_of(alloc, state, what, now)?;
-        let concluded = self.conclude(&change, Ok(change.usn()));
-        drop(change);
-        concluded
+        let usn = change.usn();
+        self.conclude(change, Ok(usn))
     }
 }

@@ -1,5 +1,5 @@
 -- Entries that rise by number: inserting one, looking one up, and what is behind a number.
-use Rattle.std.proofs.Common.{◌≡◌, inl, inr, ℕ, ◌<◌, ◌≤◌, List, [], ◌∷◌, Bool, true, false, cond, Option, Some, None, nat_lt, refl, sym, ap, ◌∙◌, subst, filter, find, option_map, arith}
+use Rattle.std.proofs.Common.{◌≡◌, ◌≢◌, inl, inr, ℕ, ◌<◌, ◌≤◌, List, [], ◌∷◌, Bool, true, false, cond, Option, Some, None, nat_lt, refl, sym, ap, ◌∙◌, subst, filter, find, option_map, arith}
 use Rattle.std.specs.Option.{option_or}
 use Rattle.std.specs.Ordering.{match_ordering, nat_cmp, is_eq}
 use Rattle.std.specs.declared.cmp.Ordering.{Ordering}
@@ -24,18 +24,11 @@ at_number a b at = exact_unsigned a b (equal_order (nat_cmp a b) at)
 pub itself : (a : ℕ) → is_at (nat_cmp a) a ≡ true
 itself a = ap is_eq (tied_itself nat_cmp_total a)
 
-not_at_higher : (a b : ℕ) → a < b → is_at (nat_cmp a) b ≡ false
-not_at_higher a b below = by (is_at (nat_cmp a) b) refl
+not_at : (a b : ℕ) → a ≢ b → is_at (nat_cmp a) b ≡ false
+not_at a b differ = by (is_at (nat_cmp a) b) refl
   where
     by : (c : Bool) → is_at (nat_cmp a) b ≡ c → c ≡ false
-    by true is = let same = at_number a b is in absurd (omega arith)
-    by false is = refl
-
-not_at_lower : (a b : ℕ) → b < a → is_at (nat_cmp a) b ≡ false
-not_at_lower a b below = by (is_at (nat_cmp a) b) refl
-  where
-    by : (c : Bool) → is_at (nat_cmp a) b ≡ c → c ≡ false
-    by true is = let same = at_number a b is in absurd (omega arith)
+    by true is = absurd (differ (at_number a b is))
     by false is = refl
 
 module _ {X : Type 0} where
@@ -104,7 +97,7 @@ module _ {X : Type 0} where
   none_at : (from q : ℕ) (es : List (ℕ × X)) → q ≤ from → RisesFrom from es → lookup (is_at (nat_cmp q)) es ≡ None
   none_at from q [] upto r = refl
   none_at from q (e ∷ es) upto r =
-      ap (λ b. cond b (Some e.1) (lookup (is_at (nat_cmp q)) es)) (not_at_higher q e.0 (omega (arith, r.0)))
+      ap (λ b. cond b (Some e.1) (lookup (is_at (nat_cmp q)) es)) (not_at q e.0 (omega (arith, r.0)))
       ∙ none_at e.0 q es (omega (arith, r.0)) r.1
 
   -- all are behind a number up to the first one
@@ -176,7 +169,7 @@ module _ {X : Type 0} where
       by true test rest = here (is_at (nat_cmp k) e.0) refl (gap e (inl refl) (ltb-true n e.0 test))
       by false test rest =
           let lower : e.0 ≤ n = ltb-false n e.0 test in
-          rest ∙ sym (ap (λ b. option_or (pair (at b)) (after (nat_lt k e.0))) (not_at_lower k e.0 (omega (arith, lower)))
+          rest ∙ sym (ap (λ b. option_or (pair (at b)) (after (nat_lt k e.0))) (not_at k e.0 (omega (arith, lower)))
           ∙ ap (λ b. option_or (pair (lookup (is_at (nat_cmp k)) es)) (after b)) (le-ltb k e.0 (omega (arith, lower))))
 
   -- where no number stands behind one

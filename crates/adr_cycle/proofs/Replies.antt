@@ -1,5 +1,5 @@
 -- A reply from what its parts are read from.
-use Rattle.std.proofs.Common.{◌≡◌, ◌∙◌, ℕ, ◌≤◌, List, [], Bool, true, false, cond, ◌&&◌, ◌==◌, Option, is_none, is_some, map, refl, sym, ap, subst, length}
+use Rattle.std.proofs.Common.{◌≡◌, ◌∙◌, ℕ, ◌≤◌, List, [], Bool, true, false, cond, ◌&&◌, ◌==◌, Option, is_none, is_some, map, refl, sym, ap, subst, length, None, Some}
 use Rattle.std.specs.Bool.{then_some}
 use Rattle.adr_vector.specs.Vector.{Cursors}
 use Rattle.adr_vector.specs.declared.mark.Mark.{Mark}
@@ -44,11 +44,7 @@ none_told true version times is = ap (λ v. cond (v == 2) times []) is
 
 -- where it tells none, none are brought
 pub none_brought : (r : Reply) → r.times ≡ [] → times_brought r ≡ []
-none_brought r none = by (is_some r.last)
-  where
-    by : (b : Bool) → cond b r.times [] ≡ []
-    by true = none
-    by false = refl
+none_brought r none = elim (r.last) as (λ last. cond (is_some last) r.times [] ≡ []) [ None ↦ refl | Some carried ↦ none ]
 
 -- a reply is made of its parts
 pub made_of : (s : State) (q : Request) (now : ℕ) (from : Mark) (sent : List (ℕ × Item)) (last : Bool) (x : Reply) (dest source inv : Identifier) (to : Mark) (schema : ℕ) (asked : Cursors) (vector : Option Cursors) (items : List Item)

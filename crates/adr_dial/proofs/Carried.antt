@@ -6,12 +6,12 @@ use Rattle.adr_io.specs.declared.Sink.{Ghosts as SinkGhosts}
 use Rattle.adr_outside.specs.declared.net.Net.{Ghosts as NetGhosts}
 use Rattle.adr_model.specs.Store.{State}
 use Rattle.adr_law_journal.specs.Areas.{Found, Started}
-use Rattle.adr_law_journal.specs.Kept.{FindsState}
+use Rattle.adr_node.specs.Begins.{StandsOn}
 use Rattle.adr_node.specs.Seen.{Mirrors, Seen}
-use Rattle.adr_node.proofs.Mirrored.{leaves_over, told_over}
+use Rattle.adr_node.proofs.Mirrored.{ends_over, leaves_over, stands_over, told_over}
 use Rattle.adr_pull.specs.Fetch.{Point}
 use Rattle.adr_pull.specs.Told.{FindsNear}
-use Rattle.adr_dial.specs.Pulls.{Does, FallsOn, FindsPulled, Hands, LeavesSo, Pulls, StandsOn, Unbegun, outside_of}
+use Rattle.adr_dial.specs.Pulls.{Does, FallsOn, FindsPulled, Hands, IsUnpulled, LeavesSo, Pulls, outside_of}
 use Rattle.adr_dial.specs.declared.ended.Pulled.{Pulled}
 use Rattle.adr_dial.proofs.Cycled.{pulls_less}
 
@@ -29,31 +29,19 @@ module _ {D E N S : Type 0} (d : Seen D) (e : Seen E) (n : NetGhosts N) (k : Sin
   abbrev pub BehindIn : Hands E N S
   BehindIn = record { disk = to; net = net_after; sink = sink_after }
 
-  stands_over : (f : Found State) → StandsOn e to f → StandsOn d new f
-  stands_over f stands =
-      if_told (d.told new) (λ t. (t ≡ Ok f) × Among (FindsState f.state) (d.may_leave new)) (λ t is.
-      let there = at_told (e.told to) (λ t. (t ≡ Ok f) × Among (FindsState f.state) (e.may_leave to)) t (sym last.told ∙ is) stands in
-      (there.0, λ x left. there.1 x (last.left x left)))
-
   falls_over : (p q : Point) → FallsOn e to p q → FallsOn d new p q
   falls_over p q falls =
       if_told (d.told new) (λ _. Among (FindsNear p q) (d.may_leave new)) (λ t is.
       let there = at_told (e.told to) (λ _. Among (FindsNear p q) (e.may_leave to)) t (sym last.told ∙ is) falls in
       λ x left. there x (last.left x left))
 
-  stays_over : e.told to ≡ e.told from → d.told new ≡ d.told old
-  stays_over is = last.told ∙ is ∙ first.told
+  unpulled_over : (there : Started State) (how : Pulled) → IsUnpulled e k there BeforeIn BehindIn how → IsUnpulled d k there Before Behind how
+  unpulled_over there how un = ((un.0.0, un.0.1, ends_over d e old new from to first last k sink sink_after un.0.0 there un.0.2), un.1)
 
-  left_over : Among (e.may_leave from) (e.may_leave to) → Among (d.may_leave old) (d.may_leave new)
-  left_over left x l = first.left x (left x (last.left x l))
-
-  unbegun_over : (how : Pulled) → Unbegun e BeforeIn BehindIn how → Unbegun d Before Behind how
-  unbegun_over how un = (⊎_elim (λ failed. inl failed) (λ none. inr (none.0, stays_over none.1)) un.0, un.1, un.2, left_over un.3)
-
-  does_over : (found : Started State) (how : Pulled) → Does e n k name found BeforeIn BehindIn how → Does d n k name found Before Behind how
+  does_over : (there : Started State) (how : Pulled) → Does e n k name there BeforeIn BehindIn how → Does d n k name there Before Behind how
   does_over (Ok f) how does = λ p at.
-      pulls_less (StandsOn e to) (StandsOn d new) (FallsOn e to) (FallsOn d new) stands_over falls_over p (outside_of n k Behind) name f how (does p at)
-  does_over (Err place) how does = (does.0, does.1, stays_over does.2, left_over does.3)
+      pulls_less (StandsOn e to) (StandsOn d new) (FallsOn e to) (FallsOn d new) (stands_over d e old new from to first last) falls_over p (outside_of n k Behind) name f how (does p at)
+  does_over (Err place) how does = absurd does
 
   leaves_so_over : (found : Started State) → LeavesSo e n k name found BeforeIn BehindIn → LeavesSo d n k name found Before Behind
   leaves_so_over (Ok f) leaves = λ p at.
@@ -65,7 +53,7 @@ module _ {D E N S : Type 0} (d : Seen D) (e : Seen E) (n : NetGhosts N) (k : Sin
   pulls_over how p = record {
     found = p.found;
     is_found = told_over d e old new from to first last (λ t. t ≡ p.found) p.is_found;
-    does = ⊎_elim (λ un. inl (unbegun_over how un)) (λ does. inr (does_over p.found how does)) p.does;
+    does = ⊎_elim (λ un. inl (unpulled_over p.found how un)) (λ does. inr (does_over p.found how does)) p.does;
     any_moment = if_told (d.told old) (λ _. LeavesSo d n k name p.found Before Behind) (λ t is.
         leaves_so_over p.found (at_told (e.told from) _ t (first.told ∙ is) p.any_moment));
     write_fault = p.write_fault;

@@ -9,15 +9,17 @@ use Rattle.adr_law_journal.specs.Areas.{Found, Started}
 use Rattle.adr_journal.specs.declared.keeper.Keeper.{Ghosts}
 use Rattle.adr_controller.specs.Running.{Running}
 use Rattle.adr_outside.specs.Traffic.{Traffic, Opens, hung_up}
+use Rattle.adr_outside.proofs.Hanging.{OpensNext, opens_next}
 use Rattle.adr_pull.specs.declared.fault.PullFault.{PullFault}
 use Rattle.adr_pull.specs.declared.fault.PullFault.TheVariants as faults
 use Rattle.adr_pull.specs.Fetch.{BadPeer, Course, Ends, Over, Point, Refused, pulled}
-use Rattle.adr_pull.specs.Told.{FindsBehind, Goes, HasFallen, Stands, Within, IsAt as AtPoint, IsAsking as Asks, IsTelling as Tells, HasFailed as Fails, EndsSo as EndedSo}
+use Rattle.adr_law_controller.specs.Keeping.{Stands}
+use Rattle.adr_pull.specs.Told.{FindsBehind, Goes, HasFallen, Within, IsAt as AtPoint, IsAsking as Asks, IsTelling as Tells, HasFailed as Fails, EndsSo as EndedSo}
 use Rattle.adr_dial.specs.Dialled.{IsAt, Outside, Post}
 use Rattle.adr_dial.specs.Pulls.{Cycles, EndsSo, FindsPulled, HasFailed, IsAsking, IsTelling, PullsFrom, as_pulled, exchange_limit, goes, met_at}
 use Rattle.adr_dial.specs.declared.ended.Pulled.{Pulled}
 use Rattle.adr_dial.specs.declared.ended.Pulled.TheVariants as pulls
-use Rattle.adr_dial.proofs.Opened.{IsOpened, done_so, opened, opened_from}
+use Rattle.adr_dial.proofs.Opened.{done_so, opened}
 
 -- a controller that is up at a point, or has fallen between two
 abbrev pub Up : {K : Type 0} → Ghosts K → Running K → Found State → Type 0
@@ -25,6 +27,10 @@ Up k c f = Stands k f c
 
 abbrev pub Fallen : {K : Type 0} → Ghosts K → Running K → Point → Point → Type 0
 Fallen k c a b = HasFallen k a.stands.state b.stands.state c
+
+-- what holds somewhere in a cycle, in other words
+within_so : (go : ℕ → Course) (P Q : Point → Point → Type 0) → ((a b : Point) → P a b → Q a b) → Within go P → Within go Q
+within_so go P Q so within = (within.0, within.1, so (go within.0).0 (go (suc within.0)).0 within.2)
 
 module _ {K : Type 0} (k : Ghosts K) (c : Running K) (p : Post) (rest : List (List ℕ)) (came : List ℕ) (net after : Option Traffic)
     (lines : Option (List ℕ)) (hung : after ≡ option_map hung_up net) (go : ℕ → Course) where
@@ -48,20 +54,17 @@ module _ {K : Type 0} (k : Ghosts K) (c : Running K) (p : Post) (rest : List (Li
   failed_so : (a b : Point) → Fails k First a b c net lines → HasFailed (Fallen k c) p rest a b There
   failed_so a b fails = (fails.node, done_so p rest fails.left b.sent a.written net after lines hung fails.net fails.lines)
 
-  within_so : (P Q : Point → Point → Type 0) → ((a b : Point) → P a b → Q a b) → Within go P → Within go Q
-  within_so P Q so within = (within.0, within.1, so (go within.0).0 (go (suc within.0)).0 within.2)
-
   pub cycled : (result : Result Unit PullFault) → Goes k First go exchange_limit result c net lines
       → Cycles (Up k c) (Fallen k c) p rest go (as_pulled result) There
   cycled (Ok unit) so = ended_so (Some Over) so
   cycled (Err faults.Refused) so = ended_so (Some Refused) so
   cycled (Err faults.BadPeer) so = ended_so (Some BadPeer) so
   cycled (Err faults.MoreWaiting) so = ended_so None so
-  cycled (Err faults.Link) so = within_so _ _ asking_so so
-  cycled (Err faults.Write) so = within_so _ _ telling_so so
+  cycled (Err faults.Link) so = within_so go _ _ asking_so so
+  cycled (Err faults.Write) so = within_so go _ _ telling_so so
   cycled (Err faults.NoMemory) so =
-      within_so _ _ (λ a b. ⊎_elim (λ asks. inl (asking_so a b asks)) (λ tells. inr (telling_so a b tells))) so
-  cycled (Err faults.Disk) so = within_so _ _ failed_so so
+      within_so go _ _ (λ a b. ⊎_elim (λ asks. inl (asking_so a b asks)) (λ tells. inr (telling_so a b tells))) so
+  cycled (Err faults.Disk) so = within_so go _ _ failed_so so
 
 -- from a post: a connection is opened, a cycle pulled over it, and it is hung up
 module _ {K : Type 0} (k : Ghosts K) (name : List ℕ) (f : Found State) (p : Post) (before c : Running K) (stands : Stands k f before)
@@ -72,11 +75,11 @@ module _ {K : Type 0} (k : Ghosts K) (name : List ℕ) (f : Found State) (p : Po
       → hung ≡ option_map hung_up after → how ≡ as_pulled result
       → PullsFrom (Up k c) (Fallen k c) name f p how (record { net = hung; lines = lines_after })
   pulled_up goes_so is ended =
-      let o : IsOpened p net_open = opened_from p net net_open at.net opens in
-      let there : AtPoint k (opened p o.1 o.0 []) (met_at f p o.0) before net_open lines = record { node = stands; net = o.3; lines = at.lines } in
-      let all : Cycles (Up k c) (Fallen k c) p o.1 (goes name f p o.0) (as_pulled result) (record { net = hung; lines = lines_after }) =
-      cycled k c p o.1 o.0 after hung lines_after is (goes name f p o.0) result (goes_so (opened p o.1 o.0 []) (met_at f p o.0) there) in
-      inr (o.0, o.1, o.2, subst (λ (h : Pulled). Cycles (Up k c) (Fallen k c) p o.1 (goes name f p o.0) h (record { net = hung; lines = lines_after })) (sym ended) all)
+      let o : OpensNext p.waiting p.done net_open = opens_next p.waiting p.done net net_open at.net opens in
+      let there : AtPoint k (opened p o.rest o.came []) (met_at f p o.came) before net_open lines = record { node = stands; net = o.net; lines = at.lines } in
+      let all : Cycles (Up k c) (Fallen k c) p o.rest (goes name f p o.came) (as_pulled result) (record { net = hung; lines = lines_after }) =
+      cycled k c p o.rest o.came after hung lines_after is (goes name f p o.came) result (goes_so (opened p o.rest o.came []) (met_at f p o.came) there) in
+      inr (o.came, o.rest, o.opens, subst (λ (h : Pulled). Cycles (Up k c) (Fallen k c) p o.rest (goes name f p o.came) h (record { net = hung; lines = lines_after })) (sym ended) all)
 
   -- what a crash in it leaves
   pub crash_up : ((t : Traffic) (q : Point) → AtPoint k t q before net_open lines → IfSome (k.told before.keeper) (λ _.
@@ -84,12 +87,12 @@ module _ {K : Type 0} (k : Ghosts K) (name : List ℕ) (f : Found State) (p : Po
       → IfSome (k.told before.keeper) (λ _.
       LeavesOnly k.moment k.left_since before.keeper c.keeper (λ s. k.may_leave before.keeper s ⊎ FindsPulled name f p s))
   crash_up leaves =
-      let o : IsOpened p net_open = opened_from p net net_open at.net opens in
-      let there : AtPoint k (opened p o.1 o.0 []) (met_at f p o.0) before net_open lines = record { node = stands; net = o.3; lines = at.lines } in
+      let o : OpensNext p.waiting p.done net_open = opens_next p.waiting p.done net net_open at.net opens in
+      let there : AtPoint k (opened p o.rest o.came []) (met_at f p o.came) before net_open lines = record { node = stands; net = o.net; lines = at.lines } in
       if_told (k.told before.keeper) (λ _. LeavesOnly k.moment k.left_since before.keeper c.keeper (λ s. k.may_leave before.keeper s ⊎ FindsPulled name f p s)) (λ x is.
-      weakened k.moment k.left_since before.keeper c.keeper (FindsBehind (goes name f p o.0)) (λ s. k.may_leave before.keeper s ⊎ FindsPulled name f p s)
-      (λ s finds. inr (o.0, o.1, o.2, finds))
-      (at_told (k.told before.keeper) _ x is (leaves (opened p o.1 o.0 []) (met_at f p o.0) there)))
+      weakened k.moment k.left_since before.keeper c.keeper (FindsBehind (goes name f p o.came)) (λ s. k.may_leave before.keeper s ⊎ FindsPulled name f p s)
+      (λ s finds. inr (o.came, o.rest, o.opens, finds))
+      (at_told (k.told before.keeper) _ x is (leaves (opened p o.rest o.came []) (met_at f p o.came) there)))
 
 -- no connection was opened
 pub crash_none : {K : Type 0} (k : Ghosts K) (only_now : (keeper : K) (t : Started State) → k.left_since keeper (k.moment keeper) t → k.may_leave keeper t)
@@ -104,9 +107,6 @@ crash_none k only_now keeper Q =
 module _ (at at_less : Found State → Type 0) (fallen fallen_less : Point → Point → Type 0)
     (less : (f : Found State) → at f → at_less f) (less_fallen : (a b : Point) → fallen a b → fallen_less a b)
     (p : Post) (o : Outside) where
-  within_less : (go : ℕ → Course) (P Q : Point → Point → Type 0) → ((a b : Point) → P a b → Q a b) → Within go P → Within go Q
-  within_less go P Q so within = (within.0, within.1, so (go within.0).0 (go (suc within.0)).0 within.2)
-
   module _ (rest : List (List ℕ)) (go : ℕ → Course) where
     ends_less : (course : Course) (ends : Option Ends) → EndsSo at p rest course ends o → EndsSo at_less p rest course ends o
     ends_less course ends so = (so.0, less course.0.stands so.1, so.2)
@@ -125,11 +125,11 @@ module _ (at at_less : Found State → Type 0) (fallen fallen_less : Point → P
     cycles_less pulls.Refused so = ends_less (go exchange_limit) (Some Refused) so
     cycles_less pulls.BadPeer so = ends_less (go exchange_limit) (Some BadPeer) so
     cycles_less pulls.MoreWaiting so = ends_less (go exchange_limit) None so
-    cycles_less pulls.LinkFault so = within_less go _ _ asking_less so
-    cycles_less pulls.WriteFault so = within_less go _ _ telling_less so
+    cycles_less pulls.LinkFault so = within_so go _ _ asking_less so
+    cycles_less pulls.WriteFault so = within_so go _ _ telling_less so
     cycles_less pulls.NoMemory so =
-        within_less go _ _ (λ a b. ⊎_elim (λ asks. inl (asking_less a b asks)) (λ tells. inr (telling_less a b tells))) so
-    cycles_less pulls.DiskFault so = within_less go _ _ failed_less so
+        within_so go _ _ (λ a b. ⊎_elim (λ asks. inl (asking_less a b asks)) (λ tells. inr (telling_less a b tells))) so
+    cycles_less pulls.DiskFault so = within_so go _ _ failed_less so
     cycles_less (pulls.Damaged place) so = absurd so
 
   pub pulls_less : (name : List ℕ) (f : Found State) (how : Pulled) → PullsFrom at fallen name f p how o

@@ -1,5 +1,5 @@
-mod SentOver
-mod Opened
-mod Cycled
-mod Begun
-mod Carried
+pub mod SentOver
+pub mod Opened
+pub mod Cycled
+pub mod Begun
+pub mod Carried

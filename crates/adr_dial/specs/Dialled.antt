@@ -1,7 +1,7 @@
 -- What is told of a network and of lines, before a call of another node and behind it.
-use Rattle.std.specs.Prelude.{◌≡◌, ℕ, List, [], ◌∷◌, ◌++◌, false, Option, Some}
+use Rattle.std.specs.Prelude.{◌≡◌, ℕ, List, [], ◌∷◌, ◌++◌, Option, Some}
 use Rattle.std.specs.Option.{option_map}
-use Rattle.adr_outside.specs.Traffic.{Traffic, hung_up}
+use Rattle.adr_outside.specs.Traffic.{Traffic, closed, hung_up}
 
 -- what is told of a network, and of the lines that were written
 pub record Outside : Type 0 where
@@ -14,10 +14,6 @@ pub record Post : Type 0 where
   pub waiting : List (List ℕ)
   pub done : List (List ℕ)
   pub written : List ℕ
-
--- no connection is open
-abbrev pub closed : List (List ℕ) → List (List ℕ) → Traffic
-closed waiting done = record { waiting = waiting; is_open = false; left = []; sent = []; done = done }
 
 -- all outside is where the post says, an open connection being hung up
 pub record IsAt (p : Post) (o : Outside) : Type 0 where

@@ -1,16 +1,16 @@
 -- What a pull does over the controller on a disk.
 use Rattle.std.specs.Prelude.{◌≡◌, ◌⊎◌, ◌<◌, ◌≤◌, ◌+◌, ℕ, List, [], ◌∷◌, Option, Some, None, IfSome, Result, Ok, Err}
-use Rattle.adr_io.specs.Told.{Adds, AddsFront}
 use Rattle.adr_io.specs.declared.Sink.{Ghosts as SinkGhosts}
 use Rattle.adr_disk.specs.Disk.{Among, LeavesOnly}
 use Rattle.adr_outside.specs.declared.net.Net.{Ghosts as NetGhosts}
 use Rattle.adr_model.specs.Store.{State}
 use Rattle.adr_law_journal.specs.Areas.{Found, Started}
-use Rattle.adr_law_journal.specs.Kept.{FindsState}
-use Rattle.adr_journal.specs.declared.keeper.StartRefusal.{StartRefusal}
-use Rattle.adr_journal.specs.declared.keeper.StartRefusal.TheVariants as starts
-use Rattle.adr_node.specs.Lines.{damaged_line}
-use Rattle.adr_node.specs.Seen.{Seen}
+use Rattle.adr_journal.specs.declared.keeper.Keeper.{Ghosts as KeeperGhosts}
+use Rattle.adr_controller.specs.Running.{Running}
+use Rattle.adr_node.specs.Begins.{Begun, EndsUnbegun, StandsOn}
+use Rattle.adr_node.specs.Seen.{Seen, of_keeper}
+use Rattle.adr_node.specs.declared.ended.Unbegun.{Unbegun}
+use Rattle.adr_node.specs.declared.ended.Unbegun.TheVariants as unbegun
 use Rattle.adr_pull.specs.Fetch.{BadPeer, Course, Ends, Over, Point, Refused, pulled, reply_limit}
 use Rattle.adr_pull.specs.Told.{FindsBehind, FindsNear, IsBetween, Within}
 use Rattle.adr_pull.specs.declared.fault.PullFault.{PullFault}
@@ -27,10 +27,6 @@ pub record Hands (D N S : Type 0) : Type 0 where
 
 abbrev pub outside_of : {D N S : Type 0} → NetGhosts N → SinkGhosts S → Hands D N S → Outside
 outside_of n k h = record { net = n.traffic h.net; lines = k.written h.sink }
-
--- a start finds this state, also behind a crash, where what it finds is told
-abbrev pub StandsOn : {D : Type 0} → Seen D → D → Found State → Type 0
-StandsOn d disk f = IfSome (d.told disk) (λ t. (t ≡ Ok f) × Among (FindsState f.state) (d.may_leave disk))
 
 -- a start finds the state at the one point or the other
 abbrev pub FallsOn : {D : Type 0} → Seen D → D → Point → Point → Type 0
@@ -99,38 +95,23 @@ PullsFrom at fallen name f p how o =
 
 -- ---- the command
 
--- the bytes of the disk are no log: that is written, or a front of it
-abbrev pub TellsDamage : {S : Type 0} → SinkGhosts S → ℕ → S → S → Pulled → Type 0
-TellsDamage k place before after pulls.Done = ⊥
-TellsDamage k place before after pulls.WriteFault = AddsFront (k.written before) (k.written after) (damaged_line place)
-TellsDamage k place before after pulls.DiskFault = ⊥
-TellsDamage k place before after pulls.LinkFault = ⊥
-TellsDamage k place before after pulls.NoMemory = AddsFront (k.written before) (k.written after) (damaged_line place)
-TellsDamage k place before after pulls.Refused = ⊥
-TellsDamage k place before after (pulls.Damaged there) =
-    (there ≡ place) × Adds (k.written before) (k.written after) (damaged_line place)
-TellsDamage k place before after pulls.MoreWaiting = ⊥
-TellsDamage k place before after pulls.BadPeer = ⊥
+-- how one ends that had no controller to begin with
+abbrev pub unpulled : Unbegun → Pulled
+unpulled (unbegun.Damaged place) = pulls.Damaged place
+unpulled unbegun.WriteFault = pulls.WriteFault
+unpulled unbegun.DiskFault = pulls.DiskFault
+unpulled unbegun.NoMemory = pulls.NoMemory
 
--- what was written of a start that was refused
-abbrev pub TellsRefusal : {S : Type 0} → SinkGhosts S → StartRefusal → S → S → Pulled → Type 0
-TellsRefusal k starts.DiskFault before after how = (how ≡ pulls.DiskFault) × (after ≡ before)
-TellsRefusal k (starts.Damaged place) before after how = TellsDamage k place before after how
-TellsRefusal k (starts.NoMemory settled) before after how = (how ≡ pulls.NoMemory) × (after ≡ before)
-
--- the controller wasn't started: a call of the disk failed, or memory was wanting; and nothing but the disk was used
-abbrev pub Unbegun : {D N S : Type 0} → Seen D → Hands D N S → Hands D N S → Pulled → Type 0
-Unbegun d old new how =
-    ((how ≡ pulls.DiskFault) ⊎ ((how ≡ pulls.NoMemory) × (d.told new.disk ≡ d.told old.disk))) × (new.net ≡ old.net)
-    × (new.sink ≡ old.sink) × Among (d.may_leave old.disk) (d.may_leave new.disk)
+-- and it used nothing of the network
+abbrev pub IsUnpulled : {D N S : Type 0} → Seen D → SinkGhosts S → Started State → Hands D N S → Hands D N S → Pulled → Type 0
+IsUnpulled d k found old new how =
+    ((why : Unbegun) × (how ≡ unpulled why) × EndsUnbegun d k found old.disk new.disk old.sink new.sink why) × (new.net ≡ old.net)
 
 -- what was done with what a start found
 abbrev pub Does : {D N S : Type 0} → Seen D → NetGhosts N → SinkGhosts S → List ℕ → Started State → Hands D N S → Hands D N S → Pulled → Type 0
 Does d n k name (Ok f) old new how =
     (p : Post) → IsAt p (outside_of n k old) → PullsFrom (StandsOn d new.disk) (FallsOn d new.disk) name f p how (outside_of n k new)
-Does d n k name (Err place) old new how =
-    TellsDamage k place old.sink new.sink how × (new.net ≡ old.net) × (d.told new.disk ≡ d.told old.disk)
-    × Among (d.may_leave old.disk) (d.may_leave new.disk)
+Does d n k name (Err place) old new how = ⊥
 
 -- where the node stands behind some of the exchanges
 abbrev pub FindsPulled : List ℕ → Found State → Post → Started State → Type 0
@@ -151,7 +132,7 @@ pub record Pulls {D N S : Type 0} (d : Seen D) (n : NetGhosts N) (k : SinkGhosts
   -- what the start finds, which is what the bytes of the disk are, where it tells them
   pub found : Started State
   pub is_found : IfSome (d.told old.disk) (λ t. t ≡ found)
-  pub does : Unbegun d old new how ⊎ Does d n k name found old new how
+  pub does : IsUnpulled d k found old new how ⊎ Does d n k name found old new how
   pub any_moment : IfSome (d.told old.disk) (λ _. LeavesSo d n k name found old new)
   -- each fault comes where its count rose, and no count falls
   pub write_fault : how ≡ pulls.WriteFault → k.faults old.sink < k.faults new.sink
@@ -161,3 +142,10 @@ pub record Pulls {D N S : Type 0} (d : Seen D) (n : NetGhosts N) (k : SinkGhosts
   pub disk_later : d.faults old.disk ≤ d.faults new.disk
   pub doors_later : n.doors old.net ≤ n.doors new.net
   pub lines_later : n.lines old.net ≤ n.lines new.net
+
+-- into a controller, whatever keeper it was started from
+abbrev pub PullsOn : {K N S : Type 0} → KeeperGhosts K → NetGhosts N → SinkGhosts S → List ℕ → Running K → K → N → N → S → S → Pulled → Type 0
+PullsOn {K} k n s name c keeper_after net net_after sink sink_after how =
+    (keeper : K) → Begun k keeper c
+    → Pulls (of_keeper k) n s name (record { disk = keeper; net = net; sink = sink })
+    (record { disk = keeper_after; net = net_after; sink = sink_after }) how

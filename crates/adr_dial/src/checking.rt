@@ -8,12 +8,9 @@ ghost use Rattle.adr_dial.specs.Texts.{cause_in, fault_in, first_bad};
 
 use adr_failure::NoMemory;
 use adr_schedule::{Cause, ScheduleFault, TEXT_LIMIT, first_line, is_passed};
-use adr_session::deed_said;
+use adr_session::{LINE_LIMIT, deed_said};
 use adr_token::utf8;
 use std::alloc::Global;
-
-/// The most bytes of a line.
-const LINE_LIMIT: usize = 65_536;
 
 /// Whether a line says a write or a collection.
 fn says_deed(alloc: Global, line: &[u8]) -> Result<bool, NoMemory>

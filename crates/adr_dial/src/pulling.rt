@@ -5,22 +5,22 @@ ghost use Rattle.adr_disk.specs.Disk.{LeavesOnly};
 ghost use Rattle.adr_model.specs.Store.{State as Defined};
 ghost use Rattle.adr_law_journal.specs.Areas.{Found};
 ghost use Rattle.adr_controller.specs.Running.{IsInOrder};
-ghost use Rattle.adr_pull.specs.Told.{HasFallen, KeepsLog, Stands};
-ghost use Rattle.adr_node.specs.Seen.{of_disk, of_keeper};
+ghost use Rattle.adr_law_controller.specs.Keeping.{KeepsLog, Stands};
+ghost use Rattle.adr_pull.specs.Told.{HasFallen};
+ghost use Rattle.adr_node.specs.Seen.{of_disk};
 ghost use Rattle.adr_dial.specs.Dialled.{IsAt, Post};
-ghost use Rattle.adr_dial.specs.Pulls.{FindsPulled, Pulls, PullsFrom, TellsDamage, TellsRefusal, as_pulled};
+ghost use Rattle.adr_dial.specs.Pulls.{FindsPulled, Pulls, PullsFrom, PullsOn, as_pulled, unpulled};
 
 use crate::dialling::{Unconnected, connect};
 use crate::ended::Pulled;
 use adr_call::Text;
-use adr_controller::{Controller, Keeper, StartRefusal};
+use adr_controller::{Controller, Keeper};
 use adr_disk::Disk;
-use adr_io::{Fault, Sink};
-use adr_journal::Journal;
-use adr_node::damaged_line;
+use adr_io::Sink;
+use adr_law_controller::logs_keep;
+use adr_node::{Unbegun, begin};
 use adr_outside::Net;
-use adr_pull::{PullFault, logs_keep};
-use adr_records::Records;
+use adr_pull::PullFault;
 use std::alloc::Global;
 
 /// How a cycle ended.
@@ -39,32 +39,15 @@ fn ended(pulled: Result<(), PullFault>) -> Pulled
     }
 }
 
-/// Writes where the bytes of a disk are no log.
-fn tell_damage<S: Sink>(alloc: Global, place: u64, sink: &mut S) -> Pulled
-    ensures tells { TellsDamage S.Sink place sink.old sink.new result }
-    ensures write { result ≡ Pulled.WriteFault → S.faults sink.old < S.faults sink.new }
-    ensures never_falls { S.faults sink.old ≤ S.faults sink.new }
+/// How a command ends that had no controller to begin with.
+fn unpulled(why: Unbegun) -> Pulled
+    ensures { result ≡ unpulled why }
 {
-    let Ok(line) = damaged_line(alloc, place) else {
-        return Pulled::NoMemory;
-    };
-    match sink.write(&line) {
-        Ok(()) => Pulled::Damaged { place },
-        Err(Fault::Failed) => Pulled::WriteFault,
-        Err(Fault::NoMemory) => Pulled::NoMemory,
-    }
-}
-
-/// Tells of a start that was refused.
-fn tell_refusal<S: Sink>(alloc: Global, refusal: StartRefusal, sink: &mut S) -> Pulled
-    ensures tells { TellsRefusal S.Sink refusal sink.old sink.new result }
-    ensures write { result ≡ Pulled.WriteFault → S.faults sink.old < S.faults sink.new }
-    ensures never_falls { S.faults sink.old ≤ S.faults sink.new }
-{
-    match refusal {
-        StartRefusal::DiskFault => Pulled::DiskFault,
-        StartRefusal::Damaged { place } => tell_damage(alloc, place, sink),
-        StartRefusal::NoMemory { .. } => Pulled::NoMemory,
+    match why {
+        Unbegun::Damaged { place } => Pulled::Damaged { place },
+        Unbegun::WriteFault => Pulled::WriteFault,
+        Unbegun::DiskFault => Pulled::DiskFault,
+        Unbegun::NoMemory => Pulled::NoMemory,
     }
 }
 
@@ -112,27 +95,21 @@ fn pull_up<K: Keeper, N: Net, S: Sink>(
     ended(pulled)
 }
 
-/// Starts a keeper, connects to a port, pulls a cycle, and hangs up. The keeper comes back.
+/// Connects to a port, pulls a cycle into a controller that was begun with, and hangs up. Its keeper comes back.
 fn pull_into<K: Keeper, N: Net, S: Sink>(
     alloc: Global,
     name: &Text,
     port: u16,
-    keeper: K,
+    mut controller: Controller<K>,
     net: &mut N,
     sink: &mut S,
 ) -> (Pulled, K)
+    requires up { IsSome controller.state }
     requires log { KeepsLog K.Keeper }
-    ensures { Pulls (of_keeper K.Keeper) N.Net S.Sink name.now
-        (record { disk = keeper; net = net.old; sink = sink.old })
-        (record { disk = result.1; net = net.new; sink = sink.new }) result.0 }
+    ensures { PullsOn K.Keeper N.Net S.Sink name.now controller result.1 net.old net.new sink.old sink.new result.0 }
 {
-    match Controller::resume(keeper) {
-        Ok(mut controller) => {
-            let ended = pull_up(alloc, name, port, &mut controller, net, sink);
-            (ended, controller.into_keeper())
-        }
-        Err((refusal, keeper)) => (tell_refusal(alloc, refusal, sink), keeper),
-    }
+    let ended = pull_up(alloc, name, port, &mut controller, net, sink);
+    (ended, controller.into_keeper())
 }
 
 /// Starts the controller on the disk of this name, connects to a port of this machine, and takes a cycle of the node there:
@@ -142,7 +119,7 @@ pub fn pull<D: Disk, N: Net, S: Sink>(
     alloc: Global,
     name: &Text,
     port: u16,
-    mut disk: D,
+    disk: D,
     net: &mut N,
     sink: &mut S,
 ) -> (Pulled, D)
@@ -150,13 +127,12 @@ pub fn pull<D: Disk, N: Net, S: Sink>(
         (record { disk = disk; net = net.old; sink = sink.old })
         (record { disk = result.1; net = net.new; sink = sink.new }) result.0 }
 {
-    match disk.attach(name.as_str()) {
-        Ok(()) => {}
-        Err(Fault::Failed) => return (Pulled::DiskFault, disk),
-        Err(Fault::NoMemory) => return (Pulled::NoMemory, disk),
-    }
     logs_keep::<D>();
-    let journal: Journal<D, Records> = Journal::new(alloc, disk);
-    let (ended, journal) = pull_into(alloc, name, port, journal, net, sink);
-    (ended, journal.into_disk())
+    match begin(alloc, name, disk, sink) {
+        Ok(controller) => {
+            let (ended, journal) = pull_into(alloc, name, port, controller, net, sink);
+            (ended, journal.into_disk())
+        }
+        Err((why, disk)) => (unpulled(why), disk),
+    }
 }

@@ -13,4 +13,4 @@ pub use adr_disk::Crash;
 pub use answer::Answer;
 pub use event::Event;
 pub use names::Names;
-pub use verb::Verb;
+pub use verb::{Verb, verb_of_write};

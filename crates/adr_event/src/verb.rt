@@ -80,7 +80,7 @@ impl Verb {
 }
 
 /// The verb of the line that says a write.
-fn verb_of_write(what: &Write) -> Verb
+pub fn verb_of_write(what: &Write) -> Verb
     ensures { result ≡ verb_of_write what.now }
 {
     match what {

@@ -1,6 +1,7 @@
 //! From bytes to frames.
 
 ghost use Rattle.std.specs.Prelude.{◌≡◌, ◌<◌, ◌≤◌, IfOk, IsErrOf, OnOk};
+ghost use Rattle.adr_outside.specs.Calls.{CountsLine};
 ghost use Rattle.adr_wire.specs.Reading.{Tells};
 ghost use Rattle.adr_frames.specs.Frames.{IsFrameLength, length_at};
 ghost use Rattle.adr_frames.specs.Hearing.{Hears, HearsBody, IfFrame, IsPartReceived};
@@ -41,11 +42,7 @@ fn hear_body<N: Net>(alloc: Global, net: &mut N, wanted: usize) -> Result<Heard,
     ensures heard { IfOk result (λ heard. HearsBody wanted heard (N.traffic net.old) (N.traffic net.new)) }
     ensures exactly { IfOk result (λ heard. IfFrame heard (λ n. n ≡ wanted)) }
     ensures part { IsPartReceived (N.traffic net.old) (N.traffic net.new) }
-    ensures never_falls { N.lines net.old ≤ N.lines net.new }
-    ensures failed { IsErrOf result Fault.Failed → N.lines net.old < N.lines net.new }
-    ensures not_counted { OnOk result (N.lines net.new ≡ N.lines net.old) }
-    ensures no_memory_counted { IsErrOf result Fault.NoMemory → N.lines net.new ≡ N.lines net.old }
-    ensures doors { N.doors net.new ≡ N.doors net.old }
+    ensures counts { CountsLine N.Net net.old net.new result }
 {
     let bytes = receive_at_most(alloc, net, wanted)?;
     if bytes.len() < wanted {
@@ -60,11 +57,7 @@ pub fn hear<N: Net>(alloc: Global, net: &mut N) -> Result<Heard, Fault>
     ensures heard { IfOk result (λ heard. Hears heard (N.traffic net.old) (N.traffic net.new)) }
     ensures limit { IfOk result (λ heard. IfFrame heard IsFrameLength) }
     ensures part { IsPartReceived (N.traffic net.old) (N.traffic net.new) }
-    ensures never_falls { N.lines net.old ≤ N.lines net.new }
-    ensures failed { IsErrOf result Fault.Failed → N.lines net.old < N.lines net.new }
-    ensures not_counted { OnOk result (N.lines net.new ≡ N.lines net.old) }
-    ensures no_memory_counted { IsErrOf result Fault.NoMemory → N.lines net.new ≡ N.lines net.old }
-    ensures doors { N.doors net.new ≡ N.doors net.old }
+    ensures counts { CountsLine N.Net net.old net.new result }
 {
     let head = receive_at_most(alloc, net, 4)?;
     if head.is_empty() {

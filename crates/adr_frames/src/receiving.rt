@@ -1,6 +1,7 @@
 //! Bytes of a connection, piece by piece.
 
 ghost use Rattle.std.specs.Prelude.{◌≡◌, ◌<◌, ◌≤◌, ◌++◌, ◌+◌, ℕ, IfOk, IfSome, IsErrOf, OnOk, Ok, Some, [], drop, length, take};
+ghost use Rattle.adr_outside.specs.Calls.{CountsLine};
 ghost use Rattle.adr_outside.specs.Traffic.{Traffic};
 ghost use Rattle.adr_frames.specs.Hearing.{IsPartReceived};
 
@@ -17,11 +18,7 @@ fn receive_some<N: Net>(net: &mut N, bytes: &mut Vec<u8>, room: usize) -> Result
     ensures count { IfOk result (λ n. (n ≤ room) × (length bytes.new.items ≡ length bytes.old.items + n)) }
     ensures end { result ≡ Ok 0 → IfSome (N.traffic net.old) (λ t. t.left ≡ []) }
     ensures part { IsPartReceived (N.traffic net.old) (N.traffic net.new) }
-    ensures never_falls { N.lines net.old ≤ N.lines net.new }
-    ensures failed { IsErrOf result Fault.Failed → N.lines net.old < N.lines net.new }
-    ensures not_counted { OnOk result (N.lines net.new ≡ N.lines net.old) }
-    ensures no_memory_counted { IsErrOf result Fault.NoMemory → N.lines net.new ≡ N.lines net.old }
-    ensures doors { N.doors net.new ≡ N.doors net.old }
+    ensures counts { CountsLine N.Net net.old net.new result }
 {
     let mut buffer = [0u8; 4096];
     let size = room.min(4096);
@@ -43,11 +40,7 @@ pub(crate) fn receive_at_most<N: Net>(
         N.traffic net.new ≡ Some (record t { left = drop most t.left }))) }
     ensures at_most { IfOk result (λ bytes. length bytes.items ≤ most) }
     ensures part { IsPartReceived (N.traffic net.old) (N.traffic net.new) }
-    ensures never_falls { N.lines net.old ≤ N.lines net.new }
-    ensures failed { IsErrOf result Fault.Failed → N.lines net.old < N.lines net.new }
-    ensures not_counted { OnOk result (N.lines net.new ≡ N.lines net.old) }
-    ensures no_memory_counted { IsErrOf result Fault.NoMemory → N.lines net.new ≡ N.lines net.old }
-    ensures doors { N.doors net.new ≡ N.doors net.old }
+    ensures counts { CountsLine N.Net net.old net.new result }
 {
     let mut bytes = Vec::new(alloc);
     'turns: for turn in 0..most {

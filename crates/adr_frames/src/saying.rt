@@ -1,6 +1,7 @@
 //! From frames to bytes.
 
 ghost use Rattle.std.specs.Prelude.{◌≡◌, ◌<◌, ◌≤◌, IfSome, IsErrOf, OnErr, OnOk, length};
+ghost use Rattle.adr_outside.specs.Calls.{CountsLine};
 ghost use Rattle.adr_outside.specs.Traffic.{Sends, SendsFront};
 ghost use Rattle.adr_frames.specs.Frames.{IsFrameLength, frame};
 
@@ -20,11 +21,7 @@ pub fn say<N: Net>(alloc: Global, net: &mut N, bytes: &[u8]) -> Result<(), Fault
     ensures front { OnErr result (IfSome (N.traffic net.old) (λ t.
         SendsFront t (N.traffic net.new) (frame bytes.now))) }
     ensures no_memory { IsErrOf result Fault.NoMemory → N.traffic net.new ≡ N.traffic net.old }
-    ensures never_falls { N.lines net.old ≤ N.lines net.new }
-    ensures failed { IsErrOf result Fault.Failed → N.lines net.old < N.lines net.new }
-    ensures not_counted { OnOk result (N.lines net.new ≡ N.lines net.old) }
-    ensures no_memory_counted { IsErrOf result Fault.NoMemory → N.lines net.new ≡ N.lines net.old }
-    ensures doors { N.doors net.new ≡ N.doors net.old }
+    ensures counts { CountsLine N.Net net.old net.new result }
 {
     let len = bytes.len();
     if len == 0 || len > FRAME_LIMIT as usize {

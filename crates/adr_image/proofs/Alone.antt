@@ -5,6 +5,7 @@ use Rattle.std.specs.List.{flat_map, AllByRecursion, list_all}
 use Rattle.std.specs.List.Sorted.{IsStrictlySortedBy}
 use Rattle.std.specs.Ordering.{is_eq, ordering_reverse}
 use Rattle.std.specs.declared.cmp.Ordering.TheVariants.{Less}
+use Rattle.std.specs.declared.cmp.Ordering.{Ordering}
 use Rattle.std.proofs.lemmas.List.Sums.{fold-append}
 use Rattle.std.proofs.lemmas.Cmp.{tied_itself}
 use Rattle.adr_stamp.specs.declared.Oid.{Oid}
@@ -50,25 +51,34 @@ others_joined : (unit : Named) (xs ys : List Held) → Others unit xs → Others
 others_joined unit [] ys a b = b
 others_joined unit (x ∷ xs) ys a b = (a.0, others_joined unit xs ys a.1 b)
 
+-- ---- what differs from all behind it
+
+abbrev pub AllApart : {E K : Type 0} → (E → K) → (K → K → Type 0) → List E → Type 0
+AllApart key Apart [] = Unit {0}
+AllApart {E} key Apart (x ∷ xs) = AllByRecursion (λ (y : E). Apart (key x) (key y)) xs × AllApart key Apart xs
+
+-- keys that rise are apart
+all_apart : {E K : Type 0} (key : E → K) (order : K → K → Ordering) (Apart : K → K → Type 0) → ((a b : K) → order a b ≡ Less → Apart a b) → (es : List E) → IsStrictlySortedBy order (map key es) → AllApart key Apart es
+unfolding IsStrictlySortedBy
+all_apart key order Apart apart [] s = tt
+all_apart {E} key order Apart apart (x ∷ xs) s = (heads xs s.0, all_apart key order Apart apart xs s.1)
+  where
+    heads : (ys : List E) → AllByRecursion (λ k. order (key x) k ≡ Less) (map key ys) → AllByRecursion (λ (y : E). Apart (key x) (key y)) ys
+    heads [] all = tt
+    heads (y ∷ ys) all = (apart (key x) (key y) all.0, heads ys all.1)
+
 -- objects that differ both ways
 abbrev pub Differ : Oid → Oid → Type 0
 Differ a b = (same_object a b ≡ false) × (same_object b a ≡ false)
 
 abbrev pub AllDiffer : List Rows → Type 0
-AllDiffer [] = Unit {0}
-AllDiffer (x ∷ xs) = AllByRecursion (λ (y : Rows). Differ x.0 y.0) xs × AllDiffer xs
+AllDiffer = AllApart (λ (o : Rows). o.0) Differ
 
 differ_less : (a b : Oid) → object_order a b ≡ Less → Differ a b
 differ_less a b less = (ap is_eq less, ap is_eq (objects_total.antisymm b a ∙ ap ordering_reverse less))
 
 pub all_differ : (os : List Rows) → IsStrictlySortedBy object_order (map (λ (o : Rows). o.0) os) → AllDiffer os
-unfolding IsStrictlySortedBy
-all_differ [] s = tt
-all_differ (x ∷ xs) s = (heads xs s.0, all_differ xs s.1)
-  where
-    heads : (ys : List Rows) → AllByRecursion (λ o. object_order x.0 o ≡ Less) (map (λ (o : Rows). o.0) ys) → AllByRecursion (λ (y : Rows). Differ x.0 y.0) ys
-    heads [] all = tt
-    heads (y ∷ ys) all = (differ_less x.0 y.0 all.0, heads ys all.1)
+all_differ = all_apart (λ (o : Rows). o.0) object_order Differ differ_less
 
 row_others : (p o : Oid) (hs : List HeldRow) → same_object p o ≡ false → Others (Object o) (map (held_of p) hs)
 row_others p o [] h = tt
@@ -182,17 +192,10 @@ abbrev pub DifferLinks : LinkKey → LinkKey → Type 0
 DifferLinks a b = (is_eq (link_order a b) ≡ false) × (is_eq (link_order b a) ≡ false)
 
 abbrev pub AllDifferLinks : List HeldLink → Type 0
-AllDifferLinks [] = Unit {0}
-AllDifferLinks (x ∷ xs) = AllByRecursion (λ (y : HeldLink). DifferLinks x.1.0 y.1.0) xs × AllDifferLinks xs
+AllDifferLinks = AllApart (λ (l : HeldLink). l.1.0) DifferLinks
 
 pub all_links_differ : (ls : List HeldLink) → IsStrictlySortedBy link_order (map (λ (l : HeldLink). l.1.0) ls) → AllDifferLinks ls
-unfolding IsStrictlySortedBy
-all_links_differ [] s = tt
-all_links_differ (x ∷ xs) s = (heads xs s.0, all_links_differ xs s.1)
-  where
-    heads : (ys : List HeldLink) → AllByRecursion (λ l. link_order x.1.0 l ≡ Less) (map (λ (l : HeldLink). l.1.0) ys) → AllByRecursion (λ (y : HeldLink). DifferLinks x.1.0 y.1.0) ys
-    heads [] all = tt
-    heads (y ∷ ys) all = ((ap is_eq all.0, ap is_eq (links_total.antisymm y.1.0 x.1.0 ∙ ap ordering_reverse all.0)), heads ys all.1)
+all_links_differ = all_apart (λ (l : HeldLink). l.1.0) link_order DifferLinks (λ a b less. (ap is_eq less, ap is_eq (links_total.antisymm b a ∙ ap ordering_reverse less)))
 
 object_rows_others : (k : LinkKey) (o : Oid) (hs : List HeldRow) → Others (Link k) (map (held_of o) hs)
 object_rows_others k o [] = tt

@@ -1,5 +1,5 @@
 -- The body of a record is read field by field.
-use Rattle.std.proofs.Common.{◌≡◌, ℕ, zero, suc, ◌-◌, Bool, ◌∷◌, ◌++◌, [], List, map, fold, Option, None, Some, Result, Ok, Err, refl, sym, ap, ◌∙◌, arith}
+use Rattle.std.proofs.Common.{◌≡◌, ℕ, ◌-◌, Bool, ◌∷◌, ◌++◌, [], List, map, fold, Option, None, Some, Result, Ok, Err, refl, sym, ap, ◌∙◌}
 use Rattle.std.specs.Ordering.{nat_cmp}
 use Rattle.std.proofs.lemmas.List.Sums.{fold-append}
 use Rattle.adr_failure.specs.declared.Failure.{Failure}
@@ -9,49 +9,30 @@ use Rattle.adr_wire.specs.declared.refusal.Malformed.{Malformed}
 use Rattle.adr_wire.specs.Fields.{u8_at, u32_at, usn_at, usn0_at, flag_at}
 use Rattle.adr_wire.specs.Composites.{LinkItem, Row, link_at, object_at, oid_at, vector_at}
 use Rattle.adr_wire.specs.Pieces.{Piece, OfRows, OfLink, piece_of, piece_at}
-use Rattle.adr_wire.specs.Reading.{Rest, Read, Reading, ◌>>=◌, Refuses, where_at, then_at, elements_at, is_above}
-use Rattle.adr_wire.specs.Gathering.{gathered_at}
-use Rattle.adr_wire.proofs.Loops.{refuses_is, refuses_then, with_front}
+use Rattle.adr_wire.specs.Reading.{Rest, Read, Reading, ◌>>=◌, Refuses, where_at, then_at, elements_at, gathered_at, is_above, keyed}
+use Rattle.adr_wire.proofs.Loops.{behind_count, begins, refuses_is, refuses_then, with_front}
 use Rattle.adr_model.specs.Change.{Item, Written}
 use Rattle.adr_law_lengths.specs.Written.{link_item, object_item}
 use Rattle.adr_image.specs.Image.{Marked}
 use Rattle.adr_image.specs.Body.{Write, one_name, write_above, mark_if_at, removed_at, writes_at, body_at}
 use Rattle.adr_image.specs.Changes.{item_of, written_of}
 use Rattle.adr_image.specs.Seen.{GivesSeen}
-use Rattle.adr_image.proofs.Steps.{behind_count, then_ok, then_first, then_second}
-
--- elements by the key before them are elements by all that is known before them
-elements_gathered : {K E : Type 0} (key : E → K) (element : Option K → Reading E) (n : ℕ) (last : Option K) (rest : Rest)
-    → elements_at key element n last rest ≡ gathered_at (λ _ e. Some (key e)) element n last rest
-elements_gathered key element zero last rest = refl
-elements_gathered {K} {E} key element (suc n) last rest =
-    ap (λ (f : E × Rest → Read (List E)). element last rest >>= f) (λ i e. (elements_gathered key element n (Some (key e.0)) e.1) i >>= λ es. Ok (e.0 ∷ es.0, es.1))
+use Rattle.adr_image.proofs.Steps.{then_ok, then_first, then_second}
 
 -- ---- removed objects
 
 pub removed_begin : (items : List Oid) (count : ℕ) (rest mid : Rest) → items ≡ [] → u32_at rest ≡ Ok (count, mid) → with_front items (elements_at one_name (λ _. oid_at) (count - 0) None mid) ≡ removed_at rest
 unfolding removed_at
-removed_begin items count rest mid none p =
-    let all : count - 0 ≡ count = omega arith in
-    ap (λ (os : List Oid). with_front os (elements_at one_name (λ _. oid_at) (count - 0) None mid)) none
-    ∙ nothing_before (elements_at one_name (λ _. oid_at) (count - 0) None mid)
-    ∙ ap (λ (n : ℕ). elements_at one_name (λ _. oid_at) n None mid) all
-    ∙ sym (behind_count (λ n. elements_at one_name (λ _. oid_at) n None) u32_at rest mid count p)
-  where
-    nothing_before : (r : Read (List Oid)) → with_front [] r ≡ r
-    nothing_before (Ok x) = refl
-    nothing_before (Err place) = refl
+removed_begin = begins (keyed one_name) (λ _. oid_at) None u32_at
 
 -- ---- writes
 
 abbrev pub next_local : Option ℕ → Write → Option ℕ
-next_local last w = Some w.0
+next_local = keyed (λ w. w.0)
 
 pub writes_begin : (before count : ℕ) (rest mid : Rest) → u32_at rest ≡ Ok (count, mid) → gathered_at next_local write_above count (Some before) mid ≡ writes_at before rest
 unfolding writes_at
-writes_begin before count rest mid p =
-    sym (elements_gathered (λ (w : Write). w.0) write_above count (Some before) mid)
-    ∙ sym (behind_count (λ n. elements_at (λ (w : Write). w.0) write_above n (Some before)) u32_at rest mid count p)
+writes_begin before count rest mid p = sym (behind_count (λ n. gathered_at next_local write_above n (Some before)) u32_at rest mid count p)
 
 -- the writes so far, and the last local USN
 abbrev pub KeepsWrites : ℕ → List Written × ℕ → List Write → Type 0

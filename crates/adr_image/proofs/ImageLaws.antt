@@ -13,20 +13,20 @@ use Rattle.adr_schema.specs.Table.{Table, has}
 use Rattle.adr_model.specs.Update.{Identifier}
 use Rattle.adr_model.specs.Store.{Kept}
 use Rattle.adr_model.specs.Live.{is_among}
-use Rattle.adr_wire.specs.Reading.{Rest, Reading, ◌>>=◌, as_at, where_at, then_at, is_above}
+use Rattle.adr_wire.specs.Reading.{Rest, Reading, ◌>>=◌, as_at, where_at, then_at, is_above, passing_at, gathered_at}
 use Rattle.adr_wire.specs.Fields.{u16_at, id_at, flag_at, usn_at, u16, u64, id, flag}
 use Rattle.adr_wire.specs.Composites.{ordered_mark_at, mark, oid_at, oid, row_of, row_after, row, link_stamp_at, link_stamp, link_key}
 use Rattle.adr_wire.specs.Spelling.{IsSpelling}
 use Rattle.adr_wire.specs.Ranges.{IsU16, IsU64, IsId, IsUsn, IsFlag, IsOrderedMark, IsOid, IsStamp, IsRowAbove}
-use Rattle.adr_wire.proofs.Combining.{bind_ok, made, in_range_too, passed, both, pair, followed}
+use Rattle.adr_wire.proofs.Combining.{bind_ok, made, in_range_too, passed, both, pair, followed, passed_at, placed, counted_too}
 use Rattle.adr_wire.proofs.FieldLaws.{u16_spelled, id_spelled, flag_spelled, usn_spelled}
 use Rattle.adr_wire.proofs.CompositeLaws.{ordered_mark_spelled, oid_spelled, IsBehind, behind_attr, row_of_spelled, link_stamp_spelled}
 use Rattle.adr_image.specs.declared.rows.Before.{Before}
 use Rattle.adr_model.specs.Write.{usn_limit}
-use Rattle.adr_wire.specs.Gathering.{passing_at, gathered_at, GivesToo}
+use Rattle.adr_wire.specs.Gathering.{GivesToo}
 use Rattle.adr_image.specs.Image.{HeldRow, Rows, HeldLink, local_at, no_rows, with_held, is_allowed, held_row_at, held_row, Earlier, is_whole, object_with, object_at, object, Linked, key_with, local_and_key, link_behind, link_at, held_link, Marked, kept_above, kept}
 use Rattle.adr_image.specs.Ranged.{IsLocal, IsHeldRow, AreHeldRows, IsObjectIn, IsKeyIn, IsForward, IsLinkIn, IsMarked}
-use Rattle.adr_wire.proofs.Gathering.{passed_at, placed, counted_too, looked, gives_same, gives_tested, gives_passed, gives_as, gives_then, gives_all}
+use Rattle.adr_wire.proofs.Gathering.{looked, gives_same, gives_tested, gives_passed, gives_as, gives_then, gives_all}
 
 pub local_spelled : (usn : ℕ) → IsSpelling (IsLocal usn) u64 (local_at usn)
 unfolding local_at

@@ -38,7 +38,7 @@ use Rattle.adr_law_tree.proofs.Rising.{keys_that_rise}
 use Rattle.adr_image.specs.Image.{HeldRow, Rows, HeldLink, Marked, has_attr, is_dead, last_of, told_by, Earlier, no_objects, with_rows, is_whole, Linked, with_link}
 use Rattle.adr_image.specs.Whole.{dead_of, no_links}
 use Rattle.adr_image.specs.Ranged.{IsObjectIn, IsLinkIn, IsMarked, IsCount, AreParts}
-use Rattle.adr_image.specs.Stored.{held_of, link_of, rows_of_object, rows_of, apart, parts_in, image, IsSpelledRow, IsSpelled}
+use Rattle.adr_image.specs.Stored.{held_of, link_of, rows_of_object, rows_of, apart, parts_in, IsSpelledRow, IsSpelled}
 use Rattle.adr_image.proofs.Names.{object_itself}
 use Rattle.adr_image.proofs.Parting.{joined_again}
 use Rattle.adr_image.proofs.Formed.{names, links}

@@ -14,12 +14,11 @@ use Rattle.adr_stamp.specs.Order.{object_order, link_order}
 use Rattle.adr_stamp.proofs.Exact.{exact_objects}
 use Rattle.adr_schema.specs.Table.{Table, has, kind_at, is_forward, must_of}
 use Rattle.adr_wire.specs.declared.refusal.Malformed.{Malformed}
-use Rattle.adr_wire.specs.Reading.{Rest, Read, Reading, Refuses, as_at, where_at, then_at, is_above}
+use Rattle.adr_wire.specs.Reading.{Rest, Read, Reading, Refuses, as_at, where_at, then_at, is_above, passing_at, gathered_at}
 use Rattle.adr_wire.specs.Fields.{u16_at, flag_at}
 use Rattle.adr_wire.specs.Composites.{oid_at, link_stamp_at}
-use Rattle.adr_wire.specs.Gathering.{passing_at, gathered_at, sooner}
-use Rattle.adr_wire.proofs.Loops.{with_front}
-use Rattle.adr_wire.proofs.Gathering.{goes_on, ends, is_done}
+use Rattle.adr_wire.specs.Gathering.{sooner}
+use Rattle.adr_wire.proofs.Loops.{with_front, goes_on, ends, is_done}
 use Rattle.adr_model.specs.Update.{same_object}
 use Rattle.adr_model.specs.Live.{is_among}
 use Rattle.adr_model.specs.Write.{usn_limit}

@@ -24,4 +24,3 @@ pub mod Changing
 pub mod Recorded
 pub mod Staying
 pub mod Placed
-mod Writes

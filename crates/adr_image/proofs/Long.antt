@@ -3,20 +3,17 @@ use Rattle.std.proofs.Common.{◌≡◌, ℕ, ◌*◌, Bool, List, [], ◌∷◌
 use Rattle.std.specs.List.{flat_map, AllByRecursion}
 use Rattle.std.proofs.lemmas.List.{length-append}
 use Rattle.adr_stamp.specs.declared.Oid.{Oid}
-use Rattle.adr_stamp.specs.declared.Stamp.{Stamp}
 use Rattle.adr_schema.specs.Table.{Table}
 use Rattle.adr_schema.specs.Numbered.{numbered}
-use Rattle.adr_vector.specs.Vector.{Cursors}
 use Rattle.adr_wire.specs.Fields.{u16, u32, u64, flag}
-use Rattle.adr_wire.specs.Composites.{oid, stamp, content, row, link, link_key, link_stamp, cursor, vector}
-use Rattle.adr_wire.specs.Ranges.{IsOid, IsStamp, InTurn, IsCursors, IsCursor}
-use Rattle.adr_law_lengths.proofs.Lengths.{content_long}
+use Rattle.adr_wire.specs.Composites.{oid, stamp, content, row, link, link_key, link_stamp}
+use Rattle.adr_wire.specs.Ranges.{InTurn}
+use Rattle.adr_law_lengths.proofs.Lengths.{content_long, oid_long, stamp_long, vector_long}
 use Rattle.adr_image.specs.declared.rows.Before.{Before}
 use Rattle.adr_wire.specs.Gathering.{Along}
 use Rattle.adr_image.specs.Image.{HeldRow, Rows, HeldLink, Marked, held_row, object, held_link, kept, no_rows, with_held, Earlier, no_objects, with_rows, Linked, with_link}
 use Rattle.adr_image.specs.Whole.{Parts, image_of, dead_of, no_links}
 use Rattle.adr_image.specs.Ranged.{IsHeldRow, IsObjectIn, IsLinkIn, IsMarked, AreParts}
-use Rattle.adr_model.specs.Serve.{vector_length}
 use Rattle.adr_image.specs.Lengths.{total, held_length, object_length, parts_length}
 
 flat_long : {E : Type 0} (s : E → List ℕ) (f : E → ℕ) (es : List E) → AllByRecursion (λ e. length (s e) ≡ f e) es → length (flat_map s es) ≡ total f es
@@ -45,29 +42,6 @@ u64_long n = omega arith
 
 flag_long : (b : Bool) → length (flag b) ≡ 1
 flag_long b = omega arith
-
-pub oid_long : (o : Oid) → IsOid o → length (oid o) ≡ 40
-unfolding u64
-oid_long o q = simp length-append (omega arith)
-
-stamp_long : (s : Stamp) → IsStamp s → length (stamp s) ≡ 36
-unfolding u32 u64
-stamp_long s q = simp length-append (omega arith)
-
-cursor_long : (c : List ℕ × ℕ) → IsCursor c → length (cursor c) ≡ 24
-unfolding u64
-cursor_long c q = simp length-append (omega arith)
-
-pub vector_long : (v : Cursors) → IsCursors v → length (vector v) ≡ vector_length v
-unfolding u32
-vector_long v q =
-    let all = flat_long cursor (λ _. 24) v (each v q.1) in
-    let same = same_each 24 v in
-    omega (arith, all, same, length-append (u32 (length v)) (flat_map cursor v))
-  where
-    each : (cs : Cursors) → AllByRecursion IsCursor cs → AllByRecursion (λ c. length (cursor c) ≡ 24) cs
-    each [] h = tt
-    each (c ∷ cs) h = (cursor_long c h.0, each cs h.1)
 
 pub kept_long : (last : Option (List ℕ)) (k : Marked) → IsMarked last k → length (kept k) ≡ 56
 unfolding u64

@@ -13,7 +13,7 @@ use Rattle.adr_wire.specs.Reading.{Rest, Read}
 use Rattle.adr_wire.specs.Spelling.{AreBytes, Was}
 use Rattle.adr_wire.proofs.Combining.{from}
 use Rattle.adr_law_lengths.specs.Written.{update_of}
-use Rattle.adr_law_lengths.proofs.Lengths.{object_long, link_long}
+use Rattle.adr_law_lengths.proofs.Lengths.{object_long, link_long, oid_long, vector_long}
 use Rattle.adr_model.specs.Change.{Change, Written}
 use Rattle.adr_model.specs.Lengths.{change_length}
 use Rattle.adr_model.specs.Serve.{is_quarantined, item_length}
@@ -23,7 +23,7 @@ use Rattle.adr_image.specs.Image.{Marked}
 use Rattle.adr_image.specs.Changes.{item_of, written_of, mode_of_flag, change_of, whole_change, decoded_change, update_bytes, unit_bytes, written_bytes, change_bytes, AreShort, IsShortChange, HasBody}
 use Rattle.adr_image.specs.Written.{IsShortSaid}
 use Rattle.adr_image.proofs.BodyLaws.{body_spelled}
-use Rattle.adr_image.proofs.Long.{oid_long, kept_long, vector_long}
+use Rattle.adr_image.proofs.Long.{kept_long}
 use Rattle.adr_image.proofs.Writing.{content_short, mapped_long}
 
 -- ---- the bytes of a change are those of its body

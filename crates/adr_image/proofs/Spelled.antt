@@ -16,11 +16,10 @@ use Rattle.adr_model.proofs.Members.{member_of_either, mapped_member, flat_membe
 use Rattle.adr_image.specs.Image.{HeldRow, Rows, HeldLink, Marked, with_link}
 use Rattle.adr_image.specs.Whole.{Parts, dead_of, no_links}
 use Rattle.adr_image.specs.Ranged.{IsMarked, IsLinkIn, AreParts}
-use Rattle.adr_image.specs.Stored.{held_of, link_of, rows_of_object, store_of, image, IsSpelledRow, IsSpelled}
+use Rattle.adr_image.specs.Stored.{held_of, link_of, rows_of_object, store_of, IsSpelledRow, IsSpelled}
 use Rattle.adr_image.proofs.Storing.{chain}
 use Rattle.adr_image.proofs.Births.{of_object, of_row, each_along}
 use Rattle.adr_image.proofs.Named.{known_class, content_of}
-use Rattle.adr_image.proofs.Limits.{formed}
 
 marks_in_turn : (last : Option (List ℕ)) (ks : List Marked) → InTurn (λ (k : Marked). k.0) IsMarked last ks → InTurn (λ (k : Marked). k.0) (λ l k. is_above identifier_order l k.0 ≡ true) last ks
 marks_in_turn last [] h = tt

@@ -113,7 +113,7 @@ from_removals (o ∷ os) rows h m = (of_filter _ rows h (from_removals os (witho
 abbrev IsRightRow : Held → Type 0
 IsRightRow h = IsSpelledRow h.update.key h.update.said h.update.stamp
 
-abbrev IsRightUpdate : Update → Type 0
+abbrev pub IsRightUpdate : Update → Type 0
 IsRightUpdate u = IsSpelledRow u.key u.said u.stamp
 
 rows_right : (o : Oid) (last : Option ℕ) (rows : List Row) → IsOid o → InTurn (λ (r : Row). r.0) IsRowAbove last rows → Each IsRightUpdate (map (update_of o) rows)
@@ -121,7 +121,7 @@ rows_right o last [] id turn u m = absurd m
 rows_right o last (r ∷ rs) id turn u (inl e) = subst IsRightUpdate (sym e) (id, turn.0.0.0, turn.0.0.1.1, turn.0.0.1.0, refl)
 rows_right o last (r ∷ rs) id turn u (inr m) = rows_right o (Some r.0) rs id turn.1 u m
 
-piece_right : (p : Piece) → IsPiece p → Each IsRightUpdate (item_of p).rows
+pub piece_right : (p : Piece) → IsPiece p → Each IsRightUpdate (item_of p).rows
 piece_right (OfRows x) q u m = rows_right x.0 None x.1 q.0 q.1.1 u m
 piece_right (OfLink l) q u (inl e) = subst IsRightUpdate (sym e) (q.0.0, q.0.1.0, q.0.1.1, q.1.0, q.1.1)
 piece_right (OfLink l) q u (inr m) = absurd m

@@ -8,12 +8,11 @@ use Rattle.adr_schema.specs.Schemas.{schema_1, schema_2, schema_table}
 use Rattle.adr_schema.specs.Table.{Table}
 use Rattle.adr_vector.specs.Vector.{Cursors, at_most}
 use Rattle.adr_wire.specs.declared.refusal.Malformed.{Malformed}
-use Rattle.adr_wire.specs.Reading.{Rest, Read, Reading, ◌>>=◌, Refuses, as_at, elements_at, where_at, then_at}
-use Rattle.adr_wire.specs.Gathering.{gathered_at}
+use Rattle.adr_wire.specs.Reading.{Rest, Read, Reading, ◌>>=◌, Refuses, elements_at, where_at, then_at, gathered_at, keyed}
 use Rattle.adr_wire.specs.Fields.{u32_at, u64_at, is_usn0, usn0_at}
 use Rattle.adr_wire.specs.Composites.{vector_at}
 use Rattle.adr_wire.proofs.Combining.{bind_ok, passed_ok}
-use Rattle.adr_wire.proofs.Loops.{refuses_then, refuses_is, with_front}
+use Rattle.adr_wire.proofs.Loops.{behind_count, begins, refuses_then, refuses_is, with_front}
 use Rattle.adr_model.specs.Take.{mark_limit}
 use Rattle.adr_model.specs.Write.{object_limit, usn_limit}
 use Rattle.adr_image.specs.Image.{Marked, kept_above, marks_of, no_objects, object_at, with_rows}
@@ -51,37 +50,13 @@ number_read number t rest mid p is =
     ∙ ap (λ (o : Option Table). let r : Read ℕ = cond (is_some o) (Ok (number, mid)) (Err rest.place) in r) is
     ∙ ap (λ (n : ℕ). let r : Read ℕ = Ok (n, mid) in r) (sym (schema_read number t is))
 
--- what stands behind a count is read by it
-module _ {B : Type 0} (b : ℕ → Reading B) where
-  abbrev counted : Read ℕ → Read (ℕ × B)
-  counted r = r >>= λ x. b x.0 x.1 >>= λ y. Ok ((x.0, y.0), y.1)
-
-  abbrev behind : Read (ℕ × B) → Read B
-  behind r = r >>= λ z. Ok (z.0.1, z.1)
-
-  pub behind_count : (a : Reading ℕ) (rest mid : Rest) (n : ℕ) → a rest ≡ Ok (n, mid) → as_at (λ p. p.1) (then_at a b) rest ≡ b n mid
-  behind_count a rest mid n p = ap (λ (r : Read ℕ). behind (counted r)) p ∙ same (b n mid)
-    where
-      same : (r : Read B) → behind (r >>= λ y. Ok ((n, y.0), y.1)) ≡ r
-      same (Ok y) = refl
-      same (Err place) = refl
-
 pub count_fits : (most count : ℕ) (rest mid : Rest) → u32_at rest ≡ Ok (count, mid) → count ≤ most → count_at most rest ≡ Ok (count, mid)
 count_fits most count rest mid p le =
     ap (λ (r : Read ℕ). r >>= λ x. cond (nat_le x.0 most) (Ok x) (Err rest.place)) p ∙ ap (λ (b : Bool). let r : Read ℕ = cond b (Ok (count, mid)) (Err rest.place) in r) (le-leb count most le)
 
 pub marks_begin : (items : List Marked) (count : ℕ) (rest mid : Rest) → items ≡ [] → u32_at rest ≡ Ok (count, mid) → count ≤ mark_limit → with_front items (elements_at (λ k. k.0) kept_above (count - 0) None mid) ≡ marks_at rest
 unfolding marks_at marks_of
-marks_begin items count rest mid none p le =
-    let all : count - 0 ≡ count = omega arith in
-    ap (λ (ms : List Marked). with_front ms (elements_at (λ k. k.0) kept_above (count - 0) None mid)) none
-    ∙ nothing_before (elements_at (λ k. k.0) kept_above (count - 0) None mid)
-    ∙ ap (λ (n : ℕ). elements_at (λ k. k.0) kept_above n None mid) all
-    ∙ sym (behind_count marks_of (count_at mark_limit) rest mid count (count_fits mark_limit count rest mid p le))
-  where
-    nothing_before : (r : Read (List Marked)) → with_front [] r ≡ r
-    nothing_before (Ok x) = refl
-    nothing_before (Err place) = refl
+marks_begin items count rest mid none p le = begins (keyed (λ k. k.0)) kept_above None (count_at mark_limit) items count rest mid none (count_fits mark_limit count rest mid p le)
 
 pub objects_begin : (usn : ℕ) (table : Table) (count : ℕ) (rest mid : Rest) → u32_at rest ≡ Ok (count, mid) → count ≤ object_limit → gathered_at with_rows (object_at usn table) count no_objects mid ≡ objects_at usn table rest
 unfolding objects_at

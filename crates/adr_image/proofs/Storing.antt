@@ -21,7 +21,7 @@ use Rattle.adr_wire.specs.Gathering.{Along}
 use Rattle.adr_image.specs.Image.{HeldRow, Rows, HeldLink, with_held, Earlier, no_objects, with_rows, is_whole, Linked, with_link}
 use Rattle.adr_image.specs.Whole.{Parts}
 use Rattle.adr_image.specs.Ranged.{IsHeldRow, IsObjectIn, IsLinkIn, AreParts}
-use Rattle.adr_image.specs.Stored.{AreTidy, IsNotFirst, store_of, parts_in, image}
+use Rattle.adr_image.specs.Stored.{AreTidy, IsNotFirst, store_of, parts_in}
 use Rattle.adr_image.proofs.Parting.{apart_again}
 
 -- ---- rising keys

@@ -10,7 +10,7 @@ use Rattle.adr_wire.specs.Fields.{u32_at, usn0_at, u32, u64}
 use Rattle.adr_wire.specs.Composites.{vector_at, vector}
 use Rattle.adr_wire.specs.Spelling.{AreBytes, IsSpelling}
 use Rattle.adr_wire.specs.Ranges.{IsU32, IsUsn0, IsCursors}
-use Rattle.adr_wire.proofs.Combining.{made, passed, both, pair, counted}
+use Rattle.adr_wire.proofs.Combining.{made, passed, both, pair, counted, counted_too}
 use Rattle.adr_wire.proofs.FieldLaws.{u32_spelled, usn0_spelled}
 use Rattle.adr_wire.proofs.HeadedLaws.{first_again, first_only}
 use Rattle.adr_wire.proofs.VectorLaws.{vector_spelled}
@@ -19,7 +19,6 @@ use Rattle.adr_model.specs.Write.{object_limit, link_limit, usn_limit}
 use Rattle.adr_image.specs.Image.{Rows, HeldLink, Marked, kept, kept_above, marks_of, object_at, object, no_objects, with_rows, link_at, held_link, with_link}
 use Rattle.adr_image.specs.Whole.{Parts, count_at, marks_at, objects_at, links_at, dead_of, no_links, Tuple, tuple_at, parts_of, parts_at, magic, read_parts, marks, objects, links, body, image_of}
 use Rattle.adr_image.specs.Ranged.{IsCount, IsMarked, AreMarks, IsObjectIn, AreObjects, IsLinkIn, AreLinks, AreParts}
-use Rattle.adr_wire.proofs.Gathering.{counted_too}
 use Rattle.adr_image.proofs.ImageLaws.{kept_spelled, object_in_spelled, link_in_spelled}
 
 count_spelled : (most : ℕ) → IsSpelling (IsCount most) u32 (count_at most)

@@ -9,7 +9,7 @@ use Rattle.adr_schema.specs.declared.content.Content.TheVariants.{Class, Name, D
 use Rattle.adr_schema.specs.Table.{Table, class_at, must_of, has, kind_at, is_forward}
 use Rattle.adr_schema.specs.Names.{name_fault}
 use Rattle.adr_schema.specs.Rules.{row_refusal}
-use Rattle.adr_wire.specs.Reading.{Reading, as_at, where_at, then_at, elements_at, is_above, above_at}
+use Rattle.adr_wire.specs.Reading.{Reading, as_at, where_at, then_at, elements_at, is_above, above_at, passing_at, gathered_at}
 use Rattle.adr_wire.specs.Fields.{u16_at, id_at, usn_at, flag_at, u16, u64, id}
 use Rattle.adr_wire.specs.Composites.{oid_at, oid, Row, row_after, row, link_stamp_at, LinkItem, link, ordered_mark_at, mark}
 use Rattle.adr_model.specs.Update.{Identifier}
@@ -18,7 +18,7 @@ use Rattle.adr_model.specs.Live.{is_among}
 use Rattle.adr_model.specs.Take.{carries_birth}
 use Rattle.adr_model.specs.Write.{usn_limit}
 use Rattle.adr_image.specs.declared.rows.Before.{Before}
-use Rattle.adr_wire.specs.Gathering.{passing_at, gathered_at, sooner}
+use Rattle.adr_wire.specs.Gathering.{sooner}
 
 -- a local USN, and the row
 abbrev pub HeldRow : Type 0

@@ -10,9 +10,8 @@ use Rattle.adr_schema.specs.Table.{class_at}
 use Rattle.adr_schema.specs.Schemas.{schema_table}
 use Rattle.adr_schema.specs.Numbered.{numbered}
 use Rattle.adr_wire.specs.declared.refusal.DecodeRefusal.{DecodeRefusal}
-use Rattle.adr_wire.specs.Fields.{format_version_at, magic_at}
-use Rattle.adr_wire.specs.Headed.{Forms, first_form, read_message}
-use Rattle.adr_wire.specs.Reading.{Reading, as_at, then_at}
+use Rattle.adr_wire.specs.Headed.{headed_at, read_first}
+use Rattle.adr_wire.specs.Reading.{Reading, as_at}
 use Rattle.adr_wire.specs.Ranges.{IsU16, IsU64, IsId, IsUsn0, IsMark, IsOid, IsStamp, IsContent, IsCursor}
 use Rattle.adr_model.specs.Member.{Each}
 use Rattle.adr_model.specs.Update.{Key, RowOf, LinkOf, Said, Holds, IsPresent, same_object}
@@ -77,16 +76,12 @@ image s = image_of (parts_in s)
 abbrev pub store_at : Reading Store
 store_at = as_at store_of parts_at
 
-abbrev pub store_forms : Forms Store
-store_forms = first_form store_at
-
 abbrev pub decoded : List ℕ → Result Store DecodeRefusal
-decoded bytes = read_message magic store_forms bytes
+decoded = read_first magic store_at
 
 -- an image of version 1 that stands in other bytes
 unfoldable pub image_at : Reading Store
-image_at =
-    as_at (λ p. store_of p.1.1) (then_at (magic_at magic) (λ _. then_at (format_version_at 1) (λ _. parts_at)))
+image_at = headed_at magic 1 store_at
 
 -- ---- which stores have a spelling
 

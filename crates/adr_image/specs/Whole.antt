@@ -7,13 +7,12 @@ use Rattle.adr_schema.specs.Schemas.{schema_table}
 use Rattle.adr_schema.specs.Numbered.{numbered}
 use Rattle.adr_vector.specs.Vector.{Cursors, at_most}
 use Rattle.adr_wire.specs.declared.refusal.DecodeRefusal.{DecodeRefusal}
-use Rattle.adr_wire.specs.Headed.{Forms, first_form, head, read_message}
-use Rattle.adr_wire.specs.Reading.{Reading, as_at, where_at, then_at}
+use Rattle.adr_wire.specs.Headed.{head, read_first}
+use Rattle.adr_wire.specs.Reading.{Reading, as_at, where_at, then_at, gathered_at}
 use Rattle.adr_wire.specs.Fields.{u32_at, usn0_at, u32, u64}
 use Rattle.adr_wire.specs.Composites.{vector_at, vector}
 use Rattle.adr_model.specs.Write.{object_limit, link_limit}
 use Rattle.adr_model.specs.Take.{mark_limit}
-use Rattle.adr_wire.specs.Gathering.{gathered_at}
 use Rattle.adr_image.specs.Image.{Rows, HeldLink, Marked, no_objects, with_rows, object_at, object, is_dead, Linked, with_link, link_at, held_link, marks_of, kept}
 
 -- what an image says, in its order
@@ -81,12 +80,9 @@ parts_at = as_at parts_of tuple_at
 abbrev pub magic : List ℕ
 magic = 65 ∷ 68 ∷ 73 ∷ 77 ∷ []
 
-abbrev pub parts_forms : Forms Parts
-parts_forms = first_form parts_at
-
 -- what bytes say, or that they are of another version, or the least place that breaks a rule
 abbrev pub read_parts : List ℕ → Result Parts DecodeRefusal
-read_parts bytes = read_message magic parts_forms bytes
+read_parts = read_first magic parts_at
 
 -- ---- spelled
 

@@ -5,23 +5,25 @@ ghost use Rattle.adr_model.specs.Change.{held_of};
 ghost use Rattle.adr_image.specs.Anew.{MakesAll};
 
 use crate::contents::Contents;
-use adr_change::{Change, Mode};
+use adr_change::{Change, Kept, Mode};
+use adr_guid::Guid;
 use adr_update::{Held, Item, NoMemory, Written};
 use std::alloc::Global;
 
 /// A row as what is written under its local update sequence number.
-fn write_of(alloc: Global, row: &Held) -> Result<Written, NoMemory>
-    ensures { IfOk result (λ write. held_of (write ∷ []) ≡ row.now ∷ []) }
+fn write_of(alloc: Global, row: Held) -> Result<Written, NoMemory>
+    ensures { IfOk result (λ write. held_of (write ∷ []) ≡ row ∷ []) }
 {
-    let mut updates = Vec::new(alloc);
-    updates.push(row.update().copy(alloc)?)?;
-    let item = Item::new(row.key().unit(), updates);
-    Ok(Written::new(row.local(), item))
+    let local = row.local();
+    let unit = row.key().unit();
+    let mut updates = Vec::with_capacity(alloc, 1)?;
+    updates.push(row.into_update())?;
+    Ok(Written::new(local, Item::new(unit, updates)))
 }
 
-/// Rows as what is written, each under its local update sequence number.
-fn writes_of(alloc: Global, rows: &[Held]) -> Result<Vec<Written>, NoMemory>
-    ensures { IfOk result (λ writes. held_of writes.items ≡ rows.now) }
+/// Rows as what is written, each under its local update sequence number. None is copied.
+fn writes_of(alloc: Global, rows: Vec<Held>) -> Result<Vec<Written>, NoMemory>
+    ensures { IfOk result (λ writes. held_of writes.items ≡ rows.items) }
 {
     let mut writes = Vec::new(alloc);
     for row in rows {
@@ -31,22 +33,23 @@ fn writes_of(alloc: Global, rows: &[Held]) -> Result<Vec<Written>, NoMemory>
 }
 
 impl Contents {
-    /// The change that makes all of an empty controller but its marks.
-    pub fn as_change(&self, alloc: Global) -> Result<Change, NoMemory>
-        ensures { IfOk result (λ change. MakesAll self.now change) }
+    /// The change that makes all of an empty controller but its marks, and these. No row is copied.
+    pub fn into_change(self, alloc: Global) -> Result<(Change, Vec<(Guid, Kept)>), NoMemory>
+        ensures change { IfOk result (λ made. MakesAll self made.0) }
+        ensures marks { IfOk result (λ made. made.1.items ≡ self.marks) }
     {
-        let joined = self.vector.copy(alloc)?;
-        let purged = self.purged.copy(alloc)?;
-        let writes = writes_of(alloc, &self.rows)?;
-        Ok(Change::new(
-            self.usn,
+        let (schema, usn) = (self.schema, self.usn);
+        let (rows, vector, purged, marks) = self.into_parts();
+        let change = Change::new(
+            usn,
             Mode::Normal,
-            self.schema,
+            schema,
             None,
-            joined,
+            vector,
             purged,
             Vec::new(alloc),
-            writes,
-        ))
+            writes_of(alloc, rows)?,
+        );
+        Ok((change, marks))
     }
 }

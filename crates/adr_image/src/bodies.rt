@@ -16,6 +16,9 @@ use adr_update::{NoMemory, Update, Written};
 use adr_wire::Writer;
 use std::alloc::Global;
 
+/// Room for the body of most changes, in bytes.
+const CHANGE_ROOM: usize = 512;
+
 /// Writes an update, but not the unit that it is of.
 fn write_update(writer: &mut Writer, update: &Update) -> Result<(), NoMemory>
     requires { IsShortSaid update.now.said }
@@ -123,7 +126,7 @@ pub fn encode_change(alloc: Global, change: &Change) -> Result<Vec<u8>, NoMemory
     requires { IsShortChange change.now }
     ensures { IfOk result (λ bytes. bytes.items ≡ change_bytes change.now) }
 {
-    let mut writer = Writer::new(alloc);
+    let mut writer = Writer::with_room(alloc, CHANGE_ROOM)?;
     write_change(&mut writer, change)?;
     Ok(writer.into_bytes())
 }

@@ -63,6 +63,26 @@ impl Model for Contents {
     ghost invariant = { λ c. c.schema ≡ numbered c.schema.number };
 }
 
+impl Contents {
+    /// Its rows, what was seen, what was collected, and its marks.
+    pub(crate) fn into_parts(self) -> (Vec<Held>, Vector, Vector, Vec<(Guid, Kept)>)
+        ensures rows { result.0.items ≡ self.rows }
+        ensures vector { result.1 ≡ self.vector }
+        ensures purged { result.2 ≡ self.purged }
+        ensures marks { result.3.items ≡ self.marks }
+    {
+        let Contents {
+            schema: _,
+            usn: _,
+            rows,
+            vector,
+            purged,
+            marks,
+        } = self;
+        (rows, vector, purged, marks)
+    }
+}
+
 /// A database by reference, of which an image is written; none of its rows is copied.
 #[derive(Drop)]
 pub struct ContentsRef<'a> {

@@ -7,7 +7,7 @@ ghost use Rattle.adr_image.specs.Stored.{decoded, image_at, store_at};
 
 use crate::contents::{Contents, read_contents};
 use crate::dormant::Dormant;
-use adr_wire::{DecodeRefusal, Failure, Reader, WireRefusal, malformed};
+use adr_wire::{DecodeRefusal, Failure, Reader, WireRefusal, malformed, open_message};
 use std::alloc::Global;
 
 /// The bytes with which an image begins.
@@ -41,14 +41,7 @@ fn read_whole(alloc: Global, bytes: &[u8]) -> Result<Contents, Failure<DecodeRef
     ensures read { IfOk result (λ contents. decoded bytes.now ≡ Ok contents) }
     ensures refused { IfErr result (IsRefusedSo (decoded bytes.now)) }
 {
-    let mut reader = Reader::new(bytes);
-    let found = match reader.read_head(&MAGIC) {
-        Ok(found) => found,
-        Err(refusal) => return Err(malformed(refusal)),
-    };
-    if found != VERSION {
-        return Err(Failure::Refused(DecodeRefusal::WrongVersion { found }));
-    }
+    let mut reader = open_message(bytes, &MAGIC, VERSION)?;
     match read_to_end(&mut reader, alloc) {
         Ok(contents) => Ok(contents),
         Err(refusal) => Err(malformed(refusal)),

@@ -36,11 +36,12 @@ impl Dormant {
     }
 
     /// What was read: it is formed and spelled.
-    pub fn contents(&self) -> &Contents
-        ensures all { result.now ≡ self.now }
-        ensures formed { IsFormedStore self.now }
-        ensures spelled { IsSpelled self.now }
+    pub fn into_contents(self) -> Contents
+        ensures all { result ≡ self }
+        ensures formed { IsFormedStore self }
+        ensures spelled { IsSpelled self }
     {
-        &self.contents
+        let Dormant { contents } = self;
+        contents
     }
 }

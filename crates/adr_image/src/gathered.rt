@@ -2,7 +2,7 @@
 
 ghost use Rattle.std.specs.Prelude.{◌≡◌, ◌∷◌, ◌++◌, ◌≤◌, [], List, OnOk, map};
 ghost use Rattle.adr_model.specs.Write.{usn_limit};
-ghost use Rattle.adr_wire.specs.Gathering.{gathered_at};
+ghost use Rattle.adr_wire.specs.Reading.{gathered_at};
 ghost use Rattle.adr_image.specs.Image as form;
 ghost use Rattle.adr_image.specs.Whole.{dead_of, links_at, no_links, objects_at};
 ghost use Rattle.adr_image.specs.Seen.{GivesSeen, IsDeadToo, KeepsLinks, KeepsObjects};

@@ -5,8 +5,8 @@ ghost use Rattle.adr_schema.specs.Table.{has};
 ghost use Rattle.adr_model.specs.Live.{is_among};
 ghost use Rattle.adr_wire.specs.Composites.{oid_at};
 ghost use Rattle.adr_wire.specs.Fields.{u16_at};
-ghost use Rattle.adr_wire.specs.Gathering.{is_refused_at, passing_at};
-ghost use Rattle.adr_wire.specs.Reading.{Tells, where_at};
+ghost use Rattle.adr_wire.specs.Gathering.{is_refused_at};
+ghost use Rattle.adr_wire.specs.Reading.{Tells, where_at, passing_at};
 ghost use Rattle.adr_image.specs.Image as form;
 
 use crate::known::{is_dead, is_used};

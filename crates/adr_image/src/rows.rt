@@ -1,8 +1,7 @@
 //! The rows of an object, read one after the other.
 
 ghost use Rattle.std.specs.Prelude.{◌≡◌};
-ghost use Rattle.adr_wire.specs.Reading.{Gives, GivesAs, Tells};
-ghost use Rattle.adr_wire.specs.Gathering.{gathered_at};
+ghost use Rattle.adr_wire.specs.Reading.{Gives, GivesAs, Tells, gathered_at};
 ghost use Rattle.adr_image.specs.Image as form;
 
 use adr_checks::{Schema, check_name};

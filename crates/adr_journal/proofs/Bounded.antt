@@ -128,14 +128,6 @@ module _ {D : Type 0} (head : Reading Ids) (area : Ids → Reading (Began State)
         ]),
       ))
 
-  -- the same said of what is found by another name
-  pub found_too : (f0 f : Found State) → IfSome (content old) (λ there. start_of head area following there ≡ Ok f0) → IfSome (content old) (λ there. start_of head area following there ≡ Ok f) → (P : Found State → Type 0)
-      → IfSome (content new) (λ _. P f0) → IfSome (content new) (λ _. P f)
-  found_too f0 f finds0 finds P h =
-      if_told (content new) _ (λ x told.
-      let was = some_of (content old) (both.0 (is_some_of (content new) x told)) in
-      subst P (same_found f0 f (sym (at_told (content old) _ was.0 was.1 finds0) ∙ at_told (content old) _ was.0 was.1 finds)) (at_told (content new) _ x told h))
-
 -- a start
 found_bounded : (file : ℕ) (l : Log) → l.place + 6 ≤ l.first → l.first < l.log_end → l.log_end ≤ file → IsBounded file (image_bytes l) 0 l
 found_bounded file l apart first ends = record {

@@ -201,7 +201,7 @@ impl<D: Disk, F: Form> Keeper for Journal<D, F> {
         }
     }
 
-    fn commit(&mut self, _change: &Change) -> Result<(), KeeperRefusal> {
+    fn commit(&mut self) -> Result<(), KeeperRefusal> {
         let written = write_commit(&mut self.disk, &self.area, &self.prepared, self.next);
         self.area = Vec::new(self.alloc);
         match written {

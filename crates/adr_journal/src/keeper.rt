@@ -152,12 +152,12 @@ pub trait Keeper {
         ensures within { (file image longest : ℕ) → is_within self.old file image longest → is_within self.new file image longest }
         ensures prepares { prepares self.old (ended result) self.new };
 
-    /// Commits the change that it is ready for. Only the disk can fail.
-    fn commit(&mut self, change: &Change) -> Result<(), KeeperRefusal>
+    /// Commits the change that it is ready for, which is said of each that it may be. Only the disk can fail.
+    fn commit(&mut self) -> Result<(), KeeperRefusal>
         requires up { is_failed self.old ≡ false }
-        requires prepared { (f : Found Defined) × is_at self.old f × is_prepared self.old f.state change.now × can_follow f.state change.now }
-        ensures ok { OnOk result ((f : Found Defined) → is_at self.old f → is_prepared self.old f.state change.now
-            → can_follow f.state change.now → is_at self.new (found_after f change.now)) }
+        requires prepared { (f : Found Defined) × (c : Changes) × is_at self.old f × is_prepared self.old f.state c × can_follow f.state c }
+        ensures ok { OnOk result ((f : Found Defined) (c : Changes) → is_at self.old f → is_prepared self.old f.state c
+            → can_follow f.state c → is_at self.new (found_after f c)) }
         ensures up { OnOk result (is_failed self.new ≡ false) }
         ensures err { OnErr result ((f : Found Defined) → is_at self.old f → is_at self.new f) }
         ensures fault { OnErr result (IsErrOf result KeeperRefusal.DiskFault
@@ -167,16 +167,17 @@ pub trait Keeper {
 
         // Whatever it answers, what a start finds after a crash at any moment of the call, and after one from then on.
         // A checkpoint within the call moves the log, and leaves the state.
-        ensures any_moment { (f : Found Defined) → is_at self.old f → is_prepared self.old f.state change.now
-            → can_follow f.state change.now → IfSome (told self.old) (λ _.
-            LeavesOnly moment left_since self.old self.new (FindsEither f.state (after f.state change.now))) }
-        ensures left { (f : Found Defined) → is_at self.old f → is_prepared self.old f.state change.now
-            → can_follow f.state change.now → IfSome (told self.old) (λ _.
-            Among (FindsEither f.state (after f.state change.now)) (may_leave self.new)) }
-        ensures within { (f : Found Defined) (file image longest : ℕ) → is_at self.old f → is_prepared self.old f.state change.now
-            → is_within self.old file image longest
-            → is_within self.new file (max image (if is_due f.log change.now then image_length f.state.store else 0)) (max longest (5 + change_length change.now)) }
-        ensures commits { commits self.old change.now (ended result) self.new };
+        ensures any_moment { (f : Found Defined) (c : Changes) → is_at self.old f → is_prepared self.old f.state c
+            → can_follow f.state c → IfSome (told self.old) (λ _.
+            LeavesOnly moment left_since self.old self.new (FindsEither f.state (after f.state c))) }
+        ensures left { (f : Found Defined) (c : Changes) → is_at self.old f → is_prepared self.old f.state c
+            → can_follow f.state c → IfSome (told self.old) (λ _.
+            Among (FindsEither f.state (after f.state c)) (may_leave self.new)) }
+        ensures within { (f : Found Defined) (c : Changes) → is_at self.old f → is_prepared self.old f.state c
+            → can_follow f.state c → (file image longest : ℕ) → is_within self.old file image longest
+            → is_within self.new file (max image (if is_due f.log c then image_length f.state.store else 0)) (max longest (5 + change_length c)) }
+        ensures commits { (f : Found Defined) (c : Changes) → is_at self.old f → is_prepared self.old f.state c
+            → can_follow f.state c → commits self.old c (ended result) self.new };
 
     /// Finds the state that is kept.
     fn start(&mut self) -> Result<State, StartRefusal>

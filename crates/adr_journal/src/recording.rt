@@ -74,7 +74,7 @@ pub fn record_of<F: Form>(alloc: Global, change: &Change) -> Result<Vec<u8>, NoM
     ensures { IfOk result (λ bytes. bytes.items ≡ record_of (F.body_of change.now)) }
 {
     let body = F::write_change(alloc, change)?;
-    let mut written = Vec::new(alloc);
+    let mut written = Vec::with_capacity(alloc, body.len() + 5)?;
     written.extend_from_slice(&(body.len() as u32).to_be_bytes())?;
     written.extend_from_slice(&body)?;
     written.push(CLOSED_GATE)?;

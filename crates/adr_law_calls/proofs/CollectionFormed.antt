@@ -1,20 +1,17 @@
 -- A collection of a formed state leaves a formed one.
-use Rattle.std.proofs.Common.{⊎_elim, ℕ, ◌≤◌, List, map, arith}
-use Rattle.adr_stamp.specs.declared.Oid.{Oid}
+use Rattle.std.proofs.Common.{⊎_elim, ℕ, ◌≤◌, arith}
 use Rattle.adr_schema.specs.Numbered.{numbered}
 use Rattle.adr_vector.specs.Vector.{IsVector, at}
 use Rattle.adr_vector.proofs.Comparing.{at_most_from_everywhere}
 use Rattle.adr_vector.proofs.Joining.{raised_here}
 use Rattle.adr_model.specs.Member.{Each}
-use Rattle.adr_model.specs.Update.{Update}
 use Rattle.adr_model.specs.Reflects.{AtMost, Covers, CoversBirth}
-use Rattle.adr_model.specs.Store.{Held, State}
-use Rattle.adr_model.specs.Change.{Change, after}
+use Rattle.adr_model.specs.Store.{State}
 use Rattle.adr_model.specs.Formed.{IsFormedStore, IsFormed}
-use Rattle.adr_model.specs.Collect.{deaths_to_collect, collection}
 use Rattle.adr_law_knowledge.proofs.Raised.{raised_up, raised_is_vector, raised_replaces}
 use Rattle.adr_law_knowledge.proofs.RisingHeld.{removals_rise}
 use Rattle.adr_law_calls.specs.Collectable.{IsCollectable}
+use Rattle.adr_law_calls.proofs.Collections.{collecting}
 use Rattle.adr_law_calls.proofs.Deaths.{all_collectable}
 use Rattle.adr_law_calls.proofs.PurgedVector.{purged_within, purged_covers, purged_is_vector}
 use Rattle.adr_law_calls.proofs.Removing.{stood_before, stay_alone}
@@ -24,20 +21,7 @@ use Rattle.adr_law_calls.proofs.CollectionFollows.{usn_of_collection}
 use Rattle.adr_vector.proofs.Moments.{times_stay}
 
 module _ (s : State) (now lifetime : ℕ) (is : IsFormed s) where
-  abbrev dead : List (Oid × Update)
-  dead = deaths_to_collect s now lifetime
-
-  abbrev c : Change
-  c = collection s dead
-
-  abbrev d : State
-  d = after s c
-
-  abbrev rows : List Held
-  rows = s.store.rows
-
-  abbrev os : List Oid
-  os = map (λ (t : Oid × Update). t.0) dead
+  open (collecting s now lifetime) use {dead, c, d, rows, os}
 
   pub collectable : Each (IsCollectable rows (at s.store.vector)) dead
   collectable = all_collectable s now lifetime

@@ -1,17 +1,17 @@
 -- A collection leaves a sound state.
-use Rattle.std.proofs.Common.{◌≡◌, inl, inr, ⊎_elim, ℕ, List, [], map, Ok, sym, subst, arith}
+use Rattle.std.proofs.Common.{◌≡◌, inl, inr, ⊎_elim, ℕ, [], Ok, sym, subst, arith}
 use Rattle.adr_stamp.specs.declared.Oid.{Oid}
 use Rattle.adr_stamp.specs.declared.LinkKey.{LinkKey}
 use Rattle.adr_schema.specs.Numbered.{numbered}
 use Rattle.adr_vector.specs.Vector.{at}
 use Rattle.adr_model.specs.Member.{Member, Each}
-use Rattle.adr_model.specs.Update.{Update, LinkOf, ends}
+use Rattle.adr_model.specs.Update.{LinkOf, ends}
 use Rattle.adr_model.specs.Reflects.{Numbers, AtMost, Covers, CoversBirth, HoldsObject, IsTombstoned, knowledge_of}
-use Rattle.adr_model.specs.Store.{Held, State, updates_of}
-use Rattle.adr_model.specs.Change.{Change, after}
+use Rattle.adr_model.specs.Store.{State, updates_of}
+use Rattle.adr_model.specs.Change.{Change}
 use Rattle.adr_model.specs.Formed.{IsLinkFormed, IsClosed}
 use Rattle.adr_model.specs.LocalLog.{Follows}
-use Rattle.adr_model.specs.Collect.{deaths_to_collect, collection, collect}
+use Rattle.adr_model.specs.Collect.{collect}
 use Rattle.adr_model.specs.Replica.{Book, ToCollect}
 use Rattle.adr_model.specs.Sound.{last_of, IsSoundBook, IsSoundState}
 use Rattle.adr_model.proofs.Members.{member_left}
@@ -24,25 +24,13 @@ use Rattle.adr_law_calls.specs.Collectable.{IsCollectable}
 use Rattle.adr_law_calls.proofs.PurgedVector.{purged_up}
 use Rattle.adr_law_calls.proofs.Removing.{row_of_tells, update_stood, update_stands}
 use Rattle.adr_law_calls.proofs.RemovingForms.{classes_stay_known}
+use Rattle.adr_law_calls.proofs.Collections.{collecting}
 use Rattle.adr_law_calls.proofs.CollectionFormed.{collectable, covered, higher, covers, collection_formed}
 use Rattle.adr_law_calls.proofs.Shrinking.{removal_grows, removed_is_dead}
 use Rattle.adr_law_calls.proofs.CollectionFollows.{collect_is_collection, collection_follows}
 
 module _ (sc : Book) (s : State) (now lifetime : ℕ) (book : IsSoundBook sc) (state : IsSoundState sc s) where
-  abbrev dead : List (Oid × Update)
-  dead = deaths_to_collect s now lifetime
-
-  abbrev c : Change
-  c = collection s dead
-
-  abbrev d : State
-  d = after s c
-
-  abbrev rows : List Held
-  rows = s.store.rows
-
-  abbrev os : List Oid
-  os = map (λ (t : Oid × Update). t.0) dead
+  open (collecting s now lifetime) use {dead, c, d, rows, os}
 
   abbrev V : Numbers
   V = at s.store.vector

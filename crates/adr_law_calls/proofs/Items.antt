@@ -7,7 +7,7 @@ use Rattle.adr_model.specs.Reflects.{knowledge_of, Reflects}
 use Rattle.adr_model.specs.Live.{objects_of}
 use Rattle.adr_model.specs.Store.{State, updates_of}
 use Rattle.adr_model.specs.Change.{Item}
-use Rattle.adr_model.specs.Formed.{IsFormed}
+use Rattle.adr_model.specs.Formed.{AreAlone, AreFormedRows, AreRising, IsFormed}
 use Rattle.adr_model.specs.Serve.{Reply}
 use Rattle.adr_model.specs.Write.{links_in}
 use Rattle.adr_model.specs.Take.{Taking, begin, rows_taken, take_item, take_items}
@@ -20,15 +20,13 @@ use Rattle.adr_law_calls.proofs.ItemPut.{MayWrite, taken_from, item_may}
 use Rattle.adr_law_calls.proofs.ItemStep.{step, step_grows, step_writes}
 use Rattle.adr_law_calls.proofs.ItemReflected.{item_reflected}
 
+-- before any item, what holds of the rows of a state
+pub begins_steady : (s : State) → AreRising s.store.rows → AreFormedRows (numbered s.store.schema) (updates_of s.store.rows) → AreAlone s.store.rows
+    → Each (λ h. (1 ≤ h.local) × (h.local ≤ s.store.usn)) s.store.rows → StaysFormed s (begin s)
+begins_steady s rising formed alone locals = record { rising = rising; formed = formed; alone = alone; locals = locals; made = refl; rises = omega arith }
+
 pub begins_formed : (s : State) → IsFormed s → StaysFormed s (begin s)
-begins_formed s formed = record {
-  rising = formed.store.rising;
-  formed = formed.store.rows;
-  alone = formed.store.alone;
-  locals = formed.store.locals;
-  made = refl;
-  rises = omega arith;
-}
+begins_formed s formed = begins_steady s formed.store.rising formed.store.rows formed.store.alone formed.store.locals
 
 module _ (sc : Book) (s : State) (r : Reply) (may : IsTakeable sc s r) where
   abbrev taken : Taking → Item → Taking
@@ -39,14 +37,7 @@ module _ (sc : Book) (s : State) (r : Reply) (may : IsTakeable sc s r) where
 
   pub starts : IsTakenSoFar sc s r (begin s)
   starts = record {
-    steady = record {
-      rising = may.base.rising;
-      formed = may.base.rows;
-      alone = may.base.alone;
-      locals = may.base.locals;
-      made = refl;
-      rises = omega arith;
-    };
+    steady = begins_steady s may.base.rising may.base.rows may.base.alone may.base.locals;
     rows = record {
       rising = may.base.rising;
       known = may.base.known;

@@ -45,6 +45,7 @@ pub mod RemovingSizes
 pub mod Shrinking
 pub mod CollectionFollows
 pub mod PurgedVector
+pub mod Collections
 pub mod CollectionFormed
 pub mod CollectionLeaves
 pub mod Upgraded

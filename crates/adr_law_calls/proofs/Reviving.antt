@@ -58,6 +58,35 @@ use Rattle.adr_law_calls.proofs.Coming.{which, of_object, no_death, object_may_c
 use Rattle.adr_law_calls.proofs.PutForms.{whence, whence_update}
 use Rattle.adr_law_calls.proofs.WriteFormed.{are_written, written_rise, write_formed}
 
+-- ---- the ends of a link that comes
+
+-- the other end is the object itself, or the one that is live there
+pub end_told : (nodes : List Node) (o : Oid) (g : Identifier) (p : Oid) → other_end nodes o g ≡ Some p → (p ≡ o) ⊎ ((n : Node) × (node_at nodes g ≡ Some n) × (n.object ≡ p))
+end_told nodes o g p e = by (same_identifier g o.guid) (node_at nodes g) refl e
+  where
+    by : (b : Bool) (n : Option Node) → node_at nodes g ≡ n → (if b then Some o else option_map (λ (n : Node). n.object) n) ≡ Some p → (p ≡ o) ⊎ ((n : Node) × (node_at nodes g ≡ Some n) × (n.object ≡ p))
+    by true n is h = let same : o ≡ p = cc in inl (sym same)
+    by false None is h = absurd (cc)
+    by false (Some n) is h = let same : n.object ≡ p = cc in inr (n, is, same)
+
+-- what holds of an object and of another one holds of both ends of the link between them
+module _ (IsEnd : Oid → Type 0) (o : Oid) (own : IsEnd o) where
+  both_ends : (l : LinkKey) → IsEnd l.from → IsEnd l.to → Each IsEnd (ends (LinkOf l))
+  both_ends l from to p (inl e) = subst IsEnd (sym e) from
+  both_ends l from to p (inr (inl e)) = subst IsEnd (sym e) to
+  both_ends l from to p (inr (inr m)) = absurd m
+
+  pub link_is : (kind : Option Kind) (attr : ℕ) (p : Oid) (l : LinkKey) → IsEnd p → link_at kind attr o p ≡ Some l → Each IsEnd (ends (LinkOf l)) × Member o (ends (LinkOf l))
+  link_is (Some (Forward back)) attr p l is e =
+      let same : record { from = o; attr = attr; to = p } ≡ l = cc in
+      subst (λ (k : LinkKey). Each IsEnd (ends (LinkOf k)) × Member o (ends (LinkOf k))) same (both_ends (record { from = o; attr = attr; to = p }) own is, inl refl)
+  link_is (Some (Back forward)) attr p l is e =
+      let same : record { from = p; attr = forward; to = o } ≡ l = cc in
+      subst (λ (k : LinkKey). Each IsEnd (ends (LinkOf k)) × Member o (ends (LinkOf k))) same (both_ends (record { from = p; attr = forward; to = o }) is own, inr (inl refl))
+  link_is (Some Reserved) attr p l is e = absurd (cc)
+  link_is (Some (Plain syntax most)) attr p l is e = absurd (cc)
+  link_is None attr p l is e = absurd (cc)
+
 -- ---- links, one after the other
 
 -- links that may be written where these rows stand: no row of one of them does, and their ends are live
@@ -216,30 +245,9 @@ module _ (s : State) (formed : IsFormed s) (image : Store) (guid parent : Identi
     own : Member o (ends (LinkOf l))
 
   end_is : (other : Identifier) (p : Oid) → other_end nodes o other ≡ Some p → IsEnd p
-  end_is other p e = by (same_identifier other o.guid) (node_at nodes other) refl e
-    where
-      by : (b : Bool) (n : Option Node) → node_at nodes other ≡ n → (if b then Some o else option_map (λ (n : Node). n.object) n) ≡ Some p → IsEnd p
-      by true n is h = let same : o ≡ p = cc in inl (sym same)
-      by false None is h = absurd (cc)
-      by false (Some n) is h =
-          let same : n.object ≡ p = cc in
-          inr (subst (IsHeldAlive held) same (live_is_held held n.object n.class (live_node (numbered s.store.schema) held formed.store.rows one_row other n is)))
-
-  both_ends : (l : LinkKey) → IsEnd l.from → IsEnd l.to → Each IsEnd (ends (LinkOf l))
-  both_ends l from to p (inl e) = subst IsEnd (sym e) from
-  both_ends l from to p (inr (inl e)) = subst IsEnd (sym e) to
-  both_ends l from to p (inr (inr m)) = absurd m
-
-  link_is : (kind : Option Kind) (attr : ℕ) (p : Oid) (l : LinkKey) → IsEnd p → link_at kind attr o p ≡ Some l → Each IsEnd (ends (LinkOf l)) × Member o (ends (LinkOf l))
-  link_is (Some (Forward back)) attr p l is e =
-      let same : record { from = o; attr = attr; to = p } ≡ l = cc in
-      subst (λ (k : LinkKey). Each IsEnd (ends (LinkOf k)) × Member o (ends (LinkOf k))) same (both_ends (record { from = o; attr = attr; to = p }) (inl refl) is, inl refl)
-  link_is (Some (Back forward)) attr p l is e =
-      let same : record { from = p; attr = forward; to = o } ≡ l = cc in
-      subst (λ (k : LinkKey). Each IsEnd (ends (LinkOf k)) × Member o (ends (LinkOf k))) same (both_ends (record { from = p; attr = forward; to = o }) is (inl refl), inr (inl refl))
-  link_is (Some Reserved) attr p l is e = absurd (cc)
-  link_is (Some (Plain syntax most)) attr p l is e = absurd (cc)
-  link_is None attr p l is e = absurd (cc)
+  end_is other p e = ⊎_elim (λ is. inl is)
+      (λ t. inr (subst (IsHeldAlive held) t.2 (live_is_held held t.0.object t.0.class (live_node (numbered s.store.schema) held formed.store.rows one_row other t.0 t.1))))
+      (end_told nodes o other p e)
 
   -- a link that is tested is one that the schema doesn't refuse
   tested : (l k : LinkKey) → Each IsEnd (ends (LinkOf l)) × Member o (ends (LinkOf l)) → then_some (is_link_of s o entry.class l) l ≡ Some k → IsRelinked k
@@ -258,7 +266,7 @@ module _ (s : State) (formed : IsFormed s) (image : Store) (guid parent : Identi
     where
       on : (p : Oid) → IsEnd p → (k : Option LinkKey) → link_at (kind_at newest attr) attr o p ≡ k → option_and_then (λ (k : LinkKey). then_some (is_link_of s o entry.class k) k) k ≡ Some l → IsRelinked l
       on p is None at g = absurd (cc)
-      on p is (Some k) at g = tested k l (link_is (kind_at newest attr) attr p k is at) g
+      on p is (Some k) at g = tested k l (link_is IsEnd o (inl refl) (kind_at newest attr) attr p k is at) g
 
       by : (p : Option Oid) → other_end nodes o other ≡ p
           → option_and_then (λ (k : LinkKey). then_some (is_link_of s o entry.class k) k) (option_and_then (link_at (kind_at newest attr) attr o) p) ≡ Some l → IsRelinked l

@@ -1,14 +1,14 @@
 -- Values that are given: of each attribute one, and under attributes that aren't reserved.
-use Rattle.std.proofs.Common.{◌≡◌, inl, inr, ℕ, zero, suc, ◌<◌, List, [], ◌∷◌, Bool, true, false, Some, refl, sym, ap, nat_le, if◌then◌else◌, arith}
+use Rattle.std.proofs.Common.{◌≡◌, inl, inr, ℕ, zero, suc, ◌<◌, List, [], ◌∷◌, Bool, true, false, None, Some, refl, sym, ap, nat_le, if◌then◌else◌, arith}
 use Rattle.std.specs.List.{slice_get}
 use Rattle.std.specs.Ordering.{nat_cmp, is_eq}
 use Rattle.std.proofs.lemmas.Cmp.{nat_cmp_total}
 use Rattle.std.proofs.lemmas.Map.Lookups.{exact_unsigned}
 use Rattle.adr_schema.specs.declared.content.Value.{Value as Datum}
 use Rattle.adr_schema.specs.declared.table.Syntax.{Syntax}
-use Rattle.adr_schema.specs.declared.table.Kind.TheVariants.{Plain}
+use Rattle.adr_schema.specs.declared.table.Kind.TheVariants.{Plain, Reserved}
 use Rattle.adr_schema.specs.Assignments.{Given, attributes, given}
-use Rattle.adr_schema.specs.Table.{kind_at}
+use Rattle.adr_schema.specs.Table.{Table, kind_at}
 use Rattle.adr_schema.specs.Schemas.{schema_1, schema_2}
 use Rattle.adr_schema.specs.Numbered.{numbered}
 use Rattle.adr_model.specs.Member.{Member, Each}
@@ -36,25 +36,27 @@ given_member attr (g ∷ gs) vs e = by (is_eq (nat_cmp attr g.0)) refl e (given_
     by false is h rest = inr (rest h)
 
 -- the schemas allow no less the greater their numbers are, so a plain attribute is one of schema 2
-newest_above : (attr : ℕ) (syntax : Syntax) (most : ℕ) → kind_at schema_2 attr ≡ Some (Plain syntax most) → deleted_attr < attr
-unfolding schema_2
-newest_above zero syntax most e = absurd (cc)
-newest_above (suc zero) syntax most e = absurd (cc)
-newest_above (suc (suc zero)) syntax most e = absurd (cc)
-newest_above (suc (suc (suc zero))) syntax most e = absurd (cc)
-newest_above (suc (suc (suc (suc n)))) syntax most e = omega arith
+abbrev ReservesFirst : Table → Type 0
+ReservesFirst t = (kind_at t 0 ≡ None) × (kind_at t 1 ≡ Some Reserved) × (kind_at t 2 ≡ Some Reserved) × (kind_at t 3 ≡ Some Reserved)
 
-first_above : (attr : ℕ) (syntax : Syntax) (most : ℕ) → kind_at schema_1 attr ≡ Some (Plain syntax most) → deleted_attr < attr
+first_reserves : ReservesFirst schema_1
 unfolding schema_1
-first_above zero syntax most e = absurd (cc)
-first_above (suc zero) syntax most e = absurd (cc)
-first_above (suc (suc zero)) syntax most e = absurd (cc)
-first_above (suc (suc (suc zero))) syntax most e = absurd (cc)
-first_above (suc (suc (suc (suc n)))) syntax most e = omega arith
+first_reserves = (refl, refl, refl, refl)
+
+newest_reserves : ReservesFirst schema_2
+unfolding schema_2
+newest_reserves = (refl, refl, refl, refl)
+
+above : (t : Table) → ReservesFirst t → (attr : ℕ) (syntax : Syntax) (most : ℕ) → kind_at t attr ≡ Some (Plain syntax most) → deleted_attr < attr
+above t r zero syntax most e = absurd (cc (r.0, e))
+above t r (suc zero) syntax most e = absurd (cc (r.1, e))
+above t r (suc (suc zero)) syntax most e = absurd (cc (r.2, e))
+above t r (suc (suc (suc zero))) syntax most e = absurd (cc (r.3, e))
+above t r (suc (suc (suc (suc n)))) syntax most e = omega arith
 
 pub plain_is_above : (schema attr : ℕ) (syntax : Syntax) (most : ℕ) → kind_at (numbered schema) attr ≡ Some (Plain syntax most) → deleted_attr < attr
 plain_is_above schema attr syntax most = by (nat_le schema 1)
   where
     by : (b : Bool) → kind_at (if b then schema_1 else schema_2) attr ≡ Some (Plain syntax most) → deleted_attr < attr
-    by true = first_above attr syntax most
-    by false = newest_above attr syntax most
+    by true = above schema_1 first_reserves attr syntax most
+    by false = above schema_2 newest_reserves attr syntax most

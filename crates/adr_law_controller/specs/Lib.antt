@@ -1,4 +1,5 @@
 pub mod Called
 pub mod Behind
 pub mod Laws
+pub mod Keeping
 pub mod Worked

@@ -3,9 +3,10 @@
 //!
 //! A step is a call, a stop or a start, with how it ended. A list of steps leads from one controller to another where each
 //! is what the contract of the public call says. `specs/Called` has the calls, `specs/Behind` the fold, `specs/Laws` the
-//! laws. The functions here have no code.
+//! laws, `specs/Keeping` what a node asks of its keeper. The functions here have no code.
 #![tactic(auto)]
 
+ghost use Rattle.adr_law_controller.specs.Keeping.{KeepsLog};
 ghost use Rattle.adr_law_controller.specs.Laws.{GivenCallsFollow, StandsBehindSteps, UpStandsAtItsState};
 ghost use Rattle.adr_law_controller.specs.Worked.{IsWorked};
 
@@ -43,6 +44,13 @@ pub fn given_calls_follow<D: Disk>()
     quarantines_are_recorded();
     recorded_changes_leave_logged_states();
     logged_states_fit();
+}
+
+/// So a log, on whatever disk, keeps what a node is asked for.
+pub fn logs_keep<D: Disk>()
+    ensures { KeepsLog ⟦<Journal<D, Records> as Keeper>⟧ }
+{
+    given_calls_follow::<D>();
 }
 
 /// The fold, worked out on a call that was answered, one that met a fault of the disk, and a start.

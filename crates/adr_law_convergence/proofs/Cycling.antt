@@ -60,7 +60,7 @@ found_in_place (x ∷ xs) new name = by (bytes_eq x.name new.name) refl (found_i
 
 -- ---- a commit without a plan leaves none
 
-no_plan_left : (r : Replica) (p : Pending) → r.device.plan ≡ None → (device_after_commit r p).plan ≡ None
+pub no_plan_left : (r : Replica) (p : Pending) → r.device.plan ≡ None → (device_after_commit r p).plan ≡ None
 no_plan_left r p none =
     let l = r.device.safe_log in
     let next = next_log l r.safe.store p.change in

@@ -82,9 +82,6 @@ module _ (s : State) (q : Request) (now : ℕ) (most : 1 ≤ q.max) where
   abbrev from : Mark
   from = begins_at s q
 
-  abbrev unseen : List Held
-  unseen = sendable rows from q.vector
-
   abbrev all : List (ℕ × Item)
   all = candidates rows from q.vector
 
@@ -93,7 +90,7 @@ module _ (s : State) (q : Request) (now : ℕ) (most : 1 ≤ q.max) where
 
   -- a candidate is of a row whose unit lies beyond the mark
   beyond_from : (c : ℕ × Item) → Member c all → (x : Held) × Member x rows × (c.0 ≡ last_local rows (unit_of x.update.key)) × (nat_lt from.obj (last_local rows (unit_of x.update.key)) ≡ true)
-  beyond_from c m = let t = candidate_from rows unseen c m in let k = of_filter (λ (h : Held). is_above_mark from rows h && is_unseen from q.vector h) rows t.0 t.1 in
+  beyond_from c m = let t = candidate_from rows (sendable rows from q.vector) c m in let k = of_filter (λ (h : Held). is_above_mark from rows h && is_unseen from q.vector h) rows t.0 t.1 in
       (t.0, k.0, ap (λ (d : ℕ × Item). d.0) t.2, (and_parts _ _ k.1).0)
 
   -- what stands of a cut reply
@@ -110,7 +107,7 @@ module _ (s : State) (q : Request) (now : ℕ) (most : 1 ≤ q.max) where
   cut (d ∷ ds) front short = record { forward = forward; fewer = fewer p r (units_of rows) (unit_of x.0.update.key) more (unit_there rows x.0 x.1) above not_beyond; left = some_left p (units_of rows) (unit_of y.0.update.key) (unit_there rows y.0 y.1) still }
     where
       up : Rises (sent ++ d ∷ ds)
-      up = subst Rises (sym front) (candidates_rise rows unseen)
+      up = subst Rises (sym front) (candidates_rise rows (sendable rows from q.vector))
 
       there : (c : ℕ × Item) → Member c (sent ++ d ∷ ds) → Member c all
       there c m = subst (λ (cs : List (ℕ × Item)). Member c cs) front m

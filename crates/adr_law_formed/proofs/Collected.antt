@@ -1,5 +1,4 @@
 -- A collection of a formed state: the change can follow it, and leaves a formed one.
-use Rattle.adr_vector.proofs.Moments.{no_times}
 use Rattle.std.proofs.Common.{◌≡◌, ℕ, List, [], ◌∷◌, false, Option, Some, None, refl, sym, ap, ◌∙◌, subst, arith, map, fold, filter_map, Ok, inl}
 use Rattle.std.specs.Prelude.{nat_lt}
 use Rattle.std.specs.Bool.{then_some}
@@ -20,7 +19,7 @@ use Rattle.adr_model.specs.Update.{Key, RowOf, Update, inv_of, usn_of, key_order
 use Rattle.adr_model.specs.Reflects.{Covers, CoversBirth}
 use Rattle.adr_model.specs.Store.{Held, State, updates_of}
 use Rattle.adr_model.specs.Serve.{is_quarantined}
-use Rattle.adr_model.specs.Change.{Change, after}
+use Rattle.adr_model.specs.Change.{Change}
 use Rattle.adr_model.specs.Formed.{AreRising, IsFormed}
 use Rattle.adr_model.specs.Write.{usn_limit}
 use Rattle.adr_model.specs.Collect.{collected_by, deaths_to_collect, covering, collection, collect_refusal, collect}
@@ -29,6 +28,7 @@ use Rattle.adr_law_knowledge.proofs.Refusing.{answered}
 use Rattle.adr_law_steps.proofs.Rows.{updated}
 use Rattle.adr_law_calls.specs.Collectable.{IsCollectable}
 use Rattle.adr_law_knowledge.proofs.Fewer.{no_more_cursors}
+use Rattle.adr_law_calls.proofs.Collections.{collecting}
 use Rattle.adr_law_calls.proofs.Covering.{covering_within, covering_rises}
 use Rattle.adr_law_calls.proofs.Removing.{update_stood}
 use Rattle.adr_law_calls.proofs.CollectionFollows.{collect_is_collection}
@@ -37,7 +37,7 @@ use Rattle.adr_law_calls.proofs.CollectionFormed.{collectable, covered, usn_rise
 use Rattle.adr_law_formed.specs.Follow.{IsRemovable, HasKnownClasses, CanFollow}
 use Rattle.adr_law_formed.proofs.Said.{neither}
 use Rattle.adr_law_calls.proofs.Passed.{normal_where_not_quarantined}
-use Rattle.adr_law_formed.proofs.TakenFollow.{nothing_is_vector}
+use Rattle.adr_law_formed.proofs.Going.{goes_on_alone}
 
 -- ---- the objects that go rise
 
@@ -105,20 +105,7 @@ module _ (s : State) (now lifetime : ℕ) where
           (is ∙ ap Some (let f : (o, h.update) ≡ d = cc in ap (λ (t : Oid × Update). t.0) f))).0
 
 module _ (s : State) (now lifetime : ℕ) (is : IsFormed s) (classes : HasKnownClasses s) where
-  abbrev dead : List (Oid × Update)
-  dead = deaths_to_collect s now lifetime
-
-  abbrev c : Change
-  c = collection s dead
-
-  abbrev d : State
-  d = after s c
-
-  abbrev rows : List Held
-  rows = s.store.rows
-
-  abbrev os : List Oid
-  os = map (λ (t : Oid × Update). t.0) dead
+  open (collecting s now lifetime) use {dead, c, d, rows, os}
 
   removable : Each (IsRemovable rows d.store.purged) os
   removable o m =
@@ -151,18 +138,7 @@ module _ (s : State) (now lifetime : ℕ) (is : IsFormed s) (classes : HasKnownC
 
   follows : is_quarantined s.mode ≡ false → CanFollow s c
   follows normal = record {
-    goes_on = record {
-      normal = normal_where_not_quarantined s.mode normal;
-      rises = usn_rises s now lifetime is;
-      locals = tt;
-      mark = tt;
-      schema = inl refl;
-      joined = nothing_is_vector;
-      times = no_times [];
-      purged = covers;
-      writes = tt;
-      removed = removable;
-    };
+    goes_on = goes_on_alone s c (normal_where_not_quarantined s.mode normal) (usn_rises s now lifetime is) tt (inl refl) covers tt removable;
     formed = collection_formed s now lifetime is;
     classes = λ u m. classes u (update_stood os rows u m);
   }

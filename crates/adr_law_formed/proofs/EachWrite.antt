@@ -63,7 +63,7 @@ use Rattle.adr_call.specs.declared.directory.Entry.{Entry}
 use Rattle.adr_law_calls.proofs.Reviving.{absent, apart, may_revive, may_relink, may_relink_all}
 use Rattle.adr_law_calls.proofs.InTurn.{in_turn_formed}
 use Rattle.adr_law_formed.proofs.TakenFollow.{nothing_is_vector}
-use Rattle.adr_vector.proofs.Moments.{no_times}
+use Rattle.adr_law_formed.proofs.Going.{goes_on_alone}
 use Rattle.adr_law_formed.proofs.Relinked.{shown_in_order, behind_one, within_limits, one_rises, links_follow, links_local, in_turn_known}
 
 -- ---- a row that is written next is greater than the held one
@@ -279,18 +279,9 @@ module _ (s : State) (formed : IsFormed s) (known : HasKnownClasses s) where
 
     revived_follows : CanFollow s (own_change s (items_written s what now))
     revived_follows = record {
-      goes_on = record {
-        normal = normal (none_there (revive_refusals s image guid parent text) none _ (inl refl));
-        rises = omega arith;
-        locals = (omega arith, omega arith, links_local s now (numbered s.store.schema) s.store.vector (s.store.usn + 2) (s.store.usn + 1) (s.store.usn + length (items_written s what now)) (links_revived s image guid) (omega arith) (omega arith));
-        mark = tt;
-        schema = inl refl;
-        joined = nothing_is_vector;
-        times = no_times [];
-        purged = nothing_is_vector;
-        writes = revived_may_follow;
-        removed = λ o m. absurd m;
-      };
+      goes_on = goes_on_alone s (own_change s (items_written s what now)) (normal (none_there (revive_refusals s image guid parent text) none _ (inl refl))) (omega arith)
+          (omega arith, omega arith, links_local s now (numbered s.store.schema) s.store.vector (s.store.usn + 2) (s.store.usn + 1) (s.store.usn + length (items_written s what now)) (links_revived s image guid) (omega arith) (omega arith))
+          (inl refl) nothing_is_vector revived_may_follow (λ o m. absurd m);
       formed = in_turn_formed s first (more_written s what now) formed revived_in_turn;
       classes = in_turn_known s first (more_written s what now) formed revived_in_turn known;
     }

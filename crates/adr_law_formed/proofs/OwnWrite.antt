@@ -1,6 +1,5 @@
 -- Rows that a formed state may write: the change can follow it, and leaves a formed one.
-use Rattle.adr_vector.proofs.Moments.{no_times}
-use Rattle.std.proofs.Common.{◌≡◌, ◌⊎◌, inl, inr, ⊎_elim, ℕ, zero, suc, ◌+◌, List, true, refl, sym, subst, arith, map, []}
+use Rattle.std.proofs.Common.{◌≡◌, ◌⊎◌, inl, inr, ⊎_elim, ℕ, zero, suc, ◌+◌, List, true, refl, sym, subst, arith, map}
 use Rattle.std.specs.List.Sorted.{IsStrictlySortedBy}
 use Rattle.adr_stamp.specs.declared.Oid.{Oid}
 use Rattle.adr_stamp.specs.declared.LinkKey.{LinkKey}
@@ -26,6 +25,7 @@ use Rattle.adr_law_calls.proofs.WriteForms.{classes_stay}
 use Rattle.adr_model.specs.Spelled.{IsSaidOfKey}
 use Rattle.adr_law_formed.specs.Follow.{MayWriteUnit, HasKnownClasses, CanFollow}
 use Rattle.adr_law_formed.proofs.TakenFollow.{nothing_is_vector}
+use Rattle.adr_law_formed.proofs.Going.{goes_on_alone}
 
 -- ---- what rows say
 
@@ -94,22 +94,12 @@ module _ (s : State) where
         → MayWriteUnit (numbered s.store.schema) s.store.vector s.store.rows item.unit item.rows
         → CanFollow s (change_of s item)
     written_follows normal some rise above placed = record {
-      goes_on = record {
-        normal = normal;
-        rises = omega arith;
-        locals = (omega arith, omega arith, tt);
-        mark = tt;
-        schema = inl refl;
-        joined = nothing_is_vector;
-        times = no_times [];
-        purged = nothing_is_vector;
-        writes = (
-          record { some = some; form = record { of_unit = may.put.of_unit; rising = rise; says = says_of_written item.unit item.rows may }; greater = above; unit = placed },
-          (objects_within_limit s us (stands s item) are item.unit may formed.store.limits.objects, links_within_limit s us (stands s item) are item.unit may (written_rise s item formed may) formed.store.limits.links),
-          tt,
-        );
-        removed = λ o m. absurd m;
-      };
+      goes_on = goes_on_alone s (change_of s item) normal (omega arith) (omega arith, omega arith, tt) (inl refl) nothing_is_vector (
+        record { some = some; form = record { of_unit = may.put.of_unit; rising = rise; says = says_of_written item.unit item.rows may }; greater = above; unit = placed },
+        (objects_within_limit s us (stands s item) are item.unit may formed.store.limits.objects, links_within_limit s us (stands s item) are item.unit may (written_rise s item formed may) formed.store.limits.links),
+        tt,
+      )
+          (λ o m. absurd m);
       formed = write_formed s item formed may;
       classes = classes_stay s us (stands s item) are item.unit may known;
     }

@@ -13,7 +13,7 @@ use Rattle.adr_vector.specs.Vector.{Cursors, IsVector, at, raised, cursor_limit}
 use Rattle.adr_vector.proofs.Cursors.{same_from_test, test_itself}
 use Rattle.adr_vector.proofs.Comparing.{everywhere_from_at_most, at_most_from_everywhere}
 use Rattle.adr_vector.proofs.Joining.{raised_here, rising-raised, from_one-raised}
-use Rattle.adr_vector.proofs.Moments.{no_times, times_stay}
+use Rattle.adr_vector.proofs.Moments.{times_stay}
 use Rattle.adr_call.specs.declared.refusal.Table.TheVariants.{Cursors as CursorTable}
 use Rattle.adr_call.specs.declared.refusal.AdoptRefusal.TheVariants.{IdentifierUsed, Full}
 use Rattle.adr_model.specs.Update.{Identifier, inv_of, same_identifier, ends}
@@ -35,6 +35,7 @@ use Rattle.adr_law_logs.proofs.Empty.{empty_is_formed}
 use Rattle.adr_law_formed.specs.Follow.{HasKnownClasses, CanFollow}
 use Rattle.adr_law_formed.proofs.Said.{neither}
 use Rattle.adr_law_formed.proofs.TakenFollow.{nothing_is_vector}
+use Rattle.adr_law_formed.proofs.Going.{goes_on_alone}
 
 -- a formed store keeps its forms under another vector that has seen as much
 with_vector : (s : Store) (v : Cursors) → IsFormedStore s → IsVector v
@@ -57,18 +58,7 @@ with_vector s v formed vector up = record {
 pub quarantine_follows : (s : State) → IsFormed s → HasKnownClasses s → s.mode ≡ Normal
     → CanFollow s (quarantine s)
 quarantine_follows s formed classes normal = record {
-  goes_on = record {
-    normal = normal;
-    rises = omega arith;
-    locals = tt;
-    mark = tt;
-    schema = inl refl;
-    joined = nothing_is_vector;
-    times = no_times [];
-    purged = nothing_is_vector;
-    writes = tt;
-    removed = λ o m. absurd m;
-  };
+  goes_on = goes_on_alone s (quarantine s) normal (omega arith) tt (inl refl) nothing_is_vector tt (λ o m. absurd m);
   formed = record {
     store = with_vector s.store (raised s.store.vector s.inv s.store.usn) formed.store
         (subst IsVector (sym same) formed.store.vector) (raised_up s.store.vector s.inv s.store.usn);
@@ -82,18 +72,7 @@ quarantine_follows s formed classes normal = record {
 
 pub upgraded_follows : (s : State) → IsFormed s → HasKnownClasses s → s.mode ≡ Normal → CanFollow s (upgraded s)
 upgraded_follows s formed classes normal = record {
-  goes_on = record {
-    normal = normal;
-    rises = omega arith;
-    locals = tt;
-    mark = tt;
-    schema = inr refl;
-    joined = nothing_is_vector;
-    times = no_times [];
-    purged = nothing_is_vector;
-    writes = tt;
-    removed = λ o m. absurd m;
-  };
+  goes_on = goes_on_alone s (upgraded s) normal (omega arith) tt (inr refl) nothing_is_vector tt (λ o m. absurd m);
   formed = upgraded_formed s formed;
   classes = classes_known_more (numbered s.store.schema) (numbered 2) (second_is_last s.store.schema) (updates_of s.store.rows) classes;
 }

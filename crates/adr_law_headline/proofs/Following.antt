@@ -176,11 +176,11 @@ is_new seen w name dsa inv agrees is = (
   ((λ m. no_member seen.dsas dsa is.dsa (subst (λ xs. Member dsa xs) agrees.dsas m)), (λ m. no_member seen.invs inv is.inv (subst (λ xs. Member inv xs) agrees.invs m))),
 )
 
--- a controller that a line gives has come, or hasn't
-came : (seen : Seen) (w : World) (r : Replica) (dsa inv : Name) (book : Book) → Agrees seen w
-    → Agrees (with_controller seen r.name dsa inv) (record (gives w (dsa ∷ []) (inv ∷ [])) { book = book; replicas = w.replicas ++ r ∷ [] })
-came seen w r dsa inv book agrees = record {
-  controllers = one_more_named w.replicas r seen.controllers agrees.controllers;
+-- the identifiers that a line gives with a controller, whoever is there then
+coming : (seen : Seen) (w : World) (name dsa inv : Name) (book : Book) (rs : List Replica) → Agrees seen w → AreNamed (names_of rs) (seen.controllers ++ name ∷ [])
+    → Agrees (with_controller seen name dsa inv) (record (gives w (dsa ∷ []) (inv ∷ [])) { book = book; replicas = rs })
+coming seen w name dsa inv book rs agrees named = record {
+  controllers = named;
   dsas = ap (λ xs. xs ++ dsa ∷ []) agrees.dsas;
   invs = ap (λ xs. xs ++ inv ∷ []) agrees.invs;
   requests = agrees.requests;
@@ -189,16 +189,15 @@ came seen w r dsa inv book agrees = record {
   snapshots = agrees.snapshots;
 }
 
+-- a controller that a line gives has come, or hasn't
+came : (seen : Seen) (w : World) (r : Replica) (dsa inv : Name) (book : Book) → Agrees seen w
+    → Agrees (with_controller seen r.name dsa inv) (record (gives w (dsa ∷ []) (inv ∷ [])) { book = book; replicas = w.replicas ++ r ∷ [] })
+came seen w r dsa inv book agrees =
+    coming seen w r.name dsa inv book (w.replicas ++ r ∷ []) agrees (one_more_named w.replicas r seen.controllers agrees.controllers)
+
 came_not : (seen : Seen) (w : World) (name dsa inv : Name) → Agrees seen w → Agrees (with_controller seen name dsa inv) (gives w (dsa ∷ []) (inv ∷ []))
-came_not seen w name dsa inv agrees = record {
-  controllers = still_named (names_of w.replicas) seen.controllers name agrees.controllers;
-  dsas = ap (λ xs. xs ++ dsa ∷ []) agrees.dsas;
-  invs = ap (λ xs. xs ++ inv ∷ []) agrees.invs;
-  requests = agrees.requests;
-  replies = agrees.replies;
-  images = agrees.images;
-  snapshots = agrees.snapshots;
-}
+came_not seen w name dsa inv agrees =
+    coming seen w name dsa inv w.book w.replicas agrees (still_named (names_of w.replicas) seen.controllers name agrees.controllers)
 
 -- one more invocation identifier is given
 inv_given : (seen : Seen) (w : World) (inv : Name) → Agrees seen w → Agrees (record seen { invs = seen.invs ++ inv ∷ [] }) (gives w [] (inv ∷ []))

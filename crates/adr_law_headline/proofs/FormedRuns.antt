@@ -75,45 +75,28 @@ module _ (P : Update → Type 0) where
 
   -- ---- what is bound
 
+  with_bound : (w : World) (requests : List (Name × Request)) (replies : List (Name × Reply)) (images : List (Name × Store)) (snapshots : List (Name × Snapshot)) → IsWorldInForm P w
+      → Each (λ (q : Name × Request). IsRangedRequest q.1) requests → Each (λ (r : Name × Reply). IsReplyInForm P r.1) replies
+      → Each (λ (i : Name × Store). IsImageInForm P i.1) images → Each (λ (s : Name × Snapshot). IsInForm P s.1.state) snapshots
+      → IsWorldInForm P (record w { requests = requests; replies = replies; images = images; snapshots = snapshots })
+  with_bound w requests replies images snapshots is q r i s = record { time = is.time; replicas = is.replicas; requests = q; replies = r; images = i; snapshots = s }
+
   bound_request : (t : Sent Request) (bind : Name) → MakesInForm P IsRangedRequest t → IsWorldInForm P (record t.0 { requests = bound t.0.requests bind t.2 })
-  bound_request t bind makes = record {
-    time = makes.0.time;
-    replicas = makes.0.replicas;
-    requests = each_bound IsRangedRequest t.0.requests bind t.2 makes.0.requests makes.1;
-    replies = makes.0.replies;
-    images = makes.0.images;
-    snapshots = makes.0.snapshots;
-  }
+  bound_request t bind makes = let is = makes.0 in
+      with_bound t.0 (bound t.0.requests bind t.2) t.0.replies t.0.images t.0.snapshots is (each_bound IsRangedRequest t.0.requests bind t.2 is.requests makes.1) is.replies is.images is.snapshots
 
   bound_reply : (t : Sent Reply) (bind : Name) → MakesInForm P (IsReplyInForm P) t → IsWorldInForm P (record t.0 { replies = bound t.0.replies bind t.2 })
-  bound_reply t bind makes = record {
-    time = makes.0.time;
-    replicas = makes.0.replicas;
-    requests = makes.0.requests;
-    replies = each_bound (IsReplyInForm P) t.0.replies bind t.2 makes.0.replies makes.1;
-    images = makes.0.images;
-    snapshots = makes.0.snapshots;
-  }
+  bound_reply t bind makes = let is = makes.0 in
+      with_bound t.0 t.0.requests (bound t.0.replies bind t.2) t.0.images t.0.snapshots is is.requests (each_bound (IsReplyInForm P) t.0.replies bind t.2 is.replies makes.1) is.images is.snapshots
 
   bound_image : (t : Sent Store) (bind : Name) → MakesInForm P (IsImageInForm P) t → IsWorldInForm P (record t.0 { images = bound t.0.images bind t.2 })
-  bound_image t bind makes = record {
-    time = makes.0.time;
-    replicas = makes.0.replicas;
-    requests = makes.0.requests;
-    replies = makes.0.replies;
-    images = each_bound (IsImageInForm P) t.0.images bind t.2 makes.0.images makes.1;
-    snapshots = makes.0.snapshots;
-  }
+  bound_image t bind makes = let is = makes.0 in
+      with_bound t.0 t.0.requests t.0.replies (bound t.0.images bind t.2) t.0.snapshots is is.requests is.replies (each_bound (IsImageInForm P) t.0.images bind t.2 is.images makes.1) is.snapshots
 
   bound_snapshot : (t : Sent Snapshot) (bind : Name) → MakesInForm P (λ (s : Snapshot). IsInForm P s.state) t → IsWorldInForm P (record t.0 { snapshots = bound t.0.snapshots bind t.2 })
-  bound_snapshot t bind makes = record {
-    time = makes.0.time;
-    replicas = makes.0.replicas;
-    requests = makes.0.requests;
-    replies = makes.0.replies;
-    images = makes.0.images;
-    snapshots = each_bound (λ (s : Snapshot). IsInForm P s.state) t.0.snapshots bind t.2 makes.0.snapshots makes.1;
-  }
+  bound_snapshot t bind makes = let is = makes.0 in
+      with_bound t.0 t.0.requests t.0.replies t.0.images (bound t.0.snapshots bind t.2) is is.requests is.replies is.images
+      (each_bound (λ (s : Snapshot). IsInForm P s.state) t.0.snapshots bind t.2 is.snapshots makes.1)
 
   -- ---- lines
 

@@ -28,11 +28,11 @@ octets_long : (bytes : List ℕ) → length (octets bytes) ≡ 2 + length bytes
 unfolding octets u16
 octets_long bytes = omega arith
 
-oid_long : (o : Oid) → IsOid o → length (oid o) ≡ 40
+pub oid_long : (o : Oid) → IsOid o → length (oid o) ≡ 40
 unfolding u64
 oid_long o q = simp length-append (omega arith)
 
-stamp_long : (s : Stamp) → IsStamp s → length (stamp s) ≡ 36
+pub stamp_long : (s : Stamp) → IsStamp s → length (stamp s) ≡ 36
 unfolding u32 u64
 stamp_long s q = simp length-append (omega arith)
 
@@ -82,11 +82,11 @@ object_long x q =
 
 -- ---- links
 
-link_key_long : (k : LinkKey) → IsOid k.from → IsOid k.to → length (link_key k) ≡ 82
+pub link_key_long : (k : LinkKey) → IsOid k.from → IsOid k.to → length (link_key k) ≡ 82
 unfolding u16
 link_key_long k from to = omega (arith, length-append (oid k.from) (u16 k.attr ++ oid k.to), oid_long k.from from, oid_long k.to to)
 
-link_stamp_long : (s : LinkStamp) → IsStamp s.stamp → length (link_stamp s) ≡ 44
+pub link_stamp_long : (s : LinkStamp) → IsStamp s.stamp → length (link_stamp s) ≡ 44
 unfolding u64
 link_stamp_long s q = omega (arith, stamp_long s.stamp q)
 

@@ -63,23 +63,22 @@ links_take_usns s now usn [] x m = absurd m
 links_take_usns s now usn (l ∷ ls) x (inl e) = let local : x.local ≡ usn = ap (λ (y : Written). y.local) e in (omega (arith, local), omega (arith, local))
 links_take_usns s now usn (l ∷ ls) x (inr m) = let t = links_take_usns s now (usn + 1) ls x m in (omega (arith, t.0), omega (arith, t.1))
 
+more_so : (s : State) (w : Write) (now : ℕ) → Each (λ (x : Written). AreOwn s x × (s.store.usn + 2 ≤ x.local) × (x.local + 1 ≤ s.store.usn + 2 + length (more_written s w now))) (more_written s w now)
+more_so s (AddObject guid class parent text values) now x m = absurd m
+more_so s (Modify guid values) now x m = absurd m
+more_so s (Rename guid parent text) now x m = absurd m
+more_so s (Delete guid) now x m = absurd m
+more_so s (AddLink from attr to) now x m = absurd m
+more_so s (RemoveLink from attr to) now x m = absurd m
+more_so s (Revive image guid parent text) now x m =
+    let t = links_take_usns s now (s.store.usn + 2) (links_revived s image guid) x m in
+    (links_are_own s now (s.store.usn + 2) (links_revived s image guid) x m, t.0, t.1)
+
 more_are_own : (s : State) (w : Write) (now : ℕ) → Each (AreOwn s) (more_written s w now)
-more_are_own s (AddObject guid class parent text values) now x m = absurd m
-more_are_own s (Modify guid values) now x m = absurd m
-more_are_own s (Rename guid parent text) now x m = absurd m
-more_are_own s (Delete guid) now x m = absurd m
-more_are_own s (AddLink from attr to) now x m = absurd m
-more_are_own s (RemoveLink from attr to) now x m = absurd m
-more_are_own s (Revive image guid parent text) now x m = links_are_own s now (s.store.usn + 2) (links_revived s image guid) x m
+more_are_own s w now x m = (more_so s w now x m).0
 
 more_take_usns : (s : State) (w : Write) (now : ℕ) → Each (λ (x : Written). (s.store.usn + 2 ≤ x.local) × (x.local + 1 ≤ s.store.usn + 2 + length (more_written s w now))) (more_written s w now)
-more_take_usns s (AddObject guid class parent text values) now x m = absurd m
-more_take_usns s (Modify guid values) now x m = absurd m
-more_take_usns s (Rename guid parent text) now x m = absurd m
-more_take_usns s (Delete guid) now x m = absurd m
-more_take_usns s (AddLink from attr to) now x m = absurd m
-more_take_usns s (RemoveLink from attr to) now x m = absurd m
-more_take_usns s (Revive image guid parent text) now x m = links_take_usns s now (s.store.usn + 2) (links_revived s image guid) x m
+more_take_usns s w now x m = let t = more_so s w now x m in (t.1, t.2)
 
 pub items_are_own : (s : State) (w : Write) (now : ℕ) → Each (λ (x : Written). Each (λ u. (inv_of u ≡ s.inv) × (usn_of u ≡ x.local)) x.item.rows) (items_written s w now)
 items_are_own s w now x (inl e) = subst (AreOwn s) (sym e) (written_is_own s w now)

@@ -5,14 +5,15 @@ use Rattle.adr_stamp.specs.declared.LinkKey.{LinkKey}
 use Rattle.adr_model.specs.Member.{Member, Each}
 use Rattle.adr_model.specs.Update.{Identifier, RowOf, LinkOf, IsPresent, Update, deleted_attr}
 use Rattle.adr_model.specs.Store.{Held, Store, State, updates_of}
-use Rattle.adr_model.specs.Change.{held_of, rows_after, after}
+use Rattle.adr_model.specs.Change.{held_of, rows_after}
 use Rattle.adr_model.specs.Formed.{IsFormedStore, IsFormed}
-use Rattle.adr_model.specs.Write.{Write, Revive, new_object, links_revived, revive_refusal, link_row as row_of_link, new_links, rows_written, more_written, items_written, own_change}
+use Rattle.adr_model.specs.Write.{Revive, revive_refusal, link_row as row_of_link, new_links, rows_written, more_written}
 use Rattle.adr_law_steps.specs.Puts.{held_at, IsReplaced, IsStripped}
 use Rattle.adr_law_steps.proofs.Rows.{held_as, updated}
 use Rattle.adr_law_calls.proofs.InTurn.{rows_in_turn}
 use Rattle.adr_law_calls.proofs.PutForms.{whence_update}
-use Rattle.adr_law_calls.proofs.Reviving.{MayRelink, AreApart, item, next, are, rest, absent, apart, first, one, placed, of_new, no_new_death, may_relink_all}
+use Rattle.adr_law_calls.proofs.Reviving.{MayRelink, AreApart, item, next, are, rest, absent, apart, one, placed, of_new, no_new_death, may_relink_all}
+use Rattle.adr_law_revived.proofs.Revival.{revival}
 
 -- ---- links, one after the other
 
@@ -86,26 +87,10 @@ module _ (s : State) (now : ℕ) where
 -- ---- a revival
 
 module _ (s : State) (formed : IsFormed s) (image : Store) (guid parent : Identifier) (text : List ℕ) (given : IsFormedStore image) (none : revive_refusal s image guid parent text ≡ None) (now : ℕ) where
-  abbrev held : List Update
-  held = updates_of s.store.rows
-
-  abbrev o : Oid
-  o = new_object s guid
-
-  abbrev come : List LinkKey
-  come = links_revived s image guid
+  open (revival s formed image guid parent text given none now) use {held, o, come, new_rows, behind}
 
   abbrev t : State
   t = one s formed image guid parent text given none now
-
-  abbrev new_rows : List Update
-  new_rows = (first s formed image guid parent text given none now).rows
-
-  abbrev what : Write
-  what = Revive image guid parent text
-
-  abbrev behind : State
-  behind = after s (own_change s (items_written s what now))
 
   abbrev all : List Update
   all = updates_of behind.store.rows
@@ -121,7 +106,7 @@ module _ (s : State) (formed : IsFormed s) (image : Store) (guid parent : Identi
 
   with_links : AreWith come (updates_of t.store.rows) all
   with_links = subst (λ (hs : List Held). AreWith come (updates_of t.store.rows) (updates_of hs))
-      (sym (rows_in_turn s formed (record { local = s.store.usn + 1; item = rows_written s what now }) (more_written s what now) refl))
+      (sym (rows_in_turn s formed (record { local = s.store.usn + 1; item = rows_written s (Revive image guid parent text) now }) (more_written s (Revive image guid parent text) now) refl))
       (links_with s now t come (s.store.usn + 2) (omega arith) (apart s formed image guid parent text given none) (may_relink_all s formed image guid parent text given none now))
 
   pub held_stays : Each (λ u. Member u all) held

@@ -1,5 +1,6 @@
 pub mod Living
 pub mod Revived
+pub mod Revival
 pub mod Behind
 pub mod Newly
 pub mod Loopless

@@ -1,15 +1,13 @@
 -- Behind a revival the new object shows the links that came with it, and every other object the links to others that it showed.
-use Rattle.std.proofs.Common.{◌≡◌, ◌⊎◌, inl, inr, ⊎_elim, ℕ, List, [], Bool, true, false, Option, Some, None, refl, sym, ap, ◌∙◌, subst, filter_map, flat_map, if◌then◌else◌}
+use Rattle.std.proofs.Common.{◌≡◌, ◌⊎◌, inl, inr, ⊎_elim, ℕ, List, [], Bool, true, false, Option, Some, None, refl, sym, ap, ◌∙◌, subst, filter_map, flat_map}
 use Rattle.std.specs.Bool.{then_some}
 use Rattle.std.specs.List.{list_any}
-use Rattle.std.specs.Option.{option_map, option_and_then}
+use Rattle.std.specs.Option.{option_and_then}
 use Rattle.adr_stamp.specs.Order.{link_order}
 use Rattle.adr_stamp.specs.contracts.LinkKeyOrd.TheImpl.Laws.{total-law as links_total}
 use Rattle.adr_stamp.proofs.Exact.{exact_links}
 use Rattle.adr_stamp.specs.declared.Oid.{Oid}
 use Rattle.adr_stamp.specs.declared.LinkKey.{LinkKey}
-use Rattle.adr_schema.specs.declared.table.Kind.{Kind}
-use Rattle.adr_schema.specs.declared.table.Kind.TheVariants.{Reserved, Plain, Forward, Back}
 use Rattle.adr_schema.specs.Table.{kind_at}
 use Rattle.adr_schema.specs.Schemas.{newest}
 use Rattle.adr_schema.specs.Numbered.{numbered}
@@ -20,9 +18,8 @@ use Rattle.adr_model.specs.Live.{live_rows}
 use Rattle.adr_model.specs.Place.{Node, node_at}
 use Rattle.adr_model.specs.Directory.{link_ends, links_at}
 use Rattle.adr_model.specs.Store.{Held, Store, State, updates_of}
-use Rattle.adr_model.specs.Change.{after}
 use Rattle.adr_model.specs.Formed.{IsFormedStore, IsFormed}
-use Rattle.adr_model.specs.Write.{Revive, new_object, entry_in, other_end, link_at, is_link_of, link_revived, links_revived, names_object, revive_refusals, revive_refusal, items_written, own_change}
+use Rattle.adr_model.specs.Write.{new_object, entry_in, other_end, link_at, is_link_of, link_revived, links_revived, names_object, revive_refusals, revive_refusal}
 use Rattle.adr_model.proofs.Members.{each_fails, flat_member, member_flat, of_filter_map, one_passes}
 use Rattle.adr_law_knowledge.proofs.Comparing.{objects_same}
 use Rattle.adr_law_knowledge.proofs.Lists.{of_sorted}
@@ -31,12 +28,14 @@ use Rattle.adr_law_steps.proofs.Rows.{held_as}
 use Rattle.adr_law_steps.proofs.Rising.{one_update}
 use Rattle.adr_law_calls.proofs.Nodes.{of_live_rows}
 use Rattle.adr_law_calls.proofs.Refusals.{not_so}
+use Rattle.adr_law_calls.proofs.Reviving.{end_told, link_is}
 use Rattle.adr_law_tree.specs.Breaker.{AreMore}
 use Rattle.adr_law_tree.proofs.Fuel.{one_or_not, itself}
 use Rattle.adr_law_tree.proofs.InOrder.{order_law}
 use Rattle.adr_law_tree.proofs.RisingRows.{rising_updates}
 use Rattle.adr_law_tree.proofs.Names.{at_member, member_at}
 use Rattle.adr_law_revived.specs.Revived.{nodes_in, revived_node, links_to_others, links_shown}
+use Rattle.adr_law_revived.proofs.Revival.{revival}
 use Rattle.adr_law_revived.proofs.Behind.{IsOfLinks, SaysLink, link_row, held_stays, link_comes}
 use Rattle.adr_law_revived.proofs.Ends.{IsShownBy, shown_by, own_end, other_end_there, Lives, row_lives, ends_live}
 use Rattle.adr_law_revived.proofs.Gathered.{AreIn, AreOthers, one_list, gathered_so, others_so}
@@ -57,28 +56,10 @@ module _ (s : State) (o : Oid) (class : ℕ) where
     own : Member o (ends (LinkOf l))
 
   end_is : (g : Identifier) (p : Oid) → other_end nodes o g ≡ Some p → IsEnd p
-  end_is g p e = by (same_identifier g o.guid) (node_at nodes g) refl e
-    where
-      by : (b : Bool) (n : Option Node) → node_at nodes g ≡ n → (if b then Some o else option_map (λ (n : Node). n.object) n) ≡ Some p → IsEnd p
-      by true n is h = let same : o ≡ p = cc in inl (sym same)
-      by false None is h = absurd (cc)
-      by false (Some n) is h = let same : n.object ≡ p = cc in inr (n, member_at nodes g n is, same)
+  end_is g p e = ⊎_elim (λ is. inl is) (λ t. inr (t.0, member_at nodes g t.0 t.1, t.2)) (end_told nodes o g p e)
 
-  both_ends : (l : LinkKey) → IsEnd l.from → IsEnd l.to → Each IsEnd (ends (LinkOf l))
-  both_ends l from to p (inl e) = subst IsEnd (sym e) from
-  both_ends l from to p (inr (inl e)) = subst IsEnd (sym e) to
-  both_ends l from to p (inr (inr m)) = absurd m
-
-  link_is : (kind : Option Kind) (attr : ℕ) (p : Oid) (l : LinkKey) → IsEnd p → link_at kind attr o p ≡ Some l → IsRelinked l
-  link_is (Some (Forward back)) attr p l is e =
-      let same : record { from = o; attr = attr; to = p } ≡ l = cc in
-      subst IsRelinked same (record { of_ends = both_ends (record { from = o; attr = attr; to = p }) (inl refl) is; own = inl refl })
-  link_is (Some (Back forward)) attr p l is e =
-      let same : record { from = p; attr = forward; to = o } ≡ l = cc in
-      subst IsRelinked same (record { of_ends = both_ends (record { from = p; attr = forward; to = o }) is (inl refl); own = inr (inl refl) })
-  link_is (Some Reserved) attr p l is e = absurd (cc)
-  link_is (Some (Plain syntax most)) attr p l is e = absurd (cc)
-  link_is None attr p l is e = absurd (cc)
+  comes : (attr : ℕ) (p : Oid) (l : LinkKey) → IsEnd p → link_at (kind_at newest attr) attr o p ≡ Some l → IsRelinked l
+  comes attr p l is e = let t = link_is IsEnd o (inl refl) (kind_at newest attr) attr p l is e in record { of_ends = t.0; own = t.1 }
 
   tested : (b : Bool) (k l : LinkKey) → then_some b k ≡ Some l → k ≡ l
   tested true k l e = let same : k ≡ l = cc in same
@@ -89,7 +70,7 @@ module _ (s : State) (o : Oid) (class : ℕ) where
     where
       on : (p : Oid) → IsEnd p → (k : Option LinkKey) → link_at (kind_at newest attr) attr o p ≡ k → option_and_then (λ (k : LinkKey). then_some (is_link_of s o class k) k) k ≡ Some l → IsRelinked l
       on p is None at e = absurd (cc)
-      on p is (Some k) at e = subst IsRelinked (tested (is_link_of s o class k) k l e) (link_is (kind_at newest attr) attr p k is at)
+      on p is (Some k) at e = subst IsRelinked (tested (is_link_of s o class k) k l e) (comes attr p k is at)
 
       by : (p : Option Oid) → other_end nodes o g ≡ p
           → option_and_then (λ (k : LinkKey). then_some (is_link_of s o class k) k) (option_and_then (link_at (kind_at newest attr) attr o) p) ≡ Some l → IsRelinked l
@@ -110,17 +91,7 @@ each_relinked s image guid l m =
 -- ---- a revival
 
 module _ (s : State) (formed : IsFormed s) (image : Store) (guid parent : Identifier) (text : List ℕ) (given : IsFormedStore image) (none : revive_refusal s image guid parent text ≡ None) (now : ℕ) where
-  abbrev held : List Update
-  held = updates_of s.store.rows
-
-  abbrev o : Oid
-  o = new_object s guid
-
-  abbrev come : List LinkKey
-  come = links_revived s image guid
-
-  abbrev behind : State
-  behind = after s (own_change s (items_written s (Revive image guid parent text) now))
+  open (revival s formed image guid parent text given none now) use {held, o, come, behind}
 
   abbrev all : List Update
   all = updates_of behind.store.rows

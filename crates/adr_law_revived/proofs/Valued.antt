@@ -18,11 +18,11 @@ use Rattle.adr_model.specs.Store.{State, updates_of, Store}
 use Rattle.adr_model.specs.Change.{Change, after}
 use Rattle.adr_model.specs.Formed.{AreFormedRows, IsFormedStore, IsFormed}
 use Rattle.adr_model.specs.Given.{AreInOrder}
-use Rattle.adr_model.specs.Write.{nodes_held, Write, Revive, new_object, first_stamp, row, entry_in, items_written, own_change, write_refusal, revive_refusal}
+use Rattle.adr_model.specs.Write.{nodes_held, Revive, new_object, first_stamp, row, entry_in, items_written, own_change, write_refusal, revive_refusal}
 use Rattle.adr_law_knowledge.specs.Rises.{Rises}
 use Rattle.adr_law_knowledge.proofs.Lists.{same_members_one_list}
 use Rattle.adr_law_calls.proofs.Shown.{IsShown, shown, row_is_shown}
-use Rattle.adr_law_calls.proofs.Reviving.{absent, first, of_new}
+use Rattle.adr_law_calls.proofs.Reviving.{absent, of_new}
 use Rattle.adr_schema.specs.declared.content.Content.TheVariants.{Class, Name, Values}
 use Rattle.adr_schema.specs.Numbered.{numbered}
 use Rattle.adr_call.specs.declared.directory.Entry.{Entry}
@@ -37,6 +37,7 @@ use Rattle.adr_law_tree.proofs.RisingRows.{rising_updates}
 use Rattle.adr_law_tree.proofs.Names.{at_member, member_at}
 use Rattle.adr_law_formed.proofs.Relinked.{live_values_rise, shown_in_order, some_values_shown}
 use Rattle.adr_law_revived.specs.Revived.{nodes_in, revived_node, values_shown, ValuesAreThose}
+use Rattle.adr_law_revived.proofs.Revival.{revival}
 use Rattle.adr_law_revived.proofs.Behind.{object_row, held_stays, new_stays}
 use Rattle.adr_law_revived.proofs.Newly.{one_more}
 use Rattle.adr_law_revived.proofs.Placed.{formed_behind}
@@ -85,20 +86,7 @@ pub not_either : (b : Bool) → b ≡ true → b ≡ false → ⊥
 not_either b e f = absurd (cc)
 
 module _ (s : State) (formed : IsFormed s) (image : Store) (guid parent : Identifier) (text : List ℕ) (given : IsFormedStore image) (none : revive_refusal s image guid parent text ≡ None) (now : ℕ) where
-  abbrev held : List Update
-  held = updates_of s.store.rows
-
-  abbrev o : Oid
-  o = new_object s guid
-
-  abbrev new_rows : List Update
-  new_rows = (first s formed image guid parent text given none now).rows
-
-  abbrev what : Write
-  what = Revive image guid parent text
-
-  abbrev behind : State
-  behind = after s (own_change s (items_written s what now))
+  open (revival s formed image guid parent text given none now) use {held, o, new_rows, behind}
 
   abbrev rows : List Update
   rows = updates_of behind.store.rows

@@ -37,42 +37,37 @@ FoundAmong rs name r = find (λ (x : Replica). bytes_eq x.name name) rs ≡ Some
 pub found_named : (rs : List Replica) (name : Name) (r : Replica) → FoundAmong rs name r → r.name ≡ name
 found_named rs name r h = named r.name name (found_member (λ (x : Replica). bytes_eq x.name name) rs r h).1
 
+-- who is found among controllers of which one was put in place, by whether it was the first
+module _ (x new : Replica) (xs : List Replica) (name : Name) where
+  abbrev rest : Option Replica
+  rest = find (λ (y : Replica). bytes_eq y.name name) (with_replica xs new)
+
+  here : (b : Bool) → bytes_eq x.name new.name ≡ b → cond (bytes_eq (cond (bytes_eq x.name new.name) new x).name name) (Some (cond (bytes_eq x.name new.name) new x)) rest
+      ≡ cond (bytes_eq (cond b new x).name name) (Some (cond b new x)) rest
+  here b e = ap (λ c. cond (bytes_eq (cond c new x).name name) (Some (cond c new x)) rest) e
+
 -- the first of the name is replaced by a new one of that name
 pub replaced : (rs : List Replica) (new r : Replica) (name : Name) → new.name ≡ name → FoundAmong rs name r → FoundAmong (with_replica rs new) name new
 replaced [] new r name is h = absurd (cc)
 replaced (x ∷ xs) new r name is h = by (bytes_eq x.name name) refl h (λ f. replaced xs new r name is f)
   where
-    rest : Option Replica
-    rest = find (λ (y : Replica). bytes_eq y.name name) (with_replica xs new)
-
-    here : (b : Bool) → bytes_eq x.name new.name ≡ b → cond (bytes_eq (cond (bytes_eq x.name new.name) new x).name name) (Some (cond (bytes_eq x.name new.name) new x)) rest
-        ≡ cond (bytes_eq (cond b new x).name name) (Some (cond b new x)) rest
-    here b e = ap (λ c. cond (bytes_eq (cond c new x).name name) (Some (cond c new x)) rest) e
-
     by : (b : Bool) → bytes_eq x.name name ≡ b → cond b (Some x) (find (λ (y : Replica). bytes_eq y.name name) xs) ≡ Some r
         → (FoundAmong xs name r → FoundAmong (with_replica xs new) name new)
         → FoundAmong (with_replica (x ∷ xs) new) name new
-    by true e f next = here true (ap (bytes_eq x.name) is ∙ e) ∙ ap (λ b. cond b (Some new) rest) (named_tests new.name name is)
-    by false e f next = here false (ap (bytes_eq x.name) is ∙ e) ∙ (ap (λ b. cond b (Some x) rest) e ∙ next f)
+    by true e f next = here x new xs name true (ap (bytes_eq x.name) is ∙ e) ∙ ap (λ b. cond b (Some new) (rest x new xs name)) (named_tests new.name name is)
+    by false e f next = here x new xs name false (ap (bytes_eq x.name) is ∙ e) ∙ (ap (λ b. cond b (Some x) (rest x new xs name)) e ∙ next f)
 
 -- who is found stays so where another one is replaced
 pub spared : (rs : List Replica) (new r : Replica) (name : Name) → new.name ≢ name → FoundAmong rs name r → FoundAmong (with_replica rs new) name r
 spared [] new r name differ h = absurd (cc)
 spared (x ∷ xs) new r name differ h = by (bytes_eq x.name new.name) refl (bytes_eq x.name name) refl h (λ f. spared xs new r name differ f)
   where
-    rest : Option Replica
-    rest = find (λ (y : Replica). bytes_eq y.name name) (with_replica xs new)
-
-    here : (b : Bool) → bytes_eq x.name new.name ≡ b → cond (bytes_eq (cond (bytes_eq x.name new.name) new x).name name) (Some (cond (bytes_eq x.name new.name) new x)) rest
-        ≡ cond (bytes_eq (cond b new x).name name) (Some (cond b new x)) rest
-    here b e = ap (λ c. cond (bytes_eq (cond c new x).name name) (Some (cond c new x)) rest) e
-
     by : (c : Bool) → bytes_eq x.name new.name ≡ c → (b : Bool) → bytes_eq x.name name ≡ b → cond b (Some x) (find (λ (y : Replica). bytes_eq y.name name) xs) ≡ Some r
         → (FoundAmong xs name r → FoundAmong (with_replica xs new) name r) → FoundAmong (with_replica (x ∷ xs) new) name r
     by true d true e f next = absurd (differ (sym (named x.name new.name d) ∙ named x.name name e))
-    by true d false e f next = here true d ∙ (ap (λ b. cond b (Some new) rest) (others_differ new.name name differ) ∙ next f)
-    by false d true e f next = here false d ∙ (ap (λ b. cond b (Some x) rest) e ∙ f)
-    by false d false e f next = here false d ∙ (ap (λ b. cond b (Some x) rest) e ∙ next f)
+    by true d false e f next = here x new xs name true d ∙ (ap (λ b. cond b (Some new) (rest x new xs name)) (others_differ new.name name differ) ∙ next f)
+    by false d true e f next = here x new xs name false d ∙ (ap (λ b. cond b (Some x) (rest x new xs name)) e ∙ f)
+    by false d false e f next = here x new xs name false d ∙ (ap (λ b. cond b (Some x) (rest x new xs name)) e ∙ next f)
 
 -- and where others come behind
 pub first_stays : (rs more : List Replica) (r : Replica) (name : Name) → FoundAmong rs name r → FoundAmong (rs ++ more) name r

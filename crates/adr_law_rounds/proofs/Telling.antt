@@ -103,7 +103,7 @@ pulls_in_ring first others x (inl e) = (last_of first others, inl (ap (λ (n : N
 pulls_in_ring first others x (inr m) = let t = pulls_in_line first others x m in (t.0, inr t.1)
 
 -- of this name there is one, and it is up
-abbrev IsUp : World → Name → Type 0
+abbrev pub IsUp : World → Name → Type 0
 IsUp w x = (r : Replica) × Member r w.replicas × (r.name ≡ x) × (r.standing ≡ Up)
 
 up_behind : (w v : World) (dest source : Name) (c : IsCycled w v dest source) (x : Name) → IsUp w x → IsUp v x
@@ -118,7 +118,7 @@ still_up : (xs : List Exchange) (w : World) → IsSoundWorld w → AreWhole w xs
 still_up [] w sound whole x up = up
 still_up (y ∷ ys) w sound whole x up = let c = cycled w sound y whole.0 in still_up ys (step w (line_of y)).0 c.sound whole.1 x (up_behind w (step w (line_of y)).0 y.dest y.source c x up)
 
-pulled_is_up : (xs : List Exchange) (w : World) → IsSoundWorld w → AreWhole w xs → (x : Exchange) → Member x xs → IsUp (behind_exchanges w xs) x.dest
+pub pulled_is_up : (xs : List Exchange) (w : World) → IsSoundWorld w → AreWhole w xs → (x : Exchange) → Member x xs → IsUp (behind_exchanges w xs) x.dest
 pulled_is_up [] w sound whole x m = absurd m
 pulled_is_up (y ∷ ys) w sound whole x (inl e) = let c = cycled w sound y whole.0 in
     subst (λ (z : Exchange). IsUp (behind_exchanges w (y ∷ ys)) z.dest) (sym e) (still_up ys (step w (line_of y)).0 c.sound whole.1 y.dest (c.n, c.beside.there, c.beside.name, c.up))
@@ -133,7 +133,7 @@ shown_is_held v sound r m =
 
 module _ (v : World) (sound : IsSoundWorld v) (first : Name) (others : List Name) where
   -- each of them is up
-  abbrev AreUp : Type 0
+  abbrev pub AreUp : Type 0
   AreUp = Each (λ x. IsUp v x) (first ∷ others)
 
   -- what is told of one of them
@@ -142,7 +142,7 @@ module _ (v : World) (sound : IsSoundWorld v) (first : Name) (others : List Name
       ap (option_and_then (λ (r : Replica). where_standing r.standing (tell r.safe))) (subst (λ n. replica_at v n ≡ Some q) e (found_by_name v q sound m))
       ∙ ap (λ s. where_standing s (tell q.safe)) up
 
-  directories_alike : AreUp → ShowTheSame (first ∷ others) v → show_alike v (first ∷ others) ≡ true
+  pub directories_alike : AreUp → ShowTheSame (first ∷ others) v → show_alike v (first ∷ others) ≡ true
   directories_alike there same = alike_where_equal (pointwise same_entry) (pointwise_decides entry-Decides) (told_of v (shown v)) first others equal
     where
       f : IsUp v first

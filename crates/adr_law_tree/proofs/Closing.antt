@@ -139,27 +139,21 @@ module _ (at more : Look) (x : Node) (is : IsMore at more x) (stop : Node → Bo
       apart b c (is_found more is.keeps_more p.1.0 x.parent b p.1.1) (is_found more is.keeps_more q.1.0 x.parent c q.1.1) (p.2 c q.1) (q.2 b p.1)
 
 pub closing_law : ClosingLaw
-closing_law all x more is x_free left enough = by (closing F (breaks_loop all) x.object.guid left x.parent x) refl (loop_breaker more x) (closed all x more is)
+closing_law all x more is x_free left enough = by (closing (free all) (breaks_loop all) x.object.guid left x.parent x) refl (loop_breaker more x) (closed all x more is)
   where
-    F : Look
-    F = free all
-
-    G : Look
-    G = free more
-
-    m : IsMore F G x
+    m : IsMore (free all) (free more) x
     m = as_more all x more is x_free
 
-    own : (p : Node) → F p.object.guid ≡ Some p → breaks_loop all p ≡ true → Met G p.parent x → ⊥
-    own p here e up = loop_apart F G x m p (breaks all p (own_of all p (found_free all p.object.guid p here)) e).0 up
+    own : (p : Node) → free all p.object.guid ≡ Some p → breaks_loop all p ≡ true → Met (free more) p.parent x → ⊥
+    own p here e up = loop_apart (free all) (free more) x m p (breaks all p (own_of all p (found_free all p.object.guid p here)) e).0 up
 
-    by : (o : Option Node) → closing F (breaks_loop all) x.object.guid left x.parent x ≡ o → (r : Option Node) → ClosedBy G x r → o ≡ r
+    by : (o : Option Node) → closing (free all) (breaks_loop all) x.object.guid left x.parent x ≡ o → (r : Option Node) → ClosedBy (free more) x r → o ≡ r
     by None e None c = refl
-    by (Some b) e (Some d) c = ap Some (same_closer F G x m (breaks_loop all) (told_apart more) b d (answer F G x m (breaks_loop all) left b e) c)
-    by (Some b) e None c = absurd (c (answer F G x m (breaks_loop all) left b e).0)
+    by (Some b) e (Some d) c = ap Some (same_closer (free all) (free more) x m (breaks_loop all) (told_apart more) b d (answer (free all) (free more) x m (breaks_loop all) left b e) c)
+    by (Some b) e None c = absurd (c (answer (free all) (free more) x m (breaks_loop all) left b e).0)
     by None e (Some d) c =
         let t = within_free left more enough x.parent x c.0 in
-        absurd (reaches F G x m (breaks_loop all) own left t.0 x.parent x t.1 t.2 e)
+        absurd (reaches (free all) (free more) x m (breaks_loop all) own left t.0 x.parent x t.1 t.2 e)
 
 pub never_law : NeverLaw
 never_law all x fixed = by (loop_breaker all x) (closed_by all x (λ m e. let none : free all x.object.guid ≡ None = fixed_of all x.object.guid fixed in cc))

@@ -28,9 +28,9 @@ key_of_guid : (g : Identifier) (k : Key) (o : Oid) (a : ℕ) → same_key k (Row
 key_of_guid g k o a same is = ap (is_of_guid g) (exact_keys k (RowOf o a) (equal_order (key_order k (RowOf o a)) same)) ∙ is
 
 -- the winner of a key
-winner_kept : (q : Update → Bool) (key : Key) → ((u : Update) → same_key u.key key ≡ true → q u ≡ true) → (us : List Update) → winner (filter q us) key ≡ winner us key
-winner_kept q key to [] = refl
-winner_kept q key to (u ∷ us) = by (q u) refl (same_key u.key key) refl (winner_kept q key to us)
+pub winner_of_kept : (q : Update → Bool) (key : Key) → ((u : Update) → same_key u.key key ≡ true → q u ≡ true) → (us : List Update) → winner (filter q us) key ≡ winner us key
+winner_of_kept q key to [] = refl
+winner_of_kept q key to (u ∷ us) = by (q u) refl (same_key u.key key) refl (winner_of_kept q key to us)
   where
     by : (b : Bool) → q u ≡ b → (c : Bool) → same_key u.key key ≡ c → winner (filter q us) key ≡ winner us key
         → winner (cond b (u ∷ filter q us) (filter q us)) key ≡ or_younger c u (winner us key)
@@ -105,7 +105,7 @@ module _ (g : Identifier) where
         ∙ sym (any_of_filter t (λ o. not (list_any (is_death_of o) us)) (objects_of us))
 
     class_of_kept : (o : Oid) → mine o ≡ true → winner (filter of us) (RowOf o class_attr) ≡ winner us (RowOf o class_attr)
-    class_of_kept o is = winner_kept of (RowOf o class_attr) (λ u same. key_of_guid g u.key o class_attr same is) us
+    class_of_kept o is = winner_of_kept of (RowOf o class_attr) (λ u same. key_of_guid g u.key o class_attr same is) us
 
     yields_kept : (o p : Oid) → mine o ≡ true → mine p ≡ true → yields_to (filter of us) o p ≡ yields_to us o p
     yields_kept o p is also = rw (class_of_kept o is, class_of_kept p also)

@@ -1,5 +1,5 @@
 -- Live objects are decided by class, name and death rows.
-use Rattle.std.proofs.Common.{◌≡◌, ℕ, arith, Bool, true, false, cond, not, ◌&&◌, List, [], ◌∷◌, Some, None, refl, sym, ap, ap₂, ◌∙◌, map, filter, ◌==◌}
+use Rattle.std.proofs.Common.{◌≡◌, ℕ, arith, Bool, true, false, not, ◌&&◌, List, Some, None, refl, sym, ap, ◌∙◌, map, filter, ◌==◌}
 use Rattle.std.specs.Prelude.{if◌then◌else◌, nat_lt}
 use Rattle.std.specs.List.{list_any, list_all}
 use Rattle.std.specs.List.Sorted.{IsStrictlySortedBy}
@@ -8,7 +8,7 @@ use Rattle.std.proofs.lemmas.Map.Views.{any-filter_same}
 use Rattle.adr_stamp.specs.declared.Oid.{Oid}
 use Rattle.adr_schema.specs.declared.content.Content.TheVariants.{Class, Name, Dead, Values}
 use Rattle.adr_model.specs.Update.{Key, RowOf, LinkOf, Said, Holds, IsPresent, Update, same_identifier, same_key, key_order, class_attr, name_attr, deleted_attr, is_death_of, ends}
-use Rattle.adr_model.specs.Winner.{winner, winners, or_younger}
+use Rattle.adr_model.specs.Winner.{winner, winners}
 use Rattle.adr_model.specs.Live.{born, objects_of, standing, yields_to, unyielding, live, is_among, live_rows}
 use Rattle.adr_model.specs.Place.{row_at, with_name, node_of, nodes_of}
 use Rattle.adr_model.specs.Write.{nodes_held}
@@ -17,6 +17,7 @@ use Rattle.adr_law_knowledge.proofs.Counting.{filtered_rise}
 use Rattle.adr_law_knowledge.proofs.Filters.{filters_turn, givers_kept}
 use Rattle.adr_law_knowledge.proofs.Lists.{same_filter}
 use Rattle.adr_law_tree.proofs.Kept.{any_alike, filter_maps_alike, find_kept}
+use Rattle.adr_law_tree.proofs.Local.{winner_of_kept}
 use Rattle.adr_law_tree.proofs.RisingRows.{rising_win}
 use Rattle.adr_live.specs.Core.{is_core}
 
@@ -54,16 +55,6 @@ no_node rows (RowOf o attr) (Holds (Values vs)) far = refl
 no_node rows (RowOf o attr) (IsPresent b) far = refl
 no_node rows (LinkOf l) said far = refl
 
-winner_kept : (key : Key) → ((u : Update) → same_key u.key key ≡ true → core u ≡ true) → (us : List Update) → winner (filter core us) key ≡ winner us key
-winner_kept key to [] = refl
-winner_kept key to (u ∷ us) = by (core u) refl (same_key u.key key) refl (winner_kept key to us)
-  where
-    by : (b : Bool) → core u ≡ b → (c : Bool) → same_key u.key key ≡ c → winner (filter core us) key ≡ winner us key
-        → winner (cond b (u ∷ filter core us) (filter core us)) key ≡ or_younger c u (winner us key)
-    by true is c e rest = ap₂ (λ d o. or_younger d u o) e rest
-    by false is true e rest = let k : core u ≡ true = to u e in cc
-    by false is false e rest = rest
-
 objects_kept : (us : List Update) → objects_of (filter core us) ≡ objects_of us
 objects_kept us = rw (givers_kept (λ (u : Update). born u.key) core none_born us) refl
 
@@ -73,7 +64,7 @@ standing_kept us =
     ∙ ap (filter (λ o. not (list_any (is_death_of o) us))) (objects_kept us)
 
 class_kept : (us : List Update) (o : Oid) → winner (filter core us) (RowOf o class_attr) ≡ winner us (RowOf o class_attr)
-class_kept us o = winner_kept (RowOf o class_attr) (λ u same. core_at u o class_attr refl same) us
+class_kept us o = winner_of_kept core (RowOf o class_attr) (λ u same. core_at u o class_attr refl same) us
 
 yields_kept : (us : List Update) (o p : Oid) → yields_to (filter core us) o p ≡ yields_to us o p
 yields_kept us o p = rw (class_kept us o, class_kept us p) refl

@@ -1,17 +1,20 @@
 -- What a command leaves of one disk, it leaves of another that mirrors it.
-use Rattle.std.proofs.Common.{◌≡◌, refl, sym, ap, ◌∙◌, subst, inl, inr, ⊎_elim, ℕ, ◌≤◌, List, Option, arith, IfSome}
+use Rattle.std.proofs.Common.{◌≡◌, refl, sym, ap, ◌∙◌, subst, inl, inr, ⊎_elim, ℕ, ◌≤◌, List, Option, Ok, Err, arith, IfSome, IsSome}
 use Rattle.std.specs.Option.{option_map}
 use Rattle.adr_disk.specs.Disk.{Among, Keeps, LeavesOnly}
 use Rattle.adr_disk.specs.declared.disk.Disk.{Ghosts as DiskGhosts}
 use Rattle.adr_io.specs.declared.Sink.{Ghosts as SinkGhosts}
 use Rattle.adr_model.specs.Store.{State}
-use Rattle.adr_law_journal.specs.Areas.{Started, start_of}
-use Rattle.adr_law_journal.specs.Kept.{Finds}
+use Rattle.adr_law_journal.specs.Areas.{Found, Started, start_of}
+use Rattle.adr_law_journal.specs.Kept.{Finds, FindsState}
+use Rattle.adr_law_journal.proofs.Told.{at_told, if_told}
 use Rattle.adr_records.specs.Head.{area_at, front_at}
 use Rattle.adr_records.specs.Body.{following_in}
 use Rattle.adr_node.specs.Seen.{Seen, of_disk, Mirrors}
+use Rattle.adr_node.specs.Begins.{EndsUnbegun, IsDamaged, IsHindered, IsUnbegun, StandsOn}
 use Rattle.adr_node.specs.Looks.{Due, Looks}
 use Rattle.adr_node.specs.declared.ended.BackedUp.{BackedUp}
+use Rattle.adr_node.specs.declared.ended.Unbegun.{Unbegun}
 
 -- what two calls keep
 pub keeps_both : {D C O : Type 0} (content : D → Option C) (may_leave : D → O → Type 0) (moment : D → ℕ) (left_since : D → ℕ → O → Type 0) (old mid new : D)
@@ -56,6 +59,47 @@ module _ {D E : Type 0} (d : Seen D) (e : Seen E) (old new : D) (from to : E) (f
   pub told_over : (P : Started State → Type 0) → IfSome (e.told from) P → IfSome (d.told old) P
   told_over P is = subst (λ (o : Option (Started State)). IfSome o P) first.told is
 
+  pub same_over : e.told to ≡ e.told from → d.told new ≡ d.told old
+  same_over same = last.told ∙ same ∙ first.told
+
+  pub among_over : Among (e.may_leave from) (e.may_leave to) → Among (d.may_leave old) (d.may_leave new)
+  among_over among f left = first.left f (among f (last.left f left))
+
+  pub still_over : (IsSome (e.told from) → IsSome (e.told to)) → IsSome (d.told old) → IsSome (d.told new)
+  still_over still was =
+      subst (λ (o : Option (Started State)). IsSome o) (sym last.told) (still (subst (λ (o : Option (Started State)). IsSome o) (sym first.told) was))
+
+  pub stands_over : (f : Found State) → StandsOn e to f → StandsOn d new f
+  stands_over f stands =
+      if_told (d.told new) (λ t. (t ≡ Ok f) × Among (FindsState f.state) (d.may_leave new)) (λ t there.
+      let was = at_told (e.told to) (λ t. (t ≡ Ok f) × Among (FindsState f.state) (e.may_leave to)) t (sym last.told ∙ there) stands in
+      (was.0, λ s left. was.1 s (last.left s left)))
+
+  -- what is told of a command that had no controller to begin with
+  module _ {S : Type 0} (k : SinkGhosts S) (before after : S) (why : Unbegun) where
+    hindered_over : IsHindered e from to before after why → IsHindered d old new before after why
+    hindered_over h = (⊎_elim (λ fault. inl fault) (λ wants. inr (wants.0, same_over wants.1)) h.0, h.1)
+
+    damaged_over : (there : Started State) → IsDamaged e k there from to before after why → IsDamaged d k there old new before after why
+    damaged_over (Ok f) h = absurd h
+    damaged_over (Err place) h = (h.0, same_over h.1)
+
+    pub ends_over : (there : Started State) → EndsUnbegun e k there from to before after why → EndsUnbegun d k there old new before after why
+    ends_over there ends = (⊎_elim (λ h. inl (hindered_over h)) (λ h. inr (damaged_over there h)) ends.0, among_over ends.1)
+
+    pub unbegun_over : IsUnbegun e k from to before after why → IsUnbegun d k old new before after why
+    unbegun_over u = record {
+      found = u.found;
+      is_found = told_over (λ t. t ≡ u.found) u.is_found;
+      ends = ends_over u.found u.ends;
+      still_told = still_over u.still_told;
+      any_moment = leaves_over (e.may_leave from) (d.may_leave old) first.left u.any_moment;
+      write_fault = u.write_fault;
+      disk_fault = λ is. omega (arith, first.faults, last.faults, u.disk_fault is);
+      sink_later = u.sink_later;
+      disk_later = omega (arith, first.faults, last.faults, u.disk_later);
+    }
+
   pub looks_over : {K : Type 0} (k : SinkGhosts K) (due : Started State → Due) (before after : K) (how : BackedUp) → Looks e k due from to before after how → Looks d k due old new before after how
   looks_over k due before after how l = record {
     found = l.found;
@@ -64,9 +108,9 @@ module _ {D E : Type 0} (d : Seen D) (e : Seen E) (old new : D) (from to : E) (f
     tells = l.tells;
     disk_fault = λ is. (omega (arith, first.faults, last.faults, (l.disk_fault is).0), (l.disk_fault is).1);
     later = omega (arith, first.faults, last.faults, l.later);
-    stays = λ no_fault. last.told ∙ l.stays no_fault ∙ first.told;
+    stays = λ no_fault. same_over (l.stays no_fault);
     any_moment = leaves_over (e.may_leave from) (d.may_leave old) first.left l.any_moment;
-    left = λ f left. first.left f (l.left f (last.left f left));
+    left = among_over l.left;
   }
 
 -- what changes nothing leaves what might have been left before it

@@ -1,6 +1,8 @@
--- What a start, or a refused one, leaves of a keeper, and what is then written.
-use Rattle.std.proofs.Common.{◌≡◌, ◌<◌, ◌≤◌, ◌↔◌, refl, sym, ap, ◌∙◌, subst, ℕ, List, Bool, true, false, Option, None, Some, IfSome, IsSome, Ok, Err}
+-- What a start, or a refused one, leaves of a keeper, and what a command then is that looks at it.
+use Rattle.std.proofs.Common.{◌≡◌, ◌⊎◌, ◌<◌, ◌≤◌, ◌↔◌, inl, inr, ⊎_elim, refl, sym, ap, ◌∙◌, subst, ℕ, List, Bool, true, false, Option, None, Some, IfOk, IfSome, IsSome, Ok, Err}
 use Rattle.adr_disk.specs.Disk.{Among, LeavesOnly}
+use Rattle.adr_io.specs.declared.Fault.{Fault}
+use Rattle.adr_io.specs.declared.Fault.TheVariants.{Failed, NoMemory}
 use Rattle.adr_io.specs.declared.Sink.{Ghosts as SinkGhosts}
 use Rattle.adr_model.specs.Store.{State}
 use Rattle.adr_law_journal.specs.Areas.{Found, Started, found}
@@ -9,12 +11,16 @@ use Rattle.adr_journal.specs.declared.keeper.Keeper.{Ghosts as KeeperGhosts}
 use Rattle.adr_journal.specs.declared.keeper.StartRefusal.{StartRefusal}
 use Rattle.adr_journal.specs.declared.keeper.StartRefusal.TheVariants as starts
 use Rattle.adr_records.specs.Logged.{IsLogged}
-use Rattle.adr_controller.specs.Running.{IsInOrder, IsStarted, Running}
+use Rattle.adr_controller.specs.Running.{IsInOrder, Running}
 use Rattle.adr_node.specs.Seen.{Seen, of_keeper}
-use Rattle.adr_node.specs.Looks.{Due, Looks, Tells, TellsOf, IsWhole, due_of, never}
+use Rattle.adr_node.specs.Begins.{Begun, IsDamaged, IsHindered, IsUnbegun, TellsDamage, TellsRefusal}
+use Rattle.adr_node.specs.Lines.{damaged_line}
+use Rattle.adr_node.specs.Looks.{Looks, Tells, IsWhole, due_of, never, unseen}
 use Rattle.adr_node.specs.declared.ended.BackedUp.{BackedUp}
 use Rattle.adr_node.specs.declared.ended.BackedUp.TheVariants as backed
-use Rattle.adr_node.proofs.Writes.{tells_disk_fault, tells_no_memory}
+use Rattle.adr_node.specs.declared.ended.Unbegun.{Unbegun}
+use Rattle.adr_node.specs.declared.ended.Unbegun.TheVariants as unbegun
+use Rattle.adr_node.proofs.Writes.{all_added, no_fewer, tells_disk_fault, tells_no_memory}
 
 pub same_told : {T : Type 0} (a b : Option T) (t : T) → (IsSome b ↔ IsSome a) → IfSome a (λ x. x ≡ t) → IfSome b (λ x. x ≡ t) → b ≡ a
 same_told None None t both was is = refl
@@ -27,82 +33,147 @@ pub there_is : (o : Option (Started State)) → (t : Started State) × IfSome o 
 there_is None = (Err 0, tt)
 there_is (Some x) = (x, refl)
 
--- no call of the disk was made that failed, and nothing was written
-pub nothing_looked_at : {D K : Type 0} (d : Seen D) (k : SinkGhosts K) (due : Started State → Due) (old new : D) (before after : K) (how : BackedUp)
-    → (how ≡ backed.DiskFault) × (d.faults old < d.faults new) → d.faults old ≤ d.faults new
-    → LeavesOnly d.moment d.left_since old new (d.may_leave old) → Among (d.may_leave old) (d.may_leave new) → after ≡ before
-    → Looks d k due old new before after how
-nothing_looked_at d k due old new before after how fault later moments left same = record {
+-- ---- no controller was started
+
+-- a call of the disk failed, or memory was wanting
+abbrev pub Wants : {D : Type 0} → Seen D → D → D → Unbegun → Type 0
+Wants d old new why =
+    ((why ≡ unbegun.DiskFault) × (d.faults old < d.faults new)) ⊎ ((why ≡ unbegun.NoMemory) × (d.told new ≡ d.told old))
+
+-- by the fault of a call
+pub wants_by : {D : Type 0} (d : Seen D) (old new : D) (fault : Fault) (why : Unbegun) → (fault ≡ Failed → why ≡ unbegun.DiskFault) → (fault ≡ NoMemory → why ≡ unbegun.NoMemory)
+    → (fault ≡ Failed → d.faults old < d.faults new) → d.told new ≡ d.told old → Wants d old new why
+wants_by d old new Failed why failed wanting rose same = inl (failed refl, rose refl)
+wants_by d old new NoMemory why failed wanting rose same = inr (wanting refl, same)
+
+-- what is told the same is told still
+pub still_told : {D : Type 0} (d : Seen D) (old new : D) → d.told new ≡ d.told old → IsSome (d.told old) → IsSome (d.told new)
+still_told d old new same was = subst (λ (o : Option (Started State)). IsSome o) (sym same) was
+
+pub wanting : {D S : Type 0} (d : Seen D) (k : SinkGhosts S) (old new : D) (before after : S) (why : Unbegun) → Wants d old new why → d.faults old ≤ d.faults new
+    → (IsSome (d.told old) → IsSome (d.told new)) → LeavesOnly d.moment d.left_since old new (d.may_leave old) → Among (d.may_leave old) (d.may_leave new) → after ≡ before
+    → IsUnbegun d k old new before after why
+wanting d k old new before after why wants later told moments left silent = record {
   found = (there_is (d.told old)).0;
   is_found = (there_is (d.told old)).1;
-  logged = λ whole. absurd (subst IsWhole fault.0 whole);
-  tells = tells_disk_fault k (due (there_is (d.told old)).0) before after how same fault.0;
-  disk_fault = λ is. (fault.1, same);
-  later = later;
-  stays = λ no_fault. absurd (no_fault fault.0);
+  ends = (inl (⊎_elim (λ w. inl w.0) (λ w. inr w) wants, silent), left);
+  still_told = told;
   any_moment = moments;
-  left = left;
+  write_fault = λ is. ⊎_elim (λ w. absurd (cc (sym w.0 ∙ is))) (λ w. absurd (cc (sym w.0 ∙ is))) wants;
+  disk_fault = λ is. ⊎_elim (λ w. w.1) (λ w. absurd (cc (sym w.0 ∙ is))) wants;
+  sink_later = no_fewer k before after silent;
+  disk_later = later;
 }
 
-pub nothing_told : {D K : Type 0} (d : Seen D) (k : SinkGhosts K) (due : Started State → Due) (old new : D) (before after : K) (how : BackedUp)
-    → how ≡ backed.NoMemory → d.told new ≡ d.told old → d.faults old ≤ d.faults new
-    → LeavesOnly d.moment d.left_since old new (d.may_leave old) → Among (d.may_leave old) (d.may_leave new) → after ≡ before
-    → Looks d k due old new before after how
-nothing_told d k due old new before after how none stays later moments left same = record {
-  found = (there_is (d.told old)).0;
-  is_found = (there_is (d.told old)).1;
-  logged = λ whole. absurd (subst IsWhole none whole);
-  tells = tells_no_memory k (due (there_is (d.told old)).0) before after how same none;
-  disk_fault = λ is. absurd (cc (sym none ∙ is));
-  later = later;
-  stays = λ no_fault. stays;
-  any_moment = moments;
-  left = left;
-}
-
-module _ {K S : Type 0} (k : KeeperGhosts K) (sink : SinkGhosts S) (refuses : State → Bool) (bytes : State → List ℕ) where
-  -- a start that was refused
-  pub refused_looks : (old new : K) (before after : S) (refusal : StartRefusal) (how : BackedUp) → IsDamageOf refusal (k.told old) → (refusal ≡ starts.DiskFault → k.faults old < k.faults new)
-      → StillReads k.told k.may_leave k.moment k.left_since refusal old new → k.faults old ≤ k.faults new → LeavesOnly k.moment k.left_since old new (k.may_leave old) → Among (k.may_leave old) (k.may_leave new)
-      → TellsOf sink refusal before after how → Looks (of_keeper k) sink (due_of refuses bytes) old new before after how
-  refused_looks old new before after starts.DiskFault how damaged fault still later moments left tells =
-      nothing_looked_at (of_keeper k) sink (due_of refuses bytes) old new before after how (tells.0, fault refl) later moments left tells.1
-  refused_looks old new before after (starts.Damaged place) how damaged fault still later moments left tells =
+-- a start that was refused
+module _ {K S : Type 0} (k : KeeperGhosts K) (sink : SinkGhosts S) (old new : K) (before after : S) (why : Unbegun) where
+  pub refused_unbegun : (refusal : StartRefusal) → IsDamageOf refusal (k.told old) → (refusal ≡ starts.DiskFault → k.faults old < k.faults new)
+      → StillReads k.told k.may_leave k.moment k.left_since refusal old new → k.faults old ≤ k.faults new → (IsSome (k.told old) → IsSome (k.told new))
+      → LeavesOnly k.moment k.left_since old new (k.may_leave old) → Among (k.may_leave old) (k.may_leave new)
+      → TellsRefusal sink refusal before after why → (why ≡ unbegun.WriteFault → sink.faults before < sink.faults after) → sink.faults before ≤ sink.faults after
+      → IsUnbegun (of_keeper k) sink old new before after why
+  refused_unbegun starts.DiskFault damaged fault still later told moments left tells write sink_later =
+      wanting (of_keeper k) sink old new before after why (inl (tells.0, fault refl)) later told moments left tells.1
+  refused_unbegun (starts.Damaged place) damaged fault still later told moments left tells write sink_later =
       let there : Started State = Err place in
       record {
         found = there;
         is_found = damaged;
-        logged = λ whole. tt;
-        tells = tells.0;
-        disk_fault = λ is. absurd (tells.1 is);
-        later = later;
-        stays = λ no_fault. still.0;
+        ends = (inr (tells, still.0), left);
+        still_told = told;
         any_moment = moments;
-        left = left;
+        write_fault = write;
+        disk_fault = λ is. absurd (subst (λ (w : Unbegun). TellsDamage sink place before after w) is tells);
+        sink_later = sink_later;
+        disk_later = later;
       }
-  refused_looks old new before after (starts.NoMemory true) how damaged fault still later moments left tells =
-      nothing_told (of_keeper k) sink (due_of refuses bytes) old new before after how tells.0 still.0 later moments left tells.1
-  refused_looks old new before after (starts.NoMemory false) how damaged fault still later moments left tells =
-      nothing_told (of_keeper k) sink (due_of refuses bytes) old new before after how tells.0 still.content_stays later moments left tells.1
+  refused_unbegun (starts.NoMemory true) damaged fault still later told moments left tells write sink_later =
+      wanting (of_keeper k) sink old new before after why (inr (tells.0, still.0)) later told moments left tells.1
+  refused_unbegun (starts.NoMemory false) damaged fault still later told moments left tells write sink_later =
+      wanting (of_keeper k) sink old new before after why (inr (tells.0, still.content_stays)) later told moments left tells.1
 
-  -- a start
+-- ---- what a command then is that only looks
+
+-- one that had no controller to look at
+module _ {D K : Type 0} (d : Seen D) (k : SinkGhosts K) (refuses : State → Bool) (bytes : State → List ℕ) (old new : D) (before after : K) where
+  logged_unseen : (there : Started State) (why : Unbegun) → IsHindered d old new before after why ⊎ IsDamaged d k there old new before after why → IsWhole (unseen why)
+      → IfOk there (λ f. IsLogged f.state)
+  logged_unseen (Err place) why ends whole = tt
+  logged_unseen (Ok f) why (inr h) whole = absurd h
+  logged_unseen (Ok f) why (inl (inl fault, silent)) whole = absurd (subst (λ (w : Unbegun). IsWhole (unseen w)) fault whole)
+  logged_unseen (Ok f) why (inl (inr wants, silent)) whole = absurd (subst (λ (w : Unbegun). IsWhole (unseen w)) wants.0 whole)
+
+  tells_damage : (place : ℕ) (why : Unbegun) → TellsDamage k place before after why → (why ≡ unbegun.WriteFault → k.faults before < k.faults after)
+      → k.faults before ≤ k.faults after → Tells k (due_of refuses bytes (Err place)) before after (unseen why)
+  tells_damage place (unbegun.Damaged there) tells write later = record {
+    whole = λ is. (ap (λ (n : ℕ). backed.Damaged n) tells.0, tells.1);
+    front = all_added (k.written before) (k.written after) (damaged_line place) tells.1;
+    write_fault = λ is. absurd (cc is);
+    later = later;
+  }
+  tells_damage place unbegun.WriteFault tells write later = record { whole = λ is. absurd is; front = tells; write_fault = λ is. write refl; later = later }
+  tells_damage place unbegun.DiskFault tells write later = absurd tells
+  tells_damage place unbegun.NoMemory tells write later = record { whole = λ is. absurd is; front = tells; write_fault = λ is. absurd (cc is); later = later }
+
+  tells_unseen : (there : Started State) (why : Unbegun) → IsHindered d old new before after why ⊎ IsDamaged d k there old new before after why
+      → (why ≡ unbegun.WriteFault → k.faults before < k.faults after) → k.faults before ≤ k.faults after → Tells k (due_of refuses bytes there) before after (unseen why)
+  tells_unseen there why (inl (inl fault, silent)) write later =
+      tells_disk_fault k (due_of refuses bytes there) before after (unseen why) silent (ap unseen fault)
+  tells_unseen there why (inl (inr wants, silent)) write later =
+      tells_no_memory k (due_of refuses bytes there) before after (unseen why) silent (ap unseen wants.0)
+  tells_unseen (Ok f) why (inr h) write later = absurd h
+  tells_unseen (Err place) why (inr h) write later = tells_damage place why h.0 write later
+
+  fault_unseen : (why : Unbegun) → unseen why ≡ backed.DiskFault → why ≡ unbegun.DiskFault
+  fault_unseen (unbegun.Damaged place) is = absurd (cc is)
+  fault_unseen unbegun.WriteFault is = absurd (cc is)
+  fault_unseen unbegun.DiskFault is = refl
+  fault_unseen unbegun.NoMemory is = absurd (cc is)
+
+  silent_unseen : (there : Started State) (why : Unbegun) → IsHindered d old new before after why ⊎ IsDamaged d k there old new before after why → why ≡ unbegun.DiskFault → after ≡ before
+  silent_unseen there why (inl h) is = h.1
+  silent_unseen (Ok f) why (inr h) is = absurd h
+  silent_unseen (Err place) why (inr h) is = absurd (subst (λ (w : Unbegun). TellsDamage k place before after w) is h.0)
+
+  stays_unseen : (there : Started State) (why : Unbegun) → IsHindered d old new before after why ⊎ IsDamaged d k there old new before after why → (unseen why ≡ backed.DiskFault → ⊥)
+      → d.told new ≡ d.told old
+  stays_unseen there why (inl (inl fault, silent)) passed = absurd (passed (ap unseen fault))
+  stays_unseen there why (inl (inr wants, silent)) passed = wants.1
+  stays_unseen (Ok f) why (inr h) passed = absurd h
+  stays_unseen (Err place) why (inr h) passed = h.1
+
+  pub unbegun_looks : (why : Unbegun) → IsUnbegun d k old new before after why → Looks d k (due_of refuses bytes) old new before after (unseen why)
+  unbegun_looks why u = record {
+    found = u.found;
+    is_found = u.is_found;
+    logged = logged_unseen u.found why u.ends.0;
+    tells = tells_unseen u.found why u.ends.0 u.write_fault u.sink_later;
+    disk_fault = λ is. let fault = fault_unseen why is in (u.disk_fault fault, silent_unseen u.found why u.ends.0 fault);
+    later = u.disk_later;
+    stays = stays_unseen u.found why u.ends.0;
+    any_moment = u.any_moment;
+    left = u.ends.1;
+  }
+
+-- one that began with a controller
+module _ {K S : Type 0} (k : KeeperGhosts K) (sink : SinkGhosts S) (refuses : State → Bool) (bytes : State → List ℕ) where
   pub started_looks : (law : (x : K) (f : Found State) → k.is_at x f → k.is_failed x ≡ false → IfSome (k.told x) (λ t. t ≡ Ok f))
-      → (old : K) (c : Running K) (before after : S) (how : BackedUp) (started : IsStarted k old c) → IsInOrder k c → (IsSome (k.told c.keeper) ↔ IsSome (k.told old))
-      → k.faults old ≤ k.faults c.keeper → LeavesOnly k.moment k.left_since old c.keeper (k.may_leave old) → Among (k.may_leave old) (k.may_leave c.keeper)
-      → Tells sink (due_of refuses bytes (Ok (found started.state started.log))) before after how → IsLogged started.state → (how ≡ backed.DiskFault → ⊥)
+      → (old : K) (c : Running K) (before after : S) (how : BackedUp) (b : Begun k old c) → IsInOrder k c
+      → Tells sink (due_of refuses bytes (Ok (found b.started.state b.started.log))) before after how → IsLogged b.started.state → (how ≡ backed.DiskFault → ⊥)
       → Looks (of_keeper k) sink (due_of refuses bytes) old c.keeper before after how
-  started_looks law old c before after how started order told later moments left tells logged passed =
-      let there : Started State = Ok (found started.state started.log) in
+  started_looks law old c before after how b order tells logged passed =
+      let at : Found State = found b.started.state b.started.log in
+      let there : Started State = Ok at in
       record {
         found = there;
-        is_found = started.told;
+        is_found = b.started.told;
         logged = λ whole. logged;
         tells = tells;
         disk_fault = λ is. absurd (passed is);
-        later = later;
-        stays = λ no_fault. same_told (k.told old) (k.told c.keeper) there told started.told (law c.keeper (found started.state started.log) started.at (order.up started.state started.in_memory).0.running);
-        any_moment = moments;
-        left = left;
+        later = b.later;
+        stays = λ no_fault. same_told (k.told old) (k.told c.keeper) there b.told b.started.told (law c.keeper at b.started.at (order.up b.started.state b.started.in_memory).0.running);
+        any_moment = b.any_moment;
+        left = b.left;
       }
 
 -- what is never refused

@@ -1,5 +1,6 @@
 pub mod Lines
 pub mod Seen
+pub mod Begins
 pub mod Looks
 pub mod Formats
 pub mod Makes

@@ -9,14 +9,17 @@ use Rattle.adr_model.specs.Refused.{quarantined}
 use Rattle.adr_model.specs.Serve.{is_quarantined}
 use Rattle.adr_model.specs.Store.{State, Store, updates_of}
 use Rattle.adr_law_journal.specs.Areas.{Started}
-use Rattle.adr_journal.specs.declared.keeper.StartRefusal.{StartRefusal}
-use Rattle.adr_journal.specs.declared.keeper.StartRefusal.TheVariants as starts
+use Rattle.adr_journal.specs.declared.keeper.Keeper.{Ghosts as KeeperGhosts}
+use Rattle.adr_controller.specs.Running.{Running}
 use Rattle.adr_image.specs.Stored.{image}
 use Rattle.adr_records.specs.Logged.{IsLogged}
 use Rattle.adr_answers.specs.Laws.{shown}
 use Rattle.adr_json.specs.Text.{json_text}
 use Rattle.adr_node.specs.Lines.{damaged_line, refusal_line}
-use Rattle.adr_node.specs.Seen.{Seen}
+use Rattle.adr_node.specs.Begins.{Begun}
+use Rattle.adr_node.specs.Seen.{Seen, of_keeper}
+use Rattle.adr_node.specs.declared.ended.Unbegun.{Unbegun}
+use Rattle.adr_node.specs.declared.ended.Unbegun.TheVariants as unbegun
 use Rattle.adr_node.specs.declared.ended.BackedUp.{BackedUp}
 use Rattle.adr_node.specs.declared.ended.BackedUp.TheVariants as backed
 use Rattle.adr_node.specs.declared.ended.Looked.{Looked}
@@ -100,12 +103,12 @@ pub record Tells {K : Type 0} (k : SinkGhosts K) (due : Due) (before after : K) 
   pub write_fault : how ≡ backed.WriteFault → k.faults before < k.faults after
   pub later : k.faults before ≤ k.faults after
 
--- what was written of a start that was refused, and how that ended
-abbrev pub TellsOf : {K : Type 0} → SinkGhosts K → StartRefusal → K → K → BackedUp → Type 0
-TellsOf k starts.DiskFault before after how = (how ≡ backed.DiskFault) × (after ≡ before)
-TellsOf k (starts.Damaged place) before after how =
-    Tells k (record { ends = backed.Damaged place; bytes = damaged_line place }) before after how × (how ≡ backed.DiskFault → ⊥)
-TellsOf k (starts.NoMemory settled) before after how = (how ≡ backed.NoMemory) × (after ≡ before)
+-- how a command ends that had no controller to look at
+abbrev pub unseen : Unbegun → BackedUp
+unseen (unbegun.Damaged place) = backed.Damaged place
+unseen unbegun.WriteFault = backed.WriteFault
+unseen unbegun.DiskFault = backed.DiskFault
+unseen unbegun.NoMemory = backed.NoMemory
 
 -- The controller on a disk is started, and something is written of it.
 pub record Looks {D K : Type 0} (d : Seen D) (k : SinkGhosts K) (due : Started State → Due) (old new : D) (before after : K)
@@ -124,3 +127,8 @@ pub record Looks {D K : Type 0} (d : Seen D) (k : SinkGhosts K) (due : Started S
   -- and behind a crash at any moment of the command, or from then on, nothing that it might not have found before
   pub any_moment : LeavesOnly d.moment d.left_since old new (d.may_leave old)
   pub left : Among (d.may_leave old) (d.may_leave new)
+
+-- something is written of a controller, from whatever keeper it was started
+abbrev pub LooksOn : {K S : Type 0} → KeeperGhosts K → SinkGhosts S → (Started State → Due) → Running K → K → S → S → BackedUp → Type 0
+LooksOn {K} k s due c new before after how =
+    (keeper : K) → Begun k keeper c → Looks (of_keeper k) s due keeper new before after how

@@ -1,8 +1,8 @@
 -- What a command does that makes a controller on an empty disk.
-use Rattle.std.specs.Prelude.{◌≡◌, ◌<◌, ◌≤◌, ◌⊎◌, ◌↔◌, ℕ, List, [], ◌∷◌, true, false, take, Some, None, Option, Result, Ok, Err, IfSome, IsSome}
+use Rattle.std.specs.Prelude.{◌≡◌, ◌<◌, ◌≤◌, ◌⊎◌, ◌↔◌, ℕ, List, [], ◌∷◌, true, false, take, Some, None, Option, Result, Ok, Err, IfErr, IfSome, IsErrOf, IsSome, OnOk}
 use Rattle.adr_io.specs.Told.{Adds, AddsFront}
 use Rattle.adr_io.specs.declared.Sink.{Ghosts as SinkGhosts}
-use Rattle.adr_disk.specs.Disk.{Among, LeavesOnly}
+use Rattle.adr_disk.specs.Disk.{Among, Keeps, LeavesOnly}
 use Rattle.adr_disk.specs.declared.disk.Disk.{Ghosts as DiskGhosts}
 use Rattle.adr_outside.specs.Given.{Takes}
 use Rattle.adr_wire.specs.declared.refusal.DecodeRefusal.{DecodeRefusal}
@@ -124,6 +124,15 @@ Adopts given text before after (Err Full) = ⊥
 -- nothing stands on the disk, where it tells its bytes
 abbrev pub HasNone : {D : Type 0} → DiskGhosts D → D → Type 0
 HasNone d disk = IfSome (d.content disk) (λ bytes. bytes ≡ [])
+
+-- a disk was looked at: it has no bytes, or it has some, or a call of it failed
+pub record SeesNone {D T : Type 0} (d : DiskGhosts D) (old new : D) (result : Result T Unmade) : Type 0 where
+  pub empty : OnOk result (HasNone d old)
+  pub not_empty : IsErrOf result (unmade.Refused NotEmpty) → IfSome (d.content old) (λ bytes. bytes ≡ [] → ⊥)
+  pub refused : IfErr result (λ e. (e ≡ unmade.Refused NotEmpty) ⊎ ((e ≡ unmade.DiskFault) ⊎ (e ≡ unmade.NoMemory)))
+  pub fault : IsErrOf result unmade.DiskFault → d.faults old < d.faults new
+  pub later : d.faults old ≤ d.faults new
+  pub keeps : Keeps d.content d.may_leave d.moment d.left_since old new
 
 -- why a verdict is one: a disk that has bytes comes first, and a log that would be too long last
 abbrev pub IsVerdict : {D : Type 0} → DiskGhosts D → (Verdict → Type 0) → D → Verdict → Type 0

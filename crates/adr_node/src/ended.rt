@@ -3,6 +3,18 @@
 use adr_call::AdoptRefusal;
 use adr_image::DecodeRefusal;
 
+/// Why a command has no controller to begin with.
+#[derive(Clone, Copy)]
+pub enum Unbegun {
+    /// The bytes of the disk are no log, and the place of their first fault is written.
+    Damaged { place: u64 },
+    /// A write failed.
+    WriteFault,
+    /// A call of the disk failed, and nothing is written.
+    DiskFault,
+    NoMemory,
+}
+
 /// How a command ends that looks at the controller on a disk, and is never refused.
 #[derive(Clone, Copy)]
 pub enum Looked {

@@ -82,18 +82,18 @@ fn read_image<S: Source>(alloc: Global, source: &mut S) -> Result<Dormant, Unmad
 }
 
 /// A controller of an image under its identifiers.
-fn adopted(alloc: Global, image: &Dormant, dsa: Guid, inv: Guid) -> Result<State, Unmade>
+fn adopted(alloc: Global, image: Dormant, dsa: Guid, inv: Guid) -> Result<State, Unmade>
     requires dsa { IsId dsa }
     requires inv { IsId inv }
-    ensures ok { IfOk result (λ state. adopt image.now dsa inv ≡ Ok state) }
+    ensures ok { IfOk result (λ state. adopt image dsa inv ≡ Ok state) }
     ensures begins { IfOk result MayBegin }
     ensures refused { (why : AdoptRefusal) → IsErrOf result (Unmade.Refused (Refusal.Adoption why))
-        → adopt image.now dsa inv ≡ Err why }
+        → adopt image dsa inv ≡ Err why }
     ensures why { IfErr result (λ e.
         ((why : AdoptRefusal) × (e ≡ Unmade.Refused (Refusal.Adoption why))) ⊎ (e ≡ Unmade.NoMemory)) }
 {
     adopted_states_are_logged();
-    match adopt(alloc, image.contents(), dsa, inv) {
+    match adopt(alloc, image.into_contents(), dsa, inv) {
         Ok(state) => Ok(state),
         Err(Failure::Refused(why)) => Err(Unmade::Refused(Refusal::Adoption(why))),
         Err(Failure::NoMemory) => Err(Unmade::NoMemory),
@@ -104,14 +104,14 @@ fn adopted(alloc: Global, image: &Dormant, dsa: Guid, inv: Guid) -> Result<State
 fn adopt_drawn<F: Fresh>(
     alloc: Global,
     given: Option<Guid>,
-    image: &Dormant,
+    image: Dormant,
     fresh: &mut F,
 ) -> Result<State, Unmade>
     ensures ok { IfOk result (λ state.
-        AdoptsImage given image.now (F.identifiers fresh.old) (F.identifiers fresh.new) (Ok state)) }
+        AdoptsImage given image (F.identifiers fresh.old) (F.identifiers fresh.new) (Ok state)) }
     ensures begins { IfOk result MayBegin }
     ensures refused { (why : AdoptRefusal) → IsErrOf result (Unmade.Refused (Refusal.Adoption why))
-        → AdoptsImage given image.now (F.identifiers fresh.old) (F.identifiers fresh.new) (Err why) }
+        → AdoptsImage given image (F.identifiers fresh.old) (F.identifiers fresh.new) (Err why) }
     ensures why { IfErr result (λ e.
         ((why : AdoptRefusal) × (e ≡ Unmade.Refused (Refusal.Adoption why)))
         ⊎ ((e ≡ Unmade.FreshFault) ⊎ (e ≡ Unmade.NoMemory))) }
@@ -141,7 +141,7 @@ fn adopt_read<S: Source, F: Fresh>(
     ensures later { F.faults fresh.old ≤ F.faults fresh.new }
 {
     let image = read_image(alloc, source)?;
-    adopt_drawn(alloc, given, &image, fresh)
+    adopt_drawn(alloc, given, image, fresh)
 }
 
 /// Makes a controller of the image that a source gives, on the disk of this name.

@@ -7,6 +7,7 @@
 #![tactic(auto)]
 
 mod backing_up;
+mod beginning;
 mod creating;
 mod drawing;
 mod ended;
@@ -21,10 +22,10 @@ mod verdicts;
 mod waking;
 
 pub use backing_up::backup;
+pub use beginning::begin;
 pub use creating::create;
-pub use ended::{BackedUp, Created, Installed, Looked, Refusal};
+pub use ended::{BackedUp, Created, Installed, Looked, Refusal, Unbegun};
 pub use exporting::export;
 pub use installing::install;
-pub use lines::damaged_line;
 pub use restoring::restore;
 pub use showing::show;

@@ -11,7 +11,7 @@ use std::alloc::Global;
 
 /// The line of damage at a place, in bytes.
 #[tactic(auto, unfolding(crate::specs::Lines::damaged_line))]
-pub fn damaged_line(alloc: Global, place: u64) -> Result<Vec<u8>, NoMemory>
+pub(crate) fn damaged_line(alloc: Global, place: u64) -> Result<Vec<u8>, NoMemory>
     ensures { IfOk result (λ bytes. bytes.items ≡ damaged_line place) }
 {
     let mut out = Vec::new(alloc);

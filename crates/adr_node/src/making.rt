@@ -2,11 +2,11 @@
 
 ghost use Rattle.std.specs.Prelude.{◌≡◌, ◌⊎◌, ◌<◌, ◌≤◌, [], None, Some, Ok, Err, IfErr, IfSome, IsErrOf, OnOk};
 ghost use Rattle.std.specs.Option.{ForSome};
-ghost use Rattle.adr_disk.specs.Disk.{Among, Keeps};
+ghost use Rattle.adr_disk.specs.Disk.{Among};
 ghost use Rattle.adr_model.specs.Store.{State as Defined};
 ghost use Rattle.adr_records.specs.Logged.{MayBegin};
 ghost use Rattle.adr_node.specs.Formats.{EndsFormat, Formats};
-ghost use Rattle.adr_node.specs.Makes.{Begins, HasNone, TellsVerdict, verdict_of};
+ghost use Rattle.adr_node.specs.Makes.{Begins, HasNone, SeesNone, TellsVerdict, verdict_of};
 ghost use Rattle.adr_node.specs.Seen.{of_disk, of_keeper};
 
 use crate::ended::{Installed, Refusal};
@@ -44,14 +44,7 @@ fn disk_failed(fault: Fault) -> Unmade
 
 /// Attaches the disk by its name, and sees that it has no bytes.
 pub(crate) fn find_empty<D: Disk>(name: &Text, disk: &mut D) -> Result<(), Unmade>
-    ensures empty { OnOk result (HasNone D.Disk disk.old) }
-    ensures not_empty { IsErrOf result (Unmade.Refused Refusal.NotEmpty)
-        → IfSome (D.content disk.old) (λ bytes. bytes ≡ [] → ⊥) }
-    ensures refused { IfErr result (λ e.
-        (e ≡ Unmade.Refused Refusal.NotEmpty) ⊎ ((e ≡ Unmade.DiskFault) ⊎ (e ≡ Unmade.NoMemory))) }
-    ensures fault { IsErrOf result Unmade.DiskFault → D.faults disk.old < D.faults disk.new }
-    ensures later { D.faults disk.old ≤ D.faults disk.new }
-    ensures keeps { Keeps D.content D.may_leave D.moment D.left_since disk.old disk.new }
+    ensures { SeesNone D.Disk disk.old disk.new result }
 {
     match disk.attach(name.as_str()) {
         Ok(()) => has_none(disk),
@@ -61,14 +54,7 @@ pub(crate) fn find_empty<D: Disk>(name: &Text, disk: &mut D) -> Result<(), Unmad
 
 /// Sees that a disk has no bytes.
 fn has_none<D: Disk>(disk: &mut D) -> Result<(), Unmade>
-    ensures empty { OnOk result (HasNone D.Disk disk.old) }
-    ensures not_empty { IsErrOf result (Unmade.Refused Refusal.NotEmpty)
-        → IfSome (D.content disk.old) (λ bytes. bytes ≡ [] → ⊥) }
-    ensures refused { IfErr result (λ e.
-        (e ≡ Unmade.Refused Refusal.NotEmpty) ⊎ ((e ≡ Unmade.DiskFault) ⊎ (e ≡ Unmade.NoMemory))) }
-    ensures fault { IsErrOf result Unmade.DiskFault → D.faults disk.old < D.faults disk.new }
-    ensures later { D.faults disk.old ≤ D.faults disk.new }
-    ensures keeps { Keeps D.content D.may_leave D.moment D.left_since disk.old disk.new }
+    ensures { SeesNone D.Disk disk.old disk.new result }
 {
     match disk.len() {
         Ok(0) => Ok(()),

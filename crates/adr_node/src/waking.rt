@@ -1,4 +1,4 @@
-//! What the commands have in common that only look: the controller is started, and something is written of it.
+//! What the commands have in common that only look: they begin with a controller, and something is written of it.
 
 ghost use Rattle.std.specs.Prelude.{◌≡◌, ◌<◌, ◌≤◌, Ok, Err, IfOk, IsErrOf, IsSome, OnOk, OnErr, Some};
 ghost use Rattle.adr_io.specs.Told.{Adds, AddsFront};
@@ -7,22 +7,19 @@ ghost use Rattle.adr_law_journal.specs.Areas.{found};
 ghost use Rattle.adr_model.specs.Lengths.{Log};
 ghost use Rattle.adr_records.specs.Logged.{IsLogged};
 ghost use Rattle.adr_controller.specs.Running.{IsInOrder};
-ghost use Rattle.adr_node.specs.Lines.{damaged_line};
-ghost use Rattle.adr_node.specs.Looks.{Looks, Tells, TellsOf, bytes_of, due_of, in_full, refuses, whole_of};
-ghost use Rattle.adr_node.specs.Seen.{of_disk, of_keeper};
+ghost use Rattle.adr_node.specs.Looks.{Looks, LooksOn, Tells, bytes_of, due_of, in_full, refuses, unseen, whole_of};
+ghost use Rattle.adr_node.specs.Seen.{of_disk};
 
 use crate::backing_up::backup_bytes;
-use crate::ended::{BackedUp, Looked};
+use crate::beginning::begin;
+use crate::ended::{BackedUp, Looked, Unbegun};
 use crate::exporting::export_bytes;
-use crate::lines::damaged_line;
 use crate::showing::show_bytes;
 use adr_call::Text;
-use adr_controller::{Controller, Keeper, StartRefusal};
+use adr_controller::{Controller, Keeper};
 use adr_disk::Disk;
 use adr_failure::NoMemory;
 use adr_io::{Fault, Sink};
-use adr_journal::Journal;
-use adr_records::Records;
 use adr_state::State;
 use std::alloc::Global;
 
@@ -107,17 +104,15 @@ fn tell<K: Sink>(alloc: Global, sight: Sight, name: &Text, state: &State, sink: 
     ended(whole, written)
 }
 
-/// Writes what is due of a start that was refused.
-fn tell_refusal<K: Sink>(alloc: Global, refusal: StartRefusal, sink: &mut K) -> BackedUp
-    ensures { TellsOf K.Sink refusal sink.old sink.new result }
+/// How a command ends that had no controller to look at.
+fn unseen(why: Unbegun) -> BackedUp
+    ensures { result ≡ unseen why }
 {
-    match refusal {
-        StartRefusal::DiskFault => BackedUp::DiskFault,
-        StartRefusal::Damaged { place } => {
-            let written = write(damaged_line(alloc, place), sink);
-            ended(BackedUp::Damaged { place }, written)
-        }
-        StartRefusal::NoMemory { .. } => BackedUp::NoMemory,
+    match why {
+        Unbegun::Damaged { place } => BackedUp::Damaged { place },
+        Unbegun::WriteFault => BackedUp::WriteFault,
+        Unbegun::DiskFault => BackedUp::DiskFault,
+        Unbegun::NoMemory => BackedUp::NoMemory,
     }
 }
 
@@ -143,46 +138,41 @@ fn tell_of<K: Keeper, S: Sink>(
     }
 }
 
-/// Starts a keeper, and writes what is due of it.
+/// Writes what is due of a controller that was begun with. Its keeper comes back.
 fn look_at<K: Keeper, S: Sink>(
     alloc: Global,
     sight: Sight,
     name: &Text,
-    keeper: K,
+    controller: Controller<K>,
     sink: &mut S,
 ) -> (BackedUp, K)
+    requires up { IsSome controller.state }
     requires formed { (s : Defined) → K.is_formed s → IsLogged s }
     ensures { let due = due_of (refuses sight) (bytes_of sight name.now) in
-        Looks (of_keeper K.Keeper) S.Sink due keeper result.1 sink.old sink.new result.0 }
+        LooksOn K.Keeper S.Sink due controller result.1 sink.old sink.new result.0 }
 {
-    match Controller::resume(keeper) {
-        Ok(controller) => {
-            let ended = tell_of(alloc, sight, name, &controller, sink);
-            (ended, controller.into_keeper())
-        }
-        Err((refusal, keeper)) => (tell_refusal(alloc, refusal, sink), keeper),
-    }
+    let ended = tell_of(alloc, sight, name, &controller, sink);
+    (ended, controller.into_keeper())
 }
 
-/// Attaches the disk by its name, starts the controller that is there, and writes what is due of it.
+/// Begins with the controller on the disk of a name, and writes what is due of it. The disk comes back.
 pub(crate) fn look<D: Disk, K: Sink>(
     alloc: Global,
     sight: Sight,
     name: &Text,
-    mut disk: D,
+    disk: D,
     sink: &mut K,
 ) -> (BackedUp, D)
     ensures { let due = due_of (refuses sight) (bytes_of sight name.now) in
         Looks (of_disk D.Disk) K.Sink due disk result.1 sink.old sink.new result.0 }
 {
-    match disk.attach(name.as_str()) {
-        Ok(()) => {}
-        Err(Fault::Failed) => return (BackedUp::DiskFault, disk),
-        Err(Fault::NoMemory) => return (BackedUp::NoMemory, disk),
+    match begin(alloc, name, disk, sink) {
+        Ok(controller) => {
+            let (ended, journal) = look_at(alloc, sight, name, controller, sink);
+            (ended, journal.into_disk())
+        }
+        Err((why, disk)) => (unseen(why), disk),
     }
-    let journal: Journal<D, Records> = Journal::new(alloc, disk);
-    let (ended, journal) = look_at(alloc, sight, name, journal, sink);
-    (ended, journal.into_disk())
 }
 
 /// How a command ends that isn't refused.

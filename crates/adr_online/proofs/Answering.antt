@@ -1,23 +1,25 @@
 -- What a session's end is to the server, once the connection is hung up.
-use Rattle.std.proofs.Common.{◌≡◌, ◌⊎◌, refl, subst, ⊎_elim, ℕ, List, [], ◌++◌, take, Option, Some, None, Result, Ok, Err, IfSome, arith, ◌≤◌, ◌<◌}
+use Rattle.std.proofs.Common.{◌≡◌, ◌⊎◌, inl, inr, refl, ⊎_elim, ℕ, List, [], ◌++◌, take, Option, Some, None, Result, Ok, Err, IfSome, arith, ◌≤◌, ◌<◌}
 use Rattle.std.specs.Option.{option_map}
+use Rattle.std.specs.Prelude.{IfErr, IfOk, IsErrOf}
 use Rattle.adr_disk.specs.Disk.{Among}
 use Rattle.adr_model.specs.Store.{State}
 use Rattle.adr_law_journal.specs.Areas.{Started}
 use Rattle.adr_law_journal.proofs.Told.{if_told}
 use Rattle.adr_journal.specs.declared.keeper.Keeper.{Ghosts as KeeperGhosts}
 use Rattle.adr_controller.specs.Running.{Running}
-use Rattle.adr_outside.specs.Traffic.{Traffic, hung_up}
+use Rattle.adr_outside.specs.Traffic.{Traffic, hung_up, open_line}
 use Rattle.adr_session.specs.declared.ending.End.{End}
 use Rattle.adr_session.specs.declared.ending.End.TheVariants as ended
 use Rattle.adr_session.specs.declared.ending.Served.{Served}
 use Rattle.adr_session.specs.declared.ending.ServeFault.{ServeFault}
 use Rattle.adr_session.specs.declared.ending.ServeFault.TheVariants as faults
 use Rattle.adr_session.specs.Talk.{Point}
-use Rattle.adr_session.specs.Told.{IsAt, FindsNear, LeavesBehind, ServedTo, Serves, Stands}
+use Rattle.adr_law_controller.specs.Keeping.{Stands}
+use Rattle.adr_session.specs.Told.{IsAt, FindsNear, LeavesBehind, ServedTo, Serves}
 use Rattle.adr_online.specs.declared.ended.Stop.TheVariants as stops
 use Rattle.adr_online.specs.Posts.{Post, opened}
-use Rattle.adr_online.specs.Served.{AnswersAll, open_line}
+use Rattle.adr_online.specs.Served.{AnswersAll, stopped}
 use Rattle.adr_online.proofs.Hanging.{hung}
 
 -- the connection was opened, and nothing was done in it yet
@@ -74,18 +76,39 @@ module _ {K : Type 0} (k : KeeperGhosts K) (before : K) (p : Post) (came : List 
           let q = left.1.0 in
           (q, left.0, left.1.1, hung rest p.done came q.sent net new is left.1.2.0, (s.1.2.state, if_told (k.told before) (λ _. Among (FindsNear q) (k.may_leave c.keeper)) (λ t tells. left.1.2.1)))
 
--- by how the session ended
-pub served_is : {K : Type 0} (k : KeeperGhosts K) (t : Traffic) (p : Point) (r : Result Served ServeFault) (s : Served) (c : Running K) (net : Option Traffic) (clock : Option (List ℕ))
-    → r ≡ Ok s → Serves k t p r c net clock → ServedTo k t p s.messages s.end c net clock
-served_is k t p r s c net clock is serves = subst (λ (x : Result Served ServeFault). Serves k t p x c net clock) is serves
+  -- however the session ended
+  pub answered_so : (r : Result Served ServeFault) → Serves k line (opened p came) r c net clock
+      → IfSome (k.told before) (λ _. LeavesBehind k line (opened p came) r c net) → AnswersAll k before p came rest (stopped r) c new clock
+  answered_so (Ok s) serves left = answered_to s.messages s.end serves
+  answered_so (Err faults.Disk) serves left = answered_disk serves left
+  answered_so (Err faults.Clock) serves left = answered_clock serves
+  answered_so (Err faults.NoMemory) serves left = answered_memory serves
 
-pub fault_is : {K : Type 0} (k : KeeperGhosts K) (t : Traffic) (p : Point) (r : Result Served ServeFault) (e : ServeFault) (c : Running K) (net : Option Traffic) (clock : Option (List ℕ))
-    → r ≡ Err e → Serves k t p r c net clock → Serves k t p (Err e) c net clock
-fault_is k t p r e c net clock is serves = subst (λ (x : Result Served ServeFault). Serves k t p x c net clock) is serves
+-- ---- why the server stops
 
-pub left_is : {K : Type 0} (k : KeeperGhosts K) (before : K) (t : Traffic) (p : Point) (r : Result Served ServeFault) (e : ServeFault) (c : Running K) (net : Option Traffic)
-    → r ≡ Err e → IfSome (k.told before) (λ _. LeavesBehind k t p r c net) → IfSome (k.told before) (λ _. LeavesBehind k t p (Err e) c net)
-left_is k before t p r e c net is left = subst (λ (x : Result Served ServeFault). IfSome (k.told before) (λ _. LeavesBehind k t p x c net)) is left
+pub stopped_ok : (A : Type 0) (r : Result Served ServeFault) → IfOk r (λ _. A) → IfOk (stopped r) (λ _. A)
+stopped_ok A (Ok s) a = a
+stopped_ok A (Err faults.Disk) a = tt
+stopped_ok A (Err faults.Clock) a = tt
+stopped_ok A (Err faults.NoMemory) a = tt
+
+pub stopped_only : (r : Result Served ServeFault) → IfErr (stopped r) (λ stop. (stop ≡ stops.Disk) ⊎ ((stop ≡ stops.Clock) ⊎ (stop ≡ stops.NoMemory)))
+stopped_only (Ok s) = tt
+stopped_only (Err faults.Disk) = inl refl
+stopped_only (Err faults.Clock) = inr (inl refl)
+stopped_only (Err faults.NoMemory) = inr (inr refl)
+
+pub stopped_disk : (r : Result Served ServeFault) → IsErrOf (stopped r) stops.Disk → IsErrOf r faults.Disk
+stopped_disk (Ok s) is = absurd (cc is)
+stopped_disk (Err faults.Disk) is = refl
+stopped_disk (Err faults.Clock) is = absurd (cc is)
+stopped_disk (Err faults.NoMemory) is = absurd (cc is)
+
+pub stopped_clock : (r : Result Served ServeFault) → IsErrOf (stopped r) stops.Clock → IsErrOf r faults.Clock
+stopped_clock (Ok s) is = absurd (cc is)
+stopped_clock (Err faults.Disk) is = absurd (cc is)
+stopped_clock (Err faults.Clock) is = refl
+stopped_clock (Err faults.NoMemory) is = absurd (cc is)
 
 -- no call of a line failed, or one did
 pub lines_later : (A : Type 0) (old new : ℕ) → (A → old < new) → A ⊎ (new ≡ old) → old ≤ new

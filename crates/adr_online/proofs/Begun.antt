@@ -1,6 +1,5 @@
--- What a start, or a refused one, is to the command.
-use Rattle.std.proofs.Common.{◌≡◌, ◌⊎◌, ◌<◌, ◌≤◌, ◌↔◌, ◌∙◌, inl, inr, refl, sym, ap, subst, ℕ, true, false, Option, Result, Ok, Err, IfSome, IsSome, arith}
-use Rattle.std.specs.Prelude.{IsErrOf}
+-- What a controller that was begun with, or none, is to the command.
+use Rattle.std.proofs.Common.{◌≡◌, ◌⊎◌, ◌<◌, ◌≤◌, ◌∙◌, inl, inr, ⊎_elim, refl, sym, ap, subst, ℕ, false, Option, Some, None, Result, Ok, Err, IfSome, IsSome, arith}
 use Rattle.adr_io.specs.declared.Sink.{Ghosts as SinkGhosts}
 use Rattle.adr_disk.proofs.Moments.{joined, weakened}
 use Rattle.adr_disk.specs.Disk.{Among, LeavesOnly}
@@ -10,32 +9,25 @@ use Rattle.adr_model.specs.Store.{State}
 use Rattle.adr_law_journal.specs.Areas.{Found, Started, found}
 use Rattle.adr_law_journal.specs.Kept.{FindsState}
 use Rattle.adr_law_journal.proofs.Told.{at_told, if_told, is_some_of, some_of}
-use Rattle.adr_journal.specs.Ended.{IsDamageOf, StillReads}
 use Rattle.adr_journal.specs.declared.keeper.Keeper.{Ghosts as KeeperGhosts}
-use Rattle.adr_journal.specs.declared.keeper.StartRefusal.{StartRefusal}
-use Rattle.adr_journal.specs.declared.keeper.StartRefusal.TheVariants as starts
-use Rattle.adr_controller.specs.Running.{IsInOrder, IsStarted, Running}
+use Rattle.adr_controller.specs.Running.{IsInOrder, Running}
+use Rattle.adr_node.specs.Begins.{Begun, IsUnbegun, StandsOn}
 use Rattle.adr_node.specs.Seen.{Seen, of_keeper}
-use Rattle.adr_node.proofs.Started.{there_is}
+use Rattle.adr_node.specs.declared.ended.Unbegun.{Unbegun}
+use Rattle.adr_node.specs.declared.ended.Unbegun.TheVariants as unbegun
 use Rattle.adr_session.specs.Talk.{Point}
-use Rattle.adr_session.specs.Told.{FindsNear, Stands}
+use Rattle.adr_law_controller.specs.Keeping.{Stands}
+use Rattle.adr_session.specs.Told.{FindsNear}
 use Rattle.adr_session.proofs.Leaving.{LeavesLaw}
 use Rattle.adr_online.specs.declared.ended.Stop.{Stop}
 use Rattle.adr_online.specs.declared.ended.Stop.TheVariants as stops
 use Rattle.adr_online.specs.declared.ended.Online.{Online}
 use Rattle.adr_online.specs.declared.ended.Online.TheVariants as online
 use Rattle.adr_online.specs.Posts.{Post, FindsWithin}
-use Rattle.adr_online.specs.Served.{HasFallen, IsAt, Outside, ServesAll}
-use Rattle.adr_online.specs.Serves.{Hands, FallsOn, LeavesSo, Serves, ServesFrom, StandsOn, TellsDamage, TellsRefusal, Unbegun, online_of}
+use Rattle.adr_online.specs.Served.{HasFallen}
+use Rattle.adr_online.specs.Goes.{Server, ServesSo, outside}
+use Rattle.adr_online.specs.Serves.{Hands, FallsOn, LeavesSo, Serves, ServesFrom, online_of, unserved}
 use Rattle.adr_online.proofs.Monotone.{ends_so, serves_so}
-
--- damage ends it in no other way
-pub damage_only : {S : Type 0} (s : SinkGhosts S) (place : ℕ) (before after : S) (how other : Online) → TellsDamage s place before after how → how ≡ other → TellsDamage s place before after other
-damage_only s place before after how other tells is = subst (TellsDamage s place before after) is tells
-
--- what is told the same is told still
-pub still_told : {D : Type 0} (d : Seen D) (old new : D) → d.told new ≡ d.told old → IsSome (d.told old) → IsSome (d.told new)
-still_told d old new same was = subst (λ (o : Option (Started State)). IsSome o) (sym same) was
 
 -- what might have been left before is left
 pub leaves_as_before : {D N C S : Type 0} (d : Seen D) (n : NetGhosts N) (c : ClockGhosts C) (s : SinkGhosts S) (count : ℕ) (found : Started State) (old new : Hands D N C S)
@@ -44,80 +36,51 @@ leaves_as_before d n c s count (Ok f) old new leaves = λ p is at.
     weakened d.moment d.left_since old.disk new.disk (d.may_leave old.disk) (λ x. d.may_leave old.disk x ⊎ FindsWithin count p x) (λ x left. inl left) leaves
 leaves_as_before d n c s count (Err place) old new leaves = leaves
 
-module _ {D N C S : Type 0} (d : Seen D) (n : NetGhosts N) (c : ClockGhosts C) (s : SinkGhosts S) (count : ℕ) (old new : Hands D N C S) where
-  -- no controller was started
-  pub unbegun : (how : Online) → Unbegun d old new how → (IsSome (d.told old.disk) → IsSome (d.told new.disk)) → (how ≡ online.DiskFault → d.faults old.disk < d.faults new.disk) → d.faults old.disk ≤ d.faults new.disk
-      → LeavesOnly d.moment d.left_since old.disk new.disk (d.may_leave old.disk) → Serves d n c s count old new how
-  unbegun how un told disk_fault later leaves =
-      let net : n.doors new.net ≡ n.doors old.net = ap n.doors un.1.0 in
-      let lines : n.lines new.net ≡ n.lines old.net = ap n.lines un.1.0 in
-      let clock : c.faults new.clock ≡ c.faults old.clock = ap c.faults un.1.1 in
-      let sink : s.faults new.sink ≡ s.faults old.sink = ap s.faults un.1.2 in
-      record {
-        found = (there_is (d.told old.disk)).0;
-        is_found = (there_is (d.told old.disk)).1;
-        does = inl un;
-        any_moment = if_told (d.told old.disk) (λ _. LeavesSo d n c s count (there_is (d.told old.disk)).0 old new) (λ t tells.
-            leaves_as_before d n c s count (there_is (d.told old.disk)).0 old new leaves);
-        still_told = told;
-        write_fault = λ is. absurd (neither un.0 is);
-        disk_fault = disk_fault;
-        link_fault = λ is. absurd (none un.0 is);
-        clock_fault = λ is. absurd (not_clock un.0 is);
-        sink_later = omega (arith, sink);
-        disk_later = later;
-        doors_later = omega (arith, net);
-        lines_later = omega (arith, lines);
-        clock_later = omega (arith, clock);
-      }
-    where
-      neither : (how ≡ online.DiskFault) ⊎ ((how ≡ online.NoMemory) × (d.told new.disk ≡ d.told old.disk)) → how ≡ online.WriteFault → ⊥
-      neither (inl a) is = absurd (cc (sym a ∙ is))
-      neither (inr a) is = absurd (cc (sym a.0 ∙ is))
+-- ---- no controller was begun with
 
-      none : (how ≡ online.DiskFault) ⊎ ((how ≡ online.NoMemory) × (d.told new.disk ≡ d.told old.disk)) → how ≡ online.LinkFault → ⊥
-      none (inl a) is = absurd (cc (sym a ∙ is))
-      none (inr a) is = absurd (cc (sym a.0 ∙ is))
+write_unserved : (why : Unbegun) → unserved why ≡ online.WriteFault → why ≡ unbegun.WriteFault
+write_unserved (unbegun.Damaged place) is = absurd (cc is)
+write_unserved unbegun.WriteFault is = refl
+write_unserved unbegun.DiskFault is = absurd (cc is)
+write_unserved unbegun.NoMemory is = absurd (cc is)
 
-      not_clock : (how ≡ online.DiskFault) ⊎ ((how ≡ online.NoMemory) × (d.told new.disk ≡ d.told old.disk)) → how ≡ online.ClockFault → ⊥
-      not_clock (inl a) is = absurd (cc (sym a ∙ is))
-      not_clock (inr a) is = absurd (cc (sym a.0 ∙ is))
+disk_unserved : (why : Unbegun) → unserved why ≡ online.DiskFault → why ≡ unbegun.DiskFault
+disk_unserved (unbegun.Damaged place) is = absurd (cc is)
+disk_unserved unbegun.WriteFault is = absurd (cc is)
+disk_unserved unbegun.DiskFault is = refl
+disk_unserved unbegun.NoMemory is = absurd (cc is)
 
-module _ {K N C S : Type 0} (k : KeeperGhosts K) (n : NetGhosts N) (c : ClockGhosts C) (s : SinkGhosts S) (count : ℕ) where
-  -- a start that was refused
-  pub refused_serves :
-      (old new : Hands K N C S) → new.net ≡ old.net → new.clock ≡ old.clock → (refusal : StartRefusal) (how : Online) → (IsSome (k.told old.disk) → IsSome (k.told new.disk)) → IsDamageOf refusal (k.told old.disk)
-      → (refusal ≡ starts.DiskFault → k.faults old.disk < k.faults new.disk) → StillReads k.told k.may_leave k.moment k.left_since refusal old.disk new.disk → k.faults old.disk ≤ k.faults new.disk
-      → LeavesOnly k.moment k.left_since old.disk new.disk (k.may_leave old.disk) → Among (k.may_leave old.disk) (k.may_leave new.disk)
-      → TellsRefusal s refusal old.sink new.sink how → s.faults old.sink ≤ s.faults new.sink → (how ≡ online.WriteFault → s.faults old.sink < s.faults new.sink)
-      → Serves (of_keeper k) n c s count old new how
-  refused_serves old new net clock starts.DiskFault how told damaged fault still later leaves left tells sink_later write =
-      unbegun (of_keeper k) n c s count old new how (inl tells.0, (net, clock, tells.1), left) told (λ is. fault refl) later leaves
-  refused_serves old new net clock (starts.Damaged place) how told damaged fault still later leaves left tells sink_later write =
-      let there : Started State = Err place in
-      let doors : n.doors new.net ≡ n.doors old.net = ap n.doors net in
-      let lines : n.lines new.net ≡ n.lines old.net = ap n.lines net in
-      let clocks : c.faults new.clock ≡ c.faults old.clock = ap c.faults clock in
-      record {
-        found = there;
-        is_found = damaged;
-        does = inr (tells, net, clock, still.0, left);
-        any_moment = if_told (k.told old.disk) (λ _. LeavesSo (of_keeper k) n c s count there old new) (λ t is. leaves);
-        still_told = told;
-        write_fault = write;
-        disk_fault = λ is. absurd (damage_only s place old.sink new.sink how online.DiskFault tells is);
-        link_fault = λ is. absurd (damage_only s place old.sink new.sink how online.LinkFault tells is);
-        clock_fault = λ is. absurd (damage_only s place old.sink new.sink how online.ClockFault tells is);
-        sink_later = sink_later;
-        disk_later = later;
-        doors_later = omega (arith, doors);
-        lines_later = omega (arith, lines);
-        clock_later = omega (arith, clocks);
-      }
-  refused_serves old new net clock (starts.NoMemory true) how told damaged fault still later leaves left tells sink_later write =
-      unbegun (of_keeper k) n c s count old new how (inr (tells.0, still.0), (net, clock, tells.1), left) told (λ is. absurd (cc (sym tells.0 ∙ is))) later leaves
-  refused_serves old new net clock (starts.NoMemory false) how told damaged fault still later leaves left tells sink_later write =
-      unbegun (of_keeper k) n c s count old new how (inr (tells.0, still.content_stays), (net, clock, tells.1), left) told (λ is. absurd (cc (sym tells.0 ∙ is))) later leaves
+-- it ends in no other way
+only_unserved : (why : Unbegun) → (unserved why ≡ online.LinkFault) ⊎ (unserved why ≡ online.ClockFault) → ⊥
+only_unserved (unbegun.Damaged place) is = ⊎_elim (λ (e : unserved (unbegun.Damaged place) ≡ online.LinkFault). cc) (λ (e : unserved (unbegun.Damaged place) ≡ online.ClockFault). cc) is
+only_unserved unbegun.WriteFault is = ⊎_elim (λ (e : unserved unbegun.WriteFault ≡ online.LinkFault). cc) (λ (e : unserved unbegun.WriteFault ≡ online.ClockFault). cc) is
+only_unserved unbegun.DiskFault is = ⊎_elim (λ (e : unserved unbegun.DiskFault ≡ online.LinkFault). cc) (λ (e : unserved unbegun.DiskFault ≡ online.ClockFault). cc) is
+only_unserved unbegun.NoMemory is = ⊎_elim (λ (e : unserved unbegun.NoMemory ≡ online.LinkFault). cc) (λ (e : unserved unbegun.NoMemory ≡ online.ClockFault). cc) is
+
+pub none_served : {D N C S : Type 0} (d : Seen D) (n : NetGhosts N) (c : ClockGhosts C) (s : SinkGhosts S) (count : ℕ) (old new : Hands D N C S) (why : Unbegun)
+    → IsUnbegun d s old.disk new.disk old.sink new.sink why → new.net ≡ old.net → new.clock ≡ old.clock → Serves d n c s count old new (unserved why)
+none_served d n c s count old new why u net clock =
+    let doors : n.doors new.net ≡ n.doors old.net = ap n.doors net in
+    let lines : n.lines new.net ≡ n.lines old.net = ap n.lines net in
+    let times : c.faults new.clock ≡ c.faults old.clock = ap c.faults clock in
+    record {
+      found = u.found;
+      is_found = u.is_found;
+      does = inl ((why, refl, u.ends), net, clock);
+      any_moment = if_told (d.told old.disk) (λ _. LeavesSo d n c s count u.found old new) (λ t tells. leaves_as_before d n c s count u.found old new u.any_moment);
+      still_told = u.still_told;
+      write_fault = λ is. u.write_fault (write_unserved why is);
+      disk_fault = λ is. u.disk_fault (disk_unserved why is);
+      link_fault = λ is. absurd (only_unserved why (inl is));
+      clock_fault = λ is. absurd (only_unserved why (inr is));
+      sink_later = u.sink_later;
+      disk_later = u.disk_later;
+      doors_later = omega (arith, doors);
+      lines_later = omega (arith, lines);
+      clock_later = omega (arith, times);
+    }
+
+-- ---- one was
 
 module _ {K : Type 0} (k : KeeperGhosts K) where
   abbrev pub TellsLaw : Type 0
@@ -140,96 +103,72 @@ module _ {K : Type 0} (k : KeeperGhosts K) where
       at_told (k.told mid) (λ _. Among (FindsNear x) (k.may_leave c.keeper)) y.0 y.1 fell.1)
 
 -- how it stopped, by how the command ended
-module _ (A : Type 0) where
-  pub by_write : (r : Result Unit Stop) → (IsErrOf r stops.Write → A) → online_of r ≡ online.WriteFault → A
-  by_write (Ok u) by is = absurd (cc is)
-  by_write (Err stops.Write) by is = by refl
-  by_write (Err stops.Disk) by is = absurd (cc is)
-  by_write (Err stops.Link) by is = absurd (cc is)
-  by_write (Err stops.Clock) by is = absurd (cc is)
-  by_write (Err stops.NoMemory) by is = absurd (cc is)
+abbrev stop_of : Online → Option Stop
+stop_of online.Done = None
+stop_of online.WriteFault = Some stops.Write
+stop_of online.DiskFault = Some stops.Disk
+stop_of online.LinkFault = Some stops.Link
+stop_of online.NoMemory = Some stops.NoMemory
+stop_of (online.Damaged place) = None
+stop_of online.ClockFault = Some stops.Clock
 
-  pub by_disk : (r : Result Unit Stop) → (IsErrOf r stops.Disk → A) → online_of r ≡ online.DiskFault → A
-  by_disk (Ok u) by is = absurd (cc is)
-  by_disk (Err stops.Write) by is = absurd (cc is)
-  by_disk (Err stops.Disk) by is = by refl
-  by_disk (Err stops.Link) by is = absurd (cc is)
-  by_disk (Err stops.Clock) by is = absurd (cc is)
-  by_disk (Err stops.NoMemory) by is = absurd (cc is)
+abbrev err_of : Result Unit Stop → Option Stop
+err_of (Ok u) = None
+err_of (Err stop) = Some stop
 
-  pub by_link : (r : Result Unit Stop) → (IsErrOf r stops.Link → A) → online_of r ≡ online.LinkFault → A
-  by_link (Ok u) by is = absurd (cc is)
-  by_link (Err stops.Write) by is = absurd (cc is)
-  by_link (Err stops.Disk) by is = absurd (cc is)
-  by_link (Err stops.Link) by is = by refl
-  by_link (Err stops.Clock) by is = absurd (cc is)
-  by_link (Err stops.NoMemory) by is = absurd (cc is)
+err_back : (r : Result Unit Stop) → stop_of (online_of r) ≡ err_of r
+err_back (Ok u) = refl
+err_back (Err stops.Write) = refl
+err_back (Err stops.Disk) = refl
+err_back (Err stops.Link) = refl
+err_back (Err stops.Clock) = refl
+err_back (Err stops.NoMemory) = refl
 
-  pub by_clock : (r : Result Unit Stop) → (IsErrOf r stops.Clock → A) → online_of r ≡ online.ClockFault → A
-  by_clock (Ok u) by is = absurd (cc is)
-  by_clock (Err stops.Write) by is = absurd (cc is)
-  by_clock (Err stops.Disk) by is = absurd (cc is)
-  by_clock (Err stops.Link) by is = absurd (cc is)
-  by_clock (Err stops.Clock) by is = by refl
-  by_clock (Err stops.NoMemory) by is = absurd (cc is)
+err_is : (r : Result Unit Stop) (stop : Stop) → err_of r ≡ Some stop → r ≡ Err stop
+err_is (Ok u) stop is = absurd (cc is)
+err_is (Err other) stop is = ap (λ (x : Stop). let r : Result Unit Stop = Err x in r) (let same : other ≡ stop = (cc is) in same)
 
--- what was served of a controller that was started
-pub record ServesUp {K N C S : Type 0} (k : KeeperGhosts K) (n : NetGhosts N) (c : ClockGhosts C) (s : SinkGhosts S) (count : ℕ) (mid new : Running K) (net net2 : N) (time time2 : C)
-    (sink sink2 : S) (r : Result Unit Stop) : Type 0 where
-  pub serves :
-      (p : Post) → Stands k p.stands mid → IsAt p (record { net = n.traffic net; clock = c.moments time; lines = s.written sink })
-      → ServesAll (λ f. Stands k f new) (λ x. HasFallen k mid.keeper x new) count p r (record { net = n.traffic net2; clock = c.moments time2; lines = s.written sink2 })
-  pub any_moment :
-      (p : Post) → Stands k p.stands mid → IsAt p (record { net = n.traffic net; clock = c.moments time; lines = s.written sink })
-      → IfSome (k.told mid.keeper) (λ _. LeavesOnly k.moment k.left_since mid.keeper new.keeper (FindsWithin count p))
-  pub told : IsSome (k.told mid.keeper) → IsSome (k.told new.keeper)
-  pub disk : IsErrOf r stops.Disk → k.faults mid.keeper < k.faults new.keeper
-  pub disk_never_falls : k.faults mid.keeper ≤ k.faults new.keeper
-  pub link : IsErrOf r stops.Link → n.doors net < n.doors net2
-  pub doors_never_fall : n.doors net ≤ n.doors net2
-  pub lines_never_fall : n.lines net ≤ n.lines net2
-  pub clock : IsErrOf r stops.Clock → c.faults time < c.faults time2
-  pub clock_never_falls : c.faults time ≤ c.faults time2
-  pub write : IsErrOf r stops.Write → s.faults sink < s.faults sink2
-  pub sink_never_falls : s.faults sink ≤ s.faults sink2
+stopped_so : (r : Result Unit Stop) (stop : Stop) (how : Online) → online_of r ≡ how → stop_of how ≡ Some stop → r ≡ Err stop
+stopped_so r stop how is so = err_is r stop (sym (err_back r) ∙ ap stop_of is ∙ so)
 
 module _ {K N C S : Type 0} (k : KeeperGhosts K) (n : NetGhosts N) (c : ClockGhosts C) (s : SinkGhosts S) (count : ℕ) (tells : TellsLaw k) (leaves : LeavesLaw k) where
-  pub started_serves :
-      (old : K) (mid new : Running K) (net net2 : N) (clock clock2 : C) (sink sink2 : S) (r : Result Unit Stop) (how : Online) → how ≡ online_of r → IsStarted k old mid → IsInOrder k new
-      → (IsSome (k.told mid.keeper) ↔ IsSome (k.told old)) → k.faults old ≤ k.faults mid.keeper → LeavesOnly k.moment k.left_since old mid.keeper (k.may_leave old)
-      → ServesUp k n c s count mid new net net2 clock clock2 sink sink2 r
-      → Serves (of_keeper k) n c s count (record { disk = old; net = net; clock = clock; sink = sink }) (record { disk = new.keeper; net = net2; clock = clock2; sink = sink2 }) how
-  started_serves old mid new net net2 clock clock2 sink sink2 r how is started order told later moments e =
+  pub started_serves : (keeper : K) (v w : Server K N C S) (r : Result Unit Stop) (how : Online) → how ≡ online_of r → Begun k keeper v.controller → IsInOrder k w.controller
+      → ServesSo k n c s count v w r
+      → Serves (of_keeper k) n c s count (record { disk = keeper; net = v.net; clock = v.clock; sink = v.sink })
+      (record { disk = w.controller.keeper; net = w.net; clock = w.clock; sink = w.sink }) how
+  started_serves keeper v w r how is b order e =
+      let started = b.started in
       let f : Found State = found started.state started.log in
       let there : Started State = Ok f in
+      let mid = v.controller in
+      let new = w.controller in
       let stands : Stands k f mid = (started.in_memory, started.at) in
-      let before : Hands K N C S = record { disk = old; net = net; clock = clock; sink = sink } in
-      let after : Hands K N C S = record { disk = new.keeper; net = net2; clock = clock2; sink = sink2 } in
-      let o : Outside = record { net = n.traffic net2; clock = c.moments clock2; lines = s.written sink2 } in
+      let before : Hands K N C S = record { disk = keeper; net = v.net; clock = v.clock; sink = v.sink } in
+      let after : Hands K N C S = record { disk = new.keeper; net = w.net; clock = w.clock; sink = w.sink } in
       record {
         found = there;
         is_found = started.told;
         does = inr (λ p at_f at.
-            subst (λ (x : Online). ServesFrom (StandsOn (of_keeper k) new.keeper) (FallsOn (of_keeper k) old new.keeper) count p x o) (sym is)
-            (ends_so (StandsOn (of_keeper k) new.keeper) (FallsOn (of_keeper k) old new.keeper) count p r o
-            (serves_so (λ f. Stands k f new) (StandsOn (of_keeper k) new.keeper) (λ x. HasFallen k mid.keeper x new) (FallsOn (of_keeper k) old new.keeper)
-            (stands_on k tells leaves new order) (falls_on k old mid.keeper told.1 new) count p r o
+            subst (λ (x : Online). ServesFrom (StandsOn (of_keeper k) new.keeper) (FallsOn (of_keeper k) keeper new.keeper) count p x (outside n c s w)) (sym is)
+            (ends_so (StandsOn (of_keeper k) new.keeper) (FallsOn (of_keeper k) keeper new.keeper) count p r (outside n c s w)
+            (serves_so (λ f. Stands k f new) (StandsOn (of_keeper k) new.keeper) (λ x. HasFallen k mid.keeper x new) (FallsOn (of_keeper k) keeper new.keeper)
+            (stands_on k tells leaves new order) (falls_on k keeper mid.keeper b.told.1 new) count p r (outside n c s w)
             (e.serves p (subst (λ (x : Found State). Stands k x mid) (sym at_f) stands) at))));
-        any_moment = if_told (k.told old) (λ _. LeavesSo (of_keeper k) n c s count there before after) (λ t here. λ p at_f at.
-            let y = some_of (k.told mid.keeper) (told.1 (is_some_of (k.told old) t here)) in
-            joined k.moment k.left_since old mid.keeper new.keeper (λ x. k.may_leave old x ⊎ FindsWithin count p x)
-            (weakened k.moment k.left_since old mid.keeper (k.may_leave old) (λ x. k.may_leave old x ⊎ FindsWithin count p x) (λ x left. inl left) moments)
-            (weakened k.moment k.left_since mid.keeper new.keeper (FindsWithin count p) (λ x. k.may_leave old x ⊎ FindsWithin count p x) (λ x finds. inr finds)
+        any_moment = if_told (k.told keeper) (λ _. LeavesSo (of_keeper k) n c s count there before after) (λ t here. λ p at_f at.
+            let y = some_of (k.told mid.keeper) (b.told.1 (is_some_of (k.told keeper) t here)) in
+            joined k.moment k.left_since keeper mid.keeper new.keeper (λ x. k.may_leave keeper x ⊎ FindsWithin count p x)
+            (weakened k.moment k.left_since keeper mid.keeper (k.may_leave keeper) (λ x. k.may_leave keeper x ⊎ FindsWithin count p x) (λ x left. inl left) b.any_moment)
+            (weakened k.moment k.left_since mid.keeper new.keeper (FindsWithin count p) (λ x. k.may_leave keeper x ⊎ FindsWithin count p x) (λ x finds. inr finds)
             (at_told (k.told mid.keeper) (λ _. LeavesOnly k.moment k.left_since mid.keeper new.keeper (FindsWithin count p)) y.0 y.1
             (e.any_moment p (subst (λ (x : Found State). Stands k x mid) (sym at_f) stands) at))));
-        still_told = λ was. e.told (told.1 was);
-        write_fault = λ ends. by_write (s.faults sink < s.faults sink2) r e.write (sym is ∙ ends);
-        disk_fault = λ ends. by_disk (k.faults old < k.faults new.keeper) r (λ fault. omega (arith, later, e.disk fault)) (sym is ∙ ends);
-        link_fault = λ ends. by_link (n.doors net < n.doors net2) r e.link (sym is ∙ ends);
-        clock_fault = λ ends. by_clock (c.faults clock < c.faults clock2) r e.clock (sym is ∙ ends);
-        sink_later = e.sink_never_falls;
-        disk_later = omega (arith, later, e.disk_never_falls);
-        doors_later = e.doors_never_fall;
-        lines_later = e.lines_never_fall;
-        clock_later = e.clock_never_falls;
+        still_told = λ was. e.told (b.told.1 was);
+        write_fault = λ ends. e.write (stopped_so r stops.Write online.WriteFault (sym is ∙ ends) refl);
+        disk_fault = λ ends. omega (arith, b.later, e.disk (stopped_so r stops.Disk online.DiskFault (sym is ∙ ends) refl));
+        link_fault = λ ends. e.link (stopped_so r stops.Link online.LinkFault (sym is ∙ ends) refl);
+        clock_fault = λ ends. e.clock (stopped_so r stops.Clock online.ClockFault (sym is ∙ ends) refl);
+        sink_later = e.sink_later;
+        disk_later = omega (arith, b.later, e.disk_later);
+        doors_later = e.doors_later;
+        lines_later = e.lines_later;
+        clock_later = e.clock_later;
       }

@@ -1,23 +1,31 @@
 -- One connection more: what its three steps come to.
-use Rattle.std.proofs.Common.{◌≡◌, ◌⊎◌, ◌∙◌, inl, inr, refl, sym, subst, ℕ, List, [], ◌∷◌, ◌++◌, take, Option, Some, Result, Ok, Err, IfSome}
-use Rattle.std.specs.Prelude.{IfErr, OnErr, OnOk}
+use Rattle.std.proofs.Common.{◌≡◌, ◌⊎◌, ◌<◌, ◌≤◌, ◌∙◌, inl, inr, refl, sym, ap, subst, ℕ, List, [], ◌∷◌, ◌++◌, take, Option, Some, Result, Ok, Err, IfSome, arith}
+use Rattle.std.specs.Prelude.{IfErr, IfOk, IsErrOf, IsSome, OnErr, OnOk}
 use Rattle.std.specs.Option.{option_map}
 use Rattle.adr_io.specs.Told.{Adds, AddsFront}
+use Rattle.adr_io.specs.declared.Fault.{Fault}
+use Rattle.adr_io.specs.declared.Fault.TheVariants.{Failed}
+use Rattle.adr_io.specs.declared.Sink.{Ghosts as SinkGhosts}
 use Rattle.adr_model.specs.Store.{State}
 use Rattle.adr_law_journal.specs.Areas.{Found}
 use Rattle.adr_law_journal.proofs.Told.{at_told}
 use Rattle.adr_journal.specs.declared.keeper.Keeper.{Ghosts as KeeperGhosts}
 use Rattle.adr_controller.specs.Running.{IsInOrder, Running}
-use Rattle.adr_outside.specs.Traffic.{Traffic, Opens, hung_up}
+use Rattle.adr_outside.specs.Traffic.{Traffic, Opens, hung_up, open_line}
+use Rattle.adr_outside.specs.Counted.{IsCounted}
+use Rattle.adr_outside.specs.declared.net.Net.{Ghosts as NetGhosts}
+use Rattle.adr_outside.specs.declared.clock.Clock.{Ghosts as ClockGhosts}
 use Rattle.adr_session.specs.declared.ending.Served.{Served}
 use Rattle.adr_session.specs.Talk.{Point}
-use Rattle.adr_session.specs.Told.{FindsBehind, Stands}
+use Rattle.adr_law_controller.specs.Keeping.{Stands}
+use Rattle.adr_session.specs.Told.{FindsBehind}
 use Rattle.adr_session.proofs.Leaving.{Crashes, LeavesLaw, OnlyNowLaw, crash_by, still_crashes}
 use Rattle.adr_online.specs.declared.ended.Stop.{Stop}
 use Rattle.adr_online.specs.declared.ended.Stop.TheVariants as stops
 use Rattle.adr_online.specs.Lines.{connection_line}
 use Rattle.adr_online.specs.Posts.{Post, FindsFrom, opened}
 use Rattle.adr_online.specs.Served.{AnswersAll, HasFallen, IsAt, IsTelling, Outside, ServesNext, StopsAt}
+use Rattle.adr_online.specs.Goes.{Answers, CallsDoor, Server, ServesOne, outside}
 use Rattle.adr_online.proofs.Hanging.{OpensNext, closed_still, opens_next}
 
 -- the next connection of a post is opened
@@ -106,3 +114,97 @@ module _ {K : Type 0} (k : KeeperGhosts K) where
   -- some of the next connection
   pub crashes_within : (p : Post) (came : List ℕ) (rest : List (List ℕ)) → p.waiting ≡ came ∷ rest → (old new : K) → Crashes k old new (FindsBehind (opened p came)) → Crashes k old new (FindsFrom p)
   crashes_within p came rest opens old new crash = crash_by k old new (FindsBehind (opened p came)) (FindsFrom p) (λ s finds. inr (came, rest, opens, finds)) crash
+
+-- ---- a call of a door
+
+module _ {N : Type 0} (n : NetGhosts N) (old new : N) where
+  pub door_passed : IsCounted (n.doors old) (n.doors new) (n.lines old) (n.lines new) (let r : Result Unit Fault = Ok tt in r) → CallsDoor n old new (Ok tt)
+  door_passed a = record { only = tt; stays = tt; link = λ is. absurd (cc is); doors_later = a.never_falls; lines = a.other }
+
+  module _ (e : Fault) (a : IsCounted (n.doors old) (n.doors new) (n.lines old) (n.lines new) (let r : Result Unit Fault = Err e in r))
+      (stays : option_map hung_up (n.traffic new) ≡ option_map hung_up (n.traffic old)) where
+    pub door_failed : e ≡ Failed → CallsDoor n old new (Err stops.Link)
+    door_failed is = record {
+      only = inl refl;
+      stays = stays;
+      link = λ same. a.failed (ap (λ (x : Fault). let r : Result Unit Fault = Err x in r) is);
+      doors_later = a.never_falls;
+      lines = a.other;
+    }
+
+    pub door_wanting : CallsDoor n old new (Err stops.NoMemory)
+    door_wanting = record { only = inr refl; stays = stays; link = λ is. absurd (cc is); doors_later = a.never_falls; lines = a.other }
+
+-- ---- with what is counted
+
+-- a line that was written, or not, lets the server stop in no other way
+only_told : (r : Result Unit Stop) (stop : Stop) → IfErr r (λ stop. (stop ≡ stops.Write) ⊎ (stop ≡ stops.NoMemory)) → IsErrOf r stop → (stop ≡ stops.Write → ⊥) → (stop ≡ stops.NoMemory → ⊥) → ⊥
+only_told (Ok u) stop only is write memory = cc is
+only_told (Err e) stop (inl a) is write memory = let same : e ≡ stop = (cc is) in write (sym same ∙ a)
+only_told (Err e) stop (inr a) is write memory = let same : e ≡ stop = (cc is) in memory (sym same ∙ a)
+
+ok_up : (A : Type 0) (r : Result Unit Stop) → A → IfOk r (λ _. A)
+ok_up A (Ok u) a = a
+ok_up A (Err e) a = tt
+
+module _ {K N C S : Type 0} (k : KeeperGhosts K) (n : NetGhosts N) (c : ClockGhosts C) (s : SinkGhosts S) (number : ℕ) (v : Server K N C S) (begun : N)
+    (after : Running K) (net : N) (clock : C) (opens : IfSome (n.traffic v.net) (λ t. Opens t (n.traffic begun))) (door : CallsDoor n v.net begun (Ok tt)) where
+  abbrev Answered : Result Served Stop → Type 0
+  Answered r = Answers k n c v.controller after begun net v.clock clock r
+
+  crash_passed : (r : Result Served Stop) → Answered r → (p : Post) → Stands k p.stands v.controller → IsAt p (outside n c s v)
+      → Crashes k v.controller.keeper after.keeper (FindsFrom p)
+  crash_passed r a p stands at =
+      let o = next_opens p (outside n c s v) (n.traffic begun) at opens in
+      crashes_within k p o.came o.rest o.opens v.controller.keeper after.keeper (a.any_moment p o.came o.rest stands o.net at.clock)
+
+  -- it was cut off
+  pub cut_goes : (stop : Stop) → Answered (Err stop) → ServesOne k n c s number v (record { controller = after; net = net; clock = clock; sink = v.sink }) (Err stop)
+  cut_goes stop a = record {
+    up = tt;
+    serves = λ p stands at.
+        let o = next_opens p (outside n c s v) (n.traffic begun) at opens in
+        cut_off k v.controller.keeper after number p o.came o.rest o.opens (n.traffic net) (c.moments clock) (s.written v.sink) at.lines stop
+        (a.answers p o.came o.rest stands o.net at.clock);
+    any_moment = crash_passed (Err stop) a;
+    told = a.told;
+    disk = λ is. let same : stop ≡ stops.Disk = (cc is) in a.disk (ap (λ (x : Stop). let r : Result Served Stop = Err x in r) same);
+    disk_later = a.disk_later;
+    link = λ is. absurd (neither stops.Link (cc is) a.only (λ e. cc e) (λ e. cc e) (λ e. cc e));
+    doors_later = omega (arith, door.doors_later, a.doors);
+    lines_later = omega (arith, door.lines, a.lines_later);
+    clock = λ is. let same : stop ≡ stops.Clock = (cc is) in a.clock (ap (λ (x : Stop). let r : Result Served Stop = Err x in r) same);
+    clock_later = a.clock_later;
+    write = λ is. absurd (neither stops.Write (cc is) a.only (λ e. cc e) (λ e. cc e) (λ e. cc e));
+    sink_later = omega arith;
+  }
+    where
+      neither : (x : Stop) → stop ≡ x → (stop ≡ stops.Disk) ⊎ ((stop ≡ stops.Clock) ⊎ (stop ≡ stops.NoMemory)) → (x ≡ stops.Disk → ⊥) → (x ≡ stops.Clock → ⊥) → (x ≡ stops.NoMemory → ⊥) → ⊥
+      neither x is (inl e) disk time memory = disk (sym is ∙ e)
+      neither x is (inr (inl e)) disk time memory = time (sym is ∙ e)
+      neither x is (inr (inr e)) disk time memory = memory (sym is ∙ e)
+
+  -- it was answered to its end, and its line written or not
+  pub told_goes : (served : Served) → Answered (Ok served) → (sink : S) (r : Result Unit Stop)
+      → OnOk r (Adds (s.written v.sink) (s.written sink) (connection_line number served.messages served.end))
+      → OnErr r (AddsFront (s.written v.sink) (s.written sink) (connection_line number served.messages served.end))
+      → IfErr r (λ stop. (stop ≡ stops.Write) ⊎ (stop ≡ stops.NoMemory)) → (IsErrOf r stops.Write → s.faults v.sink < s.faults sink) → s.faults v.sink ≤ s.faults sink
+      → ServesOne k n c s number v (record { controller = after; net = net; clock = clock; sink = sink }) r
+  told_goes served a sink r adds front only write sink_later = record {
+    up = ok_up (IsSome after.state) r a.up;
+    serves = λ p stands at.
+        let o = next_opens p (outside n c s v) (n.traffic begun) at opens in
+        told_so k v.controller.keeper after number p o.came o.rest o.opens (n.traffic net) (c.moments clock) served (a.answers p o.came o.rest stands o.net at.clock)
+        (s.written v.sink) (s.written sink) at.lines r adds front only;
+    any_moment = crash_passed (Ok served) a;
+    told = a.told;
+    disk = λ is. absurd (only_told r stops.Disk only is (λ e. cc e) (λ e. cc e));
+    disk_later = a.disk_later;
+    link = λ is. absurd (only_told r stops.Link only is (λ e. cc e) (λ e. cc e));
+    doors_later = omega (arith, door.doors_later, a.doors);
+    lines_later = omega (arith, door.lines, a.lines_later);
+    clock = λ is. absurd (only_told r stops.Clock only is (λ e. cc e) (λ e. cc e));
+    clock_later = a.clock_later;
+    write = write;
+    sink_later = sink_later;
+  }

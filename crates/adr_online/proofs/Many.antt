@@ -1,19 +1,28 @@
 -- Many connections, one after the other.
-use Rattle.std.proofs.Common.{◌≡◌, ◌≤◌, ◌<◌, ◌+◌, inl, refl, subst, ℕ, suc, Ok, Err, arith}
-use Rattle.std.specs.Prelude.{IsSome}
+use Rattle.std.proofs.Common.{◌≡◌, ◌⊎◌, ◌≤◌, ◌<◌, ◌+◌, ◌∙◌, inl, inr, refl, sym, ap, subst, ℕ, suc, Result, Ok, Err, arith}
+use Rattle.std.specs.Option.{option_map}
+use Rattle.std.specs.Prelude.{IsErrOf, IsSome}
+use Rattle.adr_io.specs.declared.Sink.{Ghosts as SinkGhosts}
 use Rattle.adr_disk.proofs.Moments.{joined, weakened}
 use Rattle.adr_disk.specs.Disk.{Among, LeavesOnly}
+use Rattle.adr_outside.specs.Traffic.{hung_up}
+use Rattle.adr_outside.specs.declared.net.Net.{Ghosts as NetGhosts}
+use Rattle.adr_outside.specs.declared.clock.Clock.{Ghosts as ClockGhosts}
 use Rattle.adr_model.specs.Store.{State}
-use Rattle.adr_law_journal.specs.Areas.{Found}
+use Rattle.adr_law_journal.specs.Areas.{Found, Started}
 use Rattle.adr_law_journal.proofs.Told.{at_told, if_told, is_some_of, some_of}
 use Rattle.adr_journal.specs.declared.keeper.Keeper.{Ghosts as KeeperGhosts}
 use Rattle.adr_controller.specs.Running.{IsInOrder, Running}
+use Rattle.adr_law_controller.specs.Keeping.{Stands}
 use Rattle.adr_session.specs.Talk.{Point}
-use Rattle.adr_session.specs.Told.{FindsNear, Stands}
+use Rattle.adr_session.specs.Told.{FindsNear}
 use Rattle.adr_session.proofs.Leaving.{Crashes, LeavesLaw, OnlyNowLaw, still_crashes}
 use Rattle.adr_online.specs.declared.ended.Stop.{Stop}
+use Rattle.adr_online.specs.declared.ended.Stop.TheVariants as stops
 use Rattle.adr_online.specs.Posts.{Post, Behind, Connects, FindsFrom, FindsWithin}
 use Rattle.adr_online.specs.Served.{HasFallen, IsAt, Outside, ServesAll, ServesNext, StopsAt}
+use Rattle.adr_online.specs.Goes.{CallsDoor, Goes, Server, ServesOne, ServesSo, outside}
+use Rattle.adr_online.proofs.Connected.{crashes_before, unopened}
 use Rattle.adr_online.proofs.Monotone.{stops_so}
 
 -- where a server stands behind so many connections
@@ -33,7 +42,7 @@ pub stops_there : (at : Found State → Type 0) (fallen : Point → Type 0) (cou
     → StopsAt at fallen (n + 1) q stop o → ServesAll at fallen count p (Err stop) o
 stops_there at fallen count n p q o less behind stop stops =
     let one : n + 1 ≡ suc n = omega arith in
-    (n, q, omega (arith, less), behind, subst (λ (m : ℕ). StopsAt at fallen m q stop o) one stops)
+    (n, q, inl less, behind, subst (λ (m : ℕ). StopsAt at fallen m q stop o) one stops)
 
 module _ {K : Type 0} (k : KeeperGhosts K) where
   -- a fault of the disk is told from the keeper on that was there first
@@ -66,3 +75,137 @@ module _ {K : Type 0} (k : KeeperGhosts K) where
       joined k.moment k.left_since first mid new (FindsWithin m p)
       (weakened k.moment k.left_since first mid (FindsWithin n p) (FindsWithin m p) (λ s finds. (finds.0, finds.1, omega (arith, le, finds.2), finds.3, finds.4)) (at_told (k.told first) (λ _. LeavesOnly k.moment k.left_since first mid (FindsWithin n p)) t tells so_far))
       (weakened k.moment k.left_since mid new (FindsFrom q) (FindsWithin m p) (λ s finds. (n, q, le, behind, finds)) (at_told (k.told mid) (λ _. LeavesOnly k.moment k.left_since mid new (FindsFrom q)) y.0 y.1 more)))
+
+-- ---- with what is counted
+
+module _ {K N C S : Type 0} (k : KeeperGhosts K) (n : NetGhosts N) (c : ClockGhosts C) (s : SinkGhosts S) where
+  abbrev failing : Stop → Result Unit Stop
+  failing stop = Err stop
+
+  -- no connection was opened
+  none_opened : (comes : Post → Outside → Type 0) (finds : Post → Started State → Type 0) (v : Server K N C S) (net : N) (stop : Stop) → CallsDoor n v.net net (Err stop)
+      → ((p : Post) → Stands k p.stands v.controller → IsAt p (outside n c s v) → comes p (outside n c s (record v { net = net })))
+      → ((p : Post) → Stands k p.stands v.controller → Crashes k v.controller.keeper v.controller.keeper (finds p))
+      → Goes k n c s comes finds v (record v { net = net }) (Err stop)
+  none_opened comes finds v net stop door so crash = record {
+    up = tt;
+    serves = so;
+    any_moment = λ p stands at. crash p stands;
+    told = λ is. is;
+    disk = λ is. absurd (neither stops.Disk (cc is) door.only (λ e. cc e) (λ e. cc e));
+    disk_later = omega arith;
+    link = door.link;
+    doors_later = door.doors_later;
+    lines_later = omega (arith, door.lines);
+    clock = λ is. absurd (neither stops.Clock (cc is) door.only (λ e. cc e) (λ e. cc e));
+    clock_later = omega arith;
+    write = λ is. absurd (neither stops.Write (cc is) door.only (λ e. cc e) (λ e. cc e));
+    sink_later = omega arith;
+  }
+    where
+      neither : (x : Stop) → stop ≡ x → (stop ≡ stops.Link) ⊎ (stop ≡ stops.NoMemory) → (x ≡ stops.Link → ⊥) → (x ≡ stops.NoMemory → ⊥) → ⊥
+      neither x is (inl e) link memory = link (sym is ∙ e)
+      neither x is (inr e) link memory = memory (sym is ∙ e)
+
+  module _ (leaves : LeavesLaw k) (only_now : OnlyNowLaw k) (v : Server K N C S) (net : N) (stop : Stop) (order : IsInOrder k v.controller) (door : CallsDoor n v.net net (Err stop)) where
+    abbrev at_once : Found State → Type 0
+    at_once f = Stands k f v.controller
+
+    abbrev fallen_there : Point → Type 0
+    fallen_there x = HasFallen k v.controller.keeper x v.controller
+
+    stops_unopened : (number : ℕ) (p : Post) → Stands k p.stands v.controller → IsAt p (outside n c s v) → StopsAt at_once fallen_there number p stop (outside n c s (record v { net = net }))
+    stops_unopened number p stands at =
+        unopened at_once fallen_there number p (n.traffic v.net) (n.traffic net) (c.moments v.clock) (s.written v.sink) stands stop door.only door.stays at
+
+    pub unaccepted : (number : ℕ) → ServesOne k n c s number v (record v { net = net }) (Err stop)
+    unaccepted number =
+        none_opened (λ p o. StopsAt at_once fallen_there number p stop o) FindsFrom v net stop door (stops_unopened number) (λ p stands. crashes_before k leaves only_now p v.controller stands order)
+
+    pub unlistened : (count : ℕ) → ServesSo k n c s count v (record v { net = net }) (Err stop)
+    unlistened count =
+        none_opened (λ p o. ServesAll at_once fallen_there count p (failing stop) o) (FindsWithin count) v net stop door
+        (λ p stands at. (0, p, inr refl, refl, stops_unopened 1 p stands at)) (λ p stands. crashes_first k leaves only_now count p v.controller stands order)
+
+  pub served_none : LeavesLaw k → OnlyNowLaw k → (v : Server K N C S) → IsSome v.controller.state → IsInOrder k v.controller → ServesSo k n c s 0 v v (Ok tt)
+  served_none leaves only_now v up order = record {
+    up = up;
+    serves = λ p stands at. (p, refl, stands, at);
+    any_moment = λ p stands at. crashes_first k leaves only_now 0 p v.controller stands order;
+    told = λ is. is;
+    disk = λ is. absurd (cc is);
+    disk_later = omega arith;
+    link = λ is. absurd (cc is);
+    doors_later = omega arith;
+    lines_later = omega arith;
+    clock = λ is. absurd (cc is);
+    clock_later = omega arith;
+    write = λ is. absurd (cc is);
+    sink_later = omega arith;
+  }
+
+  module _ (m : ℕ) (first mid new : Server K N C S) (so : ServesSo k n c s m first mid (Ok tt)) where
+    -- one more
+    pub served_more : ServesOne k n c s (m + 1) mid new (Ok tt) → ServesSo k n c s (m + 1) first new (Ok tt)
+    served_more one = record {
+      up = one.up;
+      serves = λ p stands at.
+          let b = so.serves p stands at in
+          one_further k (λ x. HasFallen k mid.controller.keeper x new.controller) m p new.controller (outside n c s new) b.0 b.1 (one.serves b.0 b.2 b.3);
+      any_moment = λ p stands at.
+          let b = so.serves p stands at in
+          crashes_further k m (m + 1) p b.0 first.controller.keeper mid.controller.keeper new.controller.keeper (omega arith) b.1 (so.any_moment p stands at) so.told
+          (one.any_moment b.0 b.2 b.3);
+      told = λ is. one.told (so.told is);
+      disk = λ is. absurd (cc is);
+      disk_later = omega (arith, so.disk_later, one.disk_later);
+      link = λ is. absurd (cc is);
+      doors_later = omega (arith, so.doors_later, one.doors_later);
+      lines_later = omega (arith, so.lines_later, one.lines_later);
+      clock = λ is. absurd (cc is);
+      clock_later = omega (arith, so.clock_later, one.clock_later);
+      write = λ is. absurd (cc is);
+      sink_later = omega (arith, so.sink_later, one.sink_later);
+    }
+
+    -- or it stops there
+    pub served_some : (count : ℕ) (stop : Stop) → m < count → ServesOne k n c s (m + 1) mid new (Err stop) → ServesSo k n c s count first new (Err stop)
+    served_some count stop less one = record {
+      up = tt;
+      serves = λ p stands at.
+          let b = so.serves p stands at in
+          stops_since k first.controller.keeper mid.controller.keeper so.told new.controller count m p b.0 (outside n c s new) less b.1 stop (one.serves b.0 b.2 b.3);
+      any_moment = λ p stands at.
+          let b = so.serves p stands at in
+          crashes_further k m count p b.0 first.controller.keeper mid.controller.keeper new.controller.keeper (omega (arith, less)) b.1 (so.any_moment p stands at) so.told
+          (one.any_moment b.0 b.2 b.3);
+      told = λ is. one.told (so.told is);
+      disk = λ is. omega (arith, so.disk_later, one.disk is);
+      disk_later = omega (arith, so.disk_later, one.disk_later);
+      link = λ is. omega (arith, so.doors_later, one.link is);
+      doors_later = omega (arith, so.doors_later, one.doors_later);
+      lines_later = omega (arith, so.lines_later, one.lines_later);
+      clock = λ is. omega (arith, so.clock_later, one.clock is);
+      clock_later = omega (arith, so.clock_later, one.clock_later);
+      write = λ is. omega (arith, so.sink_later, one.write is);
+      sink_later = omega (arith, so.sink_later, one.sink_later);
+    }
+
+  -- behind a call that only listens
+  pub served_behind : (count : ℕ) (v new : Server K N C S) (net : N) (r : Result Unit Stop) → n.traffic net ≡ n.traffic v.net → CallsDoor n v.net net (Ok tt)
+      → ServesSo k n c s count (record v { net = net }) new r → ServesSo k n c s count v new r
+  served_behind count v new net r stays door so = record {
+    up = so.up;
+    serves = λ p stands at. so.serves p stands (record { net = ap (option_map hung_up) stays ∙ at.net; clock = at.clock; lines = at.lines });
+    any_moment = λ p stands at. so.any_moment p stands (record { net = ap (option_map hung_up) stays ∙ at.net; clock = at.clock; lines = at.lines });
+    told = so.told;
+    disk = so.disk;
+    disk_later = so.disk_later;
+    link = λ is. omega (arith, door.doors_later, so.link is);
+    doors_later = omega (arith, door.doors_later, so.doors_later);
+    lines_later = omega (arith, door.lines, so.lines_later);
+    clock = so.clock;
+    clock_later = so.clock_later;
+    write = so.write;
+    sink_later = so.sink_later;
+  }

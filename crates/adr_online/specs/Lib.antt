@@ -1,4 +1,5 @@
 pub mod Lines
 pub mod Posts
 pub mod Served
+pub mod Goes
 pub mod Serves

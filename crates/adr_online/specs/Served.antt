@@ -1,15 +1,18 @@
 -- What is told of a server: where its node, its network, its clock and its lines stand.
-use Rattle.std.specs.Prelude.{◌≡◌, ◌⊎◌, ℕ, suc, ◌≤◌, List, [], ◌∷◌, ◌++◌, take, true, false, Option, Some, None, IfSome, Result, Ok, Err}
+use Rattle.std.specs.Prelude.{◌≡◌, ◌⊎◌, ℕ, suc, ◌<◌, List, [], ◌∷◌, ◌++◌, take, true, false, Option, Some, None, IfSome, Result, Ok, Err}
 use Rattle.std.specs.Option.{option_map}
 use Rattle.adr_disk.specs.Disk.{Among}
 use Rattle.adr_model.specs.Store.{State}
 use Rattle.adr_law_journal.specs.Areas.{Found}
 use Rattle.adr_journal.specs.declared.keeper.Keeper.{Ghosts as KeeperGhosts}
 use Rattle.adr_controller.specs.Running.{Running}
-use Rattle.adr_outside.specs.Traffic.{Traffic, hung_up}
+use Rattle.adr_outside.specs.Traffic.{Traffic, closed, hung_up, open_line}
 use Rattle.adr_session.specs.Talk.{Point, Reaches}
-use Rattle.adr_session.specs.Told.{FindsNear, IsAtLine, IsNear, Stands}
+use Rattle.adr_law_controller.specs.Keeping.{Stands}
+use Rattle.adr_session.specs.Told.{FindsNear, IsAtLine, IsNear}
 use Rattle.adr_session.specs.declared.ending.Served.{Served}
+use Rattle.adr_session.specs.declared.ending.ServeFault.{ServeFault}
+use Rattle.adr_session.specs.declared.ending.ServeFault.TheVariants as faults
 use Rattle.adr_online.specs.declared.ended.Stop.{Stop}
 use Rattle.adr_online.specs.declared.ended.Stop.TheVariants as stops
 use Rattle.adr_online.specs.Posts.{Post, Behind, Comes, Connects, opened}
@@ -20,18 +23,10 @@ pub record Outside : Type 0 where
   pub clock : Option (List ℕ)
   pub lines : Option (List ℕ)
 
--- no connection is open
-abbrev pub closed : List (List ℕ) → List (List ℕ) → Traffic
-closed waiting done = record { waiting = waiting; is_open = false; left = []; sent = []; done = done }
-
 -- a call of the disk failed at a point: no state is in memory, and a start finds the one there, or the one behind the next message,
 -- where the keeper told before what one finds
 abbrev pub HasFallen : {K : Type 0} → KeeperGhosts K → K → Point → Running K → Type 0
 HasFallen k before x c = (c.state ≡ None) × IfSome (k.told before) (λ _. Among (FindsNear x) (k.may_leave c.keeper))
-
--- one is open, of which this is left, and in which this was sent
-abbrev pub open_line : List (List ℕ) → List (List ℕ) → List ℕ → List ℕ → Traffic
-open_line waiting done left sent = record { waiting = waiting; is_open = true; left = left; sent = sent; done = done }
 
 -- all outside is where the post says, an open connection being hung up
 pub record IsAt (p : Post) (o : Outside) : Type 0 where
@@ -78,6 +73,13 @@ AnswersAll k before p came rest (Err stops.NoMemory) c net clock =
 AnswersAll k before p came rest (Err stops.Write) c net clock = ⊥
 AnswersAll k before p came rest (Err stops.Link) c net clock = ⊥
 
+-- how it ended once it was hung up, or why the server stops
+abbrev pub stopped : Result Served ServeFault → Result Served Stop
+stopped (Ok s) = Ok s
+stopped (Err faults.Disk) = Err stops.Disk
+stopped (Err faults.Clock) = Err stops.Clock
+stopped (Err faults.NoMemory) = Err stops.NoMemory
+
 -- ---- how it ended, where `at` says where the node then stands, and `fallen` at which point a call of its disk failed
 
 -- why the connection of this number wasn't served, or not its line written
@@ -100,4 +102,4 @@ ServesNext at fallen number p (Err stop) o = StopsAt at fallen number p stop o
 abbrev pub ServesAll : (Found State → Type 0) → (Point → Type 0) → ℕ → Post → Result Unit Stop → Outside → Type 0
 ServesAll at fallen count p (Ok _) o = (q : Post) × Behind count p q × at q.stands × IsAt q o
 ServesAll at fallen count p (Err stop) o =
-    (n : ℕ) × (q : Post) × (n ≤ count) × Behind n p q × StopsAt at fallen (suc n) q stop o
+    (n : ℕ) × (q : Post) × ((n < count) ⊎ (n ≡ 0)) × Behind n p q × StopsAt at fallen (suc n) q stop o

@@ -1,17 +1,16 @@
 -- What a server does over the controller on a disk.
 use Rattle.std.specs.Prelude.{◌≡◌, ◌⊎◌, ◌<◌, ◌≤◌, ℕ, IfSome, IsSome, Result, Ok, Err}
-use Rattle.adr_io.specs.Told.{Adds, AddsFront}
 use Rattle.adr_io.specs.declared.Sink.{Ghosts as SinkGhosts}
 use Rattle.adr_disk.specs.Disk.{Among, LeavesOnly}
 use Rattle.adr_outside.specs.declared.net.Net.{Ghosts as NetGhosts}
 use Rattle.adr_outside.specs.declared.clock.Clock.{Ghosts as ClockGhosts}
 use Rattle.adr_model.specs.Store.{State}
 use Rattle.adr_law_journal.specs.Areas.{Found, Started}
-use Rattle.adr_law_journal.specs.Kept.{FindsState}
-use Rattle.adr_journal.specs.declared.keeper.StartRefusal.{StartRefusal}
-use Rattle.adr_journal.specs.declared.keeper.StartRefusal.TheVariants as starts
-use Rattle.adr_node.specs.Lines.{damaged_line}
-use Rattle.adr_node.specs.Seen.{Seen}
+use Rattle.adr_journal.specs.declared.keeper.Keeper.{Ghosts as KeeperGhosts}
+use Rattle.adr_node.specs.Begins.{Begun, EndsUnbegun, StandsOn}
+use Rattle.adr_node.specs.Seen.{Seen, of_keeper}
+use Rattle.adr_node.specs.declared.ended.Unbegun.{Unbegun}
+use Rattle.adr_node.specs.declared.ended.Unbegun.TheVariants as unbegun
 use Rattle.adr_session.specs.Talk.{Point}
 use Rattle.adr_session.specs.Told.{FindsNear}
 use Rattle.adr_online.specs.declared.ended.Online.{Online}
@@ -20,6 +19,7 @@ use Rattle.adr_online.specs.declared.ended.Stop.{Stop}
 use Rattle.adr_online.specs.declared.ended.Stop.TheVariants as stops
 use Rattle.adr_online.specs.Posts.{Post, FindsWithin}
 use Rattle.adr_online.specs.Served.{Outside, IsAt, ServesAll}
+use Rattle.adr_online.specs.Goes.{Server}
 
 -- what a server has at hand
 pub record Hands (D N C S : Type 0) : Type 0 where
@@ -30,10 +30,6 @@ pub record Hands (D N C S : Type 0) : Type 0 where
 
 abbrev pub outside_of : {D N C S : Type 0} → NetGhosts N → ClockGhosts C → SinkGhosts S → Hands D N C S → Outside
 outside_of n c k h = record { net = n.traffic h.net; clock = c.moments h.clock; lines = k.written h.sink }
-
--- a start finds this state, also behind a crash, where what it finds is told
-abbrev pub StandsOn : {D : Type 0} → Seen D → D → Found State → Type 0
-StandsOn d disk f = IfSome (d.told disk) (λ t. (t ≡ Ok f) × Among (FindsState f.state) (d.may_leave disk))
 
 -- a start finds the state at a point, or the one behind the next message, where what it finds was told before
 abbrev pub FallsOn : {D : Type 0} → Seen D → D → D → Point → Type 0
@@ -60,32 +56,18 @@ online_of (Err stops.Link) = online.LinkFault
 online_of (Err stops.Clock) = online.ClockFault
 online_of (Err stops.NoMemory) = online.NoMemory
 
--- the bytes of the disk are no log: that is written, or a front of it
-abbrev pub TellsDamage : {S : Type 0} → SinkGhosts S → ℕ → S → S → Online → Type 0
-TellsDamage k place before after online.Done = ⊥
-TellsDamage k place before after online.WriteFault = AddsFront (k.written before) (k.written after) (damaged_line place)
-TellsDamage k place before after online.DiskFault = ⊥
-TellsDamage k place before after online.LinkFault = ⊥
-TellsDamage k place before after online.NoMemory = AddsFront (k.written before) (k.written after) (damaged_line place)
-TellsDamage k place before after (online.Damaged there) =
-    (there ≡ place) × Adds (k.written before) (k.written after) (damaged_line place)
-TellsDamage k place before after online.ClockFault = ⊥
+-- how one ends that had no controller to begin with
+abbrev pub unserved : Unbegun → Online
+unserved (unbegun.Damaged place) = online.Damaged place
+unserved unbegun.WriteFault = online.WriteFault
+unserved unbegun.DiskFault = online.DiskFault
+unserved unbegun.NoMemory = online.NoMemory
 
--- what is told of a start that was refused
-abbrev pub TellsRefusal : {S : Type 0} → SinkGhosts S → StartRefusal → S → S → Online → Type 0
-TellsRefusal k starts.DiskFault before after how = (how ≡ online.DiskFault) × (after ≡ before)
-TellsRefusal k (starts.Damaged place) before after how = TellsDamage k place before after how
-TellsRefusal k (starts.NoMemory settled) before after how = (how ≡ online.NoMemory) × (after ≡ before)
-
--- nothing but the disk was used
-abbrev pub UsesDiskAlone : {D N C S : Type 0} → Hands D N C S → Hands D N C S → Type 0
-UsesDiskAlone old new = (new.net ≡ old.net) × (new.clock ≡ old.clock) × (new.sink ≡ old.sink)
-
--- the controller wasn't started: a call of the disk failed, or memory was wanting
-abbrev pub Unbegun : {D N C S : Type 0} → Seen D → Hands D N C S → Hands D N C S → Online → Type 0
-Unbegun d old new how =
-    ((how ≡ online.DiskFault) ⊎ ((how ≡ online.NoMemory) × (d.told new.disk ≡ d.told old.disk))) × UsesDiskAlone old new
-    × Among (d.may_leave old.disk) (d.may_leave new.disk)
+-- and it used nothing of the network and the clock
+abbrev pub IsUnserved : {D N C S : Type 0} → Seen D → SinkGhosts S → Started State → Hands D N C S → Hands D N C S → Online → Type 0
+IsUnserved d k found old new how =
+    ((why : Unbegun) × (how ≡ unserved why) × EndsUnbegun d k found old.disk new.disk old.sink new.sink why)
+    × (new.net ≡ old.net) × (new.clock ≡ old.clock)
 
 -- what was done with what a start found
 abbrev pub Does : {D N C S : Type 0} → Seen D → NetGhosts N → ClockGhosts C → SinkGhosts S → ℕ → Started State → Hands D N C S → Hands D N C S → Online
@@ -93,9 +75,7 @@ abbrev pub Does : {D N C S : Type 0} → Seen D → NetGhosts N → ClockGhosts 
 Does d n c k count (Ok f) old new how =
     (p : Post) → p.stands ≡ f → IsAt p (outside_of n c k old)
     → ServesFrom (StandsOn d new.disk) (FallsOn d old.disk new.disk) count p how (outside_of n c k new)
-Does d n c k count (Err place) old new how =
-    TellsDamage k place old.sink new.sink how × (new.net ≡ old.net) × (new.clock ≡ old.clock)
-    × (d.told new.disk ≡ d.told old.disk) × Among (d.may_leave old.disk) (d.may_leave new.disk)
+Does d n c k count (Err place) old new how = ⊥
 
 -- what a start may find behind a crash at any moment of the command: what it might have found before, or where the node stood
 -- behind some of the messages
@@ -112,7 +92,7 @@ pub record Serves {D N C S : Type 0} (d : Seen D) (n : NetGhosts N) (c : ClockGh
   -- what the start finds, which is what the bytes of the disk are, where it tells them
   pub found : Started State
   pub is_found : IfSome (d.told old.disk) (λ t. t ≡ found)
-  pub does : Unbegun d old new how ⊎ Does d n c k count found old new how
+  pub does : IsUnserved d k found old new how ⊎ Does d n c k count found old new how
   pub any_moment : IfSome (d.told old.disk) (λ _. LeavesSo d n c k count found old new)
   -- a disk that tells what a start finds goes on telling it
   pub still_told : IsSome (d.told old.disk) → IsSome (d.told new.disk)
@@ -126,3 +106,10 @@ pub record Serves {D N C S : Type 0} (d : Seen D) (n : NetGhosts N) (c : ClockGh
   pub doors_later : n.doors old.net ≤ n.doors new.net
   pub lines_later : n.lines old.net ≤ n.lines new.net
   pub clock_later : c.faults old.clock ≤ c.faults new.clock
+
+-- from a controller, whatever keeper it was started from
+abbrev pub ServesOn : {K N C S : Type 0} → KeeperGhosts K → NetGhosts N → ClockGhosts C → SinkGhosts S → ℕ → Server K N C S → K → N → C → S → Online → Type 0
+ServesOn {K} k n c s count v keeper_after net clock sink how =
+    (keeper : K) → Begun k keeper v.controller
+    → Serves (of_keeper k) n c s count (record { disk = keeper; net = v.net; clock = v.clock; sink = v.sink })
+    (record { disk = keeper_after; net = net; clock = clock; sink = sink }) how

@@ -1,6 +1,6 @@
 //! Refusals as they are answered. None wants memory.
 
-ghost use Rattle.std.specs.Prelude.{◌≡◌, ◌∷◌, []};
+ghost use Rattle.std.specs.Prelude.{◌≡◌, ◌∷◌, [], codes};
 ghost use Rattle.adr_model.specs.Refused.{adopt_refused, attr_field, collect_refused, fault_name, field, full, id_field, number_field, quarantined, rolled_back, schema_name, schemas_differ, serve_refused, table_name, take_refused, write_refused};
 
 use adr_call::{
@@ -106,6 +106,17 @@ fn of_id(number: u8, label: &'static str, name: &'static str, id: Guid) -> Outco
     refused(number, label, Fields::one(id_field(name, id)))
 }
 
+/// A refusal that names an incarnation and two of its numbers.
+fn of_inv(number: u8, label: &'static str, inv: Guid, first: Field, second: Field) -> Outcome
+    ensures { result ≡ Outcome.Refused number label.now (id_field (codes "inv") inv ∷ first ∷ second ∷ []) }
+{
+    refused(
+        number,
+        label,
+        Fields::three(id_field("inv", inv), first, second),
+    )
+}
+
 /// A table, or a log, has no room. It wants no memory, so that an answer can be made behind a change.
 pub fn full(table: Table, limit: u64) -> Outcome
     ensures { result ≡ full table limit }
@@ -174,12 +185,8 @@ fn schemas_differ(mine: u32, theirs: u32) -> Outcome
 fn rolled_back(inv: Guid, mine: u64, shown: u64) -> Outcome
     ensures { result ≡ rolled_back inv mine shown }
 {
-    let fields = Fields::three(
-        id_field("inv", inv),
-        number_field("mine", mine),
-        number_field("shown", shown),
-    );
-    refused(33, "RolledBack", fields)
+    let (mine, shown) = (number_field("mine", mine), number_field("shown", shown));
+    of_inv(33, "RolledBack", inv, mine, shown)
 }
 
 /// A refused request as it is answered. It wants no memory, so that an answer can be made behind a change.
@@ -203,12 +210,8 @@ pub fn serve_refused(refusal: ServeRefusal) -> Outcome
         ServeRefusal::RolledBack { inv, mine, shown } => rolled_back(inv, mine, shown),
         ServeRefusal::SchemaMismatch { mine, theirs } => schemas_differ(mine, theirs),
         ServeRefusal::TooOld { inv, purged, has } => {
-            let fields = Fields::three(
-                id_field("inv", inv),
-                number_field("purged", purged),
-                number_field("has", has),
-            );
-            refused(32, "TooOld", fields)
+            let (purged, has) = (number_field("purged", purged), number_field("has", has));
+            of_inv(32, "TooOld", inv, purged, has)
         }
     }
 }
@@ -225,12 +228,8 @@ pub fn take_refused(refusal: TakeRefusal) -> Outcome
             refused(41, "Stale", fields)
         }
         TakeRefusal::VectorBehind { inv, has, needs } => {
-            let fields = Fields::three(
-                id_field("inv", inv),
-                number_field("has", has),
-                number_field("needs", needs),
-            );
-            refused(42, "VectorBehind", fields)
+            let (has, needs) = (number_field("has", has), number_field("needs", needs));
+            of_inv(42, "VectorBehind", inv, has, needs)
         }
         TakeRefusal::SchemaMismatch { mine, theirs } => schemas_differ(mine, theirs),
         TakeRefusal::RolledBack { inv, mine, shown } => rolled_back(inv, mine, shown),

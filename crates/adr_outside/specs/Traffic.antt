@@ -8,15 +8,23 @@ pub record Traffic : Type 0 where
   pub sent : List ℕ  -- what was sent in it
   pub done : List (List ℕ)  -- what was sent in each one that was hung up, in order
 
+-- no connection is open
+abbrev pub closed : List (List ℕ) → List (List ℕ) → Traffic
+closed waiting done = record { waiting = waiting; is_open = false; left = []; sent = []; done = done }
+
+-- one is open, of which this is left, and in which this was sent
+abbrev pub open_line : List (List ℕ) → List (List ℕ) → List ℕ → List ℕ → Traffic
+open_line waiting done left sent = record { waiting = waiting; is_open = true; left = left; sent = sent; done = done }
+
 -- the open connection, if there is one, is hung up
 abbrev pub hung_up : Traffic → Traffic
-hung_up t = if t.is_open then record { waiting = t.waiting; is_open = false; left = []; sent = []; done = t.done ++ t.sent ∷ [] } else t
+hung_up t = if t.is_open then closed t.waiting (t.done ++ t.sent ∷ []) else t
 
 -- the next connection is opened
 abbrev pub Opens : Traffic → Option Traffic → Type 0
 Opens before after =
     (bytes : List ℕ) × (rest : List (List ℕ)) × (before.waiting ≡ bytes ∷ rest)
-    × (after ≡ Some (record { waiting = rest; is_open = true; left = bytes; sent = []; done = (hung_up before).done }))
+    × (after ≡ Some (open_line rest (hung_up before).done bytes []))
 
 -- of what comes in the open connection n bytes were read into the front of a buffer
 pub record Receives (before : Traffic) (after : Option Traffic) (buffer : List ℕ) (n : ℕ) : Type 0 where

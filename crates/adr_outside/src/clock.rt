@@ -1,7 +1,7 @@
 //! The time.
 
-ghost use Rattle.std.specs.Prelude.{◌≡◌, ◌<◌, ◌≤◌, ◌-◌, ◌^◌, ℕ, List, Option, IfOk, IfSome, IsErrOf, OnErr, OnOk};
-ghost use Rattle.adr_outside.specs.Given.{Takes};
+ghost use Rattle.std.specs.Prelude.{ℕ, List, Option};
+ghost use Rattle.adr_outside.specs.Given.{GivesNext};
 
 use adr_io::Fault;
 
@@ -16,12 +16,5 @@ pub trait Clock {
     /// The present moment, in whole seconds since 1970 began in UTC. A later call may give an earlier one. A call that
     /// fails takes no moment. Memory is wanting only where one more failure can't be counted.
     fn now(&mut self) -> Result<u64, Fault>
-        ensures taken { IfOk result (λ now. IfSome (moments self.old) (λ before.
-            Takes now before (moments self.new))) }
-        ensures stays { OnErr result (moments self.new ≡ moments self.old) }
-        ensures never_falls { faults self.old ≤ faults self.new }
-        ensures failed { IsErrOf result Fault.Failed → faults self.old < faults self.new }
-        ensures not_counted { OnOk result (faults self.new ≡ faults self.old) }
-        ensures no_memory_only { IsErrOf result Fault.NoMemory → faults self.old ≡ 2 ^ 64 - 1 }
-        ensures no_memory_counted { IsErrOf result Fault.NoMemory → faults self.new ≡ faults self.old };
+        ensures { GivesNext (moments self.old) (moments self.new) (faults self.old) (faults self.new) result };
 }

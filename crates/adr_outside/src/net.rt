@@ -2,6 +2,7 @@
 
 ghost use Rattle.std.specs.Prelude.{◌≡◌, ◌⊎◌, ◌<◌, ◌≤◌, ◌-◌, ◌^◌, ℕ, [], Option, IfOk, IfSome, IsErrOf, OnErr, OnOk, length};
 ghost use Rattle.std.specs.Option.{option_map};
+ghost use Rattle.adr_outside.specs.Counted.{IsCounted};
 ghost use Rattle.adr_outside.specs.Traffic.{Traffic, Opens, Receives, Sends, SendsFront, hung_up};
 
 use adr_io::Fault;
@@ -28,37 +29,25 @@ pub trait Net {
     /// more failure can't be counted.
     fn listen(&mut self, port: u16) -> Result<(), Fault>
         ensures stays { traffic self.new ≡ traffic self.old }
-        ensures never_falls { doors self.old ≤ doors self.new }
-        ensures failed { IsErrOf result Fault.Failed → doors self.old < doors self.new }
-        ensures not_counted { OnOk result (doors self.new ≡ doors self.old) }
         ensures no_memory_only { IsErrOf result Fault.NoMemory → doors self.old ≡ 2 ^ 64 - 1 }
-        ensures no_memory_counted { IsErrOf result Fault.NoMemory → doors self.new ≡ doors self.old }
-        ensures lines { lines self.new ≡ lines self.old };
+        ensures counts { IsCounted (doors self.old) (doors self.new) (lines self.old) (lines self.new) result };
 
     /// Opens the next connection that a peer makes to the port where it listens, and waits for it as long as that
     /// takes. One that fails leaves none open.
     fn accept(&mut self) -> Result<(), Fault>
         ensures opens { OnOk result (IfSome (traffic self.old) (λ before. Opens before (traffic self.new))) }
         ensures closes { IsErrOf result Fault.Failed → traffic self.new ≡ option_map hung_up (traffic self.old) }
-        ensures never_falls { doors self.old ≤ doors self.new }
-        ensures failed { IsErrOf result Fault.Failed → doors self.old < doors self.new }
-        ensures not_counted { OnOk result (doors self.new ≡ doors self.old) }
         ensures no_memory { IsErrOf result Fault.NoMemory → traffic self.new ≡ traffic self.old }
         ensures no_memory_only { IsErrOf result Fault.NoMemory → keeps self.old ⊎ (doors self.old ≡ 2 ^ 64 - 1) }
-        ensures no_memory_counted { IsErrOf result Fault.NoMemory → doors self.new ≡ doors self.old }
-        ensures lines { lines self.new ≡ lines self.old };
+        ensures counts { IsCounted (doors self.old) (doors self.new) (lines self.old) (lines self.new) result };
 
     /// Opens a connection to a port of this machine. One that fails leaves none open.
     fn connect(&mut self, port: u16) -> Result<(), Fault>
         ensures opens { OnOk result (IfSome (traffic self.old) (λ before. Opens before (traffic self.new))) }
         ensures closes { IsErrOf result Fault.Failed → traffic self.new ≡ option_map hung_up (traffic self.old) }
-        ensures never_falls { doors self.old ≤ doors self.new }
-        ensures failed { IsErrOf result Fault.Failed → doors self.old < doors self.new }
-        ensures not_counted { OnOk result (doors self.new ≡ doors self.old) }
         ensures no_memory { IsErrOf result Fault.NoMemory → traffic self.new ≡ traffic self.old }
         ensures no_memory_only { IsErrOf result Fault.NoMemory → keeps self.old ⊎ (doors self.old ≡ 2 ^ 64 - 1) }
-        ensures no_memory_counted { IsErrOf result Fault.NoMemory → doors self.new ≡ doors self.old }
-        ensures lines { lines self.new ≡ lines self.old };
+        ensures counts { IsCounted (doors self.old) (doors self.new) (lines self.old) (lines self.new) result };
 
     /// Reads some of what comes in the open connection into the front of the buffer, and waits for some. Only at its
     /// end, none. Where none is open it fails. Memory is wanting only where one more failure can't be counted.
@@ -68,25 +57,17 @@ pub trait Net {
             Receives before (traffic self.new) into.new n)) }
         ensures end { result ≡ Ok 0 → 0 < length into.old → IfSome (traffic self.old) (λ before. before.left ≡ []) }
         ensures unread { OnErr result (traffic self.new ≡ traffic self.old) }
-        ensures never_falls { lines self.old ≤ lines self.new }
-        ensures failed { IsErrOf result Fault.Failed → lines self.old < lines self.new }
-        ensures not_counted { OnOk result (lines self.new ≡ lines self.old) }
         ensures no_memory_only { IsErrOf result Fault.NoMemory → lines self.old ≡ 2 ^ 64 - 1 }
-        ensures no_memory_counted { IsErrOf result Fault.NoMemory → lines self.new ≡ lines self.old }
-        ensures doors { doors self.new ≡ doors self.old };
+        ensures counts { IsCounted (lines self.old) (lines self.new) (doors self.old) (doors self.new) result };
 
     /// Sends all of the bytes in the open connection, or fails after a front of them. Where none is open it fails.
     fn send(&mut self, bytes: &[u8]) -> Result<(), Fault>
         ensures sent { OnOk result (IfSome (traffic self.old) (λ before. Sends before (traffic self.new) bytes.now)) }
         ensures front { OnErr result (IfSome (traffic self.old) (λ before.
             SendsFront before (traffic self.new) bytes.now)) }
-        ensures never_falls { lines self.old ≤ lines self.new }
-        ensures failed { IsErrOf result Fault.Failed → lines self.old < lines self.new }
-        ensures not_counted { OnOk result (lines self.new ≡ lines self.old) }
         ensures no_memory { IsErrOf result Fault.NoMemory → traffic self.new ≡ traffic self.old }
         ensures no_memory_only { IsErrOf result Fault.NoMemory → keeps self.old ⊎ (lines self.old ≡ 2 ^ 64 - 1) }
-        ensures no_memory_counted { IsErrOf result Fault.NoMemory → lines self.new ≡ lines self.old }
-        ensures doors { doors self.new ≡ doors self.old };
+        ensures counts { IsCounted (lines self.old) (lines self.new) (doors self.old) (doors self.new) result };
 
     /// Hangs up the open connection, if there is one.
     fn hang_up(&mut self)

@@ -19,7 +19,8 @@ use Rattle.adr_pull.specs.declared.fault.PullFault.{PullFault}
 use Rattle.adr_pull.specs.declared.fault.PullFault.TheVariants as faults
 use Rattle.adr_pull.specs.Exchange.{HasSentFront, heard_in, moved}
 use Rattle.adr_pull.specs.Fetch.{Course, Ends, Over, Refused, BadPeer, Made, Point, fetch, greeting, hears, line_of, made, meets, met, pulled, request, said_in, sends, tells, turn}
-use Rattle.adr_pull.specs.Told.{EndsSo, FindsBehind, FindsNear, FindsTold, Goes, HasFailed, IsAsking, IsAt, IsBehind, IsBetween, IsTelling, Meets, Stands, TakesTurn, Within}
+use Rattle.adr_law_controller.specs.Keeping.{Stands}
+use Rattle.adr_pull.specs.Told.{EndsSo, FindsBehind, FindsNear, FindsTold, Goes, HasFailed, IsAsking, IsAt, IsBehind, IsBetween, IsTelling, Meets, TakesTurn, Within}
 use Rattle.adr_pull.proofs.Cycling.{ended_by, further, none_yet}
 use Rattle.adr_pull.proofs.Taking.{Keeps}
 

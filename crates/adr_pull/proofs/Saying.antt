@@ -1,18 +1,21 @@
 -- What a frame says, by its kind.
 use Rattle.std.proofs.Common.{◌≡◌, ◌⊎◌, ⊎_elim, ℕ, List, ◌∷◌, Option, Some, None, Result, Ok, Err, refl, sym, ap, ◌∙◌, subst, inl}
-use Rattle.std.specs.Prelude.{IfErr, IfOk, IsErrOf}
+use Rattle.std.specs.Prelude.{IfErr, IfOk, IfSome, IsErrOf}
 use Rattle.std.specs.Option.{option_map}
+use Rattle.adr_disk.specs.Disk.{LeavesOnly}
 use Rattle.adr_law_journal.specs.Areas.{Found, Started}
 use Rattle.adr_law_journal.specs.Kept.{FindsState}
 use Rattle.adr_model.specs.Store.{State}
 use Rattle.adr_packet.specs.Refusals.{decoded_refusal}
 use Rattle.adr_journal.specs.declared.keeper.Keeper.{Ghosts}
-use Rattle.adr_controller.specs.Running.{Running}
+use Rattle.adr_controller.specs.Running.{IsInOrder, Running}
 use Rattle.adr_pull.specs.declared.came.Came.{Came}
 use Rattle.adr_pull.specs.declared.fault.PullFault.{PullFault}
 use Rattle.adr_pull.specs.declared.fault.PullFault.TheVariants as faults
 use Rattle.adr_pull.specs.Fetch.{Made, Said, made, refused, said_in}
-use Rattle.adr_pull.specs.Told.{FindsDue, ReactsSo, Stands}
+use Rattle.adr_law_controller.specs.Keeping.{Stands}
+use Rattle.adr_pull.specs.Told.{FindsDue, ReactsSo}
+use Rattle.adr_pull.proofs.Taking.{Keeps, still_leaves}
 
 pub says_refusal : (bytes body : List ℕ) (kind : ℕ) → bytes ≡ kind ∷ body → kind ≡ 3 → said_in bytes ≡ refused
     (decoded_refusal body)
@@ -22,6 +25,11 @@ says_refusal bytes body kind is three = ap said_in is ∙ ap (λ (n : ℕ). said
 pub before_due : (f : Found State) (d : Option Made) (x : Started State) → FindsState f.state x → FindsDue f d x
 before_due f None x here = here
 before_due f (Some m) x here = inl here
+
+-- so does a crash where nothing has changed
+pub still_due : {K : Type 0} (k : Ghosts K) (law : Keeps k) (f : Found State) (c : Running K) → Stands k f c → IsInOrder k c → (due : Option Made)
+    → IfSome (k.told c.keeper) (λ _. LeavesOnly k.moment k.left_since c.keeper c.keeper (FindsDue f due))
+still_due k law f c stands order due = still_leaves k law f c stands order c (FindsDue f due) refl (before_due f due)
 
 -- a refusal was told, or what came was strange
 pub refusal_reacts : {K : Type 0} (k : Ghosts K) (f : Found State) (c : Running K) → Stands k f c →

@@ -27,7 +27,8 @@ use Rattle.adr_pull.specs.declared.came.Came.TheVariants.{Declined}
 use Rattle.adr_pull.specs.declared.fault.PullFault.{PullFault}
 use Rattle.adr_pull.specs.declared.fault.PullFault.TheVariants as faults
 use Rattle.adr_pull.specs.Fetch.{Made, committed, declines, taken, took}
-use Rattle.adr_pull.specs.Told.{FindsDue, HasFallen, IsHindered, ReactsSo, Stands}
+use Rattle.adr_law_controller.specs.Keeping.{Stands}
+use Rattle.adr_pull.specs.Told.{FindsDue, HasFallen, IsHindered, ReactsSo}
 
 -- the laws of a keeper
 pub record Keeps {K : Type 0} (k : Ghosts K) : Type 0 where
@@ -175,20 +176,21 @@ module _ {K : Type 0} (k : Ghosts K) (r : Reply) (old new : Running K) (how : Op
   hindered_disk Down is result so failed = absurd so
   hindered_disk Failed is result so failed = absurd so
 
--- neither the connection nor the lines are at fault
+-- the disk is at fault, or memory was wanting
+hindered_only : (h : Hindrance) (result : Result Came PullFault) (fault : PullFault) → IsHindered h result → result ≡ Err fault
+    → (fault ≡ faults.Disk → ⊥) → (fault ≡ faults.NoMemory → ⊥) → ⊥
+hindered_only Full result fault so is disk memory = cc (so, is)
+hindered_only DiskFault result fault so is disk memory = disk (cc (so, is))
+hindered_only NoMemory result fault so is disk memory = memory (cc (so, is))
+hindered_only Down result fault so is disk memory = so
+hindered_only Failed result fault so is disk memory = so
+
+-- and neither the connection nor the lines
 pub never_link : (h : Hindrance) (result : Result Came PullFault) → IsHindered h result → result ≡ Err faults.Link → ⊥
-never_link Full result so is = cc (so, is)
-never_link DiskFault result so is = cc (so, is)
-never_link NoMemory result so is = cc (so, is)
-never_link Down result so is = so
-never_link Failed result so is = so
+never_link h result so is = hindered_only h result faults.Link so is (λ e. cc e) (λ e. cc e)
 
 pub never_write : (h : Hindrance) (result : Result Came PullFault) → IsHindered h result → result ≡ Err faults.Write → ⊥
-never_write Full result so is = cc (so, is)
-never_write DiskFault result so is = cc (so, is)
-never_write NoMemory result so is = cc (so, is)
-never_write Down result so is = so
-never_write Failed result so is = so
+never_write h result so is = hindered_only h result faults.Write so is (λ e. cc e) (λ e. cc e)
 
 -- ---- what is due
 

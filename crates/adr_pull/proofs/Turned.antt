@@ -17,7 +17,8 @@ use Rattle.adr_pull.specs.declared.fault.PullFault.{PullFault}
 use Rattle.adr_pull.specs.declared.fault.PullFault.TheVariants as faults
 use Rattle.adr_pull.specs.Exchange.{HasSentFront, heard_in, moved}
 use Rattle.adr_pull.specs.Fetch.{Course, BadPeer, Made, Point, ends_of, hears, line_of, made, request, said_in, sends, tells, turn}
-use Rattle.adr_pull.specs.Told.{Fails, FindsDue, FindsNear, IsAsking, IsAt, IsBetween, IsEnd, IsTelling, ReactsSo, Stands, TakesTurn}
+use Rattle.adr_law_controller.specs.Keeping.{Stands}
+use Rattle.adr_pull.specs.Told.{Fails, FindsDue, FindsNear, IsAsking, IsAt, IsBetween, IsEnd, IsTelling, ReactsSo, TakesTurn}
 
 -- what is sent doesn't hang on what comes
 tells_sent : (name : List ℕ) (p : Point) (rest : List ℕ) (due : Option Made) → (tells name p rest due).0.sent ≡ p.sent

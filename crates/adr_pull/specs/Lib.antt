@@ -3,3 +3,4 @@ pub mod Fetch
 pub mod Told
 pub mod Sending
 pub mod Worked
+pub mod Counted

@@ -2,13 +2,14 @@
 use Rattle.std.specs.Prelude.{if◌then◌else◌, ◌≡◌, ◌⊎◌, ◌==◌, ◌&&◌, ◌++◌, ℕ, nat_eq, not, List, [], ◌∷◌, filter}
 use Rattle.std.specs.Prelude.{length, drop, codes, Bool, true, false, Option, Some, None, Result, Ok, Err}
 use Rattle.std.specs.Bool.{then_some}
-use Rattle.std.specs.List.{list_any, starts_with}
+use Rattle.std.specs.List.{starts_with}
 use Rattle.std.specs.Option.{option_map, option_map_or}
 use Rattle.adr_token.specs.Words.{word_at}
 use Rattle.adr_schedule.specs.Commands.{is_passed}
 use Rattle.adr_schedule.specs.Lines.{lines_of}
 use Rattle.adr_outside.specs.Traffic.{Traffic}
 use Rattle.adr_frames.specs.Frames.{frame}
+use Rattle.adr_frames.specs.Messages.{has_line_feed}
 use Rattle.adr_pull.specs.declared.fault.SendFault.{SendFault}
 use Rattle.adr_pull.specs.declared.fault.SendFault.TheVariants as faults
 use Rattle.adr_pull.specs.Exchange.{HasSent, HasSentFront, heard_in, moved}
@@ -33,7 +34,7 @@ accepted_by rest =
 -- the same, of an answer that has no line feed and begins with the verb
 abbrev pub accepts : List ℕ → List ℕ → Option Bool
 accepts verb answer =
-    if list_any (λ b. b == 10) answer then None
+    if has_line_feed answer then None
     else if starts_with nat_eq answer verb then accepted_by (drop (length verb) answer) else None
 
 -- the answer in a frame, if it is due behind a line: kind 5; and whether it accepts

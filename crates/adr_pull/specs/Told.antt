@@ -5,7 +5,6 @@ use Rattle.adr_disk.specs.Disk.{Among}
 use Rattle.adr_model.specs.Store.{State}
 use Rattle.adr_law_journal.specs.Areas.{Found, Started}
 use Rattle.adr_law_journal.specs.Kept.{FindsState, FindsEither}
-use Rattle.adr_records.specs.Logged.{IsLogged}
 use Rattle.adr_journal.specs.declared.keeper.Keeper.{Ghosts}
 use Rattle.adr_call.specs.declared.refusal.Table.TheVariants.{Log}
 use Rattle.adr_model.specs.Lengths.{log_limit}
@@ -13,7 +12,7 @@ use Rattle.adr_model.specs.Refused.{full}
 use Rattle.adr_controller.specs.declared.refusal.Hindrance.{Hindrance}
 use Rattle.adr_controller.specs.declared.refusal.Hindrance.TheVariants.{Down, Failed, Full, DiskFault, NoMemory}
 use Rattle.adr_controller.specs.Running.{Running}
-use Rattle.adr_law_controller.specs.Laws.{GivenCallsFollow}
+use Rattle.adr_law_controller.specs.Keeping.{Stands}
 use Rattle.adr_outside.specs.Traffic.{Traffic}
 use Rattle.adr_frames.specs.Frames.{frame}
 use Rattle.adr_pull.specs.declared.came.Came.{Came}
@@ -22,11 +21,6 @@ use Rattle.adr_pull.specs.declared.fault.PullFault.{PullFault}
 use Rattle.adr_pull.specs.declared.fault.PullFault.TheVariants as faults
 use Rattle.adr_pull.specs.Exchange.{HasSent, HasSentFront, heard_in, moved}
 use Rattle.adr_pull.specs.Fetch.{Course, Ends, Over, Refused, BadPeer, Made, Point, greeting, met}
-
--- its keeper takes the change of each call that has the form of one, and keeps states of a log alone
-pub record KeepsLog {K : Type 0} (k : Ghosts K) : Type 0 where
-  pub given : GivenCallsFollow k
-  pub logged : (s : State) → k.is_formed s → IsLogged s
 
 -- ---- the connection alone
 
@@ -59,10 +53,6 @@ Meets t (Err faults.Refused) after = ⊥
 Meets t (Err faults.MoreWaiting) after = ⊥
 
 -- ---- the node alone
-
--- the controller is up with this state, and its keeper stands for it
-abbrev pub Stands : {K : Type 0} → Ghosts K → Found State → Running K → Type 0
-Stands k f c = (c.state ≡ Some f.state) × k.is_at c.keeper f
 
 -- a call of its disk failed: it has no state in memory, and a start finds the one or the other
 abbrev pub HasFallen : {K : Type 0} → Ghosts K → State → State → Running K → Type 0

@@ -1,9 +1,9 @@
 //! What the answer to a client's line says.
 
-ghost use Rattle.std.specs.Prelude.{◌≡◌, ◌==◌, MatchOption, None, Some};
-ghost use Rattle.std.specs.List.{list_any};
+ghost use Rattle.std.specs.Prelude.{◌≡◌, MatchOption, None, Some};
 ghost use Rattle.adr_pull.specs.Sending.{accepted_by, accepts, answer_in, verb_in};
 
+use adr_frames::{OUTCOME, has_line_feed};
 use adr_token::Line;
 
 /// The first word of a line.
@@ -29,12 +29,6 @@ fn accepted_by(rest: &[u8]) -> Option<bool>
     None
 }
 
-fn has_line_feed(bytes: &[u8]) -> bool
-    ensures { result ≡ list_any (λ b. b == 10) bytes.now }
-{
-    bytes.iter().any(|byte| *byte == b'\n')
-}
-
 /// Whether an answer accepts a line with this verb; none where no answer reads so.
 fn accepts(verb: &[u8], answer: &[u8]) -> Option<bool>
     ensures { result ≡ accepts verb.now answer.now }
@@ -51,7 +45,7 @@ pub(crate) fn answer_in<'a>(line: &[u8], bytes: &'a [u8]) -> Option<(&'a [u8], b
         answer_in line.now bytes.now ≡ Some (a.0.now, a.1)) }
 {
     let (kind, answer) = bytes.split_first()?;
-    if *kind != 5 {
+    if *kind != OUTCOME {
         return None;
     }
     match accepts(verb_in(line), answer) {

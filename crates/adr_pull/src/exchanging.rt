@@ -1,9 +1,8 @@
 //! A frame is sent, and the next one heard.
 
-ghost use Rattle.std.specs.Prelude.{◌≡◌, ◌<◌, ◌≤◌, ◌∷◌, IfOk, IfSome, IsErrOf};
+ghost use Rattle.std.specs.Prelude.{◌≡◌, ◌<◌, ◌≤◌, IfSome, IsErrOf};
 ghost use Rattle.adr_pull.specs.Exchange.{Exchanges};
 
-use adr_failure::NoMemory;
 use adr_frames::{Heard, hear, say};
 use adr_io::Fault;
 use adr_outside::Net;
@@ -27,14 +26,4 @@ pub(crate) fn exchange<N: Net>(
         Heard::Frame(bytes) => Ok(Some(bytes)),
         Heard::Over | Heard::Broken => Ok(None),
     }
-}
-
-/// A message: its kind, and what stands behind it.
-pub(crate) fn of_kind(alloc: Global, kind: u8, body: &[u8]) -> Result<Vec<u8>, NoMemory>
-    ensures { IfOk result (λ message. message.items ≡ kind ∷ body.now) }
-{
-    let mut message = Vec::new(alloc);
-    message.extend_from_slice(&[kind])?;
-    message.extend_from_slice(body)?;
-    Ok(message)
 }

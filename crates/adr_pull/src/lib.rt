@@ -22,6 +22,6 @@ pub use adr_controller::{Controller, Keeper};
 pub use adr_io::Sink;
 pub use adr_outside::Net;
 pub use fault::{PullFault, SendFault};
-pub use laws::{logs_keep, worked_pull};
+pub use laws::worked_pull;
 pub use pulling::pull;
 pub use sending::send;

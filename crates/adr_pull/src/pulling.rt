@@ -3,8 +3,10 @@
 ghost use Rattle.std.specs.Prelude.{◌≡◌, ◌↔◌, ◌<◌, ◌≤◌, ◌+◌, IfSome, IsErrOf, IsSome};
 ghost use Rattle.adr_disk.specs.Disk.{Among, LeavesOnly};
 ghost use Rattle.adr_outside.specs.Traffic.{Traffic};
+ghost use Rattle.adr_pull.specs.Counted.{CountsAll};
 ghost use Rattle.adr_pull.specs.Fetch.{Point, fetch, pulled, reply_limit};
-ghost use Rattle.adr_pull.specs.Told.{FindsBehind, FindsTold, Goes, IsAt, KeepsLog};
+ghost use Rattle.adr_law_controller.specs.Keeping.{KeepsLog};
+ghost use Rattle.adr_pull.specs.Told.{FindsBehind, FindsTold, Goes, IsAt};
 
 use crate::fault::PullFault;
 use crate::talking::meet;
@@ -37,14 +39,7 @@ fn fetch<K: Keeper, N: Net, S: Sink>(
         → IfSome (K.told controller.old.keeper) (λ _.
         LeavesOnly K.moment K.left_since controller.old.keeper controller.new.keeper
         (FindsBehind (λ n. fetch name.now partner n p))) }
-    ensures told { IsSome (K.told controller.new.keeper) ↔ IsSome (K.told controller.old.keeper) }
-    ensures disk { IsErrOf result PullFault.Disk → K.faults controller.old.keeper < K.faults controller.new.keeper }
-    ensures disk_never_falls { K.faults controller.old.keeper ≤ K.faults controller.new.keeper }
-    ensures link { IsErrOf result PullFault.Link → N.lines net.old < N.lines net.new }
-    ensures lines_never_fall { N.lines net.old ≤ N.lines net.new }
-    ensures write { IsErrOf result PullFault.Write → S.faults sink.old < S.faults sink.new }
-    ensures sink_never_falls { S.faults sink.old ≤ S.faults sink.new }
-    ensures doors { N.doors net.new ≡ N.doors net.old }
+    ensures counts { CountsAll K.Keeper N.Net S.Sink controller.old controller.new net.old net.new sink.old sink.new result }
 {
     let _ = controller.state();
     for turn in 0..REPLY_LIMIT {
@@ -83,16 +78,9 @@ pub fn pull<K: Keeper, N: Net, S: Sink>(
     ensures left { (t : Traffic) (p : Point) → IsAt K.Keeper t p controller.old (N.traffic net.old) (S.written sink.old)
         → IfSome (K.told controller.old.keeper) (λ _.
         Among (FindsTold (λ n. pulled name.now n p) (S.written sink.new)) (K.may_leave controller.new.keeper)) }
-    ensures told { IsSome (K.told controller.new.keeper) ↔ IsSome (K.told controller.old.keeper) }
 
     // Each fault of the outside comes where its count rose, and no count falls.
-    ensures disk { IsErrOf result PullFault.Disk → K.faults controller.old.keeper < K.faults controller.new.keeper }
-    ensures disk_never_falls { K.faults controller.old.keeper ≤ K.faults controller.new.keeper }
-    ensures link { IsErrOf result PullFault.Link → N.lines net.old < N.lines net.new }
-    ensures lines_never_fall { N.lines net.old ≤ N.lines net.new }
-    ensures write { IsErrOf result PullFault.Write → S.faults sink.old < S.faults sink.new }
-    ensures sink_never_falls { S.faults sink.old ≤ S.faults sink.new }
-    ensures doors { N.doors net.new ≡ N.doors net.old }
+    ensures counts { CountsAll K.Keeper N.Net S.Sink controller.old controller.new net.old net.new sink.old sink.new result }
 {
     let _ = controller.state();
     let partner = meet(alloc, net)?;

@@ -8,13 +8,16 @@ ghost use Rattle.adr_model.specs.Take.{take};
 ghost use Rattle.adr_law_journal.specs.Areas.{Found};
 ghost use Rattle.adr_packet.specs.Refusals.{decoded_refusal};
 ghost use Rattle.adr_packet.specs.Replies.{IsReply, decoded_reply};
+ghost use Rattle.adr_pull.specs.Counted.{CountsDisk};
 ghost use Rattle.adr_pull.specs.Fetch.{made, outcome_of, refused, replied, said_in, taken};
-ghost use Rattle.adr_pull.specs.Told.{FindsDue, IsHindered, KeepsLog, ReactsSo, Stands};
+ghost use Rattle.adr_law_controller.specs.Keeping.{KeepsLog, Stands};
+ghost use Rattle.adr_pull.specs.Told.{FindsDue, IsHindered, ReactsSo};
 
 use crate::came::Came;
 use crate::fault::PullFault;
 use adr_call::{Outcome, Table};
 use adr_controller::{CallRefusal, Controller, Hindrance, Keeper, Reply};
+use adr_frames::{REFUSAL, REPLY};
 use adr_law_messages::replies_of_a_form_are_in_range;
 use adr_outcome::{full, serve_refused, take_refused};
 use adr_packet::{Failure, Refusal, decode_refusal, decode_reply, replies_have_one_spelling};
@@ -51,11 +54,7 @@ fn take_reply<K: Keeper>(
         → IfSome (K.told controller.old.keeper) (λ _.
         LeavesOnly K.moment K.left_since controller.old.keeper controller.new.keeper
         (FindsDue f (Some (taken f reply.now (take f.state reply.now))))) }
-    ensures told { IsSome (K.told controller.new.keeper) ↔ IsSome (K.told controller.old.keeper) }
-    ensures disk { IsErrOf result PullFault.Disk → K.faults controller.old.keeper < K.faults controller.new.keeper }
-    ensures disk_never_falls { K.faults controller.old.keeper ≤ K.faults controller.new.keeper }
-    ensures not_link { IsErrOf result PullFault.Link → ⊥ }
-    ensures not_write { IsErrOf result PullFault.Write → ⊥ }
+    ensures counts { CountsDisk K.Keeper controller.old controller.new result }
 {
     let _ = controller.state();
     replies_of_a_form_are_in_range();
@@ -85,11 +84,7 @@ fn heed_reply<K: Keeper>(
         → IfSome (K.told controller.old.keeper) (λ _.
         LeavesOnly K.moment K.left_since controller.old.keeper controller.new.keeper
         (FindsDue f (option_map (made f) (replied (decoded_reply body.now))))) }
-    ensures told { IsSome (K.told controller.new.keeper) ↔ IsSome (K.told controller.old.keeper) }
-    ensures disk { IsErrOf result PullFault.Disk → K.faults controller.old.keeper < K.faults controller.new.keeper }
-    ensures disk_never_falls { K.faults controller.old.keeper ≤ K.faults controller.new.keeper }
-    ensures not_link { IsErrOf result PullFault.Link → ⊥ }
-    ensures not_write { IsErrOf result PullFault.Write → ⊥ }
+    ensures counts { CountsDisk K.Keeper controller.old controller.new result }
 {
     let _ = controller.state();
     replies_have_one_spelling();
@@ -143,19 +138,15 @@ pub(crate) fn react<K: Keeper>(
         → IfSome (K.told controller.old.keeper) (λ _.
         LeavesOnly K.moment K.left_since controller.old.keeper controller.new.keeper
         (FindsDue f (option_map (made f) (said_in bytes.now)))) }
-    ensures told { IsSome (K.told controller.new.keeper) ↔ IsSome (K.told controller.old.keeper) }
-    ensures disk { IsErrOf result PullFault.Disk → K.faults controller.old.keeper < K.faults controller.new.keeper }
-    ensures disk_never_falls { K.faults controller.old.keeper ≤ K.faults controller.new.keeper }
-    ensures not_link { IsErrOf result PullFault.Link → ⊥ }
-    ensures not_write { IsErrOf result PullFault.Write → ⊥ }
+    ensures counts { CountsDisk K.Keeper controller.old controller.new result }
 {
     let _ = controller.state();
     let Some((kind, body)) = bytes.split_first() else {
         return Err(PullFault::BadPeer);
     };
     match *kind {
-        2 => heed_reply(alloc, controller, body),
-        3 => heed_refusal(body),
+        REPLY => heed_reply(alloc, controller, body),
+        REFUSAL => heed_refusal(body),
         _ => Err(PullFault::BadPeer),
     }
 }

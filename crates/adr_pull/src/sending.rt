@@ -4,11 +4,13 @@ ghost use Rattle.std.specs.Prelude.{◌≡◌, ◌&&◌, ◌++◌, ◌∷◌, �
 ghost use Rattle.adr_io.specs.Told.{Adds, AddsFront};
 ghost use Rattle.adr_outside.specs.Traffic.{Traffic};
 ghost use Rattle.adr_schedule.specs.Commands.{is_passed as defined};
+ghost use Rattle.adr_pull.specs.Counted.{CountsSent};
 ghost use Rattle.adr_pull.specs.Sending.{IsAt, Place, Said, Sends, TakesLine, exchange as exchanged, spoken};
 
 use crate::answering::answer_in;
-use crate::exchanging::{exchange, of_kind};
+use crate::exchanging::exchange;
 use crate::fault::SendFault;
+use adr_frames::{LINE, framed};
 use adr_io::{Fault, Sink};
 use adr_outside::Net;
 use adr_schedule::{first_line, is_passed};
@@ -23,7 +25,7 @@ fn say_line<N: Net>(alloc: Global, line: &[u8], net: &mut N) -> Result<Vec<u8>, 
     ensures not_write { IsErrOf result SendFault.Write → ⊥ }
     ensures doors { N.doors net.new ≡ N.doors net.old }
 {
-    let message = of_kind(alloc, 4, line)?;
+    let message = framed(alloc, LINE, line)?;
     match exchange(alloc, net, &message) {
         Ok(Some(bytes)) => Ok(bytes),
         Ok(None) => Err(SendFault::BadPeer),
@@ -58,11 +60,7 @@ fn take_line<N: Net, S: Sink>(
 ) -> Result<bool, SendFault>
     ensures takes { (t : Traffic) (p : Place) → IsAt t p (N.traffic net.old) (S.written sink.old)
         → TakesLine t p (exchanged line.now p) result (N.traffic net.new) (S.written sink.new) }
-    ensures link { IsErrOf result SendFault.Link → N.lines net.old < N.lines net.new }
-    ensures lines_never_fall { N.lines net.old ≤ N.lines net.new }
-    ensures write { IsErrOf result SendFault.Write → S.faults sink.old < S.faults sink.new }
-    ensures sink_never_falls { S.faults sink.old ≤ S.faults sink.new }
-    ensures doors { N.doors net.new ≡ N.doors net.old }
+    ensures counts { CountsSent N.Net S.Sink net.old net.new sink.old sink.new result }
 {
     let bytes = say_line(alloc, line, net)?;
     let Some((answer, accepted)) = answer_in(line, &bytes) else {
@@ -83,11 +81,7 @@ fn take_if_said<N: Net, S: Sink>(
         → (result ≡ Ok true) × (N.traffic net.new ≡ N.traffic net.old) × (S.written sink.new ≡ S.written sink.old) }
     ensures takes { defined line.now ≡ false → (t : Traffic) (p : Place) → IsAt t p (N.traffic net.old) (S.written sink.old)
         → TakesLine t p (exchanged line.now p) result (N.traffic net.new) (S.written sink.new) }
-    ensures link { IsErrOf result SendFault.Link → N.lines net.old < N.lines net.new }
-    ensures lines_never_fall { N.lines net.old ≤ N.lines net.new }
-    ensures write { IsErrOf result SendFault.Write → S.faults sink.old < S.faults sink.new }
-    ensures sink_never_falls { S.faults sink.old ≤ S.faults sink.new }
-    ensures doors { N.doors net.new ≡ N.doors net.old }
+    ensures counts { CountsSent N.Net S.Sink net.old net.new sink.old sink.new result }
 {
     if is_passed(line) {
         return Ok(true);
@@ -114,11 +108,7 @@ pub fn send<N: Net, S: Sink>(
         → Sends t p (spoken text.now) result (N.traffic net.new) (S.written sink.new) }
 
     // Each fault of the outside comes where its count rose, and no count falls.
-    ensures link { IsErrOf result SendFault.Link → N.lines net.old < N.lines net.new }
-    ensures lines_never_fall { N.lines net.old ≤ N.lines net.new }
-    ensures write { IsErrOf result SendFault.Write → S.faults sink.old < S.faults sink.new }
-    ensures sink_never_falls { S.faults sink.old ≤ S.faults sink.new }
-    ensures doors { N.doors net.new ≡ N.doors net.old }
+    ensures counts { CountsSent N.Net S.Sink net.old net.new sink.old sink.new result }
 {
     let mut rest = text;
     let mut all = true;

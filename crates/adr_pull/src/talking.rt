@@ -2,12 +2,14 @@
 
 ghost use Rattle.std.specs.Prelude.{◌≡◌, ◌<◌, ◌≤◌, IfErr, IfOk, IfSome, IsErrOf, IsSome, Some};
 ghost use Rattle.adr_model.specs.Store.{State as Defined};
+ghost use Rattle.adr_pull.specs.Counted.{CountsLink};
 ghost use Rattle.adr_pull.specs.Fetch.{partner_in, request};
 ghost use Rattle.adr_pull.specs.Told.{Converses, Meets};
 
-use crate::exchanging::{exchange, of_kind};
+use crate::exchanging::exchange;
 use crate::fault::PullFault;
 use adr_controller::{Controller, Keeper};
+use adr_frames::{GREETING, IDENTITY, REQUEST, framed};
 use adr_guid::Guid;
 use adr_io::Fault;
 use adr_outside::Net;
@@ -21,11 +23,7 @@ const ITEM_LIMIT: u32 = 1000;
 fn converse<N: Net>(alloc: Global, net: &mut N, message: &[u8]) -> Result<Vec<u8>, PullFault>
     ensures converses { IfSome (N.traffic net.old) (λ t.
         Converses (λ v. v.items) t message.now result (N.traffic net.new)) }
-    ensures never_falls { N.lines net.old ≤ N.lines net.new }
-    ensures link { IsErrOf result PullFault.Link → N.lines net.old < N.lines net.new }
-    ensures not_disk { IsErrOf result PullFault.Disk → ⊥ }
-    ensures not_write { IsErrOf result PullFault.Write → ⊥ }
-    ensures doors { N.doors net.new ≡ N.doors net.old }
+    ensures counts { CountsLink N.Net net.old net.new result }
 {
     match exchange(alloc, net, message) {
         Ok(Some(bytes)) => Ok(bytes),
@@ -45,11 +43,7 @@ pub(crate) fn ask<K: Keeper, N: Net>(
     requires up { IsSome controller.now.state }
     ensures asked { (s : Defined) → controller.now.state ≡ Some s → IfSome (N.traffic net.old) (λ t.
         Converses (λ v. v.items) t (request s partner) result (N.traffic net.new)) }
-    ensures never_falls { N.lines net.old ≤ N.lines net.new }
-    ensures link { IsErrOf result PullFault.Link → N.lines net.old < N.lines net.new }
-    ensures not_disk { IsErrOf result PullFault.Disk → ⊥ }
-    ensures not_write { IsErrOf result PullFault.Write → ⊥ }
-    ensures doors { N.doors net.new ≡ N.doors net.old }
+    ensures counts { CountsLink N.Net net.old net.new result }
 {
     let message = request(alloc, controller, partner)?;
     converse(alloc, net, &message)
@@ -70,7 +64,7 @@ fn request<K: Keeper>(
         return Err(PullFault::NoMemory);
     };
     let bytes = encode_request(alloc, &request)?;
-    let message = of_kind(alloc, 1, &bytes)?;
+    let message = framed(alloc, REQUEST, &bytes)?;
     Ok(message)
 }
 
@@ -80,7 +74,7 @@ fn partner_in(bytes: &[u8]) -> Option<Guid>
 {
     let (kind, rest) = bytes.split_first()?;
     let (dsa, behind) = rest.split_first_chunk::<16>()?;
-    if *kind == 7 && behind.is_empty() {
+    if *kind == IDENTITY && behind.is_empty() {
         return Some(Guid::from_bytes(*dsa));
     }
     None
@@ -89,13 +83,9 @@ fn partner_in(bytes: &[u8]) -> Option<Guid>
 /// Asks who is there.
 pub(crate) fn meet<N: Net>(alloc: Global, net: &mut N) -> Result<Guid, PullFault>
     ensures meets { IfSome (N.traffic net.old) (λ t. Meets t result (N.traffic net.new)) }
-    ensures never_falls { N.lines net.old ≤ N.lines net.new }
-    ensures link { IsErrOf result PullFault.Link → N.lines net.old < N.lines net.new }
-    ensures not_disk { IsErrOf result PullFault.Disk → ⊥ }
-    ensures not_write { IsErrOf result PullFault.Write → ⊥ }
-    ensures doors { N.doors net.new ≡ N.doors net.old }
+    ensures counts { CountsLink N.Net net.old net.new result }
 {
-    let bytes = converse(alloc, net, &[6])?;
+    let bytes = converse(alloc, net, &[GREETING])?;
     match partner_in(&bytes) {
         Some(partner) => Ok(partner),
         None => Err(PullFault::BadPeer),

@@ -3,8 +3,10 @@
 ghost use Rattle.std.specs.Prelude.{◌≡◌, ◌↔◌, ◌<◌, ◌≤◌, IfOk, IfSome, IsErrOf, IsSome};
 ghost use Rattle.adr_disk.specs.Disk.{LeavesOnly};
 ghost use Rattle.adr_outside.specs.Traffic.{Traffic};
+ghost use Rattle.adr_pull.specs.Counted.{CountsAll};
 ghost use Rattle.adr_pull.specs.Fetch.{Point, ends_of, turn};
-ghost use Rattle.adr_pull.specs.Told.{FindsNear, IsAt, IsEnd, KeepsLog, TakesTurn};
+ghost use Rattle.adr_law_controller.specs.Keeping.{KeepsLog};
+ghost use Rattle.adr_pull.specs.Told.{FindsNear, IsAt, IsEnd, TakesTurn};
 
 use crate::came::Came;
 use crate::fault::PullFault;
@@ -46,14 +48,7 @@ pub(crate) fn take_turn<K: Keeper, N: Net, S: Sink>(
         → IfSome (K.told controller.old.keeper) (λ _.
         LeavesOnly K.moment K.left_since controller.old.keeper controller.new.keeper
         (FindsNear p (turn name.now partner p).0)) }
-    ensures told { IsSome (K.told controller.new.keeper) ↔ IsSome (K.told controller.old.keeper) }
-    ensures disk { IsErrOf result PullFault.Disk → K.faults controller.old.keeper < K.faults controller.new.keeper }
-    ensures disk_never_falls { K.faults controller.old.keeper ≤ K.faults controller.new.keeper }
-    ensures link { IsErrOf result PullFault.Link → N.lines net.old < N.lines net.new }
-    ensures lines_never_fall { N.lines net.old ≤ N.lines net.new }
-    ensures write { IsErrOf result PullFault.Write → S.faults sink.old < S.faults sink.new }
-    ensures sink_never_falls { S.faults sink.old ≤ S.faults sink.new }
-    ensures doors { N.doors net.new ≡ N.doors net.old }
+    ensures counts { CountsAll K.Keeper N.Net S.Sink controller.old controller.new net.old net.new sink.old sink.new result }
 {
     let _ = controller.state();
     let bytes = ask(alloc, controller, partner, net)?;

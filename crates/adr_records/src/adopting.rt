@@ -32,11 +32,11 @@ fn adopt_refusal(contents: &Contents, inv: Guid) -> Option<AdoptRefusal>
 }
 
 /// A controller of a database that can be adopted under the identifier.
-fn woken(alloc: Global, contents: &Contents, dsa: Guid, inv: Guid) -> Result<State, NoMemory>
-    requires formed { IsFormedStore contents.now }
-    requires spelled { IsSpelled contents.now }
-    requires fits { adopt_refusal contents.now inv (woken contents.now dsa inv) ≡ None }
-    ensures { IfOk result (λ state. state ≡ woken contents.now dsa inv) }
+fn woken(alloc: Global, contents: Contents, dsa: Guid, inv: Guid) -> Result<State, NoMemory>
+    requires formed { IsFormedStore contents }
+    requires spelled { IsSpelled contents }
+    requires fits { adopt_refusal contents inv (woken contents dsa inv) ≡ None }
+    ensures { IfOk result (λ state. state ≡ woken contents dsa inv) }
 {
     match wake(alloc, contents, dsa, inv) {
         Ok(state) => Ok(state),
@@ -45,20 +45,20 @@ fn woken(alloc: Global, contents: &Contents, dsa: Guid, inv: Guid) -> Result<Sta
     }
 }
 
-/// A controller of a database under an identifier that it doesn't name.
+/// A controller of a database, whose rows are moved, under an identifier that it doesn't name.
 pub fn adopt(
     alloc: Global,
-    contents: &Contents,
+    contents: Contents,
     dsa: Guid,
     inv: Guid,
 ) -> Result<State, Failure<AdoptRefusal>>
-    requires formed { IsFormedStore contents.now }
-    requires spelled { IsSpelled contents.now }
-    ensures ok { IfOk result (λ state. adopt contents.now dsa inv ≡ Ok state) }
+    requires formed { IsFormedStore contents }
+    requires spelled { IsSpelled contents }
+    ensures ok { IfOk result (λ state. adopt contents dsa inv ≡ Ok state) }
     ensures refused { (refusal : AdoptRefusal) → IsErrOf result (Failure.Refused refusal)
-        → adopt contents.now dsa inv ≡ Err refusal }
+        → adopt contents dsa inv ≡ Err refusal }
 {
-    match adopt_refusal(contents, inv) {
+    match adopt_refusal(&contents, inv) {
         Some(refusal) => Err(Failure::Refused(refusal)),
         None => Ok(woken(alloc, contents, dsa, inv)?),
     }

@@ -22,17 +22,17 @@ fn are_locals_within(change: &Change) -> bool
 }
 
 /// Applies a change that was read, if it can follow the state.
-fn apply_read(alloc: Global, state: &mut State, change: &Change) -> Result<(), FollowRefusal>
+fn apply_read(alloc: Global, state: &mut State, change: Change) -> Result<(), FollowRefusal>
     requires logged { IsLogged state.old }
-    requires body { HasBody state.old.store.usn state.old.store.schema change.now }
-    ensures ok { OnOk result (by_change state.old (Some change.now) ≡ Some state.new) }
-    ensures refused { IsErrOf result FollowRefusal.CannotFollow → by_change state.old (Some change.now) ≡ None }
+    requires body { HasBody state.old.store.usn state.old.store.schema change }
+    ensures ok { OnOk result (by_change state.old (Some change) ≡ Some state.new) }
+    ensures refused { IsErrOf result FollowRefusal.CannotFollow → by_change state.old (Some change) ≡ None }
     ensures err { OnErr result (state.new ≡ state.old) }
 {
-    if !are_locals_within(change) {
+    if !are_locals_within(&change) {
         return Err(FollowRefusal::CannotFollow);
     }
-    match can_follow(alloc, state, change) {
+    match can_follow(alloc, state, &change) {
         Ok(true) => {}
         Ok(false) => return Err(FollowRefusal::CannotFollow),
         Err(_) => return Err(FollowRefusal::NoMemory),
@@ -52,11 +52,7 @@ fn follow_body(alloc: Global, state: &mut State, body: &[u8]) -> Result<(), Foll
     ensures err { OnErr result (state.new ≡ state.old) }
 {
     match decode_change(alloc, state.usn(), state.schema(), body) {
-        Ok(Some(change)) => {
-            let applied = apply_read(alloc, state, &change);
-            drop(change);
-            applied
-        }
+        Ok(Some(change)) => apply_read(alloc, state, change),
         Ok(None) => Err(FollowRefusal::CannotFollow),
         Err(_) => Err(FollowRefusal::NoMemory),
     }

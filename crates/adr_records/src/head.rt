@@ -173,9 +173,9 @@ fn read_own(
 }
 
 /// A controller of a log's owner and of what an image of so many bytes says.
-fn woken(alloc: Global, contents: &Contents, owner: Owner, len: u32) -> Result<State, NoMemory>
-    requires { IsOwn owner.inv len contents.now }
-    ensures { IfOk result (λ state. state ≡ form.state_of (owner.dsa, owner.inv) contents.now) }
+fn woken(alloc: Global, contents: Contents, owner: Owner, len: u32) -> Result<State, NoMemory>
+    requires { IsOwn owner.inv len contents }
+    ensures { IfOk result (λ state. state ≡ form.state_of (owner.dsa, owner.inv) contents) }
 {
     match wake(alloc, contents, owner.dsa, owner.inv) {
         Ok(state) => Ok(state),
@@ -203,10 +203,8 @@ pub(crate) fn read_area(
     let (version, len) = sized;
     let image = place + IMAGE_OFFSET;
     let contents = read_own(alloc, bytes, image, len, owner.inv)?;
-    let state = woken(alloc, &contents, owner, len);
-    drop(contents);
     Ok(AreaRead {
-        state: state?,
+        state: woken(alloc, contents, owner, len)?,
         first: image + len as usize,
         version,
     })

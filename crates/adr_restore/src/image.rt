@@ -72,7 +72,7 @@ impl Image {
         ensures logged { IfOk result (λ state. IsLogged state × (state.mode ≡ Normal)) }
     {
         let dormant = self.read(alloc)?;
-        adopt(alloc, dormant.contents(), dsa, inv)
+        adopt(alloc, dormant.into_contents(), dsa, inv)
     }
 
     /// What it says.

@@ -7,3 +7,4 @@ mod passed;
 mod platter;
 
 pub use memory::MemDisk;
+pub use platter::put;

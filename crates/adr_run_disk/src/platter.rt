@@ -1,6 +1,6 @@
 //! The bytes of a disk in memory, those of them that are synced, and the writes since.
 
-ghost use Rattle.std.specs.Prelude.{◌≡◌, ◌+◌, ◌-◌, ◌/◌, ◌≤◌, ◌<◌, ◌^◌, ◌⊎◌, [], length, map, All, OnOk, OnErr, vec_len, vec_capacity};
+ghost use Rattle.std.specs.Prelude.{◌≡◌, ◌+◌, ◌-◌, ◌/◌, ◌≤◌, ◌<◌, ◌^◌, ◌⊎◌, [], length, map, All, OnOk, OnErr, vec_capacity};
 ghost use Rattle.adr_disk.specs.Disk.{put as put_over, IsSpare};
 ghost use Rattle.adr_disk.specs.Memory.{Held, over, read_of, left_by, torn_half, torn_write, all_synced, after_write, after_end, SameBytes};
 ghost use Rattle.adr_run_disk.specs.Entries.{IsInRange, write_of};
@@ -47,7 +47,7 @@ impl Model for Platter {
 }
 
 /// Writes over what is there, and past the end.
-fn put(bytes: &mut Vec<u8>, at: usize, new: &[u8])
+pub fn put(bytes: &mut Vec<u8>, at: usize, new: &[u8])
     requires { length (put_over bytes.old.items at new.now) ≤ vec_capacity bytes.old }
     ensures items { bytes.new.items ≡ put_over bytes.old.items at new.now }
     ensures capacity { vec_capacity bytes.old ≤ vec_capacity bytes.new }

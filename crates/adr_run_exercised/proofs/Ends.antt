@@ -17,6 +17,7 @@ use Rattle.adr_law_rounds.specs.Rounds.{Exchange, connection, line_of, AreWhole,
 use Rattle.adr_law_rounds.proofs.Hearing.{rings_are_connected}
 use Rattle.adr_law_rounds.proofs.Rounds.{rounds_converge}
 use Rattle.adr_law_rounds.proofs.Runs.{sound_behind, issued_behind, settled_behind, AreSettled}
+use Rattle.adr_law_rounds.proofs.Telling.{IsUp, pulled_is_up, directories_alike}
 use Rattle.adr_run_exercise.specs.Generated.{beginning, round, rounds, groups, persons, deletions, collections, schedule}
 use Rattle.adr_run_exercise.specs.Laws.{SchedulesFollow}
 use Rattle.adr_run_exercise.specs.Summary.{four_names, summary}
@@ -25,7 +26,6 @@ use Rattle.adr_run_exercised.proofs.Collecting.{AreCollecting, AreLevelBehind, c
 use Rattle.adr_run_exercised.proofs.Level.{AreLevel, level_behind, level_show_the_same}
 use Rattle.adr_run_exercised.proofs.Mild.{AreMild, mild_append, beginning_mild, rounds_mild, collections_mild, from_groups, from_groups_mild, nothing_put_back, lines_both, may_before}
 use Rattle.adr_run_exercised.proofs.Settled.{IsThere, seen_by, seen_is_issued, settled_are_level}
-use Rattle.adr_run_exercised.proofs.Standing.{IsUp, pulled_is_up, directories_alike}
 
 -- ---- the rounds of the four
 

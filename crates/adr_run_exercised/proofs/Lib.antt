@@ -1,4 +1,3 @@
-mod Standing
 mod Level
 mod Settled
 mod Collecting

@@ -16,17 +16,18 @@ use Rattle.adr_model.specs.Member.{Member, Each}
 use Rattle.adr_model.specs.Update.{Identifier}
 use Rattle.adr_model.specs.Store.{Store, State, empty_state}
 use Rattle.adr_model.specs.Change.{Change}
-use Rattle.adr_model.specs.Lengths.{Log, new_log, area_fits, change_fits, is_due, log_before, next_log}
+use Rattle.adr_model.specs.Lengths.{new_log, area_fits, change_fits}
 use Rattle.adr_model.specs.Serve.{Request, Reply, serve}
 use Rattle.adr_model.specs.Write.{Write, write_meant, write}
 use Rattle.adr_model.specs.Take.{take}
 use Rattle.adr_model.specs.Collect.{collect, backup, adopt, quarantine}
 use Rattle.adr_model.specs.Refused.{serve_refused, take_refused}
-use Rattle.adr_model.specs.Replica.{Pending, ToWrite, ToTake, ToCollect, ToQuarantine, Up, Failed, Plan, Replica, on_new_disk, begun, moved, went, behind, calls_before, moves_of_commit, standing_after, commit_goes, recorded_on, checkpointed_on, device_after_commit}
+use Rattle.adr_model.specs.Replica.{Pending, ToWrite, ToTake, ToCollect, ToQuarantine, Up, Failed, Plan, Replica, on_new_disk, begun, moved, went, behind, calls_before, moves_of_commit, standing_after, commit_goes, device_after_commit}
 use Rattle.adr_model.specs.World.{Name, World, Gone, Sent, stays, nothing, bound_at, replica_at, with_replica, of_made, of_controller, of_image, committed, commit, quarantines, after_write, writes, after_collect, asks, after_serve, served, serves_request, after_take, delivered, delivers, backed_up, adopts}
 use Rattle.adr_model.specs.Cycles.{pull, pulls, reply_limit, pull_version}
 use Rattle.adr_model.specs.Step.{gives, step, after_lines}
 use Rattle.adr_model.proofs.Members.{member_left, member_of_either}
+use Rattle.adr_law_convergence.proofs.Cycling.{no_plan_left}
 use Rattle.adr_law_convergence.proofs.Exchanges.{IsKeptByCalls, worlds_alone, pull_so, pulls_so}
 use Rattle.adr_law_convergence.proofs.Found.{same_name, in_place, still_there}
 use Rattle.adr_law_convergence.proofs.Reached.{made_case, up_case, reached_case, within_case}
@@ -45,16 +46,6 @@ pub record AreManned (names : List Name) (rs : List Replica) : Type 0 where
 
 goes_through : (r : Replica) (p : Pending) → r.device.plan ≡ None → standing_after Failed (commit_goes r p) ≡ Up
 goes_through r p none = ap (λ (o : Option Plan). standing_after Failed (behind (calls_before r p) (went o (calls_before r p + 4)))) none
-
-plans_nothing : (r : Replica) (p : Pending) → r.device.plan ≡ None → (device_after_commit r p).plan ≡ None
-plans_nothing r p none =
-    let l = r.device.safe_log in
-    let next = next_log l r.safe.store p.change in
-    ap (λ (o : Option Plan). (if is_due l p.change then checkpointed_on l (log_before l r.safe.store p.change) next (went o 5) else recorded_on l next o).plan) none ∙ by (is_due l p.change) l (log_before l r.safe.store p.change) next
-  where
-    by : (b : Bool) (l mid next : Log) → (if b then checkpointed_on l mid next (went None 5) else recorded_on l next None).plan ≡ None
-    by true l mid next = refl
-    by false l mid next = refl
 
 -- ---- lists of controllers
 
@@ -98,7 +89,7 @@ module _ (names : List Name) where
     commits : (r : Replica) → Member r w.replicas → (p : Pending) (outcome : Outcome) → Leaves (commit w r p outcome)
     commits r there p outcome = within_case Leaves w (change_fits r.device.safe_log r.safe.store p.change) (committed w r p outcome) are
         (placed w.replicas (record (fold moved (w.book, r) (moves_of_commit p (commit_goes r p))).1 { standing = standing_after Failed (commit_goes r p); device = device_after_commit r p })
-        (goes_through r p (are.ready r there).1, plans_nothing r p (are.ready r there).1) are)
+        (goes_through r p (are.ready r there).1, no_plan_left r p (are.ready r there).1) are)
 
     quarantining : (r : Replica) → Member r w.replicas → (outcome : Outcome) → Leaves (quarantines w r outcome)
     quarantining r there outcome = commits r there (record { call = ToQuarantine; change = quarantine r.safe }) outcome

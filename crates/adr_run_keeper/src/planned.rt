@@ -1,6 +1,6 @@
 //! A keeper under a plan.
 
-ghost use Rattle.std.specs.Prelude.{◌≡◌, ◌⊎◌, ℕ, List, Bool, true, false, Option, Some, None, Ok, IfOk};
+ghost use Rattle.std.specs.Prelude.{◌≡◌, ℕ, List, Bool, true, false, Option, Some, None, Ok, IfOk};
 ghost use Rattle.adr_disk.specs.Disk.{Keeps};
 ghost use Rattle.adr_model.specs.Store.{State as Defined};
 ghost use Rattle.adr_model.specs.Change.{Change as Changes};

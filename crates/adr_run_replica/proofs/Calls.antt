@@ -1,6 +1,6 @@
 -- What each call of a controller is answered, by how it ended.
-use Rattle.std.proofs.Common.{◌≡◌, ◌∙◌, sym, ap, subst, ℕ, Bool, Option, Some, None, Result, Ok, Err, length, is_some}
-use Rattle.std.specs.Prelude.{IfOk}
+use Rattle.std.proofs.Common.{◌≡◌, ◌∙◌, refl, sym, ap, subst, ℕ, Bool, Option, Some, None, Result, Ok, Err, length, is_some}
+use Rattle.std.specs.Prelude.{IfOk, IfSome, OnErr}
 use Rattle.adr_call.specs.declared.outcome.Outcome.{Outcome}
 use Rattle.adr_call.specs.declared.outcome.Outcome.TheVariants as outcomes
 use Rattle.adr_call.specs.declared.refusal.WriteRefusal.{WriteRefusal}
@@ -11,24 +11,43 @@ use Rattle.adr_model.specs.Store.{State}
 use Rattle.adr_model.specs.Change.{Change}
 use Rattle.adr_model.specs.Collect.{collect}
 use Rattle.adr_model.specs.Refused.{write_refused, serve_refused, take_refused, collect_refused}
-use Rattle.adr_model.specs.Replica.{Replica, ToCollect, ToWrite, change_in}
+use Rattle.adr_model.specs.Replica.{Replica, Pending, ToCollect, ToWrite, change_in}
 use Rattle.adr_model.specs.Serve.{Request, Reply, serve}
 use Rattle.adr_model.specs.Take.{take}
 use Rattle.adr_model.specs.World.{World, Sent, after_write, after_serve, after_take, after_collect, stays, nothing, rows_in, noted, where_up}
 use Rattle.adr_model.specs.Write.{Write, write}
+use Rattle.adr_controller.specs.Ended.{call_hindrance}
 use Rattle.adr_controller.specs.declared.messages.Taken.{Taken}
+use Rattle.adr_controller.specs.declared.refusal.CallRefusal.{CallRefusal}
+use Rattle.adr_controller.specs.declared.refusal.CallRefusal.TheVariants.{Refused}
 use Rattle.adr_controller.specs.declared.refusal.Hindrance.{Hindrance}
 use Rattle.adr_run_replica.specs.Past.{Past}
 use Rattle.adr_run_replica.specs.Pending.{with_call, writing, served_by, serving, taking, collecting}
-use Rattle.adr_outcome.specs.Unsent.{unsent}
 use Rattle.adr_run_replica.specs.Settled.{hindered_so}
 use Rattle.adr_run_replica.specs.Led.{StandsIn, world_with, IsUndone, Leads, LeadsTo}
 use Rattle.adr_run_replica.proofs.Came.{Came, gone_so, sent_so}
 use Rattle.adr_run_replica.proofs.Noted.{answer_unnoted, served_at}
-use Rattle.adr_run_replica.proofs.Results.{if_ok_at, if_ok_as}
+use Rattle.adr_run_replica.proofs.Ending.{EndsTold, EndsSent, if_told, unless_told, if_sent, sent_holds, unless_sent}
+use Rattle.adr_run_replica.proofs.Results.{if_ok_is}
 use Rattle.adr_run_replica.proofs.Answered.{Makes, write_told, write_makes, take_told, take_makes, collect_told, collect_makes, serve_told, serve_sent, serve_makes, gone_made, sent_made}
 
 module _ (is_held : Type 0) (v q : Replica) (past later : Past) (state : Option State) (stopped : Bool) (how : Option Hindrance) where
+  module _ {M R E : Type 0} {made : Result M (CallRefusal R)} {r : Result Outcome E} {d : Bool} {ok : M → Outcome} {no : R → Outcome} {po : Option Pending}
+      (came : Came is_held v q past later po state stopped how) (says : how ≡ call_hindrance made) (ends : EndsTold made r d ok no) where
+    -- what a call is answered that is said to be answered this where nothing hindered it
+    answered : (P : Outcome → Type 0) (said : Outcome) → (how ≡ None → (told : Outcome) → said ≡ told → P told)
+        → ((h : Hindrance) → how ≡ Some h → (told : Outcome) → hindered_so h stopped ≡ Some told → P told) → d ≡ stopped
+        → ((x : M) → made ≡ Ok x → state ≡ Some v.safe → said ≡ ok x) → ((refusal : R) → made ≡ Err (Refused refusal) → state ≡ Some v.safe → said ≡ no refusal) → IfOk r P
+    answered P said as_said hindered same makes refuses =
+        if_told P ends
+        (λ x is. let none : how ≡ None = says ∙ ap call_hindrance is in as_said none (ok x) (makes x is (came.was_up none).1))
+        (λ refusal is. let none : how ≡ None = says ∙ ap call_hindrance is in as_said none (no refusal) (refuses refusal is (came.was_up none).1))
+        (λ h is told tells. hindered h (says ∙ ap call_hindrance is) told (ap (hindered_so h) (sym same) ∙ tells))
+
+    -- one that wasn't answered changed nothing
+    pub call_undone : OnErr r (IsUndone v past q later)
+    call_undone = unless_told (IsUndone v past q later) ends (λ h is. came.wanted h (says ∙ ap call_hindrance is))
+
   -- ---- a client's write
 
   module _ (what : Write) (now : ℕ) (came : Came is_held v q past later (writing what now v.safe) state stopped how) where
@@ -47,27 +66,18 @@ module _ (is_held : Type 0) (v q : Replica) (past later : Past) (state : Option 
         gone_made is_held v q past later (writing what now v.safe) state stopped how came none w (after_write w v what (write v.safe what now)) (write_told (write v.safe what now)) stands
         (writes w time) ∙ ap (λ t. (world_with w q later, t)) tells
 
-    hindered_write : (h : Hindrance) → how ≡ Some h → (d : Bool) → d ≡ stopped → (told : Outcome) → hindered_so h d ≡ Some told → WrittenAs told
-    hindered_write h is d same told tells w time stands =
-        gone_so w v q past later (writing what now v.safe) told (after_write w v what (write v.safe what now)) (came.hinders h is told (ap (hindered_so h) (sym same) ∙ tells)) stands
+    hindered_write : (h : Hindrance) → how ≡ Some h → (told : Outcome) → hindered_so h stopped ≡ Some told → WrittenAs told
+    hindered_write h is told tells w time stands =
+        gone_so w v q past later (writing what now v.safe) told (after_write w v what (write v.safe what now)) (came.hinders h is told tells) stands
         (λ p up ofp. (write_told (write v.safe what now), (writes w time).1 p ofp))
 
-    -- the same, of what is returned
-    module _ {E : Type 0} (r : Result Outcome E) where
-      pub ok_written : how ≡ None → (usn : ℕ) → r ≡ Ok (outcomes.Usn usn)
-          → ((s : State) → state ≡ Some s → (c : Change) × (write s what now ≡ Ok c) × (usn ≡ c.usn)) → IfOk r WrittenAs
-      ok_written none usn is makes =
-          let x = makes v.safe (came.was_up none).1 in
-          if_ok_at WrittenAs r (outcomes.Usn usn) is
-          (written_as none (outcomes.Usn usn) (ap write_told x.1 ∙ ap (λ n. outcomes.Usn n) (sym x.2)))
-
-      pub ok_unwritten : how ≡ None → (refusal : WriteRefusal) → ((s : State) → state ≡ Some s → write s what now ≡ Err refusal)
-          → (told : Outcome) → r ≡ Ok told → told ≡ write_refused refusal → IfOk r WrittenAs
-      ok_unwritten none refusal refuses told is tells =
-          if_ok_at WrittenAs r told is (written_as none told (ap write_told (refuses v.safe (came.was_up none).1) ∙ sym tells))
-
-      pub ok_hindered_write : (h : Hindrance) → how ≡ Some h → (d : Bool) → d ≡ stopped → (t : Result Outcome E) → r ≡ t → IfOk t (λ told. hindered_so h d ≡ Some told) → IfOk r WrittenAs
-      ok_hindered_write h ish d same t is tells = if_ok_as (λ told. hindered_so h d ≡ Some told) WrittenAs r t is tells (λ told. hindered_write h ish d same told)
+    pub ok_written : {E : Type 0} {made : Result ℕ (CallRefusal WriteRefusal)} {r : Result Outcome E} {d : Bool} → how ≡ call_hindrance made → d ≡ stopped
+        → EndsTold made r d (λ usn. outcomes.Usn usn) write_refused → IfOk made (λ usn. (s : State) → state ≡ Some s → (c : Change) × (write s what now ≡ Ok c) × (usn ≡ c.usn))
+        → ((s : State) (refusal : WriteRefusal) → state ≡ Some s → made ≡ Err (Refused refusal) → write s what now ≡ Err refusal) → IfOk r WrittenAs
+    ok_written {made = made} says same ends makes refuses =
+        answered came says ends WrittenAs (write_told (write v.safe what now)) written_as hindered_write same
+        (λ usn is there. let x = if_ok_is _ made usn is makes v.safe there in ap write_told x.1 ∙ ap (λ n. outcomes.Usn n) (sym x.2))
+        (λ refusal is there. ap write_told (refuses v.safe refusal there is))
 
   -- ---- a reply
 
@@ -80,33 +90,20 @@ module _ (is_held : Type 0) (v q : Replica) (past later : Past) (state : Option 
         gone_made is_held v q past later (taking reply v.safe) state stopped how came none w (after_take w v reply (take v.safe reply)) (take_told reply (take v.safe reply)) stands
         (take_makes w v reply (take v.safe reply)) ∙ ap (λ t. (world_with w q later, t)) tells
 
-    pub taken_so : how ≡ None → (taken : Taken)
-        → ((s : State) → state ≡ Some s → (c : Change) × (take s reply ≡ Ok c) × ◌≡◌ {A = Taken} taken (record { items = length reply.items; wrote = length c.writes; usn = c.usn }))
-        → TakenAs (outcomes.Took taken.items taken.wrote taken.usn)
-    taken_so none taken takes =
-        let x = takes v.safe (came.was_up none).1 in
-        take_made_as none (outcomes.Took taken.items taken.wrote taken.usn)
-        (ap (take_told reply) x.1 ∙ sym (ap (λ (t : Taken). outcomes.Took t.items t.wrote t.usn) x.2))
-
-    pub untaken_so : how ≡ None → (refusal : TakeRefusal) → ((s : State) → state ≡ Some s → take s reply ≡ Err refusal) → (told : Outcome) → told ≡ take_refused refusal → TakenAs told
-    untaken_so none refusal refuses told tells = take_made_as none told (ap (take_told reply) (refuses v.safe (came.was_up none).1) ∙ sym tells)
-
-    pub hindered_take : (h : Hindrance) → how ≡ Some h → (d : Bool) → d ≡ stopped → (told : Outcome) → hindered_so h d ≡ Some told → TakenAs told
-    hindered_take h is d same told tells w stands =
-        gone_so w v q past later (taking reply v.safe) told (after_take w v reply (take v.safe reply)) (came.hinders h is told (ap (hindered_so h) (sym same) ∙ tells)) stands
+    hindered_take : (h : Hindrance) → how ≡ Some h → (told : Outcome) → hindered_so h stopped ≡ Some told → TakenAs told
+    hindered_take h is told tells w stands =
+        gone_so w v q past later (taking reply v.safe) told (after_take w v reply (take v.safe reply)) (came.hinders h is told tells) stands
         (λ p up ofp. (take_told reply (take v.safe reply), (take_makes w v reply (take v.safe reply)).1 p ofp))
 
-    module _ {E : Type 0} (r : Result Outcome E) where
-      pub ok_taken : how ≡ None → (taken : Taken) → r ≡ Ok (outcomes.Took taken.items taken.wrote taken.usn)
-          → ((s : State) → state ≡ Some s → (c : Change) × (take s reply ≡ Ok c) × ◌≡◌ {A = Taken} taken (record { items = length reply.items; wrote = length c.writes; usn = c.usn })) → IfOk r TakenAs
-      ok_taken none taken is takes = if_ok_at TakenAs r (outcomes.Took taken.items taken.wrote taken.usn) is (taken_so none taken takes)
-
-      pub ok_untaken : how ≡ None → (refusal : TakeRefusal) → ((s : State) → state ≡ Some s → take s reply ≡ Err refusal)
-          → (told : Outcome) → r ≡ Ok told → told ≡ take_refused refusal → IfOk r TakenAs
-      ok_untaken none refusal refuses told is tells = if_ok_at TakenAs r told is (untaken_so none refusal refuses told tells)
-
-      pub ok_hindered_take : (h : Hindrance) → how ≡ Some h → (d : Bool) → d ≡ stopped → (t : Result Outcome E) → r ≡ t → IfOk t (λ told. hindered_so h d ≡ Some told) → IfOk r TakenAs
-      ok_hindered_take h ish d same t is tells = if_ok_as (λ told. hindered_so h d ≡ Some told) TakenAs r t is tells (λ told. hindered_take h ish d same told)
+    pub ok_taken : {E : Type 0} {made : Result Taken (CallRefusal TakeRefusal)} {r : Result Outcome E} {d : Bool} → how ≡ call_hindrance made → d ≡ stopped
+        → EndsTold made r d (λ taken. outcomes.Took taken.items taken.wrote taken.usn) take_refused
+        → IfOk made (λ taken. (s : State) → state ≡ Some s
+        → (c : Change) × (take s reply ≡ Ok c) × ◌≡◌ {A = Taken} taken (record { items = length reply.items; wrote = length c.writes; usn = c.usn }))
+        → ((s : State) (refusal : TakeRefusal) → state ≡ Some s → made ≡ Err (Refused refusal) → take s reply ≡ Err refusal) → IfOk r TakenAs
+    ok_taken {made = made} says same ends makes refuses =
+        answered came says ends TakenAs (take_told reply (take v.safe reply)) take_made_as hindered_take same
+        (λ taken is there. let x = if_ok_is _ made taken is makes v.safe there in ap (take_told reply) x.1 ∙ sym (ap (λ (t : Taken). outcomes.Took t.items t.wrote t.usn) x.2))
+        (λ refusal is there. ap (take_told reply) (refuses v.safe refusal there is))
 
   -- ---- a collection
 
@@ -127,27 +124,19 @@ module _ (is_held : Type 0) (v q : Replica) (past later : Past) (state : Option 
         gone_made is_held v q past later (collecting now lifetime v.safe) state stopped how came none w (after_collect w v lifetime (collect v.safe now lifetime))
         (collect_told (collect v.safe now lifetime)) stands (collects w time) ∙ ap (λ t. (world_with w q later, t)) tells
 
-    hindered_collect : (h : Hindrance) → how ≡ Some h → (d : Bool) → d ≡ stopped → (told : Outcome) → hindered_so h d ≡ Some told → CollectedAs told
-    hindered_collect h is d same told tells w time stands =
+    hindered_collect : (h : Hindrance) → how ≡ Some h → (told : Outcome) → hindered_so h stopped ≡ Some told → CollectedAs told
+    hindered_collect h is told tells w time stands =
         gone_so w v q past later (collecting now lifetime v.safe) told (after_collect w v lifetime (collect v.safe now lifetime))
-        (came.hinders h is told (ap (hindered_so h) (sym same) ∙ tells)) stands (λ p up ofp. (collect_told (collect v.safe now lifetime), (collects w time).1 p ofp))
+        (came.hinders h is told tells) stands (λ p up ofp. (collect_told (collect v.safe now lifetime), (collects w time).1 p ofp))
 
-    module _ {E : Type 0} (r : Result Outcome E) where
-      pub ok_collected : how ≡ None → (removed : ℕ) → r ≡ Ok (outcomes.Removed removed)
-          → ((s : State) → state ≡ Some s → (c : Change) × (collect s now lifetime ≡ Ok c) × (removed ≡ length c.removed)) → IfOk r CollectedAs
-      ok_collected none removed is takes =
-          let x = takes v.safe (came.was_up none).1 in
-          if_ok_at CollectedAs r (outcomes.Removed removed) is
-          (collect_made_as none (outcomes.Removed removed) (ap collect_told x.1 ∙ ap (λ n. outcomes.Removed n) (sym x.2)))
-
-      pub ok_uncollected : how ≡ None → (refusal : CollectRefusal) → ((s : State) → state ≡ Some s → collect s now lifetime ≡ Err refusal)
-          → (told : Outcome) → r ≡ Ok told → told ≡ collect_refused refusal → IfOk r CollectedAs
-      ok_uncollected none refusal refuses told is tells =
-          if_ok_at CollectedAs r told is (collect_made_as none told (ap collect_told (refuses v.safe (came.was_up none).1) ∙ sym tells))
-
-      pub ok_hindered_collect : (h : Hindrance) → how ≡ Some h → (d : Bool) → d ≡ stopped → (t : Result Outcome E) → r ≡ t → IfOk t (λ told. hindered_so h d ≡ Some told) → IfOk r CollectedAs
-      ok_hindered_collect h ish d same t is tells =
-          if_ok_as (λ told. hindered_so h d ≡ Some told) CollectedAs r t is tells (λ told. hindered_collect h ish d same told)
+    pub ok_collected : {E : Type 0} {made : Result ℕ (CallRefusal CollectRefusal)} {r : Result Outcome E} {d : Bool} → how ≡ call_hindrance made → d ≡ stopped
+        → EndsTold made r d (λ removed. outcomes.Removed removed) collect_refused
+        → IfOk made (λ removed. (s : State) → state ≡ Some s → (c : Change) × (collect s now lifetime ≡ Ok c) × (removed ≡ length c.removed))
+        → ((s : State) (refusal : CollectRefusal) → state ≡ Some s → made ≡ Err (Refused refusal) → collect s now lifetime ≡ Err refusal) → IfOk r CollectedAs
+    ok_collected {made = made} says same ends makes refuses =
+        answered came says ends CollectedAs (collect_told (collect v.safe now lifetime)) collect_made_as hindered_collect same
+        (λ removed is there. let x = if_ok_is _ made removed is makes v.safe there in ap collect_told x.1 ∙ ap (λ n. outcomes.Removed n) (sym x.2))
+        (λ refusal is there. ap collect_told (refuses v.safe refusal there is))
 
   -- ---- a request
 
@@ -167,50 +156,50 @@ module _ (is_held : Type 0) (v q : Replica) (past later : Past) (state : Option 
         sent_made is_held v q past later (serving request v.safe) state stopped how came none w (serve v.safe request w.time) (keeps w) stands (serving_then w)
         ∙ ap (λ t. (world_with w q later, serve_told t, serve_sent t)) is
 
-    pub served_so : how ≡ None → (reply : Reply) → ((s : State) (now : ℕ) → state ≡ Some s → serve s request now ≡ Ok reply)
+    served_so : how ≡ None → (reply : Reply) → ((s : State) (now : ℕ) → state ≡ Some s → serve s request now ≡ Ok reply)
         → (told : Outcome) (sent : Option Reply) → sent ≡ Some reply → told ≡ outcomes.Served reply.from reply.to (length reply.items) (rows_in reply) (is_some reply.last)
         → ServedAs told sent
     served_so none reply serves told sent sends tells w stands =
         made_sent none w stands (Ok reply) (serves v.safe w.time (came.was_up none).1)
         ∙ ap (λ o. let made : Sent Reply = (world_with w q later, o, Some reply) in made) (sym tells) ∙ ap (λ m. let made : Sent Reply = (world_with w q later, told, m) in made) (sym sends)
 
-    pub unserved_so : how ≡ None → (refusal : ServeRefusal) → ((s : State) (now : ℕ) → state ≡ Some s → serve s request now ≡ Err refusal)
+    unserved_so : how ≡ None → (refusal : ServeRefusal) → ((s : State) (now : ℕ) → state ≡ Some s → serve s request now ≡ Err refusal)
         → (told : Outcome) → told ≡ serve_refused refusal → ServedAs told None
     unserved_so none refusal refuses told tells w stands =
         made_sent none w stands (Err refusal) (refuses v.safe w.time (came.was_up none).1)
         ∙ ap (λ o. let sent : Sent Reply = nothing (world_with w q later) o in sent) (sym tells)
 
     -- where a reply was made nothing was committed
-    pub served_undone : how ≡ None → (reply : Reply) → ((s : State) (now : ℕ) → state ≡ Some s → serve s request now ≡ Ok reply) → IsUndone v past q later
+    served_undone : how ≡ None → (reply : Reply) → ((s : State) (now : ℕ) → state ≡ Some s → serve s request now ≡ Ok reply) → IsUndone v past q later
     served_undone none reply serves = came.idle none (ap (served_by v.safe) (serves v.safe 0 (came.was_up none).1))
 
-    pub hindered_serve : (h : Hindrance) → how ≡ Some h → (d : Bool) → d ≡ stopped → (told : Outcome) → hindered_so h d ≡ Some told → ServedAs told None
-    hindered_serve h is d same told tells w stands =
+    hindered_serve : (h : Hindrance) → how ≡ Some h → (told : Outcome) → hindered_so h stopped ≡ Some told → ServedAs told None
+    hindered_serve h is told tells w stands =
         let t = serve v.safe request w.time in
-        sent_so w v q past later (serving request v.safe) told (after_serve w v t) (came.hinders h is told (ap (hindered_so h) (sym same) ∙ tells)) stands
+        sent_so w v q past later (serving request v.safe) told (after_serve w v t) (came.hinders h is told tells) stands
         (λ p up ofp. (serve_told t, ((serve_makes w v t (keeps w)).1 p (sym (serving_then w) ∙ ofp)).0))
 
     abbrev ServedBy : Outcome × Option Reply → Type 0
     ServedBy sent = ServedAs sent.0 sent.1
 
-    module _ {E : Type 0} (r : Result (Outcome × Option Reply) E) where
-      pub ok_served : how ≡ None → (reply : Reply) → ((s : State) (now : ℕ) → state ≡ Some s → serve s request now ≡ Ok reply) → (t : Result (Outcome × Option Reply) E) → r ≡ t
-          → IfOk t (λ sent. (sent.1 ≡ Some reply) × (sent.0 ≡ outcomes.Served reply.from reply.to (length reply.items) (rows_in reply) (is_some reply.last))) → IfOk r ServedBy
-      ok_served none reply serves t is tells =
-          if_ok_as (λ sent. (sent.1 ≡ Some reply) × (sent.0 ≡ outcomes.Served reply.from reply.to (length reply.items) (rows_in reply) (is_some reply.last))) ServedBy r t is tells
-          (λ sent both. served_so none reply serves sent.0 sent.1 both.0 both.1)
+    -- what is known of the call alone
+    abbrev Serves : Result Reply (CallRefusal ServeRefusal) → Type 0
+    Serves made = IfOk made (λ reply. (s : State) (now : ℕ) → state ≡ Some s → serve s request now ≡ Ok reply)
 
-      -- where it is answered without a reply
-      if_unsent : (P : Outcome → Type 0) (o : Result Outcome E) → r ≡ unsent o → IfOk o P → ((told : Outcome) → P told → ServedAs told None) → IfOk r ServedBy
-      if_unsent P o is tells so = subst (λ x. IfOk x ServedBy) (sym is) (by o tells)
-        where
-          by : (o : Result Outcome E) → IfOk o P → IfOk (unsent o) ServedBy
-          by (Ok told) p = so told p
-          by (Err e) p = tt
+    module _ {E : Type 0} {made : Result Reply (CallRefusal ServeRefusal)} {r : Result (Outcome × Option Reply) E} {d : Bool} (says : how ≡ call_hindrance made) (ends : EndsSent made r d) (serves : Serves made) where
+      pub ok_served : d ≡ stopped → ((s : State) (refusal : ServeRefusal) (now : ℕ) → state ≡ Some s → made ≡ Err (Refused refusal) → serve s request now ≡ Err refusal) → IfOk r ServedBy
+      ok_served same refuses =
+          if_sent ServedBy ends
+          (λ reply is sent both. served_so (says ∙ ap call_hindrance is) reply (if_ok_is _ made reply is serves) sent.0 sent.1 both.0 both.1)
+          (λ refusal is. unserved_so (says ∙ ap call_hindrance is) refusal (λ s now there. refuses s refusal now there is) (serve_refused refusal) refl)
+          (λ h is told tells. hindered_serve h (says ∙ ap call_hindrance is) told (ap (hindered_so h) (sym same) ∙ tells))
 
-      pub ok_unserved : how ≡ None → (refusal : ServeRefusal) → ((s : State) (now : ℕ) → state ≡ Some s → serve s request now ≡ Err refusal)
-          → (told : Outcome) → r ≡ Ok (told, None) → told ≡ serve_refused refusal → IfOk r ServedBy
-      ok_unserved none refusal refuses told is tells = if_ok_at ServedBy r (told, None) is (unserved_so none refusal refuses told tells)
+      -- a reply that is sent is one that its state serves
+      pub served_spelled : (P : Reply → Type 0) → ((reply : Reply) → state ≡ Some v.safe → serve v.safe request 0 ≡ Ok reply → P reply) → IfOk r (λ sent. IfSome sent.1 P)
+      served_spelled P spelled = sent_holds P ends
+          (λ reply is. let there = (came.was_up (says ∙ ap call_hindrance is)).1 in spelled reply there (if_ok_is _ made reply is serves v.safe 0 there))
 
-      pub ok_hindered_serve : (h : Hindrance) → how ≡ Some h → (d : Bool) → d ≡ stopped → (o : Result Outcome E) → r ≡ unsent o → IfOk o (λ told. hindered_so h d ≡ Some told) → IfOk r ServedBy
-      ok_hindered_serve h ish d same o is tells = if_unsent (λ told. hindered_so h d ≡ Some told) o is tells (λ told. hindered_serve h ish d same told)
+      pub serve_undone : OnErr r (IsUndone v past q later)
+      serve_undone = unless_sent (IsUndone v past q later) ends
+          (λ reply is. served_undone (says ∙ ap call_hindrance is) reply (if_ok_is _ made reply is serves))
+          (λ h is. came.wanted h (says ∙ ap call_hindrance is))

@@ -91,6 +91,20 @@ by_bool : (b : Bool) (X : Type 0) → (b ≡ true → X) → (b ≡ false → X)
 by_bool true X on_true on_false = on_true refl
 by_bool false X on_true on_false = on_false refl
 
+-- of a call that was hindered it is open alone what it is answered, and what it leaves where it wanted memory
+when_hindered : {is_held : Type 0} {r q : Replica} {past later : Past} {po : Option Pending} {state : Option State} {stopped : Bool} {h : Hindrance}
+    → is_held → later.given ≡ past.given → ((told : Outcome) → hindered_so h stopped ≡ Some told → Hindered r q past later po told) → (h ≡ NoMemory → IsUndone r past q later)
+    → Came is_held r q past later po state stopped (Some h)
+when_hindered {is_held} {r} {q} {past} {later} {po} {state} {stopped} {h} held given hinders wanted = record {
+  held = held;
+  given = given;
+  was_up = λ none. absurd (cc none);
+  idle = λ none. absurd (cc none);
+  done = λ none. absurd (cc none);
+  hinders = λ k is told tells. hinders told (ap (λ x. hindered_so x stopped) (some_same h k is) ∙ tells);
+  wanted = λ k is wants. wanted (some_same h k is ∙ wants);
+}
+
 -- ---- a controller whose disk may have stopped
 
 module _ {K : Type 0} where
@@ -162,6 +176,12 @@ module _ {K : Type 0} (k : Ghosts K) (read safe torn : K → Started State) (pla
         let x = come how kept ahead.kept in
         Came (IsHeld read safe torn plan has_stopped name dsa new x) r (seen read safe plan name new x) past (come how past ahead.past) (po r.safe) old.state (has_stopped new.keeper) how
 
+    -- what a call leaves that was hindered before it touched the controller
+    as_it_was : (h : Hindrance) → mid ≡ old
+        → ((told : Outcome) → hindered_so h (has_stopped mid.keeper) ≡ Some told → Hindered r (seen read safe plan name mid kept) past past (po r.safe) told)
+        → Came (IsHeld read safe torn plan has_stopped name dsa mid kept) r (seen read safe plan name mid kept) past past (po r.safe) old.state (has_stopped mid.keeper) (Some h)
+    as_it_was h is hinders = when_hindered (still_held mid kept is refl) refl hinders (λ wants. (still_seen mid kept is refl, refl))
+
     running : (how : Option Hindrance) → Calls k changes old mid how → (how ≡ Some Down → ⊥) → (how ≡ Some Failed → ⊥) → AtRest
     running how calls up sound =
         by_option old.state AtRest
@@ -222,37 +242,22 @@ module _ {K : Type 0} (k : Ghosts K) (read safe torn : K → Started State) (pla
           let faulty = (commits.fault refl).0 in
           let has = subst (λ x. Has read safe torn plan x left) (downed_keeper stopped mid) g.0 in
           let is = seen_so read safe torn plan name new ahead.kept left has named (downed_stands stopped mid faulty commits.still_up ∙ g.1) kept_ahead in
-          record {
-            held = held_so read safe torn plan has_stopped name dsa new ahead.kept left is has (λ s there. absurd (cc (there, downed_state stopped mid faulty))) held.is_id dsas.0 dsas.1;
-            given = ap (λ (x : Past). x.given) past_ahead;
-            was_up = λ none. absurd (cc none);
-            idle = λ none. absurd (cc none);
-            done = λ none. absurd (cc none);
-            hinders = λ h ish told tells.
-                let tells_it : hindered_so DiskFault (has_stopped new.keeper) ≡ Some told = ap (λ x. hindered_so x (has_stopped new.keeper)) (some_same DiskFault h ish) ∙ tells in
-                Ended p rest.up of
-                (λ w o stands. commit_made w r (seen read safe plan name new ahead.kept) past ahead.past p o told stands (commits.within (inr refl) r.device.safe_log rest.at) is past_ahead
-                (fault_answers (commit_goes r p) o stopped g.1 ∙ ap of_fault (ap has_stopped (downed_keeper stopped mid)) ∙ some_same (of_fault (has_stopped new.keeper)) told tells_it));
-            wanted = λ h ish wants. absurd (let no : ⊥ = cc (ish, wants) in no);
-          }
+          when_hindered
+          (held_so read safe torn plan has_stopped name dsa new ahead.kept left is has (λ s there. absurd (cc (there, downed_state stopped mid faulty))) held.is_id dsas.0 dsas.1)
+          (ap (λ (x : Past). x.given) past_ahead)
+          (λ told tells. Ended p rest.up of
+          (λ w o stands. commit_made w r (seen read safe plan name new ahead.kept) past ahead.past p o told stands (commits.within (inr refl) r.device.safe_log rest.at) is past_ahead
+          (fault_answers (commit_goes r p) o stopped g.1 ∙ ap of_fault (ap has_stopped (downed_keeper stopped mid)) ∙ some_same (of_fault (has_stopped new.keeper)) told tells)))
+          (λ wants. absurd (cc wants))
 
       full_so : Calls k changes old mid (Some Full) → CameBy (Some Full)
       full_so calls =
           let commits = ran (Some Full) calls in
           let is = commits.full refl in
-          record {
-            held = still_held mid kept is refl;
-            given = refl;
-            was_up = λ none. absurd (cc none);
-            idle = λ none. absurd (cc none);
-            done = λ none. absurd (cc none);
-            hinders = λ h ish told tells.
-                let tells_it : hindered_so Full (has_stopped mid.keeper) ≡ Some told = ap (λ x. hindered_so x (has_stopped mid.keeper)) (some_same Full h ish) ∙ tells in
-                Ended p rest.up of
-                (λ w o stands. commit_full w r (seen read safe plan name mid kept) past past p o o stands (commits.beyond refl r.device.safe_log rest.at) (still_seen mid kept is refl) refl
-                ∙ ap (λ t. (world_with w (seen read safe plan name mid kept) past, t)) (some_same (full Log log_limit) told tells_it));
-            wanted = λ h ish wants. (still_seen mid kept is refl, refl);
-          }
+          as_it_was Full is
+          (λ told tells. Ended p rest.up of
+          (λ w o stands. commit_full w r (seen read safe plan name mid kept) past past p o o stands (commits.beyond refl r.device.safe_log rest.at) (still_seen mid kept is refl) refl
+          ∙ ap (λ t. (world_with w (seen read safe plan name mid kept) past, t)) (some_same (full Log log_limit) told tells)))
 
       short_so : Calls k changes old mid (Some NoMemory) → CameBy (Some NoMemory)
       short_so calls =
@@ -261,15 +266,8 @@ module _ {K : Type 0} (k : Ghosts K) (read safe torn : K → Started State) (pla
           let there = (commits.no_memory refl).0 ∙ rest.in_memory in
           let stands = ap (λ b. standing_by b mid.state) commits.still_up ∙ ap (λ o. standing_by false o) there ∙ sym rest.up in
           let is = seen_so read safe torn plan name mid kept r g.0 refl stands refl in
-          record {
-            held = held_so read safe torn plan has_stopped name dsa mid kept r is g.0 (λ s _. (g.1, rest.none)) held.is_id held.reads held.keeps;
-            given = refl;
-            was_up = λ none. absurd (cc none);
-            idle = λ none. absurd (cc none);
-            done = λ none. absurd (cc none);
-            hinders = λ h ish told tells. absurd (let tells_it : hindered_so NoMemory (has_stopped mid.keeper) ≡ Some told = ap (λ x. hindered_so x (has_stopped mid.keeper)) (some_same NoMemory h ish) ∙ tells in cc tells_it);
-            wanted = λ h ish wants. (is, refl);
-          }
+          when_hindered (held_so read safe torn plan has_stopped name dsa mid kept r is g.0 (λ s _. (g.1, rest.none)) held.is_id held.reads held.keeps) refl
+          (λ told tells. absurd (cc tells)) (λ wants. (is, refl))
 
     -- nothing was to be committed, and memory may have been wanting
     none_so : po r.safe ≡ None → AtRest → Calls k changes old mid None → CameBy None
@@ -290,15 +288,7 @@ module _ {K : Type 0} (k : Ghosts K) (read safe torn : K → Started State) (pla
     short_none : po r.safe ≡ None → AtRest → Calls k changes old mid (Some NoMemory) → CameBy (Some NoMemory)
     short_none of rest calls =
         let is = calls.unchanged r.safe rest.in_memory (sym (makes None of)) in
-        record {
-          held = still_held mid kept is refl;
-          given = refl;
-          was_up = λ none. absurd (cc none);
-          idle = λ none. absurd (cc none);
-          done = λ none. absurd (cc none);
-          hinders = λ h ish told tells. absurd (let tells_it : hindered_so NoMemory (has_stopped mid.keeper) ≡ Some told = ap (λ x. hindered_so x (has_stopped mid.keeper)) (some_same NoMemory h ish) ∙ tells in cc tells_it);
-          wanted = λ h ish wants. (still_seen mid kept is refl, refl);
-        }
+        as_it_was NoMemory is (λ told tells. absurd (cc tells))
 
     -- it was down or failed
     down_so : Calls k changes old mid (Some Down) → CameBy (Some Down)
@@ -306,33 +296,14 @@ module _ {K : Type 0} (k : Ghosts K) (read safe torn : K → Started State) (pla
         let down = calls.down.0 refl in
         let none = by_option old.state (old.state ≡ None) (λ none. none) (λ s is. absurd (cc ((order.up s is).1, down))) in
         let is = calls.stays none in
-        record {
-          held = still_held mid kept is refl;
-          given = refl;
-          was_up = λ none. absurd (cc none);
-          idle = λ none. absurd (cc none);
-          done = λ none. absurd (cc none);
-          hinders = λ h ish told tells.
-              let tells_it : hindered_so Down (has_stopped mid.keeper) ≡ Some told = ap (λ x. hindered_so x (has_stopped mid.keeper)) (some_same Down h ish) ∙ tells in
-              WasDown (ap (λ b. standing_by b old.state) down) (sym (some_same outcomes.Down told tells_it)) (still_seen mid kept is refl) refl;
-          wanted = λ h ish wants. (still_seen mid kept is refl, refl);
-        }
+        as_it_was Down is (λ told tells. WasDown (ap (λ b. standing_by b old.state) down) (sym (some_same outcomes.Down told tells)) (still_seen mid kept is refl) refl)
 
     failed_so : Calls k changes old mid (Some Failed) → CameBy (Some Failed)
     failed_so calls =
         let both = calls.failed.0 refl in
         let is = calls.stays both.1 in
-        record {
-          held = still_held mid kept is refl;
-          given = refl;
-          was_up = λ none. absurd (cc none);
-          idle = λ none. absurd (cc none);
-          done = λ none. absurd (cc none);
-          hinders = λ h ish told tells.
-              let tells_it : hindered_so Failed (has_stopped mid.keeper) ≡ Some told = ap (λ x. hindered_so x (has_stopped mid.keeper)) (some_same Failed h ish) ∙ tells in
-              WasFailed (ap (λ b. standing_by b old.state) both.0 ∙ ap (λ o. standing_by false o) both.1) (sym (some_same outcomes.Failed told tells_it)) (still_seen mid kept is refl) refl;
-          wanted = λ h ish wants. (still_seen mid kept is refl, refl);
-        }
+        as_it_was Failed is
+        (λ told tells. WasFailed (ap (λ b. standing_by b old.state) both.0 ∙ ap (λ o. standing_by false o) both.1) (sym (some_same outcomes.Failed told tells)) (still_seen mid kept is refl) refl)
 
     -- with nothing to commit it ends well, or memory is wanting
     not_idle : (how : Option Hindrance) (X : Type 0) → Calls k changes old mid how → AtRest → po r.safe ≡ None → (how ≡ None → ⊥) → (how ≡ Some NoMemory → ⊥) → X

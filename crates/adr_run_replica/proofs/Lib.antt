@@ -3,6 +3,7 @@ mod Seen
 mod Went
 pub mod Noted
 mod Came
+mod Ending
 mod Calls
 mod Results
 mod Answered

@@ -6,7 +6,7 @@ ghost use Rattle.adr_run_replica.specs.Past.{nothing_yet};
 ghost use Rattle.adr_run_replica.specs.Told.{told_of};
 
 use crate::replica::Replica;
-use crate::told::{Call, Deed, Told};
+use crate::told::{Deed, Told};
 use adr_call::Write;
 use adr_cycle::{Reply, Request};
 use adr_guid::Guid;
@@ -26,7 +26,7 @@ impl Model for Past {
 
     ghost Value = { Defined };
 
-    ghost view = { λ p. p.told.past };
+    ghost view = { λ p. p.told.ahead.past };
 }
 
 impl Past {
@@ -68,7 +68,7 @@ impl Past {
 /// see it.
 #[derive(Drop)]
 pub(crate) struct Kept {
-    call: Call,
+    told: Told,
 }
 
 impl Model for Kept {
@@ -77,7 +77,7 @@ impl Model for Kept {
 
     ghost Value = { Option Pending };
 
-    ghost view = { λ k. k.call.kept };
+    ghost view = { λ k. k.told.ahead.kept };
 }
 
 impl Kept {
@@ -85,7 +85,7 @@ impl Kept {
     pub(crate) fn none() -> Kept
         ensures { result ≡ None }
     {
-        Kept { call: Call::none() }
+        Kept { told: Told::new() }
     }
 }
 
@@ -106,7 +106,7 @@ impl Ahead {
                 told: past.told.with(deed),
             },
             kept: Kept {
-                call: Call::behind(&past.told, deed),
+                told: past.told.with(deed),
             },
         }
     }

@@ -1,9 +1,8 @@
 //! What a run was told. Only proofs read it, and it takes no memory.
 
-ghost use Rattle.std.specs.Prelude.{◌≡◌, Option, None};
-ghost use Rattle.adr_model.specs.Replica.{Pending};
-ghost use Rattle.adr_run_replica.specs.Past.{Past, nothing_yet};
-ghost use Rattle.adr_run_replica.specs.Told.{told_of};
+ghost use Rattle.std.specs.Prelude.{◌≡◌};
+ghost use Rattle.adr_run_replica.specs.Past.{Ahead, nothing_yet};
+ghost use Rattle.adr_run_replica.specs.Told.{keeping_none, told_of};
 
 use crate::replica::Replica;
 use adr_call::Write;
@@ -55,10 +54,10 @@ pub(crate) enum Deed<'a, S, R, W, Q, A> {
     Starts(&'a R),
 }
 
-/// All that a run was told so far.
+/// All that a run was told so far, and the call that a controller keeps behind the last of it.
 #[derive(Drop)]
 pub(crate) struct Told {
-    pub(crate) ghost past: { Past },
+    pub(crate) ghost ahead: { Ahead },
 }
 
 impl Model for Told {
@@ -70,46 +69,15 @@ impl Model for Told {
 impl Told {
     /// Nothing yet.
     pub(crate) fn new() -> Told
-        ensures { result.past ≡ nothing_yet }
+        ensures { result.ahead ≡ keeping_none nothing_yet }
     {
         Told {}
     }
 
     /// And one thing more.
     pub(crate) fn with(&self, _deed: &Deed<'_, State, Replica, Write, Request, Reply>) -> Told
-        ensures { result.past ≡ (told_of self.now.past _deed.now).past }
+        ensures { result.ahead ≡ told_of self.now.ahead.past _deed.now }
     {
         Told {}
-    }
-}
-
-/// The call of a controller that is on its disk and isn't safe.
-#[derive(Drop)]
-pub(crate) struct Call {
-    pub(crate) ghost kept: { Option Pending },
-}
-
-impl Model for Call {
-    ghost use Rattle.std.specs.Borrow.{ftrue};
-
-    ghost also_owns = { λ _. ftrue };
-}
-
-impl Call {
-    /// None.
-    pub(crate) fn none() -> Call
-        ensures { result.kept ≡ None }
-    {
-        Call {}
-    }
-
-    /// The one that is kept behind what a past is told.
-    pub(crate) fn behind(
-        _told: &Told,
-        _deed: &Deed<'_, State, Replica, Write, Request, Reply>,
-    ) -> Call
-        ensures { result.kept ≡ (told_of _told.now.past _deed.now).kept }
-    {
-        Call {}
     }
 }

@@ -1,14 +1,16 @@
 -- What a call of the controller at a place makes of the run's world.
-use Rattle.std.proofs.Common.{◌≡◌, ◌≢◌, ◌∙◌, refl, sym, ap, inl, inr, ◌⊎◌, ℕ, ◌<◌, length, slice_set, Option, Some}
-use Rattle.std.specs.Prelude.{slice_get, slice_index_or}
+use Rattle.std.proofs.Common.{◌≡◌, ◌≢◌, ◌∙◌, refl, sym, ap, subst, inl, inr, ◌⊎◌, ℕ, ◌<◌, length, slice_set, Option, Some}
+use Rattle.std.specs.Prelude.{Result, IfOk, slice_get, slice_index_or}
+use Rattle.std.proofs.lemmas.Result.{IfOk-weaker}
 use Rattle.adr_call.specs.declared.outcome.Outcome.{Outcome}
+use Rattle.adr_call.specs.declared.outcome.Outcome.TheVariants as outcomes
 use Rattle.adr_event.specs.declared.event.Event.TheVariants.{Start}
-use Rattle.adr_model.specs.Replica.{Replica, Up}
-use Rattle.adr_model.specs.World.{World, Name, Gone, Sent, replica_at, of_made, of_controller, where_up, stays, nothing}
+use Rattle.adr_model.specs.Replica.{Plan, Replica, Up}
+use Rattle.adr_model.specs.World.{World, Name, Gone, Sent, replica_at, of_made, of_controller, where_up, stays, nothing, with_plan, with_replica}
 use Rattle.adr_run_replica.specs.Past.{Past}
-use Rattle.adr_run_replica.specs.Led.{StandsIn, IsUndone, IsDone, synced, world_with}
+use Rattle.adr_run_replica.specs.Led.{StandsIn, IsUndone, IsDone, Leads, LeadsTo, synced, world_with}
 use Rattle.adr_run_world.specs.declared.run.Run.{Run}
-use Rattle.adr_run_world.specs.Run.{AreApart, IsTidy, world_of}
+use Rattle.adr_run_world.specs.Run.{AreApart, AreRanged, AreSpelled, IsTidy, world_of}
 use Rattle.adr_run_world.specs.Short.{IsCutShort}
 use Rattle.adr_run_world.proofs.Places.{at_place, placed, unplaced, apart_still}
 use Rattle.adr_run_world.proofs.Calls.{reaches}
@@ -17,53 +19,97 @@ use Rattle.adr_run_world.proofs.Calls.{reaches}
 abbrev pub run_with : Run → ℕ → Replica → Past → World
 run_with r i new later = record (world_of r) { book = later.book; replicas = slice_set r.controllers.items i new; given = later.given }
 
-module _ (r : Run) (name : Name) (i : ℕ) (d : Replica) (lt : i < length r.controllers.items) (read : d ≡ slice_index_or r.controllers.items i d) (found : replica_at (world_of r) name ≡ slice_get r.controllers.items i) where
+-- the controller at the place of a name is the one of the name
+pub found_there : (r : Run) (name : Name) (i : ℕ) (d : Replica) → i < length r.controllers.items → d ≡ slice_index_or r.controllers.items i d → replica_at (world_of r) name ≡ slice_get r.controllers.items i
+    → replica_at (world_of r) name ≡ Some d
+found_there r name i d lt read found = found ∙ at_place r.controllers.items i d lt read
+
+-- what a call made of the controller of a name, at its place in a run in order, and of the past
+pub record Becomes (r : Run) (name : Name) (i : ℕ) (d new : Replica) (later : Past) : Type 0 where
+  pub place : i < length r.controllers.items
+  pub read : d ≡ slice_index_or r.controllers.items i d
+  pub found : replica_at (world_of r) name ≡ slice_get r.controllers.items i
+  pub tidy : IsTidy r
+  pub named : new.name ≡ d.name
+  pub given : later.given ≡ r.past.given
+
+module _ {r : Run} {name : Name} {i : ℕ} {d new : Replica} {later : Past} (b : Becomes r name i d new later) where
   at : slice_get r.controllers.items i ≡ Some d
-  at = at_place r.controllers.items i d lt read
+  at = at_place r.controllers.items i d b.place b.read
 
-  -- the controller at the place is the one of the name
-  pub found_there : replica_at (world_of r) name ≡ Some d
-  found_there = found ∙ at
+  there : replica_at (world_of r) name ≡ Some d
+  there = found_there r name i d b.place b.read b.found
 
-  module _ (tidy : IsTidy r) where
-    pub stands : StandsIn (world_of r) d r.past
-    stands = record { book = refl; there = sym (placed r.controllers.items i d d tidy.apart at refl) ∙ unplaced r.controllers.items i d at }
+  pub stands : StandsIn (world_of r) d r.past
+  stands = record { book = refl; there = sym (placed r.controllers.items i d d b.tidy.apart at refl) ∙ unplaced r.controllers.items i d at }
 
-    -- nothing has changed
-    pub undone : (new : Replica) (later : Past) → IsUndone d r.past new later → run_with r i new later ≡ world_of r
-    undone new later is =
-        ap (λ (x : Replica). record (world_of r) { book = later.book; replicas = slice_set r.controllers.items i x; given = later.given }) is.0
-        ∙ ap (λ rs. record (world_of r) { book = later.book; replicas = rs; given = later.given }) (unplaced r.controllers.items i d at)
-        ∙ ap (λ (p : Past). record (world_of r) { book = p.book; given = p.given }) is.1
+  -- nothing has changed
+  pub undone : IsUndone d r.past new later → run_with r i new later ≡ world_of r
+  undone is =
+      ap (λ (x : Replica). record (world_of r) { book = later.book; replicas = slice_set r.controllers.items i x; given = later.given }) is.0
+      ∙ ap (λ rs. record (world_of r) { book = later.book; replicas = rs; given = later.given }) (unplaced r.controllers.items i d at)
+      ∙ ap (λ (p : Past). record (world_of r) { book = p.book; given = p.given }) is.1
 
-    module _ (new : Replica) (named : new.name ≡ d.name) where
-      pub apart_with : AreApart (slice_set r.controllers.items i new)
-      apart_with = apart_still r.controllers.items i d new tidy.apart at named
+  -- names still differ, and a run with the same messages is in order
+  pub apart_with : AreApart (slice_set r.controllers.items i new)
+  apart_with = apart_still r.controllers.items i d new b.tidy.apart at b.named
 
-      module _ (later : Past) (given : later.given ≡ r.past.given) where
-        became : world_with (world_of r) new later ≡ run_with r i new later
-        became =
-            ap (λ rs. record (world_of r) { book = later.book; replicas = rs }) (sym (placed r.controllers.items i d new tidy.apart at named))
-            ∙ ap (λ g. record (world_of r) { book = later.book; replicas = slice_set r.controllers.items i new; given = g }) (sym given)
+  pub tidy_with : {v : Run} → v.controllers.items ≡ slice_set r.controllers.items i new → v.requests ≡ r.requests → v.replies ≡ r.replies → IsTidy v
+  tidy_with controllers requests replies = record {
+    apart = subst AreApart (sym controllers) apart_with;
+    requests = subst AreRanged (sym requests) b.tidy.requests;
+    replies = subst AreSpelled (sym replies) b.tidy.replies;
+  }
 
-        -- what a call by the name comes to, where the controller is up
-        pub led : (act : Replica → Gone) (o : Outcome) → where_up (stays (world_of r)) d.standing (act d) ≡ (world_with (world_of r) new later, o)
-            → of_controller (world_of r) name (stays (world_of r)) act ≡ (run_with r i new later, o)
-        led act o is = reaches (world_of r) name (stays (world_of r)) act d found_there ∙ is ∙ ap (λ v. (v, o)) became
+  became : world_with (world_of r) new later ≡ run_with r i new later
+  became =
+      ap (λ rs. record (world_of r) { book = later.book; replicas = rs }) (sym (placed r.controllers.items i d new b.tidy.apart at b.named))
+      ∙ ap (λ g. record (world_of r) { book = later.book; replicas = slice_set r.controllers.items i new; given = g }) (sym b.given)
 
-        pub led_to : {A : Type 0} (act : Replica → Sent A) (o : Outcome) (m : Option A) → where_up (nothing (world_of r)) d.standing (act d) ≡ (world_with (world_of r) new later, o, m)
-            → of_controller (world_of r) name (nothing (world_of r)) act ≡ (run_with r i new later, o, m)
-        led_to act o m is = reaches (world_of r) name (nothing (world_of r)) act d found_there ∙ is ∙ ap (λ v. (v, o, m)) became
+  -- what a call by the name comes to, where the controller is up
+  pub led : (act : Replica → Gone) (o : Outcome) → where_up (stays (world_of r)) d.standing (act d) ≡ (world_with (world_of r) new later, o)
+      → of_controller (world_of r) name (stays (world_of r)) act ≡ (run_with r i new later, o)
+  led act o is = reaches (world_of r) name (stays (world_of r)) act d there ∙ is ∙ ap (λ v. (v, o)) became
 
-        -- and however it stands
-        pub led_anyhow : (act : Replica → Gone) (o : Outcome) → act d ≡ (world_with (world_of r) new later, o) → of_made (stays (world_of r)) (replica_at (world_of r) name) act ≡ (run_with r i new later, o)
-        led_anyhow act o is = ap (λ x. of_made (stays (world_of r)) x act) found_there ∙ is ∙ ap (λ v. (v, o)) became
+  pub led_to : {A : Type 0} (act : Replica → Sent A) (o : Outcome) (m : Option A) → where_up (nothing (world_of r)) d.standing (act d) ≡ (world_with (world_of r) new later, o, m)
+      → of_controller (world_of r) name (nothing (world_of r)) act ≡ (run_with r i new later, o, m)
+  led_to act o m is = reaches (world_of r) name (nothing (world_of r)) act d there ∙ is ∙ ap (λ v. (v, o, m)) became
 
-        -- all of a call is done, though it wasn't answered
-        pub done : (v : World) → v ≡ world_with (world_of r) new later → run_with r i new later ≡ v
-        done v is = sym (is ∙ became)
+  -- and however it stands
+  pub led_anyhow : (act : Replica → Gone) (o : Outcome) → act d ≡ (world_with (world_of r) new later, o) → of_made (stays (world_of r)) (replica_at (world_of r) name) act ≡ (run_with r i new later, o)
+  led_anyhow act o is = ap (λ x. of_made (stays (world_of r)) x act) there ∙ is ∙ ap (λ v. (v, o)) became
 
-        -- nothing of a start is done, or its sync
-        pub start_short : IsUndone d r.past new later ⊎ ((d.standing ≢ Up) × IsDone d r.past (λ w. synced w d) new later) → IsCutShort (world_of r) (Start name) (run_with r i new later)
-        start_short (inl none) = inl (undone new later none)
-        start_short (inr (not_up, all)) = inr (d, found_there, not_up, done (synced (world_of r) d) (all (world_of r) stands))
+  -- the same, of what is returned
+  pub leads : {E : Type 0} (t : Result Outcome E) (act : World → Replica → Gone) → IfOk t (λ o. Leads d r.past (λ w. where_up (stays w) d.standing (act w d)) new later o)
+      → IfOk t (λ o. of_controller (world_of r) name (stays (world_of r)) (act (world_of r)) ≡ (run_with r i new later, o))
+  leads t act = IfOk-weaker t _ _ (λ o is. led (act (world_of r)) o (is (world_of r) stands))
+
+  pub leads_in_time : {E : Type 0} (t : Result Outcome E) (act : World → Replica → Gone)
+      → IfOk t (λ o. (w : World) → w.time ≡ r.time → StandsIn w d r.past → where_up (stays w) d.standing (act w d) ≡ (world_with w new later, o))
+      → IfOk t (λ o. of_controller (world_of r) name (stays (world_of r)) (act (world_of r)) ≡ (run_with r i new later, o))
+  leads_in_time t act = IfOk-weaker t _ _ (λ o is. led (act (world_of r)) o (is (world_of r) refl stands))
+
+  pub leads_to : {A E : Type 0} (t : Result (Outcome × Option A) E) (act : World → Replica → Sent A)
+      → IfOk t (λ m. LeadsTo d r.past (λ w. where_up (nothing w) d.standing (act w d)) new later m.0 m.1)
+      → IfOk t (λ m. of_controller (world_of r) name (nothing (world_of r)) (act (world_of r)) ≡ (run_with r i new later, m.0, m.1))
+  leads_to t act = IfOk-weaker t _ _ (λ m is. led_to (act (world_of r)) m.0 m.1 (is (world_of r) stands))
+
+  pub leads_anyhow : {E : Type 0} (t : Result Outcome E) (act : World → Replica → Gone) → IfOk t (λ o. Leads d r.past (λ w. act w d) new later o)
+      → IfOk t (λ o. of_made (stays (world_of r)) (replica_at (world_of r) name) (act (world_of r)) ≡ (run_with r i new later, o))
+  leads_anyhow t act = IfOk-weaker t _ _ (λ o is. led_anyhow (act (world_of r)) o (is (world_of r) stands))
+
+  -- all of a call is done, though it wasn't answered
+  done : (v : World) → v ≡ world_with (world_of r) new later → run_with r i new later ≡ v
+  done v is = sym (is ∙ became)
+
+  -- nothing of a start is done, or its sync
+  pub start_short : IsUndone d r.past new later ⊎ ((d.standing ≢ Up) × IsDone d r.past (λ w. synced w d) new later) → IsCutShort (world_of r) (Start name) (run_with r i new later)
+  start_short (inl none) = inl (undone none)
+  start_short (inr (not_up, all)) = inr (d, there, not_up, done (synced (world_of r) d) (all (world_of r) stands))
+
+-- a plan was set
+pub planned : {r : Run} {name : Name} {i : ℕ} {d new : Replica} → Becomes r name i d new r.past → (plan : Plan) → new ≡ record d { device = record d.device { plan = Some plan } }
+    → of_made (stays (world_of r)) (replica_at (world_of r) name) (λ x. with_plan (world_of r) x plan) ≡ (run_with r i new r.past, outcomes.Ok)
+planned {r} b plan is =
+    let w = world_of r in
+    led_anyhow b (λ x. with_plan w x plan) outcomes.Ok (ap (λ (x : Replica). (record w { replicas = with_replica w.replicas x }, outcomes.Ok)) (sym is))

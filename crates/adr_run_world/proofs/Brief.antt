@@ -1,8 +1,7 @@
 -- The outcome of each call that asks for no report is brief.
-use Rattle.std.proofs.Common.{ℕ, ◌+◌, ◌≤◌, ◌≡◌, Bool, true, false, List, length, Option, Some, None, Result, Ok, Err, refl}
+use Rattle.std.proofs.Common.{ℕ, ◌≤◌, ◌≡◌, Bool, true, false, List, length, Option, Some, None, Result, Ok, Err, refl}
 use Rattle.std.specs.Prelude.{nat_le}
 use Rattle.std.proofs.lemmas.Bool.{leb-true}
-use Rattle.adr_schema.specs.declared.refusal.SchemaRefusal.{SchemaRefusal}
 use Rattle.adr_schema.specs.declared.refusal.SchemaRefusal.TheVariants as schema
 use Rattle.adr_call.specs.declared.outcome.Outcome.{Outcome}
 use Rattle.adr_call.specs.declared.outcome.Outcome.TheVariants as outcomes
@@ -23,14 +22,14 @@ use Rattle.adr_call.specs.declared.refusal.UpgradeRefusal.TheVariants as upgrade
 use Rattle.adr_call.specs.declared.refusal.AdoptRefusal.{AdoptRefusal}
 use Rattle.adr_call.specs.declared.refusal.AdoptRefusal.TheVariants as adopt_refusals
 use Rattle.adr_model.specs.Change.{Change}
-use Rattle.adr_model.specs.Collect.{collect, quarantine}
+use Rattle.adr_model.specs.Collect.{quarantine}
 use Rattle.adr_model.specs.Lengths.{new_log, area_fits, change_fits}
 use Rattle.adr_model.specs.Refused.{adopt_refused, collect_refused, full, serve_refused, take_refused, upgrade_refused, write_refused}
-use Rattle.adr_model.specs.Replica.{Fails, Met, Passed, Pending, Plan, Replica, Stops, ToCollect, ToQuarantine, ToTake, ToUpgrade, ToWrite, Went, Standing, Up, Down, Failed, commit_goes, outcome_after, start_goes}
+use Rattle.adr_model.specs.Replica.{Fails, Met, Passed, Pending, Replica, Stops, ToCollect, ToQuarantine, ToTake, ToUpgrade, ToWrite, Went, Standing, Up, Down, Failed, commit_goes, outcome_after, start_goes}
 use Rattle.adr_model.specs.Serve.{Reply, Request, serve}
 use Rattle.adr_model.specs.Store.{State, Store}
 use Rattle.adr_model.specs.Take.{take}
-use Rattle.adr_model.specs.World.{Gone, Name, Sent, Snapshot, World, adopts, after_collect, after_serve, after_take, after_upgrade, after_write, asks, backed_up, begins, commit, committed, delivered, delivers, nothing, of_controller, of_image, of_made, put_back, quarantines, replica_at, served, serves_request, started, starts, stays, stops, unless_refused, where_up, with_plan, within_log, writes}
+use Rattle.adr_model.specs.World.{Gone, Name, Sent, Snapshot, World, adopts, after_collect, after_serve, after_take, after_upgrade, after_write, asks, backed_up, begins, commit, committed, delivered, delivers, nothing, of_controller, of_image, of_made, put_back, quarantines, replica_at, served, serves_request, started, starts, stays, unless_refused, where_up, within_log, writes}
 use Rattle.adr_model.specs.Write.{Write, write}
 use Rattle.adr_answers.specs.Room.{HasNoReport, result_room}
 

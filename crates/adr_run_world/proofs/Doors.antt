@@ -1,5 +1,6 @@
 -- What is claimed of a line follows of what it does.
-use Rattle.std.proofs.Common.{◌≡◌, inl, inr, ℕ, true, false, sym, ap, ◌∙◌, subst}
+use Rattle.std.proofs.Common.{◌≡◌, inl, inr, ℕ, List, Bool, true, false, sym, ap, ◌∙◌, subst}
+use Rattle.adr_event.specs.declared.answer.Answer.{Answer}
 use Rattle.adr_event.specs.declared.event.Event.{Event}
 use Rattle.adr_event.specs.declared.event.Event.TheVariants as events
 use Rattle.adr_model.specs.World.{World, Name}
@@ -14,9 +15,11 @@ use Rattle.adr_law_convergence.proofs.Completing.{cycle_ends}
 use Rattle.adr_law_convergence.proofs.Found.{replica_found}
 use Rattle.adr_law_rounds.specs.Rounds.{RingsTell}
 use Rattle.adr_law_rounds.proofs.Telling.{rings_tell_true}
+use Rattle.adr_run_world.specs.declared.run.Run.{Run}
 use Rattle.adr_run_world.specs.Door.{IsCompletedBy}
 use Rattle.adr_run_world.specs.Rung.{IsRungBy}
 use Rattle.adr_run_world.specs.Pulls.{IsCycleTurn, IsTurn}
+use Rattle.adr_run_world.specs.Run.{IsSoundRun, IsTidy, world_of}
 use Rattle.adr_run_world.specs.Short.{IsMidway, IsCutShort}
 
 cycle_completed : (w : World) (name source : Name) (max : ℕ) → IsSoundWorld w → IsCompletedBy w (events.Cycle name source max) (cycle w name source max).1 (cycle w name source max).0
@@ -65,9 +68,13 @@ whole_of_run : (w : World) (e : Event) (p : Pulled) → IsWorldOfRun w → MayHa
 whole_of_run w e p run may is = behind_of_run w e run may p.0 (ap (λ (q : Pulled). q.0) is)
 
 -- the world behind a turn
-pub turned_of_run : (w : World) (e : Event) (turn : ℕ) (p : Pulled) → IsWorldOfRun w → MayHappen w e → IsTurn turn w e p → IsWorldOfRun p.0
+turned_of_run : (w : World) (e : Event) (turn : ℕ) (p : Pulled) → IsWorldOfRun w → MayHappen w e → IsTurn turn w e p → IsWorldOfRun p.0
 turned_of_run w (events.Cycle dest source max) turn p run may is = cycle_turned_of_run w dest source max turn p run is
 turned_of_run w e turn p run may is = whole_of_run w e p run may is
+
+pub turned_sound : {r v : Run} (e : Event) (turn : ℕ) (more : List Answer) (goes_on : Bool) → IsSoundRun r → MayHappen (world_of r) e → IsTurn turn (world_of r) e (world_of v, more, goes_on) → IsTidy v
+    → IsSoundRun v
+turned_sound {r} {v} e turn more goes_on sound may turned tidy = record { of_run = turned_of_run (world_of r) e turn (world_of v, more, goes_on) sound.of_run may turned; tidy = tidy }
 
 -- the world behind a start, or a ring, that was cut short
 midway_of_run : (w : World) (e : Event) (v : World) → IsWorldOfRun w → MayHappen w e → IsMidway w e v → IsWorldOfRun v
@@ -76,6 +83,9 @@ midway_of_run w (events.Ring name others rounds max) v run may way = stays_sound
 midway_of_run w e v run may midway = absurd midway
 
 -- and behind any line that wanted memory
-pub short_of_run : (w : World) (e : Event) (v : World) → IsWorldOfRun w → MayHappen w e → IsCutShort w e v → IsWorldOfRun v
+short_of_run : (w : World) (e : Event) (v : World) → IsWorldOfRun w → MayHappen w e → IsCutShort w e v → IsWorldOfRun v
 short_of_run w e v run may (inl same) = subst IsWorldOfRun (sym same) run
 short_of_run w e v run may (inr midway) = midway_of_run w e v run may midway
+
+pub short_sound : {r v : Run} (e : Event) → IsSoundRun r → MayHappen (world_of r) e → IsCutShort (world_of r) e (world_of v) → IsTidy v → IsSoundRun v
+short_sound {r} {v} e sound may short tidy = record { of_run = short_of_run (world_of r) e (world_of v) sound.of_run may short; tidy = tidy }

@@ -12,14 +12,14 @@ use Rattle.adr_event.specs.Verbs.{verb_of_write, word_of}
 use Rattle.adr_call.specs.declared.outcome.Outcome.{Outcome}
 use Rattle.adr_call.specs.declared.outcome.Outcome.TheVariants as outcomes
 use Rattle.adr_model.specs.Collect.{adopt, collect}
-use Rattle.adr_model.specs.Cycles.{Pulled, and_then, pull, pull_asked, pull_delivered, pull_served, pull_version, pulls, reply_limit}
+use Rattle.adr_model.specs.Cycles.{Pulled, and_then, pull, pull_asked, pull_served, pull_version, pulls, reply_limit}
 use Rattle.adr_model.specs.Serve.{Reply, Request}
 use Rattle.adr_model.specs.Store.{Store}
 use Rattle.adr_model.specs.Step.{gives, revival, step, stepped}
 use Rattle.adr_model.specs.Upgrade.{upgrade}
-use Rattle.adr_model.specs.World.{Name, Snapshot, World, answer, asks, bound_at, delivers, nothing, replica_at, serves_request, stays, with_replica}
+use Rattle.adr_model.specs.World.{Name, Snapshot, World, answer, asks, bound_at, nothing, replica_at, serves_request, stays, with_replica}
 use Rattle.adr_model.specs.Write.{Revive, write_meant}
-use Rattle.adr_answers.specs.Room.{HasNoReport, IsWithin, line_room, result_room}
+use Rattle.adr_answers.specs.Room.{IsWithin, result_room}
 use Rattle.adr_run_world.specs.Pulls.{IsCycleTurn, IsTurn}
 use Rattle.adr_run_world.specs.Room.{names_room, room_beside}
 use Rattle.adr_run_world.proofs.Brief.{IsBrief, IsBriefly, IsSentBriefly, absent_brief, adopts_brief, asks_brief, backup_brief, called_brief, collect_gone, delivers_brief, gone_otherwise, image_brief, made_brief, more_brief, ok_brief, put_back_brief, sent_otherwise, serves_brief, starts_brief, upgrade_gone, writes_brief}

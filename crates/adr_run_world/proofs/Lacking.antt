@@ -1,5 +1,5 @@
 -- Where memory is wanting for a line of an answer, and not in the sink, nothing was done.
-use Rattle.std.proofs.Common.{◌≡◌, ◌⊎◌, inl, inr, refl, ℕ, ◌+◌, ◌<◌, ◌≤◌, List, [], ◌∷◌, ◌++◌, false, Option, Some, None, length, take, sym, ap, ◌∙◌, subst, arith}
+use Rattle.std.proofs.Common.{◌≡◌, ◌⊎◌, inl, inr, refl, ℕ, ◌+◌, ◌≤◌, List, [], Option, Some, None, length, take, sym, ap, ◌∙◌, subst, arith}
 use Rattle.std.specs.Prelude.{All, flat_map}
 use Rattle.adr_event.specs.declared.answer.Answer.{Answer}
 use Rattle.adr_event.specs.declared.event.Event.{Event}
@@ -9,20 +9,20 @@ use Rattle.adr_io.specs.Told.{Adds}
 use Rattle.adr_law_convergence.proofs.Lines.{behind_is_on_the_way}
 use Rattle.adr_model.specs.Convergence.{IsOnTheWay}
 use Rattle.adr_model.specs.Cycles.{Pulled}
-use Rattle.adr_model.specs.Rings.{compared, rings}
+use Rattle.adr_model.specs.Rings.{compared}
 use Rattle.adr_model.specs.Step.{step}
 use Rattle.adr_model.specs.World.{Gone, Name, World, stays}
 use Rattle.adr_answers.specs.Line.{line}
-use Rattle.adr_answers.specs.Room.{IsWithin, MayWant}
+use Rattle.adr_answers.specs.Room.{IsWithin}
 use Rattle.adr_answers.specs.Whole.{AddsFirstLines}
 use Rattle.adr_answers.proofs.Due.{adds_more}
 use Rattle.adr_run_world.specs.Door.{IsUndoneBy}
 use Rattle.adr_run_world.specs.Pulls.{IsTurn}
 use Rattle.adr_run_world.specs.Room.{names_room, room_beside}
-use Rattle.adr_run_world.specs.Short.{IsCutShort}
 use Rattle.adr_run_world.proofs.Brief.{called_brief}
 use Rattle.adr_run_world.proofs.Fitting.{MayLack, turn_fits}
-use Rattle.adr_run_world.proofs.Turns.{IsFirst, IsSoFar}
+use Rattle.adr_run_world.proofs.Left.{AreTold}
+use Rattle.adr_run_world.proofs.Turns.{IsFirst}
 
 -- of one answer no line is written
 none_written : (first now next : Option (List ℕ)) (told more : List Answer) → told ≡ [] → length more ≡ 1 → Adds first now (flat_map line told) → AddsFirstLines now next more → Adds first next []
@@ -50,10 +50,10 @@ module _ (first now next : Option (List ℕ)) (told : List Answer) (added : Adds
       (inr (subst (λ (x : World). IsOnTheWay w (events.Ring name others rounds max) x) (sym behind) (behind_is_on_the_way w (events.Ring name others rounds max))), none_written first now next told p.1 begin.1 single added front)
   lacking w e turn v p begin is may front = absurd may
 
-module _ (w : World) (e : Event) (turn : ℕ) (v : World) (told : List Answer) (first now next : Option (List ℕ)) (so : IsSoFar w e turn v told) (added : Adds first now (flat_map line told)) (p : Pulled) (is : IsTurn turn v e p) where
-  pub undone_lines : {Wants : Type 0} (room : ℕ) → names_room e + room_beside ≤ room → AddsFirstLines now next p.1 → (All (IsWithin room) p.1 → Wants) → IsUndoneBy w e p.0 first next ⊎ Wants
-  undone_lines {Wants = Wants} room enough front wants = by (turn_fits room turn v e p enough is)
-    where
-      by : MayLack e ⊎ All (IsWithin room) p.1 → IsUndoneBy w e p.0 first next ⊎ Wants
-      by (inl may) = inl (lacking first now next told added w e turn v p so.first is may front)
-      by (inr all) = inr (wants all)
+pub undone_lines : {w : World} {e : Event} {turn : ℕ} {v : World} {first now : Option (List ℕ)} {Wants : Type 0} (t : AreTold w e turn v first now) (next : Option (List ℕ)) (p : Pulled) (list : List Answer) → list ≡ p.1
+    → IsTurn turn v e p → (room : ℕ) → names_room e + room_beside ≤ room → AddsFirstLines now next list → (All (IsWithin room) list → Wants) → IsUndoneBy w e p.0 first next ⊎ Wants
+undone_lines {w} {e} {turn} {v} {first} {now} {Wants} t next p list same is room enough front wants = by (turn_fits room turn v e p enough is)
+  where
+    by : MayLack e ⊎ All (IsWithin room) p.1 → IsUndoneBy w e p.0 first next ⊎ Wants
+    by (inl may) = inl (lacking first now next t.told t.added w e turn v p t.so.first is may (subst (λ (answers : List Answer). AddsFirstLines now next answers) same front))
+    by (inr all) = inr (wants (subst (λ (answers : List Answer). All (IsWithin room) answers) (sym same) all))

@@ -98,11 +98,14 @@ pub behind : (w : World) (e : Event) (turn : ℕ) (v : World) (told : List Answe
 behind w (events.Cycle dest source max) turn v told p so is = behind_cycle_turn dest source max w v turn told so p is
 behind w e turn v told p so is = behind_whole w v e turn told p (so.left 0) is
 
-pub goes_on : (w : World) (e : Event) (turn : ℕ) (u : World) (all : List Answer) (b : Bool) → IsBehind w e turn u all b → b ≡ true → IsSoFar w e (turn + 1) u all
-goes_on w e turn u all b h is = subst (IsBehind w e turn u all) is h
+module _ (w : World) (e : Event) (turn : ℕ) (v : World) (told : List Answer) (p : Pulled) (so : IsSoFar w e turn v told) (is : IsTurn turn v e p) where
+  -- the line goes on
+  pub goes_on : p.2 ≡ true → IsSoFar w e (turn + 1) p.0 (told ++ p.1)
+  goes_on more = subst (IsBehind w e turn p.0 (told ++ p.1)) more (behind w e turn v told p so is)
 
-pub ends : (w : World) (e : Event) (turn : ℕ) (u : World) (all : List Answer) (b : Bool) → IsBehind w e turn u all b → b ≡ false → step w e ≡ (u, all)
-ends w e turn u all b h is = subst (IsBehind w e turn u all) is h
+  -- or it is done
+  pub ends : p.2 ≡ false → step w e ≡ (p.0, told ++ p.1)
+  ends none = subst (IsBehind w e turn p.0 (told ++ p.1)) none (behind w e turn v told p so is)
 
 -- a line is what is left of it before its first turn
 whole : (w : World) (e : Event) → step w e ≡ rest_of reply_limit w e

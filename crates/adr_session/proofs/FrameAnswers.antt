@@ -14,7 +14,8 @@ use Rattle.adr_session.specs.declared.ending.ServeFault.TheVariants as faults
 use Rattle.adr_outside.specs.Given.{Takes}
 use Rattle.adr_session.specs.Lines.{deed_said}
 use Rattle.adr_session.specs.Talk.{Answered, Gives, Said, Reaction, Sends, acts, reacts}
-use Rattle.adr_session.specs.Told.{FindsOneOf, ReactsSo, Stands}
+use Rattle.adr_law_controller.specs.Keeping.{Stands}
+use Rattle.adr_session.specs.Told.{FindsOneOf, ReactsSo}
 use Rattle.adr_session.specs.Made.{MadeSo, Makes, Reacts}
 use Rattle.adr_session.proofs.Reacting.{finds_one, stands_near}
 

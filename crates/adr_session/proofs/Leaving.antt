@@ -10,7 +10,8 @@ use Rattle.adr_model.specs.Store.{State}
 use Rattle.adr_journal.specs.declared.keeper.Keeper.{Ghosts}
 use Rattle.adr_controller.specs.Running.{Running, IsInOrder}
 use Rattle.adr_session.specs.Talk.{Point, Reaches}
-use Rattle.adr_session.specs.Told.{FindsBehind, FindsNear, Stands}
+use Rattle.adr_law_controller.specs.Keeping.{Stands}
+use Rattle.adr_session.specs.Told.{FindsBehind, FindsNear}
 use Rattle.adr_session.proofs.Talking.{near_behind}
 
 module _ {K : Type 0} (k : Ghosts K) where

@@ -3,6 +3,7 @@ pub mod Talking
 pub mod Leaving
 pub mod Hearing
 pub mod Messages
+pub mod OneTurn
 pub mod Connections
 pub mod Making
 pub mod FrameAnswers

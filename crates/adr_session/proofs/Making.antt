@@ -18,7 +18,7 @@ use Rattle.adr_controller.specs.Did.{Calls, Commits, KeepsAll}
 use Rattle.adr_session.specs.declared.ending.ServeFault.{ServeFault}
 use Rattle.adr_session.specs.declared.ending.ServeFault.TheVariants as faults
 use Rattle.adr_session.specs.Talk.{Answered, committed}
-use Rattle.adr_session.specs.Told.{Stands}
+use Rattle.adr_law_controller.specs.Keeping.{Stands}
 use Rattle.adr_session.specs.Made.{led, HasNoState, Tells, MadeSo, Makes}
 
 -- what came of a call, by how it ended

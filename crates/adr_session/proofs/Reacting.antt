@@ -6,7 +6,8 @@ use Rattle.adr_model.specs.Store.{State}
 use Rattle.adr_journal.specs.declared.keeper.Keeper.{Ghosts}
 use Rattle.adr_controller.specs.Running.{Running}
 use Rattle.adr_session.specs.Talk.{Reaction, Sends, Leaves}
-use Rattle.adr_session.specs.Told.{FindsOneOf, Stands, StandsNear}
+use Rattle.adr_law_controller.specs.Keeping.{Stands}
+use Rattle.adr_session.specs.Told.{FindsOneOf, StandsNear}
 
 pub finds_one : (f : Found State) (r : Reaction) (s : Started State) → FindsState f.state s → FindsOneOf f r s
 finds_one f (Sends a rest) s here = inl here

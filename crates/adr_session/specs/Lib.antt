@@ -3,3 +3,4 @@ pub mod Talk
 pub mod Told
 pub mod Worked
 pub mod Made
+pub mod Turns

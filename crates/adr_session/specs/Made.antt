@@ -12,7 +12,8 @@ use Rattle.adr_controller.specs.declared.refusal.Hindrance.TheVariants.{Down, Fa
 use Rattle.adr_session.specs.declared.ending.ServeFault.{ServeFault}
 use Rattle.adr_session.specs.declared.ending.ServeFault.TheVariants as faults
 use Rattle.adr_session.specs.Talk.{Answered, Said, committed, reacts}
-use Rattle.adr_session.specs.Told.{FindsOneOf, ReactsSo, Stands}
+use Rattle.adr_law_controller.specs.Keeping.{Stands}
+use Rattle.adr_session.specs.Told.{FindsOneOf, ReactsSo}
 
 -- ---- one call
 

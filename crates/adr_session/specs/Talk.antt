@@ -1,6 +1,5 @@
 -- A connection: what a client says, how each message is answered, and where the node then stands.
 use Rattle.std.specs.Prelude.{◌≡◌, if◌then◌else◌, ◌==◌, ◌&&◌, ℕ, zero, suc, List, [], ◌∷◌, ◌++◌, Bool, not, nat_le, length, codes, Option, Some, None, Result, Ok, Err}
-use Rattle.std.specs.List.{list_any}
 use Rattle.adr_call.specs.declared.outcome.Outcome.{Outcome}
 use Rattle.adr_call.specs.declared.refusal.ServeRefusal.{ServeRefusal}
 use Rattle.adr_call.specs.declared.refusal.ServeRefusal.TheVariants as serves
@@ -21,6 +20,7 @@ use Rattle.adr_packet.specs.Refusals.{refusal_bytes}
 use Rattle.adr_packet.specs.declared.refusal.Refusal.{Refusal}
 use Rattle.adr_packet.specs.declared.refusal.Refusal.TheVariants.{Serve, LogFull}
 use Rattle.adr_frames.specs.Frames.{Next, IsOver, IsBroken, IsFrame, next_in, frame}
+use Rattle.adr_frames.specs.Messages.{has_line_feed}
 use Rattle.adr_session.specs.declared.lines.Deed.{Deed}
 use Rattle.adr_session.specs.Lines.{deed_said, done, verb_of_deed}
 
@@ -43,7 +43,7 @@ asked (Err refusal) = None
 
 -- a line isn't too long, and has no line feed
 abbrev pub is_line : List ℕ → Bool
-is_line bytes = nat_le (length bytes) line_limit && not (list_any (λ b. b == 10) bytes)
+is_line bytes = nat_le (length bytes) line_limit && not (has_line_feed bytes)
 
 -- what a frame of a client says, by its kind and what stands behind that
 abbrev pub said_in : List ℕ → Option Said

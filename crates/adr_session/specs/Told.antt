@@ -4,10 +4,9 @@ use Rattle.adr_disk.specs.Disk.{Among}
 use Rattle.adr_model.specs.Store.{State}
 use Rattle.adr_law_journal.specs.Areas.{Found, Started}
 use Rattle.adr_law_journal.specs.Kept.{FindsState}
-use Rattle.adr_records.specs.Logged.{IsLogged}
 use Rattle.adr_journal.specs.declared.keeper.Keeper.{Ghosts}
 use Rattle.adr_controller.specs.Running.{Running}
-use Rattle.adr_law_controller.specs.Laws.{GivenCallsFollow}
+use Rattle.adr_law_controller.specs.Keeping.{Stands}
 use Rattle.adr_outside.specs.Traffic.{Traffic}
 use Rattle.adr_frames.specs.Frames.{IsFrame, next_in}
 use Rattle.adr_session.specs.declared.ending.End.{End}
@@ -17,16 +16,7 @@ use Rattle.adr_session.specs.declared.ending.ServeFault.{ServeFault}
 use Rattle.adr_session.specs.declared.ending.ServeFault.TheVariants as faults
 use Rattle.adr_session.specs.Talk.{Gives, said_in, Point, Goes, Stops, Ends, Hung, Malformed, Limit, Reaction, Sends, Leaves, turn, talk, Reaches, message_limit}
 
--- its keeper takes the change of each call that has the form of one, and keeps states of a log alone
-pub record KeepsLog {K : Type 0} (k : Ghosts K) : Type 0 where
-  pub given : GivenCallsFollow k
-  pub logged : (s : State) → k.is_formed s → IsLogged s
-
 -- ---- the node alone
-
--- the controller is up with this state, and its keeper stands for it
-abbrev pub Stands : {K : Type 0} → Ghosts K → Found State → Running K → Type 0
-Stands k f c = (c.state ≡ Some f.state) × k.is_at c.keeper f
 
 -- a frame was answered so, or nothing was: it is none of a client
 abbrev pub ReactsTo :

@@ -8,15 +8,15 @@ ghost use Rattle.adr_session.specs.declared.lines.Deed.{Deed as Did};
 ghost use Rattle.adr_session.specs.Lines.{IsGivenDeed, done};
 ghost use Rattle.adr_session.specs.Made.{Makes, Tells};
 ghost use Rattle.adr_session.specs.Talk.{did, told};
-ghost use Rattle.adr_session.specs.Told.{KeepsLog};
+ghost use Rattle.adr_law_controller.specs.Keeping.{KeepsLog};
 
 use crate::ending::ServeFault;
-use crate::framing::OUTCOME;
 use crate::lines::Deed;
 use adr_answers::push_nameless;
 use adr_call::{Outcome, Table, Write};
 use adr_controller::{CallRefusal, Controller, Hindrance, Keeper};
 use adr_failure::NoMemory;
+use adr_frames::OUTCOME;
 use adr_outcome::{collect_refused, full, write_refused};
 use adr_state::LOG_LIMIT;
 use std::alloc::Global;

@@ -1,20 +1,19 @@
 //! What a client says, and what it is answered.
 
-ghost use Rattle.std.specs.Prelude.{◌≡◌, ◌<◌, ◌≤◌, ◌∷◌, ℕ, List, Option, Some, true, IfOk, IfSome, IsErrOf, IsSome};
-ghost use Rattle.adr_disk.specs.Disk.{Among, LeavesOnly};
-ghost use Rattle.adr_model.specs.Store.{State as Defined};
-ghost use Rattle.adr_law_journal.specs.Areas.{Found};
+ghost use Rattle.std.specs.Prelude.{◌≡◌, ◌<◌, ◌≤◌, ◌∷◌, ℕ, List, Option, true, IsErrOf, IsSome};
 ghost use Rattle.adr_session.specs.Lines.{deed_said};
 ghost use Rattle.adr_session.specs.Made.{Makes, Reacts};
-ghost use Rattle.adr_session.specs.Talk.{acts, is_line, reaction, said_in};
-ghost use Rattle.adr_session.specs.Told.{FindsOneOf, KeepsLog, ReactsSo, SaysLine, Stands};
+ghost use Rattle.adr_session.specs.Talk.{acts, is_line, said_in};
+ghost use Rattle.adr_law_controller.specs.Keeping.{KeepsLog};
+ghost use Rattle.adr_session.specs.Told.{SaysLine};
 
 use crate::acting::act;
 use crate::ending::ServeFault;
-use crate::framing::{GREETING, LINE, OUTCOME, REQUEST, framed, greet, is_line};
+use crate::framing::{greet, is_line};
 use crate::lines::deed_said;
 use crate::replying::reply_to;
 use adr_controller::{Controller, Keeper};
+use adr_frames::{GREETING, LINE, OUTCOME, REQUEST, framed};
 use adr_io::Fault;
 use adr_outside::Clock;
 use adr_packet::{Failure, decode_request, requests_have_one_spelling};
@@ -105,8 +104,9 @@ fn answer_greeting<K: Keeper>(
     Ok(Some(greet(alloc, controller)?))
 }
 
-/// What the bytes of a frame are answered, by their kind.
-fn answer<K: Keeper, C: Clock>(
+/// What the bytes of a frame are answered, by their kind, or none where they say nothing that a client says. What it is
+/// answered is committed before.
+pub(crate) fn react<K: Keeper, C: Clock>(
     alloc: Global,
     controller: &mut Controller<K>,
     clock: &mut C,
@@ -116,6 +116,8 @@ fn answer<K: Keeper, C: Clock>(
     requires log { KeepsLog K.Keeper }
     ensures answer { Reacts (λ v. v.items) K.Keeper (said_in bytes.now) controller.old controller.new result
         (C.moments clock.old) (C.moments clock.new) }
+
+    // A clock is read for a line alone.
     ensures at_line { IsErrOf result ServeFault.Clock → SaysLine bytes.now }
     ensures clock { IsErrOf result ServeFault.Clock → C.faults clock.old < C.faults clock.new }
     ensures clock_never_falls { C.faults clock.old ≤ C.faults clock.new }
@@ -130,37 +132,4 @@ fn answer<K: Keeper, C: Clock>(
         GREETING => answer_greeting(alloc, controller, body),
         _ => Ok(None),
     }
-}
-
-/// What the bytes of a frame are answered, or none where they say nothing that a client says. What it is answered is
-/// committed before.
-pub(crate) fn react<K: Keeper, C: Clock>(
-    alloc: Global,
-    controller: &mut Controller<K>,
-    clock: &mut C,
-    bytes: &[u8],
-) -> Result<Option<Vec<u8>>, ServeFault>
-    requires up { IsSome controller.old.state }
-    requires log { KeepsLog K.Keeper }
-    ensures up { IfOk result (λ _. IsSome controller.new.state) }
-    ensures reacts { (f : Found Defined) (moments : List ℕ) → Stands K.Keeper f controller.old → C.moments clock.old ≡ Some moments
-        → ReactsSo (λ v. v.items) K.Keeper f moments (reaction f moments bytes.now) result controller.new (C.moments clock.new) }
-
-    // A clock is read for a line alone.
-    ensures at_line { IsErrOf result ServeFault.Clock → SaysLine bytes.now }
-
-    // Whatever it answers, what a start finds behind a crash at any moment of the call, and behind one from then on.
-    ensures any_moment { (f : Found Defined) (moments : List ℕ) → Stands K.Keeper f controller.old → C.moments clock.old ≡ Some moments
-        → IfSome (K.told controller.old.keeper) (λ _.
-        LeavesOnly K.moment K.left_since controller.old.keeper controller.new.keeper (FindsOneOf f (reaction f moments bytes.now))) }
-    ensures left { (f : Found Defined) (moments : List ℕ) → Stands K.Keeper f controller.old → C.moments clock.old ≡ Some moments
-        → IfSome (K.told controller.old.keeper) (λ _.
-        Among (FindsOneOf f (reaction f moments bytes.now)) (K.may_leave controller.new.keeper)) }
-    ensures told { IsSome (K.told controller.old.keeper) → IsSome (K.told controller.new.keeper) }
-    ensures disk { IsErrOf result ServeFault.Disk → K.faults controller.old.keeper < K.faults controller.new.keeper }
-    ensures disk_never_falls { K.faults controller.old.keeper ≤ K.faults controller.new.keeper }
-    ensures clock { IsErrOf result ServeFault.Clock → C.faults clock.old < C.faults clock.new }
-    ensures clock_never_falls { C.faults clock.old ≤ C.faults clock.new }
-{
-    answer(alloc, controller, clock, bytes)
 }

@@ -18,6 +18,7 @@ mod turning;
 pub use adr_controller::{Controller, Keeper};
 pub use adr_outside::{Clock, Net};
 pub use ending::{End, ServeFault, Served};
-pub use laws::{logs_keep, worked_session};
+pub use framing::LINE_LIMIT;
+pub use laws::worked_session;
 pub use lines::{Deed, deed_said};
 pub use serving::serve_one;

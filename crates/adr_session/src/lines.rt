@@ -2,11 +2,10 @@
 
 ghost use Rattle.std.specs.Prelude.{◌≡◌, IfOk, IfSome};
 ghost use Rattle.adr_token.specs.Gives.{Answers};
-ghost use Rattle.adr_event.specs.Verbs.{verb_of_write};
 ghost use Rattle.adr_session.specs.Lines.{IsGivenDeed, deed_of, deed_said, event_said, named, verb_of_deed};
 
 use adr_call::{Failure, Write};
-use adr_event::{Event, Verb};
+use adr_event::{Event, Verb, verb_of_write};
 use adr_failure::NoMemory;
 use adr_law_lines::lines_say_given_calls;
 use adr_schedule::event_of;
@@ -20,20 +19,6 @@ pub enum Deed {
     Writes(Write),
     /// A collection of the tombstones that are as old as a lifetime, in seconds, or older.
     Collects(u64),
-}
-
-/// The verb of the line that says a write.
-fn verb_of_write(what: &Write) -> Verb
-    ensures { result ≡ verb_of_write what.now }
-{
-    match what {
-        Write::Add { .. } => Verb::Add,
-        Write::Modify { .. } => Verb::Modify,
-        Write::Rename { .. } => Verb::Rename,
-        Write::Delete { .. } => Verb::Delete,
-        Write::Link { .. } => Verb::Link,
-        Write::Unlink { .. } => Verb::Unlink,
-    }
 }
 
 impl Deed {

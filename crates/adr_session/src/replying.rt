@@ -8,12 +8,12 @@ ghost use Rattle.adr_packet.specs.declared.refusal.Refusal.TheVariants as refusa
 ghost use Rattle.adr_model.specs.Lengths.{log_limit};
 ghost use Rattle.adr_session.specs.Made.{Makes, Tells};
 ghost use Rattle.adr_session.specs.Talk.{refused, replies};
-ghost use Rattle.adr_session.specs.Told.{KeepsLog};
+ghost use Rattle.adr_law_controller.specs.Keeping.{KeepsLog};
 
 use crate::ending::ServeFault;
-use crate::framing::{REFUSAL, REPLY, framed};
 use adr_controller::{CallRefusal, Controller, Hindrance, Keeper};
 use adr_failure::NoMemory;
+use adr_frames::{REFUSAL, REPLY, framed};
 use adr_law_messages::served_replies_have_a_form;
 use adr_packet::{
     Refusal, Reply, Request, encode_refusal, encode_reply, replies_have_one_spelling,

@@ -4,7 +4,8 @@ ghost use Rattle.std.specs.Prelude.{◌≡◌, ◌⊎◌, ◌<◌, ◌≤◌, If
 ghost use Rattle.adr_disk.specs.Disk.{LeavesOnly};
 ghost use Rattle.adr_outside.specs.Traffic.{Traffic};
 ghost use Rattle.adr_session.specs.Talk.{Point};
-ghost use Rattle.adr_session.specs.Told.{EndsByFault, FindsBehind, IsAt, KeepsLog, LeavesBehind, Serves};
+ghost use Rattle.adr_law_controller.specs.Keeping.{KeepsLog};
+ghost use Rattle.adr_session.specs.Told.{EndsByFault, FindsBehind, IsAt, LeavesBehind, Serves};
 
 use crate::ending::{End, ServeFault, Served};
 use crate::turning::take_turn;

@@ -168,26 +168,26 @@ impl State {
 }
 
 impl State {
-    /// Commits a change.
-    pub fn apply(&mut self, change: &Change) -> Result<(), Failure<Full>>
-        ensures ok { OnOk result (self.new ≡ after self.old change.now) }
+    /// Commits a change, whose rows are moved.
+    pub fn apply(&mut self, mut change: Change) -> Result<(), Failure<Full>>
+        ensures ok { OnOk result (self.new ≡ after self.old change) }
 
         // Where a vector would have too many cursors it fails, and no other change is refused as full.
-        ensures room { OnOk result (¬ IsOverfull (after self.old change.now)) }
-        ensures full { IsErrOf result full → IsOverfull (after self.old change.now) }
+        ensures room { OnOk result (¬ IsOverfull (after self.old change)) }
+        ensures full { IsErrOf result full → IsOverfull (after self.old change) }
         ensures err { OnErr result (self.new ≡ self.old) }
     {
         // What can fail comes first, and leaves everything as it was.
         let alloc = self.alloc;
-        let vector = self.vector_after(alloc, change)?;
-        let purged = self.purged_after(alloc, change)?;
+        let vector = self.vector_after(alloc, &change)?;
+        let purged = self.purged_after(alloc, &change)?;
         let marks = self.marks.with_new(alloc, change.mark())?;
-        let rows = change.held(alloc)?;
+        let rows = change.take_held(alloc)?;
         self.rows.write(alloc, rows, change.removed())?;
         self.usn = change.usn();
         self.mode = change.mode();
         self.schema = change.schema();
-        renew_seen(&mut self.vector, vector, self.inv, change);
+        renew_seen(&mut self.vector, vector, self.inv, &change);
         renew(&mut self.purged, purged);
         self.marks.renew(marks, change.mark());
         are_few(&self.vector);

@@ -20,7 +20,7 @@ use Rattle.adr_model.specs.Write.{is_link_row, links_in}
 use Rattle.adr_law_knowledge.proofs.Counting.{rises_from}
 use Rattle.adr_law_knowledge.proofs.Lists.{in_sorted, not_both_ways, of_sorted, same_members_one_list, sorted_rises}
 use Rattle.adr_table.specs.Place.{is_of_class, is_of_link, place_of}
-use Rattle.adr_table.specs.Slots.{AreAtHome, and_seen, one_more_if, seen, tally}
+use Rattle.adr_table.specs.Slots.{AreAtHome, one_more_if, seen, tally}
 use Rattle.adr_table.proofs.Seen.{Entries}
 
 -- ---- links
@@ -37,7 +37,7 @@ links_counted (e ∷ es) home = by e.1 home.0 (links_counted es home.1)
     longer true h hs n is = omega (arith, is)
     longer false h hs n is = is
 
-    by : (o : Option Held) → IfSome o (λ h. place_of h.update.key ≡ e.0) → tally is_of_link es ≡ links_in (seen es) → one_more_if (is_some o && is_of_link e.0) (tally is_of_link es) ≡ links_in (and_seen o (seen es))
+    by : (o : Option Held) → IfSome o (λ h. place_of h.update.key ≡ e.0) → tally is_of_link es ≡ links_in (seen es) → one_more_if (is_some o && is_of_link e.0) (tally is_of_link es) ≡ links_in (cons_option o (seen es))
     by None own later = later
     by (Some h) own later =
         ap (λ b. one_more_if b (tally is_of_link es)) (sym (ap is_of_link own) ∙ link_place h.update.key)
@@ -64,7 +64,7 @@ births_counted (e ∷ es) home = by e.1 home.0 (births_counted es home.1)
     longer None n is h b = is ∙ sym (ap (λ x. length (cons_option x (births (seen es)))) b)
     longer (Some p) n is h b = let e : length (births (h ∷ seen es)) ≡ length (p ∷ births (seen es)) = ap (λ x. length (cons_option x (births (seen es)))) b in omega (arith, is, e)
 
-    by : (o : Option Held) → IfSome o (λ h. place_of h.update.key ≡ e.0) → tally is_of_class es ≡ length (births (seen es)) → one_more_if (is_some o && is_of_class e.0) (tally is_of_class es) ≡ length (births (and_seen o (seen es)))
+    by : (o : Option Held) → IfSome o (λ h. place_of h.update.key ≡ e.0) → tally is_of_class es ≡ length (births (seen es)) → one_more_if (is_some o && is_of_class e.0) (tally is_of_class es) ≡ length (births (cons_option o (seen es)))
     by None own later = later
     by (Some h) own later =
         ap (λ b. one_more_if b (tally is_of_class es)) (sym (ap is_of_class own) ∙ class_place h.update.key)

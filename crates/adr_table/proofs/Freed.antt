@@ -3,17 +3,18 @@ use Rattle.std.proofs.Common.{◌≡◌, refl, sym, ap, ◌∙◌, subst, Bool, 
 use Rattle.std.specs.Prelude.{is_some}
 use Rattle.std.specs.Map.{lookup, remove_entry}
 use Rattle.std.specs.BTreeMap.{get, is_at}
+use Rattle.std.specs.List.{cons_option}
 use Rattle.adr_model.proofs.Keys.{equal_order}
 use Rattle.adr_update.proofs.Slots.{freed, freed_home as still_without}
 use Rattle.adr_table.specs.declared.place.Place.{Place}
 use Rattle.adr_table.specs.declared.slots.Slots.{Slots}
 use Rattle.adr_table.specs.Place.{place_order}
-use Rattle.adr_table.specs.Slots.{and_seen, seen, AreAtHome, flat, row_at, tally, one_more_if}
+use Rattle.adr_table.specs.Slots.{seen, AreAtHome, flat, row_at, tally, one_more_if}
 use Rattle.adr_table.proofs.Places.{exact_places}
 use Rattle.adr_table.proofs.Seen.{Entries, IsAt}
 
 pub freed_seen : (es : Entries) (p : Place) → lookup (is_at (place_order p)) es ≡ Some None → seen (remove_entry (is_at (place_order p)) es) ≡ seen es
-freed_seen = freed place_order seen (λ p es. refl) (λ e es fs is. ap (λ hs. and_seen e.1 hs) is)
+freed_seen = freed place_order seen (λ p es. refl) (λ e es fs is. ap (λ hs. cons_option e.1 hs) is)
 
 pub freed_home : (es : Entries) (p : Place) → AreAtHome es → AreAtHome (remove_entry (is_at (place_order p)) es)
 freed_home = still_without place_order IsAt AreAtHome (λ e es at rest. (at, rest)) (λ e es h. h)

@@ -15,7 +15,6 @@ use Rattle.adr_law_knowledge.specs.Rises.{Rises}
 use Rattle.adr_law_knowledge.proofs.Counting.{rises_from}
 use Rattle.adr_law_knowledge.proofs.Lists.{filter_rises, not_both_ways, same_members_one_list}
 use Rattle.adr_model.proofs.Keys.{equal_order}
-use Rattle.adr_table.specs.Slots.{and_seen}
 use Rattle.adr_table.proofs.Queries.{one_of_key}
 
 -- rows in the order of their keys
@@ -36,7 +35,7 @@ held_is rows rising h m =
     (subst (Member h) (one_of_key h.update.key rows rising)
     (in_filter (λ x. same_key x.update.key h.update.key) rows h m (ap is_eq (tied_itself keys_total h.update.key))))
   where
-    by : (r : Option Held) → row_held rows h.update.key ≡ r → Member h (and_seen r []) → row_held rows h.update.key ≡ Some h
+    by : (r : Option Held) → row_held rows h.update.key ≡ r → Member h (cons_option r []) → row_held rows h.update.key ≡ Some h
     by None is n = absurd n
     by (Some g) is (inl e) = is ∙ ap Some (sym e)
     by (Some g) is (inr n) = absurd n

@@ -1,6 +1,6 @@
 -- Hints of local USNs: their order, how they are kept, and the last one of a unit.
 use Rattle.std.proofs.Common.{◌≡◌, ◌⊎◌, inl, inr, ⊎_elim, refl, sym, ap, ◌∙◌, subst, arith, ℕ, ◌<◌, ◌≤◌, List, [], ◌∷◌, Bool, true, false, cond, not, ◌&&◌, ◌||◌, Option, Some, None, filter, fold, max, eqb}
-use Rattle.std.specs.List.{list_any}
+use Rattle.std.specs.List.{cons_option, list_any}
 use Rattle.std.specs.Option.{option_cmp}
 use Rattle.std.specs.BTreeMap.{is_at}
 use Rattle.std.specs.BTreeSet.{BTreeSet, contains}
@@ -24,7 +24,7 @@ use Rattle.adr_table.specs.declared.place.Place.{Place}
 use Rattle.adr_table.specs.declared.slots.Slots.{Slots}
 use Rattle.adr_table.specs.declared.locals.Local.{Local}
 use Rattle.adr_table.specs.Place.{place_order}
-use Rattle.adr_table.specs.Slots.{and_seen, rows_seen}
+use Rattle.adr_table.specs.Slots.{rows_seen}
 use Rattle.adr_table.specs.Locals.{local_order, local_of, unit_place, AreLocated, above, greatest, is_last, is_number, is_of_seat, rows_of_seat}
 use Rattle.adr_table.proofs.Places.{exact_options, exact_places}
 use Rattle.adr_table.proofs.LocalsSeats.{rows_of, same_itself, seat_is, seat_tells, units_tell}
@@ -249,9 +249,9 @@ IsAny hint all rows = list_any (needs hint) rows ≡ list_any (needs hint) all
 
 -- a row of the unit has the hint by its number alone
 pub any_here : (hint : Local) (p : Place) (all rows : List Held) (slot : Option Held) (h : Held) → hint.unit ≡ Some p → slot ≡ Some h → is_of_seat p h ≡ true → h.local ≡ hint.usn
-    → IsAny hint all (and_seen slot rows) → true ≡ list_any (needs hint) all
+    → IsAny hint all (cons_option slot rows) → true ≡ list_any (needs hint) all
 any_here hint p all rows slot h there some own number any =
-    sym (ap (λ b. b || list_any (needs hint) rows) yes) ∙ subst (λ o. IsAny hint all (and_seen o rows)) some any
+    sym (ap (λ b. b || list_any (needs hint) rows) yes) ∙ subst (λ o. IsAny hint all (cons_option o rows)) some any
   where
     yes : needs hint h ≡ true
     yes =
@@ -261,9 +261,9 @@ any_here hint p all rows slot h there some own number any =
         ∙ ap (λ b. b && true) (itself hint.usn)
 
 pub any_later : (hint : Local) (p : Place) (all rows : List Held) (slot : Option Held) (h : Held) → hint.unit ≡ Some p → slot ≡ Some h → (h.local ≡ hint.usn → ⊥)
-    → IsAny hint all (and_seen slot rows) → IsAny hint all rows
+    → IsAny hint all (cons_option slot rows) → IsAny hint all rows
 any_later hint p all rows slot h there some other any =
-    sym (ap (λ b. b || list_any (needs hint) rows) no) ∙ subst (λ o. IsAny hint all (and_seen o rows)) some any
+    sym (ap (λ b. b || list_any (needs hint) rows) no) ∙ subst (λ o. IsAny hint all (cons_option o rows)) some any
   where
     no : needs hint h ≡ false
     no = needs_both hint p h there ∙ ap (λ b. b && is_of_seat p h) (unequal h.local hint.usn other)
@@ -272,6 +272,6 @@ any_later hint p all rows slot h there some other any =
 abbrev pub IsGreatest : List Held → Option ℕ → List Held → Type 0
 IsGreatest all so_far rows = greatest so_far rows ≡ greatest None all
 
-pub greatest_next : (all rows : List Held) (so_far : Option ℕ) (n : ℕ) (slot : Option Held) (h : Held) → slot ≡ Some h → n ≡ above so_far h.local → IsGreatest all so_far (and_seen slot rows)
+pub greatest_next : (all rows : List Held) (so_far : Option ℕ) (n : ℕ) (slot : Option Held) (h : Held) → slot ≡ Some h → n ≡ above so_far h.local → IsGreatest all so_far (cons_option slot rows)
     → IsGreatest all (Some n) rows
-greatest_next all rows so_far n slot h some is read = ap (λ m. greatest (Some m) rows) is ∙ subst (λ o. IsGreatest all so_far (and_seen o rows)) some read
+greatest_next all rows so_far n slot h some is read = ap (λ m. greatest (Some m) rows) is ∙ subst (λ o. IsGreatest all so_far (cons_option o rows)) some read

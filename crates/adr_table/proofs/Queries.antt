@@ -1,7 +1,7 @@
 -- What is looked up, as the definitions have it.
 use Rattle.std.proofs.Common.{◌≡◌, refl, sym, ap, ◌∙◌, subst, List, [], ◌∷◌, Bool, true, false, cond, ◌||◌, Option, Some, None, filter, map}
 use Rattle.std.specs.Prelude.{IfSome, is_some, slice_get}
-use Rattle.std.specs.List.{AllByRecursion, list_any}
+use Rattle.std.specs.List.{cons_option, AllByRecursion, list_any}
 use Rattle.std.specs.List.Sorted.{IsStrictlySortedBy}
 use Rattle.std.specs.Map.{keys_of}
 use Rattle.std.specs.Option.{option_copied}
@@ -20,7 +20,7 @@ use Rattle.adr_model.specs.Write.{holds_guid, is_of_guid}
 use Rattle.adr_update.specs.Sought.{is_link_from, rows_of_unit}
 use Rattle.adr_table.specs.declared.place.Place.{Place}
 use Rattle.adr_table.specs.Place.{guid_start, links_start, place_of, place_order, rows_start}
-use Rattle.adr_table.specs.Slots.{AreAtHome, and_seen, rows_in_run, seen}
+use Rattle.adr_table.specs.Slots.{AreAtHome, rows_in_run, seen}
 use Rattle.adr_table.proofs.Places.{order_is}
 use Rattle.adr_table.proofs.Seen.{Entries, AreSorted}
 use Rattle.adr_table.proofs.Stripped.{in_guid_run, in_links_run, in_rows_run}
@@ -82,7 +82,7 @@ all_seen p k at (e ∷ es) home below = by e.1 home.0 (all_seen p k at es home.1
     less h own = sym (order_is k h.update.key) ∙ ap (λ q. place_order q (place_of h.update.key)) at ∙ ap (place_order p) own ∙ below.0
 
     by : (o : Option Held) → IfSome o (λ h. place_of h.update.key ≡ e.0) → AllByRecursion (λ j. key_order k j ≡ Less) (map (λ (h : Held). h.update.key) (seen es))
-        → AllByRecursion (λ j. key_order k j ≡ Less) (map (λ (h : Held). h.update.key) (and_seen o (seen es)))
+        → AllByRecursion (λ j. key_order k j ≡ Less) (map (λ (h : Held). h.update.key) (cons_option o (seen es)))
     by None own later = later
     by (Some h) own later = (less h own, later)
 
@@ -98,7 +98,7 @@ pub rise : (es : Entries) → AreSorted es → AreAtHome es → AreRising (seen 
 rise [] sorted home = none_rises
 rise (e ∷ es) sorted home = by e.1 home.0 (rise es (sorted_tail place_order e.0 (keys_of es) sorted) home.1)
   where
-    by : (o : Option Held) → IfSome o (λ h. place_of h.update.key ≡ e.0) → AreRising (seen es) → AreRising (and_seen o (seen es))
+    by : (o : Option Held) → IfSome o (λ h. place_of h.update.key ≡ e.0) → AreRising (seen es) → AreRising (cons_option o (seen es))
     by None own later = later
     by (Some h) own later =
         one_more h.update.key (map (λ (x : Held). x.update.key) (seen es)) (all_seen e.0 h.update.key own es home.1 (sorted_head place_order e.0 (keys_of es) sorted)) later
@@ -115,19 +115,19 @@ none_above k (h ∷ hs) below = by (same_key h.update.key k) refl (none_above k 
         let no : Equal ≡ Less = sym (tied_itself keys_total k) ∙ subst (λ j. key_order k j ≡ Less) same below.0 in cc
     by false is later = later
 
-pub one_of_key : (k : Key) (rows : List Held) → AreRising rows → filter (λ h. same_key h.update.key k) rows ≡ and_seen (row_held rows k) []
+pub one_of_key : (k : Key) (rows : List Held) → AreRising rows → filter (λ h. same_key h.update.key k) rows ≡ cons_option (row_held rows k) []
 one_of_key k [] rising = refl
 one_of_key k (h ∷ hs) rising = by (same_key h.update.key k) refl (one_of_key k hs (sorted_tail key_order h.update.key (map (λ (x : Held). x.update.key) hs) rising))
   where
-    by : (b : Bool) → same_key h.update.key k ≡ b → filter (λ x. same_key x.update.key k) hs ≡ and_seen (row_held hs k) []
-        → cond b (h ∷ filter (λ x. same_key x.update.key k) hs) (filter (λ x. same_key x.update.key k) hs) ≡ and_seen (cond b (Some h) (row_held hs k)) []
+    by : (b : Bool) → same_key h.update.key k ≡ b → filter (λ x. same_key x.update.key k) hs ≡ cons_option (row_held hs k) []
+        → cond b (h ∷ filter (λ x. same_key x.update.key k) hs) (filter (λ x. same_key x.update.key k) hs) ≡ cons_option (cond b (Some h) (row_held hs k)) []
     by true is later =
         let same : h.update.key ≡ k = exact_keys h.update.key k (equal_order (key_order h.update.key k) is) in
         ap (λ xs. h ∷ xs) (none_above k hs
         (subst (λ j. AllByRecursion (λ i. key_order j i ≡ Less) (map (λ (x : Held). x.update.key) hs)) same (sorted_head key_order h.update.key (map (λ (x : Held). x.update.key) hs) rising)))
     by false is later = later
 
-pub unit_of_link : (l : LinkKey) (rows : List Held) → AreRising rows → and_seen (row_held rows (LinkOf l)) [] ≡ rows_of_unit rows (Link l)
+pub unit_of_link : (l : LinkKey) (rows : List Held) → AreRising rows → cons_option (row_held rows (LinkOf l)) [] ≡ rows_of_unit rows (Link l)
 unit_of_link l rows rising =
     sym (one_of_key (LinkOf l) rows rising)
     ∙ filter_alike (λ h. same_key h.update.key (LinkOf l)) (λ h. same_unit (unit_of h.update.key) (Link l)) (λ h. alike h.update.key) rows

@@ -8,7 +8,7 @@ use Rattle.std.specs.declared.cmp.Ordering.TheVariants.{Less}
 use Rattle.adr_model.specs.Store.{Held}
 use Rattle.adr_table.specs.declared.place.Place.{Place}
 use Rattle.adr_table.specs.Place.{IsStart, place_order, is_in_run}
-use Rattle.adr_table.specs.Slots.{and_seen, seen, AreAtHome, rows_in_run}
+use Rattle.adr_table.specs.Slots.{seen, AreAtHome, rows_in_run}
 use Rattle.adr_table.proofs.Seen.{Entries, AreSorted}
 use Rattle.adr_table.proofs.Runs.{run_behind, run_between}
 use Rattle.adr_table.proofs.Spans.{behind, from_start, tested, begun, Walk}
@@ -36,27 +36,27 @@ module _ (s : Place) where
 abbrev pub AreRead : List Held → List Held → List Held → Type 0
 AreRead all so_far rows = so_far ++ rows ≡ all
 
-seen_first : (o : Option Held) (rows : List Held) → and_seen o [] ++ rows ≡ and_seen o rows
+seen_first : (o : Option Held) (rows : List Held) → cons_option o [] ++ rows ≡ cons_option o rows
 seen_first None rows = refl
 seen_first (Some h) rows = refl
 
 -- the row of a slot is added to those so far
-pub added : (all so_far new : List Held) (row slot : Option Held) (rows : List Held) → new ≡ so_far ++ and_seen row [] → row ≡ slot → AreRead all so_far (and_seen slot rows) → AreRead all new rows
+pub added : (all so_far new : List Held) (row slot : Option Held) (rows : List Held) → new ≡ so_far ++ cons_option row [] → row ≡ slot → AreRead all so_far (cons_option slot rows) → AreRead all new rows
 added all so_far new row slot rows is own read =
-    ap (λ xs. xs ++ rows) is ∙ append_assoc so_far (and_seen row []) rows ∙ ap (λ xs. so_far ++ xs) (seen_first row rows ∙ ap (λ o. and_seen o rows) own) ∙ read
+    ap (λ xs. xs ++ rows) is ∙ append_assoc so_far (cons_option row []) rows ∙ ap (λ xs. so_far ++ xs) (seen_first row rows ∙ ap (λ o. cons_option o rows) own) ∙ read
 
 -- that of a hint is so too
-pub added_next : {H : Type 0} (row_of : H → Option Held) (all so_far new : List Held) (row : Option Held) (h : H) (hs left : List H) → left ≡ h ∷ hs → new ≡ so_far ++ and_seen row [] → row ≡ row_of h
+pub added_next : {H : Type 0} (row_of : H → Option Held) (all so_far new : List Held) (row : Option Held) (h : H) (hs left : List H) → left ≡ h ∷ hs → new ≡ so_far ++ cons_option row [] → row ≡ row_of h
     → AreRead all so_far (filter_map row_of left) → AreRead all new (filter_map row_of hs)
 added_next row_of all so_far new row h hs left left_is is own read =
-    ap (λ xs. xs ++ filter_map row_of hs) is ∙ append_assoc so_far (and_seen row []) (filter_map row_of hs)
+    ap (λ xs. xs ++ filter_map row_of hs) is ∙ append_assoc so_far (cons_option row []) (filter_map row_of hs)
     ∙ ap (λ xs. so_far ++ xs) (first row ∙ ap (λ o. cons_option o (filter_map row_of hs)) own ∙ sym (ap (filter_map row_of) left_is)) ∙ read
   where
-    first : (o : Option Held) → and_seen o [] ++ filter_map row_of hs ≡ cons_option o (filter_map row_of hs)
+    first : (o : Option Held) → cons_option o [] ++ filter_map row_of hs ≡ cons_option o (filter_map row_of hs)
     first None = refl
     first (Some h) = refl
 
 -- the first row of a slot that isn't empty
-pub first_seen : (o : Option Held) (rows : List Held) → is_some o ≡ true → true ≡ is_some (slice_get (and_seen o rows) 0)
+pub first_seen : (o : Option Held) (rows : List Held) → is_some o ≡ true → true ≡ is_some (slice_get (cons_option o rows) 0)
 first_seen None rows is = cc
 first_seen (Some h) rows is = refl

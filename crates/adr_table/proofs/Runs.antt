@@ -1,6 +1,6 @@
 -- Runs of places, which are emptied from one to the next.
 use Rattle.std.proofs.Common.{◌≡◌, refl, sym, ap, ◌∙◌, subst, arith, ℕ, ◌+◌, ◌≤◌, List, [], ◌∷◌, length, Bool, true, false, cond, not, ◌&&◌, ◌||◌, Option, Some, None}
-use Rattle.std.specs.Prelude.{IsSome, nat_le, nat_lt}
+use Rattle.std.specs.Prelude.{◌↔◌, IsSome, nat_le, nat_lt}
 use Rattle.std.specs.Option.{is_none, option_cmp}
 use Rattle.std.specs.Map.{keys_of, lookup}
 use Rattle.std.specs.BTreeMap.{get, is_at}
@@ -32,13 +32,13 @@ use Rattle.adr_stamp.proofs.Exact.{exact_births}
 
 -- ---- bounds
 
+at_most_told : (o : Ordering) → (is_le o ≡ true) ↔ (is_gt o ≡ false)
+at_most_told Less = (λ e. refl, λ e. refl)
+at_most_told Equal = (λ e. refl, λ e. refl)
+at_most_told Greater = (λ e. cc, λ e. cc)
+
 pub from_told : (b : Bound Place) (q : Place) → is_from_start place_order b q ≡ true → IsFromStart place_order b q
-from_told (Included a) q e = le (place_order a q) e
-  where
-    le : (o : Ordering) → is_le o ≡ true → is_gt o ≡ false
-    le Less e = refl
-    le Equal e = refl
-    le Greater e = cc
+from_told (Included a) q e = (at_most_told (place_order a q)).0 e
 from_told (Excluded a) q e = lt (place_order a q) e
   where
     lt : (o : Ordering) → is_lt o ≡ true → o ≡ Less
@@ -48,12 +48,7 @@ from_told (Excluded a) q e = lt (place_order a q) e
 from_told Unbounded q e = tt
 
 pub from_tested : (b : Bound Place) (q : Place) → IsFromStart place_order b q → is_from_start place_order b q ≡ true
-from_tested (Included a) q e = le (place_order a q) e
-  where
-    le : (o : Ordering) → is_gt o ≡ false → is_le o ≡ true
-    le Less e = refl
-    le Equal e = refl
-    le Greater e = cc
+from_tested (Included a) q e = (at_most_told (place_order a q)).1 e
 from_tested (Excluded a) q e = ap is_lt e
 from_tested Unbounded q e = refl
 

@@ -1,7 +1,7 @@
 -- What is seen of slots that are looked up, made and written.
 use Rattle.std.proofs.Common.{◌≡◌, List, [], ◌∷◌, Bool, true, false, cond, Option, Some, None, refl, sym, ap, ◌∙◌, subst}
 use Rattle.std.specs.Prelude.{IfSome, IsSome, is_some}
-use Rattle.std.specs.List.{AllByRecursion}
+use Rattle.std.specs.List.{cons_option, AllByRecursion}
 use Rattle.std.specs.List.Sorted.{IsStrictlySortedBy}
 use Rattle.std.specs.Map.{keys_of, lookup, set_value}
 use Rattle.std.specs.BTreeMap.{insert_entry, is_at}
@@ -16,7 +16,7 @@ use Rattle.adr_model.specs.Store.{Held, row_held, with_row}
 use Rattle.adr_update.proofs.Slots.{found as at_home_found, home_still as still_at_home, later_none as none_later, made as unseen_made, none_below as none_under, still_some}
 use Rattle.adr_table.specs.declared.place.Place.{Place}
 use Rattle.adr_table.specs.Place.{place_of, place_order}
-use Rattle.adr_table.specs.Slots.{and_seen, seen, AreAtHome, flat}
+use Rattle.adr_table.specs.Slots.{seen, AreAtHome, flat}
 use Rattle.adr_table.proofs.Places.{places_total, exact_places, order_is}
 
 abbrev pub Entries : Type 0
@@ -51,7 +51,7 @@ found es key sorted home =
 -- ---- a new slot
 
 pub made : (es : Entries) (p : Place) → lookup (is_at (place_order p)) es ≡ None → seen (insert_entry place_order es p None) ≡ seen es
-made = unseen_made place_order seen (λ p es. refl) (λ e es fs is. ap (λ hs. and_seen e.1 hs) is)
+made = unseen_made place_order seen (λ p es. refl) (λ e es fs is. ap (λ hs. cons_option e.1 hs) is)
 
 pub home_still : (es : Entries) (p : Place) (v : Option Held) → IfSome v (λ h. place_of h.update.key ≡ p) → AreAtHome es → AreAtHome (insert_entry place_order es p v)
 home_still = still_at_home place_order IsAt AreAtHome (λ e es at rest. (at, rest)) (λ e es h. h) exact_places
@@ -84,7 +84,7 @@ first : (es : Entries) (h : Held) → AllByRecursion (λ q. place_order (place_o
 first [] h below home = refl
 first (e ∷ es) h below home = by e.1 home.0 (first es h below.1 home.1)
   where
-    by : (o : Option Held) → IfSome o (λ x. place_of x.update.key ≡ e.0) → with_row (seen es) h ≡ h ∷ seen es → with_row (and_seen o (seen es)) h ≡ h ∷ and_seen o (seen es)
+    by : (o : Option Held) → IfSome o (λ x. place_of x.update.key ≡ e.0) → with_row (seen es) h ≡ h ∷ seen es → with_row (cons_option o (seen es)) h ≡ h ∷ cons_option o (seen es)
     by None at later = later
     by (Some x) at later =
         let less : key_order h.update.key x.update.key ≡ Less = sym (order_is h.update.key x.update.key) ∙ ap (place_order (place_of h.update.key)) at ∙ below.0 in
@@ -105,13 +105,13 @@ written (e ∷ es) h sorted home = by (place_order (place_of h.update.key) e.0) 
     head = sorted_head place_order e.0 (keys_of es) sorted
 
     -- at a slot of the row's place, or behind one below it
-    here : (o : Option Held) → IfSome o (λ x. place_of x.update.key ≡ e.0) → place_order p e.0 ≡ Equal → h ∷ seen es ≡ with_row (and_seen o (seen es)) h
+    here : (o : Option Held) → IfSome o (λ x. place_of x.update.key ≡ e.0) → place_order p e.0 ≡ Equal → h ∷ seen es ≡ with_row (cons_option o (seen es)) h
     here None at is = sym (first es h (subst (λ q. AllByRecursion (λ r. place_order q r ≡ Less) (keys_of es)) (sym (exact_places p e.0 is)) head) home.1)
     here (Some x) at is =
         let same : key_order h.update.key x.update.key ≡ Equal = sym (order_is h.update.key x.update.key) ∙ ap (place_order p) at ∙ is in
         sym (ap (λ o. match_ordering o (h ∷ x ∷ seen es) (h ∷ seen es) (x ∷ with_row (seen es) h)) same)
 
-    behind : (o : Option Held) → IfSome o (λ x. place_of x.update.key ≡ e.0) → place_order p e.0 ≡ Greater → and_seen o (with_row (seen es) h) ≡ with_row (and_seen o (seen es)) h
+    behind : (o : Option Held) → IfSome o (λ x. place_of x.update.key ≡ e.0) → place_order p e.0 ≡ Greater → cons_option o (with_row (seen es) h) ≡ with_row (cons_option o (seen es)) h
     behind None at is = refl
     behind (Some x) at is =
         let more : key_order h.update.key x.update.key ≡ Greater = sym (order_is h.update.key x.update.key) ∙ ap (place_order p) at ∙ is in
@@ -121,7 +121,7 @@ written (e ∷ es) h sorted home = by (place_order (place_of h.update.key) e.0) 
         → seen (match_ordering o ((p, Some h) ∷ e ∷ es) ((e.0, Some h) ∷ es) (e ∷ insert_entry place_order es p (Some h))) ≡ with_row (seen (e ∷ es)) h
     by Less is later = sym (first (e ∷ es) h (is, below_all p e.0 (keys_of es) is head) home)
     by Equal is later = here e.1 home.0 is
-    by Greater is later = ap (λ hs. and_seen e.1 hs) later ∙ behind e.1 home.0 is
+    by Greater is later = ap (λ hs. cons_option e.1 hs) later ∙ behind e.1 home.0 is
 
 -- ---- by look-ups
 

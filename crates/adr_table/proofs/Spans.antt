@@ -1,7 +1,7 @@
 -- The rows of places that stand together, read from the first place on.
 use Rattle.std.proofs.Common.{◌≡◌, refl, sym, ap, ◌∙◌, subst, List, [], ◌∷◌, Bool, true, false, cond, not, ◌&&◌, Option, Some, None, filter}
 use Rattle.std.specs.Prelude.{IfSome}
-use Rattle.std.specs.List.{AllByRecursion}
+use Rattle.std.specs.List.{cons_option, AllByRecursion}
 use Rattle.std.specs.List.Sorted.{IsStrictlySortedBy}
 use Rattle.std.specs.Map.{keys_of}
 use Rattle.std.specs.BTreeMap.Range.{IsLeBy, range_contains, entries_between}
@@ -14,7 +14,7 @@ use Rattle.std.proofs.lemmas.Map.Keys.{sorted_head, sorted_tail}
 use Rattle.adr_model.specs.Store.{Held}
 use Rattle.adr_table.specs.declared.place.Place.{Place}
 use Rattle.adr_table.specs.Place.{place_of, place_order}
-use Rattle.adr_table.specs.Slots.{and_seen, seen, AreAtHome}
+use Rattle.adr_table.specs.Slots.{seen, AreAtHome}
 use Rattle.adr_table.proofs.Seen.{Entries, AreSorted}
 
 -- ---- what is behind a place
@@ -73,18 +73,18 @@ module _ (at : Place → Bool) where
   Ends (e ∷ es) = (at e.0 ≡ false → filter of (seen (e ∷ es)) ≡ []) × Ends es
 
   -- a slot at another place gives no row of them
-  outside : (e : Place × Option Held) (rows : List Held) → IfSome e.1 (λ h. place_of h.update.key ≡ e.0) → at e.0 ≡ false → filter of (and_seen e.1 rows) ≡ filter of rows
+  outside : (e : Place × Option Held) (rows : List Held) → IfSome e.1 (λ h. place_of h.update.key ≡ e.0) → at e.0 ≡ false → filter of (cons_option e.1 rows) ≡ filter of rows
   outside e rows home out = by e.1 home
     where
-      by : (o : Option Held) → IfSome o (λ h. place_of h.update.key ≡ e.0) → filter of (and_seen o rows) ≡ filter of rows
+      by : (o : Option Held) → IfSome o (λ h. place_of h.update.key ≡ e.0) → filter of (cons_option o rows) ≡ filter of rows
       by None own = refl
       by (Some h) own = ap (λ b. cond b (h ∷ filter of rows) (filter of rows)) (ap at own ∙ out)
 
   -- a slot at one of them gives its row
-  inside : (e : Place × Option Held) (rows : List Held) → IfSome e.1 (λ h. place_of h.update.key ≡ e.0) → at e.0 ≡ true → filter of (and_seen e.1 rows) ≡ and_seen e.1 (filter of rows)
+  inside : (e : Place × Option Held) (rows : List Held) → IfSome e.1 (λ h. place_of h.update.key ≡ e.0) → at e.0 ≡ true → filter of (cons_option e.1 rows) ≡ cons_option e.1 (filter of rows)
   inside e rows home own = by e.1 home
     where
-      by : (o : Option Held) → IfSome o (λ h. place_of h.update.key ≡ e.0) → filter of (and_seen o rows) ≡ and_seen o (filter of rows)
+      by : (o : Option Held) → IfSome o (λ h. place_of h.update.key ≡ e.0) → filter of (cons_option o rows) ≡ cons_option o (filter of rows)
       by None there = refl
       by (Some h) there = ap (λ b. cond b (h ∷ filter of rows) (filter of rows)) (ap at there ∙ own)
 
@@ -104,7 +104,7 @@ module _ (s : Place) (at : Place → Bool) where
   whole_from before [] home = refl
   whole_from before (e ∷ es) home = by (behind s e.0) refl (whole_from before es home.1)
     where
-      more : (o : Option Held) → filter (of at) (seen (from_start s es)) ≡ filter (of at) (seen es) → filter (of at) (and_seen o (seen (from_start s es))) ≡ filter (of at) (and_seen o (seen es))
+      more : (o : Option Held) → filter (of at) (seen (from_start s es)) ≡ filter (of at) (seen es) → filter (of at) (cons_option o (seen (from_start s es))) ≡ filter (of at) (cons_option o (seen es))
       more None h = h
       more (Some x) h = ap (λ hs. cond (of at x) (x ∷ hs) hs) h
 
@@ -147,10 +147,10 @@ module _ (at : Place → Bool) (P : List Held → Type 0) where
     pub stopped : at e.0 ≡ false → P []
     stopped out = subst P (here.ends.0 out) here.rows
 
-    pub found : at e.0 ≡ true → P (and_seen e.1 rest)
+    pub found : at e.0 ≡ true → P (cons_option e.1 rest)
     found own = subst P (inside at e (seen es) here.home.0 own) here.rows
 
-    pub turned : at e.0 ≡ true → (Q : List Held → Type 0) → (P (and_seen e.1 rest) → Q rest) → Walk at Q es
+    pub turned : at e.0 ≡ true → (Q : List Held → Type 0) → (P (cons_option e.1 rest) → Q rest) → Walk at Q es
     turned own Q next = record { rows = next (found own); home = here.home.1; ends = here.ends.1 }
 
     -- the row of a slot stands at one of the places
@@ -159,4 +159,4 @@ module _ (at : Place → Bool) (P : List Held → Type 0) where
 
     -- an empty slot is passed
     pub passed : at e.0 ≡ true → e.1 ≡ None → Walk at P es
-    passed own none = turned own P (subst (λ o. P (and_seen o rest)) none)
+    passed own none = turned own P (subst (λ o. P (cons_option o rest)) none)

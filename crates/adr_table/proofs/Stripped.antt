@@ -10,6 +10,7 @@ use Rattle.std.specs.declared.cmp.Ordering.TheVariants.{Less, Equal, Greater}
 use Rattle.std.proofs.lemmas.Bool.Decides.{nat_tests}
 use Rattle.std.proofs.lemmas.Cmp.{eq_by_cmp_equiv, tied_itself, nat_list_cmp_total}
 use Rattle.std.proofs.lemmas.Map.Keys.{sorted_tail}
+use Rattle.std.specs.List.{cons_option}
 use Rattle.adr_stamp.specs.Order.{identifier_order, birth_order}
 use Rattle.adr_stamp.specs.declared.Oid.{Oid}
 use Rattle.adr_stamp.specs.contracts.OidOrd.TheImpl.Laws.{total-law as objects_total}
@@ -20,7 +21,7 @@ use Rattle.adr_model.specs.Store.{Held, is_row_of}
 use Rattle.adr_model.specs.Change.{goes_with}
 use Rattle.adr_table.specs.declared.place.Place.{Place}
 use Rattle.adr_table.specs.Place.{place_of, place_order, is_in_run, guid_start, links_start, rows_start, values_start}
-use Rattle.adr_table.specs.Slots.{and_seen, seen, flat, AreAtHome}
+use Rattle.adr_table.specs.Slots.{seen, flat, AreAtHome}
 use Rattle.adr_update.specs.Sought.{is_link_from, is_link_to}
 use Rattle.adr_table.proofs.Places.{places_total, exact_places}
 use Rattle.adr_table.proofs.Seen.{Entries, AreSorted, later_none}
@@ -128,8 +129,8 @@ stripped_seen gone [] [] same sorted k = refl
 stripped_seen gone [] (f ∷ fs) same sorted k = cc
 stripped_seen gone (e ∷ es) [] same sorted k = cc
 stripped_seen gone (e ∷ es) (f ∷ fs) same sorted k =
-    ap (λ r. and_seen r (seen fs)) (head (is_at (place_order e.0) e.0) (is_at (place_order e.0) f.0) self (subst (λ p. is_at (place_order e.0) p ≡ true) (sym place) self) (k e.0))
-    ∙ ap (λ hs. and_seen (keep gone e.1) hs) (stripped_seen gone es fs later (sorted_tail place_order e.0 (keys_of es) sorted) tail)
+    ap (λ r. cons_option r (seen fs)) (head (is_at (place_order e.0) e.0) (is_at (place_order e.0) f.0) self (subst (λ p. is_at (place_order e.0) p ≡ true) (sym place) self) (k e.0))
+    ∙ ap (λ hs. cons_option (keep gone e.1) hs) (stripped_seen gone es fs later (sorted_tail place_order e.0 (keys_of es) sorted) tail)
     ∙ taken e.1
   where
     place : f.0 ≡ e.0
@@ -160,13 +161,13 @@ stripped_seen gone (e ∷ es) (f ∷ fs) same sorted k =
         by false true x y z h = let no : false ≡ true = sym x ∙ z ∙ y in cc
         by false false x y z h = h
 
-    taken : (r : Option Held) → and_seen (keep gone r) (filter (λ h. not (gone h.update.key)) (seen es)) ≡ filter (λ h. not (gone h.update.key)) (and_seen r (seen es))
+    taken : (r : Option Held) → cons_option (keep gone r) (filter (λ h. not (gone h.update.key)) (seen es)) ≡ filter (λ h. not (gone h.update.key)) (cons_option r (seen es))
     taken None = refl
     taken (Some h) = by (gone h.update.key)
       where
         rest : List Held
         rest = filter (λ x. not (gone x.update.key)) (seen es)
 
-        by : (b : Bool) → and_seen (cond b None (Some h)) rest ≡ cond (not b) (h ∷ rest) rest
+        by : (b : Bool) → cons_option (cond b None (Some h)) rest ≡ cond (not b) (h ∷ rest) rest
         by true = refl
         by false = refl

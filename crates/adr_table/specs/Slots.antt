@@ -1,20 +1,15 @@
 -- Slots of rows: what is seen of them, and how many rows of a kind there are.
 use Rattle.std.specs.Prelude.{◌≡◌, ◌+◌, ℕ, List, [], ◌∷◌, Bool, cond, ◌&&◌, Option, Some, None, IfSome, IsSome, is_some, filter}
+use Rattle.std.specs.List.{filter_map}
 use Rattle.std.specs.BTreeMap.{IsOrdered, get, keys}
 use Rattle.adr_model.specs.Store.{Held}
 use Rattle.adr_table.specs.declared.place.Place.{Place}
 use Rattle.adr_table.specs.declared.slots.Slots.{Slots}
 use Rattle.adr_table.specs.Place.{is_in_run, is_of_class, is_of_link, place_of, place_order}
 
--- what is in a slot, ahead of other rows
-abbrev pub and_seen : Option Held → List Held → List Held
-and_seen None rows = rows
-and_seen (Some h) rows = h ∷ rows
-
 -- the rows in slots, in their order; an empty slot isn't seen
 abbrev pub seen : List (Place × Option Held) → List Held
-seen [] = []
-seen (e ∷ es) = and_seen e.1 (seen es)
+seen es = filter_map (λ e. e.1) es
 
 abbrev pub rows_seen : Slots → List Held
 rows_seen slots = seen slots.map.entries

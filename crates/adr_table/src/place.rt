@@ -70,18 +70,25 @@ impl Place {
         }
     }
 
+    /// Where the rows or the links of an object begin, from an attribute on.
+    fn before(is_link: bool, object: &Oid, attr: u16) -> Place
+        ensures { result ≡ record { is_link = is_link; guid = object.now.guid; birth = Some object.now.birth; attr = attr; other = None } }
+    {
+        Place {
+            is_link,
+            guid: object.guid,
+            birth: Some(object.birth),
+            attr,
+            other: None,
+        }
+    }
+
     /// Where the rows of an object begin.
     pub fn before_rows(object: &Oid) -> Place
         ensures place { result ≡ rows_start object.now }
         ensures start { IsStart result }
     {
-        Place {
-            is_link: false,
-            guid: object.guid,
-            birth: Some(object.birth),
-            attr: 0,
-            other: None,
-        }
+        Place::before(false, object, 0)
     }
 
     /// Where the rows of an object begin that aren't reserved.
@@ -89,13 +96,7 @@ impl Place {
         ensures place { result ≡ values_start object.now }
         ensures start { IsStart result }
     {
-        Place {
-            is_link: false,
-            guid: object.guid,
-            birth: Some(object.birth),
-            attr: FIRST_VALUE,
-            other: None,
-        }
+        Place::before(false, object, FIRST_VALUE)
     }
 
     /// Where the links from an object begin.
@@ -103,13 +104,7 @@ impl Place {
         ensures place { result ≡ links_start object.now }
         ensures start { IsStart result }
     {
-        Place {
-            is_link: true,
-            guid: object.guid,
-            birth: Some(object.birth),
-            attr: 0,
-            other: None,
-        }
+        Place::before(true, object, 0)
     }
 
     /// Whether class rows stand here.

@@ -6,11 +6,12 @@ ghost use Rattle.std.specs.Map.{set_value};
 ghost use Rattle.std.specs.BTreeMap.{IsOrdered, get, insert_entry, is_at, keys};
 ghost use Rattle.std.specs.BTreeMap.Range.{IsFromStart, IsLeBy, entries_between};
 ghost use Rattle.std.specs.declared.ops.Bound.TheVariants.{Included, Unbounded};
+ghost use Rattle.std.specs.List.{cons_option};
 ghost use Rattle.adr_model.specs.Store.{row_held, with_row};
 ghost use Rattle.adr_update.specs.Key.{key_of};
 ghost use Rattle.adr_update.specs.Referents.{referents};
 ghost use Rattle.adr_table.specs.Place.{IsStart, is_in_run, place_of, place_order};
-ghost use Rattle.adr_table.specs.Slots.{HasSlot, IsTidy, and_seen, flat, one_more_if, places, row_at, rows_in_run, rows_seen};
+ghost use Rattle.adr_table.specs.Slots.{HasSlot, IsTidy, flat, one_more_if, places, row_at, rows_in_run, rows_seen};
 
 use crate::NoMemory;
 use crate::place::Place;
@@ -220,7 +221,7 @@ impl Slots {
 /// Adds a row to a list, if there is one.
 pub(crate) fn push_row<'a>(rows: &mut Vec<&'a Held>, row: Option<&'a Held>) -> Result<(), NoMemory>
     ensures { OnOk result (
-        referents rows.new.items ≡ referents rows.old.items ++ and_seen (option_copied row.entry) []) }
+        referents rows.new.items ≡ referents rows.old.items ++ cons_option (option_copied row.entry) []) }
 {
     if let Some(row) = row {
         rows.push(row)?;

@@ -2,6 +2,7 @@
 
 ghost use Rattle.std.specs.Prelude.{◌≡◌, [], IfOk, filter, is_some, length};
 ghost use Rattle.std.specs.Option.{option_copied};
+ghost use Rattle.std.specs.List.{cons_option};
 ghost use Rattle.adr_model.specs.Change.{killed_by};
 ghost use Rattle.adr_model.specs.Formed.{AreRising};
 ghost use Rattle.adr_model.specs.Live.{objects_of};
@@ -10,7 +11,6 @@ ghost use Rattle.adr_model.specs.Write.{holds_guid, is_of_guid, links_in};
 ghost use Rattle.adr_update.specs.Key.{key_of};
 ghost use Rattle.adr_update.specs.Referents.{referents};
 ghost use Rattle.adr_update.specs.Sought.{IsNextLocal, is_link_from, is_link_to, rows_of_unit, units_at};
-ghost use Rattle.adr_table.specs.Slots.{and_seen};
 ghost use Rattle.adr_table.specs.Table.{IsKept, rows_in};
 
 use crate::NoMemory;
@@ -195,7 +195,7 @@ impl Table {
 
 /// A list of one row, or of none.
 fn only(alloc: Global, row: Option<&Held>) -> Result<Vec<&Held>, NoMemory>
-    ensures { IfOk result (λ rows. referents rows.items ≡ and_seen (option_copied row.entry) []) }
+    ensures { IfOk result (λ rows. referents rows.items ≡ cons_option (option_copied row.entry) []) }
 {
     let mut rows = Vec::new(alloc);
     push_row(&mut rows, row)?;

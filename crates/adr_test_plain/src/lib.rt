@@ -15,6 +15,7 @@ ghost use Rattle.adr_journal.specs.Written.{TakesBoth};
 
 use adr_failure::NoMemory;
 use adr_journal::{Form, Keeper, KeeperRefusal, OPEN_GATE, StartRefusal, new_log, replay, spell};
+use adr_run_disk::put;
 use adr_state::{Change, Log, State};
 use std::alloc::Global;
 use std::marker::PhantomData;
@@ -69,20 +70,6 @@ fn opened(alloc: Global, written: &[u8]) -> Result<Vec<u8>, NoMemory>
     log.push(OPEN_GATE)?;
     log.extend_from_slice(written)?;
     Ok(log)
-}
-
-/// Writes over what is there, and past the end.
-fn put(bytes: &mut Vec<u8>, at: usize, new: &[u8])
-    requires { length (put_over bytes.old.items at new.now) ≤ vec_capacity bytes.old }
-    ensures items { bytes.new.items ≡ put_over bytes.old.items at new.now }
-    ensures capacity { vec_capacity bytes.old ≤ vec_capacity bytes.new }
-{
-    if new.len() < bytes.len().saturating_sub(at) {
-        bytes[at..at + new.len()].copy_from_slice(new);
-    } else {
-        bytes.truncate(at);
-        bytes.extend_from_slice(new).unwrap();
-    }
 }
 
 /// Puts an area at a place and the place into a slot, and selects it.
@@ -209,7 +196,7 @@ impl<F: Form> Keeper for Plain<F> {
         Ok(())
     }
 
-    fn commit(&mut self, _change: &Change) -> Result<(), KeeperRefusal> {
+    fn commit(&mut self) -> Result<(), KeeperRefusal> {
         put_commit(&mut self.bytes, &self.area, &self.prepared, self.next);
         self.area = Vec::new(self.alloc);
         self.log = self.next;

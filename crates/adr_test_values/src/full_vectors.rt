@@ -27,7 +27,7 @@ fn see(
         seen,
         Vec::new(alloc),
     );
-    state.apply(&change)
+    state.apply(change)
 }
 
 /// What it is answered, and whether it is as new then.

@@ -95,9 +95,6 @@ pub fn holding(
 ) -> State {
     let mut state = controller(alloc, 4);
     let change = change(alloc, usn, mode, state.schema(), Vector::new(alloc), writes);
-    state
-        .apply(&change)
-        .ok()
-        .expect(rt, "what was written fits");
+    state.apply(change).ok().expect(rt, "what was written fits");
     state
 }

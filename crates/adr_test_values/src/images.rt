@@ -68,9 +68,9 @@ fn put(bytes: &mut [u8], at: usize, byte: u8) {
 
 /// How many rows an image has, and the image of what it says.
 fn written_again(alloc: Global, bytes: &[u8]) -> Result<(usize, Vec<u8>), Fail> {
-    let read = decode(alloc, bytes)?;
-    let written = read.contents().encode(alloc)?;
-    Ok((read.contents().rows.len(), written))
+    let read = decode(alloc, bytes)?.into_contents();
+    let written = read.encode(alloc)?;
+    Ok((read.rows.len(), written))
 }
 
 #[test]

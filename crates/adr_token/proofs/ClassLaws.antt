@@ -1,30 +1,27 @@
 -- Classes and attributes are read again by name and by number, and what is read was one of the two.
 use Rattle.std.proofs.Common.{◌≡◌, ℕ, ◌<◌, ◌≤◌, ◌^◌, Bool, true, false, not, ◌&&◌, List, [], ◌∷◌, length, Option, Some, None, refl, ap, subst, ◌∙◌, inl, inr, arith}
-use Rattle.std.specs.Prelude.{◌==◌, nat_eq, nat_le}
+use Rattle.std.specs.Prelude.{◌==◌, nat_le}
 use Rattle.std.specs.Fmt.{decimal}
 use Rattle.std.specs.List.{find, list_all}
 use Rattle.std.specs.Option.{option_map, option_or}
-use Rattle.std.specs.Str.{bytes_eq}
 use Rattle.std.proofs.lemmas.Bool.{and_parts, leb-true}
-use Rattle.std.proofs.lemmas.Bool.Decides.{nat_tests, Decides-eqb}
-use Rattle.std.proofs.lemmas.Slice.Eq.{bytes_eq-Decides}
+use Rattle.std.proofs.lemmas.Bool.Decides.{nat_tests}
 use Rattle.adr_schema.specs.Names.{class_name, class_number, attribute_name, attribute_number}
 use Rattle.adr_schema.specs.Schemas.{spoken, schema_1}
 use Rattle.adr_schema.specs.Table.{Class, Attribute}
-use Rattle.adr_schema.proofs.Apart.{found_by_other}
-use Rattle.adr_token.specs.Gives.{◌>>=◌}
-use Rattle.adr_token.specs.Words.{strip_byte, word_at}
+use Rattle.adr_schema.proofs.Apart.{attributes_told_apart, classes_told_apart}
+use Rattle.adr_token.specs.Words.{strip_byte}
 use Rattle.adr_token.specs.Numbers.{figure, number_of}
 use Rattle.adr_token.specs.Classes.{attribute_at, attribute_of, class_at, class_of, percent_number}
 use Rattle.adr_token.specs.Values.{is_equals}
 use Rattle.adr_token.specs.Room.{name_room}
 use Rattle.adr_token.specs.Spelling.{attribute_token, class_token, name_or_number}
 use Rattle.adr_token.specs.Spelled.{SpellsAttribute, SpellsClass, SpellsNumbered}
-use Rattle.adr_token.specs.SetLaws.{AttributesAreReadAgain, AttributesAreSpelled, AttributesWereSpelled, ClassesAreReadAgain, ClassesAreSpelled, ClassesWereSpelled}
+use Rattle.adr_token.specs.SetLaws.{AreReadAgain, AreSpelled, WereSpelled}
 use Rattle.adr_token.proofs.Lists.{all_more, found, mapped}
 use Rattle.adr_token.proofs.DigitLaws.{digits_pass, number_again, number_was}
 use Rattle.adr_token.proofs.TextLaws.{strip_byte_was}
-use Rattle.adr_token.proofs.WordLaws.{are_graphic, bind_some, graphic_word, is_graphic, word_again, word_was}
+use Rattle.adr_token.proofs.WordLaws.{are_graphic, bind_some, graphic_word, is_graphic, word_again, word_as_was}
 
 -- bytes of a token of a class or an attribute: they are seen, and none is a `=`
 abbrev pub is_numbered_byte : ℕ → Bool
@@ -87,37 +84,21 @@ graphic_from : (token : List ℕ) → (list_all is_numbered_byte token ≡ true)
 graphic_from token h = (all_more is_numbered_byte is_graphic numbered_graphic token h.0, h.1)
 
 -- the names of the schema
-abbrev pub class_numbered : Class → ℕ
-class_numbered c = c.number
-
 abbrev pub class_named : Class → List ℕ
 class_named c = c.name
-
-abbrev pub attribute_numbered : Attribute → ℕ
-attribute_numbered a = a.number
 
 abbrev pub attribute_named : Attribute → List ℕ
 attribute_named a = a.name
 
 pub class_told : (n : ℕ) (text : List ℕ) → class_name n ≡ Some text → class_number text ≡ Some n
-unfolding schema_1
-class_told n text = found_by_other class_numbered class_named nat_eq bytes_eq Decides-eqb bytes_eq-Decides spoken.classes refl n text
-
-class_untold : (n : ℕ) (text : List ℕ) → class_number text ≡ Some n → class_name n ≡ Some text
-unfolding schema_1
-class_untold n text = found_by_other class_named class_numbered bytes_eq nat_eq bytes_eq-Decides Decides-eqb spoken.classes refl text n
+class_told n text = (classes_told_apart n text).0
 
 class_unnamed : (figures : List ℕ) → class_number (37 ∷ figures) ≡ None
 unfolding schema_1
 class_unnamed figures = refl
 
 pub attribute_told : (n : ℕ) (text : List ℕ) → attribute_name n ≡ Some text → attribute_number text ≡ Some n
-unfolding schema_1
-attribute_told n text = found_by_other attribute_numbered attribute_named nat_eq bytes_eq Decides-eqb bytes_eq-Decides spoken.attributes refl n text
-
-attribute_untold : (n : ℕ) (text : List ℕ) → attribute_number text ≡ Some n → attribute_name n ≡ Some text
-unfolding schema_1
-attribute_untold n text = found_by_other attribute_named attribute_numbered bytes_eq nat_eq bytes_eq-Decides Decides-eqb spoken.attributes refl text n
+attribute_told n text = (attributes_told_apart n text).0
 
 attribute_unnamed : (figures : List ℕ) → attribute_number (37 ∷ figures) ≡ None
 unfolding schema_1
@@ -130,19 +111,15 @@ name_seen name test xs text h e =
     let there = mapped name (find test xs) text e in
     subst (λ (y : List ℕ). is_seen_name y ≡ true) there.2 (found test (λ x. is_seen_name (name x)) xs there.0 h there.1).1
 
-classes_seen : list_all (λ (c : Class). is_seen_name c.name) spoken.classes ≡ true
+names_seen : (list_all (λ (c : Class). is_seen_name c.name) spoken.classes ≡ true) × (list_all (λ (a : Attribute). is_seen_name a.name) spoken.attributes ≡ true)
 unfolding schema_1
-classes_seen = refl
-
-attributes_seen : list_all (λ (a : Attribute). is_seen_name a.name) spoken.attributes ≡ true
-unfolding schema_1
-attributes_seen = refl
+names_seen = (refl, refl)
 
 class_seen : (n : ℕ) (text : List ℕ) → class_name n ≡ Some text → is_seen_name text ≡ true
-class_seen n text e = name_seen class_named (λ c. c.number == n) spoken.classes text classes_seen e
+class_seen n text e = name_seen class_named (λ c. c.number == n) spoken.classes text names_seen.0 e
 
 attribute_seen : (n : ℕ) (text : List ℕ) → attribute_name n ≡ Some text → is_seen_name text ≡ true
-attribute_seen n text e = name_seen attribute_named (λ a. a.number == n) spoken.attributes text attributes_seen e
+attribute_seen n text e = name_seen attribute_named (λ a. a.number == n) spoken.attributes text names_seen.1 e
 
 -- a name that a search finds is short
 attributes_short : list_all (λ (a : Attribute). nat_le (length a.name) 32) spoken.attributes ≡ true
@@ -157,36 +134,29 @@ pub attribute_room : (n : ℕ) → name_room (attribute_name n) ≤ 32
 attribute_room n = name_short attribute_named (λ a. a.number == n) spoken.attributes _ attributes_short refl
 
 class_naming : IsNaming class_name class_number
-class_naming = record { named = class_told; numbered = class_untold; unnamed = class_unnamed; seen = class_seen }
+class_naming = record { named = class_told; numbered = λ n text. (classes_told_apart n text).1; unnamed = class_unnamed; seen = class_seen }
 
 attribute_naming : IsNaming attribute_name attribute_number
-attribute_naming = record { named = attribute_told; numbered = attribute_untold; unnamed = attribute_unnamed; seen = attribute_seen }
+attribute_naming = record { named = attribute_told; numbered = λ n text. (attributes_told_apart n text).1; unnamed = attribute_unnamed; seen = attribute_seen }
 
 -- classes
 pub classes_graphic : (class : ℕ) (token : List ℕ) → SpellsClass class token → (are_graphic token ≡ true) × (0 < length token)
 classes_graphic class token s = graphic_from token (bytes_seen class_name class_number class_naming class token s)
 
-pub classes_again : ClassesAreReadAgain
+pub classes_again : AreReadAgain SpellsClass class_at
 unfolding class_at
 classes_again class token rest s e =
     let w = classes_graphic class token s in
     let read : class_of token ≡ Some class = of_again class_name class_number class_naming class token s in
     rw (word_again token rest (graphic_word token w.0) w.1 e, read) refl
 
-pub classes_spelled : ClassesWereSpelled
+pub classes_spelled : WereSpelled SpellsClass class_at
 unfolding class_at
 classes_spelled bytes class rest h =
-    let s = bind_some (word_at bytes) (λ word. class_of word.0 >>= λ n. Some (n, word.1)) (class, rest) h in
-    let t = bind_some (class_of s.0.0) (λ n. Some (n, s.0.1)) (class, rest) s.2 in
-    let both : (t.0, s.0.1) ≡ (class, rest) = cc in
-    let value : t.0 ≡ class = ap (λ (x : ℕ × List ℕ). x.0) both in
-    let left : s.0.1 ≡ rest = ap (λ (x : ℕ × List ℕ). x.1) both in (
-      s.0.0,
-      of_was class_name class_number class_naming class s.0.0 (t.1 ∙ ap Some value),
-      word_was bytes s.0.0 rest (s.1 ∙ ap (λ (r : List ℕ). Some (s.0.0, r)) left),
-    )
+    let s = word_as_was class_of bytes class rest h in
+    (s.0, of_was class_name class_number class_naming class s.0 s.1, s.2)
 
-pub classes_token : ClassesAreSpelled
+pub classes_token : AreSpelled SpellsClass class_token
 unfolding class_token
 classes_token class token s = token_spelled class_name class_number class_naming class token s
 
@@ -203,22 +173,18 @@ attribute_of_again attr token s = of_again attribute_name attribute_number attri
 pub attribute_of_was : (attr : ℕ) (token : List ℕ) → attribute_of token ≡ Some attr → SpellsAttribute attr token
 attribute_of_was attr token h = of_was attribute_name attribute_number attribute_naming attr token h
 
-pub attributes_again : AttributesAreReadAgain
+pub attributes_again : AreReadAgain SpellsAttribute attribute_at
 unfolding attribute_at
 attributes_again attr token rest s e =
     let w = attributes_graphic attr token s in
     rw (word_again token rest (graphic_word token w.0) w.1 e, attribute_of_again attr token s) refl
 
-pub attributes_spelled : AttributesWereSpelled
+pub attributes_spelled : WereSpelled SpellsAttribute attribute_at
 unfolding attribute_at
 attributes_spelled bytes attr rest h =
-    let s = bind_some (word_at bytes) (λ word. attribute_of word.0 >>= λ n. Some (n, word.1)) (attr, rest) h in
-    let t = bind_some (attribute_of s.0.0) (λ n. Some (n, s.0.1)) (attr, rest) s.2 in
-    let both : (t.0, s.0.1) ≡ (attr, rest) = cc in
-    let value : t.0 ≡ attr = ap (λ (x : ℕ × List ℕ). x.0) both in
-    let left : s.0.1 ≡ rest = ap (λ (x : ℕ × List ℕ). x.1) both in
-    (s.0.0, attribute_of_was attr s.0.0 (t.1 ∙ ap Some value), word_was bytes s.0.0 rest (s.1 ∙ ap (λ (r : List ℕ). Some (s.0.0, r)) left))
+    let s = word_as_was attribute_of bytes attr rest h in
+    (s.0, attribute_of_was attr s.0 s.1, s.2)
 
-pub attributes_token : AttributesAreSpelled
+pub attributes_token : AreSpelled SpellsAttribute attribute_token
 unfolding attribute_token
 attributes_token attr token s = token_spelled attribute_name attribute_number attribute_naming attr token s

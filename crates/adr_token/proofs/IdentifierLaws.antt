@@ -23,7 +23,7 @@ use Rattle.adr_token.specs.Spelled.{SpellsIdentifier}
 use Rattle.adr_token.specs.Spelling.{identifier_text, identifier_token}
 use Rattle.adr_token.proofs.ByteLaws.{bytes_again, bytes_identifier}
 use Rattle.adr_token.proofs.DigitLaws.{digits_bare, length-digits-le, number_again, number_was}
-use Rattle.adr_token.proofs.WordLaws.{are_bare, are_graphic, bare_graphic, bind_some, graphic_word, if_some, is_bare, word_again, word_was}
+use Rattle.adr_token.proofs.WordLaws.{are_bare, are_graphic, bare_graphic, bind_some, graphic_word, if_some, is_bare, word_again, word_as_was}
 
 -- the full form is bare
 by_index_bare : (n : ℕ) (f : ℕ → ℕ) → ((k : ℕ) → is_bare (f k) ≡ true) → are_bare (by_index n f) ≡ true
@@ -187,11 +187,5 @@ either_stands bytes word id rest s (i, inr e) = (i, inr (subst (λ (w : List ℕ
 pub identifiers_spelled : IdentifiersWereSpelled
 unfolding identifier_at
 identifiers_spelled bytes id rest h =
-    let s = bind_some (word_at bytes) (λ word. identifier_of word.0 >>= λ i. Some (i, word.1)) (id, rest) h in
-    let t = bind_some (identifier_of s.0.0) (λ i. Some (i, s.0.1)) (id, rest) s.2 in
-    let both : (t.0, s.0.1) ≡ (id, rest) = cc in
-    let value : t.0 ≡ id = ap (λ (x : List ℕ × List ℕ). x.0) both in
-    let left : s.0.1 ≡ rest = ap (λ (x : List ℕ × List ℕ). x.1) both in
-    either_stands bytes s.0.0 id rest
-    (word_was bytes s.0.0 rest (s.1 ∙ ap (λ (r : List ℕ). Some (s.0.0, r)) left))
-    (of_was s.0.0 id (t.1 ∙ ap Some value))
+    let s = word_as_was identifier_of bytes id rest h in
+    either_stands bytes s.0 id rest s.2 (of_was s.0 id s.1)

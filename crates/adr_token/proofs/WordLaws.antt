@@ -7,7 +7,7 @@ use Rattle.std.proofs.lemmas.List.{take-append-drop}
 use Rattle.std.proofs.lemmas.Bool.{and_parts, and_from, eqb-true, ne_eqb}
 use Rattle.std.proofs.lemmas.Bool.Decides.{nat_tests}
 use Rattle.adr_token.specs.Gives.{◌>>=◌}
-use Rattle.adr_token.specs.Words.{is_space, unspaced, word_at, is_letter, is_name_byte, is_name, name_at}
+use Rattle.adr_token.specs.Words.{is_space, unspaced, word_as, word_at, is_letter, is_name_byte, is_name, name_at}
 use Rattle.adr_token.specs.Texts.{ends_word}
 use Rattle.adr_token.specs.Laws.{Stands, NamesAreReadAgain, NamesWereSpelled}
 use Rattle.adr_token.proofs.Lists.{all_more}
@@ -79,6 +79,17 @@ cut_was left word rest n false h ends =
 pub word_was : (bytes word rest : List ℕ) → word_at bytes ≡ Some (word, rest) → Stands word bytes rest
 word_was bytes word rest h =
     cut_was (unspaced bytes) word rest (position_or_len is_space (unspaced bytes)) (length (unspaced bytes) == 0) h (rest_ends (unspaced bytes))
+
+-- what was read as a word's answer
+pub word_as_was : {X : Type 0} (of : List ℕ → Option X) (bytes : List ℕ) (x : X) (rest : List ℕ) → word_as of bytes ≡ Some (x, rest)
+    → (word : List ℕ) × (of word ≡ Some x) × Stands word bytes rest
+word_as_was {X} of bytes x rest h =
+    let s = bind_some (word_at bytes) (λ word. of word.0 >>= λ y. Some (y, word.1)) (x, rest) h in
+    let t = bind_some (of s.0.0) (λ y. Some (y, s.0.1)) (x, rest) s.2 in
+    let both : (t.0, s.0.1) ≡ (x, rest) = cc in
+    let value : t.0 ≡ x = ap (λ (r : X × List ℕ). r.0) both in
+    let left : s.0.1 ≡ rest = ap (λ (r : X × List ℕ). r.1) both in
+    (s.0.0, t.1 ∙ ap Some value, word_was bytes s.0.0 rest (s.1 ∙ ap (λ (r : List ℕ). Some (s.0.0, r)) left))
 
 -- bytes that are seen: no spaces, no control bytes
 abbrev pub is_graphic : ℕ → Bool

@@ -3,7 +3,7 @@ use Rattle.std.specs.Prelude.{ℕ, List, false, Option, Some}
 use Rattle.std.specs.Option.{option_or}
 use Rattle.adr_schema.specs.Names.{class_number, attribute_number}
 use Rattle.adr_token.specs.Gives.{Reading, ◌>>=◌}
-use Rattle.adr_token.specs.Words.{strip_byte, word_at}
+use Rattle.adr_token.specs.Words.{strip_byte, word_as}
 use Rattle.adr_token.specs.Numbers.{number_of}
 
 -- the number behind a `%`
@@ -19,13 +19,7 @@ abbrev pub attribute_of : List ℕ → Option ℕ
 attribute_of token = option_or (attribute_number token) (percent_number token)
 
 unfoldable pub class_at : List ℕ → Reading ℕ
-class_at bytes = do
-  word ← word_at bytes
-  class ← class_of word.0
-  Some (class, word.1)
+class_at bytes = word_as class_of bytes
 
 unfoldable pub attribute_at : List ℕ → Reading ℕ
-attribute_at bytes = do
-  word ← word_at bytes
-  attr ← attribute_of word.0
-  Some (attr, word.1)
+attribute_at bytes = word_as attribute_of bytes

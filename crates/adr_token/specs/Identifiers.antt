@@ -4,7 +4,7 @@ use Rattle.std.specs.Str.{bytes_eq, is_utf8}
 use Rattle.std.specs.Int.{w128, to_be_bytes}
 use Rattle.uuid.specs.Text.{hyphenated_text, parsed, lower}
 use Rattle.adr_token.specs.Gives.{Reading, ◌>>=◌}
-use Rattle.adr_token.specs.Words.{word_at}
+use Rattle.adr_token.specs.Words.{word_as}
 use Rattle.adr_token.specs.Numbers.{number_of}
 
 -- an identifier, where this is its full text in lower case
@@ -23,7 +23,4 @@ identifier_of (b ∷ rest) =
     if b == 35 then (if length rest == 36 then full_identifier rest else short_identifier rest) else None
 
 unfoldable pub identifier_at : List ℕ → Reading (List ℕ)
-identifier_at bytes = do
-  word ← word_at bytes
-  id ← identifier_of word.0
-  Some (id, word.1)
+identifier_at bytes = word_as identifier_of bytes

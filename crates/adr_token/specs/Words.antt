@@ -23,6 +23,13 @@ word_at bytes = if length (unspaced bytes) == 0 then None else Some (cut (unspac
     cut : List ℕ → List ℕ × List ℕ
     cut rest = (take (position_or_len is_space rest) rest, drop (position_or_len is_space rest) rest)
 
+-- a word, as what it says
+abbrev pub word_as : {X : Type 0} → (List ℕ → Option X) → List ℕ → Reading X
+word_as of bytes = do
+  word ← word_at bytes
+  x ← of word.0
+  Some (x, word.1)
+
 abbrev pub is_letter : ℕ → Bool
 is_letter b = (nat_le 65 b && nat_le b 90) || (nat_le 97 b && nat_le b 122)
 

@@ -40,10 +40,7 @@ impl Line<'_> {
         ensures { Gives result self.new (class_at self.old) }
     {
         let word = self.word()?;
-        match class_of(word) {
-            Some(class) => Ok(class),
-            None => Err(Failure::Refused(Bad)),
-        }
+        class_of(word).ok_or(Failure::Refused(Bad))
     }
 
     /// An attribute, whether a schema has it or not.
@@ -52,9 +49,6 @@ impl Line<'_> {
         ensures { Gives result self.new (attribute_at self.old) }
     {
         let word = self.word()?;
-        match attribute_of(word) {
-            Some(attr) => Ok(attr),
-            None => Err(Failure::Refused(Bad)),
-        }
+        attribute_of(word).ok_or(Failure::Refused(Bad))
     }
 }

@@ -69,9 +69,6 @@ impl Line<'_> {
         ensures { Gives result self.new (identifier_at self.old) }
     {
         let word = self.word()?;
-        match identifier_of(word) {
-            Some(id) => Ok(id),
-            None => Err(Failure::Refused(Bad)),
-        }
+        identifier_of(word).ok_or(Failure::Refused(Bad))
     }
 }

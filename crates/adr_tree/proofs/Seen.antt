@@ -1,7 +1,7 @@
 -- What is seen of slots that are looked up, made, filled, emptied and freed.
 use Rattle.std.proofs.Common.{◌≡◌, ◌≤◌, ◌+◌, ℕ, suc, List, [], ◌∷◌, Bool, true, false, cond, not, ◌&&◌, Option, Some, None, refl, sym, ap, ◌∙◌, subst, map, length, arith}
 use Rattle.std.specs.Prelude.{if◌then◌else◌, IfSome, unwrap_or}
-use Rattle.std.specs.List.{AllByRecursion}
+use Rattle.std.specs.List.{cons_option, AllByRecursion}
 use Rattle.std.specs.List.Sorted.{IsStrictlySortedBy}
 use Rattle.std.specs.Map.{keys_of, lookup, remove_entry, set_value}
 use Rattle.std.specs.BTreeMap.{insert_entry, is_at}
@@ -17,7 +17,7 @@ use Rattle.adr_model.specs.Place.{Node, node_at}
 use Rattle.adr_model.proofs.Keys.{equal_order}
 use Rattle.adr_law_tree.specs.InOrder.{AreInOrder}
 use Rattle.adr_update.proofs.Slots.{found as at_home_found, freed, freed_home as still_without, home_still as still_at_home, made, slot_made}
-use Rattle.adr_tree.specs.Slots.{and_seen, seen, AreAtHome, flat}
+use Rattle.adr_tree.specs.Slots.{seen, AreAtHome, flat}
 
 abbrev pub Slots : Type 0
 Slots = List (Identifier × Option Node)
@@ -57,7 +57,7 @@ held_at es g = unwrap_or (lookup (is_at (identifier_order g)) es) None
 pub same_seen : (es : Slots) (g : Identifier) (v : Option Node) → AreSorted es → v ≡ held_at es g → seen (insert_entry identifier_order es g v) ≡ seen es
 same_seen es g v sorted is =
     slot_made identifier_order nat_list_cmp_total (λ xs. seen xs ≡ seen es) es (insert_entry identifier_order es g v) g None sorted (ap (insert_entry identifier_order es g) is) refl
-    (made identifier_order seen (λ k xs. refl) (λ e xs ys same. ap (λ ns. and_seen e.1 ns) same) es g)
+    (made identifier_order seen (λ k xs. refl) (λ e xs ys same. ap (λ ns. cons_option e.1 ns) same) es g)
 
 pub held_home : (es : Slots) (g : Identifier) → AreAtHome es → IfSome (held_at es g) (λ n. n.object.guid ≡ g)
 held_home [] g home = tt
@@ -80,8 +80,8 @@ emptied_seen (e ∷ es) g none = by (is_at (identifier_order g) e.0) none (empti
     by : (b : Bool) → flat (cond b (Some e.1) (lookup (is_at (identifier_order g)) es)) ≡ None
         → (flat (lookup (is_at (identifier_order g)) es) ≡ None → seen (set_value (is_at (identifier_order g)) es None) ≡ seen es)
         → seen (cond b ((e.0, None) ∷ es) (e ∷ set_value (is_at (identifier_order g)) es None)) ≡ seen (e ∷ es)
-    by true n later = ap (λ o. and_seen o (seen es)) (sym n)
-    by false n later = ap (λ ns. and_seen e.1 ns) (later n)
+    by true n later = ap (λ o. cons_option o (seen es)) (sym n)
+    by false n later = ap (λ ns. cons_option e.1 ns) (later n)
 
 pub emptied_home : (es : Slots) (g : Identifier) → AreAtHome es → AreAtHome (set_value (is_at (identifier_order g)) es None)
 emptied_home [] g home = home
@@ -102,7 +102,7 @@ none_still f g h none = by (same_identifier g h) refl
 -- ---- a slot freed
 
 pub freed_seen : (es : Slots) (g : Identifier) → lookup (is_at (identifier_order g)) es ≡ Some None → seen (remove_entry (is_at (identifier_order g)) es) ≡ seen es
-freed_seen = freed identifier_order seen (λ g es. refl) (λ e es fs is. ap (λ ns. and_seen e.1 ns) is)
+freed_seen = freed identifier_order seen (λ g es. refl) (λ e es fs is. ap (λ ns. cons_option e.1 ns) is)
 
 pub freed_home : (es : Slots) (g : Identifier) → AreAtHome es → AreAtHome (remove_entry (is_at (identifier_order g)) es)
 freed_home = still_without identifier_order IsAt AreAtHome (λ e es at rest. (at, rest)) (λ e es h. h)
@@ -129,7 +129,7 @@ below_seen k [] below home = tt
 below_seen k (e ∷ es) below home = by e.1 home.0 (below_seen k es below.1 home.1)
   where
     by : (o : Option Node) → IfSome o (λ n. n.object.guid ≡ e.0) → AllByRecursion (λ l. identifier_order k l ≡ Less) (map (λ (n : Node). n.object.guid) (seen es))
-        → AllByRecursion (λ l. identifier_order k l ≡ Less) (map (λ (n : Node). n.object.guid) (and_seen o (seen es)))
+        → AllByRecursion (λ l. identifier_order k l ≡ Less) (map (λ (n : Node). n.object.guid) (cons_option o (seen es)))
     by None at rest = rest
     by (Some n) at rest = (ap (identifier_order k) at ∙ below.0, rest)
 
@@ -138,7 +138,7 @@ unfolding IsStrictlySortedBy
 in_order [] sorted home = tt
 in_order (e ∷ es) sorted home = by e.1 home.0 (in_order es (sorted_tail identifier_order e.0 (keys_of es) sorted) home.1)
   where
-    by : (o : Option Node) → IfSome o (λ n. n.object.guid ≡ e.0) → AreInOrder (seen es) → AreInOrder (and_seen o (seen es))
+    by : (o : Option Node) → IfSome o (λ n. n.object.guid ≡ e.0) → AreInOrder (seen es) → AreInOrder (cons_option o (seen es))
     by None at rest = rest
     by (Some n) at rest =
         (subst (λ k. AllByRecursion (λ l. identifier_order k l ≡ Less) (map (λ (n : Node). n.object.guid) (seen es))) (sym at) (below_seen e.0 es (sorted_head identifier_order e.0 (keys_of es) sorted) home.1), rest)
@@ -147,7 +147,7 @@ pub length_seen : (es : Slots) → length (seen es) ≤ length es
 length_seen [] = omega arith
 length_seen (e ∷ es) = by e.1 (length_seen es)
   where
-    by : (o : Option Node) → length (seen es) ≤ length es → length (and_seen o (seen es)) ≤ suc (length es)
+    by : (o : Option Node) → length (seen es) ≤ length es → length (cons_option o (seen es)) ≤ suc (length es)
     by None less = omega (arith, less)
     by (Some n) less = omega (arith, less)
 

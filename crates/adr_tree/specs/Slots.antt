@@ -1,20 +1,15 @@
 -- Slots of live objects, and flags beside them: what is seen, and what a walk looks up.
 use Rattle.std.specs.Prelude.{◌≡◌, List, [], ◌∷◌, Bool, false, Option, Some, None, IfSome, IsSome, if◌then◌else◌, unwrap_or}
+use Rattle.std.specs.List.{filter_map}
 use Rattle.std.specs.BTreeMap.{BTreeMap, IsOrdered, get}
 use Rattle.adr_stamp.specs.Order.{identifier_order}
 use Rattle.adr_model.specs.Update.{Identifier}
 use Rattle.adr_model.specs.Place.{Node, is_fixed}
 use Rattle.adr_law_tree.specs.Walk.{Look}
 
--- what is in a slot, ahead of other nodes
-abbrev pub and_seen : Option Node → List Node → List Node
-and_seen None nodes = nodes
-and_seen (Some n) nodes = n ∷ nodes
-
 -- the nodes in the slots, in their order; an empty slot isn't seen
 abbrev pub seen : List (Identifier × Option Node) → List Node
-seen [] = []
-seen (e ∷ es) = and_seen e.1 (seen es)
+seen es = filter_map (λ e. e.1) es
 
 -- each node stands at its own GUID
 abbrev pub AreAtHome : List (Identifier × Option Node) → Type 0

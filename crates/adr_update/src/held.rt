@@ -45,6 +45,13 @@ impl Held {
         &self.update
     }
 
+    pub fn into_update(self) -> Update
+        ensures { result ≡ self.update }
+    {
+        let Held { update, local: _ } = self;
+        update
+    }
+
     pub fn local(&self) -> u64
         ensures { result ≡ self.now.local }
     {

@@ -7,7 +7,6 @@ use crate::NoMemory;
 use crate::held::Held;
 use crate::update::Update;
 use adr_stamp::Unit;
-use std::alloc::Global;
 use std::marker::Model;
 
 /// Rows of one object, or a link row.
@@ -50,6 +49,13 @@ impl Item {
         ensures { result.now ≡ self.now.rows }
     {
         self.rows.as_slice()
+    }
+
+    pub fn into_rows(self) -> Vec<Update>
+        ensures { result.items ≡ self.rows }
+    {
+        let Item { unit: _, rows } = self;
+        rows
     }
 }
 
@@ -97,11 +103,12 @@ impl Written {
     }
 
     /// Adds the rows to others, each under the local update sequence number.
-    pub fn push_held(&self, alloc: Global, rows: &mut Vec<Held>) -> Result<(), NoMemory>
-        ensures { OnOk result (rows.new.items ≡ rows.old.items ++ held_of (self.now ∷ [])) }
+    pub fn push_held(self, rows: &mut Vec<Held>) -> Result<(), NoMemory>
+        ensures { OnOk result (rows.new.items ≡ rows.old.items ++ held_of (self ∷ [])) }
     {
-        for update in self.item.rows() {
-            rows.push(Held::new(update.copy(alloc)?, self.local))?;
+        let Written { local, item } = self;
+        for update in item.into_rows() {
+            rows.push(Held::new(update, local))?;
         }
         Ok(())
     }

@@ -60,29 +60,24 @@ times_raise v t inv time there are = record {
 }
 
 module _ (test : List ℕ × ℕ → Bool) where
-  filter_each : (P : List ℕ × ℕ → Type 0) (cs : Cursors) → AllByRecursion P cs → AllByRecursion P (filter test cs)
-  filter_each P [] all = tt
-  filter_each P (c ∷ cs) all = by (test c) (filter_each P cs all.1)
+  -- what the rests of a list keep, what is picked of it keeps
+  filtered : (Q : Cursors → Type 0) → ((c : List ℕ × ℕ) (cs : Cursors) → Q (c ∷ cs) → Q cs)
+      → ((c : List ℕ × ℕ) (cs : Cursors) → Q (c ∷ cs) → Q (filter test cs) → Q (c ∷ filter test cs)) → (cs : Cursors) → Q cs → Q (filter test cs)
+  filtered Q rest more [] q = q
+  filtered Q rest more (c ∷ cs) q = by (test c) (filtered Q rest more cs (rest c cs q))
     where
-      by : (b : Bool) → AllByRecursion P (filter test cs) → AllByRecursion P (cond b (c ∷ filter test cs) (filter test cs))
-      by true rest = (all.0, rest)
-      by false rest = rest
+      by : (b : Bool) → Q (filter test cs) → Q (cond b (c ∷ filter test cs) (filter test cs))
+      by true kept = more c cs q kept
+      by false kept = kept
+
+  filter_each : (P : List ℕ × ℕ → Type 0) (cs : Cursors) → AllByRecursion P cs → AllByRecursion P (filter test cs)
+  filter_each P = filtered (AllByRecursion P) (λ c cs all. all.1) (λ c cs all kept. (all.0, kept))
 
   filter_below : (q : List ℕ) (cs : Cursors) → IsBelow q cs → IsBelow q (filter test cs)
-  filter_below q [] h = tt
-  filter_below q (c ∷ cs) h = by (test c) (filter_below q cs h.1)
-    where
-      by : (b : Bool) → IsBelow q (filter test cs) → IsBelow q (cond b (c ∷ filter test cs) (filter test cs))
-      by true rest = (h.0, rest)
-      by false rest = rest
+  filter_below q = filtered (IsBelow q) (λ c cs h. h.1) (λ c cs h kept. (h.0, kept))
 
   filter_rising : (cs : Cursors) → IsRising cs → IsRising (filter test cs)
-  filter_rising [] s = s
-  filter_rising (c ∷ cs) s = by (test c) (filter_rising cs (tail_rising c cs s))
-    where
-      by : (b : Bool) → IsRising (filter test cs) → IsRising (cond b (c ∷ filter test cs) (filter test cs))
-      by true rest = cons_rising c (filter test cs) (filter_below c.0 cs (head_below c cs s)) rest
-      by false rest = rest
+  filter_rising = filtered IsRising tail_rising (λ c cs s kept. cons_rising c (filter test cs) (filter_below c.0 cs (head_below c cs s)) kept)
 
   pub times_filter : (v t : Cursors) → AreTimesOf v t → AreTimesOf v (filter test t)
   times_filter v t are = record {

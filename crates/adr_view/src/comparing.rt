@@ -1,6 +1,6 @@
 //! Whether two controllers show the same, or have seen the same. Lists are compared by loops: they may be long.
 
-ghost use Rattle.std.specs.Prelude.{◌≡◌};
+ghost use Rattle.std.specs.Prelude.{◌≡◌, Bool};
 ghost use Rattle.std.specs.Cmp.Lexicographic.{pointwise};
 ghost use Rattle.std.specs.Str.{bytes_eq};
 ghost use Rattle.adr_schema.specs.Values.{same_value};
@@ -11,6 +11,31 @@ use adr_checks::is_same_value;
 use adr_guid::Guid;
 use adr_schema::{Text, Value, Values};
 use adr_vector::Vector;
+
+/// What two lists are compared by.
+trait Compared {
+    /// Whether two are the same.
+    ghost same: { Self → Self → Bool };
+
+    /// Whether it is the same as another.
+    fn is_same(&self, other: &Self) -> bool
+        ensures { result ≡ same self.now other.now };
+}
+
+/// Whether two lists have the same, pair by pair.
+fn same_all<T: Compared>(a: &[T], b: &[T]) -> bool
+    ensures { result ≡ pointwise T.same a.now b.now }
+{
+    if a.len() != b.len() {
+        return false;
+    }
+    'pairs: for k in 0..a.len() {
+        if !a[k].is_same(&b[k]) {
+            return false;
+        }
+    }
+    true
+}
 
 /// Whether two names are one.
 fn same_name(a: &Text, b: &Text) -> bool
@@ -26,121 +51,64 @@ fn same_guids(a: &[Guid], b: &[Guid]) -> bool
     a == b
 }
 
-/// Whether two lists of values are one.
-fn same_all_values(a: &[Value], b: &[Value]) -> bool
-    ensures { result ≡ pointwise same_value a.now b.now }
-{
-    if a.len() != b.len() {
-        return false;
+impl Compared for Value {
+    ghost same = { same_value };
+
+    fn is_same(&self, other: &Value) -> bool {
+        is_same_value(self, other)
     }
-    'values: for k in 0..a.len() {
-        if !is_same_value(&a[k], &b[k]) {
-            return false;
-        }
-    }
-    true
 }
 
-/// Whether two attributes are one and have the same values.
-fn same_values(a: &(u16, Values), b: &(u16, Values)) -> bool
-    ensures { result ≡ same_values a.now b.now }
-{
-    a.0 == b.0 && same_all_values(a.1.items(), b.1.items())
+// An attribute with its values.
+impl Compared for (u16, Values) {
+    ghost same = { same_values };
+
+    fn is_same(&self, other: &(u16, Values)) -> bool {
+        self.0 == other.0 && same_all(self.1.items(), other.1.items())
+    }
 }
 
-/// Whether all values of two entries are the same.
-fn same_attributes(a: &[(u16, Values)], b: &[(u16, Values)]) -> bool
-    ensures { result ≡ pointwise same_values a.now b.now }
-{
-    if a.len() != b.len() {
-        return false;
+// A link attribute with the objects at its other ends.
+impl Compared for (u16, Guids) {
+    ghost same = { same_links };
+
+    fn is_same(&self, other: &(u16, Guids)) -> bool {
+        self.0 == other.0 && same_guids(self.1.items(), other.1.items())
     }
-    'attributes: for k in 0..a.len() {
-        if !same_values(&a[k], &b[k]) {
-            return false;
-        }
-    }
-    true
 }
 
-/// Whether two link attributes are one and have the same objects at their other ends.
-fn same_links(a: &(u16, Guids), b: &(u16, Guids)) -> bool
-    ensures { result ≡ same_links a.now b.now }
-{
-    a.0 == b.0 && same_guids(a.1.items(), b.1.items())
+impl Compared for Entry {
+    ghost same = { same_entry };
+
+    fn is_same(&self, other: &Entry) -> bool {
+        self.guid == other.guid
+            && self.class == other.class
+            && self.parent == other.parent
+            && same_name(&self.name, &other.name)
+            && same_all(self.values.items(), other.values.items())
+            && same_all(self.links.items(), other.links.items())
+    }
 }
 
-/// Whether all links of two entries are the same.
-fn same_all_links(a: &[(u16, Guids)], b: &[(u16, Guids)]) -> bool
-    ensures { result ≡ pointwise same_links a.now b.now }
-{
-    if a.len() != b.len() {
-        return false;
-    }
-    'links: for k in 0..a.len() {
-        if !same_links(&a[k], &b[k]) {
-            return false;
-        }
-    }
-    true
-}
+// A cursor of a vector.
+impl Compared for (Guid, u64) {
+    ghost same = { same_cursor };
 
-/// Whether two entries show the same.
-fn same_entry(a: &Entry, b: &Entry) -> bool
-    ensures { result ≡ same_entry a.now b.now }
-{
-    a.guid == b.guid
-        && a.class == b.class
-        && a.parent == b.parent
-        && same_name(&a.name, &b.name)
-        && same_attributes(a.values.items(), b.values.items())
-        && same_all_links(a.links.items(), b.links.items())
-}
-
-fn same_entries(a: &[Entry], b: &[Entry]) -> bool
-    ensures { result ≡ pointwise same_entry a.now b.now }
-{
-    if a.len() != b.len() {
-        return false;
+    fn is_same(&self, other: &(Guid, u64)) -> bool {
+        self.0 == other.0 && self.1 == other.1
     }
-    'entries: for k in 0..a.len() {
-        if !same_entry(&a[k], &b[k]) {
-            return false;
-        }
-    }
-    true
 }
 
 /// Whether two directories show the same.
 pub fn same_directory(a: &Directory, b: &Directory) -> bool
     ensures { result ≡ pointwise same_entry a.now b.now }
 {
-    same_entries(a.entries(), b.entries())
-}
-
-fn same_cursor(a: &(Guid, u64), b: &(Guid, u64)) -> bool
-    ensures { result ≡ same_cursor a.now b.now }
-{
-    a.0 == b.0 && a.1 == b.1
-}
-
-fn same_cursors(a: &[(Guid, u64)], b: &[(Guid, u64)]) -> bool
-    ensures { result ≡ pointwise same_cursor a.now b.now }
-{
-    if a.len() != b.len() {
-        return false;
-    }
-    'cursors: for k in 0..a.len() {
-        if !same_cursor(&a[k], &b[k]) {
-            return false;
-        }
-    }
-    true
+    same_all(a.entries(), b.entries())
 }
 
 /// Whether two vectors have the same cursors.
 pub fn same_vector(a: &Vector, b: &Vector) -> bool
     ensures { result ≡ pointwise same_cursor a.now b.now }
 {
-    same_cursors(a.cursors(), b.cursors())
+    same_all(a.cursors(), b.cursors())
 }

@@ -3,8 +3,9 @@ use Rattle.std.proofs.Common.{◌≡◌, ℕ, zero, suc, ◌+◌, ◌<◌, ◌�
 use Rattle.std.specs.List.{flat_map}
 use Rattle.std.proofs.lemmas.Bool.{cases_lt, ltb-false, le-ltb}
 use Rattle.std.proofs.lemmas.List.{take_at, drop_at, take-append-drop, length-append, length-take, get_or-append-add, get_or_past, get_or_append_left}
-use Rattle.adr_wire.specs.Reading.{Rest, Read, Reading, ◌>>=◌, bytes_at, as_at, where_at, then_at, elements_at}
+use Rattle.adr_wire.specs.Reading.{Rest, Read, Reading, ◌>>=◌, bytes_at, as_at, passing_at, where_at, then_at, gathered_at, elements_at, keyed}
 use Rattle.adr_wire.specs.Spelling.{AreBytes, behind, Was, IsSpelling}
+use Rattle.adr_wire.specs.Gathering.{Along}
 use Rattle.adr_wire.specs.Ranges.{InTurn}
 
 abbrev pub from : ℕ → List ℕ → Rest
@@ -104,18 +105,28 @@ in_range_too P s a law Q to back = record {
 
 -- ---- only what passes a test
 
-pub passed : {A : Type 0} (P : A → Type 0) (s : A → List ℕ) (a : Reading A) → IsSpelling P s a → (test : A → Bool) → IsSpelling (λ x. P x × (test x ≡ true)) s (where_at test a)
-passed {A} P s a law test = record {
+pub passed_at : {A : Type 0} (P : A → Type 0) (s : A → List ℕ) (a : Reading A) → IsSpelling P s a → (fault : ℕ) (test : A → Bool) → IsSpelling (λ x. P x × (test x ≡ true)) s (passing_at fault test a)
+passed_at {A} P s a law fault test = record {
   again = λ place x bytes q.
-      ap (λ (r : Read A). r >>= λ z. cond (test z.0) (Ok z) (Err place)) (law.again place x bytes q.0)
-      ∙ ap (λ (b : Bool). cond b (Ok (x, behind place (s x) bytes)) (Err place)) q.1;
+      ap (λ (r : Read A). r >>= λ z. cond (test z.0) (Ok z) (Err fault)) (law.again place x bytes q.0)
+      ∙ ap (λ (b : Bool). cond b (Ok (x, behind place (s x) bytes)) (Err fault)) q.1;
   only = λ place bytes x rest fits e.
-      let b = bind_ok (a (from place bytes)) (λ z. cond (test z.0) (Ok z) (Err place)) (x, rest) e in
-      let g = passed_ok (test b.0.0) place b.0 (x, rest) b.2 in
+      let b = bind_ok (a (from place bytes)) (λ z. cond (test z.0) (Ok z) (Err fault)) (x, rest) e in
+      let g = passed_ok (test b.0.0) fault b.0 (x, rest) b.2 in
       let was = law.only place bytes b.0.0 b.0.1 fits b.1 in
       subst (λ (p : A × Rest). Was (λ z. P z × (test z ≡ true)) s place bytes p.0 p.1) g.1
       (record { in_range = (was.in_range, g.0); spelled_so = was.spelled_so; moved = was.moved });
 }
+
+-- a reading that is told its own place
+pub placed : {A : Type 0} (P : A → Type 0) (s : A → List ℕ) (a : ℕ → Reading A) → ((place : ℕ) → IsSpelling P s (a place)) → IsSpelling P s (λ rest. a rest.place rest)
+placed P s a laws = record {
+  again = λ place x bytes q. (laws place).again place x bytes q;
+  only = λ place bytes x rest fits e. (laws place).only place bytes x rest fits e;
+}
+
+pub passed : {A : Type 0} (P : A → Type 0) (s : A → List ℕ) (a : Reading A) → IsSpelling P s a → (test : A → Bool) → IsSpelling (λ x. P x × (test x ≡ true)) s (where_at test a)
+passed P s a law test = placed (λ x. P x × (test x ≡ true)) s (λ place. passing_at place test a) (λ place. passed_at P s a law place test)
 
 -- ---- one behind the other
 
@@ -202,56 +213,65 @@ pub pair : {A B : Type 0} (P : A → Type 0) (s : A → List ℕ) (a : Reading A
     → IsSpelling (λ p. P p.0 × Q p.1) (λ p. s p.0 ++ t p.1) (then_at a (λ _. b))
 pair P s a law Q t b other = both P s a law (λ _ y. Q y) (λ _ y. t y) (λ _. b) (λ _ _. other)
 
--- ---- elements
+-- ---- elements with all that was read before
 
-module _ {K E : Type 0} (key : E → K) (P : Option K → E → Type 0) (s : E → List ℕ) (element : Option K → Reading E) (laws : (last : Option K) → IsSpelling (P last) s (element last)) where
-  abbrev Elements : ℕ → Option K → List E → Type 0
-  Elements n last es = InTurn key P last es × (length es ≡ n)
+module _ {S E : Type 0} (step : S → E → S) (P : S → E → Type 0) (s : E → List ℕ) (element : S → Reading E) (laws : (known : S) → IsSpelling (P known) s (element known)) where
+  abbrev Elements : ℕ → S → List E → Type 0
+  Elements n known es = Along step P known es × (length es ≡ n)
 
-  read_again : (n : ℕ) (last : Option K) (place : ℕ) (es : List E) (bytes : List ℕ) → Elements n last es → elements_at key element n last (from place (flat_map s es ++ bytes)) ≡ Ok (es, behind place (flat_map s es) bytes)
-  read_again zero last place [] bytes q = ap (λ (n : ℕ). Ok ([], from n bytes)) (omega arith)
-  read_again zero last place (e ∷ es) bytes q = absurd (let h = q.1 in omega arith)
-  read_again (suc n) last place [] bytes q = absurd (let h = q.1 in omega arith)
-  read_again (suc n) last place (e ∷ es) bytes q =
+  read_again : (n : ℕ) (known : S) (place : ℕ) (es : List E) (bytes : List ℕ) → Elements n known es → gathered_at step element n known (from place (flat_map s es ++ bytes)) ≡ Ok (es, behind place (flat_map s es) bytes)
+  read_again zero known place [] bytes q = ap (λ (n : ℕ). Ok ([], from n bytes)) (omega arith)
+  read_again zero known place (e ∷ es) bytes q = absurd (let h = q.1 in omega arith)
+  read_again (suc n) known place [] bytes q = absurd (let h = q.1 in omega arith)
+  read_again (suc n) known place (e ∷ es) bytes q =
       let len : length es ≡ n = (let h = q.1 in omega arith) in
-      ap (λ (all : List ℕ). elements_at key element (suc n) last (from place all)) (append_assoc (s e) (flat_map s es) bytes)
-      ∙ ap (λ (r : Read E). r >>= λ u. elements_at key element n (Some (key u.0)) u.1 >>= λ v. Ok (u.0 ∷ v.0, v.1)) ((laws last).again place e (flat_map s es ++ bytes) q.0.0)
-      ∙ ap (λ (r : Read (List E)). r >>= λ v. Ok (e ∷ v.0, v.1)) (read_again n (Some (key e)) (place + length (s e)) es bytes (q.0.1, len))
+      ap (λ (all : List ℕ). gathered_at step element (suc n) known (from place all)) (append_assoc (s e) (flat_map s es) bytes)
+      ∙ ap (λ (r : Read E). r >>= λ u. gathered_at step element n (step known u.0) u.1 >>= λ v. Ok (u.0 ∷ v.0, v.1)) ((laws known).again place e (flat_map s es ++ bytes) q.0.0)
+      ∙ ap (λ (r : Read (List E)). r >>= λ v. Ok (e ∷ v.0, v.1)) (read_again n (step known e) (place + length (s e)) es bytes (q.0.1, len))
       ∙ ap (λ (m : ℕ). Ok (e ∷ es, from m bytes)) (further place (s e) (flat_map s es))
 
-  read_only : (n : ℕ) (last : Option K) (place : ℕ) (bytes : List ℕ) (es : List E) (rest : Rest) → AreBytes bytes → elements_at key element n last (from place bytes) ≡ Ok (es, rest) → Was (Elements n last) (flat_map s) place bytes es rest
-  read_only zero last place bytes es rest fits e =
-      let here : Was (Elements zero last) (flat_map s) place bytes [] (from place bytes) = record { in_range = (tt, refl); spelled_so = refl; moved = omega arith } in
-      subst (λ (p : List E × Rest). Was (Elements zero last) (flat_map s) place bytes p.0 p.1) (ok_is ([], from place bytes) (es, rest) e) here
-  read_only (suc n) last place bytes es rest fits h =
-      let first = bind_ok (element last (from place bytes)) (λ u. elements_at key element n (Some (key u.0)) u.1 >>= λ v. Ok (u.0 ∷ v.0, v.1)) (es, rest) h in
+  read_only : (n : ℕ) (known : S) (place : ℕ) (bytes : List ℕ) (es : List E) (rest : Rest) → AreBytes bytes → gathered_at step element n known (from place bytes) ≡ Ok (es, rest) → Was (Elements n known) (flat_map s) place bytes es rest
+  read_only zero known place bytes es rest fits e =
+      let here : Was (Elements zero known) (flat_map s) place bytes [] (from place bytes) = record { in_range = (tt, refl); spelled_so = refl; moved = omega arith } in
+      subst (λ (p : List E × Rest). Was (Elements zero known) (flat_map s) place bytes p.0 p.1) (ok_is ([], from place bytes) (es, rest) e) here
+  read_only (suc n) known place bytes es rest fits h =
+      let first = bind_ok (element known (from place bytes)) (λ u. gathered_at step element n (step known u.0) u.1 >>= λ v. Ok (u.0 ∷ v.0, v.1)) (es, rest) h in
       let e = first.0.0 in
       let mid = first.0.1 in
-      let second = bind_ok (elements_at key element n (Some (key e)) mid) (λ v. Ok (e ∷ v.0, v.1)) (es, rest) first.2 in
+      let second = bind_ok (gathered_at step element n (step known e) mid) (λ v. Ok (e ∷ v.0, v.1)) (es, rest) first.2 in
       let others = second.0.0 in
       let end = second.0.1 in
-      let was = (laws last).only place bytes e mid fits first.1 in
-      let then = read_only n (Some (key e)) mid.place mid.bytes others end (rest_bytes (P last) s place bytes e mid was fits) second.1 in
-      let here : Was (Elements (suc n) last) (flat_map s) place bytes (e ∷ others) end = record {
+      let was = (laws known).only place bytes e mid fits first.1 in
+      let then = read_only n (step known e) mid.place mid.bytes others end (rest_bytes (P known) s place bytes e mid was fits) second.1 in
+      let here : Was (Elements (suc n) known) (flat_map s) place bytes (e ∷ others) end = record {
         in_range = ((was.in_range, then.in_range.0), ap suc then.in_range.1);
         spelled_so = was.spelled_so ∙ ap (λ (w : List ℕ). s e ++ w) then.spelled_so ∙ sym (append_assoc (s e) (flat_map s others) end.bytes);
         moved = then.moved ∙ ap (λ (m : ℕ). m + length (flat_map s others)) was.moved ∙ further place (s e) (flat_map s others);
       } in
-      subst (λ (p : List E × Rest). Was (Elements (suc n) last) (flat_map s) place bytes p.0 p.1) (ok_is (e ∷ others, end) (es, rest) second.2) here
+      subst (λ (p : List E × Rest). Was (Elements (suc n) known) (flat_map s) place bytes p.0 p.1) (ok_is (e ∷ others, end) (es, rest) second.2) here
 
-  pub elements_spelled : (n : ℕ) (last : Option K) → IsSpelling (Elements n last) (flat_map s) (elements_at key element n last)
-  elements_spelled n last = record { again = λ place es bytes q. read_again n last place es bytes q; only = λ place bytes es rest fits e. read_only n last place bytes es rest fits e }
+  pub gathered_spelled : (n : ℕ) (known : S) → IsSpelling (Elements n known) (flat_map s) (gathered_at step element n known)
+  gathered_spelled n known = record { again = λ place es bytes q. read_again n known place es bytes q; only = λ place bytes es rest fits e. read_only n known place bytes es rest fits e }
 
--- a count, and so many elements
+  -- a count, and so many elements
+  pub counted_too : (C : ℕ → Type 0) (c : ℕ → List ℕ) (count : Reading ℕ) → IsSpelling C c count → (known : S)
+      → IsSpelling (λ es. C (length es) × Along step P known es) (λ es. c (length es) ++ flat_map s es) (as_at (λ p. p.1) (then_at count (λ n. gathered_at step element n known)))
+  counted_too C c count law known =
+      let pairs = both C c count law (λ n es. Along step P known es × (length es ≡ n)) (λ n es. flat_map s es) (λ n. gathered_at step element n known) (λ n h. gathered_spelled n known) in
+      made (λ p. C p.0 × (Along step P known p.1 × (length p.1 ≡ p.0))) (λ p. c p.0 ++ flat_map s p.1) (then_at count (λ n. gathered_at step element n known)) pairs (λ (p : ℕ × List E). p.1)
+      (λ es. C (length es) × Along step P known es) (λ es. c (length es) ++ flat_map s es)
+      (λ es q. ((length es, es), refl, (q.0, (q.1, refl)), refl))
+      (λ p q b. ((subst C (sym q.1.1) q.0, q.1.0), ap (λ (n : ℕ). c n ++ flat_map s p.1) q.1.1))
+
+-- and each with the key of the one before it
+pub elements_spelled : {K E : Type 0} (key : E → K) (P : Option K → E → Type 0) (s : E → List ℕ) (element : Option K → Reading E) → ((last : Option K) → IsSpelling (P last) s (element last))
+    → (n : ℕ) (last : Option K) → IsSpelling (λ es. InTurn key P last es × (length es ≡ n)) (flat_map s) (elements_at key element n last)
+elements_spelled key P s element laws = gathered_spelled (keyed key) P s element laws
+
 pub counted : {K E : Type 0} (key : E → K) (P : Option K → E → Type 0) (s : E → List ℕ) (element : Option K → Reading E) → ((last : Option K) → IsSpelling (P last) s (element last))
     → (C : ℕ → Type 0) (c : ℕ → List ℕ) (count : Reading ℕ) → IsSpelling C c count
     → IsSpelling (λ es. C (length es) × InTurn key P None es) (λ es. c (length es) ++ flat_map s es) (as_at (λ p. p.1) (then_at count (λ n. elements_at key element n None)))
-counted {K} {E} key P s element laws C c count law =
-    let pairs = both C c count law (λ n es. InTurn key P None es × (length es ≡ n)) (λ n es. flat_map s es) (λ n. elements_at key element n None) (λ n h. elements_spelled key P s element laws n None) in
-    made (λ p. C p.0 × (InTurn key P None p.1 × (length p.1 ≡ p.0))) (λ p. c p.0 ++ flat_map s p.1) (then_at count (λ n. elements_at key element n None)) pairs (λ (p : ℕ × List E). p.1)
-    (λ es. C (length es) × InTurn key P None es) (λ es. c (length es) ++ flat_map s es)
-    (λ es q. ((length es, es), refl, (q.0, (q.1, refl)), refl))
-    (λ p q b. ((subst C (sym q.1.1) q.0, q.1.0), ap (λ (n : ℕ). c n ++ flat_map s p.1) q.1.1))
+counted key P s element laws C c count law = counted_too (keyed key) P s element laws C c count law None
 
 -- what holds of each element that was read, however it is spelled
 pub each_read : {K E : Type 0} (key : E → K) (element : Option K → Reading E) (P : Option K → E → Type 0) → ((last : Option K) (rest after : Rest) (e : E) → element last rest ≡ Ok (e, after) → P last e)

@@ -8,7 +8,7 @@ use Rattle.adr_schema.specs.declared.content.Value.{Value as Item}
 use Rattle.adr_schema.specs.declared.content.Value.TheVariants.{Text, Number, Flag, Octets, Ref}
 use Rattle.adr_schema.specs.declared.content.Content.{Content}
 use Rattle.adr_schema.specs.declared.content.Content.TheVariants.{Class, Name, Dead, Values}
-use Rattle.adr_wire.specs.Reading.{as_at, where_at, then_at, is_above}
+use Rattle.adr_wire.specs.Reading.{Reading, ◌>>=◌, as_at, where_at, then_at, is_above}
 use Rattle.adr_wire.specs.Fields.{u8_at, u16_at, u64_at, i64_at, id_at, flag_at, usn_at, usn0_at, version_at, octets_at, text_at, u8, u16, u32, u64, i64, id, flag, octets, text}
 use Rattle.adr_wire.specs.Composites.{mark_at, mark, is_ordered, ordered_mark_at, oid_at, oid, stamp_at, stamp, value_of, value_at, kind_of, told, value, one_key, values_at, content_at, content, Row, row_of, row_above, row_at, row, rows_at, object_at, object, link_key_at, link_key, link_stamp_at, link_stamp, link_at, link}
 use Rattle.adr_wire.specs.Spelling.{IsSpelling}
@@ -43,6 +43,15 @@ stamp_spelled =
     (pair IsU64 u64 u64_at u64_spelled (λ p. IsId p.0 × IsUsn p.1) (λ p. id p.0 ++ u64 p.1) (then_at id_at (λ _. usn_at)) (pair IsId id id_at id_spelled IsUsn u64 usn_at usn_spelled)))
     (λ p. record { version = p.0; time = p.1.0; inv = p.1.1.0; usn = p.1.1.1 }) IsStamp stamp
     (λ s q. ((s.version, (s.time, (s.inv, s.usn))), refl, q, refl)) (λ p q fits. (q, refl))
+
+-- ---- what stands behind its kind, a number of one byte
+
+pub kinded : {E : Type 0} (kind_of : E → ℕ) (P : E → Type 0) (told : E → List ℕ) (read : ℕ → ℕ → Reading E) → ((e : E) → IsU8 (kind_of e)) → ((place kind : ℕ) → IsSpelling (λ e. P e × (kind_of e ≡ kind)) told (read place kind))
+    → IsSpelling P (λ e. u8 (kind_of e) ++ told e) (λ rest. u8_at rest >>= λ k. read rest.place k.0 k.1)
+kinded kind_of P told read small laws =
+    in_range_too (λ e. IsU8 (kind_of e) × P e) (λ e. u8 (kind_of e) ++ told e) (λ rest. u8_at rest >>= λ k. read rest.place k.0 k.1)
+    (followed IsU8 u8 u8_at u8_spelled kind_of P told read (λ place kind h. laws place kind))
+    P (λ e h. (small e, h)) (λ e h. h.1)
 
 -- ---- values
 
@@ -127,10 +136,7 @@ small (Ref guid) = omega arith
 
 pub value_spelled : IsSpelling IsValue value value_at
 unfolding value_at
-value_spelled =
-    in_range_too (λ v. IsU8 (kind_of v) × IsValue v) value value_at
-    (followed IsU8 u8 u8_at u8_spelled kind_of IsValue told value_of (λ place kind h. of_kind place kind))
-    IsValue (λ v h. (small v, h)) (λ v h. h.1)
+value_spelled = kinded kind_of IsValue told value_of small of_kind
 
 -- ---- contents
 

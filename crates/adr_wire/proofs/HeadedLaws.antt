@@ -1,16 +1,19 @@
 -- A message of a version that is known is spelled in one way, if what stands behind the version is.
-use Rattle.std.proofs.Common.{◌≡◌, ℕ, ◌+◌, Bool, true, false, cond, eqb, List, [], ◌++◌, length, Option, Some, None, Result, Ok, Err, refl, sym, ap, subst, ◌∙◌, append-nil, append_assoc, arith}
+use Rattle.std.proofs.Common.{◌≡◌, ℕ, ◌+◌, Bool, true, false, cond, eqb, List, [], ◌++◌, length, Option, Some, None, Result, Ok, Err, refl, sym, ap, subst, ◌∙◌, append-nil, arith}
 use Rattle.std.proofs.lemmas.Bool.{eqb-true}
 use Rattle.std.proofs.lemmas.List.{nil_from_length}
+use Rattle.adr_failure.specs.declared.Failure.{Failure}
+use Rattle.adr_failure.specs.declared.Failure.TheVariants.{Refused, NoMemory}
+use Rattle.adr_wire.specs.declared.refusal.Malformed.{Malformed as Fault}
 use Rattle.adr_wire.specs.declared.refusal.DecodeRefusal.{DecodeRefusal}
 use Rattle.adr_wire.specs.declared.refusal.DecodeRefusal.TheVariants.{Malformed, WrongVersion}
-use Rattle.adr_wire.specs.Fields.{magic_at, u16_at, u16}
+use Rattle.adr_wire.specs.Fields.{format_version_at, magic_at, u16_at, u16}
 use Rattle.adr_wire.specs.Ranges.{IsU16}
-use Rattle.adr_wire.specs.Reading.{Rest, Read, Reading, then_at}
+use Rattle.adr_wire.specs.Reading.{Names, Rest, Read, Reading, then_at}
 use Rattle.adr_wire.specs.Spelling.{AreBytes, behind, IsSpelling}
 use Rattle.adr_wire.proofs.Combining.{from, rest_bytes, made, pair, as_they_are}
-use Rattle.adr_wire.proofs.FieldLaws.{u16_spelled, magic_spelled}
-use Rattle.adr_wire.specs.Headed.{Forms, first_form, head_at, head, ended, of_form, versioned, read_message}
+use Rattle.adr_wire.proofs.FieldLaws.{format_version_spelled, magic_spelled, u16_spelled}
+use Rattle.adr_wire.specs.Headed.{Forms, IsHeadRefused, IsRefusedSo, as_decoding, first_form, head_at, head, headed_at, ended, of_form, versioned, read_message}
 
 abbrev said : {X : Type 0} → X → Result X DecodeRefusal
 said x = Ok x
@@ -47,6 +50,20 @@ head_spelled magic four =
     (λ p. p.1) IsU16 (head magic)
     (λ v q. ((magic, v), refl, (refl, q), refl))
     (λ p q fits. (q.1, ap (λ (m : List ℕ). m ++ u16 p.1) (sym q.0)))
+
+-- what stands behind a magic and a version, in other bytes
+pub headed_spelled : {X : Type 0} (magic : List ℕ) → length magic ≡ 4 → (version : ℕ) → IsU16 version → (P : X → Type 0) (s : X → List ℕ) (a : Reading X) → IsSpelling P s a
+    → IsSpelling P (λ x. magic ++ (u16 version ++ s x)) (headed_at magic version a)
+headed_spelled magic four version fits P s a law =
+    made (λ p. (p.0 ≡ magic) × ((p.1.0 ≡ version) × P p.1.1)) (λ p. p.0 ++ (u16 p.1.0 ++ s p.1.1)) (then_at (magic_at magic) (λ _. then_at (format_version_at version) (λ _. a)))
+    (pair (λ m. m ≡ magic) as_they_are (magic_at magic) (magic_spelled magic four) (λ p. (p.0 ≡ version) × P p.1) (λ p. u16 p.0 ++ s p.1) (then_at (format_version_at version) (λ _. a))
+    (pair (λ v. v ≡ version) u16 (format_version_at version) (format_version_spelled version fits) P s a law))
+    (λ p. p.1.1) P (λ x. magic ++ (u16 version ++ s x))
+    (λ x q. ((magic, (version, x)), refl, (refl, (refl, q)), refl))
+    (λ p q are. (
+      q.1.1,
+      ap (λ (m : List ℕ). m ++ (u16 version ++ s p.1.1)) (sym q.0) ∙ ap (λ (v : ℕ). p.0 ++ (u16 v ++ s p.1.1)) (sym q.1.0),
+    ))
 
 module _ {X : Type 0} (magic : List ℕ) (four : length magic ≡ 4) (forms : Forms X) (P : ℕ → X → Type 0) (s : ℕ → X → List ℕ)
     (laws : (v : ℕ) (a : Reading X) → forms v ≡ Some a → IsU16 v × IsSpelling (P v) (s v) a) where
@@ -96,3 +113,24 @@ module _ {X : Type 0} (magic : List ℕ) (four : length magic ≡ 4) (P : X → 
   first_only bytes x fits e =
       let m = message_only magic four (first_form a) (λ _. P) (λ _. s) laws_of bytes x fits e in
       (m.3, m.4 ∙ ap (λ (v : ℕ). head magic v ++ s x) (known_first a m.1 m.0 m.2).0)
+
+-- ---- what a decoder makes of a head
+
+pub head_malformed : (version : ℕ) (read : Read ℕ) (e : Failure Fault) → Names e read → IsHeadRefused version read (as_decoding e)
+head_malformed version read (Refused fault) h = subst (λ (r : Read ℕ). IsHeadRefused version r (Refused (Malformed fault.place))) (sym h) refl
+head_malformed version read NoMemory h = absurd h
+
+pub head_unknown : (version found : ℕ) (read : Read ℕ) (rest : Rest) → read ≡ Ok (found, rest) → eqb found version ≡ false → IsHeadRefused version read (Refused (WrongVersion found))
+head_unknown version found read rest h other = subst (λ (r : Read ℕ). IsHeadRefused version r (Refused (WrongVersion found))) (sym h) (other, refl)
+
+module _ {X : Type 0} (a : Reading X) (read : Read ℕ) where
+  -- behind the head of the first version
+  pub behind_head : (rest : Rest) → read ≡ Ok (1, rest) → versioned (first_form a) read ≡ ended (a rest)
+  behind_head rest h = ap (versioned (first_form a)) h
+
+  pub before_head : (why : Failure DecodeRefusal) → IsHeadRefused 1 read why → IsRefusedSo (versioned (first_form a) read) why
+  before_head why = by read
+    where
+      by : (r : Read ℕ) → IsHeadRefused 1 r why → IsRefusedSo (versioned (first_form a) r) why
+      by (Ok v) h = subst (IsRefusedSo (versioned (first_form a) (Ok v))) (sym h.1) (ap (λ (b : Bool). of_form (cond b (Some a) None) v.0 v.1) h.0)
+      by (Err place) h = subst (IsRefusedSo (versioned (first_form a) (Err place))) (sym h) refl

@@ -1,5 +1,5 @@
 -- What may be there or not is spelled in one way, if the value is.
-use Rattle.std.proofs.Common.{◌≡◌, ℕ, Bool, true, false, List, ◌++◌, Option, Some, None, Ok, refl, sym}
+use Rattle.std.proofs.Common.{◌≡◌, ℕ, Bool, true, false, List, Option, Some, None, Ok, refl, sym}
 use Rattle.std.specs.Prelude.{is_some}
 use Rattle.adr_wire.specs.Fields.{flag_at, flag}
 use Rattle.adr_wire.specs.Optional.{behind_flag, if_there_at, told_if, if_there, IsIfThere}

@@ -3,14 +3,12 @@ use Rattle.std.proofs.Common.{◌≡◌, ℕ, true, false, eqb, List, refl, sym,
 use Rattle.std.proofs.lemmas.Bool.{eqb-true}
 use Rattle.adr_stamp.specs.declared.Oid.{Oid}
 use Rattle.adr_wire.specs.Reading.{as_at}
-use Rattle.adr_wire.specs.Fields.{u8_at, u8}
 use Rattle.adr_wire.specs.Composites.{Row, LinkItem, object_at, object, link_at, link}
 use Rattle.adr_wire.specs.Spelling.{IsSpelling}
 use Rattle.adr_wire.specs.Ranges.{IsU8, IsObject, IsLink}
 use Rattle.adr_wire.specs.Pieces.{Piece, OfRows, OfLink, piece_of, piece_at, kind_of_piece, told_of_piece, piece, IsPiece}
-use Rattle.adr_wire.proofs.Combining.{made, in_range_too, followed, either, never}
-use Rattle.adr_wire.proofs.FieldLaws.{u8_spelled}
-use Rattle.adr_wire.proofs.CompositeLaws.{object_spelled, link_spelled}
+use Rattle.adr_wire.proofs.Combining.{made, either, never}
+use Rattle.adr_wire.proofs.CompositeLaws.{kinded, object_spelled, link_spelled}
 
 module _ (place kind : ℕ) where
   abbrev OfKind : Piece → Type 0
@@ -45,7 +43,4 @@ small (OfLink l) = omega arith
 
 pub piece_spelled : IsSpelling IsPiece piece piece_at
 unfolding piece_at
-piece_spelled =
-    in_range_too (λ p. IsU8 (kind_of_piece p) × IsPiece p) piece piece_at
-    (followed IsU8 u8 u8_at u8_spelled kind_of_piece IsPiece told_of_piece piece_of (λ place kind h. of_kind place kind))
-    IsPiece (λ p h. (small p, h)) (λ p h. h.1)
+piece_spelled = kinded kind_of_piece IsPiece told_of_piece piece_of small of_kind

@@ -13,8 +13,7 @@ use Rattle.adr_schema.specs.declared.content.Content.{Content}
 use Rattle.adr_schema.specs.declared.content.Content.TheVariants.{Class, Name, Dead, Values}
 use Rattle.adr_vector.specs.declared.mark.Mark.{Mark}
 use Rattle.adr_vector.specs.Vector.{Cursors, cursor_limit}
-use Rattle.adr_wire.specs.Reading.{Reading, ◌>>=◌, as_at, where_at, then_at, elements_at, is_above, above_at}
-use Rattle.adr_wire.specs.Gathering.{passing_at}
+use Rattle.adr_wire.specs.Reading.{Reading, ◌>>=◌, as_at, passing_at, where_at, then_at, elements_at, is_above, above_at}
 use Rattle.adr_wire.specs.Fields.{u8_at, u16_at, u32_at, u64_at, i64_at, id_at, flag_at, usn_at, usn0_at, version_at, text_at, octets_at, u8, u16, u32, u64, i64, id, flag, text, octets}
 
 -- ---- marks, names and stamps

@@ -1,5 +1,5 @@
 -- Which values have a spelling: those whose numbers, lengths and lists are in range.
-use Rattle.std.specs.Prelude.{◌≡◌, ℕ, ◌<◌, ◌≤◌, ◌^◌, List, [], ◌∷◌, length, Bool, true, false, ◌==◌, ℤ, FitsSigned, Option, None, Some, ⊤}
+use Rattle.std.specs.Prelude.{◌≡◌, ℕ, ◌<◌, ◌≤◌, ◌^◌, List, length, Bool, true, false, ◌==◌, ℤ, FitsSigned, Option, None, ⊤}
 use Rattle.std.specs.List.{AllByRecursion}
 use Rattle.std.specs.Int.{w64}
 use Rattle.std.specs.Str.{is_utf8}
@@ -12,7 +12,8 @@ use Rattle.adr_schema.specs.declared.content.Content.{Content}
 use Rattle.adr_schema.specs.declared.content.Content.TheVariants.{Class, Name, Dead, Values}
 use Rattle.adr_vector.specs.declared.mark.Mark.{Mark}
 use Rattle.adr_vector.specs.Vector.{Cursors, IsVector}
-use Rattle.adr_wire.specs.Reading.{is_above}
+use Rattle.adr_wire.specs.Reading.{is_above, keyed}
+use Rattle.adr_wire.specs.Gathering.{Along}
 use Rattle.adr_wire.specs.Composites.{Row, LinkItem, is_ordered}
 
 abbrev pub IsU8 : ℕ → Type 0
@@ -82,8 +83,7 @@ IsRow r = IsU16 r.0 × (IsStamp r.1 × IsContent r.0 r.2)
 
 -- each element by the key of the one before it
 abbrev pub InTurn : {K E : Type 0} → (E → K) → (Option K → E → Type 0) → Option K → List E → Type 0
-InTurn key P last [] = ⊤
-InTurn key P last (e ∷ es) = P last e × InTurn key P (Some (key e)) es
+InTurn key = Along (keyed key)
 
 -- a row whose attribute is above the one before it
 abbrev pub IsRowAbove : Option ℕ → Row → Type 0

@@ -63,18 +63,30 @@ bytes_at n rest = if nat_lt (length rest.bytes) n then Err rest.place else Ok (t
 abbrev pub as_at : {A B : Type 0} → (A → B) → Reading A → Reading B
 as_at f a rest = a rest >>= λ x. Ok (f x.0, x.1)
 
+-- only what passes the test, else a fault at this place
+abbrev pub passing_at : {A : Type 0} → ℕ → (A → Bool) → Reading A → Reading A
+passing_at place test a rest = a rest >>= λ x. if test x.0 then Ok x else Err place
+
 -- only what passes the test, else a fault at its first byte
 abbrev pub where_at : {A : Type 0} → (A → Bool) → Reading A → Reading A
-where_at test a rest = a rest >>= λ x. if test x.0 then Ok x else Err rest.place
+where_at test a rest = passing_at rest.place test a rest
 
 -- one behind the other, where the first may say how the second is read
 abbrev pub then_at : {A B : Type 0} → Reading A → (A → Reading B) → Reading (A × B)
 then_at a b rest = a rest >>= λ x. b x.0 x.1 >>= λ y. Ok ((x.0, y.0), y.1)
 
+-- so many elements, each read with what is known from those before it
+abbrev pub gathered_at : {S E : Type 0} → (S → E → S) → (S → Reading E) → ℕ → S → Reading (List E)
+gathered_at step element zero known rest = Ok ([], rest)
+gathered_at step element (suc n) known rest = element known rest >>= λ e. gathered_at step element n (step known e.0) e.1 >>= λ es. Ok (e.0 ∷ es.0, es.1)
+
+-- only the key of the last one is known
+abbrev pub keyed : {K E : Type 0} → (E → K) → Option K → E → Option K
+keyed key last e = Some (key e)
+
 -- so many elements, each read with the key of the one before it
 abbrev pub elements_at : {K E : Type 0} → (E → K) → (Option K → Reading E) → ℕ → Option K → Reading (List E)
-elements_at key element zero last rest = Ok ([], rest)
-elements_at key element (suc n) last rest = element last rest >>= λ e. elements_at key element n (Some (key e.0)) e.1 >>= λ es. Ok (e.0 ∷ es.0, es.1)
+elements_at key = gathered_at (keyed key)
 
 -- whether a key is above the one before it, if there is one
 abbrev pub is_above : {K : Type 0} → (K → K → Ordering) → Option K → K → Bool

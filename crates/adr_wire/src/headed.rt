@@ -1,7 +1,7 @@
 //! With what a message begins: its magic, and its version.
 
-ghost use Rattle.std.specs.Prelude.{◌≡◌, ◌++◌, OnOk};
-ghost use Rattle.adr_wire.specs.Headed.{as_decoding, head, head_at};
+ghost use Rattle.std.specs.Prelude.{◌≡◌, ◌++◌, IfErr, IfOk, Ok, OnOk};
+ghost use Rattle.adr_wire.specs.Headed.{IsHeadRefused, as_decoding, head, head_at};
 ghost use Rattle.adr_wire.specs.Reading.{Tells};
 
 use crate::reader::Reader;
@@ -18,6 +18,26 @@ impl Reader<'_> {
         self.read_magic(magic)?;
         self.read_u16()
     }
+}
+
+/// A reader that stands behind the head of a message: its magic, and this version.
+pub fn open_message<'a>(
+    bytes: &'a [u8],
+    magic: &[u8; 4],
+    version: u16,
+) -> Result<Reader<'a>, Failure<DecodeRefusal>>
+    ensures ok { IfOk result (λ reader. head_at magic.now (record { place = 0; bytes = bytes.now }) ≡ Ok (version, reader)) }
+    ensures err { IfErr result (IsHeadRefused version (head_at magic.now (record { place = 0; bytes = bytes.now }))) }
+{
+    let mut reader = Reader::new(bytes);
+    let found = match reader.read_head(magic) {
+        Ok(found) => found,
+        Err(refusal) => return Err(malformed(refusal)),
+    };
+    if found != version {
+        return Err(Failure::Refused(DecodeRefusal::WrongVersion { found }));
+    }
+    Ok(reader)
 }
 
 impl Writer {

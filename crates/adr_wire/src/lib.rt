@@ -17,7 +17,7 @@ mod writer;
 mod writing;
 
 pub use adr_failure::{Failure, NoMemory};
-pub use headed::malformed;
+pub use headed::{malformed, open_message};
 pub use laws::{composites_have_one_spelling, fields_have_one_spelling, pieces_have_one_spelling};
 pub use reader::Reader;
 pub use refusal::{DecodeRefusal, Malformed, WireRefusal};

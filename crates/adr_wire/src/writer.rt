@@ -1,6 +1,6 @@
 //! A writer of bytes, field by field.
 
-ghost use Rattle.std.specs.Prelude.{◌≡◌, ◌++◌, [], OnOk, OnErr};
+ghost use Rattle.std.specs.Prelude.{◌≡◌, ◌++◌, [], IfOk, OnOk, OnErr};
 ghost use Rattle.adr_wire.specs.Fields.{u8, u16, u32, u64, i64, id, flag, text, octets};
 ghost use Rattle.adr_wire.specs.Composites.{IsShort};
 
@@ -31,6 +31,15 @@ impl Writer {
         Writer {
             bytes: Vec::new(alloc),
         }
+    }
+
+    /// One with room for so many bytes, which are then written without more memory.
+    pub fn with_room(alloc: Global, room: usize) -> Result<Writer, NoMemory>
+        ensures { IfOk result (λ writer. writer ≡ []) }
+    {
+        Ok(Writer {
+            bytes: Vec::with_capacity(alloc, room)?,
+        })
     }
 
     /// What has been written.

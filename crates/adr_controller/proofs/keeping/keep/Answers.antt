@@ -14,8 +14,8 @@ returns-in_err-prepare g c =
     let e = c.in_err-prepare.field-0.0 in
     let ended = c.in_err-prepare.ensures in
     let p = err_from_is_err_and c.from_residual.result c.from_residual.ensures.1 in
-    subst (λ how. Kept k s c.args.change.now (up_behind None c.args.keeper.now s) (up_behind how c.prepare.new.self s) how) (hindered_by (kept_as e) c.from_residual.result p.0 p.1 p.2)
-    (refused k law.leaves law.only_now c.args.keeper.now s c.args.change.now c.requires.up c.requires.able c.prepare.new.self ended.keeps ended.later ended.at ended.within e ended.failed ended.full ended.fits_too ended.stays_full ended.fault ended.no_memory ended.prepares)
+    subst (λ how. Kept k s c.args.change (up_behind None c.args.keeper.now s) (up_behind how c.prepare.new.self s) how) (hindered_by (kept_as e) c.from_residual.result p.0 p.1 p.2)
+    (refused k law.leaves law.only_now c.args.keeper.now s c.args.change c.requires.up c.requires.able c.prepare.new.self ended.keeps ended.later ended.at ended.within e ended.failed ended.full ended.fits_too ended.stays_full ended.fault ended.no_memory ended.prepares)
 
 pub returns-in_err-apply : goal.returns-in_err-apply
 returns-in_err-apply g c =
@@ -25,9 +25,9 @@ returns-in_err-apply g c =
     let ready = c.in_ok-prepare.ensures in
     let keeper = c.prepare.new.self in
     let p = err_from_is_err_and c.from_residual-in_err-apply.result c.from_residual-in_err-apply.ensures.1 in
-    subst (λ how. Kept k s c.args.change.now (up_behind None c.args.keeper.now s) (up_behind how keeper c.apply.new.state) how) (hindered_by NoMemory c.from_residual-in_err-apply.result p.0 p.1 p.2)
-    (subst (λ t. Kept k s c.args.change.now (up_behind None c.args.keeper.now s) (up_behind (Some NoMemory) keeper t) (Some NoMemory)) (sym c.in_err-apply.ensures.err)
-    (wanted k law.leaves law.only_now c.args.keeper.now s c.args.change.now c.requires.up c.requires.able keeper ready.keeps ready.later ready.at ready.within ready.up (inr (inr ready.prepares))))
+    subst (λ how. Kept k s c.args.change (up_behind None c.args.keeper.now s) (up_behind how keeper c.apply.new.state) how) (hindered_by NoMemory c.from_residual-in_err-apply.result p.0 p.1 p.2)
+    (subst (λ t. Kept k s c.args.change (up_behind None c.args.keeper.now s) (up_behind (Some NoMemory) keeper t) (Some NoMemory)) (sym c.in_err-apply.ensures.err)
+    (wanted k law.leaves law.only_now c.args.keeper.now s c.args.change c.requires.up c.requires.able keeper ready.keeps ready.later ready.at ready.within ready.up (inr (inr ready.prepares))))
 
 pub returns-in_err-commit : goal.returns-in_err-commit
 returns-in_err-commit g c =
@@ -35,19 +35,19 @@ returns-in_err-commit g c =
     let law = g.met.K.Keeper in
     let s = c.args.state.now in
     let ready = c.in_ok-prepare.ensures in
-    let made : MadeReady k c.args.keeper.now c.args.state.now c.args.change.now c.prepare.new.self = record { prepared = ready.prepares; is_prepared = ready.prepared; running = ready.up; at = ready.at } in
+    let made : MadeReady k c.args.keeper.now c.args.state.now c.args.change c.prepare.new.self = record { prepared = ready.prepares; is_prepared = ready.prepared; running = ready.up; at = ready.at } in
     let e = c.in_err-commit.field-0.0 in
     let ended = c.in_err-commit.ensures in
     let new = c.commit.new.self in
     let p = err_from_is_err_and c.from_residual-in_err-commit.result c.from_residual-in_err-commit.ensures.1 in
-    subst (λ how. Kept k s c.args.change.now (up_behind None c.args.keeper.now s) (up_behind how new c.apply.new.state) how) (hindered_by (kept_as e) c.from_residual-in_err-commit.result p.0 p.1 p.2)
-    (failed k law.leaves law.only_now c.args.keeper.now s c.args.change.now c.requires.up c.requires.able c.prepare.new.self new made ready.keeps ready.later ready.within ready.fits ended.told ended.later ended.any_moment ended.left ended.within c.apply.new.state e ended.fault ended.commits)
+    subst (λ how. Kept k s c.args.change (up_behind None c.args.keeper.now s) (up_behind how new c.apply.new.state) how) (hindered_by (kept_as e) c.from_residual-in_err-commit.result p.0 p.1 p.2)
+    (failed k law.leaves law.only_now c.args.keeper.now s c.args.change c.requires.up c.requires.able c.prepare.new.self new made ready.keeps ready.later ready.within ready.fits ended.told ended.later (λ f. ended.any_moment f c.args.change) (λ f. ended.left f c.args.change) (λ f. ended.within f c.args.change) c.apply.new.state e ended.fault (λ f. ended.commits f c.args.change))
 
 pub returns : goal.returns
 returns g c =
     let k = g.K.Keeper in
     let law = g.met.K.Keeper in
     let ready = c.in_ok-prepare.ensures in
-    let made : MadeReady k c.args.keeper.now c.args.state.now c.args.change.now c.prepare.new.self = record { prepared = ready.prepares; is_prepared = ready.prepared; running = ready.up; at = ready.at } in
+    let made : MadeReady k c.args.keeper.now c.args.state.now c.args.change c.prepare.new.self = record { prepared = ready.prepares; is_prepared = ready.prepared; running = ready.up; at = ready.at } in
     let ended = c.in_ok-commit.ensures in
-    done k law.leaves law.only_now c.args.keeper.now c.args.state.now c.args.change.now c.requires.up c.requires.able c.prepare.new.self c.commit.new.self made ready.keeps ready.later ready.within ready.fits ended.told ended.later ended.any_moment ended.left ended.within c.apply.new.state c.in_ok-apply.ensures.ok ended.ok ended.up ended.commits
+    done k law.leaves law.only_now c.args.keeper.now c.args.state.now c.args.change c.requires.up c.requires.able c.prepare.new.self c.commit.new.self made ready.keeps ready.later ready.within ready.fits ended.told ended.later (λ f. ended.any_moment f c.args.change) (λ f. ended.left f c.args.change) (λ f. ended.within f c.args.change) c.apply.new.state c.in_ok-apply.ensures.ok (λ f. ended.ok f c.args.change) ended.up (λ f. ended.commits f c.args.change)

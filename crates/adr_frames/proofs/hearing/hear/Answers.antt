@@ -1,7 +1,7 @@
-use Rattle.std.proofs.Common.{◌≡◌, ℕ, zero, suc, ◌<◌, ◌≤◌, Bool, true, false, eqb, arith, sym, ap, subst, ◌∙◌}
-use Rattle.std.specs.Prelude.{OnOk}
+use Rattle.std.proofs.Common.{◌≡◌, ℕ, zero, suc, ◌≤◌, Bool, true, false, eqb, arith, sym, ap, subst, ◌∙◌}
 use Rattle.std.proofs.lemmas.Bool.{eqb-true}
 use Rattle.std.proofs.lemmas.Result.{IfOk-weaker}
+use Rattle.adr_outside.proofs.Counting.{counted_behind}
 use Rattle.adr_wire.specs.Reading.{Rest}
 use Rattle.adr_frames.specs.Frames.{IsFrameLength, from, length_at}
 use Rattle.adr_frames.specs.Hearing.{Hears, HearsBody, IfFrame}
@@ -50,14 +50,11 @@ returns-clause-part g c =
     part_more (g.N.Net.traffic c.args.net.now) (g.N.Net.traffic c.receive_at_most.new.net) (g.N.Net.traffic c.hear_body.new.net)
     c.receive_at_most.ensures.part c.hear_body.ensures.part
 
-pub returns-clause-failed : goal.returns-clause-failed
-returns-clause-failed g c = λ is.
-    subst (λ (n : ℕ). n < g.N.Net.lines c.hear_body.new.net) c.in_ok-head.ensures.not_counted (c.hear_body.ensures.failed is)
-
-pub returns-clause-not_counted : goal.returns-clause-not_counted
-returns-clause-not_counted g c =
-    subst (λ (n : ℕ). OnOk c.hear_body.result (g.N.Net.lines c.hear_body.new.net ≡ n))
-    c.in_ok-head.ensures.not_counted c.hear_body.ensures.not_counted
-
-pub returns-clause-no_memory_counted : goal.returns-clause-no_memory_counted
-returns-clause-no_memory_counted g c = λ is. c.hear_body.ensures.no_memory_counted is ∙ c.in_ok-head.ensures.not_counted
+pub returns-clause-counts : goal.returns-clause-counts
+returns-clause-counts g c =
+    let n = g.N.Net in
+    let head = c.receive_at_most.new.net in
+    let all = c.hear_body.new.net in
+    let so = c.in_ok-head.ensures.counts in
+    counted_behind (n.lines c.args.net.now) (n.lines head) (n.lines all) (n.doors c.args.net.now) (n.doors head) (n.doors all) c.hear_body.result so.passed so.other
+    c.hear_body.ensures.counts

@@ -47,8 +47,8 @@ turns-preserved g c = record {
       c.turns.invariant.told c.in_ok-count.ensures.received c.in_ok-count.ensures.count.1;
   turns = omega (arith, c.in_ok-count.ensures.count);
   most = omega (arith, c.in_ok-count.ensures.count);
-  lines = c.in_ok-count.ensures.not_counted ∙ c.turns.invariant.lines;
-  doors = c.receive_some.ensures.doors ∙ c.turns.invariant.doors;
+  lines = c.in_ok-count.ensures.counts.passed ∙ c.turns.invariant.lines;
+  doors = c.receive_some.ensures.counts.other ∙ c.turns.invariant.doors;
 }
 
 pub returns-clause-received : goal.returns-clause-received

@@ -1,6 +1,6 @@
-use Rattle.std.proofs.Common.{◌≡◌, take}
+use Rattle.std.proofs.Common.{◌≡◌}
 use Rattle.adr_model.specs.Change.{held_of}
 use Rattle.adr_image.proofs.anew.writes_of.Given as goal
 
 abbrev pub invariant-loop-row : goal.invariant-loop-row
-invariant-loop-row l = held_of l.writes.items ≡ take l.row-index l.rows
+invariant-loop-row l = held_of l.writes.items ≡ l.yielded

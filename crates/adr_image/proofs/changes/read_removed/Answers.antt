@@ -1,7 +1,8 @@
-use Rattle.std.proofs.Common.{None, Some, ap, ◌∙◌, ◌++◌, ◌∷◌, [], ◌-◌, ◌+◌}
+use Rattle.std.proofs.Common.{None}
 use Rattle.std.proofs.lemmas.Result.{err_from_is_err_and}
 use Rattle.adr_wire.specs.Composites.{oid_at}
-use Rattle.adr_wire.proofs.Loops.{with_front, any_last, goes_on, ends, is_done, names_refuses}
+use Rattle.adr_wire.specs.Reading.{keyed}
+use Rattle.adr_wire.proofs.Loops.{goes_on_alike, ends, is_done, names_refuses}
 use Rattle.adr_image.specs.Body.{one_name, removed_at}
 use Rattle.adr_image.proofs.Changing.{removed_begin}
 use Rattle.adr_image.proofs.changes.read_removed.Goals as goal
@@ -13,17 +14,16 @@ pub returns-in_err-object : goal.returns-in_err-object
 returns-in_err-object c =
     let p = err_from_is_err_and c.from_residual-in_err-object.result c.from_residual-in_err-object.ensures.1 in
     rw (p.1, p.2)
-    (ends one_name (λ _. oid_at) c.loop.removed.items c.in_ok-count.count c.loop.counter None c.loop.reader (removed_at c.args.reader.now)
+    (ends (keyed one_name) (λ _. oid_at) c.loop.removed.items c.in_ok-count.count c.loop.counter None c.loop.reader (removed_at c.args.reader.now)
     c.in_err-object.field-0.0 c.loop-test.true (names_refuses c.in_err-object.field-0.0 (oid_at c.loop.reader) c.in_err-object.ensures) c.loop.invariant)
 
 pub loop-preserved : goal.loop-preserved
 loop-preserved c =
     rw c.in_ok-push.ensures.items
-    (ap (with_front (c.loop.removed.items ++ c.in_ok-object.object ∷ [])) (any_last one_name oid_at (c.in_ok-count.count - (c.loop.counter + 1)) None (Some tt) c.read_oid.new.self)
-    ∙ goes_on one_name (λ _. oid_at) c.loop.removed.items c.in_ok-count.count c.loop.counter None c.loop.reader (removed_at c.args.reader.now)
+    (goes_on_alike one_name oid_at c.loop.removed.items c.in_ok-count.count c.loop.counter c.loop.reader (removed_at c.args.reader.now)
     c.in_ok-object.object c.read_oid.new.self c.loop-test.true c.in_ok-object.ensures c.loop.invariant)
 
 pub returns : goal.returns
 returns c =
-    is_done one_name (λ _. oid_at) c.loop.removed.items c.in_ok-count.count c.loop.counter None c.loop.reader (removed_at c.args.reader.now)
+    is_done (keyed one_name) (λ _. oid_at) c.loop.removed.items c.in_ok-count.count c.loop.counter None c.loop.reader (removed_at c.args.reader.now)
     c.loop-test.false c.loop.invariant

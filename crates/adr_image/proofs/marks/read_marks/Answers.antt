@@ -1,5 +1,6 @@
 use Rattle.std.proofs.Common.{◌≤◌, arith}
 use Rattle.std.proofs.lemmas.Result.{err_from_is_err_and}
+use Rattle.adr_wire.specs.Reading.{keyed}
 use Rattle.adr_wire.proofs.Loops.{goes_on, ends, is_done, names_refuses}
 use Rattle.adr_model.specs.Take.{mark_limit}
 use Rattle.adr_image.specs.Image.{kept_above}
@@ -16,16 +17,16 @@ pub returns-in_err-partner : goal.returns-in_err-partner
 returns-in_err-partner c =
     let p = err_from_is_err_and c.from_residual-in_err-partner.result c.from_residual-in_err-partner.ensures.1 in
     rw (p.1, p.2)
-    (ends (λ k. k.0) kept_above c.loop.marks.items c.in_ok-count.count c.loop.counter c.loop.last c.loop.reader (marks_at c.args.reader.now)
+    (ends (keyed (λ k. k.0)) kept_above c.loop.marks.items c.in_ok-count.count c.loop.counter c.loop.last c.loop.reader (marks_at c.args.reader.now)
     c.in_err-partner.field-0.0 c.loop-test.true (names_refuses c.in_err-partner.field-0.0 (kept_above c.loop.last c.loop.reader) c.in_err-partner.ensures) c.loop.invariant)
 
 pub loop-preserved : goal.loop-preserved
 loop-preserved c =
     rw c.in_ok-push.ensures.items
-    (goes_on (λ k. k.0) kept_above c.loop.marks.items c.in_ok-count.count c.loop.counter c.loop.last c.loop.reader (marks_at c.args.reader.now)
+    (goes_on (keyed (λ k. k.0)) kept_above c.loop.marks.items c.in_ok-count.count c.loop.counter c.loop.last c.loop.reader (marks_at c.args.reader.now)
     (c.in_ok-partner.partner, c.in_ok-partner.kept) c.read_kept.new.reader c.loop-test.true c.in_ok-partner.ensures c.loop.invariant)
 
 pub returns : goal.returns
 returns c =
-    is_done (λ k. k.0) kept_above c.loop.marks.items c.in_ok-count.count c.loop.counter c.loop.last c.loop.reader (marks_at c.args.reader.now)
+    is_done (keyed (λ k. k.0)) kept_above c.loop.marks.items c.in_ok-count.count c.loop.counter c.loop.last c.loop.reader (marks_at c.args.reader.now)
     c.loop-test.false c.loop.invariant

@@ -1,7 +1,7 @@
 use Rattle.std.proofs.lemmas.Result.{err_from_is_err_and}
-use Rattle.adr_wire.specs.Gathering.{gathered_at}
+use Rattle.adr_wire.specs.Reading.{gathered_at}
 use Rattle.adr_image.specs.Image.{local_at, held_row_at, with_held, no_rows}
-use Rattle.adr_wire.proofs.Gathering.{goes_on, ends, is_done}
+use Rattle.adr_wire.proofs.Loops.{goes_on, ends, is_done}
 use Rattle.adr_image.proofs.rows.read_held_rows.Goals as goal
 
 pub returns-in_err-row : goal.returns-in_err-row

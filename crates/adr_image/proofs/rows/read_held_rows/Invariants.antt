@@ -1,6 +1,6 @@
 use Rattle.std.proofs.Common.{◌≡◌, ◌-◌}
 use Rattle.adr_wire.proofs.Loops.{with_front}
-use Rattle.adr_wire.specs.Gathering.{gathered_at}
+use Rattle.adr_wire.specs.Reading.{gathered_at}
 use Rattle.adr_image.specs.Image.{local_at, held_row_at, with_held, no_rows}
 use Rattle.adr_image.proofs.rows.read_held_rows.Given as goal
 

@@ -1,35 +1,20 @@
-use Rattle.std.proofs.Common.{◌∙◌, refl, ap, arith}
 use Rattle.std.proofs.lemmas.Result.{err_from_is_err_and}
-use Rattle.std.specs.Option.{option_map}
-use Rattle.adr_outside.specs.Traffic.{hung_up}
-use Rattle.adr_session.specs.Told.{Stands}
-use Rattle.adr_online.specs.Served.{HasFallen}
-use Rattle.adr_online.proofs.Connected.{unopened}
-use Rattle.adr_online.proofs.Many.{crashes_first}
+use Rattle.adr_online.proofs.Many.{served_behind, unlistened}
 use Rattle.adr_online.proofs.serving.serve_up.Goals as goal
 
-pub returns-in_err-listen-clause-serves : goal.returns-in_err-listen-clause-serves
-returns-in_err-listen-clause-serves g c = λ p stands at.
-    let k = g.K.Keeper in
-    let r = err_from_is_err_and c.from_residual.result c.from_residual.ensures.1 in
-    rw (r.1, r.2) (
-      0,
-      p,
-      omega arith,
-      refl,
-      unopened (λ f. Stands k f c.args.controller.now) (λ x. HasFallen k c.args.controller.now.keeper x c.args.controller.now) 1 p (g.N.Net.traffic c.args.net.now) (g.N.Net.traffic c.listen.new.net)
-          (g.C.Clock.moments c.args.clock.now) (g.S.Sink.written c.args.sink.now) stands c.in_err-listen.field-0.0 c.in_err-listen.ensures.only (ap (option_map hung_up) c.listen.ensures.stays) at,
-    )
-
-pub returns-in_err-listen-clause-any_moment : goal.returns-in_err-listen-clause-any_moment
-returns-in_err-listen-clause-any_moment g c = λ p stands at.
+pub returns-in_err-listen : goal.returns-in_err-listen
+returns-in_err-listen g c =
     let law = g.met.K.Keeper in
-    crashes_first g.K.Keeper law.leaves law.only_now c.args.count p c.args.controller.now stands c.state.ensures.in_order
+    let r = err_from_is_err_and c.from_residual.result c.from_residual.ensures.1 in
+    rw (r.1, r.2)
+    (unlistened g.K.Keeper g.N.Net g.C.Clock g.S.Sink law.leaves law.only_now
+    (record { controller = c.args.controller.now; net = c.args.net.now; clock = c.args.clock.now; sink = c.args.sink.now })
+    c.listen.new.net c.in_err-listen.field-0.0 c.state.ensures.in_order c.in_err-listen.ensures.calls c.args.count)
 
-pub returns-clause-serves : goal.returns-clause-serves
-returns-clause-serves g c = λ p stands at.
-    c.serve_all.ensures.serves p stands (record { net = ap (option_map hung_up) c.listen.ensures.stays ∙ at.net; clock = at.clock; lines = at.lines })
-
-pub returns-clause-any_moment : goal.returns-clause-any_moment
-returns-clause-any_moment g c = λ p stands at.
-    c.serve_all.ensures.any_moment p stands (record { net = ap (option_map hung_up) c.listen.ensures.stays ∙ at.net; clock = at.clock; lines = at.lines })
+pub returns : goal.returns
+returns g c =
+    let s = c.serve_all in
+    served_behind g.K.Keeper g.N.Net g.C.Clock g.S.Sink c.args.count
+    (record { controller = c.args.controller.now; net = c.args.net.now; clock = c.args.clock.now; sink = c.args.sink.now })
+    (record { controller = s.new.controller; net = s.new.net; clock = s.new.clock; sink = s.new.sink })
+    c.listen.new.net s.result c.in_ok-listen.ensures.stays c.in_ok-listen.ensures.calls s.ensures

@@ -78,13 +78,13 @@ loop-turn-preserved g c = record {
       (c.loop-turn.invariant.crash t p at) c.loop-turn.invariant.told
       (c.take_turn.ensures.any_moment t (course g.K.Keeper t c.args.name.now c.args.partner p c.loop-turn.turn).0 on.at);
   told = (
-    λ is. c.loop-turn.invariant.told.0 (c.take_turn.ensures.told.0 is),
-    λ is. c.take_turn.ensures.told.1 (c.loop-turn.invariant.told.1 is),
+    λ is. c.loop-turn.invariant.told.0 (c.take_turn.ensures.counts.told.0 is),
+    λ is. c.take_turn.ensures.counts.told.1 (c.loop-turn.invariant.told.1 is),
   );
-  disk = omega (arith, c.loop-turn.invariant.disk, c.take_turn.ensures.disk_never_falls);
-  lines = omega (arith, c.loop-turn.invariant.lines, c.take_turn.ensures.lines_never_fall);
-  sink = omega (arith, c.loop-turn.invariant.sink, c.take_turn.ensures.sink_never_falls);
-  doors = c.take_turn.ensures.doors ∙ c.loop-turn.invariant.doors;
+  disk = omega (arith, c.loop-turn.invariant.disk, c.take_turn.ensures.counts.disk_never_falls);
+  lines = omega (arith, c.loop-turn.invariant.lines, c.take_turn.ensures.counts.lines_never_fall);
+  sink = omega (arith, c.loop-turn.invariant.sink, c.take_turn.ensures.counts.sink_never_falls);
+  doors = c.take_turn.ensures.counts.doors ∙ c.loop-turn.invariant.doors;
 }
 
 pub returns-clause-goes : goal.returns-clause-goes

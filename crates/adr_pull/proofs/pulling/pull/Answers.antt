@@ -66,7 +66,7 @@ returns-clause-left g c = λ t p at.
     (g.N.Net.traffic c.meet.new.net) (g.S.Sink.written c.args.sink.now) at.node m.2 at.lines)) in
     kept_from g.K.Keeper law t (all g.K.Keeper t c.args.name.now p) reply_limit c.fetch-fetched.new.controller
     (g.N.Net.traffic c.fetch-fetched.new.net) (g.S.Sink.written c.fetch-fetched.new.sink) c.state-2.ensures.in_order
-    c.args.controller.now.keeper c.fetch-fetched.ensures.told
+    c.args.controller.now.keeper c.fetch-fetched.ensures.counts.told
     (kept_so g.K.Keeper law t (all g.K.Keeper t c.args.name.now p) (suc reply_limit) c.fetch-fetched.new.controller
     (g.N.Net.traffic c.fetch-fetched.new.net) (g.S.Sink.written c.fetch-fetched.new.sink) c.state-2.ensures.in_order
     (pulled_more c.args.name.now p) c.fetch-fetched.result goes)

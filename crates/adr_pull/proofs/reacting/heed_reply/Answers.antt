@@ -9,8 +9,8 @@ use Rattle.adr_model.specs.Serve.{Reply}
 use Rattle.adr_packet.specs.Replies.{decoded_reply}
 use Rattle.adr_pull.specs.Fetch.{made, replied}
 use Rattle.adr_pull.specs.Told.{FindsDue, ReactsSo}
-use Rattle.adr_pull.proofs.Saying.{before_due}
-use Rattle.adr_pull.proofs.Taking.{Keeps, still_leaves}
+use Rattle.adr_pull.proofs.Saying.{still_due}
+use Rattle.adr_pull.proofs.Taking.{Keeps}
 use Rattle.adr_pull.proofs.reacting.heed_reply.Goals as goal
 
 pub take_reply-came-requires-clause-form : goal.take_reply-came-requires-clause-form
@@ -34,16 +34,12 @@ returns-in-Ok-clause-any_moment g c = λ f stands.
 pub returns-in-Err-Refused-clause-any_moment : goal.returns-in-Err-Refused-clause-any_moment
 returns-in-Err-Refused-clause-any_moment g c = λ f stands.
     let law : Keeps g.K.Keeper = record { leaves = g.met.K.Keeper.leaves; only_now = g.met.K.Keeper.only_now } in
-    let due = option_map (made f) (replied (decoded_reply c.args.body.now)) in
-    still_leaves g.K.Keeper law f c.args.controller.now stands c.state.ensures.in_order c.args.controller.now
-    (FindsDue f due) refl (before_due f due)
+    still_due g.K.Keeper law f c.args.controller.now stands c.state.ensures.in_order (option_map (made f) (replied (decoded_reply c.args.body.now)))
 
 pub returns-in-Err-NoMemory-clause-any_moment : goal.returns-in-Err-NoMemory-clause-any_moment
 returns-in-Err-NoMemory-clause-any_moment g c = λ f stands.
     let law : Keeps g.K.Keeper = record { leaves = g.met.K.Keeper.leaves; only_now = g.met.K.Keeper.only_now } in
-    let due = option_map (made f) (replied (decoded_reply c.args.body.now)) in
-    still_leaves g.K.Keeper law f c.args.controller.now stands c.state.ensures.in_order c.args.controller.now
-    (FindsDue f due) refl (before_due f due)
+    still_due g.K.Keeper law f c.args.controller.now stands c.state.ensures.in_order (option_map (made f) (replied (decoded_reply c.args.body.now)))
 
 pub returns-in-Err-Refused-clause-reacts : goal.returns-in-Err-Refused-clause-reacts
 returns-in-Err-Refused-clause-reacts g c = λ f stands. (

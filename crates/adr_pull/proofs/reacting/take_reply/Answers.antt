@@ -47,12 +47,20 @@ returns-in-Err-Hindered-clause-up g c =
     (ap call_hindrance (c.in-Err-Hindered.is
     ∙ ap Err c.in-Err-Hindered.field-0-is)) c.hindered.result c.hindered.ensures
 
-pub returns-in-Err-Hindered-clause-disk : goal.returns-in-Err-Hindered-clause-disk
-returns-in-Err-Hindered-clause-disk g c = λ failed.
-    hindered_disk g.K.Keeper c.args.reply.now c.args.controller.now c.take-made.new.self
-    (call_hindrance c.take-made.result) c.take-made.ensures.calls c.requires.up c.in-Err-Hindered.hindrance
-    (ap call_hindrance (c.in-Err-Hindered.is
-    ∙ ap Err c.in-Err-Hindered.field-0-is)) c.hindered.result c.hindered.ensures failed
+pub returns-in-Err-Hindered-clause-counts : goal.returns-in-Err-Hindered-clause-counts
+returns-in-Err-Hindered-clause-counts g c =
+    let h = c.hindered in
+    let hindrance = c.in-Err-Hindered.hindrance in
+    record {
+      told = c.take-made.ensures.calls.still_told;
+      disk = λ failed.
+          hindered_disk g.K.Keeper c.args.reply.now c.args.controller.now c.take-made.new.self
+          (call_hindrance c.take-made.result) c.take-made.ensures.calls c.requires.up hindrance
+          (ap call_hindrance (c.in-Err-Hindered.is ∙ ap Err c.in-Err-Hindered.field-0-is)) h.result h.ensures failed;
+      disk_never_falls = c.take-made.ensures.calls.later;
+      not_link = never_link hindrance h.result h.ensures;
+      not_write = never_write hindrance h.result h.ensures;
+    }
 
 pub returns-in-Ok-clause-reacts : goal.returns-in-Ok-clause-reacts
 returns-in-Ok-clause-reacts g c = λ f stands.
@@ -95,9 +103,3 @@ returns-in-Err-Hindered-clause-any_moment g c = λ f stands.
     let law : Keeps g.K.Keeper = record { leaves = g.met.K.Keeper.leaves; only_now = g.met.K.Keeper.only_now } in
     take_leaves g.K.Keeper f c.args.reply.now c.args.controller.now c.take-made.new.self
     (call_hindrance c.take-made.result) c.take-made.ensures.calls stands law c.state.ensures.in_order
-
-pub returns-in-Err-Hindered-clause-not_link : goal.returns-in-Err-Hindered-clause-not_link
-returns-in-Err-Hindered-clause-not_link g c = never_link c.in-Err-Hindered.hindrance c.hindered.result c.hindered.ensures
-
-pub returns-in-Err-Hindered-clause-not_write : goal.returns-in-Err-Hindered-clause-not_write
-returns-in-Err-Hindered-clause-not_write g c = never_write c.in-Err-Hindered.hindrance c.hindered.result c.hindered.ensures

@@ -35,9 +35,9 @@ lines-preserved g c = record {
       (g.S.Sink.written c.take_if_said.new.sink) (c.lines.invariant.at t p is at)
       c.take_if_said.result c.take_if_said.ensures.passed c.take_if_said.ensures.takes c.in_ok-accepted.accepted
       c.in_ok-accepted.was);
-  lines = omega (arith, c.lines.invariant.lines, c.take_if_said.ensures.lines_never_fall);
-  sink = omega (arith, c.lines.invariant.sink, c.take_if_said.ensures.sink_never_falls);
-  doors = c.take_if_said.ensures.doors ∙ c.lines.invariant.doors;
+  lines = omega (arith, c.lines.invariant.lines, c.take_if_said.ensures.counts.lines_never_fall);
+  sink = omega (arith, c.lines.invariant.sink, c.take_if_said.ensures.counts.sink_never_falls);
+  doors = c.take_if_said.ensures.counts.doors ∙ c.lines.invariant.doors;
 }
 
 pub returns-clause-sends : goal.returns-clause-sends

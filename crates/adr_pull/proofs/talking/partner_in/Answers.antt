@@ -12,5 +12,5 @@ returns-then-is_empty c =
     c.from_bytes.result
     c.in_ok-kind.ensures.cases.0 c.in_ok-dsa.ensures.cases.0
     c.in_ok-dsa.ensures.cases.2 (is_none
-    (length c.in_ok-dsa.behind.now) c.is_empty.result c.is_empty.ensures c.if-is_empty.true) c.if-kind-eq7.true
+    (length c.in_ok-dsa.behind.now) c.is_empty.result c.is_empty.ensures c.if-is_empty.true) c.if-kind-eq-IDENTITY.true
     c.from_bytes.ensures

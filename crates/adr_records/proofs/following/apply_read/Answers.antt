@@ -6,8 +6,8 @@ use Rattle.adr_records.proofs.following.apply_read.Goals as goal
 
 pub unreachable-requires : goal.unreachable-requires
 unreachable-requires c =
-    let next = after c.args.state.now c.args.change.now in
-    let may = change_follows c.args.state.now c.args.change.now c.requires.logged c.requires.body (sym c.are_locals_within.ensures ∙ c.if-not-are_locals_within.false) (sym c.in-Ok-true.ensures.told ∙ c.in-Ok-true.field-0-test) in
+    let next = after c.args.state.now c.args.change in
+    let may = change_follows c.args.state.now c.args.change c.requires.logged c.requires.body (sym c.are_locals_within.ensures ∙ c.if-not-are_locals_within.false) (sym c.in-Ok-true.ensures.told ∙ c.in-Ok-true.field-0-test) in
     let seen = may.follows.formed.store.vector.few in
     let purged = may.follows.formed.store.purged.few in
     ⊎_elim (λ (many : cursor_limit < length next.store.vector). let no : ⊥ = omega (arith, seen, many) in no)

@@ -18,8 +18,8 @@ returns-in_err-contents-clause-err c =
     let p = err_from_is_err_and c.from_residual-in_err-contents.result c.from_residual-in_err-contents.ensures.1 in
     rw (p.1, p.2) (no_image (c.args.owner.dsa, c.args.owner.inv) (from c.args.place (drop c.args.place c.args.bytes.now)) c.in_err-contents.field-0.0 (from (c.args.place + 6) (drop (c.args.place + 6) c.args.bytes.now)) c.in_ok-sized.sized c.in_ok-sized.ensures.sized c.in_err-contents.ensures)
 
-pub woken-state-requires : goal.woken-state-requires
-woken-state-requires c =
+pub woken-requires : goal.woken-requires
+woken-requires c =
     let end = c.args.place + 6 + c.in_ok-sized.sized.1 in
     own_image_is c.args.owner.inv c.in_ok-sized.sized.1 (c.args.place + 6) c.args.bytes.now c.in_ok-contents.contents (from end (drop end c.args.bytes.now)) (λ i. (c.type_inv.bytes i).fits) c.in_ok-contents.ensures
 
@@ -29,4 +29,4 @@ returns-clause-ok c =
     let place = c.args.place + 6 + p.1 in
     let end = from place (drop place c.args.bytes.now) in
     area_there (c.args.owner.dsa, c.args.owner.inv) (from c.args.place (drop c.args.place c.args.bytes.now)) (from (c.args.place + 6) (drop (c.args.place + 6) c.args.bytes.now)) end p c.in_ok-contents.contents c.in_ok-sized.ensures.sized c.in_ok-contents.ensures
-    ∙ ap (λ (t : State). let x : Read (Began State) = Ok (began p.0 t, end) in x) (sym c.in_ok-state.ensures)
+    ∙ ap (λ (t : State). let x : Read (Began State) = Ok (began p.0 t, end) in x) (sym c.in_ok-woken.ensures)

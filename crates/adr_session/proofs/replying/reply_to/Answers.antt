@@ -2,13 +2,10 @@ use Rattle.std.proofs.Common.{◌∙◌, ap, refl, sym, Some, None, Ok, Err}
 use Rattle.std.proofs.lemmas.Result.{err_from_is_err_and}
 use Rattle.adr_model.specs.Serve.{serve}
 use Rattle.adr_law_journal.proofs.Told.{some_of}
-use Rattle.adr_controller.specs.Able.{served_in}
 use Rattle.adr_controller.specs.Ended.{call_hindrance}
 use Rattle.adr_law_controller.specs.Called.{Serves as ServesCall}
 use Rattle.adr_session.specs.declared.ending.ServeFault.TheVariants as faults
-use Rattle.adr_session.specs.Talk.{replies}
-use Rattle.adr_session.proofs.Making.{makes}
-use Rattle.adr_session.proofs.CallAnswers.{log_full, replies_led, served_told, tells_at}
+use Rattle.adr_session.proofs.CallAnswers.{served_told, serves_makes}
 use Rattle.adr_session.proofs.replying.reply_to.Goals as goal
 
 pub serve-requires : goal.serve-requires
@@ -26,72 +23,39 @@ pub returns-in_err-replied-in-Ok : goal.returns-in_err-replied-in-Ok
 returns-in_err-replied-in-Ok g c =
     let law = g.met.K.Keeper in
     let r = err_from_is_err_and c.from_residual.result c.from_residual.ensures.1 in
-    makes (λ v. v.items) g.K.Keeper law.leaves law.only_now (served_in c.args.request.now 0) (λ f. replies f (serve f.state c.args.request.now 0)) c.args.controller.now c.serve.new.self
-    (call_hindrance c.serve.result) c.from_residual.result c.state.ensures.in_order c.requires.up (c.serve.ensures.calls 0)
-    (λ f stands.
-    let said = served_told (serve f.state c.args.request.now 0) in (
-      said,
-      log_full,
-      replies_led f (serve f.state c.args.request.now 0),
-      tells_at (λ v. v.items) said log_full (call_hindrance c.serve.result) None c.from_residual.result (Err faults.NoMemory) (ap call_hindrance c.in-Ok.is) (r.1 ∙ ap Err r.2) (λ e. cc e),
-    ))
+    serves_makes g.K.Keeper law.leaves law.only_now c.args.controller.now c.serve.new.self (call_hindrance c.serve.result) c.state.ensures.in_order c.requires.up
+    None c.from_residual.result (Err faults.NoMemory) (ap call_hindrance c.in-Ok.is) (r.1 ∙ ap Err r.2) (λ v. v.items) c.args.request.now (c.serve.ensures.calls 0) (λ f stands e. cc e)
 
 pub returns-in_err-refused-in-Err-Refused : goal.returns-in_err-refused-in-Err-Refused
 returns-in_err-refused-in-Err-Refused g c =
     let law = g.met.K.Keeper in
     let was = c.in-Err-Refused.is ∙ ap Err c.in-Err-Refused.field-0-is in
-    let r = err_from_is_err_and c.from_residual-in_err-refused-in-Err-Refused.result c.from_residual-in_err-refused-in-Err-Refused.ensures.1 in
-    makes (λ v. v.items) g.K.Keeper law.leaves law.only_now (served_in c.args.request.now 0) (λ f. replies f (serve f.state c.args.request.now 0)) c.args.controller.now c.serve.new.self
-    (call_hindrance c.serve.result) c.from_residual-in_err-refused-in-Err-Refused.result c.state.ensures.in_order c.requires.up (c.serve.ensures.calls 0)
-    (λ f stands.
-    let said = served_told (serve f.state c.args.request.now 0) in (
-      said,
-      log_full,
-      replies_led f (serve f.state c.args.request.now 0),
-      tells_at (λ v. v.items) said log_full (call_hindrance c.serve.result) None c.from_residual-in_err-refused-in-Err-Refused.result (Err faults.NoMemory) (ap call_hindrance was) (r.1 ∙ ap Err r.2) (λ e. cc e),
-    ))
+    let left = c.from_residual-in_err-refused-in-Err-Refused in
+    let r = err_from_is_err_and left.result left.ensures.1 in
+    serves_makes g.K.Keeper law.leaves law.only_now c.args.controller.now c.serve.new.self (call_hindrance c.serve.result) c.state.ensures.in_order c.requires.up
+    None left.result (Err faults.NoMemory) (ap call_hindrance was) (r.1 ∙ ap Err r.2) (λ v. v.items) c.args.request.now (c.serve.ensures.calls 0) (λ f stands e. cc e)
 
 pub returns-in_ok-replied-in-Ok : goal.returns-in_ok-replied-in-Ok
 returns-in_ok-replied-in-Ok g c =
     let law = g.met.K.Keeper in
     let v = c.in_ok-replied-in-Ok.field-0 in
-    makes (λ v. v.items) g.K.Keeper law.leaves law.only_now (served_in c.args.request.now 0) (λ f. replies f (serve f.state c.args.request.now 0)) c.args.controller.now c.serve.new.self
-    (call_hindrance c.serve.result) (Ok v) c.state.ensures.in_order c.requires.up (c.serve.ensures.calls 0)
-    (λ f stands.
-    let said = served_told (serve f.state c.args.request.now 0) in (
-      said,
-      log_full,
-      replies_led f (serve f.state c.args.request.now 0),
-      tells_at (λ v. v.items) said log_full (call_hindrance c.serve.result) None (Ok v) (Ok v) (ap call_hindrance c.in-Ok.is) refl
-          (c.in_ok-replied-in-Ok.ensures ∙ ap served_told (sym (c.in-Ok.ensures.served f.state 0 stands.0))),
-    ))
+    serves_makes g.K.Keeper law.leaves law.only_now c.args.controller.now c.serve.new.self (call_hindrance c.serve.result) c.state.ensures.in_order c.requires.up
+    None (Ok v) (Ok v) (ap call_hindrance c.in-Ok.is) refl (λ v. v.items) c.args.request.now (c.serve.ensures.calls 0)
+    (λ f stands. c.in_ok-replied-in-Ok.ensures ∙ ap served_told (sym (c.in-Ok.ensures.served f.state 0 stands.0)))
 
 pub returns-in_ok-refused-in-Err-Refused : goal.returns-in_ok-refused-in-Err-Refused
 returns-in_ok-refused-in-Err-Refused g c =
     let law = g.met.K.Keeper in
     let was = c.in-Err-Refused.is ∙ ap Err c.in-Err-Refused.field-0-is in
     let v = c.in_ok-refused-in-Err-Refused.field-0 in
-    makes (λ v. v.items) g.K.Keeper law.leaves law.only_now (served_in c.args.request.now 0) (λ f. replies f (serve f.state c.args.request.now 0)) c.args.controller.now c.serve.new.self
-    (call_hindrance c.serve.result) (Ok v) c.state.ensures.in_order c.requires.up (c.serve.ensures.calls 0)
-    (λ f stands.
-    let said = served_told (serve f.state c.args.request.now 0) in (
-      said,
-      log_full,
-      replies_led f (serve f.state c.args.request.now 0),
-      tells_at (λ v. v.items) said log_full (call_hindrance c.serve.result) None (Ok v) (Ok v) (ap call_hindrance was) refl
-          (c.in_ok-refused-in-Err-Refused.ensures ∙ ap served_told (sym (c.serve.ensures.refused f.state c.in-Err-Refused.refusal 0 stands.0 was))),
-    ))
+    serves_makes g.K.Keeper law.leaves law.only_now c.args.controller.now c.serve.new.self (call_hindrance c.serve.result) c.state.ensures.in_order c.requires.up
+    None (Ok v) (Ok v) (ap call_hindrance was) refl (λ v. v.items) c.args.request.now (c.serve.ensures.calls 0)
+    (λ f stands. c.in_ok-refused-in-Err-Refused.ensures ∙ ap served_told (sym (c.serve.ensures.refused f.state c.in-Err-Refused.refusal 0 stands.0 was)))
 
 pub returns-in-Err-Hindered : goal.returns-in-Err-Hindered
 returns-in-Err-Hindered g c =
     let law = g.met.K.Keeper in
     let was = c.in-Err-Hindered.is ∙ ap Err c.in-Err-Hindered.field-0-is in
-    makes (λ v. v.items) g.K.Keeper law.leaves law.only_now (served_in c.args.request.now 0) (λ f. replies f (serve f.state c.args.request.now 0)) c.args.controller.now c.serve.new.self
-    (call_hindrance c.serve.result) c.hindered.result c.state.ensures.in_order c.requires.up (c.serve.ensures.calls 0)
-    (λ f stands.
-    let said = served_told (serve f.state c.args.request.now 0) in (
-      said,
-      log_full,
-      replies_led f (serve f.state c.args.request.now 0),
-      tells_at (λ v. v.items) said log_full (call_hindrance c.serve.result) (Some c.in-Err-Hindered.hindrance) c.hindered.result c.hindered.result (ap call_hindrance was) refl (c.hindered.ensures said),
-    ))
+    serves_makes g.K.Keeper law.leaves law.only_now c.args.controller.now c.serve.new.self (call_hindrance c.serve.result) c.state.ensures.in_order c.requires.up
+    (Some c.in-Err-Hindered.hindrance) c.hindered.result c.hindered.result (ap call_hindrance was) refl (λ v. v.items) c.args.request.now (c.serve.ensures.calls 0)
+    (λ f stands. c.hindered.ensures (served_told (serve f.state c.args.request.now 0)))

@@ -1,111 +1,86 @@
-use Rattle.std.proofs.Common.{rules, ◌≡◌, ℕ, List, None, Err, ap, ◌∙◌}
+use Rattle.std.proofs.Common.{rules, ◌≡◌, ℕ, List, None, Some, Ok, Err, inl, inr, refl, ap, ◌∙◌}
 use Rattle.std.specs.Global.{Vec}
 use Rattle.std.proofs.lemmas.Result.{err_from_is_err_and}
+use Rattle.adr_session.specs.declared.ending.End.TheVariants as ended
+use Rattle.adr_session.specs.declared.ending.ServeFault.TheVariants as faults
 use Rattle.adr_session.specs.Talk.{reaction}
-use Rattle.adr_session.specs.Told.{FindsNear, FindsOneOf}
-use Rattle.adr_session.proofs.Leaving.{crash_by, left_by}
-use Rattle.adr_session.proofs.Messages.{cut_within, ends_malformed, fails_so, goes_on_so, handed_on, one_near, turn_is, wanting_within}
+use Rattle.adr_session.proofs.Messages.{cut_within, ends_malformed, fails_so, goes_on_so, turn_is, wanting_within}
+use Rattle.adr_session.proofs.OneTurn.{reacted_turns}
 use Rattle.adr_session.proofs.turning.answer_frame.Goals as goal
 
 -- the bytes of an answer
 abbrev bytes_of : Vec ℕ → List ℕ
 bytes_of v = v.items
 
-pub returns-in_err-answer-clause-turn : goal.returns-in_err-answer-clause-turn
-returns-in_err-answer-clause-turn g c = λ t p h.
+pub returns-in_err-answer : goal.returns-in_err-answer
+returns-in_err-answer g c =
     let k = g.K.Keeper in
     let now = c.react-reacted.new.controller in
-    let clock = g.C.Clock.moments c.react-reacted.new.clock in
-    let net = g.N.Net.traffic c.args.net.now in
+    let time = c.react-reacted.new.clock in
+    let net = c.args.net.now in
+    let e = c.in_err-answer.ensures in
+    let fault = c.in_err-answer.field-0.0 in
     let r = err_from_is_err_and c.from_residual.result c.from_residual.ensures.1 in
-    handed_on k t p now net clock c.from_residual.result r.0 c.in_err-answer.field-0.0 r.1 r.2
-    (fails_so bytes_of k t p h.rest now clock c.args.bytes.now c.in_err-answer.field-0.0 h.next
-    (c.in_err-answer.ensures.reacts p.stands p.moments h.stands h.clock) (λ is. c.in_err-answer.ensures.at_line (ap Err is)) net h.net)
+    rw (r.1, r.2)
+    (reacted_turns k g.N.Net g.C.Clock bytes_of c.args.controller.now now net net c.args.clock.now time c.args.bytes.now (Err fault) (Err fault) e.answer c.state.ensures.in_order
+    (λ t p h. fails_so bytes_of k t p h.rest now (g.C.Clock.moments time) c.args.bytes.now fault h.next
+    (e.answer.answer p.stands p.moments h.stands h.clock) (λ is. e.at_line (ap Err is)) (g.N.Net.traffic net) h.net)
+    tt (λ is. let x : fault ≡ faults.Disk = (cc is) in ap Err x) (λ is. let x : fault ≡ faults.Clock = (cc is) in e.clock (ap Err x)) e.clock_never_falls (λ is. absurd (cc is)) (inr refl) refl)
 
-pub returns-in_default-clause-turn : goal.returns-in_default-clause-turn
-returns-in_default-clause-turn g c = λ t p h.
+pub returns-in_default : goal.returns-in_default
+returns-in_default g c =
     let none : c.in_ok-answer.field-0 ≡ None = search rules in
+    let k = g.K.Keeper in
+    let now = c.react-reacted.new.controller in
+    let time = c.react-reacted.new.clock in
+    let net = c.args.net.now in
+    let e = c.in_ok-answer.ensures in
     let bytes = c.args.bytes.now in
-    ends_malformed bytes_of g.K.Keeper t p h.rest c.react-reacted.new.controller (g.C.Clock.moments c.react-reacted.new.clock) c.in_ok-answer.field-0 (reaction p.stands p.moments bytes) none
-    (turn_is p bytes h.rest h.next) (c.in_ok-answer.ensures.reacts p.stands p.moments h.stands h.clock) (g.N.Net.traffic c.args.net.now) h.net
+    reacted_turns k g.N.Net g.C.Clock bytes_of c.args.controller.now now net net c.args.clock.now time bytes (Ok c.in_ok-answer.field-0) (Ok (Some ended.Malformed)) e.answer c.state.ensures.in_order
+    (λ t p h. ends_malformed bytes_of k t p h.rest now (g.C.Clock.moments time) c.in_ok-answer.field-0 (reaction p.stands p.moments bytes) none
+    (turn_is p bytes h.rest h.next) (e.answer.answer p.stands p.moments h.stands h.clock) (g.N.Net.traffic net) h.net)
+    e.answer.up (λ is. absurd (cc is)) (λ is. absurd (cc is)) e.clock_never_falls (λ is. absurd (cc is)) (inr refl) refl
 
-pub returns-in-Ok-clause-turn : goal.returns-in-Ok-clause-turn
-returns-in-Ok-clause-turn g c = λ t p h.
+pub returns-in-Ok : goal.returns-in-Ok
+returns-in-Ok g c =
+    let k = g.K.Keeper in
+    let now = c.react-reacted.new.controller in
+    let time = c.react-reacted.new.clock in
+    let net = c.args.net.now in
+    let e = c.in_ok-answer.ensures in
     let bytes = c.args.bytes.now in
-    goes_on_so bytes_of g.K.Keeper t p h.rest c.react-reacted.new.controller (g.C.Clock.moments c.react-reacted.new.clock) c.in_ok-answer.field-0 c.in-Some.answer (reaction p.stands p.moments bytes) c.in-Some.is
-    (turn_is p bytes h.rest h.next) (c.in_ok-answer.ensures.reacts p.stands p.moments h.stands h.clock) (g.N.Net.traffic c.args.net.now) (g.N.Net.traffic c.say.new.net) c.deref.result.now h.net c.deref.ensures.value
-    c.in-Ok.ensures.sent
+    reacted_turns k g.N.Net g.C.Clock bytes_of c.args.controller.now now net c.say.new.net c.args.clock.now time bytes (Ok c.in_ok-answer.field-0) (Ok None) e.answer c.state.ensures.in_order
+    (λ t p h. goes_on_so bytes_of k t p h.rest now (g.C.Clock.moments time) c.in_ok-answer.field-0 c.in-Some.answer (reaction p.stands p.moments bytes) c.in-Some.is
+    (turn_is p bytes h.rest h.next) (e.answer.answer p.stands p.moments h.stands h.clock) (g.N.Net.traffic net) (g.N.Net.traffic c.say.new.net) c.deref.result.now h.net c.deref.ensures.value
+    c.in-Ok.ensures.sent)
+    e.answer.up (λ is. absurd (cc is)) (λ is. absurd (cc is)) e.clock_never_falls (λ is. absurd (cc is)) (inr c.in-Ok.ensures.counts.passed) c.say.ensures.counts.other
 
-pub returns-in-Err-Failed-clause-turn : goal.returns-in-Err-Failed-clause-turn
-returns-in-Err-Failed-clause-turn g c = λ t p h.
+pub returns-in-Err-Failed : goal.returns-in-Err-Failed
+returns-in-Err-Failed g c =
+    let k = g.K.Keeper in
+    let now = c.react-reacted.new.controller in
+    let time = c.react-reacted.new.clock in
+    let net = c.args.net.now in
+    let e = c.in_ok-answer.ensures in
     let bytes = c.args.bytes.now in
-    cut_within bytes_of g.K.Keeper t p h.rest c.react-reacted.new.controller (g.C.Clock.moments c.react-reacted.new.clock) c.in_ok-answer.field-0 c.in-Some.answer (reaction p.stands p.moments bytes) c.in-Some.is
-    (turn_is p bytes h.rest h.next) (c.in_ok-answer.ensures.reacts p.stands p.moments h.stands h.clock) (g.N.Net.traffic c.args.net.now) (g.N.Net.traffic c.say.new.net) c.deref.result.now h.net c.deref.ensures.value
-    c.in-Err-Failed.ensures.front
+    reacted_turns k g.N.Net g.C.Clock bytes_of c.args.controller.now now net c.say.new.net c.args.clock.now time bytes (Ok c.in_ok-answer.field-0) (Ok (Some ended.Fault)) e.answer c.state.ensures.in_order
+    (λ t p h. cut_within bytes_of k t p h.rest now (g.C.Clock.moments time) c.in_ok-answer.field-0 c.in-Some.answer (reaction p.stands p.moments bytes) c.in-Some.is
+    (turn_is p bytes h.rest h.next) (e.answer.answer p.stands p.moments h.stands h.clock) (g.N.Net.traffic net) (g.N.Net.traffic c.say.new.net) c.deref.result.now h.net c.deref.ensures.value
+    c.in-Err-Failed.ensures.front)
+    e.answer.up (λ is. absurd (cc is)) (λ is. absurd (cc is)) e.clock_never_falls (λ is. c.in-Err-Failed.ensures.counts.failed (ap Err c.in-Err-Failed.field-0-is)) (inl refl)
+    c.say.ensures.counts.other
 
-pub returns-clause-turn : goal.returns-clause-turn
-returns-clause-turn g c = λ t p h.
+pub returns : goal.returns
+returns g c =
+    let k = g.K.Keeper in
+    let now = c.react-reacted.new.controller in
+    let time = c.react-reacted.new.clock in
+    let net = c.args.net.now in
+    let e = c.in_ok-answer.ensures in
     let bytes = c.args.bytes.now in
-    wanting_within bytes_of g.K.Keeper t p h.rest c.react-reacted.new.controller (g.C.Clock.moments c.react-reacted.new.clock) c.in_ok-answer.field-0 c.in-Some.answer (reaction p.stands p.moments bytes) c.in-Some.is
-    (turn_is p bytes h.rest h.next) (c.in_ok-answer.ensures.reacts p.stands p.moments h.stands h.clock) (g.N.Net.traffic c.args.net.now) (g.N.Net.traffic c.say.new.net) h.net
-    (c.say.ensures.no_memory (c.in-Err-NoMemory.is ∙ ap Err c.in-Err-NoMemory.field-0-is))
-
-pub returns-in_err-answer-clause-any_moment : goal.returns-in_err-answer-clause-any_moment
-returns-in_err-answer-clause-any_moment g c = λ t p h.
-    let r = reaction p.stands p.moments c.args.bytes.now in
-    crash_by g.K.Keeper c.args.controller.now.keeper c.react-reacted.new.controller.keeper (FindsOneOf p.stands r) (FindsNear p) (one_near p h.rest r (turn_is p c.args.bytes.now h.rest h.next))
-    (c.react-reacted.ensures.any_moment p.stands p.moments h.stands h.clock)
-
-pub returns-in_err-answer-clause-left : goal.returns-in_err-answer-clause-left
-returns-in_err-answer-clause-left g c = λ t p h.
-    let r = reaction p.stands p.moments c.args.bytes.now in
-    left_by g.K.Keeper c.args.controller.now.keeper c.react-reacted.new.controller.keeper (FindsOneOf p.stands r) (FindsNear p) (one_near p h.rest r (turn_is p c.args.bytes.now h.rest h.next))
-    (c.react-reacted.ensures.left p.stands p.moments h.stands h.clock)
-
-pub returns-in_default-clause-any_moment : goal.returns-in_default-clause-any_moment
-returns-in_default-clause-any_moment g c = λ t p h.
-    let r = reaction p.stands p.moments c.args.bytes.now in
-    crash_by g.K.Keeper c.args.controller.now.keeper c.react-reacted.new.controller.keeper (FindsOneOf p.stands r) (FindsNear p) (one_near p h.rest r (turn_is p c.args.bytes.now h.rest h.next))
-    (c.react-reacted.ensures.any_moment p.stands p.moments h.stands h.clock)
-
-pub returns-in_default-clause-left : goal.returns-in_default-clause-left
-returns-in_default-clause-left g c = λ t p h.
-    let r = reaction p.stands p.moments c.args.bytes.now in
-    left_by g.K.Keeper c.args.controller.now.keeper c.react-reacted.new.controller.keeper (FindsOneOf p.stands r) (FindsNear p) (one_near p h.rest r (turn_is p c.args.bytes.now h.rest h.next))
-    (c.react-reacted.ensures.left p.stands p.moments h.stands h.clock)
-
-pub returns-in-Ok-clause-any_moment : goal.returns-in-Ok-clause-any_moment
-returns-in-Ok-clause-any_moment g c = λ t p h.
-    let r = reaction p.stands p.moments c.args.bytes.now in
-    crash_by g.K.Keeper c.args.controller.now.keeper c.react-reacted.new.controller.keeper (FindsOneOf p.stands r) (FindsNear p) (one_near p h.rest r (turn_is p c.args.bytes.now h.rest h.next))
-    (c.react-reacted.ensures.any_moment p.stands p.moments h.stands h.clock)
-
-pub returns-in-Ok-clause-left : goal.returns-in-Ok-clause-left
-returns-in-Ok-clause-left g c = λ t p h.
-    let r = reaction p.stands p.moments c.args.bytes.now in
-    left_by g.K.Keeper c.args.controller.now.keeper c.react-reacted.new.controller.keeper (FindsOneOf p.stands r) (FindsNear p) (one_near p h.rest r (turn_is p c.args.bytes.now h.rest h.next))
-    (c.react-reacted.ensures.left p.stands p.moments h.stands h.clock)
-
-pub returns-in-Err-Failed-clause-any_moment : goal.returns-in-Err-Failed-clause-any_moment
-returns-in-Err-Failed-clause-any_moment g c = λ t p h.
-    let r = reaction p.stands p.moments c.args.bytes.now in
-    crash_by g.K.Keeper c.args.controller.now.keeper c.react-reacted.new.controller.keeper (FindsOneOf p.stands r) (FindsNear p) (one_near p h.rest r (turn_is p c.args.bytes.now h.rest h.next))
-    (c.react-reacted.ensures.any_moment p.stands p.moments h.stands h.clock)
-
-pub returns-in-Err-Failed-clause-left : goal.returns-in-Err-Failed-clause-left
-returns-in-Err-Failed-clause-left g c = λ t p h.
-    let r = reaction p.stands p.moments c.args.bytes.now in
-    left_by g.K.Keeper c.args.controller.now.keeper c.react-reacted.new.controller.keeper (FindsOneOf p.stands r) (FindsNear p) (one_near p h.rest r (turn_is p c.args.bytes.now h.rest h.next))
-    (c.react-reacted.ensures.left p.stands p.moments h.stands h.clock)
-
-pub returns-clause-any_moment : goal.returns-clause-any_moment
-returns-clause-any_moment g c = λ t p h.
-    let r = reaction p.stands p.moments c.args.bytes.now in
-    crash_by g.K.Keeper c.args.controller.now.keeper c.react-reacted.new.controller.keeper (FindsOneOf p.stands r) (FindsNear p) (one_near p h.rest r (turn_is p c.args.bytes.now h.rest h.next))
-    (c.react-reacted.ensures.any_moment p.stands p.moments h.stands h.clock)
-
-pub returns-clause-left : goal.returns-clause-left
-returns-clause-left g c = λ t p h.
-    let r = reaction p.stands p.moments c.args.bytes.now in
-    left_by g.K.Keeper c.args.controller.now.keeper c.react-reacted.new.controller.keeper (FindsOneOf p.stands r) (FindsNear p) (one_near p h.rest r (turn_is p c.args.bytes.now h.rest h.next))
-    (c.react-reacted.ensures.left p.stands p.moments h.stands h.clock)
+    let wanting = c.in-Err-NoMemory.is ∙ ap Err c.in-Err-NoMemory.field-0-is in
+    reacted_turns k g.N.Net g.C.Clock bytes_of c.args.controller.now now net c.say.new.net c.args.clock.now time bytes (Ok c.in_ok-answer.field-0) (Err faults.NoMemory) e.answer c.state.ensures.in_order
+    (λ t p h. wanting_within bytes_of k t p h.rest now (g.C.Clock.moments time) c.in_ok-answer.field-0 c.in-Some.answer (reaction p.stands p.moments bytes) c.in-Some.is
+    (turn_is p bytes h.rest h.next) (e.answer.answer p.stands p.moments h.stands h.clock) (g.N.Net.traffic net) (g.N.Net.traffic c.say.new.net) h.net
+    (c.say.ensures.no_memory wanting))
+    tt (λ is. absurd (cc is)) (λ is. absurd (cc is)) e.clock_never_falls (λ is. absurd (cc is)) (inr (c.say.ensures.counts.no_memory wanting)) c.say.ensures.counts.other

@@ -34,33 +34,32 @@ pub put_commit-requires-clause-takes : goal.put_commit-requires-clause-takes
 put_commit-requires-clause-takes g c =
     let p = c.requires.prepared in
     let k = c.args.self.now in
-    let change = c.args._change.now in
-    let r = ready g _ k.bytes.items k.log k.next k.area.items k.prepared.items p.0 change p.1 p.2 p.3 in
-    (layout r, p.0.state, after p.0.state change, k.log, mid r, g.F.Form.body_of change, takes g _ k.bytes.items k.log k.next k.area.items k.prepared.items p.0 change p.1 p.2 p.3 c.deref.result.now c.deref-2.result.now c.deref.ensures.value c.deref-2.ensures.value)
+    let change = p.1 in
+    let r = ready g _ k.bytes.items k.log k.next k.area.items k.prepared.items p.0 change p.2 p.3 p.4 in
+    (layout r, p.0.state, after p.0.state change, k.log, mid r, g.F.Form.body_of change, takes g _ k.bytes.items k.log k.next k.area.items k.prepared.items p.0 change p.2 p.3 p.4 c.deref.result.now c.deref-2.result.now c.deref.ensures.value c.deref-2.ensures.value)
 
 pub put_commit-requires-clause-begun : goal.put_commit-requires-clause-begun
 put_commit-requires-clause-begun g c =
     let p = c.requires.prepared in
     let k = c.args.self.now in
-    omega (arith, record_within (ready g _ k.bytes.items k.log k.next k.area.items k.prepared.items p.0 c.args._change.now p.1 p.2 p.3), ap length c.deref-2.ensures.value)
+    omega (arith, record_within (ready g _ k.bytes.items k.log k.next k.area.items k.prepared.items p.0 p.1 p.2 p.3 p.4), ap length c.deref-2.ensures.value)
 
 pub returns-clause-ok : goal.returns-clause-ok
-returns-clause-ok g c = λ f at is_next can.
+returns-clause-ok g c = λ f change at is_next can.
     let k = c.args.self.now in
-    let change = c.args._change.now in
     let r = ready g _ k.bytes.items k.log k.next k.area.items k.prepared.items f change at is_next can in
     let both = takes g _ k.bytes.items k.log k.next k.area.items k.prepared.items f change at is_next can c.deref.result.now c.deref-2.result.now c.deref.ensures.value c.deref-2.ensures.value in
     next_at r c.put_commit.new.bytes.items (c.put_commit.ensures (layout r) f.state (after f.state change) k.log (mid r) (g.F.Form.body_of change) both)
 
 pub returns-clause-any_moment : goal.returns-clause-any_moment
-returns-clause-any_moment g c = λ f at is_next can.
+returns-clause-any_moment g c = λ f change at is_next can.
     let form = g.F.Form in
-    let after_it = found_after f c.args._change.now in
-    let tells = log_tells form.head form.area form.following c.put_commit.new.bytes.items c.args.self.now.next after_it (returns-clause-ok g c f at is_next can) in
+    let after_it = found_after f change in
+    let tells = log_tells form.head form.area form.following c.put_commit.new.bytes.items c.args.self.now.next after_it (returns-clause-ok g c f change at is_next can) in
     record { later = omega arith; each = λ t left. inr (after_it.log, left ∙ tells); before = λ n t le left. inr (inr (after_it.log, left ∙ tells)) }
 
 pub returns-clause-left : goal.returns-clause-left
-returns-clause-left g c = λ f at is_next can t left.
+returns-clause-left g c = λ f change at is_next can t left.
     let form = g.F.Form in
-    let after_it = found_after f c.args._change.now in
-    inr (after_it.log, left ∙ log_tells form.head form.area form.following c.put_commit.new.bytes.items c.args.self.now.next after_it (returns-clause-ok g c f at is_next can))
+    let after_it = found_after f change in
+    inr (after_it.log, left ∙ log_tells form.head form.area form.following c.put_commit.new.bytes.items c.args.self.now.next after_it (returns-clause-ok g c f change at is_next can))

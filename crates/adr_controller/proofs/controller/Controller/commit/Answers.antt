@@ -17,7 +17,7 @@ returns-in-Ok-clause-commits g c = λ s is.
     let inside = c.self.inside in
     let keeper = c.keep.new.keeper in
     let t = c.keep.new.state in
-    of_state k c.in-Some.state s c.args.change.now inside.keeper inside.state inside.down c.args.self.now (up_behind None keeper t) _ None c.self.view_is c.in-Some.is c.if-self.false is
+    of_state k c.in-Some.state s c.args.change inside.keeper inside.state inside.down c.args.self.now (up_behind None keeper t) _ None c.self.view_is c.in-Some.is c.if-self.false is
     (same_running k keeper (Some t) t inside.down refl c.if-self.false) c.in-Ok.ensures.commits
 
 pub returns-in-Err-DiskFault-clause-commits : goal.returns-in-Err-DiskFault-clause-commits
@@ -27,8 +27,8 @@ returns-in-Err-DiskFault-clause-commits g c = λ s is.
     let keeper = c.keep.new.keeper in
     let t = c.keep.new.state in
     let x = c.in-Some.state in
-    let kept = subst (λ h. Kept k x c.args.change.now (up_behind None inside.keeper x) (up_behind (Some h) keeper t) (Some h)) c.in-Err-DiskFault.field-0-is c.in-Err-DiskFault.ensures in
-    of_state k x s c.args.change.now inside.keeper inside.state inside.down c.args.self.now (up_behind (Some DiskFault) keeper t) _ (Some DiskFault) c.self.view_is c.in-Some.is c.if-self.false is
+    let kept = subst (λ h. Kept k x c.args.change (up_behind None inside.keeper x) (up_behind (Some h) keeper t) (Some h)) c.in-Err-DiskFault.field-0-is c.in-Err-DiskFault.ensures in
+    of_state k x s c.args.change inside.keeper inside.state inside.down c.args.self.now (up_behind (Some DiskFault) keeper t) _ (Some DiskFault) c.self.view_is c.in-Some.is c.if-self.false is
     (same_failed k keeper c.forget.new.state t inside.down c.forget.ensures c.if-self.false) kept.commits
 
 pub returns-in-Err-clause-commits : goal.returns-in-Err-clause-commits
@@ -38,5 +38,5 @@ returns-in-Err-clause-commits g c = λ s is.
     let keeper = c.keep.new.keeper in
     let t = c.keep.new.state in
     let h = c.in-Err.hindrance in
-    of_state k c.in-Some.state s c.args.change.now inside.keeper inside.state inside.down c.args.self.now (up_behind (Some h) keeper t) _ (Some h) c.self.view_is c.in-Some.is c.if-self.false is
+    of_state k c.in-Some.state s c.args.change inside.keeper inside.state inside.down c.args.self.now (up_behind (Some h) keeper t) _ (Some h) c.self.view_is c.in-Some.is c.if-self.false is
     (same_hindered k h (search rules) keeper t inside.down c.if-self.false) c.in-Err.ensures.commits

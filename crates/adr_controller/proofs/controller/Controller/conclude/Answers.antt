@@ -20,9 +20,9 @@ returns-in_err-commit-clause-calls g c = λ changes made.
     let ends = c.in_err-commit.ensures in
     let p = err_from_is_err_and c.from_residual-in_err-commit.result c.from_residual-in_err-commit.ensures.1 in
     subst (λ h. Calls g.K.Keeper changes old new h) (hindered_so how c.from_residual-in_err-commit.result p.0 p.1 p.2)
-    (committed_so g.K.Keeper changes c.args.change.now old new (Some how) made ends.down ends.failed ends.stays ends.commits)
+    (committed_so g.K.Keeper changes c.args.change old new (Some how) made ends.down ends.failed ends.stays ends.commits)
 
 pub returns-clause-calls : goal.returns-clause-calls
 returns-clause-calls g c = λ changes made.
     let ends = c.in_ok-commit.ensures in
-    committed_so g.K.Keeper changes c.args.change.now c.args.self.now c.commit.new.self None made ends.down ends.failed ends.stays ends.commits
+    committed_so g.K.Keeper changes c.args.change c.args.self.now c.commit.new.self None made ends.down ends.failed ends.stays ends.commits

@@ -19,8 +19,8 @@ returns-in_err-state-clause-calls g c =
     let p = err_from_is_err_and c.from_residual.result c.from_residual.ensures.1 in
     not_running g.K.Keeper (taken_in c.args.reply.now) c.args.self.now h c.in_err-state.ensures.err _ (hindered_so h c.from_residual.result p.0 p.1 p.2)
 
-pub conclude-concluded-requires : goal.conclude-concluded-requires
-conclude-concluded-requires g c = λ x is.
+pub conclude-requires : goal.conclude-requires
+conclude-requires g c = λ x is.
     let was = c.in_ok-state.ensures.ok in
     let s = c.in_ok-state.state.now in
     subst (λ y. CanCommit g.K.Keeper y c.in-Ok.change) (some_is s x (sym was.0 ∙ is)) (c.requires.follows s c.in-Ok.change was.2 (ap (change_of_taken s) c.in-Ok.ensures.ok))
@@ -29,21 +29,21 @@ pub returns-in-Ok-clause-taken : goal.returns-in-Ok-clause-taken
 returns-in-Ok-clause-taken g c =
     let s = c.in_ok-state.state.now in
     let change = c.in-Ok.change in
-    IfOk-weaker c.conclude-concluded.result _ _
+    IfOk-weaker c.conclude.result _ _
     (λ taken told x is. (
       change,
       subst (λ y. take y c.args.reply.now ≡ Ok change) (some_is s x (sym c.in_ok-state.ensures.ok.0 ∙ is)) c.in-Ok.ensures.ok,
-      IfOk-at_ok _ told c.told_of.ensures,
+      IfOk-at_ok _ told c.told_of-told.ensures,
     ))
-    c.conclude-concluded.ensures.told
+    c.conclude.ensures.told
 
 pub returns-in-Ok-clause-refused : goal.returns-in-Ok-clause-refused
-returns-in-Ok-clause-refused g c = λ x refusal is e. absurd (c.conclude-concluded.ensures.not_refused refusal e)
+returns-in-Ok-clause-refused g c = λ x refusal is e. absurd (c.conclude.ensures.not_refused refusal e)
 
 pub returns-in-Ok-clause-calls : goal.returns-in-Ok-clause-calls
 returns-in-Ok-clause-calls g c =
     let s = c.in_ok-state.state.now in
-    c.conclude-concluded.ensures.calls (taken_in c.args.reply.now)
+    c.conclude.ensures.calls (taken_in c.args.reply.now)
     (record { state = s; in_memory = c.in_ok-state.ensures.ok.0; makes = ap (change_of_taken s) c.in-Ok.ensures.ok; in_order = c.running.ensures.in_order })
 
 pub refuse_reply-requires-clause-follows : goal.refuse_reply-requires-clause-follows
@@ -90,7 +90,7 @@ returns-in-Ok-clause-before g c = λ x refusal is shows first.
     absurd (cc (c.take.ensures.before refusal here, c.in-Ok.is))
 
 pub returns-in-Ok-clause-put_back : goal.returns-in-Ok-clause-put_back
-returns-in-Ok-clause-put_back g c = λ x refusal is e shows. absurd (c.conclude-concluded.ensures.not_refused refusal e)
+returns-in-Ok-clause-put_back g c = λ x refusal is e shows. absurd (c.conclude.ensures.not_refused refusal e)
 
 pub returns-in-Err-NoMemory-clause-before : goal.returns-in-Err-NoMemory-clause-before
 returns-in-Err-NoMemory-clause-before g c = λ x refusal is shows first.

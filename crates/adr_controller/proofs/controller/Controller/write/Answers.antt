@@ -38,8 +38,8 @@ returns-in_err-change-clause-refused g c = λ x refusal is refused.
     subst (λ y. write y (write_meant c.args.what.now) c.args.now ≡ Err refusal) (some_is c.in_ok-state.state.now x (sym c.in_ok-state.ensures.ok.0 ∙ is))
     (c.in_err-change.ensures.refused refusal (ap (λ e. let x : Result Change (Failure WriteRefusal) = Err e in x) (refused_by e c.from_residual-in_err-change.result p.0 refusal p.1 p.2 refused)))
 
-pub conclude-concluded-requires : goal.conclude-concluded-requires
-conclude-concluded-requires g c = λ x is.
+pub conclude-requires : goal.conclude-requires
+conclude-requires g c = λ x is.
     let was = c.in_ok-state.ensures.ok in
     let s = c.in_ok-state.state.now in
     subst (λ y. CanCommit g.K.Keeper y c.in_ok-change.change) (some_is s x (sym was.0 ∙ is))
@@ -49,18 +49,18 @@ pub returns-clause-written : goal.returns-clause-written
 returns-clause-written g c =
     let s = c.in_ok-state.state.now in
     let change = c.in_ok-change.change in
-    IfOk-weaker c.conclude-concluded.result _ _
+    IfOk-weaker c.conclude.result _ _
     (λ usn told x is. (
       change,
       subst (λ y. write y (write_meant c.args.what.now) c.args.now ≡ Ok change) (some_is s x (sym c.in_ok-state.ensures.ok.0 ∙ is)) c.in_ok-change.ensures.ok,
-      IfOk-at_ok (λ usn. usn ≡ change.usn) told c.usn.ensures,
+      IfOk-at_ok (λ usn. usn ≡ change.usn) told c.usn-usn.ensures,
     ))
-    c.conclude-concluded.ensures.told
+    c.conclude.ensures.told
 
 pub returns-clause-refused : goal.returns-clause-refused
-returns-clause-refused g c = λ x refusal is e. absurd (c.conclude-concluded.ensures.not_refused refusal e)
+returns-clause-refused g c = λ x refusal is e. absurd (c.conclude.ensures.not_refused refusal e)
 
 pub returns-clause-calls : goal.returns-clause-calls
 returns-clause-calls g c =
-    c.conclude-concluded.ensures.calls (written_in c.args.what.now c.args.now)
+    c.conclude.ensures.calls (written_in c.args.what.now c.args.now)
     (record { state = c.in_ok-state.state.now; in_memory = c.in_ok-state.ensures.ok.0; makes = ap change_in c.in_ok-change.ensures.ok; in_order = c.running.ensures.in_order })

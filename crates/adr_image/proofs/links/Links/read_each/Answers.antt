@@ -1,6 +1,6 @@
 use Rattle.std.proofs.Common.{fold, refl, sym, ◌∙◌}
 use Rattle.std.proofs.lemmas.Result.{err_from_is_err_and}
-use Rattle.adr_wire.specs.Gathering.{gathered_at}
+use Rattle.adr_wire.specs.Reading.{gathered_at}
 use Rattle.adr_wire.proofs.Loops.{names_refuses, refuses_is}
 use Rattle.adr_image.specs.Image.{with_link, link_at}
 use Rattle.adr_image.specs.Whole.{dead_of, no_links}

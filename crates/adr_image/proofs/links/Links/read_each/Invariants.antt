@@ -1,5 +1,5 @@
 use Rattle.std.proofs.Common.{List, []}
-use Rattle.adr_wire.specs.Gathering.{gathered_at}
+use Rattle.adr_wire.specs.Reading.{gathered_at}
 use Rattle.adr_image.specs.Image.{Rows, with_link, link_at}
 use Rattle.adr_image.specs.Whole.{dead_of, no_links}
 use Rattle.adr_image.specs.Seen.{KeepsLinks}

@@ -1,4 +1,4 @@
--- A run that hasn't begun was told nothing. Assumes `Logic`.
+-- A run that hasn't begun was told nothing, and no call is kept. Assumes `Logic`.
 use Rattle.std.proofs.Common.{[], ◌∷◌, refl}
 use Rattle.std.proofs.raw_atomic.Walks.{proved}
 use types.Kit.{‵, raw, ◌⊛◌, ◌$◌, ◌∵◌, !, qed, move, keep, drop, split, fjoin, suffices, done}
@@ -12,6 +12,7 @@ use denote.Triple.Entry.{alive}
 use denote.Triple.Walked.{says, walk_of, ends_at}
 use Rattle.adr_run_replica.proofs.Walks.{none, none_made}
 use Rattle.adr_run_replica.specs.Past.{nothing_yet}
+use Rattle.adr_run_replica.specs.Told.{keeping_none}
 use Rattle.adr_run_replica.specs.contracts.told.Told as Told
 use Rattle.adr_run_replica.specs.contracts.told.Told.new as f
 use Rattle.adr_run_replica.proofs.told.Told.new.Statement.{statement}
@@ -22,7 +23,7 @@ new_spec 𝓤 𝓛 𝓜 𝓡 wired =
     let c = f.clauses 𝓛 𝓜.mem 𝓡.returns in
     proved 𝓛 f.ended tt c 𝓜 𝓡 tt f.Key.name code.function (code.unfolded 𝓤 𝓛.H 𝓜 𝓡 wired) (λ κs. tt) (λ κs. tt) (λ κs qs bounds a g are.
     let y : (walk_of 𝓛 f.ended tt c).Ghost = ((κs, qs, bounds, a, tt), g) in
-    let told : (Told.the_row).Denot = record { past = nothing_yet } in
+    let told : (Told.the_row).Denot = record { ahead = keeping_none nothing_yet } in
     qed 𝓛 ((raw (alive 𝓛 f.ended.signature κs qs) ⊛ ‵ (owns (types_at f.ended.signature.params κs) a tt)) ∷ raw ((c κs a).requires g) ∷ []) ∵
     keep ! (0 ∷ []) $ split ! $ move ! (1 ∷ []) $ drop ! $
     enter ! _ _ _ _ _ $ alloc_all ! (λ l. pass_all ! refl tt $

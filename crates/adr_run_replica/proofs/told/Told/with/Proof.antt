@@ -39,7 +39,7 @@ with_spec 𝓤 𝓛 𝓜 𝓡 wired =
     (λ κs. (shr_vals, (shr_vals, tt)))
     (λ κs. (shr_Tells (named 0) κs.0 Told.the_row, (shr_Tells (named 1) κs.1.0 (Deed.the_row (named_lft 3 2 tt κs) State.the_row Replica.the_row Write.the_row Request.the_row Reply.the_row), tt))) (λ κs qs bounds a g are.
     let y : (walk_of 𝓛 f.ended stayed c).Ghost = ((κs, qs, bounds, a, (shr_vals a.0, (shr_vals a.1.0, tt))), g) in
-    let told : (Told.the_row).Denot = record { past = (told_of a.0.now.past a.1.0.now).past } in
+    let told : (Told.the_row).Denot = record { ahead = told_of a.0.now.ahead.past a.1.0.now } in
     qed 𝓛 ((raw (alive 𝓛 f.ended.signature κs qs) ⊛ ‵ (owns (types_at f.ended.signature.params κs) a y.0.4)) ∷ raw ((c κs a).requires g) ∷ []) ∵
     keep ! (0 ∷ []) $ split ! $ move ! (1 ∷ []) $ drop ! $
     enter ! _ _ _ _ _ $ alloc_all ! (λ l. pass_all ! refl ((tt, tt), ((tt, tt), tt)) $

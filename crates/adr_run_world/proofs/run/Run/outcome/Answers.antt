@@ -1,5 +1,5 @@
 use Rattle.std.proofs.Common.{◌≡◌, ◌∙◌, ap, subst, codes}
-use Rattle.adr_event.specs.declared.event.Event.TheVariants.{Ask, Serve, Deliver}
+use Rattle.adr_event.specs.declared.event.Event.TheVariants.{Ask}
 use Rattle.adr_event.specs.Supported.{IsSupported}
 use Rattle.adr_event.specs.Verbs.{verb_of_report, verb_of_write, word_of}
 use Rattle.adr_law_recorded.specs.Typed.{IsTyped}

@@ -1,4 +1,4 @@
-use Rattle.std.proofs.Common.{◌≡◌, ◌∙◌, Some, None, sym, ap, subst, codes}
+use Rattle.std.proofs.Common.{◌≡◌, ◌∙◌, Some, None, sym, ap, subst, codes, refl}
 use Rattle.adr_call.specs.declared.outcome.Outcome.{Outcome}
 use Rattle.adr_call.specs.declared.outcome.Outcome.TheVariants as outcomes
 use Rattle.adr_event.specs.declared.event.Event.TheVariants.{Serve}
@@ -9,7 +9,7 @@ use Rattle.adr_model.specs.Step.{step, told}
 use Rattle.adr_model.specs.World.{bound_at, nothing, served, serves_request}
 use Rattle.adr_answers.proofs.Results.{on_err}
 use Rattle.adr_run_world.specs.Run.{AreSpelled, world_of}
-use Rattle.adr_run_world.proofs.Becoming.{run_with, found_there, stands, undone, apart_with, led_to}
+use Rattle.adr_run_world.proofs.Becoming.{Becomes, run_with, found_there, stands, undone, apart_with, led_to, tidy_with}
 use Rattle.adr_run_world.proofs.Bindings.{each_bound, request_ranged, served_step}
 use Rattle.adr_run_world.proofs.Calls.{no_request_so, reaches_none, sent_keeps}
 use Rattle.adr_run_world.proofs.Results.{either_so, on_err_both, on_ok_as}
@@ -30,17 +30,19 @@ returns-in_default-get-clause-stepped c =
 pub serve-requires : goal.serve-requires
 serve-requires c = request_ranged c.args.self.now.requests c.args.request.now c.in-Some-get.request.now c.requires.tidy.requests c.in-Some-get.ensures
 
+becomes_short : (c : goal.After-from_residual) → Becomes c.args.self.now c.args.name.now c.in-Some.place c.index_mut.result.now c.serve.new.self c.serve.new.past
+becomes_short c = record { place = c.in-Some.ensures.place; read = c.index_mut.ensures.value; found = c.in-Some.ensures.found; tidy = c.requires.tidy; named = c.serve.ensures.name; given = c.serve.ensures.given }
+
 pub returns-in_err-sent-clause-err : goal.returns-in_err-sent-clause-err
 returns-in_err-sent-clause-err c =
     on_err c.from_residual.result
-    (undone c.args.self.now c.args.name.now c.in-Some.place c.index_mut.result.now c.in-Some.ensures.place c.index_mut.ensures.value c.in-Some.ensures.found c.requires.tidy c.serve.new.self c.serve.new.past c.in_err-sent.ensures.err)
+    (undone (becomes_short c) c.in_err-sent.ensures.err)
 
 pub returns-in_err-sent-clause-tidy : goal.returns-in_err-sent-clause-tidy
-returns-in_err-sent-clause-tidy c = record {
-  apart = apart_with c.args.self.now c.args.name.now c.in-Some.place c.index_mut.result.now c.in-Some.ensures.place c.index_mut.ensures.value c.in-Some.ensures.found c.requires.tidy c.serve.new.self c.serve.ensures.name;
-  requests = c.requires.tidy.requests;
-  replies = c.requires.tidy.replies;
-}
+returns-in_err-sent-clause-tidy c = tidy_with (becomes_short c) refl refl refl
+
+becomes : (c : goal.After-bind) → Becomes c.args.self.now c.args.name.now c.in-Some.place c.index_mut.result.now c.serve.new.self c.serve.new.past
+becomes c = record { place = c.in-Some.ensures.place; read = c.index_mut.ensures.value; found = c.in-Some.ensures.found; tidy = c.requires.tidy; named = c.serve.ensures.name; given = c.serve.ensures.given }
 
 pub returns-clause-err : goal.returns-clause-err
 returns-clause-err c =
@@ -50,9 +52,9 @@ returns-clause-err c =
     on_err_both c.bind.result c.bind.ensures.err c.bind.ensures.some
     (λ same some. ap (λ rs. record v { replies = rs }) same
     ∙ sent_keeps w c.args.name.now c.in-Some-get.request.now (request_ranged c.args.self.now.requests c.args.request.now c.in-Some-get.request.now c.requires.tidy.requests c.in-Some-get.ensures).version v sent.0 sent.1 some
-    (led_to c.args.self.now c.args.name.now c.in-Some.place c.index_mut.result.now c.in-Some.ensures.place c.index_mut.ensures.value c.in-Some.ensures.found c.requires.tidy c.serve.new.self c.serve.ensures.name c.serve.new.past c.serve.ensures.given
+    (led_to (becomes c)
     (λ r. served w r (Some c.in-Some-get.request.now)) sent.0 sent.1
-    (c.in_ok-sent.ensures.served w (stands c.args.self.now c.args.name.now c.in-Some.place c.index_mut.result.now c.in-Some.ensures.place c.index_mut.ensures.value c.in-Some.ensures.found c.requires.tidy))))
+    (c.in_ok-sent.ensures.served w (stands (becomes c)))))
 
 pub returns-clause-stepped : goal.returns-clause-stepped
 returns-clause-stepped c =
@@ -62,14 +64,14 @@ returns-clause-stepped c =
     on_ok_as c.bind.result sent.0 (λ (o : Outcome). step w (Serve c.args.name.now c.args.request.now c.args.bound.now) ≡ told (codes "serve") c.args.name.now (record v { replies = c.bind.new.self }, o)) c.bind.ensures.outcome c.bind.ensures.ok
     (λ made. served_step w c.args.name.now c.args.request.now c.args.bound.now v sent.0 sent.1
     (ap (serves_request w c.args.name.now) (sym c.in-Some-get.ensures)
-    ∙ led_to c.args.self.now c.args.name.now c.in-Some.place c.index_mut.result.now c.in-Some.ensures.place c.index_mut.ensures.value c.in-Some.ensures.found c.requires.tidy c.serve.new.self c.serve.ensures.name c.serve.new.past c.serve.ensures.given
+    ∙ led_to (becomes c)
     (λ r. served w r (Some c.in-Some-get.request.now)) sent.0 sent.1
-    (c.in_ok-sent.ensures.served w (stands c.args.self.now c.args.name.now c.in-Some.place c.index_mut.result.now c.in-Some.ensures.place c.index_mut.ensures.value c.in-Some.ensures.found c.requires.tidy)))
+    (c.in_ok-sent.ensures.served w (stands (becomes c))))
     ∙ ap (λ rs. told (codes "serve") c.args.name.now (record v { replies = rs }, sent.0)) (sym made))
 
 pub returns-clause-tidy : goal.returns-clause-tidy
 returns-clause-tidy c = record {
-  apart = apart_with c.args.self.now c.args.name.now c.in-Some.place c.index_mut.result.now c.in-Some.ensures.place c.index_mut.ensures.value c.in-Some.ensures.found c.requires.tidy c.serve.new.self c.serve.ensures.name;
+  apart = apart_with (becomes c);
   requests = c.requires.tidy.requests;
   replies = either_so c.bind.result (AreSpelled c.bind.new.self) c.bind.ensures.ok c.bind.ensures.err
       (λ made. subst AreSpelled (sym made)

@@ -1,8 +1,8 @@
-use Rattle.std.proofs.Common.{◌∙◌, Some, ap, sym}
+use Rattle.std.proofs.Common.{◌∙◌, Some, ap, sym, refl}
 use Rattle.std.proofs.lemmas.Result.{IfOk-weaker}
 use Rattle.adr_model.specs.World.{bound_at, delivers, delivered, stays}
 use Rattle.adr_run_world.specs.Run.{world_of}
-use Rattle.adr_run_world.proofs.Becoming.{found_there, stands, undone, apart_with, led}
+use Rattle.adr_run_world.proofs.Becoming.{Becomes, found_there, stands, undone, led, tidy_with}
 use Rattle.adr_run_world.proofs.Bindings.{reply_spelled}
 use Rattle.adr_run_world.proofs.Calls.{reaches_none, no_reply_so}
 use Rattle.adr_run_world.proofs.Results.{on_err_so}
@@ -24,24 +24,21 @@ take-requires-clause-spelled c = (reply_spelled c.args.self.now.replies c.args.r
 pub take-requires-clause-ranged : goal.take-requires-clause-ranged
 take-requires-clause-ranged c = (reply_spelled c.args.self.now.replies c.args.reply.now c.in-Some-get.reply.now c.requires.replies c.in-Some-get.ensures).1
 
+becomes : (c : goal.After-self-1) → Becomes c.args.self.now c.args.name.now c.in-Some.place c.index_mut.result.now c.take.new.self c.take.new.past
+becomes c = record { place = c.in-Some.ensures.place; read = c.index_mut.ensures.value; found = c.in-Some.ensures.found; tidy = c.requires; named = c.take.ensures.name; given = c.take.ensures.given }
+
 pub returns-clause-taken : goal.returns-clause-taken
 returns-clause-taken c =
     let w = world_of c.args.self.now in
     IfOk-weaker c.take.result _ _
     (λ sent is.
     ap (delivers w c.args.name.now) (sym c.in-Some-get.ensures)
-    ∙ led c.args.self.now c.args.name.now c.in-Some.place c.index_mut.result.now c.in-Some.ensures.place c.index_mut.ensures.value c.in-Some.ensures.found c.requires c.take.new.self c.take.ensures.name c.take.new.past c.take.ensures.given
-    (λ r. delivered w r (Some c.in-Some-get.reply.now)) sent (is w (stands c.args.self.now c.args.name.now c.in-Some.place c.index_mut.result.now c.in-Some.ensures.place c.index_mut.ensures.value c.in-Some.ensures.found c.requires)))
+    ∙ led (becomes c)
+    (λ r. delivered w r (Some c.in-Some-get.reply.now)) sent (is w (stands (becomes c))))
     c.take.ensures.taken
 
 pub returns-clause-err : goal.returns-clause-err
-returns-clause-err c =
-    on_err_so c.take.result c.take.ensures.err
-    (undone c.args.self.now c.args.name.now c.in-Some.place c.index_mut.result.now c.in-Some.ensures.place c.index_mut.ensures.value c.in-Some.ensures.found c.requires c.take.new.self c.take.new.past)
+returns-clause-err c = on_err_so c.take.result c.take.ensures.err (undone (becomes c))
 
 pub returns-clause-tidy : goal.returns-clause-tidy
-returns-clause-tidy c = record {
-  apart = apart_with c.args.self.now c.args.name.now c.in-Some.place c.index_mut.result.now c.in-Some.ensures.place c.index_mut.ensures.value c.in-Some.ensures.found c.requires c.take.new.self c.take.ensures.name;
-  requests = c.requires.requests;
-  replies = c.requires.replies;
-}
+returns-clause-tidy c = tidy_with (becomes c) refl refl refl

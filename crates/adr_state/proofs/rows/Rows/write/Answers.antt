@@ -25,3 +25,11 @@ invariant_of-self-2 c =
 pub returns-clause-ok : goal.returns-clause-ok
 returns-clause-ok c =
     c.write.ensures.rows ∙ ap (λ (hs : List Held). rows_after c.args.removed.now c.args.rows.items hs) (c.reserve-2.ensures.rows ∙ c.self.view_is)
+
+pub invariant_of-self-in_err-spare : goal.invariant_of-self-in_err-spare
+invariant_of-self-in_err-spare c =
+    record {
+      kept = c.reserve-2.ensures.kept;
+      live = c.reserve.ensures.tree;
+      same = c.reserve.ensures.nodes ∙ c.self.invariant.same ∙ ap (λ (hs : List Held). nodes_held (updates_of hs)) (sym c.reserve-2.ensures.rows);
+    }

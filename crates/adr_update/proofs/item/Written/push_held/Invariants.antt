@@ -1,4 +1,4 @@
-use Rattle.std.proofs.Common.{◌≡◌, ◌++◌, take, ℕ}
+use Rattle.std.proofs.Common.{◌≡◌, ◌++◌, ℕ}
 use Rattle.std.specs.Prelude.{map}
 use Rattle.adr_model.specs.Update.{Update}
 use Rattle.adr_model.specs.Store.{Held}
@@ -9,4 +9,4 @@ under local u = record { update = u; local = local }
 
 -- the rows so far are added
 abbrev pub invariant-loop-update : goal.invariant-loop-update
-invariant-loop-update l = l.rows.items ≡ l.initial.rows.items ++ map (under l.self-inside.local) (take l.update-index l.update-items)
+invariant-loop-update l = l.rows.items ≡ l.fn.rows.items ++ map (under l.local) l.yielded

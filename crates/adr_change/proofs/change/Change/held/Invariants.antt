@@ -1,7 +1,0 @@
-use Rattle.std.proofs.Common.{◌≡◌, take}
-use Rattle.adr_model.specs.Change.{held_of}
-use Rattle.adr_change.proofs.change.Change.held.Given as goal
-
--- the rows of the writes so far
-abbrev pub invariant-loop-written : goal.invariant-loop-written
-invariant-loop-written l = l.rows.items ≡ held_of (take l.written-index l.written-items)

@@ -1,4 +1,0 @@
-use Rattle.adr_pull.proofs.laws.logs_keep.Goals as goal
-
-pub returns : goal.returns
-returns g c = record { given = c.given_calls_follow.ensures; logged = λ s formed. formed }

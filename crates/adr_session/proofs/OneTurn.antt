@@ -1,0 +1,95 @@
+-- A turn with what of it is counted: where nothing was done, where a frame was heard, and where it was answered.
+use Rattle.std.proofs.Common.{◌≡◌, ◌⊎◌, ◌<◌, ◌≤◌, ◌∙◌, inl, inr, ⊎_elim, refl, ℕ, List, Option, Some, Result, Ok, Err, arith}
+use Rattle.std.specs.Prelude.{IfOk, IsErrOf, IsSome}
+use Rattle.adr_journal.specs.declared.keeper.Keeper.{Ghosts}
+use Rattle.adr_controller.specs.Running.{IsInOrder, Running}
+use Rattle.adr_outside.specs.Traffic.{Traffic}
+use Rattle.adr_outside.specs.declared.net.Net.{Ghosts as NetGhosts}
+use Rattle.adr_outside.specs.declared.clock.Clock.{Ghosts as ClockGhosts}
+use Rattle.adr_session.specs.declared.ending.End.{End}
+use Rattle.adr_session.specs.declared.ending.End.TheVariants as ended
+use Rattle.adr_session.specs.declared.ending.ServeFault.{ServeFault}
+use Rattle.adr_session.specs.declared.ending.ServeFault.TheVariants as faults
+use Rattle.adr_session.specs.Talk.{Point, reaction, said_in}
+use Rattle.adr_session.specs.Told.{FindsNear, FindsOneOf, HasHeard, IsAt, TakesTurn}
+use Rattle.adr_session.specs.Made.{Reacts}
+use Rattle.adr_session.specs.Turns.{Turns}
+use Rattle.adr_session.proofs.Leaving.{LeavesLaw, OnlyNowLaw, crash_by, left_by, still_crashes, still_left}
+use Rattle.adr_session.proofs.Messages.{one_near, turn_is}
+
+whatever : (A : Type 0) (r : Result (Option End) ServeFault) → A → IfOk r (λ _. A)
+whatever A (Ok x) a = a
+whatever A (Err e) a = tt
+
+module _ {K N C : Type 0} (k : Ghosts K) (n : NetGhosts N) (c : ClockGhosts C) where
+  -- nothing was done
+  pub undone : LeavesLaw k → OnlyNowLaw k → (here : Running K) (net after : N) (time : C) (result : Result (Option End) ServeFault) → IsInOrder k here → IsSome here.state
+      → ((t : Traffic) (p : Point) → IsAt k t p here (n.traffic net) (c.moments time) → TakesTurn k t p result here (n.traffic after) (c.moments time))
+      → (IsErrOf result faults.Disk → ⊥) → (IsErrOf result faults.Clock → ⊥) → (result ≡ Ok (Some ended.Fault) → n.lines net < n.lines after)
+      → (result ≡ Ok (Some ended.Fault)) ⊎ (n.lines after ≡ n.lines net) → n.doors after ≡ n.doors net
+      → Turns k n c (λ t p. IsAt k t p here (n.traffic net) (c.moments time)) here here net after time time result
+  undone leaves only_now here net after time result order up turns no_disk no_clock fault no_fault doors = record {
+    up = whatever (IsSome here.state) result up;
+    in_order = order;
+    turn = turns;
+    any_moment = λ t p at. still_crashes k leaves only_now (FindsNear p) p.stands here at.stands order (λ s finds. (p, inl refl, finds));
+    left = λ t p at. still_left k leaves p here at.stands order;
+    told = λ is. is;
+    disk = λ is. absurd (no_disk is);
+    disk_never_falls = omega arith;
+    clock = λ is. absurd (no_clock is);
+    clock_never_falls = omega arith;
+    fault = fault;
+    no_fault = no_fault;
+    doors = doors;
+  }
+
+  -- a frame was heard, and this is what it came to
+  pub heard_turns : (here new : Running K) (net mid after : N) (time time_after : C) (bytes : List ℕ) (result : Result (Option End) ServeFault)
+      → n.lines mid ≡ n.lines net → n.doors mid ≡ n.doors net
+      → ((t : Traffic) (p : Point) → IsAt k t p here (n.traffic net) (c.moments time) → HasHeard k t p bytes here (n.traffic mid) (c.moments time))
+      → Turns k n c (λ t p. HasHeard k t p bytes here (n.traffic mid) (c.moments time)) here new mid after time time_after result
+      → Turns k n c (λ t p. IsAt k t p here (n.traffic net) (c.moments time)) here new net after time time_after result
+  heard_turns here new net mid after time time_after bytes result lines doors hears so = record {
+    up = so.up;
+    in_order = so.in_order;
+    turn = λ t p at. so.turn t p (hears t p at);
+    any_moment = λ t p at. so.any_moment t p (hears t p at);
+    left = λ t p at. so.left t p (hears t p at);
+    told = so.told;
+    disk = so.disk;
+    disk_never_falls = so.disk_never_falls;
+    clock = so.clock;
+    clock_never_falls = so.clock_never_falls;
+    fault = λ is. omega (arith, lines, so.fault is);
+    no_fault = ⊎_elim (λ cut. inl cut) (λ same. inr (same ∙ lines)) so.no_fault;
+    doors = so.doors ∙ doors;
+  }
+
+  -- it was answered, or couldn't be
+  pub reacted_turns : {V : Type 0} (items : V → List ℕ) (old new : Running K) (net after : N) (time time_after : C) (bytes : List ℕ) (r : Result (Option V) ServeFault)
+      (result : Result (Option End) ServeFault) → Reacts items k (said_in bytes) old new r (c.moments time) (c.moments time_after) → IsInOrder k new
+      → ((t : Traffic) (p : Point) → HasHeard k t p bytes old (n.traffic net) (c.moments time) → TakesTurn k t p result new (n.traffic after) (c.moments time_after))
+      → IfOk result (λ _. IsSome new.state) → (IsErrOf result faults.Disk → IsErrOf r faults.Disk) → (IsErrOf result faults.Clock → c.faults time < c.faults time_after)
+      → c.faults time ≤ c.faults time_after → (result ≡ Ok (Some ended.Fault) → n.lines net < n.lines after)
+      → (result ≡ Ok (Some ended.Fault)) ⊎ (n.lines after ≡ n.lines net) → n.doors after ≡ n.doors net
+      → Turns k n c (λ t p. HasHeard k t p bytes old (n.traffic net) (c.moments time)) old new net after time time_after result
+  reacted_turns items old new net after time time_after bytes r result e order turns up disk time_fault time_later fault no_fault doors = record {
+    up = up;
+    in_order = order;
+    turn = turns;
+    any_moment = λ t p h.
+        let a = reaction p.stands p.moments bytes in
+        crash_by k old.keeper new.keeper (FindsOneOf p.stands a) (FindsNear p) (one_near p h.rest a (turn_is p bytes h.rest h.next)) (e.any_moment p.stands p.moments h.stands h.clock);
+    left = λ t p h.
+        let a = reaction p.stands p.moments bytes in
+        left_by k old.keeper new.keeper (FindsOneOf p.stands a) (FindsNear p) (one_near p h.rest a (turn_is p bytes h.rest h.next)) (e.left p.stands p.moments h.stands h.clock);
+    told = e.told;
+    disk = λ is. e.disk (disk is);
+    disk_never_falls = e.disk_never_falls;
+    clock = time_fault;
+    clock_never_falls = time_later;
+    fault = fault;
+    no_fault = no_fault;
+    doors = doors;
+  }
