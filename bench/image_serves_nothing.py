@@ -16,7 +16,7 @@ LIB = """//! One call of `serve`.
 #![tactic(auto)]
 
 use adr_cycle::{Reply, Request, serve};
-use adr_event::{Failure, ServeRefusal};
+use adr_call::{Failure, ServeRefusal};
 use adr_image::{Contents, Dormant};
 use adr_state::State;
 use std::alloc::Global;
@@ -25,8 +25,8 @@ pub fn served(alloc: Global, source: &SOURCE, request: &Request) -> Result<Reply
     serve(alloc, source, request)
 }
 
-pub fn contents(dormant: &Dormant) -> &Contents {
-    dormant.contents()
+pub fn contents(dormant: Dormant) -> Contents {
+    dormant.into_contents()
 }
 
 #[cfg(test)]

@@ -1,12 +1,15 @@
 #!/usr/bin/env python3
 """Replays generated schedules at a size and at twice the size, and prints time, ratio and memory.
 
-Usage: bench/replay.py [--count] [WORD..]        (only the works whose names have one of these words; else all)
+Usage: bench/replay.py [--count] [--before PROGRAM] [WORD..]   (only the works whose names have one of these words; else all)
 
 The time is that of the processor. That of a work is the time of its whole schedule less that of the lines before it, each
 the least of three runs. With --count the instructions are counted (by valgrind) at a tenth of the sizes, in place of time
-and memory: a count is the same from run to run, whatever else the machine does.
+and memory: a count is the same from run to run, whatever else the machine does. With --before a program that was built
+earlier replays the same works in turn with this one, at the smaller size, and the last column is what part of its time,
+or of its instructions, this one takes.
 """
+import argparse
 import os
 import re
 import subprocess
@@ -14,6 +17,7 @@ import sys
 import tempfile
 
 TOP = os.path.dirname(os.path.dirname(os.path.abspath(__file__)))
+BUILT = f"{TOP}/crates/adrep/out/adrep"
 RUNS = 3
 
 
@@ -146,82 +150,92 @@ WORKS = [
 ]
 
 
-def measured(lines):
-    """Seconds of the processor and MiB of one replay of these lines, the least of some runs."""
-    best, most = None, 0
+def one_run(program, given):
+    """Seconds of the processor and MiB of one replay."""
+    given.seek(0)
+    with tempfile.TemporaryFile() as written:
+        replay = subprocess.Popen([program, "replay"], stdin=given, stdout=written)
+        _, status, usage = os.wait4(replay.pid, 0)
+        written.seek(0)
+        refused = [line for line in written if b": refused" in line][:1]
+    if status != 0 or refused:
+        sys.exit(f"the replay ended with status {status}, {refused}")
+    return usage.ru_utime + usage.ru_stime, usage.ru_maxrss / 1024
+
+
+def measured(lines, programs):
+    """For each program the seconds of the processor and the MiB of a replay of these lines, the least and the most of some runs in turn."""
+    runs = [[] for _ in programs]
     with tempfile.TemporaryFile() as given:
         given.write("\n".join(lines).encode() + b"\n")
         for _ in range(RUNS):
-            given.seek(0)
-            with tempfile.TemporaryFile() as written:
-                replay = subprocess.Popen([f"{TOP}/adrep", "replay"], stdin=given, stdout=written)
-                _, status, usage = os.wait4(replay.pid, 0)
-                seconds = usage.ru_utime + usage.ru_stime
-                written.seek(0)
-                refused = [line for line in written if b": refused" in line][:1]
-            if status != 0 or refused:
-                sys.exit(f"the replay ended with status {status}, {refused}")
-            best = seconds if best is None else min(best, seconds)
-            most = max(most, usage.ru_maxrss / 1024)
-    return best, most
+            for program, of_it in zip(programs, runs):
+                of_it.append(one_run(program, given))
+    return [(min(seconds for seconds, _ in of_it), max(memory for _, memory in of_it)) for of_it in runs]
 
 
-def counted(lines):
+def work(made, size, programs):
+    """For each program the seconds and MiB of a work at a size, without the lines before it."""
+    before, lines = made(size)
+    alone, whole = measured(before, programs), measured(before + lines, programs)
+    return [(seconds - less, memory) for (less, _), (seconds, memory) in zip(alone, whole)]
+
+
+def counted(lines, program):
     """Millions of instructions of one replay of these lines."""
     tool = ["valgrind", "--tool=cachegrind", "--cache-sim=no", "--cachegrind-out-file=/dev/null"]
     text = "\n".join(lines).encode() + b"\n"
-    run = subprocess.run(tool + [f"{TOP}/crates/adrep/out/adrep", "replay"], input=text, capture_output=True, check=True)
+    run = subprocess.run(tool + [program, "replay"], input=text, capture_output=True, check=True)
     refs = re.search(rb"I +refs: +([0-9,]+)", run.stderr)
     return int(refs.group(1).replace(b",", b"")) / 1e6
 
 
-def count(made, size):
+def count(made, size, program=BUILT):
     """Millions of instructions of a work at a size, without the lines before it."""
     before, lines = made(size)
-    return counted(before + lines) - counted(before)
-
-
-def work(made, size):
-    """Seconds and MiB of a work at a size, without the lines before it."""
-    before, lines = made(size)
-    alone, _ = measured(before)
-    whole, memory = measured(before + lines)
-    return whole - alone, memory
+    return counted(before + lines, program) - counted(before, program)
 
 
 def whole_run(name, lines):
-    seconds, memory = measured(lines)
+    ((seconds, memory),) = measured(lines, [BUILT])
     print(f"{name:40} {seconds:9.2f} s {memory:7.0f} MiB", flush=True)
 
 
-def count_all(words):
-    print(f"{'work':40} {'n':>7} {'millions':>9} {'at 2n':>9} {'ratio':>6}")
-    for name, made, size in WORKS:
-        if words and not any(word in name for word in words):
-            continue
+def count_all(works, earlier):
+    print(f"{'work':40} {'n':>7} {'millions':>9} {'at 2n':>9} {'ratio':>6}" + (f" {'of before':>9}" if earlier else ""))
+    for name, made, size in works:
         size //= 10
         once, twice = count(made, size), count(made, 2 * size)
-        print(f"{name:40} {size:7} {once:9.1f} {twice:9.1f} {twice / once:6.2f}", flush=True)
+        part = f" {once / count(made, size, earlier):9.2f}" if earlier else ""
+        print(f"{name:40} {size:7} {once:9.1f} {twice:9.1f} {twice / once:6.2f}{part}", flush=True)
+
+
+def time_all(works, earlier):
+    print(f"{'work':40} {'n':>7} {'seconds':>9} {'at 2n':>9} {'ratio':>6} {'MiB':>6} {'at 2n':>6}" + (f" {'of before':>9}" if earlier else ""))
+    for name, made, size in works:
+        (once, small), *was = work(made, size, [BUILT, *earlier])
+        ((twice, large),) = work(made, 2 * size, [BUILT])
+        part = "".join(f" {once / seconds:9.2f}" for seconds, _ in was)
+        print(f"{name:40} {size:7} {once:9.3f} {twice:9.3f} {twice / once:6.2f} {small:6.0f} {large:6.0f}{part}", flush=True)
 
 
 def main():
-    words = [word for word in sys.argv[1:] if word != "--count"]
+    words = argparse.ArgumentParser()
+    words.add_argument("--count", action="store_true")
+    words.add_argument("--before", metavar="PROGRAM")
+    words.add_argument("names", nargs="*")
+    asked = words.parse_args()
     subprocess.run([f"{TOP}/adrep", "build"], check=True)
-    if "--count" in sys.argv[1:]:
-        count_all(words)
+    works = [it for it in WORKS if not asked.names or any(word in it[0] for word in asked.names)]
+    if asked.count:
+        count_all(works, asked.before)
         return
-    print(f"{'work':40} {'n':>7} {'seconds':>9} {'at 2n':>9} {'ratio':>6} {'MiB':>6} {'at 2n':>6}")
-    for name, made, size in WORKS:
-        if words and not any(word in name for word in words):
-            continue
-        once, small = work(made, size)
-        twice, large = work(made, 2 * size)
-        print(f"{name:40} {size:7} {once:9.3f} {twice:9.3f} {twice / once:6.2f} {small:6.0f} {large:6.0f}", flush=True)
-    if not words:
+    time_all(works, [asked.before] if asked.before else [])
+    if not asked.names:
         before, lines = cycles_of(1000)(100000)
         whole_run("100,000 adds, a cycle and a show", before + lines + ["show B"])
-        before, lines = one_group(20000)
-        print(f"{'20,000 members of one group':40} {work(one_group, 20000)[0]:9.2f} s")
+        ((seconds, _),) = work(one_group, 20000, [BUILT])
+        print(f"{'20,000 members of one group':40} {seconds:9.2f} s")
 
 
 if __name__ == "__main__":
