@@ -31,17 +31,12 @@ part log e = take (e.from + e.len - e.from) (drop e.from log)
 kept_fits : (log s : List ℕ) (es : List Entry) (i : ℕ) (d : Entry) → i < length es → length (put (over s (map (write_of log) (take i es))) (get_or es i d).at (part log (get_or es i d))) ≤ length (over s (map (write_of log) es))
 kept_fits log s es i d lt = subst (λ (l : List ℕ). length (put (over s (map (write_of log) (take i es))) (get_or es i d).at l) ≤ length (over s (map (write_of log) es))) (sym (part_is log (get_or es i d).from (get_or es i d).len)) (fits_more (write_of log) s es i d lt)
 
+-- what stands past the end of a list of entries
+abbrev pub no_entry : Entry
+no_entry = record { at = 0; from = 0; len = 0; before = 0; covered_from = 0; covered_len = 0 }
+
 -- one more of the writes in a log, over what those before it left
 module _ (log s now : List ℕ) (es : List Entry) (i : ℕ) (d : Entry) (lt : i < length es) where
-  pub keep_more : now ≡ over s (map (write_of log) (take i es)) → put now (get_or es i d).at (part log (get_or es i d)) ≡ over s (map (write_of log) (take (i + 1) es))
-  keep_more is =
-      ap (put now (get_or es i d).at) (part_is log (get_or es i d).from (get_or es i d).len)
-      ∙ ap (λ (l : List ℕ). put l (get_or es i d).at (write_of log (get_or es i d)).bytes) is
-      ∙ sym (over_more (write_of log) s es i d lt)
-
-  pub keep_fits : now ≡ over s (map (write_of log) (take i es)) → length (put now (get_or es i d).at (part log (get_or es i d))) ≤ length (over s (map (write_of log) es))
-  keep_fits is = subst (λ (l : List ℕ). length (put l (get_or es i d).at (part log (get_or es i d))) ≤ length (over s (map (write_of log) es))) (sym is) (kept_fits log s es i d lt)
-
   pub tear_more : now ≡ over s (map torn_write (map (write_of log) (take i es))) → put now (get_or es i d).at (torn_half (part log (get_or es i d))) ≡ over s (map torn_write (map (write_of log) (take (i + 1) es)))
   tear_more is =
       ap (λ (l : List ℕ). put now (get_or es i d).at (torn_half l)) (part_is log (get_or es i d).from (get_or es i d).len)

@@ -47,29 +47,23 @@ impl MemDisk {
         ensures running { result.stopped ≡ false }
         ensures faults { result.faults ≡ 0 }
     {
+        MemDisk::of(alloc, Vec::new(alloc))
+    }
+
+    /// A disk with these bytes, all of them synced.
+    pub fn of(alloc: Global, bytes: Vec<u8>) -> MemDisk
+        ensures surface { result.held.surface ≡ all_synced bytes.items }
+        ensures past { result.held.past ≡ [] }
+        ensures plan { result.plan ≡ None }
+        ensures running { result.stopped ≡ false }
+        ensures faults { result.faults ≡ 0 }
+    {
         MemDisk {
-            platter: Platter::new(alloc, Vec::new(alloc), Vec::new(alloc)),
+            platter: Platter::new(alloc, bytes),
             plan: None,
             stopped: false,
             failures: Failures::new(),
         }
-    }
-
-    /// A disk with these bytes, all of them synced.
-    pub fn of(alloc: Global, bytes: Vec<u8>) -> Result<MemDisk, AllocError>
-        ensures surface { IfOk result (λ disk. disk.held.surface ≡ all_synced bytes.items) }
-        ensures past { IfOk result (λ disk. disk.held.past ≡ []) }
-        ensures plan { IfOk result (λ disk. disk.plan ≡ None) }
-        ensures running { IfOk result (λ disk. disk.stopped ≡ false) }
-        ensures faults { IfOk result (λ disk. disk.faults ≡ 0) }
-    {
-        let safe = bytes.to_vec(alloc)?;
-        Ok(MemDisk {
-            platter: Platter::new(alloc, safe, bytes),
-            plan: None,
-            stopped: false,
-            failures: Failures::new(),
-        })
     }
 
     /// What a read gives now, also while the disk is stopped.

@@ -28,8 +28,9 @@ impl Passed {
         Passed {}
     }
 
-    /// Adds the surface of these synced bytes and of these writes since, whose bytes are in the log.
-    pub fn add(&mut self, _safe: &[u8], _entries: &[Entry], _log: &[u8])
-        ensures { self.new.surfaces ≡ self.old.surfaces ++ surface_at _safe.now _log.now _entries.now ∷ [] }
+    /// Adds the surface of these bytes after these writes, whose bytes are in the log, over the covered ones.
+    pub fn add(&mut self, _bytes: &[u8], _entries: &[Entry], _log: &[u8], _covered: &[u8])
+        ensures { self.new.surfaces
+            ≡ self.old.surfaces ++ surface_at _bytes.now _log.now _covered.now _entries.now ∷ [] }
     {}
 }

@@ -1,9 +1,10 @@
-//! The bytes of a disk in memory, those of them that are synced, and the writes since.
+//! The bytes of a disk in memory, and the writes since the last sync with what they wrote over, so that they can be
+//! undone.
 
-ghost use Rattle.std.specs.Prelude.{◌≡◌, ◌+◌, ◌-◌, ◌/◌, ◌≤◌, ◌<◌, ◌^◌, ◌⊎◌, [], length, map, All, OnOk, OnErr, vec_capacity};
+ghost use Rattle.std.specs.Prelude.{◌≡◌, ◌+◌, ◌-◌, ◌/◌, ◌≤◌, ◌<◌, ◌^◌, ◌⊎◌, [], length, take, drop, map, All, OnOk, OnErr, vec_capacity};
 ghost use Rattle.adr_disk.specs.Disk.{put as put_over, IsSpare};
 ghost use Rattle.adr_disk.specs.Memory.{Held, over, read_of, left_by, torn_half, torn_write, all_synced, after_write, after_end, SameBytes};
-ghost use Rattle.adr_run_disk.specs.Entries.{IsInRange, write_of};
+ghost use Rattle.adr_run_disk.specs.Entries.{IsInRange, IsUndoable, write_of, without, without_all, surface_at};
 
 use crate::passed::Passed;
 use adr_disk::Crash;
@@ -13,23 +14,28 @@ use std::marker::Model;
 /// What the rest of a torn write holds.
 const FILLER: u8 = 0xC3;
 
-/// A write, and the place of its bytes in the log.
+/// A write since the last sync, and what undoes it.
 #[derive(Clone, Copy)]
 pub struct Entry {
     at: usize,
+    /// The place of its bytes in the log.
     from: usize,
     len: usize,
+    /// How many bytes there were before it.
+    before: usize,
+    /// The place, among the covered bytes, of those that it wrote over.
+    covered_from: usize,
+    covered_len: usize,
 }
 
 #[derive(Drop)]
 pub struct Platter {
     /// What it was before.
     past: Passed,
-    /// What the last sync or crash left.
-    safe: Vec<u8>,
-    /// The writes since, in order, and their bytes.
+    /// The writes since the last sync or crash, in order, their bytes, and those that they wrote over.
     entries: Vec<Entry>,
     log: Vec<u8>,
+    covered: Vec<u8>,
     /// What a read gives.
     bytes: Vec<u8>,
 }
@@ -74,70 +80,78 @@ fn put_torn(bytes: &mut Vec<u8>, at: usize, new: &[u8])
     }
 }
 
-/// Applies the writes to what they are written over, as a sync does and a crash that keeps them.
-fn keep(safe: &mut Vec<u8>, entries: &[Entry], log: &[u8])
-    requires in_range { All (IsInRange (length log.now)) entries.now }
-    requires room { length (over safe.old.items (map (write_of log.now) entries.now)) ≤ vec_capacity safe.old }
-    ensures items { safe.new.items ≡ over safe.old.items (map (write_of log.now) entries.now) }
-    ensures capacity { vec_capacity safe.old ≤ vec_capacity safe.new }
+/// The bytes from that place on, so many of them or all that there are.
+fn part_of(bytes: &[u8], at: usize, len: usize) -> &[u8]
+    requires { at ≤ length bytes.now }
+    ensures { result.now ≡ take len (drop at bytes.now) }
 {
-    'writes: for entry in entries {
-        put(safe, entry.at, &log[entry.from..entry.from + entry.len]);
+    let rest = &bytes[at..];
+    &rest[..len.min(rest.len())]
+}
+
+/// Undoes a write: cuts off what it added past the end, and puts back what it wrote over.
+fn undo(bytes: &mut Vec<u8>, entry: Entry, covered: &[u8])
+    requires { IsUndoable (length covered.now) (vec_capacity bytes.old) entry }
+    ensures items { bytes.new.items ≡ without covered.now entry bytes.old.items }
+    ensures capacity { vec_capacity bytes.old ≤ vec_capacity bytes.new }
+{
+    let end = entry.covered_from + entry.covered_len;
+    bytes.truncate(entry.before);
+    put(bytes, entry.at, &covered[entry.covered_from..end]);
+}
+
+/// Undoes the writes, the last one first.
+fn undo_all(bytes: &mut Vec<u8>, entries: &[Entry], covered: &[u8])
+    requires { All (IsUndoable (length covered.now) (vec_capacity bytes.old)) entries.now }
+    ensures items { bytes.new.items ≡ without_all covered.now entries.now bytes.old.items }
+    ensures capacity { vec_capacity bytes.old ≤ vec_capacity bytes.new }
+{
+    'writes: for index in (0..entries.len()).rev() {
+        undo(bytes, entries[index], covered);
     }
 }
 
 /// Applies a torn form of the writes.
-fn tear(safe: &mut Vec<u8>, entries: &[Entry], log: &[u8])
+fn tear(bytes: &mut Vec<u8>, entries: &[Entry], log: &[u8])
     requires in_range { All (IsInRange (length log.now)) entries.now }
-    requires room { length (over safe.old.items (map (write_of log.now) entries.now)) ≤ vec_capacity safe.old }
-    ensures items { safe.new.items ≡ over safe.old.items (map torn_write (map (write_of log.now) entries.now)) }
-    ensures capacity { vec_capacity safe.old ≤ vec_capacity safe.new }
-{
-    'writes: for entry in entries {
-        put_torn(safe, entry.at, &log[entry.from..entry.from + entry.len]);
-    }
-}
-
-/// Applies writes to what they are written over, as their end says.
-fn settle(safe: &mut Vec<u8>, entries: &[Entry], log: &[u8], how: Crash)
-    requires in_range { All (IsInRange (length log.now)) entries.now }
-    requires room { length (over safe.old.items (map (write_of log.now) entries.now)) ≤ vec_capacity safe.old }
-    ensures items { safe.new.items
-        ≡ left_by how (record { synced = safe.old.items; written = map (write_of log.now) entries.now }) }
-    ensures capacity { vec_capacity safe.old ≤ vec_capacity safe.new }
-{
-    match how {
-        Crash::Kept => keep(safe, entries, log),
-        Crash::Lost => {}
-        Crash::Torn => tear(safe, entries, log),
-    }
-}
-
-/// Gives a read what was left. What was kept is what a read gave before.
-fn give(bytes: &mut Vec<u8>, safe: &[u8], how: Crash)
-    requires room { length safe.now ≤ vec_capacity bytes.old }
-    requires kept { how ≡ Crash.Kept → bytes.old.items ≡ safe.now }
-    ensures items { bytes.new.items ≡ safe.now }
+    requires room { length (over bytes.old.items (map (write_of log.now) entries.now)) ≤ vec_capacity bytes.old }
+    ensures items { bytes.new.items ≡ over bytes.old.items (map torn_write (map (write_of log.now) entries.now)) }
     ensures capacity { vec_capacity bytes.old ≤ vec_capacity bytes.new }
 {
-    if !matches!(how, Crash::Kept) {
-        bytes.clear();
-        bytes.extend_from_slice(safe).unwrap();
+    'writes: for entry in entries {
+        put_torn(bytes, entry.at, &log[entry.from..entry.from + entry.len]);
+    }
+}
+
+/// Turns what a read gives into what the end of the writes leaves.
+fn settle(bytes: &mut Vec<u8>, entries: &[Entry], log: &[u8], covered: &[u8], how: Crash)
+    requires in_range { All (IsInRange (length log.now)) entries.now }
+    requires undoable { All (IsUndoable (length covered.now) (vec_capacity bytes.old)) entries.now }
+    requires bytes { bytes.old.items ≡ read_of (surface_at bytes.old.items log.now covered.now entries.now) }
+    ensures items { bytes.new.items ≡ left_by how (surface_at bytes.old.items log.now covered.now entries.now) }
+    ensures capacity { vec_capacity bytes.old ≤ vec_capacity bytes.new }
+{
+    match how {
+        Crash::Kept => {}
+        Crash::Lost => undo_all(bytes, entries, covered),
+        Crash::Torn => {
+            undo_all(bytes, entries, covered);
+            tear(bytes, entries, log);
+        }
     }
 }
 
 impl Platter {
-    /// These bytes, given twice, all of them synced.
-    pub fn new(alloc: Global, safe: Vec<u8>, bytes: Vec<u8>) -> Platter
-        requires { bytes.items ≡ safe.items }
-        ensures surface { result.surface ≡ all_synced safe.items }
+    /// These bytes, all of them synced.
+    pub fn new(alloc: Global, bytes: Vec<u8>) -> Platter
+        ensures surface { result.surface ≡ all_synced bytes.items }
         ensures past { result.past ≡ [] }
     {
         Platter {
             past: Passed::new(),
-            safe,
             entries: Vec::new(alloc),
             log: Vec::new(alloc),
+            covered: Vec::new(alloc),
             bytes,
         }
     }
@@ -157,10 +171,8 @@ impl Platter {
     {
         self.entries.reserve(calls)?;
         self.log.reserve(bytes)?;
-        self.bytes.reserve(bytes)?;
-        // What is synced is never longer than what a read gives.
-        let missing = self.bytes.len().saturating_sub(self.safe.len());
-        self.safe.reserve(missing.saturating_add(bytes))
+        self.covered.reserve(bytes)?;
+        self.bytes.reserve(bytes)
     }
 
     pub fn write(&mut self, at: usize, new: &[u8])
@@ -170,15 +182,21 @@ impl Platter {
         ensures written { SameBytes (after_write (record { at = at; bytes = new.now }) self.old) self.new }
         ensures room { IsSpare self.old.room_calls self.old.room_bytes (self.new.room_calls + 1) (self.new.room_bytes + length new.now) }
     {
+        let covered = part_of(&self.bytes, at, new.len());
         let entry = Entry {
             at,
             from: self.log.len(),
             len: new.len(),
+            before: self.bytes.len(),
+            covered_from: self.covered.len(),
+            covered_len: covered.len(),
         };
-        self.past.add(&self.safe, &self.entries, &self.log);
-        put(&mut self.bytes, at, new);
+        self.past
+            .add(&self.bytes, &self.entries, &self.log, &self.covered);
+        self.covered.extend_from_slice(covered).unwrap();
         self.log.extend_from_slice(new).unwrap();
         self.entries.push(entry).unwrap();
+        put(&mut self.bytes, at, new);
     }
 
     /// A sync, which keeps the unsynced writes, or a crash.
@@ -189,10 +207,17 @@ impl Platter {
         if self.entries.is_empty() {
             return;
         }
-        self.past.add(&self.safe, &self.entries, &self.log);
-        settle(&mut self.safe, &self.entries, &self.log, how);
-        give(&mut self.bytes, &self.safe, how);
+        self.past
+            .add(&self.bytes, &self.entries, &self.log, &self.covered);
+        settle(
+            &mut self.bytes,
+            &self.entries,
+            &self.log,
+            &self.covered,
+            how,
+        );
         self.entries.clear();
         self.log.clear();
+        self.covered.clear();
     }
 }

@@ -1,6 +1,6 @@
 //! A journal on a disk in memory, under a plan.
 
-ghost use Rattle.std.specs.Prelude.{◌≡◌, false, None, IfOk};
+ghost use Rattle.std.specs.Prelude.{◌≡◌, false, None};
 
 use crate::planned::PlannedKeeper;
 use adr_disk::Crash;
@@ -20,19 +20,18 @@ pub fn in_memory<F: Form>(alloc: Global) -> Journal<MemDisk, F>
 }
 
 /// A journal on a disk with these bytes, all of them synced, without a plan.
-pub fn with_bytes<F: Form>(alloc: Global, bytes: Vec<u8>) -> Result<Journal<MemDisk, F>, NoMemory>
-    ensures read { IfOk result (λ j. ⟦<Journal<MemDisk, F> as PlannedKeeper>⟧.read j
-        ≡ ⟦<Journal<MemDisk, F> as PlannedKeeper>⟧.found_in bytes.items) }
-    ensures safe { IfOk result (λ j. ⟦<Journal<MemDisk, F> as PlannedKeeper>⟧.safe j
-        ≡ ⟦<Journal<MemDisk, F> as PlannedKeeper>⟧.found_in bytes.items) }
-    ensures torn { IfOk result (λ j. ⟦<Journal<MemDisk, F> as PlannedKeeper>⟧.torn j
-        ≡ ⟦<Journal<MemDisk, F> as PlannedKeeper>⟧.found_in bytes.items) }
-    ensures up { IfOk result (λ j. ⟦<Journal<MemDisk, F> as Keeper>⟧.is_failed j ≡ false) }
-    ensures running { IfOk result (λ j. ⟦<Journal<MemDisk, F> as PlannedKeeper>⟧.has_stopped j ≡ false) }
-    ensures plan { IfOk result (λ j. ⟦<Journal<MemDisk, F> as PlannedKeeper>⟧.plan j ≡ None) }
+pub fn with_bytes<F: Form>(alloc: Global, bytes: Vec<u8>) -> Journal<MemDisk, F>
+    ensures read { ⟦<Journal<MemDisk, F> as PlannedKeeper>⟧.read result
+        ≡ ⟦<Journal<MemDisk, F> as PlannedKeeper>⟧.found_in bytes.items }
+    ensures safe { ⟦<Journal<MemDisk, F> as PlannedKeeper>⟧.safe result
+        ≡ ⟦<Journal<MemDisk, F> as PlannedKeeper>⟧.found_in bytes.items }
+    ensures torn { ⟦<Journal<MemDisk, F> as PlannedKeeper>⟧.torn result
+        ≡ ⟦<Journal<MemDisk, F> as PlannedKeeper>⟧.found_in bytes.items }
+    ensures up { ⟦<Journal<MemDisk, F> as Keeper>⟧.is_failed result ≡ false }
+    ensures running { ⟦<Journal<MemDisk, F> as PlannedKeeper>⟧.has_stopped result ≡ false }
+    ensures plan { ⟦<Journal<MemDisk, F> as PlannedKeeper>⟧.plan result ≡ None }
 {
-    let disk = MemDisk::of(alloc, bytes)?;
-    Ok(Journal::new(alloc, disk))
+    Journal::new(alloc, MemDisk::of(alloc, bytes))
 }
 
 impl<F: Form> PlannedKeeper for Journal<MemDisk, F> {

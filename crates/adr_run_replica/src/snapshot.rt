@@ -47,7 +47,7 @@ impl Replica {
     pub fn put_back(alloc: Global, name: Text, snapshot: &Snapshot) -> Result<Replica, NoMemory>
         ensures { IfOk result (λ made. made ≡ on_disk name snapshot.now.state snapshot.now.log) }
     {
-        let journal = with_bytes(alloc, snapshot.bytes.to_vec(alloc)?)?;
+        let journal = with_bytes(alloc, snapshot.bytes.to_vec(alloc)?);
 
         // A disk without a plan doesn't fail, and nothing of it is damaged.
         let controller = match Controller::resume(journal) {

@@ -94,9 +94,9 @@ pub fn log_bytes(alloc: Global, filling: Filling) -> Result<Option<Vec<u8>>, NoM
 }
 
 /// Starts a log of these bytes.
-pub fn start_of(alloc: Global, bytes: Vec<u8>) -> Result<Finding, NoMemory> {
-    let log: Log = with_bytes(alloc, bytes)?;
-    Ok(start(log))
+pub fn start_of(alloc: Global, bytes: Vec<u8>) -> Finding {
+    let log: Log = with_bytes(alloc, bytes);
+    start(log)
 }
 
 /// What is left of a log of these bytes where the container is described, and then the log started if that is asked for.
@@ -108,7 +108,7 @@ pub fn describe_log(
     how: Crash,
 ) -> Result<Option<Left>, NoMemory> {
     logs_take_all();
-    let log: Log = with_bytes(alloc, bytes)?;
+    let log: Log = with_bytes(alloc, bytes);
     describe_again(alloc, log, met, start_met, how)
 }
 

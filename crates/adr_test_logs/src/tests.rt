@@ -125,7 +125,7 @@ fn areas_stand_at_the_front_or_behind_the_log(rt: HostRuntime) -> Result<(), Fai
         let bytes = filled(alloc, *filling)?;
         assert_eq!(rt; place_in_log(bytes.as_slice()), *place);
         assert_eq!(rt; bytes.len(), *length);
-        assert_eq!(rt; start_of(alloc, bytes)?, usn_behind(*filling));
+        assert_eq!(rt; start_of(alloc, bytes), usn_behind(*filling));
     }
     Ok(())
 }
@@ -360,7 +360,7 @@ fn start_of_front(alloc: Global, log: &[u8], len: usize) -> Result<Finding, Fail
     for byte in log.iter().take(len) {
         front.push(*byte)?;
     }
-    Ok(start_of(alloc, front)?)
+    Ok(start_of(alloc, front))
 }
 
 #[test]
@@ -386,7 +386,7 @@ fn start_of_turned(alloc: Global, selector: u8, place: usize) -> Result<Finding,
         let byte = if at == 39 { selector } else { *byte };
         bytes.push(if at == place { !byte } else { byte })?;
     }
-    Ok(start_of(alloc, bytes)?)
+    Ok(start_of(alloc, bytes))
 }
 
 #[test]

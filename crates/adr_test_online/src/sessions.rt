@@ -433,7 +433,7 @@ fn a_call_that_fails_in_a_send(rt: HostRuntime) -> Result<(), Fail> {
 
 #[test]
 fn bytes_that_are_no_log_are_not_served(rt: HostRuntime) -> Result<(), Fail> {
-    let disk = MemDisk::of(rt.alloc(), Vec::from_slice(rt.alloc(), b"abc")?)?;
+    let disk = MemDisk::of(rt.alloc(), Vec::from_slice(rt.alloc(), b"abc")?);
     let came = outcome_of(rt.alloc(), &SERVED[1], disk, Failing::Never)?;
     assert_eq!(rt; came.status, 10);
     assert_eq!(rt; came.written.as_slice(), b"damaged 0\n".as_slice());

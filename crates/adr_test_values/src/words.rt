@@ -425,7 +425,7 @@ fn run(disk: &mut MemDisk, calls: u32) -> Result<(), Fault> {
 
 /// What a crash leaves of `abcd`: after so many calls, or within the next.
 fn left(alloc: Global, calls: u32, within: bool, how: Crash) -> Result<Vec<u8>, Fail> {
-    let mut disk = MemDisk::of(alloc, Vec::from_slice(alloc, b"abcd")?)?;
+    let mut disk = MemDisk::of(alloc, Vec::from_slice(alloc, b"abcd")?);
     if within {
         disk.stop_after(calls, how);
         let _ = run(&mut disk, 4);

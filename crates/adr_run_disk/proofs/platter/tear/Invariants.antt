@@ -5,6 +5,6 @@ use Rattle.adr_run_disk.proofs.platter.tear.Given as goal
 
 abbrev pub invariant-writes : goal.invariant-writes
 invariant-writes l = record {
-  items : l.safe.items ≡ over l.fn.safe.items (map torn_write (map (write_of l.log) (take l.entry-index l.entries)));
-  capacity : vec_capacity l.fn.safe ≤ vec_capacity l.safe;
+  items : l.bytes.items ≡ over l.fn.bytes.items (map torn_write (map (write_of l.log) (take l.entry-index l.entries)));
+  capacity : vec_capacity l.fn.bytes ≤ vec_capacity l.bytes;
 }

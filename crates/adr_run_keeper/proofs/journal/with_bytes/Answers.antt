@@ -8,20 +8,20 @@ use Rattle.adr_run_keeper.proofs.journal.with_bytes.Goals as goal
 pub returns-clause-read : goal.returns-clause-read
 returns-clause-read g c =
     ap (λ (d : DiskState). start_of g.F.Form.head g.F.Form.area g.F.Form.following (read_of d.held.surface)) c.new.ensures.disk
-    ∙ ap (λ (s : Surface). start_of g.F.Form.head g.F.Form.area g.F.Form.following (read_of s)) c.in_ok-disk.ensures.surface
+    ∙ ap (λ (s : Surface). start_of g.F.Form.head g.F.Form.area g.F.Form.following (read_of s)) c.of.ensures.surface
 
 pub returns-clause-safe : goal.returns-clause-safe
 returns-clause-safe g c =
     ap (λ (d : DiskState). start_of g.F.Form.head g.F.Form.area g.F.Form.following d.held.surface.synced) c.new.ensures.disk
-    ∙ ap (λ (s : Surface). start_of g.F.Form.head g.F.Form.area g.F.Form.following s.synced) c.in_ok-disk.ensures.surface
+    ∙ ap (λ (s : Surface). start_of g.F.Form.head g.F.Form.area g.F.Form.following s.synced) c.of.ensures.surface
 
 pub returns-clause-torn : goal.returns-clause-torn
 returns-clause-torn g c =
     ap (λ (d : DiskState). start_of g.F.Form.head g.F.Form.area g.F.Form.following (left_by Torn d.held.surface)) c.new.ensures.disk
-    ∙ ap (λ (s : Surface). start_of g.F.Form.head g.F.Form.area g.F.Form.following (left_by Torn s)) c.in_ok-disk.ensures.surface
+    ∙ ap (λ (s : Surface). start_of g.F.Form.head g.F.Form.area g.F.Form.following (left_by Torn s)) c.of.ensures.surface
 
 pub returns-clause-running : goal.returns-clause-running
-returns-clause-running g c = ap (λ (d : DiskState). d.stopped) c.new.ensures.disk ∙ c.in_ok-disk.ensures.running
+returns-clause-running g c = ap (λ (d : DiskState). d.stopped) c.new.ensures.disk ∙ c.of.ensures.running
 
 pub returns-clause-plan : goal.returns-clause-plan
-returns-clause-plan g c = ap (λ (d : DiskState). plan_of d.plan) c.new.ensures.disk ∙ ap plan_of c.in_ok-disk.ensures.plan
+returns-clause-plan g c = ap (λ (d : DiskState). plan_of d.plan) c.new.ensures.disk ∙ ap plan_of c.of.ensures.plan

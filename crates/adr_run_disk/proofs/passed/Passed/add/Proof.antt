@@ -39,55 +39,64 @@ use Rattle.adr_run_disk.proofs.passed.Passed.add.Statement as stated
 use Rattle.adr_run_disk.proofs.passed.Passed.add.Code as code
 
 abbrev Arg : Type 0
-Arg = MutBor Passed × (Bor (List ℕ) × (Bor (List Entry) × (Bor (List ℕ) × Unit {0})))
+Arg = MutBor Passed × (Bor (List ℕ) × (Bor (List Entry) × (Bor (List ℕ) × (Bor (List ℕ) × Unit {0}))))
 
 abbrev stayed : Stays (it.ended).signature.params (it.ended).kept
 stayed = (
   stay_ref (0 ∷ []) tt (plain (λ _. T.the_row)),
   (
     stay_none_slice (1 ∷ []) tt (plain (λ _. u8)) yes,
-    (stay_none_slice (2 ∷ []) tt (plain (λ _. E.the_row)) yes, (stay_none_slice (3 ∷ []) tt (plain (λ _. u8)) yes, tt)),
+    (
+      stay_none_slice (2 ∷ []) tt (plain (λ _. E.the_row)) yes,
+      (stay_none_slice (3 ∷ []) tt (plain (λ _. u8)) yes, (stay_none_slice (4 ∷ []) tt (plain (λ _. u8)) yes, tt)),
+    ),
   ),
 )
 
-module _ {M : Type 1} {𝓤 : Ura M} (𝓛 : Logic 𝓤) (at_mem : Memory → SProp 𝓤) (run : Routine → Fun 𝓤) (κ κ₁ κ₂ κ₃ : Lft) (q q₁ q₂ q₃ : Share) (b o : ℕ) (γ : GName) (h : Passed) (safe : Bor (List ℕ)) (entries : Bor (List Entry)) (log : Bor (List ℕ)) where
+module _ {M : Type 1} {𝓤 : Ura M} (𝓛 : Logic 𝓤) (at_mem : Memory → SProp 𝓤) (run : Routine → Fun 𝓤) (κ κ₁ κ₂ κ₃ κ₄ : Lft) (q q₁ q₂ q₃ q₄ : Share) (b o : ℕ) (γ : GName) (h : Passed) (bytes : Bor (List ℕ)) (entries : Bor (List Entry)) (log covered : Bor (List ℕ)) where
   open 𝓛 use {H, A}
 
   abbrev x : Arg
-  x = (record { ref_ptr = (b, o); ghost_name = γ; now = h }, (safe, (entries, (log, tt))))
+  x = (record { ref_ptr = (b, o); ghost_name = γ; now = h }, (bytes, (entries, (log, (covered, tt)))))
 
   abbrev h' : Passed
-  h' = record { surfaces = h.surfaces ++ surface_at safe.now log.now entries.now ∷ [] }
+  h' = record { surfaces = h.surfaces ++ surface_at bytes.now log.now covered.now entries.now ∷ [] }
 
   abbrev vals : List Val
-  vals = vptr b o ∷ slice_val safe.ref_ptr (length safe.now) ∷ slice_val entries.ref_ptr (length entries.now) ∷ slice_val log.ref_ptr (length log.now) ∷ []
+  vals = vptr b o ∷ slice_val bytes.ref_ptr (length bytes.now) ∷ slice_val entries.ref_ptr (length entries.now) ∷ slice_val log.ref_ptr (length log.now) ∷ slice_val covered.ref_ptr (length covered.now) ∷ []
 
-  abbrev at : List Val × (List Val × (List Val × (List Val × Unit {0})))
-  at = (vptr b o ∷ [], (slice_val safe.ref_ptr (length safe.now) ∷ [], (slice_val entries.ref_ptr (length entries.now) ∷ [], (slice_val log.ref_ptr (length log.now) ∷ [], tt))))
+  abbrev at : List Val × (List Val × (List Val × (List Val × (List Val × Unit {0}))))
+  at = (
+    vptr b o ∷ [],
+    (
+      slice_val bytes.ref_ptr (length bytes.now) ∷ [],
+      (slice_val entries.ref_ptr (length entries.now) ∷ [], (slice_val log.ref_ptr (length log.now) ∷ [], (slice_val covered.ref_ptr (length covered.now) ∷ [], tt))),
+    ),
+  )
 
   abbrev rest : Fml
-  rest = owns (ShrSlice (named 1) κ₁ u8 ∷ ShrSlice (named 2) κ₂ E.the_row ∷ ShrSlice (named 3) κ₃ u8 ∷ []) x.1 at.1
+  rest = owns (ShrSlice (named 1) κ₁ u8 ∷ ShrSlice (named 2) κ₂ E.the_row ∷ ShrSlice (named 3) κ₃ u8 ∷ ShrSlice (named 4) κ₄ u8 ∷ []) x.1 at.1
 
   abbrev bound : (walk_of 𝓛 it.ended stayed (it.clauses 𝓛 at_mem run)).Ghost
-  bound = (((κ, (κ₁, (κ₂, (κ₃, tt)))), (q, (q₁, (q₂, (q₃, tt)))), tt, x, at), tt)
+  bound = (((κ, (κ₁, (κ₂, (κ₃, (κ₄, tt))))), (q, (q₁, (q₂, (q₃, (q₄, tt))))), tt, x, at), tt)
 
   abbrev Post : Val → SProp 𝓤
   Post = (walk_of 𝓛 it.ended stayed (it.clauses 𝓛 at_mem run)).post bound
 
-  exits : ent 𝓤 (sep 𝓤 (A.obs γ ((T.the_row).coded.code h')) (sep 𝓤 (A.bor κ (Body (mem T.the_row) b o γ)) (sep 𝓤 (A.lft κ q) (sep 𝓤 (sem 𝓛 rest) (sep 𝓤 (A.lft κ₁ q₁) (sep 𝓤 (A.lft κ₂ q₂) (sep 𝓤 (A.lft κ₃ q₃) (emp 𝓤)))))))) (Post vunit)
+  exits : ent 𝓤 (sep 𝓤 (A.obs γ ((T.the_row).coded.code h')) (sep 𝓤 (A.bor κ (Body (mem T.the_row) b o γ)) (sep 𝓤 (A.lft κ q) (sep 𝓤 (sem 𝓛 rest) (sep 𝓤 (A.lft κ₁ q₁) (sep 𝓤 (A.lft κ₂ q₂) (sep 𝓤 (A.lft κ₃ q₃) (sep 𝓤 (A.lft κ₄ q₄) (emp 𝓤))))))))) (Post vunit)
   exits =
-      qed 𝓛 (‵ (fobs γ ((T.the_row).coded.code h')) ∷ ‵ (fbor κ (Body (mem T.the_row) b o γ)) ∷ ‵ (flft κ q) ∷ ‵ rest ∷ (‵ (flft κ₁ q₁) ⊛ (‵ (flft κ₂ q₂) ⊛ (‵ (flft κ₃ q₃) ⊛ ‵ ftrue))) ∷ []) ∵
-      suffices ! _ (ends_at 𝓛 it.ended stayed (it.clauses 𝓛 at_mem run) bound vunit tt (h', (tt, (tt, (tt, tt)))) (tt, (tt, (tt, (tt, tt))))) $ says ! refl $ move ! (2 ∷ 4 ∷ []) $ join ! $
+      qed 𝓛 (‵ (fobs γ ((T.the_row).coded.code h')) ∷ ‵ (fbor κ (Body (mem T.the_row) b o γ)) ∷ ‵ (flft κ q) ∷ ‵ rest ∷ (‵ (flft κ₁ q₁) ⊛ (‵ (flft κ₂ q₂) ⊛ (‵ (flft κ₃ q₃) ⊛ (‵ (flft κ₄ q₄) ⊛ ‵ ftrue)))) ∷ []) ∵
+      suffices ! _ (ends_at 𝓛 it.ended stayed (it.clauses 𝓛 at_mem run) bound vunit tt (h', (tt, (tt, (tt, (tt, tt))))) (tt, (tt, (tt, (tt, (tt, tt)))))) $ says ! refl $ move ! (2 ∷ 4 ∷ []) $ join ! $
       frame ! $ feq_i ! (List Val) (vptr b o ∷ []) (vptr b o ∷ []) refl $ fjoin3 ! $ fjoin ! $
       feq_i ! (List Val) (vunit ∷ []) (vunit ∷ []) refl $ move ! (1 ∷ 0 ∷ []) $ done !
 
   module _ (C : Calls 𝓤 H) (Λ : Loops 𝓤 H) where
-    walk : length safe.now < 2 ^ 64 → length entries.now < 2 ^ 64 → length log.now < 2 ^ 64 → ent 𝓤 (on_entry 𝓛 it.signature (κ, (κ₁, (κ₂, (κ₃, tt)))) (q, (q₁, (q₂, (q₃, tt)))) x at) (WpFn 𝓤 H C Λ code.function vals Post)
-    walk fits₁ fits₂ fits₃ =
-        qed 𝓛 ((‵ (flft κ q) ⊛ (‵ (flft κ₁ q₁) ⊛ (‵ (flft κ₂ q₂) ⊛ (‵ (flft κ₃ q₃) ⊛ ‵ ftrue)))) ∷ ‵ (owns (MutRef (named 0) κ T.the_row ∷ ShrSlice (named 1) κ₁ u8 ∷ ShrSlice (named 2) κ₂ E.the_row ∷ ShrSlice (named 3) κ₃ u8 ∷ []) x at) ∷ []) ∵
+    walk : length bytes.now < 2 ^ 64 → length entries.now < 2 ^ 64 → length log.now < 2 ^ 64 → length covered.now < 2 ^ 64 → ent 𝓤 (on_entry 𝓛 it.signature (κ, (κ₁, (κ₂, (κ₃, (κ₄, tt))))) (q, (q₁, (q₂, (q₃, (q₄, tt))))) x at) (WpFn 𝓤 H C Λ code.function vals Post)
+    walk fits₁ fits₂ fits₃ fits₄ =
+        qed 𝓛 ((‵ (flft κ q) ⊛ (‵ (flft κ₁ q₁) ⊛ (‵ (flft κ₂ q₂) ⊛ (‵ (flft κ₃ q₃) ⊛ (‵ (flft κ₄ q₄) ⊛ ‵ ftrue))))) ∷ ‵ (owns (MutRef (named 0) κ T.the_row ∷ ShrSlice (named 1) κ₁ u8 ∷ ShrSlice (named 2) κ₂ E.the_row ∷ ShrSlice (named 3) κ₃ u8 ∷ ShrSlice (named 4) κ₄ u8 ∷ []) x at) ∷ []) ∵
         split ! $ move ! (2 ∷ []) $ fsplit ! $ fsplit3 ! $ drop ! $ move ! (0 ∷ 1 ∷ 3 ∷ []) $
         enter ! C Λ code.function vals _ $
-        alloc_all ! (λ l. pass_all ! refl ((tt, tt), ((tt, (tt, (record { fits = fits₁ }, tt))), ((tt, (tt, (record { fits = fits₂ }, tt))), ((tt, (tt, (record { fits = fits₃ }, tt))), tt)))) $
+        alloc_all ! (λ l. pass_all ! refl ((tt, tt), ((tt, (tt, (record { fits = fits₁ }, tt))), ((tt, (tt, (record { fits = fits₂ }, tt))), ((tt, (tt, (record { fits = fits₃ }, tt))), ((tt, (tt, (record { fits = fits₄ }, tt))), tt))))) $
         move ! (0 ∷ 1 ∷ 2 ∷ []) $ opens ! tt T.the_row {h = h} b o (λ vs.
         sets ! (of_opd ! (unit_lit !)) refl (tt, tt) $
         move ! (1 ∷ []) $ use1 𝓛 (‵ ((T.the_row).own_val h' vs)) (id⊢ 𝓤 _) $ move ! (1 ∷ 0 ∷ []) $ closes ! tt T.the_row h' vs b o $
@@ -99,16 +108,19 @@ module _ {M : Type 1} {𝓤 : Ura M} (𝓛 : Logic 𝓤) (at_mem : Memory → SP
 
   walks : (C : Calls 𝓤 H) (Λ : Loops 𝓤 H) → Walks 𝓛 it.ended stayed (WpFn 𝓤 H C Λ code.function) (it.clauses 𝓛 at_mem run)
   walks C Λ =
-      walked 𝓛 it.ended stayed (it.clauses 𝓛 at_mem run) (WpFn 𝓤 H C Λ code.function) (λ κs. (mut_vals, (shr_slice_vals, (shr_slice_vals, (shr_slice_vals, tt)))))
-      (λ κs. (mut_Tells (named 0) κs.0 T.the_row, (shr_slice_Tells (named 1) κs.1.0 u8, (shr_slice_Tells (named 2) κs.1.1.0 E.the_row, (shr_slice_Tells (named 3) κs.1.1.1.0 u8, tt)))))
-      (λ κs qs bounds a _ are. via 𝓤 _ (fst∗ 𝓤 _ (emp 𝓤)) (walk 𝓛 at_mem run κs.0 κs.1.0 κs.1.1.0 κs.1.1.1.0 qs.0 qs.1.0 qs.1.1.0 qs.1.1.1.0 a.0.ref_ptr.0 a.0.ref_ptr.1 a.0.ghost_name a.0.now a.1.0 a.1.1.0 a.1.1.1.0 C Λ are.1.0.0.1.0 are.1.1.0.0.1.0 are.1.1.1.0.0.1.0))
+      walked 𝓛 it.ended stayed (it.clauses 𝓛 at_mem run) (WpFn 𝓤 H C Λ code.function) (λ κs. (mut_vals, (shr_slice_vals, (shr_slice_vals, (shr_slice_vals, (shr_slice_vals, tt))))))
+      (λ κs. (mut_Tells (named 0) κs.0 T.the_row, (shr_slice_Tells (named 1) κs.1.0 u8, (shr_slice_Tells (named 2) κs.1.1.0 E.the_row, (shr_slice_Tells (named 3) κs.1.1.1.0 u8, (shr_slice_Tells (named 4) κs.1.1.1.1.0 u8, tt))))))
+      (λ κs qs bounds a _ are. via 𝓤 _ (fst∗ 𝓤 _ (emp 𝓤)) (walk 𝓛 at_mem run κs.0 κs.1.0 κs.1.1.0 κs.1.1.1.0 κs.1.1.1.1.0 qs.0 qs.1.0 qs.1.1.0 qs.1.1.1.0 qs.1.1.1.1.0 a.0.ref_ptr.0 a.0.ref_ptr.1 a.0.ghost_name a.0.now a.1.0 a.1.1.0 a.1.1.1.0 a.1.1.1.1.0 C Λ are.1.0.0.1.0 are.1.1.0.0.1.0 are.1.1.1.0.0.1.0 are.1.1.1.1.0.0.1.0))
 
-  goes : AllGo 𝓛 4 (it.signature).params (it.ended).kept stayed
+  goes : AllGo 𝓛 5 (it.signature).params (it.ended).kept stayed
   goes = (
-    Goes-ref 𝓛 4 0 tt (plain (λ _. T.the_row)),
+    Goes-ref 𝓛 5 0 tt (plain (λ _. T.the_row)),
     (
-      Goes-none_slice 𝓛 4 (1 ∷ []) tt (plain (λ _. u8)) yes,
-      (Goes-none_slice 𝓛 4 (2 ∷ []) tt (plain (λ _. E.the_row)) yes, (Goes-none_slice 𝓛 4 (3 ∷ []) tt (plain (λ _. u8)) yes, tt)),
+      Goes-none_slice 𝓛 5 (1 ∷ []) tt (plain (λ _. u8)) yes,
+      (
+        Goes-none_slice 𝓛 5 (2 ∷ []) tt (plain (λ _. E.the_row)) yes,
+        (Goes-none_slice 𝓛 5 (3 ∷ []) tt (plain (λ _. u8)) yes, (Goes-none_slice 𝓛 5 (4 ∷ []) tt (plain (λ _. u8)) yes, tt)),
+      ),
     ),
   )
 
