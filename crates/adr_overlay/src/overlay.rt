@@ -215,10 +215,7 @@ fn put_over(alloc: Global, over: &mut Table, local: u64, row: &Update) -> Result
     ensures ok { OnOk result (rows_in over.new ≡ put (rows_in over.old) (held_at local row.now)) }
     ensures err { OnErr result (rows_in over.new ≡ rows_in over.old) }
 {
-    let rows = vec![in alloc; Held::new(row.copy(alloc)?, local)]?;
-    let spare = over.reserve(alloc, rows.as_slice(), &[])?;
-    over.write(rows, &[], spare);
-    Ok(())
+    over.put_now(alloc, Held::new(row.copy(alloc)?, local))
 }
 
 /// Whether a row is one of an object, if there is one.

@@ -1,6 +1,6 @@
 -- How many rows of a kind there are, after a slot is made or its row replaced.
 use Rattle.std.proofs.Common.{◌≡◌, ℕ, ◌≤◌, [], ◌∷◌, length, Bool, true, false, cond, not, ◌&&◌, Option, Some, None, refl, sym, ap, ◌∙◌, subst, arith}
-use Rattle.std.specs.Prelude.{IsSome, is_some}
+use Rattle.std.specs.Prelude.{is_some}
 use Rattle.std.specs.Map.{lookup, keys_of, set_value}
 use Rattle.std.specs.BTreeMap.{insert_entry, is_at}
 use Rattle.std.specs.Ordering.{is_eq, match_ordering}
@@ -39,11 +39,11 @@ more_more true false n = refl
 more_more false true n = refl
 more_more false false n = refl
 
--- the row that was there counts no more, and the one that is put there counts
-pub tally_replaced : (test : Place → Bool) (es : Entries) (p : Place) (v : Option Held) → AreSorted es → IsSome (lookup (is_at (place_order p)) es)
+-- the row that was there, if there was one, counts no more, and the one that is put there counts
+pub tally_replaced : (test : Place → Bool) (es : Entries) (p : Place) (v : Option Held) → AreSorted es
     → one_more_if (is_some (flat (lookup (is_at (place_order p)) es)) && test p) (tally test (insert_entry place_order es p v)) ≡ one_more_if (is_some v && test p) (tally test es)
-tally_replaced test [] p v sorted there = cc
-tally_replaced test (e ∷ es) p v sorted there = by (place_order p e.0) refl there (tally_replaced test es p v (sorted_tail place_order e.0 (keys_of es) sorted))
+tally_replaced test [] p v sorted = refl
+tally_replaced test (e ∷ es) p v sorted = by (place_order p e.0) refl (tally_replaced test es p v (sorted_tail place_order e.0 (keys_of es) sorted))
   where
     old : Option (Option Held)
     old = lookup (is_at (place_order p)) es
@@ -51,22 +51,18 @@ tally_replaced test (e ∷ es) p v sorted there = by (place_order p e.0) refl th
     less : place_order p e.0 ≡ Less → old ≡ None
     less is = subst (λ o. cond (is_eq o) (Some e.1) old ≡ None) is (none_below e es p sorted is)
 
-    nothing : (o : Option (Option Held)) → o ≡ None → IsSome o → ⊥
-    nothing None is some = cc
-    nothing (Some x) is some = cc
-
-    by : (o : Ordering) → place_order p e.0 ≡ o → IsSome (cond (is_eq o) (Some e.1) old)
-        → (IsSome old → one_more_if (is_some (flat old) && test p) (tally test (insert_entry place_order es p v)) ≡ one_more_if (is_some v && test p) (tally test es))
+    by : (o : Ordering) → place_order p e.0 ≡ o
+        → one_more_if (is_some (flat old) && test p) (tally test (insert_entry place_order es p v)) ≡ one_more_if (is_some v && test p) (tally test es)
         → one_more_if (is_some (flat (cond (is_eq o) (Some e.1) old)) && test p) (tally test (match_ordering o ((p, v) ∷ e ∷ es) ((e.0, v) ∷ es) (e ∷ insert_entry place_order es p v)))
         ≡ one_more_if (is_some v && test p) (tally test (e ∷ es))
-    by Less is some later = absurd (nothing old (less is) some)
-    by Equal is some later =
+    by Less is later = ap (λ o. one_more_if (is_some (flat o) && test p) (tally test ((p, v) ∷ e ∷ es))) (less is)
+    by Equal is later =
         ap (λ b. one_more_if (is_some e.1 && b) (one_more_if (is_some v && test e.0) (tally test es))) (ap test (exact_places p e.0 is))
         ∙ more_more (is_some e.1 && test e.0) (is_some v && test e.0) (tally test es)
         ∙ ap (λ b. one_more_if (is_some v && b) (one_more_if (is_some e.1 && test e.0) (tally test es))) (sym (ap test (exact_places p e.0 is)))
-    by Greater is some later =
+    by Greater is later =
         more_more (is_some (flat old) && test p) (is_some e.1 && test e.0) (tally test (insert_entry place_order es p v))
-        ∙ ap (one_more_if (is_some e.1 && test e.0)) (later some)
+        ∙ ap (one_more_if (is_some e.1 && test e.0)) later
         ∙ more_more (is_some e.1 && test e.0) (is_some v && test p) (tally test es)
 
 -- ---- counts, as rows come and go
@@ -114,14 +110,14 @@ put_either true true n m e = omega (arith, e)
 put_either true false n m e = e
 put_either false here n m e = e
 
-pub put_count : (test : Place → Bool) (es fs : Entries) (p : Place) (h : Held) → fs ≡ insert_entry place_order es p (Some h) → AreSorted es → IsSome (lookup (is_at (place_order p)) es)
+pub put_count : (test : Place → Bool) (es fs : Entries) (p : Place) (h : Held) → fs ≡ insert_entry place_order es p (Some h) → AreSorted es
     → (b : Bool) → b ≡ (not (is_some (flat (lookup (is_at (place_order p)) es))) && test p) → (n : ℕ) → n ≡ tally test es → tally test fs ≡ one_more_if b n
-put_count test es fs p h is sorted there b e n count =
+put_count test es fs p h is sorted b e n count =
     put_either (is_some (flat (lookup (is_at (place_order p)) es))) (test p) (tally test es) (tally test fs)
-    (ap (λ xs. one_more_if (is_some (flat (lookup (is_at (place_order p)) es)) && test p) (tally test xs)) is ∙ tally_replaced test es p (Some h) sorted there)
+    (ap (λ xs. one_more_if (is_some (flat (lookup (is_at (place_order p)) es)) && test p) (tally test xs)) is ∙ tally_replaced test es p (Some h) sorted)
     ∙ ap (λ c. one_more_if c (tally test es)) (sym e) ∙ ap (one_more_if b) (sym count)
 
-pub put_room : (test : Place → Bool) (es fs : Entries) (p : Place) (h : Held) → fs ≡ insert_entry place_order es p (Some h) → AreSorted es → IsSome (lookup (is_at (place_order p)) es)
+pub put_room : (test : Place → Bool) (es fs : Entries) (p : Place) (h : Held) → fs ≡ insert_entry place_order es p (Some h) → AreSorted es
     → (b : Bool) → b ≡ (not (is_some (flat (lookup (is_at (place_order p)) es))) && test p) → (n : ℕ) → n ≡ tally test es → one_more_if b n ≤ length fs
-put_room test es fs p h is sorted there b e n count =
-    let few = tally_few test fs in let more = put_count test es fs p h is sorted there b e n count in omega (arith, few, more)
+put_room test es fs p h is sorted b e n count =
+    let few = tally_few test fs in let more = put_count test es fs p h is sorted b e n count in omega (arith, few, more)

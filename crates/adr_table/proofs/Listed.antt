@@ -41,6 +41,10 @@ listed_more dead dead' more k = by (killed_by k)
     by None is = is
     by (Some o) is = more o is
 
+-- a row that kills nothing has nothing to be listed
+pub none_killed : (dead : BTreeSet Oid) (k : Key) → killed_by k ≡ None → IsListed dead k
+none_killed dead k none = subst (λ r. IfSome r (λ o. contains object_order dead o ≡ true)) (sym none) tt
+
 -- a row that is held is listed
 pub listed_held : (slots : Slots) (dead : BTreeSet Oid) → IsTidy slots → AreListed slots dead → (k : Key) → IsSome (row_at slots (place_of k)) → IsListed dead k
 listed_held slots dead tidy listed k some = by (row_held (rows_seen slots) k) refl (subst IsSome (found slots.map.entries k tidy.ordered tidy.home) some)

@@ -11,7 +11,7 @@ use Rattle.adr_stamp.specs.declared.LinkKey.{LinkKey}
 use Rattle.adr_stamp.specs.declared.Oid.{Oid}
 use Rattle.adr_model.proofs.Keys.{equal_order}
 use Rattle.adr_model.specs.Update.{Key, RowOf, LinkOf}
-use Rattle.adr_model.specs.Store.{Held}
+use Rattle.adr_model.specs.Store.{Held, with_row}
 use Rattle.adr_table.specs.declared.place.Place.{Place}
 use Rattle.adr_table.specs.declared.slots.Slots.{Slots}
 use Rattle.adr_table.specs.declared.back.Behind.{Behind}
@@ -23,7 +23,7 @@ use Rattle.adr_table.specs.Back.{AreBacked, IsHinted, behind_order, hint, link_b
 use Rattle.adr_table.specs.Deaths.{IsListed}
 use Rattle.adr_table.specs.Locals.{IsLocated}
 use Rattle.adr_table.specs.Table.{HasRoom, HaveRoom, IsKept}
-use Rattle.adr_table.proofs.LocalsKept.{each_same}
+use Rattle.adr_table.proofs.LocalsKept.{each_same, each_written}
 use Rattle.adr_table.proofs.Seen.{Entries}
 use Rattle.adr_table.proofs.Places.{exact_places, same_place}
 use Rattle.adr_table.proofs.Behinds.{exact_behinds}
@@ -132,6 +132,18 @@ kept_more t s kept tidy seen same back dead locals = record {
   backed = backed_same t.slots s.slots t.back s.back kept.backed back same;
   listed = each_same t.slots s.slots (λ h. IsListed t.dead h.update.key) (λ h. IsListed s.dead h.update.key) kept.listed (λ h is. dead h.update.key is) seen;
   located = each_same t.slots s.slots (IsLocated t.locals) (IsLocated s.locals) kept.located locals seen;
+}
+
+-- and where a row is put that has its hints
+pub kept_put : (t s : Table) (row : Held) → IsKept t → IsTidy s.slots → rows_seen s.slots ≡ with_row (rows_seen t.slots) row
+    → ((q : Place) → row_at s.slots q ≡ cond (is_at (place_order (place_of row.update.key)) q) (Some row) (row_at t.slots q)) → ((k : Key) → IsHinted t.back k → IsHinted s.back k)
+    → ((k : Key) → IsListed t.dead k → IsListed s.dead k) → ((x : Held) → IsLocated t.locals x → IsLocated s.locals x)
+    → IsHinted s.back row.update.key → IsListed s.dead row.update.key → IsLocated s.locals row → IsKept s
+kept_put t s row kept tidy seen rows back dead locals hinted listed located = record {
+  tidy = tidy;
+  backed = backed_more t.slots s.slots s.back row (backed_same t.slots t.slots t.back s.back kept.backed back (λ q. refl)) hinted rows;
+  listed = each_written t.slots s.slots (λ h. IsListed s.dead h.update.key) row (λ h m. dead h.update.key (kept.listed h m)) listed seen;
+  located = each_written t.slots s.slots (IsLocated s.locals) row (λ h m. locals h (kept.located h m)) located seen;
 }
 
 -- ---- room for several rows

@@ -1,6 +1,8 @@
 -- What is seen of slots that are looked up, made and written.
 use Rattle.std.proofs.Common.{◌≡◌, List, [], ◌∷◌, Bool, true, false, cond, Option, Some, None, refl, sym, ap, ◌∙◌, subst}
-use Rattle.std.specs.Prelude.{IfSome, IsSome, is_some}
+use Rattle.std.specs.Prelude.{IfSome, IsSome, OnErr, OnOk, is_some, unwrap_or}
+use Rattle.std.specs.declared.result.Result.{Result}
+use Rattle.std.specs.declared.result.Result.TheVariants.{Ok, Err}
 use Rattle.std.specs.List.{cons_option, AllByRecursion}
 use Rattle.std.specs.List.Sorted.{IsStrictlySortedBy}
 use Rattle.std.specs.Map.{keys_of, lookup, set_value}
@@ -13,7 +15,7 @@ use Rattle.std.proofs.lemmas.Map.Keys.{sorted_head, sorted_tail}
 use Rattle.adr_model.specs.Update.{Key, key_order, same_key}
 use Rattle.adr_model.proofs.Keys.{equal_order}
 use Rattle.adr_model.specs.Store.{Held, row_held, with_row}
-use Rattle.adr_update.proofs.Slots.{found as at_home_found, home_still as still_at_home, later_none as none_later, made as unseen_made, none_below as none_under, still_some}
+use Rattle.adr_update.proofs.Slots.{found as at_home_found, home_still as still_at_home, later_none as none_later, made as unseen_made, none_below as none_under, slot_made as made_or_there, still_some}
 use Rattle.adr_table.specs.declared.place.Place.{Place}
 use Rattle.adr_table.specs.Place.{place_of, place_order}
 use Rattle.adr_table.specs.Slots.{seen, AreAtHome, flat}
@@ -158,6 +160,13 @@ found_new (e ∷ es) p q none = by (place_order p e.0) refl none (found_new es p
     by Greater at n later =
         ap (λ old. cond (is_at (place_order q) e.0) (Some e.1) old) (later n)
         ∙ swap (is_at (place_order q) p) (is_at (place_order q) e.0) (lookup (is_at (place_order q)) es) (apart at)
+
+-- where a slot is made, if there is none and there is memory for it, the old slots and those with a new empty one say all
+pub slot_made : {T E : Type 0} (r : Result T E) (P : Entries → Type 0) (es new : Entries) (p : Place) → AreSorted es
+    → OnOk r (new ≡ insert_entry place_order es p (unwrap_or (lookup (is_at (place_order p)) es) None)) → OnErr r (new ≡ es)
+    → P es → (lookup (is_at (place_order p)) es ≡ None → P (insert_entry place_order es p None)) → P new
+slot_made (Ok x) P es new p sorted ok err stays made = made_or_there place_order places_total P es new p None sorted ok stays made
+slot_made (Err e) P es new p sorted ok err stays made = subst P (sym err) stays
 
 -- a new slot leaves the rows that are found, and the slots
 pub new_none : (es : Entries) (p q : Place) → lookup (is_at (place_order p)) es ≡ None

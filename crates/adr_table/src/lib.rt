@@ -2,7 +2,8 @@
 //! whole or not at all.
 //!
 //! Rows stand in slots, in one ordered map in the order of their keys. A write first makes room: a slot and hints for each
-//! row. Then it can't fail. Slots without a row and hints without one are seen by nobody; they cost memory alone.
+//! row. Then it can't fail. A single row may also be put at once, by one search. Slots without a row and hints without one
+//! are seen by nobody; they cost memory alone.
 //!
 //! It stands on `adr_update` and on the definitions in `adr_model`. It knows nothing of schemas, vectors or marks.
 #![tactic(auto)]

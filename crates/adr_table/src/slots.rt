@@ -1,7 +1,7 @@
 //! Slots for rows.
 
 ghost use Rattle.std.specs.Prelude.{◌≡◌, ◌≤◌, ◌++◌, [], IsTrue, IsSome, IfSome, IfNone, IfOk, OnOk, OnErr, cond, is_some, length, not, ◌&&◌, slice_get, Some, None};
-ghost use Rattle.std.specs.Option.{option_copied, option_map};
+ghost use Rattle.std.specs.Option.{option_copied, option_map, unwrap_or};
 ghost use Rattle.std.specs.Map.{set_value};
 ghost use Rattle.std.specs.BTreeMap.{IsOrdered, get, insert_entry, is_at, keys};
 ghost use Rattle.std.specs.BTreeMap.Range.{IsFromStart, IsLeBy, entries_between};
@@ -64,14 +64,29 @@ impl Slots {
         ensures ok { OnOk result (HasSlot self.new place) }
         ensures local { IfOk result (λ local. local ≡ option_map (λ h. h.local) (row_at self.old place)) }
     {
-        if let Some(slot) = self.map.get(&place) {
-            return Ok(local_in(slot));
-        }
-        make(&mut self.map, place)?;
-        Ok(None)
+        make(&mut self.map, place)
     }
 
-    /// Puts a row into the slot of its key.
+    /// Puts a row into the slot of its key, which is made if there is none.
+    pub(crate) fn insert(&mut self, row: Held) -> Result<(), NoMemory>
+        requires { IsTidy self.old }
+        ensures tidy { IsTidy self.new }
+        ensures seen { OnOk result (rows_seen self.new ≡ with_row (rows_seen self.old) row) }
+        ensures rows { OnOk result ((q : Place) →
+            row_at self.new q ≡ cond (is_at (place_order (place_of row.update.key)) q) (Some row) (row_at self.old q)) }
+        ensures places { OnOk result (HasSlot self.old (place_of row.update.key) → places self.new ≡ places self.old) }
+        ensures room { OnErr result (get place_order self.old.map (place_of row.update.key) ≡ None) }
+        ensures unseen { OnErr result (rows_seen self.new ≡ rows_seen self.old) }
+        ensures same { OnErr result ((q : Place) → row_at self.new q ≡ row_at self.old q) }
+    {
+        let place = Place::of(&row.key());
+        let was = replace(&mut self.map, place, row)?;
+        self.objects = one_more(&self.map, self.objects, was, place.is_of_class());
+        self.links = one_more(&self.map, self.links, was, place.is_link);
+        Ok(())
+    }
+
+    /// Puts a row into the slot of its key, for which there is one.
     pub(crate) fn write(&mut self, row: Held)
         requires tidy { IsTidy self.old }
         requires room { HasSlot self.old (place_of row.update.key) }
@@ -81,10 +96,10 @@ impl Slots {
             row_at self.new q ≡ cond (is_at (place_order (place_of row.update.key)) q) (Some row) (row_at self.old q) }
         ensures places { places self.new ≡ places self.old }
     {
-        let place = Place::of(&row.key());
-        let was = replace(&mut self.map, place, row);
-        self.objects = one_more(&self.map, self.objects, was, place.is_of_class());
-        self.links = one_more(&self.map, self.links, was, place.is_link);
+        match self.insert(row) {
+            Ok(()) => {}
+            Err(_) => unreachable!(),
+        }
     }
 
     /// Empties the slot of a place, if there is one.
@@ -229,16 +244,17 @@ pub(crate) fn push_row<'a>(rows: &mut Vec<&'a Held>, row: Option<&'a Held>) -> R
     Ok(())
 }
 
-/// Makes a slot where there is none.
-fn make(map: &mut BTreeMap<Place, Option<Held>>, place: Place) -> Result<(), NoMemory>
-    requires { IsOrdered place_order map.old }
+/// Makes a slot where there is none, and tells the local update sequence number of the row in it.
+fn make(map: &mut BTreeMap<Place, Option<Held>>, place: Place) -> Result<Option<u64>, NoMemory>
+    ensures local { IfOk result (λ local. local ≡ option_map (λ h. h.local) (flat (get place_order map.old place))) }
     ensures ordered { IsOrdered place_order map.new }
-    ensures entries { OnOk result (map.new.entries ≡ insert_entry place_order map.old.entries place None) }
+    ensures entries { OnOk result (map.new.entries
+        ≡ insert_entry place_order map.old.entries place (unwrap_or (get place_order map.old place) None)) }
     ensures there { OnOk result (IsSome (get place_order map.new place)) }
     ensures err { OnErr result (map.new.entries ≡ map.old.entries) }
 {
-    map.insert(place, None)?;
-    Ok(())
+    let slot = map.entry(place)?.or_insert(None);
+    Ok(local_in(slot))
 }
 
 /// The local update sequence number of the row in a slot.
@@ -251,21 +267,24 @@ fn local_in(slot: &Option<Held>) -> Option<u64>
     }
 }
 
-/// Puts a row into a slot, and tells whether one was there.
-fn replace(map: &mut BTreeMap<Place, Option<Held>>, place: Place, row: Held) -> bool
-    requires ordered { IsOrdered place_order map.old }
-    requires room { IsSome (get place_order map.old place) }
-    ensures was { result ≡ is_some (flat (get place_order map.old place)) }
+/// Puts a row into a slot, which is made if there is none, and tells whether a row was there.
+fn replace(
+    map: &mut BTreeMap<Place, Option<Held>>,
+    place: Place,
+    row: Held,
+) -> Result<bool, NoMemory>
+    ensures was { IfOk result (λ was. was ≡ is_some (flat (get place_order map.old place))) }
     ensures ordered { IsOrdered place_order map.new }
-    ensures entries { map.new.entries ≡ insert_entry place_order map.old.entries place (Some row) }
-    ensures updates { (q : Place) →
-        get place_order map.new q ≡ cond (is_at (place_order place) q) (Some (Some row)) (get place_order map.old q) }
-    ensures keys { keys map.new ≡ keys map.old }
+    ensures entries { OnOk result (map.new.entries ≡ insert_entry place_order map.old.entries place (Some row)) }
+    ensures updates { OnOk result ((q : Place) →
+        get place_order map.new q ≡ cond (is_at (place_order place) q) (Some (Some row)) (get place_order map.old q)) }
+    ensures keys { OnOk result (IsSome (get place_order map.old place) → keys map.new ≡ keys map.old) }
+    ensures room { OnErr result (get place_order map.old place ≡ None) }
+    ensures err { OnErr result (map.new.entries ≡ map.old.entries) }
 {
-    match map.insert(place, Some(row)) {
-        Ok(Some(slot)) => slot.is_some(),
-        Ok(None) => false,
-        Err(_) => unreachable!(),
+    match map.insert(place, Some(row))? {
+        Some(slot) => Ok(slot.is_some()),
+        None => Ok(false),
     }
 }
 

@@ -1,6 +1,6 @@
 //! How rows are written into a table.
 
-ghost use Rattle.std.specs.Prelude.{◌≡◌, None, Some, fold};
+ghost use Rattle.std.specs.Prelude.{◌≡◌, None, OnErr, OnOk, Some, fold};
 ghost use Rattle.adr_model.specs.Change.{put, rows_after, stripped, without_object};
 ghost use Rattle.adr_model.specs.Store.{Held as Row};
 ghost use Rattle.adr_table.specs.Slots.{IsTidy, places, row_at, rows_seen};
@@ -16,9 +16,10 @@ use crate::place::Place;
 use crate::slots::Slots;
 use crate::spare::Spare;
 use crate::table::Table;
-use crate::{deaths, locals};
+use crate::{NoMemory, back, deaths, locals};
 use adr_stamp::{LinkKey, Oid};
 use adr_update::Held;
+use std::alloc::Global;
 use std::collections::BTreeSet;
 
 /// Empties the slots of what goes with a dead object.
@@ -154,5 +155,36 @@ impl Table {
         self.put_all(rows);
         self.remove_all(removed);
         self.free(&spare);
+    }
+
+    /// Makes room for a row and puts it. What is spare is let go of.
+    fn put_with_room(&mut self, alloc: Global, row: Held) -> Result<(), NoMemory>
+        requires { IsKept self.old }
+        ensures kept { IsKept self.new }
+        ensures ok { OnOk result (rows_in self.new ≡ put (rows_in self.old) row) }
+        ensures err { OnErr result (rows_in self.new ≡ rows_in self.old) }
+    {
+        let rows = vec![in alloc; row]?;
+        let spare = self.reserve(alloc, rows.as_slice(), &[])?;
+        self.write(rows, &[], spare);
+        Ok(())
+    }
+
+    /// Puts a row for which no room was made. A death takes its object's other rows and its links. The hint of the row that
+    /// it takes the place of may be left over.
+    pub fn put_now(&mut self, alloc: Global, row: Held) -> Result<(), NoMemory>
+        requires { IsKept self.old }
+        ensures kept { IsKept self.new }
+        ensures ok { OnOk result (rows_in self.new ≡ put (rows_in self.old) row) }
+        ensures err { OnErr result (rows_in self.new ≡ rows_in self.old) }
+    {
+        let key = row.key();
+        if key.killed().is_some() {
+            return self.put_with_room(alloc, row);
+        }
+        locals::remember(&mut self.locals, None, &row)?;
+        back::remember(&mut self.back, &key)?;
+        self.slots.insert(row)?;
+        Ok(())
     }
 }

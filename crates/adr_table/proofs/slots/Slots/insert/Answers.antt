@@ -1,0 +1,48 @@
+use Rattle.std.proofs.Common.{◌≡◌, sym, ◌∙◌, ap, subst, Some, cond, not, ◌&&◌}
+use Rattle.std.specs.Prelude.{is_some}
+use Rattle.std.specs.BTreeMap.{insert_entry, is_at, get}
+use Rattle.adr_table.specs.Place.{is_of_class, is_of_link, place_of, place_order}
+use Rattle.adr_table.specs.Slots.{seen, AreAtHome, flat, row_at}
+use Rattle.adr_table.proofs.Seen.{written, home_still, flat_either}
+use Rattle.adr_table.proofs.Counts.{put_count, put_room}
+use Rattle.adr_table.proofs.slots.Slots.insert.Goals as goal
+
+pub one_more-self-requires : goal.one_more-self-requires
+one_more-self-requires c =
+    let place : c.of-place.result ≡ place_of c.args.row.update.key = c.of-place.ensures ∙ ap place_of c.key.ensures in
+    put_room is_of_class c.args.self.now.map.entries c.replace.new.map.entries c.of-place.result c.args.row c.in_ok-was.ensures.entries c.requires.ordered
+    (not c.in_ok-was.was' && c.is_of_class.result)
+    (ap (λ b. not b && c.is_of_class.result) c.in_ok-was.ensures.was ∙ ap (λ b. not (is_some (flat (get place_order c.args.self.now.map c.of-place.result))) && b) c.is_of_class.ensures)
+    c.args.self.now.objects c.requires.objects
+
+pub one_more-self-requires-2 : goal.one_more-self-requires-2
+one_more-self-requires-2 c =
+    let place : c.of-place.result ≡ place_of c.args.row.update.key = c.of-place.ensures ∙ ap place_of c.key.ensures in
+    put_room is_of_link c.args.self.now.map.entries c.replace.new.map.entries c.of-place.result c.args.row c.in_ok-was.ensures.entries c.requires.ordered
+    (not c.in_ok-was.was' && c.of-place.result.is_link) (ap (λ b. not b && c.of-place.result.is_link) c.in_ok-was.ensures.was) c.args.self.now.links c.requires.links
+
+pub returns-clause-seen : goal.returns-clause-seen
+returns-clause-seen c =
+    let place : c.of-place.result ≡ place_of c.args.row.update.key = c.of-place.ensures ∙ ap place_of c.key.ensures in
+    ap seen (c.in_ok-was.ensures.entries ∙ ap (λ p. insert_entry place_order c.args.self.now.map.entries p (Some c.args.row)) place)
+    ∙ written c.args.self.now.map.entries c.args.row c.requires.ordered c.requires.home
+
+pub returns-clause-tidy : goal.returns-clause-tidy
+returns-clause-tidy c =
+    let place : c.of-place.result ≡ place_of c.args.row.update.key = c.of-place.ensures ∙ ap place_of c.key.ensures in
+    record {
+      ordered = c.replace.ensures.ordered;
+      home = subst AreAtHome (sym c.in_ok-was.ensures.entries) (home_still c.args.self.now.map.entries c.of-place.result (Some c.args.row) (sym place) c.requires.home);
+      objects = c.one_more-self.ensures ∙ sym (put_count is_of_class c.args.self.now.map.entries c.replace.new.map.entries c.of-place.result c.args.row c.in_ok-was.ensures.entries c.requires.ordered
+          (not c.in_ok-was.was' && c.is_of_class.result)
+          (ap (λ b. not b && c.is_of_class.result) c.in_ok-was.ensures.was ∙ ap (λ b. not (is_some (flat (get place_order c.args.self.now.map c.of-place.result))) && b) c.is_of_class.ensures)
+          c.args.self.now.objects c.requires.objects);
+      links = c.one_more-self-2.ensures ∙ sym (put_count is_of_link c.args.self.now.map.entries c.replace.new.map.entries c.of-place.result c.args.row c.in_ok-was.ensures.entries c.requires.ordered
+          (not c.in_ok-was.was' && c.of-place.result.is_link) (ap (λ b. not b && c.of-place.result.is_link) c.in_ok-was.ensures.was) c.args.self.now.links c.requires.links);
+    }
+
+pub returns-clause-rows : goal.returns-clause-rows
+returns-clause-rows c q =
+    let place : c.of-place.result ≡ place_of c.args.row.update.key = c.of-place.ensures ∙ ap place_of c.key.ensures in
+    ap flat (c.in_ok-was.ensures.updates q) ∙ flat_either (is_at (place_order c.of-place.result) q) (Some c.args.row) (get place_order c.args.self.now.map q)
+    ∙ ap (λ p. cond (is_at (place_order p) q) (Some c.args.row) (row_at c.args.self.now q)) place
