@@ -17,15 +17,15 @@ use Rattle.adr_dial.specs.declared.ended.Pulled.TheVariants as pulls
 use Rattle.adr_dial.specs.declared.ended.Sent.TheVariants as sends
 use Rattle.adr_dial.proofs.Begun.{none_pulled}
 use Rattle.adr_cmd.specs.Online.{PullsSo, SendsSo, ServesSo}
-use Rattle.adr_cmd.proofs.DiskLemmas.{none_begun}
+use Rattle.adr_cmd.proofs.DiskLemmas.{OnlyNow, none_begun}
 
-pub nothing_served : {D N C K : Type 0} (d : DiskGhosts D) (n : NetGhosts N) (c : ClockGhosts C) (k : SinkGhosts K)
-    (only_now : (disk : D) (bytes : List ℕ) → d.left_since disk (d.moment disk) bytes → d.may_leave disk bytes) (count : ℕ) (at : AtServer D N C K) → ServesSo d n c k count at at 8
+pub nothing_served : {D N C K : Type 0} (d : DiskGhosts D) (n : NetGhosts N) (c : ClockGhosts C) (k : SinkGhosts K) (only_now : OnlyNow d)
+    (count : ℕ) (at : AtServer D N C K) → ServesSo d n c k count at at 8
 nothing_served d n c k only_now count at =
     (online.NoMemory, refl, none_served (of_disk d) n c k count at at unbegun.NoMemory (none_begun d only_now k at.disk at.sink) refl refl)
 
-pub nothing_pulled : {D N K : Type 0} (d : DiskGhosts D) (n : NetGhosts N) (k : SinkGhosts K)
-    (only_now : (disk : D) (bytes : List ℕ) → d.left_since disk (d.moment disk) bytes → d.may_leave disk bytes) (name : List ℕ) (at : AtPull D N K) → PullsSo d n k name at at 8
+pub nothing_pulled : {D N K : Type 0} (d : DiskGhosts D) (n : NetGhosts N) (k : SinkGhosts K) (only_now : OnlyNow d)
+    (name : List ℕ) (at : AtPull D N K) → PullsSo d n k name at at 8
 nothing_pulled d n k only_now name at =
     (pulls.NoMemory, refl, none_pulled (of_disk d) n k name at at unbegun.NoMemory (none_begun d only_now k at.disk at.sink) refl)
 

@@ -1,3 +1,3 @@
-pub mod Work
+pub mod Usage
 pub mod OnDisk
 pub mod Online

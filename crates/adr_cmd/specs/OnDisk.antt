@@ -14,8 +14,8 @@ use Rattle.adr_node.specs.declared.ended.BackedUp.{BackedUp}
 use Rattle.adr_node.specs.declared.ended.BackedUp.TheVariants as looks
 use Rattle.adr_node.specs.declared.ended.Installed.{Installed}
 use Rattle.adr_node.specs.declared.ended.Installed.TheVariants as makes
-use Rattle.adr_cmd.specs.declared.disk.DiskCommand.{DiskCommand}
-use Rattle.adr_cmd.specs.declared.disk.DiskCommand.TheVariants.{Create, Install, Restore, Backup, Show, Export}
+use Rattle.adr_words.specs.declared.kinds.DiskCommand.{DiskCommand}
+use Rattle.adr_words.specs.declared.kinds.DiskCommand.TheVariants.{Create, Install, Restore, Backup, Show, Export}
 
 -- what a command has at hand
 pub record AtHand (S K D F : Type 0) : Type 0 where

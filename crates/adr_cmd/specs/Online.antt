@@ -15,8 +15,8 @@ use Rattle.adr_dial.specs.declared.ended.Pulled.{Pulled}
 use Rattle.adr_dial.specs.declared.ended.Pulled.TheVariants as pulls
 use Rattle.adr_dial.specs.declared.ended.Sent.{Sent}
 use Rattle.adr_dial.specs.declared.ended.Sent.TheVariants as sends
-use Rattle.adr_cmd.specs.declared.top.Work.{Work}
-use Rattle.adr_cmd.specs.declared.top.Work.TheVariants as works
+use Rattle.adr_words.specs.declared.kinds.Command.{Command}
+use Rattle.adr_words.specs.declared.kinds.Command.TheVariants as commands
 
 -- ---- the status
 
@@ -67,11 +67,11 @@ SendsSo s n k source source_after net net_after sink sink_after status =
     (how : Sent) × (status ≡ status_of_send how) × Sends s n k source source_after net net_after sink sink_after how
 
 -- words that ask for no network
-abbrev pub IsOffline : Option Work → Type 0
-IsOffline (Some (works.Serve name port count)) = ⊥
-IsOffline (Some (works.Pull name port)) = ⊥
-IsOffline (Some (works.Send port)) = ⊥
-IsOffline (Some works.Replay) = ⊤
-IsOffline (Some (works.Exercise number)) = ⊤
-IsOffline (Some (works.OnDisk command)) = ⊤
+abbrev pub IsOffline : Option Command → Type 0
+IsOffline (Some (commands.Serve name port count)) = ⊥
+IsOffline (Some (commands.Pull name port)) = ⊥
+IsOffline (Some (commands.Send port)) = ⊥
+IsOffline (Some commands.Replay) = ⊤
+IsOffline (Some (commands.Exercise number)) = ⊤
+IsOffline (Some (commands.OnDisk command)) = ⊤
 IsOffline None = ⊤

@@ -5,32 +5,14 @@ ghost use Rattle.adr_node.specs.Looks.{in_full};
 ghost use Rattle.adr_node.specs.Makes.{as_installed};
 ghost use Rattle.adr_cmd.specs.OnDisk.{DoesSo, HasCauses, status_of_look, status_of_making};
 
-use adr_call::Text;
 use adr_disk::Disk;
-use adr_guid::Guid;
 use adr_io::{Sink, Source};
 use adr_node::{
     BackedUp, Created, Installed, Looked, backup, create, export, install, restore, show,
 };
 use adr_outside::Fresh;
+use adr_words::DiskCommand;
 use std::alloc::Global;
-
-/// A command over the disk of a name.
-#[derive(Drop)]
-pub enum DiskCommand {
-    /// Makes an empty controller.
-    Create { name: Text },
-    /// Makes a controller of the image that is read.
-    Install { name: Text },
-    /// Makes a controller of the image that is read, under a given identifier.
-    Restore { name: Text, dsa: Guid },
-    /// Writes the controller's image.
-    Backup { name: Text },
-    /// Writes the controller's directory as a schedule's answer.
-    Show { name: Text },
-    /// Writes the controller's directory as JSON.
-    Export { name: Text },
-}
 
 /// The status of a command that only looked, and isn't refused.
 fn looked(how: Looked) -> u8

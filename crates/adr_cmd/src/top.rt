@@ -1,6 +1,6 @@
 //! The top call.
 
-ghost use Rattle.std.specs.Prelude.{◌≡◌, ◌⊎◌, ◌<◌, ◌≤◌, ◌+◌, ℕ, List, [], map, string_bytes, IfOk, IfSome, drop, Some};
+ghost use Rattle.std.specs.Prelude.{◌≡◌, ◌⊎◌, ◌<◌, ◌≤◌, ◌+◌, ℕ, List, [], map, string_bytes, IfSome, drop, Some};
 ghost use Rattle.adr_io.specs.Told.{Adds, AddsFront};
 ghost use Rattle.adr_law_headline.specs.Headline.{IsHeadline};
 ghost use Rattle.adr_answers.specs.Laws.{EqualLinesMeanEqualDirectories};
@@ -10,71 +10,23 @@ ghost use Rattle.adr_law_exported.specs.Exportable.{TextsAreExportable};
 ghost use Rattle.adr_schedule.specs.Limits.{text_limit};
 ghost use Rattle.adr_run_replay.specs.Outcome.{Gives, GeneratedRunsAreSo, TextsGiveOne, exercised};
 ghost use Rattle.adr_run_replay.specs.Shown.{AtEachShow};
-ghost use Rattle.adr_cmd.specs.Work.{usage_line, work, work_of};
+ghost use Rattle.adr_words.specs.Commands.{command_of};
+ghost use Rattle.adr_words.specs.declared.kinds.DiskCommand.{DiskCommand};
+ghost use Rattle.adr_cmd.specs.Usage.{usage_line};
 ghost use Rattle.adr_cmd.specs.OnDisk.{DoesSo};
 ghost use Rattle.adr_cmd.specs.Online.{IsOffline, PullsSo, SendsSo, ServesSo};
-ghost use Rattle.adr_cmd.specs.declared.disk.DiskCommand.{DiskCommand};
-ghost use Rattle.adr_cmd.specs.declared.top.Work.TheVariants.{Replay as Replays, Exercise as Exercises, OnDisk as IsOnDisk, Serve as Serves, Pull as Pulls, Send as Sends};
 
-use crate::disk::{DiskCommand, perform};
+use crate::disk::perform;
 use crate::online::{pull_from, send_to, serve_at};
-use adr_call::Text;
 use adr_disk::Disk;
-use adr_failure::NoMemory;
 use adr_io::{Sink, Source};
 use adr_outside::{Clock, Fresh, Net};
 use adr_run_replay::{ended, exercise, replay, runs_are_so};
 use adr_words::{Command, command};
 use std::alloc::Global;
 
-/// What the program does.
-#[derive(Drop)]
-enum Work {
-    /// Runs the schedule that is read.
-    Replay,
-    /// Runs the generated schedule of a number.
-    Exercise { number: u32 },
-    /// Does a command over a disk.
-    OnDisk(DiskCommand),
-    /// Serves so many connections at a port.
-    Serve { name: Text, port: u16, count: u32 },
-    /// Pulls a cycle from the node at a port.
-    Pull { name: Text, port: u16 },
-    /// Sends the lines that are read to the node at a port.
-    Send { port: u16 },
-}
-
-/// What a command is done by.
-fn work_of(command: Command) -> Work
-    ensures { result ≡ work_of command }
-{
-    match command {
-        Command::Replay => Work::Replay,
-        Command::Exercise { number } => Work::Exercise { number },
-        Command::Create { name } => Work::OnDisk(DiskCommand::Create { name }),
-        Command::Install { name } => Work::OnDisk(DiskCommand::Install { name }),
-        Command::Restore { name, dsa } => Work::OnDisk(DiskCommand::Restore { name, dsa }),
-        Command::Backup { name } => Work::OnDisk(DiskCommand::Backup { name }),
-        Command::Show { name } => Work::OnDisk(DiskCommand::Show { name }),
-        Command::Export { name } => Work::OnDisk(DiskCommand::Export { name }),
-        Command::Serve { name, port, count } => Work::Serve { name, port, count },
-        Command::Pull { name, port } => Work::Pull { name, port },
-        Command::Send { port } => Work::Send { port },
-    }
-}
-
-/// What the words ask for.
-fn asked(alloc: Global, words: &[String]) -> Result<Option<Work>, NoMemory>
-    ensures { IfOk result (λ asks. asks ≡ work (map string_bytes words.now)) }
-{
-    match command(alloc, words)? {
-        Some(command) => Ok(Some(work_of(command))),
-        None => Ok(None),
-    }
-}
-
 /// Writes the usage line.
-#[tactic(auto, unfolding(crate::specs::Work::usage_line))]
+#[tactic(auto, unfolding(crate::specs::Usage::usage_line))]
 fn usage<K: Sink>(sink: &mut K) -> u8
     ensures statuses { (result ≡ 2) ⊎ ((result ≡ 5) ⊎ (result ≡ 8)) }
     ensures added { result ≡ 2 → Adds (K.written sink.old) (K.written sink.new) usage_line }
@@ -101,24 +53,24 @@ pub fn run<S: Source, K: Sink, D: Disk, N: Net, C: Clock, F: Fresh>(
     fresh: &mut F,
 ) -> (u8, D)
     // Wrong words get the usage line, and no other words do.
-    ensures usage { result.0 ≡ 2 → work (map string_bytes words.now) ≡ None }
-    ensures usage_only { work (map string_bytes words.now) ≡ None
+    ensures usage { result.0 ≡ 2 → command_of (map string_bytes words.now) ≡ None }
+    ensures usage_only { command_of (map string_bytes words.now) ≡ None
         → (result.0 ≡ 2) ⊎ ((result.0 ≡ 5) ⊎ (result.0 ≡ 8)) }
     ensures usage_line { result.0 ≡ 2 → Adds (K.written sink.old) (K.written sink.new) usage_line }
-    ensures usage_front { work (map string_bytes words.now) ≡ None → (result.0 ≡ 5) ⊎ (result.0 ≡ 8)
+    ensures usage_front { command_of (map string_bytes words.now) ≡ None → (result.0 ≡ 5) ⊎ (result.0 ≡ 8)
         → AddsFront (K.written sink.old) (K.written sink.new) usage_line }
-    ensures usage_alone { work (map string_bytes words.now) ≡ None
+    ensures usage_alone { command_of (map string_bytes words.now) ≡ None
         → (source.new ≡ source.old) × (result.1 ≡ disk) × (fresh.new ≡ fresh.old) }
 
     // `exercise` reads nothing, and writes what the run of the generated schedule comes to. All that is claimed of the schedules
     // that are read is claimed of those that are generated.
-    ensures exercised { (number : ℕ) → work (map string_bytes words.now) ≡ Some (Exercises number) → result.0 ≡ 0
-        → Adds (K.written sink.old) (K.written sink.new) (exercised number) }
-    ensures exercised_front { (number : ℕ) → work (map string_bytes words.now) ≡ Some (Exercises number)
+    ensures exercised { (number : ℕ) → command_of (map string_bytes words.now) ≡ Some (Command.Exercise number)
+        → result.0 ≡ 0 → Adds (K.written sink.old) (K.written sink.new) (exercised number) }
+    ensures exercised_front { (number : ℕ) → command_of (map string_bytes words.now) ≡ Some (Command.Exercise number)
         → (result.0 ≡ 5) ⊎ (result.0 ≡ 8) → AddsFront (K.written sink.old) (K.written sink.new) (exercised number) }
-    ensures exercised_statuses { (number : ℕ) → work (map string_bytes words.now) ≡ Some (Exercises number)
+    ensures exercised_statuses { (number : ℕ) → command_of (map string_bytes words.now) ≡ Some (Command.Exercise number)
         → (result.0 ≡ 0) ⊎ ((result.0 ≡ 5) ⊎ (result.0 ≡ 8)) }
-    ensures exercised_alone { (number : ℕ) → work (map string_bytes words.now) ≡ Some (Exercises number)
+    ensures exercised_alone { (number : ℕ) → command_of (map string_bytes words.now) ≡ Some (Command.Exercise number)
         → (source.new ≡ source.old) × (result.1 ≡ disk) × (fresh.new ≡ fresh.old) }
     ensures generated { GeneratedRunsAreSo }
 
@@ -128,14 +80,15 @@ pub fn run<S: Source, K: Sink, D: Disk, N: Net, C: Clock, F: Fresh>(
     // Each text is a schedule of some events or has a fault, by the grammar, and so gives one status and one output. With 0
     // or 3 that is the status and what was written. With 0 the source is at its end.
     ensures texts { TextsGiveOne }
-    ensures written { work (map string_bytes words.now) ≡ Some Replays → (result.0 ≡ 0) ⊎ (result.0 ≡ 3)
+    ensures written { command_of (map string_bytes words.now) ≡ Some Command.Replay → (result.0 ≡ 0) ⊎ (result.0 ≡ 3)
         → IfSome (S.left source.old) (λ text. (given : List ℕ) × Gives text result.0 given
         × Adds (K.written sink.old) (K.written sink.new) given) }
-    ensures ended { work (map string_bytes words.now) ≡ Some Replays → result.0 ≡ 0 → IfSome (S.left source.old) (λ text. S.left source.new ≡ Some []) }
+    ensures ended { command_of (map string_bytes words.now) ≡ Some Command.Replay → result.0 ≡ 0
+        → IfSome (S.left source.old) (λ text. S.left source.new ≡ Some []) }
 
     // And where a schedule asks a controller that is up for its directory, what was written is there the directory of the
     // issued updates that the controller covers or holds.
-    ensures printed { work (map string_bytes words.now) ≡ Some Replays → result.0 ≡ 0
+    ensures printed { command_of (map string_bytes words.now) ≡ Some Command.Replay → result.0 ≡ 0
         → IfSome (S.left source.old) (λ text. AtEachShow text (Adds (K.written sink.old) (K.written sink.new))) }
 
     // Equal lines mean equal directories, of entries that are printable, as those of every run are (*headline*).
@@ -154,49 +107,54 @@ pub fn run<S: Source, K: Sink, D: Disk, N: Net, C: Clock, F: Fresh>(
     ensures headline { (text : List ℕ) → IsHeadline text }
 
     // With a fault it is a front of that. Of the source no more is read than a text may have, and one byte.
-    ensures front { work (map string_bytes words.now) ≡ Some Replays → (result.0 ≡ 5) ⊎ (result.0 ≡ 8)
+    ensures front { command_of (map string_bytes words.now) ≡ Some Command.Replay → (result.0 ≡ 5) ⊎ (result.0 ≡ 8)
         → IfSome (S.left source.old) (λ text. (status : ℕ) × (given : List ℕ) × Gives text status given
         × AddsFront (K.written sink.old) (K.written sink.new) given) }
-    ensures read { work (map string_bytes words.now) ≡ Some Replays → IfSome (S.left source.old) (λ before. (n : ℕ) × (n ≤ text_limit + 1)
-        × (S.left source.new ≡ Some (drop n before))) }
-    ensures read_whole { work (map string_bytes words.now) ≡ Some Replays → (result.0 ≡ 0) ⊎ (result.0 ≡ 3)
+    ensures read { command_of (map string_bytes words.now) ≡ Some Command.Replay → IfSome (S.left source.old) (λ before.
+        (n : ℕ) × (n ≤ text_limit + 1) × (S.left source.new ≡ Some (drop n before))) }
+    ensures read_whole { command_of (map string_bytes words.now) ≡ Some Command.Replay → (result.0 ≡ 0) ⊎ (result.0 ≡ 3)
         → IfSome (S.left source.old) (λ text. S.left source.new ≡ Some (drop (text_limit + 1) text)) }
-    ensures replayed_alone { work (map string_bytes words.now) ≡ Some Replays → (result.1 ≡ disk) × (fresh.new ≡ fresh.old) }
-    ensures replayed_statuses { work (map string_bytes words.now) ≡ Some Replays
+    ensures replayed_alone { command_of (map string_bytes words.now) ≡ Some Command.Replay
+        → (result.1 ≡ disk) × (fresh.new ≡ fresh.old) }
+    ensures replayed_statuses { command_of (map string_bytes words.now) ≡ Some Command.Replay
         → (result.0 ≡ 0) ⊎ ((result.0 ≡ 3) ⊎ ((result.0 ≡ 4) ⊎ ((result.0 ≡ 5) ⊎ (result.0 ≡ 8)))) }
 
     // A command over a disk does what it should: what is found there or begun, what is written of it, with which status, and
     // what a start finds afterwards or behind a crash at any moment.
-    ensures does { (command : DiskCommand) → work (map string_bytes words.now) ≡ Some (IsOnDisk command)
+    ensures does { (command : DiskCommand) → command_of (map string_bytes words.now) ≡ Some (Command.OnDisk command)
         → DoesSo S.Source K.Sink D.Disk F.Fresh command
         (record { source = source.old; sink = sink.old; disk = disk; fresh = fresh.old })
         (record { source = source.new; sink = sink.new; disk = result.1; fresh = fresh.new }) result.0 }
 
     // `serve` starts the controller on the disk, and answers what comes in so many connections, one message after the other. What
     // is answered was committed before; what a start finds behind a crash is the controller behind some of the messages.
-    ensures serves { (name : List ℕ) (port count : ℕ) → work (map string_bytes words.now) ≡ Some (Serves name port count)
+    ensures serves { (name : List ℕ) (port count : ℕ)
+        → command_of (map string_bytes words.now) ≡ Some (Command.Serve name port count)
         → ServesSo D.Disk N.Net C.Clock K.Sink count
         (record { disk = disk; net = net.old; clock = clock.old; sink = sink.old })
         (record { disk = result.1; net = net.new; clock = clock.new; sink = sink.new }) result.0 }
-    ensures served_alone { (name : List ℕ) (port count : ℕ) → work (map string_bytes words.now) ≡ Some (Serves name port count)
+    ensures served_alone { (name : List ℕ) (port count : ℕ)
+        → command_of (map string_bytes words.now) ≡ Some (Command.Serve name port count)
         → (source.new ≡ source.old) × (fresh.new ≡ fresh.old) }
 
     // `pull` takes a cycle of the node at the port, reply by reply. Each reply whose line was written is kept.
-    ensures pulls { (name : List ℕ) (port : ℕ) → work (map string_bytes words.now) ≡ Some (Pulls name port)
+    ensures pulls { (name : List ℕ) (port : ℕ)
+        → command_of (map string_bytes words.now) ≡ Some (Command.Pull name port)
         → PullsSo D.Disk N.Net K.Sink name
         (record { disk = disk; net = net.old; sink = sink.old })
         (record { disk = result.1; net = net.new; sink = sink.new }) result.0 }
-    ensures pulled_alone { (name : List ℕ) (port : ℕ) → work (map string_bytes words.now) ≡ Some (Pulls name port)
+    ensures pulled_alone { (name : List ℕ) (port : ℕ)
+        → command_of (map string_bytes words.now) ≡ Some (Command.Pull name port)
         → (source.new ≡ source.old) × (clock.new ≡ clock.old) × (fresh.new ≡ fresh.old) }
 
     // `send` looks at all lines that are read, sends one after the other, and writes their answers.
-    ensures sends { (port : ℕ) → work (map string_bytes words.now) ≡ Some (Sends port)
+    ensures sends { (port : ℕ) → command_of (map string_bytes words.now) ≡ Some (Command.Send port)
         → SendsSo S.Source N.Net K.Sink source.old source.new net.old net.new sink.old sink.new result.0 }
-    ensures sent_alone { (port : ℕ) → work (map string_bytes words.now) ≡ Some (Sends port)
+    ensures sent_alone { (port : ℕ) → command_of (map string_bytes words.now) ≡ Some (Command.Send port)
         → (result.1 ≡ disk) × (clock.new ≡ clock.old) × (fresh.new ≡ fresh.old) }
 
     // No other words use the network or the clock.
-    ensures offline { IsOffline (work (map string_bytes words.now)) → (net.new ≡ net.old) × (clock.new ≡ clock.old) }
+    ensures offline { IsOffline (command_of (map string_bytes words.now)) → (net.new ≡ net.old) × (clock.new ≡ clock.old) }
 
     // A fault has its cause.
     ensures read_fault { result.0 ≡ 4 → S.faults source.old < S.faults source.new }
@@ -215,19 +173,19 @@ pub fn run<S: Source, K: Sink, D: Disk, N: Net, C: Clock, F: Fresh>(
     ensures fresh_faults { F.faults fresh.old ≤ F.faults fresh.new }
 {
     runs_are_so();
-    match asked(alloc, words) {
-        Ok(Some(Work::Replay)) => (replay(alloc, source, sink), disk),
-        Ok(Some(Work::Exercise { number })) => (exercise(alloc, number, sink), disk),
-        Ok(Some(Work::OnDisk(command))) => {
+    match command(alloc, words) {
+        Ok(Some(Command::Replay)) => (replay(alloc, source, sink), disk),
+        Ok(Some(Command::Exercise { number })) => (exercise(alloc, number, sink), disk),
+        Ok(Some(Command::OnDisk(command))) => {
             let done = perform(alloc, &command, source, sink, disk, fresh);
             drop(command);
             done
         }
-        Ok(Some(Work::Serve { name, port, count })) => {
+        Ok(Some(Command::Serve { name, port, count })) => {
             serve_at(alloc, &name, port, count, disk, net, clock, sink)
         }
-        Ok(Some(Work::Pull { name, port })) => pull_from(alloc, &name, port, disk, net, sink),
-        Ok(Some(Work::Send { port })) => (send_to(alloc, port, source, net, sink), disk),
+        Ok(Some(Command::Pull { name, port })) => pull_from(alloc, &name, port, disk, net, sink),
+        Ok(Some(Command::Send { port })) => (send_to(alloc, port, source, net, sink), disk),
         Ok(None) => (usage(sink), disk),
         Err(_) => (8, disk),
     }

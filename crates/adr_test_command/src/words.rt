@@ -1,6 +1,6 @@
 //! Each command by its words, and words that are none.
 
-use adr_words::{Command, command};
+use adr_words::{Command, DiskCommand, command};
 use std::alloc::Global;
 use std::test::Fail;
 
@@ -41,19 +41,26 @@ fn said(alloc: Global, words: &[&str]) -> Result<Vec<String>, Fail> {
     Ok(said)
 }
 
+/// The word and values of a command over a disk.
+fn told_on_disk(alloc: Global, command: &DiskCommand) -> Result<String, Fail> {
+    Ok(match command {
+        DiskCommand::Create { name } => format!(in alloc; "create {}", name.as_str())?,
+        DiskCommand::Install { name } => format!(in alloc; "install {}", name.as_str())?,
+        DiskCommand::Restore { name, dsa } => {
+            format!(in alloc; "restore {} {}", name.as_str(), dsa.as_u128())?
+        }
+        DiskCommand::Backup { name } => format!(in alloc; "backup {}", name.as_str())?,
+        DiskCommand::Show { name } => format!(in alloc; "show {}", name.as_str())?,
+        DiskCommand::Export { name } => format!(in alloc; "export {}", name.as_str())?,
+    })
+}
+
 /// The command's word and values.
 fn told(alloc: Global, command: &Command) -> Result<String, Fail> {
     Ok(match command {
         Command::Replay => format!(in alloc; "replay")?,
         Command::Exercise { number } => format!(in alloc; "exercise {number}")?,
-        Command::Create { name } => format!(in alloc; "create {}", name.as_str())?,
-        Command::Install { name } => format!(in alloc; "install {}", name.as_str())?,
-        Command::Restore { name, dsa } => {
-            format!(in alloc; "restore {} {}", name.as_str(), dsa.as_u128())?
-        }
-        Command::Backup { name } => format!(in alloc; "backup {}", name.as_str())?,
-        Command::Show { name } => format!(in alloc; "show {}", name.as_str())?,
-        Command::Export { name } => format!(in alloc; "export {}", name.as_str())?,
+        Command::OnDisk(command) => told_on_disk(alloc, command)?,
         Command::Serve { name, port, count } => {
             format!(in alloc; "serve {} {port} {count}", name.as_str())?
         }

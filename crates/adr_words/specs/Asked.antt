@@ -4,10 +4,7 @@ use Rattle.std.specs.List.{list_all}
 use Rattle.adr_token.specs.Gives.{◌>>=◌}
 use Rattle.clap.specs.Words.{Row, first_of}
 use Rattle.adr_token.specs.Words.{is_space}
-use Rattle.adr_words.specs.declared.asked.NameCommand.{NameCommand}
-use Rattle.adr_words.specs.declared.asked.NameCommand.TheVariants as by_name
 use Rattle.adr_words.specs.declared.kinds.Command.{Command}
-use Rattle.adr_words.specs.declared.kinds.Command.TheVariants as commands
 use Rattle.adr_words.specs.Commands.{Form, Makes, Value, entry_of, number_within, value_of}
 use Rattle.adr_words.specs.Parser.{id_of}
 
@@ -30,14 +27,6 @@ asked_of word rows = entry_of word >>= λ e. asked_by e.forms e.makes rows
 abbrev pub asked : Option (List ℕ × List Row) → Option Command
 asked None = None
 asked (Some p) = asked_of p.0 p.1
-
--- the command of a name alone
-abbrev pub named : NameCommand → List ℕ → Command
-named by_name.Create name = commands.Create name
-named by_name.Install name = commands.Install name
-named by_name.Backup name = commands.Backup name
-named by_name.Show name = commands.Show name
-named by_name.Export name = commands.Export name
 
 -- the bytes stand in a line as one word: they have no space
 abbrev pub is_one_word : List ℕ → Bool

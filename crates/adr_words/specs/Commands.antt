@@ -7,7 +7,8 @@ use Rattle.adr_token.specs.Identifiers.{identifier_of}
 use Rattle.adr_token.specs.Numbers.{number_of}
 use Rattle.adr_token.specs.Words.{is_name}
 use Rattle.adr_words.specs.declared.kinds.Command.{Command}
-use Rattle.adr_words.specs.declared.kinds.Command.TheVariants.{Replay, Exercise, Create, Install, Restore, Backup, Show, Export, Serve, Pull, Send}
+use Rattle.adr_words.specs.declared.kinds.Command.TheVariants.{Replay, Exercise, OnDisk, Serve, Pull, Send}
+use Rattle.adr_words.specs.declared.kinds.DiskCommand.TheVariants.{Create, Install, Restore, Backup, Show, Export}
 
 -- what a command asks of a word, as the usage line names it
 pub data Form : Type 0 where
@@ -54,12 +55,12 @@ abbrev pub commands : List Entry
 commands =
     record { word = codes "replay"; forms = []; makes = Replay }
     ∷ record { word = codes "exercise"; forms = N ∷ []; makes = Exercise }
-    ∷ record { word = codes "create"; forms = NAME ∷ []; makes = Create }
-    ∷ record { word = codes "install"; forms = NAME ∷ []; makes = Install }
-    ∷ record { word = codes "restore"; forms = NAME ∷ DSA ∷ []; makes = Restore }
-    ∷ record { word = codes "backup"; forms = NAME ∷ []; makes = Backup }
-    ∷ record { word = codes "show"; forms = NAME ∷ []; makes = Show }
-    ∷ record { word = codes "export"; forms = NAME ∷ []; makes = Export }
+    ∷ record { word = codes "create"; forms = NAME ∷ []; makes = λ name. OnDisk (Create name) }
+    ∷ record { word = codes "install"; forms = NAME ∷ []; makes = λ name. OnDisk (Install name) }
+    ∷ record { word = codes "restore"; forms = NAME ∷ DSA ∷ []; makes = λ name dsa. OnDisk (Restore name dsa) }
+    ∷ record { word = codes "backup"; forms = NAME ∷ []; makes = λ name. OnDisk (Backup name) }
+    ∷ record { word = codes "show"; forms = NAME ∷ []; makes = λ name. OnDisk (Show name) }
+    ∷ record { word = codes "export"; forms = NAME ∷ []; makes = λ name. OnDisk (Export name) }
     ∷ record { word = codes "serve"; forms = NAME ∷ PORT ∷ COUNT ∷ []; makes = Serve }
     ∷ record { word = codes "pull"; forms = NAME ∷ PORT ∷ []; makes = Pull }
     ∷ record { word = codes "send"; forms = PORT ∷ []; makes = Send }

@@ -2,48 +2,20 @@
 
 ghost use Rattle.std.specs.Prelude.{◌≡◌, ◌∷◌, [], IfOk};
 ghost use Rattle.clap.specs.Words.{found_of, rows_of, subcommand_rows_of};
-ghost use Rattle.adr_words.specs.Asked.{asked, asked_by, asked_of, named};
-ghost use Rattle.adr_words.specs.Commands.{COUNT, DSA, N, NAME, PORT};
+ghost use Rattle.adr_words.specs.Asked.{asked, asked_by, asked_of};
+ghost use Rattle.adr_words.specs.Commands.{COUNT, DSA, NAME, PORT};
 
 use crate::arguments::{count, dsa, name, number, port};
 use crate::kinds::Command;
+use crate::kinds::DiskCommand::{self, Backup, Create, Export, Install, Show};
 use adr_failure::NoMemory;
 use clap::ArgMatches;
 use std::alloc::Global;
 
-/// A command of a name alone.
-#[derive(Clone, Copy)]
-pub enum NameCommand {
-    Create,
-    Install,
-    Backup,
-    Show,
-    Export,
-}
-
-/// NAME, behind one of five commands.
-fn named(
-    alloc: Global,
-    verb: NameCommand,
-    matches: &ArgMatches<'_>,
-) -> Result<Option<Command>, NoMemory>
-    ensures { IfOk result (λ c. c ≡ asked_by (NAME ∷ []) (named verb) (rows_of (found_of matches.now))) }
-{
-    let Some(name) = name(alloc, matches)? else {
-        return Ok(None);
-    };
-    Ok(Some(match verb {
-        NameCommand::Create => Command::Create { name },
-        NameCommand::Install => Command::Install { name },
-        NameCommand::Backup => Command::Backup { name },
-        NameCommand::Show => Command::Show { name },
-        NameCommand::Export => Command::Export { name },
-    }))
-}
-
 /// NAME DSA, behind `restore`.
 fn restore(alloc: Global, matches: &ArgMatches<'_>) -> Result<Option<Command>, NoMemory>
-    ensures { IfOk result (λ c. c ≡ asked_by (NAME ∷ DSA ∷ []) Command.Restore (rows_of (found_of matches.now))) }
+    ensures { IfOk result (λ c. c ≡ asked_by (NAME ∷ DSA ∷ [])
+        (λ name dsa. Command.OnDisk (DiskCommand.Restore name dsa)) (rows_of (found_of matches.now))) }
 {
     let Some(name) = name(alloc, matches)? else {
         return Ok(None);
@@ -51,7 +23,7 @@ fn restore(alloc: Global, matches: &ArgMatches<'_>) -> Result<Option<Command>, N
     let Some(dsa) = dsa(matches)? else {
         return Ok(None);
     };
-    Ok(Some(Command::Restore { name, dsa }))
+    Ok(Some(Command::OnDisk(DiskCommand::Restore { name, dsa })))
 }
 
 /// NAME PORT COUNT, behind `serve`.
@@ -83,26 +55,6 @@ fn pull(alloc: Global, matches: &ArgMatches<'_>) -> Result<Option<Command>, NoMe
     Ok(Some(Command::Pull { name, port }))
 }
 
-/// PORT, behind `send`.
-fn send(matches: &ArgMatches<'_>) -> Result<Option<Command>, NoMemory>
-    ensures { IfOk result (λ c. c ≡ asked_by (PORT ∷ []) Command.Send (rows_of (found_of matches.now))) }
-{
-    let Some(port) = port(matches)? else {
-        return Ok(None);
-    };
-    Ok(Some(Command::Send { port }))
-}
-
-/// N, behind `exercise`.
-fn exercise(matches: &ArgMatches<'_>) -> Result<Option<Command>, NoMemory>
-    ensures { IfOk result (λ c. c ≡ asked_by (N ∷ []) Command.Exercise (rows_of (found_of matches.now))) }
-{
-    let Some(number) = number(matches)? else {
-        return Ok(None);
-    };
-    Ok(Some(Command::Exercise { number }))
-}
-
 /// What a subcommand and its matches ask for.
 fn asked_of(
     alloc: Global,
@@ -113,16 +65,16 @@ fn asked_of(
 {
     match word {
         "replay" => Ok(Some(Command::Replay)),
-        "exercise" => exercise(matches),
-        "create" => named(alloc, NameCommand::Create, matches),
-        "install" => named(alloc, NameCommand::Install, matches),
+        "exercise" => Ok(number(matches)?.map(|number| Command::Exercise { number })),
+        "create" => Ok(name(alloc, matches)?.map(|name| Command::OnDisk(Create { name }))),
+        "install" => Ok(name(alloc, matches)?.map(|name| Command::OnDisk(Install { name }))),
         "restore" => restore(alloc, matches),
-        "backup" => named(alloc, NameCommand::Backup, matches),
-        "show" => named(alloc, NameCommand::Show, matches),
-        "export" => named(alloc, NameCommand::Export, matches),
+        "backup" => Ok(name(alloc, matches)?.map(|name| Command::OnDisk(Backup { name }))),
+        "show" => Ok(name(alloc, matches)?.map(|name| Command::OnDisk(Show { name }))),
+        "export" => Ok(name(alloc, matches)?.map(|name| Command::OnDisk(Export { name }))),
         "serve" => serve(alloc, matches),
         "pull" => pull(alloc, matches),
-        "send" => send(matches),
+        "send" => Ok(port(matches)?.map(|port| Command::Send { port })),
         _ => Ok(None),
     }
 }

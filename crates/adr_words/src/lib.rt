@@ -9,5 +9,5 @@ mod kinds;
 mod parser;
 mod reading;
 
-pub use kinds::Command;
+pub use kinds::{Command, DiskCommand};
 pub use reading::command;

@@ -1,6 +1,6 @@
 -- The status says how the write went.
 use Rattle.std.proofs.Common.{rules}
-use Rattle.adr_cmd.specs.Work.{usage_line}
+use Rattle.adr_cmd.specs.Usage.{usage_line}
 use Rattle.adr_cmd.proofs.TopLemmas.{usage_status, usage_added, usage_front, usage_failed}
 use Rattle.adr_cmd.proofs.top.usage.Goals as goal
 
